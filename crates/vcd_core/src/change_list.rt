@@ -41,8 +41,8 @@ pub fn ends_by(changes: &[Change], end: u64) -> bool
 /// Removes the last change where it is at `tick`.
 fn pop_at(changes: &mut Vec<Change>, tick: u64)
     requires form { (width : ℕ) × IsWave width changes.old.items }
-    requires late { All (λ c. c.tick ≤ tick) changes.old.items }
-    ensures kept { changes.new.items ≡ changes_before tick changes.old.items }
+    requires none_later { All (λ c. c.tick ≤ tick) changes.old.items }
+    ensures changes { changes.new.items ≡ changes_before tick changes.old.items }
     ensures len { vec_len changes.new ≤ vec_len changes.old }
     ensures capacity { vec_capacity changes.new ≡ vec_capacity changes.old }
 {
@@ -100,7 +100,7 @@ pub(crate) fn push_change(
 ) -> Result<(), NoMemory>
     requires wide { length value ≡ width }
     requires form { IsWave width changes.old.items }
-    requires late { All (λ c. c.tick ≤ tick) changes.old.items }
+    requires none_later { All (λ c. c.tick ≤ tick) changes.old.items }
     ensures pushed { OnOk result
         (changes.new.items ≡ changes_after_push width changes.old.items tick value) }
     ensures refused { OnErr result (changes.new.items ≡ changes.old.items) }
@@ -150,7 +150,7 @@ pub(crate) fn push_word_change(
     requires least { 1 ≤ width }
     requires most { width ≤ 64 }
     requires form { IsWave width changes.old.items }
-    requires late { All (λ c. c.tick ≤ tick) changes.old.items }
+    requires none_later { All (λ c. c.tick ≤ tick) changes.old.items }
     ensures pushed { let value = letters_of width (word ∷ []) in OnOk result
         (changes.new.items ≡ changes_after_push width changes.old.items tick value) }
     ensures refused { OnErr result (changes.new.items ≡ changes.old.items) }

@@ -6,7 +6,7 @@ ghost use Rattle.vcd_core.specs.Wave.{IsWave};
 use crate::wave::Change;
 
 /// The number of changes at or before `tick`, whatever `near` is.
-pub(crate) fn count_near(changes: &[Change], near: usize, tick: u64) -> usize
+pub(crate) fn count_until_near(changes: &[Change], near: usize, tick: u64) -> usize
     requires { (width : ℕ) × IsWave width changes.now }
     ensures { result ≡ count_by (λ c. nat_le c.tick tick) changes.now }
 {
@@ -22,7 +22,7 @@ fn place_before(changes: &[Change], near: usize, tick: u64) -> usize
     requires form { (width : ℕ) × IsWave width changes.now }
     requires within { near ≤ length changes.now }
     ensures within { result ≤ near }
-    ensures early { All (λ c. c.tick ≤ tick) (take result changes.now) }
+    ensures earlier { All (λ c. c.tick ≤ tick) (take result changes.now) }
 {
     let mut place = near;
     let mut step = 1usize;
@@ -40,7 +40,7 @@ fn place_after(changes: &[Change], near: usize, tick: u64) -> usize
     requires within { near ≤ length changes.now }
     ensures from { near ≤ result }
     ensures within { result ≤ length changes.now }
-    ensures late { All (λ c. tick < c.tick) (drop result changes.now) }
+    ensures later { All (λ c. tick < c.tick) (drop result changes.now) }
 {
     let count = changes.len();
     let mut place = near;

@@ -9,7 +9,7 @@ ghost use Rattle.vcd_core.specs.declared.change_list.TheConstants.{LEAST_ROOM};
 use crate::change_list::{last_value, push_change, push_word_change};
 use crate::letter_word::LetterWord;
 use crate::memory::NoMemory;
-use crate::searching::count_near;
+use crate::searching::count_until_near;
 use crate::value::{Value, WIDTH_LIMIT};
 use crate::wave_list::WaveList;
 use std::alloc::Global;
@@ -116,10 +116,10 @@ impl Wave {
     ///
     /// The search goes from there by steps that double, then by halves: the logarithm of the
     /// distance.
-    pub fn count_near(&self, near: usize, tick: u64) -> usize
+    pub fn count_until_near(&self, near: usize, tick: u64) -> usize
         ensures { result ≡ count_by (λ c. nat_le c.tick tick) self.now.changes }
     {
-        count_near(self.list.as_slice(), near, tick)
+        count_until_near(self.list.as_slice(), near, tick)
     }
 
     /// Sets the value from `tick` on, at the end of the list. A value equal to the one before adds
@@ -129,7 +129,7 @@ impl Wave {
     /// It looks at the end of the list alone. It may run out of memory.
     pub fn push(&mut self, tick: u64, value: Value) -> Result<(), NoMemory>
         requires width { length value ≡ self.old.width }
-        requires late { All (λ c. c.tick ≤ tick) self.old.changes }
+        requires none_later { All (λ c. c.tick ≤ tick) self.old.changes }
 
         ensures changes { OnOk result
             (self.new.changes ≡ changes_after_push self.old.width self.old.changes tick value) }
@@ -165,7 +165,7 @@ impl Wave {
     /// lowest. Letters of the word from the width on are ignored.
     pub fn push_word(&mut self, tick: u64, word: LetterWord) -> Result<(), NoMemory>
         requires width { self.old.width ≤ 64 }
-        requires late { All (λ c. c.tick ≤ tick) self.old.changes }
+        requires none_later { All (λ c. c.tick ≤ tick) self.old.changes }
 
         ensures changes { let value = letters_of self.old.width (word ∷ []) in OnOk result
             (self.new.changes ≡ changes_after_push self.old.width self.old.changes tick value) }
@@ -227,7 +227,7 @@ impl Wave {
         ensures room { OnOk result (length self.old.changes + more < self.new.room) }
         ensures in_place { length self.old.changes + more < self.old.room → IsOk result }
         ensures never_less { self.old.room ≤ self.new.room }
-        ensures spliced { self.new.room ≤ self.new.splice_room }
+        ensures splice_room { self.new.room ≤ self.new.splice_room }
         ensures refused { OnErr result (0 < self.old.room → self.new.room ≡ self.old.room) }
     {
         self.list.reserve(more)
@@ -243,7 +243,7 @@ impl Wave {
             self.new.room ≡ max self.old.room (length self.old.changes + more + 1)) }
         ensures in_place { length self.old.changes + more < self.old.room → IsOk result }
         ensures never_less { self.old.room ≤ self.new.room }
-        ensures spliced { self.new.room ≤ self.new.splice_room }
+        ensures splice_room { self.new.room ≤ self.new.splice_room }
         ensures refused { OnErr result (0 < self.old.room → self.new.room ≡ self.old.room) }
     {
         self.list.reserve_exact(more)
@@ -271,7 +271,7 @@ impl Wave {
         ensures in_place { length self.old.changes + length piece.now
             < self.old.splice_room + (to - from) → IsOk result }
         ensures never_less { self.old.splice_room ≤ self.new.splice_room }
-        ensures own { self.old.room ≤ self.new.room }
+        ensures own_room { self.old.room ≤ self.new.room }
         ensures refused { OnErr result (0 < self.old.room → self.new.room ≡ self.old.room) }
     {
         self.list.reserve_splice(to - from, piece)

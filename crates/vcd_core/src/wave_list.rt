@@ -46,7 +46,7 @@ fn unshared_list(
     more: usize,
 ) -> (WaveList, Result<(), NoMemory>)
     ensures changes { changes_of_list result.0 ≡ shared.value.items }
-    ensures own { OnOk result.1 (0 < room_of_list result.0) }
+    ensures has_own_list { OnOk result.1 (0 < room_of_list result.0) }
 {
     match Rc::try_unwrap(shared) {
         Ok(list) => (WaveList::Own(list), Ok(())),
@@ -60,7 +60,7 @@ fn unshared_list(
 /// The list for one owner, whatever its form; a copy has room for `more` changes.
 fn own_list(alloc: Global, list: WaveList, more: usize) -> (WaveList, Result<(), NoMemory>)
     ensures changes { changes_of_list result.0 ≡ changes_of_list list }
-    ensures own { OnOk result.1 (0 < room_of_list result.0) }
+    ensures has_own_list { OnOk result.1 (0 < room_of_list result.0) }
     ensures in_place { 0 < room_of_list list → IsOk result.1 }
     ensures same { 0 < room_of_list list → result.0 ≡ list }
 {
@@ -80,7 +80,7 @@ fn clone_shared(shared: &Rc<Vec<Change>>) -> Result<WaveList, NoMemory>
 
 /// An own list in a form that can be shared, and a second owner of it.
 fn share_own(alloc: Global, own: Vec<Change>) -> (WaveList, Result<WaveList, NoMemory>)
-    ensures kept { changes_of_list result.0 ≡ own.items }
+    ensures changes { changes_of_list result.0 ≡ own.items }
     ensures same { IfOk result.1 (λ other. changes_of_list other ≡ own.items) }
 {
     match Rc::new(alloc, own) {
@@ -94,7 +94,7 @@ fn share_own(alloc: Global, own: Vec<Change>) -> (WaveList, Result<WaveList, NoM
 
 /// The list in a form that can be shared, and a second owner of it.
 fn share_list(alloc: Global, list: WaveList) -> (WaveList, Result<WaveList, NoMemory>)
-    ensures kept { changes_of_list result.0 ≡ changes_of_list list }
+    ensures changes { changes_of_list result.0 ≡ changes_of_list list }
     ensures same { IfOk result.1 (λ other. changes_of_list other ≡ changes_of_list list) }
 {
     match list {
@@ -134,7 +134,7 @@ fn reserve_own(list: Vec<Change>, more: usize) -> (WaveList, Result<(), NoMemory
     ensures room { OnOk result.1 (length list.items + more < splice_room_of_list result.0) }
     ensures in_place { vec_len list + more ≤ vec_capacity list → IsOk result.1 }
     ensures never_less { vec_capacity list < splice_room_of_list result.0 }
-    ensures own { vec_capacity list < room_of_list result.0 }
+    ensures own_room { vec_capacity list < room_of_list result.0 }
     ensures refused { OnErr result.1 (room_of_list result.0 ≡ vec_capacity list + 1) }
     ensures grown_room { splice_room_of_list result.0
         ≤ max (vec_capacity list) (vec_len list + max (vec_len list) more) + 1 }
@@ -148,7 +148,7 @@ fn reserve_own(list: Vec<Change>, more: usize) -> (WaveList, Result<(), NoMemory
 
 /// Makes room for a list of `count` changes in addition to a shared list. The old contents of that
 /// memory are dropped.
-fn reserve_beside(
+fn enlarge_room(
     list: Rc<Vec<Change>>,
     room: Vec<Change>,
     count: usize,
@@ -204,7 +204,7 @@ fn reserve_list(
     ensures in_place { length (changes_of_list list) + length piece.now
         < splice_room_of_list list + part → IsOk result.1 }
     ensures never_less { splice_room_of_list list ≤ splice_room_of_list result.0 }
-    ensures own { room_of_list list ≤ room_of_list result.0 }
+    ensures own_room { room_of_list list ≤ room_of_list result.0 }
     ensures refused { OnErr result.1 (0 < room_of_list list →
         room_of_list result.0 ≡ room_of_list list) }
     ensures grown_room { 0 < room_of_list list → splice_room_of_list result.0
@@ -216,7 +216,7 @@ fn reserve_list(
     match list {
         WaveList::Own(own) => reserve_own(own, more),
         WaveList::Shared(shared) => reserve_shared(alloc, shared, more, count),
-        WaveList::SharedWithRoom { list, room } => reserve_beside(list, room, count),
+        WaveList::SharedWithRoom { list, room } => enlarge_room(list, room, count),
     }
 }
 
@@ -283,7 +283,7 @@ impl WaveList {
 
     /// The same list for another wave, which then shares it with this one.
     pub fn share(&mut self) -> Result<WaveList, NoMemory>
-        ensures kept { changes_of_list self.new ≡ changes_of_list self.old }
+        ensures changes { changes_of_list self.new ≡ changes_of_list self.old }
         ensures same { IfOk result (λ other. changes_of_list other ≡ changes_of_list self.old) }
     {
         let alloc = self.alloc();
@@ -295,7 +295,7 @@ impl WaveList {
     /// Gives the wave its own list, if it has none yet; a copy has room for `more` changes.
     pub fn make_own(&mut self, more: usize) -> Result<(), NoMemory>
         ensures changes { changes_of_list self.new ≡ changes_of_list self.old }
-        ensures own { OnOk result (0 < room_of_list self.new) }
+        ensures has_own_list { OnOk result (0 < room_of_list self.new) }
         ensures in_place { 0 < room_of_list self.old → IsOk result × (self.new ≡ self.old) }
     {
         if let WaveList::Own(_) = self {
@@ -314,7 +314,7 @@ impl WaveList {
             (length (changes_of_list self.old) + more < room_of_list self.new) }
         ensures in_place { length (changes_of_list self.old) + more < room_of_list self.old → IsOk result }
         ensures never_less { room_of_list self.old ≤ room_of_list self.new }
-        ensures spliced { room_of_list self.new ≤ splice_room_of_list self.new }
+        ensures splice_room { room_of_list self.new ≤ splice_room_of_list self.new }
         ensures refused { OnErr result (0 < room_of_list self.old →
             room_of_list self.new ≡ room_of_list self.old) }
     {
@@ -335,7 +335,7 @@ impl WaveList {
             ≡ max (room_of_list self.old) (length (changes_of_list self.old) + more + 1)) }
         ensures in_place { length (changes_of_list self.old) + more < room_of_list self.old → IsOk result }
         ensures never_less { room_of_list self.old ≤ room_of_list self.new }
-        ensures spliced { room_of_list self.new ≤ splice_room_of_list self.new }
+        ensures splice_room { room_of_list self.new ≤ splice_room_of_list self.new }
         ensures refused { OnErr result (0 < room_of_list self.old →
             room_of_list self.new ≡ room_of_list self.old) }
     {
@@ -355,7 +355,7 @@ impl WaveList {
         ensures in_place { length (changes_of_list self.old) + length piece.now
             < splice_room_of_list self.old + part → IsOk result }
         ensures never_less { splice_room_of_list self.old ≤ splice_room_of_list self.new }
-        ensures own { room_of_list self.old ≤ room_of_list self.new }
+        ensures own_room { room_of_list self.old ≤ room_of_list self.new }
         ensures refused { OnErr result (0 < room_of_list self.old →
             room_of_list self.new ≡ room_of_list self.old) }
         ensures grown_room { 0 < room_of_list self.old → splice_room_of_list self.new

@@ -75,10 +75,10 @@ falls f end = filter (λ t. is_one (letter_before f t) && is_zero (f t)) (range_
 
 -- the frames that falls begin: a fall up to the tick `taken`, the end of the frame before, begins none
 unfoldable pub frames : (ℕ → Option Annotation) → ℕ → List ℕ → List Annotation
-frames begun taken [] = []
-frames begun taken (start ∷ starts) =
-    let frame = (if nat_le start taken then None else begun start) in
-    option_to_list frame ++ frames begun (option_map_or (λ a. a.end) frame taken) starts
+frames frame_at taken [] = []
+frames frame_at taken (start ∷ starts) =
+    let frame = (if nat_le start taken then None else frame_at start) in
+    option_to_list frame ++ frames frame_at (option_map_or (λ a. a.end) frame taken) starts
 
 -- the annotations of a line with this letter at each tick, up to the capture's end
 unfoldable pub uart_annotations : (ℕ → Bit) → ℕ → UartSetup → List Annotation

@@ -151,7 +151,7 @@ fn letter_near(wave: &Wave, near: usize, tick: u64) -> Bit
     requires { wave.now.width ≡ 1 }
     ensures { result ≡ line_of wave.now tick }
 {
-    match &wave.changes()[..wave.count_near(near, tick)] {
+    match &wave.changes()[..wave.count_until_near(near, tick)] {
         [.., change] => change.value.bit(0),
         [] => Bit::X,
     }
@@ -182,7 +182,7 @@ fn count_ones(letters: &[Bit]) -> usize
 fn letters_to_number(letters: &[Bit]) -> u16
     requires { length letters.now ≤ 9 }
     ensures number { result ≡ number_from_letters letters.now }
-    ensures bound { result < 2 ^ length letters.now }
+    ensures range { result < 2 ^ length letters.now }
 {
     match letters {
         [first, rest @ ..] => u16::from(is_one(*first)) + 2 * letters_to_number(rest),

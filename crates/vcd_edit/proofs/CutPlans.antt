@@ -64,7 +64,7 @@ module _ (c : Contents) (signals : List Signal) (are : c.signals ≡ map signal_
       (sym (ap (map piece_view) is ∙ map-append piece_view ps (p ∷ [])))
       (lead_with c (signal_after_cut stop from to) n (neg_ℤ (pos (to - from))) (map piece_view ps) lead within_c
       (signal_contents s) (piece_view p) stop (cut_value from to (signal_contents s)) here piece.signal refl
-      piece.leads piece.moves)
+      piece.leads piece.offset)
 
 -- the pieces of all signals, and the end
 pub cut_plan : (c : Contents) (from to : ℕ) (ps : List PieceView) → IsSound c → edit_fault (Cut from to) c ≡ None
@@ -82,7 +82,7 @@ cut_plan c from to ps sound none lead =
     sound none
     (ap (λ (d : Contents). record d { end = c.end - (to - from) })
     (lead_all c (neg_ℤ (pos (to - from))) (signal_after_cut (c.end - (to - from)) from to) ps lead))
-    lead.fit tt tt (λ k d less. opposite from to (cut_ticks from to c none).0 ∙ ap neg_ℤ (sym (lead.moves k d less)))
+    lead.fit tt tt (λ k d less. opposite from to (cut_ticks from to c none).0 ∙ ap neg_ℤ (sym (lead.offset k d less)))
     refl
   where
     opposite : (from to : ℕ) → from < to → pos to -ℤ pos from ≡ neg_ℤ (neg_ℤ (pos (to - from)))

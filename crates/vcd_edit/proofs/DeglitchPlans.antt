@@ -70,7 +70,7 @@ module _ (n : ℕ) (s : SignalContents) (cs : List Change) (x : List Bit) (same 
     unfolding spliced_changes
     deglitch_gives k end p sound small fewer is = record {
       signal = ap (λ (q : PieceView). q.signal) is;
-      moves = ap (λ (q : PieceView). q.by) is;
+      offset = ap (λ (q : PieceView). q.by) is;
       leads = record {
         ordered = omega (arith, ap (λ (q : PieceView). q.from) is, ap (λ (q : PieceView). q.to) is);
         within = omega (

@@ -162,7 +162,7 @@ wave_plan e c k f by s p made sound none within here is offset pairing gives tol
     at_ok made (λ r. r ≡ record { pieces = piece_view p ∷ []; word = None; signal = None; other_end = None })
     (IsPlan e c)
     (λ r told. one_piece_plan e c k (f s) (piece_view p) r told gives.signal s here gives.leads sound none within
-    (is ∙ ap (λ (s : SignalContents). with_wave c k (f s)) here) (offset ∙ ap neg_ℤ (sym gives.moves)) pairing) told
+    (is ∙ ap (λ (s : SignalContents). with_wave c k (f s)) here) (offset ∙ ap neg_ℤ (sym gives.offset)) pairing) told
 
 -- the signal at a position is sound
 pub sound_here : (c : Capture) (k : ℕ) (s : Signal) → IsSound (contents c) → k < length c.signals

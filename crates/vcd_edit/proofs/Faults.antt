@@ -9,14 +9,15 @@ use Rattle.vcd_edit.specs.declared.edit.Rule.TheVariants.{Not, And, Or, Xor, Bit
 use Rattle.vcd_edit.specs.declared.fault.EditError.{EditError}
 use Rattle.vcd_edit.specs.Effect.{first_operand}
 use Rattle.vcd_edit.specs.inside.Derived.{last_operand, has_two_operands}
-use Rattle.vcd_edit.specs.EditFaults.{is_no_signal, is_wide, has_wide_operand, lacks_operand, lacks_signal}
-use Rattle.vcd_edit.specs.EditFaults.{joins_wide_signal, lacks_bit, has_bad_range, has_bad_count, has_bad_value}
+use Rattle.vcd_edit.specs.EditFaults.{is_no_signal, has_vector_operand, lacks_operand, lacks_signal}
+use Rattle.vcd_edit.specs.EditTests.{is_vector}
+use Rattle.vcd_edit.specs.EditFaults.{edit_has_vector_operand, lacks_bit, has_bad_range, has_bad_count, has_bad_value}
 use Rattle.vcd_edit.specs.EditFaults.{gives_no_word, gives_taken_name, adds_too_many, edit_fault}
 
 -- none of the nine tests holds
 pub record HasNoFault (e : Edit) (c : Contents) : Type 0 where
   pub signals : lacks_signal e c ≡ false
-  pub scalars : joins_wide_signal e c ≡ false
+  pub scalars : edit_has_vector_operand e c ≡ false
   pub bit : lacks_bit e c ≡ false
   pub range : has_bad_range e c ≡ false
   pub count : has_bad_count e ≡ false
@@ -35,7 +36,7 @@ pub no_fault : (e : Edit) (c : Contents) → edit_fault e c ≡ None → HasNoFa
 unfolding edit_fault
 no_fault e c none =
     let a = not_first (lacks_signal e c) _ _ none in
-    let b = not_first (joins_wide_signal e c) _ _ a.1 in
+    let b = not_first (edit_has_vector_operand e c) _ _ a.1 in
     let d = not_first (lacks_bit e c) _ _ b.1 in
     let f = not_first (has_bad_range e c) _ _ d.1 in
     let g = not_first (has_bad_count e) _ _ f.1 in
@@ -99,15 +100,15 @@ holds_where_not true none = refl
 holds_where_not false none = absurd (cc)
 
 -- both operands of an operator have one bit if neither is wider
-narrow : (c : Contents) (k : ℕ) → is_wide c k ≡ false → (signal_at c k).width ≡ 1
+narrow : (c : Contents) (k : ℕ) → is_vector c k ≡ false → (signal_at c k).width ≡ 1
 narrow c k none = grind (arith, nat_tests)
 
-both_narrow : (c : Contents) (a b : ℕ) → (is_wide c a || is_wide c b) ≡ false → ((signal_at c a).width ≡ 1)
+both_narrow : (c : Contents) (a b : ℕ) → (is_vector c a || is_vector c b) ≡ false → ((signal_at c a).width ≡ 1)
     × ((signal_at c b).width ≡ 1)
 both_narrow c a b none =
-    (narrow c a (neither (is_wide c a) (is_wide c b) none), narrow c b (other (is_wide c a) (is_wide c b) none))
+    (narrow c a (neither (is_vector c a) (is_vector c b) none), narrow c b (other (is_vector c a) (is_vector c b) none))
 
-pub operands_narrow : (c : Contents) (rule : Rule) → has_wide_operand rule c ≡ false → has_two_operands rule ≡ true
+pub operands_narrow : (c : Contents) (rule : Rule) → has_vector_operand rule c ≡ false → has_two_operands rule ≡ true
     → ((signal_at c (first_operand rule)).width ≡ 1) × ((signal_at c (last_operand rule)).width ≡ 1)
 operands_narrow c (Not a) none two = absurd (cc)
 operands_narrow c (And a b) none two = both_narrow c a b none

@@ -71,11 +71,11 @@ module _ (c : Contents) (g : SignalContents → SignalContents) (n : ℕ) (by : 
   -- a signal that stays as it is needs no piece
   pub lead_without : (s : SignalContents) → signal_at c n ≡ s → g s ≡ s → PiecesForEach c by g (n + 1) ps
   lead_without s is same = record {
-    led = lead.led ∙ ap (λ (ss : List SignalContents). record c { signals = ss }) (sym unchanged ∙ more);
+    leads = lead.leads ∙ ap (λ (ss : List SignalContents). record c { signals = ss }) (sym unchanged ∙ more);
     fit = lead.fit;
     below = still_below;
     apart = lead.apart;
-    moves = lead.moves;
+    offset = lead.offset;
   }
     where
       unchanged : set reached n (g (signal_at c n)) ≡ reached
@@ -88,8 +88,8 @@ module _ (c : Contents) (g : SignalContents → SignalContents) (n : ℕ) (by : 
   pub lead_with : (s : SignalContents) (p : PieceView) (end : ℕ) (f : ℕ → List Bit) → signal_at c n ≡ s → p.signal ≡ n
       → g s ≡ with_values end f s → GivesChanges p s.changes s.width end f → p.by ≡ by
       → PiecesForEach c by g (n + 1) (ps ++ p ∷ [])
-  lead_with s p end f is at_n given gives moves = record {
-    led = with_pieces-push c ps p ∙ ap (λ (d : Contents). with_piece d p) lead.led
+  lead_with s p end f is at_n given gives offset = record {
+    leads = with_pieces-push c ps p ∙ ap (λ (d : Contents). with_piece d p) lead.leads
         ∙ ap (λ (ss : List SignalContents). record c { signals = ss }) (written ∙ more);
     fit = All-push (PieceFits c) ps p lead.fit (record {
       signal = omega (arith, at_n, within);
@@ -99,7 +99,7 @@ module _ (c : Contents) (g : SignalContents → SignalContents) (n : ℕ) (by : 
     });
     below = All-push (λ (q : PieceView). q.signal < n + 1) ps p still_below (omega (arith, at_n));
     apart = apart_more ps p lead.apart (λ k d less. omega (arith, lead.below k d less, at_n));
-    moves = All-push (λ (q : PieceView). q.by ≡ by) ps p lead.moves moves;
+    offset = All-push (λ (q : PieceView). q.by ≡ by) ps p lead.offset offset;
   }
     where
       there : signal_at c p.signal ≡ s
@@ -124,18 +124,18 @@ unfolding with_pieces
 lead_none c by g ps empty =
     subst (PiecesForEach c by g 0) (sym empty)
     (record {
-      led = refl;
+      leads = refl;
       fit = All-nil (PieceFits c);
       below = All-nil (λ (p : PieceView). p.signal < 0);
       apart =
           tt;
-      moves = All-nil (λ (p : PieceView). p.by ≡ by);
+      offset = All-nil (λ (p : PieceView). p.by ≡ by);
     })
 
 -- all signals
 pub lead_all : (c : Contents) (by : ℤ) (g : SignalContents → SignalContents) (ps : List PieceView)
     → PiecesForEach c by g (length c.signals) ps → with_pieces c ps ≡ record c { signals = map g c.signals }
 lead_all c by g ps lead =
-    lead.led ∙ ap (λ (ss : List SignalContents). record c { signals = ss })
+    lead.leads ∙ ap (λ (ss : List SignalContents). record c { signals = ss })
     ((λ i. map g (take_all (length c.signals) c.signals (omega arith) i)
     ++ drop_all (length c.signals) c.signals (omega arith) i) ∙ append-nil (map g c.signals))

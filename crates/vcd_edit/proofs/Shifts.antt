@@ -52,11 +52,11 @@ leads_same p cs width end f g same leads =
 -- the same for the piece of a signal
 pub gives_same : (made : Result Piece NoMemory) (k : ℕ) (s : SignalContents) (end : ℕ) (at by : ℤ) (f g : ℕ → List Bit)
     → at ≡ by → ((t : ℕ) → f t ≡ g t) → IfOk made (GivesValues k s end at f) → IfOk made (GivesValues k s end by g)
-gives_same made k s end at by f g moves same =
+gives_same made k s end at by f g offset same =
     at_ok made (GivesValues k s end at f) (GivesValues k s end by g)
     (λ p gives. record {
       signal = gives.signal;
-      moves = gives.moves ∙ moves;
+      offset = gives.offset ∙ offset;
       leads =
           leads_same (piece_view p) s.changes s.width end f g (λ t to. same t) gives.leads;
     })

@@ -43,7 +43,7 @@ pub whole_gives : (p : Piece) (k : ℕ) (s : SignalContents) (items : List Chang
     → items ≡ changes_of s.width end f → GivesValues k s end (pos 0) f p
 whole_gives p k s items end f is told = record {
   signal = ap (λ (q : PieceView). q.signal) is;
-  moves = ap (λ (q : PieceView). q.by) is;
+  offset = ap (λ (q : PieceView). q.by) is;
   leads = whole_leads (piece_view p) s.changes s.width end f (ap (λ (q : PieceView). q.from) is)
       (ap (λ (q : PieceView). q.to) is) (ap (λ (q : PieceView). q.changes) is ∙ told);
 }

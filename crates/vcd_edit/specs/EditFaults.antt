@@ -13,6 +13,7 @@ use Rattle.vcd_edit.specs.declared.edit.Rule.{Rule}
 use Rattle.vcd_edit.specs.declared.edit.Rule.TheVariants.{Not, And, Or, Xor, BitOf}
 use Rattle.vcd_edit.specs.declared.fault.EditError.{EditError}
 use Rattle.vcd_edit.specs.declared.fault.EditError.TheVariants as errors
+use Rattle.vcd_edit.specs.EditTests.{is_vector}
 use Rattle.vcd_edit.specs.Effect.{renamed_signal, derived_signal}
 
 -- ---- a position is not below the number of signals
@@ -42,22 +43,18 @@ lacks_signal (Derive word rule) c = lacks_operand rule c
 
 -- ---- an operand of a bitwise operator has a width other than 1
 
--- whether the signal at a position is wider than one bit
-abbrev pub is_wide : Contents → ℕ → Bool
-is_wide c k = not ((signal_at c k).width == 1)
-
 -- whether an operand that has to be of one bit is wider
-abbrev pub has_wide_operand : Rule → Contents → Bool
-has_wide_operand (Not a) c = is_wide c a
-has_wide_operand (And a b) c = is_wide c a || is_wide c b
-has_wide_operand (Or a b) c = is_wide c a || is_wide c b
-has_wide_operand (Xor a b) c = is_wide c a || is_wide c b
-has_wide_operand (BitOf a k) c = false
+abbrev pub has_vector_operand : Rule → Contents → Bool
+has_vector_operand (Not a) c = is_vector c a
+has_vector_operand (And a b) c = is_vector c a || is_vector c b
+has_vector_operand (Or a b) c = is_vector c a || is_vector c b
+has_vector_operand (Xor a b) c = is_vector c a || is_vector c b
+has_vector_operand (BitOf a k) c = false
 
 -- the same for an edit
-abbrev pub joins_wide_signal : Edit → Contents → Bool
-joins_wide_signal (Derive word rule) c = has_wide_operand rule c
-joins_wide_signal e c = false
+abbrev pub edit_has_vector_operand : Edit → Contents → Bool
+edit_has_vector_operand (Derive word rule) c = has_vector_operand rule c
+edit_has_vector_operand e c = false
 
 -- ---- a bit is not below the width of its signal
 
@@ -123,7 +120,7 @@ first_fault (row ∷ rows) = if row.0 then Some row.1 else first_fault rows
 abbrev pub fault_rows : Edit → Contents → List (Bool × EditError)
 fault_rows e c =
     (lacks_signal e c, errors.NoSuchSignal)
-    ∷ (joins_wide_signal e c, errors.NotScalar)
+    ∷ (edit_has_vector_operand e c, errors.NotScalar)
     ∷ (lacks_bit e c, errors.BadBit)
     ∷ (has_bad_range e c, errors.BadRange)
     ∷ (has_bad_count e, errors.BadCount)

@@ -36,7 +36,7 @@ pub fn apply(alloc: Global, capture: &mut Capture, edit: &Edit) -> Result<Record
         (contents capture.new ≡ edit_effect edit.now (contents capture.old)) }
     ensures fits { IfOk result (λ r. Fits r (contents capture.new)) }
     ensures undo { IfOk result (λ r. apply_record r (contents capture.new) ≡ contents capture.old) }
-    ensures bound { IfOk result
+    ensures stored { IfOk result
         (λ r. stored_changes r ≤ touched_by_edit edit.now (contents capture.old)) }
     ensures sound { OnOk result (IsSound (contents capture.new)) }
     ensures refused { IfErr result (MayRefuse (edit_fault edit.now (contents capture.old))) }

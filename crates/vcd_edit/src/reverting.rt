@@ -93,7 +93,7 @@ pub fn revert(alloc: Global, capture: &mut Capture, edit_record: Record) -> Resu
     ensures effect { OnOk result (contents capture.new ≡ apply_record edit_record (contents capture.old)) }
     ensures undo { IfOk result (λ r. apply_record r (contents capture.new) ≡ contents capture.old) }
     ensures fits { IfOk result (λ r. Fits r (contents capture.new)) }
-    ensures bound { IfOk result (λ r. stored_changes r
+    ensures stored { IfOk result (λ r. stored_changes r
         ≤ touched_by_record edit_record (contents capture.old)) }
     ensures sound { OnOk result (IsSound (contents capture.new)) }
     ensures given_back { IfErr result (λ k. k.held ≡ edit_record) }

@@ -58,7 +58,7 @@ pub fn enlarge(ring: &mut Ring, capacity: usize) -> Result<(), NoMemory>
     ensures room { OnOk result (capacity ≤ ring.new.capacity) }
     ensures exact { OnOk result (ring.new.capacity ≡ max ring.old.capacity capacity) }
     ensures refused { OnErr result (ring.new ≡ ring.old) }
-    ensures needs { OnErr result (ring.old.capacity < capacity) }
+    ensures lacks_room { OnErr result (ring.old.capacity < capacity) }
 {
     if capacity <= ring.capacity() {
         return Ok(());
@@ -88,7 +88,7 @@ pub fn apply_newest(
     ensures sound { IsSound (contents capture.new) }
     ensures from_room { from.new.capacity ≡ from.old.capacity }
     ensures to_room { to.new.capacity ≡ to.old.capacity }
-    ensures needs { OnErr result (HasNoFewerSignals (contents capture.old) from.old.items) }
+    ensures no_fewer_signals { OnErr result (HasNoFewerSignals (contents capture.old) from.old.items) }
     ensures unchanged { OnErr result ((contents capture.new ≡ contents capture.old)
         × (from.new ≡ from.old) × (to.new ≡ to.old)) }
 {

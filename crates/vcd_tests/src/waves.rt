@@ -54,8 +54,8 @@ fn changes_before_a_tick_are_counted(rt: HostRuntime) -> Result<(), Fail> {
     assert!(rt; wave.count_until(0) == 0);
     assert!(rt; wave.count_until(5) == 1);
     assert!(rt; wave.count_until(6) == 2);
-    assert!(rt; wave.count_near(0, 9) == 3);
-    assert!(rt; wave.count_near(1000, 4) == 1);
+    assert!(rt; wave.count_until_near(0, 9) == 3);
+    assert!(rt; wave.count_until_near(1000, 4) == 1);
     Ok(())
 }
 

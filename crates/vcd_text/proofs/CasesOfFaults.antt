@@ -31,7 +31,7 @@ shows : (bytes : List ℕ) (line : ℕ) (fault : Fault) (items : List Item) (who
     → words_of bytes ≡ whole ++ (begun ++ word ∷ more) → word_texts whole ≡ spellings items
     → AllowsAll initial_state items
     → WordFault (state_after initial_state items) (word_texts begun) word.text fault
-    → line ≡ fault_line (state_after initial_state items).changing begun word → FoundFault bytes line fault
+    → line ≡ fault_line (state_after initial_state items).in_body begun word → FoundFault bytes line fault
 shows bytes line fault items whole begun word more parts spelled allowed decided at =
     word_shows (shown_by (words_of bytes) whole begun more word items (state_after initial_state items) line fault
     (record { allowed = allowed; state_is = refl }) parts spelled decided at)

@@ -17,7 +17,7 @@ use Rattle.vcd_text.proofs.CasesOfText.{capture, from, scope as named_scope, top
 -- a file that spells these items means these contents
 means_by : (bytes : List ℕ) (items : List Item) (contents : Contents) (skipped : ℕ)
     → word_texts (words_of bytes) ≡ spellings items → AllowsAll initial_state items
-    → IsTrue (state_after initial_state items).changing → contents ≡ meaning (state_after initial_state items)
+    → IsTrue (state_after initial_state items).in_body → contents ≡ meaning (state_after initial_state items)
     → skipped ≡ count_by is_skipped (state_after initial_state items).declared → FileMeans bytes contents skipped
 means_by bytes items contents skipped spelled allowed ended means left_out = record {
   state = state_after initial_state items;

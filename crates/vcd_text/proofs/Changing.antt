@@ -55,15 +55,17 @@ whole_item old new w i between closed spelled item c begun (agrees, taken) =
 
 -- a first word that shows a fault
 shown_at : (m : Reader) (c : ParseState) (begun : List PlacedWord) (w : PlacedWord) (fault : Fault)
-    → m.item ≡ items.Nothing → m.changing ≡ true → IsAtState m c begun
+    → m.item ≡ items.Nothing → m.in_body ≡ true → IsAtState m c begun
     → ChangeFault c [] w.text fault → (fault ≡ NoMemory) ⊎ WordFault c (word_texts begun) w.text fault
-shown_at m c begun w fault between changing (agrees, taken) row =
-    inr (among_changes (sym agrees.changing
-    ∙ changing) (subst (λ bs. ChangeFault c (word_texts bs) w.text fault) (sym (none_begun m begun between taken)) row))
+shown_at m c begun w fault between in_body (agrees, taken) row =
+    inr (among_changes (sym agrees.in_body
+    ∙ in_body)
+    (subst (λ bs. ChangeFault c (word_texts bs) w.text fault) (sym (none_begun m begun between taken)) row))
 
-shows : (old new : Reader) (w : PlacedWord) (fault : Fault) → old.item ≡ items.Nothing → old.changing ≡ true
+shows : (old new : Reader) (w : PlacedWord) (fault : Fault) → old.item ≡ items.Nothing → old.in_body ≡ true
     → ((c : ParseState) → ReaderMatches old c → ChangeFault c [] w.text fault) → WordResult old w (Err fault) new
-shows old new w fault between changing row c begun at = shown_at old c begun w fault between changing at (row c at.0)
+shows old new w fault between in_body row c begun at =
+    shown_at old c begun w fault between in_body at (row c at.0)
 
 -- the state does not depend on the open item
 agrees_still : (m : Reader) (c : ParseState) (item : OpenItem) (line : ℕ) → ReaderMatches m c
@@ -72,53 +74,53 @@ agrees_still m c item line agrees = grind arith
 
 -- one more value change among the changes
 agrees_set : (m : Reader) (c : ParseState) (vs : Variables) (value_changes : List ValueChange) (item : OpenItem)
-    → ReaderMatches m c → m.changing ≡ true → VariablesMatch vs (record c { value_changes = value_changes })
+    → ReaderMatches m c → m.in_body ≡ true → VariablesMatch vs (record c { value_changes = value_changes })
     → ReaderMatches (record m { variables = vs; item = item }) (record c { value_changes = value_changes })
-agrees_set m c vs value_changes item agrees changing knows = grind (arith, not_both)
+agrees_set m c vs value_changes item agrees in_body knows = grind (arith, not_both)
 
 -- ---- stamps
 
-pub no_stamp : (m new : Reader) (digits : List ℕ) (line : ℕ) → m.item ≡ items.Nothing → m.changing ≡ true
+pub no_stamp : (m new : Reader) (digits : List ℕ) (line : ℕ) → m.item ≡ items.Nothing → m.in_body ≡ true
     → is_tick digits ≡ false → WordResult m (word_on (35 ∷ digits) line) (Err BadTime) new
-no_stamp m new digits line between changing isnt =
-    shows m new (word_on (35 ∷ digits) line) BadTime between changing (λ c agrees. no_tick digits refl refl isnt refl)
+no_stamp m new digits line between in_body isnt =
+    shows m new (word_on (35 ∷ digits) line) BadTime between in_body (λ c agrees. no_tick digits refl refl isnt refl)
 
-pub stamp_goes_back : (m new : Reader) (digits : List ℕ) (line tick : ℕ) → m.item ≡ items.Nothing → m.changing ≡ true
+pub stamp_goes_back : (m new : Reader) (digits : List ℕ) (line tick : ℕ) → m.item ≡ items.Nothing → m.in_body ≡ true
     → is_tick digits ≡ true → tick ≡ number_of digits → tick < m.tick
     → WordResult m (word_on (35 ∷ digits) line) (Err TimeBackwards) new
-stamp_goes_back m new digits line tick between changing is number back =
-    shows m new (word_on (35 ∷ digits) line) TimeBackwards between changing
+stamp_goes_back m new digits line tick between in_body is number back =
+    shows m new (word_on (35 ∷ digits) line) TimeBackwards between in_body
     (λ c agrees. tick_goes_back digits refl refl is (omega (arith, agrees.tick)) refl)
 
-pub takes_stamp : (m : Reader) (digits : List ℕ) (line tick : ℕ) → m.item ≡ items.Nothing → m.changing ≡ true
+pub takes_stamp : (m : Reader) (digits : List ℕ) (line tick : ℕ) → m.item ≡ items.Nothing → m.in_body ≡ true
     → is_tick digits ≡ true → tick ≡ number_of digits → m.tick ≤ tick
     → WordResult m (word_on (35 ∷ digits) line) (Ok tt) (record m { tick = tick })
-takes_stamp m digits line tick between changing is number later =
+takes_stamp m digits line tick between in_body is number later =
     whole_item m (record m { tick = tick }) (word_on (35 ∷ digits) line) (stamp digits) between between refl
     (λ c agrees.
     let after : c.tick ≤ number_of digits = omega (arith, agrees.tick) in (
-      (sym agrees.changing ∙ changing, is, after),
-      agrees_by _ _ agrees.header agrees.timescale agrees.scopes agrees.changing number
+      (sym agrees.in_body ∙ in_body, is, after),
+      agrees_by _ _ agrees.header agrees.timescale agrees.scopes agrees.in_body number
           (knows_further m.variables c (record c { tick = number_of digits }) refl refl after agrees.variables)
           agrees.silent,
     ))
 
 -- ---- commands
 
-pub takes_bracket : (m : Reader) (text : List ℕ) (line : ℕ) → m.item ≡ items.Nothing → m.changing ≡ true
+pub takes_bracket : (m : Reader) (text : List ℕ) (line : ℕ) → m.item ≡ items.Nothing → m.in_body ≡ true
     → is_one_of dump_words text ≡ true → WordResult m (word_on text line) (Ok tt) m
-takes_bracket m text line between changing is =
+takes_bracket m text line between in_body is =
     whole_item m m (word_on text line) (bracket text) between between refl
-    (λ c agrees. ((sym agrees.changing ∙ changing, is), agrees))
+    (λ c agrees. ((sym agrees.in_body ∙ in_body, is), agrees))
 
-pub declares_late : (m new : Reader) (text : List ℕ) (line : ℕ) → m.item ≡ items.Nothing → m.changing ≡ true
+pub declares_late : (m new : Reader) (text : List ℕ) (line : ℕ) → m.item ≡ items.Nothing → m.in_body ≡ true
     → is_one_of declaring_words text ≡ true → WordResult m (word_on text line) (Err UnexpectedWord) new
-declares_late m new text line between changing is = grind (arith, shows)
+declares_late m new text line between in_body is = grind (arith, shows)
 
-pub passes_over : (m : Reader) (text : List ℕ) (line : ℕ) → m.item ≡ items.Nothing → m.changing ≡ true
+pub passes_over : (m : Reader) (text : List ℕ) (line : ℕ) → m.item ≡ items.Nothing → m.in_body ≡ true
     → is_command text ≡ true → is_one_of dump_words text ≡ false → is_one_of declaring_words text ≡ false
     → WordResult m (word_on text line) (Ok tt) (record m { item = items.Other })
-passes_over m text line between changing command dump declaring c begun (agrees, taken) =
+passes_over m text line between in_body command dump declaring c begun (agrees, taken) =
     let none = none_begun m begun between taken in
     goes_on (
       agrees_still m c items.Other m.line agrees,
@@ -133,19 +135,19 @@ passes_over m text line between changing command dump declaring c begun (agrees,
 
 -- ---- changes of one word
 
-pub no_code : (m new : Reader) (letter : ℕ) (code : List ℕ) (line : ℕ) → m.item ≡ items.Nothing → m.changing ≡ true
+pub no_code : (m new : Reader) (letter : ℕ) (code : List ℕ) (line : ℕ) → m.item ≡ items.Nothing → m.in_body ≡ true
     → is_binary_digit letter ≡ true → length code ≡ 0 → WordResult m (word_on (letter ∷ code) line) (Err BadChange) new
-no_code m new letter code line between changing is none =
-    shows m new (word_on (letter ∷ code) line) BadChange between changing
+no_code m new letter code line between in_body is none =
+    shows m new (word_on (letter ∷ code) line) BadChange between in_body
     (λ c agrees. value_alone letter refl (ap (λ cs. letter ∷ cs) (nil_from_length code none)) is refl)
 
 pub begins_nothing : (m new : Reader) (first : ℕ) (text : List ℕ) (line : ℕ) → m.item ≡ items.Nothing
-    → m.changing ≡ true
+    → m.in_body ≡ true
     → is_among (codes "#$") first ≡ false → is_binary_digit first ≡ false → is_among vector_prefixes first ≡ false
     → is_among dropped_prefixes first ≡ false → WordResult m (word_on (first ∷ text) line) (Err BadChange) new
-begins_nothing m new first text line between changing no_command no_letter no_vector no_dropped =
+begins_nothing m new first text line between in_body no_command no_letter no_vector no_dropped =
     let other : is_among (codes "#$" ++ pair_prefixes) first ≡ false = grind (arith, list_any-append, or_from) in
-    shows m new (word_on (first ∷ text) line) BadChange between changing
+    shows m new (word_on (first ∷ text) line) BadChange between in_body
     (λ c agrees. no_change first text refl refl no_letter other refl)
 
 -- some variable accepts the digits
@@ -168,36 +170,36 @@ bit_shows c letter code fault is some (variables.too_long d found keeps value lo
     grind (arith, or_parts, eqb-false)
 
 pub sets_bit : (m : Reader) (vs : Variables) (letter : ℕ) (code : List ℕ) (line : ℕ) (r : Result (Unit {0}) Fault)
-    → m.item ≡ items.Nothing → m.changing ≡ true → is_binary_digit letter ≡ true → 0 < length code
+    → m.item ≡ items.Nothing → m.in_body ≡ true → is_binary_digit letter ≡ true → 0 < length code
     → ((c : ParseState) → c.tick ≡ m.tick → VariablesMatch m.variables c → ChangeResult c code (letter ∷ []) r vs)
     → WordResult m (word_on (letter ∷ code) line) r (record m { variables = vs })
-sets_bit m vs letter code line (Ok x) between changing is some takes =
+sets_bit m vs letter code line (Ok x) between in_body is some takes =
     whole_item m (record m { variables = vs }) (word_on (letter ∷ code) line) (scalar letter code) between between refl
     (λ c agrees.
     let change = takes c (sym agrees.tick) agrees.variables in (
-      (sym agrees.changing ∙ changing, is, some, taken_by_some (variable_of c code) (letter ∷ []) change.0),
-      agrees_set m c vs (state_after_item c (scalar letter code)).value_changes m.item agrees changing change.1,
+      (sym agrees.in_body ∙ in_body, is, some, taken_by_some (variable_of c code) (letter ∷ []) change.0),
+      agrees_set m c vs (state_after_item c (scalar letter code)).value_changes m.item agrees in_body change.1,
     ))
-sets_bit m vs letter code line (Err fault) between changing is some takes = λ c begun at.
+sets_bit m vs letter code line (Err fault) between in_body is some takes = λ c begun at.
     elim (takes c (sym at.0.tick) at.0.variables) [
       | inl memory ↦ inl memory
-      | inr row ↦ shown_at m c begun (word_on (letter ∷ code) line) fault between changing at
+      | inr row ↦ shown_at m c begun (word_on (letter ∷ code) line) fault between in_body at
           (bit_shows c letter code fault is some row)
     ]
 
 -- ---- changes of two words
 
-pub begins_dropped : (m : Reader) (first : ℕ) (text : List ℕ) (line : ℕ) → m.item ≡ items.Nothing → m.changing ≡ true
+pub begins_dropped : (m : Reader) (first : ℕ) (text : List ℕ) (line : ℕ) → m.item ≡ items.Nothing → m.in_body ≡ true
     → is_among dropped_prefixes first ≡ true
     → WordResult m (word_on (first ∷ text) line) (Ok tt) (record m { item = items.Dropped; line = line })
-begins_dropped m first text line between changing is c begun (agrees, taken) =
+begins_dropped m first text line between in_body is c begun (agrees, taken) =
     let none = none_begun m begun between taken in
     goes_on (
       agrees_still m c items.Dropped line agrees,
       (
         text,
         record {
-          changes = changing;
+          changes = in_body;
           word = word_on (first ∷ text) line;
           letter = first;
           is = ap (λ bs. bs ++ word_on (first ∷ text) line ∷ []) none;
@@ -235,21 +237,21 @@ vector_shows c first digits code fault is (variables.too_long d found keeps valu
 
 -- all words of a change of several bits have been taken
 pub whole_vector : (m : Reader) (c : ParseState) (vs : Variables) (item : OpenItem) (words : List PlacedWord)
-    (letter : ℕ) (digits code : List ℕ) → ReaderMatches m c → m.changing ≡ true
+    (letter : ℕ) (digits code : List ℕ) → ReaderMatches m c → m.in_body ≡ true
     → item ≡ items.Nothing → is_among vector_prefixes letter ≡ true → (letter ∷ digits) ∷ code ∷ [] ≡ word_texts words
     → ChangeResult c code digits (Ok tt) vs → WordStep c words (record m { variables = vs; item = item })
-whole_vector m c vs item words letter digits code agrees changing closed is spelled change =
-    ends_item (vector letter digits code) spelled (sym agrees.changing ∙ changing, is, change.0) (
-      agrees_set m c vs (state_after_item c (vector letter digits code)).value_changes item agrees changing change.1,
+whole_vector m c vs item words letter digits code agrees in_body closed is spelled change =
+    ends_item (vector letter digits code) spelled (sym agrees.in_body ∙ in_body, is, change.0) (
+      agrees_set m c vs (state_after_item c (vector letter digits code)).value_changes item agrees in_body change.1,
       subst (IsBegun (record m { variables = vs; item = item }) []) (sym closed) refl,
     )
 
 -- the code of a change of several bits shows a fault
 pub vector_shown : (m : Reader) (c : ParseState) (letter : ℕ) (digits code : List ℕ) (fault : Fault) → ReaderMatches m c
-    → m.changing ≡ true → is_among vector_prefixes letter ≡ true → BinaryNumberFault c code digits fault
+    → m.in_body ≡ true → is_among vector_prefixes letter ≡ true → BinaryNumberFault c code digits fault
     → WordFault c ((letter ∷ digits) ∷ []) code fault
-vector_shown m c letter digits code fault agrees changing is row =
-    among_changes (sym agrees.changing ∙ changing) (vector_shows c letter digits code fault is row)
+vector_shown m c letter digits code fault agrees in_body is row =
+    among_changes (sym agrees.in_body ∙ in_body) (vector_shows c letter digits code fault is row)
 
 pub ends_vector : (m : Reader) (vs : Variables) (code : List ℕ) (line : ℕ) (r : Result (Unit {0}) Fault)
     → m.item ≡ items.Vector
@@ -278,7 +280,7 @@ ends_dropped m code line item declared c begun (agrees, taken) =
     let text = at.0 in
     let b = at.1 in
     ends_item (real_or_string b.letter text code) (texts_whole m begun dropped_prefixes text code line b)
-    (sym agrees.changing ∙ b.changes, b.among, declared c agrees.variables) (
+    (sym agrees.in_body ∙ b.changes, b.among, declared c agrees.variables) (
       agrees_still m c items.Nothing m.line agrees,
       refl,
     )
@@ -294,7 +296,7 @@ drops_unknown m new code line item unknown c begun (agrees, taken) =
     let at : (text : List ℕ) × AwaitsCode m begun dropped_prefixes text = subst (IsBegun m begun) item taken in
     let text = at.0 in
     let b = at.1 in
-    inr (among_changes (sym agrees.changing
+    inr (among_changes (sym agrees.in_body
     ∙ b.changes) (subst (λ ts. ChangeFault c ts code UnknownCode)
     (sym (texts_begun m begun dropped_prefixes text b))
     (pair_of_none b.letter text refl (among_last vector_prefixes dropped_prefixes b.letter b.among)

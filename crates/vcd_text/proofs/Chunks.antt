@@ -31,22 +31,23 @@ use Rattle.vcd_text.specs.MemoryErrors.{memory_error}
 use Rattle.vcd_text.specs.inside.Spaces.{is_closed}
 use Rattle.vcd_text.specs.inside.Reading.{Reads}
 use Rattle.vcd_text.specs.inside.Chunks.{HasTaken, HasCome, HasConsumed}
-use Rattle.vcd_text.specs.inside.WordWalk.{feeds}
+use Rattle.vcd_text.specs.inside.WordWalk.{line_feeds_in}
 use Rattle.vcd_text.proofs.Ended.{no_fault as shows_none}
 use Rattle.vcd_text.proofs.FrontAnswers.{larger, failing}
 use Rattle.vcd_text.proofs.FrontFaults.{longer_front_fault}
 use Rattle.vcd_text.proofs.FileFaults.{file_fault, front_fault_stays}
-use Rattle.vcd_text.proofs.WordLaws.{feeds_both, no_feeds, word_part}
+use Rattle.vcd_text.proofs.WordLaws.{line_feeds_of_both, no_line_feeds, word_part}
 use Rattle.vcd_text.specs.inside.Waiting.{Waiting}
 use Rattle.std.proofs.lemmas.Grind.{common_steps}
 
 -- ---- line feeds
 
-line_one : (b line : ℕ) → line_after b line ≡ line + feeds (b ∷ [])
+line_one : (b line : ℕ) → line_after b line ≡ line + line_feeds_in (b ∷ [])
 line_one b line = grind arith
 
-line_more : (b line : ℕ) (bs : List ℕ) → line_after b line + feeds bs ≡ line + feeds (b ∷ bs)
-line_more b line bs = let all : feeds (b ∷ bs) ≡ feeds (b ∷ []) + feeds bs = feeds_both (b ∷ []) bs in
+line_more : (b line : ℕ) (bs : List ℕ) → line_after b line + line_feeds_in bs ≡ line + line_feeds_in (b ∷ bs)
+line_more b line bs =
+    let all : line_feeds_in (b ∷ bs) ≡ line_feeds_in (b ∷ []) + line_feeds_in bs = line_feeds_of_both (b ∷ []) bs in
     omega (arith, all, line_one b line)
 
 -- ---- text up to white space
@@ -87,7 +88,8 @@ byte_first space last b line ws more h6 = grind arith
 
 -- the words of a closed text, and those after it
 pub words_closed : (whole : Bool) (line : ℕ) (text rest : List ℕ) → is_closed text ≡ true
-    → words_from whole line (text ++ rest) ≡ words_from true line text ++ words_from whole (line + feeds text) rest
+    → words_from whole line (text ++ rest) ≡ words_from true line text
+    ++ words_from whole (line + line_feeds_in text) rest
 unfolding words_from
 words_closed whole line [] rest closed = grind arith
 words_closed whole line (b ∷ []) rest closed = grind (arith, line_one)
@@ -113,23 +115,35 @@ module _ (p : Progress) (from len : ℕ) (bytes closed : List ℕ) (come : HasCo
 
   -- the words of all bytes so far, and of those that follow
   words_now : (whole : Bool) (rest : List ℕ) → words_from whole 1 (bytes ++ rest)
-      ≡ closed_words come.before ++ (complete ++ words_from whole ((p.line_feeds + feeds closed) + 1) (back ++ rest))
+      ≡ closed_words come.before
+      ++ (complete ++ words_from whole ((p.line_feeds + line_feeds_in closed) + 1) (back ++ rest))
   words_now whole rest = grind (arith, append_assoc, in_two, words_closed)
 
   closed_now : closed_words bytes ≡ closed_words come.before ++ complete
   closed_now =
       ap (words_from false 1) (sym (append-nil bytes)) ∙ words_now false []
-      ∙ ap (λ text. closed_words come.before ++ (complete ++ words_from false ((p.line_feeds + feeds closed) + 1) text))
+      ∙ ap (λ text. closed_words come.before
+      ++ (complete ++ words_from false ((p.line_feeds + line_feeds_in closed) + 1) text))
       (append-nil back)
       ∙ ap (λ words. closed_words come.before ++ (complete ++ words))
-      (word_part ((p.line_feeds + feeds closed) + 1) back no_space)
+      (word_part ((p.line_feeds + line_feeds_in closed) + 1) back no_space)
       ∙ ap (λ words. closed_words come.before ++ words) (append-nil complete)
 
   -- the complete words have been taken
   pub now_taken : (new : Reader) → Reads new (closed_words come.before ++ complete)
-      → HasTaken new back (p.line_feeds + feeds closed) p.left bytes
+      → HasTaken new back (p.line_feeds + line_feeds_in closed) p.bytes_left bytes
   now_taken new reads =
-      grind (arith, common_steps, length-append, in_two, feeds_both, closed_now, words_now, append_assoc, no_feeds)
+      grind (
+        arith,
+        common_steps,
+        length-append,
+        in_two,
+        line_feeds_of_both,
+        closed_now,
+        words_now,
+        append_assoc,
+        no_line_feeds,
+      )
 
   -- or one of them shows a fault
   pub now_shown : (e : ReadError)
@@ -149,7 +163,7 @@ all_words : (p : Progress) (text bytes : List ℕ) → HasConsumed p bytes → t
     → closed_words bytes ++ words_from true (p.line_feeds + 1) text ≡ words_of bytes
 all_words p text bytes taken is =
     ap (λ word. closed_words bytes ++ words_from true (p.line_feeds + 1) word) (is ∙ sym (append-nil p.buffer.bytes))
-    ∙ sym (taken.following true []) ∙ ap (words_from true 1) (append-nil bytes)
+    ∙ sym (taken.words true []) ∙ ap (words_from true 1) (append-nil bytes)
 
 -- so all words of the bytes have been taken, or one shows a fault
 pub last_taken : (p : Progress) (new : Reader) (text bytes : List ℕ) → HasConsumed p bytes → text ≡ p.buffer.bytes
@@ -191,7 +205,8 @@ shown_early (Some xs) (Some ys) failed bytes e ready consumes within (inr shows)
 
 -- the file has more bytes than the limit
 pub full : (coming middle left : Option (List ℕ)) (failed : Bool) (p : Progress) (bytes chunk : List ℕ) (e : ReadError)
-    → Consumes coming middle bytes → Consumes middle left chunk → 0 < length chunk → p.left ≡ 0 → HasConsumed p bytes
+    → Consumes coming middle bytes → Consumes middle left chunk → 0 < length chunk → p.bytes_left ≡ 0
+    → HasConsumed p bytes
     → e ≡ record { line = p.line_feeds + 1; fault = faults.TooLarge }
     → IfSome coming (λ file. IsRefusal file failed left e)
 full coming middle left failed p bytes chunk e first second some none taken is =
@@ -262,12 +277,14 @@ is_no_file_failure bytes e h2 h3 = grind (arith, by_change)
 
 -- the chunk came after the word that can go on
 pub has_come : (p : Progress) (buffer : Waiting) (from count : ℕ) (before word chunk : List ℕ) → HasConsumed p before
-    → buffer.bytes ≡ word ++ chunk → word ≡ p.buffer.bytes → count ≡ length chunk → count ≤ p.left
-    → from ≡ length word → HasCome (record p { buffer = buffer; left = p.left - count }) from (before ++ chunk)
+    → buffer.bytes ≡ word ++ chunk → word ≡ p.buffer.bytes → count ≡ length chunk → count ≤ p.bytes_left
+    → from ≡ length word
+    → HasCome (record p { buffer = buffer; bytes_left = p.bytes_left - count }) from (before ++ chunk)
 has_come p buffer from count before word chunk taken text same many within len = grind arith
 
 -- the first bytes of the text are those of the word that can go on
 pub word_is_first : (p : Progress) (from : ℕ) (bytes : List ℕ) → HasCome p from bytes
     → (from ≤ length p.buffer.bytes) × (list_all (λ b. not (is_white_space b)) (take from p.buffer.bytes) ≡ true)
-    × (length bytes + p.left ≡ FILE_LIMIT) × (length p.buffer.bytes ≤ length bytes) × (p.line_feeds ≤ length bytes)
+    × (length bytes + p.bytes_left ≡ FILE_LIMIT) × (length p.buffer.bytes ≤ length bytes)
+    × (p.line_feeds ≤ length bytes)
 word_is_first p from bytes come = grind (arith, length-append, count_by-le-length, take-append_seam)

@@ -28,7 +28,7 @@ declared_state c = record {
   timescale = c.timescale;
   scopes = [];
   declared = declared_of 0 c.signals;
-  changing = true;
+  in_body = true;
   value_changes = [];
   tick = 0;
 }

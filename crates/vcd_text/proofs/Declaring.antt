@@ -45,9 +45,9 @@ same_known vs c d declared value_changes tick known = grind (arith, knows_furthe
 
 -- the reader matches a state, part by part
 pub agrees_by : (m : Reader) (c : ParseState) → m.header.items ≡ c.header → m.timescale ≡ c.timescale
-    → HoldsScopes m.scopes c.scopes c.declared → m.changing ≡ c.changing → m.tick ≡ c.tick
-    → VariablesMatch m.variables c → (IsFalse c.changing → c.value_changes ≡ []) → ReaderMatches m c
-agrees_by m c header time scopes changing tick variables silent = grind arith
+    → HoldsScopes m.scopes c.scopes c.declared → m.in_body ≡ c.in_body → m.tick ≡ c.tick
+    → VariablesMatch m.variables c → (IsFalse c.in_body → c.value_changes ≡ []) → ReaderMatches m c
+agrees_by m c header time scopes in_body tick variables silent = grind arith
 
 -- where the conditions of the open item hold, its `$end` ends it
 ends_here : (new : Reader) (c : ParseState) (begun : List PlacedWord) (line : ℕ) (i : Item) (words : List (List ℕ))
@@ -71,9 +71,9 @@ closes_entry m new kind is pushed others line c begun at =
     subst (WordStep c (begun ++ word_on end_word line ∷ [])) (sym others)
     (ends_here (record m { header = new.header; words = new.words; item = items.Nothing }) c begun line i
     (header_word kind ∷ m.words.items)
-    b.spelled refl (sym a.changing ∙ b.declares, b.no_end)
+    b.spelled refl (sym a.in_body ∙ b.declares, b.no_end)
     (agrees_by _ _ (pushed ∙ ap (λ h. h ++ record { kind = kind; words = m.words.items } ∷ []) a.header)
-    a.timescale a.scopes a.changing a.tick
+    a.timescale a.scopes a.in_body a.tick
     (same_known m.variables c (state_after_item c i) refl refl refl a.variables) a.silent) refl)
 
 -- a timescale replaces the one before
@@ -87,8 +87,8 @@ closes_timescale m found is some line c begun at =
     let i : Item = timescale m.words.items in
     ends_here (record m { timescale = Some found; item = items.Nothing }) c begun line i
     (codes "$timescale" ∷ m.words.items)
-    b.spelled refl (sym a.changing ∙ b.declares, b.no_end, subst IsSome (sym some) refl)
-    (agrees_by _ _ a.header (sym some) a.scopes a.changing a.tick
+    b.spelled refl (sym a.in_body ∙ b.declares, b.no_end, subst IsSome (sym some) refl)
+    (agrees_by _ _ a.header (sym some) a.scopes a.in_body a.tick
     (same_known m.variables c (state_after_item c i) refl refl refl a.variables) a.silent) refl
 
 -- the words spell no timescale
@@ -97,7 +97,7 @@ pub shows_no_timescale : (m : Reader) → m.item ≡ items.Timescale → timesca
     → WordFault c (word_texts begun) end_word faults.BadTimescale
 shows_no_timescale m is none c begun at =
     let b : Collects m begun (codes "$timescale") = subst (IsBegun m begun) is at.1 in
-    among_declarations (sym at.0.changing ∙ b.declares) (no_timescale m.words.items b.spelled refl b.no_end none refl)
+    among_declarations (sym at.0.in_body ∙ b.declares) (no_timescale m.words.items b.spelled refl b.no_end none refl)
 
 -- a scope is the innermost
 pub closes_scope : (m new : Reader) (s : ScopeName) → m.item ≡ items.Scope → m.words.items ≡ s.kind ∷ s.words
@@ -114,8 +114,8 @@ closes_scope m new s is words pushed others line c begun at =
     (ends_here (record m { scopes = new.scopes; words = new.words; item = items.Nothing }) c begun line i
     (codes "$scope" ∷ s.kind ∷ s.words)
     (b.spelled ∙ ap (λ ws. codes "$scope" ∷ ws) words) refl
-    (sym a.changing ∙ b.declares, ap has_no_end_word (sym words) ∙ b.no_end)
-    (agrees_by _ _ a.header a.timescale (pushed c a.scopes) a.changing a.tick
+    (sym a.in_body ∙ b.declares, ap has_no_end_word (sym words) ∙ b.no_end)
+    (agrees_by _ _ a.header a.timescale (pushed c a.scopes) a.in_body a.tick
     (same_known m.variables c (state_after_item c i) refl refl refl a.variables) a.silent) refl)
 
 -- the front of a list, and the rest
@@ -133,11 +133,11 @@ pub closes_upscope : (m new : Reader) → m.item ≡ items.Upscope
     → WordStep c (begun ++ word_on end_word line ∷ []) new
 closes_upscope m new is popped others line c begun at =
     let a = at.0 in
-    let b : IsFalse m.changing × (word_texts begun ≡ codes "$upscope" ∷ []) × (0 < m.scopes.depth) = grind arith in
+    let b : IsFalse m.in_body × (word_texts begun ≡ codes "$upscope" ∷ []) × (0 < m.scopes.depth) = grind arith in
     subst (WordStep c (begun ++ word_on end_word line ∷ [])) (sym others)
     (ends_here (record m { scopes = new.scopes; item = items.Nothing }) c begun line upscope (codes "$upscope" ∷ [])
-    b.1 refl (sym a.changing ∙ b.0, omega (arith, so_deep m.scopes c a.scopes, b.2))
-    (agrees_by _ _ a.header a.timescale (popped c a.scopes) a.changing a.tick
+    b.1 refl (sym a.in_body ∙ b.0, omega (arith, so_deep m.scopes c a.scopes, b.2))
+    (agrees_by _ _ a.header a.timescale (popped c a.scopes) a.in_body a.tick
     (same_known m.variables c (state_after_item c upscope) refl refl refl a.variables) a.silent) refl)
 
 -- the changes begin
@@ -145,22 +145,23 @@ pub closes_definitions : (m : Reader) (code_targets : CodeTargets) → code_targ
     → m.item ≡ items.EndDefinitions → (line : ℕ) (c : ParseState) (begun : List PlacedWord) → IsAtState m c begun
     → WordStep c (begun ++ word_on end_word line ∷ []) (record m {
       variables = record m.variables { code_targets = code_targets };
-      changing = true;
+      in_body = true;
       item = items.Nothing;
     })
 closes_definitions m code_targets same is line c begun at =
     let a = at.0 in
-    let b : IsFalse m.changing × (word_texts begun ≡ codes "$enddefinitions" ∷ []) = subst (IsBegun m begun) is at.1 in
+    let b : IsFalse m.in_body × (word_texts begun ≡ codes "$enddefinitions" ∷ []) =
+    subst (IsBegun m begun) is at.1 in
     ends_here (record m {
       variables = record m.variables { code_targets = code_targets };
-      changing = true;
+      in_body = true;
       item = items.Nothing;
     }) c begun line end_definitions (codes "$enddefinitions" ∷ [])
-    b.1 refl (sym a.changing ∙ b.0)
+    b.1 refl (sym a.in_body ∙ b.0)
     (agrees_by _ _ a.header a.timescale a.scopes refl a.tick
     (same_codes m.variables code_targets (state_after_item c end_definitions) same
     (same_known m.variables c (state_after_item c end_definitions) refl refl refl a.variables))
-    (λ _. a.silent (sym a.changing ∙ b.0))) refl
+    (λ _. a.silent (sym a.in_body ∙ b.0))) refl
 
 -- another command changes nothing
 pub closes_other : (m : Reader) → m.item ≡ items.Other
@@ -170,8 +171,8 @@ closes_other m is line c begun at =
     let a = at.0 in
     let b : PassesOver m begun = subst (IsBegun m begun) is at.1 in
     ends_here (record m { item = items.Nothing }) c begun line (other b.keyword b.words) (b.keyword ∷ b.words)
-    b.spelled refl (ap (λ changing. is_other changing b.keyword) (sym a.changing) ∙ b.other, b.no_end)
-    (agrees_by _ _ a.header a.timescale a.scopes a.changing a.tick a.variables a.silent) refl
+    b.spelled refl (ap (λ in_body. is_other in_body b.keyword) (sym a.in_body) ∙ b.other, b.no_end)
+    (agrees_by _ _ a.header a.timescale a.scopes a.in_body a.tick a.variables a.silent) refl
 
 -- ---- variables
 
@@ -187,16 +188,17 @@ pub closes_variable : (m : Reader) (variables : Variables) (scopes : Scopes) (wo
 closes_variable m variables scopes words spelled note declare is line c begun at =
     let a = at.0 in
     let b : Collects m begun (codes "$var") × IsTrue (has_good_size m.words.items) = subst (IsBegun m begun) is at.1 in
-    let declares : IsFalse c.changing = sym a.changing ∙ b.0.declares in
+    let declares : IsFalse c.in_body = sym a.in_body ∙ b.0.declares in
     let d : Declares c m.words.items (Ok tt) variables = grind arith in
     ends_here (record m { scopes = scopes; variables = variables; item = items.Nothing }) c begun line
     (variable m.words.items) (codes "$var" ∷ m.words.items)
     b.0.spelled refl (declares, b.0.no_end, b.1, d.0)
     (agrees_by _ _ a.header a.timescale (note c m.words.items a.scopes
-    (sym (kept_long variables (state_after_item c (variable m.words.items)) d.1))) a.changing a.tick d.1 a.silent) refl
+    (sym (kept_long variables (state_after_item c (variable m.words.items)) d.1)))
+    a.in_body a.tick d.1 a.silent) refl
 
 -- the fault of the variables is that of the grammar
-variable_fault : (m : Reader) (c : ParseState) (begun : List PlacedWord) (fault : Fault) → IsFalse c.changing
+variable_fault : (m : Reader) (c : ParseState) (begun : List PlacedWord) (fault : Fault) → IsFalse c.in_body
     → Collects m begun (codes "$var") → IsTrue (has_good_size m.words.items) → VariableFault c m.words.items fault
     → WordFault c (word_texts begun) end_word fault
 variable_fault m c begun fault declares b good (VariableFault.no_variable none is) =
@@ -207,7 +209,7 @@ variable_fault m c begun fault declares b good (VariableFault.no_room d some may
     among_declarations declares (DeclarationFault.no_room m.words.items d b.spelled refl b.no_end good some may none is)
 
 -- the same, or memory runs out
-fault_shown : (m : Reader) (c : ParseState) (begun : List PlacedWord) (fault : Fault) → IsFalse c.changing
+fault_shown : (m : Reader) (c : ParseState) (begun : List PlacedWord) (fault : Fault) → IsFalse c.in_body
     → Collects m begun (codes "$var") → IsTrue (has_good_size m.words.items)
     → (fault ≡ faults.NoMemory) ⊎ VariableFault c m.words.items fault → (fault ≡ faults.NoMemory)
     ⊎ WordFault c (word_texts begun) end_word fault
@@ -225,7 +227,7 @@ shows_no_variable m new (Err e) fault variables words spelled declare is failed 
     λ c begun at.
     let a = at.0 in
     let b : Collects m begun (codes "$var") × IsTrue (has_good_size m.words.items) = subst (IsBegun m begun) is at.1 in
-    let declares : IsFalse c.changing = sym a.changing ∙ b.0.declares in
+    let declares : IsFalse c.in_body = sym a.in_body ∙ b.0.declares in
     let d : Declares c m.words.items (Err fault) variables =
     subst (λ ws. Declares c ws (Err fault) variables) spelled (declare c (a.silent declares) a.variables) in
     subst (λ f. (f ≡ faults.NoMemory) ⊎ WordFault c (word_texts begun) end_word f) (sym failed)
@@ -251,7 +253,7 @@ pub shows_no_size : (m : Reader) (text : List ℕ) → m.item ≡ items.Variable
 shows_no_size m text is one isnt c begun at =
     let b : Collects m begun (codes "$var") × IsTrue (has_good_size m.words.items) = subst (IsBegun m begun) is at.1 in
     let k = one_word m.words.items one b.0.no_end in
-    among_declarations (sym at.0.changing
+    among_declarations (sym at.0.in_body
     ∙ b.0.declares) (no_size k.0 (b.0.spelled ∙ ap (λ ws. codes "$var" ∷ ws) k.1) k.2 isnt refl)
 
 -- ---- a word that goes on

@@ -29,18 +29,18 @@ collecting : (m : Reader) (c : ParseState) (begun : List PlacedWord) (keyword : 
     → Collects m begun keyword → IsTrue (is_one_of (codes "$timescale" ∷ codes "$scope" ∷ header_words) keyword)
     → IsUnfinished c (word_texts begun)
 collecting m c begun keyword agrees is among =
-    words_due keyword m.words.items (sym agrees.changing ∙ is.declares) is.spelled among is.no_end
+    words_due keyword m.words.items (sym agrees.in_body ∙ is.declares) is.spelled among is.no_end
 
 awaiting : (m : Reader) (c : ParseState) (begun : List PlacedWord) (letters text : List ℕ) → ReaderMatches m c
     → AwaitsCode m begun letters text
     → ((b : ℕ) → IsTrue (is_among letters b) → IsTrue (is_among pair_prefixes b)) → IsUnfinished c (word_texts begun)
 awaiting m c begun letters text agrees is more =
-    code_due is.letter text (sym agrees.changing ∙ is.changes) (ap word_texts is.is ∙ ap (λ t. t ∷ []) is.spelled)
+    code_due is.letter text (sym agrees.in_body ∙ is.changes) (ap word_texts is.is ∙ ap (λ t. t ∷ []) is.spelled)
     (more is.letter is.among)
 
 -- a word must follow words that are no whole file
 unfinished : (m : Reader) (c : ParseState) (begun : List PlacedWord) (item : OpenItem) → ReaderMatches m c
-    → IsBegun m begun item → IsFalse (m.changing && is_nothing item) → IsUnfinished c (word_texts begun)
+    → IsBegun m begun item → IsFalse (m.in_body && is_nothing item) → IsUnfinished c (word_texts begun)
 unfinished m c begun items.Nothing agrees none no_end = grind arith
 unfinished m c begun (items.Entry kind) agrees is no_end =
     collecting m c begun (header_word kind) agrees is (grind arith)
@@ -48,10 +48,10 @@ unfinished m c begun items.Timescale agrees is no_end = collecting m c begun (co
 unfinished m c begun items.Scope agrees is no_end = collecting m c begun (codes "$scope") agrees is refl
 unfinished m c begun items.Upscope agrees is no_end = grind (arith, so_deep)
 unfinished m c begun items.Variable agrees is no_end =
-    variable_due m.words.items (sym agrees.changing ∙ is.0.declares) is.0.spelled is.0.no_end is.1
-unfinished m c begun items.EndDefinitions agrees is no_end = definitions_due (sym agrees.changing ∙ is.0) is.1
+    variable_due m.words.items (sym agrees.in_body ∙ is.0.declares) is.0.spelled is.0.no_end is.1
+unfinished m c begun items.EndDefinitions agrees is no_end = definitions_due (sym agrees.in_body ∙ is.0) is.1
 unfinished m c begun items.Other agrees is no_end =
-    other_due is.keyword is.words is.spelled (subst (λ b. IsTrue (is_other b is.keyword)) agrees.changing is.other)
+    other_due is.keyword is.words is.spelled (subst (λ b. IsTrue (is_other b is.keyword)) agrees.in_body is.other)
     is.no_end
 unfinished m c begun items.Vector agrees is no_end =
     awaiting m c begun vector_prefixes m.digits.items agrees is (among_first vector_prefixes dropped_prefixes)

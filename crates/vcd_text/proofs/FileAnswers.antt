@@ -19,7 +19,7 @@ use Rattle.vcd_text.specs.FoundFaults.{word_shows}
 use Rattle.vcd_text.specs.FoundFaults.{too_early}
 use Rattle.vcd_text.specs.Meaning.{FileMeans, meaning}
 use Rattle.vcd_text.specs.inside.SkippedVariables.{skipped_count}
-use Rattle.vcd_text.proofs.ItemsInTurn.{Leads, leads_none, leads_one, leads_both}
+use Rattle.vcd_text.proofs.ItemsInTurn.{Reaches, reaches_none, reaches_one, reaches_both}
 use Rattle.vcd_text.proofs.WordLaws.{is_run, words_are_words}
 use Rattle.vcd_text.proofs.WordOutcomes.{IsOpen, between, inside, shows_fault, ends_item, goes_on, word_outcome}
 use Rattle.vcd_text.proofs.ItemsInTurn.{shown_by}
@@ -38,7 +38,7 @@ record WordsSoFar (words rest : List PlacedWord) : Type 0 where
   state : ParseState
   parts : words ≡ whole ++ (begun ++ rest)
   spelled : word_texts whole ≡ spellings items
-  leads : Leads initial_state items state
+  leads : Reaches initial_state items state
   open_item : IsOpen state (word_texts begun)
 
 -- ---- one word
@@ -83,8 +83,8 @@ with_item words rest w u i spelled allows = record {
       map-append (λ (v : PlacedWord). v.text) u.whole (u.begun ++ w ∷ [])
       ∙ ap (λ ws. ws ++ word_texts (u.begun ++ w ∷ [])) u.spelled
       ∙ ap (λ ws. spellings u.items ++ ws) (texts_more u.begun w ∙ sym spelled) ∙ sym (spelled_more u.items i);
-  leads = leads_both initial_state u.state (state_after_item u.state i) u.items (i ∷ []) u.leads
-      (leads_one u.state (state_after_item u.state i) i allows refl);
+  leads = reaches_both initial_state u.state (state_after_item u.state i) u.items (i ∷ []) u.leads
+      (reaches_one u.state (state_after_item u.state i) i allows refl);
   open_item = between refl;
 }
 
@@ -107,21 +107,21 @@ stops_here words u due = stops_early (record {
 })
 
 -- nothing is open after the last word, and `$enddefinitions $end` has come
-accepts_here : (words : List PlacedWord) (u : WordsSoFar words []) → word_texts u.begun ≡ [] → IsTrue u.state.changing
+accepts_here : (words : List PlacedWord) (u : WordsSoFar words []) → word_texts u.begun ≡ [] → IsTrue u.state.in_body
     → AnswerTo words
-accepts_here words u none changing = is_accepted u.state (record {
+accepts_here words u none in_body = is_accepted u.state (record {
   items = u.items;
   spelled = texts_are words u ∙ ap (λ ws. spellings u.items ++ ws) none ∙ append-nil (spellings u.items);
   allowed = u.leads.allowed;
   state_is = u.leads.state_is;
-  definitions_ended = changing;
+  definitions_ended = in_body;
 })
 
 at_end : (words : List PlacedWord) (u : WordsSoFar words []) → IsOpen u.state (word_texts u.begun) → AnswerTo words
 at_end words u (inside due) = stops_here words u due
 at_end words u (between none) =
-    elim (cases_Bool u.state.changing) [
-      | inl changing ↦ accepts_here words u none changing
+    elim (cases_Bool u.state.in_body) [
+      | inl in_body ↦ accepts_here words u none in_body
       | inr declares ↦ stops_here words u (declaration_due declares none)
     ]
 
@@ -134,7 +134,7 @@ answer_after words (w ∷ rest) runs u =
     elim (word_outcome u.state (word_texts u.begun) w.text (All-head (λ (v : PlacedWord). is_run v.text) w rest runs).0
     u.open_item) [
       | shows_fault fault decided ↦
-          is_refused (fault_line u.state.changing u.begun w) fault
+          is_refused (fault_line u.state.in_body u.begun w) fault
           (shown_by words u.whole u.begun rest w u.items u.state _ fault u.leads u.parts u.spelled decided refl)
       | ends_item i spelled allows ↦
           answer_after words rest (All-tail (λ (v : PlacedWord). is_run v.text) w rest runs)
@@ -152,7 +152,7 @@ nothing_taken words = record {
   state = initial_state;
   parts = refl;
   spelled = refl;
-  leads = leads_none initial_state;
+  leads = reaches_none initial_state;
   open_item = between refl;
 }
 

@@ -168,11 +168,11 @@ front false c (w ∷ ws) = declaration_front c w ws
 front true c (w ∷ ws) = change_front c w ws
 
 abbrev pub front_of : ParseState → List (List ℕ) → Front
-front_of c words = front c.changing c words
+front_of c words = front c.in_body c words
 
 -- ---- tests
 
-pub front_at : (b : Bool) (c : ParseState) (words : List (List ℕ)) (f : Front) → c.changing ≡ b → front b c words ≡ f
+pub front_at : (b : Bool) (c : ParseState) (words : List (List ℕ)) (f : Front) → c.in_body ≡ b → front b c words ≡ f
     → front_of c words ≡ f
 front_at b c words f h e = ap (λ t. front t c words) h ∙ e
 
@@ -234,7 +234,7 @@ whole_front c (real_or_string first text code) rest a =
 whole_front c (bracket word) rest a =
     front_at true c _ _ a.0 (by_one_of (λ w. change_front c w rest ≡ whole (bracket w) rest) dump_words word a.1
     (refl, (refl, (refl, (refl, (refl, tt))))))
-whole_front c (other word words) rest a = other_front c.changing c word _ a.0 ∙ closing_at _ words rest a.1
+whole_front c (other word words) rest a = other_front c.in_body c word _ a.0 ∙ closing_at _ words rest a.1
 
 -- ---- faults
 
@@ -271,7 +271,7 @@ change_faulty c begun word fault more (declaration_late b w f) =
 change_faulty c begun word fault more (no_change first text b w l n f) = grind (arith, cond-false)
 
 pub fault_front : (c : ParseState) (begun : List (List ℕ)) (word : List ℕ) (fault : Fault) (more : List (List ℕ))
-    → WordFault c begun word fault → front_of c (begun ++ word ∷ more) ≡ faulty (place_of c.changing begun) fault
+    → WordFault c begun word fault → front_of c (begun ++ word ∷ more) ≡ faulty (place_of c.in_body begun) fault
 fault_front c begun word fault more (among_declarations h d) =
     front_at false c _ _ h (grind (arith, cond-false, closing_end, upscope_some, variable_closing, cond-true))
     ∙ ap (λ b. faulty (place_of b begun) fault) (sym h)

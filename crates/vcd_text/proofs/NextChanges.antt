@@ -39,9 +39,10 @@ rising cs k rise early = later_tick 0 (all_x rise.width) cs k rise.form.rise ear
 
 -- one change further on
 pub goes_on : (from to : ℕ) (cs : List Change) (n m : NextChange) → AreRising cs → IsNext from to cs n → n.tick < to
-    → to ≤ END_LIMIT + 1 → m.place ≡ n.place + 1 → m.tick ≡ n.following → m.following ≡ tick_at cs (n.place + 2)
+    → to ≤ END_LIMIT + 1 → m.place ≡ n.place + 1 → m.tick ≡ n.following_tick
+    → m.following_tick ≡ tick_at cs (n.place + 2)
     → IsNext from to cs m
-goes_on from to cs n m rise is early end place tick following =
+goes_on from to cs n m rise is early end place tick following_tick =
     let d = change 0 [] in
     let known : tick_at cs n.place < 2 ^ 64 - 1 = omega (arith, is.tick, early, end) in
     let inside = tick_inside cs n.place known in
@@ -53,16 +54,16 @@ goes_on from to cs n m rise is early end place tick following =
           (subst (All (λ (c : Change). c.tick < to)) (sym (take_more cs n.place d inside))
           (All-append (λ (c : Change). c.tick < to) (take n.place cs) (get_or cs n.place d ∷ []) is.passed
           (All-cons (λ (c : Change). c.tick < to) (get_or cs n.place d) [] here (λ i e none. absurd (omega arith)))));
-      left = omega (
+      not_earlier = omega (
         arith,
-        is.left,
+        is.not_earlier,
         is.tick,
-        is.following,
+        is.following_tick,
         tick,
         rising cs n.place rise known,
       );
-      tick = tick ∙ is.following ∙ ap (tick_at cs) (sym place);
-      following = following ∙ ap (tick_at cs) sum;
+      tick = tick ∙ is.following_tick ∙ ap (tick_at cs) (sym place);
+      following_tick = following_tick ∙ ap (tick_at cs) sum;
     }
 
 -- before a later tick
@@ -97,7 +98,7 @@ steps from to position cs n is early end =
     let at : c.tick ≡ n.tick = sym (tick_is cs n.place d inside) ∙ sym is.tick in
     ap (λ l. window_of_signal from to position l) (drop_more cs n.place d inside)
     ∙ ap (λ b. map (λ (x : Change). transition_of x.tick position) (cond b (c ∷ all) all))
-    (in_window from to c.tick (omega (arith, at, is.left)) (omega (arith, at, early)))
+    (in_window from to c.tick (omega (arith, at, is.not_earlier)) (omega (arith, at, early)))
     ∙ ap (λ t. transition_of t position ∷ window_of_signal from to position rest) at
 
 none_in : (from to position floor : ℕ) (before : List Bit) (cs : List Change) → AreChangesFrom floor before cs

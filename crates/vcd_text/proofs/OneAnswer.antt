@@ -65,7 +65,7 @@ stops_ends words s = search (arith, unfinished_front)
 
 refuses_ends : (words : List PlacedWord) (line : ℕ) (fault : Fault) (r : ShowsFault words line fault)
     → Ends (word_texts words) (state_after initial_state r.items) (word_texts (r.begun ++ r.word ∷ r.more))
-    (faulty (place_of (state_after initial_state r.items).changing (word_texts r.begun)) fault)
+    (faulty (place_of (state_after initial_state r.items).in_body (word_texts r.begun)) fault)
 refuses_ends words line fault r = record {
   items = r.items;
   spelled = grind (arith, map-append);
@@ -90,9 +90,9 @@ line_after_begun : (begun : List PlacedWord) (word : PlacedWord) (more : List Pl
 line_after_begun [] word more = refl
 line_after_begun (w ∷ begun) word more = line_after_begun begun word more
 
-line_replied : (changing : Bool) (begun : List PlacedWord) (word : PlacedWord) (more : List PlacedWord)
-    → line_at (begun ++ word ∷ more) (place_of changing (word_texts begun)) ≡ fault_line changing begun word
-line_replied changing begun word more = grind (arith, line_after_begun)
+line_replied : (in_body : Bool) (begun : List PlacedWord) (word : PlacedWord) (more : List PlacedWord)
+    → line_at (begun ++ word ∷ more) (place_of in_body (word_texts begun)) ≡ fault_line in_body begun word
+line_replied in_body begun word more = grind (arith, line_after_begun)
 
 -- two rests of one list that are equally long are the same
 same_rest : (words a b r s : List PlacedWord) → words ≡ a ++ r → words ≡ b ++ s → length r ≡ length s → r ≡ s
@@ -112,13 +112,13 @@ pub one_fault : (words : List PlacedWord) (line other_line : ℕ) (fault other_f
 one_fault words line other_line fault other_fault p q =
     let e = one_end (word_texts words) _ _ _ _ _ _ (refuses_ends words line fault p)
     (refuses_ends words other_line other_fault q) in
-    let places : place_of (state_after initial_state p.items).changing (word_texts p.begun)
-    ≡ place_of (state_after initial_state q.items).changing (word_texts q.begun) = cc (e.2) in
+    let places : place_of (state_after initial_state p.items).in_body (word_texts p.begun)
+    ≡ place_of (state_after initial_state q.items).in_body (word_texts q.begun) = cc (e.2) in
     let long : length (p.begun ++ p.word ∷ p.more) ≡ length (q.begun ++ q.word ∷ q.more) = grind (arith, length-map) in
     let rests : p.begun ++ p.word ∷ p.more ≡ q.begun ++ q.word ∷ q.more =
     same_rest words p.whole q.whole _ _ p.parts q.parts long in (
       p.at ∙ sym (line_replied _ p.begun p.word p.more)
-          ∙ ap (λ x. line_at x (place_of (state_after initial_state p.items).changing (word_texts p.begun))) rests
+          ∙ ap (λ x. line_at x (place_of (state_after initial_state p.items).in_body (word_texts p.begun))) rests
           ∙ ap (line_at (q.begun ++ q.word ∷ q.more)) places ∙ line_replied _ q.begun q.word q.more ∙ sym q.at,
       cc (e.2),
     )

@@ -19,7 +19,7 @@ use Rattle.vcd_text.specs.Grammar.{ParseState, VariableDeclaration}
 use Rattle.vcd_text.specs.Text.{same_scope, scope_items}
 use Rattle.vcd_text.proofs.Scopes.{all_closed}
 use Rattle.vcd_text.proofs.WeakerTests.{all_weaker}
-use Rattle.vcd_text.proofs.ItemsInTurn.{Leads, leads_none, leads_first, leads_both, leads_same}
+use Rattle.vcd_text.proofs.ItemsInTurn.{Reaches, reaches_none, reaches_first, reaches_both, reaches_same}
 use Rattle.std.proofs.lemmas.List.Folds.{list_all-append}
 
 -- the state in the middle of the declarations
@@ -30,7 +30,7 @@ declaring header timescale scopes declared =
       timescale = timescale;
       scopes = scopes;
       declared = declared;
-      changing = false;
+      in_body = false;
       value_changes = [];
       tick = 0;
     }
@@ -67,53 +67,53 @@ words_have_no_end ws words =
 -- the scopes past the front of a path are closed, the innermost first
 scopes_closed : (h : List Header) (t : Option Timescale) (opened : List ScopeName) (ds : List VariableDeclaration)
     (n : ℕ) → n ≤ length opened
-    → Leads (declaring h t opened ds) (replicate n upscope) (declaring h t (take (length opened - n) opened) ds)
-scopes_closed h t opened ds zero within = grind (arith, leads_same, leads_none, take_all)
+    → Reaches (declaring h t opened ds) (replicate n upscope) (declaring h t (take (length opened - n) opened) ds)
+scopes_closed h t opened ds zero within = grind (arith, reaches_same, reaches_none, take_all)
 scopes_closed h t opened ds (suc n) within =
     let outer : List ScopeName = take (length opened - 1) opened in
     let one_less : length outer ≡ length opened - 1 = length-take-le (length opened - 1) opened (omega arith) in
     let left : length outer - n ≡ length opened - suc n = omega arith in
-    leads_first (declaring h t opened ds) (declaring h t (take (length opened - suc n) opened) ds) upscope
+    reaches_first (declaring h t opened ds) (declaring h t (take (length opened - suc n) opened) ds) upscope
     (replicate n upscope) (refl, omega arith)
-    (leads_same (declaring h t outer ds) _ _ (replicate n upscope) (scopes_closed h t outer ds n (omega arith))
+    (reaches_same (declaring h t outer ds) _ _ (replicate n upscope) (scopes_closed h t outer ds n (omega arith))
     (ap (λ s. declaring h t s ds) (ap (λ m. take m outer) left
     ∙ take-take (length opened - suc n) (length opened - 1) opened (omega arith))))
 
 -- scopes are opened, the outermost first
 scopes_opened : (h : List Header) (t : Option Timescale) (front path : List ScopeName) (ds : List VariableDeclaration)
     → list_all is_sound_scope path ≡ true
-    → Leads (declaring h t front ds) (map (λ s. scope s.kind s.words) path) (declaring h t (front ++ path) ds)
-scopes_opened h t front [] ds sound = grind (arith, leads_same, leads_none, append-nil)
+    → Reaches (declaring h t front ds) (map (λ s. scope s.kind s.words) path) (declaring h t (front ++ path) ds)
+scopes_opened h t front [] ds sound = grind (arith, reaches_same, reaches_none, append-nil)
 scopes_opened h t front (s ∷ path) ds sound =
     let parts : (is_sound_scope s ≡ true) × (list_all is_sound_scope path ≡ true) = grind (arith, and_parts) in
-    leads_first (declaring h t front ds) (declaring h t (front ++ (s ∷ path)) ds) (scope s.kind s.words)
+    reaches_first (declaring h t front ds) (declaring h t (front ++ (s ∷ path)) ds) (scope s.kind s.words)
     (map (λ s. scope s.kind s.words) path) (refl, words_have_no_end (s.kind ∷ s.words) parts.0)
-    (leads_same (declaring h t (front ++ s ∷ []) ds) _ _ (map (λ s. scope s.kind s.words) path)
+    (reaches_same (declaring h t (front ++ s ∷ []) ds) _ _ (map (λ s. scope s.kind s.words) path)
     (scopes_opened h t (front ++ s ∷ []) path ds parts.1)
     (ap (λ s. declaring h t s ds) (append_assoc front (s ∷ []) path)))
 
 -- from one path to another
 pub scopes_lead : (h : List Header) (t : Option Timescale) (opened path : List ScopeName)
     (ds : List VariableDeclaration) → list_all is_sound_scope path ≡ true
-    → Leads (declaring h t opened ds) (scope_items opened path) (declaring h t path ds)
+    → Reaches (declaring h t opened ds) (scope_items opened path) (declaring h t path ds)
 scopes_lead h t opened path ds sound =
     let shared : ℕ = common_prefix_len same_scope opened path in
     let within : shared ≤ length opened = (common_prefix_len-le same_scope opened path).0 in
     let kept : length opened - (length opened - shared) ≡ shared = omega arith in
     let front : List ScopeName = take shared path in
     let reached : take (length opened - (length opened - shared)) opened ≡ front = grind (arith, shared_front) in
-    leads_both (declaring h t opened ds) (declaring h t front ds) (declaring h t path ds)
+    reaches_both (declaring h t opened ds) (declaring h t front ds) (declaring h t path ds)
     (replicate (length opened - shared) upscope) (map (λ s. scope s.kind s.words) (drop shared path))
-    (leads_same _ _ _ _ (scopes_closed h t opened ds (length opened - shared) (omega arith))
+    (reaches_same _ _ _ _ (scopes_closed h t opened ds (length opened - shared) (omega arith))
     (ap (λ s. declaring h t s ds) reached))
-    (leads_same _ _ _ _ (scopes_opened h t front (drop shared path) ds (later_scopes shared path sound))
+    (reaches_same _ _ _ _ (scopes_opened h t front (drop shared path) ds (later_scopes shared path sound))
     (ap (λ s. declaring h t s ds) (take-append-drop shared path)))
 
 -- all scopes are closed
 pub scopes_end : (h : List Header) (t : Option Timescale) (opened : List ScopeName) (ds : List VariableDeclaration)
-    → Leads (declaring h t opened ds) (map (λ s. upscope) opened) (declaring h t [] ds)
+    → Reaches (declaring h t opened ds) (map (λ s. upscope) opened) (declaring h t [] ds)
 scopes_end h t opened ds =
     let none : length opened - length opened ≡ 0 = omega arith in
-    subst (λ is. Leads (declaring h t opened ds) is (declaring h t [] ds)) (sym (all_closed opened))
-    (leads_same _ _ _ _ (scopes_closed h t opened ds (length opened) (omega arith))
+    subst (λ is. Reaches (declaring h t opened ds) is (declaring h t [] ds)) (sym (all_closed opened))
+    (reaches_same _ _ _ _ (scopes_closed h t opened ds (length opened) (omega arith))
     (ap (λ m. declaring h t (take m opened) ds) none))

@@ -103,7 +103,7 @@ record IsClean (c : ParseState) : Type 0 where
   agree : All (IsAgreed c) c.declared
   few : length (kept_variables c.declared) ≤ SIGNAL_LIMIT
   fit : All (Fits c) c.value_changes
-  silent : c.changing ≡ false → c.value_changes ≡ []
+  silent : c.in_body ≡ false → c.value_changes ≡ []
   tick : c.tick ≤ END_LIMIT
 
 -- ---- sizes
@@ -128,10 +128,10 @@ some_taken digits (Some e) takes = grind (arith, length-map, leb-true, and_parts
 -- ---- one item
 
 -- one more value change
-clean_value_change : (c : ParseState) (code : List ℕ) (letters : List Bit) → IsClean c → IsTrue c.changing
+clean_value_change : (c : ParseState) (code : List ℕ) (letters : List Bit) → IsClean c → IsTrue c.in_body
     → IsSomeAnd (variable_of c code) (λ e. is_skipped e ≡ false → length letters ≤ e.size)
     → IsClean (with_value_change c code letters)
-clean_value_change c code letters clean changing fits = record {
+clean_value_change c code letters clean in_body fits = record {
   header = clean.header;
   timescale = clean.timescale;
   scopes = clean.scopes;
@@ -139,7 +139,7 @@ clean_value_change c code letters clean changing fits = record {
   agree = clean.agree;
   few = clean.few;
   fit = more (variable_of c code) refl fits;
-  silent = λ no_more. absurd (false≢true (sym no_more ∙ changing));
+  silent = λ no_more. absurd (false≢true (sym no_more ∙ in_body));
   tick = clean.tick;
 }
   where
@@ -159,7 +159,7 @@ both_kept true e h = absurd (false≢true h)
 both_kept false e h = (h, refl)
 
 -- one more variable
-clean_declared : (c : ParseState) (d : VariableDeclaration) → IsClean c → IsFalse c.changing → IsCleanDeclaration d
+clean_declared : (c : ParseState) (d : VariableDeclaration) → IsClean c → IsFalse c.in_body → IsCleanDeclaration d
     → IsTrue (may_have_code (variable_of c d.code) d) → IsTrue (has_room c.declared d)
     → IsClean (record c { declared = c.declared ++ d ∷ [] })
 clean_declared c d clean declaring is shares room =
@@ -220,19 +220,19 @@ clean_variable c (kind ∷ size ∷ code ∷ name ∷ names) clean all allows =
 
 -- the state stays clean where neither variables nor value changes are added
 clean_beside : (c : ParseState) (header : List Header) (time : Option Timescale) (scopes : List ScopeName)
-    (changing : Bool) (tick : ℕ) → IsClean c
+    (in_body : Bool) (tick : ℕ) → IsClean c
     → list_all is_sound_header header ≡ true → IfSome time (λ t. is_sound_timescale t ≡ true)
-    → list_all is_sound_scope scopes ≡ true → (changing ≡ false → c.value_changes ≡ []) → tick ≤ END_LIMIT
+    → list_all is_sound_scope scopes ≡ true → (in_body ≡ false → c.value_changes ≡ []) → tick ≤ END_LIMIT
     → IsClean (record {
       header = header;
       timescale = time;
       scopes = scopes;
       declared = c.declared;
-      changing = changing;
+      in_body = in_body;
       value_changes = c.value_changes;
       tick = tick;
     })
-clean_beside c header time scopes changing tick clean sound_header sound_timescale sound_scopes silent within =
+clean_beside c header time scopes in_body tick clean sound_header sound_timescale sound_scopes silent within =
     grind arith
 
 clean_item : (c : ParseState) (i : Item) → IsClean c → list_all is_run_text (spelling i) ≡ true → Allows c i

@@ -26,7 +26,7 @@ use Rattle.vcd_text.specs.declared.reading.reader.OpenItem.TheVariants as items
 use Rattle.vcd_text.specs.declared.reading.reader.Reader.{Reader}
 use Rattle.vcd_text.specs.declared.reading.variables.Variables.{Variables}
 use Rattle.vcd_text.proofs.Changing.{none_begun, whole_vector, vector_shown}
-use Rattle.vcd_text.proofs.ItemsInTurn.{leads_both, leads_one, shown_by}
+use Rattle.vcd_text.proofs.ItemsInTurn.{reaches_both, reaches_one, shown_by}
 use Rattle.vcd_text.proofs.FileAnswers.{spelled_more}
 
 -- words that go on with the open item, or end it
@@ -34,9 +34,9 @@ pub words_taken : (old new : Reader) (taken words : List PlacedWord) (r : Reads 
     → WordStep r.state (r.begun ++ words) new → Reads new (taken ++ words)
 words_taken old new taken words r (goes_on at) = grind (arith, append_assoc)
 words_taken old new taken words r (ends_item i spelled allows at) =
-    let leads = leads_both initial_state r.state (state_after_item r.state i) r.items (i ∷ [])
+    let leads = reaches_both initial_state r.state (state_after_item r.state i) r.items (i ∷ [])
     (record { allowed = r.allowed; state_is = r.state_is })
-    (leads_one r.state (state_after_item r.state i) i allows refl) in
+    (reaches_one r.state (state_after_item r.state i) i allows refl) in
     record {
       items = r.items ++ i ∷ [];
       whole = taken ++ words;
@@ -58,13 +58,13 @@ error_shown words line fault (inr shows) = grind arith
 -- ---- lines
 
 declaring : (m : Reader) (c : ParseState) (begun : List PlacedWord) (w : PlacedWord) → ReaderMatches m c
-    → IsFalse m.changing → w.line ≡ fault_line c.changing begun w
-declaring m c begun w agrees none = sym (ap (λ b. fault_line b begun w) (sym agrees.changing ∙ none))
+    → IsFalse m.in_body → w.line ≡ fault_line c.in_body begun w
+declaring m c begun w agrees none = sym (ap (λ b. fault_line b begun w) (sym agrees.in_body ∙ none))
 
 -- the line that is shown is that of the definition
 pub line_shown : (m : Reader) (c : ParseState) (begun : List PlacedWord) (w : PlacedWord) (fault : Fault)
     (item : OpenItem) → ReaderMatches m c → IsBegun m begun item → WordFault c (word_texts begun) w.text fault
-    → item_fault_line item m.line w.line ≡ fault_line c.changing begun w
+    → item_fault_line item m.line w.line ≡ fault_line c.in_body begun w
 line_shown m c begun w fault items.Nothing agrees none decided = grind arith
 line_shown m c begun w fault (items.Entry kind) agrees is decided = declaring m c begun w agrees is.declares
 line_shown m c begun w fault items.Timescale agrees is decided = declaring m c begun w agrees is.declares
@@ -126,6 +126,6 @@ whole_vector_refused m new text digits code line code_line fault b refuses taken
           (record { allowed = r.allowed; state_is = r.state_is }) parts r.spelled
           (subst (λ t. WordFault r.state (t ∷ []) code fault) (sym b.spelled)
           (vector_shown m r.state b.letter digits code fault r.at.0 b.changes b.among row))
-          (ap (λ changing. fault_line changing (first ∷ []) (word_on code code_line)) (sym b.changes
-          ∙ r.at.0.changing)))
+          (ap (λ in_body. fault_line in_body (first ∷ []) (word_on code code_line)) (sym b.changes
+          ∙ r.at.0.in_body)))
     ])

@@ -21,7 +21,7 @@ use Rattle.vcd_text.specs.Text.{with_stamp, tick_items, value_item, value_items}
 use Rattle.vcd_text.proofs.CodesDiffer.{code_not_empty}
 use Rattle.vcd_text.proofs.Decimals.{decimal_is_number, number_of-decimal}
 use Rattle.vcd_text.proofs.DeclaredSignals.{declared_as, declared_state, declared_of, found_by_code, sound_is_kept}
-use Rattle.vcd_text.proofs.ItemsInTurn.{Leads, leads_both, leads_none, leads_one, leads_same}
+use Rattle.vcd_text.proofs.ItemsInTurn.{Reaches, reaches_both, reaches_none, reaches_one, reaches_same}
 use Rattle.vcd_text.proofs.ReadValues.{letter_back, letters_back, printed_is_value, short_within, short_one}
 use Rattle.vcd_text.proofs.ReadValues.{length-value_at}
 
@@ -45,26 +45,26 @@ pub record IsPlaced (c : Contents) (p : ℕ × SignalContents) : Type 0 where
 module _ (c : Contents) (p : ℕ × SignalContents) (placed : IsPlaced c p) (value_changes : List ValueChange) (t : ℕ)
   where
     value_leads_of : (v : List Bit) → length v ≡ p.1.width
-        → Leads (state_at c value_changes t) (value_item (code_of p.0) v ∷ [])
+        → Reaches (state_at c value_changes t) (value_item (code_of p.0) v ∷ [])
         (state_at c (value_changes ++ record { tick = t; code = code_of p.0; letters = short_form v } ∷ []) t)
     value_leads_of [] wide = absurd (omega (arith, wide, placed.some))
     value_leads_of (b ∷ []) wide = grind (arith, letter_back, code_not_empty, letters_back, short_one)
     value_leads_of (b ∷ d ∷ v) wide = grind (arith, short_within, length-map, printed_is_value, le-leb, letters_back)
 
-    value_leads : Leads (state_at c value_changes t) (value_item (code_of p.0) (signal_value p.1 t) ∷ [])
+    value_leads : Reaches (state_at c value_changes t) (value_item (code_of p.0) (signal_value p.1 t) ∷ [])
         (state_at c (value_changes ++ value_change_of t p ∷ []) t)
     value_leads = value_leads_of (signal_value p.1 t) (placed.wide t)
 
 -- ---- all values at a tick
 
 pub values_lead : (c : Contents) (placed : List (ℕ × SignalContents)) (value_changes : List ValueChange) (t : ℕ)
-    → All (IsPlaced c) placed → Leads (state_at c value_changes t) (value_items t placed)
+    → All (IsPlaced c) placed → Reaches (state_at c value_changes t) (value_items t placed)
     (state_at c (value_changes ++ map (value_change_of t) placed) t)
-values_lead c [] value_changes t all = grind (arith, leads_same, leads_none, append-nil)
+values_lead c [] value_changes t all = grind (arith, reaches_same, reaches_none, append-nil)
 values_lead c (p ∷ ps) value_changes t all =
-    subst (λ rs. Leads (state_at c value_changes t) (value_items t (p ∷ ps)) (state_at c rs t))
+    subst (λ rs. Reaches (state_at c value_changes t) (value_items t (p ∷ ps)) (state_at c rs t))
     (append_assoc value_changes (value_change_of t p ∷ []) (map (value_change_of t) ps))
-    (leads_both (state_at c value_changes t) (state_at c (value_changes ++ value_change_of t p ∷ []) t) _
+    (reaches_both (state_at c value_changes t) (state_at c (value_changes ++ value_change_of t p ∷ []) t) _
     (value_item (code_of p.0) (signal_value p.1 t) ∷ []) (value_items t ps)
     (value_leads c p (All-head (IsPlaced c) p ps all) value_changes t)
     (values_lead c ps (value_changes ++ value_change_of t p ∷ []) t (All-tail (IsPlaced c) p ps all)))
@@ -73,27 +73,27 @@ values_lead c (p ∷ ps) value_changes t all =
 
 -- a stamp that does not go back
 stamp_leads : (c : Contents) (value_changes : List ValueChange) (u t : ℕ) → u ≤ t → t ≤ END_LIMIT
-    → Leads (state_at c value_changes u) (stamp_of t ∷ []) (state_at c value_changes t)
+    → Reaches (state_at c value_changes u) (stamp_of t ∷ []) (state_at c value_changes t)
 stamp_leads c value_changes u t later within = grind (arith, number_of-decimal, decimal_is_number, le-leb)
 
 -- a bracket changes nothing
 bracket_leads : (c : Contents) (value_changes : List ValueChange) (t : ℕ) (word : List ℕ)
     → is_one_of dump_words word ≡ true
-    → Leads (state_at c value_changes t) (bracket word ∷ []) (state_at c value_changes t)
-bracket_leads c value_changes t word is = grind (arith, leads_one)
+    → Reaches (state_at c value_changes t) (bracket word ∷ []) (state_at c value_changes t)
+bracket_leads c value_changes t word is = grind (arith, reaches_one)
 
 -- the values at tick 0
 first_leads : (c : Contents) → All (IsPlaced c) (enumerate_from 0 c.signals)
-    → Leads (declared_state c) (first_items c.signals)
+    → Reaches (declared_state c) (first_items c.signals)
     (state_at c (map (value_change_of 0) (enumerate_from 0 c.signals)) 0)
 first_leads c all =
     let value_changes = map (value_change_of 0) (enumerate_from 0 c.signals) in
-    leads_both (state_at c [] 0) (state_at c [] 0) (state_at c value_changes 0)
+    reaches_both (state_at c [] 0) (state_at c [] 0) (state_at c value_changes 0)
     (stamp_of 0 ∷ bracket (codes "$dumpvars") ∷ []) (all_values c.signals 0 ++ bracket end_word ∷ [])
-    (leads_both (state_at c [] 0) (state_at c [] 0) (state_at c [] 0) (stamp_of 0 ∷ [])
+    (reaches_both (state_at c [] 0) (state_at c [] 0) (state_at c [] 0) (stamp_of 0 ∷ [])
     (bracket (codes "$dumpvars") ∷ [])
     (stamp_leads c [] 0 0 (omega arith) (omega arith)) (bracket_leads c [] 0 (codes "$dumpvars") refl))
-    (leads_both (state_at c [] 0) (state_at c value_changes 0) (state_at c value_changes 0) (all_values c.signals 0)
+    (reaches_both (state_at c [] 0) (state_at c value_changes 0) (state_at c value_changes 0) (all_values c.signals 0)
     (bracket end_word ∷ [])
     (values_lead c (enumerate_from 0 c.signals) [] 0 all) (bracket_leads c value_changes 0 end_word refl))
 
@@ -112,35 +112,35 @@ tick_value_changes signals t (suc n) =
 -- the stamp of a tick and its values, where there is at least one
 stamped_lead : (c : Contents) (value_changes : List ValueChange) (u t : ℕ) (p : ℕ × SignalContents)
     (ps : List (ℕ × SignalContents)) → u ≤ t → t ≤ END_LIMIT → All (IsPlaced c) (p ∷ ps)
-    → Leads (state_at c value_changes u) (with_stamp t (value_items t (p ∷ ps)))
+    → Reaches (state_at c value_changes u) (with_stamp t (value_items t (p ∷ ps)))
     (state_at c (value_changes ++ map (value_change_of t) (p ∷ ps)) t)
 stamped_lead c value_changes u t p ps later within all =
-    leads_both (state_at c value_changes u) (state_at c value_changes t)
+    reaches_both (state_at c value_changes u) (state_at c value_changes t)
     (state_at c (value_changes ++ map (value_change_of t) (p ∷ ps)) t) (stamp_of t ∷ []) (value_items t (p ∷ ps))
     (stamp_leads c value_changes u t later within) (values_lead c (p ∷ ps) value_changes t all)
 
 -- one tick, after which the rest goes on from a tick that is no later
 one_tick : (c : Contents) (e : ParseState) (value_changes : List ValueChange) (u t : ℕ)
     (placed : List (ℕ × SignalContents)) (rest : List Item) → u ≤ t → t ≤ END_LIMIT → All (IsPlaced c) placed
-    → ((v : ℕ) → v ≤ t → Leads (state_at c (value_changes ++ map (value_change_of t) placed) v) rest e)
-    → Leads (state_at c value_changes u) (with_stamp t (value_items t placed) ++ rest) e
+    → ((v : ℕ) → v ≤ t → Reaches (state_at c (value_changes ++ map (value_change_of t) placed) v) rest e)
+    → Reaches (state_at c value_changes u) (with_stamp t (value_items t placed) ++ rest) e
 one_tick c e value_changes u t [] rest later within all go =
-    subst (λ rs. Leads (state_at c rs u) rest e) (append-nil value_changes) (go u later)
+    subst (λ rs. Reaches (state_at c rs u) rest e) (append-nil value_changes) (go u later)
 one_tick c e value_changes u t (p ∷ ps) rest later within all go =
-    leads_both (state_at c value_changes u) (state_at c (value_changes ++ map (value_change_of t) (p ∷ ps)) t) e
+    reaches_both (state_at c value_changes u) (state_at c (value_changes ++ map (value_change_of t) (p ∷ ps)) t) e
     (with_stamp t (value_items t (p ∷ ps))) rest
     (stamped_lead c value_changes u t p ps later within all) (go t (omega arith))
 
 -- the last tick, and the stamp of the end where nothing differs at it
 value_changes_at_last_tick : (c : Contents) (value_changes : List ValueChange) (u t : ℕ)
     (placed : List (ℕ × SignalContents)) → u < t → t ≤ END_LIMIT → All (IsPlaced c) placed
-    → Leads (state_at c value_changes u) (with_stamp t (value_items t placed)
+    → Reaches (state_at c value_changes u) (with_stamp t (value_items t placed)
     ++ (if nat_lt 0 t && (length (value_items t placed) == 0) then stamp_of t ∷ [] else []))
     (state_at c (value_changes ++ map (value_change_of t) placed) t)
 value_changes_at_last_tick c value_changes u t [] later within all =
-    subst (λ b. Leads (state_at c value_changes u) (if b && true then stamp_of t ∷ [] else [])
+    subst (λ b. Reaches (state_at c value_changes u) (if b && true then stamp_of t ∷ [] else [])
     (state_at c (value_changes ++ []) t)) (sym (lt-ltb 0 t (omega arith)))
-    (subst (λ rs. Leads (state_at c value_changes u) (stamp_of t ∷ []) (state_at c rs t))
+    (subst (λ rs. Reaches (state_at c value_changes u) (stamp_of t ∷ []) (state_at c rs t))
     (sym (append-nil value_changes)) (stamp_leads c value_changes u t (omega arith) within))
 value_changes_at_last_tick c value_changes u t (p ∷ ps) later within all =
     let more : (suc (length (value_items t ps)) == 0) ≡ false =
@@ -149,37 +149,37 @@ value_changes_at_last_tick c value_changes u t (p ∷ ps) later within all =
     let none : (with_stamp t (value_items t (p ∷ ps))
     ++ (if nat_lt 0 t && (suc (length (value_items t ps)) == 0) then stamp_of t ∷ [] else []))
     ≡ with_stamp t (value_items t (p ∷ ps)) = grind (arith, append-nil) in
-    subst (λ is. Leads (state_at c value_changes u) is
+    subst (λ is. Reaches (state_at c value_changes u) is
     (state_at c (value_changes ++ map (value_change_of t) (p ∷ ps)) t)) (sym none)
     (stamped_lead c value_changes u t p ps (omega arith) within all)
 
 -- the ticks from t to the end, and the stamp of the end
 ticks_lead : (c : Contents) (n : ℕ) (value_changes : List ValueChange) (u t : ℕ) → u < t → t + n ≡ c.end
     → c.end ≤ END_LIMIT → All (IsPlaced c) (enumerate_from 0 c.signals)
-    → Leads (state_at c value_changes u) (tick_items c.signals t (suc n) ++ end_items c.signals c.end)
+    → Reaches (state_at c value_changes u) (tick_items c.signals t (suc n) ++ end_items c.signals c.end)
     (state_at c (value_changes ++ tick_value_changes c.signals t (suc n)) c.end)
 unfolding tick_items tick_value_changes
 ticks_lead c zero value_changes u t later at within all =
     let end : t ≡ c.end = omega arith in
     let here = value_changes_at_last_tick c value_changes u t (differing c.signals t) later (omega arith)
     (All-filter (λ p. differs_at t p.1) (IsPlaced c) (enumerate_from 0 c.signals) all) in
-    subst (λ e. Leads (state_at c value_changes u) (tick_items c.signals t 1 ++ end_items c.signals e)
+    subst (λ e. Reaches (state_at c value_changes u) (tick_items c.signals t 1 ++ end_items c.signals e)
     (state_at c (value_changes ++ tick_value_changes c.signals t 1) e)) end
-    (subst (λ is. Leads (state_at c value_changes u) (is ++ end_items c.signals t)
+    (subst (λ is. Reaches (state_at c value_changes u) (is ++ end_items c.signals t)
     (state_at c (value_changes ++ tick_value_changes c.signals t 1) t))
     (sym (append-nil (with_stamp t (new_values c.signals t))))
-    (subst (λ rs. Leads (state_at c value_changes u) (with_stamp t (new_values c.signals t) ++ end_items c.signals t)
+    (subst (λ rs. Reaches (state_at c value_changes u) (with_stamp t (new_values c.signals t) ++ end_items c.signals t)
     (state_at c (value_changes ++ rs) t)) (sym (append-nil (map (value_change_of t) (differing c.signals t)))) here))
 ticks_lead c (suc n) value_changes u t later at within all =
     let here = map (value_change_of t) (differing c.signals t) in
-    subst (λ is. Leads (state_at c value_changes u) is
+    subst (λ is. Reaches (state_at c value_changes u) is
     (state_at c (value_changes ++ (here ++ tick_value_changes c.signals (suc t) (suc n))) c.end))
     (sym (append_assoc (with_stamp t (new_values c.signals t)) (tick_items c.signals (suc t) (suc n))
     (end_items c.signals c.end)))
     (one_tick c (state_at c (value_changes ++ (here ++ tick_value_changes c.signals (suc t) (suc n))) c.end)
     value_changes u t (differing c.signals t) (tick_items c.signals (suc t) (suc n) ++ end_items c.signals c.end)
     (omega arith) (omega arith) (All-filter (λ p. differs_at t p.1) (IsPlaced c) (enumerate_from 0 c.signals) all)
-    (λ v le. subst (λ rs. Leads (state_at c (value_changes ++ here) v) (tick_items c.signals (suc t) (suc n)
+    (λ v le. subst (λ rs. Reaches (state_at c (value_changes ++ here) v) (tick_items c.signals (suc t) (suc n)
     ++ end_items c.signals c.end) (state_at c rs c.end))
     (append_assoc value_changes here (tick_value_changes c.signals (suc t) (suc n)))
     (ticks_lead c n (value_changes ++ here) v (suc t) (omega arith) (omega arith) within all)))
@@ -187,12 +187,12 @@ ticks_lead c (suc n) value_changes u t later at within all =
 -- the ticks from 1 on; there may be none
 ticks_from_one : (c : Contents) (end : ℕ) (value_changes : List ValueChange) → end ≡ c.end → c.end ≤ END_LIMIT
     → All (IsPlaced c) (enumerate_from 0 c.signals)
-    → Leads (state_at c value_changes 0) (tick_items c.signals 1 end ++ end_items c.signals end)
+    → Reaches (state_at c value_changes 0) (tick_items c.signals 1 end ++ end_items c.signals end)
     (state_at c (value_changes ++ tick_value_changes c.signals 1 end) end)
 unfolding tick_items tick_value_changes
-ticks_from_one c zero value_changes at within all = grind (arith, leads_same, leads_none, append-nil)
+ticks_from_one c zero value_changes at within all = grind (arith, reaches_same, reaches_none, append-nil)
 ticks_from_one c (suc n) value_changes at within all =
-    subst (λ e. Leads (state_at c value_changes 0) (tick_items c.signals 1 (suc n) ++ end_items c.signals e)
+    subst (λ e. Reaches (state_at c value_changes 0) (tick_items c.signals 1 (suc n) ++ end_items c.signals e)
     (state_at c (value_changes ++ tick_value_changes c.signals 1 (suc n)) e)) (sym at)
     (ticks_lead c n value_changes 0 1 (omega arith) (omega arith) within all)
 
@@ -218,12 +218,13 @@ all_placed c sound k d within =
 
 -- the changes are allowed after the declarations, and give these value changes up to the end
 pub changes_lead : (c : Contents) → IsSound c
-    → Leads (declared_state c) (first_items c.signals ++ tick_items c.signals 1 c.end ++ end_items c.signals c.end)
+    → Reaches (declared_state c) (first_items c.signals ++ tick_items c.signals 1 c.end ++ end_items c.signals c.end)
     (state_at c (value_changes_of c) c.end)
 changes_lead c sound =
     let first = map (value_change_of 0) (enumerate_from 0 c.signals) in
-    subst (λ items. Leads (declared_state c) items (state_at c (value_changes_of c) c.end))
+    subst (λ items. Reaches (declared_state c) items (state_at c (value_changes_of c) c.end))
     (sym (append_assoc (first_items c.signals) (tick_items c.signals 1 c.end) (end_items c.signals c.end)))
-    (leads_both (declared_state c) (state_at c first 0) (state_at c (value_changes_of c) c.end) (first_items c.signals)
+    (reaches_both (declared_state c) (state_at c first 0) (state_at c (value_changes_of c) c.end)
+    (first_items c.signals)
     (tick_items c.signals 1 c.end ++ end_items c.signals c.end)
     (first_leads c (all_placed c sound)) (ticks_from_one c c.end first refl sound.end (all_placed c sound)))

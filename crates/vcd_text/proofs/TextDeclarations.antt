@@ -29,20 +29,20 @@ use Rattle.vcd_text.specs.Text.{first_items, tick_items, end_items, items_of}
 use Rattle.vcd_text.proofs.CodesDiffer.{codes_differ, code_no_end}
 use Rattle.vcd_text.proofs.Decimals.{decimal_digits, decimal_is_number, number_of-decimal}
 use Rattle.vcd_text.proofs.DeclaredSignals.{declared_as, declared_state, declared_of}
-use Rattle.vcd_text.proofs.ItemsInTurn.{Leads, leads_none, leads_first, leads_one, leads_both, leads_same}
+use Rattle.vcd_text.proofs.ItemsInTurn.{Reaches, reaches_none, reaches_first, reaches_one, reaches_both, reaches_same}
 use Rattle.vcd_text.proofs.SharedScopes.{declaring, words_have_no_end, scopes_lead, scopes_end}
 use Rattle.vcd_text.proofs.SoundTimescales.{sound_count, count_small, timescale_read}
 
 -- ---- header and timescale
 
 header_leads : (front hs : List Header) → list_all is_sound_header hs ≡ true
-    → Leads (declaring front None [] []) (header_items hs) (declaring (front ++ hs) None [] [])
-header_leads front [] sound = grind (arith, leads_same, leads_none, append-nil)
+    → Reaches (declaring front None [] []) (header_items hs) (declaring (front ++ hs) None [] [])
+header_leads front [] sound = grind (arith, reaches_same, reaches_none, append-nil)
 header_leads front (h ∷ hs) sound =
     let parts : (is_sound_header h ≡ true) × (list_all is_sound_header hs ≡ true) = grind (arith, and_parts) in
-    leads_first (declaring front None [] []) (declaring (front ++ (h ∷ hs)) None [] []) (entry h.kind h.words)
+    reaches_first (declaring front None [] []) (declaring (front ++ (h ∷ hs)) None [] []) (entry h.kind h.words)
     (header_items hs) (refl, words_have_no_end h.words parts.0)
-    (leads_same (declaring (front ++ h ∷ []) None [] []) _ _ (header_items hs)
+    (reaches_same (declaring (front ++ h ∷ []) None [] []) _ _ (header_items hs)
     (header_leads (front ++ h ∷ []) hs parts.1)
     (ap (λ l. declaring l None [] []) (append_assoc front (h ∷ []) hs)))
 
@@ -54,10 +54,10 @@ decimal_no_end : (n : ℕ) → n < 2 ^ 64 → not (is_end_word (decimal n)) ≡ 
 decimal_no_end n small = not_from_false (is_end_word (decimal n)) (digits_no_end (decimal n) (decimal_digits n small))
 
 timescale_leads : (h : List Header) (t : Option Timescale) → IfSome t (λ t. IsTrue (is_sound_timescale t))
-    → Leads (declaring h None [] []) (timescale_items t) (declaring h t [] [])
-timescale_leads h None sound = leads_none (declaring h None [] [])
+    → Reaches (declaring h None [] []) (timescale_items t) (declaring h t [] [])
+timescale_leads h None sound = reaches_none (declaring h None [] [])
 timescale_leads h (Some t) sound =
-    grind (arith, timescale_read, and_from, decimal_no_end, count_small, sound_count, leads_one)
+    grind (arith, timescale_read, and_from, decimal_no_end, count_small, sound_count, reaches_one)
 
 -- ---- variables
 
@@ -79,7 +79,7 @@ words_declare c kind size code n (w ∷ ws) named number = grind arith
 -- the variable of the signal at a position
 variable_leads : (h : List Header) (t : Option Timescale) (ds : List VariableDeclaration) (end k : ℕ)
     (s : SignalContents) → IsSoundSignal end s → k < SIGNAL_LIMIT → length ds ≡ k → HasCodesBelow k ds
-    → Leads (declaring h t s.scopes ds) (variable_item k s ∷ []) (declaring h t s.scopes (ds ++ declared_as k s ∷ []))
+    → Reaches (declaring h t s.scopes ds) (variable_item k s ∷ []) (declaring h t s.scopes (ds ++ declared_as k s ∷ []))
 variable_leads h t ds end k s sound few at below =
     let most : s.width ≤ WIDTH_LIMIT = sound.most in
     let before : ParseState = declaring h t s.scopes ds in
@@ -87,7 +87,7 @@ variable_leads h t ds end k s sound few at below =
     let declares : declaration_of before words ≡ Some (declared_as k s) =
     grind (arith, words_declare, number_of-decimal) in
     let fresh : may_have_code (variable_of before (code_of k)) (declared_as k s) ≡ true = grind arith in
-    leads_one before (declaring h t s.scopes (ds ++ declared_as k s ∷ [])) (variable words) (
+    reaches_one before (declaring h t s.scopes (ds ++ declared_as k s ∷ [])) (variable words) (
       refl,
       (grind (arith, and_parts, words_have_no_end, and_from, decimal_no_end, not_from_false, code_no_end)),
       decimal_is_number s.width (omega arith),
@@ -101,21 +101,21 @@ variable_leads h t ds end k s sound few at below =
 signals_lead : (h : List Header) (t : Option Timescale) (opened : List ScopeName) (ds : List VariableDeclaration)
     (end k : ℕ) (signals : List SignalContents) → AllByRecursion (IsSoundSignal end) signals
     → k + length signals ≤ SIGNAL_LIMIT → length ds ≡ k → HasCodesBelow k ds
-    → Leads (declaring h t opened ds) (signal_items opened k signals) (declaring h t [] (ds ++ declared_of k signals))
+    → Reaches (declaring h t opened ds) (signal_items opened k signals) (declaring h t [] (ds ++ declared_of k signals))
 unfolding signal_items declared_of
-signals_lead h t opened ds end k [] sound few at below = search (arith, leads_same, scopes_end, append-nil)
+signals_lead h t opened ds end k [] sound few at below = search (arith, reaches_same, scopes_end, append-nil)
 signals_lead h t opened ds end k (s ∷ ss) sound few at below =
     let more : List VariableDeclaration = ds ++ declared_as k s ∷ [] in
     let one_more : length more ≡ length ds + 1 = length-append ds (declared_as k s ∷ []) in
-    leads_both (declaring h t opened ds) (declaring h t s.scopes ds)
+    reaches_both (declaring h t opened ds) (declaring h t s.scopes ds)
     (declaring h t [] (ds ++ (declared_as k s ∷ declared_of (suc k) ss)))
     (scope_items opened s.scopes) (variable_item k s ∷ signal_items s.scopes (suc k) ss)
     (scopes_lead h t opened s.scopes ds sound.0.scopes)
-    (leads_both (declaring h t s.scopes ds) (declaring h t s.scopes more)
+    (reaches_both (declaring h t s.scopes ds) (declaring h t s.scopes more)
     (declaring h t [] (ds ++ (declared_as k s ∷ declared_of (suc k) ss)))
     (variable_item k s ∷ []) (signal_items s.scopes (suc k) ss)
     (variable_leads h t ds end k s sound.0 (omega arith) at below)
-    (leads_same _ _ _ _ (signals_lead h t s.scopes more end (suc k) ss sound.1 (omega arith) (omega arith)
+    (reaches_same _ _ _ _ (signals_lead h t s.scopes more end (suc k) ss sound.1 (omega arith) (omega arith)
     (codes_below_more k ds (declared_as k s) below refl))
     (ap (λ l. declaring h t [] l) (append_assoc ds (declared_as k s ∷ []) (declared_of (suc k) ss)))))
 
@@ -126,21 +126,21 @@ abbrev pub declaration_items : Contents → List Item
 declaration_items c = header_items c.header ++ timescale_items c.timescale ++ signal_items [] 0 c.signals
     ++ end_definitions ∷ []
 
-pub declarations_lead : (c : Contents) → IsSound c → Leads initial_state (declaration_items c) (declared_state c)
+pub declarations_lead : (c : Contents) → IsSound c → Reaches initial_state (declaration_items c) (declared_state c)
 declarations_lead c sound =
     let header : ParseState = declaring c.header None [] [] in
     let timed : ParseState = declaring c.header c.timescale [] [] in
     let declared : ParseState = declaring c.header c.timescale [] (declared_of 0 c.signals) in
     let few : length c.signals ≤ SIGNAL_LIMIT = sound.few in
-    leads_both initial_state declared (declared_state c) (header_items c.header ++ timescale_items c.timescale
+    reaches_both initial_state declared (declared_state c) (header_items c.header ++ timescale_items c.timescale
     ++ signal_items [] 0 c.signals) (end_definitions ∷ [])
-    (leads_both initial_state timed declared (header_items c.header ++ timescale_items c.timescale)
+    (reaches_both initial_state timed declared (header_items c.header ++ timescale_items c.timescale)
     (signal_items [] 0 c.signals)
-    (leads_both initial_state header timed (header_items c.header) (timescale_items c.timescale)
+    (reaches_both initial_state header timed (header_items c.header) (timescale_items c.timescale)
     (header_leads [] c.header sound.header) (timescale_leads c.header c.timescale sound.timescale))
     (signals_lead c.header c.timescale [] [] c.end 0 c.signals
     (recursion_from_All (IsSoundSignal c.end) c.signals sound.signals) (omega arith) refl (λ j from. refl)))
-    (leads_one declared (declared_state c) end_definitions refl refl)
+    (reaches_one declared (declared_state c) end_definitions refl refl)
 
 -- the declarations, and the items after them
 pub items_in_two : (c : Contents) → items_of c ≡ declaration_items c

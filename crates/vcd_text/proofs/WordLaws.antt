@@ -9,7 +9,7 @@ use Rattle.std.proofs.lemmas.Bool.Decides.{Decides-eqb}
 use Rattle.std.proofs.lemmas.Bool.{ne_eqb}
 use Rattle.vcd_core.specs.Word.{is_word, is_white_space}
 use Rattle.vcd_text.specs.Items.{is_end_word}
-use Rattle.vcd_text.specs.inside.WordWalk.{feeds}
+use Rattle.vcd_text.specs.inside.WordWalk.{line_feeds_in}
 use Rattle.vcd_text.specs.inside.Spaces.{begins_with_space}
 use Rattle.vcd_text.specs.Words.{line_after, ends_before, with_longer_first, with_byte, PlacedWord, word_on, words_from}
 use Rattle.std.proofs.lemmas.Bool.{and_parts, not-true}
@@ -21,31 +21,32 @@ no_space_is_no_feed b no_space = grind (arith, Decides-eqb)
 
 -- ---- line feeds
 
-pub feeds_both : (xs ys : List ℕ) → feeds (xs ++ ys) ≡ feeds xs + feeds ys
-feeds_both xs ys = sum_by-append (λ b. cond (b == 10) 1 0) xs ys
+pub line_feeds_of_both : (xs ys : List ℕ) → line_feeds_in (xs ++ ys) ≡ line_feeds_in xs + line_feeds_in ys
+line_feeds_of_both xs ys = sum_by-append (λ b. cond (b == 10) 1 0) xs ys
 
 -- one line feed at the front, or none
-pub feed_first : (b : ℕ) (bs text : List ℕ) → text ≡ b ∷ bs → b ≡ 10 → feeds text ≡ 1 + feeds bs
-feed_first b bs text is feed = grind (arith, common_steps, feeds_both)
+pub feed_first : (b : ℕ) (bs text : List ℕ) → text ≡ b ∷ bs → b ≡ 10 → line_feeds_in text ≡ 1 + line_feeds_in bs
+feed_first b bs text is feed = grind (arith, common_steps, line_feeds_of_both)
 
-pub other_first : (b : ℕ) (bs text : List ℕ) → text ≡ b ∷ bs → (b == 10) ≡ false → feeds text ≡ feeds bs
-other_first b bs text is other = grind (arith, feeds_both)
+pub other_first : (b : ℕ) (bs text : List ℕ) → text ≡ b ∷ bs → (b == 10) ≡ false → line_feeds_in text ≡ line_feeds_in bs
+other_first b bs text is other = grind (arith, line_feeds_of_both)
 
 -- a word has no line feed
-pub no_feeds : (word : List ℕ) → list_all (λ b. not (is_white_space b)) word ≡ true → feeds word ≡ 0
-no_feeds [] no_space = refl
-no_feeds (b ∷ bs) no_space =
+pub no_line_feeds : (word : List ℕ) → list_all (λ b. not (is_white_space b)) word ≡ true → line_feeds_in word ≡ 0
+no_line_feeds [] no_space = refl
+no_line_feeds (b ∷ bs) no_space =
     let parts = and_parts (not (is_white_space b)) (list_all (λ b. not (is_white_space b)) bs) no_space in
-    other_first b bs (b ∷ bs) refl (no_space_is_no_feed b (not-true (is_white_space b) parts.0)) ∙ no_feeds bs parts.1
+    other_first b bs (b ∷ bs) refl (no_space_is_no_feed b (not-true (is_white_space b) parts.0))
+    ∙ no_line_feeds bs parts.1
 
-pub feeds_after : (n : ℕ) (text : List ℕ) → list_all (λ b. not (is_white_space b)) (take n text) ≡ true
-    → feeds (drop n text) ≡ feeds text
-feeds_after n text no_space =
+pub line_feeds_after : (n : ℕ) (text : List ℕ) → list_all (λ b. not (is_white_space b)) (take n text) ≡ true
+    → line_feeds_in (drop n text) ≡ line_feeds_in text
+line_feeds_after n text no_space =
     omega (
       arith,
-      ap feeds (take-append-drop n text),
-      feeds_both (take n text) (drop n text),
-      no_feeds (take n text) no_space,
+      ap line_feeds_in (take-append-drop n text),
+      line_feeds_of_both (take n text) (drop n text),
+      no_line_feeds (take n text) no_space,
     )
 
 -- ---- words at the front

@@ -74,14 +74,14 @@ is_some_by o x is = subst IsSome (sym is) refl
 
 -- ---- the first word of a declaration
 
-upscope_begins : (c : ParseState) → IsFalse c.changing → WordOutcome c [] (codes "$upscope")
+upscope_begins : (c : ParseState) → IsFalse c.in_body → WordOutcome c [] (codes "$upscope")
 upscope_begins c declares =
     elim (cases_length c.scopes) [
       | inl none ↦ shows_fault UpscopeAtTop (among_declarations declares (upscope_at_top refl refl none refl))
       | inr some ↦ goes_on (upscope_due declares refl some)
     ]
 
-declaring_word : (c : ParseState) (word : List ℕ) → IsFalse c.changing → IsTrue (is_one_of declaring_words word)
+declaring_word : (c : ParseState) (word : List ℕ) → IsFalse c.in_body → IsTrue (is_one_of declaring_words word)
     → WordOutcome c [] word
 declaring_word c word declares is =
     let scoped : WordOutcome c [] (codes "$scope") = goes_on (words_due (codes "$scope") [] declares refl refl refl) in
@@ -92,7 +92,7 @@ declaring_word c word declares is =
     by_one_of (WordOutcome c []) declaring_words word is
     (scoped, (upscope_begins c declares, (named, (timed, (last, tt)))))
 
-declaration_begins : (c : ParseState) (word : List ℕ) → IsFalse c.changing → WordOutcome c [] word
+declaration_begins : (c : ParseState) (word : List ℕ) → IsFalse c.in_body → WordOutcome c [] word
 declaration_begins c word declares =
     elim (cases_Bool (begins_declaration word)) [
       | inr isnt ↦ shows_fault UnexpectedWord (among_declarations declares (no_declaration refl isnt refl))
@@ -111,56 +111,56 @@ declaration_begins c word declares =
 
 -- ---- the first word of a change
 
-stamp_word : (c : ParseState) (digits : List ℕ) → IsTrue c.changing → WordOutcome c [] (35 ∷ digits)
-stamp_word c digits changing =
+stamp_word : (c : ParseState) (digits : List ℕ) → IsTrue c.in_body → WordOutcome c [] (35 ∷ digits)
+stamp_word c digits in_body =
     elim (cases_Bool (is_tick digits)) [
-      | inr isnt ↦ shows_fault BadTime (among_changes changing (no_tick digits refl refl isnt refl))
+      | inr isnt ↦ shows_fault BadTime (among_changes in_body (no_tick digits refl refl isnt refl))
       | inl is ↦ elim (cases_lt (number_of digits) c.tick) [
-        | inl back ↦ shows_fault TimeBackwards (among_changes changing (tick_goes_back digits refl refl is back refl))
-        | inr later ↦ ends_item (stamp digits) refl (changing, is, later)
+        | inl back ↦ shows_fault TimeBackwards (among_changes in_body (tick_goes_back digits refl refl is back refl))
+        | inr later ↦ ends_item (stamp digits) refl (in_body, is, later)
       ]
     ]
 
-command_word : (c : ParseState) (text : List ℕ) → IsTrue c.changing → WordOutcome c [] (36 ∷ text)
-command_word c text changing =
+command_word : (c : ParseState) (text : List ℕ) → IsTrue c.in_body → WordOutcome c [] (36 ∷ text)
+command_word c text in_body =
     elim (cases_Bool (is_one_of dump_words (36 ∷ text))) [
-      | inl dump ↦ ends_item (bracket (36 ∷ text)) refl (changing, dump)
+      | inl dump ↦ ends_item (bracket (36 ∷ text)) refl (in_body, dump)
       | inr no_dump ↦ elim (cases_Bool (is_one_of declaring_words (36 ∷ text))) [
-        | inl late ↦ shows_fault UnexpectedWord (among_changes changing (declaration_late refl late refl))
+        | inl late ↦ shows_fault UnexpectedWord (among_changes in_body (declaration_late refl late refl))
         | inr none ↦ goes_on (other_due (36 ∷ text) [] refl (λ i. not (no_dump i) && not (none i)
-            && (changing i || not (is_one_of header_words (36 ∷ text)))) refl)
+            && (in_body i || not (is_one_of header_words (36 ∷ text)))) refl)
       ]
     ]
 
-letter_word : (c : ParseState) (letter : ℕ) (code : List ℕ) → IsTrue c.changing → IsTrue (is_binary_digit letter)
+letter_word : (c : ParseState) (letter : ℕ) (code : List ℕ) → IsTrue c.in_body → IsTrue (is_binary_digit letter)
     → WordOutcome c [] (letter ∷ code)
-letter_word c letter [] changing is =
-    shows_fault BadChange (among_changes changing (value_alone letter refl refl is refl))
-letter_word c letter (b ∷ code) changing is =
+letter_word c letter [] in_body is =
+    shows_fault BadChange (among_changes in_body (value_alone letter refl refl is refl))
+letter_word c letter (b ∷ code) in_body is =
     elim (cases_Option (variable_of c (b ∷ code))) [
       | inl none ↦ shows_fault UnknownCode
-          (among_changes changing (value_of_none letter (b ∷ code) refl refl is (omega arith) none refl))
+          (among_changes in_body (value_of_none letter (b ∷ code) refl refl is (omega arith) none refl))
       | inr (d, found) ↦ ends_item (scalar letter (b ∷ code)) refl (
-        changing,
+        in_body,
         is,
         omega arith,
         is_some_by (variable_of c (b ∷ code)) d found,
       )
     ]
 
-change_begins : (c : ParseState) (word : List ℕ) → IsTrue c.changing → 0 < length word → WordOutcome c [] word
-change_begins c [] changing some = absurd (omega arith)
-change_begins c (first ∷ text) changing some =
+change_begins : (c : ParseState) (word : List ℕ) → IsTrue c.in_body → 0 < length word → WordOutcome c [] word
+change_begins c [] in_body some = absurd (omega arith)
+change_begins c (first ∷ text) in_body some =
     elim (cases_Bool (is_binary_digit first)) [
-      | inl letter ↦ letter_word c first text changing letter
+      | inl letter ↦ letter_word c first text in_body letter
       | inr no_letter ↦ elim (cases_Bool (is_among (codes "#$") first)) [
         | inl sign ↦ by_among (λ b. WordOutcome c [] (b ∷ text)) (codes "#$") first sign (
-          stamp_word c text changing,
-          (command_word c text changing, tt),
+          stamp_word c text in_body,
+          (command_word c text in_body, tt),
         )
         | inr no_sign ↦ elim (cases_Bool (is_among pair_prefixes first)) [
-          | inl pair ↦ goes_on (code_due first text changing refl pair)
-          | inr no_pair ↦ shows_fault BadChange (among_changes changing (no_change first text refl refl no_letter
+          | inl pair ↦ goes_on (code_due first text in_body refl pair)
+          | inr no_pair ↦ shows_fault BadChange (among_changes in_body (no_change first text refl refl no_letter
               (list_any-append (nat_eq first) (codes "#$") pair_prefixes
               ∙ or_from (is_among (codes "#$") first) (is_among pair_prefixes first) no_sign no_pair) refl))
         ]
@@ -169,7 +169,7 @@ change_begins c (first ∷ text) changing some =
 
 -- ---- words up to `$end`
 
-timescale_ends : (c : ParseState) (words : List (List ℕ)) → IsFalse c.changing → IsTrue (has_no_end_word words)
+timescale_ends : (c : ParseState) (words : List (List ℕ)) → IsFalse c.in_body → IsTrue (has_no_end_word words)
     → WordOutcome c (codes "$timescale" ∷ words) end_word
 timescale_ends c words declares no_end =
     elim (cases_Option (timescale_of words)) [
@@ -178,12 +178,12 @@ timescale_ends c words declares no_end =
       | inr (t, found) ↦ ends_item (timescale words) refl (declares, no_end, is_some_by (timescale_of words) t found)
     ]
 
-scope_ends : (c : ParseState) (words : List (List ℕ)) → IsFalse c.changing → IsTrue (has_no_end_word words)
+scope_ends : (c : ParseState) (words : List (List ℕ)) → IsFalse c.in_body → IsTrue (has_no_end_word words)
     → WordOutcome c (codes "$scope" ∷ words) end_word
 scope_ends c [] declares no_end = shows_fault BadScope (among_declarations declares (no_kind refl refl refl))
 scope_ends c (kind ∷ words) declares no_end = ends_item (scope kind words) refl (declares, no_end)
 
-words_end : (c : ParseState) (keyword : List ℕ) (words : List (List ℕ)) → IsFalse c.changing
+words_end : (c : ParseState) (keyword : List ℕ) (words : List (List ℕ)) → IsFalse c.in_body
     → IsTrue (is_one_of (codes "$timescale" ∷ codes "$scope" ∷ header_words) keyword) → IsTrue (has_no_end_word words)
     → WordOutcome c (keyword ∷ words) end_word
 words_end c keyword words declares is no_end =
@@ -194,7 +194,7 @@ words_end c keyword words declares is no_end =
     by_one_of (λ w. WordOutcome c (w ∷ words) end_word) (codes "$timescale" ∷ codes "$scope" ∷ header_words) keyword is
     (first, (second, (header_ends Date, (header_ends Version, (header_ends Comment, tt)))))
 
-declared_ends : (c : ParseState) (words : List (List ℕ)) (d : VariableDeclaration) → IsFalse c.changing
+declared_ends : (c : ParseState) (words : List (List ℕ)) (d : VariableDeclaration) → IsFalse c.in_body
     → IsTrue (has_no_end_word words) → IsTrue (has_good_size words)
     → declaration_of c words ≡ Some d → WordOutcome c (codes "$var" ∷ words) end_word
 declared_ends c words d declares no_end good told =
@@ -214,7 +214,7 @@ declared_ends c words d declares no_end good told =
       ]
     ]
 
-variable_ends : (c : ParseState) (words : List (List ℕ)) → IsFalse c.changing → IsTrue (has_no_end_word words)
+variable_ends : (c : ParseState) (words : List (List ℕ)) → IsFalse c.in_body → IsTrue (has_no_end_word words)
     → IsTrue (has_good_size words) → WordOutcome c (codes "$var" ∷ words) end_word
 variable_ends c words declares no_end good =
     elim (cases_Option (declaration_of c words)) [
@@ -223,7 +223,7 @@ variable_ends c words declares no_end good =
     ]
 
 -- the second word of a variable is its size
-variable_continues : (c : ParseState) (words : List (List ℕ)) (word : List ℕ) → IsFalse c.changing
+variable_continues : (c : ParseState) (words : List (List ℕ)) (word : List ℕ) → IsFalse c.in_body
     → IsTrue (has_no_end_word words) → IsTrue (has_good_size words) → IsFalse (is_end_word word)
     → WordOutcome c (codes "$var" ∷ words) word
 variable_continues c [] word declares no_end good isnt =
@@ -242,13 +242,13 @@ variable_continues c (kind ∷ size ∷ words) word declares no_end good isnt =
 
 -- ---- the code of a change of two words
 
-vector_ends : (c : ParseState) (first : ℕ) (digits code : List ℕ) (d : VariableDeclaration) → IsTrue c.changing
+vector_ends : (c : ParseState) (first : ℕ) (digits code : List ℕ) (d : VariableDeclaration) → IsTrue c.in_body
     → IsTrue (is_among pair_prefixes first) → IsTrue (is_among vector_prefixes first)
     → variable_of c code ≡ Some d → WordOutcome c ((first ∷ digits) ∷ []) code
-vector_ends c first digits code d changing pair is found =
+vector_ends c first digits code d in_body pair is found =
     let taken : IsTrue (takes_binary_number d digits) → WordOutcome c ((first ∷ digits) ∷ []) code =
     λ takes. ends_item (vector first digits code) refl (
-      changing,
+      in_body,
       is,
       some_has (variable_of c code) (λ d. IsTrue (takes_binary_number d digits)) d found takes,
     ) in
@@ -256,27 +256,27 @@ vector_ends c first digits code d changing pair is found =
       | inl skipped ↦ taken (or_left (is_skipped d) _ skipped)
       | inr kept ↦ elim (cases_Bool (is_binary_number digits)) [
         | inr isnt ↦ shows_fault BadChange
-            (among_changes changing (no_value first digits d refl is found kept isnt refl))
+            (among_changes in_body (no_value first digits d refl is found kept isnt refl))
         | inl value ↦ elim (cases_lt d.size (length digits)) [
           | inl long ↦ shows_fault ValueTooLong
-              (among_changes changing (value_too_long first digits d refl is found kept value long refl))
+              (among_changes in_body (value_too_long first digits d refl is found kept value long refl))
           | inr fits ↦ let within : nat_le (length digits) d.size ≡ true = le-leb (length digits) d.size fits in
               taken (or_right (is_skipped d) _ (λ i. value i && within i))
         ]
       ]
     ]
 
-pair_ends : (c : ParseState) (first : ℕ) (text code : List ℕ) → IsTrue c.changing
+pair_ends : (c : ParseState) (first : ℕ) (text code : List ℕ) → IsTrue c.in_body
     → IsTrue (is_among pair_prefixes first) → WordOutcome c ((first ∷ text) ∷ []) code
-pair_ends c first text code changing pair =
+pair_ends c first text code in_body pair =
     elim (cases_Option (variable_of c code)) [
-      | inl none ↦ shows_fault UnknownCode (among_changes changing (pair_of_none first text refl pair none refl))
+      | inl none ↦ shows_fault UnknownCode (among_changes in_body (pair_of_none first text refl pair none refl))
       | inr (d, found) ↦ elim
           (or_cases (is_among vector_prefixes first) (is_among dropped_prefixes first)
           (sym (list_any-append (nat_eq first) vector_prefixes dropped_prefixes) ∙ pair)) [
-            | inl letter ↦ vector_ends c first text code d changing pair letter found
+            | inl letter ↦ vector_ends c first text code d in_body pair letter found
             | inr letter ↦ ends_item (real_or_string first text code) refl (
-              changing,
+              in_body,
               letter,
               is_some_by (variable_of c code) d found,
             )
@@ -287,8 +287,8 @@ pair_ends c first text code changing pair =
 
 first_word : (c : ParseState) (word : List ℕ) → 0 < length word → WordOutcome c [] word
 first_word c word some =
-    elim (cases_Bool c.changing) [
-      | inl changing ↦ change_begins c word changing some
+    elim (cases_Bool c.in_body) [
+      | inl in_body ↦ change_begins c word in_body some
       | inr declares ↦ declaration_begins c word declares
     ]
 
@@ -306,7 +306,7 @@ later_word c begun word (variable_due words declares b no_end good) =
 later_word c begun word (definitions_due declares b) =
     rw b (by_end (WordOutcome c (codes "$enddefinitions" ∷ [])) word (ends_item end_definitions refl declares)
     (λ isnt. shows_fault UnexpectedWord (among_declarations declares (definitions_go_on refl isnt refl))))
-later_word c begun word (code_due first text changing b is) = rw b (pair_ends c first text word changing is)
+later_word c begun word (code_due first text in_body b is) = rw b (pair_ends c first text word in_body is)
 later_word c begun word (other_due keyword words b is no_end) =
     rw b (by_end (WordOutcome c (keyword ∷ words)) word (ends_item (other keyword words) refl (is, no_end))
     (λ isnt. goes_on (other_due keyword (words ++ word ∷ []) refl is (no_end_more words word no_end isnt))))

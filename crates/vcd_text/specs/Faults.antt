@@ -96,13 +96,13 @@ pub data ChangeFault (c : ParseState) (begun : List (List ℕ)) (word : List ℕ
 
 -- among the declarations or the changes, by the state
 pub data WordFault (c : ParseState) (begun : List (List ℕ)) (word : List ℕ) (fault : Fault) : Type 0 where
-  among_declarations : IsFalse c.changing → DeclarationFault c begun word fault → WordFault c begun word fault
-  among_changes : IsTrue c.changing → ChangeFault c begun word fault → WordFault c begun word fault
+  among_declarations : IsFalse c.in_body → DeclarationFault c begun word fault → WordFault c begun word fault
+  among_changes : IsTrue c.in_body → ChangeFault c begun word fault → WordFault c begun word fault
 
 -- ---- files
 
 -- the line of a fault that a word shows: its own, or among the changes that of the first word of its change
-abbrev pub fault_line : (changing : Bool) → (begun : List PlacedWord) → PlacedWord → ℕ
+abbrev pub fault_line : (in_body : Bool) → (begun : List PlacedWord) → PlacedWord → ℕ
 fault_line false begun word = word.line
 fault_line true [] word = word.line
 fault_line true (first ∷ begun) word = first.line
@@ -118,7 +118,7 @@ pub record ShowsFault (words : List PlacedWord) (line : ℕ) (fault : Fault) : T
   pub spelled : word_texts whole ≡ spellings items
   pub allowed : AllowsAll initial_state items
   pub decided : WordFault (state_after initial_state items) (word_texts begun) word.text fault
-  pub at : line ≡ fault_line (state_after initial_state items).changing begun word
+  pub at : line ≡ fault_line (state_after initial_state items).in_body begun word
 
 -- the fault of a file with these words: the one that a word shows; or, where none shows one, this one at the last line
 pub data FaultOf (words : List PlacedWord) (last : ℕ) (otherwise : Fault) (line : ℕ) (fault : Fault) : Type 0 where

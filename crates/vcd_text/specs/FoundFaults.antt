@@ -16,24 +16,24 @@ use Rattle.vcd_text.specs.Faults.{pair_prefixes, ShowsFault}
 -- the words `begun` of an incomplete item show no fault, and a word must follow them
 pub data IsUnfinished (c : ParseState) (begun : List (List ℕ)) : Type 0 where
   -- the next declaration must follow
-  declaration_due : IsFalse c.changing → begun ≡ [] → IsUnfinished c begun
+  declaration_due : IsFalse c.in_body → begun ≡ [] → IsUnfinished c begun
   -- words up to the `$end` of a header entry, a timescale or a scope must follow
-  words_due : (word : List ℕ) (words : List (List ℕ)) → IsFalse c.changing → begun ≡ word ∷ words
+  words_due : (word : List ℕ) (words : List (List ℕ)) → IsFalse c.in_body → begun ≡ word ∷ words
       → IsTrue (is_one_of (codes "$timescale" ∷ codes "$scope" ∷ header_words) word) → IsTrue (has_no_end_word words)
       → IsUnfinished c begun
   -- the `$end` of `$upscope` must follow
-  upscope_due : IsFalse c.changing → begun ≡ codes "$upscope" ∷ [] → 0 < length c.scopes → IsUnfinished c begun
+  upscope_due : IsFalse c.in_body → begun ≡ codes "$upscope" ∷ [] → 0 < length c.scopes → IsUnfinished c begun
   -- words up to the `$end` of a `$var` must follow
-  variable_due : (words : List (List ℕ)) → IsFalse c.changing → begun ≡ codes "$var" ∷ words
+  variable_due : (words : List (List ℕ)) → IsFalse c.in_body → begun ≡ codes "$var" ∷ words
       → IsTrue (has_no_end_word words) → IsTrue (has_good_size words) → IsUnfinished c begun
   -- the `$end` of `$enddefinitions` must follow
-  definitions_due : IsFalse c.changing → begun ≡ codes "$enddefinitions" ∷ [] → IsUnfinished c begun
+  definitions_due : IsFalse c.in_body → begun ≡ codes "$enddefinitions" ∷ [] → IsUnfinished c begun
   -- the code of a change of two words must follow
-  code_due : (first : ℕ) (text : List ℕ) → IsTrue c.changing → begun ≡ (first ∷ text) ∷ []
+  code_due : (first : ℕ) (text : List ℕ) → IsTrue c.in_body → begun ≡ (first ∷ text) ∷ []
       → IsTrue (is_among pair_prefixes first) → IsUnfinished c begun
   -- words up to the `$end` of any other command must follow
   other_due : (word : List ℕ) (words : List (List ℕ)) → begun ≡ word ∷ words
-      → IsTrue (is_other c.changing word) → IsTrue (has_no_end_word words) → IsUnfinished c begun
+      → IsTrue (is_other c.in_body word) → IsTrue (has_no_end_word words) → IsUnfinished c begun
 
 -- the words end too early, and no word shows a fault
 pub record Stops (words : List PlacedWord) : Type 0 where

@@ -41,14 +41,14 @@ pub record ParseState : Type 0 where
   pub timescale : Option Timescale
   pub scopes : List ScopeName
   pub declared : List VariableDeclaration
-  pub changing : Bool
+  pub in_body : Bool
   pub value_changes : List ValueChange
   pub tick : ℕ
 
 -- the state before the first item
 abbrev pub initial_state : ParseState
 initial_state =
-    record { header = []; timescale = None; scopes = []; declared = []; changing = false; value_changes = []; tick = 0 }
+    record { header = []; timescale = None; scopes = []; declared = []; in_body = false; value_changes = []; tick = 0 }
 
 -- ---- variables
 
@@ -103,23 +103,23 @@ takes_binary_number d digits = is_skipped d || (is_binary_number digits && nat_l
 
 -- the conditions of an item in this state
 abbrev pub Allows : ParseState → Item → Type 0
-Allows c (entry kind words) = IsFalse c.changing × IsTrue (has_no_end_word words)
-Allows c (timescale words) = IsFalse c.changing × IsTrue (has_no_end_word words) × IsSome (timescale_of words)
-Allows c (scope kind words) = IsFalse c.changing × IsTrue (has_no_end_word (kind ∷ words))
-Allows c upscope = IsFalse c.changing × (0 < length c.scopes)
-Allows c (variable words) = IsFalse c.changing × IsTrue (has_no_end_word words) × IsTrue (has_good_size words)
+Allows c (entry kind words) = IsFalse c.in_body × IsTrue (has_no_end_word words)
+Allows c (timescale words) = IsFalse c.in_body × IsTrue (has_no_end_word words) × IsSome (timescale_of words)
+Allows c (scope kind words) = IsFalse c.in_body × IsTrue (has_no_end_word (kind ∷ words))
+Allows c upscope = IsFalse c.in_body × (0 < length c.scopes)
+Allows c (variable words) = IsFalse c.in_body × IsTrue (has_no_end_word words) × IsTrue (has_good_size words)
     × IsSomeAnd (declaration_of c words)
     (λ d. IsTrue (may_have_code (variable_of c d.code) d) × IsTrue (has_room c.declared d))
-Allows c end_definitions = IsFalse c.changing
-Allows c (stamp digits) = IsTrue c.changing × IsTrue (is_tick digits) × (c.tick ≤ number_of digits)
-Allows c (scalar digit code) = IsTrue c.changing × IsTrue (is_binary_digit digit) × (0 < length code)
+Allows c end_definitions = IsFalse c.in_body
+Allows c (stamp digits) = IsTrue c.in_body × IsTrue (is_tick digits) × (c.tick ≤ number_of digits)
+Allows c (scalar digit code) = IsTrue c.in_body × IsTrue (is_binary_digit digit) × (0 < length code)
     × IsSome (variable_of c code)
-Allows c (vector first digits code) = IsTrue c.changing × IsTrue (is_among vector_prefixes first)
+Allows c (vector first digits code) = IsTrue c.in_body × IsTrue (is_among vector_prefixes first)
     × IsSomeAnd (variable_of c code) (λ d. IsTrue (takes_binary_number d digits))
-Allows c (real_or_string first text code) = IsTrue c.changing × IsTrue (is_among dropped_prefixes first)
+Allows c (real_or_string first text code) = IsTrue c.in_body × IsTrue (is_among dropped_prefixes first)
     × IsSome (variable_of c code)
-Allows c (bracket word) = IsTrue c.changing × IsTrue (is_one_of dump_words word)
-Allows c (other word words) = IsTrue (is_other c.changing word) × IsTrue (has_no_end_word words)
+Allows c (bracket word) = IsTrue c.in_body × IsTrue (is_one_of dump_words word)
+Allows c (other word words) = IsTrue (is_other c.in_body word) × IsTrue (has_no_end_word words)
 
 -- ---- the effect of an item
 
@@ -141,7 +141,7 @@ state_after_item c (timescale words) = record c { timescale = timescale_of words
 state_after_item c (scope kind words) = record c { scopes = c.scopes ++ record { kind = kind; words = words } ∷ [] }
 state_after_item c upscope = record c { scopes = take (length c.scopes - 1) c.scopes }
 state_after_item c (variable words) = record c { declared = c.declared ++ option_to_list (declaration_of c words) }
-state_after_item c end_definitions = record c { changing = true }
+state_after_item c end_definitions = record c { in_body = true }
 state_after_item c (stamp digits) = record c { tick = number_of digits }
 state_after_item c (scalar digit code) = with_value_change c code (letters_of_digits (digit ∷ []))
 state_after_item c (vector first digits code) = with_value_change c code (letters_of_digits digits)
@@ -170,4 +170,4 @@ pub record Accepts (words : List PlacedWord) (state : ParseState) : Type 0 where
   pub spelled : word_texts words ≡ spellings items
   pub allowed : AllowsAll initial_state items
   pub state_is : state_after initial_state items ≡ state
-  pub definitions_ended : IsTrue state.changing
+  pub definitions_ended : IsTrue state.in_body

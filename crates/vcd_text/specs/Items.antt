@@ -54,9 +54,9 @@ begins_declaration word = is_command word && not (is_one_of dump_words word)
 
 -- any other command, which is passed over; among the changes also `$date`, `$version` and `$comment` (the project's
 -- own)
-abbrev pub is_other : (changing : Bool) → List ℕ → Bool
-is_other changing word =
-    begins_declaration word && not (is_one_of declaring_words word) && (changing || not (is_one_of header_words word))
+abbrev pub is_other : (in_body : Bool) → List ℕ → Bool
+is_other in_body word =
+    begins_declaration word && not (is_one_of declaring_words word) && (in_body || not (is_one_of header_words word))
 
 -- the first bytes of a change of several bits
 abbrev pub vector_prefixes : List ℕ

@@ -6,7 +6,7 @@ ghost use Rattle.vcd_core.specs.Word.{is_white_space as white};
 ghost use Rattle.vcd_text.specs.Words.{ends_before as ends_word, words_from, words_of};
 ghost use Rattle.vcd_text.specs.LentWords.{word_at};
 ghost use Rattle.vcd_text.specs.inside.Spaces.{begins_with_space};
-ghost use Rattle.vcd_text.specs.inside.WordWalk.{feeds, words_left, feeds_at_end, LinesFit};
+ghost use Rattle.vcd_text.specs.inside.WordWalk.{line_feeds_in, words_left, line_feeds_at_end, LinesFit};
 
 use std::marker::Model;
 use vcd_core::is_white_space;
@@ -95,7 +95,7 @@ impl<'a> WordWalk<'a> {
         ensures none_left { IfNone result (words_left self.new ≡ []) }
         ensures end { IfNone result (self.new.rest.now ≡ []) }
         ensures room { LinesFit self.new }
-        ensures feeds { feeds_at_end self.new ≡ feeds_at_end self.old }
+        ensures line_feeds { line_feeds_at_end self.new ≡ line_feeds_at_end self.old }
     {
         let (rest, line_feeds) = after_space(self.rest, self.line_feeds);
         let (text, following) = rest.split_at(word_len(rest));
@@ -117,7 +117,7 @@ fn after_space(text: &[u8], line_feeds: u64) -> (&[u8], u64)
     ensures words { (whole : Bool) →
         words_from whole (result.1 + 1) result.0.now ≡ words_from whole (line_feeds + 1) text.now }
     ensures room { result.1 + length result.0.now ≤ line_feeds + length text.now }
-    ensures feeds { result.1 + feeds result.0.now ≡ line_feeds + feeds text.now }
+    ensures line_feeds { result.1 + line_feeds_in result.0.now ≡ line_feeds + line_feeds_in text.now }
     ensures no_space { begins_with_space result.0.now ≡ false }
 {
     let mut rest = text;

@@ -12,7 +12,7 @@ use Rattle.vcdedit.specs.declared.script.command.Command.TheVariants as commands
 use Rattle.vcdedit.specs.declared.script.line_error.LineError.{LineError}
 use Rattle.vcdedit.specs.declared.script.line_error.LineError.TheVariants.{UnknownCommand, WrongCount, BadNumber}
 use Rattle.vcdedit.specs.declared.script.line_error.LineError.TheVariants.{NoSuchName, BadValueText, BadOption}
-use Rattle.vcdedit.specs.Lent.{lent_bytes}
+use Rattle.vcdedit.specs.LentBytes.{lent_bytes}
 use Rattle.vcdedit.specs.ScriptCommands.{edit_command, step_command}
 use Rattle.vcdedit.specs.inside.ParsedCommands.{derive_by}
 use Rattle.vcdedit.specs.ParsedLines.{command_of_line}

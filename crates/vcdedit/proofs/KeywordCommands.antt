@@ -14,7 +14,7 @@ use Rattle.vcdedit.specs.declared.script.keyword.Keyword.{Keyword}
 use Rattle.vcdedit.specs.declared.script.keyword.Keyword.TheVariants as keywords
 use Rattle.vcdedit.specs.declared.script.line_error.LineError.{LineError}
 use Rattle.vcdedit.specs.declared.script.line_error.LineError.TheVariants.{UnknownCommand, BadOption}
-use Rattle.vcdedit.specs.Lent.{lent_bytes}
+use Rattle.vcdedit.specs.LentBytes.{lent_bytes}
 use Rattle.vcdedit.specs.LineWords.{◌>>=◌}
 use Rattle.vcdedit.specs.ScriptWords.{signal_of_name, number_of_word}
 use Rattle.vcdedit.specs.ScriptCommands.{keyword_of, is_comment, edit_command, pair_rule, not_rule, bit_rule, rule_of}

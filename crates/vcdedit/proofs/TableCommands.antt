@@ -28,7 +28,7 @@ use Rattle.vcdedit.specs.declared.script.keyword.Keyword.{Keyword}
 use Rattle.vcdedit.specs.declared.script.keyword.Keyword.TheVariants as keywords
 use Rattle.vcdedit.specs.declared.script.line_error.LineError.{LineError}
 use Rattle.vcdedit.specs.declared.script.line_error.LineError.TheVariants as line_errors
-use Rattle.vcdedit.specs.Lent.{lent_bytes}
+use Rattle.vcdedit.specs.LentBytes.{lent_bytes}
 use Rattle.vcdedit.specs.LineErrorNames.{line_error_name}
 use Rattle.vcdedit.specs.LineWords.{◌>>=◌}
 use Rattle.vcdedit.specs.ScriptWords.{signal_of_name, number_of_word, distance_forth, distance_back, distance_of_word}

@@ -15,7 +15,7 @@ use Rattle.vcd_journal.specs.declared.step.Step.{Step}
 use Rattle.vcd_journal.specs.declared.step.Step.TheVariants as steps
 use Rattle.vcdedit.specs.Queries.{listing, change_line}
 use Rattle.vcdedit.specs.DecoderReply.{uart_lines, spi_lines, i2c_lines}
-use Rattle.vcdedit.specs.Lent.{lent_bytes}
+use Rattle.vcdedit.specs.LentBytes.{lent_bytes}
 use Rattle.vcdedit.specs.LineReads.{ReadResult, ◌▷◌, read_entry, read_signal, read_number, read_distance, read_value}
 use Rattle.vcdedit.specs.LineReads.{read_ratio, read_parity, read_order, read_line, scalar_test, uart_tests}
 use Rattle.vcdedit.specs.LineReads.{spi_tests}

@@ -1,6 +1,6 @@
 -- The definitions of vcdedit, from a line of a script to a whole run and its report.
 pub mod LineErrorNames
-pub mod Lent
+pub mod LentBytes
 pub mod WithoutAddress
 pub mod ScriptWords
 pub mod LineWords

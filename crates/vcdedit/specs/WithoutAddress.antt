@@ -5,7 +5,7 @@ use Rattle.vcd_journal.specs.declared.step.Step.{Step}
 use Rattle.vcd_journal.specs.declared.step.Step.TheVariants as steps
 use Rattle.vcdedit.specs.declared.script.command.Command.{Command}
 use Rattle.vcdedit.specs.declared.script.command.Command.TheVariants as commands
-use Rattle.vcdedit.specs.Lent.{lent_bytes}
+use Rattle.vcdedit.specs.LentBytes.{lent_bytes}
 
 -- an edit with its word, if any, at that address
 abbrev pub edit_without_address : Edit → Edit

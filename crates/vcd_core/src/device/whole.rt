@@ -103,7 +103,7 @@ fn read_block<S: Source>(
         × (limit < vec_len bytes.old + length piece)
         × (bytes.new.items ≡ take limit (bytes.old.items ++ piece)) }
     ensures failed { IsErrOf result Incomplete.ReadFault → S.has_failed source.new ≡ true }
-    ensures kept { IsErrOf result Incomplete.ReadFault →
+    ensures coming { IsErrOf result Incomplete.ReadFault →
         Keeps (S.coming source.old) (S.coming source.new) }
     ensures unchanged { IfErr result (λ e.
         e ≢ Incomplete.TooLarge → bytes.new.items ≡ bytes.old.items) }

@@ -22,15 +22,15 @@ pub record IsPlan (e : Edit) (c : Contents) (r : RecordView) : Type 0 where
 -- the piece gives the signal at a position the values of a function up to an end, with an offset
 pub record GivesValues (k : ℕ) (s : SignalContents) (end : ℕ) (by : ℤ) (f : ℕ → List Bit) (p : Piece) : Type 0 where
   pub signal : p.signal ≡ k
-  pub moves : p.by ≡ by
+  pub offset : p.by ≡ by
   pub leads : GivesChanges (piece_view p) s.changes s.width end f
 
 -- pieces for at most the first n signals of a capture change each of these by g, all with one offset
 pub record PiecesForEach (c : Contents) (by : ℤ) (g : SignalContents → SignalContents) (n : ℕ)
     (ps : List PieceView) : Type 0
   where
-    pub led : with_pieces c ps ≡ record c { signals = map g (take n c.signals) ++ drop n c.signals }
+    pub leads : with_pieces c ps ≡ record c { signals = map g (take n c.signals) ++ drop n c.signals }
     pub fit : All (PieceFits c) ps
     pub below : All (λ p. p.signal < n) ps
     pub apart : HaveDistinctSignals ps
-    pub moves : All (λ p. p.by ≡ by) ps
+    pub offset : All (λ p. p.by ≡ by) ps

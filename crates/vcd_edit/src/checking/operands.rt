@@ -2,7 +2,8 @@
 
 ghost use Rattle.std.specs.Prelude.{◌∷◌, ◌||◌, nat_le, []};
 ghost use Rattle.vcd_core.specs.Contents.{contents, signal_at};
-ghost use Rattle.vcd_edit.specs.EditFaults.{is_no_signal, is_wide, lacks_operand, has_wide_operand, is_bit_outside, first_fault, FaultIs};
+ghost use Rattle.vcd_edit.specs.EditFaults.{is_no_signal, lacks_operand, has_vector_operand, is_bit_outside, first_fault, FaultIs};
+ghost use Rattle.vcd_edit.specs.EditTests.{is_vector};
 ghost use Rattle.vcd_edit.specs.declared.fault.EditError.TheVariants as errors;
 
 use crate::edit::Rule;
@@ -13,7 +14,7 @@ use vcd_core::Capture;
 pub(crate) fn check_operands(capture: &Capture, rule: Rule) -> Result<(), EditError>
     ensures { FaultIs result (first_fault (
         (lacks_operand rule (contents capture.now), errors.NoSuchSignal)
-        ∷ (has_wide_operand rule (contents capture.now), errors.NotScalar)
+        ∷ (has_vector_operand rule (contents capture.now), errors.NotScalar)
         ∷ (is_bit_outside rule (contents capture.now), errors.BadBit) ∷ [])) }
 {
     match rule {
@@ -26,7 +27,7 @@ pub(crate) fn check_operands(capture: &Capture, rule: Rule) -> Result<(), EditEr
 fn check_scalar(capture: &Capture, a: usize) -> Result<(), EditError>
     ensures { FaultIs result (first_fault (
         (is_no_signal (contents capture.now) a, errors.NoSuchSignal)
-        ∷ (is_wide (contents capture.now) a, errors.NotScalar) ∷ [])) }
+        ∷ (is_vector (contents capture.now) a, errors.NotScalar) ∷ [])) }
 {
     let signals = capture.signals();
     if a >= signals.len() {
@@ -44,7 +45,7 @@ fn check_scalar_pair(capture: &Capture, a: usize, b: usize) -> Result<(), EditEr
       errors.NoSuchSignal,
     )
         ∷ (
-          is_wide (contents capture.now) a || is_wide (contents capture.now) b,
+          is_vector (contents capture.now) a || is_vector (contents capture.now) b,
           errors.NotScalar,
         ) ∷ [])) }
 {

@@ -27,7 +27,7 @@ fn have_sound_names(signals: &[Signal]) -> bool
 
 /// 1 if a wave has a change past the end, else 0.
 fn late_count(wave: &Wave, end: u64) -> usize
-    ensures is { result ≡ lateness_of end wave.now.changes }
+    ensures lateness { result ≡ lateness_of end wave.now.changes }
     ensures most { result ≤ 1 }
 {
     if ends_by(wave.changes(), end) { 0 } else { 1 }

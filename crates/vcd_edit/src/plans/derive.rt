@@ -6,7 +6,7 @@ ghost use Rattle.vcd_core.specs.Sound.{IsSound};
 ghost use Rattle.vcd_core.specs.Value.{letter_at};
 ghost use Rattle.vcd_core.specs.Wave.{value_at, changes_of, IsWave, AllUpTo};
 ghost use Rattle.vcd_edit.specs.Effect.{derived_signal};
-ghost use Rattle.vcd_edit.specs.EditFaults.{lacks_operand, has_wide_operand, edit_fault};
+ghost use Rattle.vcd_edit.specs.EditFaults.{lacks_operand, has_vector_operand, edit_fault};
 ghost use Rattle.vcd_edit.specs.inside.RemainingChanges.{TicksRise};
 ghost use Rattle.vcd_edit.specs.inside.Derived.{has_two_operands, operator_bit, bit_of_two, edge_bit as bit_at_edge, edge_change, operand_change, DerivedSoFar};
 ghost use Rattle.vcd_edit.specs.inside.Plans.{IsPlan};
@@ -45,7 +45,7 @@ pub(crate) fn plan(
 fn new_signal(alloc: Global, capture: &Capture, word: &[u8], rule: Rule) -> Result<Signal, NoMemory>
     requires sound { IsSound (contents capture.now) }
     requires operands_exist { lacks_operand rule (contents capture.now) ≡ false }
-    requires scalar_operands { has_wide_operand rule (contents capture.now) ≡ false }
+    requires scalar_operands { has_vector_operand rule (contents capture.now) ≡ false }
     ensures { IfOk result (λ s. signal_contents s
         ≡ derived_signal word.now rule (contents capture.now)) }
 {

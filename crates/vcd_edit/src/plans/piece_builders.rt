@@ -17,7 +17,7 @@ use vcd_core::{Bit, Capture, Change, END_LIMIT, NoMemory, Signal, Value, Wave, l
 pub(crate) fn signal_at(capture: &Capture, position: usize) -> &Signal
     requires sound { IsSound (contents capture.now) }
     requires position_exists { is_no_signal (contents capture.now) position ≡ false }
-    ensures is { signal_at (contents capture.now) position ≡ signal_contents result.now }
+    ensures signal { signal_at (contents capture.now) position ≡ signal_contents result.now }
     ensures sound { IsSoundSignal capture.now.end (signal_contents result.now) }
     ensures within { position < length (contents capture.now).signals }
 {

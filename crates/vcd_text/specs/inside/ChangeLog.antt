@@ -62,7 +62,7 @@ pub record CanTake (kept : List Variable) (e : LoggedChange) : Type 0 where
   pub before : Variable
   pub stands : slice_get kept e.position ≡ Some before
   pub narrow : before.signal.wave.width ≤ 64
-  pub late : All (λ (c : Change). c.tick ≤ e.tick) before.signal.wave.changes
+  pub none_later : All (λ (c : Change). c.tick ≤ e.tick) before.signal.wave.changes
 
 -- two variables are the same but for the changes of their waves
 pub record IsSameVariable (old new : Variable) : Type 0 where

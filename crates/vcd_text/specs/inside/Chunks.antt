@@ -13,18 +13,18 @@ use Rattle.vcd_text.specs.MemoryErrors.{memory_error}
 use Rattle.vcd_text.specs.inside.Reading.{Reads}
 
 -- of these bytes, the words that white space follows have been taken; the others are those of a word that can go on
-pub record HasTaken (m : Reader) (word : List ℕ) (line_feeds left : ℕ) (bytes : List ℕ) : Type 0 where
+pub record HasTaken (m : Reader) (word : List ℕ) (line_feeds bytes_left : ℕ) (bytes : List ℕ) : Type 0 where
   pub reads : Reads m (closed_words bytes)
-  pub following : (whole : Bool) (rest : List ℕ)
+  pub words : (whole : Bool) (rest : List ℕ)
       → words_from whole 1 (bytes ++ rest) ≡ closed_words bytes ++ words_from whole (line_feeds + 1) (word ++ rest)
   pub no_space : list_all (λ b. not (is_white_space b)) word ≡ true
   pub short : length word ≤ length bytes
   pub lines : last_line bytes ≡ line_feeds + 1
-  pub room : length bytes + left ≡ FILE_LIMIT
+  pub room : length bytes + bytes_left ≡ FILE_LIMIT
 
 -- these bytes have been consumed so far
 abbrev pub HasConsumed : Progress → List ℕ → Type 0
-HasConsumed p bytes = HasTaken p.reader p.buffer.bytes p.line_feeds p.left bytes
+HasConsumed p bytes = HasTaken p.reader p.buffer.bytes p.line_feeds p.bytes_left bytes
 
 -- of the source's bytes, where it shows them, these are left, and those between have been consumed
 abbrev pub ProgressMatches : Option (List ℕ) → Option (List ℕ) → Progress → Type 0
@@ -35,7 +35,7 @@ pub record HasCome (p : Progress) (from : ℕ) (bytes : List ℕ) : Type 0 where
   pub before : List ℕ
   pub word : List ℕ
   pub chunk : List ℕ
-  pub taken : HasTaken p.reader word p.line_feeds (p.left + length chunk) before
+  pub taken : HasTaken p.reader word p.line_feeds (p.bytes_left + length chunk) before
   pub text : p.buffer.bytes ≡ word ++ chunk
   pub len : from ≡ length word
   pub all : bytes ≡ before ++ chunk

@@ -17,9 +17,9 @@ tick_at changes place = slice_index_or (map (λ c. c.tick) changes) place (2 ^ 6
 -- a change and the tick after it: it is not before the tick `from`, and those before it are before the tick `to`
 pub record IsNext (from to : ℕ) (changes : List Change) (next : NextChange) : Type 0 where
   pub passed : All (λ c. c.tick < to) (take next.place changes)
-  pub left : from ≤ next.tick
+  pub not_earlier : from ≤ next.tick
   pub tick : next.tick ≡ tick_at changes next.place
-  pub following : next.following ≡ tick_at changes (next.place + 1)
+  pub following_tick : next.following_tick ≡ tick_at changes (next.place + 1)
 
 -- each signal has its next change
 pub record AreNext (from : ℕ) (signals : List Signal) (next_changes : List NextChange) : Type 0 where

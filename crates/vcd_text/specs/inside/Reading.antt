@@ -29,14 +29,14 @@ pub record ReaderMatches (m : Reader) (c : ParseState) : Type 0 where
   pub header : m.header.items ≡ c.header
   pub timescale : m.timescale ≡ c.timescale
   pub scopes : HoldsScopes m.scopes c.scopes c.declared
-  pub changing : m.changing ≡ c.changing
+  pub in_body : m.in_body ≡ c.in_body
   pub tick : m.tick ≡ c.tick
   pub variables : VariablesMatch m.variables c
-  pub silent : IsFalse c.changing → c.value_changes ≡ []
+  pub silent : IsFalse c.in_body → c.value_changes ≡ []
 
 -- a declaration is open, and the reader keeps its words after the keyword
 pub record Collects (m : Reader) (begun : List PlacedWord) (keyword : List ℕ) : Type 0 where
-  pub declares : IsFalse m.changing
+  pub declares : IsFalse m.in_body
   pub spelled : word_texts begun ≡ keyword ∷ m.words.items
   pub no_end : IsTrue (has_no_end_word m.words.items)
 
@@ -45,12 +45,12 @@ pub record PassesOver (m : Reader) (begun : List PlacedWord) : Type 0 where
   pub keyword : List ℕ
   pub words : List (List ℕ)
   pub spelled : word_texts begun ≡ keyword ∷ words
-  pub other : IsTrue (is_other m.changing keyword)
+  pub other : IsTrue (is_other m.in_body keyword)
   pub no_end : IsTrue (has_no_end_word words)
 
 -- a change of two words is open, whose first word has one of these letters and then this text
 pub record AwaitsCode (m : Reader) (begun : List PlacedWord) (letters text : List ℕ) : Type 0 where
-  pub changes : IsTrue m.changing
+  pub changes : IsTrue m.in_body
   pub word : PlacedWord
   pub letter : ℕ
   pub is : begun ≡ word ∷ []
@@ -64,9 +64,9 @@ IsBegun m begun items.Nothing = begun ≡ []
 IsBegun m begun (items.Entry kind) = Collects m begun (header_word kind)
 IsBegun m begun items.Timescale = Collects m begun (codes "$timescale")
 IsBegun m begun items.Scope = Collects m begun (codes "$scope")
-IsBegun m begun items.Upscope = IsFalse m.changing × (word_texts begun ≡ codes "$upscope" ∷ []) × (0 < m.scopes.depth)
+IsBegun m begun items.Upscope = IsFalse m.in_body × (word_texts begun ≡ codes "$upscope" ∷ []) × (0 < m.scopes.depth)
 IsBegun m begun items.Variable = Collects m begun (codes "$var") × IsTrue (has_good_size m.words.items)
-IsBegun m begun items.EndDefinitions = IsFalse m.changing × (word_texts begun ≡ codes "$enddefinitions" ∷ [])
+IsBegun m begun items.EndDefinitions = IsFalse m.in_body × (word_texts begun ≡ codes "$enddefinitions" ∷ [])
 IsBegun m begun items.Other = PassesOver m begun
 IsBegun m begun items.Vector = AwaitsCode m begun vector_prefixes m.digits.items
 IsBegun m begun items.Dropped = (text : List ℕ) × AwaitsCode m begun dropped_prefixes text
@@ -136,12 +136,12 @@ AllWordsResult taken words (Err e) new = (e ≡ memory_error) ⊎ ShowsFault (ta
 
 -- nothing is open, and `$enddefinitions $end` has come
 abbrev pub is_complete : Reader → Bool
-is_complete m = m.changing && is_nothing m.item
+is_complete m = m.in_body && is_nothing m.item
 
 -- this word begins a change of several bits with these digits, as the next word
 pub record BeginsVector (m : Reader) (text digits : List ℕ) : Type 0 where
   pub between : m.item ≡ items.Nothing
-  pub changes : IsTrue m.changing
+  pub changes : IsTrue m.in_body
   pub letter : ℕ
   pub spelled : text ≡ letter ∷ digits
   pub among : IsTrue (is_among vector_prefixes letter)

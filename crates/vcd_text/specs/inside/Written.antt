@@ -7,13 +7,13 @@ use Rattle.vcd_text.specs.declared.writing.buffer.WriteBuffer.{WriteBuffer}
 -- greatest count nothing is said
 pub record HasEmitted (before after : Option (List ℕ)) (failed : Bool) (buffer : WriteBuffer) (text : List ℕ) : Type 0
   where
-    pub within : buffer.sent ≤ length text
-    pub front : buffer.sent < 2 ^ 128 - 1 → Appends before after (take buffer.sent text)
-    pub rest : buffer.sent < 2 ^ 128 - 1 → failed ≡ false → drop buffer.sent text ≡ buffer.unsent.items
+    pub within : buffer.sent_count ≤ length text
+    pub front : buffer.sent_count < 2 ^ 128 - 1 → Appends before after (take buffer.sent_count text)
+    pub rest : buffer.sent_count < 2 ^ 128 - 1 → failed ≡ false → drop buffer.sent_count text ≡ buffer.unsent.items
 
 -- a part is written after each text that was written, where the buffer and its writer were so, and then so
 pub record Emits {W : Type 0} (taken : W → Option (List ℕ)) (has_failed : W → Bool) (old new : WriteBuffer × W)
     (part : List ℕ) : Type 0 where
-  pub following : (before : Option (List ℕ)) (text : List ℕ)
+  pub appends : (before : Option (List ℕ)) (text : List ℕ)
       → HasEmitted before (taken old.1) (has_failed old.1) old.0 text
       → HasEmitted before (taken new.1) (has_failed new.1) new.0 (text ++ part)

@@ -23,7 +23,7 @@ impl Reader {
     /// command, or the first word of a change of a value. Any other word is `BadChange`.
     pub fn begin_change(&mut self, alloc: Global, text: &[u8], line: u64) -> Result<(), Fault>
         requires between { self.old.item ≡ items.Nothing }
-        requires changing { self.old.changing ≡ true }
+        requires in_body { self.old.in_body ≡ true }
         requires reading { IsUnderway self.old }
         requires word { 0 < length text.now }
         ensures { WordResult self.old (word_on text.now line) result self.new }
@@ -40,7 +40,7 @@ impl Reader {
     /// they write no tick, and `TimeBackwards` where the tick is below the one before.
     fn stamp(&mut self, digits: &[u8]) -> Result<(), Fault>
         requires between { self.old.item ≡ items.Nothing }
-        requires changing { self.old.changing ≡ true }
+        requires in_body { self.old.in_body ≡ true }
         ensures { (line : ℕ) →
             WordResult self.old (word_on (35 ∷ digits.now) line) result self.new }
     {
@@ -58,7 +58,7 @@ impl Reader {
     /// declarations is `UnexpectedWord`.
     fn begin_command(&mut self, text: &[u8]) -> Result<(), Fault>
         requires between { self.old.item ≡ items.Nothing }
-        requires changing { self.old.changing ≡ true }
+        requires in_body { self.old.in_body ≡ true }
         requires command { is_command text.now ≡ true }
         ensures { (line : ℕ) → WordResult self.old (word_on text.now line) result self.new }
     {
@@ -75,7 +75,7 @@ impl Reader {
     /// Takes the first word of a change of a value: this byte, and the rest.
     fn begin_value(&mut self, alloc: Global, first: u8, rest: &[u8], line: u64) -> Result<(), Fault>
         requires between { self.old.item ≡ items.Nothing }
-        requires changing { self.old.changing ≡ true }
+        requires in_body { self.old.in_body ≡ true }
         requires reading { IsUnderway self.old }
         requires value { is_among (codes "#$") first ≡ false }
         ensures { WordResult self.old (word_on (first ∷ rest.now) line) result self.new }
@@ -96,7 +96,7 @@ impl Reader {
     /// no code, and `UnknownCode` where the code was not declared.
     fn set_bit(&mut self, alloc: Global, digit: u8, code: &[u8]) -> Result<(), Fault>
         requires between { self.old.item ≡ items.Nothing }
-        requires changing { self.old.changing ≡ true }
+        requires in_body { self.old.in_body ≡ true }
         requires reading { IsUnderway self.old }
         requires digit { digit_test digit ≡ true }
         ensures { (line : ℕ) →
@@ -119,7 +119,7 @@ impl Reader {
             return None;
         }
         match text {
-            [first, digits @ ..] if self.changing && is_vector_prefix(*first) => Some(digits),
+            [first, digits @ ..] if self.in_body && is_vector_prefix(*first) => Some(digits),
             _ => None,
         }
     }
@@ -127,7 +127,7 @@ impl Reader {
     /// Begins a change of several bits, and keeps its digits.
     fn begin_vector(&mut self, digits: &[u8], line: u64) -> Result<(), Fault>
         requires between { self.old.item ≡ items.Nothing }
-        requires changing { self.old.changing ≡ true }
+        requires in_body { self.old.in_body ≡ true }
         ensures { (first : ℕ) → is_among vector_prefixes first ≡ true →
             WordResult self.old (word_on (first ∷ digits.now) line) result self.new }
     {
@@ -141,7 +141,7 @@ impl Reader {
     /// Begins a change of a real number or a string.
     fn begin_dropped(&mut self, line: u64)
         requires between { self.old.item ≡ items.Nothing }
-        requires changing { self.old.changing ≡ true }
+        requires in_body { self.old.in_body ≡ true }
         ensures { (first : ℕ) (text : List ℕ) → is_among dropped_prefixes first ≡ true →
             WordResult self.old (word_on (first ∷ text) line) (Ok result) self.new }
     {

@@ -14,7 +14,7 @@ ghost use Rattle.vcd_text.specs.Refusals.{IsRefusal};
 ghost use Rattle.vcd_text.specs.MemoryErrors.{memory_error};
 ghost use Rattle.vcd_text.specs.inside.Spaces.{is_closed};
 ghost use Rattle.vcd_text.specs.inside.Reading.{Reads, IsUnderway, WordsResult, HasRoomFor, AllWordsResult, is_complete};
-ghost use Rattle.vcd_text.specs.inside.WordWalk.{words_left, feeds_at_end, LinesFit};
+ghost use Rattle.vcd_text.specs.inside.WordWalk.{words_left, line_feeds_at_end, LinesFit};
 ghost use Rattle.vcd_text.specs.inside.Chunks.{HasConsumed, ProgressMatches, HasCome, TakesChunk};
 
 use crate::fault::{Fault, ReadError};
@@ -35,7 +35,7 @@ pub struct Progress {
     /// The line feeds so far.
     pub line_feeds: u64,
     /// The number of bytes that the file can still have.
-    pub left: usize,
+    pub bytes_left: usize,
 }
 
 impl Progress {
@@ -47,7 +47,7 @@ impl Progress {
             reader: Reader::new(alloc),
             buffer: ReadBuffer::new(alloc),
             line_feeds: 0,
-            left: FILE_LIMIT,
+            bytes_left: FILE_LIMIT,
         }
     }
 
@@ -64,7 +64,7 @@ impl Progress {
             ProgressMatches coming (R.coming source.new) self.new) }
         ensures not_failed { OnOk result (R.has_failed source.new ≡ false) }
         ensures ended { IfOk result (λ more. more ≡ false → IsAtEnd (R.coming source.new)) }
-        ensures fewer { IfOk result (λ more. more ≡ true → self.new.left < self.old.left) }
+        ensures fewer { IfOk result (λ more. more ≡ true → self.new.bytes_left < self.old.bytes_left) }
         ensures refused { IfErr result (λ e. (coming : Option (List ℕ)) →
             ProgressMatches coming (R.coming source.old) self.old → IfSome coming (λ file.
             IsRefusal file (R.has_failed source.new) (R.coming source.new) e)) }
@@ -75,13 +75,13 @@ impl Progress {
     {
         self.buffer.make_room()?;
         let from = self.buffer.len();
-        let Ok(count) = self.buffer.read_from(source, self.left) else {
+        let Ok(count) = self.buffer.read_from(source, self.bytes_left) else {
             return Err(ReadError::at(self.line_feeds + 1, Fault::ReadFault));
         };
-        if count > self.left {
+        if count > self.bytes_left {
             return Err(ReadError::at(self.line_feeds + 1, Fault::TooLarge));
         }
-        self.left -= count;
+        self.bytes_left -= count;
         self.take_words(alloc, from)?;
         Ok(count > 0)
     }
@@ -91,7 +91,7 @@ impl Progress {
         requires { (bytes : List ℕ) × HasCome self.old from bytes }
         ensures taken { (bytes : List ℕ) → HasCome self.old from bytes →
             TakesChunk bytes result self.new }
-        ensures left { self.new.left ≡ self.old.left }
+        ensures bytes_left { self.new.bytes_left ≡ self.old.bytes_left }
     {
         let len = words_len(self.buffer.as_slice(), from);
         let closed = WordWalk {
@@ -165,7 +165,7 @@ fn read_words(reader: &mut Reader, alloc: Global, words: WordWalk) -> Result<u64
     requires lines { LinesFit words }
     ensures words { (taken : List WordInFile) → Reads reader.old taken →
         AllWordsResult taken (words_left words.entry) result reader.new }
-    ensures feeds { IfOk result (λ line_feeds. line_feeds ≡ feeds_at_end words.entry) }
+    ensures line_feeds { IfOk result (λ line_feeds. line_feeds ≡ line_feeds_at_end words.entry) }
 {
     let mut left = words;
     while let Some(first) = left.next_word() {
@@ -187,7 +187,7 @@ fn take_from(
     ensures words { (following : List WordInFile) × (words_left words.old ≡ following ++ words_left words.new)
         × WordsResult reader.old (word_at first.entry ∷ following) result reader.new }
     ensures lines { LinesFit words.new }
-    ensures feeds { feeds_at_end words.new ≡ feeds_at_end words.old }
+    ensures line_feeds { line_feeds_at_end words.new ≡ line_feeds_at_end words.old }
 {
     if let Some(digits) = reader.digits_of_vector(first.text) {
         if let Some(code) = words.next_word() {

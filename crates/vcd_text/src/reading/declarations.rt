@@ -25,7 +25,7 @@ impl Reader {
     /// a word that begins no declaration.
     pub fn begin_declaration(&mut self, text: &[u8]) -> Result<(), Fault>
         requires between { self.old.item ≡ items.Nothing }
-        requires declaring { self.old.changing ≡ false }
+        requires in_declarations { self.old.in_body ≡ false }
         ensures { (line : ℕ) → WordResult self.old (word_on text.now line) result self.new }
     {
         let Some(item) = opened_item(text) else {
@@ -165,7 +165,7 @@ impl Reader {
         ensures { (line : ℕ) → WordResult self.old (word_on end_word line) result self.new }
     {
         self.variables.code_targets.make_table(alloc)?;
-        self.changing = true;
+        self.in_body = true;
         self.item = OpenItem::Nothing;
         Ok(())
     }

@@ -89,7 +89,7 @@ impl ReadBuffer {
         ensures ended { IfOk result (λ count. count ≡ 0 → IsAtEnd (S.coming source.new)) }
         ensures ready { OnOk result (S.has_failed source.new ≡ false) }
         ensures failed { OnErr result (S.has_failed source.new ≡ true) }
-        ensures kept { OnErr result (Keeps (S.coming source.old) (S.coming source.new)) }
+        ensures coming { OnErr result (Keeps (S.coming source.old) (S.coming source.new)) }
     {
         let end = self.len + most.min(CHUNK).max(1).min(self.storage.len() - self.len);
         let count = source.read(&mut self.storage[self.len..end])?;

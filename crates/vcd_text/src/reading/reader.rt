@@ -43,7 +43,7 @@ pub struct Reader {
     pub scopes: Scopes,
     pub variables: Variables,
     /// Whether `$enddefinitions $end` has come.
-    pub changing: bool,
+    pub in_body: bool,
     /// The last time stamp, or 0.
     pub tick: u64,
     pub item: OpenItem,
@@ -64,7 +64,7 @@ impl Reader {
             timescale: None,
             scopes: Scopes::new(alloc),
             variables: Variables::new(alloc),
-            changing: false,
+            in_body: false,
             tick: 0,
             item: OpenItem::Nothing,
             words: Vec::new(alloc),
@@ -122,7 +122,7 @@ impl Reader {
         ensures { WordResult self.old (word_on text.now line) result self.new }
     {
         match self.item {
-            OpenItem::Nothing if self.changing => self.begin_change(alloc, text, line),
+            OpenItem::Nothing if self.in_body => self.begin_change(alloc, text, line),
             OpenItem::Nothing => self.begin_declaration(text),
             OpenItem::Vector => self.end_vector(alloc, text),
             OpenItem::Dropped => self.end_dropped(text),
@@ -135,7 +135,7 @@ impl Reader {
     pub fn is_complete(&self) -> bool
         ensures { result ≡ is_complete self.now }
     {
-        self.changing && self.item == OpenItem::Nothing
+        self.in_body && self.item == OpenItem::Nothing
     }
 
     /// The capture that the file means, once its last word has been taken.

@@ -30,7 +30,7 @@ impl Variable {
     /// Takes a change of the log, with room for `more` changes in the wave first.
     pub fn take_logged(&mut self, change: LoggedChange, more: usize) -> Result<(), NoMemory>
         requires narrow { self.old.signal.wave.width ≤ 64 }
-        requires late { All (λ c. c.tick ≤ change.tick) self.old.signal.wave.changes }
+        requires none_later { All (λ c. c.tick ≤ change.tick) self.old.signal.wave.changes }
         ensures taken { OnOk result (AppliesToVariable change self.old self.new) }
         // It succeeds where the wave's own list has room for `more` changes and this one.
         ensures in_place { length self.old.signal.wave.changes + 1 < self.old.signal.wave.room →

@@ -17,18 +17,21 @@ const ROOM: usize = 65536;
 #[derive(Drop)]
 pub struct WriteBuffer {
     pub unsent: Vec<u8>,
-    pub sent: u128,
+    pub sent_count: u128,
 }
 
 impl WriteBuffer {
     /// An empty buffer.
     pub fn new(alloc: Global) -> Result<WriteBuffer, NoMemory>
         ensures unsent { IfOk result (λ buffer. buffer.unsent.items ≡ []) }
-        ensures sent { IfOk result (λ buffer. buffer.sent ≡ 0) }
+        ensures sent_count { IfOk result (λ buffer. buffer.sent_count ≡ 0) }
         ensures room { IfOk result (λ buffer. vec_capacity buffer.unsent ≡ ROOM) }
     {
         let unsent = Vec::with_capacity(alloc, ROOM)?;
-        Ok(WriteBuffer { unsent, sent: 0 })
+        Ok(WriteBuffer {
+            unsent,
+            sent_count: 0,
+        })
     }
 }
 
@@ -82,7 +85,7 @@ fn send_buffer<W: Sink>(buffer: &mut WriteBuffer, writer: &mut W)
     ensures room { vec_capacity buffer.new.unsent ≡ vec_capacity buffer.old.unsent }
 {
     let count = send_bytes(writer, buffer.unsent.as_slice());
-    buffer.sent = buffer.sent.saturating_add(count);
+    buffer.sent_count = buffer.sent_count.saturating_add(count);
     buffer.unsent.clear();
 }
 
@@ -94,7 +97,7 @@ fn send_directly<W: Sink>(buffer: &mut WriteBuffer, writer: &mut W, bytes: &[u8]
     ensures room { vec_capacity buffer.new.unsent ≡ vec_capacity buffer.old.unsent }
 {
     let count = send_bytes(writer, bytes);
-    buffer.sent = buffer.sent.saturating_add(count);
+    buffer.sent_count = buffer.sent_count.saturating_add(count);
 }
 
 /// The number of bytes that the writer takes: all, unless it fails or has failed.
@@ -129,7 +132,7 @@ pub fn send_and_flush<W: Sink>(buffer: WriteBuffer, writer: &mut W) -> Result<()
 {
     let mut buffer = buffer;
     send_buffer(&mut buffer, writer);
-    let written = buffer.sent;
+    let written = buffer.sent_count;
     if writer.failed() {
         return Err(WriteError::WriteFault { written });
     }

@@ -13,7 +13,7 @@ use vcd_core::{Change, NoMemory, Signal, Wave};
 pub struct NextChange {
     pub place: usize,
     pub tick: u64,
-    pub following: u64,
+    pub following_tick: u64,
 }
 
 /// The first change of each signal after tick 0: 24 bytes for each signal.
@@ -35,7 +35,7 @@ fn first_change(wave: &Wave) -> NextChange
     let first = NextChange {
         place: 0,
         tick: tick_at_place(changes, 0),
-        following: tick_at_place(changes, 1),
+        following_tick: tick_at_place(changes, 1),
     };
     if first.tick == 0 {
         return following_change(changes, first);
@@ -47,13 +47,13 @@ fn first_change(wave: &Wave) -> NextChange
 pub fn following_change(changes: &[Change], next: NextChange) -> NextChange
     requires { next.place < length changes.now }
     ensures place { result.place ≡ next.place + 1 }
-    ensures tick { result.tick ≡ next.following }
-    ensures following { result.following ≡ tick_at changes.now (next.place + 2) }
+    ensures tick { result.tick ≡ next.following_tick }
+    ensures following_tick { result.following_tick ≡ tick_at changes.now (next.place + 2) }
 {
     NextChange {
         place: next.place + 1,
-        tick: next.following,
-        following: tick_at_place(changes, next.place + 2),
+        tick: next.following_tick,
+        following_tick: tick_at_place(changes, next.place + 2),
     }
 }
 

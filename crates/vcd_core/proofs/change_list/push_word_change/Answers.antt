@@ -17,7 +17,7 @@ told value before kept slice r b same compared result = sym (λ i. same_letters 
 
 pub has_last_word-requires-clause-form : goal.has_last_word-requires-clause-form
 has_last_word-requires-clause-form c =
-    kept_wave c.args.width c.args.tick _ _ (c.as_slice.ensures.value ∙ c.pop_at.ensures.kept) c.requires.form
+    kept_wave c.args.width c.args.tick _ _ (c.as_slice.ensures.value ∙ c.pop_at.ensures.changes) c.requires.form
 
 pub returns-in_err-make_room-clause-adds_none : goal.returns-in_err-make_room-clause-adds_none
 returns-in_err-make_room-clause-adds_none c same =
@@ -25,7 +25,7 @@ returns-in_err-make_room-clause-adds_none c same =
     let differs : same_letters value (last_value (all_x c.args.width) c.pop_at.new.changes.items) ≡ false =
     told _ _ _ _ _ false c.as_slice.ensures.value c.has_last_word.ensures c.if-not-has_last_word.true in
     let equal : same_letters value (last_value (all_x c.args.width) c.pop_at.new.changes.items) ≡ true =
-    (same_letters-Decides _ _).1 (sym (ap (last_value (all_x c.args.width)) c.pop_at.ensures.kept ∙ same)) in
+    (same_letters-Decides _ _).1 (sym (ap (last_value (all_x c.args.width)) c.pop_at.ensures.changes ∙ same)) in
     let both : true ≡ false = sym equal ∙ differs in
     absurd (cc)
 
@@ -35,10 +35,10 @@ returns-in_ok-make_room-clause-pushed c =
     ∙ ap (λ v. c.make_room.new.changes.items ++ change c.args.tick v ∷ []) c.from_word-value.ensures
     ∙ ap (λ l. l ++ change c.args.tick (letters_of c.args.width (c.args.word ∷ [])) ∷ [])
     c.make_room.ensures.changes
-    ∙ pushed_other _ _ _ _ _ c.pop_at.ensures.kept
+    ∙ pushed_other _ _ _ _ _ c.pop_at.ensures.changes
     (told _ _ _ _ _ false c.as_slice.ensures.value c.has_last_word.ensures c.if-not-has_last_word.true)
 
 pub returns-else-not-has_last_word-clause-pushed : goal.returns-else-not-has_last_word-clause-pushed
 returns-else-not-has_last_word-clause-pushed c =
-    pushed_same _ _ _ _ _ c.pop_at.ensures.kept
+    pushed_same _ _ _ _ _ c.pop_at.ensures.changes
     (told _ _ _ _ _ true c.as_slice.ensures.value c.has_last_word.ensures c.if-not-has_last_word.false)

@@ -6,8 +6,8 @@ use Rattle.vcd_edit.proofs.TouchedSums.{own_offsets}
 use Rattle.vcd_edit.proofs.SignalCounts.{fewer_is_taken_out}
 use Rattle.vcd_edit.proofs.reverting.revert.Goals as goal
 
-pub returns-clause-bound : goal.returns-clause-bound
-returns-clause-bound c =
+pub returns-clause-stored : goal.returns-clause-stored
+returns-clause-stored c =
     let edit_record = c.args.edit_record in
     IfOk-weaker c.exchange_record.result (IsOppositeRecord (contents c.args.capture.now) edit_record) _
     (λ q leads. leads.stored (piece_offset edit_record.pieces)

@@ -7,4 +7,4 @@ invariant-loop-progress g l = ProgressMatches (g.R.Source.coming l.fn.reader) (g
     × (g.R.Source.has_failed l.reader ≡ false)
 
 abbrev pub decreases-loop-progress : goal.decreases-loop-progress
-decreases-loop-progress g l = l.progress.left
+decreases-loop-progress g l = l.progress.bytes_left

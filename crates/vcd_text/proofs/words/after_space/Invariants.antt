@@ -1,13 +1,13 @@
 use Rattle.std.proofs.Common.{◌≡◌, ◌+◌, ◌≤◌, Bool, length}
 use Rattle.vcd_text.specs.Words.{words_from}
-use Rattle.vcd_text.specs.inside.WordWalk.{feeds}
+use Rattle.vcd_text.specs.inside.WordWalk.{line_feeds_in}
 use Rattle.vcd_text.proofs.words.after_space.Given as goal
 
 abbrev pub invariant-loop-byte : goal.invariant-loop-byte
 invariant-loop-byte l =
     ((whole : Bool) → words_from whole (l.lines + 1) l.rest ≡ words_from whole (l.line_feeds + 1) l.text)
     × (l.lines + length l.rest ≤ l.line_feeds + length l.text)
-    × (l.lines + feeds l.rest ≡ l.line_feeds + feeds l.text)
+    × (l.lines + line_feeds_in l.rest ≡ l.line_feeds + line_feeds_in l.text)
 
 abbrev pub decreases-loop-byte : goal.decreases-loop-byte
 decreases-loop-byte l = length l.rest

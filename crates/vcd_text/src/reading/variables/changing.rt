@@ -17,7 +17,7 @@ use std::alloc::Global;
 impl Variable {
     /// Sets the value from `tick` on to that of these digits, in the wave.
     fn set(&mut self, tick: u64, digits: &[u8]) -> Result<(), Fault>
-        requires late { All (λ change. change.tick ≤ tick) self.old.signal.wave.changes }
+        requires none_later { All (λ change. change.tick ≤ tick) self.old.signal.wave.changes }
         ensures sets { OnOk result (Sets tick digits.now self.old self.new) }
         ensures refuses { IfErr result (λ fault. (fault ≡ NoMemoryFault) ⊎
             RefusesBinaryNumber self.old.signal.wave.width digits.now fault) }

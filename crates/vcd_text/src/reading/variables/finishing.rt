@@ -69,7 +69,7 @@ fn push_signal(signals: &mut Vec<Signal>, variable: Variable) -> Result<(), NoMe
 /// The signal of a variable, given the signals of the variables before it.
 fn finished_signal(variable: Variable, before: &mut [Signal]) -> Result<Signal, NoMemory>
     ensures finished { IfOk result (Finishes variable (slice_get before.old variable.first)) }
-    ensures kept { map signal_contents before.new ≡ map signal_contents before.old }
+    ensures contents { map signal_contents before.new ≡ map signal_contents before.old }
 {
     let Variable { signal, first, .. } = variable;
     if first < before.len() {
@@ -82,7 +82,7 @@ fn finished_signal(variable: Variable, before: &mut [Signal]) -> Result<Signal, 
 
 /// A signal whose wave shares the list of another's.
 fn with_wave_of(signal: Signal, first: &mut Signal) -> Result<Signal, NoMemory>
-    ensures kept { signal_contents first.new ≡ signal_contents first.old }
+    ensures contents { signal_contents first.new ≡ signal_contents first.old }
     ensures scopes { IfOk result (λ other. other.scopes ≡ signal.scopes) }
     ensures kind { IfOk result (λ other. other.kind ≡ signal.kind) }
     ensures words { IfOk result (λ other. other.words ≡ signal.words) }

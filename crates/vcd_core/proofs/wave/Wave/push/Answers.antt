@@ -54,7 +54,7 @@ returns-in_err-push_change-in-Own-clause-adds_none c own same =
     ∙ c.make_own.ensures.changes in
     let upto = upto_from_all c.args.tick _
     (subst (λ (w : WaveView). All (λ (x : Change). x.tick ≤ c.args.tick) w.changes) (sym c.self.view_is)
-    c.requires.late) in
+    c.requires.none_later) in
     elim (last_before 0 c.args.tick (all_x c.self.inside.width) (all_x c.self.inside.width) _ c.self.invariant.2.rise
     upto) [
       | inl last ↦

@@ -21,7 +21,7 @@ returns c = λ end stop sound long there small.
     ∙ ap (value_just_before s.width (value_at s.width s.changes)) {x = to + 1} {y = suc to} (omega arith) in
     record {
       signal = refl;
-      moves = to_z-of_z w64 c.negative_offset.result (record { sfits = c.negative_offset.type_inv })
+      offset = to_z-of_z w64 c.negative_offset.result (record { sfits = c.negative_offset.type_inv })
           ∙ c.negative_offset.ensures;
       leads = cut_leads from to end stop s sound.wave sound.ticks c.requires.not_empty long there small _
           (neg_ℤ (pos (to - from))) (omega (arith, ints, c.requires.not_empty))

@@ -25,7 +25,7 @@ returns-then-from-changes c =
     nothing_plan (Deglitch c.args.signal n) (contents c.args.capture.now) c.args.signal
     (λ s. steady_value n end (signal_value s)) s c.empty_record.result c.empty_record.ensures c.requires.sound
     c.requires.allowed
-    c.signal_at.ensures.is (deglitch_is_wave c.args.signal n (contents c.args.capture.now)) refl
+    c.signal_at.ensures.signal (deglitch_is_wave c.args.signal n (contents c.args.capture.now)) refl
     (sym (kept_of_signal n end s c.signal_at.ensures.sound)
     ∙ none_left_out n s c.changes-changes.result.now c.x_value-x.result c.changes-changes.ensures.changes
     c.x_value-x.ensures c.count_kept_in_front-from.result (omega arith) c.count_kept_in_front-from.ensures.kept
@@ -52,7 +52,7 @@ returns c =
     wave_plan (Deglitch c.args.signal n) (contents c.args.capture.now) c.args.signal
     (λ s. steady_value n end (signal_value s)) (pos 0) s
     piece c.piece_record.result c.requires.sound c.requires.allowed
-    c.signal_at.ensures.within c.signal_at.ensures.is
+    c.signal_at.ensures.within c.signal_at.ensures.signal
     (deglitch_is_wave c.args.signal n (contents c.args.capture.now)) refl refl
     (deglitch_gives n s cs c.x_value-x.result c.changes-changes.ensures.changes c.x_value-x.ensures from (omega arith)
     c.count_kept_in_front-from.ensures.kept

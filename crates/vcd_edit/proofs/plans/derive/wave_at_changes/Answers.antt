@@ -14,8 +14,8 @@ loop-change-init c =
 pub push-requires-clause-width : goal.push-requires-clause-width
 push-requires-clause-width c = ap length c.filled.ensures ∙ sym c.loop-change.invariant.width
 
-pub push-requires-clause-late : goal.push-requires-clause-late
-push-requires-clause-late c =
+pub push-requires-clause-none_later : goal.push-requires-clause-none_later
+push-requires-clause-none_later c =
     operand_late c.args.rule c.args.changes.now c.loop-change.change-index c.change-item.result c.loop-change.wave
     c.loop-change-test.true c.change-item.is c.loop-change.invariant
 

@@ -14,8 +14,8 @@ loop-edge-init c =
     (c.in_ok-reserve_exact.ensures.width ∙ c.new-wave.ensures.width) (c.in_ok-reserve_exact.ensures.changes
     ∙ c.new-wave.ensures.changes) c.requires)
 
-pub push-requires-clause-late : goal.push-requires-clause-late
-push-requires-clause-late c =
+pub push-requires-clause-none_later : goal.push-requires-clause-none_later
+push-requires-clause-none_later c =
     edge_late c.args.rule c.args.edges c.loop-edge.edge-iterator c.next.new.self c.in-Some.edge c.loop-edge.wave
     c.in-Some.ensures.steps c.loop-edge.invariant
 

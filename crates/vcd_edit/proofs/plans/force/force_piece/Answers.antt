@@ -11,7 +11,7 @@ returns-then-to-end c =
     let s : SignalContents = signal_contents c.args.signal.now in
     record {
       signal = ap (λ (q : PieceView). q.signal) c.piece_between.ensures;
-      moves = ap (λ (q : PieceView). q.by) c.piece_between.ensures;
+      offset = ap (λ (q : PieceView). q.by) c.piece_between.ensures;
       leads = force_to_end c.args.from c.args.to c.args.end c.args.value s c.requires.sound.wave c.requires.sound.ticks
           c.requires.end c.requires.not_empty p
           (ap (λ (q : PieceView). q.from) c.piece_between.ensures)
@@ -31,7 +31,7 @@ returns c =
     let s : SignalContents = signal_contents c.args.signal.now in
     record {
       signal = ap (λ (q : PieceView). q.signal) c.piece_between-2.ensures;
-      moves = ap (λ (q : PieceView). q.by) c.piece_between-2.ensures;
+      offset = ap (λ (q : PieceView). q.by) c.piece_between-2.ensures;
       leads = force_before_end c.args.from c.args.to c.args.end c.args.value s c.requires.sound.wave
           c.requires.sound.ticks c.requires.end c.requires.not_empty p
           (ap (λ (q : PieceView). q.from) c.piece_between-2.ensures)

@@ -26,6 +26,6 @@ returns c =
     wave_plan (Force c.args.signal c.args.from c.args.to c.args.value) (contents c.args.capture.now) c.args.signal
     (force_value c.args.from c.args.to c.args.value) (pos 0) (signal_contents c.signal_at-old.result.now)
     c.in_ok-piece.piece c.piece_record.result c.requires.sound c.requires.allowed c.signal_at-old.ensures.within
-    c.signal_at-old.ensures.is
+    c.signal_at-old.ensures.signal
     (force_is_wave c.args.signal c.args.from c.args.to c.args.value (contents c.args.capture.now)) refl refl piece
     c.piece_record.ensures

@@ -22,7 +22,7 @@ returns c =
     ∙ inverse_changes c.args.capture.now.end s c.signal_at.ensures.sound.wave c.signal_at.ensures.sound.ticks in
     wave_plan (Invert c.args.signal) (contents c.args.capture.now) c.args.signal inverse_value (pos 0) s
     c.whole_piece.result c.piece_record.result c.requires.sound c.requires.allowed
-    c.signal_at.ensures.within c.signal_at.ensures.is (invert_is_wave c.args.signal (contents c.args.capture.now))
+    c.signal_at.ensures.within c.signal_at.ensures.signal (invert_is_wave c.args.signal (contents c.args.capture.now))
     refl refl
     (whole_gives c.whole_piece.result c.args.signal s c.in_ok-changes.changes.items c.args.capture.now.end
     (inverse_value s) c.whole_piece.ensures told) c.piece_record.ensures

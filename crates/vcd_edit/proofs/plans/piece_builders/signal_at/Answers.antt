@@ -13,7 +13,7 @@ returns c =
     there c.args.capture.now c.args.position c.requires.position_exists in
     let here = rw (c.signals.ensures) at c.index-signals-position.is in
     record {
-      is = contents_at c.args.capture.now.signals c.args.position c.index-signals-position.result within here;
+      signal = contents_at c.args.capture.now.signals c.args.position c.index-signals-position.result within here;
       sound = sound_here c.args.capture.now c.args.position c.index-signals-position.result c.requires.sound within
           here;
       within = omega (arith, within, length-map c.args.capture.now.signals signal_contents);

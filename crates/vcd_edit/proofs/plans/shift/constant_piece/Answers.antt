@@ -10,7 +10,7 @@ pub returns : goal.returns
 returns c = λ end f same.
     record {
       signal = refl;
-      moves = to_z-of_z w64 c.args.by c.ranges.by;
+      offset = to_z-of_z w64 c.args.by c.ranges.by;
       leads = whole_leads _ c.args.signal.now.wave.changes c.args.signal.now.wave.width end f refl
           (ap length c.changes.ensures.changes)
           (c.in_ok-push_if_new.ensures.added

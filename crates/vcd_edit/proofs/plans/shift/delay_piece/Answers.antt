@@ -45,7 +45,7 @@ returns-then-kept-changes c =
     ) in
     record {
       signal = refl;
-      moves = to_z-of_z w64 c.args.by c.ranges.by;
+      offset = to_z-of_z w64 c.args.by c.ranges.by;
       leads = leads_same _ s.changes s.width c.args.end (shift_value c.args.end (pos c.unsigned_abs-ticks.result) s)
           (shift_value c.args.end c.args.by s) (λ t to. ap (λ (by : ℤ). shift_value c.args.end by s t) same)
           (later_all_stay c.unsigned_abs-ticks.result c.args.end s c.requires.sound.wave c.requires.sound.ticks near
@@ -76,7 +76,7 @@ returns c =
     ) in
     record {
       signal = refl;
-      moves = to_z-of_z w64 c.args.by c.ranges.by;
+      offset = to_z-of_z w64 c.args.by c.ranges.by;
       leads = leads_same _ s.changes s.width c.args.end (shift_value c.args.end (pos c.unsigned_abs-ticks.result) s)
           (shift_value c.args.end c.args.by s) (λ t to. ap (λ (by : ℤ). shift_value c.args.end by s t) same)
           (later_some_stay c.unsigned_abs-ticks.result c.args.end s c.requires.sound.wave c.requires.sound.ticks near

@@ -19,5 +19,5 @@ returns c =
     wave_plan (Shift c.args.signal c.args.by) (contents c.args.capture.now) c.args.signal
     (shift_value c.args.capture.now.end c.args.by) c.args.by (signal_contents c.signal_at-old.result.now)
     c.in_ok-piece.piece c.piece_record.result c.requires.sound c.requires.allowed c.signal_at-old.ensures.within
-    c.signal_at-old.ensures.is
+    c.signal_at-old.ensures.signal
     (shift_is_wave c.args.signal c.args.by (contents c.args.capture.now)) refl refl piece c.piece_record.ensures

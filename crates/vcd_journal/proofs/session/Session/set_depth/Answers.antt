@@ -26,7 +26,7 @@ returns-in_err-enlarge-clause-step c =
     let most : length (reached_captures (contents old.capture) old.future.items) ≤ c.args.depth =
     omega (arith, count, c.len-kept.ensures.len) in
     let greater : old.depth < c.args.depth =
-    omega (arith, c.self.invariant.past_room, c.in_err-enlarge.ensures.needs) in
+    omega (arith, c.self.invariant.past_room, c.in_err-enlarge.ensures.lacks_room) in
     rw (refused.1, refused.2, ← c.self.view_is)
     (depth_no_memory c.args.depth _ _ valid most greater
     (same_machine (contents old.capture) _ old.past.items _ old.future.items _ old.depth refl
@@ -42,7 +42,7 @@ returns-in_err-enlarge-2-clause-step c =
     let most : length (reached_captures (contents old.capture) old.future.items) ≤ c.args.depth =
     omega (arith, count, c.len-kept.ensures.len) in
     let greater : old.depth < c.args.depth =
-    omega (arith, c.self.invariant.future_room, c.in_err-enlarge-2.ensures.needs) in
+    omega (arith, c.self.invariant.future_room, c.in_err-enlarge-2.ensures.lacks_room) in
     rw (refused.1, refused.2, ← c.self.view_is)
     (depth_no_memory c.args.depth _ _ valid most greater
     (same_machine (contents old.capture) _ old.past.items _ old.future.items _ old.depth refl

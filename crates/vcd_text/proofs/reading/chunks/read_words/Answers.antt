@@ -55,7 +55,7 @@ loop-first-preserved c =
             (steps (taken ++ came) (c.loop-first.invariant.0.2 taken reads)),
       ),
       c.in_ok-take_from.ensures.lines,
-      c.in_ok-take_from.ensures.feeds ∙ c.in-Some.ensures.feeds ∙ c.loop-first.invariant.2,
+      c.in_ok-take_from.ensures.line_feeds ∙ c.in-Some.ensures.line_feeds ∙ c.loop-first.invariant.2,
     )
 
 pub returns-in_err-take_from-clause-words : goal.returns-in_err-take_from-clause-words

@@ -1,7 +1,7 @@
 use Rattle.std.proofs.Common.{◌≡◌, List, ◌++◌, length}
 use Rattle.vcd_text.specs.Words.{PlacedWord}
 use Rattle.vcd_text.specs.inside.Reading.{Reads}
-use Rattle.vcd_text.specs.inside.WordWalk.{words_left, feeds_at_end, LinesFit}
+use Rattle.vcd_text.specs.inside.WordWalk.{words_left, line_feeds_at_end, LinesFit}
 use Rattle.vcd_text.proofs.reading.chunks.read_words.Given as goal
 
 abbrev pub invariant-loop-first : goal.invariant-loop-first
@@ -9,7 +9,7 @@ invariant-loop-first l =
     ((came : List PlacedWord) × (words_left l.fn.words ≡ came ++ words_left l.left)
     × ((taken : List PlacedWord) → Reads l.fn.reader taken → Reads l.reader (taken ++ came)))
     × LinesFit l.left
-    × (feeds_at_end l.left ≡ feeds_at_end l.fn.words)
+    × (line_feeds_at_end l.left ≡ line_feeds_at_end l.fn.words)
 
 abbrev pub decreases-loop-first : goal.decreases-loop-first
 decreases-loop-first l = length {A = PlacedWord} (words_left l.left)

@@ -1,7 +1,7 @@
 use Rattle.std.proofs.Common.{◌≡◌, ℕ, ◌+◌, ◌<◌, ◌∷◌, ◌∙◌, arith}
 use Rattle.std.proofs.lemmas.Bool.{eqb-true, eqb-false}
 use Rattle.vcd_text.specs.Words.{words_from}
-use Rattle.vcd_text.proofs.WordLaws.{word_split, no_word, feeds_after}
+use Rattle.vcd_text.proofs.WordLaws.{word_split, no_word, line_feeds_after}
 use Rattle.vcd_text.proofs.words.WordWalk.next_word.Goals as goal
 
 pub returns-then-is_empty-clause-words : goal.returns-then-is_empty-clause-words
@@ -17,8 +17,8 @@ returns-then-is_empty-clause-end c = grind (arith, eqb-true, no_word)
 pub returns-clause-words : goal.returns-clause-words
 returns-clause-words c = grind (arith, eqb-false, word_split)
 
-pub returns-then-is_empty-clause-feeds : goal.returns-then-is_empty-clause-feeds
-returns-then-is_empty-clause-feeds c = grind (arith, feeds_after)
+pub returns-then-is_empty-clause-line_feeds : goal.returns-then-is_empty-clause-line_feeds
+returns-then-is_empty-clause-line_feeds c = grind (arith, line_feeds_after)
 
-pub returns-clause-feeds : goal.returns-clause-feeds
-returns-clause-feeds c = grind (arith, feeds_after)
+pub returns-clause-line_feeds : goal.returns-clause-line_feeds
+returns-clause-line_feeds c = grind (arith, line_feeds_after)

@@ -27,16 +27,16 @@ loop-next-preserved c =
     let early : next.tick < c.args.to = omega arith in
     record {
       next = goes_on c.args.from c.args.to cs next c.following_change-next.result c.requires.rise kept.next early
-          c.requires.end more.place more.tick more.following;
+          c.requires.end more.place more.tick more.following_tick;
       all =
           ap (λ k. transitions_of c.args.from new ++ window_of_signal c.args.from c.args.to c.args.position (drop k cs))
           more.place
           ∙ one_key c.args.from next.tick c.args.position c.key_of.result keys new _ _ c.requires.position
-          kept.next.left c.key_of.ensures c.push_in_room.ensures.items
+          kept.next.not_earlier c.key_of.ensures c.push_in_room.ensures.items
           (ap (λ w. transitions_of c.args.from keys ++ w)
           (sym (steps c.args.from c.args.to c.args.position cs next kept.next early c.requires.end)) ∙ kept.all);
       keys = λ count inside all. key_holds c.args.from next.tick c.args.position count c.key_of.result keys new
-          c.requires.position inside kept.next.left (omega (arith, c.requires.end)) c.key_of.ensures
+          c.requires.position inside kept.next.not_earlier (omega (arith, c.requires.end)) c.key_of.ensures
           c.push_in_room.ensures.items (kept.keys count inside all);
       room = omega (arith, kept.room, c.push_in_room.ensures.room);
     }

@@ -18,7 +18,7 @@ pub list_signal-requires-clause-next : goal.list_signal-requires-clause-next
 list_signal-requires-clause-next c =
     let k = c.loop-position.position in
     let s = c.index-signals-position.result in
-    let none : NextChange = record { place = 0; tick = 0; following = 0 } in
+    let none : NextChange = record { place = 0; tick = 0; following_tick = 0 } in
     subst (λ (l : List Change). IsNext c.args.from c.args.from l (get_or c.args.search_hints.now k none))
     (ap (λ (x : Signal). x.wave.changes) (sym c.index-signals-position.is) ∙ sym c.changes-changes.ensures.changes)
     (c.requires.search_hints.each k s none (omega arith))

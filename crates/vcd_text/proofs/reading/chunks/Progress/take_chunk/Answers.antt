@@ -17,7 +17,7 @@ returns-in_default-clause-refused g c = λ coming stands.
     let source = c.read_from.new.source in
     let (bytes, first, taken) = stands in
     broken coming (g.R.Source.coming c.args.source.now) (g.R.Source.coming source) (g.R.Source.has_failed source)
-    p bytes c.at.result c.in_default.ensures.failed first c.in_default.ensures.kept taken c.at.ensures
+    p bytes c.at.result c.in_default.ensures.failed first c.in_default.ensures.coming taken c.at.ensures
 
 pub returns-then-count-self-clause-refused : goal.returns-then-count-self-clause-refused
 returns-then-count-self-clause-refused g c = λ coming stands.

@@ -38,6 +38,7 @@ returns-clause-taken c = λ bytes come.
     (ap (λ l. list_all (λ b. not (is_white_space b)) (drop len l)) (sym value) ∙ c.words_len-len.ensures.no_space)
     (ap (take len) front) c.read_words.new.reader
     (c.in_ok-self.ensures.words (closed_words come.before) come.taken.reads) in
-    subst (λ word. HasTaken c.read_words.new.reader word c.in_ok-self.field-0 p.left bytes) (sym c.drop_front.ensures)
-    (subst (λ n. HasTaken c.read_words.new.reader (drop len p.buffer.bytes) n p.left bytes)
-    (sym c.in_ok-self.ensures.feeds) taken)
+    subst (λ word. HasTaken c.read_words.new.reader word c.in_ok-self.field-0 p.bytes_left bytes)
+    (sym c.drop_front.ensures)
+    (subst (λ n. HasTaken c.read_words.new.reader (drop len p.buffer.bytes) n p.bytes_left bytes)
+    (sym c.in_ok-self.ensures.line_feeds) taken)

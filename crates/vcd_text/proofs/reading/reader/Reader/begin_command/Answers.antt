@@ -5,7 +5,7 @@ use Rattle.vcd_text.proofs.reading.reader.Reader.begin_command.Goals as goal
 
 pub returns-then-is_dump_word : goal.returns-then-is_dump_word
 returns-then-is_dump_word c line =
-    takes_bracket c.args.self.now c.args.text.now line c.requires.between c.requires.changing
+    takes_bracket c.args.self.now c.args.text.now line c.requires.between c.requires.in_body
     (sym c.is_dump_word.ensures ∙ c.if-is_dump_word.true)
 
 pub returns-then-is_declaring : goal.returns-then-is_declaring

@@ -9,7 +9,7 @@ returns-then-is_dropped_prefix c =
 pub returns-else-is_dropped_prefix : goal.returns-else-is_dropped_prefix
 returns-else-is_dropped_prefix c =
     begins_nothing c.args.self.now c.args.self.now c.args.first c.args.rest.now c.args.line c.requires.between
-    c.requires.changing c.requires.value
+    c.requires.in_body c.requires.value
     (sym c.is_binary_digit.ensures ∙ c.if-is_binary_digit.false)
     (sym c.is_vector_prefix.ensures ∙ c.if-is_vector_prefix.false)
     (sym c.is_dropped_prefix.ensures ∙ c.if-is_dropped_prefix.false)

@@ -18,7 +18,7 @@ set-requires c =
     let v = c.index_mut.result.now in
     let wave = (own_wave old state code digits c.args.first k had).3.first.signal.wave.changes in
     record {
-      late = subst (λ (u : Variable). All (λ (e : Change). e.tick ≤ c.args.tick) u.signal.wave.changes)
+      none_later = subst (λ (u : Variable). All (λ (e : Change). e.tick ≤ c.args.tick) u.signal.wave.changes)
           (sym (read_is old state code digits c.args.first k had v c.index_mut.ensures.value))
           (All-weaker (λ (e : Change). e.tick ≤ state.tick) (λ (e : Change). e.tick ≤ c.args.tick)
           (λ e le. omega (arith, le, later)) wave (wave_late old state code digits c.args.first k had));

@@ -4,7 +4,7 @@ use Rattle.std.proofs.lemmas.List.Sorted.{IsPartitionPoint-from_clause, IsPartit
 use Rattle.vcd_core.specs.declared.wave.Change.{Change}
 use Rattle.vcd_core.proofs.Pushes.{no_change}
 use Rattle.vcd_core.proofs.Searches.{part_rises, point_counts}
-use Rattle.vcd_core.proofs.searching.count_near.Goals as goal
+use Rattle.vcd_core.proofs.searching.count_until_near.Goals as goal
 
 pub returns : goal.returns
 returns c =
@@ -18,5 +18,5 @@ returns c =
     (IsPartitionedBy-leb (λ (x : Change). x.tick) (slice_range cs from to) c.args.tick
     (part_rises width cs form c.args.tick from to (omega arith) (omega arith))) (λ a r f h. search rules) in
     point_counts width cs form c.args.tick from to n (omega arith) (omega arith) c.partition_point.ensures.bound
-    c.place_before-from.ensures.early c.place_after-to.ensures.late
+    c.place_before-from.ensures.earlier c.place_after-to.ensures.later
     (λ k early. point.0 k no_change (omega arith) early) (λ k late within. point.1 k no_change late within)
