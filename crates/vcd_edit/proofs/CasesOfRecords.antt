@@ -10,7 +10,7 @@ use Rattle.vcd_core.specs.Splice.{moved_change, spliced_changes}
 use Rattle.vcd_core.specs.Contents.{Contents, SignalContents}
 use Rattle.vcd_edit.specs.RecordView.{PieceView, RecordView}
 use Rattle.vcd_edit.specs.AppliedRecords.{with_pieces, apply_record}
-use Rattle.vcd_edit.specs.Touched.{touched_count, touched_from, touched_by_record, piece_offset, partners, takes_out}
+use Rattle.vcd_edit.specs.Touched.{touched_count, touched_from, touched_by_record, piece_advance, partners, takes_out}
 use Rattle.vcd_edit.specs.Touched.{puts_in, stored_changes}
 
 -- ---- captures and records
@@ -131,7 +131,7 @@ undo_of_remove_touches : touched_from (λ k. pos 0) 0 (wire (codes "a") pulse �
 unfolding touched_from touched_count
 undo_of_remove_touches = refl
 
--- the undo of the cut into the pulse, as a record: its own offset is the opposite of its piece's
+-- the undo of the cut into the pulse, as a record: it advances by the opposite of the offset of its piece
 undo_of_cut_touches : touched_by_record (record {
   pieces = piece 1 2 (from 3 One ∷ []) (pos 3) ∷ [];
   word = None;
@@ -139,7 +139,7 @@ undo_of_cut_touches : touched_by_record (record {
   other_end = Some 10;
 })
     (alone 7 (from 0 Zero ∷ from 2 One ∷ from 4 Zero ∷ [])) ≡ 1
-unfolding apply_record with_pieces spliced_changes moved_change touched_from touched_count piece_offset
+unfolding apply_record with_pieces spliced_changes moved_change touched_from touched_count piece_advance
 undo_of_cut_touches = refl
 
 undo_of_cut_stores : stored_changes (with_one (piece 1 2 (from 3 One ∷ []) (pos 3))) ≡ 1

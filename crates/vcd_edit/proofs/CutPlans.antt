@@ -14,7 +14,7 @@ use Rattle.vcd_edit.specs.declared.record.Piece.{Piece}
 use Rattle.vcd_edit.specs.RecordView.{PieceView}
 use Rattle.vcd_edit.specs.Effect.{cut_value, signal_after_cut, effect}
 use Rattle.vcd_edit.specs.EditFaults.{edit_fault}
-use Rattle.vcd_edit.specs.AppliedRecords.{apply_record, IsOneStep}
+use Rattle.vcd_edit.specs.AppliedRecords.{apply_record, HasOneKindOfPart}
 use Rattle.vcd_edit.specs.Records.{piece_view}
 use Rattle.vcd_edit.specs.inside.Plans.{IsPlan, GivesValues, PiecesForEach}
 use Rattle.vcd_edit.proofs.Faults.{no_fault}
@@ -101,7 +101,7 @@ cut_end c signals are from to n ps all lead =
 -- such pieces are the only part of the record except the end
 pub cut_is_one_step : (c : Contents) (by : ℤ) (g : SignalContents → SignalContents) (n : ℕ) (ps : List PieceView)
     (end : ℕ) → PiecesForEach c by g n ps
-    → IsOneStep (record { pieces = ps; word = None; signal = None; other_end = Some end })
+    → HasOneKindOfPart (record { pieces = ps; word = None; signal = None; other_end = Some end })
 cut_is_one_step c by g n ps end lead =
     record {
       apart = lead.apart;

@@ -22,13 +22,13 @@ use Rattle.vcd_edit.specs.EditFaults.{edit_fault}
 use Rattle.vcd_edit.specs.AppliedRecords.{with_pieces, apply_record, PieceFits}
 use Rattle.vcd_edit.specs.Touched.{puts_in}
 use Rattle.vcd_edit.specs.Records.{piece_view}
-use Rattle.vcd_edit.specs.inside.Derived.{last_operand, operator_bit}
+use Rattle.vcd_edit.specs.inside.Derived.{last_operand, rule_bit_of_values}
 use Rattle.vcd_edit.specs.inside.Plans.{IsPlan}
 use Rattle.vcd_edit.proofs.EditPlans.{is_plan}
 
 -- a rule by the values of its operands
 rule_is : (rule : Rule) (c : Contents) (t : ℕ)
-    → operator_bit rule (signal_value (signal_at c (first_operand rule)) t)
+    → rule_bit_of_values rule (signal_value (signal_at c (first_operand rule)) t)
     (signal_value (signal_at c (last_operand rule)) t) ≡ rule_bit rule c t
 rule_is (Not a) c t = refl
 rule_is (And a b) c t = refl
@@ -41,7 +41,7 @@ pub derived_parts : (c : Contents) (word : List ℕ) (rule : Rule) (scopes : Lis
     → signal_at c (first_operand rule) ≡ first → signal_at c (last_operand rule) ≡ last → scopes ≡ first.scopes
     → kind ≡ codes "wire" → words ≡ word ∷ []
     → (wave.width ≡ 1) × (wave.changes
-    ≡ changes_of 1 c.end (λ t. operator_bit rule (signal_value first t) (signal_value last t) ∷ []))
+    ≡ changes_of 1 c.end (λ t. rule_bit_of_values rule (signal_value first t) (signal_value last t) ∷ []))
     → record { scopes = scopes; kind = kind; words = words; width = wave.width; changes = wave.changes }
     ≡ derived_signal word rule c
 derived_parts c word rule scopes kind words wave first last is_first is_last same_scopes same_kind same_words (
@@ -49,7 +49,7 @@ derived_parts c word rule scopes kind words wave first last is_first is_last sam
   changes,
 ) =
     let all = changes ∙ (λ i. changes_of 1 c.end
-    (λ t. operator_bit rule (signal_value (sym is_first i) t) (signal_value (sym is_last i) t) ∷ []))
+    (λ t. rule_bit_of_values rule (signal_value (sym is_first i) t) (signal_value (sym is_last i) t) ∷ []))
     ∙ changes_same 1 c.end _ (λ t. rule_bit rule c t ∷ []) (λ t to. ap (λ (b : Bit). b ∷ []) (rule_is rule c t)) in
     let scoped = same_scopes ∙ ap (λ (s : SignalContents). s.scopes) (sym is_first) in
     λ i. record { scopes = scoped i; kind = same_kind i; words = same_words i; width = width i; changes = all i }

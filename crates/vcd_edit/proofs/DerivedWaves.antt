@@ -23,8 +23,9 @@ use Rattle.vcd_edit.specs.declared.edit.Rule.{Rule}
 use Rattle.vcd_edit.specs.declared.edit.Rule.TheVariants.{Not, And, Or, Xor, BitOf}
 use Rattle.vcd_edit.specs.inside.RemainingChanges.{TicksRise}
 use Rattle.vcd_edit.specs.inside.Ranges.{value_just_before}
-use Rattle.vcd_edit.specs.inside.Derived.{has_two_operands, operator_bit, bit_of_two, edge_bit, edge_change}
+use Rattle.vcd_edit.specs.inside.Derived.{has_two_operands, rule_bit_of_values, rule_bit_of_bits, edge_bit, edge_change}
 use Rattle.vcd_edit.specs.inside.Derived.{operand_change, DerivedSoFar}
+use Rattle.vcd_edit.proofs.Faults.{first_fails, second_fails}
 use Rattle.vcd_edit.proofs.WithoutRepeats.{rise_lower, early_value, wave_rises, mapped_upto, mapped_value}
 
 -- ---- one change after another
@@ -100,7 +101,7 @@ edge_late rule all left rest e w steps made =
 
 -- the same for a change of the one operand
 pub operand_made : (rule : Rule) (cs : List Change) (i : ℕ) (c : Change) (value : List Bit) (old new : WaveView)
-    → i < length cs → c ≡ get_or cs i c → value ≡ operator_bit rule c.value c.value ∷ []
+    → i < length cs → c ≡ get_or cs i c → value ≡ rule_bit_of_values rule c.value c.value ∷ []
     → DerivedSoFar (map (operand_change rule) cs) (map (operand_change rule) (drop i cs)) old → new.width ≡ old.width
     → ((t : ℕ) → value_at new.width new.changes t
     ≡ (if nat_le c.tick t then value else value_at old.width old.changes t))
@@ -200,14 +201,6 @@ module _ (p : ℕ → Bool) (r : ℕ → List Bit) where
 
 -- ---- the edges of two waves
 
-first_fails : (p q : Bool) → (p || q) ≡ false → p ≡ false
-first_fails true q none = none
-first_fails false q none = refl
-
-second_fails : (p q : Bool) → (p || q) ≡ false → q ≡ false
-second_fails true q none = absurd (cc)
-second_fails false q none = none
-
 same_where : (v w : List Bit) → not (same_letters v w) ≡ false → v ≡ w
 same_where v w none = (same_letters-Decides v w).0 (twice (same_letters v w) none)
   where
@@ -227,17 +220,17 @@ x_letter (suc n) zero = refl
 x_letter (suc n) (suc i) = x_letter n i
 
 -- x gives x
-x_bit : (rule : Rule) (m n : ℕ) → operator_bit rule (all_x m) (all_x n) ≡ X
+x_bit : (rule : Rule) (m n : ℕ) → rule_bit_of_values rule (all_x m) (all_x n) ≡ X
 x_bit rule m n = for_each rule
   where
     letter : (m k : ℕ) → letter_at (all_x m) k ≡ X
     letter m k = x_letter m (length (all_x m) - 1 - k)
 
-    for_each : (rule : Rule) → operator_bit rule (all_x m) (all_x n) ≡ X
-    for_each (Not a) = ap (λ v. operator_bit (Not a) (v ∷ []) (all_x n)) (letter m 0)
-    for_each (And a b) = λ i. operator_bit (And a b) (letter m 0 i ∷ []) (letter n 0 i ∷ [])
-    for_each (Or a b) = λ i. operator_bit (Or a b) (letter m 0 i ∷ []) (letter n 0 i ∷ [])
-    for_each (Xor a b) = λ i. operator_bit (Xor a b) (letter m 0 i ∷ []) (letter n 0 i ∷ [])
+    for_each : (rule : Rule) → rule_bit_of_values rule (all_x m) (all_x n) ≡ X
+    for_each (Not a) = ap (λ v. rule_bit_of_values (Not a) (v ∷ []) (all_x n)) (letter m 0)
+    for_each (And a b) = λ i. rule_bit_of_values (And a b) (letter m 0 i ∷ []) (letter n 0 i ∷ [])
+    for_each (Or a b) = λ i. rule_bit_of_values (Or a b) (letter m 0 i ∷ []) (letter n 0 i ∷ [])
+    for_each (Xor a b) = λ i. rule_bit_of_values (Xor a b) (letter m 0 i ∷ []) (letter n 0 i ∷ [])
     for_each (BitOf a k) = letter m k
 
 map-map : {A B C : Type 0} (f : B → C) (g : A → B) (xs : List A) → map f (map g xs) ≡ map (λ x. f (g x)) xs
@@ -246,7 +239,7 @@ map-map f g (x ∷ xs) = ap (λ ys. f (g x) ∷ ys) (map-map f g xs)
 
 module _ (rule : Rule) (a b : WaveView) where
   abbrev rule_value : ℕ → List Bit
-  rule_value t = operator_bit rule (value_at a.width a.changes t) (value_at b.width b.changes t) ∷ []
+  rule_value t = rule_bit_of_values rule (value_at a.width a.changes t) (value_at b.width b.changes t) ∷ []
 
   abbrev lines : List Trace
   lines = trace_of (Some a) ∷ trace_of (Some b) ∷ trace_of None ∷ trace_of None ∷ []
@@ -267,17 +260,17 @@ module _ (rule : Rule) (a b : WaveView) where
       from_both : (u : ℕ) → value_at a.width a.changes u ≡ value_just_before a.width (value_at a.width a.changes) u
           → value_at b.width b.changes u ≡ value_just_before b.width (value_at b.width b.changes) u
           → rule_value u ≡ value_just_before 1 rule_value u
-      from_both zero one two = (λ i. operator_bit rule (one i) (two i) ∷ [])
+      from_both zero one two = (λ i. rule_bit_of_values rule (one i) (two i) ∷ [])
           ∙ ap (λ (x : Bit). x ∷ []) (x_bit rule a.width b.width)
-      from_both (suc u) one two = λ i. operator_bit rule (one i) (two i) ∷ []
+      from_both (suc u) one two = λ i. rule_bit_of_values rule (one i) (two i) ∷ []
 
   -- one bit of each operand decides
   pair_is : has_two_operands rule ≡ true → (v w : List Bit)
-      → bit_of_two rule (letter_at v 0) (letter_at w 0) ≡ operator_bit rule v w
+      → rule_bit_of_bits rule (letter_at v 0) (letter_at w 0) ≡ rule_bit_of_values rule v w
   pair_is two v w = for_each rule two
     where
       for_each : (rule : Rule) → has_two_operands rule ≡ true
-          → bit_of_two rule (letter_at v 0) (letter_at w 0) ≡ operator_bit rule v w
+          → rule_bit_of_bits rule (letter_at v 0) (letter_at w 0) ≡ rule_bit_of_values rule v w
       for_each (Not a) two = refl
       for_each (And a b) two = refl
       for_each (Or a b) two = refl
@@ -318,10 +311,12 @@ module _ (rule : Rule) (a b : WaveView) where
       (omega arith) (omega arith))
 
   -- one operand decides
-  alone_is : has_two_operands rule ≡ false → (u v w : List Bit) → operator_bit rule u v ≡ operator_bit rule u w
+  alone_is : has_two_operands rule ≡ false → (u v w : List Bit)
+      → rule_bit_of_values rule u v ≡ rule_bit_of_values rule u w
   alone_is one u v w = for_each rule one
     where
-      for_each : (rule : Rule) → has_two_operands rule ≡ false → operator_bit rule u v ≡ operator_bit rule u w
+      for_each : (rule : Rule) → has_two_operands rule ≡ false
+          → rule_bit_of_values rule u v ≡ rule_bit_of_values rule u w
       for_each (Not a) one = refl
       for_each (And a b) one = absurd (cc)
       for_each (Or a b) one = absurd (cc)
@@ -329,7 +324,8 @@ module _ (rule : Rule) (a b : WaveView) where
       for_each (BitOf a k) one = refl
 
   pub alone_changes : has_two_operands rule ≡ false → (end : ℕ)
-      → changes_of 1 end (λ t. operator_bit rule (value_at a.width a.changes t) (value_at a.width a.changes t) ∷ [])
+      → changes_of 1 end (λ t. rule_bit_of_values rule (value_at a.width a.changes t) (value_at a.width a.changes t)
+      ∷ [])
       ≡ changes_of 1 end rule_value
   alone_changes one end =
       λ i. changes_of 1 end
@@ -339,10 +335,11 @@ module _ (rule : Rule) (a b : WaveView) where
 -- the wave from the changes of one operand has the rule's bit at each tick
 pub derived_of_one_is : (rule : Rule) (a : WaveView) (end : ℕ) (w : WaveView) → AllUpTo end a.changes
     → DerivedSoFar (map (operand_change rule) a.changes) [] w → IsWave w.width w.changes
-    → w.changes ≡ changes_of 1 end (λ t. operator_bit rule (value_at a.width a.changes t) (value_at a.width a.changes t)
+    → w.changes ≡ changes_of 1 end (λ t. rule_bit_of_values rule (value_at a.width a.changes t)
+    (value_at a.width a.changes t)
     ∷ [])
 derived_of_one_is rule a end w upto made form =
-    let h : List Bit → List Bit = λ v. operator_bit rule v v ∷ [] in
+    let h : List Bit → List Bit = λ v. rule_bit_of_values rule v v ∷ [] in
     made_is (map (operand_change rule) a.changes) w end (λ t. h (value_at a.width a.changes t)) made form
     (mapped_upto end h a.changes upto)
     (λ t to. ap (λ (x : Bit). value_from (x ∷ []) (map (operand_change rule) a.changes) t)

@@ -22,10 +22,10 @@ use Rattle.vcd_edit.specs.declared.record.Piece.{Piece}
 use Rattle.vcd_edit.specs.RecordView.{PieceView, RecordView}
 use Rattle.vcd_edit.specs.Effect.{with_wave, renamed_signal, force_value, effect}
 use Rattle.vcd_edit.specs.Touched.{stays, record_pairing}
-use Rattle.vcd_edit.specs.TouchedByEdit.{edit_offset, edit_pairing}
+use Rattle.vcd_edit.specs.TouchedByEdit.{edit_advance, edit_pairing}
 use Rattle.vcd_edit.specs.EditFaults.{edit_fault, is_no_signal}
 use Rattle.vcd_edit.specs.AppliedRecords.{changes_with_piece, signal_with_changes, with_pieces, apply_record, PieceFits}
-use Rattle.vcd_edit.specs.AppliedRecords.{WordFits, MovedSignalFits}
+use Rattle.vcd_edit.specs.AppliedRecords.{WordFits, SignalFits}
 use Rattle.vcd_edit.specs.inside.Ranges.{GivesChanges}
 use Rattle.vcd_edit.specs.Records.{piece_view}
 use Rattle.vcd_edit.specs.inside.Plans.{IsPlan, GivesValues}
@@ -35,9 +35,9 @@ use Rattle.vcd_edit.proofs.SoundEffects.{sound_at, effect_is_sound}
 -- a record with that result is a plan if its parts lie within the capture
 pub is_plan : (e : Edit) (c : Contents) (r : RecordView) → IsSound c → edit_fault e c ≡ None
     → apply_record r c ≡ effect e c
-    → All (PieceFits c) r.pieces → WordFits c r.word → MovedSignalFits c r.signal
-    → All (λ p. edit_offset e ≡ neg_ℤ p.by) r.pieces → record_pairing r.signal ≡ edit_pairing e c → IsPlan e c r
-is_plan e c r sound none leads pieces word signal offset pairing = record {
+    → All (PieceFits c) r.pieces → WordFits c r.word → SignalFits c r.signal
+    → All (λ p. edit_advance e ≡ neg_ℤ p.by) r.pieces → record_pairing r.signal ≡ edit_pairing e c → IsPlan e c r
+is_plan e c r sound none leads pieces word signal advance pairing = record {
   fits = record {
     pieces = pieces;
     word = word;
@@ -46,7 +46,7 @@ is_plan e c r sound none leads pieces word signal offset pairing = record {
         subst IsSound (sym leads) (effect_is_sound e c sound none);
   };
   leads = leads;
-  offset = offset;
+  advance = advance;
   pairing = pairing;
 }
 
@@ -96,14 +96,14 @@ module _ (e : Edit) (c : Contents) (k : ℕ) (f : ℕ → List Bit) (p : PieceVi
 
   -- it is a plan if these are the values of the edit
   pub one_piece_plan : IsSound c → edit_fault e c ≡ None → k < length c.signals → effect e c ≡ with_wave c k f
-      → edit_offset e ≡ neg_ℤ p.by → edit_pairing e c ≡ stays → IsPlan e c r
-  one_piece_plan sound none within effect_is offset pairing =
+      → edit_advance e ≡ neg_ℤ p.by → edit_pairing e c ≡ stays → IsPlan e c r
+  one_piece_plan sound none within effect_is advance pairing =
       subst (IsPlan e c) (sym is)
       (is_plan e c alone sound none (sym (ap (λ (q : RecordView). apply_record q c) is) ∙ one_piece_leads
       ∙ sym effect_is)
       (All-cons (PieceFits c) p [] (one_piece_fits within) (All-nil (PieceFits c))) tt tt
-      (All-cons (λ (p : PieceView). edit_offset e ≡ neg_ℤ p.by) p [] offset
-      (All-nil (λ (p : PieceView). edit_offset e ≡ neg_ℤ p.by))) (sym pairing))
+      (All-cons (λ (p : PieceView). edit_advance e ≡ neg_ℤ p.by) p [] advance
+      (All-nil (λ (p : PieceView). edit_advance e ≡ neg_ℤ p.by))) (sym pairing))
 
 -- ---- each edit
 
@@ -155,14 +155,14 @@ remove_plan c k pieces sound none empty =
 pub wave_plan : (e : Edit) (c : Contents) (k : ℕ) (f : SignalContents → ℕ → List Bit) (by : ℤ) (s : SignalContents)
     (p : Piece) (made : Result RecordView NoMemory) → IsSound c → edit_fault e c ≡ None
     → k < length c.signals → signal_at c k ≡ s → effect e c ≡ with_wave c k (f (signal_at c k))
-    → edit_offset e ≡ neg_ℤ by → edit_pairing e c ≡ stays → GivesValues k s c.end by (f s) p
+    → edit_advance e ≡ neg_ℤ by → edit_pairing e c ≡ stays → GivesValues k s c.end by (f s) p
     → IfOk made (λ r. r ≡ record { pieces = piece_view p ∷ []; word = None; signal = None; other_end = None })
     → IfOk made (IsPlan e c)
-wave_plan e c k f by s p made sound none within here is offset pairing gives told =
+wave_plan e c k f by s p made sound none within here is advance pairing gives told =
     at_ok made (λ r. r ≡ record { pieces = piece_view p ∷ []; word = None; signal = None; other_end = None })
     (IsPlan e c)
     (λ r told. one_piece_plan e c k (f s) (piece_view p) r told gives.signal s here gives.leads sound none within
-    (is ∙ ap (λ (s : SignalContents). with_wave c k (f s)) here) (offset ∙ ap neg_ℤ (sym gives.offset)) pairing) told
+    (is ∙ ap (λ (s : SignalContents). with_wave c k (f s)) here) (advance ∙ ap neg_ℤ (sym gives.offset)) pairing) told
 
 -- the signal at a position is sound
 pub sound_here : (c : Capture) (k : ℕ) (s : Signal) → IsSound (contents c) → k < length c.signals
@@ -198,4 +198,4 @@ nothing_plan e c k f s r is sound none here gives pairing same =
     ∙ ap (λ (ss : List SignalContents). record c { signals = ss }) (set-get_or c.signals k no_signal) in
     subst (IsPlan e c) (sym is)
     (is_plan e c (record { pieces = []; word = None; signal = None; other_end = None }) sound none (sym still)
-    (All-nil (PieceFits c)) tt tt (All-nil (λ (p : PieceView). edit_offset e ≡ neg_ℤ p.by)) (sym pairing))
+    (All-nil (PieceFits c)) tt tt (All-nil (λ (p : PieceView). edit_advance e ≡ neg_ℤ p.by)) (sym pairing))

@@ -60,54 +60,49 @@ no_fault e c none =
 pub position_below : (c : Contents) (k : ℕ) → is_no_signal c k ≡ false → k < length c.signals
 position_below c k none = grind (arith, nat_tests)
 
-neither : (p q : Bool) → (p || q) ≡ false → p ≡ false
-neither true q none = none
-neither false q none = refl
+-- two tests of which none holds
+pub first_fails : (p q : Bool) → (p || q) ≡ false → p ≡ false
+first_fails true q none = none
+first_fails false q none = refl
 
--- the first operand exists if none is missing
-pub first_operand_there : (c : Contents) (rule : Rule) → lacks_operand rule c ≡ false
-    → first_operand rule < length c.signals
-first_operand_there c (Not a) none = position_below c a none
-first_operand_there c (And a b) none = position_below c a (neither (is_no_signal c a) (is_no_signal c b) none)
-first_operand_there c (Or a b) none = position_below c a (neither (is_no_signal c a) (is_no_signal c b) none)
-first_operand_there c (Xor a b) none = position_below c a (neither (is_no_signal c a) (is_no_signal c b) none)
-first_operand_there c (BitOf a k) none = position_below c a none
-
-other : (p q : Bool) → (p || q) ≡ false → q ≡ false
-other true q none = absurd (cc)
-other false q none = none
+pub second_fails : (p q : Bool) → (p || q) ≡ false → q ≡ false
+second_fails true q none = absurd (cc)
+second_fails false q none = none
 
 -- each operand exists if none is missing
-pub first_there : (c : Contents) (rule : Rule) → lacks_operand rule c ≡ false
+pub first_operand_there : (c : Contents) (rule : Rule) → lacks_operand rule c ≡ false
     → is_no_signal c (first_operand rule) ≡ false
-first_there c (Not a) none = none
-first_there c (And a b) none = neither (is_no_signal c a) (is_no_signal c b) none
-first_there c (Or a b) none = neither (is_no_signal c a) (is_no_signal c b) none
-first_there c (Xor a b) none = neither (is_no_signal c a) (is_no_signal c b) none
-first_there c (BitOf a k) none = none
+first_operand_there c (Not a) none = none
+first_operand_there c (And a b) none = first_fails (is_no_signal c a) (is_no_signal c b) none
+first_operand_there c (Or a b) none = first_fails (is_no_signal c a) (is_no_signal c b) none
+first_operand_there c (Xor a b) none = first_fails (is_no_signal c a) (is_no_signal c b) none
+first_operand_there c (BitOf a k) none = none
 
-pub last_there : (c : Contents) (rule : Rule) → lacks_operand rule c ≡ false
+pub last_operand_there : (c : Contents) (rule : Rule) → lacks_operand rule c ≡ false
     → is_no_signal c (last_operand rule) ≡ false
-last_there c (Not a) none = none
-last_there c (And a b) none = other (is_no_signal c a) (is_no_signal c b) none
-last_there c (Or a b) none = other (is_no_signal c a) (is_no_signal c b) none
-last_there c (Xor a b) none = other (is_no_signal c a) (is_no_signal c b) none
-last_there c (BitOf a k) none = none
+last_operand_there c (Not a) none = none
+last_operand_there c (And a b) none = second_fails (is_no_signal c a) (is_no_signal c b) none
+last_operand_there c (Or a b) none = second_fails (is_no_signal c a) (is_no_signal c b) none
+last_operand_there c (Xor a b) none = second_fails (is_no_signal c a) (is_no_signal c b) none
+last_operand_there c (BitOf a k) none = none
 
 -- a test whose opposite fails holds
 pub holds_where_not : (b : Bool) → not b ≡ false → IsTrue b
 holds_where_not true none = refl
 holds_where_not false none = absurd (cc)
 
--- both operands of an operator have one bit if neither is wider
+-- a signal that is no vector has one bit
 narrow : (c : Contents) (k : ℕ) → is_vector c k ≡ false → (signal_at c k).width ≡ 1
 narrow c k none = grind (arith, nat_tests)
 
 both_narrow : (c : Contents) (a b : ℕ) → (is_vector c a || is_vector c b) ≡ false → ((signal_at c a).width ≡ 1)
     × ((signal_at c b).width ≡ 1)
-both_narrow c a b none =
-    (narrow c a (neither (is_vector c a) (is_vector c b) none), narrow c b (other (is_vector c a) (is_vector c b) none))
+both_narrow c a b none = (
+  narrow c a (first_fails (is_vector c a) (is_vector c b) none),
+  narrow c b (second_fails (is_vector c a) (is_vector c b) none),
+)
 
+-- both operands of an operator have one bit if neither is wider
 pub operands_narrow : (c : Contents) (rule : Rule) → has_vector_operand rule c ≡ false → has_two_operands rule ≡ true
     → ((signal_at c (first_operand rule)).width ≡ 1) × ((signal_at c (last_operand rule)).width ≡ 1)
 operands_narrow c (Not a) none two = absurd (cc)

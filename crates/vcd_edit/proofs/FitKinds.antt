@@ -12,13 +12,13 @@ use Rattle.vcd_core.specs.Contents.{Contents, SignalContents, signal_contents, n
 use Rattle.vcd_core.specs.Sound.{is_sound_header, is_sound_timescale, IsSoundSignal}
 use Rattle.vcd_edit.specs.RecordView.{PieceView, RecordView}
 use Rattle.vcd_edit.specs.Effect.{renamed_signal}
-use Rattle.vcd_edit.specs.AppliedRecords.{with_piece, with_pieces, with_first_word, with_moved_signal, with_end}
-use Rattle.vcd_edit.specs.AppliedRecords.{apply_record, PieceFits, MayMoveSignal, Fits, IsOneStep}
+use Rattle.vcd_edit.specs.AppliedRecords.{with_piece, with_pieces, with_first_word, with_signal_in_out, with_end}
+use Rattle.vcd_edit.specs.AppliedRecords.{apply_record, PieceFits, MayPutInOrTakeOut, Fits, HasOneKindOfPart}
 use Rattle.vcd_edit.specs.inside.Fitting.{AreSoundSignals, PartsFit, KindFits, HasSoundMetadata}
 use Rattle.vcd_edit.proofs.EditPlans.{contents_at}
 use Rattle.vcd_edit.proofs.Others.{with_other, other_there, with_one_more, one_more_there}
-use Rattle.vcd_edit.proofs.OppositeRecords.{parts, none_put, no_pieces_at_word, no_pieces_at_move, no_word_at_move}
-use Rattle.vcd_edit.proofs.OppositeRecords.{move_of_end, end_kept}
+use Rattle.vcd_edit.proofs.OppositeRecords.{parts, none_put, no_pieces_at_word, no_pieces_at_signal, no_word_at_signal}
+use Rattle.vcd_edit.proofs.OppositeRecords.{signals_of_end, end_kept}
 
 -- ---- a word
 
@@ -109,17 +109,17 @@ module _ (end at : ℕ) (signals : List Signal) where
 
 -- a record fits by its kind
 pub kinds_tell : (end : ℕ) (c : Contents) (ps : List PieceView) (w : Option (ℕ × List ℕ))
-    (m : Option (ℕ × Option SignalContents)) (e : Option ℕ) → IsOneStep (parts ps w m e)
+    (m : Option (ℕ × Option SignalContents)) (e : Option ℕ) → HasOneKindOfPart (parts ps w m e)
     → KindFits end c ps w m ↔ PartsFit end (parts ps w m e) c
 unfolding apply_record
 kinds_tell end c ps None None e one =
-    let same = move_of_end e (with_pieces c ps) in (
+    let same = signals_of_end e (with_pieces c ps) in (
       (λ k. (k.0, tt, tt, subst (AreSoundSignals end) (sym same) k.1)),
       (λ p. (p.0, subst (AreSoundSignals end) same p.3)),
     )
 kinds_tell end c ps (Some w) None e one =
     let none = no_pieces_at_word ps w None e one in
-    let same = move_of_end e (with_first_word (Some w) (with_pieces c ps))
+    let same = signals_of_end e (with_first_word (Some w) (with_pieces c ps))
     ∙ ap (λ (x : Contents). (with_first_word (Some w) x).signals) (none_put c ps none) in (
       (λ k. (
         subst (All (PieceFits c)) (sym none) (All-nil (PieceFits c)),
@@ -130,9 +130,9 @@ kinds_tell end c ps (Some w) None e one =
       (λ p. (p.1, subst (AreSoundSignals end) same p.3)),
     )
 kinds_tell end c ps None (Some m) e one =
-    let none = no_pieces_at_move ps None m e one in
-    let same = move_of_end e (with_moved_signal (Some m) (with_pieces c ps))
-    ∙ ap (λ (x : Contents). (with_moved_signal (Some m) x).signals) (none_put c ps none) in (
+    let none = no_pieces_at_signal ps None m e one in
+    let same = signals_of_end e (with_signal_in_out (Some m) (with_pieces c ps))
+    ∙ ap (λ (x : Contents). (with_signal_in_out (Some m) x).signals) (none_put c ps none) in (
       (λ k. (
         subst (All (PieceFits c)) (sym none) (All-nil (PieceFits c)),
         tt,
@@ -141,14 +141,14 @@ kinds_tell end c ps None (Some m) e one =
       )),
       (λ p. (p.2, subst (AreSoundSignals end) same p.3)),
     )
-kinds_tell end c ps (Some w) (Some m) e one = absurd (no_word_at_move ps w m e one)
+kinds_tell end c ps (Some w) (Some m) e one = absurd (no_word_at_signal ps w m e one)
 
-module _ (end : ℕ) (c : Contents) (r : RecordView) (e : Option ℕ) (one : IsOneStep r) where
+module _ (end : ℕ) (c : Contents) (r : RecordView) (e : Option ℕ) (one : HasOneKindOfPart r) where
   by_kind : (w : Option (ℕ × List ℕ)) (m : Option (ℕ × Option SignalContents)) → r.word ≡ w → r.signal ≡ m
       → (test : Bool) → IsTrue test ↔ KindFits end c r.pieces w m
       → IsTrue test ↔ PartsFit end (record r { other_end = e }) c
   by_kind w m word signal test tells =
-      let one_now : IsOneStep (parts r.pieces r.word r.signal e) =
+      let one_now : HasOneKindOfPart (parts r.pieces r.word r.signal e) =
       record { apart = one.apart; word_alone = one.word_alone; signal_alone = one.signal_alone } in
       let kinds = kinds_tell end c r.pieces r.word r.signal e one_now in
       let same : KindFits end c r.pieces r.word r.signal ≡ KindFits end c r.pieces w m =
@@ -157,10 +157,10 @@ module _ (end : ℕ) (c : Contents) (r : RecordView) (e : Option ℕ) (one : IsO
         (λ fit. tells.1 (subst (λ (t : Type 0). t) same (kinds.1 fit))),
       )
 
-  pub parts_by_move : (m : ℕ × Option SignalContents) → r.signal ≡ Some m → (test : Bool)
-      → IsTrue test ↔ (MayMoveSignal c m.0 m.1 × AreSoundSignals end (with_moved_signal (Some m) c).signals)
+  pub parts_by_signal : (m : ℕ × Option SignalContents) → r.signal ≡ Some m → (test : Bool)
+      → IsTrue test ↔ (MayPutInOrTakeOut c m.0 m.1 × AreSoundSignals end (with_signal_in_out (Some m) c).signals)
       → IsTrue test ↔ PartsFit end (record r { other_end = e }) c
-  parts_by_move m signal test tells = by_kind r.word (Some m) refl signal test tells
+  parts_by_signal m signal test tells = by_kind r.word (Some m) refl signal test tells
 
   pub parts_by_word : (w : ℕ × List ℕ) → r.signal ≡ None → r.word ≡ Some w → (test : Bool)
       → IsTrue test ↔ ((w.0 < length c.signals) × AreSoundSignals end (with_first_word (Some w) c).signals)
@@ -185,7 +185,7 @@ timescale_kept c [] = refl
 timescale_kept c (p ∷ ps) = timescale_kept (with_piece c p) ps
 
 end_of : (c : Contents) (w : Option (ℕ × List ℕ)) (m : Option (ℕ × Option SignalContents)) (e : Option ℕ)
-    → (with_end e (with_moved_signal m (with_first_word w c))).end ≡ unwrap_or e c.end
+    → (with_end e (with_signal_in_out m (with_first_word w c))).end ≡ unwrap_or e c.end
 end_of c None None None = refl
 end_of c (Some w) None None = refl
 end_of c None (Some m) None = refl
@@ -193,7 +193,7 @@ end_of c (Some w) (Some m) None = refl
 end_of c w m (Some end) = refl
 
 header_of : (c : Contents) (w : Option (ℕ × List ℕ)) (m : Option (ℕ × Option SignalContents)) (e : Option ℕ)
-    → (with_end e (with_moved_signal m (with_first_word w c))).header ≡ c.header
+    → (with_end e (with_signal_in_out m (with_first_word w c))).header ≡ c.header
 header_of c None None None = refl
 header_of c (Some w) None None = refl
 header_of c None (Some m) None = refl
@@ -204,7 +204,7 @@ header_of c None (Some m) (Some end) = refl
 header_of c (Some w) (Some m) (Some end) = refl
 
 timescale_of : (c : Contents) (w : Option (ℕ × List ℕ)) (m : Option (ℕ × Option SignalContents)) (e : Option ℕ)
-    → (with_end e (with_moved_signal m (with_first_word w c))).timescale ≡ c.timescale
+    → (with_end e (with_signal_in_out m (with_first_word w c))).timescale ≡ c.timescale
 timescale_of c None None None = refl
 timescale_of c (Some w) None None = refl
 timescale_of c None (Some m) None = refl

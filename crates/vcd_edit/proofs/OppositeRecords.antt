@@ -17,14 +17,14 @@ use Rattle.vcd_core.specs.Sound.{IsSound, IsSoundSignal}
 use Rattle.vcd_edit.specs.RecordView.{PieceView, RecordView}
 use Rattle.vcd_edit.specs.Effect.{renamed_signal}
 use Rattle.vcd_edit.specs.AppliedRecords.{changes_with_piece, signal_with_changes, with_piece, with_pieces}
-use Rattle.vcd_edit.specs.AppliedRecords.{with_first_word, signals_after_move, with_moved_signal, with_end}
-use Rattle.vcd_edit.specs.AppliedRecords.{apply_record, PieceFits, WordFits, MayMoveSignal, MovedSignalFits, Fits}
-use Rattle.vcd_edit.specs.AppliedRecords.{HaveDistinctSignals, IsOneStep}
-use Rattle.vcd_edit.specs.Touched.{touched_in_signal, touched_from, partners, record_pairing, pairing_of_move}
+use Rattle.vcd_edit.specs.AppliedRecords.{with_first_word, signals_with_one_in_out, with_signal_in_out, with_end}
+use Rattle.vcd_edit.specs.AppliedRecords.{apply_record, PieceFits, WordFits, MayPutInOrTakeOut, SignalFits, Fits}
+use Rattle.vcd_edit.specs.AppliedRecords.{HaveDistinctSignals, HasOneKindOfPart}
+use Rattle.vcd_edit.specs.Touched.{touched_in_signal, touched_from, partners, record_pairing, pairing_at}
 use Rattle.vcd_edit.specs.Touched.{stored_changes}
 use Rattle.vcd_edit.specs.Touched.{change_count}
 use Rattle.vcd_edit.specs.inside.Exchanges.{PieceReadyIn, AreOppositePieces}
-use Rattle.vcd_edit.specs.inside.Opposites.{opposite_word, opposite_partner, opposite_move, opposite_end}
+use Rattle.vcd_edit.specs.inside.Opposites.{opposite_word, removed_signal, opposite_signal, opposite_end}
 use Rattle.vcd_edit.specs.inside.Opposites.{opposite_record, AreNamed, IsNamedAt, IsOppositeRecord}
 use Rattle.vcd_edit.proofs.TouchedParts.{All-reverse}
 use Rattle.vcd_edit.proofs.OppositePieces.{all_back, back_apart, back_fits_all, counts_kept, pieces_reach}
@@ -89,19 +89,19 @@ remove-insert ss zero s within = refl
 remove-insert [] (suc k) s within = absurd (omega arith)
 remove-insert (x ∷ ss) (suc k) s within = ap (λ l. x ∷ l) (remove-insert ss k s (omega arith))
 
-move_back : (c : Contents) (k : ℕ) (o : Option SignalContents) → MayMoveSignal c k o
-    → signals_after_move k (opposite_partner k o c) (signals_after_move k o c.signals) ≡ c.signals
-move_back c k (Some s) may = remove-insert c.signals k s may
-move_back c k None may = insert-remove c.signals k may
+signals_back : (c : Contents) (k : ℕ) (o : Option SignalContents) → MayPutInOrTakeOut c k o
+    → signals_with_one_in_out k (removed_signal k o c) (signals_with_one_in_out k o c.signals) ≡ c.signals
+signals_back c k (Some s) may = remove-insert c.signals k s may
+signals_back c k None may = insert-remove c.signals k may
 
-may_move_back : (c d : Contents) (k : ℕ) (o : Option SignalContents) → MayMoveSignal c k o
-    → d.signals ≡ signals_after_move k o c.signals → MayMoveSignal d k (opposite_partner k o c)
-may_move_back c d k (Some s) may is = omega (arith, may, ap length is, length-insert c.signals k s may)
-may_move_back c d k None may is = omega (arith, may, ap length is, length-remove c.signals k may)
+may_be_opposite : (c d : Contents) (k : ℕ) (o : Option SignalContents) → MayPutInOrTakeOut c k o
+    → d.signals ≡ signals_with_one_in_out k o c.signals → MayPutInOrTakeOut d k (removed_signal k o c)
+may_be_opposite c d k (Some s) may is = omega (arith, may, ap length is, length-insert c.signals k s may)
+may_be_opposite c d k None may is = omega (arith, may, ap length is, length-remove c.signals k may)
 
-pub move_of_end : (e : Option ℕ) (c : Contents) → (with_end e c).signals ≡ c.signals
-move_of_end None c = refl
-move_of_end (Some e) c = refl
+pub signals_of_end : (e : Option ℕ) (c : Contents) → (with_end e c).signals ≡ c.signals
+signals_of_end None c = refl
+signals_of_end (Some e) c = refl
 
 -- ---- the three kinds of step
 
@@ -131,13 +131,13 @@ word_back e c k word within named =
     ∙ end_back e c c refl
 
 -- only a signal put in or taken out, and perhaps an end
-pub signal_back : (e : Option ℕ) (c : Contents) (k : ℕ) (o : Option SignalContents) → MayMoveSignal c k o
+pub signal_back : (e : Option ℕ) (c : Contents) (k : ℕ) (o : Option SignalContents) → MayPutInOrTakeOut c k o
     → with_end (opposite_end e c)
-    (with_moved_signal (Some (k, opposite_partner k o c)) (with_end e (with_moved_signal (Some (k, o)) c))) ≡ c
+    (with_signal_in_out (Some (k, removed_signal k o c)) (with_end e (with_signal_in_out (Some (k, o)) c))) ≡ c
 signal_back None c k o may =
-    λ i. record { header = c.header; timescale = c.timescale; end = c.end; signals = move_back c k o may i }
+    λ i. record { header = c.header; timescale = c.timescale; end = c.end; signals = signals_back c k o may i }
 signal_back (Some e) c k o may =
-    λ i. record { header = c.header; timescale = c.timescale; end = c.end; signals = move_back c k o may i }
+    λ i. record { header = c.header; timescale = c.timescale; end = c.end; signals = signals_back c k o may i }
 
 -- ---- any step
 
@@ -162,20 +162,20 @@ abbrev pub parts : List PieceView → Option (ℕ × List ℕ) → Option (ℕ �
 parts ps w m e = record { pieces = ps; word = w; signal = m; other_end = e }
 
 pub no_pieces_at_word : (ps : List PieceView) (w : ℕ × List ℕ) (m : Option (ℕ × Option SignalContents)) (e : Option ℕ)
-    → IsOneStep (parts ps (Some w) m e) → ps ≡ []
+    → HasOneKindOfPart (parts ps (Some w) m e) → ps ≡ []
 no_pieces_at_word ps w m e one = one.word_alone (Some≢None w)
 
-pub no_pieces_at_move : (ps : List PieceView) (w : Option (ℕ × List ℕ)) (m : ℕ × Option SignalContents) (e : Option ℕ)
-    → IsOneStep (parts ps w (Some m) e) → ps ≡ []
-no_pieces_at_move ps w m e one = (one.signal_alone (Some≢None m)).0
+pub no_pieces_at_signal : (ps : List PieceView) (w : Option (ℕ × List ℕ)) (m : ℕ × Option SignalContents) (e : Option ℕ)
+    → HasOneKindOfPart (parts ps w (Some m) e) → ps ≡ []
+no_pieces_at_signal ps w m e one = (one.signal_alone (Some≢None m)).0
 
-pub no_word_at_move : (ps : List PieceView) (w : ℕ × List ℕ) (m : ℕ × Option SignalContents) (e : Option ℕ)
-    → IsOneStep (parts ps (Some w) (Some m) e) → ⊥
-no_word_at_move ps w m e one = Some≢None w (one.signal_alone (Some≢None m)).1
+pub no_word_at_signal : (ps : List PieceView) (w : ℕ × List ℕ) (m : ℕ × Option SignalContents) (e : Option ℕ)
+    → HasOneKindOfPart (parts ps (Some w) (Some m) e) → ⊥
+no_word_at_signal ps w m e one = Some≢None w (one.signal_alone (Some≢None m)).1
 
 leads_back : (c : Contents) (ps qs : List PieceView) (w : Option (ℕ × List ℕ)) (m : Option (ℕ × Option SignalContents))
     (e : Option ℕ)
-    → IsOneStep (parts ps w m e) → WordFits c w → MovedSignalFits c m → AreNamed c → AreOppositePieces c ps qs
+    → HasOneKindOfPart (parts ps w m e) → WordFits c w → SignalFits c m → AreNamed c → AreOppositePieces c ps qs
     → apply_record (opposite_record (parts ps w m e) qs c) (apply_record (parts ps w m e) c) ≡ c
 unfolding apply_record
 leads_back c ps qs None None e one word signal named lead = pieces_back e c ps qs lead
@@ -187,17 +187,17 @@ leads_back c ps qs (Some w) None e one word signal named lead =
     ∙ ap (λ x. with_end e (with_first_word (Some w) x)) (none_put c ps none))
     ∙ word_back e c w.0 w.1 word (named w.0 word)
 leads_back c ps qs None (Some m) e one word signal named lead =
-    let none = no_pieces_at_move ps None m e one in
-    let there = with_end e (with_moved_signal (Some m) (with_pieces c ps)) in
-    ap (λ x. with_end (opposite_end e c) (with_moved_signal (opposite_move (Some m) c) x))
+    let none = no_pieces_at_signal ps None m e one in
+    let there = with_end e (with_signal_in_out (Some m) (with_pieces c ps)) in
+    ap (λ x. with_end (opposite_end e c) (with_signal_in_out (opposite_signal (Some m) c) x))
     (none_put there (reverse qs) (none_reversed qs (no_pieces_back c ps qs lead none))
-    ∙ ap (λ x. with_end e (with_moved_signal (Some m) x)) (none_put c ps none))
+    ∙ ap (λ x. with_end e (with_signal_in_out (Some m) x)) (none_put c ps none))
     ∙ signal_back e c m.0 m.1 signal
-leads_back c ps qs (Some w) (Some m) e one word signal named lead = absurd (no_word_at_move ps w m e one)
+leads_back c ps qs (Some w) (Some m) e one word signal named lead = absurd (no_word_at_signal ps w m e one)
 
 pieces_fit_back : (c : Contents) (ps qs : List PieceView) (w : Option (ℕ × List ℕ))
     (m : Option (ℕ × Option SignalContents)) (e : Option ℕ)
-    → IsOneStep (parts ps w m e) → AreOppositePieces c ps qs
+    → HasOneKindOfPart (parts ps w m e) → AreOppositePieces c ps qs
     → All (PieceFits (apply_record (parts ps w m e) c)) (reverse qs)
 unfolding apply_record
 pieces_fit_back c ps qs None None e one lead = pieces_fit e c ps qs lead one.apart
@@ -207,62 +207,64 @@ pieces_fit_back c ps qs (Some w) m e one lead =
     (All-nil (PieceFits (apply_record (parts ps (Some w) m e) c)))
 pieces_fit_back c ps qs None (Some m) e one lead =
     subst (All (PieceFits (apply_record (parts ps None (Some m) e) c)))
-    (sym (none_reversed qs (no_pieces_back c ps qs lead (no_pieces_at_move ps None m e one))))
+    (sym (none_reversed qs (no_pieces_back c ps qs lead (no_pieces_at_signal ps None m e one))))
     (All-nil (PieceFits (apply_record (parts ps None (Some m) e) c)))
 
 word_fits_back : (c : Contents) (ps : List PieceView) (w : Option (ℕ × List ℕ)) (m : Option (ℕ × Option SignalContents))
     (e : Option ℕ)
-    → IsOneStep (parts ps w m e) → WordFits c w → WordFits (apply_record (parts ps w m e) c) (opposite_word w c)
+    → HasOneKindOfPart (parts ps w m e) → WordFits c w → WordFits (apply_record (parts ps w m e) c) (opposite_word w c)
 unfolding apply_record
 word_fits_back c ps None m e one word = tt
 word_fits_back c ps (Some w) None e one word =
     omega (
       arith,
       word,
-      ap length (move_of_end e (with_first_word (Some w) (with_pieces c ps))),
+      ap length (signals_of_end e (with_first_word (Some w) (with_pieces c ps))),
       length-set (with_pieces c ps).signals w.0 (renamed_signal w.1 (signal_at (with_pieces c ps) w.0)),
       counts_kept c ps,
     )
-word_fits_back c ps (Some w) (Some m) e one word = absurd (no_word_at_move ps w m e one)
+word_fits_back c ps (Some w) (Some m) e one word = absurd (no_word_at_signal ps w m e one)
 
-move_fits_back : (c : Contents) (ps : List PieceView) (w : Option (ℕ × List ℕ)) (m : Option (ℕ × Option SignalContents))
+signal_fits_back : (c : Contents) (ps : List PieceView) (w : Option (ℕ × List ℕ))
+    (m : Option (ℕ × Option SignalContents))
     (e : Option ℕ)
-    → IsOneStep (parts ps w m e) → MovedSignalFits c m
-    → MovedSignalFits (apply_record (parts ps w m e) c) (opposite_move m c)
+    → HasOneKindOfPart (parts ps w m e) → SignalFits c m
+    → SignalFits (apply_record (parts ps w m e) c) (opposite_signal m c)
 unfolding apply_record
-move_fits_back c ps w None e one signal = tt
-move_fits_back c ps None (Some m) e one signal =
-    may_move_back c (with_end e (with_moved_signal (Some m) (with_pieces c ps))) m.0 m.1 signal
-    (move_of_end e (with_moved_signal (Some m) (with_pieces c ps))
-    ∙ ap (λ (x : Contents). signals_after_move m.0 m.1 x.signals)
-    (none_put c ps (no_pieces_at_move ps None m e one)))
-move_fits_back c ps (Some w) (Some m) e one signal = absurd (no_word_at_move ps w m e one)
+signal_fits_back c ps w None e one signal = tt
+signal_fits_back c ps None (Some m) e one signal =
+    may_be_opposite c (with_end e (with_signal_in_out (Some m) (with_pieces c ps))) m.0 m.1 signal
+    (signals_of_end e (with_signal_in_out (Some m) (with_pieces c ps))
+    ∙ ap (λ (x : Contents). signals_with_one_in_out m.0 m.1 x.signals)
+    (none_put c ps (no_pieces_at_signal ps None m e one)))
+signal_fits_back c ps (Some w) (Some m) e one signal = absurd (no_word_at_signal ps w m e one)
 
 -- ---- the opposite is a record, and fits
 
 alone_back : (c : Contents) (ps qs : List PieceView) (w : Option (ℕ × List ℕ)) (m : Option (ℕ × Option SignalContents))
     (e : Option ℕ)
-    → IsOneStep (parts ps w m e) → AreOppositePieces c ps qs → IsOneStep (opposite_record (parts ps w m e) qs c)
+    → HasOneKindOfPart (parts ps w m e) → AreOppositePieces c ps qs
+    → HasOneKindOfPart (opposite_record (parts ps w m e) qs c)
 alone_back c ps qs w m e one lead =
-    record { apart = back_apart c ps qs lead one.apart; word_alone = at_word w one; signal_alone = at_move w m one }
+    record { apart = back_apart c ps qs lead one.apart; word_alone = at_word w one; signal_alone = at_signal w m one }
   where
-    at_word : (w : Option (ℕ × List ℕ)) → IsOneStep (parts ps w m e) → opposite_word w c ≢ None → reverse qs ≡ []
+    at_word : (w : Option (ℕ × List ℕ)) → HasOneKindOfPart (parts ps w m e) → opposite_word w c ≢ None → reverse qs ≡ []
     at_word None one some = absurd (some refl)
     at_word (Some v) one some = none_reversed qs (no_pieces_back c ps qs lead (no_pieces_at_word ps v m e one))
 
-    at_move : (w : Option (ℕ × List ℕ)) (m : Option (ℕ × Option SignalContents)) → IsOneStep (parts ps w m e)
-        → opposite_move m c ≢ None → (reverse qs ≡ []) × (opposite_word w c ≡ None)
-    at_move w None one some = absurd (some refl)
-    at_move None (Some n) one some =
-        (none_reversed qs (no_pieces_back c ps qs lead (no_pieces_at_move ps None n e one)), refl)
-    at_move (Some v) (Some n) one some = absurd (no_word_at_move ps v n e one)
+    at_signal : (w : Option (ℕ × List ℕ)) (m : Option (ℕ × Option SignalContents)) → HasOneKindOfPart (parts ps w m e)
+        → opposite_signal m c ≢ None → (reverse qs ≡ []) × (opposite_word w c ≡ None)
+    at_signal w None one some = absurd (some refl)
+    at_signal None (Some n) one some =
+        (none_reversed qs (no_pieces_back c ps qs lead (no_pieces_at_signal ps None n e one)), refl)
+    at_signal (Some v) (Some n) one some = absurd (no_word_at_signal ps v n e one)
 
 pub are_named : (c : Contents) → IsSound c → AreNamed c
 are_named c sound k within = (All-get_or (IsSoundSignal c.end) c.signals k no_signal within sound.signals).named
 
-module _ (c : Contents) (r : RecordView) (qs : List PieceView) (one : IsOneStep r)
+module _ (c : Contents) (r : RecordView) (qs : List PieceView) (one : HasOneKindOfPart r)
     (lead : AreOppositePieces c r.pieces qs) where
-  pub opposite_is_record : IsOneStep (opposite_record r qs c)
+  pub opposite_is_record : HasOneKindOfPart (opposite_record r qs c)
   opposite_is_record = alone_back c r.pieces qs r.word r.signal r.other_end one lead
 
   pub opposite_back : Fits r c → IsSound c → apply_record (opposite_record r qs c) (apply_record r c) ≡ c
@@ -274,69 +276,70 @@ module _ (c : Contents) (r : RecordView) (qs : List PieceView) (one : IsOneStep 
       record {
         pieces = pieces_fit_back c r.pieces qs r.word r.signal r.other_end one lead;
         word = word_fits_back c r.pieces r.word r.signal r.other_end one fits.word;
-        signal = move_fits_back c r.pieces r.word r.signal r.other_end one fits.signal;
+        signal = signal_fits_back c r.pieces r.word r.signal r.other_end one fits.signal;
         sound = subst IsSound (sym (opposite_back fits sound)) sound;
       }
 
 -- ---- what the opposite stores
 
-move_stores : (offset : ℕ → ℤ) (c : Contents) (k : ℕ) (o : Option SignalContents) (after : List SignalContents)
-    → MayMoveSignal c k o → after ≡ signals_after_move k o c.signals
-    → change_count (opposite_partner k o c) ≤ touched_from offset 0 c.signals (partners (pairing_of_move k o) after)
-move_stores offset c k (Some s) after may is = omega arith
-move_stores offset c k None after may is =
+signal_stores : (advance : ℕ → ℤ) (c : Contents) (k : ℕ) (o : Option SignalContents) (after : List SignalContents)
+    → MayPutInOrTakeOut c k o → after ≡ signals_with_one_in_out k o c.signals
+    → change_count (removed_signal k o c) ≤ touched_from advance 0 c.signals (partners (pairing_at k o) after)
+signal_stores advance c k (Some s) after may is = omega arith
+signal_stores advance c k None after may is =
     let ns = insert (map Some after) k None in
     let count : length (map Some after) + 1 ≡ length c.signals =
     omega (arith, length-map {A = SignalContents} after Some, ap length is, length-remove c.signals k may) in
     let partner : get_or ns k None ≡ None =
     get_or_at (take k (map Some after)) None (drop k (map Some after)) None k
     (length-take-le k (map Some after) (omega (arith, may, count))) in
-    let mine : length (signal_at c k).changes ≡ touched_in_signal (offset (0 + k)) (signal_at c k) (get_or ns k None) =
-    ap (touched_in_signal (offset (0 + k)) (signal_at c k)) (sym partner) in
+    let mine : length (signal_at c k).changes ≡ touched_in_signal (advance (0 + k)) (signal_at c k) (get_or ns k None) =
+    ap (touched_in_signal (advance (0 + k)) (signal_at c k)) (sym partner) in
     omega (
       arith,
       mine,
-      touched_at_least offset 0 c.signals ns k no_signal None may
+      touched_at_least advance 0 c.signals ns k no_signal None may
           (omega (arith, may, count, length-insert (map Some after) k None (omega (arith, may, count)))),
     )
 
 nothing_stored : (qs : List PieceView) → qs ≡ [] → sum_by (λ (p : PieceView). length p.changes) (reverse qs) ≡ 0
 nothing_stored qs none = ap (λ l. sum_by (λ (p : PieceView). length p.changes) (reverse l)) none
 
-stores_back : (offset : ℕ → ℤ) (c : Contents) (ps qs : List PieceView) (w : Option (ℕ × List ℕ))
+stores_back : (advance : ℕ → ℤ) (c : Contents) (ps qs : List PieceView) (w : Option (ℕ × List ℕ))
     (m : Option (ℕ × Option SignalContents)) (e : Option ℕ)
-    → IsOneStep (parts ps w m e) → MovedSignalFits c m → AreOppositePieces c ps qs
-    → All (λ p. offset p.signal ≡ neg_ℤ p.by) ps
-    → stored_changes (opposite_record (parts ps w m e) qs c) ≤ touched_from offset 0 c.signals
+    → HasOneKindOfPart (parts ps w m e) → SignalFits c m → AreOppositePieces c ps qs
+    → All (λ p. advance p.signal ≡ neg_ℤ p.by) ps
+    → stored_changes (opposite_record (parts ps w m e) qs c) ≤ touched_from advance 0 c.signals
     (partners (record_pairing m) (apply_record (parts ps w m e) c).signals)
 unfolding apply_record
-stores_back offset c ps qs None None e one signal lead opposite =
+stores_back advance c ps qs None None e one signal lead opposite =
     omega (
       arith,
       sum_by-reverse (λ (p : PieceView). length p.changes) qs,
-      stored_within offset c ps qs lead one.apart opposite,
-      ap (λ ss. touched_from offset 0 c.signals (map Some ss)) (move_of_end e (with_pieces c ps)),
+      stored_within advance c ps qs lead one.apart opposite,
+      ap (λ ss. touched_from advance 0 c.signals (map Some ss)) (signals_of_end e (with_pieces c ps)),
     )
-stores_back offset c ps qs (Some w) None e one signal lead opposite =
+stores_back advance c ps qs (Some w) None e one signal lead opposite =
     omega (arith, nothing_stored qs (no_pieces_back c ps qs lead (no_pieces_at_word ps w None e one)))
-stores_back offset c ps qs None (Some m) e one signal lead opposite =
+stores_back advance c ps qs None (Some m) e one signal lead opposite =
     omega (
       arith,
-      nothing_stored qs (no_pieces_back c ps qs lead (no_pieces_at_move ps None m e one)),
-      move_stores offset c m.0 m.1 (with_end e (with_moved_signal (Some m) (with_pieces c ps))).signals signal
-          (move_of_end e (with_moved_signal (Some m) (with_pieces c ps))
-          ∙ ap (λ (x : Contents). signals_after_move m.0 m.1 x.signals)
-          (none_put c ps (no_pieces_at_move ps None m e one))),
+      nothing_stored qs (no_pieces_back c ps qs lead (no_pieces_at_signal ps None m e one)),
+      signal_stores advance c m.0 m.1 (with_end e (with_signal_in_out (Some m) (with_pieces c ps))).signals signal
+          (signals_of_end e (with_signal_in_out (Some m) (with_pieces c ps))
+          ∙ ap (λ (x : Contents). signals_with_one_in_out m.0 m.1 x.signals)
+          (none_put c ps (no_pieces_at_signal ps None m e one))),
     )
-stores_back offset c ps qs (Some w) (Some m) e one signal lead opposite = absurd (no_word_at_move ps w m e one)
+stores_back advance c ps qs (Some w) (Some m) e one signal lead opposite = absurd (no_word_at_signal ps w m e one)
 
 -- with the opposite offsets
-pub opposite_stores : (offset : ℕ → ℤ) (c : Contents) (r : RecordView) (qs : List PieceView) → IsOneStep r → Fits r c
-    → AreOppositePieces c r.pieces qs → All (λ p. offset p.signal ≡ neg_ℤ p.by) r.pieces
-    → stored_changes (opposite_record r qs c) ≤ touched_from offset 0 c.signals
+pub opposite_stores : (advance : ℕ → ℤ) (c : Contents) (r : RecordView) (qs : List PieceView) → HasOneKindOfPart r
+    → Fits r c
+    → AreOppositePieces c r.pieces qs → All (λ p. advance p.signal ≡ neg_ℤ p.by) r.pieces
+    → stored_changes (opposite_record r qs c) ≤ touched_from advance 0 c.signals
     (partners (record_pairing r.signal) (apply_record r c).signals)
-opposite_stores offset c r qs one fits lead opposite =
-    stores_back offset c r.pieces qs r.word r.signal r.other_end one fits.signal lead opposite
+opposite_stores advance c r qs one fits lead opposite =
+    stores_back advance c r.pieces qs r.word r.signal r.other_end one fits.signal lead opposite
 
 -- ---- pieces of a record that fits are ready
 
@@ -345,12 +348,13 @@ within_all c ps fits = λ k d less. (fits k d less).signal
 
 pieces_alone : (c : Contents) (ps : List PieceView) (w : Option (ℕ × List ℕ)) (m : Option (ℕ × Option SignalContents))
     (e : Option ℕ)
-    → IsOneStep (parts ps w m e) → 0 < length ps
+    → HasOneKindOfPart (parts ps w m e) → 0 < length ps
     → (apply_record (parts ps w m e) c).signals ≡ (with_pieces c ps).signals
 unfolding apply_record
-pieces_alone c ps None None e one some = move_of_end e (with_pieces c ps)
+pieces_alone c ps None None e one some = signals_of_end e (with_pieces c ps)
 pieces_alone c ps (Some w) m e one some = absurd (omega (arith, some, ap length (no_pieces_at_word ps w m e one)))
-pieces_alone c ps None (Some m) e one some = absurd (omega (arith, some, ap length (no_pieces_at_move ps None m e one)))
+pieces_alone c ps None (Some m) e one some =
+    absurd (omega (arith, some, ap length (no_pieces_at_signal ps None m e one)))
 
 upto_end : (end : ℕ) (cs : List Change) → end ≤ END_LIMIT → AllUpTo end cs → All (λ c. c.tick ≤ END_LIMIT) cs
 upto_end end cs small upto =
@@ -375,7 +379,8 @@ piece_among P p cs all =
       length-append front p.changes,
     )))
 
-pub pieces_ready : (c : Contents) (r : RecordView) → Fits r c → IsOneStep r → IsSound c → All (PieceReadyIn c) r.pieces
+pub pieces_ready : (c : Contents) (r : RecordView) → Fits r c → HasOneKindOfPart r → IsSound c
+    → All (PieceReadyIn c) r.pieces
 pieces_ready c r fits one sound = λ k d less.
     let p = get_or r.pieces k d in
     let fit : PieceFits c p = fits.pieces k d less in
@@ -409,36 +414,36 @@ pieces_ready c r fits one sound = λ k d less.
       };
     }
 
-pub leads_other_way : (c : Contents) (r : RecordView) (qs : List PieceView) → IsOneStep r → Fits r c → IsSound c
+pub leads_other_way : (c : Contents) (r : RecordView) (qs : List PieceView) → HasOneKindOfPart r → Fits r c → IsSound c
     → AreOppositePieces c r.pieces qs → IsOppositeRecord c r (opposite_record r qs c)
 leads_other_way c r qs one fits sound lead =
     record {
       fits = opposite_fits c r qs one lead fits sound;
       leads = opposite_back c r qs one lead fits sound;
-      stored = λ offset opposite. opposite_stores offset c r qs one fits lead opposite;
+      stored = λ advance opposite. opposite_stores advance c r qs one fits lead opposite;
     }
 
 -- ---- the order of the exchange: the signal, the pieces, the word, the end
 
 module _ (c : Contents) (ps qs : List PieceView) where
   in_order_of : (w : Option (ℕ × List ℕ)) (m : Option (ℕ × Option SignalContents)) (e : Option ℕ)
-      → IsOneStep (parts ps w m e)
-      → with_end e (with_first_word w (with_pieces (with_moved_signal m c) ps)) ≡ apply_record (parts ps w m e) c
+      → HasOneKindOfPart (parts ps w m e)
+      → with_end e (with_first_word w (with_pieces (with_signal_in_out m c) ps)) ≡ apply_record (parts ps w m e) c
   unfolding apply_record
   in_order_of w None e one = refl
   in_order_of None (Some m) e one =
-      let none = no_pieces_at_move ps None m e one in
-      ap (with_end e) (none_put (with_moved_signal (Some m) c) ps none
-      ∙ ap (with_moved_signal (Some m)) (sym (none_put c ps none)))
-  in_order_of (Some w) (Some m) e one = absurd (no_word_at_move ps w m e one)
+      let none = no_pieces_at_signal ps None m e one in
+      ap (with_end e) (none_put (with_signal_in_out (Some m) c) ps none
+      ∙ ap (with_signal_in_out (Some m)) (sym (none_put c ps none)))
+  in_order_of (Some w) (Some m) e one = absurd (no_word_at_signal ps w m e one)
 
   ready_moved_of : (w : Option (ℕ × List ℕ)) (m : Option (ℕ × Option SignalContents)) (e : Option ℕ)
-      → IsOneStep (parts ps w m e)
-      → All (PieceReadyIn c) ps → All (PieceReadyIn (with_moved_signal m c)) ps
+      → HasOneKindOfPart (parts ps w m e)
+      → All (PieceReadyIn c) ps → All (PieceReadyIn (with_signal_in_out m c)) ps
   ready_moved_of w None e one ready = ready
   ready_moved_of w (Some m) e one ready =
-      subst (All (PieceReadyIn (with_moved_signal (Some m) c))) (sym (no_pieces_at_move ps w m e one))
-      (All-nil (PieceReadyIn (with_moved_signal (Some m) c)))
+      subst (All (PieceReadyIn (with_signal_in_out (Some m) c))) (sym (no_pieces_at_signal ps w m e one))
+      (All-nil (PieceReadyIn (with_signal_in_out (Some m) c)))
 
   lead_anywhere : (d : Contents) → ps ≡ [] → AreOppositePieces d ps qs → AreOppositePieces c ps qs
   lead_anywhere d none lead =
@@ -449,32 +454,33 @@ module _ (c : Contents) (ps qs : List PieceView) where
       nothing (q ∷ qs) lead = absurd lead
 
   lead_moved_of : (w : Option (ℕ × List ℕ)) (m : Option (ℕ × Option SignalContents)) (e : Option ℕ)
-      → IsOneStep (parts ps w m e) → AreOppositePieces (with_moved_signal m c) ps qs → AreOppositePieces c ps qs
+      → HasOneKindOfPart (parts ps w m e) → AreOppositePieces (with_signal_in_out m c) ps qs → AreOppositePieces c ps qs
   lead_moved_of w None e one lead = lead
   lead_moved_of w (Some m) e one lead =
-      lead_anywhere (with_moved_signal (Some m) c) (no_pieces_at_move ps w m e one) lead
+      lead_anywhere (with_signal_in_out (Some m) c) (no_pieces_at_signal ps w m e one) lead
 
   -- if there is a word, the capture is as before
   before_word_of : (w : ℕ × List ℕ) (m : Option (ℕ × Option SignalContents)) (e : Option ℕ)
-      → IsOneStep (parts ps (Some w) m e) → with_pieces (with_moved_signal m c) ps ≡ c
+      → HasOneKindOfPart (parts ps (Some w) m e) → with_pieces (with_signal_in_out m c) ps ≡ c
   before_word_of w None e one = none_put c ps (no_pieces_at_word ps w None e one)
-  before_word_of w (Some m) e one = absurd (no_word_at_move ps w m e one)
+  before_word_of w (Some m) e one = absurd (no_word_at_signal ps w m e one)
 
   word_fits_of : (w : Option (ℕ × List ℕ)) (m : Option (ℕ × Option SignalContents)) (e : Option ℕ)
-      → IsOneStep (parts ps w m e) → WordFits c w → WordFits (with_pieces (with_moved_signal m c) ps) w
+      → HasOneKindOfPart (parts ps w m e) → WordFits c w → WordFits (with_pieces (with_signal_in_out m c) ps) w
   word_fits_of None m e one word = tt
   word_fits_of (Some w) m e one word =
       subst (λ (x : Contents). w.0 < length x.signals) (sym (before_word_of w m e one)) word
 
   word_named_of : (w : Option (ℕ × List ℕ)) (m : Option (ℕ × Option SignalContents)) (e : Option ℕ)
-      → IsOneStep (parts ps w m e) → WordFits c w → AreNamed c → IsNamedAt (with_pieces (with_moved_signal m c) ps) w
+      → HasOneKindOfPart (parts ps w m e) → WordFits c w → AreNamed c
+      → IsNamedAt (with_pieces (with_signal_in_out m c) ps) w
   word_named_of None m e one word named = tt
   word_named_of (Some w) m e one word named =
       subst (λ (x : Contents). 0 < length (signal_at x w.0).words) (sym (before_word_of w m e one)) (named w.0 word)
 
   word_same_of : (w : Option (ℕ × List ℕ)) (m : Option (ℕ × Option SignalContents)) (e : Option ℕ)
-      → IsOneStep (parts ps w m e)
-      → opposite_word w (with_pieces (with_moved_signal m c) ps) ≡ opposite_word w c
+      → HasOneKindOfPart (parts ps w m e)
+      → opposite_word w (with_pieces (with_signal_in_out m c) ps) ≡ opposite_word w c
   word_same_of None m e one = refl
   word_same_of (Some w) m e one = ap (opposite_word (Some w)) (before_word_of w m e one)
 
@@ -482,39 +488,40 @@ module _ (c : Contents) (ps qs : List PieceView) where
   end_of_word None x = refl
   end_of_word (Some w) x = refl
 
-  end_of_move : (m : Option (ℕ × Option SignalContents)) (x : Contents) → (with_moved_signal m x).end ≡ x.end
-  end_of_move None x = refl
-  end_of_move (Some m) x = refl
+  end_of_signal : (m : Option (ℕ × Option SignalContents)) (x : Contents) → (with_signal_in_out m x).end ≡ x.end
+  end_of_signal None x = refl
+  end_of_signal (Some m) x = refl
 
   end_same_of : (w : Option (ℕ × List ℕ)) (m : Option (ℕ × Option SignalContents)) (e : Option ℕ)
-      → opposite_end e (with_first_word w (with_pieces (with_moved_signal m c) ps)) ≡ opposite_end e c
+      → opposite_end e (with_first_word w (with_pieces (with_signal_in_out m c) ps)) ≡ opposite_end e c
   end_same_of w m None = refl
   end_same_of w m (Some e) =
-      ap Some (end_of_word w (with_pieces (with_moved_signal m c) ps) ∙ end_kept (with_moved_signal m c) ps
-      ∙ end_of_move m c)
+      ap Some (end_of_word w (with_pieces (with_signal_in_out m c) ps) ∙ end_kept (with_signal_in_out m c) ps
+      ∙ end_of_signal m c)
 
-module _ (c : Contents) (r : RecordView) (one : IsOneStep r) where
-  pub in_order : with_end r.other_end (with_first_word r.word (with_pieces (with_moved_signal r.signal c) r.pieces))
+module _ (c : Contents) (r : RecordView) (one : HasOneKindOfPart r) where
+  pub in_order : with_end r.other_end (with_first_word r.word (with_pieces (with_signal_in_out r.signal c) r.pieces))
       ≡ apply_record r c
   in_order = in_order_of c r.pieces [] r.word r.signal r.other_end one
 
-  pub ready_moved : All (PieceReadyIn c) r.pieces → All (PieceReadyIn (with_moved_signal r.signal c)) r.pieces
+  pub ready_moved : All (PieceReadyIn c) r.pieces → All (PieceReadyIn (with_signal_in_out r.signal c)) r.pieces
   ready_moved ready = ready_moved_of c r.pieces [] r.word r.signal r.other_end one ready
 
-  pub lead_moved : (qs : List PieceView) → AreOppositePieces (with_moved_signal r.signal c) r.pieces qs
+  pub lead_moved : (qs : List PieceView) → AreOppositePieces (with_signal_in_out r.signal c) r.pieces qs
       → AreOppositePieces c r.pieces qs
   lead_moved qs lead = lead_moved_of c r.pieces qs r.word r.signal r.other_end one lead
 
-  pub word_fits : WordFits c r.word → WordFits (with_pieces (with_moved_signal r.signal c) r.pieces) r.word
+  pub word_fits : WordFits c r.word → WordFits (with_pieces (with_signal_in_out r.signal c) r.pieces) r.word
   word_fits word = word_fits_of c r.pieces [] r.word r.signal r.other_end one word
 
   pub word_named : WordFits c r.word → IsSound c
-      → IsNamedAt (with_pieces (with_moved_signal r.signal c) r.pieces) r.word
+      → IsNamedAt (with_pieces (with_signal_in_out r.signal c) r.pieces) r.word
   word_named word sound = word_named_of c r.pieces [] r.word r.signal r.other_end one word (are_named c sound)
 
-  pub word_same : opposite_word r.word (with_pieces (with_moved_signal r.signal c) r.pieces) ≡ opposite_word r.word c
+  pub word_same : opposite_word r.word (with_pieces (with_signal_in_out r.signal c) r.pieces) ≡ opposite_word r.word c
   word_same = word_same_of c r.pieces [] r.word r.signal r.other_end one
 
-  pub end_same : opposite_end r.other_end (with_first_word r.word (with_pieces (with_moved_signal r.signal c) r.pieces))
+  pub end_same : opposite_end r.other_end
+      (with_first_word r.word (with_pieces (with_signal_in_out r.signal c) r.pieces))
       ≡ opposite_end r.other_end c
   end_same = end_same_of c r.pieces [] r.word r.signal r.other_end

@@ -78,5 +78,5 @@ led_back cs p trimmed q is upto opposite signal from to changes =
       ticks = subst (λ l. AllTicksFit q.by (drop q.to l)) is.same
           (subst (λ n. AllTicksFit q.by (drop n (changes_with_piece trimmed cs))) (sym to) both.1);
       back = (λ i. spliced_changes (sym is.same i) (from i) (to i) (changes i) q.by) ∙ both.0;
-      stored = omega (arith, ap length changes, length-between cs trimmed.from trimmed.to is.within, is.part);
+      stored = omega (arith, ap length changes, length-between cs trimmed.from trimmed.to is.within, is.touched_only);
     }

@@ -4,12 +4,12 @@ use Rattle.std.proofs.lemmas.List.{get_or-map, length-map}
 use Rattle.vcd_core.specs.Contents.{Contents}
 use Rattle.vcd_core.specs.Sound.{IsSound}
 use Rattle.vcd_edit.specs.RecordView.{PieceView, RecordView}
-use Rattle.vcd_edit.specs.AppliedRecords.{with_pieces, with_first_word, with_moved_signal, with_end, apply_record}
-use Rattle.vcd_edit.specs.AppliedRecords.{PieceFits, WordFits, Fits, HaveDistinctSignals, IsOneStep}
+use Rattle.vcd_edit.specs.AppliedRecords.{with_pieces, with_first_word, with_signal_in_out, with_end, apply_record}
+use Rattle.vcd_edit.specs.AppliedRecords.{PieceFits, WordFits, Fits, HaveDistinctSignals, HasOneKindOfPart}
 use Rattle.vcd_edit.specs.declared.record.Piece.{Piece}
 use Rattle.vcd_edit.specs.Records.{piece_view}
 use Rattle.vcd_edit.specs.inside.Exchanges.{PieceReadyIn, AreOppositePieces}
-use Rattle.vcd_edit.specs.inside.Opposites.{opposite_word, opposite_move, opposite_end, opposite_record, IsNamedAt}
+use Rattle.vcd_edit.specs.inside.Opposites.{opposite_word, opposite_signal, opposite_end, opposite_record, IsNamedAt}
 use Rattle.vcd_edit.specs.inside.Opposites.{IsOppositeRecord}
 use Rattle.vcd_edit.proofs.OppositeRecords.{pieces_ready, opposite_is_record, leads_other_way, in_order, ready_moved}
 use Rattle.vcd_edit.proofs.OppositeRecords.{lead_moved, word_fits, word_named, word_same, end_same}
@@ -20,9 +20,10 @@ pub fits_each : (c : Contents) (l : List Piece) → All (PieceFits c) (map piece
 fits_each c l all = λ k d less. subst (PieceFits c) (get_or-map piece_view l k d (piece_view d) less)
     (all k (piece_view d) (omega (arith, less, length-map l piece_view)))
 
-module _ (c : Contents) (r : RecordView) (fits : Fits r c) (one : IsOneStep r) (sound : IsSound c) (l : List PieceView)
+module _ (c : Contents) (r : RecordView) (fits : Fits r c) (one : HasOneKindOfPart r) (sound : IsSound c)
+    (l : List PieceView)
     (whole : l ≡ r.pieces)
-    (moved : Contents) (to_moved : moved ≡ with_moved_signal r.signal c) where
+    (moved : Contents) (to_moved : moved ≡ with_signal_in_out r.signal c) where
   -- after the signal, before the pieces
   pub ready_then : All (PieceReadyIn moved) l
   ready_then = subst (All (PieceReadyIn moved)) (sym whole)
@@ -34,7 +35,7 @@ module _ (c : Contents) (r : RecordView) (fits : Fits r c) (one : IsOneStep r) (
 
   -- after the pieces, before the word
   module _ (spliced : Contents) (to_spliced : spliced ≡ with_pieces moved l) where
-    spliced_is : spliced ≡ with_pieces (with_moved_signal r.signal c) r.pieces
+    spliced_is : spliced ≡ with_pieces (with_signal_in_out r.signal c) r.pieces
     spliced_is = to_spliced ∙ (λ i. with_pieces (to_moved i) (whole i))
 
     pub word_fits_then : WordFits spliced r.word
@@ -52,7 +53,7 @@ module _ (c : Contents) (r : RecordView) (fits : Fits r c) (one : IsOneStep r) (
 
       module _ (qs : List PieceView) (lead : AreOppositePieces moved l qs) (q : RecordView)
           (pieces : q.pieces ≡ reverse qs) (word : q.word ≡ opposite_word r.word spliced)
-          (signal : q.signal ≡ opposite_move r.signal c) (other_end : q.other_end ≡ opposite_end r.other_end named)
+          (signal : q.signal ≡ opposite_signal r.signal c) (other_end : q.other_end ≡ opposite_end r.other_end named)
         where
           lead_is : AreOppositePieces c r.pieces qs
           lead_is = lead_moved c r one qs
@@ -66,8 +67,8 @@ module _ (c : Contents) (r : RecordView) (fits : Fits r c) (one : IsOneStep r) (
               ∙ end_same c r one in
               λ i. record { pieces = pieces i; word = word_is i; signal = signal i; other_end = end_is i }
 
-          pub is_record_then : IsOneStep q
-          is_record_then = subst IsOneStep (sym other_way) (opposite_is_record c r qs one lead_is)
+          pub is_record_then : HasOneKindOfPart q
+          is_record_then = subst HasOneKindOfPart (sym other_way) (opposite_is_record c r qs one lead_is)
 
           pub leads_then : IsOppositeRecord c r q
           leads_then = subst (IsOppositeRecord c r) (sym other_way) (leads_other_way c r qs one fits sound lead_is)

@@ -11,10 +11,10 @@ use Rattle.vcd_edit.specs.declared.edit.Edit.TheVariants.{Rename, Remove, Invert
 use Rattle.vcd_edit.specs.Effect.{effect, with_values, with_wave, renamed_signal, derived_signal, signal_after_cut}
 use Rattle.vcd_edit.specs.Effect.{inverse_value, shift_value, steady_value, force_value}
 use Rattle.vcd_edit.specs.TouchedByEdit.{IsRemove}
-use Rattle.vcd_edit.specs.AppliedRecords.{apply_record, with_pieces, with_first_word, with_moved_signal}
-use Rattle.vcd_edit.specs.AppliedRecords.{PutsNoSignalIn, MovedSignalFits, Fits, IsOneStep}
+use Rattle.vcd_edit.specs.AppliedRecords.{apply_record, with_pieces, with_first_word, with_signal_in_out}
+use Rattle.vcd_edit.specs.AppliedRecords.{PutsNoSignalIn, SignalFits, Fits, HasOneKindOfPart}
 use Rattle.vcd_edit.proofs.OppositePieces.{counts_kept}
-use Rattle.vcd_edit.proofs.OppositeRecords.{parts, move_of_end, no_pieces_at_move}
+use Rattle.vcd_edit.proofs.OppositeRecords.{parts, signals_of_end, no_pieces_at_signal}
 
 -- pieces and a word leave as many signals
 word_count : (c : Contents) (ps : List PieceView) (w : Option (ℕ × List ℕ))
@@ -27,17 +27,17 @@ word_count c ps (Some w) =
 -- a record that leaves fewer has no pieces and puts none in
 fewer_parts : (c : Contents) (ps : List PieceView) (w : Option (ℕ × List ℕ)) (m : Option (ℕ × Option SignalContents))
     (e : Option ℕ)
-    → IsOneStep (parts ps w m e) → MovedSignalFits c m
+    → HasOneKindOfPart (parts ps w m e) → SignalFits c m
     → length (apply_record (parts ps w m e) c).signals < length c.signals → (ps ≡ []) × PutsNoSignalIn m
 unfolding apply_record
 fewer_parts c ps w None e one fits less =
     absurd (omega (
       arith,
       less,
-      ap length (move_of_end e (with_first_word w (with_pieces c ps))),
+      ap length (signals_of_end e (with_first_word w (with_pieces c ps))),
       word_count c ps w,
     ))
-fewer_parts c ps w (Some (k, None)) e one fits less = (no_pieces_at_move ps w (k, None) e one, refl)
+fewer_parts c ps w (Some (k, None)) e one fits less = (no_pieces_at_signal ps w (k, None) e one, refl)
 fewer_parts c ps w (Some (k, Some s)) e one fits less =
     let d = with_first_word w (with_pieces c ps) in
     let count = word_count c ps w in
@@ -45,12 +45,12 @@ fewer_parts c ps w (Some (k, Some s)) e one fits less =
     absurd (omega (
       arith,
       less,
-      ap length (move_of_end e (with_moved_signal (Some (k, Some s)) d)),
+      ap length (signals_of_end e (with_signal_in_out (Some (k, Some s)) d)),
       length-insert d.signals k s within,
       count,
     ))
 
-pub fewer_is_taken_out : (r : RecordView) (c : Contents) → IsOneStep r → Fits r c
+pub fewer_is_taken_out : (r : RecordView) (c : Contents) → HasOneKindOfPart r → Fits r c
     → length (apply_record r c).signals < length c.signals → (r.pieces ≡ []) × PutsNoSignalIn r.signal
 fewer_is_taken_out r c one fits less = fewer_parts c r.pieces r.word r.signal r.other_end one fits.signal less
 

@@ -236,4 +236,5 @@ effect_is_sound (Derive word rule) c sound none =
     let free = no_fault (Derive word rule) c none in
     sound_pushed c (derived_signal word.now rule c) (room_for c free.room) sound
     (sound_derived c word.now rule (holds_where_not (is_word word.now) free.word)
-    (sound_at c (first_operand rule) (first_operand_there c rule free.signals) sound))
+    (sound_at c (first_operand rule)
+    (position_below c (first_operand rule) (first_operand_there c rule free.signals)) sound))

@@ -11,7 +11,7 @@ use Rattle.vcd_core.specs.Contents.{Contents, SignalContents, no_signal, signal_
 use Rattle.vcd_edit.specs.RecordView.{PieceView}
 use Rattle.vcd_edit.specs.AppliedRecords.{changes_with_piece, signal_with_changes, with_piece, with_pieces}
 use Rattle.vcd_edit.specs.AppliedRecords.{HaveDistinctSignals}
-use Rattle.vcd_edit.specs.Touched.{same_change, touched_count, touched_in_signal, touched_from, piece_offset}
+use Rattle.vcd_edit.specs.Touched.{same_change, touched_count, touched_in_signal, touched_from, piece_advance}
 use Rattle.vcd_edit.specs.inside.Exchanges.{AreOppositePieces}
 use Rattle.vcd_edit.proofs.TouchedParts.{same_change_self}
 use Rattle.vcd_edit.proofs.OppositePieces.{signal_here, signal_kept, counts_kept, count_kept, none_all}
@@ -19,47 +19,47 @@ use Rattle.vcd_edit.proofs.OppositePieces.{signal_here, signal_kept, counts_kept
 -- ---- the sum over the signals
 
 -- one signal touches no more than all
-pub touched_at_least : (offset : ℕ → ℤ) (j : ℕ) (ss : List SignalContents) (ns : List (Option SignalContents)) (k : ℕ)
+pub touched_at_least : (advance : ℕ → ℤ) (j : ℕ) (ss : List SignalContents) (ns : List (Option SignalContents)) (k : ℕ)
     (s : SignalContents) (n : Option SignalContents)
     → k < length ss → k < length ns
-    → touched_in_signal (offset (j + k)) (get_or ss k s) (get_or ns k n) ≤ touched_from offset j ss ns
+    → touched_in_signal (advance (j + k)) (get_or ss k s) (get_or ns k n) ≤ touched_from advance j ss ns
 unfolding touched_from
-touched_at_least offset j [] ns k s n in_ss in_ns = absurd (omega arith)
-touched_at_least offset j (x ∷ ss) [] k s n in_ss in_ns = absurd (omega arith)
-touched_at_least offset j (x ∷ ss) (y ∷ ns) zero s n in_ss in_ns =
-    omega (arith, ap (λ i. touched_in_signal (offset i) x y) {x = j + 0} {y = j} (omega arith))
-touched_at_least offset j (x ∷ ss) (y ∷ ns) (suc k) s n in_ss in_ns =
-    let rest = touched_at_least offset (suc j) ss ns k s n (omega arith) (omega arith) in
+touched_at_least advance j [] ns k s n in_ss in_ns = absurd (omega arith)
+touched_at_least advance j (x ∷ ss) [] k s n in_ss in_ns = absurd (omega arith)
+touched_at_least advance j (x ∷ ss) (y ∷ ns) zero s n in_ss in_ns =
+    omega (arith, ap (λ i. touched_in_signal (advance i) x y) {x = j + 0} {y = j} (omega arith))
+touched_at_least advance j (x ∷ ss) (y ∷ ns) (suc k) s n in_ss in_ns =
+    let rest = touched_at_least advance (suc j) ss ns k s n (omega arith) (omega arith) in
     omega (
       arith,
       rest,
-      ap (λ i. touched_in_signal (offset i) (get_or ss k s) (get_or ns k n)) {x = j + suc k} {y =
+      ap (λ i. touched_in_signal (advance i) (get_or ss k s) (get_or ns k n)) {x = j + suc k} {y =
           suc j + k} (omega arith),
     )
 
 -- another signal in its place changes only its own part
-touched-set : (offset : ℕ → ℤ) (j : ℕ) (ss : List SignalContents) (ns : List (Option SignalContents)) (k : ℕ)
+touched-set : (advance : ℕ → ℤ) (j : ℕ) (ss : List SignalContents) (ns : List (Option SignalContents)) (k : ℕ)
     (s new : SignalContents) (n : Option SignalContents)
     → k < length ss → k < length ns
-    → touched_from offset j (set ss k new) ns + touched_in_signal (offset (j + k)) (get_or ss k s) (get_or ns k n)
-    ≡ touched_from offset j ss ns + touched_in_signal (offset (j + k)) new (get_or ns k n)
+    → touched_from advance j (set ss k new) ns + touched_in_signal (advance (j + k)) (get_or ss k s) (get_or ns k n)
+    ≡ touched_from advance j ss ns + touched_in_signal (advance (j + k)) new (get_or ns k n)
 unfolding touched_from
-touched-set offset j [] ns k s new n in_ss in_ns = absurd (omega arith)
-touched-set offset j (x ∷ ss) [] k s new n in_ss in_ns = absurd (omega arith)
-touched-set offset j (x ∷ ss) (y ∷ ns) zero s new n in_ss in_ns =
+touched-set advance j [] ns k s new n in_ss in_ns = absurd (omega arith)
+touched-set advance j (x ∷ ss) [] k s new n in_ss in_ns = absurd (omega arith)
+touched-set advance j (x ∷ ss) (y ∷ ns) zero s new n in_ss in_ns =
     omega (
       arith,
-      ap (λ i. touched_in_signal (offset i) x y) {x = j + 0} {y = j} (omega arith),
-      ap (λ i. touched_in_signal (offset i) new y) {x = j + 0} {y = j} (omega arith),
+      ap (λ i. touched_in_signal (advance i) x y) {x = j + 0} {y = j} (omega arith),
+      ap (λ i. touched_in_signal (advance i) new y) {x = j + 0} {y = j} (omega arith),
     )
-touched-set offset j (x ∷ ss) (y ∷ ns) (suc k) s new n in_ss in_ns =
-    let rest = touched-set offset (suc j) ss ns k s new n (omega arith) (omega arith) in
+touched-set advance j (x ∷ ss) (y ∷ ns) (suc k) s new n in_ss in_ns =
+    let rest = touched-set advance (suc j) ss ns k s new n (omega arith) (omega arith) in
     omega (
       arith,
       rest,
-      ap (λ i. touched_in_signal (offset i) (get_or ss k s) (get_or ns k n)) {x = j + suc k} {y = suc j + k}
+      ap (λ i. touched_in_signal (advance i) (get_or ss k s) (get_or ns k n)) {x = j + suc k} {y = suc j + k}
           (omega arith),
-      ap (λ i. touched_in_signal (offset i) new (get_or ns k n)) {x = j + suc k} {y = suc j + k} (omega arith),
+      ap (λ i. touched_in_signal (advance i) new (get_or ns k n)) {x = j + suc k} {y = suc j + k} (omega arith),
     )
 
 -- ---- pieces
@@ -76,35 +76,36 @@ touched_self o cs =
     prefix_self (x ∷ xs) = cond-true (same_change x x) _ _ (same_change_self x) ∙ omega (arith, prefix_self xs)
 
 -- what opposite pieces store, with the opposite offsets
-pub stored_within : (offset : ℕ → ℤ) (c : Contents) (ps qs : List PieceView) → AreOppositePieces c ps qs
+pub stored_within : (advance : ℕ → ℤ) (c : Contents) (ps qs : List PieceView) → AreOppositePieces c ps qs
     → HaveDistinctSignals ps
-    → All (λ p. offset p.signal ≡ neg_ℤ p.by) ps
-    → sum_by (λ q. length q.changes) qs ≤ touched_from offset 0 c.signals (map Some (with_pieces c ps).signals)
+    → All (λ p. advance p.signal ≡ neg_ℤ p.by) ps
+    → sum_by (λ q. length q.changes) qs ≤ touched_from advance 0 c.signals (map Some (with_pieces c ps).signals)
 unfolding with_pieces
-stored_within offset c [] [] lead apart opposite = omega arith
-stored_within offset c [] (q ∷ qs) lead apart opposite = absurd lead
-stored_within offset c (p ∷ ps) [] lead apart opposite = absurd lead
-stored_within offset c (p ∷ ps) (q ∷ qs) (within, leads, lead) (none, apart) opposite =
+stored_within advance c [] [] lead apart opposite = omega arith
+stored_within advance c [] (q ∷ qs) lead apart opposite = absurd lead
+stored_within advance c (p ∷ ps) [] lead apart opposite = absurd lead
+stored_within advance c (p ∷ ps) (q ∷ qs) (within, leads, lead) (none, apart) opposite =
     let next = with_piece c p in
     let end = with_pieces next ps in
     let after = map Some end.signals in
     let old = signal_at c p.signal in
     let new = signal_with_changes old (changes_with_piece p old.changes) in
-    let rest = stored_within offset next ps qs lead apart
-    (All-tail (λ p. offset p.signal ≡ neg_ℤ p.by) p ps opposite) in
+    let rest = stored_within advance next ps qs lead apart
+    (All-tail (λ p. advance p.signal ≡ neg_ℤ p.by) p ps opposite) in
     let in_after : p.signal < length after =
     omega (arith, within, length-map {A = SignalContents} end.signals Some, counts_kept next ps, count_kept c p) in
     let partner : get_or after p.signal None ≡ Some new =
     get_or-map Some end.signals p.signal no_signal None (omega (arith, within, counts_kept next ps, count_kept c p))
     ∙ ap Some (signal_kept next ps p.signal none ∙ signal_here c p within) in
-    let moved = touched-set offset 0 c.signals after p.signal no_signal new None within in_after in
+    let moved = touched-set advance 0 c.signals after p.signal no_signal new None within in_after in
     let mine : touched_count (neg_ℤ p.by) old.changes new.changes
-    ≡ touched_in_signal (offset (0 + p.signal)) old (get_or after p.signal None) =
-    ap (λ o. touched_count o old.changes new.changes) (sym (All-head (λ p. offset p.signal ≡ neg_ℤ p.by) p ps opposite))
-    ∙ ap (λ i. touched_count (offset i) old.changes new.changes) {x = p.signal} {y = 0 + p.signal} (omega arith)
-    ∙ ap (touched_in_signal (offset (0 + p.signal)) old) (sym partner) in
-    let nothing : touched_in_signal (offset (0 + p.signal)) new (get_or after p.signal None) ≡ 0 =
-    ap (touched_in_signal (offset (0 + p.signal)) new) partner ∙ touched_self (offset (0 + p.signal)) new.changes in
+    ≡ touched_in_signal (advance (0 + p.signal)) old (get_or after p.signal None) =
+    ap (λ o. touched_count o old.changes new.changes)
+    (sym (All-head (λ p. advance p.signal ≡ neg_ℤ p.by) p ps opposite))
+    ∙ ap (λ i. touched_count (advance i) old.changes new.changes) {x = p.signal} {y = 0 + p.signal} (omega arith)
+    ∙ ap (touched_in_signal (advance (0 + p.signal)) old) (sym partner) in
+    let nothing : touched_in_signal (advance (0 + p.signal)) new (get_or after p.signal None) ≡ 0 =
+    ap (touched_in_signal (advance (0 + p.signal)) new) partner ∙ touched_self (advance (0 + p.signal)) new.changes in
     omega (arith, sum_by-cons (λ (q : PieceView). length q.changes) q qs, rest, leads.stored, moved, mine, nothing)
 
 pub sum_by-reverse : (f : PieceView → ℕ) (ps : List PieceView) → sum_by f (reverse ps) ≡ sum_by f ps
@@ -121,12 +122,12 @@ sum_by-map f g (x ∷ xs) = sum_by-cons f (g x) (map g xs) ∙ ap (λ n. f (g x)
 
 -- ---- the offsets of a record's own pieces
 
-pub own_offsets : (ps : List PieceView) → HaveDistinctSignals ps → All (λ p. piece_offset ps p.signal ≡ neg_ℤ p.by) ps
-unfolding piece_offset
-own_offsets [] apart = λ k d less. absurd (omega arith)
-own_offsets (p ∷ ps) (none, apart) =
-    let rest = own_offsets ps apart in
-    All-cons (λ q. piece_offset (p ∷ ps) q.signal ≡ neg_ℤ q.by) p ps
+pub own_advances : (ps : List PieceView) → HaveDistinctSignals ps → All (λ p. piece_advance ps p.signal ≡ neg_ℤ p.by) ps
+unfolding piece_advance
+own_advances [] apart = λ k d less. absurd (omega arith)
+own_advances (p ∷ ps) (none, apart) =
+    let rest = own_advances ps apart in
+    All-cons (λ q. piece_advance (p ∷ ps) q.signal ≡ neg_ℤ q.by) p ps
     (cond-true (p.signal == p.signal) _ _ (eq-eqb p.signal p.signal refl))
     (λ k d less. cond-false (p.signal == (get_or ps k d).signal) _ _
     (ne_eqb p.signal (get_or ps k d).signal (λ same. none_all p.signal ps none k d less (sym same)))

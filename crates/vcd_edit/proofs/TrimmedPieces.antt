@@ -156,11 +156,11 @@ module _ (cs ns : List Change) (a z : ℕ) (by o : ℤ) (opposite : o ≡ neg_�
             (subst (λ k. AllTicksFit by (drop k cs)) (sym new_to) trimmed_ticks);
         same = (λ i. spliced_changes cs (new_from i) (new_to i) (new_piece i) (by_new i)) ∙ trimmed_same
             ∙ sym (λ i. spliced_changes cs (from i) (to i) (piece i) (by_is i));
-        part = subst (λ l. new.to - new.from ≤ touched_count (neg_ℤ old.by) cs l)
+        touched_only = subst (λ l. new.to - new.from ≤ touched_count (neg_ℤ old.by) cs l)
             (sym (λ i. spliced_changes cs (from i) (to i) (piece i) (by_is i)))
             (subst (λ p. new.to - new.from ≤ touched_count p cs (spliced_changes cs a z ns by)) (opposite
             ∙ ap neg_ℤ (sym by_is)) (omega (arith, new_from, new_to, trimmed_part)));
-        less = omega (arith, new_from, new_to, from, to, end_in_part);
+        no_longer = omega (arith, new_from, new_to, from, to, end_in_part);
         balance = omega (
           arith,
           new_from,

@@ -36,14 +36,14 @@ with_first_word None c = c
 with_first_word (Some w) c = with_signal c w.0 (renamed_signal w.1 (signal_at c w.0))
 
 -- the signals after one is put in at a position, or the one there is taken out
-abbrev pub signals_after_move : ℕ → Option SignalContents → List SignalContents → List SignalContents
-signals_after_move k (Some s) ss = insert ss k s
-signals_after_move k None ss = remove ss k
+abbrev pub signals_with_one_in_out : ℕ → Option SignalContents → List SignalContents → List SignalContents
+signals_with_one_in_out k (Some s) ss = insert ss k s
+signals_with_one_in_out k None ss = remove ss k
 
 -- the capture after a signal is put in or taken out
-abbrev pub with_moved_signal : Option (ℕ × Option SignalContents) → Contents → Contents
-with_moved_signal None c = c
-with_moved_signal (Some m) c = record c { signals = signals_after_move m.0 m.1 c.signals }
+abbrev pub with_signal_in_out : Option (ℕ × Option SignalContents) → Contents → Contents
+with_signal_in_out None c = c
+with_signal_in_out (Some m) c = record c { signals = signals_with_one_in_out m.0 m.1 c.signals }
 
 -- no signal is put in
 abbrev pub PutsNoSignalIn : Option (ℕ × Option SignalContents) → Type 0
@@ -59,7 +59,7 @@ with_end (Some end) c = record c { end = end }
 
 -- the pieces in order, then the word, the signal and the end
 unfoldable pub apply_record : RecordView → Contents → Contents
-apply_record r c = with_end r.other_end (with_moved_signal r.signal (with_first_word r.word (with_pieces c r.pieces)))
+apply_record r c = with_end r.other_end (with_signal_in_out r.signal (with_first_word r.word (with_pieces c r.pieces)))
 
 -- ---- which records fit a capture
 
@@ -76,20 +76,20 @@ WordFits c None = Unit {0}
 WordFits c (Some w) = w.0 < length c.signals
 
 -- a signal is put in at most after the last one, and the signal to take out exists
-abbrev pub MayMoveSignal : Contents → ℕ → Option SignalContents → Type 0
-MayMoveSignal c k (Some s) = k ≤ length c.signals
-MayMoveSignal c k None = k < length c.signals
+abbrev pub MayPutInOrTakeOut : Contents → ℕ → Option SignalContents → Type 0
+MayPutInOrTakeOut c k (Some s) = k ≤ length c.signals
+MayPutInOrTakeOut c k None = k < length c.signals
 
--- the same for a record that may move a signal
-abbrev pub MovedSignalFits : Contents → Option (ℕ × Option SignalContents) → Type 0
-MovedSignalFits c None = Unit {0}
-MovedSignalFits c (Some m) = MayMoveSignal c m.0 m.1
+-- the same for the signal of a record, if it has one
+abbrev pub SignalFits : Contents → Option (ℕ × Option SignalContents) → Type 0
+SignalFits c None = Unit {0}
+SignalFits c (Some m) = MayPutInOrTakeOut c m.0 m.1
 
 -- each part of the record lies within the capture, and the result is sound
 pub record Fits (r : RecordView) (c : Contents) : Type 0 where
   pub pieces : All (PieceFits c) r.pieces
   pub word : WordFits c r.word
-  pub signal : MovedSignalFits c r.signal
+  pub signal : SignalFits c r.signal
   pub sound : IsSound (apply_record r c)
 
 -- ---- which records there are
@@ -105,7 +105,7 @@ HaveDistinctSignals [] = Unit {0}
 HaveDistinctSignals (p ∷ ps) = NoPieceFor p.signal ps × HaveDistinctSignals ps
 
 -- a record has pieces, or a word, or a signal to put in or take out: at most one of the three
-pub record IsOneStep (r : RecordView) : Type 0 where
+pub record HasOneKindOfPart (r : RecordView) : Type 0 where
   pub apart : HaveDistinctSignals r.pieces
   pub word_alone : r.word ≢ None → r.pieces ≡ []
   pub signal_alone : r.signal ≢ None → (r.pieces ≡ []) × (r.word ≡ None)

@@ -51,7 +51,7 @@ has_vector_operand (Or a b) c = is_vector c a || is_vector c b
 has_vector_operand (Xor a b) c = is_vector c a || is_vector c b
 has_vector_operand (BitOf a k) c = false
 
--- the same for an edit
+-- whether an edit derives from a vector
 abbrev pub edit_has_vector_operand : Edit → Contents → Bool
 edit_has_vector_operand (Derive word rule) c = has_vector_operand rule c
 edit_has_vector_operand e c = false
@@ -63,7 +63,7 @@ abbrev pub is_bit_outside : Rule → Contents → Bool
 is_bit_outside (BitOf a k) c = nat_le (signal_at c a).width k
 is_bit_outside rule c = false
 
--- the same for an edit
+-- whether an edit asks for a bit that its operand lacks
 abbrev pub lacks_bit : Edit → Contents → Bool
 lacks_bit (Derive word rule) c = is_bit_outside rule c
 lacks_bit e c = false

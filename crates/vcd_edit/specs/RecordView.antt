@@ -1,9 +1,9 @@
--- A record as plain data, as contracts see it: its pieces, and what else a step needs.
+-- A record as plain data: its pieces, word, signal and end.
 use Rattle.std.specs.Prelude.{ℕ, ℤ, List, Option}
 use Rattle.vcd_core.specs.declared.wave.Change.{Change}
 use Rattle.vcd_core.specs.Contents.{SignalContents}
 
--- the changes at positions `from` up to before `to` become `changes`, and the later ones move by `by` ticks
+-- the changes at places `from` up to before `to` become `changes`, and the later ones move by `by` ticks
 pub record PieceView : Type 0 where
   pub signal : ℕ
   pub from : ℕ

@@ -1,4 +1,4 @@
--- A record as contracts see it: the parts of the type as plain data, nothing left out but room.
+-- The plain data of a record: what each part of the type becomes. Nothing is left out but room.
 use Rattle.std.specs.Prelude.{ℕ, List, Option, Some, None, map}
 use Rattle.std.specs.Global.{Vec}
 use Rattle.vcd_core.specs.declared.capture.Signal.{Signal}
@@ -21,11 +21,11 @@ contents_of_signal None = None
 contents_of_signal (Some s) = Some (signal_contents s)
 
 -- the same with its position
-abbrev pub moved_signal_view : Option (ℕ × Option Signal) → Option (ℕ × Option SignalContents)
-moved_signal_view None = None
-moved_signal_view (Some m) = Some (m.0, contents_of_signal m.1)
+abbrev pub signal_view : Option (ℕ × Option Signal) → Option (ℕ × Option SignalContents)
+signal_view None = None
+signal_view (Some m) = Some (m.0, contents_of_signal m.1)
 
 -- a record of these parts
 abbrev pub record_view : List Piece → Option (ℕ × Vec ℕ) → Option (ℕ × Option Signal) → Option ℕ → RecordView
 record_view pieces word signal end =
-    record { pieces = map piece_view pieces; word = word_view word; signal = moved_signal_view signal; other_end = end }
+    record { pieces = map piece_view pieces; word = word_view word; signal = signal_view signal; other_end = end }

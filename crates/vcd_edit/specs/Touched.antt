@@ -15,19 +15,19 @@ use Rattle.vcd_edit.specs.AppliedRecords.{apply_record}
 abbrev pub same_change : Change → Change → Bool
 same_change a b = (a.tick == b.tick) && same_letters a.value b.value
 
--- whether the first change, `offset` ticks earlier, is the second
+-- whether the first change, `advance` ticks earlier, is the second
 abbrev pub same_moved_change : ℤ → Change → Change → Bool
-same_moved_change offset a b = int_eq (pos a.tick -ℤ offset) (pos b.tick) && same_letters a.value b.value
+same_moved_change advance a b = int_eq (pos a.tick -ℤ advance) (pos b.tick) && same_letters a.value b.value
 
--- how many last changes two lists have in common, the old ones `offset` ticks earlier
+-- how many last changes two lists have in common, the old ones `advance` ticks earlier
 abbrev pub common_moved_suffix : ℤ → List Change → List Change → ℕ
-common_moved_suffix offset old new = common_prefix_len (same_moved_change offset) (reverse old) (reverse new)
+common_moved_suffix advance old new = common_prefix_len (same_moved_change advance) (reverse old) (reverse new)
 
--- how many old changes remain without the longest common prefix, and then without the longest common suffix
+-- how many old changes are in neither the common prefix nor the common suffix
 unfoldable pub touched_count : ℤ → List Change → List Change → ℕ
-touched_count offset old new =
+touched_count advance old new =
     let front = common_prefix_len same_change old new in
-    length old - front - common_moved_suffix offset (drop front old) (drop front new)
+    length old - front - common_moved_suffix advance (drop front old) (drop front new)
 
 -- ---- each signal of a capture compared with what it is after a step
 
@@ -45,35 +45,35 @@ partners (puts_in k) after = map Some (remove after k)
 
 -- how many changes of a signal are touched: all of them if it is taken out
 abbrev pub touched_in_signal : ℤ → SignalContents → Option SignalContents → ℕ
-touched_in_signal offset s None = length s.changes
-touched_in_signal offset s (Some n) = touched_count offset s.changes n.changes
+touched_in_signal advance s None = length s.changes
+touched_in_signal advance s (Some n) = touched_count advance s.changes n.changes
 
--- the sum over the signals from position k on, each with its own offset
+-- the sum over the signals from position k on, each with its own advance
 unfoldable pub touched_from : (ℕ → ℤ) → ℕ → List SignalContents → List (Option SignalContents) → ℕ
-touched_from offset k [] ns = 0
-touched_from offset k (s ∷ ss) [] = 0
-touched_from offset k (s ∷ ss) (n ∷ ns) = touched_in_signal (offset k) s n + touched_from offset (suc k) ss ns
+touched_from advance k [] ns = 0
+touched_from advance k (s ∷ ss) [] = 0
+touched_from advance k (s ∷ ss) (n ∷ ns) = touched_in_signal (advance k) s n + touched_from advance (suc k) ss ns
 
 -- ---- what reverting a record touches
 
 -- the opposite of the offset of the piece for a signal, and 0 without a piece
-unfoldable pub piece_offset : List PieceView → ℕ → ℤ
-piece_offset [] k = pos 0
-piece_offset (p ∷ ps) k = if p.signal == k then neg_ℤ p.by else piece_offset ps k
+unfoldable pub piece_advance : List PieceView → ℕ → ℤ
+piece_advance [] k = pos 0
+piece_advance (p ∷ ps) k = if p.signal == k then neg_ℤ p.by else piece_advance ps k
 
 -- the step that puts a signal in at a position, or takes out the one there
-abbrev pub pairing_of_move : ℕ → Option SignalContents → Pairing
-pairing_of_move k (Some s) = puts_in k
-pairing_of_move k None = takes_out k
+abbrev pub pairing_at : ℕ → Option SignalContents → Pairing
+pairing_at k (Some s) = puts_in k
+pairing_at k None = takes_out k
 
--- the same for a record that may move a signal
+-- the same for the signal of a record, if it has one
 abbrev pub record_pairing : Option (ℕ × Option SignalContents) → Pairing
 record_pairing None = stays
-record_pairing (Some m) = pairing_of_move m.0 m.1
+record_pairing (Some m) = pairing_at m.0 m.1
 
 -- the sum over all signals
 abbrev pub touched_by_record : RecordView → Contents → ℕ
-touched_by_record r c = touched_from (piece_offset r.pieces) 0 c.signals
+touched_by_record r c = touched_from (piece_advance r.pieces) 0 c.signals
     (partners (record_pairing r.signal) (apply_record r c).signals)
 
 -- ---- what a record stores

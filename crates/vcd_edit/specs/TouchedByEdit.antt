@@ -7,10 +7,10 @@ use Rattle.vcd_edit.specs.Effect.{effect}
 use Rattle.vcd_edit.specs.Touched.{Pairing, stays, takes_out, puts_in, partners, touched_from}
 
 -- by how many ticks the edit moves the later changes to an earlier tick
-abbrev pub edit_offset : Edit → ℤ
-edit_offset (Cut from to) = pos to -ℤ pos from
-edit_offset (Shift k by) = neg_ℤ by
-edit_offset e = pos 0
+abbrev pub edit_advance : Edit → ℤ
+edit_advance (Cut from to) = pos to -ℤ pos from
+edit_advance (Shift k by) = neg_ℤ by
+edit_advance e = pos 0
 
 -- whether the edit takes a signal out or puts one in
 abbrev pub edit_pairing : Edit → Contents → Pairing
@@ -20,7 +20,7 @@ edit_pairing e c = stays
 
 -- the sum over all signals
 abbrev pub touched_by_edit : Edit → Contents → ℕ
-touched_by_edit e c = touched_from (λ k. edit_offset e) 0 c.signals (partners (edit_pairing e c) (effect e c).signals)
+touched_by_edit e c = touched_from (λ k. edit_advance e) 0 c.signals (partners (edit_pairing e c) (effect e c).signals)
 
 -- an edit that takes a signal out
 abbrev pub IsRemove : Edit → Type 0

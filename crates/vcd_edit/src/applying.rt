@@ -25,7 +25,7 @@ use vcd_core::Capture;
 /// record stores touched changes only.
 ///
 /// A force and a shift cost a binary search, the changes that they put in and take out, and one move of the later ones.
-/// A cut costs that for every signal with changes from its first tick on. An invert, a deglitch, and a shift that
+/// A cut costs as much for each signal that changes at or after `from`. An invert, a deglitch, and a shift that
 /// pushes changes past the end cost one pass over the wave and a new list of its changes. A derive costs one merged
 /// pass over its operands. Variables of one code share their list of changes. A signal that shares its list gets one of
 /// its own: a copy of each change that it keeps.
@@ -35,7 +35,7 @@ pub fn apply(alloc: Global, capture: &mut Capture, edit: &Edit) -> Result<Record
     ensures effect { OnOk result
         (contents capture.new ≡ edit_effect edit.now (contents capture.old)) }
     ensures fits { IfOk result (λ r. Fits r (contents capture.new)) }
-    ensures undo { IfOk result (λ r. apply_record r (contents capture.new) ≡ contents capture.old) }
+    ensures restores { IfOk result (λ r. apply_record r (contents capture.new) ≡ contents capture.old) }
     ensures stored { IfOk result
         (λ r. stored_changes r ≤ touched_by_edit edit.now (contents capture.old)) }
     ensures sound { OnOk result (IsSound (contents capture.new)) }

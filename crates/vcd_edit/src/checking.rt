@@ -15,11 +15,11 @@ pub(crate) use new_names::after_first;
 use new_names::{check_derive, check_rename};
 use vcd_core::{Capture, Value};
 
-#[tactic(auto, unfolding(crate::specs::EditFaults::edit_fault))]
 /// The fault of an edit on a capture: the first that holds, in the order of [`EditError`].
 ///
 /// It takes no memory. Its time grows with the signals and their names if the edit gives a name; otherwise it is
 /// bounded.
+#[tactic(auto, unfolding(crate::specs::EditFaults::edit_fault))]
 pub fn check(capture: &Capture, edit: &Edit) -> Result<(), EditError>
     ensures { FaultIs result (edit_fault edit.now (contents capture.now)) }
 {
@@ -51,6 +51,7 @@ fn check_signal(capture: &Capture, signal: usize) -> Result<(), EditError>
     Ok(())
 }
 
+/// The fault of a cut.
 #[tactic(auto, unfolding(crate::specs::EditFaults::edit_fault))]
 fn check_cut(capture: &Capture, from: u64, to: u64) -> Result<(), EditError>
     ensures { FaultIs result (edit_fault (edits.Cut from to) (contents capture.now)) }
@@ -61,6 +62,7 @@ fn check_cut(capture: &Capture, from: u64, to: u64) -> Result<(), EditError>
     Ok(())
 }
 
+/// The fault of a deglitch.
 #[tactic(auto, unfolding(crate::specs::EditFaults::edit_fault))]
 fn check_deglitch(capture: &Capture, signal: usize, ticks: u64) -> Result<(), EditError>
     ensures { FaultIs result (edit_fault (edits.Deglitch signal ticks) (contents capture.now)) }
@@ -74,6 +76,7 @@ fn check_deglitch(capture: &Capture, signal: usize, ticks: u64) -> Result<(), Ed
     Ok(())
 }
 
+/// The fault of a force.
 #[tactic(auto, unfolding(crate::specs::EditFaults::edit_fault))]
 fn check_force(
     capture: &Capture,

@@ -6,7 +6,7 @@ ghost use Rattle.vcd_edit.specs.inside.Derived.{last_operand, has_two_operands};
 
 use vcd_core::Value;
 
-/// A change to a capture.
+/// An edit of a capture.
 ///
 /// A signal is named by its position in the capture, counted from 0. The other numbers of these variants are ticks. A
 /// range of ticks contains `from` and not `to`.
@@ -17,7 +17,7 @@ pub enum Edit<'a> {
         signal: usize,
         word: &'a [u8],
     },
-    /// The signal is taken out; later signals move up.
+    /// The signal is taken out. Each later signal gets the position before its own.
     Remove {
         signal: usize,
     },

@@ -4,10 +4,11 @@ ghost use Rattle.std.specs.Prelude.{◌≡◌, ◌↔◌, ℕ, ◌<◌, ◌≤�
 ghost use Rattle.vcd_core.specs.Contents.{Contents, contents, signal_contents};
 ghost use Rattle.vcd_core.specs.Sound.{IsSoundSignal};
 ghost use Rattle.std.specs.List.{insert, remove};
-ghost use Rattle.vcd_edit.specs.AppliedRecords.{with_first_word, with_moved_signal, MayMoveSignal, Fits, IsOneStep};
-ghost use Rattle.vcd_edit.specs.Records.{piece_view, word_view, contents_of_signal, moved_signal_view, record_view};
+ghost use Rattle.vcd_edit.specs.AppliedRecords.{with_first_word, with_signal_in_out, MayPutInOrTakeOut, Fits, HasOneKindOfPart};
+ghost use Rattle.vcd_edit.specs.Records.{piece_view, word_view, contents_of_signal, signal_view, record_view};
 ghost use Rattle.vcd_edit.specs.inside.Fitting.{AreSoundSignals, PartsFit, HasSoundMetadata};
 
+mod adjacency;
 mod pieces;
 mod sound_names;
 
@@ -51,11 +52,16 @@ fn may_be_taken_out(at: usize, signals: &[Signal], end: u64) -> bool
 }
 
 /// Whether a signal may be put in at a position, or, without one, the signal there may be taken out.
-fn move_fits(at: usize, signal: &Option<Signal>, signals: &[Signal], end: u64) -> bool
+fn may_be_put_in_or_taken_out(
+    at: usize,
+    signal: &Option<Signal>,
+    signals: &[Signal],
+    end: u64,
+) -> bool
     ensures { (c : Contents) → c.signals ≡ map signal_contents signals.now
-        → IsTrue result ↔ (MayMoveSignal c at (contents_of_signal signal.now)
+        → IsTrue result ↔ (MayPutInOrTakeOut c at (contents_of_signal signal.now)
         × AreSoundSignals end
-        (with_moved_signal (Some (at, contents_of_signal signal.now)) c).signals) }
+        (with_signal_in_out (Some (at, contents_of_signal signal.now)) c).signals) }
 {
     match signal {
         Some(signal) => may_be_put_in(at, signal, signals, end),
@@ -73,12 +79,12 @@ fn parts_fit(
     end: u64,
 ) -> bool
     requires { (other_end : Option ℕ)
-        × IsOneStep (record_view pieces.now word.now signal.now other_end) }
+        × HasOneKindOfPart (record_view pieces.now word.now signal.now other_end) }
     ensures { (c : Contents) (other_end : Option ℕ) → c.signals ≡ map signal_contents signals.now
         → IsTrue result ↔ PartsFit end (record_view pieces.now word.now signal.now other_end) c }
 {
     match signal {
-        Some((at, signal)) => move_fits(*at, signal, signals, end),
+        Some((at, signal)) => may_be_put_in_or_taken_out(*at, signal, signals, end),
         None => match word {
             Some((signal, word)) => may_be_renamed(*signal, word.as_slice(), signals, end),
             None => pieces_fit(pieces, signals, end),

@@ -3,7 +3,7 @@
 ghost use Rattle.std.specs.Prelude.{◌≡◌, ℕ, ◌^◌, ◌<◌, length};
 ghost use Rattle.std.specs.List.{sum_by};
 ghost use Rattle.vcd_edit.specs.Touched.{inserted_change_count};
-ghost use Rattle.vcd_edit.specs.Records.{moved_signal_view};
+ghost use Rattle.vcd_edit.specs.Records.{signal_view};
 
 use std::marker::Model;
 use vcd_core::{Change, Signal};
@@ -34,14 +34,14 @@ pub struct Record {
 
 impl Model for Record {
     ghost use Rattle.vcd_edit.specs.RecordView.{RecordView};
-    ghost use Rattle.vcd_edit.specs.AppliedRecords.{IsOneStep};
+    ghost use Rattle.vcd_edit.specs.AppliedRecords.{HasOneKindOfPart};
     ghost use Rattle.vcd_edit.specs.Records.{record_view};
 
     ghost Value = { RecordView };
 
     ghost view = { λ r. record_view r.pieces.items r.word r.signal r.other_end };
 
-    ghost invariant = { λ r. IsOneStep (record_view r.pieces.items r.word r.signal r.other_end) };
+    ghost invariant = { λ r. HasOneKindOfPart (record_view r.pieces.items r.word r.signal r.other_end) };
 }
 
 impl Record {
@@ -76,7 +76,7 @@ fn count_in_pieces(pieces: &[Piece]) -> u128
 }
 
 fn count_in_signal(signal: &Option<(usize, Option<Signal>)>) -> u128
-    ensures count { result ≡ inserted_change_count (moved_signal_view signal.now) }
+    ensures count { result ≡ inserted_change_count (signal_view signal.now) }
     ensures most { result < 2 ^ 64 }
 {
     match signal {

@@ -1,9 +1,9 @@
-//! Exchanges a record with a capture: an edit and its undo are both that.
+//! Applies a record, and gives the record that undoes it. Edits and undos both do this.
 
 ghost use Rattle.std.specs.Prelude.{◌≡◌, ℕ, ◌<◌, ◌≤◌, [], None, neg_ℤ, length, All, IsOk, IfOk, OnOk, OnErr, IfErr};
 ghost use Rattle.vcd_core.specs.Contents.{contents};
 ghost use Rattle.vcd_core.specs.Sound.{IsSound};
-ghost use Rattle.vcd_edit.specs.AppliedRecords.{apply_record, Fits, IsOneStep, PutsNoSignalIn};
+ghost use Rattle.vcd_edit.specs.AppliedRecords.{apply_record, Fits, HasOneKindOfPart, PutsNoSignalIn};
 ghost use Rattle.vcd_edit.specs.Touched.{touched_by_record, stored_changes};
 ghost use Rattle.vcd_edit.specs.inside.Opposites.{IsOppositeRecord};
 
@@ -26,16 +26,16 @@ pub struct Kept {
 pub(crate) fn exchange_record(
     alloc: Global,
     capture: &mut Capture,
-    edit_record: Record,
+    applied_record: Record,
 ) -> Result<Record, Kept>
-    requires fits { Fits edit_record (contents capture.old) }
+    requires fits { Fits applied_record (contents capture.old) }
     requires sound { IsSound (contents capture.old) }
-    ensures effect { OnOk result (contents capture.new ≡ apply_record edit_record (contents capture.old)) }
-    ensures undo { IfOk result (IsOppositeRecord (contents capture.old) edit_record) }
-    ensures given_back { IfErr result (λ k. k.held ≡ edit_record) }
+    ensures effect { OnOk result (contents capture.new ≡ apply_record applied_record (contents capture.old)) }
+    ensures restores { IfOk result (IsOppositeRecord (contents capture.old) applied_record) }
+    ensures given_back { IfErr result (λ k. k.held ≡ applied_record) }
     ensures unchanged { OnErr result (contents capture.new ≡ contents capture.old) }
-    ensures never_refused { edit_record.pieces ≡ [] → PutsNoSignalIn edit_record.signal → IsOk result }
-    ensures one_step { IsOneStep edit_record }
+    ensures never_refused { applied_record.pieces ≡ [] → PutsNoSignalIn applied_record.signal → IsOk result }
+    ensures one_kind_of_part { HasOneKindOfPart applied_record }
 {
     // Each field is named, so that a further one, such as a whole capture that is kept, does not compile.
     let Record {
@@ -43,7 +43,7 @@ pub(crate) fn exchange_record(
         word,
         signal,
         other_end,
-    } = edit_record;
+    } = applied_record;
     if reserve_all(capture, pieces.as_mut_slice()).is_err() {
         let held = Record {
             pieces,
@@ -87,20 +87,20 @@ pub(crate) fn exchange_record(
 ///
 /// The cost is the pieces, their ranges, and for each piece one move of its signal's later changes. A signal that is
 /// put in or taken out costs one move of the later signals.
-pub fn revert(alloc: Global, capture: &mut Capture, edit_record: Record) -> Result<Record, Kept>
-    requires fits { Fits edit_record (contents capture.old) }
+pub fn revert(alloc: Global, capture: &mut Capture, applied_record: Record) -> Result<Record, Kept>
+    requires fits { Fits applied_record (contents capture.old) }
     requires sound { IsSound (contents capture.old) }
-    ensures effect { OnOk result (contents capture.new ≡ apply_record edit_record (contents capture.old)) }
-    ensures undo { IfOk result (λ r. apply_record r (contents capture.new) ≡ contents capture.old) }
+    ensures effect { OnOk result (contents capture.new ≡ apply_record applied_record (contents capture.old)) }
+    ensures restores { IfOk result (λ r. apply_record r (contents capture.new) ≡ contents capture.old) }
     ensures fits { IfOk result (λ r. Fits r (contents capture.new)) }
     ensures stored { IfOk result (λ r. stored_changes r
-        ≤ touched_by_record edit_record (contents capture.old)) }
+        ≤ touched_by_record applied_record (contents capture.old)) }
     ensures sound { OnOk result (IsSound (contents capture.new)) }
-    ensures given_back { IfErr result (λ k. k.held ≡ edit_record) }
+    ensures given_back { IfErr result (λ k. k.held ≡ applied_record) }
     ensures unchanged { OnErr result (contents capture.new ≡ contents capture.old) }
-    ensures never_refused { edit_record.pieces ≡ [] → PutsNoSignalIn edit_record.signal → IsOk result }
-    ensures never_refused_with_fewer_signals { length (apply_record edit_record (contents capture.old)).signals
+    ensures never_refused { applied_record.pieces ≡ [] → PutsNoSignalIn applied_record.signal → IsOk result }
+    ensures never_refused_with_fewer_signals { length (apply_record applied_record (contents capture.old)).signals
         < length (contents capture.old).signals → IsOk result }
 {
-    exchange_record(alloc, capture, edit_record)
+    exchange_record(alloc, capture, applied_record)
 }

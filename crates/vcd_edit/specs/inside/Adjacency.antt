@@ -33,7 +33,7 @@ value_following width before = last_value (all_x width) before
 abbrev pub MovesTo : ℤ → ℕ → ℕ → Type 0
 MovesTo by end tick = FitsUnsigned w64 (pos tick +ℤ by) × (unsigned_abs (pos tick +ℤ by) ≤ end)
 
--- the piece's range lies within the changes of a wave, and the result is a wave up to the end
+-- what a record must hold to fit: the piece's range lies within the changes, and the result is a wave up to the end
 pub record IsValidPiece (width end : ℕ) (cs : List Change) (p : PieceView) : Type 0 where
   pub ordered : p.from ≤ p.to
   pub within : p.to ≤ length cs

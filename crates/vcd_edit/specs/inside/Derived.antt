@@ -21,12 +21,12 @@ last_operand (Xor a b) = b
 last_operand (BitOf a k) = a
 
 -- the bit that a rule gives for the values of its first and its last operand
-abbrev pub operator_bit : Rule → List Bit → List Bit → Bit
-operator_bit (Not a) v w = not_bit (letter_at v 0)
-operator_bit (And a b) v w = and_bit (letter_at v 0) (letter_at w 0)
-operator_bit (Or a b) v w = or_bit (letter_at v 0) (letter_at w 0)
-operator_bit (Xor a b) v w = xor_bit (letter_at v 0) (letter_at w 0)
-operator_bit (BitOf a k) v w = letter_at v k
+abbrev pub rule_bit_of_values : Rule → List Bit → List Bit → Bit
+rule_bit_of_values (Not a) v w = not_bit (letter_at v 0)
+rule_bit_of_values (And a b) v w = and_bit (letter_at v 0) (letter_at w 0)
+rule_bit_of_values (Or a b) v w = or_bit (letter_at v 0) (letter_at w 0)
+rule_bit_of_values (Xor a b) v w = xor_bit (letter_at v 0) (letter_at w 0)
+rule_bit_of_values (BitOf a k) v w = letter_at v k
 
 -- whether it has two operands
 abbrev pub has_two_operands : Rule → Bool
@@ -36,17 +36,17 @@ has_two_operands (Or a b) = true
 has_two_operands (Xor a b) = true
 has_two_operands (BitOf a k) = false
 
--- the bit that an operator gives for one bit of each operand
-abbrev pub bit_of_two : Rule → Bit → Bit → Bit
-bit_of_two (Not a) x y = not_bit x
-bit_of_two (And a b) x y = and_bit x y
-bit_of_two (Or a b) x y = or_bit x y
-bit_of_two (Xor a b) x y = xor_bit x y
-bit_of_two (BitOf a k) x y = x
+-- the bit that a rule gives for one bit of each operand
+abbrev pub rule_bit_of_bits : Rule → Bit → Bit → Bit
+rule_bit_of_bits (Not a) x y = not_bit x
+rule_bit_of_bits (And a b) x y = and_bit x y
+rule_bit_of_bits (Or a b) x y = or_bit x y
+rule_bit_of_bits (Xor a b) x y = xor_bit x y
+rule_bit_of_bits (BitOf a k) x y = x
 
 -- the bit that it gives for the bits at an edge
 abbrev pub edge_bit : Rule → List (Option Bit) → Bit
-edge_bit rule (Some x ∷ Some y ∷ others) = bit_of_two rule x y
+edge_bit rule (Some x ∷ Some y ∷ others) = rule_bit_of_bits rule x y
 edge_bit rule bits = X
 
 -- the change of the derived signal at an edge of its operands
@@ -55,7 +55,7 @@ edge_change rule e = change e.tick (edge_bit rule e.at ∷ [])
 
 -- the change of the derived signal at a change of its one operand
 abbrev pub operand_change : Rule → Change → Change
-operand_change rule c = change c.tick (operator_bit rule c.value c.value ∷ [])
+operand_change rule c = change c.tick (rule_bit_of_values rule c.value c.value ∷ [])
 
 -- the changes of the wave, followed by the changes that remain, give the values of all changes
 pub record DerivedSoFar (all left : List Change) (w : WaveView) : Type 0 where

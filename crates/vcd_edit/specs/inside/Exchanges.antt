@@ -16,7 +16,7 @@ use Rattle.vcd_edit.specs.Touched.{touched_count}
 
 -- ---- one wave
 
--- a piece may be put into the changes of a wave
+-- what a splice needs: the range lies within the changes, the result is a wave, and ticks are small
 pub record PieceReady (width : ℕ) (cs : List Change) (p : PieceView) : Type 0 where
   pub ordered : p.from ≤ p.to
   pub within : p.to ≤ length cs
@@ -36,7 +36,7 @@ pub record IsOppositePiece (cs : List Change) (p q : PieceView) : Type 0 where
 
 -- ---- a capture
 
--- a piece may be put into its signal
+-- the same for a piece and its signal
 pub record PieceReadyIn (c : Contents) (p : PieceView) : Type 0 where
   pub signal : p.signal < length c.signals
   pub ready : PieceReady (signal_at c p.signal).width (signal_at c p.signal).changes p

@@ -8,8 +8,8 @@ use Rattle.vcd_core.specs.Contents.{Contents, SignalContents, no_signal}
 use Rattle.vcd_core.specs.Wave.{IsWave}
 use Rattle.vcd_core.specs.Sound.{is_sound_header, is_sound_timescale, IsSoundSignal}
 use Rattle.vcd_edit.specs.RecordView.{PieceView, RecordView}
-use Rattle.vcd_edit.specs.AppliedRecords.{signal_with_changes, PieceFits, WordFits, MayMoveSignal, MovedSignalFits}
-use Rattle.vcd_edit.specs.AppliedRecords.{with_pieces, with_first_word, with_moved_signal, apply_record}
+use Rattle.vcd_edit.specs.AppliedRecords.{signal_with_changes, PieceFits, WordFits, MayPutInOrTakeOut, SignalFits}
+use Rattle.vcd_edit.specs.AppliedRecords.{with_pieces, with_first_word, with_signal_in_out, apply_record}
 use Rattle.vcd_edit.specs.inside.Adjacency.{IsValidPiece}
 
 -- all of a signal except its changes is sound
@@ -41,11 +41,11 @@ HasSoundMetadata end c = IsTrue (list_all is_sound_header c.header)
 
 -- the parts of a record lie within a capture, and the resulting signals are sound up to an end
 abbrev pub PartsFit : ℕ → RecordView → Contents → Type 0
-PartsFit end r c = All (PieceFits c) r.pieces × WordFits c r.word × MovedSignalFits c r.signal
+PartsFit end r c = All (PieceFits c) r.pieces × WordFits c r.word × SignalFits c r.signal
     × AreSoundSignals end (apply_record r c).signals
 
 -- the same by the kind of the record: with a signal to put in or take out, with a word, or with pieces
 abbrev pub KindFits : ℕ → Contents → List PieceView → Option (ℕ × List ℕ) → Option (ℕ × Option SignalContents) → Type 0
-KindFits end c ps w (Some m) = MayMoveSignal c m.0 m.1 × AreSoundSignals end (with_moved_signal (Some m) c).signals
+KindFits end c ps w (Some m) = MayPutInOrTakeOut c m.0 m.1 × AreSoundSignals end (with_signal_in_out (Some m) c).signals
 KindFits end c ps (Some w) None = (w.0 < length c.signals) × AreSoundSignals end (with_first_word (Some w) c).signals
 KindFits end c ps None None = All (PieceFits c) ps × AreSoundSignals end (with_pieces c ps).signals

@@ -12,14 +12,14 @@ opposite_word None c = None
 opposite_word (Some w) c = Some (w.0, slice_index_or (signal_at c w.0).words 0 [])
 
 -- the signal that was taken out, or none if one was put in
-abbrev pub opposite_partner : ℕ → Option SignalContents → Contents → Option SignalContents
-opposite_partner k (Some s) c = None
-opposite_partner k None c = Some (signal_at c k)
+abbrev pub removed_signal : ℕ → Option SignalContents → Contents → Option SignalContents
+removed_signal k (Some s) c = None
+removed_signal k None c = Some (signal_at c k)
 
--- the same with its position
-abbrev pub opposite_move : Option (ℕ × Option SignalContents) → Contents → Option (ℕ × Option SignalContents)
-opposite_move None c = None
-opposite_move (Some m) c = Some (m.0, opposite_partner m.0 m.1 c)
+-- the signal of a record with its position
+abbrev pub opposite_signal : Option (ℕ × Option SignalContents) → Contents → Option (ℕ × Option SignalContents)
+opposite_signal None c = None
+opposite_signal (Some m) c = Some (m.0, removed_signal m.0 m.1 c)
 
 -- the old end
 abbrev pub opposite_end : Option ℕ → Contents → Option ℕ
@@ -31,7 +31,7 @@ abbrev pub opposite_record : RecordView → List PieceView → Contents → Reco
 opposite_record r qs c = record {
   pieces = reverse qs;
   word = opposite_word r.word c;
-  signal = opposite_move r.signal c;
+  signal = opposite_signal r.signal c;
   other_end = opposite_end r.other_end c;
 }
 
@@ -44,11 +44,11 @@ abbrev pub IsNamedAt : Contents → Option (ℕ × List ℕ) → Type 0
 IsNamedAt c None = Unit {0}
 IsNamedAt c (Some w) = 0 < length (signal_at c w.0).words
 
--- the second record undoes the first one on a capture; it stores no more than that one touches, and has the opposite
--- offsets
+-- the second record undoes the first one on a capture; it stores no more than that one touches, with the opposites of
+-- the offsets of its pieces
 pub record IsOppositeRecord (c : Contents) (r q : RecordView) : Type 0 where
   pub fits : Fits q (apply_record r c)
   pub leads : apply_record q (apply_record r c) ≡ c
-  pub stored : (offset : ℕ → ℤ) → All (λ p. offset p.signal ≡ neg_ℤ p.by) r.pieces
-      → stored_changes q ≤ touched_from offset 0 c.signals
+  pub stored : (advance : ℕ → ℤ) → All (λ p. advance p.signal ≡ neg_ℤ p.by) r.pieces
+      → stored_changes q ≤ touched_from advance 0 c.signals
       (partners (record_pairing r.signal) (apply_record r c).signals)

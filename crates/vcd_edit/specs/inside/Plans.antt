@@ -7,7 +7,7 @@ use Rattle.vcd_edit.specs.declared.record.Piece.{Piece}
 use Rattle.vcd_edit.specs.RecordView.{PieceView, RecordView}
 use Rattle.vcd_edit.specs.Effect.{effect}
 use Rattle.vcd_edit.specs.Touched.{record_pairing}
-use Rattle.vcd_edit.specs.TouchedByEdit.{edit_offset, edit_pairing}
+use Rattle.vcd_edit.specs.TouchedByEdit.{edit_advance, edit_pairing}
 use Rattle.vcd_edit.specs.AppliedRecords.{with_pieces, apply_record, PieceFits, Fits, HaveDistinctSignals}
 use Rattle.vcd_edit.specs.inside.Ranges.{GivesChanges}
 use Rattle.vcd_edit.specs.Records.{piece_view}
@@ -16,7 +16,7 @@ use Rattle.vcd_edit.specs.Records.{piece_view}
 pub record IsPlan (e : Edit) (c : Contents) (r : RecordView) : Type 0 where
   pub fits : Fits r c
   pub leads : apply_record r c ≡ effect e c
-  pub offset : All (λ p. edit_offset e ≡ neg_ℤ p.by) r.pieces
+  pub advance : All (λ p. edit_advance e ≡ neg_ℤ p.by) r.pieces
   pub pairing : record_pairing r.signal ≡ edit_pairing e c
 
 -- the piece gives the signal at a position the values of a function up to an end, with an offset

@@ -14,6 +14,6 @@ pub record IsTrimmed (cs : List Change) (old new : PieceView) : Type 0 where
   pub within : new.to ≤ length cs
   pub ticks : AllTicksFit new.by (drop new.to cs)
   pub same : changes_with_piece new cs ≡ changes_with_piece old cs
-  pub part : new.to - new.from ≤ touched_count (neg_ℤ old.by) cs (changes_with_piece old cs)
-  pub less : new.to - new.from ≤ old.to - old.from
+  pub touched_only : new.to - new.from ≤ touched_count (neg_ℤ old.by) cs (changes_with_piece old cs)
+  pub no_longer : new.to - new.from ≤ old.to - old.from
   pub balance : length new.changes + (old.to - old.from) ≡ length old.changes + (new.to - new.from)

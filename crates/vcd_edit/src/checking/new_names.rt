@@ -14,6 +14,7 @@ use crate::edit::Rule;
 use crate::fault::EditError;
 use vcd_core::{Capture, FullName, SIGNAL_LIMIT, Signal, Word, is_word};
 
+/// The fault of a rename.
 #[tactic(auto, unfolding(crate::specs::EditFaults::edit_fault))]
 pub(crate) fn check_rename(capture: &Capture, signal: usize, word: &[u8]) -> Result<(), EditError>
     ensures { FaultIs result
@@ -56,6 +57,7 @@ pub(crate) fn after_first(words: &[Word]) -> &[Word]
     }
 }
 
+/// The fault of a derive.
 #[tactic(auto, unfolding(crate::specs::EditFaults::edit_fault))]
 pub(crate) fn check_derive(capture: &Capture, word: &[u8], rule: Rule) -> Result<(), EditError>
     ensures { FaultIs result (edit_fault (edits.Derive word.entry rule) (contents capture.now)) }

@@ -10,7 +10,7 @@ use crate::edit::Rule;
 use crate::fault::EditError;
 use vcd_core::Capture;
 
-/// Whether the operands of a rule exist, have one bit where they must, and have the bit that it names.
+/// Whether the operands exist, an operator's operands have one bit, and the bit of `BitOf` exists.
 pub(crate) fn check_operands(capture: &Capture, rule: Rule) -> Result<(), EditError>
     ensures { FaultIs result (first_fault (
         (lacks_operand rule (contents capture.now), errors.NoSuchSignal)

@@ -7,8 +7,8 @@ ghost use Rattle.vcd_edit.specs.AppliedRecords.{with_pieces, PieceFits, HaveDist
 ghost use Rattle.vcd_edit.specs.Records.{piece_view};
 ghost use Rattle.vcd_edit.specs.inside.Fitting.{HasSoundNames, IsFormedSignal, late_count as lateness_of, IsValidIn, AreSoundSignals};
 
+use crate::fitting::adjacency::is_valid_piece;
 use crate::fitting::sound_names::has_sound_names;
-use crate::pieces::is_valid_piece;
 use crate::record::Piece;
 use vcd_core::{SIGNAL_LIMIT, Signal, Wave, ends_by};
 

@@ -32,12 +32,12 @@ fn exchange_with_wave(piece: &mut Piece, wave: &mut Wave)
     requires piece_room { piece.old.to - piece.old.from ≤ vec_capacity piece.old.changes }
     ensures width { wave.new.width ≡ wave.old.width }
     ensures effect { wave.new.changes ≡ changes_with_piece (piece_view piece.old) wave.old.changes }
-    ensures undo { IsOppositePiece wave.old.changes (piece_view piece.old) (piece_view piece.new) }
+    ensures restores { IsOppositePiece wave.old.changes (piece_view piece.old) (piece_view piece.new) }
 {
     trim(piece, wave.changes());
-    let seam = piece.from + piece.changes.as_slice().len();
+    let end_place = piece.from + piece.changes.as_slice().len();
     wave.splice(piece.from, piece.to, &mut piece.changes, piece.by);
-    piece.to = seam;
+    piece.to = end_place;
     piece.by = opposite(piece.by);
 }
 
@@ -47,7 +47,7 @@ fn exchange_in_signal(capture: &mut Capture, piece: &mut Piece)
     requires room { HasRoomForPiece capture.old.signals piece.old }
     ensures effect { contents capture.new
         ≡ with_piece (contents capture.old) (piece_view piece.old) }
-    ensures undo { IsOppositePiece (signal_at (contents capture.old) piece.old.signal).changes
+    ensures restores { IsOppositePiece (signal_at (contents capture.old) piece.old.signal).changes
         (piece_view piece.old) (piece_view piece.new) }
     ensures others { (k : ℕ) → k ≢ piece.old.signal
         → wave_at capture.new.signals k ≡ wave_at capture.old.signals k }
@@ -62,7 +62,7 @@ fn exchange_in_order(capture: &mut Capture, pieces: &mut [Piece])
     requires room { All (HasRoomForPiece capture.old.signals) pieces.old }
     ensures effect { contents capture.new
         ≡ with_pieces (contents capture.old) (map piece_view pieces.old) }
-    ensures undo { AreOppositePieces (contents capture.old)
+    ensures restores { AreOppositePieces (contents capture.old)
         (map piece_view pieces.old) (map piece_view pieces.new) }
 {
     for piece in pieces.iter_mut() {
@@ -77,7 +77,7 @@ fn exchange_and_reverse(capture: &mut Capture, pieces: &mut Vec<Piece>)
     requires room { All (HasRoomForPiece capture.old.signals) pieces.old.items }
     ensures effect { contents capture.new
         ≡ with_pieces (contents capture.old) (map piece_view pieces.old.items) }
-    ensures undo { (qs : List PieceView) × (map piece_view pieces.new.items ≡ reverse qs)
+    ensures restores { (qs : List PieceView) × (map piece_view pieces.new.items ≡ reverse qs)
         × AreOppositePieces (contents capture.old) (map piece_view pieces.old.items) qs }
 {
     exchange_in_order(capture, pieces.as_mut_slice());
@@ -92,7 +92,7 @@ pub(crate) fn exchange_pieces(capture: &mut Capture, pieces: &mut Vec<Piece>)
     requires room { All (HasRoomForPiece capture.old.signals) pieces.old.items }
     ensures effect { contents capture.new
         ≡ with_pieces (contents capture.old) (map piece_view pieces.old.items) }
-    ensures undo { (qs : List PieceView) × (map piece_view pieces.new.items ≡ reverse qs)
+    ensures restores { (qs : List PieceView) × (map piece_view pieces.new.items ≡ reverse qs)
         × AreOppositePieces (contents capture.old) (map piece_view pieces.old.items) qs }
 {
     exchange_and_reverse(capture, pieces);

@@ -11,24 +11,25 @@ ghost use Rattle.vcd_edit.specs.inside.Trims.{IsTrimmed};
 use crate::record::Piece;
 use vcd_core::Change;
 
+/// Whether two changes have the same tick and value.
 fn is_same(old: &Change, new: &Change) -> bool
     ensures { result ≡ same_change old.now new.now }
 {
     old.tick == new.tick && old.value == new.value
 }
 
-/// Whether `later` is the tick that is `by` ticks after `tick`.
-fn is_later(tick: u64, by: i64, later: u64) -> bool
-    ensures { result ≡ int_eq (pos tick -ℤ neg_ℤ by) (pos later) }
+/// Whether `moved` is the tick `tick`, moved by `by` ticks.
+fn is_moved_tick(tick: u64, by: i64, moved: u64) -> bool
+    ensures { result ≡ int_eq (pos tick -ℤ neg_ℤ by) (pos moved) }
 {
-    tick.checked_add_signed(by) == Some(later)
+    tick.checked_add_signed(by) == Some(moved)
 }
 
-/// Whether the old change, `by` ticks later, is the new one.
+/// Whether the old change, moved by `by` ticks, is the new one.
 fn is_moved(old: &Change, by: i64, new: &Change) -> bool
     ensures { result ≡ same_moved_change (neg_ℤ by) old.now new.now }
 {
-    is_later(old.tick, by, new.tick) && old.value == new.value
+    is_moved_tick(old.tick, by, new.tick) && old.value == new.value
 }
 
 /// How many changes two lists have in common at the front.
@@ -46,7 +47,7 @@ fn common_front(old: &[Change], new: &[Change]) -> usize
     most
 }
 
-/// How many last old changes, `by` ticks later, are the last new ones.
+/// How many last old changes, moved by `by` ticks, are the last new ones.
 fn common_back(old: &[Change], new: &[Change], by: i64) -> usize
     ensures count { result ≡ common_moved_suffix (neg_ℤ by) old.now new.now }
     ensures in_old { result ≤ length old.now }
@@ -71,8 +72,8 @@ fn drop_front(list: &mut Vec<Change>, count: usize)
     list.truncate(kept);
 }
 
-/// Trims changes that the wave already has from both ends of the piece: the same changes at the front, and those at
-/// the end that move with the later ones.
+/// Drops changes at both ends of the piece that the wave has already: the same changes at the front, and those at the
+/// end that move with the later ones.
 ///
 /// It looks at the range and the piece only, and takes no memory.
 pub(crate) fn trim(piece: &mut Piece, changes: &[Change])

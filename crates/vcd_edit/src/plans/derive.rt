@@ -8,7 +8,7 @@ ghost use Rattle.vcd_core.specs.Wave.{value_at, changes_of, IsWave, AllUpTo};
 ghost use Rattle.vcd_edit.specs.Effect.{derived_signal};
 ghost use Rattle.vcd_edit.specs.EditFaults.{lacks_operand, has_vector_operand, edit_fault};
 ghost use Rattle.vcd_edit.specs.inside.RemainingChanges.{TicksRise};
-ghost use Rattle.vcd_edit.specs.inside.Derived.{has_two_operands, operator_bit, bit_of_two, edge_bit as bit_at_edge, edge_change, operand_change, DerivedSoFar};
+ghost use Rattle.vcd_edit.specs.inside.Derived.{has_two_operands, rule_bit_of_values, rule_bit_of_bits, edge_bit as bit_at_edge, edge_change, operand_change, DerivedSoFar};
 ghost use Rattle.vcd_edit.specs.inside.Plans.{IsPlan};
 ghost use Rattle.vcd_edit.specs.declared.edit.Edit.TheVariants as edits;
 
@@ -73,7 +73,7 @@ fn derived_wave(alloc: Global, first: &Wave, last: &Wave, rule: Rule) -> Result<
     requires one_bit { has_two_operands rule ≡ true →
         (first.now.width ≡ 1) × (last.now.width ≡ 1) }
     ensures { (end : ℕ) → AllUpTo end first.now.changes → AllUpTo end last.now.changes
-        → IfOk result (λ w. (w.width ≡ 1) × (w.changes ≡ changes_of 1 end (λ t. operator_bit rule
+        → IfOk result (λ w. (w.width ≡ 1) × (w.changes ≡ changes_of 1 end (λ t. rule_bit_of_values rule
         (value_at first.now.width first.now.changes t)
         (value_at last.now.width last.now.changes t) ∷ []))) }
 {
@@ -88,7 +88,7 @@ fn wave_of_one(alloc: Global, operand: &Wave, rule: Rule) -> Result<Wave, NoMemo
     ensures { (end : ℕ) → AllUpTo end operand.now.changes → IfOk result (λ w. (w.width ≡ 1)
         × (w.changes ≡ changes_of 1 end (λ t.
         let value = value_at operand.now.width operand.now.changes t in
-        operator_bit rule value value ∷ []))) }
+        rule_bit_of_values rule value value ∷ []))) }
 {
     let wave = wave_at_changes(alloc, operand.changes(), rule)?;
     // The call shows the prover that the list has the form of a wave's.
@@ -104,18 +104,18 @@ fn wave_at_changes(alloc: Global, changes: &[Change], rule: Rule) -> Result<Wave
     let mut wave = Wave::new(alloc, 1);
     wave.reserve_exact(count_at_changes(changes, rule))?;
     for change in changes {
-        let bit = bit_of_one(rule, &change.value);
+        let bit = rule_bit_of_one_value(rule, &change.value);
         wave.push(change.tick, Value::filled(1, bit))?;
     }
     Ok(wave)
 }
 
-/// How many changes that wave has.
+/// How many changes `wave_at_changes` makes.
 fn count_at_changes(changes: &[Change], rule: Rule) -> usize {
     let mut count = 0usize;
     let mut last = Bit::X;
     for change in changes {
-        let bit = bit_of_one(rule, &change.value);
+        let bit = rule_bit_of_one_value(rule, &change.value);
         if bit != last {
             count = count.saturating_add(1);
         }
@@ -135,7 +135,7 @@ fn wave_of_two<'a>(
     requires end { (end : ℕ) × AllUpTo end first.now.changes × AllUpTo end last.now.changes }
     requires one_bit { (first.now.width ≡ 1) × (last.now.width ≡ 1) }
     ensures { (end : ℕ) → AllUpTo end first.now.changes → AllUpTo end last.now.changes
-        → IfOk result (λ w. (w.width ≡ 1) × (w.changes ≡ changes_of 1 end (λ t. operator_bit rule
+        → IfOk result (λ w. (w.width ≡ 1) × (w.changes ≡ changes_of 1 end (λ t. rule_bit_of_values rule
         (value_at first.now.width first.now.changes t)
         (value_at last.now.width last.now.changes t) ∷ []))) }
 {
@@ -161,7 +161,7 @@ fn wave_at_edges(alloc: Global, edges: BitEdges, rule: Rule, count: usize) -> Re
     Ok(wave)
 }
 
-/// How many changes that wave has.
+/// How many changes `wave_at_edges` makes.
 fn count_at_edges(edges: BitEdges, rule: Rule) -> usize {
     let mut count = 0usize;
     let mut last = Bit::X;
@@ -180,14 +180,14 @@ fn edge_bit(rule: Rule, bits: [Option<Bit>; 4]) -> Bit
     ensures { result ≡ bit_at_edge rule bits }
 {
     match bits {
-        [Some(first), Some(last), _, _] => bit_of_two(rule, first, last),
+        [Some(first), Some(last), _, _] => rule_bit_of_bits(rule, first, last),
         _ => Bit::X,
     }
 }
 
 /// The bit that a rule gives for the value of its one operand.
-fn bit_of_one(rule: Rule, value: &Value) -> Bit
-    ensures { result ≡ operator_bit rule value.now value.now }
+fn rule_bit_of_one_value(rule: Rule, value: &Value) -> Bit
+    ensures { result ≡ rule_bit_of_values rule value.now value.now }
 {
     let bit = value_bit(value, 0);
     match rule {
@@ -199,9 +199,9 @@ fn bit_of_one(rule: Rule, value: &Value) -> Bit
     }
 }
 
-/// The bit that an operator gives for one bit of each operand.
-fn bit_of_two(rule: Rule, a: Bit, b: Bit) -> Bit
-    ensures { result ≡ bit_of_two rule a b }
+/// The bit that a rule gives for one bit of each operand.
+fn rule_bit_of_bits(rule: Rule, a: Bit, b: Bit) -> Bit
+    ensures { result ≡ rule_bit_of_bits rule a b }
 {
     match rule {
         Rule::Not(_) => not(a),

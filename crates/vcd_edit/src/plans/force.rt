@@ -19,17 +19,17 @@ use vcd_core::{Capture, END_LIMIT, NoMemory, Signal, Value};
 pub(crate) fn plan(
     alloc: Global,
     capture: &Capture,
-    signal: usize,
+    position: usize,
     from: u64,
     to: u64,
     value: Value,
 ) -> Result<Record, NoMemory>
     requires sound { IsSound (contents capture.now) }
-    requires allowed { edit_fault (edits.Force signal from to value) (contents capture.now) ≡ None }
-    ensures { IfOk result (IsPlan (edits.Force signal from to value) (contents capture.now)) }
+    requires allowed { edit_fault (edits.Force position from to value) (contents capture.now) ≡ None }
+    ensures { IfOk result (IsPlan (edits.Force position from to value) (contents capture.now)) }
 {
-    let old = signal_at(capture, signal);
-    let piece = force_piece(alloc, old, signal, capture.end(), from, to, value)?;
+    let old = signal_at(capture, position);
+    let piece = force_piece(alloc, old, position, capture.end(), from, to, value)?;
     piece_record(alloc, piece)
 }
 

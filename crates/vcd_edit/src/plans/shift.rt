@@ -20,15 +20,15 @@ use vcd_core::{Bit, Capture, Change, END_LIMIT, NoMemory, Signal, Value};
 pub(crate) fn plan(
     alloc: Global,
     capture: &Capture,
-    signal: usize,
+    position: usize,
     by: i64,
 ) -> Result<Record, NoMemory>
     requires sound { IsSound (contents capture.now) }
-    requires allowed { edit_fault (edits.Shift signal by) (contents capture.now) ≡ None }
-    ensures { IfOk result (IsPlan (edits.Shift signal by) (contents capture.now)) }
+    requires allowed { edit_fault (edits.Shift position by) (contents capture.now) ≡ None }
+    ensures { IfOk result (IsPlan (edits.Shift position by) (contents capture.now)) }
 {
-    let old = signal_at(capture, signal);
-    let piece = shift_piece(alloc, old, signal, capture.end(), by)?;
+    let old = signal_at(capture, position);
+    let piece = shift_piece(alloc, old, position, capture.end(), by)?;
     piece_record(alloc, piece)
 }
 

@@ -5,9 +5,9 @@ ghost use Rattle.std.specs.List.{insert, remove};
 ghost use Rattle.vcd_core.specs.Contents.{contents, signal_contents, signal_at, with_signal};
 ghost use Rattle.vcd_core.specs.Sound.{IsSound};
 ghost use Rattle.vcd_edit.specs.Effect.{renamed_signal};
-ghost use Rattle.vcd_edit.specs.AppliedRecords.{with_first_word, with_moved_signal, PutsNoSignalIn, with_end, WordFits, MovedSignalFits};
-ghost use Rattle.vcd_edit.specs.Records.{word_view, moved_signal_view};
-ghost use Rattle.vcd_edit.specs.inside.Opposites.{opposite_word, opposite_move, opposite_end, IsNamedAt};
+ghost use Rattle.vcd_edit.specs.AppliedRecords.{with_first_word, with_signal_in_out, PutsNoSignalIn, with_end, WordFits, SignalFits};
+ghost use Rattle.vcd_edit.specs.Records.{word_view, signal_view};
+ghost use Rattle.vcd_edit.specs.inside.Opposites.{opposite_word, opposite_signal, opposite_end, IsNamedAt};
 
 use std::alloc::Global;
 use std::mem;
@@ -34,7 +34,7 @@ pub(crate) fn exchange_word(
     requires fits { WordFits (contents capture.old) (word_view word) }
     requires named { IsNamedAt (contents capture.old) (word_view word) }
     ensures effect { contents capture.new ≡ with_first_word (word_view word) (contents capture.old) }
-    ensures undo { word_view result ≡ opposite_word (word_view word) (contents capture.old) }
+    ensures restores { word_view result ≡ opposite_word (word_view word) (contents capture.old) }
 {
     match word {
         Some((signal, word)) => Some((signal, replace_word(capture, signal, word))),
@@ -45,7 +45,7 @@ pub(crate) fn exchange_word(
 /// Puts another end in the place of the old one, and gives the old one back.
 pub(crate) fn exchange_end(capture: &mut Capture, other_end: Option<u64>) -> Option<u64>
     ensures effect { contents capture.new ≡ with_end other_end (contents capture.old) }
-    ensures undo { result ≡ opposite_end other_end (contents capture.old) }
+    ensures restores { result ≡ opposite_end other_end (contents capture.old) }
 {
     match other_end {
         Some(end) => Some(mem::replace(&mut capture.end, end)),
@@ -53,11 +53,11 @@ pub(crate) fn exchange_end(capture: &mut Capture, other_end: Option<u64>) -> Opt
     }
 }
 
-/// Puts a signal in at a position; later signals move down. If memory is refused, the signal comes back.
+/// Puts a signal in at a position. Those from there on get the next position. If memory is refused, the signal comes back.
 fn put_signal(alloc: Global, capture: &mut Capture, at: usize, signal: Signal) -> Result<(), Signal>
     requires { at ≤ length capture.old.signals }
     ensures effect { OnOk result (contents capture.new
-        ≡ with_moved_signal (Some (at, Some (signal_contents signal))) (contents capture.old)) }
+        ≡ with_signal_in_out (Some (at, Some (signal_contents signal))) (contents capture.old)) }
     ensures unchanged { OnErr result (contents capture.new ≡ contents capture.old) }
     ensures given_back { IfErr result (λ s. s ≡ signal) }
 {
@@ -70,11 +70,11 @@ fn put_signal(alloc: Global, capture: &mut Capture, at: usize, signal: Signal) -
     }
 }
 
-/// Takes the signal at a position out; later signals move up. It takes no memory.
+/// Takes the signal at a position out. Each later one gets the position before its own. It takes no memory.
 fn take_signal(alloc: Global, capture: &mut Capture, at: usize) -> Signal
     requires { at < length capture.old.signals }
     ensures effect { contents capture.new
-        ≡ with_moved_signal (Some (at, None)) (contents capture.old) }
+        ≡ with_signal_in_out (Some (at, None)) (contents capture.old) }
     ensures signal { signal_contents result ≡ signal_at (contents capture.old) at }
 {
     let mut signals = mem::replace(&mut capture.signals, Seq::new(alloc)).into_vec();
@@ -90,14 +90,14 @@ pub(crate) fn exchange_signal(
     capture: &mut Capture,
     signal: Option<(usize, Option<Signal>)>,
 ) -> Result<Option<(usize, Option<Signal>)>, Option<(usize, Option<Signal>)>>
-    requires { MovedSignalFits (contents capture.old) (moved_signal_view signal) }
+    requires { SignalFits (contents capture.old) (signal_view signal) }
     ensures effect { OnOk result (contents capture.new
-        ≡ with_moved_signal (moved_signal_view signal) (contents capture.old)) }
-    ensures undo { IfOk result (λ m. moved_signal_view m
-        ≡ opposite_move (moved_signal_view signal) (contents capture.old)) }
+        ≡ with_signal_in_out (signal_view signal) (contents capture.old)) }
+    ensures restores { IfOk result (λ m. signal_view m
+        ≡ opposite_signal (signal_view signal) (contents capture.old)) }
     ensures unchanged { OnErr result (contents capture.new ≡ contents capture.old) }
-    ensures given_back { IfErr result (λ m. moved_signal_view m ≡ moved_signal_view signal) }
-    ensures never_refused { PutsNoSignalIn (moved_signal_view signal) → IsOk result }
+    ensures given_back { IfErr result (λ m. signal_view m ≡ signal_view signal) }
+    ensures never_refused { PutsNoSignalIn (signal_view signal) → IsOk result }
     ensures unchanged_without_signal { signal ≡ None → capture.new ≡ capture.old }
 {
     match signal {

@@ -2,9 +2,9 @@ use Rattle.std.proofs.Common.{◌≡◌, ◌∙◌, ◌<◌, ◌≤◌, All, ap,
 use Rattle.std.proofs.lemmas.List.{length-map}
 use Rattle.vcd_core.specs.Contents.{signal_contents, signal_at, contents}
 use Rattle.vcd_edit.specs.declared.record.Piece.{Piece}
-use Rattle.vcd_edit.specs.AppliedRecords.{apply_record, with_moved_signal, Fits}
-use Rattle.vcd_edit.specs.Records.{piece_view, record_view, moved_signal_view}
-use Rattle.vcd_edit.specs.inside.Opposites.{opposite_move, IsOppositeRecord}
+use Rattle.vcd_edit.specs.AppliedRecords.{apply_record, with_signal_in_out, Fits}
+use Rattle.vcd_edit.specs.Records.{piece_view, record_view, signal_view}
+use Rattle.vcd_edit.specs.inside.Opposites.{opposite_signal, IsOppositeRecord}
 use Rattle.vcd_edit.proofs.TouchedParts.{whole_list}
 use Rattle.vcd_edit.proofs.RecordExchanges.{fits_each, ready_then, word_fits_then, word_named_then, end_is_back}
 use Rattle.vcd_edit.proofs.RecordExchanges.{is_record_then, leads_then}
@@ -13,136 +13,144 @@ use Rattle.vcd_edit.proofs.reverting.exchange_record.Goals as goal
 pub reserve_all-requires-clause-signal : goal.reserve_all-requires-clause-signal
 reserve_all-requires-clause-signal c =
     let now = contents c.args.capture.now in
-    let p = c.edit_record.inside in let v = record_view p.pieces.items p.word p.signal p.other_end in
-    let fits : Fits v now = subst (λ r. Fits r now) (sym c.edit_record.view_is) c.requires.fits in
+    let p = c.applied_record.inside in let v = record_view p.pieces.items p.word p.signal p.other_end in
+    let fits : Fits v now = subst (λ r. Fits r now) (sym c.applied_record.view_is) c.requires.fits in
     subst (All (λ (p : Piece). p.signal < length c.args.capture.now.signals)) (sym c.as_mut_slice.ensures.value)
     (λ k d less. omega (
       arith,
-      (fits_each now c.edit_record.inside.pieces.items fits.pieces k d less).signal,
+      (fits_each now c.applied_record.inside.pieces.items fits.pieces k d less).signal,
       length-map c.args.capture.now.signals signal_contents,
     ))
 
 pub reserve_all-requires-clause-ordered : goal.reserve_all-requires-clause-ordered
 reserve_all-requires-clause-ordered c =
     let now = contents c.args.capture.now in
-    let p = c.edit_record.inside in let v = record_view p.pieces.items p.word p.signal p.other_end in
-    let fits : Fits v now = subst (λ r. Fits r now) (sym c.edit_record.view_is) c.requires.fits in
+    let p = c.applied_record.inside in let v = record_view p.pieces.items p.word p.signal p.other_end in
+    let fits : Fits v now = subst (λ r. Fits r now) (sym c.applied_record.view_is) c.requires.fits in
     subst (All (λ (p : Piece). p.from ≤ p.to)) (sym c.as_mut_slice.ensures.value)
-    (λ k d less. (fits_each now c.edit_record.inside.pieces.items fits.pieces k d less).ordered)
+    (λ k d less. (fits_each now c.applied_record.inside.pieces.items fits.pieces k d less).ordered)
 
 pub reserve_all-requires-clause-within : goal.reserve_all-requires-clause-within
 reserve_all-requires-clause-within c =
     let now = contents c.args.capture.now in
-    let p = c.edit_record.inside in let v = record_view p.pieces.items p.word p.signal p.other_end in
-    let fits : Fits v now = subst (λ r. Fits r now) (sym c.edit_record.view_is) c.requires.fits in
+    let p = c.applied_record.inside in let v = record_view p.pieces.items p.word p.signal p.other_end in
+    let fits : Fits v now = subst (λ r. Fits r now) (sym c.applied_record.view_is) c.requires.fits in
     subst (All (λ (p : Piece). p.to ≤ length (signal_at now p.signal).changes)) (sym c.as_mut_slice.ensures.value)
-    (λ k d less. (fits_each now c.edit_record.inside.pieces.items fits.pieces k d less).within)
+    (λ k d less. (fits_each now c.applied_record.inside.pieces.items fits.pieces k d less).within)
 
 pub exchange_pieces-requires-clause-ready : goal.exchange_pieces-requires-clause-ready
 exchange_pieces-requires-clause-ready c =
     let now = contents c.args.capture.now in
-    let p = c.edit_record.inside in let v = record_view p.pieces.items p.word p.signal p.other_end in
-    let fits : Fits v now = subst (λ r. Fits r now) (sym c.edit_record.view_is) c.requires.fits in
-    let pieces = whole_list c.edit_record.inside.pieces.len c.reserve_all.new.pieces c.edit_record.inside.pieces.items
+    let p = c.applied_record.inside in let v = record_view p.pieces.items p.word p.signal p.other_end in
+    let fits : Fits v now = subst (λ r. Fits r now) (sym c.applied_record.view_is) c.requires.fits in
+    let pieces = whole_list c.applied_record.inside.pieces.len c.reserve_all.new.pieces
+    c.applied_record.inside.pieces.items
     (omega (arith, c.as_mut_slice.ensures.len, c.reserve_all.auto.pieces)) in
     let whole = ap (map piece_view) pieces ∙ c.reserve_all.ensures.pieces
     ∙ ap (map piece_view) c.as_mut_slice.ensures.value in
-    let moved : contents c.exchange_signal.new.capture ≡ with_moved_signal v.signal now = c.in-Ok.ensures.effect
-    ∙ ap (with_moved_signal v.signal) c.reserve_all.ensures.contents in
-    ready_then now v fits c.edit_record.invariant c.requires.sound _ whole
+    let moved : contents c.exchange_signal.new.capture ≡ with_signal_in_out v.signal now = c.in-Ok.ensures.effect
+    ∙ ap (with_signal_in_out v.signal) c.reserve_all.ensures.contents in
+    ready_then now v fits c.applied_record.invariant c.requires.sound _ whole
     (contents c.exchange_signal.new.capture) moved
 
 pub exchange_word-word-requires-clause-fits : goal.exchange_word-word-requires-clause-fits
 exchange_word-word-requires-clause-fits c =
     let now = contents c.args.capture.now in
-    let p = c.edit_record.inside in let v = record_view p.pieces.items p.word p.signal p.other_end in
-    let fits : Fits v now = subst (λ r. Fits r now) (sym c.edit_record.view_is) c.requires.fits in
-    let pieces = whole_list c.edit_record.inside.pieces.len c.reserve_all.new.pieces c.edit_record.inside.pieces.items
+    let p = c.applied_record.inside in let v = record_view p.pieces.items p.word p.signal p.other_end in
+    let fits : Fits v now = subst (λ r. Fits r now) (sym c.applied_record.view_is) c.requires.fits in
+    let pieces = whole_list c.applied_record.inside.pieces.len c.reserve_all.new.pieces
+    c.applied_record.inside.pieces.items
     (omega (arith, c.as_mut_slice.ensures.len, c.reserve_all.auto.pieces)) in
     let whole = ap (map piece_view) pieces ∙ c.reserve_all.ensures.pieces
     ∙ ap (map piece_view) c.as_mut_slice.ensures.value in
-    let moved : contents c.exchange_signal.new.capture ≡ with_moved_signal v.signal now = c.in-Ok.ensures.effect
-    ∙ ap (with_moved_signal v.signal) c.reserve_all.ensures.contents in
-    word_fits_then now v fits c.edit_record.invariant c.requires.sound _ whole
+    let moved : contents c.exchange_signal.new.capture ≡ with_signal_in_out v.signal now = c.in-Ok.ensures.effect
+    ∙ ap (with_signal_in_out v.signal) c.reserve_all.ensures.contents in
+    word_fits_then now v fits c.applied_record.invariant c.requires.sound _ whole
     (contents c.exchange_signal.new.capture) moved
     (contents c.exchange_pieces.new.capture) c.exchange_pieces.ensures.effect
 
 pub exchange_word-word-requires-clause-named : goal.exchange_word-word-requires-clause-named
 exchange_word-word-requires-clause-named c =
     let now = contents c.args.capture.now in
-    let p = c.edit_record.inside in let v = record_view p.pieces.items p.word p.signal p.other_end in
-    let fits : Fits v now = subst (λ r. Fits r now) (sym c.edit_record.view_is) c.requires.fits in
-    let pieces = whole_list c.edit_record.inside.pieces.len c.reserve_all.new.pieces c.edit_record.inside.pieces.items
+    let p = c.applied_record.inside in let v = record_view p.pieces.items p.word p.signal p.other_end in
+    let fits : Fits v now = subst (λ r. Fits r now) (sym c.applied_record.view_is) c.requires.fits in
+    let pieces = whole_list c.applied_record.inside.pieces.len c.reserve_all.new.pieces
+    c.applied_record.inside.pieces.items
     (omega (arith, c.as_mut_slice.ensures.len, c.reserve_all.auto.pieces)) in
     let whole = ap (map piece_view) pieces ∙ c.reserve_all.ensures.pieces
     ∙ ap (map piece_view) c.as_mut_slice.ensures.value in
-    let moved : contents c.exchange_signal.new.capture ≡ with_moved_signal v.signal now = c.in-Ok.ensures.effect
-    ∙ ap (with_moved_signal v.signal) c.reserve_all.ensures.contents in
-    word_named_then now v fits c.edit_record.invariant c.requires.sound _ whole
+    let moved : contents c.exchange_signal.new.capture ≡ with_signal_in_out v.signal now = c.in-Ok.ensures.effect
+    ∙ ap (with_signal_in_out v.signal) c.reserve_all.ensures.contents in
+    word_named_then now v fits c.applied_record.invariant c.requires.sound _ whole
     (contents c.exchange_signal.new.capture) moved
     (contents c.exchange_pieces.new.capture) c.exchange_pieces.ensures.effect
 
 pub invariant_of-result : goal.invariant_of-result
 invariant_of-result c =
     let now = contents c.args.capture.now in
-    let p = c.edit_record.inside in let v = record_view p.pieces.items p.word p.signal p.other_end in
-    let fits : Fits v now = subst (λ r. Fits r now) (sym c.edit_record.view_is) c.requires.fits in
-    let pieces = whole_list c.edit_record.inside.pieces.len c.reserve_all.new.pieces c.edit_record.inside.pieces.items
+    let p = c.applied_record.inside in let v = record_view p.pieces.items p.word p.signal p.other_end in
+    let fits : Fits v now = subst (λ r. Fits r now) (sym c.applied_record.view_is) c.requires.fits in
+    let pieces = whole_list c.applied_record.inside.pieces.len c.reserve_all.new.pieces
+    c.applied_record.inside.pieces.items
     (omega (arith, c.as_mut_slice.ensures.len, c.reserve_all.auto.pieces)) in
     let whole = ap (map piece_view) pieces ∙ c.reserve_all.ensures.pieces
     ∙ ap (map piece_view) c.as_mut_slice.ensures.value in
-    let moved : contents c.exchange_signal.new.capture ≡ with_moved_signal v.signal now = c.in-Ok.ensures.effect
-    ∙ ap (with_moved_signal v.signal) c.reserve_all.ensures.contents in
-    let signal : moved_signal_view c.in-Ok.signal ≡ opposite_move v.signal now = c.in-Ok.ensures.undo
-    ∙ ap (opposite_move v.signal) c.reserve_all.ensures.contents in
+    let moved : contents c.exchange_signal.new.capture ≡ with_signal_in_out v.signal now = c.in-Ok.ensures.effect
+    ∙ ap (with_signal_in_out v.signal) c.reserve_all.ensures.contents in
+    let signal : signal_view c.in-Ok.signal ≡ opposite_signal v.signal now = c.in-Ok.ensures.restores
+    ∙ ap (opposite_signal v.signal) c.reserve_all.ensures.contents in
     let q = record_view c.exchange_pieces.new.pieces.items c.exchange_word-word.result c.in-Ok.signal
     c.exchange_end-other_end.result in
-    is_record_then now v fits c.edit_record.invariant c.requires.sound _ whole
+    is_record_then now v fits c.applied_record.invariant c.requires.sound _ whole
     (contents c.exchange_signal.new.capture) moved
     (contents c.exchange_pieces.new.capture) c.exchange_pieces.ensures.effect
     (contents c.exchange_word-word.new.capture) (contents c.exchange_end-other_end.new.capture)
-    c.exchange_word-word.ensures.effect c.exchange_end-other_end.ensures.effect c.exchange_pieces.ensures.undo.0
-    c.exchange_pieces.ensures.undo.2 q
-    c.exchange_pieces.ensures.undo.1 c.exchange_word-word.ensures.undo signal c.exchange_end-other_end.ensures.undo
+    c.exchange_word-word.ensures.effect c.exchange_end-other_end.ensures.effect c.exchange_pieces.ensures.restores.0
+    c.exchange_pieces.ensures.restores.2 q
+    c.exchange_pieces.ensures.restores.1 c.exchange_word-word.ensures.restores signal
+    c.exchange_end-other_end.ensures.restores
 
 pub returns-in-Ok-clause-effect : goal.returns-in-Ok-clause-effect
 returns-in-Ok-clause-effect c =
     let now = contents c.args.capture.now in
-    let p = c.edit_record.inside in let v = record_view p.pieces.items p.word p.signal p.other_end in
-    let fits : Fits v now = subst (λ r. Fits r now) (sym c.edit_record.view_is) c.requires.fits in
-    let pieces = whole_list c.edit_record.inside.pieces.len c.reserve_all.new.pieces c.edit_record.inside.pieces.items
+    let p = c.applied_record.inside in let v = record_view p.pieces.items p.word p.signal p.other_end in
+    let fits : Fits v now = subst (λ r. Fits r now) (sym c.applied_record.view_is) c.requires.fits in
+    let pieces = whole_list c.applied_record.inside.pieces.len c.reserve_all.new.pieces
+    c.applied_record.inside.pieces.items
     (omega (arith, c.as_mut_slice.ensures.len, c.reserve_all.auto.pieces)) in
     let whole = ap (map piece_view) pieces ∙ c.reserve_all.ensures.pieces
     ∙ ap (map piece_view) c.as_mut_slice.ensures.value in
-    let moved : contents c.exchange_signal.new.capture ≡ with_moved_signal v.signal now = c.in-Ok.ensures.effect
-    ∙ ap (with_moved_signal v.signal) c.reserve_all.ensures.contents in
-    end_is_back now v fits c.edit_record.invariant c.requires.sound _ whole
+    let moved : contents c.exchange_signal.new.capture ≡ with_signal_in_out v.signal now = c.in-Ok.ensures.effect
+    ∙ ap (with_signal_in_out v.signal) c.reserve_all.ensures.contents in
+    end_is_back now v fits c.applied_record.invariant c.requires.sound _ whole
     (contents c.exchange_signal.new.capture) moved
     (contents c.exchange_pieces.new.capture) c.exchange_pieces.ensures.effect
     (contents c.exchange_word-word.new.capture) (contents c.exchange_end-other_end.new.capture)
     c.exchange_word-word.ensures.effect c.exchange_end-other_end.ensures.effect
-    ∙ ap (λ r. apply_record r now) c.edit_record.view_is
+    ∙ ap (λ r. apply_record r now) c.applied_record.view_is
 
-pub returns-in-Ok-clause-undo : goal.returns-in-Ok-clause-undo
-returns-in-Ok-clause-undo c =
+pub returns-in-Ok-clause-restores : goal.returns-in-Ok-clause-restores
+returns-in-Ok-clause-restores c =
     let now = contents c.args.capture.now in
-    let p = c.edit_record.inside in let v = record_view p.pieces.items p.word p.signal p.other_end in
-    let fits : Fits v now = subst (λ r. Fits r now) (sym c.edit_record.view_is) c.requires.fits in
-    let pieces = whole_list c.edit_record.inside.pieces.len c.reserve_all.new.pieces c.edit_record.inside.pieces.items
+    let p = c.applied_record.inside in let v = record_view p.pieces.items p.word p.signal p.other_end in
+    let fits : Fits v now = subst (λ r. Fits r now) (sym c.applied_record.view_is) c.requires.fits in
+    let pieces = whole_list c.applied_record.inside.pieces.len c.reserve_all.new.pieces
+    c.applied_record.inside.pieces.items
     (omega (arith, c.as_mut_slice.ensures.len, c.reserve_all.auto.pieces)) in
     let whole = ap (map piece_view) pieces ∙ c.reserve_all.ensures.pieces
     ∙ ap (map piece_view) c.as_mut_slice.ensures.value in
-    let moved : contents c.exchange_signal.new.capture ≡ with_moved_signal v.signal now = c.in-Ok.ensures.effect
-    ∙ ap (with_moved_signal v.signal) c.reserve_all.ensures.contents in
-    let signal : moved_signal_view c.in-Ok.signal ≡ opposite_move v.signal now = c.in-Ok.ensures.undo
-    ∙ ap (opposite_move v.signal) c.reserve_all.ensures.contents in
+    let moved : contents c.exchange_signal.new.capture ≡ with_signal_in_out v.signal now = c.in-Ok.ensures.effect
+    ∙ ap (with_signal_in_out v.signal) c.reserve_all.ensures.contents in
+    let signal : signal_view c.in-Ok.signal ≡ opposite_signal v.signal now = c.in-Ok.ensures.restores
+    ∙ ap (opposite_signal v.signal) c.reserve_all.ensures.contents in
     let q = record_view c.exchange_pieces.new.pieces.items c.exchange_word-word.result c.in-Ok.signal
     c.exchange_end-other_end.result in
-    subst (λ r. IsOppositeRecord now r q) c.edit_record.view_is
-    (leads_then now v fits c.edit_record.invariant c.requires.sound _ whole
+    subst (λ r. IsOppositeRecord now r q) c.applied_record.view_is
+    (leads_then now v fits c.applied_record.invariant c.requires.sound _ whole
     (contents c.exchange_signal.new.capture) moved
     (contents c.exchange_pieces.new.capture) c.exchange_pieces.ensures.effect
     (contents c.exchange_word-word.new.capture) (contents c.exchange_end-other_end.new.capture)
-    c.exchange_word-word.ensures.effect c.exchange_end-other_end.ensures.effect c.exchange_pieces.ensures.undo.0
-    c.exchange_pieces.ensures.undo.2 q
-    c.exchange_pieces.ensures.undo.1 c.exchange_word-word.ensures.undo signal c.exchange_end-other_end.ensures.undo)
+    c.exchange_word-word.ensures.effect c.exchange_end-other_end.ensures.effect c.exchange_pieces.ensures.restores.0
+    c.exchange_pieces.ensures.restores.2 q
+    c.exchange_pieces.ensures.restores.1 c.exchange_word-word.ensures.restores signal
+    c.exchange_end-other_end.ensures.restores)

@@ -5,8 +5,8 @@ use Rattle.vcd_edit.specs.inside.Exchanges.{AreOppositePieces}
 use Rattle.vcd_edit.proofs.TouchedParts.{map-reverse, whole_list}
 use Rattle.vcd_edit.proofs.pieces.exchanges.exchange_and_reverse.Goals as goal
 
-pub returns-clause-undo : goal.returns-clause-undo
-returns-clause-undo c = (
+pub returns-clause-restores : goal.returns-clause-restores
+returns-clause-restores c = (
   map piece_view c.exchange_in_order.new.pieces,
   ap (map piece_view) (c.reverse.ensures.items
       ∙ ap reverse (whole_list c.args.pieces.now.len c.exchange_in_order.new.pieces c.args.pieces.now.items
@@ -14,5 +14,5 @@ returns-clause-undo c = (
       ∙ map-reverse piece_view c.exchange_in_order.new.pieces,
   subst (λ l. AreOppositePieces (contents c.args.capture.now) (map piece_view l)
       (map piece_view c.exchange_in_order.new.pieces))
-      c.as_mut_slice.ensures.value c.exchange_in_order.ensures.undo,
+      c.as_mut_slice.ensures.value c.exchange_in_order.ensures.restores,
 )

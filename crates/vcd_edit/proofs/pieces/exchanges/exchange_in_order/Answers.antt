@@ -47,7 +47,7 @@ loop-piece-preserved c =
     let back : IsOppositePiece (signal_at (contents l.capture) x.signal).changes (piece_view x)
     (piece_view c.exchange_in_signal.new.piece) =
     subst (λ (p : Piece). IsOppositePiece (signal_at (contents l.capture) p.signal).changes (piece_view p)
-    (piece_view c.exchange_in_signal.new.piece)) (sym c.piece-item.is) e.undo in
+    (piece_view c.exchange_in_signal.new.piece)) (sym c.piece-item.is) e.restores in
     let others : (k : ℕ) → k ≢ x.signal → wave_at c.exchange_in_signal.new.capture.signals k
     ≡ wave_at l.capture.signals k =
     subst (λ (p : Piece). (k : ℕ) → k ≢ p.signal

@@ -8,8 +8,8 @@ use Rattle.vcd_edit.specs.Records.{piece_view}
 use Rattle.vcd_edit.proofs.OppositeSplices.{led_back}
 use Rattle.vcd_edit.proofs.pieces.exchanges.exchange_with_wave.Goals as goal
 
-pub returns-clause-undo : goal.returns-clause-undo
-returns-clause-undo c =
+pub returns-clause-restores : goal.returns-clause-restores
+returns-clause-restores c =
     let p = c.trim.new.piece in
     let range : FitsSigned w64 p.by = search rules in
     let range' : FitsSigned w64 c.opposite-piece.result = search rules in

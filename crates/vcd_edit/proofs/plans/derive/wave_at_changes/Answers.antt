@@ -23,7 +23,7 @@ pub loop-change-preserved : goal.loop-change-preserved
 loop-change-preserved c =
     operand_made c.args.rule c.args.changes.now c.loop-change.change-index c.change-item.result c.filled.result
     c.loop-change.wave c.push.new.self c.loop-change-test.true c.change-item.is
-    (c.filled.ensures ∙ ap (λ (b : Bit). b ∷ []) c.bit_of_one-bit.ensures) c.loop-change.invariant
+    (c.filled.ensures ∙ ap (λ (b : Bit). b ∷ []) c.rule_bit_of_one_value-bit.ensures) c.loop-change.invariant
     c.in_ok-push.ensures.width c.in_ok-push.ensures.values c.in_ok-push.ensures.last
 
 pub returns : goal.returns

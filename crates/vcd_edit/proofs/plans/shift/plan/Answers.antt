@@ -11,13 +11,13 @@ use Rattle.vcd_edit.proofs.plans.shift.plan.Goals as goal
 
 pub signal_at-old-requires-clause-position_exists : goal.signal_at-old-requires-clause-position_exists
 signal_at-old-requires-clause-position_exists c =
-    (no_fault (Shift c.args.signal c.args.by) (contents c.args.capture.now) c.requires.allowed).signals
+    (no_fault (Shift c.args.position c.args.by) (contents c.args.capture.now) c.requires.allowed).signals
 
 pub returns : goal.returns
 returns c =
     let piece = rw (c.end.ensures, to_z-of_z w64 c.args.by c.ranges.by) at c.in_ok-piece.ensures in
-    wave_plan (Shift c.args.signal c.args.by) (contents c.args.capture.now) c.args.signal
+    wave_plan (Shift c.args.position c.args.by) (contents c.args.capture.now) c.args.position
     (shift_value c.args.capture.now.end c.args.by) c.args.by (signal_contents c.signal_at-old.result.now)
     c.in_ok-piece.piece c.piece_record.result c.requires.sound c.requires.allowed c.signal_at-old.ensures.within
     c.signal_at-old.ensures.signal
-    (shift_is_wave c.args.signal c.args.by (contents c.args.capture.now)) refl refl piece c.piece_record.ensures
+    (shift_is_wave c.args.position c.args.by (contents c.args.capture.now)) refl refl piece c.piece_record.ensures

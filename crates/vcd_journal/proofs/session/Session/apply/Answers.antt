@@ -16,7 +16,7 @@ invariant_of-self-2 c =
       sound = made.sound;
       past_fits = rw (c.push_newest.ensures.items)
           (fit_after_edit (contents old.capture) (contents c.apply.new.capture) newest old.past.items old.depth
-          made.undo made.fits held.past_fits);
+          made.restores made.fits held.past_fits);
       future_fits = tt;
       few = rw (c.push_newest.ensures.items) (omega (arith, kept));
       most = held.most;
@@ -32,7 +32,7 @@ returns-clause-step c =
     rw (← c.self.view_is, c.push_newest.ensures.items, c.clear.ensures)
     (edit_accepted c.args.edit.now _ _ made.allowed
     (machine_of_edit c.args.edit.now (contents old.capture) (contents c.apply.new.capture) newest old.past.items
-    old.future.items old.depth made.effect made.undo))
+    old.future.items old.depth made.effect made.restores))
 
 pub returns-in_err-record-clause-step : goal.returns-in_err-record-clause-step
 returns-in_err-record-clause-step c =

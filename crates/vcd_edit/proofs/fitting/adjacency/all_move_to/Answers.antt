@@ -3,7 +3,7 @@ use Rattle.std.proofs.lemmas.Int.{to_z-of_z}
 use Rattle.vcd_core.specs.declared.wave.Change.{Change}
 use Rattle.vcd_edit.specs.inside.Adjacency.{MovesTo}
 use Rattle.vcd_edit.proofs.AdjacencyTests.{ends_tell}
-use Rattle.vcd_edit.proofs.pieces.adjacency.all_move_to.Goals as goal
+use Rattle.vcd_edit.proofs.fitting.adjacency.all_move_to.Goals as goal
 
 pub returns-then-moves_to : goal.returns-then-moves_to
 returns-then-moves_to c =

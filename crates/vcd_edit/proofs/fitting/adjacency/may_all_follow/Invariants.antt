@@ -1,7 +1,7 @@
 use Rattle.std.proofs.Common.{◌≡◌, take, drop}
 use Rattle.vcd_core.specs.Wave.{last_value}
 use Rattle.vcd_edit.specs.inside.Adjacency.{floor_after, value_following, may_all_follow}
-use Rattle.vcd_edit.proofs.pieces.adjacency.may_all_follow.Given as goal
+use Rattle.vcd_edit.proofs.fitting.adjacency.may_all_follow.Given as goal
 
 abbrev pub invariant-loop-i : goal.invariant-loop-i
 invariant-loop-i l =

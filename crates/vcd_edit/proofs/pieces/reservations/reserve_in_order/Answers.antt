@@ -5,7 +5,7 @@ use Rattle.vcd_edit.specs.declared.record.Piece.{Piece}
 use Rattle.vcd_edit.specs.Records.{piece_view}
 use Rattle.vcd_edit.specs.inside.Exchanges.{HasRoomForPiece}
 use Rattle.vcd_edit.proofs.PieceLoops.{item_as_first, views_kept, reserved_more}
-use Rattle.vcd_edit.proofs.pieces.growth.reserve_in_order.Goals as goal
+use Rattle.vcd_edit.proofs.pieces.reservations.reserve_in_order.Goals as goal
 
 pub reserve_piece-requires-clause-signal : goal.reserve_piece-requires-clause-signal
 reserve_piece-requires-clause-signal c =

@@ -1,7 +1,7 @@
 use Rattle.std.proofs.Common.{◌≡◌}
 use Rattle.vcd_core.specs.Contents.{contents}
 use Rattle.vcd_edit.specs.inside.Exchanges.{ReservedSoFar}
-use Rattle.vcd_edit.proofs.pieces.growth.reserve_in_order.Given as goal
+use Rattle.vcd_edit.proofs.pieces.reservations.reserve_in_order.Given as goal
 
 abbrev pub invariant-loop-piece : goal.invariant-loop-piece
 invariant-loop-piece l = (contents l.capture ≡ contents l.fn.capture)

@@ -91,7 +91,7 @@ fn cancel_first_reservations(capture: &mut Capture, count: usize)
 }
 
 /// Makes the room for all pieces. The contents of the capture and the pieces stay the same, also if the memory is
-/// refused. In that case a wave with a shared list keeps no other memory.
+/// refused. On refusal, memory reserved beside shared lists is freed.
 pub(crate) fn reserve_all(capture: &mut Capture, pieces: &mut [Piece]) -> Result<(), NoMemory>
     requires signal { All (λ p. p.signal < length capture.old.signals) pieces.old }
     requires ordered { All (λ p. p.from ≤ p.to) pieces.old }

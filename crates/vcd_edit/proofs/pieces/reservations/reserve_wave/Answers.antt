@@ -3,7 +3,7 @@ use Rattle.vcd_core.specs.WaveView.{WaveView}
 use Rattle.vcd_core.specs.Contents.{Contents, SignalContents, contents}
 use Rattle.vcd_edit.specs.inside.Exchanges.{wave_at}
 use Rattle.vcd_edit.proofs.ContentsAfterExchange.{contents_at, contents_kept, rooms_grow, wave_is_there, wave_there}
-use Rattle.vcd_edit.proofs.pieces.growth.reserve_wave.Goals as goal
+use Rattle.vcd_edit.proofs.pieces.reservations.reserve_wave.Goals as goal
 
 pub reserve_splice-requires-clause-within : goal.reserve_splice-requires-clause-within
 reserve_splice-requires-clause-within c =

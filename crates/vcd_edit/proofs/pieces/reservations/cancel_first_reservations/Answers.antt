@@ -1,7 +1,7 @@
 use Rattle.std.proofs.Common.{◌≡◌, ap, length, map, arith}
 use Rattle.std.proofs.lemmas.List.{length-map}
 use Rattle.vcd_core.specs.Contents.{Contents, signal_contents}
-use Rattle.vcd_edit.proofs.pieces.growth.cancel_first_reservations.Goals as goal
+use Rattle.vcd_edit.proofs.pieces.reservations.cancel_first_reservations.Goals as goal
 
 pub cancel_reservation-requires : goal.cancel_reservation-requires
 cancel_reservation-requires c =

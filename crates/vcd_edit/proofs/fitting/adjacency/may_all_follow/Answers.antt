@@ -3,7 +3,7 @@ use Rattle.std.proofs.lemmas.List.{drop_all}
 use Rattle.vcd_core.specs.Wave.{last_value}
 use Rattle.vcd_edit.specs.inside.Adjacency.{floor_after, value_following, may_follow, may_all_follow}
 use Rattle.vcd_edit.proofs.AdjacencyTests.{follow_stops, follow_more}
-use Rattle.vcd_edit.proofs.pieces.adjacency.may_all_follow.Goals as goal
+use Rattle.vcd_edit.proofs.fitting.adjacency.may_all_follow.Goals as goal
 
 pub loop-i-init : goal.loop-i-init
 unfolding floor_after last_value
@@ -17,7 +17,8 @@ returns-then-not-may_follow c =
     let x = c.index-changes-i.result in
     let test : may_follow (floor_after floor (take c.loop-i.i cs)) (last_value value (take c.loop-i.i cs)) x
     ≡ c.may_follow.result =
-    (λ j. may_follow (sym c.changes_after.ensures.floor j) (sym (c.changes_after.ensures.value c.args.width) j) x)
+    (λ j. may_follow (sym c.changes_before_index.ensures.floor j)
+    (sym (c.changes_before_index.ensures.value c.args.width) j) x)
     ∙ sym c.may_follow.ensures in
     follow_stops floor value cs c.loop-i.i x (omega arith) c.index-changes-i.is _ c.loop-i.invariant (test
     ∙ c.if-not-may_follow.true)
@@ -30,7 +31,8 @@ loop-i-preserved c =
     let x = c.index-changes-i.result in
     let test : may_follow (floor_after floor (take c.loop-i.i cs)) (last_value value (take c.loop-i.i cs)) x
     ≡ c.may_follow.result =
-    (λ j. may_follow (sym c.changes_after.ensures.floor j) (sym (c.changes_after.ensures.value c.args.width) j) x)
+    (λ j. may_follow (sym c.changes_before_index.ensures.floor j)
+    (sym (c.changes_before_index.ensures.value c.args.width) j) x)
     ∙ sym c.may_follow.ensures in
     follow_more floor value cs c.loop-i.i x (omega arith) c.index-changes-i.is _ c.loop-i.invariant (test
     ∙ c.if-not-may_follow.false)

@@ -1,7 +1,7 @@
 use Rattle.std.proofs.Common.{List, ap}
 use Rattle.vcd_core.specs.Contents.{Contents, SignalContents, contents}
 use Rattle.vcd_edit.proofs.ContentsAfterExchange.{contents_kept}
-use Rattle.vcd_edit.proofs.pieces.growth.cancel_reservation.Goals as goal
+use Rattle.vcd_edit.proofs.pieces.reservations.cancel_reservation.Goals as goal
 
 pub returns : goal.returns
 returns c =
