@@ -11,7 +11,7 @@ use Rattle.vcd_edit.specs.EditFaults.{edit_fault}
 use Rattle.vcd_journal.specs.declared.step.Step.{Step}
 use Rattle.vcd_journal.specs.declared.step.Step.TheVariants as steps
 use Rattle.vcd_journal.specs.declared.step.Answer.{Answer}
-use Rattle.vcd_journal.specs.Machine.{Machine, StepOutcome, first_machine, edit_outcome, undo_outcome, redo_outcome}
+use Rattle.vcd_journal.specs.Machine.{Machine, StepOutcome, initial_machine, edit_outcome, undo_outcome, redo_outcome}
 use Rattle.vcd_journal.specs.Machine.{is_depth, step_outcome, IsStep, AreSteps}
 use Rattle.vcd_journal.specs.Laws.{HistoryIsBounded}
 use Rattle.vcd_journal.proofs.Replay.{depth_choice}
@@ -65,4 +65,4 @@ run_bounded m (s ∷ asked) [] n few r = absurd r
 run_bounded m (s ∷ asked) (a ∷ answers) n few r = run_bounded r.0 asked answers n (step_bounded m s a r.0 few r.1) r.2
 
 pub history_is_bounded : HistoryIsBounded
-history_is_bounded c depth asked answers m r = run_bounded (first_machine c depth) asked answers m (omega arith) r
+history_is_bounded c depth asked answers m r = run_bounded (initial_machine c depth) asked answers m (omega arith) r

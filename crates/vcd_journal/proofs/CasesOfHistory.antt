@@ -18,7 +18,7 @@ use Rattle.vcd_journal.specs.declared.step.StepError.{StepError}
 use Rattle.vcd_journal.specs.declared.step.StepError.TheVariants as refusals
 use Rattle.vcd_journal.specs.declared.step.Answer.{Answer}
 use Rattle.vcd_journal.specs.declared.step.Answer.TheVariants.{Done, Refused}
-use Rattle.vcd_journal.specs.Machine.{Machine, first_machine, step_outcome, accepted_outcome, refused_outcome}
+use Rattle.vcd_journal.specs.Machine.{Machine, initial_machine, step_outcome, accepted_outcome, refused_outcome}
 use Rattle.vcd_journal.specs.InForce.{edits_of_steps, edits_after_all, earlier_replays, later_replays}
 use Rattle.vcd_journal.specs.History.{replay}
 
@@ -57,7 +57,7 @@ refuses m s refusal = step_outcome m s ≡ refused_outcome refusal m
 
 -- the third edit drops the oldest capture, so that only two can be undone
 history_of_two :
-    leads (first_machine a 2) (to (codes "b")) (machine 2 (a ∷ []) b [])
+    leads (initial_machine a 2) (to (codes "b")) (machine 2 (a ∷ []) b [])
     × leads (machine 2 (a ∷ []) b []) (to (codes "c")) (machine 2 (b ∷ a ∷ []) c [])
     × leads (machine 2 (b ∷ a ∷ []) c []) (to (codes "d")) (machine 2 (c ∷ b ∷ []) d [])
     × leads (machine 2 (c ∷ b ∷ []) d []) steps.Undo (machine 2 (b ∷ []) c (d ∷ []))
@@ -96,8 +96,8 @@ depth_of_past = (refl, refl, refl)
 -- a depth out of range is refused first
 depths_that_are_none :
     refuses (machine 2 [] b (c ∷ d ∷ [])) (steps.Depth 0) refusals.BadDepth
-    × refuses (first_machine a 2) (steps.Depth (suc DEPTH_LIMIT)) refusals.BadDepth
-    × leads (first_machine a 2) (steps.Depth DEPTH_LIMIT) (first_machine a DEPTH_LIMIT)
+    × refuses (initial_machine a 2) (steps.Depth (suc DEPTH_LIMIT)) refusals.BadDepth
+    × leads (initial_machine a 2) (steps.Depth DEPTH_LIMIT) (initial_machine a DEPTH_LIMIT)
 depths_that_are_none = (refl, refl, refl)
 
 -- ---- a refused edit keeps the future
@@ -109,7 +109,7 @@ abbrev pub falling : Contents
 falling = alone 9 (from 0 One ∷ from 5 Zero ∷ [])
 
 redo_after_refused_edit :
-    leads (first_machine rising 2) (steps.Edit (Invert 0)) (machine 2 (rising ∷ []) falling [])
+    leads (initial_machine rising 2) (steps.Edit (Invert 0)) (machine 2 (rising ∷ []) falling [])
     × leads (machine 2 (rising ∷ []) falling []) steps.Undo (machine 2 [] rising (falling ∷ []))
     × refuses (machine 2 [] rising (falling ∷ [])) (steps.Edit (Cut 5 5)) (refusals.Edit errors.BadRange)
     × leads (machine 2 [] rising (falling ∷ [])) steps.Redo (machine 2 (rising ∷ []) falling [])
@@ -128,8 +128,8 @@ their_answers = Done ∷ Done ∷ Done ∷ Done ∷ Refused refusals.DepthTooSma
 
 -- a rename stays in force after the history has dropped its capture
 still_in_force :
-    ((edits_of_steps three_renames their_answers).edits_in_force ≡ rename (codes "b") ∷ [])
-    × ((edits_of_steps three_renames their_answers).undone_edits ≡ rename (codes "c") ∷ rename (codes "d") ∷ [])
+    ((edits_of_steps three_renames their_answers).edits ≡ rename (codes "b") ∷ [])
+    × ((edits_of_steps three_renames their_answers).undone ≡ rename (codes "c") ∷ rename (codes "d") ∷ [])
 unfolding edits_after_all
 still_in_force = (refl, refl)
 

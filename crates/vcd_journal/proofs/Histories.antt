@@ -12,7 +12,7 @@ use Rattle.vcd_edit.specs.RecordView.{RecordView}
 use Rattle.vcd_edit.specs.AppliedRecords.{apply_record, Fits}
 use Rattle.vcd_journal.specs.declared.step.Step.TheVariants as steps
 use Rattle.vcd_journal.specs.Machine.{Machine, machine_after_edit, machine_after_depth, may_need_memory}
-use Rattle.vcd_journal.specs.inside.Histories.{AllRecordsFit, HasNoFewerSignals, IsHistory}
+use Rattle.vcd_journal.specs.inside.Histories.{AllRecordsFit, HasNoFewerSignals, AreSessionRings}
 use Rattle.vcd_journal.specs.ReachedCaptures.{reached_captures}
 use Rattle.vcd_journal.specs.inside.Histories.{PopsRecord}
 
@@ -37,7 +37,7 @@ AllRecordsFit_take c (suc n) [] fit = tt
 AllRecordsFit_take c (suc n) (r ∷ rs) fit = (fit.0, AllRecordsFit_take (apply_record r c) n rs fit.1)
 
 -- a session can reach as many captures as it has records
-pub few_captures : (c : Contents) (past future : Buffer RecordView) (depth : ℕ) → IsHistory c past future depth
+pub few_captures : (c : Contents) (past future : Buffer RecordView) (depth : ℕ) → AreSessionRings c past future depth
     → length (reached_captures c past.items) + length (reached_captures c future.items) ≤ depth
 few_captures c past future depth held =
     rw (length_reached_captures c past.items, length_reached_captures c future.items) (held.few)
@@ -93,27 +93,28 @@ machine_of_edit e before after r rs fs depth forth leads =
 -- ---- undo and redo
 
 -- the first of the records is taken out
-first_way : (c d : Contents) (q : RecordView) (rs : List RecordView) → d ≡ apply_record q c → AllRecordsFit c (q ∷ rs)
-    → PopsRecord c (q ∷ rs) d rs
-first_way c d q rs leads fit = record {
+pops_first_record : (c d : Contents) (q : RecordView) (rs : List RecordView) → d ≡ apply_record q c
+    → AllRecordsFit c (q ∷ rs) → PopsRecord c (q ∷ rs) d rs
+pops_first_record c d q rs leads fit = record {
   captures = ap (λ (e : Contents). e ∷ reached_captures e rs) (sym leads);
   fit = fit;
   rest_fit = subst (λ (e : Contents). AllRecordsFit e rs) (sym leads) fit.1;
   count = refl;
 }
 
-pub way_ahead : (c d : Contents) (r : RecordView) (rs : List RecordView) → Some r ≡ slice_get rs 0
+pub pops_next_record : (c d : Contents) (r : RecordView) (rs : List RecordView) → Some r ≡ slice_get rs 0
     → d ≡ apply_record r c → AllRecordsFit c rs → PopsRecord c rs d (drop 1 rs)
-way_ahead c d r [] first leads fit = absurd (cc)
-way_ahead c d r (q ∷ rs) first leads fit = let same : r ≡ q = cc in
-    first_way c d q rs (leads ∙ ap (λ (p : RecordView). apply_record p c) same) fit
+pops_next_record c d r [] first leads fit = absurd (cc)
+pops_next_record c d r (q ∷ rs) first leads fit = let same : r ≡ q = cc in
+    pops_first_record c d q rs (leads ∙ ap (λ (p : RecordView). apply_record p c) same) fit
 
 -- the undo record is put in front
-pub way_after : (c d : Contents) (r : RecordView) (rs : List RecordView) (n : ℕ) → apply_record r d ≡ c → Fits r d
-    → AllRecordsFit c rs → length rs < n → PopsRecord d (take n (r ∷ rs)) c rs
-way_after c d r rs n leads fits fit room =
+pub pops_pushed_record : (c d : Contents) (r : RecordView) (rs : List RecordView) (n : ℕ) → apply_record r d ≡ c
+    → Fits r d → AllRecordsFit c rs → length rs < n → PopsRecord d (take n (r ∷ rs)) c rs
+pops_pushed_record c d r rs n leads fits fit room =
     let whole : take n (r ∷ rs) ≡ r ∷ rs = take_all n (r ∷ rs) (omega arith) in
-    rw whole (first_way d c r rs (sym leads) (fits, subst (λ (e : Contents). AllRecordsFit e rs) (sym leads) fit))
+    rw whole (pops_first_record d c r rs (sym leads)
+    (fits, subst (λ (e : Contents). AllRecordsFit e rs) (sym leads) fit))
 
 -- a record that was taken out is put back in its place
 pub record_put_back : (r : RecordView) (rs : List RecordView) (n : ℕ) → Some r ≡ slice_get rs 0 → length rs ≤ n

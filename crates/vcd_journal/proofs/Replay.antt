@@ -11,7 +11,7 @@ use Rattle.vcd_journal.specs.declared.step.Step.{Step}
 use Rattle.vcd_journal.specs.declared.step.Step.TheVariants as steps
 use Rattle.vcd_journal.specs.declared.step.StepError.TheVariants as refusals
 use Rattle.vcd_journal.specs.declared.step.Answer.{Answer}
-use Rattle.vcd_journal.specs.Machine.{Machine, StepOutcome, first_machine, machine_after_depth, accepted_outcome}
+use Rattle.vcd_journal.specs.Machine.{Machine, StepOutcome, initial_machine, machine_after_depth, accepted_outcome}
 use Rattle.vcd_journal.specs.Machine.{refused_outcome, edit_outcome, undo_outcome, redo_outcome, is_depth, step_outcome}
 use Rattle.vcd_journal.specs.Machine.{memory_refusal, IsStep, AreSteps}
 use Rattle.vcd_journal.specs.InForce.{EditLists, edits_after, edits_after_all, earlier_replays, later_replays}
@@ -29,15 +29,15 @@ PastFollows c (e ∷ es) (held ∷ older) = (held ≡ replay c es) × PastFollow
 abbrev pub FutureFollows : Contents → List Edit → List Edit → List Contents → Type 0
 FutureFollows c es [] [] = Unit {0}
 FutureFollows c es [] (next ∷ later) = ⊥
-FutureFollows c es (u ∷ undone_edits) [] = ⊥
-FutureFollows c es (u ∷ undone_edits) (next ∷ later) = (next ≡ replay c (u ∷ es))
-    × FutureFollows c (u ∷ es) undone_edits later
+FutureFollows c es (u ∷ undone) [] = ⊥
+FutureFollows c es (u ∷ undone) (next ∷ later) = (next ≡ replay c (u ∷ es))
+    × FutureFollows c (u ∷ es) undone later
 
 -- the machine holds what the edit lists make of the first capture
 pub record Follows (c : Contents) (t : EditLists) (m : Machine) : Type 0 where
-  pub now : m.now ≡ replay c t.edits_in_force
-  pub past : PastFollows c t.edits_in_force m.past
-  pub future : FutureFollows c t.edits_in_force t.undone_edits m.future
+  pub now : m.now ≡ replay c t.edits
+  pub past : PastFollows c t.edits m.past
+  pub future : FutureFollows c t.edits t.undone m.future
 
 pub past_taken : (c : Contents) (n : ℕ) (es : List Edit) (past : List Contents) → PastFollows c es past
     → PastFollows c es (take n past)
@@ -53,28 +53,28 @@ pub edit_follows : (c : Contents) (t : EditLists) (m : Machine) (e : Edit) (foun
 unfolding replay
 edit_follows c t m e None f = record {
   now = ap (effect e) f.now;
-  past = past_taken c m.depth (e ∷ t.edits_in_force) (m.now ∷ m.past) (f.now, f.past);
+  past = past_taken c m.depth (e ∷ t.edits) (m.now ∷ m.past) (f.now, f.past);
   future = tt;
 }
 edit_follows c t m e (Some found) f = f
 
-pub undo_follows : (c : Contents) (es undone_edits : List Edit) (m : Machine) (past : List Contents)
+pub undo_follows : (c : Contents) (es undone : List Edit) (m : Machine) (past : List Contents)
     → PastFollows c es past →
-    Follows c (record { edits_in_force = es; undone_edits = undone_edits }) m →
-    Follows c (edits_after (record { edits_in_force = es; undone_edits = undone_edits }) steps.Undo
+    Follows c (record { edits = es; undone = undone }) m →
+    Follows c (edits_after (record { edits = es; undone = undone }) steps.Undo
     (undo_outcome past m).answer) (undo_outcome past m).after
-undo_follows c es undone_edits m [] p f = f
-undo_follows c [] undone_edits m (held ∷ older) p f = absurd p
-undo_follows c (e ∷ es) undone_edits m (held ∷ older) p f = record { now = p.0; past = p.1; future = (f.now, f.future) }
+undo_follows c es undone m [] p f = f
+undo_follows c [] undone m (held ∷ older) p f = absurd p
+undo_follows c (e ∷ es) undone m (held ∷ older) p f = record { now = p.0; past = p.1; future = (f.now, f.future) }
 
-pub redo_follows : (c : Contents) (es undone_edits : List Edit) (m : Machine) (future : List Contents)
-    → FutureFollows c es undone_edits future →
-    Follows c (record { edits_in_force = es; undone_edits = undone_edits }) m →
-    Follows c (edits_after (record { edits_in_force = es; undone_edits = undone_edits }) steps.Redo
+pub redo_follows : (c : Contents) (es undone : List Edit) (m : Machine) (future : List Contents)
+    → FutureFollows c es undone future →
+    Follows c (record { edits = es; undone = undone }) m →
+    Follows c (edits_after (record { edits = es; undone = undone }) steps.Redo
     (redo_outcome future m).answer) (redo_outcome future m).after
-redo_follows c es undone_edits m [] p f = f
+redo_follows c es undone m [] p f = f
 redo_follows c es [] m (next ∷ later) p f = absurd p
-redo_follows c es (u ∷ undone_edits) m (next ∷ later) p f = record { now = p.0; past = (f.now, f.past); future = p.1 }
+redo_follows c es (u ∷ undone) m (next ∷ later) p f = record { now = p.0; past = (f.now, f.past); future = p.1 }
 
 -- another depth, for either result of the two tests
 abbrev pub depth_choice : ℕ → Machine → Bool → Bool → StepOutcome
@@ -88,15 +88,15 @@ depth_follows c t m depth true small f = f
 depth_follows c t m depth false true f = f
 depth_follows c t m depth false false f = record {
   now = f.now;
-  past = past_taken c (depth - length m.future) t.edits_in_force m.past f.past;
+  past = past_taken c (depth - length m.future) t.edits m.past f.past;
   future = f.future;
 }
 
 pub outcome_follows : (c : Contents) (t : EditLists) (m : Machine) (s : Step) → Follows c t m
     → Follows c (edits_after t s (step_outcome m s).answer) (step_outcome m s).after
 outcome_follows c t m (steps.Edit e) f = edit_follows c t m e (edit_fault e m.now) f
-outcome_follows c t m steps.Undo f = undo_follows c t.edits_in_force t.undone_edits m m.past f.past f
-outcome_follows c t m steps.Redo f = redo_follows c t.edits_in_force t.undone_edits m m.future f.future f
+outcome_follows c t m steps.Undo f = undo_follows c t.edits t.undone m m.past f.past f
+outcome_follows c t m steps.Redo f = redo_follows c t.edits t.undone m m.future f.future f
 outcome_follows c t m (steps.Depth depth) f =
     depth_follows c t m depth (not (is_depth depth)) (nat_lt depth (length m.future)) f
 
@@ -134,26 +134,26 @@ past_is c es [] p = refl
 past_is c [] (held ∷ older) p = absurd p
 past_is c (e ∷ es) (held ∷ older) p = let rest = past_is c es older p.1 in λ i. p.0 i ∷ rest i
 
-pub future_is : (c : Contents) (es undone_edits : List Edit) (future : List Contents)
-    → FutureFollows c es undone_edits future → future ≡ later_replays c es undone_edits
+pub future_is : (c : Contents) (es undone : List Edit) (future : List Contents)
+    → FutureFollows c es undone future → future ≡ later_replays c es undone
 unfolding later_replays
 future_is c es [] [] p = refl
 future_is c es [] (next ∷ later) p = absurd p
-future_is c es (u ∷ undone_edits) [] p = absurd p
-future_is c es (u ∷ undone_edits) (next ∷ later) p = let rest = future_is c (u ∷ es) undone_edits later p.1 in
+future_is c es (u ∷ undone) [] p = absurd p
+future_is c es (u ∷ undone) (next ∷ later) p = let rest = future_is c (u ∷ es) undone later p.1 in
     λ i. p.0 i ∷ rest i
 
 -- a machine that follows the edit lists is a replay
 pub is_replay : (c : Contents) (t : EditLists) (m : Machine) → Follows c t m → IsReplay c t m
 is_replay c t m f = record {
   now = f.now;
-  past = past_is c t.edits_in_force m.past f.past;
-  future = future_is c t.edits_in_force t.undone_edits m.future f.future;
+  past = past_is c t.edits m.past f.past;
+  future = future_is c t.edits t.undone m.future f.future;
 }
 
 pub session_is_replay : SessionIsReplay
 unfolding replay
 session_is_replay c depth asked answers m r =
-    is_replay c (edits_after_all (record { edits_in_force = []; undone_edits = [] }) asked answers) m
-    (run_follows c (record { edits_in_force = []; undone_edits = [] }) (first_machine c depth) asked answers m
+    is_replay c (edits_after_all (record { edits = []; undone = [] }) asked answers) m
+    (run_follows c (record { edits = []; undone = [] }) (initial_machine c depth) asked answers m
     (record { now = refl; past = tt; future = tt }) r)

@@ -21,8 +21,8 @@ pub record History : Type 0 where
   pub depth : ℕ
 
 -- no edit was made
-abbrev pub first_history : ℕ → History
-first_history depth = record { edits = []; undone = []; undoable = 0; depth = depth }
+abbrev pub initial_history : ℕ → History
+initial_history depth = record { edits = []; undone = []; undoable = 0; depth = depth }
 
 -- edits made one after another, the last of them being the first of the list
 unfoldable pub replay : Contents → List Edit → Contents

@@ -11,24 +11,24 @@ use Rattle.vcd_journal.specs.History.{replay}
 
 -- the edits in force and the undone edits, both with the last one first
 pub record EditLists : Type 0 where
-  pub edits_in_force : List Edit
-  pub undone_edits : List Edit
+  pub edits : List Edit
+  pub undone : List Edit
 
 -- an accepted undo: the last edit in force is undone
 abbrev pub edits_after_undo : List Edit → List Edit → EditLists
-edits_after_undo [] undone_edits = record { edits_in_force = []; undone_edits = undone_edits }
-edits_after_undo (e ∷ es) undone_edits = record { edits_in_force = es; undone_edits = e ∷ undone_edits }
+edits_after_undo [] undone = record { edits = []; undone = undone }
+edits_after_undo (e ∷ es) undone = record { edits = es; undone = e ∷ undone }
 
 -- an accepted redo: the edit undone last is in force again
 abbrev pub edits_after_redo : List Edit → List Edit → EditLists
-edits_after_redo edits_in_force [] = record { edits_in_force = edits_in_force; undone_edits = [] }
-edits_after_redo edits_in_force (e ∷ es) = record { edits_in_force = e ∷ edits_in_force; undone_edits = es }
+edits_after_redo edits [] = record { edits = edits; undone = [] }
+edits_after_redo edits (e ∷ es) = record { edits = e ∷ edits; undone = es }
 
 -- an accepted edit is in force and clears the undone ones; a depth and a refused step change nothing
 abbrev pub edits_after : EditLists → Step → Answer → EditLists
-edits_after t (steps.Edit e) Done = record { edits_in_force = e ∷ t.edits_in_force; undone_edits = [] }
-edits_after t steps.Undo Done = edits_after_undo t.edits_in_force t.undone_edits
-edits_after t steps.Redo Done = edits_after_redo t.edits_in_force t.undone_edits
+edits_after t (steps.Edit e) Done = record { edits = e ∷ t.edits; undone = [] }
+edits_after t steps.Undo Done = edits_after_undo t.edits t.undone
+edits_after t steps.Redo Done = edits_after_redo t.edits t.undone
 edits_after t s a = t
 
 -- the edit lists after steps with their answers
@@ -38,7 +38,7 @@ edits_after_all t asked answers = t
 
 -- the edit lists after steps with their answers, from empty ones
 abbrev pub edits_of_steps : List Step → List Answer → EditLists
-edits_of_steps asked answers = edits_after_all (record { edits_in_force = []; undone_edits = [] }) asked answers
+edits_of_steps asked answers = edits_after_all (record { edits = []; undone = [] }) asked answers
 
 -- the replays of the edits without the last, without the last two, and so on down to none
 unfoldable pub earlier_replays : Contents → List Edit → List Contents
@@ -48,11 +48,11 @@ earlier_replays c (e ∷ es) = replay c es ∷ earlier_replays c es
 -- the replays with the first undone edit made again, with the first two, and so on
 unfoldable pub later_replays : Contents → List Edit → List Edit → List Contents
 later_replays c es [] = []
-later_replays c es (u ∷ undone_edits) = replay c (u ∷ es) ∷ later_replays c (u ∷ es) undone_edits
+later_replays c es (u ∷ undone) = replay c (u ∷ es) ∷ later_replays c (u ∷ es) undone
 
 -- the capture is the replay of the edits in force; the past has the newest replays of fewer edits, the future those
 -- with undone edits made again
 pub record IsReplay (c : Contents) (t : EditLists) (m : Machine) : Type 0 where
-  pub now : m.now ≡ replay c t.edits_in_force
-  pub past : m.past ≡ take (length m.past) (earlier_replays c t.edits_in_force)
-  pub future : m.future ≡ later_replays c t.edits_in_force t.undone_edits
+  pub now : m.now ≡ replay c t.edits
+  pub past : m.past ≡ take (length m.past) (earlier_replays c t.edits)
+  pub future : m.future ≡ later_replays c t.edits t.undone

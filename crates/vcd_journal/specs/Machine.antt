@@ -23,8 +23,8 @@ pub record Machine : Type 0 where
   pub depth : ℕ
 
 -- a capture without a history
-abbrev pub first_machine : Contents → ℕ → Machine
-first_machine c depth = record { past = []; now = c; future = []; depth = depth }
+abbrev pub initial_machine : Contents → ℕ → Machine
+initial_machine c depth = record { past = []; now = c; future = []; depth = depth }
 
 -- ---- accepted steps
 

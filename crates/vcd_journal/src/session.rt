@@ -3,7 +3,7 @@
 ghost use Rattle.std.specs.Prelude.{◌≡◌, ◌≤◌, ◌+◌, IfOk, IfErr, OnErr, length};
 ghost use Rattle.vcd_core.specs.Contents.{contents};
 ghost use Rattle.vcd_core.specs.Sound.{IsSound};
-ghost use Rattle.vcd_journal.specs.Machine.{first_machine, is_depth as depth_test, IsStepCall};
+ghost use Rattle.vcd_journal.specs.Machine.{initial_machine, is_depth as depth_test, IsStepCall};
 ghost use Rattle.vcd_journal.specs.declared.step.Step.TheVariants as steps;
 
 use crate::rings::{Ring, apply_newest, empty_rings, enlarge, keep_newest, push_newest};
@@ -18,8 +18,8 @@ use vcd_edit::Edit;
 /// It holds a record for each step that can be undone or redone, and no other capture than the current one. A record
 /// holds at most as many changes as its step touched.
 ///
-/// A refused step changes nothing: contents, both histories and the depth are as before. Contracts see a session as
-/// the captures that undo and redo can reach.
+/// A refused step changes nothing: contents, both histories and the depth are as before. A step that removes a signal
+/// never needs memory. Contracts see a session as the captures that undo and redo can reach.
 #[derive(Drop)]
 pub struct Session {
     capture: Capture,
@@ -35,7 +35,7 @@ pub struct Session {
 impl Model for Session {
     ghost use Rattle.vcd_core.specs.Contents.{contents};
     ghost use Rattle.vcd_journal.specs.Machine.{Machine};
-    ghost use Rattle.vcd_journal.specs.inside.Histories.{IsHistory};
+    ghost use Rattle.vcd_journal.specs.inside.Histories.{AreSessionRings};
     ghost use Rattle.vcd_journal.specs.ReachedCaptures.{reached_captures};
 
     ghost Value = { Machine };
@@ -47,7 +47,7 @@ impl Model for Session {
       depth = s.depth;
     } };
 
-    ghost invariant = { λ s. IsHistory (contents s.capture) s.past s.future s.depth };
+    ghost invariant = { λ s. AreSessionRings (contents s.capture) s.past s.future s.depth };
 }
 
 impl Session {
@@ -57,7 +57,7 @@ impl Session {
         requires least { 1 ≤ depth }
         requires most { depth ≤ DEPTH_LIMIT }
         requires sound { IsSound (contents capture) }
-        ensures first { IfOk result (λ s. s ≡ first_machine (contents capture) depth) }
+        ensures first { IfOk result (λ s. s ≡ initial_machine (contents capture) depth) }
         ensures given_back { IfErr result (λ e. e.0 ≡ capture) }
     {
         match empty_rings(alloc, depth as usize) {
@@ -76,8 +76,8 @@ impl Session {
     /// dropped.
     ///
     /// An edit with a fault is refused by its first fault, and takes no memory. Otherwise it is refused only if memory
-    /// runs out (`StepError::Edit` of `NoMemory`). A step that removes a signal never needs memory. The cost is that
-    /// of the edit, and of dropping the records of undone edits.
+    /// runs out (`StepError::Edit` of `NoMemory`; see [`Session`]). The cost is that of the edit, and of dropping the
+    /// records of undone edits.
     pub fn apply(&mut self, edit: &Edit) -> Result<(), StepError>
         ensures step { IsStepCall self.old (steps.Edit edit.now) result self.new }
         ensures unchanged { OnErr result (self.new ≡ self.old) }
@@ -90,8 +90,8 @@ impl Session {
 
     /// Undoes the newest edit in the history.
     ///
-    /// If there is none, the step is refused, and takes no memory. Otherwise it is refused only if memory runs out. A
-    /// step that removes a signal never needs memory.
+    /// If there is none, the step is refused, and takes no memory. Otherwise it is refused only if memory runs out (see
+    /// [`Session`]).
     /// The cost is that of the changes that the edit touched, and one move of the later ones of each touched signal.
     pub fn undo(&mut self) -> Result<(), StepError>
         ensures step { IsStepCall self.old steps.Undo result self.new }
@@ -111,8 +111,8 @@ impl Session {
 
     /// Makes the edit again that was undone last.
     ///
-    /// If there is none, the step is refused, and takes no memory. Otherwise it is refused only if memory runs out. A
-    /// step that removes a signal never needs memory.
+    /// If there is none, the step is refused, and takes no memory. Otherwise it is refused only if memory runs out (see
+    /// [`Session`]).
     /// The cost is that of an undo.
     pub fn redo(&mut self) -> Result<(), StepError>
         ensures step { IsStepCall self.old steps.Redo result self.new }
@@ -143,13 +143,13 @@ impl Session {
         if !is_depth(depth) {
             return Err(StepError::BadDepth);
         }
-        let kept = self.future.len();
-        if (depth as usize) < kept {
+        let redoable = self.future.len();
+        if (depth as usize) < redoable {
             return Err(StepError::DepthTooSmall);
         }
         enlarge(&mut self.past, depth as usize)?;
         enlarge(&mut self.future, depth as usize)?;
-        keep_newest(&mut self.past, depth as usize - kept);
+        keep_newest(&mut self.past, depth as usize - redoable);
         self.depth = depth;
         Ok(())
     }

@@ -18,7 +18,7 @@ use Rattle.vcdedit.specs.WaveReplies.{value_line, change_lines}
 use Rattle.vcdedit.specs.MachineReplies.{line_reply}
 use Rattle.vcdedit.specs.RunMachines.{machine_after_line}
 use Rattle.vcdedit.specs.RunOutcomes.{line_replies}
-use Rattle.vcd_journal.specs.Machine.{first_machine}
+use Rattle.vcd_journal.specs.Machine.{initial_machine}
 use Rattle.vcd_text.proofs.CasesOfText.{capture, wire, top, from}
 
 -- a signal of one bit that changes, a vector, and a signal in no scope that is always x
@@ -66,7 +66,7 @@ unfolding digits
 changed = (refl, refl, refl)
 
 -- they show the capture at their line, and `skipped` is that of the file
-shown : line_replies 2 1 (first_machine three 100)
+shown : line_replies 2 1 (initial_machine three 100)
     (script_lines (codes "changes n\nremove top.a\nvalue top.a 0\nlist\nundo\nchanges top.a\n"))
     ≡ [] ∷ codes "ok\n" ∷ codes "line 3: refused: NoSuchName\n"
     ∷ codes "timescale none\nend 9\nsignals 2\nskipped 2\n@0 4 wire top.v\n@1 2 wire n\n" ∷ codes "ok\n"

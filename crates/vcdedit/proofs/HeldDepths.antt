@@ -9,7 +9,7 @@ use Rattle.vcd_edit.specs.declared.fault.EditError.{EditError}
 use Rattle.vcd_edit.specs.EditFaults.{edit_fault}
 use Rattle.vcd_journal.specs.declared.step.Step.{Step}
 use Rattle.vcd_journal.specs.declared.step.Step.TheVariants as steps
-use Rattle.vcd_journal.specs.Machine.{Machine, first_machine, step_outcome, edit_outcome, undo_outcome, redo_outcome}
+use Rattle.vcd_journal.specs.Machine.{Machine, initial_machine, step_outcome, edit_outcome, undo_outcome, redo_outcome}
 use Rattle.vcd_journal.specs.Machine.{is_depth}
 use Rattle.vcd_journal.proofs.Replay.{depth_choice}
 use Rattle.vcdedit.specs.declared.script.command.Command.{Command}
@@ -65,5 +65,5 @@ lines_deep m (line ∷ lines) least =
 
 pub undo_in_run_gives_back : UndoInRunGivesBack
 undo_in_run_gives_back c depth lines e line undo_line least =
-    undo_gives_back (machine_after_lines (first_machine c depth) lines) e line undo_line
-    (lines_deep (first_machine c depth) lines least)
+    undo_gives_back (machine_after_lines (initial_machine c depth) lines) e line undo_line
+    (lines_deep (initial_machine c depth) lines least)

@@ -24,10 +24,10 @@ use Rattle.vcd_journal.specs.declared.step.Step.{Step}
 use Rattle.vcd_journal.specs.declared.step.Step.TheVariants as steps
 use Rattle.vcd_journal.specs.declared.step.StepError.TheVariants as refusals
 use Rattle.vcd_journal.specs.StepErrorNames.{step_error_name}
-use Rattle.vcd_journal.specs.Machine.{Machine, first_machine, step_outcome, edit_outcome, undo_outcome, redo_outcome}
+use Rattle.vcd_journal.specs.Machine.{Machine, initial_machine, step_outcome, edit_outcome, undo_outcome, redo_outcome}
 use Rattle.vcd_journal.specs.Machine.{is_depth}
 use Rattle.vcd_journal.specs.InForce.{EditLists}
-use Rattle.vcd_journal.specs.History.{History, first_history, replay, step_tests, history_after}
+use Rattle.vcd_journal.specs.History.{History, initial_history, replay, step_tests, history_after}
 use Rattle.vcd_journal.proofs.Replay.{Follows, PastFollows, FutureFollows, edit_follows, undo_follows, redo_follows}
 use Rattle.vcd_journal.proofs.Replay.{depth_choice, depth_follows}
 use Rattle.vcdedit.specs.declared.script.command.Command.{Command}
@@ -53,7 +53,7 @@ use Rattle.vcdedit.proofs.SoundCaptures.{lines_sound}
 
 -- the edits in force and those undone, as two lists
 abbrev edits_of : History → EditLists
-edits_of h = record { edits_in_force = h.edits; undone_edits = h.undone }
+edits_of h = record { edits = h.edits; undone = h.undone }
 
 -- the machine holds what the history says
 pub record Matches (c : Contents) (h : History) (m : Machine) : Type 0 where
@@ -149,7 +149,7 @@ edit_matches c h m e None is accepted =
 edit_matches c h m e (Some fault) is accepted = absurd (cc)
 
 undo_matches : (c : Contents) (es us : List Edit) (undoable depth : ℕ) (m : Machine) (past : List Contents)
-    → PastFollows c es past → Follows c (record { edits_in_force = es; undone_edits = us }) m
+    → PastFollows c es past → Follows c (record { edits = es; undone = us }) m
     → undoable ≡ length past → depth ≡ m.depth →
     is_err (history_reply (length past) refusals.NothingToUndo) ≡ false →
     Matches c (record { edits = drop 1 es; undone = take 1 es ++ us; undoable = undoable - 1; depth = depth })
@@ -163,7 +163,7 @@ undo_matches c (e ∷ es) us undoable depth m (back ∷ older) p f held same acc
 }
 
 redo_matches : (c : Contents) (es us : List Edit) (undoable depth : ℕ) (m : Machine) (future : List Contents)
-    → FutureFollows c es us future → Follows c (record { edits_in_force = es; undone_edits = us }) m
+    → FutureFollows c es us future → Follows c (record { edits = es; undone = us }) m
     → undoable ≡ length m.past → depth ≡ m.depth →
     is_err (history_reply (length future) refusals.NothingToRedo) ≡ false →
     Matches c (record { edits = take 1 us ++ es; undone = drop 1 us; undoable = undoable + 1; depth = depth })
@@ -318,12 +318,12 @@ answers_from c skipped h before (line ∷ lines) =
     λ i. first i ∷ rest i
 
 answers_are : (c : Contents) (skipped depth : ℕ) (lines : List (List ℕ))
-    → line_answers c skipped (first_history depth) lines ≡ answers c skipped depth lines
-answers_are c skipped depth lines = sym (answers_from c skipped (first_history depth) [] lines)
+    → line_answers c skipped (initial_history depth) lines ≡ answers c skipped depth lines
+answers_are c skipped depth lines = sym (answers_from c skipped (initial_history depth) [] lines)
 
 -- ---- runs
 
-first_matches : (c : Contents) (depth : ℕ) → Matches c (first_history depth) (first_machine c depth)
+first_matches : (c : Contents) (depth : ℕ) → Matches c (initial_history depth) (initial_machine c depth)
 unfolding replay
 first_matches c depth =
     record { follows = record { now = refl; past = tt; future = tt }; undoable = refl; depth = refl }
@@ -331,23 +331,23 @@ first_matches c depth =
 -- what the machine writes where lines are run
 lines_are_run : (c : Contents) (depth skipped : ℕ) (lines : List (List ℕ)) → IsSound c →
     IsRunOfLines c skipped depth lines (record {
-      replies = line_replies skipped 1 (first_machine c depth) lines;
-      output = text (machine_after_lines (first_machine c depth) lines).now;
-      refused = refusal_count skipped (first_machine c depth) lines;
+      replies = line_replies skipped 1 (initial_machine c depth) lines;
+      output = text (machine_after_lines (initial_machine c depth) lines).now;
+      refused = refusal_count skipped (initial_machine c depth) lines;
     })
 lines_are_run c depth skipped lines sound =
     let first = first_matches c depth in
     let here : (count : ℕ) → Matches c (history_at c skipped depth lines count)
-    (machine_after_lines (first_machine c depth) (take count lines)) =
-    λ count. lines_match c (first_history depth) (first_machine c depth) skipped (take count lines) first in
+    (machine_after_lines (initial_machine c depth) (take count lines)) =
+    λ count. lines_match c (initial_history depth) (initial_machine c depth) skipped (take count lines) first in
     let all : take (length lines) lines ≡ lines = take-length lines in
-    let last : (machine_after_lines (first_machine c depth) lines).now
+    let last : (machine_after_lines (initial_machine c depth) lines).now
     ≡ capture_at c skipped depth lines (length lines) =
-    ap (λ (ls : List (List ℕ)). (machine_after_lines (first_machine c depth) ls).now) (sym all)
+    ap (λ (ls : List (List ℕ)). (machine_after_lines (initial_machine c depth) ls).now) (sym all)
     ∙ (here (length lines)).follows.now in
     let sound_last : IsSound (capture_at c skipped depth lines (length lines)) =
     subst IsSound last (lines_sound c depth lines sound) in
-    let back : FileMeans (text (machine_after_lines (first_machine c depth) lines).now)
+    let back : FileMeans (text (machine_after_lines (initial_machine c depth) lines).now)
     (capture_at c skipped depth lines (length lines)) 0 =
     subst (λ (d : Contents). FileMeans (text d) (capture_at c skipped depth lines (length lines)) 0) (sym last)
     (read_back (capture_at c skipped depth lines (length lines)) sound_last) in
@@ -356,20 +356,20 @@ lines_are_run c depth skipped lines sound =
     λ count.
     let held = (here count).undoable in
     let past = past_count c (history_at c skipped depth lines count).edits
-    (machine_after_lines (first_machine c depth) (take count lines)).past (here count).follows.past in
+    (machine_after_lines (initial_machine c depth) (take count lines)).past (here count).follows.past in
     omega (arith, held, past) in
     record {
       sound = λ count. subst IsSound (here count).follows.now (lines_sound c depth (take count lines) sound);
       undoable = few;
       unchanged = refused_line_keeps c skipped depth lines;
       undo_restores = undo_gives_back_earlier c skipped depth lines few;
-      replies = replies_are c (first_history depth) (first_machine c depth) skipped 1 lines first
+      replies = replies_are c (initial_history depth) (initial_machine c depth) skipped 1 lines first
           ∙ ap (numbered 1) (answers_are c skipped depth lines);
-      refused = refusals_are c (first_history depth) (first_machine c depth) skipped lines first
+      refused = refusals_are c (initial_history depth) (initial_machine c depth) skipped lines first
           ∙ ap (count_by is_err) (answers_are c skipped depth lines);
       output = ap text last;
       read_again = back;
-      only = λ d count means. one_meaning (text (machine_after_lines (first_machine c depth) lines).now) d
+      only = λ d count means. one_meaning (text (machine_after_lines (initial_machine c depth) lines).now) d
           (capture_at c skipped depth lines (length lines)) count 0 means back;
     }
 

@@ -15,7 +15,7 @@ use Rattle.vcd_text.specs.declared.fault.Fault.TheVariants as faults
 use Rattle.vcd_text.specs.declared.fault.ReadError.{ReadError}
 use Rattle.vcd_text.specs.declared.fault.WriteError.{WriteError}
 use Rattle.vcd_text.specs.declared.fault.WriteError.TheVariants as write_errors
-use Rattle.vcd_journal.specs.Machine.{Machine, first_machine}
+use Rattle.vcd_journal.specs.Machine.{Machine, initial_machine}
 use Rattle.vcdedit.specs.declared.running.run_error.RunError.{RunError}
 use Rattle.vcdedit.specs.declared.running.run_error.RunError.TheVariants as run_errors
 use Rattle.vcdedit.specs.declared.running.run_error.Summary.{Summary}
@@ -60,7 +60,7 @@ is_accepted capture c skipped ready ended read =
 -- the lines of the script, run from the capture that the file means
 script_gives : (file script : List ℕ) (depth skipped : ℕ) (c : Contents) (new : Machine) (count : ℕ)
     (before after : Option (List ℕ)) →
-    FileMeans file c skipped → RunsLines skipped (script_lines script) (first_machine c depth) new count before after
+    FileMeans file c skipped → RunsLines skipped (script_lines script) (initial_machine c depth) new count before after
     → ScriptGives file script depth count (Appends before after) new.now
 script_gives file script depth skipped c new count before after means ran =
     let here = ran.2 in
@@ -77,7 +77,7 @@ script_gives file script depth skipped c new count before after means ran =
 pub script_gives_where_known : (coming script_coming : Option (List ℕ)) (script : List ℕ) (depth skipped : ℕ)
     (c : Contents) (new : Machine) (count : ℕ) (before after : Option (List ℕ)) →
     IfSome coming (λ f. FileMeans f c skipped) → IfSome script_coming (λ s. script ≡ s)
-    → RunsLines skipped (script_lines script) (first_machine c depth) new count before after →
+    → RunsLines skipped (script_lines script) (initial_machine c depth) new count before after →
     IfSome coming (λ f. IfSome script_coming (λ s. ScriptGives f s depth count (Appends before after) new.now))
 script_gives_where_known None script_coming script depth skipped c new count before after means is ran = tt
 script_gives_where_known (Some f) None script depth skipped c new count before after means is ran = tt
@@ -150,7 +150,7 @@ pub lines_end : (capture script replies : DeviceEnd) (bytes : List ℕ) (depth s
     IsAccepted capture → IsRead SCRIPT_LIMIT script → IfSome capture.before (λ f. FileMeans f c skipped)
     → IfSome script.before (λ s. bytes ≡ s) →
     HasFailedAt replies.has_failed e
-    → StopsInLines skipped (script_lines bytes) (first_machine c depth) replies.before replies.after e →
+    → StopsInLines skipped (script_lines bytes) (initial_machine c depth) replies.before replies.after e →
     EndsBeforeOutput depth capture script replies e
 unfolding RunEnds
 lines_end capture script replies bytes depth skipped c (run_errors.NoMemory zero) accepted whole means is failed stops

@@ -16,7 +16,7 @@ use Rattle.vcd_edit.specs.declared.fault.EditError.{EditError}
 use Rattle.vcd_edit.specs.EditFaults.{edit_fault}
 use Rattle.vcd_journal.specs.declared.step.Step.{Step}
 use Rattle.vcd_journal.specs.declared.step.Step.TheVariants as steps
-use Rattle.vcd_journal.specs.Machine.{Machine, first_machine, step_outcome, edit_outcome, undo_outcome, redo_outcome}
+use Rattle.vcd_journal.specs.Machine.{Machine, initial_machine, step_outcome, edit_outcome, undo_outcome, redo_outcome}
 use Rattle.vcd_journal.specs.Machine.{is_depth}
 use Rattle.vcd_journal.proofs.Replay.{depth_choice}
 use Rattle.vcd_journal.specs.History.{replay}
@@ -88,8 +88,8 @@ undone_last c (e ∷ es) (back ∷ older) m is held = (e, es, refl, cc)
 pub undo_takes_back_the_last : UndoTakesBackTheLast
 unfolding machine_after_line
 undo_takes_back_the_last c depth lines undo_line asked held =
-    let m = machine_after_lines (first_machine c depth) lines in
-    let so = undone_last c (edits_after_lines no_edits (first_machine c depth) lines).edits_in_force m.past m
+    let m = machine_after_lines (initial_machine c depth) lines in
+    let so = undone_last c (edits_after_lines no_edits (initial_machine c depth) lines).edits m.past m
     (run_is_replay c depth lines).past held in
     (so.0, so.1, so.2, ap (λ r. (machine_after_command m r).now) asked ∙ so.3)
 
@@ -176,7 +176,7 @@ line_of_run c depth skipped lines count below =
     let line = get_or lines count [] in
     let one_more : count + 1 ≡ suc count = omega arith in
     let next : machine_at c depth lines (count + 1) ≡ machine_after_line m line = ap (machine_at c depth lines) one_more
-    ∙ machine_next (first_machine c depth) lines count below in
+    ∙ machine_next (initial_machine c depth) lines count below in
     record {
       unchanged = λ refused. next ∙ refused_line_changes_nothing m line skipped refused;
       undone = λ asked accepted.
@@ -190,29 +190,30 @@ line_of_run c depth skipped lines count below =
 -- what a run of lines writes is of replays
 lines_of_replays : (c : Contents) (depth skipped : ℕ) (lines : List (List ℕ)) → IsSound c →
     IsOfReplays c depth lines skipped (record {
-      replies = line_replies skipped 1 (first_machine c depth) lines;
-      output = text (machine_after_lines (first_machine c depth) lines).now;
-      refused = refusal_count skipped (first_machine c depth) lines;
+      replies = line_replies skipped 1 (initial_machine c depth) lines;
+      output = text (machine_after_lines (initial_machine c depth) lines).now;
+      refused = refusal_count skipped (initial_machine c depth) lines;
     })
 lines_of_replays c depth skipped lines sound =
     let all : take (length lines) lines ≡ lines = take-length lines in
-    let last : (machine_after_lines (first_machine c depth) lines).now ≡ last_replay c depth lines =
-    ap (λ (ls : List (List ℕ)). (machine_after_lines (first_machine c depth) ls).now) (sym all)
+    let last : (machine_after_lines (initial_machine c depth) lines).now ≡ last_replay c depth lines =
+    ap (λ (ls : List (List ℕ)). (machine_after_lines (initial_machine c depth) ls).now) (sym all)
     ∙ (run_is_replay c depth (take (length lines) lines)).now in
     let sound_last : IsSound (last_replay c depth lines) = subst IsSound last (lines_sound c depth lines sound) in
-    let back : FileMeans (text (machine_after_lines (first_machine c depth) lines).now) (last_replay c depth lines) 0 =
+    let back : FileMeans (text (machine_after_lines (initial_machine c depth) lines).now)
+    (last_replay c depth lines) 0 =
     subst (λ (d : Contents). FileMeans (text d) (last_replay c depth lines) 0) (sym last)
     (read_back (last_replay c depth lines) sound_last) in
     record {
       replays = λ count. run_is_replay c depth (take count lines);
       sound = λ count. lines_sound c depth (take count lines) sound;
       each = line_of_run c depth skipped lines;
-      one_each = one_reply_each skipped 1 (first_machine c depth) lines;
-      replies = λ count below. reply_at skipped 1 (first_machine c depth) lines count (count + 1) (omega arith) below;
+      one_each = one_reply_each skipped 1 (initial_machine c depth) lines;
+      replies = λ count below. reply_at skipped 1 (initial_machine c depth) lines count (count + 1) (omega arith) below;
       refused = refl;
       output = ap text last;
       read_again = back;
-      only = λ d count means. one_meaning (text (machine_after_lines (first_machine c depth) lines).now) d
+      only = λ d count means. one_meaning (text (machine_after_lines (initial_machine c depth) lines).now) d
           (last_replay c depth lines) count 0 means back;
     }
 

@@ -11,7 +11,7 @@ use Rattle.vcd_edit.specs.EditFaults.{edit_fault}
 use Rattle.vcd_edit.proofs.SoundEffects.{effect_is_sound}
 use Rattle.vcd_journal.specs.declared.step.Step.{Step}
 use Rattle.vcd_journal.specs.declared.step.Step.TheVariants as steps
-use Rattle.vcd_journal.specs.Machine.{Machine, first_machine, step_outcome, edit_outcome, undo_outcome, redo_outcome}
+use Rattle.vcd_journal.specs.Machine.{Machine, initial_machine, step_outcome, edit_outcome, undo_outcome, redo_outcome}
 use Rattle.vcd_journal.specs.Machine.{is_depth}
 use Rattle.vcd_journal.proofs.Replay.{depth_choice}
 use Rattle.vcdedit.specs.declared.script.command.Command.{Command}
@@ -83,6 +83,6 @@ run_sound m (line ∷ lines) sound =
     run_sound (machine_after_line m line) lines (command_sound m (command_of_line m.now line) sound)
 
 pub lines_sound : (c : Contents) (depth : ℕ) (lines : List (List ℕ)) → IsSound c
-    → IsSound (machine_after_lines (first_machine c depth) lines).now
+    → IsSound (machine_after_lines (initial_machine c depth) lines).now
 lines_sound c depth lines sound =
-    (run_sound (first_machine c depth) lines (record { past = tt; now = sound; future = tt })).now
+    (run_sound (initial_machine c depth) lines (record { past = tt; now = sound; future = tt })).now

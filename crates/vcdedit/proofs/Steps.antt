@@ -11,7 +11,7 @@ use Rattle.vcd_journal.specs.declared.step.Step.TheVariants as steps
 use Rattle.vcd_journal.specs.declared.step.StepError.TheVariants as refusals
 use Rattle.vcd_journal.specs.declared.step.Answer.{Answer}
 use Rattle.vcd_journal.specs.StepErrorNames.{step_error_name}
-use Rattle.vcd_journal.specs.Machine.{Machine, first_machine, step_outcome, edit_outcome, undo_outcome, redo_outcome}
+use Rattle.vcd_journal.specs.Machine.{Machine, initial_machine, step_outcome, edit_outcome, undo_outcome, redo_outcome}
 use Rattle.vcd_journal.specs.Machine.{is_depth, accepted_outcome, refused_outcome, machine_after_depth, AreSteps}
 use Rattle.vcd_journal.proofs.Steps.{ample_step}
 use Rattle.vcd_journal.proofs.Replay.{session_is_replay}
@@ -109,7 +109,7 @@ lines_edits t m (line ∷ lines) =
 
 pub run_is_replay : RunIsReplay
 run_is_replay c depth lines =
-    let m = first_machine c depth in
+    let m = initial_machine c depth in
     subst (λ (t : EditLists). IsReplay c t (machine_after_lines m lines)) (lines_edits no_edits m lines)
     (session_is_replay c depth (steps_of_lines m lines) (answers_of_lines m lines) (machine_after_lines m lines)
     (lines_are_run m lines))

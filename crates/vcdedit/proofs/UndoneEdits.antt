@@ -7,7 +7,7 @@ use Rattle.vcd_core.specs.Contents.{Contents}
 use Rattle.vcd_edit.specs.declared.edit.Edit.{Edit}
 use Rattle.vcd_text.specs.Words.{words_from}
 use Rattle.vcd_journal.specs.declared.step.Step.TheVariants as steps
-use Rattle.vcd_journal.specs.History.{History, first_history, replay}
+use Rattle.vcd_journal.specs.History.{History, initial_history, replay}
 use Rattle.vcdedit.specs.LineReads.{ReadResult, ◌▷◌}
 use Rattle.vcdedit.specs.CommandTable.{Request, step, reply}
 use Rattle.vcdedit.specs.Run.{answer, history_after_request, line_request, line_answer, history_after_line, history_at}
@@ -91,7 +91,7 @@ module _ (c : Contents) (skipped depth : ℕ) (lines : List (List ℕ)) where
 
   history_next : (count : ℕ)
       → at_line (suc count) ≡ history_after_line c skipped (at_line count) (get_or lines count [])
-  history_next count = next_from (first_history depth) lines count
+  history_next count = next_from (initial_history depth) lines count
 
   pub refused_line_keeps : (j : ℕ) → is_err (line_answer c skipped (at_line j) (get_or lines j [])) ≡ true
       → at_line (j + 1) ≡ at_line j

@@ -9,7 +9,7 @@ use Rattle.vcd_journal.specs.declared.step.Step.TheVariants as steps
 use Rattle.vcd_journal.specs.declared.step.Answer.{Answer}
 use Rattle.vcd_journal.specs.declared.step.Answer.TheVariants.{Done, Refused}
 use Rattle.vcd_journal.specs.StepErrorNames.{step_error_name}
-use Rattle.vcd_journal.specs.Machine.{Machine, first_machine, step_outcome}
+use Rattle.vcd_journal.specs.Machine.{Machine, initial_machine, step_outcome}
 use Rattle.vcd_journal.specs.InForce.{IsReplay}
 use Rattle.vcd_journal.specs.History.{replay}
 use Rattle.vcdedit.specs.ParsedLines.{command_of_line}
@@ -36,8 +36,8 @@ ReplyIsAnswer = (m : Machine) (step : Step)
 -- after any lines the machine holds replays of the edits that they leave in force
 abbrev pub RunIsReplay : Type 0
 RunIsReplay = (c : Contents) (depth : ℕ) (lines : List (List ℕ))
-    → IsReplay c (edits_after_lines no_edits (first_machine c depth) lines)
-    (machine_after_lines (first_machine c depth) lines)
+    → IsReplay c (edits_after_lines no_edits (initial_machine c depth) lines)
+    (machine_after_lines (initial_machine c depth) lines)
 
 -- whatever a machine makes a run write is what a run writes
 abbrev pub MachineRunIsRun : Type 0
@@ -76,7 +76,7 @@ UndoGivesBack = (m : Machine) (e : Edit) (line undo_line : List ℕ) → 1 ≤ m
 -- the same after any lines of a run, whose depth is at least 1
 abbrev pub UndoInRunGivesBack : Type 0
 UndoInRunGivesBack = (c : Contents) (depth : ℕ) (lines : List (List ℕ)) (e : Edit) (line undo_line : List ℕ) → 1 ≤ depth
-    → let m = machine_after_lines (first_machine c depth) lines in
+    → let m = machine_after_lines (initial_machine c depth) lines in
     command_of_line m.now line ≡ Ok (commands.Step (steps.Edit e)) → edit_fault e m.now ≡ None
     → command_of_line (machine_after_line m line).now undo_line ≡ Ok (commands.Step steps.Undo)
     → (machine_after_line (machine_after_line m line) undo_line).now ≡ m.now
@@ -85,10 +85,10 @@ UndoInRunGivesBack = (c : Contents) (depth : ℕ) (lines : List (List ℕ)) (e :
 -- others
 abbrev pub UndoTakesBackTheLast : Type 0
 UndoTakesBackTheLast = (c : Contents) (depth : ℕ) (lines : List (List ℕ)) (undo_line : List ℕ)
-    → let m = machine_after_lines (first_machine c depth) lines in
+    → let m = machine_after_lines (initial_machine c depth) lines in
     command_of_line m.now undo_line ≡ Ok (commands.Step steps.Undo) → 1 ≤ length m.past
     → (e : Edit) × (es : List Edit)
-    × ((edits_after_lines no_edits (first_machine c depth) lines).edits_in_force ≡ e ∷ es)
+    × ((edits_after_lines no_edits (initial_machine c depth) lines).edits ≡ e ∷ es)
     × ((machine_after_line m undo_line).now ≡ replay c es)
 
 -- a refused line changes nothing: neither the capture nor what can be undone or redone

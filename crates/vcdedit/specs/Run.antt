@@ -12,7 +12,7 @@ use Rattle.vcd_edit.specs.declared.edit.Edit.{Edit}
 use Rattle.vcd_edit.specs.EditTests.{unless_refused}
 use Rattle.vcd_journal.specs.declared.step.Step.{Step}
 use Rattle.vcd_journal.specs.declared.step.Step.TheVariants as steps
-use Rattle.vcd_journal.specs.History.{History, first_history, history_after, replay, step_tests}
+use Rattle.vcd_journal.specs.History.{History, initial_history, history_after, replay, step_tests}
 use Rattle.vcdedit.specs.Script.{script_lines}
 use Rattle.vcdedit.specs.LineReads.{ReadResult, ◌▷◌}
 use Rattle.vcdedit.specs.CommandTable.{Request, step, reply, request_of_words}
@@ -52,7 +52,7 @@ module _ (c : Contents) (skipped : ℕ) where
 module _ (c : Contents) (skipped depth : ℕ) (lines : List (List ℕ)) where
   -- the history after the first `count` of them
   abbrev pub history_at : (count : ℕ) → History
-  history_at count = fold (history_after_line c skipped) (first_history depth) (take count lines)
+  history_at count = fold (history_after_line c skipped) (initial_history depth) (take count lines)
 
   -- the capture after them is the replay of the edits then in force
   abbrev pub capture_at : (count : ℕ) → Contents

@@ -10,7 +10,7 @@ use Rattle.vcd_text.specs.Meaning.{FileMeans}
 use Rattle.vcd_text.specs.Text.{text}
 use Rattle.vcd_edit.specs.declared.edit.Edit.{Edit}
 use Rattle.vcd_journal.specs.declared.step.Step.TheVariants as steps
-use Rattle.vcd_journal.specs.Machine.{Machine, first_machine, step_outcome}
+use Rattle.vcd_journal.specs.Machine.{Machine, initial_machine, step_outcome}
 use Rattle.vcd_journal.specs.InForce.{EditLists, IsReplay, edits_after}
 use Rattle.vcd_journal.specs.History.{replay}
 use Rattle.vcdedit.specs.Script.{script_lines}
@@ -36,7 +36,7 @@ machine_after_lines m (line ∷ lines) = machine_after_lines (machine_after_line
 
 -- no edit is in force, and none undone
 abbrev pub no_edits : EditLists
-no_edits = record { edits_in_force = []; undone_edits = [] }
+no_edits = record { edits = []; undone = [] }
 
 -- the edits in force and those undone, after what a line asks for on a machine
 abbrev pub edits_after_command : EditLists → Machine → Result Command LineError → EditLists
@@ -71,21 +71,21 @@ pub record IsLineOfRun (c : Contents) (t : EditLists) (skipped : ℕ) (line : Li
   pub unchanged : is_refused_on skipped line m ≡ true → next ≡ m
   -- an undo that is not refused gives back the capture before the last edit in force
   pub undone : command_of_line m.now line ≡ Ok (commands.Step steps.Undo) → is_refused_on skipped line m ≡ false
-      → (e : Edit) × (es : List Edit) × (t.edits_in_force ≡ e ∷ es) × (next.now ≡ replay c es)
+      → (e : Edit) × (es : List Edit) × (t.edits ≡ e ∷ es) × (next.now ≡ replay c es)
 
 -- lines on a capture, with a history of at most `depth`
 module _ (c : Contents) (depth : ℕ) (lines : List (List ℕ)) where
   -- the machine after the first `count` of them
   abbrev pub machine_at : (count : ℕ) → Machine
-  machine_at count = machine_after_lines (first_machine c depth) (take count lines)
+  machine_at count = machine_after_lines (initial_machine c depth) (take count lines)
 
   -- the edits then in force, and those undone
   abbrev pub edits_at : (count : ℕ) → EditLists
-  edits_at count = edits_after_lines no_edits (first_machine c depth) (take count lines)
+  edits_at count = edits_after_lines no_edits (initial_machine c depth) (take count lines)
 
   -- the replay of the edits that are in force in the end
   abbrev pub last_replay : Contents
-  last_replay = replay c (edits_at (length lines)).edits_in_force
+  last_replay = replay c (edits_at (length lines)).edits
 
   -- what is written where these lines are run is of replays
   pub record IsOfReplays (skipped : ℕ) (written : RunOutcome) : Type 0 where
@@ -100,7 +100,7 @@ module _ (c : Contents) (depth : ℕ) (lines : List (List ℕ)) where
     pub one_each : length written.replies ≡ length lines
     pub replies : (count : ℕ) → count < length lines →
         get_or written.replies count [] ≡ reply_on skipped (count + 1) (get_or lines count []) (machine_at count)
-    pub refused : written.refused ≡ refusal_count skipped (first_machine c depth) lines
+    pub refused : written.refused ≡ refusal_count skipped (initial_machine c depth) lines
     -- the output is the text of the last capture: read again, it means that capture, with nothing left out
     pub output : written.output ≡ text last_replay
     pub read_again : FileMeans written.output last_replay 0

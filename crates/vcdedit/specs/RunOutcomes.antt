@@ -3,7 +3,7 @@ use Rattle.std.specs.Prelude.{◌≡◌, ℕ, ◌+◌, List, [], ◌∷◌}
 use Rattle.vcd_core.specs.Contents.{Contents}
 use Rattle.vcd_text.specs.Meaning.{FileMeans}
 use Rattle.vcd_text.specs.Text.{text}
-use Rattle.vcd_journal.specs.Machine.{Machine, first_machine}
+use Rattle.vcd_journal.specs.Machine.{Machine, initial_machine}
 use Rattle.vcdedit.specs.Script.{script_lines}
 use Rattle.vcdedit.specs.Run.{RunOutcome}
 use Rattle.vcdedit.specs.RunMachines.{machine_after_line, machine_after_lines, refusal_count, reply_on}
@@ -17,9 +17,9 @@ line_replies skipped number m (line ∷ lines) =
 -- the outcome of a script on a capture, with a history of at most `depth` and enough memory
 abbrev pub run_outcome : Contents → (skipped : ℕ) → (script : List ℕ) → (depth : ℕ) → RunOutcome
 run_outcome c skipped script depth = record {
-  replies = line_replies skipped 1 (first_machine c depth) (script_lines script);
-  output = text (machine_after_lines (first_machine c depth) (script_lines script)).now;
-  refused = refusal_count skipped (first_machine c depth) (script_lines script);
+  replies = line_replies skipped 1 (initial_machine c depth) (script_lines script);
+  output = text (machine_after_lines (initial_machine c depth) (script_lines script)).now;
+  refused = refusal_count skipped (initial_machine c depth) (script_lines script);
 }
 
 -- the capture file is accepted, and the run of the script on its meaning writes this

@@ -13,9 +13,9 @@ abbrev pub AllRecordsFit : Contents → List RecordView → Type 0
 AllRecordsFit c [] = Unit {0}
 AllRecordsFit c (r ∷ rs) = Fits r c × AllRecordsFit (apply_record r c) rs
 
--- the records of two rings fit and are undone from a sound capture, their number is at most the depth, and the rings
--- have room
-pub record IsHistory (c : Contents) (past future : Buffer RecordView) (depth : ℕ) : Type 0 where
+-- the capture is sound and each record fits; both rings together hold at most `depth` records, and each has room for
+-- `depth`
+pub record AreSessionRings (c : Contents) (past future : Buffer RecordView) (depth : ℕ) : Type 0 where
   pub sound : IsSound c
   pub past_fits : AllRecordsFit c past.items
   pub future_fits : AllRecordsFit c future.items

@@ -3,7 +3,7 @@ use Rattle.std.specs.Prelude.{◌≡◌, ℕ, List}
 use Rattle.std.specs.List.{concat}
 use Rattle.vcd_core.specs.Contents.{Contents}
 use Rattle.vcd_text.specs.Meaning.{FileMeans}
-use Rattle.vcd_journal.specs.Machine.{first_machine}
+use Rattle.vcd_journal.specs.Machine.{initial_machine}
 use Rattle.vcdedit.specs.Script.{script_lines}
 use Rattle.vcdedit.specs.RunMachines.{machine_after_lines, refusal_count}
 use Rattle.vcdedit.specs.RunOutcomes.{line_replies}
@@ -13,6 +13,6 @@ pub record ScriptGives (file script : List ℕ) (depth count : ℕ) (took : List
   pub contents : Contents
   pub skipped : ℕ
   pub means : FileMeans file contents skipped
-  pub replies : took (concat (line_replies skipped 1 (first_machine contents depth) (script_lines script)))
-  pub refused : refusal_count skipped (first_machine contents depth) (script_lines script) ≡ count
-  pub after : (machine_after_lines (first_machine contents depth) (script_lines script)).now ≡ now
+  pub replies : took (concat (line_replies skipped 1 (initial_machine contents depth) (script_lines script)))
+  pub refused : refusal_count skipped (initial_machine contents depth) (script_lines script) ≡ count
+  pub after : (machine_after_lines (initial_machine contents depth) (script_lines script)).now ≡ now

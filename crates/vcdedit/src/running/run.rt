@@ -6,7 +6,7 @@ ghost use Rattle.std.specs.Io.KnownBytes.{Appends};
 ghost use Rattle.vcd_core.specs.Contents.{contents};
 ghost use Rattle.vcd_core.specs.Sound.{IsSound};
 ghost use Rattle.vcdedit.specs.RunEnds.{device_end, IsRead, IsAccepted, OfOutput, RunEnds};
-ghost use Rattle.vcd_journal.specs.Machine.{first_machine};
+ghost use Rattle.vcd_journal.specs.Machine.{initial_machine};
 ghost use Rattle.vcdedit.specs.inside.RunStages.{EndsBeforeOutput};
 ghost use Rattle.vcdedit.specs.inside.ScriptRuns.{ScriptGives};
 
@@ -99,7 +99,7 @@ fn begin_session(alloc: Global, capture: Capture, depth: u64) -> Result<Session,
     requires least { 1 ≤ depth }
     requires most { depth ≤ DEPTH_LIMIT }
     requires sound { IsSound (contents capture) }
-    ensures new { IfOk result (λ session. session ≡ first_machine (contents capture) depth) }
+    ensures new { IfOk result (λ session. session ≡ initial_machine (contents capture) depth) }
     ensures fault { IfErr result (λ e. e ≡ RunError.NoMemory 0) }
 {
     Session::new(alloc, capture, depth).map_err(|_| RunError::NoMemory { line: 0 })

@@ -8,13 +8,13 @@ use Rattle.vcd_journal.proofs.Steps.{depth_within, depth_too_small, depth_no_mem
 use Rattle.vcd_journal.proofs.Histories.{length_reached_captures, AllRecordsFit_take, same_machine, machine_of_depth}
 use Rattle.vcd_journal.proofs.session.Session.set_depth.Goals as goal
 
-pub returns-then-depth-kept-clause-step : goal.returns-then-depth-kept-clause-step
-returns-then-depth-kept-clause-step c =
+pub returns-then-depth-redoable-clause-step : goal.returns-then-depth-redoable-clause-step
+returns-then-depth-redoable-clause-step c =
     let old = c.self.inside in
     let valid : is_depth c.args.depth ≡ true = sym c.if-not-is_depth.ensures in
     let count = length_reached_captures (contents old.capture) old.future.items in
     let less : c.args.depth < length (reached_captures (contents old.capture) old.future.items) =
-    omega (arith, count, c.len-kept.ensures.len) in
+    omega (arith, count, c.len-redoable.ensures.len) in
     rw (← c.self.view_is) (depth_too_small c.args.depth _ _ valid less refl)
 
 pub returns-in_err-enlarge-clause-step : goal.returns-in_err-enlarge-clause-step
@@ -24,7 +24,7 @@ returns-in_err-enlarge-clause-step c =
     let valid : is_depth c.args.depth ≡ true = sym c.if-not-is_depth.ensures in
     let count = length_reached_captures (contents old.capture) old.future.items in
     let most : length (reached_captures (contents old.capture) old.future.items) ≤ c.args.depth =
-    omega (arith, count, c.len-kept.ensures.len) in
+    omega (arith, count, c.len-redoable.ensures.len) in
     let greater : old.depth < c.args.depth =
     omega (arith, c.self.invariant.past_room, c.in_err-enlarge.ensures.lacks_room) in
     rw (refused.1, refused.2, ← c.self.view_is)
@@ -40,7 +40,7 @@ returns-in_err-enlarge-2-clause-step c =
     let valid : is_depth c.args.depth ≡ true = sym c.if-not-is_depth.ensures in
     let count = length_reached_captures (contents old.capture) old.future.items in
     let most : length (reached_captures (contents old.capture) old.future.items) ≤ c.args.depth =
-    omega (arith, count, c.len-kept.ensures.len) in
+    omega (arith, count, c.len-redoable.ensures.len) in
     let greater : old.depth < c.args.depth =
     omega (arith, c.self.invariant.future_room, c.in_err-enlarge-2.ensures.lacks_room) in
     rw (refused.1, refused.2, ← c.self.view_is)
@@ -53,14 +53,15 @@ invariant_of-self-2 c =
     let old = c.self.inside in
     let held = c.self.invariant in
     let valid : is_depth c.args.depth ≡ true = sym c.if-not-is_depth.ensures in
-    let kept = length-take (c.args.depth - c.len-kept.result) old.past.items in
+    let kept = length-take (c.args.depth - c.len-redoable.result) old.past.items in
     rw (c.keep_newest.ensures) (record {
       sound = held.sound;
       past_fits = rw (c.in_ok-enlarge.ensures.items)
-          (AllRecordsFit_take (contents old.capture) (c.args.depth - c.len-kept.result) old.past.items held.past_fits);
+          (AllRecordsFit_take (contents old.capture) (c.args.depth - c.len-redoable.result) old.past.items
+          held.past_fits);
       future_fits = rw (c.in_ok-enlarge-2.ensures.items) held.future_fits;
       few = rw (c.in_ok-enlarge.ensures.items, c.in_ok-enlarge-2.ensures.items)
-          (omega (arith, kept, c.len-kept.ensures.len));
+          (omega (arith, kept, c.len-redoable.ensures.len));
       most = depth_within c.args.depth valid;
       past_room = c.in_ok-enlarge.ensures.room;
       future_room = c.in_ok-enlarge-2.ensures.room;
@@ -72,13 +73,13 @@ returns-clause-step c =
     let valid : is_depth c.args.depth ≡ true = sym c.if-not-is_depth.ensures in
     let count = length_reached_captures (contents old.capture) old.future.items in
     let most : length (reached_captures (contents old.capture) old.future.items) ≤ c.args.depth =
-    omega (arith, count, c.len-kept.ensures.len) in
+    omega (arith, count, c.len-redoable.ensures.len) in
     rw (
       ← c.self.view_is,
       c.keep_newest.ensures,
       c.in_ok-enlarge.ensures.items,
       c.in_ok-enlarge-2.ensures.items,
-      c.len-kept.ensures.len,
+      c.len-redoable.ensures.len,
     )
     (depth_accepted c.args.depth _ _ valid most
     (machine_of_depth (contents old.capture) old.past.items old.future.items old.depth c.args.depth))
