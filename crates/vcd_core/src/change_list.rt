@@ -63,7 +63,7 @@ fn has_last_value(changes: &[Change], value: &Value) -> bool
     }
 }
 
-/// Makes room for a change where there is none: for as many as there are, and at least for `LEAST_ROOM`.
+/// Makes room in a full list: for as many changes again, and at least for `LEAST_ROOM`.
 fn make_room(changes: &mut Vec<Change>) -> Result<(), NoMemory>
     ensures changes { changes.new.items ≡ changes.old.items }
     ensures room { OnOk result (vec_len changes.new < vec_capacity changes.new) }
@@ -98,7 +98,7 @@ pub(crate) fn push_change(
     tick: u64,
     value: Value,
 ) -> Result<(), NoMemory>
-    requires wide { length value ≡ width }
+    requires width { length value ≡ width }
     requires form { IsWave width changes.old.items }
     requires none_later { All (λ c. c.tick ≤ tick) changes.old.items }
     ensures pushed { OnOk result

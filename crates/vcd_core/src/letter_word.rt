@@ -8,7 +8,7 @@ use crate::bit::Bit;
 
 impl Bit {
     /// Whether the letter's low bit is set, as in 1 and x.
-    pub(crate) fn is_low(self) -> bool
+    pub(crate) fn has_low_bit(self) -> bool
         ensures { low_of self ≡ (if result then 1 else 0) }
     {
         match self {
@@ -18,7 +18,7 @@ impl Bit {
     }
 
     /// Whether the letter's high bit is set, as in x and z.
-    pub(crate) fn is_high(self) -> bool
+    pub(crate) fn has_high_bit(self) -> bool
         ensures { high_of self ≡ (if result then 1 else 0) }
     {
         match self {
@@ -44,19 +44,19 @@ impl LetterWord {
         ensures { (i : ℕ) → i < 64 → letter_in result i ≡ letter }
     {
         LetterWord {
-            low: repeated(letter.is_low()),
-            high: repeated(letter.is_high()),
+            low: repeated(letter.has_low_bit()),
+            high: repeated(letter.has_high_bit()),
         }
     }
 
     /// The word with one more letter at its low end. The highest letter is lost.
     pub fn with_letter(self, letter: Bit) -> LetterWord
-        ensures first { letter_in result 0 ≡ letter }
+        ensures lowest { letter_in result 0 ≡ letter }
         ensures rest { (i : ℕ) → i + 1 < 64 → letter_in result (i + 1) ≡ letter_in self i }
     {
         LetterWord {
-            low: with_lowest(self.low, letter.is_low()),
-            high: with_lowest(self.high, letter.is_high()),
+            low: with_lowest(self.low, letter.has_low_bit()),
+            high: with_lowest(self.high, letter.has_high_bit()),
         }
     }
 }
@@ -70,7 +70,7 @@ fn repeated(set: bool) -> u64
 
 /// The word shifted left by one bit, with a new lowest bit. The highest bit is lost.
 fn with_lowest(word: u64, set: bool) -> u64
-    ensures first { bit_at result 0 ≡ (if set then 1 else 0) }
+    ensures lowest { bit_at result 0 ≡ (if set then 1 else 0) }
     ensures rest { (i : ℕ) → i + 1 < 64 → bit_at result (i + 1) ≡ bit_at word i }
 {
     (word << 1) | u64::from(set)

@@ -9,7 +9,7 @@ use crate::wave::Change;
 /// Appends changes to a list that has room for them, each moved by `by` ticks.
 fn append_moved(list: &mut Vec<Change>, changes: &[Change], by: i64)
     requires room { vec_len list.old + length changes.now ≤ vec_capacity list.old }
-    requires fit { AllTicksFit by changes.now }
+    requires ticks { AllTicksFit by changes.now }
     ensures items { list.new.items ≡ list.old.items ++ map (moved_change by) changes.now }
     ensures capacity { vec_capacity list.old ≤ vec_capacity list.new }
 {
@@ -34,7 +34,7 @@ pub(crate) fn copy_spliced(
     requires within { to ≤ length list.now }
     requires room { length list.now + vec_len piece.old ≤ vec_capacity copy.old + (to - from) }
     requires piece_room { to - from ≤ vec_capacity piece.old }
-    requires fit { AllTicksFit by (drop to list.now) }
+    requires ticks { AllTicksFit by (drop to list.now) }
     ensures changes { copy.new.items ≡ spliced_changes list.now from to piece.old.items by }
     ensures piece { piece.new.items ≡ slice_range list.now from to }
     ensures capacity { vec_capacity copy.old ≤ vec_capacity copy.new }

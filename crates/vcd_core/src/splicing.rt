@@ -46,12 +46,12 @@ fn swap_fronts(changes: &mut Vec<Change>, at: usize, piece: &mut Vec<Change>, co
     swap_part(changes.as_mut_slice(), at, front);
 }
 
-/// Moves the changes from `to` on down to `from`, and each by `by` ticks. The old changes at the
+/// Moves the changes from `to` on to `from`, and each by `by` ticks. The old changes at the
 /// end are left over.
-fn move_down(changes: &mut [Change], from: usize, to: usize, by: i64)
+fn move_to_front(changes: &mut [Change], from: usize, to: usize, by: i64)
     requires ordered { from ≤ to }
     requires within { to ≤ length changes.old }
-    requires fit { AllTicksFit by (drop to changes.old) }
+    requires ticks { AllTicksFit by (drop to changes.old) }
     ensures front { take (length changes.old - (to - from)) changes.new
         ≡ take from changes.old ++ map (moved_change by) (drop to changes.old) }
     ensures len { length changes.new ≡ length changes.old }
@@ -64,11 +64,11 @@ fn move_down(changes: &mut [Change], from: usize, to: usize, by: i64)
     }
 }
 
-/// Moves the changes from `from` on up by `gap` places, and each by `by` ticks. The last `gap`
+/// Moves the changes from `from` on `gap` places to the end, and each by `by` ticks. The last `gap`
 /// changes are overwritten, and the old changes in the gap are left over.
-fn move_up(changes: &mut [Change], from: usize, gap: usize, by: i64)
+fn move_to_end(changes: &mut [Change], from: usize, gap: usize, by: i64)
     requires within { from + gap ≤ length changes.old }
-    requires fit { AllTicksFit by (drop from (take (length changes.old - gap) changes.old)) }
+    requires ticks { AllTicksFit by (drop from (take (length changes.old - gap) changes.old)) }
     ensures { changes.new ≡ take (from + gap) changes.old
         ++ map (moved_change by) (drop from (take (length changes.old - gap) changes.old)) }
 {
@@ -93,14 +93,14 @@ fn write_at(changes: &mut Vec<Change>, at: usize, others: &[Change])
 }
 
 /// Moves the changes at places `from` to before `to` to the end of the piece, which has room for
-/// them. The later ones move down and get their new ticks.
+/// them. The later ones move to the front and get their new ticks.
 ///
 /// Where none goes out and `by` is 0, it looks at no later change.
 fn take_out(changes: &mut Vec<Change>, from: usize, to: usize, piece: &mut Vec<Change>, by: i64)
     requires ordered { from ≤ to }
     requires within { to ≤ vec_len changes.old }
     requires room { vec_len piece.old + (to - from) ≤ vec_capacity piece.old }
-    requires fit { AllTicksFit by (drop to changes.old.items) }
+    requires ticks { AllTicksFit by (drop to changes.old.items) }
     ensures changes { changes.new.items ≡ take from changes.old.items
         ++ map (moved_change by) (drop to changes.old.items) }
     ensures piece { piece.new.items ≡ piece.old.items ++ slice_range changes.old.items from to }
@@ -112,17 +112,17 @@ fn take_out(changes: &mut Vec<Change>, from: usize, to: usize, piece: &mut Vec<C
     }
     let kept = changes.len() - (to - from);
     piece.extend_from_slice(&changes[from..to]).unwrap();
-    move_down(changes.as_mut_slice(), from, to, by);
+    move_to_front(changes.as_mut_slice(), from, to, by);
     changes.truncate(kept);
 }
 
 /// Moves the changes of the piece from `kept` on into the list at `at`, which has room for them.
-/// The later ones move up and get their new ticks.
+/// The later ones move to the end and get their new ticks.
 fn put_in(changes: &mut Vec<Change>, at: usize, piece: &mut Vec<Change>, kept: usize, by: i64)
     requires within { at ≤ vec_len changes.old }
     requires front { kept ≤ vec_len piece.old }
     requires room { vec_len changes.old + (vec_len piece.old - kept) ≤ vec_capacity changes.old }
-    requires fit { AllTicksFit by (drop at changes.old.items) }
+    requires ticks { AllTicksFit by (drop at changes.old.items) }
     ensures changes { changes.new.items ≡ take at changes.old.items ++ drop kept piece.old.items
         ++ map (moved_change by) (drop at changes.old.items) }
     ensures piece { piece.new.items ≡ take kept piece.old.items }
@@ -131,7 +131,7 @@ fn put_in(changes: &mut Vec<Change>, at: usize, piece: &mut Vec<Change>, kept: u
 {
     let rest = &piece[kept..];
     changes.extend_from_slice(rest).unwrap();
-    move_up(changes.as_mut_slice(), at, rest.len(), by);
+    move_to_end(changes.as_mut_slice(), at, rest.len(), by);
     write_at(changes, at, rest);
     piece.truncate(kept);
 }
@@ -153,20 +153,20 @@ pub(crate) fn splice_changes(
     requires room { vec_len changes.old + vec_len piece.old
         ≤ vec_capacity changes.old + (to - from) }
     requires piece_room { to - from ≤ vec_capacity piece.old }
-    requires fit { AllTicksFit by (drop to changes.old.items) }
+    requires ticks { AllTicksFit by (drop to changes.old.items) }
     ensures changes { changes.new.items
         ≡ spliced_changes changes.old.items from to piece.old.items by }
     ensures piece { piece.new.items ≡ slice_range changes.old.items from to }
     ensures capacity { vec_capacity changes.old ≤ vec_capacity changes.new }
     ensures piece_capacity { vec_capacity piece.old ≤ vec_capacity piece.new }
 {
-    let part = to - from;
+    let range_len = to - from;
     let piece_len = piece.len();
-    if piece_len <= part {
+    if piece_len <= range_len {
         swap_fronts(changes, from, piece, piece_len);
         take_out(changes, from + piece_len, to, piece, by);
     } else {
-        swap_fronts(changes, from, piece, part);
-        put_in(changes, to, piece, part, by);
+        swap_fronts(changes, from, piece, range_len);
+        put_in(changes, to, piece, range_len, by);
     }
 }

@@ -122,8 +122,8 @@ impl Value {
         ensures { result ≡ slice_set self (length self - 1 - k) bit }
     {
         let mut planes = self.planes;
-        write_plane_bit(&mut planes, 0, k, bit.is_low());
-        write_plane_bit(&mut planes, 1, k, bit.is_high());
+        write_plane_bit(&mut planes, 0, k, bit.has_low_bit());
+        write_plane_bit(&mut planes, 1, k, bit.has_high_bit());
         // Its clause bounds each word after the calls.
         words_fit(&planes);
         Value {

@@ -296,9 +296,9 @@ impl Wave {
     pub fn splice(&mut self, from: usize, to: usize, piece: &mut Vec<Change>, by: i64)
         requires ordered { from ≤ to }
         requires within { to ≤ length self.old.changes }
-        requires fits { length self.old.changes + vec_len piece.old
+        requires room { length self.old.changes + vec_len piece.old
             < self.old.splice_room + (to - from) }
-        requires piece_fits { to - from ≤ vec_capacity piece.old }
+        requires piece_room { to - from ≤ vec_capacity piece.old }
         requires ticks { AllTicksFit by (drop to self.old.changes) }
         requires form { IsWave self.old.width
             (spliced_changes self.old.changes from to piece.old.items by) }
@@ -309,8 +309,8 @@ impl Wave {
         ensures piece { piece.new.items ≡ slice_range self.old.changes from to }
 
         // The list is the wave's own, and both sides keep their room.
-        ensures room { self.old.splice_room ≤ self.new.room }
-        ensures piece_room { vec_capacity piece.old ≤ vec_capacity piece.new }
+        ensures own_room { self.old.splice_room ≤ self.new.room }
+        ensures piece_capacity { vec_capacity piece.old ≤ vec_capacity piece.new }
     {
         self.list.splice(from, to, piece, by);
     }

@@ -167,8 +167,7 @@ fn enlarge_room(
     }
 }
 
-/// Makes room for a list of `count` changes: in the list where nobody shares it, and otherwise in
-/// addition to it.
+/// Makes room for `count` changes: in the list if no other wave has it, and otherwise in new memory.
 fn reserve_shared(
     alloc: Global,
     shared: Rc<Vec<Change>>,
@@ -190,29 +189,29 @@ fn reserve_shared(
     }
 }
 
-/// Makes room for the result of a splice that replaces `part` changes with those of a piece.
+/// Makes room for the result of a splice that replaces `range_len` changes with those of a piece.
 fn reserve_list(
     alloc: Global,
     list: WaveList,
-    part: usize,
+    range_len: usize,
     piece: &[Change],
 ) -> (WaveList, Result<(), NoMemory>)
-    requires { part ≤ length (changes_of_list list) }
+    requires { range_len ≤ length (changes_of_list list) }
     ensures changes { changes_of_list result.0 ≡ changes_of_list list }
     ensures room { OnOk result.1 (length (changes_of_list list) + length piece.now
-        < splice_room_of_list result.0 + part) }
+        < splice_room_of_list result.0 + range_len) }
     ensures in_place { length (changes_of_list list) + length piece.now
-        < splice_room_of_list list + part → IsOk result.1 }
+        < splice_room_of_list list + range_len → IsOk result.1 }
     ensures never_less { splice_room_of_list list ≤ splice_room_of_list result.0 }
     ensures own_room { room_of_list list ≤ room_of_list result.0 }
     ensures refused { OnErr result.1 (0 < room_of_list list →
         room_of_list result.0 ≡ room_of_list list) }
     ensures grown_room { 0 < room_of_list list → splice_room_of_list result.0
         ≤ max (room_of_list list) (length (changes_of_list list)
-        + max (length (changes_of_list list)) (length piece.now - part) + 1) }
+        + max (length (changes_of_list list)) (length piece.now - range_len) + 1) }
 {
-    let more = piece.len().saturating_sub(part);
-    let count = list.as_slice().len() - part + piece.len();
+    let more = piece.len().saturating_sub(range_len);
+    let count = list.as_slice().len() - range_len + piece.len();
     match list {
         WaveList::Own(own) => reserve_own(own, more),
         WaveList::Shared(shared) => reserve_shared(alloc, shared, more, count),
@@ -239,7 +238,7 @@ fn splice_list(list: WaveList, from: usize, to: usize, piece: &mut Vec<Change>, 
     requires room { length (changes_of_list list) + vec_len piece.old
         < splice_room_of_list list + (to - from) }
     requires piece_room { to - from ≤ vec_capacity piece.old }
-    requires fit { AllTicksFit by (drop to (changes_of_list list)) }
+    requires ticks { AllTicksFit by (drop to (changes_of_list list)) }
     ensures changes { changes_of_list result
         ≡ spliced_changes (changes_of_list list) from to piece.old.items by }
     ensures piece { piece.new.items ≡ slice_range (changes_of_list list) from to }
@@ -346,25 +345,25 @@ impl WaveList {
         }
     }
 
-    /// Makes room for the result of a splice that replaces `part` changes with those of a piece.
-    pub fn reserve_splice(&mut self, part: usize, piece: &[Change]) -> Result<(), NoMemory>
-        requires { part ≤ length (changes_of_list self.old) }
+    /// Makes room for the result of a splice that replaces `range_len` changes with those of a piece.
+    pub fn reserve_splice(&mut self, range_len: usize, piece: &[Change]) -> Result<(), NoMemory>
+        requires { range_len ≤ length (changes_of_list self.old) }
         ensures changes { changes_of_list self.new ≡ changes_of_list self.old }
         ensures room { OnOk result (length (changes_of_list self.old) + length piece.now
-            < splice_room_of_list self.new + part) }
+            < splice_room_of_list self.new + range_len) }
         ensures in_place { length (changes_of_list self.old) + length piece.now
-            < splice_room_of_list self.old + part → IsOk result }
+            < splice_room_of_list self.old + range_len → IsOk result }
         ensures never_less { splice_room_of_list self.old ≤ splice_room_of_list self.new }
         ensures own_room { room_of_list self.old ≤ room_of_list self.new }
         ensures refused { OnErr result (0 < room_of_list self.old →
             room_of_list self.new ≡ room_of_list self.old) }
         ensures grown_room { 0 < room_of_list self.old → splice_room_of_list self.new
             ≤ max (room_of_list self.old) (length (changes_of_list self.old)
-            + max (length (changes_of_list self.old)) (length piece.now - part) + 1) }
+            + max (length (changes_of_list self.old)) (length piece.now - range_len) + 1) }
     {
         let alloc = self.alloc();
         let list = replace(self, WaveList::Own(Vec::new(alloc)));
-        let (list, reserved) = reserve_list(alloc, list, part, piece);
+        let (list, reserved) = reserve_list(alloc, list, range_len, piece);
         *self = list;
         reserved
     }
@@ -386,7 +385,7 @@ impl WaveList {
         requires room { length (changes_of_list self.old) + vec_len piece.old
             < splice_room_of_list self.old + (to - from) }
         requires piece_room { to - from ≤ vec_capacity piece.old }
-        requires fit { AllTicksFit by (drop to (changes_of_list self.old)) }
+        requires ticks { AllTicksFit by (drop to (changes_of_list self.old)) }
         ensures changes { changes_of_list self.new
             ≡ spliced_changes (changes_of_list self.old) from to piece.old.items by }
         ensures piece { piece.new.items ≡ slice_range (changes_of_list self.old) from to }

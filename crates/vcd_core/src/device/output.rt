@@ -34,7 +34,7 @@ pub fn write_all<W: Sink>(sink: &mut W, bytes: &[u8]) -> Result<(), ShortWrite>
     ensures front { IfErr result (λ short.
         Appends (W.taken sink.old) (W.taken sink.new) (take short.written bytes.now)) }
     ensures not_all { IfErr result (λ short. short.written < length bytes.now) }
-    ensures fault { OnErr result (W.has_failed sink.new ≡ true) }
+    ensures failed { OnErr result (W.has_failed sink.new ≡ true) }
 {
     let mut written = 0;
     while written < bytes.len() {
@@ -61,7 +61,7 @@ pub fn write_and_flush<W: Sink>(sink: &mut W, bytes: &[u8]) -> Result<(), ShortW
     ensures front { IfErr result (λ short.
         Appends (W.taken sink.old) (W.taken sink.new) (take short.written bytes.now)) }
     ensures within { IfErr result (λ short. short.written ≤ length bytes.now) }
-    ensures fault { OnErr result (W.has_failed sink.new ≡ true) }
+    ensures failed { OnErr result (W.has_failed sink.new ≡ true) }
 {
     write_all(sink, bytes)?;
     match sink.flush() {

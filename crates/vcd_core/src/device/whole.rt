@@ -90,18 +90,18 @@ fn read_block<S: Source>(
     requires ready { S.has_failed source.old ≡ false }
     requires room { vec_len bytes.old ≤ limit }
     requires block { 0 < length block.old }
-    ensures more { IfOk result (λ more. (piece : List ℕ)
-        × Consumes (S.coming source.old) (S.coming source.new) piece
-        × (bytes.new.items ≡ bytes.old.items ++ piece)
-        × (more ≡ nat_lt 0 (length piece))) }
+    ensures more { IfOk result (λ more. (chunk : List ℕ)
+        × Consumes (S.coming source.old) (S.coming source.new) chunk
+        × (bytes.new.items ≡ bytes.old.items ++ chunk)
+        × (more ≡ nat_lt 0 (length chunk))) }
     ensures within { vec_len bytes.new ≤ limit }
     ensures ended { IfOk result (λ more. more ≡ false → IsAtEnd (S.coming source.new)) }
     ensures ready { OnOk result (S.has_failed source.new ≡ false) }
     ensures too_large_only { IsErrOf result Incomplete.TooLarge → S.has_failed source.new ≡ false }
-    ensures too_large { IsErrOf result Incomplete.TooLarge → (piece : List ℕ)
-        × Consumes (S.coming source.old) (S.coming source.new) piece
-        × (limit < vec_len bytes.old + length piece)
-        × (bytes.new.items ≡ take limit (bytes.old.items ++ piece)) }
+    ensures too_large { IsErrOf result Incomplete.TooLarge → (chunk : List ℕ)
+        × Consumes (S.coming source.old) (S.coming source.new) chunk
+        × (limit < vec_len bytes.old + length chunk)
+        × (bytes.new.items ≡ take limit (bytes.old.items ++ chunk)) }
     ensures failed { IsErrOf result Incomplete.ReadFault → S.has_failed source.new ≡ true }
     ensures coming { IsErrOf result Incomplete.ReadFault →
         Keeps (S.coming source.old) (S.coming source.new) }

@@ -17,7 +17,7 @@ told value width kept slice r b same wide compared result =
 pub returns-in_err-make_room-clause-adds_none : goal.returns-in_err-make_room-clause-adds_none
 returns-in_err-make_room-clause-adds_none c same =
     let differs : same_letters c.args.value (last_value (all_x c.args.width) c.pop_at.new.changes.items) ≡ false =
-    told _ _ _ _ _ false c.as_slice.ensures.value c.requires.wide c.has_last_value.ensures
+    told _ _ _ _ _ false c.as_slice.ensures.value c.requires.width c.has_last_value.ensures
     c.if-not-has_last_value.true in
     let equal : same_letters c.args.value (last_value (all_x c.args.width) c.pop_at.new.changes.items) ≡ true =
     (same_letters-Decides _ _).1 (sym (ap (last_value (all_x c.args.width)) c.pop_at.ensures.changes ∙ same)) in
@@ -29,11 +29,11 @@ returns-in_ok-make_room-clause-pushed c =
     c.push_change_in_room.ensures.changes
     ∙ ap (λ l. l ++ change c.args.tick c.args.value ∷ []) c.make_room.ensures.changes
     ∙ pushed_other _ _ _ _ _ c.pop_at.ensures.changes
-    (told _ _ _ _ _ false c.as_slice.ensures.value c.requires.wide c.has_last_value.ensures
+    (told _ _ _ _ _ false c.as_slice.ensures.value c.requires.width c.has_last_value.ensures
     c.if-not-has_last_value.true)
 
 pub returns-else-not-has_last_value-clause-pushed : goal.returns-else-not-has_last_value-clause-pushed
 returns-else-not-has_last_value-clause-pushed c =
     pushed_same _ _ _ _ _ c.pop_at.ensures.changes
-    (told _ _ _ _ _ true c.as_slice.ensures.value c.requires.wide c.has_last_value.ensures
+    (told _ _ _ _ _ true c.as_slice.ensures.value c.requires.width c.has_last_value.ensures
     c.if-not-has_last_value.false)

@@ -31,8 +31,8 @@ bit_is_small : (set : Bool) (b : ℕ) → b ≡ bool_byte set → b < 2
 bit_is_small true b is = omega (arith, is)
 bit_is_small false b is = omega (arith, is)
 
-pub returns-clause-first : goal.returns-clause-first
-returns-clause-first c = first_bit c.args.word c.from.result (bit_is_small _ _ c.from.ensures)
+pub returns-clause-lowest : goal.returns-clause-lowest
+returns-clause-lowest c = first_bit c.args.word c.from.result (bit_is_small _ _ c.from.ensures)
     ∙ bit_is _ _ c.from.ensures
 
 pub returns-clause-rest : goal.returns-clause-rest

@@ -17,9 +17,9 @@ returns-clause-changes c =
     take_all (length given - c.args.kept) (drop c.args.kept given) (omega (arith, length-drop c.args.kept given))
     ∙ ap (drop c.args.kept) c.deref.ensures.value in
     let whole : c.as_mut_slice.result.now ≡ xs ++ rest = search rules in
-    put_into_gap _ xs rest c.as_mut_slice.result.now c.move_up.new.changes _ c.write_at.new.changes.items c.args.at
+    put_into_gap _ xs rest c.as_mut_slice.result.now c.move_to_end.new.changes _ c.write_at.new.changes.items c.args.at
     (length rest) refl (omega arith)
-    whole c.move_up.ensures
-    (whole_list _ c.move_up.new.changes _ (omega (arith, c.move_up.auto.changes, c.as_mut_slice.ensures.len)))
+    whole c.move_to_end.ensures
+    (whole_list _ c.move_to_end.new.changes _ (omega (arith, c.move_to_end.auto.changes, c.as_mut_slice.ensures.len)))
     c.write_at.ensures.items
     ∙ (λ i. take c.args.at xs ++ is i ++ map (moved_change (to_z-of_z w64 c.args.by c.ranges.by i)) (drop c.args.at xs))

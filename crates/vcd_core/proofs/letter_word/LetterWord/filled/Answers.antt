@@ -5,6 +5,6 @@ use Rattle.vcd_core.proofs.letter_word.LetterWord.filled.Goals as goal
 
 pub returns : goal.returns
 returns c = λ i inside.
-    (λ p. letter_of ((c.repeated.ensures i inside ∙ sym c.is_low.ensures) p)
-    ((c.repeated-2.ensures i inside ∙ sym c.is_high.ensures) p))
+    (λ p. letter_of ((c.repeated.ensures i inside ∙ sym c.has_low_bit.ensures) p)
+    ((c.repeated-2.ensures i inside ∙ sym c.has_high_bit.ensures) p))
     ∙ letter_of-letter c.args.letter

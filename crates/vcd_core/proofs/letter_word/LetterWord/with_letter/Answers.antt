@@ -3,10 +3,10 @@ use Rattle.vcd_core.specs.WordRows.{letter_of}
 use Rattle.vcd_core.proofs.ValueLemmas.{letter_of-letter}
 use Rattle.vcd_core.proofs.letter_word.LetterWord.with_letter.Goals as goal
 
-pub returns-clause-first : goal.returns-clause-first
-returns-clause-first c =
-    (λ p. letter_of ((c.with_lowest.ensures.first ∙ sym c.is_low.ensures) p)
-    ((c.with_lowest-2.ensures.first ∙ sym c.is_high.ensures) p))
+pub returns-clause-lowest : goal.returns-clause-lowest
+returns-clause-lowest c =
+    (λ p. letter_of ((c.with_lowest.ensures.lowest ∙ sym c.has_low_bit.ensures) p)
+    ((c.with_lowest-2.ensures.lowest ∙ sym c.has_high_bit.ensures) p))
     ∙ letter_of-letter c.args.letter
 
 pub returns-clause-rest : goal.returns-clause-rest

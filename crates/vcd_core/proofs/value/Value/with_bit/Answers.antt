@@ -67,8 +67,8 @@ returns c =
     let second = c.write_plane_bit-2.ensures in
     letters_in-shown (set v (length v - 1 - c.args.k) c.args.bit) _ _ (sym (length-set v _ _ ∙ long))
     (λ i within. second.other_plane 0 i (omega arith) (omega arith)
-    ∙ plane_written 0 low_of v c.args.k c.args.bit _ _ _ c.requires c.is_low.ensures first.at first.others
+    ∙ plane_written 0 low_of v c.args.k c.args.bit _ _ _ c.requires c.has_low_bit.ensures first.at first.others
     (λ i below. shown 0 i (omega arith) below) i (omega (arith, long)))
-    (λ i within. plane_written 1 high_of v c.args.k c.args.bit _ _ _ c.requires c.is_high.ensures second.at
+    (λ i within. plane_written 1 high_of v c.args.k c.args.bit _ _ _ c.requires c.has_high_bit.ensures second.at
     (λ i apart. second.others i apart ∙ first.other_plane 1 i (omega arith) (omega arith))
     (λ i below. shown 1 i (omega arith) below) i (omega (arith, long)))

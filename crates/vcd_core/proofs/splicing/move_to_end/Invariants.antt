@@ -1,7 +1,7 @@
 use Rattle.std.proofs.Common.{◌≡◌, ◌≤◌, ◌-◌, length}
 use Rattle.vcd_core.specs.Splice.{moved_change}
 use Rattle.vcd_core.proofs.Shifts.{lifted}
-use Rattle.vcd_core.proofs.splicing.move_up.Given as goal
+use Rattle.vcd_core.proofs.splicing.move_to_end.Given as goal
 
 abbrev pub invariant-loop-left : goal.invariant-loop-left
 invariant-loop-left l = record {
