@@ -117,10 +117,10 @@ other_not_refused (steps.Depth depth) refusal other same =
     let no : true ≡ false = sym (ap is_no_memory is) ∙ other in absurd (cc)
 
 -- the reply is the one to the step
-replied : (number : ℕ) (said : LineReply) (s : Step) (old new : Machine) (reply : Reply) →
-    ((step_outcome old s).after ≡ new) × (step_reply s old.now (length old.past) (length old.future) ≡ said)
-    → IsReplyTo number said reply → AnswersStep number s old new reply
-replied number said s old new reply is tells =
+replied : (number : ℕ) (answer : LineReply) (s : Step) (old new : Machine) (reply : Reply) →
+    ((step_outcome old s).after ≡ new) × (step_reply s old.now (length old.past) (length old.future) ≡ answer)
+    → IsReplyTo number answer reply → AnswersStep number s old new reply
+replied number answer s old new reply is tells =
     (is.0, subst (λ (r : LineReply). IsReplyTo number r reply) (sym is.1) tells)
 
 pub step_accepted : (number : ℕ) (s : Step) (old new : Machine) (reply : Reply) → IsStep old s Done new
@@ -140,15 +140,15 @@ step_refused number s refusal old new reply made other tells =
 -- ---- lines
 
 -- the reply to a line that is read as this
-said_to : (skipped : ℕ) → Machine → Result Command LineError → LineReply
-said_to skipped m asked = command_reply asked m.now skipped (length m.past) (length m.future)
+answer_to : (skipped : ℕ) → Machine → Result Command LineError → LineReply
+answer_to skipped m parsed = command_reply parsed m.now skipped (length m.past) (length m.future)
 
 -- what a step does and its reply, with its word at any address
 pub command_steps : (skipped number : ℕ) (s : Step) (old new : Machine) (reply : Reply)
     → AnswersStep number s old new reply → AnswersCommand skipped number (commands.Step s) old new reply
 command_steps skipped number s old new reply answers = (
   ap (λ (o : StepOutcome). o.after) (outcome_without_address old s) ∙ answers.0,
-  subst (λ (said : LineReply). IsReplyTo number said reply)
+  subst (λ (answer : LineReply). IsReplyTo number answer reply)
       (sym (reply_without_address s old.now (length old.past) (length old.future))) answers.1,
 )
 
@@ -156,19 +156,19 @@ command_steps skipped number s old new reply answers = (
 pub line_asks : (skipped number : ℕ) (line : List ℕ) (command : Command) (old new : Machine) (reply : Reply)
     → command_of_line old.now line ≡ Ok (command_without_address command) →
     AnswersCommand skipped number command old new reply → AnswersLine skipped number line old new reply
-unfolding machine_after_line line_reply said_to
+unfolding machine_after_line line_reply answer_to
 line_asks skipped number line command old new reply read answers = (
   ap (machine_after_command old) read ∙ answers.0,
-  subst (λ (said : LineReply). IsReplyTo number said reply) (sym (ap (said_to skipped old) read)) answers.1,
+  subst (λ (answer : LineReply). IsReplyTo number answer reply) (sym (ap (answer_to skipped old) read)) answers.1,
 )
 
 -- a line that leaves the machine as it is
-pub line_stays : (skipped number : ℕ) (line : List ℕ) (asked : Result Command LineError) (old : Machine) (reply : Reply)
-    → command_of_line old.now line ≡ asked → machine_after_command old asked ≡ old →
-    IsReplyTo number (command_reply asked old.now skipped (length old.past) (length old.future)) reply
+pub line_stays : (skipped number : ℕ) (line : List ℕ) (parsed : Result Command LineError) (old : Machine)
+    (reply : Reply) → command_of_line old.now line ≡ parsed → machine_after_command old parsed ≡ old →
+    IsReplyTo number (command_reply parsed old.now skipped (length old.past) (length old.future)) reply
     → AnswersLine skipped number line old old reply
-unfolding machine_after_line line_reply said_to
-line_stays skipped number line asked old reply read stays tells = (
+unfolding machine_after_line line_reply answer_to
+line_stays skipped number line parsed old reply read stays tells = (
   ap (machine_after_command old) read ∙ stays,
-  subst (λ (said : LineReply). IsReplyTo number said reply) (sym (ap (said_to skipped old) read)) tells,
+  subst (λ (answer : LineReply). IsReplyTo number answer reply) (sym (ap (answer_to skipped old) read)) tells,
 )

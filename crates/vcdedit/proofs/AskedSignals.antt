@@ -57,56 +57,56 @@ then_any : {A : Type 0} (c : Contents) (r : Result A LineError) (f : A → Resul
 then_any c (Ok x) f gives = gives x
 then_any c (Err found) f gives = refused c found
 
-of_none : (c : Contents) (words : List (List ℕ)) (asked : Result Command LineError) → GivesSignals c asked
-    → GivesSignals c (no_word words asked)
-of_none c [] asked gives = gives
-of_none c (word ∷ words) asked gives = refused c _
+of_none : (c : Contents) (words : List (List ℕ)) (parsed : Result Command LineError) → GivesSignals c parsed
+    → GivesSignals c (no_word words parsed)
+of_none c [] parsed gives = gives
+of_none c (word ∷ words) parsed gives = refused c _
 
-of_one : (c : Contents) (words : List (List ℕ)) (asked : List ℕ → Result Command LineError)
-    → ((a : List ℕ) → GivesSignals c (asked a)) → GivesSignals c (one_word words asked)
-of_one c [] asked gives = refused c _
-of_one c (a ∷ []) asked gives = gives a
-of_one c (a ∷ b ∷ words) asked gives = refused c _
+of_one : (c : Contents) (words : List (List ℕ)) (parse : List ℕ → Result Command LineError)
+    → ((a : List ℕ) → GivesSignals c (parse a)) → GivesSignals c (one_word words parse)
+of_one c [] parse gives = refused c _
+of_one c (a ∷ []) parse gives = gives a
+of_one c (a ∷ b ∷ words) parse gives = refused c _
 
-of_two : (c : Contents) (words : List (List ℕ)) (asked : List ℕ → List ℕ → Result Command LineError)
-    → ((a b : List ℕ) → GivesSignals c (asked a b)) → GivesSignals c (two_words words asked)
-of_two c [] asked gives = refused c _
-of_two c (a ∷ []) asked gives = refused c _
-of_two c (a ∷ b ∷ []) asked gives = gives a b
-of_two c (a ∷ b ∷ d ∷ words) asked gives = refused c _
+of_two : (c : Contents) (words : List (List ℕ)) (parse : List ℕ → List ℕ → Result Command LineError)
+    → ((a b : List ℕ) → GivesSignals c (parse a b)) → GivesSignals c (two_words words parse)
+of_two c [] parse gives = refused c _
+of_two c (a ∷ []) parse gives = refused c _
+of_two c (a ∷ b ∷ []) parse gives = gives a b
+of_two c (a ∷ b ∷ d ∷ words) parse gives = refused c _
 
-of_four : (c : Contents) (words : List (List ℕ)) (asked : List ℕ → List ℕ → List ℕ → List ℕ → Result Command LineError)
-    → ((w x y z : List ℕ) → GivesSignals c (asked w x y z)) → GivesSignals c (four_words words asked)
-of_four c [] asked gives = refused c _
-of_four c (w ∷ []) asked gives = refused c _
-of_four c (w ∷ x ∷ []) asked gives = refused c _
-of_four c (w ∷ x ∷ y ∷ []) asked gives = refused c _
-of_four c (w ∷ x ∷ y ∷ z ∷ []) asked gives = gives w x y z
-of_four c (w ∷ x ∷ y ∷ z ∷ more ∷ words) asked gives = refused c _
+of_four : (c : Contents) (words : List (List ℕ)) (parse : List ℕ → List ℕ → List ℕ → List ℕ → Result Command LineError)
+    → ((w x y z : List ℕ) → GivesSignals c (parse w x y z)) → GivesSignals c (four_words words parse)
+of_four c [] parse gives = refused c _
+of_four c (w ∷ []) parse gives = refused c _
+of_four c (w ∷ x ∷ []) parse gives = refused c _
+of_four c (w ∷ x ∷ y ∷ []) parse gives = refused c _
+of_four c (w ∷ x ∷ y ∷ z ∷ []) parse gives = gives w x y z
+of_four c (w ∷ x ∷ y ∷ z ∷ more ∷ words) parse gives = refused c _
 
-of_five : (c : Contents) (words : List (List ℕ)) (asked : List ℕ → List ℕ → List ℕ → List ℕ → List ℕ
+of_five : (c : Contents) (words : List (List ℕ)) (parse : List ℕ → List ℕ → List ℕ → List ℕ → List ℕ
     → Result Command LineError) →
-    ((v w x y z : List ℕ) → GivesSignals c (asked v w x y z)) → GivesSignals c (five_words words asked)
-of_five c [] asked gives = refused c _
-of_five c (v ∷ []) asked gives = refused c _
-of_five c (v ∷ w ∷ []) asked gives = refused c _
-of_five c (v ∷ w ∷ x ∷ []) asked gives = refused c _
-of_five c (v ∷ w ∷ x ∷ y ∷ []) asked gives = refused c _
-of_five c (v ∷ w ∷ x ∷ y ∷ z ∷ []) asked gives = gives v w x y z
-of_five c (v ∷ w ∷ x ∷ y ∷ z ∷ more ∷ words) asked gives = refused c _
+    ((v w x y z : List ℕ) → GivesSignals c (parse v w x y z)) → GivesSignals c (five_words words parse)
+of_five c [] parse gives = refused c _
+of_five c (v ∷ []) parse gives = refused c _
+of_five c (v ∷ w ∷ []) parse gives = refused c _
+of_five c (v ∷ w ∷ x ∷ []) parse gives = refused c _
+of_five c (v ∷ w ∷ x ∷ y ∷ []) parse gives = refused c _
+of_five c (v ∷ w ∷ x ∷ y ∷ z ∷ []) parse gives = gives v w x y z
+of_five c (v ∷ w ∷ x ∷ y ∷ z ∷ more ∷ words) parse gives = refused c _
 
-of_seven : (c : Contents) (words : List (List ℕ)) (asked : List ℕ → List ℕ → List ℕ → List ℕ → List ℕ → List ℕ → List ℕ
+of_seven : (c : Contents) (words : List (List ℕ)) (parse : List ℕ → List ℕ → List ℕ → List ℕ → List ℕ → List ℕ → List ℕ
     → Result Command LineError) →
-    ((t u v w x y z : List ℕ) → GivesSignals c (asked t u v w x y z)) → GivesSignals c (seven_words words asked)
-of_seven c [] asked gives = refused c _
-of_seven c (t ∷ []) asked gives = refused c _
-of_seven c (t ∷ u ∷ []) asked gives = refused c _
-of_seven c (t ∷ u ∷ v ∷ []) asked gives = refused c _
-of_seven c (t ∷ u ∷ v ∷ w ∷ []) asked gives = refused c _
-of_seven c (t ∷ u ∷ v ∷ w ∷ x ∷ []) asked gives = refused c _
-of_seven c (t ∷ u ∷ v ∷ w ∷ x ∷ y ∷ []) asked gives = refused c _
-of_seven c (t ∷ u ∷ v ∷ w ∷ x ∷ y ∷ z ∷ []) asked gives = gives t u v w x y z
-of_seven c (t ∷ u ∷ v ∷ w ∷ x ∷ y ∷ z ∷ more ∷ words) asked gives = refused c _
+    ((t u v w x y z : List ℕ) → GivesSignals c (parse t u v w x y z)) → GivesSignals c (seven_words words parse)
+of_seven c [] parse gives = refused c _
+of_seven c (t ∷ []) parse gives = refused c _
+of_seven c (t ∷ u ∷ []) parse gives = refused c _
+of_seven c (t ∷ u ∷ v ∷ []) parse gives = refused c _
+of_seven c (t ∷ u ∷ v ∷ w ∷ []) parse gives = refused c _
+of_seven c (t ∷ u ∷ v ∷ w ∷ x ∷ []) parse gives = refused c _
+of_seven c (t ∷ u ∷ v ∷ w ∷ x ∷ y ∷ []) parse gives = refused c _
+of_seven c (t ∷ u ∷ v ∷ w ∷ x ∷ y ∷ z ∷ []) parse gives = gives t u v w x y z
+of_seven c (t ∷ u ∷ v ∷ w ∷ x ∷ y ∷ z ∷ more ∷ words) parse gives = refused c _
 
 either : (c : Contents) (b : Bool) (x y : Result Command LineError) → GivesSignals c x → GivesSignals c y
     → GivesSignals c (cond b x y)
@@ -116,20 +116,21 @@ either c false x y first second = second
 -- ---- the signals that words name
 
 -- a signal with this name is in the capture
-named : (c : Capture) (name : List ℕ) → IfOk (signal_of_name (contents c) name) (λ k. k < length (contents c).signals)
-named c name = subst (λ (n : ℕ). IfOk (signal_of_name (contents c) name) (λ k. k < n))
+found_within : (c : Capture) (name : List ℕ) → IfOk (signal_of_name (contents c) name)
+    (λ k. k < length (contents c).signals)
+found_within c name = subst (λ (n : ℕ). IfOk (signal_of_name (contents c) name) (λ k. k < n))
     (sym (length-map c.signals signal_contents)) (named_within c name (signal_of_name (contents c) name) refl)
 
-some_named : (c : Contents) (r : Result ℕ LineError) → IfOk r (λ k. k < length c.signals)
+some_found : (c : Contents) (r : Result ℕ LineError) → IfOk r (λ k. k < length c.signals)
     → IfOk (r >>= (λ k. Ok (Some k))) (λ line. IfSome line (λ k. k < length c.signals))
-some_named c (Ok k) within = within
-some_named c (Err found) within = tt
+some_found c (Ok k) within = within
+some_found c (Err found) within = tt
 
-absent_or_named : (c : Capture) (b : Bool) (name : List ℕ) →
+absent_or_found : (c : Capture) (b : Bool) (name : List ℕ) →
     IfOk (cond b (Ok None) (signal_of_name (contents c) name >>= (λ k. Ok (Some k))))
     (λ line. IfSome line (λ k. k < length (contents c).signals))
-absent_or_named c true name = tt
-absent_or_named c false name = some_named (contents c) (signal_of_name (contents c) name) (named c name)
+absent_or_found c true name = tt
+absent_or_found c false name = some_found (contents c) (signal_of_name (contents c) name) (found_within c name)
 
 by_width : (c : Contents) (k : ℕ) (b : Bool) → ((signal_at c k).width == 1) ≡ b → k < length c.signals
     → IfOk (cond b (Ok k) (Err NotScalar)) (IsScalarAt c)
@@ -178,7 +179,8 @@ of_derive c (word ∷ rule ∷ operands) = of_rule c word rule operands
 
 of_uart : (c : Capture) (words : List (List ℕ)) → GivesSignals (contents c) (uart_command (contents c) words)
 of_uart c words = of_five (contents c) words _ (λ name bit count parity stop.
-    read_on (contents c) (signal_of_name (contents c) name) (λ k. k < length (contents c).signals) _ (named c name)
+    read_on (contents c) (signal_of_name (contents c) name) (λ k. k < length (contents c).signals) _
+    (found_within c name)
     (λ k within.
     then_any (contents c) (ratio_of_word bit) _ (λ ratio.
     then_any (contents c) (number_of_word count) _ (λ data_bits.
@@ -191,14 +193,14 @@ of_uart c words = of_five (contents c) words _ (λ name bit count parity stop.
 
 of_spi : (c : Capture) (words : List (List ℕ)) → GivesSignals (contents c) (spi_command (contents c) words)
 of_spi c words = of_seven (contents c) words _ (λ clk mosi miso cs mode bits order.
-    read_on (contents c) (signal_of_name (contents c) clk) (λ k. k < length (contents c).signals) _ (named c clk)
+    read_on (contents c) (signal_of_name (contents c) clk) (λ k. k < length (contents c).signals) _ (found_within c clk)
     (λ k clk_within.
     read_on (contents c) (signal_or_absent (contents c) mosi)
-    (λ line. IfSome line (λ k. k < length (contents c).signals)) _ (absent_or_named c _ mosi) (λ out mosi_within.
+    (λ line. IfSome line (λ k. k < length (contents c).signals)) _ (absent_or_found c _ mosi) (λ out mosi_within.
     read_on (contents c) (signal_or_absent (contents c) miso)
-    (λ line. IfSome line (λ k. k < length (contents c).signals)) _ (absent_or_named c _ miso) (λ input miso_within.
+    (λ line. IfSome line (λ k. k < length (contents c).signals)) _ (absent_or_found c _ miso) (λ input miso_within.
     read_on (contents c) (signal_or_absent (contents c) cs) (λ line. IfSome line (λ k. k < length (contents c).signals))
-    _ (absent_or_named c _ cs) (λ select cs_within.
+    _ (absent_or_found c _ cs) (λ select cs_within.
     then_any (contents c) (number_of_word mode) _ (λ number.
     then_any (contents c) (number_of_word bits) _ (λ word_bits.
     then_any (contents c) (order_of_word order) _ (λ bit_order.
@@ -215,9 +217,9 @@ of_spi c words = of_seven (contents c) words _ (λ clk mosi miso cs mode bits or
 
 of_i2c : (c : Capture) (words : List (List ℕ)) → GivesSignals (contents c) (i2c_command (contents c) words)
 of_i2c c words = of_two (contents c) words _ (λ scl sda.
-    read_on (contents c) (signal_of_name (contents c) scl) (λ k. k < length (contents c).signals) _ (named c scl)
+    read_on (contents c) (signal_of_name (contents c) scl) (λ k. k < length (contents c).signals) _ (found_within c scl)
     (λ j scl_within.
-    read_on (contents c) (signal_of_name (contents c) sda) (λ k. k < length (contents c).signals) _ (named c sda)
+    read_on (contents c) (signal_of_name (contents c) sda) (λ k. k < length (contents c).signals) _ (found_within c sda)
     (λ k sda_within.
     read_on (contents c) (one_bit_signal (contents c) j) (IsScalarAt (contents c)) _ (one_bit (contents c) j scl_within)
     (λ clock scl_is.
@@ -253,11 +255,11 @@ of_keyword c keywords.Depth words = of_one _ words _ (λ count. then_any _ (numb
 of_keyword c keywords.List words = of_none _ words _ (record { has = tt })
 of_keyword c keywords.Value words =
     of_two _ words _ (λ name tick. read_on _ (signal_of_name (contents c) name) (λ k. k < length (contents c).signals) _
-    (named c name) (λ k within.
+    (found_within c name) (λ k within.
     then_any _ (number_of_word tick) _ (λ t. record { has = within })))
 of_keyword c keywords.Changes words =
     of_one _ words _ (λ name. read_on _ (signal_of_name (contents c) name) (λ k. k < length (contents c).signals) _
-    (named c name) (λ k within. record { has = within }))
+    (found_within c name) (λ k within. record { has = within }))
 of_keyword c keywords.Uart words = of_uart c words
 of_keyword c keywords.Spi words = of_spi c words
 of_keyword c keywords.I2c words = of_i2c c words
@@ -268,9 +270,9 @@ signals_of_words c (first ∷ arguments) =
     either _ (is_comment first) _ _ (record { has = tt })
     (then_any _ (ok_or (keyword_in_tables first) UnknownCommand) _ (λ keyword. of_keyword c keyword arguments))
 
-of_line : (c : Capture) (line : List ℕ) → GivesSignals (contents c) (command_of_line (contents c) line)
+signals_of_line : (c : Capture) (line : List ℕ) → GivesSignals (contents c) (command_of_line (contents c) line)
 unfolding command_of_line
-of_line c line = subst (GivesSignals (contents c)) (sym (words_are (contents c) (line_words line)))
+signals_of_line c line = subst (GivesSignals (contents c)) (sym (words_are (contents c) (line_words line)))
     (signals_of_words c (line_words line))
 
 without_address : (c : Contents) (command : Command) → HasCommandSignals c (command_without_address command)
@@ -290,5 +292,6 @@ pub read_has_its_signals : (c : Capture) (line : List ℕ) (read : Result Comman
     → IfOk read (HasCommandSignals (contents c))
 read_has_its_signals c line (Ok command) reads =
     without_address (contents c) command
-    (subst (λ (r : Result Command LineError). IfOk r (HasCommandSignals (contents c))) reads (of_line c line).has)
+    (subst (λ (r : Result Command LineError). IfOk r (HasCommandSignals (contents c))) reads
+    (signals_of_line c line).has)
 read_has_its_signals c line (Err found) reads = tt

@@ -32,62 +32,62 @@ use Rattle.vcdedit.proofs.CasesOfRun.{two_signals}
 use Rattle.vcd_text.proofs.CasesOfText.{capture, wire, top, from}
 
 -- what a line asks for on a signal `top.a` of one bit and a vector `top.v` of four bits
-abbrev asked : List ℕ → Result Command LineError
-asked line = command_of_line two_signals line
+abbrev parsed : List ℕ → Result Command LineError
+parsed line = command_of_line two_signals line
 
 -- a setup that is refused for this fault
 abbrev faulty : SetupError → Result Command LineError
 faulty fault = Err (Setup fault)
 
-asked_of_uart : (asked (codes "uart top.a 10 8 none 1") ≡ Ok (commands.Uart 0 (uart_setup 10 1 8 parities.None 1)))
-    × (asked (codes "uart @0 25/10 5 even 2") ≡ Ok (commands.Uart 0 (uart_setup 25 10 5 parities.Even 2)))
-    × (asked (codes "uart top.a 010/5 9 odd 1") ≡ Ok (commands.Uart 0 (uart_setup 10 5 9 parities.Odd 1)))
+uart_commands : (parsed (codes "uart top.a 10 8 none 1") ≡ Ok (commands.Uart 0 (uart_setup 10 1 8 parities.None 1)))
+    × (parsed (codes "uart @0 25/10 5 even 2") ≡ Ok (commands.Uart 0 (uart_setup 25 10 5 parities.Even 2)))
+    × (parsed (codes "uart top.a 010/5 9 odd 1") ≡ Ok (commands.Uart 0 (uart_setup 10 5 9 parities.Odd 1)))
 unfolding command_of_line words_from lookup name_in
-asked_of_uart = (refl, refl, refl)
+uart_commands = (refl, refl, refl)
 
 -- the words from left to right, then the width, then the setup
-faults_of_uart : (asked (codes "uart top.a 10 8 none") ≡ Err WrongCount)
-    × (asked (codes "uart top.q 10/ 8 mark 1") ≡ Err NoSuchName)
-    × (asked (codes "uart top.a 10/ 8 mark 1") ≡ Err BadNumber)
-    × (asked (codes "uart top.a /5 8 none 1") ≡ Err BadNumber)
-    × (asked (codes "uart top.a 4/1/1 8 none 1") ≡ Err BadNumber)
-    × (asked (codes "uart top.a 10 8 mark x") ≡ Err BadOption)
-    × (asked (codes "uart top.v 10 8 none x") ≡ Err BadNumber)
-    × (asked (codes "uart top.v 1 8 none 1") ≡ Err NotScalar)
-    × (asked (codes "uart top.a 0 8 none 1") ≡ faulty BadRatio)
-    × (asked (codes "uart top.a 10/0 8 none 1") ≡ faulty BadRatio)
-    × (asked (codes "uart top.a 1 8 none 1") ≡ faulty BitTooShort)
-    × (asked (codes "uart top.a 10 4 none 1") ≡ faulty BadData)
-    × (asked (codes "uart top.a 10 8 none 3") ≡ faulty BadStop)
+faults_of_uart : (parsed (codes "uart top.a 10 8 none") ≡ Err WrongCount)
+    × (parsed (codes "uart top.q 10/ 8 mark 1") ≡ Err NoSuchName)
+    × (parsed (codes "uart top.a 10/ 8 mark 1") ≡ Err BadNumber)
+    × (parsed (codes "uart top.a /5 8 none 1") ≡ Err BadNumber)
+    × (parsed (codes "uart top.a 4/1/1 8 none 1") ≡ Err BadNumber)
+    × (parsed (codes "uart top.a 10 8 mark x") ≡ Err BadOption)
+    × (parsed (codes "uart top.v 10 8 none x") ≡ Err BadNumber)
+    × (parsed (codes "uart top.v 1 8 none 1") ≡ Err NotScalar)
+    × (parsed (codes "uart top.a 0 8 none 1") ≡ faulty BadRatio)
+    × (parsed (codes "uart top.a 10/0 8 none 1") ≡ faulty BadRatio)
+    × (parsed (codes "uart top.a 1 8 none 1") ≡ faulty BitTooShort)
+    × (parsed (codes "uart top.a 10 4 none 1") ≡ faulty BadData)
+    × (parsed (codes "uart top.a 10 8 none 3") ≡ faulty BadStop)
 unfolding command_of_line words_from lookup name_in
 faults_of_uart = (refl, refl, refl, refl, refl, refl, refl, refl, refl, refl, refl, refl, refl)
 
-asked_of_spi : (asked (codes "spi top.a - - - 0 8 msb") ≡ Ok (commands.Spi 0 None None None (spi_setup 0 8 Msb)))
-    × (asked (codes "spi top.a @0 - top.a 3 32 lsb") ≡ Ok (commands.Spi 0 (Some 0) None (Some 0) (spi_setup 3 32 Lsb)))
+spi_commands : (parsed (codes "spi top.a - - - 0 8 msb") ≡ Ok (commands.Spi 0 None None None (spi_setup 0 8 Msb)))
+    × (parsed (codes "spi top.a @0 - top.a 3 32 lsb") ≡ Ok (commands.Spi 0 (Some 0) None (Some 0) (spi_setup 3 32 Lsb)))
 unfolding command_of_line words_from lookup name_in
-asked_of_spi = (refl, refl)
+spi_commands = (refl, refl)
 
 -- `-` means no line, except for the clock
-faults_of_spi : (asked (codes "spi top.a - - - 0 8") ≡ Err WrongCount)
-    × (asked (codes "spi - - - - 0 8 msb") ≡ Err NoSuchName)
-    × (asked (codes "spi top.a - - top.q x 8 msb") ≡ Err NoSuchName)
-    × (asked (codes "spi top.a - - - x 8 msb") ≡ Err BadNumber)
-    × (asked (codes "spi top.a top.v - - 4 8 big") ≡ Err BadOption)
-    × (asked (codes "spi top.a top.v - - 4 8 msb") ≡ Err NotScalar)
-    × (asked (codes "spi top.a - - top.v 4 8 msb") ≡ Err NotScalar)
-    × (asked (codes "spi top.a - - - 4 0 msb") ≡ faulty BadMode)
-    × (asked (codes "spi top.a - - - 0 0 msb") ≡ faulty BadBits)
-    × (asked (codes "spi top.a - - - 0 33 msb") ≡ faulty BadBits)
+faults_of_spi : (parsed (codes "spi top.a - - - 0 8") ≡ Err WrongCount)
+    × (parsed (codes "spi - - - - 0 8 msb") ≡ Err NoSuchName)
+    × (parsed (codes "spi top.a - - top.q x 8 msb") ≡ Err NoSuchName)
+    × (parsed (codes "spi top.a - - - x 8 msb") ≡ Err BadNumber)
+    × (parsed (codes "spi top.a top.v - - 4 8 big") ≡ Err BadOption)
+    × (parsed (codes "spi top.a top.v - - 4 8 msb") ≡ Err NotScalar)
+    × (parsed (codes "spi top.a - - top.v 4 8 msb") ≡ Err NotScalar)
+    × (parsed (codes "spi top.a - - - 4 0 msb") ≡ faulty BadMode)
+    × (parsed (codes "spi top.a - - - 0 0 msb") ≡ faulty BadBits)
+    × (parsed (codes "spi top.a - - - 0 33 msb") ≡ faulty BadBits)
 unfolding command_of_line words_from lookup name_in
 faults_of_spi = (refl, refl, refl, refl, refl, refl, refl, refl, refl, refl)
 
-asked_of_i2c : (asked (codes "i2c top.a @0") ≡ Ok (commands.I2c 0 0))
-    × (asked (codes "i2c top.a") ≡ Err WrongCount)
-    × (asked (codes "i2c - top.a") ≡ Err NoSuchName)
-    × (asked (codes "i2c top.v top.q") ≡ Err NoSuchName)
-    × (asked (codes "i2c top.a top.v") ≡ Err NotScalar)
+i2c_commands : (parsed (codes "i2c top.a @0") ≡ Ok (commands.I2c 0 0))
+    × (parsed (codes "i2c top.a") ≡ Err WrongCount)
+    × (parsed (codes "i2c - top.a") ≡ Err NoSuchName)
+    × (parsed (codes "i2c top.v top.q") ≡ Err NoSuchName)
+    × (parsed (codes "i2c top.a top.v") ≡ Err NotScalar)
 unfolding command_of_line words_from lookup name_in
-asked_of_i2c = (refl, refl, refl, refl, refl)
+i2c_commands = (refl, refl, refl, refl, refl)
 
 kinds_as_text : (kind_text 2 (kinds.Byte 3) ≡ codes "byte 0x03")
     × (kind_text 3 (kinds.ParityError 321) ≡ codes "parity-error 0x141")

@@ -19,64 +19,64 @@ use Rattle.vcdedit.specs.ParsedLines.{command_of_line}
 use Rattle.vcdedit.proofs.CasesOfRun.{two_signals}
 
 -- what a line asks for on a signal `top.a` of one bit and a vector `top.v` of four bits
-abbrev asked : List ℕ → Result Command LineError
-asked line = command_of_line two_signals line
+abbrev parsed : List ℕ → Result Command LineError
+parsed line = command_of_line two_signals line
 
-edits_of_one_signal : (asked (codes "rename top.a b") ≡ edit_command (Rename 0 (lent_bytes (codes "b"))))
-    × (asked (codes " remove\t@1") ≡ edit_command (Remove 1))
-    × (asked (codes "invert top.v") ≡ edit_command (Invert 1))
-    × (asked (codes "shift top.a 2") ≡ edit_command (Shift 0 (pos 2)))
-    × (asked (codes "shift top.a +2") ≡ edit_command (Shift 0 (pos 2)))
-    × (asked (codes "shift top.a -2") ≡ edit_command (Shift 0 (negsuc 1)))
-    × (asked (codes "deglitch top.a 007") ≡ edit_command (Deglitch 0 7))
-    × (asked (codes "force top.v 3 5 x0") ≡ edit_command (Force 1 3 5 (X ∷ X ∷ X ∷ Zero ∷ [])))
+edits_of_one_signal : (parsed (codes "rename top.a b") ≡ edit_command (Rename 0 (lent_bytes (codes "b"))))
+    × (parsed (codes " remove\t@1") ≡ edit_command (Remove 1))
+    × (parsed (codes "invert top.v") ≡ edit_command (Invert 1))
+    × (parsed (codes "shift top.a 2") ≡ edit_command (Shift 0 (pos 2)))
+    × (parsed (codes "shift top.a +2") ≡ edit_command (Shift 0 (pos 2)))
+    × (parsed (codes "shift top.a -2") ≡ edit_command (Shift 0 (negsuc 1)))
+    × (parsed (codes "deglitch top.a 007") ≡ edit_command (Deglitch 0 7))
+    × (parsed (codes "force top.v 3 5 x0") ≡ edit_command (Force 1 3 5 (X ∷ X ∷ X ∷ Zero ∷ [])))
 unfolding command_of_line words_from lookup name_in
 edits_of_one_signal = (refl, refl, refl, refl, refl, refl, refl, refl)
 
-other_steps : (asked (codes "cut 3 7") ≡ edit_command (Cut 3 7))
-    × (asked (codes "derive n not top.a") ≡ derive_by (codes "n") (Not 0))
-    × (asked (codes "derive n and top.a top.v") ≡ derive_by (codes "n") (And 0 1))
-    × (asked (codes "derive n or @1 @0") ≡ derive_by (codes "n") (Or 1 0))
-    × (asked (codes "derive n xor top.a top.a") ≡ derive_by (codes "n") (Xor 0 0))
-    × (asked (codes "derive n bit top.v 3") ≡ derive_by (codes "n") (BitOf 1 3))
-    × (asked (codes "undo") ≡ step_command steps.Undo)
-    × (asked (codes "redo") ≡ step_command steps.Redo)
-    × (asked (codes "depth 12") ≡ step_command (steps.Depth 12))
-    × (asked (codes "# undo") ≡ Ok commands.Nothing)
+other_steps : (parsed (codes "cut 3 7") ≡ edit_command (Cut 3 7))
+    × (parsed (codes "derive n not top.a") ≡ derive_by (codes "n") (Not 0))
+    × (parsed (codes "derive n and top.a top.v") ≡ derive_by (codes "n") (And 0 1))
+    × (parsed (codes "derive n or @1 @0") ≡ derive_by (codes "n") (Or 1 0))
+    × (parsed (codes "derive n xor top.a top.a") ≡ derive_by (codes "n") (Xor 0 0))
+    × (parsed (codes "derive n bit top.v 3") ≡ derive_by (codes "n") (BitOf 1 3))
+    × (parsed (codes "undo") ≡ step_command steps.Undo)
+    × (parsed (codes "redo") ≡ step_command steps.Redo)
+    × (parsed (codes "depth 12") ≡ step_command (steps.Depth 12))
+    × (parsed (codes "# undo") ≡ Ok commands.Nothing)
 unfolding command_of_line words_from lookup name_in
 other_steps = (refl, refl, refl, refl, refl, refl, refl, refl, refl, refl)
 
 -- the name of the command, the number of words, and then the words from left to right
-first_faults : (asked (codes "Undo") ≡ Err UnknownCommand)
-    × (asked (codes "cut x") ≡ Err WrongCount)
-    × (asked (codes "redo now") ≡ Err WrongCount)
-    × (asked (codes "shift top.q x") ≡ Err NoSuchName)
-    × (asked (codes "shift top.a x") ≡ Err BadNumber)
-    × (asked (codes "force top.a 0 y q") ≡ Err BadNumber)
-    × (asked (codes "force top.a 0 1 q") ≡ Err BadValueText)
-    × (asked (codes "force top.v 0 1 00000") ≡ Err BadValueText)
+first_faults : (parsed (codes "Undo") ≡ Err UnknownCommand)
+    × (parsed (codes "cut x") ≡ Err WrongCount)
+    × (parsed (codes "redo now") ≡ Err WrongCount)
+    × (parsed (codes "shift top.q x") ≡ Err NoSuchName)
+    × (parsed (codes "shift top.a x") ≡ Err BadNumber)
+    × (parsed (codes "force top.a 0 y q") ≡ Err BadNumber)
+    × (parsed (codes "force top.a 0 1 q") ≡ Err BadValueText)
+    × (parsed (codes "force top.v 0 1 00000") ≡ Err BadValueText)
 unfolding command_of_line words_from lookup name_in
 first_faults = (refl, refl, refl, refl, refl, refl, refl, refl)
 
 -- numbers of 64 bits, and distances of 63 bits and a sign
-greatest_numbers : (asked (codes "cut 0 18446744073709551615") ≡ edit_command (Cut 0 18446744073709551615))
-    × (asked (codes "cut 0 18446744073709551616") ≡ Err BadNumber)
-    × (asked (codes "cut 0 +1") ≡ Err BadNumber)
-    × (asked (codes "shift top.a 9223372036854775807") ≡ edit_command (Shift 0 (pos 9223372036854775807)))
-    × (asked (codes "shift top.a 9223372036854775808") ≡ Err BadNumber)
-    × (asked (codes "shift top.a -9223372036854775808") ≡ edit_command (Shift 0 (negsuc 9223372036854775807)))
-    × (asked (codes "shift top.a -9223372036854775809") ≡ Err BadNumber)
-    × (asked (codes "shift top.a -") ≡ Err BadNumber)
+greatest_numbers : (parsed (codes "cut 0 18446744073709551615") ≡ edit_command (Cut 0 18446744073709551615))
+    × (parsed (codes "cut 0 18446744073709551616") ≡ Err BadNumber)
+    × (parsed (codes "cut 0 +1") ≡ Err BadNumber)
+    × (parsed (codes "shift top.a 9223372036854775807") ≡ edit_command (Shift 0 (pos 9223372036854775807)))
+    × (parsed (codes "shift top.a 9223372036854775808") ≡ Err BadNumber)
+    × (parsed (codes "shift top.a -9223372036854775808") ≡ edit_command (Shift 0 (negsuc 9223372036854775807)))
+    × (parsed (codes "shift top.a -9223372036854775809") ≡ Err BadNumber)
+    × (parsed (codes "shift top.a -") ≡ Err BadNumber)
 unfolding command_of_line words_from lookup name_in
 greatest_numbers = (refl, refl, refl, refl, refl, refl, refl, refl)
 
--- the rule of `derive` is required before anything else
-faults_of_derive : (asked (codes "derive") ≡ Err WrongCount)
-    × (asked (codes "derive x") ≡ Err WrongCount)
-    × (asked (codes "derive x bogus") ≡ Err BadOption)
-    × (asked (codes "derive x not") ≡ Err WrongCount)
-    × (asked (codes "derive x and top.a") ≡ Err WrongCount)
-    × (asked (codes "derive x bit top.q y") ≡ Err NoSuchName)
-    × (asked (codes "derive x bit top.a y") ≡ Err BadNumber)
+-- `derive` reads its rule before it counts the operands
+faults_of_derive : (parsed (codes "derive") ≡ Err WrongCount)
+    × (parsed (codes "derive x") ≡ Err WrongCount)
+    × (parsed (codes "derive x bogus") ≡ Err BadOption)
+    × (parsed (codes "derive x not") ≡ Err WrongCount)
+    × (parsed (codes "derive x and top.a") ≡ Err WrongCount)
+    × (parsed (codes "derive x bit top.q y") ≡ Err NoSuchName)
+    × (parsed (codes "derive x bit top.a y") ≡ Err BadNumber)
 unfolding command_of_line words_from lookup name_in
 faults_of_derive = (refl, refl, refl, refl, refl, refl, refl)

@@ -27,7 +27,7 @@ three = capture 9 (wire (top ∷ []) (codes "a") 1 (from 0 (codes "z") ∷ from 
     ∷ wire (top ∷ []) (codes "v") 4 (from 2 (codes "01xz") ∷ []) ∷ wire [] (codes "n") 2 [] ∷ [])
 
 -- what the lines ask for, and their first faults
-asked : (command_of_line three (codes "list") ≡ Ok commands.List)
+query_commands : (command_of_line three (codes "list") ≡ Ok commands.List)
     × (command_of_line three (codes "value top.v 12") ≡ Ok (commands.Value 1 12))
     × (command_of_line three (codes "changes @2") ≡ Ok (commands.Changes 2))
     × (command_of_line three (codes "list now") ≡ Err WrongCount)
@@ -36,7 +36,7 @@ asked : (command_of_line three (codes "list") ≡ Ok commands.List)
     × (command_of_line three (codes "value top.a x") ≡ Err BadNumber)
     × (command_of_line three (codes "changes @3") ≡ Err NoSuchName)
 unfolding command_of_line words_from lookup name_in
-asked = (refl, refl, refl, refl, refl, refl, refl, refl)
+query_commands = (refl, refl, refl, refl, refl, refl, refl, refl)
 
 listed : (listing three 2
     ≡ codes "timescale none"

@@ -45,8 +45,8 @@ step_deep m steps.Redo least = redo_deep m m.future least
 step_deep m (steps.Depth depth) least =
     depth_deep m depth (not (is_depth depth)) (nat_lt depth (length m.future)) refl least
 
-command_deep : (m : Machine) (asked : Result Command LineError) → 1 ≤ m.depth
-    → 1 ≤ (machine_after_command m asked).depth
+command_deep : (m : Machine) (parsed : Result Command LineError) → 1 ≤ m.depth
+    → 1 ≤ (machine_after_command m parsed).depth
 command_deep m (Err fault) least = least
 command_deep m (Ok commands.Nothing) least = least
 command_deep m (Ok (commands.Step step)) least = step_deep m step least

@@ -11,29 +11,29 @@ use Rattle.vcdedit.specs.MachineReplies.{line_reply_text, is_line_refused}
 use Rattle.vcdedit.specs.RunMachines.{machine_after_line, machine_after_lines, refusal_count}
 use Rattle.vcdedit.specs.RunOutcomes.{line_replies}
 use Rattle.vcdedit.specs.Script.{script_lines}
-use Rattle.vcdedit.specs.inside.RunLines.{LineStep, RunsLines}
+use Rattle.vcdedit.specs.inside.RunLines.{RunsLine, RunsLines}
 
 -- after so many lines these are left on this machine; the replies so far are written, and so many lines refused
 pub record AreLeft (skipped : ℕ) (lines : List (List ℕ)) (old : Machine) (number : ℕ) (left : List (List ℕ))
-    (now : Machine) (sent : List (List ℕ)) (count : ℕ) : Type 0 where
+    (now : Machine) (texts : List (List ℕ)) (count : ℕ) : Type 0 where
   pub after : machine_after_lines old lines ≡ machine_after_lines now left
-  pub replies : line_replies skipped 1 old lines ≡ sent ++ line_replies skipped (number + 1) now left
+  pub replies : line_replies skipped 1 old lines ≡ texts ++ line_replies skipped (number + 1) now left
   pub refused : refusal_count skipped old lines ≡ count + refusal_count skipped now left
 
 -- the loop's invariant: the replies written so far, of so many lines and bytes
 pub record RepliesSoFar (skipped : ℕ) (lines : List (List ℕ)) (old : Machine) (number : ℕ) (left : List (List ℕ))
     (now : Machine) (refused bytes : ℕ) (before after : Option (List ℕ)) : Type 0 where
-  pub sent : List (List ℕ)
-  pub one_each : length sent ≡ number
-  pub counted : length (concat sent) ≡ bytes
-  pub took : Appends before after (concat sent)
-  pub are_left : AreLeft skipped lines old number left now sent refused
+  pub texts : List (List ℕ)
+  pub one_each : length texts ≡ number
+  pub counted : length (concat texts) ≡ bytes
+  pub took : Appends before after (concat texts)
+  pub are_left : AreLeft skipped lines old number left now texts refused
 
 -- at the beginning all are left
 pub all_left : (skipped : ℕ) (lines : List (List ℕ)) (old : Machine) (before : Option (List ℕ))
     → RepliesSoFar skipped lines old 0 lines old 0 0 before before
 all_left skipped lines old before = record {
-  sent = [];
+  texts = [];
   one_each = refl;
   counted = refl;
   took = Appends-nil before;
@@ -49,47 +49,47 @@ refused_at skipped line m = cond (is_line_refused line m.now skipped (length m.p
 
 -- one more line
 line_more : (skipped : ℕ) (lines : List (List ℕ)) (old : Machine) (number : ℕ) (line : List ℕ) (left : List (List ℕ))
-    (now new : Machine) (sent : List (List ℕ)) (refused : ℕ) →
-    AreLeft skipped lines old number (line ∷ left) now sent refused → machine_after_line now line ≡ new →
-    AreLeft skipped lines old (number + 1) left new (sent ++ replied_to skipped (number + 1) line now ∷ [])
+    (now new : Machine) (texts : List (List ℕ)) (refused : ℕ) →
+    AreLeft skipped lines old number (line ∷ left) now texts refused → machine_after_line now line ≡ new →
+    AreLeft skipped lines old (number + 1) left new (texts ++ replied_to skipped (number + 1) line now ∷ [])
     (refused + refused_at skipped line now)
 unfolding machine_after_lines line_replies refusal_count
-line_more skipped lines old number line left now new sent refused so after = record {
+line_more skipped lines old number line left now new texts refused so after = record {
   after = so.after ∙ ap (λ (m : Machine). machine_after_lines m left) after;
   replies = so.replies
-      ∙ ap (λ (m : Machine). sent ++ replied_to skipped (number + 1) line now ∷ line_replies skipped (number + 1 + 1) m
+      ∙ ap (λ (m : Machine). texts ++ replied_to skipped (number + 1) line now ∷ line_replies skipped (number + 1 + 1) m
       left) after
-      ∙ sym (append_assoc sent (replied_to skipped (number + 1) line now ∷ [])
+      ∙ sym (append_assoc texts (replied_to skipped (number + 1) line now ∷ [])
       (line_replies skipped (number + 1 + 1) new left));
   refused = so.refused
       ∙ ap (λ (m : Machine). refused + (refused_at skipped line now + refusal_count skipped m left)) after
       ∙ sym (add_assoc refused (refused_at skipped line now) (refusal_count skipped new left));
 }
 
-concat_more : (sent : List (List ℕ)) (text : List ℕ) → concat (sent ++ text ∷ []) ≡ concat sent ++ text
-concat_more sent text = concat-append sent (text ∷ []) ∙ ap (λ l. concat sent ++ l) (append-nil text)
+concat_more : (texts : List (List ℕ)) (text : List ℕ) → concat (texts ++ text ∷ []) ≡ concat texts ++ text
+concat_more texts text = concat-append texts (text ∷ []) ∙ ap (λ l. concat texts ++ l) (append-nil text)
 
-pub sent_more : (skipped : ℕ) (lines : List (List ℕ)) (old : Machine) (number : ℕ) (line : List ℕ)
+pub reply_more : (skipped : ℕ) (lines : List (List ℕ)) (old : Machine) (number : ℕ) (line : List ℕ)
     (all left : List (List ℕ)) (now new : Machine) (refused more bytes written : ℕ)
     (before between after : Option (List ℕ)) →
     all ≡ line ∷ left → RepliesSoFar skipped lines old number all now refused bytes before between
-    → LineStep skipped (number + 1) line now new more written between after →
+    → RunsLine skipped (number + 1) line now new more written between after →
     RepliesSoFar skipped lines old (number + 1) left new (refused + more) (bytes + written) before after
-sent_more skipped lines old number line all left now new refused more bytes written before between after parts so
+reply_more skipped lines old number line all left now new refused more bytes written before between after parts so
     tells =
     let text : List ℕ = replied_to skipped (number + 1) line now in
-    let joined : concat (so.sent ++ text ∷ []) ≡ concat so.sent ++ text = concat_more so.sent text in
-    let len : length (concat (so.sent ++ text ∷ [])) ≡ length (concat so.sent) + length text = ap length joined
-    ∙ length-append (concat so.sent) text in
-    let one_more : length (so.sent ++ text ∷ []) ≡ length so.sent + 1 = length-append so.sent (text ∷ []) in
+    let joined : concat (so.texts ++ text ∷ []) ≡ concat so.texts ++ text = concat_more so.texts text in
+    let len : length (concat (so.texts ++ text ∷ [])) ≡ length (concat so.texts) + length text = ap length joined
+    ∙ length-append (concat so.texts) text in
+    let one_more : length (so.texts ++ text ∷ []) ≡ length so.texts + 1 = length-append so.texts (text ∷ []) in
     record {
-      sent = so.sent ++ text ∷ [];
+      texts = so.texts ++ text ∷ [];
       one_each = one_more ∙ ap (λ n. n + 1) so.one_each;
       counted = omega (arith, len, so.counted, tells.3);
       took = subst (Appends before after) (sym joined)
-          (Appends-trans before between after (concat so.sent) text so.took tells.2);
+          (Appends-trans before between after (concat so.texts) text so.took tells.2);
       are_left = rw (tells.1)
-          (line_more skipped lines old number line left now new so.sent refused (rw parts at so.are_left) tells.0);
+          (line_more skipped lines old number line left now new so.texts refused (rw parts at so.are_left) tells.0);
     }
 
 -- no line is left
@@ -101,11 +101,11 @@ unfolding machine_after_lines line_replies refusal_count
 none_left skipped lines old number left now refused bytes before after none so =
     let last = rw none at so.are_left in
     let sum : refused + 0 ≡ refused = omega arith in (
-      so.sent,
+      so.texts,
       so.took,
       record {
         after = last.after;
-        replies = last.replies ∙ append-nil so.sent;
+        replies = last.replies ∙ append-nil so.texts;
         refused = last.refused
             ∙ sum;
       },

@@ -19,65 +19,66 @@ use Rattle.vcdedit.proofs.LinesLeft.{RepliesSoFar}
 -- ---- texts, written one after another
 
 -- memory runs out at a text: those before it are written
-none_of_text : (replies sent rest : List (List ℕ)) (text : List ℕ) (number line : ℕ)
+none_of_text : (replies texts rest : List (List ℕ)) (text : List ℕ) (number line : ℕ)
     (before between after : Option (List ℕ)) →
-    replies ≡ sent ++ text ∷ rest → length sent ≡ number → Appends before between (concat sent) → line ≡ number + 1
+    replies ≡ texts ++ text ∷ rest → length texts ≡ number → Appends before between (concat texts) → line ≡ number + 1
     → Keeps between after →
     StopsInReplies replies (Appends before after) (run_errors.NoMemory line)
-none_of_text replies sent rest text number line before between after parts count took at kept =
-    let whole : length replies ≡ length sent + suc (length rest) = ap length parts ∙ length-append sent (text ∷ rest) in
-    let before_it : line - 1 ≡ length sent = omega (arith, at, count) in
-    let front : take (line - 1) replies ≡ sent = ap (λ i. take i replies) before_it ∙ ap (take (length sent)) parts
-    ∙ take-append_seam sent (text ∷ rest) in (
+none_of_text replies texts rest text number line before between after parts count took at kept =
+    let whole : length replies ≡ length texts + suc (length rest) =
+    ap length parts ∙ length-append texts (text ∷ rest) in
+    let before_it : line - 1 ≡ length texts = omega (arith, at, count) in
+    let front : take (line - 1) replies ≡ texts = ap (λ i. take i replies) before_it ∙ ap (take (length texts)) parts
+    ∙ take-append_seam texts (text ∷ rest) in (
       omega (arith, at),
       omega (arith, at, count, whole),
       subst (Appends before after) (ap concat (sym front))
-          (Appends-kept before between after (concat sent) took kept),
+          (Appends-kept before between after (concat texts) took kept),
     )
 
 -- the writer takes the first bytes of a text: with the texts before, these are the first bytes of all
-front_of_text : (replies sent rest : List (List ℕ)) (text : List ℕ) (bytes count written : ℕ)
+front_of_text : (replies texts rest : List (List ℕ)) (text : List ℕ) (bytes count written : ℕ)
     (before between after : Option (List ℕ)) →
-    replies ≡ sent ++ text ∷ rest → length (concat sent) ≡ bytes → Appends before between (concat sent)
+    replies ≡ texts ++ text ∷ rest → length (concat texts) ≡ bytes → Appends before between (concat texts)
     → written ≡ bytes + count → count ≤ length text → Appends between after (take count text) →
     StopsInReplies replies (Appends before after) (run_errors.ReplyFault written)
-front_of_text replies sent rest text bytes count written before between after parts sent_bytes took at within takes =
-    let whole : concat replies ≡ concat sent ++ (text ++ concat rest) = ap concat parts
-    ∙ concat-append sent (text ∷ rest) in
-    let sum : length (concat replies) ≡ length (concat sent) + (length text + length (concat rest)) =
-    ap length whole ∙ length-append (concat sent) (text ++ concat rest)
-    ∙ ap (λ n. length (concat sent) + n) (length-append text (concat rest)) in
-    let so_many : written ≡ length (concat sent) + count = at ∙ ap (λ n. n + count) (sym sent_bytes) in
-    let front : take written (concat replies) ≡ concat sent ++ take count text =
-    ap (λ n. take n (concat replies)) so_many ∙ ap (take (length (concat sent) + count)) whole
-    ∙ take-append-add (concat sent) (text ++ concat rest) count
-    ∙ ap (λ l. concat sent ++ l) (take-append-le count text (concat rest) within) in (
+front_of_text replies texts rest text bytes count written before between after parts texts_bytes took at within takes =
+    let whole : concat replies ≡ concat texts ++ (text ++ concat rest) = ap concat parts
+    ∙ concat-append texts (text ∷ rest) in
+    let sum : length (concat replies) ≡ length (concat texts) + (length text + length (concat rest)) =
+    ap length whole ∙ length-append (concat texts) (text ++ concat rest)
+    ∙ ap (λ n. length (concat texts) + n) (length-append text (concat rest)) in
+    let so_many : written ≡ length (concat texts) + count = at ∙ ap (λ n. n + count) (sym texts_bytes) in
+    let front : take written (concat replies) ≡ concat texts ++ take count text =
+    ap (λ n. take n (concat replies)) so_many ∙ ap (take (length (concat texts) + count)) whole
+    ∙ take-append-add (concat texts) (text ++ concat rest) count
+    ∙ ap (λ l. concat texts ++ l) (take-append-le count text (concat rest) within) in (
       omega (arith, so_many, sum, within),
       subst (Appends before after) (sym front)
-          (Appends-trans before between after (concat sent) (take count text) took takes),
+          (Appends-trans before between after (concat texts) (take count text) took takes),
     )
 
 -- the writing of one text stops, and so that of all
-text_stops : (replies sent rest : List (List ℕ)) (text : List ℕ) (number bytes : ℕ)
+text_stops : (replies texts rest : List (List ℕ)) (text : List ℕ) (number bytes : ℕ)
     (before between after : Option (List ℕ)) (e : RunError) →
-    replies ≡ sent ++ text ∷ rest → length sent ≡ number → length (concat sent) ≡ bytes
-    → Appends before between (concat sent) → StopsAtReply (number + 1) text bytes between after e →
+    replies ≡ texts ++ text ∷ rest → length texts ≡ number → length (concat texts) ≡ bytes
+    → Appends before between (concat texts) → StopsAtReply (number + 1) text bytes between after e →
     StopsInReplies replies (Appends before after) e
-text_stops replies sent rest text number bytes before between after (run_errors.NoMemory line) parts count sent_bytes
+text_stops replies texts rest text number bytes before between after (run_errors.NoMemory line) parts count texts_bytes
     took stops =
-    none_of_text replies sent rest text number line before between after parts count took stops.0 stops.1
-text_stops replies sent rest text number bytes before between after (run_errors.ReplyFault written) parts count
-    sent_bytes took stops =
-    front_of_text replies sent rest text bytes stops.0 written before between after parts sent_bytes took stops.1
+    none_of_text replies texts rest text number line before between after parts count took stops.0 stops.1
+text_stops replies texts rest text number bytes before between after (run_errors.ReplyFault written) parts count
+    texts_bytes took stops =
+    front_of_text replies texts rest text bytes stops.0 written before between after parts texts_bytes took stops.1
     stops.2 stops.3
-text_stops replies sent rest text number bytes before between after (run_errors.Capture fault) parts count sent_bytes
+text_stops replies texts rest text number bytes before between after (run_errors.Capture fault) parts count texts_bytes
     took stops = absurd stops
-text_stops replies sent rest text number bytes before between after run_errors.ScriptTooLarge parts count sent_bytes
+text_stops replies texts rest text number bytes before between after run_errors.ScriptTooLarge parts count texts_bytes
     took stops = absurd stops
-text_stops replies sent rest text number bytes before between after run_errors.ScriptReadFault parts count sent_bytes
+text_stops replies texts rest text number bytes before between after run_errors.ScriptReadFault parts count texts_bytes
     took stops = absurd stops
-text_stops replies sent rest text number bytes before between after (run_errors.Write fault) parts count sent_bytes took
-    stops = absurd stops
+text_stops replies texts rest text number bytes before between after (run_errors.Write fault) parts count texts_bytes
+    took stops = absurd stops
 
 -- ---- lines
 
@@ -90,7 +91,7 @@ pub line_stops : (skipped : ℕ) (lines : List (List ℕ)) (old : Machine) (numb
 unfolding line_replies
 line_stops skipped lines old number line all left now refused bytes before between after e parts so stops =
     let here = rw parts at so.are_left in
-    text_stops (line_replies skipped 1 old lines) so.sent
+    text_stops (line_replies skipped 1 old lines) so.texts
     (line_replies skipped (number + 1 + 1) (machine_after_line now line) left)
     (line_reply_text (number + 1) line now.now skipped (length now.past) (length now.future)) number bytes before
     between after e
@@ -104,13 +105,13 @@ pub flush_stops : (skipped : ℕ) (lines : List (List ℕ)) (old : Machine) (num
 unfolding line_replies
 flush_stops skipped lines old number left now refused bytes before between after none so kept =
     let last = rw none at so.are_left in
-    let all : concat (line_replies skipped 1 old lines) ≡ concat so.sent =
-    ap concat (last.replies ∙ append-nil so.sent) in
+    let all : concat (line_replies skipped 1 old lines) ≡ concat so.texts =
+    ap concat (last.replies ∙ append-nil so.texts) in
     let len : length (concat (line_replies skipped 1 old lines)) ≡ bytes = ap length all ∙ so.counted in
-    let front : take bytes (concat (line_replies skipped 1 old lines)) ≡ concat so.sent =
+    let front : take bytes (concat (line_replies skipped 1 old lines)) ≡ concat so.texts =
     ap (λ n. take n (concat (line_replies skipped 1 old lines))) (sym len)
     ∙ take-length (concat (line_replies skipped 1 old lines)) ∙ all in (
       omega (arith, len),
       subst (Appends before after) (sym front)
-          (Appends-kept before between after (concat so.sent) so.took kept),
+          (Appends-kept before between after (concat so.texts) so.took kept),
     )

@@ -16,10 +16,10 @@ use Rattle.vcdedit.specs.inside.Replies.{with_line_feed}
 
 -- the name of a scope and a `.` (46) are printed
 pub scope_printed : (scopes : List ScopeName) (words : List (List ℕ)) (i : ℕ) (s : ScopeName)
-    (out named new whole : List ℕ) → i < length scopes → s ≡ get_or scopes i s →
-    named ≡ out ++ scope_text s → new ≡ named ++ 46 ∷ [] → out ++ name_in (drop i scopes) words ≡ whole
+    (out with_scope new whole : List ℕ) → i < length scopes → s ≡ get_or scopes i s →
+    with_scope ≡ out ++ scope_text s → new ≡ with_scope ++ 46 ∷ [] → out ++ name_in (drop i scopes) words ≡ whole
     → new ++ name_in (drop (i + 1) scopes) words ≡ whole
-scope_printed scopes words i s out named new whole within is first second all =
+scope_printed scopes words i s out with_scope new whole within is first second all =
     let rest = name_in (drop (i + 1) scopes) words in
     ap (λ (l : List ℕ). l ++ rest) (second ∙ ap (λ (l : List ℕ). l ++ 46 ∷ []) first)
     ∙ append_assoc (out ++ scope_text s) (46 ∷ []) rest

@@ -37,7 +37,7 @@ use Rattle.vcdedit.specs.Script.{script_lines}
 use Rattle.vcdedit.specs.ParsedLines.{line_words, command_of_line}
 use Rattle.vcdedit.specs.LineReads.{ReadResult, ◌▷◌}
 use Rattle.vcdedit.specs.CommandTable.{Request, request_of_words}
-use Rattle.vcdedit.proofs.TableCommands.{requested, asked_is}
+use Rattle.vcdedit.proofs.TableCommands.{requested, line_request_is}
 use Rattle.vcdedit.proofs.UndoneEdits.{refused_line_keeps, undo_gives_back_earlier}
 use Rattle.vcdedit.specs.Reply.{reply_text}
 use Rattle.vcdedit.specs.Run.{RunOutcome, answer, history_after_request, line_answer, history_after_line, history_at}
@@ -76,63 +76,63 @@ past_count c [] (back ∷ older) p = absurd p
 past_count c (e ∷ es) (back ∷ older) p =
     let rest = past_count c es older p.1 in omega (arith, rest)
 
--- ---- what is said
+-- ---- replies
 
 -- the reply to an accepted step
 abbrev ok_lines : List (List ℕ)
 ok_lines = codes "ok" ∷ []
 
-edit_said : (found : Option EditError) → edit_reply found ≡ unless_fault found ok_lines
-edit_said None = refl
-edit_said (Some error) = refl
+edit_reply_is : (found : Option EditError) → edit_reply found ≡ unless_fault found ok_lines
+edit_reply_is None = refl
+edit_reply_is (Some error) = refl
 
 passed : (b : Bool) (refusal : List ℕ) → b ≡ false → ok_reply ≡ unless_refused ((b, refusal) ∷ []) ok_lines
 passed true refusal fails = absurd (cc)
 passed false refusal fails = refl
 
-undo_said : (held : ℕ) → history_reply held refusals.NothingToUndo
+undo_reply_is : (held : ℕ) → history_reply held refusals.NothingToUndo
     ≡ unless_refused ((held == 0, step_error_name refusals.NothingToUndo) ∷ []) ok_lines
-undo_said zero = refl
-undo_said (suc held) =
+undo_reply_is zero = refl
+undo_reply_is (suc held) =
     passed (suc held == 0) (step_error_name refusals.NothingToUndo) (grind (arith, nat_tests))
 
-redo_said : (held : ℕ) → history_reply held refusals.NothingToRedo
+redo_reply_is : (held : ℕ) → history_reply held refusals.NothingToRedo
     ≡ unless_refused ((held == 0, step_error_name refusals.NothingToRedo) ∷ []) ok_lines
-redo_said zero = refl
-redo_said (suc held) =
+redo_reply_is zero = refl
+redo_reply_is (suc held) =
     passed (suc held == 0) (step_error_name refusals.NothingToRedo) (grind (arith, nat_tests))
 
-depth_said : (bad small : Bool) →
+depth_reply_is : (bad small : Bool) →
     cond bad (Err (step_error_name refusals.BadDepth))
     (cond small (Err (step_error_name refusals.DepthTooSmall)) ok_reply)
     ≡ unless_refused ((bad, step_error_name refusals.BadDepth)
     ∷ (small, step_error_name refusals.DepthTooSmall) ∷ []) ok_lines
-depth_said true small = refl
-depth_said false true = refl
-depth_said false false = refl
+depth_reply_is true small = refl
+depth_reply_is false true = refl
+depth_reply_is false false = refl
 
-step_said : (c : Contents) (h : History) (s : Step) (undoable redoable : ℕ) → h.undoable ≡ undoable
+step_reply_is : (c : Contents) (h : History) (s : Step) (undoable redoable : ℕ) → h.undoable ≡ undoable
     → length h.undone ≡ redoable → step_reply s c undoable redoable ≡ unless_refused (step_tests c h s) ok_lines
-step_said c h (steps.Edit e) undoable redoable held undone =
-    edit_said (edit_fault e c) ∙ edit_refused_is c e ok_lines
-step_said c h steps.Undo undoable redoable held undone = rw (← held) (undo_said h.undoable)
-step_said c h steps.Redo undoable redoable held undone = rw (← undone) (redo_said (length h.undone))
-step_said c h (steps.Depth depth) undoable redoable held undone =
-    rw (← undone) (depth_said (not (is_depth depth)) (nat_lt depth (length h.undone)))
+step_reply_is c h (steps.Edit e) undoable redoable held undone =
+    edit_reply_is (edit_fault e c) ∙ edit_refused_is c e ok_lines
+step_reply_is c h steps.Undo undoable redoable held undone = rw (← held) (undo_reply_is h.undoable)
+step_reply_is c h steps.Redo undoable redoable held undone = rw (← undone) (redo_reply_is (length h.undone))
+step_reply_is c h (steps.Depth depth) undoable redoable held undone =
+    rw (← undone) (depth_reply_is (not (is_depth depth)) (nat_lt depth (length h.undone)))
 
-command_said : (c : Contents) (skipped : ℕ) (h : History) (asked : Result Command LineError) (undoable redoable : ℕ)
-    → h.undoable ≡ undoable → length h.undone ≡ redoable →
-    command_reply asked c skipped undoable redoable ≡ (requested c skipped asked ▷ answer c h)
-command_said c skipped h (Err fault) undoable redoable held undone = refl
-command_said c skipped h (Ok commands.Nothing) undoable redoable held undone = refl
-command_said c skipped h (Ok (commands.Step step)) undoable redoable held undone =
-    step_said c h step undoable redoable held undone
-command_said c skipped h (Ok commands.List) undoable redoable held undone = refl
-command_said c skipped h (Ok (commands.Value k tick)) undoable redoable held undone = refl
-command_said c skipped h (Ok (commands.Changes k)) undoable redoable held undone = refl
-command_said c skipped h (Ok (commands.Uart k setup)) undoable redoable held undone = refl
-command_said c skipped h (Ok (commands.Spi clk mosi miso cs setup)) undoable redoable held undone = refl
-command_said c skipped h (Ok (commands.I2c scl sda)) undoable redoable held undone = refl
+command_reply_is : (c : Contents) (skipped : ℕ) (h : History) (parsed : Result Command LineError)
+    (undoable redoable : ℕ) → h.undoable ≡ undoable → length h.undone ≡ redoable →
+    command_reply parsed c skipped undoable redoable ≡ (requested c skipped parsed ▷ answer c h)
+command_reply_is c skipped h (Err fault) undoable redoable held undone = refl
+command_reply_is c skipped h (Ok commands.Nothing) undoable redoable held undone = refl
+command_reply_is c skipped h (Ok (commands.Step step)) undoable redoable held undone =
+    step_reply_is c h step undoable redoable held undone
+command_reply_is c skipped h (Ok commands.List) undoable redoable held undone = refl
+command_reply_is c skipped h (Ok (commands.Value k tick)) undoable redoable held undone = refl
+command_reply_is c skipped h (Ok (commands.Changes k)) undoable redoable held undone = refl
+command_reply_is c skipped h (Ok (commands.Uart k setup)) undoable redoable held undone = refl
+command_reply_is c skipped h (Ok (commands.Spi clk mosi miso cs setup)) undoable redoable held undone = refl
+command_reply_is c skipped h (Ok (commands.I2c scl sda)) undoable redoable held undone = refl
 
 -- ---- steps
 
@@ -203,38 +203,38 @@ step_matches c h m steps.Redo is accepted =
 step_matches c h m (steps.Depth depth) is accepted =
     depth_matches c h m depth (not (is_depth depth)) (nat_lt depth (length m.future)) is accepted
 
-asked_matches : (c : Contents) (h : History) (m : Machine) (skipped : ℕ) (asked : Result Command LineError)
+command_matches : (c : Contents) (h : History) (m : Machine) (skipped : ℕ) (parsed : Result Command LineError)
     → Matches c h m →
-    is_err (command_reply asked m.now skipped (length m.past) (length m.future)) ≡ false
-    → Matches c (history_after_request h (requested m.now skipped asked)) (machine_after_command m asked)
-asked_matches c h m skipped (Err fault) is accepted = is
-asked_matches c h m skipped (Ok commands.Nothing) is accepted = is
-asked_matches c h m skipped (Ok (commands.Step step)) is accepted = step_matches c h m step is accepted
-asked_matches c h m skipped (Ok commands.List) is accepted = is
-asked_matches c h m skipped (Ok (commands.Value k tick)) is accepted = is
-asked_matches c h m skipped (Ok (commands.Changes k)) is accepted = is
-asked_matches c h m skipped (Ok (commands.Uart k setup)) is accepted = is
-asked_matches c h m skipped (Ok (commands.Spi clk mosi miso cs setup)) is accepted = is
-asked_matches c h m skipped (Ok (commands.I2c scl sda)) is accepted = is
+    is_err (command_reply parsed m.now skipped (length m.past) (length m.future)) ≡ false
+    → Matches c (history_after_request h (requested m.now skipped parsed)) (machine_after_command m parsed)
+command_matches c h m skipped (Err fault) is accepted = is
+command_matches c h m skipped (Ok commands.Nothing) is accepted = is
+command_matches c h m skipped (Ok (commands.Step step)) is accepted = step_matches c h m step is accepted
+command_matches c h m skipped (Ok commands.List) is accepted = is
+command_matches c h m skipped (Ok (commands.Value k tick)) is accepted = is
+command_matches c h m skipped (Ok (commands.Changes k)) is accepted = is
+command_matches c h m skipped (Ok (commands.Uart k setup)) is accepted = is
+command_matches c h m skipped (Ok (commands.Spi clk mosi miso cs setup)) is accepted = is
+command_matches c h m skipped (Ok (commands.I2c scl sda)) is accepted = is
 
 -- ---- lines
 
--- what is said to a line on this capture
-abbrev said_on : Contents → (skipped : ℕ) → History → List ℕ → LineReply
-said_on now skipped h line = request_of_words now skipped (line_words line) ▷ answer now h
+-- the answer to a line on this capture
+abbrev answer_on : Contents → (skipped : ℕ) → History → List ℕ → LineReply
+answer_on now skipped h line = request_of_words now skipped (line_words line) ▷ answer now h
 
 answer_here : (c : Contents) (h : History) (m : Machine) (skipped : ℕ) (line : List ℕ) → Matches c h m →
-    line_reply line m.now skipped (length m.past) (length m.future) ≡ said_on m.now skipped h line
+    line_reply line m.now skipped (length m.past) (length m.future) ≡ answer_on m.now skipped h line
 unfolding line_reply
 answer_here c h m skipped line is =
-    command_said m.now skipped h (command_of_line m.now line) (length m.past) (length m.future) is.undoable
+    command_reply_is m.now skipped h (command_of_line m.now line) (length m.past) (length m.future) is.undoable
     (undone_count c h.edits h.undone m.future is.follows.future)
-    ∙ ap (λ (asked : ReadResult Request). asked ▷ answer m.now h) (asked_is m.now skipped line)
+    ∙ ap (λ (request : ReadResult Request). request ▷ answer m.now h) (line_request_is m.now skipped line)
 
 answer_is : (c : Contents) (h : History) (m : Machine) (skipped : ℕ) (line : List ℕ) → Matches c h m →
     line_reply line m.now skipped (length m.past) (length m.future) ≡ line_answer c skipped h line
 answer_is c h m skipped line is =
-    answer_here c h m skipped line is ∙ ap (λ (now : Contents). said_on now skipped h line) is.follows.now
+    answer_here c h m skipped line is ∙ ap (λ (now : Contents). answer_on now skipped h line) is.follows.now
 
 -- the history after a line that is refused or not
 by_refusal : (c : Contents) (h : History) (m : Machine) (skipped : ℕ) (line : List ℕ) (refused : Bool) → Matches c h m →
@@ -242,11 +242,11 @@ by_refusal : (c : Contents) (h : History) (m : Machine) (skipped : ℕ) (line : 
     Matches c (cond refused h (history_after_request h (request_of_words m.now skipped (line_words line))))
     (machine_after_line m line)
 unfolding line_reply machine_after_line
-by_refusal c h m skipped line true is said =
-    subst (Matches c h) (sym (refused_line_changes_nothing m line skipped said)) is
-by_refusal c h m skipped line false is said =
-    subst (λ (asked : ReadResult Request). Matches c (history_after_request h asked) (machine_after_line m line))
-    (asked_is m.now skipped line) (asked_matches c h m skipped (command_of_line m.now line) is said)
+by_refusal c h m skipped line true is replied =
+    subst (Matches c h) (sym (refused_line_changes_nothing m line skipped replied)) is
+by_refusal c h m skipped line false is replied =
+    subst (λ (request : ReadResult Request). Matches c (history_after_request h request) (machine_after_line m line))
+    (line_request_is m.now skipped line) (command_matches c h m skipped (command_of_line m.now line) is replied)
 
 line_matches : (c : Contents) (h : History) (m : Machine) (skipped : ℕ) (line : List ℕ) → Matches c h m
     → Matches c (history_after_line c skipped h line) (machine_after_line m line)
@@ -268,7 +268,7 @@ lines_match c h m skipped (line ∷ lines) is =
 
 -- the answers as texts, the first of this number
 abbrev numbered : ℕ → List LineReply → List (List ℕ)
-numbered number said = map (λ (p : ℕ × LineReply). reply_text p.0 p.1) (enumerate_from number said)
+numbered number replies = map (λ (p : ℕ × LineReply). reply_text p.0 p.1) (enumerate_from number replies)
 
 replies_are : (c : Contents) (h : History) (m : Machine) (skipped number : ℕ) (lines : List (List ℕ)) → Matches c h m
     → line_replies skipped number m lines ≡ numbered number (line_answers c skipped h lines)
@@ -305,14 +305,14 @@ unfolding line_answers
 answers_from c skipped h before [] = refl
 answers_from c skipped h before (line ∷ lines) =
     let step : History → List ℕ → History = history_after_line c skipped in
-    let said : List (List ℕ) → ℕ → List (ReadResult (List (List ℕ))) = λ all n.
+    let answers_at : List (List ℕ) → ℕ → List (ReadResult (List (List ℕ))) = λ all n.
     map (λ (p : ℕ × List ℕ). line_answer c skipped (fold step h (take p.0 all)) p.1) (enumerate_from n lines) in
     let first = ap (λ (ls : List (List ℕ)). line_answer c skipped (fold step h ls) line)
     (take-append_seam before (line ∷ lines)) in
-    let rest : said (before ++ line ∷ lines) (length before + 1)
+    let rest : answers_at (before ++ line ∷ lines) (length before + 1)
     ≡ line_answers c skipped (step (fold step h before) line) lines =
-    sym (ap (λ (all : List (List ℕ)). said all (length before + 1)) (append_assoc before (line ∷ []) lines))
-    ∙ sym (ap (said ((before ++ line ∷ []) ++ lines)) (length-append before (line ∷ [])))
+    sym (ap (λ (all : List (List ℕ)). answers_at all (length before + 1)) (append_assoc before (line ∷ []) lines))
+    ∙ sym (ap (answers_at ((before ++ line ∷ []) ++ lines)) (length-append before (line ∷ [])))
     ∙ answers_from c skipped h (before ++ line ∷ []) lines
     ∙ ap (λ (g : History). line_answers c skipped g lines) (fold-append step h before (line ∷ [])) in
     λ i. first i ∷ rest i

@@ -85,31 +85,31 @@ script_gives_where_known (Some f) (Some s) script depth skipped c new count befo
     script_gives f s depth skipped c new count before after means (rw is at ran)
 
 -- what holds of the outcome of the script on the capture file holds of what the run writes
-where_told : (coming script_coming : Option (List ℕ)) (script : List ℕ) (depth skipped : ℕ) (c : Contents)
-    (said : RunOutcome → Type 0) →
+for_run : (coming script_coming : Option (List ℕ)) (script : List ℕ) (depth skipped : ℕ) (c : Contents)
+    (property : RunOutcome → Type 0) →
     IfSome coming (λ f. FileMeans f c skipped) → IfSome script_coming (λ s. script ≡ s)
-    → said (run_outcome c skipped script depth) →
+    → property (run_outcome c skipped script depth) →
     IfSome coming (λ f. IfSome script_coming (λ s. (written : RunOutcome) × IsRun f s depth written
-    × said written))
-where_told None script_coming script depth skipped c said means is holds = tt
-where_told (Some f) None script depth skipped c said means is holds = tt
-where_told (Some f) (Some s) script depth skipped c said means is holds = (
+    × property written))
+for_run None script_coming script depth skipped c property means is holds = tt
+for_run (Some f) None script depth skipped c property means is holds = tt
+for_run (Some f) (Some s) script depth skipped c property means is holds = (
   run_outcome c skipped s depth,
   run_is f s depth (run_outcome c skipped s depth)
       (record { contents = c; skipped = skipped; means = means; run = refl }),
-  subst (λ (bytes : List ℕ). said (run_outcome c skipped bytes depth)) is holds,
+  subst (λ (bytes : List ℕ). property (run_outcome c skipped bytes depth)) is holds,
 )
 
 -- what follows from the replies, the output and the count of refused lines holds of what the run writes
 if_run_writes : (file script : Option (List ℕ)) (depth count : ℕ) (took_replies : List ℕ
-    → Type 0) (now : Contents) (said : RunOutcome → Type 0) →
+    → Type 0) (now : Contents) (property : RunOutcome → Type 0) →
     IfSome file (λ f. IfSome script (λ s. ScriptGives f s depth count took_replies now)) →
     ((written : RunOutcome) → took_replies (concat written.replies) → written.output ≡ text now
-    → count ≡ written.refused → said written) →
-    IfSome file (λ f. IfSome script (λ s. (written : RunOutcome) × IsRun f s depth written × said written))
-if_run_writes None script depth count took_replies now said ran follows = tt
-if_run_writes (Some f) None depth count took_replies now said ran follows = tt
-if_run_writes (Some f) (Some s) depth count took_replies now said ran follows =
+    → count ≡ written.refused → property written) →
+    IfSome file (λ f. IfSome script (λ s. (written : RunOutcome) × IsRun f s depth written × property written))
+if_run_writes None script depth count took_replies now property ran follows = tt
+if_run_writes (Some f) None depth count took_replies now property ran follows = tt
+if_run_writes (Some f) (Some s) depth count took_replies now property ran follows =
     let written = run_outcome ran.contents ran.skipped s depth in (
       written,
       run_is f s depth written (record {
@@ -153,30 +153,30 @@ pub lines_end : (capture script replies : DeviceEnd) (bytes : List ℕ) (depth s
     → StopsInLines skipped (script_lines bytes) (initial_machine c depth) replies.before replies.after e →
     EndsBeforeOutput depth capture script replies e
 unfolding RunEnds
-lines_end capture script replies bytes depth skipped c (run_errors.NoMemory zero) accepted whole means is failed stops
-    output kept = absurd (omega (arith, stops.0))
-lines_end capture script replies bytes depth skipped c (run_errors.NoMemory (suc before)) accepted whole means is failed
-    stops output kept =
+lines_end capture script replies bytes depth skipped c (run_errors.NoMemory zero) accepted script_read means is failed
+    stops output kept = absurd (omega (arith, stops.0))
+lines_end capture script replies bytes depth skipped c (run_errors.NoMemory (suc before)) accepted script_read means is
+    failed stops output kept =
     let one_less : suc before - 1 ≡ before = omega arith in
     let took = subst (λ n. Appends replies.before replies.after
     (concat (take n (run_outcome c skipped bytes depth).replies))) one_less stops.2 in (
       accepted,
-      whole,
+      script_read,
       failed,
       kept,
-      where_told capture.before script.before bytes depth skipped c _ means is (omega (arith, stops.1), took),
+      for_run capture.before script.before bytes depth skipped c _ means is (omega (arith, stops.1), took),
     )
-lines_end capture script replies bytes depth skipped c (run_errors.ReplyFault written) accepted whole means is failed
-    stops output kept =
-    (accepted, whole, failed, kept, where_told capture.before script.before bytes depth skipped c _ means is stops)
-lines_end capture script replies bytes depth skipped c (run_errors.Capture fault) accepted whole means is failed stops
-    output kept = absurd stops
-lines_end capture script replies bytes depth skipped c run_errors.ScriptTooLarge accepted whole means is failed stops
-    output kept = absurd stops
-lines_end capture script replies bytes depth skipped c run_errors.ScriptReadFault accepted whole means is failed stops
-    output kept = absurd stops
-lines_end capture script replies bytes depth skipped c (run_errors.Write fault) accepted whole means is failed stops
-    output kept = absurd stops
+lines_end capture script replies bytes depth skipped c (run_errors.ReplyFault written) accepted script_read means is
+    failed stops output kept =
+    (accepted, script_read, failed, kept, for_run capture.before script.before bytes depth skipped c _ means is stops)
+lines_end capture script replies bytes depth skipped c (run_errors.Capture fault) accepted script_read means is failed
+    stops output kept = absurd stops
+lines_end capture script replies bytes depth skipped c run_errors.ScriptTooLarge accepted script_read means is failed
+    stops output kept = absurd stops
+lines_end capture script replies bytes depth skipped c run_errors.ScriptReadFault accepted script_read means is failed
+    stops output kept = absurd stops
+lines_end capture script replies bytes depth skipped c (run_errors.Write fault) accepted script_read means is failed
+    stops output kept = absurd stops
 
 -- ---- the output
 
@@ -190,21 +190,21 @@ pub run_reaches_end : (capture script replies : DeviceEnd) (output : Option Devi
     IfSome output (λ out. (out.has_failed ≡ false) × HasText out (text now))
     → RunEnds depth capture script replies output (Ok summary)
 unfolding RunEnds
-run_reaches_end capture script replies None depth summary now accepted whole ready ran wrote = (
+run_reaches_end capture script replies None depth summary now accepted script_read ready ran wrote = (
   accepted,
-  whole,
+  script_read,
   ready,
   tt,
   if_run_writes capture.before script.before depth summary.refused _ now _ ran
-      (λ written sent output refused. (sent, tt, refused)),
+      (λ written replied output refused. (replied, tt, refused)),
 )
-run_reaches_end capture script replies (Some out) depth summary now accepted whole ready ran wrote = (
+run_reaches_end capture script replies (Some out) depth summary now accepted script_read ready ran wrote = (
   accepted,
-  whole,
+  script_read,
   ready,
   wrote.0,
   if_run_writes capture.before script.before depth summary.refused _ now _ ran
-      (λ written sent output refused. (sent, rw output wrote.1, refused)),
+      (λ written replied output refused. (replied, rw output wrote.1, refused)),
 )
 
 pub run_reaches_end_with : (capture script replies out : DeviceEnd) (depth : ℕ) (summary : Summary)
@@ -214,8 +214,9 @@ pub run_reaches_end_with : (capture script replies out : DeviceEnd) (depth : ℕ
     (λ f. IfSome script.before
     (λ s. ScriptGives f s depth summary.refused (Appends replies.before replies.after) now)) →
     out.has_failed ≡ false → HasText out (text now) → RunEnds depth capture script replies (Some out) (Ok summary)
-run_reaches_end_with capture script replies out depth summary now accepted whole ready ran out_ready wrote =
-    run_reaches_end capture script replies (Some out) depth summary now accepted whole ready ran (out_ready, wrote)
+run_reaches_end_with capture script replies out depth summary now accepted script_read ready ran out_ready wrote =
+    run_reaches_end capture script replies (Some out) depth summary now accepted script_read ready ran
+    (out_ready, wrote)
 
 -- or stops at its output
 pub run_stops_at_output : (capture script replies out : DeviceEnd) (depth count : ℕ) (now : Contents)
@@ -226,22 +227,23 @@ pub run_stops_at_output : (capture script replies out : DeviceEnd) (depth count 
     TookBefore (text now) out.before out.after out.has_failed fault
     → RunEnds depth capture script replies (Some out) (Err (run_errors.Write fault))
 unfolding RunEnds
-run_stops_at_output capture script replies out depth count now write_errors.NoMemory accepted whole ready ran took = (
-  accepted,
-  whole,
-  ready,
-  took,
-  if_run_writes capture.before script.before depth count _ now _ ran (λ written sent output refused. sent),
-)
-run_stops_at_output capture script replies out depth count now (write_errors.WriteFault written) accepted whole ready
-    ran took = (
+run_stops_at_output capture script replies out depth count now write_errors.NoMemory accepted script_read ready ran
+    took = (
       accepted,
-      whole,
+      script_read,
+      ready,
+      took,
+      if_run_writes capture.before script.before depth count _ now _ ran (λ written replied output refused. replied),
+    )
+run_stops_at_output capture script replies out depth count now (write_errors.WriteFault written) accepted script_read
+    ready ran took = (
+      accepted,
+      script_read,
       ready,
       (
         took.2,
         if_run_writes capture.before script.before depth count _ now _ ran
-            (λ outcome sent output refused. (sent, rw output (took.1, took.0))),
+            (λ outcome replied output refused. (replied, rw output (took.1, took.0))),
       ),
     )
 
@@ -256,13 +258,13 @@ appends_kept (Some xs) (Some ys) None text took kept = absurd kept
 appends_kept (Some xs) (Some ys) (Some zs) text took kept = kept ∙ took
 
 -- what holds of the replies of a run holds of what follows from it
-of_replies : (file script : Option (List ℕ)) (depth : ℕ) (said also : RunOutcome → Type 0)
-    → ((written : RunOutcome) → said written → also written) →
-    IfSome file (λ f. IfSome script (λ s. (written : RunOutcome) × IsRun f s depth written × said written))
+of_replies : (file script : Option (List ℕ)) (depth : ℕ) (property also : RunOutcome → Type 0)
+    → ((written : RunOutcome) → property written → also written) →
+    IfSome file (λ f. IfSome script (λ s. (written : RunOutcome) × IsRun f s depth written × property written))
     → IfSome file (λ f. IfSome script (λ s. (written : RunOutcome) × IsRun f s depth written × also written))
-of_replies None script depth said also follows ran = tt
-of_replies (Some f) None depth said also follows ran = tt
-of_replies (Some f) (Some s) depth said also follows ran = (ran.0, ran.1, follows ran.0 ran.2)
+of_replies None script depth property also follows ran = tt
+of_replies (Some f) None depth property also follows ran = tt
+of_replies (Some f) (Some s) depth property also follows ran = (ran.0, ran.1, follows ran.0 ran.2)
 
 -- the writer after a buffer has what the buffer took
 pub replies_sent : (r : Result Summary RunError) (depth : ℕ) (capture script replies : DeviceEnd)
@@ -272,11 +274,12 @@ pub replies_sent : (r : Result Summary RunError) (depth : ℕ) (capture script r
 unfolding RunEnds
 replies_sent (Ok summary) depth capture script replies output later ends kept =
     of_replies capture.before script.before depth _ _
-    (λ written told. appends_kept replies.before replies.after later (concat written.replies) told.0 kept) ends.4
+    (λ written replied. appends_kept replies.before replies.after later (concat written.replies) replied.0 kept) ends.4
 replies_sent (Err (run_errors.NoMemory zero)) depth capture script replies output later ends kept = tt
 replies_sent (Err (run_errors.NoMemory (suc count))) depth capture script replies output later ends kept =
     of_replies capture.before script.before depth _ _
-    (λ written told. appends_kept replies.before replies.after later (concat (take count written.replies)) told.1 kept)
+    (λ written replied. appends_kept replies.before replies.after later (concat (take count written.replies)) replied.1
+    kept)
     ends.4
 replies_sent (Err (run_errors.Capture e)) depth capture script replies output later ends kept = tt
 replies_sent (Err run_errors.ScriptTooLarge) depth capture script replies output later ends kept = tt

@@ -28,9 +28,9 @@ use Rattle.vcdedit.specs.Script.{script_lines}
 use Rattle.vcdedit.specs.ParsedLines.{command_of_line}
 use Rattle.vcdedit.specs.MachineReplies.{line_reply, command_reply, step_reply}
 use Rattle.vcdedit.specs.RunMachines.{machine_after_command, machine_after_line, machine_after_lines, no_edits}
-use Rattle.vcdedit.specs.RunMachines.{edits_after_lines, reply_on, is_refused_on, IsLineOfRun, machine_at, edits_at}
+use Rattle.vcdedit.specs.RunMachines.{edits_after_lines, reply_on, is_refused_on, IsReplayOfLine, machine_at, edits_at}
 use Rattle.vcdedit.specs.Run.{RunOutcome}
-use Rattle.vcdedit.specs.RunMachines.{last_replay, IsOfReplays, refusal_count}
+use Rattle.vcdedit.specs.RunMachines.{last_replay, IsReplayOfLines, refusal_count}
 use Rattle.vcdedit.specs.RunOutcomes.{line_replies, run_outcome}
 use Rattle.vcdedit.specs.Laws.{MachineRunIsOfReplays, RunIsUnique, ReplaysAreMachineRun, RefusedLineChangesNothing}
 use Rattle.vcdedit.specs.Laws.{UndoGivesBack, UndoTakesBackTheLast, answer_reply}
@@ -70,10 +70,10 @@ undone_edit m e found (suc depth) is least none = rw (none, ← is) refl
 
 pub undo_gives_back : UndoGivesBack
 unfolding machine_after_line
-undo_gives_back m e line undo_line least asked accepted undo =
+undo_gives_back m e line undo_line least reads accepted undo =
     ap (λ (r : Result Command LineError). (machine_after_command (machine_after_line m line) r).now) undo
     ∙ ap (λ (r : Result Command LineError).
-    (undo_outcome (machine_after_command m r).past (machine_after_command m r)).after.now) asked
+    (undo_outcome (machine_after_command m r).past (machine_after_command m r)).after.now) reads
     ∙ undone_edit m e (edit_fault e m.now) m.depth refl least accepted
 
 -- the newest of the past is the replay of all edits in force but the last
@@ -87,11 +87,11 @@ undone_last c (e ∷ es) (back ∷ older) m is held = (e, es, refl, cc)
 
 pub undo_takes_back_the_last : UndoTakesBackTheLast
 unfolding machine_after_line
-undo_takes_back_the_last c depth lines undo_line asked held =
+undo_takes_back_the_last c depth lines undo_line reads held =
     let m = machine_after_lines (initial_machine c depth) lines in
     let so = undone_last c (edits_after_lines no_edits (initial_machine c depth) lines).edits m.past m
     (run_is_replay c depth lines).past held in
-    (so.0, so.1, so.2, ap (λ r. (machine_after_command m r).now) asked ∙ so.3)
+    (so.0, so.1, so.2, ap (λ r. (machine_after_command m r).now) reads ∙ so.3)
 
 -- ---- refused lines
 
@@ -124,9 +124,9 @@ step_refused m steps.Redo refused = redo_refused m m.future refused
 step_refused m (steps.Depth depth) refused =
     depth_refused m (not (is_depth depth)) (nat_lt depth (length m.future)) depth refused
 
-command_refused : (m : Machine) (asked : Result Command LineError) (skipped : ℕ)
-    → is_err (command_reply asked m.now skipped (length m.past) (length m.future)) ≡ true
-    → machine_after_command m asked ≡ m
+command_refused : (m : Machine) (parsed : Result Command LineError) (skipped : ℕ)
+    → is_err (command_reply parsed m.now skipped (length m.past) (length m.future)) ≡ true
+    → machine_after_command m parsed ≡ m
 command_refused m (Err fault) skipped refused = refl
 command_refused m (Ok commands.Nothing) skipped refused = refl
 command_refused m (Ok (commands.Step step)) skipped refused =
@@ -163,13 +163,13 @@ undo_held (back ∷ older) now redoable accepted = omega arith
 line_undone : (skipped : ℕ) (line : List ℕ) (m : Machine) → command_of_line m.now line ≡ Ok (commands.Step steps.Undo)
     → is_refused_on skipped line m ≡ false → 1 ≤ length m.past
 unfolding line_reply
-line_undone skipped line m asked accepted =
+line_undone skipped line m reads accepted =
     undo_held m.past m.now (length m.future)
     (sym (ap (λ (r : Result Command LineError). is_err
-    (command_reply r m.now skipped (length m.past) (length m.future))) asked) ∙ accepted)
+    (command_reply r m.now skipped (length m.past) (length m.future))) reads) ∙ accepted)
 
 line_of_run : (c : Contents) (depth skipped : ℕ) (lines : List (List ℕ)) (count : ℕ) → count < length lines →
-    IsLineOfRun c (edits_at c depth lines count) skipped (get_or lines count []) (machine_at c depth lines count)
+    IsReplayOfLine c (edits_at c depth lines count) skipped (get_or lines count []) (machine_at c depth lines count)
     (machine_at c depth lines (count + 1))
 line_of_run c depth skipped lines count below =
     let m = machine_at c depth lines count in
@@ -179,9 +179,9 @@ line_of_run c depth skipped lines count below =
     ∙ machine_next (initial_machine c depth) lines count below in
     record {
       unchanged = λ refused. next ∙ refused_line_changes_nothing m line skipped refused;
-      undone = λ asked accepted.
-          let so = undo_takes_back_the_last c depth (take count lines) line asked
-          (line_undone skipped line m asked accepted) in
+      undone = λ reads accepted.
+          let so = undo_takes_back_the_last c depth (take count lines) line reads
+          (line_undone skipped line m reads accepted) in
           (so.0, so.1, so.2, ap (λ (n : Machine). n.now) next ∙ so.3);
     }
 
@@ -189,7 +189,7 @@ line_of_run c depth skipped lines count below =
 
 -- what a run of lines writes is of replays
 lines_of_replays : (c : Contents) (depth skipped : ℕ) (lines : List (List ℕ)) → IsSound c →
-    IsOfReplays c depth lines skipped (record {
+    IsReplayOfLines c depth lines skipped (record {
       replies = line_replies skipped 1 (initial_machine c depth) lines;
       output = text (machine_after_lines (initial_machine c depth) lines).now;
       refused = refusal_count skipped (initial_machine c depth) lines;
@@ -225,7 +225,7 @@ run_is_of_replays file script depth written writes =
       contents = writes.contents;
       skipped = writes.skipped;
       means = writes.means;
-      run = subst (IsOfReplays writes.contents depth (script_lines script) writes.skipped) (sym writes.run)
+      run = subst (IsReplayOfLines writes.contents depth (script_lines script) writes.skipped) (sym writes.run)
           (lines_of_replays writes.contents depth writes.skipped (script_lines script) sound);
     }
 
@@ -238,7 +238,7 @@ same_outcome written other replies output refused =
     λ i. record { replies = replies i; output = output i; refused = refused i }
 
 one_of_replays : (c : Contents) (depth skipped : ℕ) (lines : List (List ℕ)) (written other : RunOutcome)
-    → IsOfReplays c depth lines skipped written → IsOfReplays c depth lines skipped other → written ≡ other
+    → IsReplayOfLines c depth lines skipped written → IsReplayOfLines c depth lines skipped other → written ≡ other
 one_of_replays c depth skipped lines written other is also =
     let same_length : length written.replies ≡ length other.replies = is.one_each ∙ sym also.one_each in
     let replies : written.replies ≡ other.replies = ext_get_or [] written.replies other.replies same_length
@@ -249,9 +249,9 @@ one_of_replays c depth skipped lines written other is also =
 pub run_writes_one_thing : RunIsUnique
 run_writes_one_thing file script depth written other is also =
     let one = one_meaning file is.contents also.contents is.skipped also.skipped is.means also.means in
-    let here : IsOfReplays also.contents depth (script_lines script) also.skipped written =
-    subst (λ (c : Contents). IsOfReplays c depth (script_lines script) also.skipped written) one.0
-    (subst (λ (n : ℕ). IsOfReplays is.contents depth (script_lines script) n written) one.1 is.run) in
+    let here : IsReplayOfLines also.contents depth (script_lines script) also.skipped written =
+    subst (λ (c : Contents). IsReplayOfLines c depth (script_lines script) also.skipped written) one.0
+    (subst (λ (n : ℕ). IsReplayOfLines is.contents depth (script_lines script) n written) one.1 is.run) in
     one_of_replays also.contents depth also.skipped (script_lines script) written other here also.run
 
 pub replays_are_of_run : ReplaysAreMachineRun

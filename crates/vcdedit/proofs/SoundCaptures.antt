@@ -64,8 +64,8 @@ step_sound m steps.Redo sound = redo_sound m m.future sound.future sound
 step_sound m (steps.Depth depth) sound =
     depth_sound m depth (not (is_depth depth)) (nat_lt depth (length m.future)) sound
 
-command_sound : (m : Machine) (asked : Result Command LineError) → HoldsSound m
-    → HoldsSound (machine_after_command m asked)
+command_sound : (m : Machine) (parsed : Result Command LineError) → HoldsSound m
+    → HoldsSound (machine_after_command m parsed)
 command_sound m (Err fault) sound = sound
 command_sound m (Ok commands.Nothing) sound = sound
 command_sound m (Ok (commands.Step step)) sound = step_sound m step sound

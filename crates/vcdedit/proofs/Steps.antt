@@ -59,20 +59,20 @@ reply_is_answer m (steps.Depth depth) =
     reply_to_depth_is (not (is_depth depth)) (nat_lt depth (length m.future)) depth m
 
 -- a line asks for at most one step, and gives the outcome of that step
-pub command_is_run : (m : Machine) (r : Result Command LineError) (asked : List Step) (answers : List Answer)
-    (n : Machine) → AreSteps (machine_after_command m r) asked answers n →
-    AreSteps m (steps_of_command r ++ asked) (map (λ step. (step_outcome m step).answer) (steps_of_command r)
+pub command_is_run : (m : Machine) (r : Result Command LineError) (later : List Step) (answers : List Answer)
+    (n : Machine) → AreSteps (machine_after_command m r) later answers n →
+    AreSteps m (steps_of_command r ++ later) (map (λ step. (step_outcome m step).answer) (steps_of_command r)
     ++ answers) n
 unfolding AreSteps
-command_is_run m (Ok commands.Nothing) asked answers n h = h
-command_is_run m (Ok commands.List) asked answers n h = h
-command_is_run m (Ok (commands.Value k tick)) asked answers n h = h
-command_is_run m (Ok (commands.Changes k)) asked answers n h = h
-command_is_run m (Ok (commands.Step step)) asked answers n h = ((step_outcome m step).after, ample_step m step, h)
-command_is_run m (Ok (commands.Uart k setup)) asked answers n h = h
-command_is_run m (Ok (commands.Spi clk mosi miso cs setup)) asked answers n h = h
-command_is_run m (Ok (commands.I2c scl sda)) asked answers n h = h
-command_is_run m (Err found) asked answers n h = h
+command_is_run m (Ok commands.Nothing) later answers n h = h
+command_is_run m (Ok commands.List) later answers n h = h
+command_is_run m (Ok (commands.Value k tick)) later answers n h = h
+command_is_run m (Ok (commands.Changes k)) later answers n h = h
+command_is_run m (Ok (commands.Step step)) later answers n h = ((step_outcome m step).after, ample_step m step, h)
+command_is_run m (Ok (commands.Uart k setup)) later answers n h = h
+command_is_run m (Ok (commands.Spi clk mosi miso cs setup)) later answers n h = h
+command_is_run m (Ok (commands.I2c scl sda)) later answers n h = h
+command_is_run m (Err found) later answers n h = h
 
 pub lines_are_run : (m : Machine) (lines : List (List ℕ))
     → AreSteps m (steps_of_lines m lines) (answers_of_lines m lines) (machine_after_lines m lines)
@@ -84,19 +84,19 @@ lines_are_run m (line ∷ lines) =
     (machine_after_lines next lines) (lines_are_run next lines)
 
 -- the edit lists after a line are those of the step that it asks for
-command_edits : (t : EditLists) (m : Machine) (r : Result Command LineError) (asked : List Step) (answers : List Answer)
-    → edits_after_all t (steps_of_command r ++ asked) (map (λ step. (step_outcome m step).answer) (steps_of_command r)
-    ++ answers) ≡ edits_after_all (edits_after_command t m r) asked answers
+command_edits : (t : EditLists) (m : Machine) (r : Result Command LineError) (later : List Step) (answers : List Answer)
+    → edits_after_all t (steps_of_command r ++ later) (map (λ step. (step_outcome m step).answer) (steps_of_command r)
+    ++ answers) ≡ edits_after_all (edits_after_command t m r) later answers
 unfolding edits_after_all
-command_edits t m (Ok commands.Nothing) asked answers = refl
-command_edits t m (Ok commands.List) asked answers = refl
-command_edits t m (Ok (commands.Value k tick)) asked answers = refl
-command_edits t m (Ok (commands.Changes k)) asked answers = refl
-command_edits t m (Ok (commands.Step step)) asked answers = refl
-command_edits t m (Ok (commands.Uart k setup)) asked answers = refl
-command_edits t m (Ok (commands.Spi clk mosi miso cs setup)) asked answers = refl
-command_edits t m (Ok (commands.I2c scl sda)) asked answers = refl
-command_edits t m (Err found) asked answers = refl
+command_edits t m (Ok commands.Nothing) later answers = refl
+command_edits t m (Ok commands.List) later answers = refl
+command_edits t m (Ok (commands.Value k tick)) later answers = refl
+command_edits t m (Ok (commands.Changes k)) later answers = refl
+command_edits t m (Ok (commands.Step step)) later answers = refl
+command_edits t m (Ok (commands.Uart k setup)) later answers = refl
+command_edits t m (Ok (commands.Spi clk mosi miso cs setup)) later answers = refl
+command_edits t m (Ok (commands.I2c scl sda)) later answers = refl
+command_edits t m (Err found) later answers = refl
 
 lines_edits : (t : EditLists) (m : Machine) (lines : List (List ℕ))
     → edits_after_all t (steps_of_lines m lines) (answers_of_lines m lines) ≡ edits_after_lines t m lines

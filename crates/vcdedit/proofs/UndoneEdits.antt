@@ -53,31 +53,31 @@ module _ (c : Contents) (skipped depth : ℕ) (lines : List (List ℕ)) where
   abbrev AllMade : (count : ℕ) → History → Type 0
   AllMade count h = AreMade count (restored h.edits h.undone)
 
-  made_by_asked : (count : ℕ) (asked : ReadResult Request) →
-      line_request c skipped (at_line count) (get_or lines count []) ≡ asked →
+  made_by_request : (count : ℕ) (request : ReadResult Request) →
+      line_request c skipped (at_line count) (get_or lines count []) ≡ request →
       is_err (line_answer c skipped (at_line count) (get_or lines count [])) ≡ false → AllMade count (at_line count)
-      → AllMade (suc count) (history_after_request (at_line count) asked)
+      → AllMade (suc count) (history_after_request (at_line count) request)
   unfolding AreMade restored
-  made_by_asked count (Err refusal) is accepted made = made_later count _ made
-  made_by_asked count (Ok (reply said)) is accepted made = made_later count _ made
-  made_by_asked count (Ok (step (steps.Edit e))) is accepted made = (
+  made_by_request count (Err refusal) is accepted made = made_later count _ made
+  made_by_request count (Ok (reply reply_lines)) is accepted made = made_later count _ made
+  made_by_request count (Ok (step (steps.Edit e))) is accepted made = (
     (count, omega arith, (is, accepted), refl),
     made_later count _ (made_in_force count (at_line count).edits (at_line count).undone made),
   )
-  made_by_asked count (Ok (step steps.Undo)) is accepted made =
+  made_by_request count (Ok (step steps.Undo)) is accepted made =
       subst (AreMade (suc count)) (sym (undo_restores (at_line count).edits (at_line count).undone))
       (made_later count _ made)
-  made_by_asked count (Ok (step steps.Redo)) is accepted made =
+  made_by_request count (Ok (step steps.Redo)) is accepted made =
       subst (AreMade (suc count)) (sym (redo_restores (at_line count).edits (at_line count).undone))
       (made_later count _ made)
-  made_by_asked count (Ok (step (steps.Depth d))) is accepted made = made_later count _ made
+  made_by_request count (Ok (step (steps.Depth d))) is accepted made = made_later count _ made
 
   made_by_line : (count : ℕ) (refused : Bool) →
       is_err (line_answer c skipped (at_line count) (get_or lines count [])) ≡ refused → AllMade count (at_line count)
       → AllMade (suc count) (cond refused (at_line count)
       (history_after_request (at_line count) (line_request c skipped (at_line count) (get_or lines count []))))
   made_by_line count true is made = made_later count _ made
-  made_by_line count false is made = made_by_asked count _ refl is made
+  made_by_line count false is made = made_by_request count _ refl is made
 
   -- the history after one more line; past the last line there are only empty ones, which change nothing
   next_from : (h : History) (left : List (List ℕ)) (count : ℕ) →
@@ -140,7 +140,7 @@ module _ (c : Contents) (skipped depth : ℕ) (lines : List (List ℕ)) where
       let line = get_or lines j [] in
       let h = at_line j in
       let accepted : is_err (answer (replay c h.edits) h (step steps.Undo)) ≡ false =
-      sym (ap (λ (asked : ReadResult Request). is_err (asked ▷ answer (replay c h.edits) h)) undo.0) ∙ undo.1 in
+      sym (ap (λ (request : ReadResult Request). is_err (request ▷ answer (replay c h.edits) h)) undo.0) ∙ undo.1 in
       let held : 1 ≤ length h.edits = omega (arith, undo_held (replay c h.edits) h accepted, few j) in
       let found = undone_edit j h.edits refl held (made_in_force j h.edits h.undone (all_made j)) in
       let one_more : j + 1 ≡ suc j = omega arith in

@@ -79,8 +79,8 @@ abbrev pub read_order : List ℕ → ReadResult BitOrder
 read_order = read_entry (codes "BadOption") ((codes "msb", Msb) ∷ (codes "lsb", Lsb) ∷ [])
 
 -- the position of the signal that a word names; `-` means that the line is absent
-abbrev pub read_line : Contents → List ℕ → ReadResult (Option ℕ)
-read_line c word = if bytes_eq word (codes "-") then Ok None else (read_signal c word ▷ λ k. Ok (Some k))
+abbrev pub read_or_absent : Contents → List ℕ → ReadResult (Option ℕ)
+read_or_absent c word = if bytes_eq word (codes "-") then Ok None else (read_signal c word ▷ λ k. Ok (Some k))
 
 -- the signals of a decoder have one bit
 abbrev pub scalar_test : Contents → List ℕ → Bool × List ℕ

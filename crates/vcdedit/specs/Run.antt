@@ -32,7 +32,7 @@ answer c h (reply lines) = Ok lines
 -- the history after a request that is not refused: steps alone change it
 abbrev pub history_after_request : History → ReadResult Request → History
 history_after_request h (Ok (step s)) = history_after h s
-history_after_request h asked = h
+history_after_request h request = h
 
 -- lines on a capture, so many variables of whose file were skipped
 module _ (c : Contents) (skipped : ℕ) where
@@ -72,10 +72,10 @@ module _ (c : Contents) (skipped depth : ℕ) (lines : List (List ℕ)) where
     -- after each line the capture is one that a file can describe, and no more edits can be undone than are in force
     pub sound : (count : ℕ) → IsSound (capture_at count)
     pub undoable : (count : ℕ) → (history_at count).undoable ≤ length (history_at count).edits
-    -- a refused line j changes nothing: neither edits in force, and so the capture, nor what can be undone or redone
+    -- a refused line j leaves the history as it was
     pub unchanged : (j : ℕ) → is_err (line_answer c skipped (history_at j) (get_or lines j [])) ≡ true
         → history_at (j + 1) ≡ history_at j
-    -- the capture after an undo at line j is that before a line i that made the undone edit, the last one in force
+    -- an undo at line j restores the capture before line i, which made the last edit in force
     pub undo_restores : (j : ℕ) → IsStepAt j steps.Undo → (i : ℕ) × (e : Edit) × (i < j) × IsStepAt i (steps.Edit e)
         × ((history_at j).edits ≡ e ∷ (history_at i).edits) × (capture_at (j + 1) ≡ capture_at i)
     -- the replies, with the number of their lines, and how many are refusals

@@ -54,19 +54,19 @@ module _ {D : Type 0} (shown : D → Option (List ℕ)) (has_failed : D → Bool
 
   -- holds of the end of the writer of the output, or of none: `out` is the `Option<&mut D>` as it was passed, `left` as
   -- it was returned; they are the same variant
-  abbrev pub OfOutput : Option (MutBor D) → Unit {0} ⊎ (MutBor D × Unit {0}) ⊎ ⊥ → (Option DeviceEnd → Type 0) → Type 0
-  OfOutput None left said = said None
-  OfOutput (Some out) (inr (inl left)) said = said (Some (device_end out.now left.0.now))
-  OfOutput (Some out) left said = ⊥
+  abbrev pub ForOutput : Option (MutBor D) → Unit {0} ⊎ (MutBor D × Unit {0}) ⊎ ⊥ → (Option DeviceEnd → Type 0) → Type 0
+  ForOutput None left property = property None
+  ForOutput (Some out) (inr (inl left)) property = property (Some (device_end out.now left.0.now))
+  ForOutput (Some out) left property = ⊥
 
 -- ---- runs
 
 -- a run of this depth, and the ends of its two sources
 module _ (depth : ℕ) (capture script : DeviceEnd) where
   -- if the sources show their bytes: holds of what the run of the script on the capture file writes
-  abbrev pub OfRun : (RunOutcome → Type 0) → Type 0
-  OfRun said = IfSome capture.before (λ file. IfSome script.before (λ lines.
-      (written : RunOutcome) × IsRun file lines depth written × said written))
+  abbrev pub ForRun : (RunOutcome → Type 0) → Type 0
+  ForRun property = IfSome capture.before (λ file. IfSome script.before (λ lines.
+      (written : RunOutcome) × IsRun file lines depth written × property written))
 
   -- the same, with the ends of its two writers, the second if there is one
   module _ (replies : DeviceEnd) (output : Option DeviceEnd) where
@@ -78,7 +78,7 @@ module _ (depth : ℕ) (capture script : DeviceEnd) where
     unfoldable pub RunEnds : Result Summary RunError → Type 0
     -- all replies are written, and the output if one is asked for
     RunEnds (Ok summary) = IsAccepted capture × IsRead SCRIPT_LIMIT script × (replies.has_failed ≡ false)
-        × IfSome output (λ out. out.has_failed ≡ false) × OfRun (λ written. HasText replies (concat written.replies)
+        × IfSome output (λ out. out.has_failed ≡ false) × ForRun (λ written. HasText replies (concat written.replies)
         × IfSome output (λ out. HasText out written.output) × (summary.refused ≡ written.refused))
     -- the capture is refused for a fault, its length, its source or memory: the script is unread
     RunEnds (Err (Capture e)) = IfSome capture.before (λ file. IsRefusal file capture.has_failed capture.after e)
@@ -92,16 +92,16 @@ module _ (depth : ℕ) (capture script : DeviceEnd) where
     RunEnds (Err (NoMemory zero)) = IsAccepted capture × IsUnwritten
     -- memory ran out at a line, counted from 1: exactly the replies to the lines before it are written
     RunEnds (Err (NoMemory (suc before))) = IsAccepted capture × IsRead SCRIPT_LIMIT script
-        × (replies.has_failed ≡ false) × IfSome output IsUntouched × OfRun (λ written.
+        × (replies.has_failed ≡ false) × IfSome output IsUntouched × ForRun (λ written.
         (before < length written.replies) × HasText replies (concat (take before written.replies)))
     -- the writer of the replies failed: it took exactly so many bytes of them
     RunEnds (Err (ReplyFault count)) = IsAccepted capture × IsRead SCRIPT_LIMIT script × (replies.has_failed ≡ true)
-        × IfSome output IsUntouched × OfRun (λ written. HasFront replies count (concat written.replies))
+        × IfSome output IsUntouched × ForRun (λ written. HasFront replies count (concat written.replies))
     -- memory ran out for the output: all replies are written, and none of the output
     RunEnds (Err (Write write_errors.NoMemory)) = IsAccepted capture × IsRead SCRIPT_LIMIT script
         × (replies.has_failed ≡ false) × IsSomeAnd output (λ out. Keeps out.before out.after × (out.has_failed ≡ false))
-        × OfRun (λ written. HasText replies (concat written.replies))
+        × ForRun (λ written. HasText replies (concat written.replies))
     -- the writer of the output failed: it took exactly so many bytes of the output, and all replies are written
     RunEnds (Err (Write (write_errors.WriteFault count))) = IsAccepted capture × IsRead SCRIPT_LIMIT script
         × (replies.has_failed ≡ false) × IsSomeAnd output (λ out. (out.has_failed ≡ true)
-        × OfRun (λ written. HasText replies (concat written.replies) × HasFront out count written.output))
+        × ForRun (λ written. HasText replies (concat written.replies) × HasFront out count written.output))

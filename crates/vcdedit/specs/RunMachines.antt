@@ -1,4 +1,4 @@
--- What a run writes, said of the machine after its lines: the project's own.
+-- What a run writes, by replays of the edits that the machine has in force after its lines: the project's own.
 use Rattle.std.specs.Prelude.{◌≡◌, ◌<◌, ℕ, ◌+◌, if◌then◌else◌, true, false, Bool, List, [], ◌∷◌, length, take, get_or}
 use Rattle.std.specs.Prelude.{Result, Ok}
 use Rattle.vcd_core.specs.Contents.{Contents}
@@ -23,7 +23,7 @@ use Rattle.vcdedit.specs.Run.{RunOutcome}
 -- the machine after what a line asks for
 abbrev pub machine_after_command : Machine → Result Command LineError → Machine
 machine_after_command m (Ok (commands.Step step)) = (step_outcome m step).after
-machine_after_command m asked = m
+machine_after_command m parsed = m
 
 -- the machine after a line, which is read on the current capture
 unfoldable pub machine_after_line : Machine → List ℕ → Machine
@@ -41,7 +41,7 @@ no_edits = record { edits = []; undone = [] }
 -- the edits in force and those undone, after what a line asks for on a machine
 abbrev pub edits_after_command : EditLists → Machine → Result Command LineError → EditLists
 edits_after_command t m (Ok (commands.Step step)) = edits_after t step (step_outcome m step).answer
-edits_after_command t m asked = t
+edits_after_command t m parsed = t
 
 -- the same after lines
 unfoldable pub edits_after_lines : EditLists → Machine → List (List ℕ) → EditLists
@@ -66,7 +66,7 @@ refusal_count skipped m (line ∷ lines) =
 -- ---- replays
 
 -- a line on a capture where these edits are in force: it leads from one machine to the next
-pub record IsLineOfRun (c : Contents) (t : EditLists) (skipped : ℕ) (line : List ℕ) (m next : Machine) : Type 0 where
+pub record IsReplayOfLine (c : Contents) (t : EditLists) (skipped : ℕ) (line : List ℕ) (m next : Machine) : Type 0 where
   -- refused, it changes nothing: neither the capture nor what can be undone or redone
   pub unchanged : is_refused_on skipped line m ≡ true → next ≡ m
   -- an undo that is not refused gives back the capture before the last edit in force
@@ -87,15 +87,15 @@ module _ (c : Contents) (depth : ℕ) (lines : List (List ℕ)) where
   abbrev pub last_replay : Contents
   last_replay = replay c (edits_at (length lines)).edits
 
-  -- what is written where these lines are run is of replays
-  pub record IsOfReplays (skipped : ℕ) (written : RunOutcome) : Type 0 where
+  -- what is written where these lines are run, by the captures of the machine, which are replays
+  pub record IsReplayOfLines (skipped : ℕ) (written : RunOutcome) : Type 0 where
     -- after each line the capture is the replay of the edits then in force, and undo and redo lead to the others
     pub replays : (count : ℕ) → IsReplay c (edits_at count) (machine_at count)
     -- it is sound
     pub sound : (count : ℕ) → IsSound (machine_at count).now
     -- undo restores, and a refused line changes nothing
     pub each : (count : ℕ) → count < length lines →
-        IsLineOfRun c (edits_at count) skipped (get_or lines count []) (machine_at count) (machine_at (count + 1))
+        IsReplayOfLine c (edits_at count) skipped (get_or lines count []) (machine_at count) (machine_at (count + 1))
     -- one reply to each line, said on the capture before it
     pub one_each : length written.replies ≡ length lines
     pub replies : (count : ℕ) → count < length lines →
@@ -107,9 +107,9 @@ module _ (c : Contents) (depth : ℕ) (lines : List (List ℕ)) where
     -- and it means nothing else
     pub only : (d : Contents) (count : ℕ) → FileMeans written.output d count → (d ≡ last_replay) × (count ≡ 0)
 
--- what is written is of replays of what the capture file means, by the lines of the script
+-- what is written, by these captures, where the lines of the script are run on what the capture file means
 pub record IsRunOfReplays (file script : List ℕ) (depth : ℕ) (written : RunOutcome) : Type 0 where
   pub contents : Contents
   pub skipped : ℕ
   pub means : FileMeans file contents skipped
-  pub run : IsOfReplays contents depth (script_lines script) skipped written
+  pub run : IsReplayOfLines contents depth (script_lines script) skipped written

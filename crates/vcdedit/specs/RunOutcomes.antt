@@ -22,7 +22,7 @@ run_outcome c skipped script depth = record {
   refused = refusal_count skipped (initial_machine c depth) (script_lines script);
 }
 
--- the capture file is accepted, and the run of the script on its meaning writes this
+-- what is written, by the machine, where the script is run on what the capture file means
 pub record IsMachineRun (file script : List ℕ) (depth : ℕ) (written : RunOutcome) : Type 0 where
   pub contents : Contents
   pub skipped : ℕ

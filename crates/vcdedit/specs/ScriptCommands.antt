@@ -1,4 +1,5 @@
--- The command or fault that `parse_line` finds in the words of a line, keyword by keyword: the project's own.
+-- What a line asks for, by cases on its words, as the contract of `parse_line` cites it: the project's own.
+-- `CommandTable` says the same by a table, which the headline cites, and `inside/ParsedCommands` parser by parser.
 use Rattle.std.specs.Prelude.{ℕ, Bool, false, ◌==◌, if◌then◌else◌, List, [], ◌∷◌, Option, find, option_map, Result, Ok}
 use Rattle.std.specs.Prelude.{Err, codes}
 use Rattle.std.specs.Option.{ok_or}
@@ -97,19 +98,19 @@ command_of c keywords.Shift (name ∷ by ∷ []) = do
   distance ← distance_of_word by
   edit_command (Shift k distance)
 command_of c keywords.Cut (from ∷ to ∷ []) = do
-  first ← number_of_word from
-  last ← number_of_word to
-  edit_command (Cut first last)
+  from_tick ← number_of_word from
+  to_tick ← number_of_word to
+  edit_command (Cut from_tick to_tick)
 command_of c keywords.Deglitch (name ∷ ticks ∷ []) = do
   k ← signal_of_name c name
   count ← number_of_word ticks
   edit_command (Deglitch k count)
 command_of c keywords.Force (name ∷ from ∷ to ∷ value ∷ []) = do
   k ← signal_of_name c name
-  first ← number_of_word from
-  last ← number_of_word to
+  from_tick ← number_of_word from
+  to_tick ← number_of_word to
   letters ← value_of_word (signal_at c k).width value
-  edit_command (Force k first last letters)
+  edit_command (Force k from_tick to_tick letters)
 command_of c keywords.Derive (word ∷ rule ∷ operands) =
     rule_of c rule operands >>= λ r. edit_command (Derive (lent_bytes word) r)
 command_of c keywords.Undo [] = step_command steps.Undo

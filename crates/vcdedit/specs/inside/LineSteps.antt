@@ -12,7 +12,7 @@ use Rattle.vcdedit.specs.RunMachines.{machine_after_line}
 -- the step that a line asks for, if any
 abbrev pub steps_of_command : Result Command LineError → List Step
 steps_of_command (Ok (commands.Step step)) = step ∷ []
-steps_of_command asked = []
+steps_of_command parsed = []
 
 -- the steps that lines ask for
 unfoldable pub steps_of_lines : Machine → List (List ℕ) → List Step

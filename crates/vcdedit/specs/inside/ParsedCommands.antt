@@ -1,4 +1,5 @@
--- What the parsers of the commands read, keyword by keyword.
+-- What a line asks for, with one definition for each parser, which the parser's contract cites. `ScriptCommands` says
+-- the same by cases (`proofs/KeywordCommands`), and `CommandTable` by a table (`proofs/TableCommands`).
 use Rattle.std.specs.Prelude.{ℕ, if◌then◌else◌, List, [], ◌∷◌, Option, find, option_map, Result, Ok, Err, codes}
 use Rattle.std.specs.Option.{ok_or, option_or}
 use Rattle.std.specs.Str.{bytes_eq}
@@ -99,9 +100,9 @@ shift_command c arguments = two_words arguments (λ name by. do
 -- `cut FROM TO`
 abbrev pub cut_command : List (List ℕ) → Result Command LineError
 cut_command arguments = two_words arguments (λ from to. do
-  first ← number_of_word from
-  last ← number_of_word to
-  edit_command (Cut first last))
+  from_tick ← number_of_word from
+  to_tick ← number_of_word to
+  edit_command (Cut from_tick to_tick))
 
 -- `deglitch NAME TICKS`
 abbrev pub deglitch_command : Contents → List (List ℕ) → Result Command LineError
@@ -114,10 +115,10 @@ deglitch_command c arguments = two_words arguments (λ name ticks. do
 abbrev pub force_command : Contents → List (List ℕ) → Result Command LineError
 force_command c arguments = four_words arguments (λ name from to value. do
   k ← signal_of_name c name
-  first ← number_of_word from
-  last ← number_of_word to
+  from_tick ← number_of_word from
+  to_tick ← number_of_word to
   letters ← value_of_word (signal_at c k).width value
-  edit_command (Force k first last letters))
+  edit_command (Force k from_tick to_tick letters))
 
 -- ---- derived signals
 

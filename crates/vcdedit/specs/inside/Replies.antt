@@ -10,4 +10,4 @@ with_line_feed bytes = bytes ++ 10 ∷ []
 
 -- this is the reply to the line of this number
 abbrev pub IsReplyTo : ℕ → LineReply → Reply → Type 0
-IsReplyTo number said reply = (reply.text.items ≡ reply_text number said) × (reply.is_refused ≡ is_err said)
+IsReplyTo number answer reply = (reply.text.items ≡ reply_text number answer) × (reply.is_refused ≡ is_err answer)

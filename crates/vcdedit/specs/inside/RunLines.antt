@@ -11,26 +11,26 @@ use Rattle.vcdedit.specs.RunOutcomes.{line_replies}
 
 -- the line of this number changes one machine into the other; its reply of so many bytes is written, and so many lines
 -- are refused
-abbrev pub LineStep : (skipped number : ℕ) → List ℕ → Machine → Machine → (refused written : ℕ)
+abbrev pub RunsLine : (skipped number : ℕ) → List ℕ → Machine → Machine → (refused written : ℕ)
     → (before after : Option (List ℕ)) → Type 0
-LineStep skipped number line old new refused written before after =
+RunsLine skipped number line old new refused written before after =
     (machine_after_line old line ≡ new)
     × (refused ≡ (if is_line_refused line old.now skipped (length old.past) (length old.future) then 1 else 0))
     × Appends before after (line_reply_text number line old.now skipped (length old.past) (length old.future))
     × (written ≡ length (line_reply_text number line old.now skipped (length old.past) (length old.future)))
 
 -- the lines change one machine into the other; these are their replies, and so many are refused
-pub record LinesGive (skipped : ℕ) (lines : List (List ℕ)) (old new : Machine) (sent : List (List ℕ)) (count : ℕ) : Type
-    0 where
+pub record LinesGive (skipped : ℕ) (lines : List (List ℕ)) (old new : Machine) (texts : List (List ℕ)) (count : ℕ)
+    : Type 0 where
   pub after : machine_after_lines old lines ≡ new
-  pub replies : line_replies skipped 1 old lines ≡ sent
+  pub replies : line_replies skipped 1 old lines ≡ texts
   pub refused : refusal_count skipped old lines ≡ count
 
 -- all lines are run, and their replies written
 abbrev pub RunsLines : (skipped : ℕ) → List (List ℕ) → Machine → Machine → (refused : ℕ)
     → (before after : Option (List ℕ)) → Type 0
-RunsLines skipped lines old new refused before after = (sent : List (List ℕ)) × Appends before after (concat sent)
-    × LinesGive skipped lines old new sent refused
+RunsLines skipped lines old new refused before after = (texts : List (List ℕ)) × Appends before after (concat texts)
+    × LinesGive skipped lines old new texts refused
 
 -- ---- faults
 
@@ -40,30 +40,30 @@ HasFailedAt has_failed (run_errors.ReplyFault written) = has_failed ≡ true
 HasFailedAt has_failed (run_errors.NoMemory line) = has_failed ≡ false
 HasFailedAt has_failed _ = Unit {0}
 
--- the fault is one of a line
-abbrev pub IsLineFault : RunError → Type 0
-IsLineFault (run_errors.NoMemory line) = 1 ≤ line
-IsLineFault (run_errors.ReplyFault written) = Unit {0}
-IsLineFault (run_errors.Capture e) = ⊥
-IsLineFault run_errors.ScriptTooLarge = ⊥
-IsLineFault run_errors.ScriptReadFault = ⊥
-IsLineFault (run_errors.Write e) = ⊥
+-- the fault ends the run at one of its lines, or at the writer of the replies
+abbrev pub EndsAtLine : RunError → Type 0
+EndsAtLine (run_errors.NoMemory line) = 1 ≤ line
+EndsAtLine (run_errors.ReplyFault written) = Unit {0}
+EndsAtLine (run_errors.Capture e) = ⊥
+EndsAtLine run_errors.ScriptTooLarge = ⊥
+EndsAtLine run_errors.ScriptReadFault = ⊥
+EndsAtLine (run_errors.Write e) = ⊥
 
--- the fault ended the writing of this text, the reply to the line of this number, after so many bytes; if memory ran
--- out, none of the text was taken, else its first bytes
-abbrev pub StopsAtReply : (number : ℕ) → (text : List ℕ) → (sent : ℕ) → (before after : Option (List ℕ)) → RunError
-    → Type 0
-StopsAtReply number text sent before after (run_errors.NoMemory line) = (line ≡ number) × Keeps before after
-StopsAtReply number text sent before after (run_errors.ReplyFault written) = (count : ℕ) × (written ≡ sent + count)
-    × (count ≤ length text) × Appends before after (take count text)
-StopsAtReply number text sent before after _ = ⊥
+-- writing this text, the reply to the line of this number, ended at this fault. `written_before` bytes preceded it; a
+-- writer's fault counts those taken. If memory ran out, none of the text was taken
+abbrev pub StopsAtReply : (number : ℕ) → (text : List ℕ) → (written_before : ℕ) → (before after : Option (List ℕ))
+    → RunError → Type 0
+StopsAtReply number text written_before before after (run_errors.NoMemory line) = (line ≡ number) × Keeps before after
+StopsAtReply number text written_before before after (run_errors.ReplyFault written) =
+    (count : ℕ) × (written ≡ written_before + count) × (count ≤ length text) × Appends before after (take count text)
+StopsAtReply number text written_before before after _ = ⊥
 
 -- the same for the reply to a line, on the machine before it
-abbrev pub StopsAtLine : (skipped number : ℕ) → (line : List ℕ) → Machine → (sent : ℕ)
+abbrev pub StopsAtLine : (skipped number : ℕ) → (line : List ℕ) → Machine → (written_before : ℕ)
     → (before after : Option (List ℕ)) → RunError → Type 0
-StopsAtLine skipped number line old sent before after e =
-    StopsAtReply number (line_reply_text number line old.now skipped (length old.past) (length old.future)) sent before
-    after e
+StopsAtLine skipped number line old written_before before after e =
+    StopsAtReply number (line_reply_text number line old.now skipped (length old.past) (length old.future))
+    written_before before after e
 
 -- the fault ended the writing of these replies: it gives the line at which memory ran out, or how many bytes of them
 -- were taken

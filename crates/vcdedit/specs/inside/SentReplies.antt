@@ -5,13 +5,13 @@ use Rattle.std.specs.Io.KnownBytes.{Appends}
 use Rattle.vcdedit.specs.declared.running.run_error.RunError.{RunError}
 use Rattle.vcdedit.specs.declared.running.run_error.RunError.TheVariants as run_errors
 use Rattle.vcdedit.specs.declared.running.run_error.Summary.{Summary}
-use Rattle.vcdedit.specs.RunEnds.{DeviceEnd, OfRun}
+use Rattle.vcdedit.specs.RunEnds.{DeviceEnd, ForRun}
 
 -- all replies, or those to the lines before the one at which memory ran out
 abbrev pub HasSentReplies : Result Summary RunError → (depth : ℕ) → (capture script : DeviceEnd)
     → (before after : Option (List ℕ)) → Type 0
 HasSentReplies (Ok summary) depth capture script before after =
-    OfRun depth capture script (λ written. Appends before after (concat written.replies))
+    ForRun depth capture script (λ written. Appends before after (concat written.replies))
 HasSentReplies (Err (run_errors.NoMemory (suc count))) depth capture script before after =
-    OfRun depth capture script (λ written. Appends before after (concat (take count written.replies)))
+    ForRun depth capture script (λ written. Appends before after (concat (take count written.replies)))
 HasSentReplies _ depth capture script before after = Unit {0}

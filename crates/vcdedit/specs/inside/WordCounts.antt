@@ -6,34 +6,34 @@ use Rattle.vcdedit.specs.declared.script.line_error.LineError.TheVariants.{Wrong
 
 -- the meaning of no words; any word is one too many
 abbrev pub no_word : List (List ℕ) → Result Command LineError → Result Command LineError
-no_word [] asked = asked
-no_word (word ∷ words) asked = Err WrongCount
+no_word [] parsed = parsed
+no_word (word ∷ words) parsed = Err WrongCount
 
 -- the meaning of exactly one word
 abbrev pub one_word : List (List ℕ) → (List ℕ → Result Command LineError) → Result Command LineError
-one_word (first ∷ words) asked = no_word words (asked first)
-one_word [] asked = Err WrongCount
+one_word (first ∷ words) parse = no_word words (parse first)
+one_word [] parse = Err WrongCount
 
 -- the meaning of exactly two words
 abbrev pub two_words : List (List ℕ) → (List ℕ → List ℕ → Result Command LineError) → Result Command LineError
-two_words (first ∷ words) asked = one_word words (asked first)
-two_words [] asked = Err WrongCount
+two_words (first ∷ words) parse = one_word words (parse first)
+two_words [] parse = Err WrongCount
 
 -- the meaning of exactly four words
 abbrev pub four_words : List (List ℕ) → (List ℕ → List ℕ → List ℕ → List ℕ → Result Command LineError)
     → Result Command LineError
-four_words (first ∷ second ∷ words) asked = two_words words (asked first second)
-four_words words asked = Err WrongCount
+four_words (first ∷ second ∷ words) parse = two_words words (parse first second)
+four_words words parse = Err WrongCount
 
 -- the meaning of exactly five words
 abbrev pub five_words : List (List ℕ) → (List ℕ → List ℕ → List ℕ → List ℕ → List ℕ → Result Command LineError)
     → Result Command LineError
-five_words (first ∷ words) asked = four_words words (asked first)
-five_words [] asked = Err WrongCount
+five_words (first ∷ words) parse = four_words words (parse first)
+five_words [] parse = Err WrongCount
 
 -- the meaning of exactly seven words
 abbrev pub seven_words : List (List ℕ)
     → (List ℕ → List ℕ → List ℕ → List ℕ → List ℕ → List ℕ → List ℕ → Result Command LineError)
     → Result Command LineError
-seven_words (first ∷ second ∷ words) asked = five_words words (asked first second)
-seven_words words asked = Err WrongCount
+seven_words (first ∷ second ∷ words) parse = five_words words (parse first second)
+seven_words words parse = Err WrongCount

@@ -3,7 +3,7 @@
 ghost use Rattle.std.specs.Prelude.{◌≡◌, false, Err, IfOk, OnErr};
 ghost use Rattle.vcd_journal.specs.StepErrorNames.{step_error_name};
 ghost use Rattle.vcdedit.specs.CommandSignals.{HasCommandSignals};
-ghost use Rattle.vcdedit.specs.inside.Answering.{AnswersStep, AnswersCommand, AnswersLine, is_no_memory as no_memory_test};
+ghost use Rattle.vcdedit.specs.inside.Answering.{AnswersStep, AnswersCommand, AnswersLine, is_no_memory};
 ghost use Rattle.vcdedit.specs.inside.Replies.{IsReplyTo};
 
 use crate::replies::decoding::{i2c_text, spi_text, uart_text};
@@ -94,9 +94,9 @@ fn answer_step(
 
 /// The reply to a refused step, unless memory was refused.
 fn refuse_step(alloc: Global, number: u64, refusal: StepError) -> MemoryResult<Reply>
-    ensures named { IfOk result (λ reply.
+    ensures refusal_name { IfOk result (λ reply.
         IsReplyTo number (Err (step_error_name refusal)) reply) }
-    ensures memory { IfOk result (λ _. no_memory_test refusal ≡ false) }
+    ensures memory { IfOk result (λ _. is_no_memory refusal ≡ false) }
 {
     if is_no_memory(refusal) {
         return Err(NoMemory);
@@ -106,7 +106,7 @@ fn refuse_step(alloc: Global, number: u64, refusal: StepError) -> MemoryResult<R
 
 /// Whether a step is refused because memory ran out.
 fn is_no_memory(refusal: StepError) -> bool
-    ensures { result ≡ no_memory_test refusal }
+    ensures { result ≡ is_no_memory refusal }
 {
     refusal == StepError::NoMemory || refusal == StepError::Edit(EditError::NoMemory)
 }

@@ -4,7 +4,7 @@ ghost use Rattle.std.specs.Prelude.{◌≡◌, ◌<◌, ◌++◌, length, OnOk, 
 ghost use Rattle.std.specs.List.{flat_map};
 ghost use Rattle.vcd_core.specs.Contents.{contents, signal_at};
 ghost use Rattle.vcdedit.specs.Queries.{change_line};
-ghost use Rattle.vcdedit.specs.WaveReplies.{value_line, change_lines as lines_of};
+ghost use Rattle.vcdedit.specs.WaveReplies.{value_line, change_lines};
 ghost use Rattle.vcdedit.specs.inside.Replies.{with_line_feed};
 
 use crate::replies::MemoryResult;
@@ -34,7 +34,7 @@ pub fn value_text(
 pub fn changes_text(alloc: Global, capture: &Capture, signal: usize) -> MemoryResult<Vec<u8>>
     requires { signal < length capture.now.signals }
     ensures { IfOk result (λ text. text.items ≡ flat_map with_line_feed
-        (lines_of (signal_at (contents capture.now) signal).changes)) }
+        (change_lines (signal_at (contents capture.now) signal).changes)) }
 {
     let mut text = Vec::new(alloc);
     let changes = capture.signals()[signal].wave.changes();

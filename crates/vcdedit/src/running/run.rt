@@ -5,7 +5,7 @@ ghost use Rattle.std.specs.Option.{ForSome};
 ghost use Rattle.std.specs.Io.KnownBytes.{Appends};
 ghost use Rattle.vcd_core.specs.Contents.{contents};
 ghost use Rattle.vcd_core.specs.Sound.{IsSound};
-ghost use Rattle.vcdedit.specs.RunEnds.{device_end, IsRead, IsAccepted, OfOutput, RunEnds};
+ghost use Rattle.vcdedit.specs.RunEnds.{device_end, IsRead, IsAccepted, ForOutput, RunEnds};
 ghost use Rattle.vcd_journal.specs.Machine.{initial_machine};
 ghost use Rattle.vcdedit.specs.inside.RunStages.{EndsBeforeOutput};
 ghost use Rattle.vcdedit.specs.inside.ScriptRuns.{ScriptGives};
@@ -37,7 +37,7 @@ pub fn run<R: Source, S: Source, P: Sink, W: Sink>(
     requires depth_least { 1 ≤ depth }
     requires depth_most { depth ≤ DEPTH_LIMIT }
 
-    ensures headline { OfOutput W.taken W.has_failed out.entry out.exit (λ output. RunEnds depth
+    ensures headline { ForOutput W.taken W.has_failed out.entry out.exit (λ output. RunEnds depth
         (device_end R.coming R.has_failed capture_reader.old capture_reader.new)
         (device_end S.coming S.has_failed script_reader.old script_reader.new)
         (device_end P.taken P.has_failed replies.old replies.new) output result) }
@@ -73,7 +73,7 @@ fn run_script<R: Source, S: Source, P: Sink>(
         (Appends (P.taken replies.old) (P.taken replies.new)) done.0.now))) }
     ensures accepted { OnOk result (IsAccepted
         (device_end R.coming R.has_failed capture_reader.old capture_reader.new)) }
-    ensures whole { OnOk result (IsRead SCRIPT_LIMIT
+    ensures script_read { OnOk result (IsRead SCRIPT_LIMIT
         (device_end S.coming S.has_failed script_reader.old script_reader.new)) }
     ensures not_failed { OnOk result (P.has_failed replies.new ≡ false) }
     ensures ended { IfErr result (EndsBeforeOutput depth

@@ -3,7 +3,7 @@
 ghost use Rattle.std.specs.Prelude.{◌≡◌, ◌≤◌, ◌<◌, ◌^◌, ℕ, false, true, length, IfOk, IfErr, OnOk};
 ghost use Rattle.std.specs.Io.KnownBytes.{Appends};
 ghost use Rattle.vcdedit.specs.Script.{script_lines};
-ghost use Rattle.vcdedit.specs.inside.RunLines.{HasFailedAt, LineStep, RunsLines, IsLineFault, StopsAtReply, StopsAtLine, StopsInLines};
+ghost use Rattle.vcdedit.specs.inside.RunLines.{HasFailedAt, RunsLine, RunsLines, EndsAtLine, StopsAtReply, StopsAtLine, StopsInLines};
 
 use crate::replies::answer_line;
 use crate::running::RunError;
@@ -12,9 +12,9 @@ use std::alloc::Global;
 use vcd_core::{Sink, write_all};
 use vcd_journal::Session;
 
-/// Runs the lines of a script, in order, each on the current capture. Its reply is written whole before the next line
-/// is read. Then the replies are flushed. Gives how many lines were refused. `skipped`: how many variables of the file
-/// were left out.
+/// Runs the lines of a script, in order, each on the current capture. The reply to a line is written before the next
+/// line is read. Then the replies are flushed. Gives how many lines were refused. `skipped`: how many variables of the
+/// file were left out.
 ///
 /// The first error ends it: memory is refused at a line, or the writer of the replies fails. It holds the reply of one
 /// line at a time.
@@ -27,11 +27,11 @@ pub fn run_lines<P: Sink>(
 ) -> Result<u64, RunError>
     requires ready { P.has_failed replies.old ≡ false }
     requires short { length script.now < 2 ^ 60 }
-    ensures sent { IfOk result (λ refused.
+    ensures ran { IfOk result (λ refused.
         RunsLines skipped (script_lines script.now) session.old session.new refused
         (P.taken replies.old) (P.taken replies.new)) }
     ensures not_failed { OnOk result (P.has_failed replies.new ≡ false) }
-    ensures fault { IfErr result IsLineFault }
+    ensures fault { IfErr result EndsAtLine }
     ensures failed { IfErr result (HasFailedAt (P.has_failed replies.new)) }
     ensures stopped { IfErr result (StopsInLines skipped (script_lines script.now) session.old
         (P.taken replies.old) (P.taken replies.new)) }
@@ -53,7 +53,7 @@ pub fn run_lines<P: Sink>(
     }
 }
 
-/// Runs the line of this number, and writes its reply after the `written` bytes of those before.
+/// Runs the line of this number, and writes its reply after the `written_before` bytes of those before.
 fn run_line<P: Sink>(
     alloc: Global,
     session: &mut Session,
@@ -61,47 +61,47 @@ fn run_line<P: Sink>(
     number: u64,
     line: &[u8],
     replies: &mut P,
-    written: u128,
+    written_before: u128,
 ) -> Result<(u64, usize), RunError>
     requires ready { P.has_failed replies.old ≡ false }
     requires counted { 1 ≤ number }
-    requires room { written < 2 ^ 127 }
-    ensures sent { IfOk result (λ outcome.
-        LineStep skipped number line.now session.old session.new outcome.0 outcome.1
+    requires count_fits { written_before < 2 ^ 127 }
+    ensures ran { IfOk result (λ outcome.
+        RunsLine skipped number line.now session.old session.new outcome.0 outcome.1
         (P.taken replies.old) (P.taken replies.new)) }
-    ensures few { IfOk result (λ outcome. outcome.0 ≤ 1) }
+    ensures at_most_one { IfOk result (λ outcome. outcome.0 ≤ 1) }
     ensures short { IfOk result (λ outcome. outcome.1 < 2 ^ 64) }
     ensures not_failed { OnOk result (P.has_failed replies.new ≡ false) }
-    ensures fault { IfErr result IsLineFault }
+    ensures fault { IfErr result EndsAtLine }
     ensures failed { IfErr result (HasFailedAt (P.has_failed replies.new)) }
-    ensures stopped { IfErr result (StopsAtLine skipped number line.now session.old written
+    ensures stopped { IfErr result (StopsAtLine skipped number line.now session.old written_before
         (P.taken replies.old) (P.taken replies.new)) }
 {
     match answer_line(alloc, session, skipped, number, line) {
         Ok(reply) => {
-            write_reply(reply.text.as_slice(), replies, written)?;
+            write_reply(reply.text.as_slice(), replies, written_before)?;
             Ok((u64::from(reply.is_refused), reply.text.len()))
         }
         Err(_) => Err(RunError::NoMemory { line: number }),
     }
 }
 
-/// Writes the whole text of a reply after the `written` bytes of those before.
-fn write_reply<P: Sink>(text: &[u8], replies: &mut P, written: u128) -> Result<(), RunError>
+/// Writes the whole text of a reply after the `written_before` bytes of those before.
+fn write_reply<P: Sink>(text: &[u8], replies: &mut P, written_before: u128) -> Result<(), RunError>
     requires ready { P.has_failed replies.old ≡ false }
-    requires room { written < 2 ^ 127 }
-    ensures sent { OnOk result
+    requires count_fits { written_before < 2 ^ 127 }
+    ensures text { OnOk result
         (Appends (P.taken replies.old) (P.taken replies.new) text.now) }
     ensures not_failed { OnOk result (P.has_failed replies.new ≡ false) }
-    ensures fault { IfErr result IsLineFault }
+    ensures fault { IfErr result EndsAtLine }
     ensures failed { IfErr result (HasFailedAt (P.has_failed replies.new)) }
-    ensures stopped { IfErr result (λ e. (number : ℕ) → StopsAtReply number text.now written
+    ensures stopped { IfErr result (λ e. (number : ℕ) → StopsAtReply number text.now written_before
         (P.taken replies.old) (P.taken replies.new) e) }
 {
     match write_all(replies, text) {
         Ok(()) => Ok(()),
         Err(short) => Err(RunError::ReplyFault {
-            written: written + short.written,
+            written: written_before + short.written,
         }),
     }
 }

@@ -18,7 +18,7 @@ pub fn read_script<S: Source>(alloc: Global, source: &mut S) -> Result<Vec<u8>, 
     ensures all { IfOk result (λ script. IfSome (S.coming source.old)
         (λ bytes. script.items ≡ bytes)) }
     ensures short { IfOk result (λ script. length script.items ≤ SCRIPT_LIMIT) }
-    ensures whole { OnOk result (IsRead SCRIPT_LIMIT
+    ensures is_read { OnOk result (IsRead SCRIPT_LIMIT
         (device_end S.coming S.has_failed source.old source.new)) }
     ensures ended { IfErr result (EndsAfterCapture
         (device_end S.coming S.has_failed source.old source.new)) }

@@ -79,7 +79,7 @@ pub fn order_of_word(word: &[u8]) -> Result<BitOrder, LineError>
 
 /// The position of the signal that a word names, or none if the word is `-`: the line is absent.
 pub fn signal_or_absent(capture: &Capture, word: &[u8]) -> Result<Option<usize>, LineError>
-    ensures named { result ≡ spec.signal_or_absent (contents capture.now) word.now }
+    ensures found { result ≡ spec.signal_or_absent (contents capture.now) word.now }
     ensures within { IfOk result (λ line.
         IfSome line (λ k. k < length capture.now.signals)) }
 {

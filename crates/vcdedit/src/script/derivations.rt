@@ -2,7 +2,6 @@
 
 ghost use Rattle.std.specs.Prelude.{◌≡◌, ℕ, List, Err, IfOk, IfErr};
 ghost use Rattle.vcd_core.specs.Contents.{contents};
-ghost use Rattle.vcd_edit.specs.declared.edit.Rule.{Rule as EditRule};
 ghost use Rattle.vcd_text.specs.Grammar.{word_texts};
 ghost use Rattle.vcdedit.specs.inside.ParsedCommands.{pair_command, rule_command, derive_command, derive_by};
 ghost use Rattle.vcdedit.specs.inside.Commands.{ReadsAs, ReadsAsRule};
@@ -57,10 +56,10 @@ fn parse_rule(name: &[u8], words: &mut Words<'_>, capture: &Capture) -> Result<R
 
 /// Reads `A B`.
 fn parse_pair(words: &mut Words<'_>, capture: &Capture) -> Result<(usize, usize), LineError>
-    ensures both { IfOk result (λ k. (rule : ℕ → ℕ → EditRule) (word : List ℕ) →
+    ensures both { IfOk result (λ k. (rule : ℕ → ℕ → Rule) (word : List ℕ) →
         pair_command (contents capture.now) rule word (word_texts words.old) ≡
         derive_by word (rule k.0 k.1)) }
-    ensures fault { IfErr result (λ e. (rule : ℕ → ℕ → EditRule) (word : List ℕ) →
+    ensures fault { IfErr result (λ e. (rule : ℕ → ℕ → Rule) (word : List ℕ) →
         pair_command (contents capture.now) rule word (word_texts words.old) ≡ Err e) }
 {
     let (a, b) = take_two(words)?;

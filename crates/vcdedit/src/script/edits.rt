@@ -4,7 +4,7 @@ ghost use Rattle.std.specs.Prelude.{◌≡◌, ◌<◌, length, IfOk};
 ghost use Rattle.vcd_core.specs.Contents.{contents, signal_at};
 ghost use Rattle.vcd_text.specs.Grammar.{word_texts};
 ghost use Rattle.vcdedit.specs.inside.ParsedCommands.{rename_command, remove_command, invert_command, shift_command, cut_command, deglitch_command, force_command};
-ghost use Rattle.vcdedit.specs.ScriptWords.{signal_of_name, value_of_word as value_read};
+ghost use Rattle.vcdedit.specs.ScriptWords.{signal_of_name, value_of_word};
 ghost use Rattle.vcdedit.specs.inside.Commands.{ReadsAs};
 
 use crate::script::line_words::{take_four, take_one, take_two};
@@ -89,7 +89,7 @@ pub fn parse_force<'a>(words: &mut Words<'a>, capture: &Capture) -> Parsed<'a>
 
 /// The position of the signal that a word names.
 pub fn signal_of_name(capture: &Capture, name: &[u8]) -> Result<usize, LineError>
-    ensures named { result ≡ signal_of_name (contents capture.now) name.now }
+    ensures found { result ≡ signal_of_name (contents capture.now) name.now }
     ensures within { IfOk result (λ k. k < length capture.now.signals) }
 {
     capture.find(name).ok_or(LineError::NoSuchName)
@@ -98,7 +98,7 @@ pub fn signal_of_name(capture: &Capture, name: &[u8]) -> Result<usize, LineError
 /// The value that a word writes for a signal.
 fn value_of_word(capture: &Capture, signal: usize, word: &[u8]) -> Result<Value, LineError>
     requires { signal < length capture.now.signals }
-    ensures { result ≡ value_read (signal_at (contents capture.now) signal).width word.now }
+    ensures { result ≡ value_of_word (signal_at (contents capture.now) signal).width word.now }
 {
     let width = capture.signals()[signal].wave.width();
     value_of_digits(width, word).ok_or(LineError::BadValueText)

@@ -6,7 +6,7 @@ ghost use Rattle.vcd_text.specs.Grammar.{word_texts};
 ghost use Rattle.vcdedit.specs.CommandSignals.{HasCommandSignals};
 ghost use Rattle.vcdedit.specs.WithoutAddress.{command_without_address};
 ghost use Rattle.vcdedit.specs.ParsedLines.{command_of_line};
-ghost use Rattle.vcdedit.specs.ScriptCommands.{is_comment as comment_test};
+ghost use Rattle.vcdedit.specs.ScriptCommands.{is_comment};
 ghost use Rattle.vcdedit.specs.inside.ParsedCommands.{words_command, keyword_command, depth_command};
 ghost use Rattle.vcdedit.specs.inside.Commands.{ReadsAs};
 
@@ -101,8 +101,9 @@ fn parse_depth<'a>(words: &mut Words<'a>) -> Parsed<'a>
     Ok(Command::Step(Step::Depth(depth)))
 }
 
+/// Whether a word begins with `#`.
 fn is_comment(word: &[u8]) -> bool
-    ensures { result ≡ comment_test word.now }
+    ensures { result ≡ is_comment word.now }
 {
     matches!(word, [b'#', ..])
 }

@@ -3,8 +3,7 @@
 ghost use Rattle.std.specs.Prelude.{◌≡◌, ◌∷◌, [], List, ℕ, Result, Err, IfOk, OnOk, IfErr, MatchOption};
 ghost use Rattle.vcd_text.specs.Grammar.{word_texts};
 ghost use Rattle.vcdedit.specs.inside.WordCounts.{no_word, one_word, two_words, four_words, five_words, seven_words};
-ghost use Rattle.vcdedit.specs.declared.script.command.Command.{Command as LineCommand};
-ghost use Rattle.vcdedit.specs.declared.script.line_error.LineError.{LineError as LineFault};
+ghost use Rattle.vcdedit.specs.declared.script.command.Command.{Command};
 
 use crate::script::LineError;
 use vcd_text::Words;
@@ -23,8 +22,8 @@ pub fn next_text<'a>(words: &mut Words<'a>) -> Option<&'a [u8]>
 /// Checks that no word is left.
 pub fn take_none<'a>(words: &mut Words<'a>) -> Result<(), LineError>
     ensures none { OnOk result (word_texts words.old ≡ []) }
-    ensures others { IfErr result (λ e. (asked : Result LineCommand LineFault) →
-        no_word (word_texts words.old) asked ≡ Err e) }
+    ensures others { IfErr result (λ e. (parsed : Result Command LineError) →
+        no_word (word_texts words.old) parsed ≡ Err e) }
 {
     match next_text(words) {
         Some(_) => Err(LineError::WrongCount),
@@ -35,8 +34,8 @@ pub fn take_none<'a>(words: &mut Words<'a>) -> Result<(), LineError>
 /// The one word that is left.
 pub fn take_one<'a>(words: &mut Words<'a>) -> Result<&'a [u8], LineError>
     ensures one { IfOk result (λ first. word_texts words.old ≡ first.now ∷ []) }
-    ensures others { IfErr result (λ e. (asked : List ℕ → Result LineCommand LineFault) →
-        one_word (word_texts words.old) asked ≡ Err e) }
+    ensures others { IfErr result (λ e. (parse : List ℕ → Result Command LineError) →
+        one_word (word_texts words.old) parse ≡ Err e) }
 {
     let first = next_text(words).ok_or(LineError::WrongCount)?;
     take_none(words)?;
@@ -47,8 +46,8 @@ pub fn take_one<'a>(words: &mut Words<'a>) -> Result<&'a [u8], LineError>
 pub fn take_two<'a>(words: &mut Words<'a>) -> Result<(&'a [u8], &'a [u8]), LineError>
     ensures two { IfOk result (λ both.
         word_texts words.old ≡ both.0.now ∷ both.1.now ∷ []) }
-    ensures others { IfErr result (λ e. (asked : List ℕ → List ℕ → Result LineCommand LineFault) →
-        two_words (word_texts words.old) asked ≡ Err e) }
+    ensures others { IfErr result (λ e. (parse : List ℕ → List ℕ → Result Command LineError) →
+        two_words (word_texts words.old) parse ≡ Err e) }
 {
     let first = next_text(words).ok_or(LineError::WrongCount)?;
     let second = take_one(words)?;
@@ -62,8 +61,8 @@ pub fn take_four<'a>(words: &mut Words<'a>) -> Result<FourWords<'a>, LineError>
     ensures four { IfOk result (λ all. word_texts words.old ≡
         all.0.now ∷ all.1.now ∷ all.2.now ∷ all.3.now ∷ []) }
     ensures others { IfErr result (λ e.
-        (asked : List ℕ → List ℕ → List ℕ → List ℕ → Result LineCommand LineFault) →
-        four_words (word_texts words.old) asked ≡ Err e) }
+        (parse : List ℕ → List ℕ → List ℕ → List ℕ → Result Command LineError) →
+        four_words (word_texts words.old) parse ≡ Err e) }
 {
     let first = next_text(words).ok_or(LineError::WrongCount)?;
     let second = next_text(words).ok_or(LineError::WrongCount)?;
@@ -77,8 +76,8 @@ type FiveWords<'a> = (&'a [u8], &'a [u8], &'a [u8], &'a [u8], &'a [u8]);
 pub fn take_five<'a>(words: &mut Words<'a>) -> Result<FiveWords<'a>, LineError>
     ensures five { IfOk result (λ all. word_texts words.old ≡ all.0.now ∷ all.1.now
         ∷ all.2.now ∷ all.3.now ∷ all.4.now ∷ []) }
-    ensures others { IfErr result (λ e. (asked : List ℕ → List ℕ → List ℕ → List ℕ → List ℕ
-        → Result LineCommand LineFault) → five_words (word_texts words.old) asked ≡ Err e) }
+    ensures others { IfErr result (λ e. (parse : List ℕ → List ℕ → List ℕ → List ℕ → List ℕ
+        → Result Command LineError) → five_words (word_texts words.old) parse ≡ Err e) }
 {
     let first = next_text(words).ok_or(LineError::WrongCount)?;
     let (second, third, fourth, fifth) = take_four(words)?;
@@ -99,9 +98,9 @@ type SevenWords<'a> = (
 pub fn take_seven<'a>(words: &mut Words<'a>) -> Result<SevenWords<'a>, LineError>
     ensures seven { IfOk result (λ all. word_texts words.old ≡ all.0.now ∷ all.1.now
         ∷ all.2.now ∷ all.3.now ∷ all.4.now ∷ all.5.now ∷ all.6.now ∷ []) }
-    ensures others { IfErr result (λ e. (asked : List ℕ → List ℕ → List ℕ → List ℕ → List ℕ
-        → List ℕ → List ℕ → Result LineCommand LineFault)
-        → seven_words (word_texts words.old) asked ≡ Err e) }
+    ensures others { IfErr result (λ e. (parse : List ℕ → List ℕ → List ℕ → List ℕ → List ℕ
+        → List ℕ → List ℕ → Result Command LineError)
+        → seven_words (word_texts words.old) parse ≡ Err e) }
 {
     let first = next_text(words).ok_or(LineError::WrongCount)?;
     let second = next_text(words).ok_or(LineError::WrongCount)?;

@@ -4,7 +4,7 @@ ghost use Rattle.std.specs.Prelude.{◌≡◌, ◌^◌, ◌+◌, ◌-◌, ◌*�
 ghost use Rattle.std.specs.Char.{is_ascii_digit};
 ghost use Rattle.std.specs.List.{list_all};
 ghost use Rattle.vcd_core.specs.Decimal.{number_of};
-ghost use Rattle.vcdedit.specs.ScriptWords.{number_of_word as number_read, distance_of_word as distance_read, distance_forth as forth, distance_back as back};
+ghost use Rattle.vcdedit.specs.ScriptWords.{number_of_word, distance_of_word, distance_forth, distance_back};
 
 use crate::script::LineError;
 use vcd_core::number_up_to;
@@ -14,7 +14,7 @@ const GREATEST_BACK: u64 = 1 << 63;
 
 /// The number that a word writes: a decimal number of 64 bits.
 pub fn number_of_word(word: &[u8]) -> Result<u64, LineError>
-    ensures { result ≡ number_read word.now }
+    ensures { result ≡ number_of_word word.now }
 {
     let (last, front) = word.split_last().ok_or(LineError::BadNumber)?;
     if !last.is_ascii_digit() {
@@ -44,7 +44,7 @@ fn with_last_digit(tens: u64, ones: u64) -> Option<u64>
 
 /// The distance that a word writes: a decimal number after `-`, `+` or neither, within the range of `i64`.
 pub fn distance_of_word(word: &[u8]) -> Result<i64, LineError>
-    ensures { result ≡ distance_read word.now }
+    ensures { result ≡ distance_of_word word.now }
 {
     match word {
         [b'-', digits @ ..] => distance_back(digits),
@@ -53,15 +53,17 @@ pub fn distance_of_word(word: &[u8]) -> Result<i64, LineError>
     }
 }
 
+/// The distance to a later tick that digits write: below 2^63.
 fn distance_forth(digits: &[u8]) -> Result<i64, LineError>
-    ensures { result ≡ forth digits.now }
+    ensures { result ≡ distance_forth digits.now }
 {
     let ticks = number_up_to(digits, GREATEST_BACK).ok_or(LineError::BadNumber)?;
     0i64.checked_add_unsigned(ticks).ok_or(LineError::BadNumber)
 }
 
+/// The distance to an earlier tick that digits write: at most 2^63.
 fn distance_back(digits: &[u8]) -> Result<i64, LineError>
-    ensures { result ≡ back digits.now }
+    ensures { result ≡ distance_back digits.now }
 {
     let ticks = number_up_to(digits, GREATEST_BACK + 1).ok_or(LineError::BadNumber)?;
     0i64.checked_sub_unsigned(ticks).ok_or(LineError::BadNumber)

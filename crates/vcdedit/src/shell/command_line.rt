@@ -3,7 +3,7 @@
 ghost use Rattle.std.specs.Prelude.{◌≡◌, ◌≤◌, ℕ, false, codes, List, map, IfOk};
 ghost use Rattle.std.specs.String.{string_bytes};
 ghost use Rattle.clap.specs.Words.{FailsBy, app_of, fault_of, found_of, kind_of, matches_of, one_text, rows_of, rule_of};
-ghost use Rattle.vcdedit.specs.CommandLine.{asked_options, depth_asked, depth_option as depth_rule, input_option as input_rule, option_app, options_in, output_option as output_rule, script_option as script_rule};
+ghost use Rattle.vcdedit.specs.CommandLine.{asked_options, depth_asked, depth_option, input_option, option_app, options_in, output_option, script_option};
 
 use clap::builder::ValueParser;
 use clap::error::ErrorKind;
@@ -23,7 +23,7 @@ const AFTER_HELP: &str =
     "Lines of a script. NAME is a signal's full name as `list` shows it, with its scopes and its range,
 as top.cpu.clk or top.cpu.data[7:0], or @ and its position; times are in ticks of the timescale:
   rename NAME WORD          the first word of the signal's name becomes WORD
-  remove NAME               the signal is taken out; later ones move up
+  remove NAME               the signal is taken out; later ones get the position before theirs
   invert NAME               every bit is negated at every tick
   shift NAME BY             the signal comes BY ticks later, or earlier where BY is negative
   cut FROM TO               the ticks FROM up to before TO are cut out of every signal
@@ -149,8 +149,9 @@ fn command_line<'a>(alloc: Global) -> Result<Command<'a>, AllocError>
         .arg(depth_option(alloc))
 }
 
+/// `-i FILE` or `--input-file FILE`.
 fn input_option<'a>(alloc: Global) -> Arg<'a>
-    ensures rule { rule_of result ≡ input_rule }
+    ensures rule { rule_of result ≡ input_option }
     ensures local { result.global ≡ false }
 {
     Arg::new(alloc, "input-file")
@@ -160,8 +161,9 @@ fn input_option<'a>(alloc: Global) -> Arg<'a>
         .help("The capture to read; without it, or as `-`, standard input")
 }
 
+/// `--script FILE`.
 fn script_option<'a>(alloc: Global) -> Arg<'a>
-    ensures rule { rule_of result ≡ script_rule }
+    ensures rule { rule_of result ≡ script_option }
     ensures local { result.global ≡ false }
 {
     Arg::new(alloc, "script")
@@ -170,8 +172,9 @@ fn script_option<'a>(alloc: Global) -> Arg<'a>
         .help("The script to carry out; without it, the one line `list`")
 }
 
+/// `-o FILE` or `--output-file FILE`.
 fn output_option<'a>(alloc: Global) -> Arg<'a>
-    ensures rule { rule_of result ≡ output_rule }
+    ensures rule { rule_of result ≡ output_option }
     ensures local { result.global ≡ false }
 {
     Arg::new(alloc, "output-file")
@@ -181,8 +184,9 @@ fn output_option<'a>(alloc: Global) -> Arg<'a>
         .help("The VCD file to write when the script has run; without it none is written")
 }
 
+/// `--depth N`, a number from 1 to the limit.
 fn depth_option<'a>(alloc: Global) -> Arg<'a>
-    ensures rule { rule_of result ≡ depth_rule }
+    ensures rule { rule_of result ≡ depth_option }
     ensures local { result.global ≡ false }
 {
     Arg::new(alloc, "depth")

@@ -3,8 +3,7 @@
 ghost use Rattle.std.specs.Prelude.{◌≡◌, ◌≤◌, false, true};
 ghost use Rattle.std.specs.Io.KnownBytes.{Appends};
 ghost use Rattle.clap.specs.Words.{kind_of};
-ghost use Rattle.clap.specs.declared.error.kind.ErrorKind.{ErrorKind as Kind};
-ghost use Rattle.vcdedit.specs.ProgramEnds.{IsEndingOfKind, asks_for_text as kind_asks_for_text, is_done, program_status, program_text};
+ghost use Rattle.vcdedit.specs.ProgramEnds.{IsEndingOfKind, asks_for_text, is_done, program_status, program_text};
 
 use crate::running::{RunError, Summary};
 use crate::shell::reporting::{report, report_refusal, status_when_done};
@@ -68,14 +67,14 @@ pub fn ending_without_run<R: Runtime + AllocGlobal>(rt: &R, error: &Error) -> En
 
 /// Whether words ask for help or the version, by the kind of `clap`'s answer.
 fn asks_for_text(kind: ErrorKind) -> bool
-    ensures { result ≡ kind_asks_for_text kind }
+    ensures { result ≡ asks_for_text kind }
 {
     matches!(kind, ErrorKind::DisplayHelp | ErrorKind::DisplayVersion)
 }
 
 /// Writes a text to standard output, where the replies go too.
 fn show_text<R: Runtime>(rt: &R, text: &str) -> Ending
-    ensures kind { (kind : Kind) → kind_asks_for_text kind ≡ true → IsEndingOfKind kind result }
+    ensures kind { (kind : ErrorKind) → asks_for_text kind ≡ true → IsEndingOfKind kind result }
     ensures not_done { is_done result ≡ false }
 {
     match write_and_flush(&mut ToWrite::new(io::writer(rt)), text.as_bytes()) {

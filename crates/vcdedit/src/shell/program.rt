@@ -10,7 +10,6 @@ ghost use Rattle.vcdedit.specs.CommandLine.{option_app, options_in};
 ghost use Rattle.vcdedit.specs.ProgramEnds.{is_done, ending_of, IsOutcomeOn, IsOutcomeOfOptions, IsEndingOf, program_status, program_text};
 ghost use Rattle.vcdedit.specs.RunEnds.{DeviceEnd, device_end, RunEnds};
 ghost use Rattle.vcdedit.specs.inside.SentReplies.{HasSentReplies};
-ghost use Rattle.vcdedit.specs.declared.shell.ending.Ending.{Ending as ProgramEnding};
 
 use crate::running::{RunError, Summary, run};
 use crate::shell::command_line::{Options, not_text_error, parse_words};
@@ -42,7 +41,7 @@ pub fn status_of_program<R: Runtime + AllocGlobal, E: Sink>(rt: &R, errors: &mut
     ensures most { result ≤ 5 }
     // The status and the text are those of one ending. If that is of a completed run, some words asked for that run,
     // and it had that ending.
-    ensures reported { (ending : ProgramEnding) ×
+    ensures reported { (ending : Ending) ×
         (is_done ending ≡ true → (words : List (List ℕ)) ×
         (fault_of option_app words ≡ []) × IsEndingOf words ending) ×
         (result ≡ program_status ending) ×
@@ -93,6 +92,7 @@ fn words_after_name(alloc: Global, words: Args) -> Result<Vec<String>, AllocErro
     words.skip(1).collect(alloc)
 }
 
+/// The ending that the outcome of a run gives.
 fn ending_of_run(outcome: Result<Summary, RunError>) -> Ending
     ensures { result ≡ ending_of outcome }
 {

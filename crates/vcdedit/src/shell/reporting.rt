@@ -43,6 +43,7 @@ pub fn status_when_done(summary: &Summary) -> u8
     if summary.refused == 0 { 0 } else { 1 }
 }
 
+/// The exit status of a run that failed.
 fn error_status(error: &RunError) -> u8
     ensures most { result ≤ 5 }
     ensures status { result ≡ error_status error.now }
@@ -56,6 +57,7 @@ fn error_status(error: &RunError) -> u8
     }
 }
 
+/// The exit status for a fault of the capture: 3 for its text, 4 for its source, 5 if memory ran out.
 fn capture_status(fault: Fault) -> u8
     ensures most { result ≤ 5 }
     ensures status { result ≡ capture_status fault }
@@ -67,8 +69,10 @@ fn capture_status(fault: Fault) -> u8
     }
 }
 
+/// The line if memory ran out, at any place.
 const OUT_OF_MEMORY: &[u8] = b"vcdedit: out of memory\n";
 
+/// Writes the line on what ended a run.
 fn write_line<W: Sink>(error: &RunError, writer: &mut W) -> Result<(), ShortWrite>
     requires { W.has_failed writer.old ≡ false }
     ensures line { OnOk result
@@ -92,6 +96,7 @@ fn write_line<W: Sink>(error: &RunError, writer: &mut W) -> Result<(), ShortWrit
     }
 }
 
+/// Writes the line on a fault of the capture.
 fn write_capture_line<W: Sink>(error: &ReadError, writer: &mut W) -> Result<(), ShortWrite>
     requires { W.has_failed writer.old ≡ false }
     ensures line { OnOk result
@@ -107,6 +112,7 @@ fn write_capture_line<W: Sink>(error: &ReadError, writer: &mut W) -> Result<(), 
     }
 }
 
+/// Writes the line on a fault at a line of the capture.
 fn write_numbered_line<W: Sink>(error: &ReadError, writer: &mut W) -> Result<(), ShortWrite>
     requires { W.has_failed writer.old ≡ false }
     ensures line { OnOk result

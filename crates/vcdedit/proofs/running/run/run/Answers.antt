@@ -22,7 +22,7 @@ returns-in-Some g c =
     let wrote = rw (c.capture.ensures.now) at c.in_ok-write-in-Some.ensures.written in
     rw (c.in-Some.is) (record {
       headline = run_reaches_end_with _ _ _ _ c.args.depth _ c.in_ok-session.session.now
-          c.in_ok-session.ensures.accepted c.in_ok-session.ensures.whole
+          c.in_ok-session.ensures.accepted c.in_ok-session.ensures.script_read
           c.in_ok-session.ensures.not_failed c.in_ok-session.ensures.gives
           c.in_ok-write-in-Some.ensures.not_failed wrote;
     })
@@ -31,7 +31,7 @@ pub returns : goal.returns
 returns g c =
     rw (c.in-None.is) (record {
       headline = run_reaches_end _ _ _ None c.args.depth _ c.in_ok-session.session.now
-          c.in_ok-session.ensures.accepted c.in_ok-session.ensures.whole
+          c.in_ok-session.ensures.accepted c.in_ok-session.ensures.script_read
           c.in_ok-session.ensures.not_failed c.in_ok-session.ensures.gives tt;
     })
 
@@ -44,6 +44,6 @@ returns-in_err-write-in-Some g c =
           (run_stops_at_output _ _ _ _ c.args.depth c.in_ok-session.refused
           c.in_ok-session.session.now c.in_err-write-in-Some.field-0.0
           c.in_ok-session.ensures.accepted
-          c.in_ok-session.ensures.whole c.in_ok-session.ensures.not_failed c.in_ok-session.ensures.gives
+          c.in_ok-session.ensures.script_read c.in_ok-session.ensures.not_failed c.in_ok-session.ensures.gives
           stopped);
     })

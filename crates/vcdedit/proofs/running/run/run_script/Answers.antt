@@ -38,14 +38,14 @@ returns-in_err-refused-clause-ended g c =
     (contents c.in_ok-loaded.loaded.capture) c.in_err-refused.field-0.0
     (is_accepted _ (contents c.in_ok-loaded.loaded.capture) c.in_ok-loaded.loaded.skipped
     c.in_ok-loaded.ensures.not_failed c.in_ok-loaded.ensures.ended c.in_ok-loaded.ensures.means)
-    c.in_ok-script.ensures.whole
+    c.in_ok-script.ensures.is_read
     (file_means _ (contents c.in_ok-loaded.loaded.capture) c.in_ok-loaded.loaded.skipped c.in_ok-loaded.ensures.means)
     c.in_ok-script.ensures.all c.in_err-refused.ensures.failed stopped)
 
 pub returns-clause-gives : goal.returns-clause-gives
 returns-clause-gives g c =
-    let sent = rw (c.in_ok-session.ensures.new, c.as_slice.ensures.value) at c.in_ok-refused.ensures.sent in
+    let ran = rw (c.in_ok-session.ensures.new, c.as_slice.ensures.value) at c.in_ok-refused.ensures.ran in
     script_gives_where_known _ _ c.in_ok-script.script.items c.args.depth c.in_ok-loaded.loaded.skipped
     (contents c.in_ok-loaded.loaded.capture) c.run_lines.new.session c.in_ok-refused.refused _ _
     (file_means _ (contents c.in_ok-loaded.loaded.capture) c.in_ok-loaded.loaded.skipped c.in_ok-loaded.ensures.means)
-    c.in_ok-script.ensures.all sent
+    c.in_ok-script.ensures.all ran

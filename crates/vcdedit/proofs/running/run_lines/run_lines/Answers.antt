@@ -2,20 +2,20 @@ use Rattle.std.proofs.Common.{arith}
 use Rattle.std.proofs.KnownBytes.{Appends-kept}
 use Rattle.vcdedit.proofs.RunParts.{at_error}
 use Rattle.vcdedit.specs.Script.{script_lines}
-use Rattle.vcdedit.proofs.LinesLeft.{sent_more, none_left, no_lines}
+use Rattle.vcdedit.proofs.LinesLeft.{reply_more, none_left, no_lines}
 use Rattle.vcdedit.proofs.LinesStopped.{line_stops, flush_stops}
 use Rattle.vcdedit.proofs.running.run_lines.run_lines.Goals as goal
 
 pub loop-line-preserved : goal.loop-line-preserved
 loop-line-preserved g c = record {
-  sent = sent_more c.args.skipped (script_lines c.args.script.now) c.args.session.now c.loop-line.number
+  replied = reply_more c.args.skipped (script_lines c.args.script.now) c.args.session.now c.loop-line.number
       c.in-Some.line.now (script_lines c.loop-line.rest.now) (script_lines c.in-Some.following.now)
       c.loop-line.session c.run_line.new.session c.loop-line.refused c.in_ok-refusals.refusals c.loop-line.written
       c.in_ok-refusals.len _ _ _
-      c.in-Some.ensures.0 c.loop-line.invariant.sent c.in_ok-refusals.ensures.sent;
+      c.in-Some.ensures.0 c.loop-line.invariant.replied c.in_ok-refusals.ensures.ran;
   ready = c.in_ok-refusals.ensures.not_failed;
   number = omega (arith, c.in-Some.ensures.1);
-  refused = omega (arith, c.in_ok-refusals.ensures.few);
+  refused = omega (arith, c.in_ok-refusals.ensures.at_most_one);
   written = omega (arith, c.in_ok-refusals.ensures.short);
 }
 
@@ -25,17 +25,17 @@ returns-in_err-refusals-clause-stopped g c =
     (line_stops c.args.skipped (script_lines c.args.script.now) c.args.session.now c.loop-line.number c.in-Some.line.now
     (script_lines c.loop-line.rest.now) (script_lines c.in-Some.following.now)
     c.loop-line.session c.loop-line.refused c.loop-line.written _ _ _ c.in_err-refusals.field-0.0 c.in-Some.ensures.0
-    c.loop-line.invariant.sent c.in_err-refusals.ensures.stopped)
+    c.loop-line.invariant.replied c.in_err-refusals.ensures.stopped)
 
-pub returns-in-Ok-clause-sent : goal.returns-in-Ok-clause-sent
-returns-in-Ok-clause-sent g c =
+pub returns-in-Ok-clause-ran : goal.returns-in-Ok-clause-ran
+returns-in-Ok-clause-ran g c =
     let so = none_left c.args.skipped (script_lines c.args.script.now) c.args.session.now c.loop-line.number
     (script_lines c.loop-line.rest.now) c.loop-line.session c.loop-line.refused c.loop-line.written _ _
-    (no_lines c.loop-line.rest.now c.in_default.ensures) c.loop-line.invariant.sent in
+    (no_lines c.loop-line.rest.now c.in_default.ensures) c.loop-line.invariant.replied in
     (so.0, Appends-kept _ _ _ _ so.1 c.in-Ok.ensures.bytes, so.2)
 
 pub returns-in-Err-clause-stopped : goal.returns-in-Err-clause-stopped
 returns-in-Err-clause-stopped g c =
     flush_stops c.args.skipped (script_lines c.args.script.now) c.args.session.now c.loop-line.number
     (script_lines c.loop-line.rest.now) c.loop-line.session c.loop-line.refused c.loop-line.written _ _ _
-    (no_lines c.loop-line.rest.now c.in_default.ensures) c.loop-line.invariant.sent c.in-Err.ensures.bytes
+    (no_lines c.loop-line.rest.now c.in_default.ensures) c.loop-line.invariant.replied c.in-Err.ensures.bytes

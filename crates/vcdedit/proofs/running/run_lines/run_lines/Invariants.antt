@@ -5,8 +5,8 @@ use Rattle.vcdedit.proofs.running.run_lines.run_lines.Given as goal
 
 abbrev pub invariant-loop-line : goal.invariant-loop-line
 invariant-loop-line g l = record {
-  sent : RepliesSoFar l.skipped (script_lines l.script) l.fn.session l.number (script_lines l.rest) l.session l.refused
-      l.written (g.P.Sink.taken l.fn.replies) (g.P.Sink.taken l.replies);
+  replied : RepliesSoFar l.skipped (script_lines l.script) l.fn.session l.number (script_lines l.rest) l.session
+      l.refused l.written (g.P.Sink.taken l.fn.replies) (g.P.Sink.taken l.replies);
   ready : g.P.Sink.has_failed l.replies ≡ false;
   number : l.number + length l.rest ≤ length l.script;
   refused : l.refused ≤ l.number;

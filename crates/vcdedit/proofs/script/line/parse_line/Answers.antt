@@ -14,13 +14,13 @@ use Rattle.vcdedit.proofs.KeywordCommands.{words_read}
 use Rattle.vcdedit.proofs.script.line.parse_line.Goals as goal
 
 -- what is read, clause by clause
-read_command : (wanted asked : Result Command LineError) → ReadsAs wanted asked
-    → IfOk asked (λ command. wanted ≡ Ok (command_without_address command))
+read_command : (wanted parsed : Result Command LineError) → ReadsAs wanted parsed
+    → IfOk parsed (λ command. wanted ≡ Ok (command_without_address command))
 read_command wanted (Ok command) reads = reads
 read_command wanted (Err fault) reads = tt
 
-read_fault : (wanted asked : Result Command LineError) → ReadsAs wanted asked
-    → IfErr asked (λ fault. wanted ≡ Err fault)
+read_fault : (wanted parsed : Result Command LineError) → ReadsAs wanted parsed
+    → IfErr parsed (λ fault. wanted ≡ Err fault)
 read_fault wanted (Ok command) reads = tt
 read_fault wanted (Err fault) reads = reads
 
