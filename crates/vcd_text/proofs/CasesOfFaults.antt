@@ -7,18 +7,18 @@ use Rattle.vcd_text.specs.declared.fault.Fault.{Fault}
 use Rattle.vcd_text.specs.declared.fault.Fault.TheVariants.{Truncated, UnexpectedWord, BadChange, BadTimescale}
 use Rattle.vcd_text.specs.declared.fault.Fault.TheVariants.{BadScope, UpscopeAtTop, BadVar, MixedCode, BadTime}
 use Rattle.vcd_text.specs.declared.fault.Fault.TheVariants.{TimeBackwards, UnknownCode, ValueTooLong}
-use Rattle.vcd_text.specs.Words.{PlacedWord, word_on, words_from, words_of, closed_words}
+use Rattle.vcd_text.specs.Words.{PlacedWord, word_on, words_from, words_of, complete_words}
 use Rattle.vcd_text.specs.Grammar.{initial_state, state_after, word_texts, AllowsAll}
 use Rattle.vcd_text.proofs.OneAnswer.{accepted-not_refused}
-use Rattle.vcd_text.specs.Items.{Item, spellings, scope, upscope, variable, end_definitions, stamp, vector, bracket}
+use Rattle.vcd_text.specs.Items.{Item, spellings, scope, upscope, variable, end_definitions, stamp, vector, dump_word}
 use Rattle.vcd_text.specs.Faults.{WordFault, fault_line}
 use Rattle.vcd_text.specs.FoundFaults.{FoundFault, word_shows}
 use Rattle.vcd_text.specs.FoundFaults.{FrontFault, HasNoFrontFault, too_early}
 use Rattle.vcd_text.specs.Faults.{among_declarations, among_changes, upscope_at_top}
 use Rattle.vcd_text.specs.FoundFaults.{declaration_due, code_due}
 use Rattle.vcd_text.specs.Faults.{no_timescale, no_kind, no_variable, no_size, code_mixed, no_declaration}
-use Rattle.vcd_text.specs.Faults.{definitions_go_on, declaration_late, value_alone, no_value, no_change, no_tick}
-use Rattle.vcd_text.specs.Faults.{tick_goes_back, value_of_none, pair_of_none, value_too_long}
+use Rattle.vcd_text.specs.Faults.{definitions_go_on, declaration_late, missing_code, no_value, begins_no_change}
+use Rattle.vcd_text.specs.Faults.{no_tick, tick_goes_back, unknown_scalar_code, unknown_pair_code, value_too_long}
 use Rattle.vcd_text.proofs.ItemsInTurn.{shown_by}
 
 -- one variable, and the end of the declarations
@@ -36,7 +36,7 @@ shows bytes line fault items whole begun word more parts spelled allowed decided
     word_shows (shown_by (words_of bytes) whole begun more word items (state_after initial_state items) line fault
     (record { allowed = allowed; state_is = refl }) parts spelled decided at)
 
--- a stamp below the one before it, also where only the closed words are known
+-- a stamp below the one before it, also if only the complete words are known
 abbrev time_back : List ℕ
 time_back = codes "$var wire 1 ! a $end\n$enddefinitions $end\n#10\n#9\n"
 
@@ -150,15 +150,15 @@ unfolding words_from
 unknown_code =
     shows _ _ _ (end_definitions ∷ []) (word_on (codes "$enddefinitions") 1 ∷ word_on (codes "$end") 1 ∷ []) []
     (word_on (codes "1\"") 1) [] refl refl (search arith)
-    (among_changes refl (value_of_none 49 (codes "\"") refl refl refl (omega arith) refl refl)) refl
+    (among_changes refl (unknown_scalar_code 49 (codes "\"") refl refl refl (omega arith) refl refl)) refl
 
--- a change of two words has the line of its first, also where `$end` is in the place of the code
+-- a change of two words has the line of its first, also if `$end` is in the place of the code
 unknown_code_of_vector : FoundFault (codes "$enddefinitions $end\nb1\n$end\n") 2 UnknownCode
 unfolding words_from
 unknown_code_of_vector =
     shows _ _ _ (end_definitions ∷ []) (word_on (codes "$enddefinitions") 1 ∷ word_on (codes "$end") 1 ∷ [])
     (word_on (codes "b1") 2 ∷ []) (word_on (codes "$end") 3) [] refl refl (search arith)
-    (among_changes refl (pair_of_none 98 (codes "1") refl refl refl refl)) refl
+    (among_changes refl (unknown_pair_code 98 (codes "1") refl refl refl refl)) refl
 
 -- more digits than bits
 abbrev long_value : List ℕ
@@ -170,12 +170,12 @@ unfolding words_from
 value_of_five_digits =
     shows _ _ _ (scope (codes "module") (codes "top" ∷ [])
     ∷ variable (codes "wire" ∷ codes "4" ∷ codes "!" ∷ codes "v" ∷ []) ∷ upscope ∷ end_definitions
-    ∷ stamp (codes "0") ∷ bracket (codes "$dumpvars") ∷ vector 98 (codes "x") (codes "!") ∷ bracket (codes "$end")
+    ∷ stamp (codes "0") ∷ dump_word (codes "$dumpvars") ∷ vector 98 (codes "x") (codes "!") ∷ dump_word (codes "$end")
     ∷ stamp (codes "1") ∷ []) (take 20 (words_of long_value)) (word_on (codes "b00001") 10 ∷ [])
     (word_on (codes "!") 10) (drop 22 (words_of long_value)) refl refl (search arith)
     (among_changes refl (value_too_long 98 (codes "00001") _ refl refl refl refl refl (omega arith) refl)) refl
 
--- the words of a dump's brackets begin no declaration
+-- the words of a dump begin no declaration
 dump_among_declarations : FoundFault (codes "$dumpvars") 1 UnexpectedWord
 unfolding words_from
 dump_among_declarations =
@@ -207,7 +207,7 @@ unfolding words_from
 lone_letter =
     shows _ _ _ one_variable (take 8 (words_of (bad_changes []))) [] (word_on (codes "1") 2)
     (word_on (codes "!") 2 ∷ []) refl refl (search arith)
-    (among_changes refl (value_alone 49 refl refl refl refl)) refl
+    (among_changes refl (missing_code 49 refl refl refl refl)) refl
 
 no_digit : FoundFault (bad_changes (codes "b !")) 2 BadChange
 unfolding words_from
@@ -221,13 +221,13 @@ unfolding words_from
 no_change_at_all =
     shows _ _ _ one_variable (take 8 (words_of (bad_changes []))) [] (word_on (codes "q!") 2) [] refl refl
     (search arith)
-    (among_changes refl (no_change 113 (codes "!") refl refl refl refl refl)) refl
+    (among_changes refl (begins_no_change 113 (codes "!") refl refl refl refl refl)) refl
 
--- the file without its last line shows no fault: where the reader fails there, its fault is the result
+-- the file without its last line shows no fault: if the reader fails there, its fault is the result
 front_without_fault : HasNoFrontFault (codes "$var wire 1 ! a $end\n$enddefinitions $end\n#10\n")
 unfolding words_from
 front_without_fault line fault =
-    accepted-not_refused (closed_words (codes "$var wire 1 ! a $end\n$enddefinitions $end\n#10\n"))
+    accepted-not_refused (complete_words (codes "$var wire 1 ! a $end\n$enddefinitions $end\n#10\n"))
     (state_after initial_state (one_variable ++ stamp (codes "10") ∷ [])) line fault (record {
       items = one_variable ++ stamp (codes "10") ∷ [];
       spelled = refl;

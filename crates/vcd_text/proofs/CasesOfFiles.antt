@@ -8,7 +8,7 @@ use Rattle.vcd_core.specs.Contents.{Contents}
 use Rattle.vcd_text.specs.Words.{words_from, words_of}
 use Rattle.vcd_core.specs.declared.value.TheConstants.{WIDTH_LIMIT}
 use Rattle.vcd_text.specs.Items.{Item, timescale_of, timescale, scope, upscope, variable, end_definitions, stamp}
-use Rattle.vcd_text.specs.Items.{scalar, vector, real_or_string, bracket, other, spellings}
+use Rattle.vcd_text.specs.Items.{scalar, vector, real_or_string, dump_word, other, spellings}
 use Rattle.vcd_text.specs.Grammar.{VariableDeclaration, is_skipped, initial_state, state_after, AllowsAll, word_texts}
 use Rattle.vcd_text.specs.Meaning.{FileMeans, latest_value, meaning}
 use Rattle.vcd_text.proofs.CasesOfText as texts
@@ -39,7 +39,7 @@ unfolding words_from latest_value changes_from digits
 one_scalar_means =
     means_by _ (timescale (codes "1ns" ∷ []) ∷ scope (codes "module") (codes "top" ∷ [])
     ∷ variable (codes "wire" ∷ codes "1" ∷ codes "!" ∷ codes "a" ∷ []) ∷ upscope ∷ end_definitions
-    ∷ stamp (codes "0") ∷ bracket (codes "$dumpvars") ∷ scalar 48 (codes "!") ∷ bracket (codes "$end")
+    ∷ stamp (codes "0") ∷ dump_word (codes "$dumpvars") ∷ scalar 48 (codes "!") ∷ dump_word (codes "$end")
     ∷ stamp (codes "5") ∷ scalar 49 (codes "!") ∷ stamp (codes "9") ∷ []) _ 0 refl (search arith) refl refl refl
 
 -- a vector: short forms are extended on the left by their leftmost letter, and x throughout at tick 0 is no change
@@ -52,7 +52,7 @@ unfolding words_from latest_value changes_from digits
 one_vector_means =
     means_by _ (scope (codes "module") (codes "top" ∷ [])
     ∷ variable (codes "wire" ∷ codes "4" ∷ codes "!" ∷ codes "v" ∷ []) ∷ upscope ∷ end_definitions
-    ∷ stamp (codes "0") ∷ bracket (codes "$dumpvars") ∷ vector 98 (codes "x") (codes "!") ∷ bracket (codes "$end")
+    ∷ stamp (codes "0") ∷ dump_word (codes "$dumpvars") ∷ vector 98 (codes "x") (codes "!") ∷ dump_word (codes "$end")
     ∷ stamp (codes "1") ∷ vector 98 (codes "1") (codes "!")
     ∷ stamp (codes "2") ∷ vector 98 (codes "z1") (codes "!") ∷ stamp (codes "3") ∷ vector 98 (codes "0") (codes "!")
     ∷ []) _ 0 refl (search arith) refl refl refl

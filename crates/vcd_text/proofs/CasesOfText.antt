@@ -46,7 +46,7 @@ one_scalar_text name =
     codes "$timescale 1 ns $end\n$scope module top $end\n$var wire 1 ! " ++ name
     ++ codes " $end\n$upscope $end\n$enddefinitions $end\n#0\n$dumpvars\n0!\n$end\n#5\n1!\n#9\n"
 
--- the end has a stamp where nothing changes at it
+-- the end has a stamp if nothing changes at it
 text_of_one_scalar : text (one_scalar (codes "a")) ≡ one_scalar_text (codes "a")
 unfolding text items_of signal_items code_digits tick_items value_from short_form digits
 text_of_one_scalar = refl
@@ -65,7 +65,7 @@ text_of_two_scopes : text two_scopes
 unfolding text items_of signal_items code_digits tick_items value_from short_form digits
 text_of_two_scopes = refl
 
--- a vector is written in its short form, at tick 0 also where it is x
+-- a vector is written in its short form, at tick 0 also if it is x
 text_of_vector : text
     (capture 3 (wire (top ∷ []) (codes "v") 4 (from 1 (codes "0001") ∷ from 2 (codes "zzz1") ∷ from 3 (codes "0000")
     ∷ []) ∷ []))

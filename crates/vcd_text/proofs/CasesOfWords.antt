@@ -1,8 +1,8 @@
 -- Worked cases: the words of small files, each with its line.
 use Rattle.std.proofs.Common.{◌≡◌, refl}
 use Rattle.std.specs.Prelude.{true, false, [], ◌∷◌, codes}
-use Rattle.vcd_text.specs.Words.{word_on, words_from, words_of, closed_words, last_line}
-use Rattle.vcd_text.specs.inside.Spaces.{is_closed}
+use Rattle.vcd_text.specs.Words.{word_on, words_from, words_of, complete_words, last_line}
+use Rattle.vcd_text.specs.inside.Spaces.{has_complete_words}
 
 -- no word in an empty file, and its end is on line 1
 empty_file : (words_of [] ≡ []) × (last_line [] ≡ 1)
@@ -22,12 +22,12 @@ white_space : words_of (97 ∷ 9 ∷ 97 ∷ 10 ∷ 97 ∷ 11 ∷ 97 ∷ 12 ∷ 9
 unfolding words_from
 white_space = refl
 
--- the last word is closed only where white space follows it
-last_word_is_open : closed_words (codes "#10\n#9") ≡ word_on (codes "#10") 1 ∷ []
+-- the last word is complete only if white space follows it
+last_word_is_open : complete_words (codes "#10\n#9") ≡ word_on (codes "#10") 1 ∷ []
 unfolding words_from
 last_word_is_open = refl
 
-last_word_is_closed : closed_words (codes "#10\n#9\n") ≡ word_on (codes "#10") 1 ∷ word_on (codes "#9") 2 ∷ []
+last_word_is_closed : complete_words (codes "#10\n#9\n") ≡ word_on (codes "#10") 1 ∷ word_on (codes "#9") 2 ∷ []
 unfolding words_from
 last_word_is_closed = refl
 
@@ -36,6 +36,7 @@ end_of_file : (last_line (codes "#10\n#9") ≡ 2) × (last_line (codes "#10\n#9\
 end_of_file = (refl, refl)
 
 -- white space at the end closes a text, and so does an empty text
-closed_texts : (is_closed [] ≡ true) × (is_closed (codes "#9\n") ≡ true) × (is_closed (codes " ") ≡ true)
-    × (is_closed (codes "#9\n#10") ≡ false)
-closed_texts = (refl, refl, refl, refl)
+complete_texts : (has_complete_words [] ≡ true) × (has_complete_words (codes "#9\n") ≡ true)
+    × (has_complete_words (codes " ") ≡ true)
+    × (has_complete_words (codes "#9\n#10") ≡ false)
+complete_texts = (refl, refl, refl, refl)

@@ -18,9 +18,9 @@ use Rattle.vcd_text.specs.Grammar.{is_binary_number, takes_binary_number, value_
 use Rattle.vcd_text.specs.Meaning.{latest_value}
 use Rattle.vcd_text.specs.inside.ChangeLog.{logged_letters, GivesLoggedValues, logged, AreGrouped}
 use Rattle.vcd_text.specs.inside.ValueDigits.{WritesValue, RefusesBinaryNumber}
-use Rattle.vcd_text.specs.inside.Variables.{declaration, target_of, HasWave, TargetMatches, HasFirst, HasLogs}
-use Rattle.vcd_text.specs.inside.Variables.{VariablesMatch, Sets, BinaryNumberFault, no_value}
-use Rattle.vcd_text.specs.inside.Variables.{too_long, ChangeResult}
+use Rattle.vcd_text.specs.inside.Variables.{declaration, target_of, HasWave, TargetMatches, HasFirst}
+use Rattle.vcd_text.specs.inside.Variables.{HasOnlyFirstVariables, VariablesMatch, HasValueFrom, BinaryNumberFault}
+use Rattle.vcd_text.specs.inside.Variables.{no_value, too_long, ChangeResult}
 use Rattle.vcd_text.specs.declared.reading.change_log.LoggedChange.{LoggedChange}
 use Rattle.vcd_text.specs.declared.reading.code_targets.CodeTarget.{CodeTarget}
 use Rattle.vcd_text.specs.declared.reading.code_targets.CodeTarget.TheVariants.{Skipped, Position}
@@ -89,10 +89,10 @@ module _ (old : Variables) (c : ParseState) (code digits : List ℕ) (first : �
       ∙ get_or_from_slice_get (map (λ (v : Variable). v.signal.wave.width) old.kept.items) first
       own_wave.3.first.signal.wave.width width
       (slice_get-map (λ (v : Variable). v.signal.wave.width) old.kept.items first
-      ∙ ap (option_map (λ (v : Variable). v.signal.wave.width)) own_wave.3.stands))
+      ∙ ap (option_map (λ (v : Variable). v.signal.wave.width)) own_wave.3.at_position))
 
   pub read_is : (v : Variable) → v ≡ get_or old.kept.items first v → v ≡ own_wave.3.first
-  read_is v read = read ∙ get_or_from_slice_get old.kept.items first own_wave.3.first v own_wave.3.stands
+  read_is v read = read ∙ get_or_from_slice_get old.kept.items first own_wave.3.first v own_wave.3.at_position
 
   -- no change of its wave is past the tick
   pub wave_late : All (λ (change : Change). change.tick ≤ c.tick) own_wave.3.first.signal.wave.changes
@@ -113,7 +113,7 @@ module _ (old : Variables) (list : Vec Variable) (log : Vec (Vec LoggedChange)) 
     (v w : Variable) (k : VariablesMatch old c)
     (had : target_of old code ≡ Some (Position first)) (is_first : v ≡ (own_wave old c code digits first k had).3.first)
     (items : list.items ≡ set old.kept.items first w) (same : declaration w ≡ declaration v)
-    (same_first : w.first ≡ v.first)
+    (same_first : w.first_position ≡ v.first_position)
     (value : IsTrue (is_binary_number digits)) (short : length digits ≤ v.signal.wave.width)
     (grouped : AreGrouped 0 log.items)
     (takes : (f : ℕ → List Bit)
@@ -124,7 +124,7 @@ module _ (old : Variables) (list : Vec Variable) (log : Vec (Vec LoggedChange)) 
     (others : (position : ℕ) → first ≢ position
     → logged log.items position ≡ logged old.log.items position) where
   stood : slice_get old.kept.items first ≡ Some v
-  stood = (own_wave old c code digits first k had).3.stands ∙ ap Some (sym is_first)
+  stood = (own_wave old c code digits first k had).3.at_position ∙ ap Some (sym is_first)
 
   sized : v.signal.wave.width ≡ (own_wave old c code digits first k had).0.size
   sized = ap (λ (u : Variable). u.signal.wave.width) is_first ∙ (own_wave old c code digits first k had).3.sized
@@ -135,7 +135,7 @@ module _ (old : Variables) (list : Vec Variable) (log : Vec (Vec LoggedChange)) 
   -- the variables of the new list are those of the old one, but for the wave
   following : (position : ℕ) (u : Variable) → slice_get list.items position ≡ Some u
       → (t : Variable) × (slice_get old.kept.items position ≡ Some t) × (declaration u ≡ declaration t)
-      × (u.first ≡ t.first)
+      × (u.first_position ≡ t.first_position)
   following position u at = grind (arith, cases_eq, same_Some, set_here, stood, set_there)
 
   -- the value change
@@ -149,7 +149,8 @@ module _ (old : Variables) (list : Vec Variable) (log : Vec (Vec LoggedChange)) 
   unfolding new_value_change
   wave_changed key position size equal owned wave =
       let at : first ≡ position = grind (arith, same_Some) in
-      let is : v ≡ wave.first = same_Some v wave.first (sym stood ∙ ap (slice_get old.kept.items) at ∙ wave.stands) in
+      let is : v ≡ wave.first = same_Some v wave.first (sym stood ∙ ap (slice_get old.kept.items) at
+      ∙ wave.at_position) in
       let old_size : v.signal.wave.width ≡ size = ap (λ (u : Variable). u.signal.wave.width) is ∙ wave.sized in
       let before : ℕ → List Bit = λ t. latest_value size key t (all_x size) c.value_changes in
       let had_values : GivesLoggedValues v.signal.wave.width c.tick before v.signal.wave.changes
@@ -159,7 +160,7 @@ module _ (old : Variables) (list : Vec Variable) (log : Vec (Vec LoggedChange)) 
       (logged log.items position) = grind arith in
       record {
         first = w;
-        stands = grind (arith, set_here, stood);
+        at_position = grind (arith, set_here, stood);
         coded = ap (λ (d : VariableDeclaration). d.code) same ∙ ap (λ (u : Variable). u.code) is ∙ wave.coded;
         sized = same_width ∙ old_size;
         gives = grind (arith, gives_as, own_code, value_with);
@@ -193,14 +194,14 @@ module _ (old : Variables) (list : Vec Variable) (log : Vec (Vec LoggedChange)) 
       (λ position size owned wave. elim (cases_Bool (bytes_eq code key)) [
         | inl equal ↦ wave_changed key position size (same_code code key equal) owned wave
         | inr other ↦ wave_kept key position size other wave
-      ]) (k.stand key)
+      ]) (k.targets_agree key)
 
   told_are : value_changes_after c code (letters_of_digits digits) (variable_of c code) ≡ new_value_change ∷ []
   unfolding new_value_change
   told_are = grind (arith, own_wave)
 
   -- the log has changes only of first variables
-  changed_logs : HasLogs list.items (logged log.items)
+  changed_logs : HasOnlyFirstVariables list.items (logged log.items)
   changed_logs position some = grind (arith, cases_eq, set_here, stood, own_wave, same_Some, set_there)
 
   -- the variables have the value change
@@ -209,7 +210,7 @@ module _ (old : Variables) (list : Vec Variable) (log : Vec (Vec LoggedChange)) 
     kept = k.kept ∙ sym (ap (map declaration) items ∙ same_map declaration old.kept.items first v w stood same);
     skipped = k.skipped;
     widths = grind (arith, same_map, stood, same_width);
-    stand = λ key. subst (λ rs. TargetMatches list.items (logged log.items) (c.value_changes ++ rs) c.tick key
+    targets_agree = λ key. subst (λ rs. TargetMatches list.items (logged log.items) (c.value_changes ++ rs) c.tick key
         (target_of old key) (variable_of c key)) (sym told_are) (changed_stands key);
     firsts = changed_firsts;
     few = grind (arith, length-set);
@@ -229,13 +230,14 @@ pub wide_changes : (old : Variables) (list : Vec Variable) (c : ParseState) (cod
     (v w : Variable) (result : Result (Unit {0}) Fault) (k : VariablesMatch old c)
     (had : target_of old code ≡ Some (Position first)) → v ≡ get_or old.kept.items first v
     → width ≡ get_or old.widths.items first width → 64 < width
-    → list.items ≡ set old.kept.items first w → OnOk result (Sets c.tick digits v w)
+    → list.items ≡ set old.kept.items first w → OnOk result (HasValueFrom c.tick digits v w)
     → IfErr result (λ fault. (fault ≡ faults.NoMemory) ⊎ RefusesBinaryNumber v.signal.wave.width digits fault)
     → ChangeResult c code digits result (with_changes old list old.log)
 wide_changes old list c code digits first width v w (Ok x) k had read row wide items sets refuses =
     let is = read_is old c code digits first k had v read in
     let size = ap (λ (u : Variable). u.signal.wave.width) is ∙ width_is old c code digits first k had width row in
-    changed old list old.log c code digits first v w k had is items sets.same sets.same_first sets.value sets.fits
+    changed old list old.log c code digits first v w k had is items sets.same sets.same_first_position sets.value
+    sets.fits
     k.grouped
     (λ f g. gives_pushed v.signal.wave.width c.tick f v.signal.wave.changes
     (extension v.signal.wave.width (letters_of_digits digits)) w.signal.wave.changes
@@ -262,7 +264,7 @@ narrow_changes old log c code digits first width e k had row narrow at_tick at w
     let size : v.signal.wave.width ≡ width = width_is old c code digits first k had width row in
     let here : (e.position == first) ≡ true = eq-eqb e.position first at in
     changed old old.kept log c code digits first v v k had refl
-    (same_set old.kept.items first v (own_wave old c code digits first k had).3.stands) refl refl
+    (same_set old.kept.items first v (own_wave old c code digits first k had).3.at_position) refl refl
     writes.0 (omega (arith, writes.1, size)) grouped
     (λ f g.
     subst (GivesLoggedValues v.signal.wave.width c.tick

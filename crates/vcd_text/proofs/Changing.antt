@@ -6,23 +6,23 @@ use Rattle.std.specs.Prelude.{codes, nat_eq, ◌==◌, IsTrue}
 use Rattle.std.proofs.lemmas.List.{nil_from_length}
 use Rattle.std.proofs.lemmas.Bool.{or_parts, or_cases, or_from, or_left, or_right, eqb-false}
 use Rattle.vcd_text.specs.declared.fault.Fault.{Fault}
-use Rattle.vcd_text.specs.declared.fault.Fault.TheVariants.{NoMemory, BadTime, TimeBackwards, BadChange, UnknownCode}
-use Rattle.vcd_text.specs.declared.fault.Fault.TheVariants.{UnexpectedWord}
+use Rattle.vcd_text.specs.declared.fault.Fault.TheVariants.{NoMemory, BadTime, TimeBackwards, BadChange}
+use Rattle.vcd_text.specs.declared.fault.Fault.TheVariants.{UnknownCode, UnexpectedWord}
 use Rattle.vcd_text.specs.Words.{PlacedWord, word_on}
 use Rattle.vcd_core.specs.Decimal.{number_of}
 use Rattle.vcd_core.specs.Word.{is_one_of}
 use Rattle.vcd_text.specs.Letters.{is_among, is_binary_digit}
-use Rattle.vcd_text.specs.Items.{Item, stamp, scalar, vector, real_or_string, bracket, spelling, is_command, dump_words}
-use Rattle.vcd_text.specs.Items.{declaring_words, vector_prefixes, dropped_prefixes}
+use Rattle.vcd_text.specs.Items.{Item, stamp, scalar, vector, real_or_string, dump_word, spelling, is_command}
+use Rattle.vcd_text.specs.Items.{dump_words, declaration_words, vector_prefixes, real_or_string_prefixes}
 use Rattle.vcd_text.specs.Grammar.{ParseState, VariableDeclaration, ValueChange, Allows, state_after_item, word_texts}
 use Rattle.vcd_text.specs.Grammar.{is_tick, is_binary_number, takes_binary_number, variable_of}
-use Rattle.vcd_text.specs.Faults.{ChangeFault, no_tick, tick_goes_back, value_alone, value_of_none, pair_of_none}
-use Rattle.vcd_text.specs.Faults.{no_value, value_too_long, no_change, among_changes, WordFault}
-use Rattle.vcd_text.specs.Faults.{pair_prefixes}
+use Rattle.vcd_text.specs.Faults.{ChangeFault, no_tick, tick_goes_back, missing_code, unknown_scalar_code}
+use Rattle.vcd_text.specs.Faults.{unknown_pair_code, no_value, value_too_long, begins_no_change, among_changes}
+use Rattle.vcd_text.specs.Faults.{WordFault, pair_prefixes}
 use Rattle.vcd_text.specs.inside.Variables.{VariablesMatch, BinaryNumberFault, ChangeResult}
 use Rattle.vcd_text.specs.inside.Variables as variables
-use Rattle.vcd_text.specs.inside.Reading.{ReaderMatches, AwaitsCode, IsBegun, IsAtState, WordStep, goes_on, ends_item}
-use Rattle.vcd_text.specs.inside.Reading.{WordResult}
+use Rattle.vcd_text.specs.inside.Reading.{ReaderMatches, AwaitsCode, IsBegun, IsAtState, WordStep, goes_on}
+use Rattle.vcd_text.specs.inside.Reading.{ends_item, WordResult}
 use Rattle.vcd_text.specs.declared.reading.reader.Reader.{Reader}
 use Rattle.vcd_text.specs.declared.reading.reader.OpenItem.{OpenItem}
 use Rattle.vcd_text.specs.declared.reading.reader.OpenItem.TheVariants as items
@@ -102,7 +102,7 @@ takes_stamp m digits line tick between in_body is number later =
       (sym agrees.in_body ∙ in_body, is, after),
       agrees_by _ _ agrees.header agrees.timescale agrees.scopes agrees.in_body number
           (knows_further m.variables c (record c { tick = number_of digits }) refl refl after agrees.variables)
-          agrees.silent,
+          agrees.no_early_change,
     ))
 
 -- ---- commands
@@ -110,15 +110,15 @@ takes_stamp m digits line tick between in_body is number later =
 pub takes_bracket : (m : Reader) (text : List ℕ) (line : ℕ) → m.item ≡ items.Nothing → m.in_body ≡ true
     → is_one_of dump_words text ≡ true → WordResult m (word_on text line) (Ok tt) m
 takes_bracket m text line between in_body is =
-    whole_item m m (word_on text line) (bracket text) between between refl
+    whole_item m m (word_on text line) (dump_word text) between between refl
     (λ c agrees. ((sym agrees.in_body ∙ in_body, is), agrees))
 
 pub declares_late : (m new : Reader) (text : List ℕ) (line : ℕ) → m.item ≡ items.Nothing → m.in_body ≡ true
-    → is_one_of declaring_words text ≡ true → WordResult m (word_on text line) (Err UnexpectedWord) new
+    → is_one_of declaration_words text ≡ true → WordResult m (word_on text line) (Err UnexpectedWord) new
 declares_late m new text line between in_body is = grind (arith, shows)
 
 pub passes_over : (m : Reader) (text : List ℕ) (line : ℕ) → m.item ≡ items.Nothing → m.in_body ≡ true
-    → is_command text ≡ true → is_one_of dump_words text ≡ false → is_one_of declaring_words text ≡ false
+    → is_command text ≡ true → is_one_of dump_words text ≡ false → is_one_of declaration_words text ≡ false
     → WordResult m (word_on text line) (Ok tt) (record m { item = items.Other })
 passes_over m text line between in_body command dump declaring c begun (agrees, taken) =
     let none = none_begun m begun between taken in
@@ -139,16 +139,16 @@ pub no_code : (m new : Reader) (letter : ℕ) (code : List ℕ) (line : ℕ) →
     → is_binary_digit letter ≡ true → length code ≡ 0 → WordResult m (word_on (letter ∷ code) line) (Err BadChange) new
 no_code m new letter code line between in_body is none =
     shows m new (word_on (letter ∷ code) line) BadChange between in_body
-    (λ c agrees. value_alone letter refl (ap (λ cs. letter ∷ cs) (nil_from_length code none)) is refl)
+    (λ c agrees. missing_code letter refl (ap (λ cs. letter ∷ cs) (nil_from_length code none)) is refl)
 
 pub begins_nothing : (m new : Reader) (first : ℕ) (text : List ℕ) (line : ℕ) → m.item ≡ items.Nothing
     → m.in_body ≡ true
     → is_among (codes "#$") first ≡ false → is_binary_digit first ≡ false → is_among vector_prefixes first ≡ false
-    → is_among dropped_prefixes first ≡ false → WordResult m (word_on (first ∷ text) line) (Err BadChange) new
+    → is_among real_or_string_prefixes first ≡ false → WordResult m (word_on (first ∷ text) line) (Err BadChange) new
 begins_nothing m new first text line between in_body no_command no_letter no_vector no_dropped =
     let other : is_among (codes "#$" ++ pair_prefixes) first ≡ false = grind (arith, list_any-append, or_from) in
     shows m new (word_on (first ∷ text) line) BadChange between in_body
-    (λ c agrees. no_change first text refl refl no_letter other refl)
+    (λ c agrees. begins_no_change first text refl refl no_letter other refl)
 
 -- some variable accepts the digits
 taken_by_some : (o : Option VariableDeclaration) (digits : List ℕ)
@@ -163,7 +163,7 @@ one_letter letter is = λ i. is i && true
 bit_shows : (c : ParseState) (letter : ℕ) (code : List ℕ) (fault : Fault) → is_binary_digit letter ≡ true
     → 0 < length code → BinaryNumberFault c code (letter ∷ []) fault → ChangeFault c [] (letter ∷ code) fault
 bit_shows c letter code fault is some (variables.unknown none which) =
-    value_of_none letter code refl refl is some none which
+    unknown_scalar_code letter code refl refl is some none which
 bit_shows c letter code fault is some (variables.no_value d found keeps isnt which) =
     not_both (one_letter letter is) isnt
 bit_shows c letter code fault is some (variables.too_long d found keeps value long which) =
@@ -189,17 +189,18 @@ sets_bit m vs letter code line (Err fault) between in_body is some takes = λ c 
 
 -- ---- changes of two words
 
-pub begins_dropped : (m : Reader) (first : ℕ) (text : List ℕ) (line : ℕ) → m.item ≡ items.Nothing → m.in_body ≡ true
-    → is_among dropped_prefixes first ≡ true
-    → WordResult m (word_on (first ∷ text) line) (Ok tt) (record m { item = items.Dropped; line = line })
-begins_dropped m first text line between in_body is c begun (agrees, taken) =
+pub begins_real_or_string : (m : Reader) (first : ℕ) (text : List ℕ) (line : ℕ) → m.item ≡ items.Nothing
+    → m.in_body ≡ true
+    → is_among real_or_string_prefixes first ≡ true
+    → WordResult m (word_on (first ∷ text) line) (Ok tt) (record m { item = items.RealOrString; line = line })
+begins_real_or_string m first text line between in_body is c begun (agrees, taken) =
     let none = none_begun m begun between taken in
     goes_on (
-      agrees_still m c items.Dropped line agrees,
+      agrees_still m c items.RealOrString line agrees,
       (
         text,
         record {
-          changes = in_body;
+          in_body = in_body;
           word = word_on (first ∷ text) line;
           letter = first;
           is = ap (λ bs. bs ++ word_on (first ∷ text) line ∷ []) none;
@@ -229,13 +230,13 @@ vector_shows : (c : ParseState) (first : ℕ) (digits code : List ℕ) (fault : 
     → is_among vector_prefixes first ≡ true
     → BinaryNumberFault c code digits fault → ChangeFault c ((first ∷ digits) ∷ []) code fault
 vector_shows c first digits code fault is (variables.unknown none which) =
-    pair_of_none first digits refl (among_first vector_prefixes dropped_prefixes first is) none which
+    unknown_pair_code first digits refl (among_first vector_prefixes real_or_string_prefixes first is) none which
 vector_shows c first digits code fault is (variables.no_value d found keeps isnt which) =
     no_value first digits d refl is found keeps isnt which
 vector_shows c first digits code fault is (variables.too_long d found keeps value long which) =
     value_too_long first digits d refl is found keeps value long which
 
--- all words of a change of several bits have been taken
+-- all words of a change by a binary number have been taken
 pub whole_vector : (m : Reader) (c : ParseState) (vs : Variables) (item : OpenItem) (words : List PlacedWord)
     (letter : ℕ) (digits code : List ℕ) → ReaderMatches m c → m.in_body ≡ true
     → item ≡ items.Nothing → is_among vector_prefixes letter ≡ true → (letter ∷ digits) ∷ code ∷ [] ≡ word_texts words
@@ -246,7 +247,7 @@ whole_vector m c vs item words letter digits code agrees in_body closed is spell
       subst (IsBegun (record m { variables = vs; item = item }) []) (sym closed) refl,
     )
 
--- the code of a change of several bits shows a fault
+-- the code of a change by a binary number shows a fault
 pub vector_shown : (m : Reader) (c : ParseState) (letter : ℕ) (digits code : List ℕ) (fault : Fault) → ReaderMatches m c
     → m.in_body ≡ true → is_among vector_prefixes letter ≡ true → BinaryNumberFault c code digits fault
     → WordFault c ((letter ∷ digits) ∷ []) code fault
@@ -259,7 +260,7 @@ pub ends_vector : (m : Reader) (vs : Variables) (code : List ℕ) (line : ℕ) (
     → WordResult m (word_on code line) r (record m { variables = vs; item = items.Nothing })
 ends_vector m vs code line (Ok x) item takes = λ c begun (agrees, taken).
     let b : AwaitsCode m begun vector_prefixes m.digits.items = subst (IsBegun m begun) item taken in
-    whole_vector m c vs items.Nothing (begun ++ word_on code line ∷ []) b.letter m.digits.items code agrees b.changes
+    whole_vector m c vs items.Nothing (begun ++ word_on code line ∷ []) b.letter m.digits.items code agrees b.in_body
     refl
     b.among
     (texts_whole m begun vector_prefixes m.digits.items code line b) (takes c (sym agrees.tick) agrees.variables)
@@ -269,18 +270,18 @@ ends_vector m vs code line (Err fault) item takes = λ c begun (agrees, taken).
       | inl memory ↦ inl memory
       | inr row ↦ inr (subst (λ ts. WordFault c ts code fault)
           (sym (texts_begun m begun vector_prefixes m.digits.items b))
-          (vector_shown m c b.letter m.digits.items code fault agrees b.changes b.among row))
+          (vector_shown m c b.letter m.digits.items code fault agrees b.in_body b.among row))
     ]
 
-pub ends_dropped : (m : Reader) (code : List ℕ) (line : ℕ) → m.item ≡ items.Dropped
+pub ends_real_or_string : (m : Reader) (code : List ℕ) (line : ℕ) → m.item ≡ items.RealOrString
     → ((c : ParseState) → VariablesMatch m.variables c → is_some (variable_of c code) ≡ true)
     → WordResult m (word_on code line) (Ok tt) (record m { item = items.Nothing })
-ends_dropped m code line item declared c begun (agrees, taken) =
-    let at : (text : List ℕ) × AwaitsCode m begun dropped_prefixes text = subst (IsBegun m begun) item taken in
+ends_real_or_string m code line item declared c begun (agrees, taken) =
+    let at : (text : List ℕ) × AwaitsCode m begun real_or_string_prefixes text = subst (IsBegun m begun) item taken in
     let text = at.0 in
     let b = at.1 in
-    ends_item (real_or_string b.letter text code) (texts_whole m begun dropped_prefixes text code line b)
-    (sym agrees.in_body ∙ b.changes, b.among, declared c agrees.variables) (
+    ends_item (real_or_string b.letter text code) (texts_whole m begun real_or_string_prefixes text code line b)
+    (sym agrees.in_body ∙ b.in_body, b.among, declared c agrees.variables) (
       agrees_still m c items.Nothing m.line agrees,
       refl,
     )
@@ -289,15 +290,15 @@ none_is : (o : Option VariableDeclaration) → is_some o ≡ false → o ≡ Non
 none_is None h = refl
 none_is (Some d) h = not_both refl h
 
-pub drops_unknown : (m new : Reader) (code : List ℕ) (line : ℕ) → m.item ≡ items.Dropped
+pub drops_unknown : (m new : Reader) (code : List ℕ) (line : ℕ) → m.item ≡ items.RealOrString
     → ((c : ParseState) → VariablesMatch m.variables c → is_some (variable_of c code) ≡ false)
     → WordResult m (word_on code line) (Err UnknownCode) new
 drops_unknown m new code line item unknown c begun (agrees, taken) =
-    let at : (text : List ℕ) × AwaitsCode m begun dropped_prefixes text = subst (IsBegun m begun) item taken in
+    let at : (text : List ℕ) × AwaitsCode m begun real_or_string_prefixes text = subst (IsBegun m begun) item taken in
     let text = at.0 in
     let b = at.1 in
     inr (among_changes (sym agrees.in_body
-    ∙ b.changes) (subst (λ ts. ChangeFault c ts code UnknownCode)
-    (sym (texts_begun m begun dropped_prefixes text b))
-    (pair_of_none b.letter text refl (among_last vector_prefixes dropped_prefixes b.letter b.among)
+    ∙ b.in_body) (subst (λ ts. ChangeFault c ts code UnknownCode)
+    (sym (texts_begun m begun real_or_string_prefixes text b))
+    (unknown_pair_code b.letter text refl (among_last vector_prefixes real_or_string_prefixes b.letter b.among)
     (none_is (variable_of c code) (unknown c agrees.variables)) refl)))

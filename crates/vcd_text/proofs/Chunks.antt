@@ -1,4 +1,4 @@
--- A file in chunks: the progress after one more chunk, and the result where no more comes.
+-- A file in chunks: the progress after one more chunk, and the result if no more comes.
 use Rattle.std.proofs.Common.{◌≡◌, ◌⊎◌, inl, inr, ℕ, zero, suc, ◌+◌, ◌-◌, ◌<◌, ◌≤◌, Bool, true, false, not, ◌==◌}
 use Rattle.std.proofs.Common.{List, [], ◌∷◌, ◌++◌, length, take, drop, get_or, Option, Some, None, IfSome, refl, sym}
 use Rattle.std.proofs.Common.{ap, subst, ◌∙◌, arith, append_assoc, length-append}
@@ -18,26 +18,25 @@ use Rattle.vcd_text.specs.declared.fault.ReadError.{ReadError}
 use Rattle.vcd_text.specs.declared.reading.chunks.Progress.{Progress}
 use Rattle.vcd_text.specs.declared.reading.reader.Reader.{Reader}
 use Rattle.vcd_text.specs.Words.{PlacedWord, line_after, with_longer_first, with_byte, words_from}
-use Rattle.vcd_text.specs.Words.{words_of, closed_words}
+use Rattle.vcd_text.specs.Words.{words_of, complete_words}
 use Rattle.vcd_text.specs.Grammar.{ParseState}
 use Rattle.vcd_text.specs.Faults.{FileFault, ShowsFault, shown, none_shown}
 use Rattle.vcd_text.specs.FoundFaults.{FoundFault, word_shows}
 use Rattle.vcd_text.specs.FoundFaults.{too_early, FrontFault}
-use Rattle.vcd_text.specs.Faults.{ChangeFault}
-use Rattle.vcd_text.specs.Faults.{no_tick, tick_goes_back, value_alone}
-use Rattle.vcd_text.specs.Faults.{value_of_none, pair_of_none, no_value, value_too_long, declaration_late, no_change}
+use Rattle.vcd_text.specs.Faults.{ChangeFault, no_tick, tick_goes_back, missing_code, unknown_scalar_code}
+use Rattle.vcd_text.specs.Faults.{unknown_pair_code, no_value, value_too_long, declaration_late, begins_no_change}
 use Rattle.vcd_text.specs.Refusals.{IsRefusal, has_fault, too_large, no_memory, IsFrontAnswer}
 use Rattle.vcd_text.specs.MemoryErrors.{memory_error}
-use Rattle.vcd_text.specs.inside.Spaces.{is_closed}
-use Rattle.vcd_text.specs.inside.Reading.{Reads}
-use Rattle.vcd_text.specs.inside.Chunks.{HasTaken, HasCome, HasConsumed}
+use Rattle.vcd_text.specs.inside.Spaces.{has_complete_words}
+use Rattle.vcd_text.specs.inside.Reading.{HasTakenWords}
+use Rattle.vcd_text.specs.inside.Chunks.{HasTaken, HasUntakenChunk, HasReadBytes}
 use Rattle.vcd_text.specs.inside.WordWalk.{line_feeds_in}
 use Rattle.vcd_text.proofs.Ended.{no_fault as shows_none}
 use Rattle.vcd_text.proofs.FrontAnswers.{larger, failing}
 use Rattle.vcd_text.proofs.FrontFaults.{longer_front_fault}
 use Rattle.vcd_text.proofs.FileFaults.{file_fault, front_fault_stays}
 use Rattle.vcd_text.proofs.WordLaws.{line_feeds_of_both, no_line_feeds, word_part}
-use Rattle.vcd_text.specs.inside.Waiting.{Waiting}
+use Rattle.vcd_text.specs.inside.ReadBufferView.{ReadBufferView}
 use Rattle.std.proofs.lemmas.Grind.{common_steps}
 
 -- ---- line feeds
@@ -53,16 +52,16 @@ line_more b line bs =
 -- ---- text up to white space
 
 -- a text that ends in white space after its first n bytes
-pub closed_at : (n : ℕ) (bytes : List ℕ) → n < length bytes → is_white_space (get_or bytes n 0) ≡ true
-    → is_closed (take (suc n) bytes) ≡ true
-closed_at zero [] within space = absurd (omega arith)
-closed_at zero (b ∷ bs) within space = space
-closed_at (suc n) [] within space = absurd (omega arith)
-closed_at (suc n) (b ∷ []) within space = absurd (omega arith)
-closed_at (suc n) (b ∷ c ∷ bs) within space = closed_at n (c ∷ bs) (omega arith) space
+pub complete_at : (n : ℕ) (bytes : List ℕ) → n < length bytes → is_white_space (get_or bytes n 0) ≡ true
+    → has_complete_words (take (suc n) bytes) ≡ true
+complete_at zero [] within space = absurd (omega arith)
+complete_at zero (b ∷ bs) within space = space
+complete_at (suc n) [] within space = absurd (omega arith)
+complete_at (suc n) (b ∷ []) within space = absurd (omega arith)
+complete_at (suc n) (b ∷ c ∷ bs) within space = complete_at n (c ∷ bs) (omega arith) space
 
--- a closed text that begins with a word has a word
-some_word : (line b : ℕ) (bs : List ℕ) → is_closed (b ∷ bs) ≡ true → is_white_space b ≡ false
+-- a text of complete words that begins with a word has a word
+some_word : (line b : ℕ) (bs : List ℕ) → has_complete_words (b ∷ bs) ≡ true → is_white_space b ≡ false
     → 0 < length (words_from true line (b ∷ bs))
 unfolding words_from
 some_word line b [] closed no_space = let no : false ≡ true = sym no_space ∙ closed in absurd (cc)
@@ -86,20 +85,27 @@ byte_first : (space last : Bool) (b line : ℕ) (ws more : List PlacedWord)
     → with_byte space last b line (ws ++ more) ≡ with_byte space last b line ws ++ more
 byte_first space last b line ws more h6 = grind arith
 
--- the words of a closed text, and those after it
-pub words_closed : (whole : Bool) (line : ℕ) (text rest : List ℕ) → is_closed text ≡ true
-    → words_from whole line (text ++ rest) ≡ words_from true line text
-    ++ words_from whole (line + line_feeds_in text) rest
+-- the words of a text of complete words, and those after it
+pub words_complete : (end_counts : Bool) (line : ℕ) (text rest : List ℕ) → has_complete_words text ≡ true
+    → words_from end_counts line (text ++ rest) ≡ words_from true line text
+    ++ words_from end_counts (line + line_feeds_in text) rest
 unfolding words_from
-words_closed whole line [] rest closed = grind arith
-words_closed whole line (b ∷ []) rest closed = grind (arith, line_one)
-words_closed whole line (b ∷ c ∷ text) rest closed =
-    search (arith, byte_first, some_word, line_more, words_closed whole (line_after b line) (c ∷ text) rest closed)
+words_complete end_counts line [] rest closed = grind arith
+words_complete end_counts line (b ∷ []) rest closed = grind (arith, line_one)
+words_complete end_counts line (b ∷ c ∷ text) rest closed =
+    search (
+      arith,
+      byte_first,
+      some_word,
+      line_more,
+      words_complete end_counts (line_after b line) (c ∷ text) rest
+          closed,
+    )
 
 -- ---- one more chunk
 
-module _ (p : Progress) (from len : ℕ) (bytes closed : List ℕ) (come : HasCome p from bytes)
-    (ends : is_closed (take len p.buffer.bytes) ≡ true)
+module _ (p : Progress) (from len : ℕ) (bytes closed : List ℕ) (come : HasUntakenChunk p from bytes)
+    (ends : has_complete_words (take len p.buffer.bytes) ≡ true)
     (no_space : list_all (λ b. not (is_white_space b)) (drop len p.buffer.bytes) ≡ true)
     (front : closed ≡ take len p.buffer.bytes) where
   -- the bytes after the complete words
@@ -114,23 +120,23 @@ module _ (p : Progress) (from len : ℕ) (bytes closed : List ℕ) (come : HasCo
   in_two = sym come.text ∙ sym (take-append-drop len p.buffer.bytes) ∙ ap (λ text. text ++ back) (sym front)
 
   -- the words of all bytes so far, and of those that follow
-  words_now : (whole : Bool) (rest : List ℕ) → words_from whole 1 (bytes ++ rest)
-      ≡ closed_words come.before
-      ++ (complete ++ words_from whole ((p.line_feeds + line_feeds_in closed) + 1) (back ++ rest))
-  words_now whole rest = grind (arith, append_assoc, in_two, words_closed)
+  words_now : (end_counts : Bool) (rest : List ℕ) → words_from end_counts 1 (bytes ++ rest)
+      ≡ complete_words come.before
+      ++ (complete ++ words_from end_counts ((p.line_feeds + line_feeds_in closed) + 1) (back ++ rest))
+  words_now end_counts rest = grind (arith, append_assoc, in_two, words_complete)
 
-  closed_now : closed_words bytes ≡ closed_words come.before ++ complete
+  closed_now : complete_words bytes ≡ complete_words come.before ++ complete
   closed_now =
       ap (words_from false 1) (sym (append-nil bytes)) ∙ words_now false []
-      ∙ ap (λ text. closed_words come.before
+      ∙ ap (λ text. complete_words come.before
       ++ (complete ++ words_from false ((p.line_feeds + line_feeds_in closed) + 1) text))
       (append-nil back)
-      ∙ ap (λ words. closed_words come.before ++ (complete ++ words))
+      ∙ ap (λ words. complete_words come.before ++ (complete ++ words))
       (word_part ((p.line_feeds + line_feeds_in closed) + 1) back no_space)
-      ∙ ap (λ words. closed_words come.before ++ words) (append-nil complete)
+      ∙ ap (λ words. complete_words come.before ++ words) (append-nil complete)
 
   -- the complete words have been taken
-  pub now_taken : (new : Reader) → Reads new (closed_words come.before ++ complete)
+  pub now_taken : (new : Reader) → HasTakenWords new (complete_words come.before ++ complete)
       → HasTaken new back (p.line_feeds + line_feeds_in closed) p.bytes_left bytes
   now_taken new reads =
       grind (
@@ -147,31 +153,32 @@ module _ (p : Progress) (from len : ℕ) (bytes closed : List ℕ) (come : HasCo
 
   -- or one of them shows a fault
   pub now_shown : (e : ReadError)
-      → (e ≡ memory_error) ⊎ ShowsFault (closed_words come.before ++ complete) e.line e.fault
+      → (e ≡ memory_error) ⊎ ShowsFault (complete_words come.before ++ complete) e.line e.fault
       → (e ≡ memory_error) ⊎ FrontFault bytes e.line e.fault
   now_shown e (inl none) = inl none
   now_shown e (inr shows) = inr (subst (λ words. ShowsFault words e.line e.fault) (sym closed_now) shows)
 
--- ---- where nothing has been read, and where all has been
+-- ---- nothing has been read, or all has been
 
-pub nothing_taken : (m : Reader) (word : List ℕ) → word ≡ [] → Reads m [] → HasTaken m word 0 FILE_LIMIT []
+pub nothing_taken : (m : Reader) (word : List ℕ) → word ≡ [] → HasTakenWords m [] → HasTaken m word 0 FILE_LIMIT []
 unfolding words_from
 nothing_taken m word none reads = grind arith
 
 -- the words so far, and the last one
-all_words : (p : Progress) (text bytes : List ℕ) → HasConsumed p bytes → text ≡ p.buffer.bytes
-    → closed_words bytes ++ words_from true (p.line_feeds + 1) text ≡ words_of bytes
+all_words : (p : Progress) (text bytes : List ℕ) → HasReadBytes p bytes → text ≡ p.buffer.bytes
+    → complete_words bytes ++ words_from true (p.line_feeds + 1) text ≡ words_of bytes
 all_words p text bytes taken is =
-    ap (λ word. closed_words bytes ++ words_from true (p.line_feeds + 1) word) (is ∙ sym (append-nil p.buffer.bytes))
+    ap (λ word. complete_words bytes ++ words_from true (p.line_feeds + 1) word) (is ∙ sym (append-nil p.buffer.bytes))
     ∙ sym (taken.words true []) ∙ ap (words_from true 1) (append-nil bytes)
 
 -- so all words of the bytes have been taken, or one shows a fault
-pub last_taken : (p : Progress) (new : Reader) (text bytes : List ℕ) → HasConsumed p bytes → text ≡ p.buffer.bytes
-    → Reads new (closed_words bytes ++ words_from true (p.line_feeds + 1) text) → Reads new (words_of bytes)
-last_taken p new text bytes taken is reads = subst (Reads new) (all_words p text bytes taken is) reads
+pub last_taken : (p : Progress) (new : Reader) (text bytes : List ℕ) → HasReadBytes p bytes → text ≡ p.buffer.bytes
+    → HasTakenWords new (complete_words bytes ++ words_from true (p.line_feeds + 1) text)
+    → HasTakenWords new (words_of bytes)
+last_taken p new text bytes taken is reads = subst (HasTakenWords new) (all_words p text bytes taken is) reads
 
-pub last_shown : (p : Progress) (text bytes : List ℕ) (e : ReadError) → HasConsumed p bytes → text ≡ p.buffer.bytes
-    → (e ≡ memory_error) ⊎ ShowsFault (closed_words bytes ++ words_from true (p.line_feeds + 1) text) e.line e.fault
+pub last_shown : (p : Progress) (text bytes : List ℕ) (e : ReadError) → HasReadBytes p bytes → text ≡ p.buffer.bytes
+    → (e ≡ memory_error) ⊎ ShowsFault (complete_words bytes ++ words_from true (p.line_feeds + 1) text) e.line e.fault
     → (e ≡ memory_error) ⊎ FoundFault bytes e.line e.fault
 last_shown p text bytes e h4 h5 h6 = grind (arith, all_words)
 
@@ -206,12 +213,12 @@ shown_early (Some xs) (Some ys) failed bytes e ready consumes within (inr shows)
 -- the file has more bytes than the limit
 pub full : (coming middle left : Option (List ℕ)) (failed : Bool) (p : Progress) (bytes chunk : List ℕ) (e : ReadError)
     → Consumes coming middle bytes → Consumes middle left chunk → 0 < length chunk → p.bytes_left ≡ 0
-    → HasConsumed p bytes
+    → HasReadBytes p bytes
     → e ≡ record { line = p.line_feeds + 1; fault = faults.TooLarge }
     → IfSome coming (λ file. IsRefusal file failed left e)
 full coming middle left failed p bytes chunk e first second some none taken is =
     larger coming left failed bytes e (over coming left (Consumes-trans coming middle left bytes chunk first second))
-    (inr (none_shown (shows_none p.reader (closed_words bytes) taken.reads)
+    (inr (none_shown (shows_none p.reader (complete_words bytes) taken.taken_words)
     (ap (λ (e : ReadError). e.line) is ∙ sym taken.lines) (ap (λ (e : ReadError). e.fault) is)))
   where
     over : (coming left : Option (List ℕ)) → Consumes coming left (bytes ++ chunk)
@@ -224,23 +231,23 @@ full coming middle left failed p bytes chunk e first second some none taken is =
         ap (length {A = ℕ}) consumes,
         length-append (bytes ++ chunk) ys,
         length-append bytes chunk,
-        taken.room,
+        taken.size,
         none,
         some,
       ),
       sym (ap (take FILE_LIMIT) (consumes ∙ append_assoc bytes chunk ys)
-          ∙ all_front FILE_LIMIT bytes (chunk ++ ys) (omega (arith, taken.room, none))),
+          ∙ all_front FILE_LIMIT bytes (chunk ++ ys) (omega (arith, taken.size, none))),
     )
 
 -- the reader failed
 pub broken : (coming middle left : Option (List ℕ)) (failed : Bool) (p : Progress) (bytes : List ℕ) (e : ReadError)
-    → IsTrue failed → Consumes coming middle bytes → Keeps middle left → HasConsumed p bytes
+    → IsTrue failed → Consumes coming middle bytes → Keeps middle left → HasReadBytes p bytes
     → e ≡ record { line = p.line_feeds + 1; fault = faults.ReadFault }
     → IfSome coming (λ file. IsRefusal file failed left e)
 broken coming middle left failed p bytes e has consumes keeps taken is =
     failing coming left failed bytes e has (Consumes-kept coming middle left bytes consumes keeps)
-    (omega (arith, taken.room))
-    (inr (none_shown (shows_none p.reader (closed_words bytes) taken.reads)
+    (omega (arith, taken.size))
+    (inr (none_shown (shows_none p.reader (complete_words bytes) taken.taken_words)
     (ap (λ (e : ReadError). e.line) is ∙ sym taken.lines) (ap (λ (e : ReadError). e.fault) is)))
 
 -- the whole file came
@@ -276,14 +283,15 @@ is_no_file_failure bytes e h2 h3 = grind (arith, by_change)
 -- ---- a chunk after the bytes taken
 
 -- the chunk came after the word that can go on
-pub has_come : (p : Progress) (buffer : Waiting) (from count : ℕ) (before word chunk : List ℕ) → HasConsumed p before
+pub has_come : (p : Progress) (buffer : ReadBufferView) (from count : ℕ) (before word chunk : List ℕ)
+    → HasReadBytes p before
     → buffer.bytes ≡ word ++ chunk → word ≡ p.buffer.bytes → count ≡ length chunk → count ≤ p.bytes_left
     → from ≡ length word
-    → HasCome (record p { buffer = buffer; bytes_left = p.bytes_left - count }) from (before ++ chunk)
+    → HasUntakenChunk (record p { buffer = buffer; bytes_left = p.bytes_left - count }) from (before ++ chunk)
 has_come p buffer from count before word chunk taken text same many within len = grind arith
 
 -- the first bytes of the text are those of the word that can go on
-pub word_is_first : (p : Progress) (from : ℕ) (bytes : List ℕ) → HasCome p from bytes
+pub word_is_first : (p : Progress) (from : ℕ) (bytes : List ℕ) → HasUntakenChunk p from bytes
     → (from ≤ length p.buffer.bytes) × (list_all (λ b. not (is_white_space b)) (take from p.buffer.bytes) ≡ true)
     × (length bytes + p.bytes_left ≡ FILE_LIMIT) × (length p.buffer.bytes ≤ length bytes)
     × (p.line_feeds ≤ length bytes)

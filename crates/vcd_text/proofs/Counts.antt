@@ -20,7 +20,7 @@ use Rattle.vcd_text.specs.Text.{differs_at}
 use Rattle.vcd_text.proofs.Sorting.{counted, times, times-append, RisesFrom}
 use Rattle.std.proofs.Math.Bool.{and-false}
 
--- a number where the test passes, else 0
+-- a number if the test passes, else 0
 abbrev if_so : Bool → ℕ → ℕ
 if_so true n = n
 if_so false n = 0
@@ -29,7 +29,7 @@ if_zero : (b : Bool) → if_so b 0 ≡ 0
 if_zero true = refl
 if_zero false = refl
 
--- whether the signal at a position differs at a tick, where the first signal is at another position
+-- whether the signal at a position differs at a tick, if the first signal is at another position
 abbrev marks : ℕ → ℕ → ℕ → List SignalContents → ℕ
 marks t k j [] = 0
 marks t k j (s ∷ ss) = if_so (j == k) (counted (differs_at t s)) + marks t k (j + 1) ss
@@ -146,7 +146,7 @@ differ v w = counted (not (same_letters v w))
 same_is : (v w : List Bit) → v ≡ w → differ v w ≡ 0
 same_is v w e = ap (λ b. counted (not b)) ((same_letters-Decides v w).1 e)
 
--- a wave has a change at a tick where its value differs from the tick before, and only there
+-- a wave has a change at a tick if its value differs from the tick before, and only there
 differs_where : (floor t : ℕ) (before : List Bit) (cs : List Change) → AreChangesFrom floor before cs
     → count_at (suc t) cs ≡ differ (value_from before cs (suc t)) (value_from before cs t)
 unfolding value_from

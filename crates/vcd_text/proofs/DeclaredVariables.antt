@@ -25,10 +25,9 @@ use Rattle.vcd_text.specs.Meaning.{latest_value}
 use Rattle.vcd_text.specs.inside.ChangeLog.{logged, AreGrouped}
 use Rattle.vcd_text.specs.declared.reading.change_log.LoggedChange.{LoggedChange}
 use Rattle.vcd_text.proofs.LoggedValues.{gives_as, gives_nothing}
-use Rattle.vcd_text.specs.inside.Variables.{TargetAgrees}
-use Rattle.vcd_text.specs.inside.Variables.{declaration, declaration_in, without_scopes, target_of, HasWave}
-use Rattle.vcd_text.specs.inside.Variables.{TargetMatches, HasFirst, HasLogs, VariablesMatch, with_declaration, mixed}
-use Rattle.vcd_text.specs.inside.Variables.{many, DeclaresAs, code_mixed, no_room, Declares}
+use Rattle.vcd_text.specs.inside.Variables.{TargetAgrees, declaration, declaration_in, without_scopes, target_of}
+use Rattle.vcd_text.specs.inside.Variables.{HasWave, TargetMatches, HasFirst, HasOnlyFirstVariables, VariablesMatch}
+use Rattle.vcd_text.specs.inside.Variables.{with_declaration, mixed, many, DeclaresAs, code_mixed, no_room, Declares}
 use Rattle.vcd_text.specs.declared.reading.code_targets.CodeTargets.{CodeTargets}
 use Rattle.vcd_text.specs.declared.reading.code_targets.CodeTarget.{CodeTarget}
 use Rattle.vcd_text.specs.declared.reading.code_targets.CodeTarget.TheVariants.{Skipped, Position}
@@ -91,7 +90,7 @@ abbrev pub Puts : (old new : Variables) → List ℕ → CodeTarget → Type 0
 Puts old new code target = (key : List ℕ)
     → target_of new key ≡ (if bytes_eq key code then Some target else target_of old key)
 
--- so it is where the code has this target already
+-- so it is if the code has this target already
 pub puts_same : (old new : Variables) (code : List ℕ) (target : CodeTarget) → new.code_targets ≡ old.code_targets
     → target_of old code ≡ Some target → Puts old new code target
 puts_same old new code target same had = λ key.
@@ -124,9 +123,9 @@ module _ (old : Variables) (targets : CodeTargets) (c : ParseState) (d : Variabl
         (by_code (λ b. TargetAgrees old c key (if b then Some Skipped else target_of old key)
         (option_or (variable_of c key) (if b then Some d else None))) key d.code
         (λ is. subst (λ code. TargetAgrees old c code (Some Skipped) (option_or (variable_of c code) (Some d))) (sym is)
-        (skip_here (variable_of c d.code) (k.stand d.code)))
+        (skip_here (variable_of c d.code) (k.targets_agree d.code)))
         (λ _. stands_still (logged old.log.items) c.value_changes c.tick old.kept.items key (target_of old key)
-        (variable_of c key) (k.stand key))))
+        (variable_of c key) (k.targets_agree key))))
 
     skip_firsts : (position : ℕ) (v : Variable) → slice_get old.kept.items position ≡ Some v
         → HasFirst (with_skipped old targets) position v
@@ -134,7 +133,7 @@ module _ (old : Variables) (targets : CodeTargets) (c : ParseState) (d : Variabl
         let before = k.firsts position v at in
         record {
           owned = puts v.code
-              ∙ by_code (λ b. (if b then Some Skipped else target_of old v.code) ≡ Some (Position v.first))
+              ∙ by_code (λ b. (if b then Some Skipped else target_of old v.code) ≡ Some (Position v.first_position))
               v.code d.code
               (λ is. absurd (grind arith)) (λ _. before.owned);
           no_later = before.no_later;
@@ -149,13 +148,13 @@ module _ (old : Variables) (targets : CodeTargets) (c : ParseState) (d : Variabl
     -- it is declared
     pub skip_declares : (x : Unit {0}) → DeclaresAs c d (Ok x) (with_skipped old targets)
     skip_declares x = (
-      skip_may (variable_of c d.code) (k.stand d.code),
+      skip_may (variable_of c d.code) (k.targets_agree d.code),
       (λ i. skipped i || nat_lt (length (kept_variables c.declared)) SIGNAL_LIMIT),
       record {
         kept = ap (map without_scopes) (grind (arith, filter-append, append-nil)) ∙ k.kept;
         skipped = ap (λ n. n + 1) k.skipped ∙ sym (count_with c.declared d true skipped);
         widths = k.widths;
-        stand = skip_stands;
+        targets_agree = skip_stands;
         firsts = skip_firsts;
         few = k.few;
         grouped = k.grouped;
@@ -167,7 +166,7 @@ module _ (old : Variables) (targets : CodeTargets) (c : ParseState) (d : Variabl
 
 -- the variable of a code, a signal and the position of the first one
 abbrev pub variable_at : (code : List ℕ) → Signal → (first : ℕ) → Variable
-variable_at code s first = record { code = code; signal = s; first = first }
+variable_at code s first = record { code = code; signal = s; first_position = first }
 
 -- the code is new, or is that of a variable of the same size
 abbrev pub IsFree : Variables → (code : List ℕ) → Signal → (first : ℕ) → Type 0
@@ -188,7 +187,7 @@ module _ (old : Variables) (c : ParseState) (scopes : List ScopeName) (code : Li
       → has_room c.declared (declaration_in scopes code s) ≡ b
   has_room_is b test = grind (arith, kept_long)
 
-  -- it is not allowed where there are too many
+  -- it is not allowed if there are too many
   keep_full : (new : Variables) → SIGNAL_LIMIT ≤ length old.kept.items
       → DeclaresAs c (declaration_in scopes code s) (Err faults.TooManySignals) new
   keep_full new full = grind (arith, keep_may, has_room_is, le-ltb)
@@ -206,7 +205,7 @@ module _ (old new : Variables) (c : ParseState) (scopes : List ScopeName) (code 
   unfolding latest_value value_from
   silent_wave = record {
     first = variable_at code s first;
-    stands = middle_of old.kept.items [] (variable_at code s first);
+    at_position = middle_of old.kept.items [] (variable_at code s first);
     coded = refl;
     sized = refl;
     gives = grind (arith, cases_lt, slice_get_within, nil_from_length, gives_as, gives_nothing);
@@ -227,7 +226,7 @@ module _ (old new : Variables) (c : ParseState) (scopes : List ScopeName) (code 
       (λ _. stands_still (logged old.log.items) c.value_changes c.tick all key (target_of old key)
       (variable_of c key)
       (stands_longer (logged old.log.items) c.value_changes c.tick old.kept.items (variable_at code s first ∷ [])
-      key (target_of old key) (variable_of c key) (k.stand key))) in
+      key (target_of old key) (variable_of c key) (k.targets_agree key))) in
       subst (λ (l : Vec (Vec LoggedChange)). TargetMatches new.kept.items (logged l.items) c.value_changes c.tick key
       (target_of new key) (variable_of (with_declaration c d) key)) (sym log)
       (subst (λ (vs : List Variable). TargetMatches vs (logged old.log.items) c.value_changes c.tick key
@@ -245,10 +244,12 @@ module _ (old new : Variables) (c : ParseState) (scopes : List ScopeName) (code 
       let within : position < length old.kept.items = slice_get_within old.kept.items position v at in
       record {
         owned = puts v.code
-            ∙ by_code (λ b. (if b then Some (Position first) else target_of old v.code) ≡ Some (Position v.first))
+            ∙ by_code (λ b. (if b then Some (Position first) else target_of old v.code)
+            ≡ Some (Position v.first_position))
             v.code code
             (λ is. elim free [
-              | inl (none, end) ↦ let no : None ≡ Some (Position v.first) = sym none ∙ ap (target_of old) (sym is)
+              | inl (none, end) ↦ let no : None ≡ Some (Position v.first_position) = sym none
+                  ∙ ap (target_of old) (sym is)
                   ∙ before.owned in absurd (cc)
               | inr (had, width) ↦ sym had ∙ ap (target_of old) (sym is) ∙ before.owned
             ])
@@ -277,13 +278,13 @@ module _ (old new : Variables) (c : ParseState) (scopes : List ScopeName) (code 
       → DeclaresAs c (declaration_in scopes code s) (Ok x) new
   keep_declares room same x =
       let d = declaration_in scopes code s in (
-        keep_may old c scopes code s first k keeps free (variable_of c code) (k.stand code),
+        keep_may old c scopes code s first k keeps free (variable_of c code) (k.targets_agree code),
         has_room_is old c scopes code s first k keeps free true (lt-ltb (length old.kept.items) SIGNAL_LIMIT room),
         record {
           kept = grind (arith, kept_kept, map-append);
           skipped = same ∙ k.skipped ∙ omega arith ∙ sym (count_with c.declared d false keeps);
           widths = grind (arith, map-append);
-          stand = keep_stands;
+          targets_agree = keep_stands;
           firsts = keep_firsts;
           few = subst (λ vs. length vs ≤ SIGNAL_LIMIT) (sym items)
               (omega (arith, room, length_push old.kept.items (variable_at code s first)));

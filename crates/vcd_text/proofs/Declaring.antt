@@ -47,9 +47,9 @@ same_known vs c d declared value_changes tick known = grind (arith, knows_furthe
 pub agrees_by : (m : Reader) (c : ParseState) → m.header.items ≡ c.header → m.timescale ≡ c.timescale
     → HoldsScopes m.scopes c.scopes c.declared → m.in_body ≡ c.in_body → m.tick ≡ c.tick
     → VariablesMatch m.variables c → (IsFalse c.in_body → c.value_changes ≡ []) → ReaderMatches m c
-agrees_by m c header time scopes in_body tick variables silent = grind arith
+agrees_by m c header time scopes in_body tick variables no_early_change = grind arith
 
--- where the conditions of the open item hold, its `$end` ends it
+-- if the conditions of the open item hold, its `$end` ends it
 ends_here : (new : Reader) (c : ParseState) (begun : List PlacedWord) (line : ℕ) (i : Item) (words : List (List ℕ))
     → word_texts begun ≡ words → spelling i ≡ words ++ end_word ∷ [] → Allows c i
     → ReaderMatches new (state_after_item c i) → new.item ≡ items.Nothing
@@ -74,7 +74,7 @@ closes_entry m new kind is pushed others line c begun at =
     b.spelled refl (sym a.in_body ∙ b.declares, b.no_end)
     (agrees_by _ _ (pushed ∙ ap (λ h. h ++ record { kind = kind; words = m.words.items } ∷ []) a.header)
     a.timescale a.scopes a.in_body a.tick
-    (same_known m.variables c (state_after_item c i) refl refl refl a.variables) a.silent) refl)
+    (same_known m.variables c (state_after_item c i) refl refl refl a.variables) a.no_early_change) refl)
 
 -- a timescale replaces the one before
 pub closes_timescale : (m : Reader) (found : Timescale) → m.item ≡ items.Timescale
@@ -89,7 +89,7 @@ closes_timescale m found is some line c begun at =
     (codes "$timescale" ∷ m.words.items)
     b.spelled refl (sym a.in_body ∙ b.declares, b.no_end, subst IsSome (sym some) refl)
     (agrees_by _ _ a.header (sym some) a.scopes a.in_body a.tick
-    (same_known m.variables c (state_after_item c i) refl refl refl a.variables) a.silent) refl
+    (same_known m.variables c (state_after_item c i) refl refl refl a.variables) a.no_early_change) refl
 
 -- the words spell no timescale
 pub shows_no_timescale : (m : Reader) → m.item ≡ items.Timescale → timescale_of m.words.items ≡ None
@@ -116,7 +116,7 @@ closes_scope m new s is words pushed others line c begun at =
     (b.spelled ∙ ap (λ ws. codes "$scope" ∷ ws) words) refl
     (sym a.in_body ∙ b.declares, ap has_no_end_word (sym words) ∙ b.no_end)
     (agrees_by _ _ a.header a.timescale (pushed c a.scopes) a.in_body a.tick
-    (same_known m.variables c (state_after_item c i) refl refl refl a.variables) a.silent) refl)
+    (same_known m.variables c (state_after_item c i) refl refl refl a.variables) a.no_early_change) refl)
 
 -- the front of a list, and the rest
 pub front_removed : (xs ys : List (List ℕ)) (x : List ℕ) → 0 < length xs → x ≡ slice_index_or xs 0 x → ys ≡ remove xs 0
@@ -138,7 +138,7 @@ closes_upscope m new is popped others line c begun at =
     (ends_here (record m { scopes = new.scopes; item = items.Nothing }) c begun line upscope (codes "$upscope" ∷ [])
     b.1 refl (sym a.in_body ∙ b.0, omega (arith, so_deep m.scopes c a.scopes, b.2))
     (agrees_by _ _ a.header a.timescale (popped c a.scopes) a.in_body a.tick
-    (same_known m.variables c (state_after_item c upscope) refl refl refl a.variables) a.silent) refl)
+    (same_known m.variables c (state_after_item c upscope) refl refl refl a.variables) a.no_early_change) refl)
 
 -- the changes begin
 pub closes_definitions : (m : Reader) (code_targets : CodeTargets) → code_targets.codes ≡ m.variables.code_targets.codes
@@ -161,7 +161,7 @@ closes_definitions m code_targets same is line c begun at =
     (agrees_by _ _ a.header a.timescale a.scopes refl a.tick
     (same_codes m.variables code_targets (state_after_item c end_definitions) same
     (same_known m.variables c (state_after_item c end_definitions) refl refl refl a.variables))
-    (λ _. a.silent (sym a.in_body ∙ b.0))) refl
+    (λ _. a.no_early_change (sym a.in_body ∙ b.0))) refl
 
 -- another command changes nothing
 pub closes_other : (m : Reader) → m.item ≡ items.Other
@@ -172,7 +172,7 @@ closes_other m is line c begun at =
     let b : PassesOver m begun = subst (IsBegun m begun) is at.1 in
     ends_here (record m { item = items.Nothing }) c begun line (other b.keyword b.words) (b.keyword ∷ b.words)
     b.spelled refl (ap (λ in_body. is_other in_body b.keyword) (sym a.in_body) ∙ b.other, b.no_end)
-    (agrees_by _ _ a.header a.timescale a.scopes a.in_body a.tick a.variables a.silent) refl
+    (agrees_by _ _ a.header a.timescale a.scopes a.in_body a.tick a.variables a.no_early_change) refl
 
 -- ---- variables
 
@@ -195,7 +195,7 @@ closes_variable m variables scopes words spelled note declare is line c begun at
     b.0.spelled refl (declares, b.0.no_end, b.1, d.0)
     (agrees_by _ _ a.header a.timescale (note c m.words.items a.scopes
     (sym (kept_long variables (state_after_item c (variable m.words.items)) d.1)))
-    a.in_body a.tick d.1 a.silent) refl
+    a.in_body a.tick d.1 a.no_early_change) refl
 
 -- the fault of the variables is that of the grammar
 variable_fault : (m : Reader) (c : ParseState) (begun : List PlacedWord) (fault : Fault) → IsFalse c.in_body
@@ -229,11 +229,11 @@ shows_no_variable m new (Err e) fault variables words spelled declare is failed 
     let b : Collects m begun (codes "$var") × IsTrue (has_good_size m.words.items) = subst (IsBegun m begun) is at.1 in
     let declares : IsFalse c.in_body = sym a.in_body ∙ b.0.declares in
     let d : Declares c m.words.items (Err fault) variables =
-    subst (λ ws. Declares c ws (Err fault) variables) spelled (declare c (a.silent declares) a.variables) in
+    subst (λ ws. Declares c ws (Err fault) variables) spelled (declare c (a.no_early_change declares) a.variables) in
     subst (λ f. (f ≡ faults.NoMemory) ⊎ WordFault c (word_texts begun) end_word f) (sym failed)
     (fault_shown m c begun fault declares b.0 b.1 d)
 
--- the kind of a variable, where it is the only word
+-- the kind of a variable, if it is the only word
 one_word : (words : List (List ℕ)) → length words ≡ 1 → IsTrue (has_no_end_word words)
     → (kind : List ℕ) × (words ≡ kind ∷ []) × IsFalse (is_end_word kind)
 one_word [] one none = absurd (omega arith)

@@ -1,6 +1,6 @@
--- Facts where no word is left.
-use Rattle.std.proofs.Common.{◌≡◌, inl, inr, ℕ, Bool, true, false, ◌&&◌, List, [], ◌∷◌, ◌++◌, refl, sym, ap, subst, ◌∙◌}
-use Rattle.std.proofs.Common.{arith}
+-- Facts if no word is left.
+use Rattle.std.proofs.Common.{◌≡◌, inl, inr, ℕ, Bool, true, false, ◌&&◌, List, [], ◌∷◌, ◌++◌, refl, sym, ap, subst}
+use Rattle.std.proofs.Common.{◌∙◌, arith}
 use Rattle.std.specs.Prelude.{IsTrue, IsFalse, codes, nat_eq}
 use Rattle.std.proofs.lemmas.List.{append-nil, map-append}
 use Rattle.std.proofs.lemmas.Bool.{and_parts, false≢true, or_cases, or_left, or_right}
@@ -10,14 +10,15 @@ use Rattle.vcd_text.specs.declared.fault.Fault.{Fault}
 use Rattle.vcd_text.specs.Words.{PlacedWord}
 use Rattle.vcd_text.specs.Letters.{is_among}
 use Rattle.vcd_core.specs.Word.{is_one_of}
-use Rattle.vcd_text.specs.Items.{spellings, header_word, header_words, is_other, vector_prefixes, dropped_prefixes}
+use Rattle.vcd_text.specs.Items.{spellings, header_word, header_words, is_other}
+use Rattle.vcd_text.specs.Items.{vector_prefixes, real_or_string_prefixes}
 use Rattle.vcd_text.specs.Grammar.{ParseState, Accepts, word_texts}
 use Rattle.vcd_text.specs.Faults.{ShowsFault}
 use Rattle.vcd_text.specs.FoundFaults.{Stops, IsUnfinished, words_due}
 use Rattle.vcd_text.specs.Faults.{pair_prefixes}
 use Rattle.vcd_text.specs.FoundFaults.{variable_due, definitions_due, code_due, other_due}
 use Rattle.vcd_text.specs.inside.OpenItems.{is_nothing}
-use Rattle.vcd_text.specs.inside.Reading.{Reads, ReaderMatches, IsBegun, Collects, AwaitsCode, is_complete}
+use Rattle.vcd_text.specs.inside.Reading.{HasTakenWords, ReaderMatches, IsBegun, Collects, AwaitsCode, is_complete}
 use Rattle.vcd_text.specs.declared.reading.reader.Reader.{Reader}
 use Rattle.vcd_text.specs.declared.reading.reader.OpenItem.{OpenItem}
 use Rattle.vcd_text.specs.declared.reading.reader.OpenItem.TheVariants as items
@@ -35,7 +36,7 @@ awaiting : (m : Reader) (c : ParseState) (begun : List PlacedWord) (letters text
     → AwaitsCode m begun letters text
     → ((b : ℕ) → IsTrue (is_among letters b) → IsTrue (is_among pair_prefixes b)) → IsUnfinished c (word_texts begun)
 awaiting m c begun letters text agrees is more =
-    code_due is.letter text (sym agrees.in_body ∙ is.changes) (ap word_texts is.is ∙ ap (λ t. t ∷ []) is.spelled)
+    code_due is.letter text (sym agrees.in_body ∙ is.in_body) (ap word_texts is.is ∙ ap (λ t. t ∷ []) is.spelled)
     (more is.letter is.among)
 
 -- a word must follow words that are no whole file
@@ -54,16 +55,16 @@ unfinished m c begun items.Other agrees is no_end =
     other_due is.keyword is.words is.spelled (subst (λ b. IsTrue (is_other b is.keyword)) agrees.in_body is.other)
     is.no_end
 unfinished m c begun items.Vector agrees is no_end =
-    awaiting m c begun vector_prefixes m.digits.items agrees is (among_first vector_prefixes dropped_prefixes)
-unfinished m c begun items.Dropped agrees (text, is) no_end =
-    awaiting m c begun dropped_prefixes text agrees is (among_last vector_prefixes dropped_prefixes)
+    awaiting m c begun vector_prefixes m.digits.items agrees is (among_first vector_prefixes real_or_string_prefixes)
+unfinished m c begun items.RealOrString agrees (text, is) no_end =
+    awaiting m c begun real_or_string_prefixes text agrees is (among_last vector_prefixes real_or_string_prefixes)
 
-texts_are : (m : Reader) (words : List PlacedWord) (r : Reads m words)
+texts_are : (m : Reader) (words : List PlacedWord) (r : HasTakenWords m words)
     → word_texts words ≡ spellings r.items ++ word_texts r.begun
 texts_are m words r = grind (arith, map-append)
 
 -- words that are no whole file end too early
-pub stops : (m : Reader) (words : List PlacedWord) → Reads m words → is_complete m ≡ false → Stops words
+pub stops : (m : Reader) (words : List PlacedWord) → HasTakenWords m words → is_complete m ≡ false → Stops words
 stops m words r incomplete = record {
   items = r.items;
   begun = word_texts r.begun;
@@ -74,11 +75,12 @@ stops m words r incomplete = record {
 }
 
 -- words that are a whole file are accepted
-pub accepts : (m : Reader) (words : List PlacedWord) (r : Reads m words) → is_complete m ≡ true → Accepts words r.state
+pub accepts : (m : Reader) (words : List PlacedWord) (r : HasTakenWords m words) → is_complete m ≡ true
+    → Accepts words r.state
 accepts m words r complete = grind (arith, and_parts, texts_are, append-nil)
 
 -- words that have been taken show no fault
-pub no_fault : (m : Reader) (words : List PlacedWord) → Reads m words → (line : ℕ) (fault : Fault)
+pub no_fault : (m : Reader) (words : List PlacedWord) → HasTakenWords m words → (line : ℕ) (fault : Fault)
     → ShowsFault words line fault → ⊥
 no_fault m words r line fault refuses = by_test (is_complete m) refl
   where

@@ -90,7 +90,7 @@ with_item words rest w u i spelled allows = record {
 
 -- ---- the end
 
--- the texts of all words, where none is to come
+-- the texts of all words, if none is to come
 texts_are : (words : List PlacedWord) (u : WordsSoFar words [])
     → word_texts words ≡ spellings u.items ++ word_texts u.begun
 texts_are words u = grind (arith, append-nil, map-append)

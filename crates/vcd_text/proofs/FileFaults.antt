@@ -22,7 +22,7 @@ file_fault bytes line fault (too_early stops l f) = (
   none_shown (λ at other s. stopped-not_refused (words_of bytes) at other stops s) l f,
 )
 
--- where no word shows a fault and there is no meaning, the words end too early
+-- if no word shows a fault and there is no meaning, the words end too early
 ends_early : (bytes : List ℕ) (line : ℕ) (fault : Fault) → ((c : Contents) (n : ℕ) → FileMeans bytes c n → ⊥)
     → ((at : ℕ) (other : Fault) → ShowsFault (words_of bytes) at other → ⊥) → line ≡ last_line bytes
     → fault ≡ Truncated → ((c : Contents) × (n : ℕ) × FileMeans bytes c n)

@@ -50,10 +50,11 @@ module _ (e : LoggedChange) (es : List LoggedChange) (rest : ℕ → List Logged
     each = λ position v at. elim (cases_Bool (e.position == position)) [
       | inl same ↦
           let here : e.position ≡ position = eqb-true e.position position same in
-          let is : takes.before ≡ v = same_Some takes.before v (sym takes.stands ∙ ap (slice_get old) here ∙ at) in (
+          let is : takes.before ≡ v = same_Some takes.before v (sym takes.at_position ∙ ap (slice_get old) here
+          ∙ at) in (
             takes.after,
             ap (λ vs. slice_get vs position) takes.others ∙ ap (slice_get (set old e.position takes.after)) (sym here)
-                ∙ set_here old e.position takes.before takes.after takes.stands,
+                ∙ set_here old e.position takes.before takes.after takes.at_position,
             subst (λ b. FlushesOne v takes.after
                 (cond b (e ∷ changes_of_position position es) (changes_of_position position es) ++ rest position)
                 (changes_of_position position es ++ rest position)) (sym same) (grind (arith, gives_flushed)),
@@ -92,7 +93,7 @@ variables_can_flush vs c k = λ position some.
     let f : ℕ → List Bit = λ t. latest_value own.0.size u.0.code t (all_x own.0.size) c.value_changes in
     let wave = own.3 in (
       wave.first,
-      wave.stands,
+      wave.at_position,
       c.tick,
       f,
       subst (λ n. GivesLoggedValues n c.tick f wave.first.signal.wave.changes (logged vs.log.items position))
@@ -140,8 +141,9 @@ module _ (old : Variables) (list : Vec Variable) (log : Vec (Vec LoggedChange)) 
       let v = stood position w at in
       let before = k.firsts position v.0 v.1 in
       record {
-        owned = ap (target_of old) v.2.same.code ∙ before.owned ∙ ap (λ n. Some (Position n)) (sym v.2.same.first);
-        no_later = omega (arith, v.2.same.first, before.no_later);
+        owned = ap (target_of old) v.2.same.code ∙ before.owned
+            ∙ ap (λ n. Some (Position n)) (sym v.2.same.first_position);
+        no_later = omega (arith, v.2.same.first_position, before.no_later);
         same_size = grind (arith, stood);
       }
 
@@ -151,7 +153,7 @@ module _ (old : Variables) (list : Vec Variable) (log : Vec (Vec LoggedChange)) 
     kept = grind (arith, same_all);
     skipped = k.skipped;
     widths = grind (arith, same_all);
-    stand = grind (arith, stands_moved, flushed_wave);
+    targets_agree = grind (arith, stands_moved, flushed_wave);
     firsts = flushed_firsts;
     few = omega (arith, flushes_log.long, k.few);
     grouped = subst (AreGrouped 0) (sym empty) tt;

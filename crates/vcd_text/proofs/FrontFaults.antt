@@ -1,13 +1,12 @@
--- The closed words of a front are the first words of every file with this front, so a fault that they show is the
+-- The complete words of a front are the first words of every file with this front, so a fault that they show is the
 -- file's.
 use Rattle.std.proofs.Common.{arith, ◌≡◌, ℕ, Bool, true, false, List, [], ◌∷◌, ◌++◌, refl, ap, ◌∙◌, append_assoc}
 use Rattle.vcd_core.specs.Word.{is_white_space}
 use Rattle.vcd_text.specs.declared.fault.Fault.{Fault}
 use Rattle.vcd_text.specs.Words.{PlacedWord, word_on, line_after, ends_before, with_longer_first, with_byte, words_from}
-use Rattle.vcd_text.specs.Words.{words_of, closed_words}
+use Rattle.vcd_text.specs.Words.{words_of, complete_words}
 use Rattle.vcd_text.specs.Faults.{ShowsFault}
-use Rattle.vcd_text.specs.FoundFaults.{FoundFault, word_shows}
-use Rattle.vcd_text.specs.FoundFaults.{FrontFault}
+use Rattle.vcd_text.specs.FoundFaults.{FoundFault, word_shows, FrontFault}
 use Rattle.vcd_text.proofs.ItemsInTurn.{shown_by}
 use Rattle.vcd_text.specs.Grammar.{state_after, initial_state}
 
@@ -27,19 +26,19 @@ front_with_byte true last b line first all front = front
 front_with_byte false true b line first all front = (front.0, ap (λ ws. word_on (b ∷ []) line ∷ ws) front.1)
 front_with_byte false false b line first all front = longer_front b line first all front
 
--- the last byte of a front ends no closed word
+-- the last byte of a front ends no complete word
 front_with_last : (space last : Bool) (b line : ℕ) (all : List PlacedWord)
     → IsFront (with_byte space false b line []) (with_byte space last b line all)
 front_with_last true last b line all = (all, refl)
 front_with_last false last b line all = (with_byte false last b line all, refl)
 
-closed_in_front : (whole : Bool) (line : ℕ) (front rest : List ℕ)
-    → IsFront (words_from false line front) (words_from whole line (front ++ rest))
+complete_in_front : (end_counts : Bool) (line : ℕ) (front rest : List ℕ)
+    → IsFront (words_from false line front) (words_from end_counts line (front ++ rest))
 unfolding words_from
-closed_in_front whole line [] rest = (words_from whole line rest, refl)
-closed_in_front whole line (b ∷ []) rest = search (arith, front_with_last)
-closed_in_front whole line (b ∷ next ∷ front) rest =
-    search (arith, front_with_byte, closed_in_front whole (line_after b line) (next ∷ front) rest)
+complete_in_front end_counts line [] rest = (words_from end_counts line rest, refl)
+complete_in_front end_counts line (b ∷ []) rest = search (arith, front_with_last)
+complete_in_front end_counts line (b ∷ next ∷ front) rest =
+    search (arith, front_with_byte, complete_in_front end_counts (line_after b line) (next ∷ front) rest)
 
 -- a fault that words show is shown whatever words follow
 shown_further : (words all : List PlacedWord) (line : ℕ) (fault : Fault) → IsFront words all
@@ -53,11 +52,12 @@ shown_further words all line fault front s =
 pub front_fault_found : (front rest : List ℕ) (line : ℕ) (fault : Fault) → FrontFault front line fault
     → FoundFault (front ++ rest) line fault
 front_fault_found front rest line fault s =
-    word_shows (shown_further (closed_words front) (words_of (front ++ rest)) line fault
-    (closed_in_front true 1 front rest) s)
+    word_shows (shown_further (complete_words front) (words_of (front ++ rest)) line fault
+    (complete_in_front true 1 front rest) s)
 
 -- the fault of a front is that of a longer front as well
 pub longer_front_fault : (front rest : List ℕ) (line : ℕ) (fault : Fault) → FrontFault front line fault
     → FrontFault (front ++ rest) line fault
 longer_front_fault front rest line fault s =
-    shown_further (closed_words front) (closed_words (front ++ rest)) line fault (closed_in_front false 1 front rest) s
+    shown_further (complete_words front) (complete_words (front ++ rest)) line fault
+    (complete_in_front false 1 front rest) s

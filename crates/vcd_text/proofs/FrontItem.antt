@@ -19,16 +19,17 @@ use Rattle.vcd_core.specs.Decimal.{is_number, number_of}
 use Rattle.vcd_core.specs.Word.{is_one_of}
 use Rattle.vcd_text.specs.Letters.{is_among, is_binary_digit}
 use Rattle.vcd_text.specs.Items.{Item, entry, timescale, scope, upscope, variable, end_definitions, stamp, scalar}
-use Rattle.vcd_text.specs.Items.{vector, real_or_string, bracket, other, spelling, end_word, is_end_word}
-use Rattle.vcd_text.specs.Items.{has_no_end_word, dump_words, declaring_words, header_words, begins_declaration}
-use Rattle.vcd_text.specs.Items.{is_other, timescale_of, vector_prefixes, dropped_prefixes}
+use Rattle.vcd_text.specs.Items.{vector, real_or_string, dump_word, other, spelling, end_word, is_end_word}
+use Rattle.vcd_text.specs.Items.{has_no_end_word, dump_words, declaration_words, header_words, begins_declaration}
+use Rattle.vcd_text.specs.Items.{is_other, timescale_of, vector_prefixes, real_or_string_prefixes}
 use Rattle.vcd_text.specs.Grammar.{ParseState, VariableDeclaration, Allows, is_skipped, has_good_size, declaration_of}
 use Rattle.vcd_text.specs.Grammar.{variable_of, may_have_code, has_room, is_tick, is_binary_number, takes_binary_number}
 use Rattle.vcd_text.specs.Faults.{DeclarationFault, ChangeFault, WordFault, pair_prefixes, no_declaration}
 use Rattle.vcd_text.specs.FoundFaults.{IsUnfinished}
 use Rattle.vcd_text.specs.Faults.{no_timescale, no_kind, upscope_at_top, upscope_goes_on, no_size, no_variable}
-use Rattle.vcd_text.specs.Faults.{code_mixed, no_room, definitions_go_on, no_tick, tick_goes_back, value_alone}
-use Rattle.vcd_text.specs.Faults.{value_of_none, pair_of_none, no_value, value_too_long, declaration_late, no_change}
+use Rattle.vcd_text.specs.Faults.{code_mixed, no_room, definitions_go_on, no_tick, tick_goes_back, missing_code}
+use Rattle.vcd_text.specs.Faults.{unknown_scalar_code, unknown_pair_code, no_value, value_too_long}
+use Rattle.vcd_text.specs.Faults.{declaration_late, begins_no_change}
 use Rattle.vcd_text.specs.Faults.{among_declarations, among_changes}
 use Rattle.vcd_text.specs.FoundFaults.{declaration_due, words_due, upscope_due}
 use Rattle.vcd_text.specs.FoundFaults.{variable_due, definitions_due, code_due, other_due}
@@ -98,11 +99,11 @@ variable_front c (kind ∷ size ∷ ws) =
     (cond (is_number size)
     (closing (λ words rest. variable_state c (declaration_of c words) words rest) (kind ∷ size ∷ ws)) (faulty 2 BadVar))
 
--- the front of some words among the declarations, where their first word is given apart
+-- the front of some words among the declarations, if their first word is given apart
 abbrev pub declaration_front : ParseState → List ℕ → List (List ℕ) → Front
 declaration_front c w ws =
     cond (begins_declaration w)
-    (cond (is_one_of declaring_words w)
+    (cond (is_one_of declaration_words w)
     (cond (bytes_eq w (codes "$scope")) (closing scope_front ws)
     (cond (bytes_eq w (codes "$upscope")) (upscope_front c.scopes ws)
     (cond (bytes_eq w (codes "$var")) (variable_front c ws)
@@ -140,14 +141,15 @@ abbrev pub vector_front : ParseState → ℕ → List ℕ → List (List ℕ) �
 vector_front c first digits [] = unfinished
 vector_front c first digits (code ∷ ws) = known (variable_of c code) (λ d. vector_fits c first digits code ws d)
 
-abbrev pub dropped_front : ParseState → ℕ → List ℕ → List (List ℕ) → Front
-dropped_front c first text [] = unfinished
-dropped_front c first text (code ∷ ws) = known (variable_of c code) (λ d. whole (real_or_string first text code) ws)
+abbrev pub real_or_string_front : ParseState → ℕ → List ℕ → List (List ℕ) → Front
+real_or_string_front c first text [] = unfinished
+real_or_string_front c first text (code ∷ ws) = known (variable_of c code)
+    (λ d. whole (real_or_string first text code) ws)
 
 abbrev pub command_front : List ℕ → List (List ℕ) → Front
 command_front w ws =
-    cond (is_one_of dump_words w) (whole (bracket w) ws)
-    (cond (is_one_of declaring_words w) (faulty 0 UnexpectedWord)
+    cond (is_one_of dump_words w) (whole (dump_word w) ws)
+    (cond (is_one_of declaration_words w) (faulty 0 UnexpectedWord)
     (closing (λ words rest. whole (other w words) rest) ws))
 
 abbrev pub change_front : ParseState → List ℕ → List (List ℕ) → Front
@@ -157,7 +159,7 @@ change_front c (first ∷ text) ws =
     (cond (is_among (codes "#") first) (stamp_front c text ws)
     (cond (is_among (codes "$") first) (command_front (first ∷ text) ws)
     (cond (is_among vector_prefixes first) (vector_front c first text ws)
-    (cond (is_among dropped_prefixes first) (dropped_front c first text ws) (faulty 0 BadChange)))))
+    (cond (is_among real_or_string_prefixes first) (real_or_string_front c first text ws) (faulty 0 BadChange)))))
 
 -- ---- the front of some words
 
@@ -229,10 +231,11 @@ whole_front c (vector first digits code) rest a =
     vector_prefixes first a.1 (refl, (refl, tt)) ∙ vector_known (variable_of c code) digits _ a.2)
 whole_front c (real_or_string first text code) rest a =
     front_at true c _ _ a.0
-    (by_among (λ b. change_front c (b ∷ text) (code ∷ rest) ≡ dropped_front c b text (code ∷ rest)) dropped_prefixes
+    (by_among (λ b. change_front c (b ∷ text) (code ∷ rest)
+    ≡ real_or_string_front c b text (code ∷ rest)) real_or_string_prefixes
     first a.1 (refl, (refl, (refl, (refl, tt)))) ∙ known_some (variable_of c code) _ a.2)
-whole_front c (bracket word) rest a =
-    front_at true c _ _ a.0 (by_one_of (λ w. change_front c w rest ≡ whole (bracket w) rest) dump_words word a.1
+whole_front c (dump_word word) rest a =
+    front_at true c _ _ a.0 (by_one_of (λ w. change_front c w rest ≡ whole (dump_word w) rest) dump_words word a.1
     (refl, (refl, (refl, (refl, (refl, tt))))))
 whole_front c (other word words) rest a = other_front c.in_body c word _ a.0 ∙ closing_at _ words rest a.1
 
@@ -247,10 +250,10 @@ change_faulty : (c : ParseState) (begun : List (List ℕ)) (word : List ℕ) (fa
     → ChangeFault c begun word fault → front true c (begun ++ word ∷ more) ≡ faulty 0 fault
 change_faulty c begun word fault more (no_tick digits b w t f) = rw (b, w, f) (cond-false (is_tick digits) _ _ t)
 change_faulty c begun word fault more (tick_goes_back digits b w t l f) = grind (arith, cond-true, lt-ltb)
-change_faulty c begun word fault more (value_alone letter b w h f) = grind (arith, cond-true)
-change_faulty c begun word fault more (value_of_none letter [] b w h l n f) = absurd (omega (arith, l))
-change_faulty c begun word fault more (value_of_none letter (x ∷ code) b w h l n f) = grind (arith, cond-true)
-change_faulty c begun word fault more (pair_of_none first text b h n f) =
+change_faulty c begun word fault more (missing_code letter b w h f) = grind (arith, cond-true)
+change_faulty c begun word fault more (unknown_scalar_code letter [] b w h l n f) = absurd (omega (arith, l))
+change_faulty c begun word fault more (unknown_scalar_code letter (x ∷ code) b w h l n f) = grind (arith, cond-true)
+change_faulty c begun word fault more (unknown_pair_code first text b h n f) =
     let step : (g : VariableDeclaration → Front) → known (variable_of c word) g ≡ faulty 0 UnknownCode = grind arith in
     rw (b, f) (by_among (λ x. change_front c (x ∷ text) (word ∷ more) ≡ faulty 0 UnknownCode) pair_prefixes first h
     (step _, (step _, (step _, (step _, (step _, (step _, tt)))))))
@@ -266,9 +269,9 @@ change_faulty c begun word fault more (value_too_long first digits d b h v s n l
     ∙ cond-true (is_binary_number digits) _ _ n
     ∙ cond-true (nat_lt d.size (length digits)) _ _ (lt-ltb d.size (length digits) l))
 change_faulty c begun word fault more (declaration_late b w f) =
-    rw (b, f) (by_one_of (λ x. change_front c x more ≡ faulty 0 UnexpectedWord) declaring_words word w
+    rw (b, f) (by_one_of (λ x. change_front c x more ≡ faulty 0 UnexpectedWord) declaration_words word w
     (refl, (refl, (refl, (refl, (refl, tt))))))
-change_faulty c begun word fault more (no_change first text b w l n f) = grind (arith, cond-false)
+change_faulty c begun word fault more (begins_no_change first text b w l n f) = grind (arith, cond-false)
 
 pub fault_front : (c : ParseState) (begun : List (List ℕ)) (word : List ℕ) (fault : Fault) (more : List (List ℕ))
     → WordFault c begun word fault → front_of c (begun ++ word ∷ more) ≡ faulty (place_of c.in_body begun) fault

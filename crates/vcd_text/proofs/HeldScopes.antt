@@ -107,7 +107,7 @@ pub scope_left : (old new : Scopes) (c : ParseState) → new.chains.items ≡ ol
     → HoldsScopes new (take (length c.scopes - 1) c.scopes) c.declared
 scope_left old new c chains chain depth reach places h = grind (arith, take-take, so_deep, reach_kept)
 
--- places that do not reach further keep their scopes where the last chain is cut
+-- places that do not reach further keep their scopes if the last chain is cut
 places_cut : (cs : List (List ScopeName)) (chain : List ScopeName) (depth reach : ℕ) (ps : List ScopePlace)
     → reach ≤ depth → depth ≤ length chain → AreReached (length cs) reach ps
     → AreWithin (cs ++ chain ∷ []) ps → AreWithin (cs ++ take depth chain ∷ []) ps
@@ -193,7 +193,7 @@ declared_inside : (c : ParseState) (words : List (List ℕ)) (d : VariableDeclar
     → d.scopes ≡ c.scopes
 declared_inside c words d h3 = grind (arith, same_Some)
 
--- one more place is noted where one more variable is kept
+-- one more place is noted if one more variable is kept
 pub place_noted : (s new : Scopes) (c : ParseState) (words : List (List ℕ)) → new.chains.items ≡ s.chains.items
     → new.chain.items ≡ s.chain.items → new.depth ≡ s.depth → s.reach ≤ new.reach → s.depth ≤ new.reach
     → new.places.items ≡ s.places.items ++ record { chain = length s.chains.items; count = s.depth } ∷ []

@@ -58,7 +58,7 @@ module _ (width k t : ℕ) where
     later_signals j [] before later = refl
     later_signals j (s ∷ ss) before later = grind (arith, other_code, later_signals (j + 1) ss before (omega arith))
 
-    -- the signal itself, where it passes
+    -- the signal itself, if it passes
     own_value_change : (ss : List SignalContents) (i j : ℕ) (d : SignalContents) (before : List Bit) → j + i ≡ k
         → i < length ss → u ≤ t → after_value_changes before (value_changes_from j ss)
         ≡ (if test (k, get_or ss i d) then extension width (short_form (signal_value (get_or ss i d) u)) else before)
@@ -96,7 +96,7 @@ module _ (signals : List SignalContents) (k t : ℕ) (d : SignalContents) (insid
       choose true same = sym ((same_letters-Decides (signal_value signal u) (signal_value signal (u - 1))).0 same)
       choose false other = whole u
 
-  -- the ticks from u on, where the value at the tick before is given
+  -- the ticks from u on, if the value at the tick before is given
   from_tick : (u n : ℕ) → u ≤ t + 1 → t < u + n
       → latest_value signal.width (code_of k) t (signal_value signal (u - 1)) (tick_value_changes signals u n)
       ≡ signal_value signal t

@@ -22,7 +22,7 @@ use Rattle.vcd_core.specs.Value.{letter_at, printed_letter, same_letter}
 use Rattle.vcd_core.specs.WordRows.{letter_in, letter_of, letters_of, HoldsLetters}
 use Rattle.vcd_core.proofs.ValueLemmas.{letter_at-letters_of, length-letters_of, one_word, same_letter_at}
 use Rattle.vcd_text.specs.Letters.{pad_letter, printed_letters}
-use Rattle.vcd_text.specs.inside.ValueFronts.{IsKept, is_spare_above}
+use Rattle.vcd_text.specs.inside.ValueFronts.{IsShortFormLen, is_redundant_above}
 
 -- ---- the letters of words
 
@@ -103,19 +103,19 @@ word_and_rest v left from word most fits within holds =
     ap printed_letters (drop_split v start end (omega arith) ∙ ap (λ l. l ++ drop end v) same)
     ∙ map-append printed_letter (letters_of count (word ∷ [])) (drop end v)
 
--- ---- spare letters
+-- ---- redundant letters
 
 -- whether the extension restores the letter of bit i + 1 of a value from that of bit i
-abbrev pub is_spare_in : List Bit → ℕ → Bool
-is_spare_in v i = same_letter (pad_letter (letter_at v i ∷ [])) (letter_at v (i + 1))
+abbrev pub is_redundant_in : List Bit → ℕ → Bool
+is_redundant_in v i = same_letter (pad_letter (letter_at v i ∷ [])) (letter_at v (i + 1))
 
-pub spare_held : (v : List Bit) (from : ℕ) (word : LetterWord) (i : ℕ) → HoldsLetters Zero v from word → i + 1 < 64
-    → from + i + 1 < length v → is_spare_above word i ≡ is_spare_in v (from + i)
-spare_held v from word i holds inside within = grind (arith, held_letter)
+pub redundant_held : (v : List Bit) (from : ℕ) (word : LetterWord) (i : ℕ) → HoldsLetters Zero v from word → i + 1 < 64
+    → from + i + 1 < length v → is_redundant_above word i ≡ is_redundant_in v (from + i)
+redundant_held v from word i holds inside within = grind (arith, held_letter)
 
-pub spare_given : (width : ℕ) (word : LetterWord) (i : ℕ) → width ≤ 64 → i + 1 < width
-    → is_spare_above word i ≡ is_spare_in (letters_of width (word ∷ [])) i
-spare_given width word i narrow within = grind (arith, given_letter)
+pub redundant_given : (width : ℕ) (word : LetterWord) (i : ℕ) → width ≤ 64 → i + 1 < width
+    → is_redundant_above word i ≡ is_redundant_in (letters_of width (word ∷ [])) i
+redundant_given width word i narrow within = grind (arith, given_letter)
 
 -- the bits that are set, by those of a letter and of the next
 abbrev mark : ℕ → ℕ → ℕ → ℕ → ℕ
@@ -139,7 +139,7 @@ later_pair w i =
 pub needed_bit : (low high i : ℕ) → low < 2 ^ 64 → high < 2 ^ 64 → i < 64
     → bit_at (bit_or (bit_or (bit_xor (high / 2) high) (bit_and (low / 2) (bit_not w64 (high / 2))))
     (bit_and (high / 2) (bit_xor (low / 2) low))) i
-    ≡ (if is_spare_above (record { low = low; high = high }) i then 0 else 1)
+    ≡ (if is_redundant_above (record { low = low; high = high }) i then 0 else 1)
 needed_bit low high i small_low small_high inside =
     let h = halved high i in
     let l = halved low i in
@@ -191,18 +191,18 @@ has_length m small =
         ∙ ap (bit_at 1) none
 
 -- the remaining letters, by the leading zeros
-spare_where_none : (b : Bool) (n : ℕ) → n ≡ (if b then 0 else 1) → n ≡ 0 → b ≡ true
-spare_where_none true n is none = refl
-spare_where_none false n is none = absurd (omega arith)
+redundant_where_none : (b : Bool) (n : ℕ) → n ≡ (if b then 0 else 1) → n ≡ 0 → b ≡ true
+redundant_where_none true n is none = refl
+redundant_where_none false n is none = absurd (omega arith)
 
 needed_where_one : (b : Bool) (n : ℕ) → n ≡ (if b then 0 else 1) → n ≡ 1 → b ≡ false
 needed_where_one true n is one = absurd (omega arith)
 needed_where_one false n is one = refl
 
-pub kept_is : (count : ℕ) (word : LetterWord) (marks mask : ℕ) → 1 ≤ count → count ≤ 64 → mask < 2 ^ 64
-    → mask ≡ 2 ^ (count - 1) - 1 → ((i : ℕ) → i < 64 → bit_at marks i ≡ (if is_spare_above word i then 0 else 1))
-    → IsKept count word (65 - count_leading_zeros 64 (bit_and marks mask))
-kept_is count word marks mask least most fits is_mask marks_are =
+pub short_form_len_is : (count : ℕ) (word : LetterWord) (marks mask : ℕ) → 1 ≤ count → count ≤ 64 → mask < 2 ^ 64
+    → mask ≡ 2 ^ (count - 1) - 1 → ((i : ℕ) → i < 64 → bit_at marks i ≡ (if is_redundant_above word i then 0 else 1))
+    → IsShortFormLen count word (65 - count_leading_zeros 64 (bit_and marks mask))
+short_form_len_is count word marks mask least most fits is_mask marks_are =
     let m : ℕ = bit_and marks mask in
     let small : m < 2 ^ 64 = omega (arith, and_le_r marks mask, fits) in
     let length = has_length m small in
@@ -215,10 +215,10 @@ kept_is count word marks mask least most fits is_mask marks_are =
     record {
       least = omega (arith, kept);
       most = grind (arith, cases_lt, bit_at_ones_above);
-      spare = grind (arith, bit_at_ones, spare_where_none);
+      redundant = grind (arith, bit_at_ones, redundant_where_none);
       needed = λ some.
           let place : 65 - count_leading_zeros 64 m - 2 ≡ n - 1 = omega (arith, kept) in
           let one = (both (omega (arith, kept))).0 in
-          ap (is_spare_above word) place
+          ap (is_redundant_above word) place
           ∙ needed_where_one _ _ (marks_are (n - 1) (omega (arith, length.1.counted))) one;
     }

@@ -151,7 +151,7 @@ letters_more digits k following here =
     ∙ ap (list_all is_binary_digit) (drop_split digits (end - 64) end (omega arith))
     ∙ list_all-append is_binary_digit (digits_of digits k) (drop end digits) ∙ and_from _ _ here following
 
--- where not all bytes after a place, or before it, are digits, not all are
+-- if not all bytes after a place, or before it, are digits, not all are
 pub not_all_after : (n : ℕ) (digits : List ℕ) → list_all is_binary_digit (drop n digits) ≡ false
     → list_all is_binary_digit digits ≡ false
 not_all_after n digits none =
@@ -164,7 +164,7 @@ not_all_before n digits none =
     ap (list_all is_binary_digit) (sym (take-append-drop n digits))
     ∙ list_all-append is_binary_digit (take n digits) (drop n digits) ∙ and_left _ _ none
 
--- where a byte of a word is no digit, not all are
+-- if a byte of a word is no digit, not all are
 pub no_letter : (digits : List ℕ) (k : ℕ) → list_all is_binary_digit (digits_of digits k) ≡ false
     → list_all is_binary_digit digits ≡ false
 no_letter digits k none = grind (arith, not_all_after, not_all_before)
@@ -185,7 +185,7 @@ row_is_extension width count s words fits covers row =
     let long = length-letters_of width words in
     grind (arith, long, length-append, length-replicate, same_letter_at, letter_at-letters_of, extension_letter)
 
--- a word that holds all letters is the extension, where the width is at most 64
+-- a word that holds all letters is the extension, if the width is at most 64
 pub word_is_extension : (width : ℕ) (s : List Bit) (word : LetterWord) → length s ≤ width → width ≤ 64
     → HoldsLetters (pad_letter s) s 0 word → letters_of width (word ∷ []) ≡ extension width s
 word_is_extension width s word fits narrow holds =

@@ -93,7 +93,7 @@ module _ (width tick : ℕ) (f : ℕ → List Bit) (cs : List Change) where
       → GivesLoggedValues width tick f cs (e ∷ es) → GivesLoggedValues width tick f ds es
   gives_flushed ds e es ended values g = grind arith
 
--- a wave with no change, where the log has none for it
+-- a wave with no change, if the log has none for it
 pub gives_nothing : (width tick : ℕ) → GivesLoggedValues width tick (λ t. all_x width) [] []
 unfolding value_from
 gives_nothing width tick = grind (arith, All-nil)

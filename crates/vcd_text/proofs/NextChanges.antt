@@ -14,7 +14,7 @@ use Rattle.vcd_core.specs.declared.wave.Change.{Change}
 use Rattle.vcd_core.specs.Value.{all_x}
 use Rattle.vcd_core.specs.Wave.{AreChangesFrom, change}
 use Rattle.vcd_text.specs.declared.writing.next_changes.NextChange.{NextChange}
-use Rattle.vcd_text.specs.inside.NextChanges.{AreRising, IsNext, tick_at}
+use Rattle.vcd_text.specs.inside.NextChanges.{AreChangesOfSomeWave, IsNext, tick_at}
 use Rattle.vcd_text.specs.inside.Transitions.{is_in_window, transition_of, window_of_signal}
 use Rattle.vcd_text.proofs.Counts.{after_window, before_window, in_window}
 
@@ -34,11 +34,13 @@ later_tick floor before (c ∷ []) zero rise early = early
 later_tick floor before (c ∷ d ∷ cs) zero (from, other, wide, rest) early = omega (arith, rest.0)
 
 -- the tick after it is later
-pub rising : (cs : List Change) (k : ℕ) → AreRising cs → tick_at cs k < 2 ^ 64 - 1 → tick_at cs k < tick_at cs (k + 1)
+pub rising : (cs : List Change) (k : ℕ) → AreChangesOfSomeWave cs → tick_at cs k < 2 ^ 64 - 1
+    → tick_at cs k < tick_at cs (k + 1)
 rising cs k rise early = later_tick 0 (all_x rise.width) cs k rise.form.rise early
 
 -- one change further on
-pub goes_on : (from to : ℕ) (cs : List Change) (n m : NextChange) → AreRising cs → IsNext from to cs n → n.tick < to
+pub goes_on : (from to : ℕ) (cs : List Change) (n m : NextChange) → AreChangesOfSomeWave cs → IsNext from to cs n
+    → n.tick < to
     → to ≤ END_LIMIT + 1 → m.place ≡ n.place + 1 → m.tick ≡ n.following_tick
     → m.following_tick ≡ tick_at cs (n.place + 2)
     → IsNext from to cs m
@@ -116,7 +118,7 @@ ends from to position floor before (c ∷ cs) zero (low, other, wide, rest) late
 ends from to position floor before (c ∷ cs) (suc k) (low, other, wide, rest) late =
     ends from to position (c.tick + 1) c.value cs k rest late
 
-pub stops : (from to position : ℕ) (cs : List Change) (n : NextChange) → AreRising cs → IsNext from to cs n
+pub stops : (from to position : ℕ) (cs : List Change) (n : NextChange) → AreChangesOfSomeWave cs → IsNext from to cs n
     → to ≤ n.tick → window_of_signal from to position (drop n.place cs) ≡ []
 stops from to position cs n rise is late = grind (arith, ends)
 

@@ -1,4 +1,4 @@
--- The short form of a value: a letter at the front is left out where the extension restores it.
+-- The short form of a value: a letter at the front is left out if the extension restores it.
 use Rattle.std.proofs.Common.{◌≡◌, ℕ, zero, suc, ◌+◌, ◌-◌, ◌<◌, ◌≤◌, Bool, true, false, cond, ◌&&◌, List, [], ◌∷◌, ◌++◌}
 use Rattle.std.proofs.Common.{length, drop, get_or, refl, sym, ap, ◌∙◌, arith, Some, None, ◌⊎◌}
 use Rattle.std.specs.Prelude.{find, unwrap_or}
@@ -14,8 +14,8 @@ use Rattle.vcd_core.specs.WordRows.{letters_of, HoldsLetters}
 use Rattle.vcd_core.specs.inside.ValueLaws.{same_letters-Decides}
 use Rattle.vcd_core.proofs.ValueLemmas.{length-letters_of}
 use Rattle.vcd_text.specs.Letters.{pad_letter, extension, suffixes, short_form}
-use Rattle.vcd_text.specs.inside.ValueFronts.{IsKept}
-use Rattle.vcd_text.proofs.LetterBits.{is_spare_in, lowest, lowest_given, spare_given, spare_held}
+use Rattle.vcd_text.specs.inside.ValueFronts.{IsShortFormLen}
+use Rattle.vcd_text.proofs.LetterBits.{is_redundant_in, lowest, lowest_given, redundant_given, redundant_held}
 
 -- the letters after those at the front are left out one by one
 unfoldable pub shortened : List Bit → List Bit
@@ -46,7 +46,7 @@ no_suffix_longer : (w : List Bit) → NoLonger (length w) (suffixes w)
 no_suffix_longer [] = tt
 no_suffix_longer (b ∷ s) = grind (arith, one_more, no_suffix_longer s)
 
--- the first text that fits after one more letter: the same one where the letter is spare, else none
+-- the first text that fits after one more letter: the same one if the letter is redundant, else none
 find_more : (a b : Bit) (s : List Bit) (ts : List (List Bit)) → NoLonger (length (b ∷ s)) ts
     → find (fits (a ∷ b ∷ s)) ts ≡ cond (same_letter (pad_letter (b ∷ [])) a) (find (fits (b ∷ s)) ts) None
 find_more a b s [] all = grind arith
@@ -73,23 +73,24 @@ found a (b ∷ s) =
     by true = refl
     by false = refl
 
--- the short form leaves out the spare letters at the front, and no more
+-- the short form leaves out the redundant letters at the front, and no more
 pub short_is : (v : List Bit) → short_form v ≡ shortened v
 unfolding short_form shortened
 short_is [] = refl
 short_is (b ∷ s) = ap (λ o. unwrap_or o (b ∷ s)) (found b s)
 
--- the letter at k is spare
-spare_at : (v : List Bit) (k : ℕ) → k + 1 < length v → same_letter (pad_letter (get_or v (k + 1) X ∷ [])) (get_or v k X)
+-- the letter at k is redundant
+redundant_at : (v : List Bit) (k : ℕ) → k + 1 < length v
+    → same_letter (pad_letter (get_or v (k + 1) X ∷ [])) (get_or v k X)
     ≡ true → shortened (drop k v) ≡ shortened (drop (k + 1) v)
 unfolding shortened
-spare_at v k within spare = grind (arith, drop_more)
+redundant_at v k within redundant = grind (arith, drop_more)
 
--- the letter at k is not spare
+-- the letter at k is not redundant
 kept_at : (v : List Bit) (k : ℕ) → k + 1 < length v → same_letter (pad_letter (get_or v (k + 1) X ∷ [])) (get_or v k X)
     ≡ false → shortened (drop k v) ≡ drop k v
 unfolding shortened
-kept_at v k within kept = grind (arith, drop_more)
+kept_at v k within len = grind (arith, drop_more)
 
 -- the last letter is never left out
 last_kept : (v : List Bit) (k : ℕ) → k + 1 ≡ length v → shortened (drop k v) ≡ drop k v
@@ -107,62 +108,64 @@ last_kept v k last =
 
 -- ---- letters counted from the other end
 
--- letters that are spare, from that below bit `left` on
-pub left_out : (v : List Bit) (left kept : ℕ) → 1 ≤ kept → kept ≤ left → left ≤ length v
-    → ((i : ℕ) → kept ≤ i + 1 → i + 1 < left → is_spare_in v i ≡ true)
-    → shortened (lowest left v) ≡ shortened (lowest kept v)
-left_out v left kept least most within spare = by (left - kept) left (omega arith) within spare
+-- letters that are redundant, from that below bit `left` on
+pub left_out : (v : List Bit) (left len : ℕ) → 1 ≤ len → len ≤ left → left ≤ length v
+    → ((i : ℕ) → len ≤ i + 1 → i + 1 < left → is_redundant_in v i ≡ true)
+    → shortened (lowest left v) ≡ shortened (lowest len v)
+left_out v left len least most within redundant = by (left - len) left (omega arith) within redundant
   where
-    by : (more left : ℕ) → left ≡ kept + more → left ≤ length v
-        → ((i : ℕ) → kept ≤ i + 1 → i + 1 < left → is_spare_in v i ≡ true)
-        → shortened (lowest left v) ≡ shortened (lowest kept v)
-    by zero left is within spare = ap (λ n. shortened (lowest n v)) (let e : left ≡ kept = omega arith in e)
-    by (suc more) left is within spare =
+    by : (more left : ℕ) → left ≡ len + more → left ≤ length v
+        → ((i : ℕ) → len ≤ i + 1 → i + 1 < left → is_redundant_in v i ≡ true)
+        → shortened (lowest left v) ≡ shortened (lowest len v)
+    by zero left is within redundant = ap (λ n. shortened (lowest n v)) (let e : left ≡ len = omega arith in e)
+    by (suc more) left is within redundant =
         let k : ℕ = length v - left in
         let here : length v - 1 - (left - 2 + 1) ≡ k = omega arith in
         let there : length v - 1 - (left - 2) ≡ k + 1 = omega arith in
         let further : k + 1 ≡ length v - (left - 1) = omega arith in
         let told : same_letter (pad_letter (get_or v (k + 1) X ∷ [])) (get_or v k X) ≡ true = grind arith in
-        spare_at v k (omega arith) told ∙ ap (λ n. shortened (drop n v)) further
-        ∙ by more (left - 1) (omega arith) (omega arith) (λ i past below. spare i past (omega arith))
+        redundant_at v k (omega arith) told ∙ ap (λ n. shortened (drop n v)) further
+        ∙ by more (left - 1) (omega arith) (omega arith) (λ i past below. redundant i past (omega arith))
 
--- the letter below bit `kept` stays: it is the last, or not spare
-pub stays : (v : List Bit) (kept : ℕ) → 1 ≤ kept → kept ≤ length v → (1 < kept → is_spare_in v (kept - 2) ≡ false)
-    → shortened (lowest kept v) ≡ lowest kept v
-stays v kept least within needed = grind (arith, cases_lt, kept_at, last_kept)
+-- the letter below bit `len` stays: it is the last, or not redundant
+pub stays : (v : List Bit) (len : ℕ) → 1 ≤ len → len ≤ length v → (1 < len → is_redundant_in v (len - 2) ≡ false)
+    → shortened (lowest len v) ≡ lowest len v
+stays v len least within needed = grind (arith, cases_lt, kept_at, last_kept)
 
 -- the short form of a value of one word
-pub short_given : (width : ℕ) (word : LetterWord) (kept : ℕ) → width ≤ 64 → IsKept width word kept
-    → letters_of kept (word ∷ []) ≡ short_form (letters_of width (word ∷ []))
-short_given width word kept narrow is =
+pub short_given : (width : ℕ) (word : LetterWord) (len : ℕ) → width ≤ 64 → IsShortFormLen width word len
+    → letters_of len (word ∷ []) ≡ short_form (letters_of width (word ∷ []))
+short_given width word len narrow is =
     let v = letters_of width (word ∷ []) in
     let long : length v ≡ width = length-letters_of width (word ∷ []) in
     let all : length v - width ≡ 0 = omega (arith, long) in
-    sym (lowest_given width kept word narrow is.most)
-    ∙ sym (stays v kept is.least (omega (arith, is.most, long))
-    (λ more. sym (spare_given width word (kept - 2) narrow (omega (arith, is.most))) ∙ is.needed more))
-    ∙ sym (left_out v width kept is.least is.most (omega (arith, long))
-    (λ i past below. sym (spare_given width word i narrow below) ∙ is.spare i past below))
+    sym (lowest_given width len word narrow is.most)
+    ∙ sym (stays v len is.least (omega (arith, is.most, long))
+    (λ more. sym (redundant_given width word (len - 2) narrow (omega (arith, is.most))) ∙ is.needed more))
+    ∙ sym (left_out v width len is.least is.most (omega (arith, long))
+    (λ i past below. sym (redundant_given width word i narrow below) ∙ is.redundant i past below))
     ∙ ap (λ n. shortened (drop n v)) all ∙ sym (short_is v)
 
 -- the letters of a word are left out, or stay
-pub word_left_out : (v : List Bit) (from : ℕ) (word : LetterWord) (left kept : ℕ) → HoldsLetters Zero v from word
+pub word_left_out : (v : List Bit) (from : ℕ) (word : LetterWord) (left len : ℕ) → HoldsLetters Zero v from word
     → from < left → left ≤ from + 64 → left ≤ length v
-    → IsKept (left - from) word kept → shortened (lowest left v) ≡ shortened (lowest (from + kept) v)
-word_left_out v from word left kept holds some fits within is =
-    left_out v left (from + kept) (omega (arith, is.least)) (omega (arith, is.most)) within (λ i past below.
+    → IsShortFormLen (left - from) word len → shortened (lowest left v) ≡ shortened (lowest (from + len) v)
+word_left_out v from word left len holds some fits within is =
+    left_out v left (from + len) (omega (arith, is.least)) (omega (arith, is.most)) within (λ i past below.
     let j : ℕ = i - from in
     let place : from + j ≡ i = omega (arith, is.least) in
-    ap (is_spare_in v) (sym place)
-    ∙ sym (spare_held v from word j holds (omega (arith, is.least)) (omega (arith, is.least)))
-    ∙ is.spare j (omega (arith, is.least)) (omega (arith, is.least)))
+    ap (is_redundant_in v) (sym place)
+    ∙ sym (redundant_held v from word j holds (omega (arith, is.least)) (omega (arith, is.least)))
+    ∙ is.redundant j (omega (arith, is.least)) (omega (arith, is.least)))
 
-pub word_stays : (v : List Bit) (from : ℕ) (word : LetterWord) (left kept : ℕ) → HoldsLetters Zero v from word
-    → from < left → left ≤ from + 64 → left ≤ length v → IsKept (left - from) word kept → (from ≡ 0) ⊎ (1 < kept)
-    → shortened (lowest (from + kept) v) ≡ lowest (from + kept) v
-word_stays v from word left kept holds some fits within is last = grind (arith, stays, spare_held)
+pub word_stays : (v : List Bit) (from : ℕ) (word : LetterWord) (left len : ℕ) → HoldsLetters Zero v from word
+    → from < left → left ≤ from + 64 → left ≤ length v → IsShortFormLen (left - from) word len
+    → (from ≡ 0) ⊎ (1 < len)
+    → shortened (lowest (from + len) v) ≡ lowest (from + len) v
+word_stays v from word left len holds some fits within is last = grind (arith, stays, redundant_held)
 
 -- the state after a test of two letters
 pub state_at : (v : List Bit) (k : ℕ) (letter next : Bit) (r b : Bool) → 1 ≤ k → letter ≡ letter_at v k
-    → next ≡ letter_at v (k - 1) → r ≡ same_letter (pad_letter (next ∷ [])) letter → r ≡ b → is_spare_in v (k - 1) ≡ b
+    → next ≡ letter_at v (k - 1) → r ≡ same_letter (pad_letter (next ∷ [])) letter → r ≡ b
+    → is_redundant_in v (k - 1) ≡ b
 state_at v k letter next r b some at_k at_next told is = grind arith

@@ -8,7 +8,7 @@ use Rattle.std.proofs.lemmas.List.Sums.{sum_by-cons}
 use Rattle.std.proofs.lemmas.List.Sorted.{sum_by-IsPermutation}
 use Rattle.vcd_text.specs.inside.Transitions.{Transition}
 
--- 1 where the test passes
+-- 1 if the test passes
 abbrev pub counted : Bool → ℕ
 counted true = 1
 counted false = 0
@@ -36,7 +36,7 @@ times_permuted t k xs ys moved = grind (arith, times_is_sum, sum_by-IsPermutatio
 once_itself : (m : Transition) → once m.tick m.position m ≡ 1
 once_itself m = grind (arith, eq-eqb)
 
--- a transition is at a place or after it, where places are ordered by tick and position
+-- a transition is at a place or after it; places are ordered by tick and position
 abbrev pub AtLeast : ℕ → ℕ → Transition → Type 0
 AtLeast t k m = (t < m.tick) ⊎ ((t ≡ m.tick) × (k ≤ m.position))
 

@@ -25,12 +25,12 @@ use Rattle.vcd_text.specs.Words.{words_of, word_on}
 use Rattle.vcd_core.specs.Decimal.{number_of}
 use Rattle.vcd_text.specs.Letters.{extension, letters_of_digits}
 use Rattle.vcd_text.specs.Items.{Item, entry, timescale, scope, upscope, variable, end_definitions, stamp, scalar}
-use Rattle.vcd_text.specs.Items.{vector, real_or_string, bracket, other, spelling, spellings, end_word}
+use Rattle.vcd_text.specs.Items.{vector, real_or_string, dump_word, other, spelling, spellings, end_word}
 use Rattle.vcd_text.specs.Items.{is_end_word, has_no_end_word}
 use Rattle.vcd_text.specs.Grammar.{ParseState, VariableDeclaration, ValueChange, Accepts, Allows, AllowsAll}
-use Rattle.vcd_text.specs.Grammar.{state_after, state_after_item, is_skipped, kept_variables}
-use Rattle.vcd_text.specs.Grammar.{variable_of, may_have_code, has_room, value_changes_after, with_value_change}
-use Rattle.vcd_text.specs.Grammar.{takes_binary_number}
+use Rattle.vcd_text.specs.Grammar.{state_after, state_after_item, is_skipped, kept_variables, variable_of}
+use Rattle.vcd_text.specs.Grammar.{may_have_code, has_room, value_changes_after}
+use Rattle.vcd_text.specs.Grammar.{with_value_change, takes_binary_number}
 use Rattle.vcd_text.proofs.WordLaws.{is_run_text, texts_are_runs, run_is_word}
 use Rattle.vcd_text.specs.Meaning.{meaning, declared_signal, latest_value}
 use Rattle.std.proofs.lemmas.List.Folds.{find-append}
@@ -69,7 +69,7 @@ found_further P p (x ∷ xs) y some =
     by_test (λ b. IsSomeAnd (cond b (Some x) (find p xs)) P → IsSomeAnd (cond b (Some x) (find p (xs ++ y ∷ []))) P)
     (p x) (λ _ h. h) (λ _ h. found_further P p xs y h) some
 
--- the last item is found where none before it is
+-- the last item is found if none before it is
 found_last : {A : Type 0} (p : A → Bool) (xs : List A) (y : A) → find p xs ≡ None → p y ≡ true
     → find p (xs ++ y ∷ []) ≡ Some y
 found_last p xs y none here = grind (arith, find-append)
@@ -87,7 +87,7 @@ pub record IsCleanDeclaration (d : VariableDeclaration) : Type 0 where
   named : 0 < length d.words
   words : list_all is_word d.words ≡ true
 
--- the variable of a code has the size of this one, where it is kept
+-- the variable of a code has the size of this one, if it is kept
 abbrev IsAgreed : ParseState → VariableDeclaration → Type 0
 IsAgreed c d = is_skipped d ≡ false → IsSomeAnd (variable_of c d.code) (λ e. (e.size ≡ d.size) × (is_skipped e ≡ false))
 
@@ -103,7 +103,7 @@ record IsClean (c : ParseState) : Type 0 where
   agree : All (IsAgreed c) c.declared
   few : length (kept_variables c.declared) ≤ SIGNAL_LIMIT
   fit : All (Fits c) c.value_changes
-  silent : c.in_body ≡ false → c.value_changes ≡ []
+  no_early_change : c.in_body ≡ false → c.value_changes ≡ []
   tick : c.tick ≤ END_LIMIT
 
 -- ---- sizes
@@ -139,7 +139,7 @@ clean_value_change c code letters clean in_body fits = record {
   agree = clean.agree;
   few = clean.few;
   fit = more (variable_of c code) refl fits;
-  silent = λ no_more. absurd (false≢true (sym no_more ∙ in_body));
+  no_early_change = λ no_more. absurd (false≢true (sym no_more ∙ in_body));
   tick = clean.tick;
 }
   where
@@ -176,8 +176,8 @@ clean_declared c d clean declaring is shares room =
           clean.agree)
           (λ keeps. first_or_same (variable_of c d.code) refl shares keeps);
       few = counted;
-      fit = subst (All (Fits e)) (sym (clean.silent declaring)) (All-nil (Fits e));
-      silent = clean.silent;
+      fit = subst (All (Fits e)) (sym (clean.no_early_change declaring)) (All-nil (Fits e));
+      no_early_change = clean.no_early_change;
       tick = clean.tick;
     }
   where
@@ -218,7 +218,7 @@ clean_variable c (kind ∷ size ∷ code ∷ name ∷ names) clean all allows =
     }) clean allows.0
     (record { scopes = clean.scopes; kind = p.0; named = omega arith; words = r.1 }) allows.3.0 allows.3.1
 
--- the state stays clean where neither variables nor value changes are added
+-- the state stays clean if neither variables nor value changes are added
 clean_beside : (c : ParseState) (header : List Header) (time : Option Timescale) (scopes : List ScopeName)
     (in_body : Bool) (tick : ℕ) → IsClean c
     → list_all is_sound_header header ≡ true → IfSome time (λ t. is_sound_timescale t ≡ true)
@@ -232,7 +232,7 @@ clean_beside : (c : ParseState) (header : List Header) (time : Option Timescale)
       value_changes = c.value_changes;
       tick = tick;
     })
-clean_beside c header time scopes in_body tick clean sound_header sound_timescale sound_scopes silent within =
+clean_beside c header time scopes in_body tick clean sound_header sound_timescale sound_scopes no_early_change within =
     grind arith
 
 clean_item : (c : ParseState) (i : Item) → IsClean c → list_all is_run_text (spelling i) ≡ true → Allows c i
@@ -250,8 +250,8 @@ clean_item c (vector first digits code) clean all allows =
     clean_value_change c code (letters_of_digits digits) clean allows.0
     (some_taken digits (variable_of c code) allows.2)
 clean_item c (real_or_string first text code) clean all allows = clean
-clean_item c (bracket word_on) clean all allows = clean
-clean_item c (other word_on words) clean all allows = clean
+clean_item c (dump_word word) clean all allows = clean
+clean_item c (other word words) clean all allows = clean
 
 clean_items : (c : ParseState) (is : List Item) → IsClean c → list_all is_run_text (spellings is) ≡ true
     → AllowsAll c is → IsClean (state_after c is)

@@ -1,8 +1,8 @@
--- One more word, or both of a change of several bits, from the first word of the file on.
+-- One more word, or both of a change by a binary number, from the first word of the file on.
 use Rattle.std.proofs.Common.{arith}
 use Rattle.std.specs.Prelude.{IsTrue, IsFalse, ◌==◌, ◌&&◌}
-use Rattle.std.proofs.Common.{◌≡◌, ◌⊎◌, inl, inr, Ok, Err, List, [], ◌∷◌, ◌++◌, refl, sym, ap, subst, ◌∙◌}
-use Rattle.std.proofs.Common.{append_assoc}
+use Rattle.std.proofs.Common.{◌≡◌, ◌⊎◌, inl, inr, Ok, Err, List, [], ◌∷◌, ◌++◌, refl, sym, ap, subst}
+use Rattle.std.proofs.Common.{◌∙◌, append_assoc}
 use Rattle.std.proofs.lemmas.List.{append-nil, map-append}
 use Rattle.std.proofs.lemmas.Bool.{and_parts, eqb-true}
 use Rattle.std.specs.Prelude.{ℕ}
@@ -10,13 +10,14 @@ use Rattle.vcd_text.specs.declared.fault.Fault.{Fault}
 use Rattle.vcd_text.specs.declared.fault.ReadError.{ReadError}
 use Rattle.vcd_text.specs.Words.{PlacedWord, word_on}
 use Rattle.vcd_text.specs.Items.{Item, spelling, spellings, is_other}
-use Rattle.vcd_text.specs.Grammar.{ParseState, Allows, AllowsAll, state_after, state_after_item, initial_state}
-use Rattle.vcd_text.specs.Grammar.{word_texts}
+use Rattle.vcd_text.specs.Grammar.{ParseState, Allows, AllowsAll, state_after, state_after_item}
+use Rattle.vcd_text.specs.Grammar.{initial_state, word_texts}
 use Rattle.vcd_text.specs.Faults.{WordFault, among_declarations, among_changes, ChangeFault, no_tick, tick_goes_back}
-use Rattle.vcd_text.specs.Faults.{value_alone, value_of_none, pair_of_none, no_value, value_too_long, declaration_late}
-use Rattle.vcd_text.specs.Faults.{no_change, ShowsFault, fault_line}
+use Rattle.vcd_text.specs.Faults.{missing_code, unknown_scalar_code, unknown_pair_code, no_value}
+use Rattle.vcd_text.specs.Faults.{value_too_long, declaration_late}
+use Rattle.vcd_text.specs.Faults.{begins_no_change, ShowsFault, fault_line}
 use Rattle.vcd_text.specs.inside.OpenItems.{item_fault_line}
-use Rattle.vcd_text.specs.inside.Reading.{Reads, WordStep, goes_on, ends_item, ReaderMatches, IsBegun}
+use Rattle.vcd_text.specs.inside.Reading.{HasTakenWords, WordStep, goes_on, ends_item, ReaderMatches, IsBegun}
 use Rattle.vcd_text.specs.inside.Reading.{error_at, BeginsVector, WordsResult}
 use Rattle.vcd_text.specs.inside.Variables.{VariablesMatch, BinaryNumberFault, ChangeResult}
 use Rattle.vcd_text.specs.MemoryErrors.{memory_error}
@@ -30,19 +31,19 @@ use Rattle.vcd_text.proofs.ItemsInTurn.{reaches_both, reaches_one, shown_by}
 use Rattle.vcd_text.proofs.FileAnswers.{spelled_more}
 
 -- words that go on with the open item, or end it
-pub words_taken : (old new : Reader) (taken words : List PlacedWord) (r : Reads old taken)
-    → WordStep r.state (r.begun ++ words) new → Reads new (taken ++ words)
-words_taken old new taken words r (goes_on at) = grind (arith, append_assoc)
-words_taken old new taken words r (ends_item i spelled allows at) =
+pub words_taken : (old new : Reader) (words_so_far words : List PlacedWord) (r : HasTakenWords old words_so_far)
+    → WordStep r.state (r.begun ++ words) new → HasTakenWords new (words_so_far ++ words)
+words_taken old new words_so_far words r (goes_on at) = grind (arith, append_assoc)
+words_taken old new words_so_far words r (ends_item i spelled allows at) =
     let leads = reaches_both initial_state r.state (state_after_item r.state i) r.items (i ∷ [])
     (record { allowed = r.allowed; state_is = r.state_is })
     (reaches_one r.state (state_after_item r.state i) i allows refl) in
     record {
       items = r.items ++ i ∷ [];
-      whole = taken ++ words;
+      whole = words_so_far ++ words;
       begun = [];
       state = state_after_item r.state i;
-      parts = sym (append-nil (taken ++ words));
+      parts = sym (append-nil (words_so_far ++ words));
       spelled = grind (arith, append_assoc, map-append, spelled_more);
       allowed = leads.allowed;
       state_is = leads.state_is;
@@ -76,16 +77,17 @@ line_shown m c begun w fault items.Other agrees is (among_declarations none show
 line_shown m c begun w fault items.Other agrees is (among_changes all shows) =
     absurd (grind (arith, and_parts, eqb-true))
 line_shown m c begun w fault items.Vector agrees is decided = grind arith
-line_shown m c begun w fault items.Dropped agrees (text, is) decided = grind arith
+line_shown m c begun w fault items.RealOrString agrees (text, is) decided = grind arith
 
 -- the fault of a word is that of the definition, with its line, whatever follows
-pub one_shown : (old : Reader) (taken more : List PlacedWord) (w : PlacedWord) (r : Reads old taken) (fault : Fault)
+pub one_shown : (old : Reader) (words_so_far more : List PlacedWord) (w : PlacedWord)
+    (r : HasTakenWords old words_so_far) (fault : Fault)
     → (fault ≡ NoMemory) ⊎ WordFault r.state (word_texts r.begun) w.text fault
     → (let e : ReadError = error_at (item_fault_line old.item old.line w.line) fault in
-    (e ≡ memory_error) ⊎ ShowsFault (taken ++ w ∷ more) e.line e.fault)
-one_shown old taken more w r fault refused =
+    (e ≡ memory_error) ⊎ ShowsFault (words_so_far ++ w ∷ more) e.line e.fault)
+one_shown old words_so_far more w r fault refused =
     let line = item_fault_line old.item old.line w.line in
-    let words : List PlacedWord = taken ++ w ∷ more in
+    let words : List PlacedWord = words_so_far ++ w ∷ more in
     let parts : words ≡ r.whole ++ (r.begun ++ w ∷ more) = ap (λ ws. ws ++ w ∷ more) r.parts
     ∙ append_assoc r.whole r.begun (w ∷ more) in
     error_shown words line fault (elim refused [
@@ -95,18 +97,18 @@ one_shown old taken more w r fault refused =
           (line_shown old r.state r.begun w fault old.item r.at.0 r.at.1 row))
     ])
 
--- ---- both words of a change of several bits
+-- ---- both words of a change by a binary number
 
 -- both words are taken at once
 pub whole_vector_taken : (m : Reader) (vs : Variables) (text digits code : List ℕ) (line code_line : ℕ)
     → BeginsVector m text digits
     → ((c : ParseState) → c.tick ≡ m.tick → VariablesMatch m.variables c → ChangeResult c code digits (Ok tt) vs)
     → WordsResult m (word_on text line ∷ word_on code code_line ∷ []) (Ok tt) (record m { variables = vs })
-whole_vector_taken m vs text digits code line code_line b takes taken r =
+whole_vector_taken m vs text digits code line code_line b takes words_so_far r =
     let words : List PlacedWord = word_on text line ∷ word_on code code_line ∷ [] in
     let none = none_begun m r.begun b.between r.at.1 in
-    words_taken m (record m { variables = vs }) taken words r
-    (whole_vector m r.state vs m.item (r.begun ++ words) b.letter digits code r.at.0 b.changes b.between b.among
+    words_taken m (record m { variables = vs }) words_so_far words r
+    (whole_vector m r.state vs m.item (r.begun ++ words) b.letter digits code r.at.0 b.in_body b.between b.among
     (sym (ap (λ bs. word_texts (bs ++ words)) none ∙ ap (λ t. t ∷ code ∷ []) b.spelled))
     (takes r.state (sym r.at.0.tick) r.at.0.variables))
 
@@ -115,9 +117,9 @@ pub whole_vector_refused : (m new : Reader) (text digits code : List ℕ) (line 
     → BeginsVector m text digits → ((c : ParseState) → c.tick ≡ m.tick → VariablesMatch m.variables c
     → (fault ≡ NoMemory) ⊎ BinaryNumberFault c code digits fault)
     → WordsResult m (word_on text line ∷ word_on code code_line ∷ []) (Err (error_at line fault)) new
-whole_vector_refused m new text digits code line code_line fault b refuses taken more r =
+whole_vector_refused m new text digits code line code_line fault b refuses words_so_far more r =
     let first = word_on text line in
-    let words : List PlacedWord = taken ++ first ∷ word_on code code_line ∷ more in
+    let words : List PlacedWord = words_so_far ++ first ∷ word_on code code_line ∷ more in
     let none = none_begun m r.begun b.between r.at.1 in
     let parts : words ≡ r.whole ++ first ∷ word_on code code_line ∷ more = grind (arith, append-nil) in
     error_shown words line fault (elim (refuses r.state (sym r.at.0.tick) r.at.0.variables) [
@@ -125,7 +127,7 @@ whole_vector_refused m new text digits code line code_line fault b refuses taken
       | inr row ↦ inr (shown_by words r.whole (first ∷ []) more (word_on code code_line) r.items r.state line fault
           (record { allowed = r.allowed; state_is = r.state_is }) parts r.spelled
           (subst (λ t. WordFault r.state (t ∷ []) code fault) (sym b.spelled)
-          (vector_shown m r.state b.letter digits code fault r.at.0 b.changes b.among row))
-          (ap (λ in_body. fault_line in_body (first ∷ []) (word_on code code_line)) (sym b.changes
+          (vector_shown m r.state b.letter digits code fault r.at.0 b.in_body b.among row))
+          (ap (λ in_body. fault_line in_body (first ∷ []) (word_on code code_line)) (sym b.in_body
           ∙ r.at.0.in_body)))
     ])

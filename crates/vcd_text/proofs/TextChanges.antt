@@ -14,7 +14,7 @@ use Rattle.vcd_core.specs.Contents.{Contents, SignalContents, signal_value}
 use Rattle.vcd_core.specs.Sound.{IsSound, IsSoundSignal}
 use Rattle.vcd_core.specs.Word.{is_one_of}
 use Rattle.vcd_text.specs.Letters.{printed_letters, short_form}
-use Rattle.vcd_text.specs.Items.{Item, vector, bracket, dump_words, end_word}
+use Rattle.vcd_text.specs.Items.{Item, vector, dump_word, dump_words, end_word}
 use Rattle.vcd_text.specs.Grammar.{ValueChange, ParseState, is_skipped}
 use Rattle.vcd_text.specs.Text.{all_values, code_of, differs_at, end_items, first_items, new_values, stamp_of}
 use Rattle.vcd_text.specs.Text.{with_stamp, tick_items, value_item, value_items}
@@ -22,8 +22,8 @@ use Rattle.vcd_text.proofs.CodesDiffer.{code_not_empty}
 use Rattle.vcd_text.proofs.Decimals.{decimal_is_number, number_of-decimal}
 use Rattle.vcd_text.proofs.DeclaredSignals.{declared_as, declared_state, declared_of, found_by_code, sound_is_kept}
 use Rattle.vcd_text.proofs.ItemsInTurn.{Reaches, reaches_both, reaches_none, reaches_one, reaches_same}
-use Rattle.vcd_text.proofs.ReadValues.{letter_back, letters_back, printed_is_value, short_within, short_one}
-use Rattle.vcd_text.proofs.ReadValues.{length-value_at}
+use Rattle.vcd_text.proofs.ReadValues.{letter_back, letters_back, printed_is_value, short_within}
+use Rattle.vcd_text.proofs.ReadValues.{short_one, length-value_at}
 
 -- ---- one value
 
@@ -69,17 +69,17 @@ values_lead c (p ∷ ps) value_changes t all =
     (value_leads c p (All-head (IsPlaced c) p ps all) value_changes t)
     (values_lead c ps (value_changes ++ value_change_of t p ∷ []) t (All-tail (IsPlaced c) p ps all)))
 
--- ---- stamps and brackets
+-- ---- stamps and words of dumps
 
 -- a stamp that does not go back
 stamp_leads : (c : Contents) (value_changes : List ValueChange) (u t : ℕ) → u ≤ t → t ≤ END_LIMIT
     → Reaches (state_at c value_changes u) (stamp_of t ∷ []) (state_at c value_changes t)
 stamp_leads c value_changes u t later within = grind (arith, number_of-decimal, decimal_is_number, le-leb)
 
--- a bracket changes nothing
+-- a word of a dump changes nothing
 bracket_leads : (c : Contents) (value_changes : List ValueChange) (t : ℕ) (word : List ℕ)
     → is_one_of dump_words word ≡ true
-    → Reaches (state_at c value_changes t) (bracket word ∷ []) (state_at c value_changes t)
+    → Reaches (state_at c value_changes t) (dump_word word ∷ []) (state_at c value_changes t)
 bracket_leads c value_changes t word is = grind (arith, reaches_one)
 
 -- the values at tick 0
@@ -89,12 +89,12 @@ first_leads : (c : Contents) → All (IsPlaced c) (enumerate_from 0 c.signals)
 first_leads c all =
     let value_changes = map (value_change_of 0) (enumerate_from 0 c.signals) in
     reaches_both (state_at c [] 0) (state_at c [] 0) (state_at c value_changes 0)
-    (stamp_of 0 ∷ bracket (codes "$dumpvars") ∷ []) (all_values c.signals 0 ++ bracket end_word ∷ [])
+    (stamp_of 0 ∷ dump_word (codes "$dumpvars") ∷ []) (all_values c.signals 0 ++ dump_word end_word ∷ [])
     (reaches_both (state_at c [] 0) (state_at c [] 0) (state_at c [] 0) (stamp_of 0 ∷ [])
-    (bracket (codes "$dumpvars") ∷ [])
+    (dump_word (codes "$dumpvars") ∷ [])
     (stamp_leads c [] 0 0 (omega arith) (omega arith)) (bracket_leads c [] 0 (codes "$dumpvars") refl))
     (reaches_both (state_at c [] 0) (state_at c value_changes 0) (state_at c value_changes 0) (all_values c.signals 0)
-    (bracket end_word ∷ [])
+    (dump_word end_word ∷ [])
     (values_lead c (enumerate_from 0 c.signals) [] 0 all) (bracket_leads c value_changes 0 end_word refl))
 
 -- ---- ticks
@@ -109,7 +109,7 @@ tick_value_changes signals t zero = []
 tick_value_changes signals t (suc n) =
     map (value_change_of t) (differing signals t) ++ tick_value_changes signals (suc t) n
 
--- the stamp of a tick and its values, where there is at least one
+-- the stamp of a tick and its values, if there is at least one
 stamped_lead : (c : Contents) (value_changes : List ValueChange) (u t : ℕ) (p : ℕ × SignalContents)
     (ps : List (ℕ × SignalContents)) → u ≤ t → t ≤ END_LIMIT → All (IsPlaced c) (p ∷ ps)
     → Reaches (state_at c value_changes u) (with_stamp t (value_items t (p ∷ ps)))
@@ -131,7 +131,7 @@ one_tick c e value_changes u t (p ∷ ps) rest later within all go =
     (with_stamp t (value_items t (p ∷ ps))) rest
     (stamped_lead c value_changes u t p ps later within all) (go t (omega arith))
 
--- the last tick, and the stamp of the end where nothing differs at it
+-- the last tick, and the stamp of the end if nothing differs at it
 value_changes_at_last_tick : (c : Contents) (value_changes : List ValueChange) (u t : ℕ)
     (placed : List (ℕ × SignalContents)) → u < t → t ≤ END_LIMIT → All (IsPlaced c) placed
     → Reaches (state_at c value_changes u) (with_stamp t (value_items t placed)

@@ -1,6 +1,5 @@
 -- The reader's variables, compared with the state of a file.
-use Rattle.std.proofs.Common.{arith}
-use Rattle.std.proofs.Common.{◌≡◌, ℕ, ◌≤◌, List, sym, ap, ◌∙◌, subst, find, map}
+use Rattle.std.proofs.Common.{arith, ◌≡◌, ℕ, ◌≤◌, List, sym, ap, ◌∙◌, subst, find, map}
 use Rattle.std.specs.Prelude.{count_by, bytes_eq}
 use Rattle.vcd_text.specs.Grammar.{ValueChange, ParseState, variable_of, is_skipped, kept_variables}
 use Rattle.vcd_text.specs.inside.ShortCodes.{code_target}
@@ -8,9 +7,8 @@ use Rattle.vcd_text.specs.declared.reading.code_targets.CodeTargets.{CodeTargets
 use Rattle.vcd_text.specs.inside.ChangeLog.{logged}
 use Rattle.vcd_text.specs.declared.reading.change_log.LoggedChange.{LoggedChange}
 use Rattle.vcd_text.proofs.LoggedValues.{gives_further}
-use Rattle.vcd_text.specs.inside.Variables.{TargetAgrees}
-use Rattle.vcd_text.specs.inside.Variables.{declaration, without_scopes, target_of, HasWave, TargetMatches}
-use Rattle.vcd_text.specs.inside.Variables.{VariablesMatch}
+use Rattle.vcd_text.specs.inside.Variables.{TargetAgrees, declaration, without_scopes, target_of, HasWave}
+use Rattle.vcd_text.specs.inside.Variables.{TargetMatches, VariablesMatch}
 use Rattle.vcd_text.specs.declared.reading.variables.Variable.{Variable}
 use Rattle.vcd_text.specs.declared.reading.variables.Variables.{Variables}
 use Rattle.vcd_text.proofs.CodeTargets.{stands_moved}
@@ -22,14 +20,14 @@ knows_further vs c d declared value_changes later k = record {
   kept = subst (λ ds. map without_scopes (kept_variables ds) ≡ map declaration vs.kept.items) declared k.kept;
   skipped = subst (λ ds. vs.skipped ≡ count_by is_skipped ds) declared k.skipped;
   widths = k.widths;
-  stand = λ code.
+  targets_agree = λ code.
       stands_moved vs.kept.items vs.kept.items (logged vs.log.items) (logged vs.log.items) d.value_changes
       d.value_changes c.tick d.tick code (target_of vs code) (find (λ e. bytes_eq code e.code) d.declared)
       (λ position size _ wave. (grind (arith, gives_further)))
       (subst (λ rs. TargetMatches vs.kept.items (logged vs.log.items) rs c.tick code (target_of vs code)
       (find (λ e. bytes_eq code e.code) d.declared)) value_changes
       (subst (λ ds. TargetAgrees vs c code
-      (target_of vs code) (find (λ e. bytes_eq code e.code) ds)) declared (k.stand code)));
+      (target_of vs code) (find (λ e. bytes_eq code e.code) ds)) declared (k.targets_agree code)));
   firsts = k.firsts;
   few = k.few;
   grouped = k.grouped;
@@ -44,8 +42,8 @@ same_codes vs code_targets c same k = record {
   kept = k.kept;
   skipped = k.skipped;
   widths = k.widths;
-  stand = λ code. subst (λ m. TargetAgrees vs c code
-      (code_target m code) (variable_of c code)) (sym same) (k.stand code);
+  targets_agree = λ code. subst (λ m. TargetAgrees vs c code
+      (code_target m code) (variable_of c code)) (sym same) (k.targets_agree code);
   firsts = λ position v at. let first = k.firsts position v at in
       record {
         owned = ap (λ m. code_target m v.code) same ∙ first.owned;

@@ -15,7 +15,7 @@ use Rattle.vcd_text.specs.Text.{code_of, differs_at, end_items, item_line, new_v
 use Rattle.vcd_text.specs.Text.{value_item, value_items}
 use Rattle.std.proofs.lemmas.Grind.{common_steps}
 
--- the text of transitions, where the last stamp was that of a tick
+-- the text of transitions, if the last stamp was that of a tick
 unfoldable pub walk : List SignalContents → ℕ → ℕ → List Transition → List Item
 walk signals end last [] = if nat_lt last end then stamp_of end ∷ [] else []
 walk signals end last (m ∷ ms) =
@@ -40,7 +40,7 @@ unfolding walk
 same_tick signals end t [] ms all = refl
 same_tick signals end t (p ∷ ps) ms (at, rest) = grind (arith, eq-eqb, same_tick signals end t ps ms rest)
 
--- transitions at a later tick, where there is at least one
+-- transitions at a later tick, if there is at least one
 later_tick : (signals : List SignalContents) (end last t : ℕ) (p : ℕ × SignalContents) (ps : List (ℕ × SignalContents))
     (ms : List Transition) → last < t → AllPlaced signals (p ∷ ps)
     → walk signals end last (at_tick t (p ∷ ps) ++ ms) ≡ with_stamp t (value_items t (p ∷ ps)) ++ walk signals end t ms
@@ -55,7 +55,7 @@ one_tick : (signals : List SignalContents) (end last t : ℕ) (placed : List (�
 one_tick signals end last t [] ms rest later all still now = still
 one_tick signals end last t (p ∷ ps) ms rest later all still now = grind (arith, later_tick)
 
--- the last tick, and the stamp of the end where nothing changes at it
+-- the last tick, and the stamp of the end if nothing changes at it
 tick_at_end : (signals : List SignalContents) (last t : ℕ) (placed : List (ℕ × SignalContents)) → last < t
     → AllPlaced signals placed
     → walk signals t last (at_tick t placed ++ []) ≡ (with_stamp t (value_items t placed) ++ [])

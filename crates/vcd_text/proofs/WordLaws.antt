@@ -55,41 +55,43 @@ pub same_line : (b line : ℕ) → is_white_space b ≡ false → line_after b l
 same_line b line no_space = ap (λ t. cond t (line + 1) line) (no_space_is_no_feed b no_space)
 
 -- the words of a text that begins with a word
-pub word_whole : (whole : Bool) (line : ℕ) (w rest : List ℕ) → 0 < length w
-    → list_all (λ b. not (is_white_space b)) w ≡ true → ends_before whole rest ≡ true
-    → words_from whole line (w ++ rest) ≡ word_on w line ∷ words_from whole line rest
+pub word_whole : (end_counts : Bool) (line : ℕ) (w rest : List ℕ) → 0 < length w
+    → list_all (λ b. not (is_white_space b)) w ≡ true → ends_before end_counts rest ≡ true
+    → words_from end_counts line (w ++ rest) ≡ word_on w line ∷ words_from end_counts line rest
 unfolding words_from
-word_whole whole line [] rest some no_space ends = absurd (omega arith)
-word_whole whole line (b ∷ []) rest some no_space ends = grind (arith, not-true, and_parts, same_line)
-word_whole whole line (b ∷ c ∷ w) rest some no_space ends =
+word_whole end_counts line [] rest some no_space ends = absurd (omega arith)
+word_whole end_counts line (b ∷ []) rest some no_space ends = grind (arith, not-true, and_parts, same_line)
+word_whole end_counts line (b ∷ c ∷ w) rest some no_space ends =
     let here : is_white_space b ≡ false = not-true _ (and_parts _ _ no_space).0 in
     let following : is_white_space c ≡ false = grind (arith, not-true, and_parts) in
-    ap (λ s. with_byte s (is_white_space c) b line (words_from whole (line_after b line) (c ∷ w ++ rest))) here
-    ∙ ap (λ e. with_byte false e b line (words_from whole (line_after b line) (c ∷ w ++ rest))) following
-    ∙ ap (λ n. with_longer_first b line (words_from whole n (c ∷ w ++ rest))) (same_line b line here)
-    ∙ ap (with_longer_first b line) (word_whole whole line (c ∷ w) rest (omega arith) (and_parts _ _ no_space).1 ends)
+    ap (λ s. with_byte s (is_white_space c) b line (words_from end_counts (line_after b line) (c ∷ w ++ rest))) here
+    ∙ ap (λ e. with_byte false e b line (words_from end_counts (line_after b line) (c ∷ w ++ rest))) following
+    ∙ ap (λ n. with_longer_first b line (words_from end_counts n (c ∷ w ++ rest))) (same_line b line here)
+    ∙ ap (with_longer_first b line)
+    (word_whole end_counts line (c ∷ w) rest (omega arith) (and_parts _ _ no_space).1 ends)
 
 -- the same at a place in the text
-pub word_split : (whole : Bool) (line n : ℕ) (text : List ℕ) → 0 < length (take n text)
-    → list_all (λ b. not (is_white_space b)) (take n text) ≡ true → ends_before whole (drop n text) ≡ true
-    → words_from whole line text ≡ word_on (take n text) line ∷ words_from whole line (drop n text)
-word_split whole line n text some no_space ends =
-    ap (words_from whole line) (sym (take-append-drop n text))
-    ∙ word_whole whole line (take n text) (drop n text) some no_space ends
+pub word_split : (end_counts : Bool) (line n : ℕ) (text : List ℕ) → 0 < length (take n text)
+    → list_all (λ b. not (is_white_space b)) (take n text) ≡ true → ends_before end_counts (drop n text) ≡ true
+    → words_from end_counts line text ≡ word_on (take n text) line ∷ words_from end_counts line (drop n text)
+word_split end_counts line n text some no_space ends =
+    ap (words_from end_counts line) (sym (take-append-drop n text))
+    ∙ word_whole end_counts line (take n text) (drop n text) some no_space ends
 
 -- white space at the front
-pub space_passed : (whole : Bool) (line b : ℕ) (bs : List ℕ) → is_white_space b ≡ true
-    → words_from whole line (b ∷ bs) ≡ words_from whole (line_after b line) bs
+pub space_passed : (end_counts : Bool) (line b : ℕ) (bs : List ℕ) → is_white_space b ≡ true
+    → words_from end_counts line (b ∷ bs) ≡ words_from end_counts (line_after b line) bs
 unfolding words_from
-space_passed whole line b bs space = grind arith
+space_passed end_counts line b bs space = grind arith
 
--- where a text has no word at its front, and no white space, it is at its end
-pub no_word : (whole : Bool) (line n : ℕ) (text : List ℕ) → length (take n text) ≡ 0 → begins_with_space text ≡ false
-    → ends_before true (drop n text) ≡ true → (words_from whole line text ≡ []) × (drop n text ≡ [])
+-- if a text has no word at its front, and no white space, it is at its end
+pub no_word : (end_counts : Bool) (line n : ℕ) (text : List ℕ) → length (take n text) ≡ 0
+    → begins_with_space text ≡ false → ends_before true (drop n text) ≡ true
+    → (words_from end_counts line text ≡ []) × (drop n text ≡ [])
 unfolding words_from
-no_word whole line n text h4 h5 h6 = grind arith
+no_word end_counts line n text h4 h5 h6 = grind arith
 
--- a word that is not closed does not count
+-- a word that is not complete does not count
 pub word_part : (line : ℕ) (w : List ℕ) → list_all (λ b. not (is_white_space b)) w ≡ true → words_from false line w ≡ []
 unfolding words_from
 word_part line [] no_space = refl
@@ -121,11 +123,12 @@ runs_with_byte false false b line (w ∷ ws) is runs =
     ) (All-tail (λ (w : PlacedWord). is_run w.text) w ws runs)
 
 -- each word is such a run
-pub words_are_words : (whole : Bool) (line : ℕ) (bytes : List ℕ)
-    → All (λ (w : PlacedWord). is_run w.text) (words_from whole line bytes)
+pub words_are_words : (end_counts : Bool) (line : ℕ) (bytes : List ℕ)
+    → All (λ (w : PlacedWord). is_run w.text) (words_from end_counts line bytes)
 unfolding words_from
-words_are_words whole line [] = All-nil (λ (w : PlacedWord). is_run w.text)
-words_are_words whole line (b ∷ bs) = search (arith, runs_with_byte, words_are_words whole (line_after b line) bs)
+words_are_words end_counts line [] = All-nil (λ (w : PlacedWord). is_run w.text)
+words_are_words end_counts line (b ∷ bs) =
+    search (arith, runs_with_byte, words_are_words end_counts (line_after b line) bs)
 
 -- as tests: a run of bytes other than white space
 abbrev pub is_run_text : List ℕ → Bool
@@ -142,9 +145,10 @@ texts_pass (w ∷ ws) runs =
     (run_passes w.text (All-head (λ (w : PlacedWord). is_run w.text) w ws runs))
     ∙ texts_pass ws (All-tail (λ (w : PlacedWord). is_run w.text) w ws runs)
 
-pub texts_are_runs : (whole : Bool) (line : ℕ) (bytes : List ℕ)
-    → list_all is_run_text (map (λ (w : PlacedWord). w.text) (words_from whole line bytes)) ≡ true
-texts_are_runs whole line bytes = texts_pass (words_from whole line bytes) (words_are_words whole line bytes)
+pub texts_are_runs : (end_counts : Bool) (line : ℕ) (bytes : List ℕ)
+    → list_all is_run_text (map (λ (w : PlacedWord). w.text) (words_from end_counts line bytes)) ≡ true
+texts_are_runs end_counts line bytes =
+    texts_pass (words_from end_counts line bytes) (words_are_words end_counts line bytes)
 
 -- a run that is not `$end` is a word that a header entry, a name or a kind can have
 pub run_is_word : (text : List ℕ) → is_run_text text ≡ true → is_end_word text ≡ false → is_word text ≡ true
@@ -155,7 +159,8 @@ more_with_byte : (space last : Bool) (b line : ℕ) (ws : List PlacedWord)
     → length (with_byte space last b line ws) ≤ suc (length ws)
 more_with_byte space last b line ws = grind arith
 
-pub words_are_few : (whole : Bool) (line : ℕ) (bytes : List ℕ) → length (words_from whole line bytes) ≤ length bytes
+pub words_are_few : (end_counts : Bool) (line : ℕ) (bytes : List ℕ)
+    → length (words_from end_counts line bytes) ≤ length bytes
 unfolding words_from
-words_are_few whole line [] = omega arith
-words_are_few whole line (b ∷ bs) = grind (arith, more_with_byte, words_are_few whole (line_after b line) bs)
+words_are_few end_counts line [] = omega arith
+words_are_few end_counts line (b ∷ bs) = grind (arith, more_with_byte, words_are_few end_counts (line_after b line) bs)

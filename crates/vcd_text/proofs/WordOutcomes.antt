@@ -1,12 +1,12 @@
 -- The effect of a word after the words of an incomplete item: it shows a fault, ends the item, or goes on with it.
 use Rattle.std.proofs.Common.{◌≡◌, ◌⊎◌, inl, inr, ℕ, ◌<◌, true, not, ◌&&◌, ◌||◌, List, [], ◌∷◌, ◌++◌, length, Option}
-use Rattle.std.proofs.Common.{Some, None, IsSome, IsSomeAnd, IsTrue, IsFalse, codes, bytes_eq, refl, sym, subst, ◌∙◌}
-use Rattle.std.proofs.Common.{arith}
+use Rattle.std.proofs.Common.{Some, None, IsSome, IsSomeAnd, IsTrue, IsFalse, codes, bytes_eq, refl, sym, subst}
+use Rattle.std.proofs.Common.{◌∙◌, arith}
 use Rattle.std.specs.Prelude.{nat_eq, nat_le}
 use Rattle.std.proofs.lemmas.List.Folds.{list_all-append, list_any-append}
 use Rattle.std.proofs.lemmas.Slice.Eq.{bytes_eq-Decides}
-use Rattle.std.proofs.lemmas.Bool.{cases_Bool, cases_lt, and_parts, or_cases, or_from, or_left, or_right, not-true}
-use Rattle.std.proofs.lemmas.Bool.{le-leb}
+use Rattle.std.proofs.lemmas.Bool.{cases_Bool, cases_lt, and_parts, or_cases, or_from, or_left, or_right}
+use Rattle.std.proofs.lemmas.Bool.{not-true, le-leb}
 use Rattle.vcd_core.specs.declared.capture.HeaderKind.TheVariants.{Date, Version, Comment}
 use Rattle.vcd_core.specs.Word.{is_one_of}
 use Rattle.vcd_core.specs.Decimal.{is_number, number_of}
@@ -16,17 +16,17 @@ use Rattle.vcd_text.specs.declared.fault.Fault.TheVariants.{BadVar, MixedCode, B
 use Rattle.vcd_text.specs.declared.fault.Fault.TheVariants.{UnknownCode, ValueTooLong, TooManySignals}
 use Rattle.vcd_text.specs.Letters.{is_among, is_binary_digit}
 use Rattle.vcd_text.specs.Items.{Item, entry, timescale, scope, upscope, variable, end_definitions, stamp, scalar}
-use Rattle.vcd_text.specs.Items.{vector, real_or_string, bracket, other, spelling, end_word, is_end_word}
-use Rattle.vcd_text.specs.Items.{has_no_end_word, dump_words, declaring_words, header_words, begins_declaration}
-use Rattle.vcd_text.specs.Items.{timescale_of, vector_prefixes, dropped_prefixes}
+use Rattle.vcd_text.specs.Items.{vector, real_or_string, dump_word, other, spelling, end_word, is_end_word}
+use Rattle.vcd_text.specs.Items.{has_no_end_word, dump_words, declaration_words, header_words, begins_declaration}
+use Rattle.vcd_text.specs.Items.{timescale_of, vector_prefixes, real_or_string_prefixes}
 use Rattle.vcd_text.specs.Grammar.{ParseState, VariableDeclaration, Allows, is_skipped, has_good_size, declaration_of}
 use Rattle.vcd_text.specs.Grammar.{variable_of, may_have_code, has_room, is_tick, is_binary_number, takes_binary_number}
 use Rattle.vcd_text.specs.Faults.{WordFault, pair_prefixes, no_declaration, no_timescale, no_kind}
 use Rattle.vcd_text.specs.FoundFaults.{IsUnfinished}
 use Rattle.vcd_text.specs.Faults.{upscope_at_top, upscope_goes_on, no_size, no_variable, code_mixed, no_room}
-use Rattle.vcd_text.specs.Faults.{definitions_go_on, no_tick, tick_goes_back, value_alone, value_of_none, pair_of_none}
-use Rattle.vcd_text.specs.Faults.{no_value, value_too_long, declaration_late, no_change, among_declarations}
-use Rattle.vcd_text.specs.Faults.{among_changes}
+use Rattle.vcd_text.specs.Faults.{definitions_go_on, no_tick, tick_goes_back, missing_code, unknown_scalar_code}
+use Rattle.vcd_text.specs.Faults.{unknown_pair_code, no_value, value_too_long, declaration_late, begins_no_change}
+use Rattle.vcd_text.specs.Faults.{among_declarations, among_changes}
 use Rattle.vcd_text.specs.FoundFaults.{declaration_due, words_due, upscope_due, variable_due, definitions_due}
 use Rattle.vcd_text.specs.FoundFaults.{code_due, other_due}
 use Rattle.vcd_text.proofs.OneOf.{by_among, by_one_of}
@@ -81,7 +81,7 @@ upscope_begins c declares =
       | inr some ↦ goes_on (upscope_due declares refl some)
     ]
 
-declaring_word : (c : ParseState) (word : List ℕ) → IsFalse c.in_body → IsTrue (is_one_of declaring_words word)
+declaring_word : (c : ParseState) (word : List ℕ) → IsFalse c.in_body → IsTrue (is_one_of declaration_words word)
     → WordOutcome c [] word
 declaring_word c word declares is =
     let scoped : WordOutcome c [] (codes "$scope") = goes_on (words_due (codes "$scope") [] declares refl refl refl) in
@@ -89,14 +89,14 @@ declaring_word c word declares is =
     goes_on (words_due (codes "$timescale") [] declares refl refl refl) in
     let named : WordOutcome c [] (codes "$var") = goes_on (variable_due [] declares refl refl refl) in
     let last : WordOutcome c [] (codes "$enddefinitions") = goes_on (definitions_due declares refl) in
-    by_one_of (WordOutcome c []) declaring_words word is
+    by_one_of (WordOutcome c []) declaration_words word is
     (scoped, (upscope_begins c declares, (named, (timed, (last, tt)))))
 
 declaration_begins : (c : ParseState) (word : List ℕ) → IsFalse c.in_body → WordOutcome c [] word
 declaration_begins c word declares =
     elim (cases_Bool (begins_declaration word)) [
       | inr isnt ↦ shows_fault UnexpectedWord (among_declarations declares (no_declaration refl isnt refl))
-      | inl is ↦ elim (cases_Bool (is_one_of declaring_words word)) [
+      | inl is ↦ elim (cases_Bool (is_one_of declaration_words word)) [
         | inl declaring ↦ declaring_word c word declares declaring
         | inr none ↦ elim (cases_Bool (is_one_of header_words word)) [
           | inl header ↦ goes_on
@@ -124,8 +124,8 @@ stamp_word c digits in_body =
 command_word : (c : ParseState) (text : List ℕ) → IsTrue c.in_body → WordOutcome c [] (36 ∷ text)
 command_word c text in_body =
     elim (cases_Bool (is_one_of dump_words (36 ∷ text))) [
-      | inl dump ↦ ends_item (bracket (36 ∷ text)) refl (in_body, dump)
-      | inr no_dump ↦ elim (cases_Bool (is_one_of declaring_words (36 ∷ text))) [
+      | inl dump ↦ ends_item (dump_word (36 ∷ text)) refl (in_body, dump)
+      | inr no_dump ↦ elim (cases_Bool (is_one_of declaration_words (36 ∷ text))) [
         | inl late ↦ shows_fault UnexpectedWord (among_changes in_body (declaration_late refl late refl))
         | inr none ↦ goes_on (other_due (36 ∷ text) [] refl (λ i. not (no_dump i) && not (none i)
             && (in_body i || not (is_one_of header_words (36 ∷ text)))) refl)
@@ -135,11 +135,11 @@ command_word c text in_body =
 letter_word : (c : ParseState) (letter : ℕ) (code : List ℕ) → IsTrue c.in_body → IsTrue (is_binary_digit letter)
     → WordOutcome c [] (letter ∷ code)
 letter_word c letter [] in_body is =
-    shows_fault BadChange (among_changes in_body (value_alone letter refl refl is refl))
+    shows_fault BadChange (among_changes in_body (missing_code letter refl refl is refl))
 letter_word c letter (b ∷ code) in_body is =
     elim (cases_Option (variable_of c (b ∷ code))) [
       | inl none ↦ shows_fault UnknownCode
-          (among_changes in_body (value_of_none letter (b ∷ code) refl refl is (omega arith) none refl))
+          (among_changes in_body (unknown_scalar_code letter (b ∷ code) refl refl is (omega arith) none refl))
       | inr (d, found) ↦ ends_item (scalar letter (b ∷ code)) refl (
         in_body,
         is,
@@ -160,7 +160,7 @@ change_begins c (first ∷ text) in_body some =
         )
         | inr no_sign ↦ elim (cases_Bool (is_among pair_prefixes first)) [
           | inl pair ↦ goes_on (code_due first text in_body refl pair)
-          | inr no_pair ↦ shows_fault BadChange (among_changes in_body (no_change first text refl refl no_letter
+          | inr no_pair ↦ shows_fault BadChange (among_changes in_body (begins_no_change first text refl refl no_letter
               (list_any-append (nat_eq first) (codes "#$") pair_prefixes
               ∙ or_from (is_among (codes "#$") first) (is_among pair_prefixes first) no_sign no_pair) refl))
         ]
@@ -270,10 +270,10 @@ pair_ends : (c : ParseState) (first : ℕ) (text code : List ℕ) → IsTrue c.i
     → IsTrue (is_among pair_prefixes first) → WordOutcome c ((first ∷ text) ∷ []) code
 pair_ends c first text code in_body pair =
     elim (cases_Option (variable_of c code)) [
-      | inl none ↦ shows_fault UnknownCode (among_changes in_body (pair_of_none first text refl pair none refl))
+      | inl none ↦ shows_fault UnknownCode (among_changes in_body (unknown_pair_code first text refl pair none refl))
       | inr (d, found) ↦ elim
-          (or_cases (is_among vector_prefixes first) (is_among dropped_prefixes first)
-          (sym (list_any-append (nat_eq first) vector_prefixes dropped_prefixes) ∙ pair)) [
+          (or_cases (is_among vector_prefixes first) (is_among real_or_string_prefixes first)
+          (sym (list_any-append (nat_eq first) vector_prefixes real_or_string_prefixes) ∙ pair)) [
             | inl letter ↦ vector_ends c first text code d in_body pair letter found
             | inr letter ↦ ends_item (real_or_string first text code) refl (
               in_body,

@@ -125,7 +125,7 @@ pub unsent_left : (o : WriteBuffer) (text : List ℕ) → o.sent_count ≤ lengt
     → drop o.sent_count (text ++ []) ≡ o.unsent.items
 unsent_left o text within is = ap (drop o.sent_count) (append-nil text) ∙ is
 
--- where nothing waits, a part is the rest
+-- if nothing waits, a part is the rest
 pub part_left : (o : WriteBuffer) (part text : List ℕ) → o.unsent.items ≡ [] → o.sent_count ≤ length text
     → drop o.sent_count text ≡ o.unsent.items → drop o.sent_count (text ++ part) ≡ part
 part_left o part text none within is = drop-append-le o.sent_count text part within ∙ ap (λ l. l ++ part) (is ∙ none)

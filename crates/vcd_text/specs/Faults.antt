@@ -12,8 +12,8 @@ use Rattle.vcd_text.specs.Meaning.{FileMeans}
 use Rattle.vcd_core.specs.Decimal.{is_number, number_of}
 use Rattle.vcd_core.specs.Word.{is_one_of}
 use Rattle.vcd_text.specs.Letters.{is_among, is_binary_digit}
-use Rattle.vcd_text.specs.Items.{Item, spellings, end_word, is_end_word, has_no_end_word, declaring_words}
-use Rattle.vcd_text.specs.Items.{begins_declaration, timescale_of, vector_prefixes, dropped_prefixes}
+use Rattle.vcd_text.specs.Items.{Item, spellings, end_word, is_end_word, has_no_end_word, declaration_words}
+use Rattle.vcd_text.specs.Items.{begins_declaration, timescale_of, vector_prefixes, real_or_string_prefixes}
 use Rattle.vcd_text.specs.Grammar.{ParseState, VariableDeclaration, is_skipped, has_good_size, declaration_of}
 use Rattle.vcd_text.specs.Grammar.{variable_of, may_have_code, has_room, is_tick, is_binary_number, initial_state}
 use Rattle.vcd_text.specs.Grammar.{word_texts, AllowsAll, state_after}
@@ -31,7 +31,7 @@ pub data DeclarationFault (c : ParseState) (begun : List (List ℕ)) (word : Lis
       → DeclarationFault c begun word fault
   -- `$end` in the place of a scope's kind
   no_kind : begun ≡ codes "$scope" ∷ [] → word ≡ end_word → fault ≡ BadScope → DeclarationFault c begun word fault
-  -- `$upscope` where no scope is open
+  -- `$upscope` while no scope is open
   upscope_at_top : begun ≡ [] → word ≡ codes "$upscope" → c.scopes ≡ [] → fault ≡ UpscopeAtTop
       → DeclarationFault c begun word fault
   -- a word other than `$end` after `$upscope`
@@ -59,7 +59,7 @@ pub data DeclarationFault (c : ParseState) (begun : List (List ℕ)) (word : Lis
 
 -- the first bytes of a change of two words
 abbrev pub pair_prefixes : List ℕ
-pair_prefixes = vector_prefixes ++ dropped_prefixes
+pair_prefixes = vector_prefixes ++ real_or_string_prefixes
 
 -- among the changes
 pub data ChangeFault (c : ParseState) (begun : List (List ℕ)) (word : List ℕ) (fault : Fault) : Type 0 where
@@ -70,13 +70,13 @@ pub data ChangeFault (c : ParseState) (begun : List (List ℕ)) (word : List ℕ
   tick_goes_back : (digits : List ℕ) → begun ≡ [] → word ≡ 35 ∷ digits → IsTrue (is_tick digits)
       → number_of digits < c.tick → fault ≡ TimeBackwards → ChangeFault c begun word fault
   -- a binary digit without a code
-  value_alone : (digit : ℕ) → begun ≡ [] → word ≡ digit ∷ [] → IsTrue (is_binary_digit digit) → fault ≡ BadChange
+  missing_code : (digit : ℕ) → begun ≡ [] → word ≡ digit ∷ [] → IsTrue (is_binary_digit digit) → fault ≡ BadChange
       → ChangeFault c begun word fault
   -- a binary digit with a code that was not declared
-  value_of_none : (digit : ℕ) (code : List ℕ) → begun ≡ [] → word ≡ digit ∷ code → IsTrue (is_binary_digit digit)
+  unknown_scalar_code : (digit : ℕ) (code : List ℕ) → begun ≡ [] → word ≡ digit ∷ code → IsTrue (is_binary_digit digit)
       → 0 < length code → variable_of c code ≡ None → fault ≡ UnknownCode → ChangeFault c begun word fault
   -- a change of two words with a code that was not declared
-  pair_of_none : (first : ℕ) (text : List ℕ) → begun ≡ (first ∷ text) ∷ [] → IsTrue (is_among pair_prefixes first)
+  unknown_pair_code : (first : ℕ) (text : List ℕ) → begun ≡ (first ∷ text) ∷ [] → IsTrue (is_among pair_prefixes first)
       → variable_of c word ≡ None → fault ≡ UnknownCode → ChangeFault c begun word fault
   -- no digit, or one that is no binary digit, for a kept variable
   no_value : (first : ℕ) (digits : List ℕ) (d : VariableDeclaration) → begun ≡ (first ∷ digits) ∷ []
@@ -88,10 +88,10 @@ pub data ChangeFault (c : ParseState) (begun : List (List ℕ)) (word : List ℕ
       → IsTrue (is_binary_number digits) → d.size < length digits → fault ≡ ValueTooLong
       → ChangeFault c begun word fault
   -- a word of the declarations
-  declaration_late : begun ≡ [] → IsTrue (is_one_of declaring_words word) → fault ≡ UnexpectedWord
+  declaration_late : begun ≡ [] → IsTrue (is_one_of declaration_words word) → fault ≡ UnexpectedWord
       → ChangeFault c begun word fault
   -- a word that begins no change
-  no_change : (first : ℕ) (text : List ℕ) → begun ≡ [] → word ≡ first ∷ text → IsFalse (is_binary_digit first)
+  begins_no_change : (first : ℕ) (text : List ℕ) → begun ≡ [] → word ≡ first ∷ text → IsFalse (is_binary_digit first)
       → IsFalse (is_among (codes "#$" ++ pair_prefixes) first) → fault ≡ BadChange → ChangeFault c begun word fault
 
 -- among the declarations or the changes, by the state
@@ -120,7 +120,7 @@ pub record ShowsFault (words : List PlacedWord) (line : ℕ) (fault : Fault) : T
   pub decided : WordFault (state_after initial_state items) (word_texts begun) word.text fault
   pub at : line ≡ fault_line (state_after initial_state items).in_body begun word
 
--- the fault of a file with these words: the one that a word shows; or, where none shows one, this one at the last line
+-- the fault of a file with these words: the one that a word shows; or, if none shows one, this one at the last line
 pub data FaultOf (words : List PlacedWord) (last : ℕ) (otherwise : Fault) (line : ℕ) (fault : Fault) : Type 0 where
   shown : ShowsFault words line fault → FaultOf words last otherwise line fault
   none_shown : ((at : ℕ) (other : Fault) → ShowsFault words at other → ⊥) → line ≡ last → fault ≡ otherwise

@@ -1,16 +1,12 @@
 -- The fault of a file as it is found: a word shows it, or the words end too early.
-use Rattle.std.specs.Prelude.{◌≡◌, ℕ, ◌<◌, List, ◌∷◌, ◌++◌, length, IsTrue, IsFalse, []}
-use Rattle.std.specs.Prelude.{codes}
+use Rattle.std.specs.Prelude.{◌≡◌, ℕ, ◌<◌, List, ◌∷◌, ◌++◌, length, IsTrue, IsFalse, [], codes}
 use Rattle.vcd_text.specs.declared.fault.Fault.{Fault}
 use Rattle.vcd_text.specs.declared.fault.Fault.TheVariants.{Truncated}
-use Rattle.vcd_text.specs.Words.{PlacedWord, words_of, closed_words, last_line}
+use Rattle.vcd_text.specs.Words.{PlacedWord, words_of, complete_words, last_line}
 use Rattle.vcd_core.specs.Word.{is_one_of}
 use Rattle.vcd_text.specs.Letters.{is_among}
-use Rattle.vcd_text.specs.Items.{Item, spellings, has_no_end_word, header_words}
-use Rattle.vcd_text.specs.Items.{is_other}
-use Rattle.vcd_text.specs.Grammar.{ParseState, has_good_size}
-use Rattle.vcd_text.specs.Grammar.{initial_state}
-use Rattle.vcd_text.specs.Grammar.{word_texts, AllowsAll, state_after}
+use Rattle.vcd_text.specs.Items.{Item, spellings, has_no_end_word, header_words, is_other}
+use Rattle.vcd_text.specs.Grammar.{ParseState, has_good_size, initial_state, word_texts, AllowsAll, state_after}
 use Rattle.vcd_text.specs.Faults.{pair_prefixes, ShowsFault}
 
 -- the words `begun` of an incomplete item show no fault, and a word must follow them
@@ -48,10 +44,10 @@ pub data FoundFault (bytes : List ℕ) (line : ℕ) (fault : Fault) : Type 0 whe
   word_shows : ShowsFault (words_of bytes) line fault → FoundFault bytes line fault
   too_early : Stops (words_of bytes) → line ≡ last_line bytes → fault ≡ Truncated → FoundFault bytes line fault
 
--- a closed word of this front of a file shows this fault, at this line, whatever follows the front
+-- a complete word of this front of a file shows this fault, at this line, whatever follows the front
 abbrev pub FrontFault : List ℕ → ℕ → Fault → Type 0
-FrontFault bytes line fault = ShowsFault (closed_words bytes) line fault
+FrontFault bytes line fault = ShowsFault (complete_words bytes) line fault
 
--- no closed word of this front shows a fault
+-- no complete word of this front shows a fault
 abbrev pub HasNoFrontFault : List ℕ → Type 0
 HasNoFrontFault bytes = (line : ℕ) (fault : Fault) → FrontFault bytes line fault → ⊥

@@ -15,8 +15,8 @@ use Rattle.vcd_text.specs.Words.{PlacedWord}
 use Rattle.vcd_core.specs.Decimal.{is_number, number_of}
 use Rattle.vcd_text.specs.Letters.{is_among, is_binary_digit, letters_of_digits}
 use Rattle.vcd_text.specs.Items.{Item, entry, timescale, scope, upscope, variable, end_definitions, stamp, scalar}
-use Rattle.vcd_text.specs.Items.{vector, real_or_string, bracket, other, spellings, has_no_end_word, dump_words}
-use Rattle.vcd_text.specs.Items.{is_other, timescale_of, vector_prefixes, dropped_prefixes}
+use Rattle.vcd_text.specs.Items.{vector, real_or_string, dump_word, other, spellings, has_no_end_word, dump_words}
+use Rattle.vcd_text.specs.Items.{is_other, timescale_of, vector_prefixes, real_or_string_prefixes}
 
 -- ---- the state of a file
 
@@ -116,9 +116,9 @@ Allows c (scalar digit code) = IsTrue c.in_body × IsTrue (is_binary_digit digit
     × IsSome (variable_of c code)
 Allows c (vector first digits code) = IsTrue c.in_body × IsTrue (is_among vector_prefixes first)
     × IsSomeAnd (variable_of c code) (λ d. IsTrue (takes_binary_number d digits))
-Allows c (real_or_string first text code) = IsTrue c.in_body × IsTrue (is_among dropped_prefixes first)
+Allows c (real_or_string first text code) = IsTrue c.in_body × IsTrue (is_among real_or_string_prefixes first)
     × IsSome (variable_of c code)
-Allows c (bracket word) = IsTrue c.in_body × IsTrue (is_one_of dump_words word)
+Allows c (dump_word word) = IsTrue c.in_body × IsTrue (is_one_of dump_words word)
 Allows c (other word words) = IsTrue (is_other c.in_body word) × IsTrue (has_no_end_word words)
 
 -- ---- the effect of an item

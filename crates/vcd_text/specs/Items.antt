@@ -25,13 +25,13 @@ is_end_word word = bytes_eq word end_word
 abbrev pub has_no_end_word : List (List ℕ) → Bool
 has_no_end_word words = list_all (λ word. not (is_end_word word)) words
 
--- the words of the changes alone: the brackets of a dump, where `$end` is the closing one
+-- the words of the changes alone: those of a dump, which `$end` closes
 abbrev pub dump_words : List (List ℕ)
 dump_words = codes "$dumpall" ∷ codes "$dumpoff" ∷ codes "$dumpon" ∷ codes "$dumpvars" ∷ end_word ∷ []
 
 -- the words of the declarations alone
-abbrev pub declaring_words : List (List ℕ)
-declaring_words = codes "$scope" ∷ codes "$upscope" ∷ codes "$var" ∷ codes "$timescale" ∷ codes "$enddefinitions" ∷ []
+abbrev pub declaration_words : List (List ℕ)
+declaration_words = codes "$scope" ∷ codes "$upscope" ∷ codes "$var" ∷ codes "$timescale" ∷ codes "$enddefinitions" ∷ []
 
 -- the keyword of a header entry
 abbrev pub header_word : HeaderKind → List ℕ
@@ -56,15 +56,15 @@ begins_declaration word = is_command word && not (is_one_of dump_words word)
 -- own)
 abbrev pub is_other : (in_body : Bool) → List ℕ → Bool
 is_other in_body word =
-    begins_declaration word && not (is_one_of declaring_words word) && (in_body || not (is_one_of header_words word))
+    begins_declaration word && not (is_one_of declaration_words word) && (in_body || not (is_one_of header_words word))
 
--- the first bytes of a change of several bits
+-- the first bytes of a change by a binary number
 abbrev pub vector_prefixes : List ℕ
 vector_prefixes = codes "bB"
 
 -- the first bytes of changes of real numbers and strings
-abbrev pub dropped_prefixes : List ℕ
-dropped_prefixes = codes "rRsS"
+abbrev pub real_or_string_prefixes : List ℕ
+real_or_string_prefixes = codes "rRsS"
 
 -- ---- timescales
 
@@ -101,8 +101,8 @@ pub data Item : Type 0 where
   vector : (first : ℕ) → (digits code : List ℕ) → Item
   -- two words: `r`, `R`, `s` or `S` and anything, and the code
   real_or_string : (first : ℕ) → (text code : List ℕ) → Item
-  -- one word of a dump's brackets
-  bracket : (word : List ℕ) → Item
+  -- one word of a dump
+  dump_word : (word : List ℕ) → Item
   -- any other command, and words up to `$end`
   other : (word : List ℕ) → (words : List (List ℕ)) → Item
 
@@ -118,7 +118,7 @@ spelling (stamp digits) = (35 ∷ digits) ∷ []
 spelling (scalar digit code) = (digit ∷ code) ∷ []
 spelling (vector first digits code) = (first ∷ digits) ∷ code ∷ []
 spelling (real_or_string first text code) = (first ∷ text) ∷ code ∷ []
-spelling (bracket word) = word ∷ []
+spelling (dump_word word) = word ∷ []
 spelling (other word words) = word ∷ words ++ end_word ∷ []
 
 -- the words of items in a row

@@ -33,7 +33,7 @@ EveryFileHasMeaningOrFault =
     (bytes : List ℕ) → ((c : Contents) × (n : ℕ) × FileMeans bytes c n)
     ⊎ ((line : ℕ) × (fault : Fault) × FileFault bytes line fault)
 
--- where a file has a fault, it is found so: a word shows it, or the words end too early
+-- if a file has a fault, it is found so: a word shows it, or the words end too early
 abbrev pub EveryFaultIsFound : Type 0
 EveryFaultIsFound = (bytes : List ℕ) (line : ℕ) (fault : Fault) → FileFault bytes line fault
     → FoundFault bytes line fault

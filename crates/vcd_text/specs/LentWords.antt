@@ -3,5 +3,5 @@ use Rattle.vcd_text.specs.Words.{PlacedWord, word_on}
 use Rattle.vcd_text.specs.declared.words.PlacedWord.{PlacedWord as LentWord}
 
 -- the word itself
-abbrev pub word_at : LentWord → PlacedWord
-word_at p = word_on p.text.now p.line
+abbrev pub word_contents : LentWord → PlacedWord
+word_contents p = word_on p.text.now p.line

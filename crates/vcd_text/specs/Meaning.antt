@@ -8,12 +8,11 @@ use Rattle.vcd_text.specs.Words.{words_of}
 use Rattle.vcd_text.specs.Letters.{extension}
 use Rattle.vcd_text.specs.Grammar.{VariableDeclaration, ValueChange, ParseState, Accepts, is_skipped, kept_variables}
 
--- the value of a code at a tick: the last change of that code at or before it, extended to the width; `before` without
--- one
+-- the last change of the code up to tick t, extended to the width; `before` if there is none
 unfoldable pub latest_value : ℕ → List ℕ → ℕ → List Bit → List ValueChange → List Bit
 latest_value width code t before [] = before
-latest_value width code t before (r ∷ rs) =
-    latest_value width code t (if bytes_eq r.code code && nat_le r.tick t then extension width r.letters else before) rs
+latest_value width code t before (v ∷ vs) =
+    latest_value width code t (if bytes_eq v.code code && nat_le v.tick t then extension width v.letters else before) vs
 
 -- the signal of a variable, up to the tick `end`: all x before its first value change
 abbrev pub declared_signal : List ValueChange → ℕ → VariableDeclaration → SignalContents

@@ -1,4 +1,4 @@
--- The error where memory runs out while a file is read.
+-- The error if memory runs out while a file is read.
 use Rattle.vcd_text.specs.declared.fault.ReadError.{ReadError}
 use Rattle.vcd_text.specs.declared.fault.Fault.TheVariants.{NoMemory}
 

@@ -4,14 +4,14 @@ use Rattle.vcd_text.specs.declared.reading.TheConstants.{FILE_LIMIT}
 use Rattle.vcd_text.specs.declared.fault.Fault.{Fault}
 use Rattle.vcd_text.specs.declared.fault.Fault.TheVariants as faults
 use Rattle.vcd_text.specs.declared.fault.ReadError.{ReadError}
-use Rattle.vcd_text.specs.Words.{closed_words, last_line}
+use Rattle.vcd_text.specs.Words.{complete_words, last_line}
 use Rattle.vcd_text.specs.Faults.{FileFault, FaultOf}
 
--- only this front of a file was read, for this reason: the fault of its closed words, or the reason at its last line
+-- only this front of a file was read, for this reason: the fault of its complete words, or the reason at its last line
 abbrev pub IsFrontAnswer : (front : List ℕ) → (reason : Fault) → ReadError → Type 0
-IsFrontAnswer front reason e = FaultOf (closed_words front) (last_line front) reason e.line e.fault
+IsFrontAnswer front reason e = FaultOf (complete_words front) (last_line front) reason e.line e.fault
 
--- the fault of reading a file, from a reader that has failed or not, with these bytes left where it shows them
+-- the fault of reading a file, from a reader that has failed or not, with these bytes left if it shows them
 pub data IsRefusal (file : List ℕ) (failed : Bool) (left : Option (List ℕ)) (e : ReadError) : Type 0 where
   -- all of it was read, and it has this fault
   has_fault : IsFalse failed → length file ≤ FILE_LIMIT → FileFault file e.line e.fault → IsRefusal file failed left e

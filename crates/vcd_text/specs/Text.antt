@@ -14,7 +14,7 @@ use Rattle.vcd_core.specs.Value.{same_letters, printed_letter}
 use Rattle.vcd_core.specs.Contents.{Contents, SignalContents, signal_value}
 use Rattle.vcd_text.specs.Letters.{printed_letters, short_form}
 use Rattle.vcd_text.specs.Items.{Item, entry, timescale, scope, upscope, variable, end_definitions, stamp, scalar}
-use Rattle.vcd_text.specs.Items.{vector, bracket, spelling, end_word}
+use Rattle.vcd_text.specs.Items.{vector, dump_word, spelling, end_word}
 use Rattle.vcd_core.specs.TimeUnits.{unit_text}
 
 -- the line of an item: its words with one space (32) between them, and a line feed (10)
@@ -27,7 +27,7 @@ item_line item = join_with_byte 32 (spelling item) ++ 10 ∷ []
 abbrev pub header_items : List Header → List Item
 header_items header = map (λ h. entry h.kind h.words) header
 
--- the timescale, where there is one: its number and its unit are two words (18.2)
+-- the timescale, if there is one: its number and its unit are two words (18.2)
 abbrev pub timescale_items : Option Timescale → List Item
 timescale_items None = []
 timescale_items (Some t) = timescale (decimal t.count ∷ unit_text t.unit ∷ []) ∷ []
@@ -91,21 +91,21 @@ new_values signals t = value_items t (filter (λ p. differs_at t p.1) (enumerate
 abbrev pub stamp_of : ℕ → Item
 stamp_of t = stamp (decimal t)
 
--- the stamp of a tick before its values, where there are any
+-- the stamp of a tick before its values, if there are any
 abbrev pub with_stamp : ℕ → List Item → List Item
 with_stamp t [] = []
 with_stamp t (v ∷ vs) = stamp_of t ∷ v ∷ vs
 
 -- the values at tick 0, between `$dumpvars` and `$end` (18.2)
 abbrev pub first_items : List SignalContents → List Item
-first_items signals = stamp_of 0 ∷ bracket (codes "$dumpvars") ∷ (all_values signals 0 ++ bracket end_word ∷ [])
+first_items signals = stamp_of 0 ∷ dump_word (codes "$dumpvars") ∷ (all_values signals 0 ++ dump_word end_word ∷ [])
 
 -- the values that differ at each of n ticks, from t on
 unfoldable pub tick_items : List SignalContents → ℕ → ℕ → List Item
 tick_items signals t zero = []
 tick_items signals t (suc n) = with_stamp t (new_values signals t) ++ tick_items signals (suc t) n
 
--- the stamp of the end, where it is above 0 and nothing differs at it
+-- the stamp of the end, if it is above 0 and nothing differs at it
 abbrev pub end_items : List SignalContents → ℕ → List Item
 end_items signals end = if nat_lt 0 end && (length (new_values signals end) == 0) then stamp_of end ∷ [] else []
 

@@ -18,6 +18,6 @@ pub mod Written
 pub mod ValueFronts
 pub mod TextParts
 pub mod NextChanges
-pub mod Waiting
+pub mod ReadBufferView
 pub mod Windows
 pub mod SkippedVariables

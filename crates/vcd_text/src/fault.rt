@@ -28,7 +28,7 @@ pub enum Fault {
     /// A `$scope` without a kind.
     #[error("BadScope")]
     BadScope,
-    /// `$upscope` where no scope is open.
+    /// `$upscope` while no scope is open.
     #[error("UpscopeAtTop")]
     UpscopeAtTop,
     /// A `$var` without kind, size, code or name, or with a size that is no decimal number.

@@ -1,7 +1,7 @@
 //! Reads a capture file (IEEE 1364-2005, 18.2, in the project's profile).
 //!
 //! The file comes in chunks. A `Reader` takes its words one after another. Every step follows the
-//! grammar: the words so far spell items, and the reader holds the state after these items.
+//! grammar. The reader holds the state after the whole items, and the words of the open item.
 
 ghost use Rattle.std.specs.Prelude.{◌≡◌, ◌≤◌, true, false, length, IfOk, IfErr, IfSome, OnOk};
 ghost use Rattle.std.specs.Io.KnownBytes.{IsAtEnd};
@@ -47,9 +47,8 @@ pub struct Loaded {
 /// Reads a capture file to its end. The result is the capture that it means, or its first fault
 /// with the line.
 ///
-/// The source can fail, or have more than 4 GiB. Then the words that white space follows are read
-/// first, since they are surely words of the file; a fault in them is the result. `ReadFault` means
-/// that the source has failed.
+/// The source may fail or exceed 4 GiB. The words that white space follows are then taken, and
+/// their first fault is the result. `ReadFault` means that the source has failed.
 ///
 /// Time: one step for each byte. Each change takes one look-up of its code. If its variable has at
 /// most 64 bits, it is also written to the log once and read twice at the end. Each variable takes

@@ -4,7 +4,7 @@ ghost use Rattle.std.specs.Prelude.{◌≡◌, ◌+◌, ◌<◌, ◌≤◌, ◌^
 ghost use Rattle.std.specs.List.{list_all};
 ghost use Rattle.vcd_core.specs.Word.{is_white_space as white};
 ghost use Rattle.vcd_text.specs.Words.{ends_before as ends_word, words_from, words_of};
-ghost use Rattle.vcd_text.specs.LentWords.{word_at};
+ghost use Rattle.vcd_text.specs.LentWords.{word_contents};
 ghost use Rattle.vcd_text.specs.inside.Spaces.{begins_with_space};
 ghost use Rattle.vcd_text.specs.inside.WordWalk.{line_feeds_in, words_left, line_feeds_at_end, LinesFit};
 
@@ -56,7 +56,7 @@ impl<'a> Words<'a> {
     /// The next word, if there is one.
     pub fn next_word(&mut self) -> Option<PlacedWord<'a>>
         ensures words { MatchOption result (self.old ≡ []) (λ word.
-            self.old ≡ word_at word ∷ self.new) }
+            self.old ≡ word_contents word ∷ self.new) }
         ensures some { IfSome result (λ word. 0 < length word.text.now) }
         ensures none_left { IfNone result (self.new ≡ []) }
     {
@@ -69,7 +69,7 @@ impl<'a> Iterator for Words<'a> {
 
     type Item = PlacedWord<'a>;
 
-    ghost next_gives = { YieldsFirstBy word_at (λ left. left) };
+    ghost next_gives = { YieldsFirstBy word_contents (λ left. left) };
 
     ghost remaining = { item_count (λ left. left) };
 
@@ -86,15 +86,15 @@ pub struct WordWalk<'a> {
 }
 
 impl<'a> WordWalk<'a> {
-    /// Moves past the next word, or to the end where there is none.
+    /// Moves past the next word, or to the end if there is none.
     pub fn next_word(&mut self) -> Option<PlacedWord<'a>>
-        requires room { LinesFit self.old }
+        requires lines { LinesFit self.old }
         ensures words { MatchOption result (words_left self.old ≡ []) (λ word.
-            words_left self.old ≡ word_at word ∷ words_left self.new) }
+            words_left self.old ≡ word_contents word ∷ words_left self.new) }
         ensures some { IfSome result (λ word. 0 < length word.text.now) }
         ensures none_left { IfNone result (words_left self.new ≡ []) }
         ensures end { IfNone result (self.new.rest.now ≡ []) }
-        ensures room { LinesFit self.new }
+        ensures lines { LinesFit self.new }
         ensures line_feeds { line_feeds_at_end self.new ≡ line_feeds_at_end self.old }
     {
         let (rest, line_feeds) = after_space(self.rest, self.line_feeds);
@@ -114,9 +114,9 @@ impl<'a> WordWalk<'a> {
 /// The text after the white space at its front, and the number of line feeds before that.
 fn after_space(text: &[u8], line_feeds: u64) -> (&[u8], u64)
     requires { line_feeds + length text.now < 2 ^ 64 }
-    ensures words { (whole : Bool) →
-        words_from whole (result.1 + 1) result.0.now ≡ words_from whole (line_feeds + 1) text.now }
-    ensures room { result.1 + length result.0.now ≤ line_feeds + length text.now }
+    ensures words { (end_counts : Bool) →
+        words_from end_counts (result.1 + 1) result.0.now ≡ words_from end_counts (line_feeds + 1) text.now }
+    ensures lines { result.1 + length result.0.now ≤ line_feeds + length text.now }
     ensures line_feeds { result.1 + line_feeds_in result.0.now ≡ line_feeds + line_feeds_in text.now }
     ensures no_space { begins_with_space result.0.now ≡ false }
 {

@@ -32,18 +32,19 @@ use window::Window;
 /// taken before the first byte is written.
 ///
 /// At `NoMemory` the writer took nothing and has not failed. At `WriteFault` it has failed, and
-/// took exactly the first `written` bytes of the text: all of them where the flush failed.
+/// took exactly the first `written` bytes of the text: all of them if the flush failed.
 ///
 /// The time is that of sorting the changes, a part at a time; ticks without a change cost nothing.
-/// The memory is 56 bytes for each signal and some 130 KiB. The declarations are made twice: their
-/// bytes are counted before the first is written.
+/// The memory is 96 KiB, and 48 bytes for each signal. For more than 4,096 signals it is 64 KiB,
+/// and 56 bytes for each. The declarations are made twice: their bytes are counted before the first
+/// is written.
 pub fn write<W: Sink>(alloc: Global, capture: &Capture, writer: &mut W) -> Result<(), WriteError>
     requires sound { IsSound (contents capture.now) }
     requires ready { W.has_failed writer.old ≡ false }
     ensures written { OnOk result (Appends (W.taken writer.old) (W.taken writer.new)
         (text (contents capture.now))) }
     ensures not_failed { OnOk result (W.has_failed writer.new ≡ false) }
-    ensures fault { IfErr result (TookBefore (text (contents capture.now)) (W.taken writer.old)
+    ensures failed { IfErr result (TookBefore (text (contents capture.now)) (W.taken writer.old)
         (W.taken writer.new) (W.has_failed writer.new)) }
 {
     let signals = capture.signals();

@@ -19,7 +19,7 @@ use Rattle.vcd_text.specs.declared.reading.variables.Variable.{Variable}
 abbrev pub logged_letters : ℕ → LoggedChange → List Bit
 logged_letters width e = letters_of width (e.word ∷ [])
 
--- the value at a tick, where these changes come after a value
+-- the value at a tick, if these changes come after a value
 abbrev pub value_after_changes : ℕ → ℕ → List Bit → List LoggedChange → List Bit
 value_after_changes width t before [] = before
 value_after_changes width t before (e ∷ es) =
@@ -60,7 +60,7 @@ AreGrouped index (g ∷ gs) = All (λ (e : LoggedChange). e.position % GROUPS �
 -- a variable can take a change of the log
 pub record CanTake (kept : List Variable) (e : LoggedChange) : Type 0 where
   pub before : Variable
-  pub stands : slice_get kept e.position ≡ Some before
+  pub at_position : slice_get kept e.position ≡ Some before
   pub narrow : before.signal.wave.width ≤ 64
   pub none_later : All (λ (c : Change). c.tick ≤ e.tick) before.signal.wave.changes
 
@@ -71,7 +71,7 @@ pub record IsSameVariable (old new : Variable) : Type 0 where
   pub kind : new.signal.kind ≡ old.signal.kind
   pub words : new.signal.words ≡ old.signal.words
   pub width : new.signal.wave.width ≡ old.signal.wave.width
-  pub first : new.first ≡ old.first
+  pub first_position : new.first_position ≡ old.first_position
 
 -- the variable with a change of the log applied
 pub record AppliesToVariable (e : LoggedChange) (old new : Variable) : Type 0 where
@@ -85,13 +85,13 @@ pub record AppliesToVariable (e : LoggedChange) (old new : Variable) : Type 0 wh
 pub record AppliesLogged (e : LoggedChange) (old new : List Variable) : Type 0 where
   pub before : Variable
   pub after : Variable
-  pub stands : slice_get old e.position ≡ Some before
+  pub at_position : slice_get old e.position ≡ Some before
   pub takes : AppliesToVariable e before after
   pub others : new ≡ set old e.position after
 
 -- ---- the room that waves get for the log
 
--- a hint with one more change, which counts if its word is not the last
+-- the hint after one more change; a repeated word is not counted
 abbrev pub hint_with : ReserveHint → LoggedChange → ReserveHint
 hint_with h e = record {
   count = if h.last.low == e.word.low && h.last.high == e.word.high then h.count else min (h.count + 1) (2 ^ 64 - 1);

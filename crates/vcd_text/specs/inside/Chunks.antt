@@ -7,40 +7,41 @@ use Rattle.vcd_text.specs.declared.fault.ReadError.{ReadError}
 use Rattle.vcd_text.specs.declared.reading.TheConstants.{FILE_LIMIT}
 use Rattle.vcd_text.specs.declared.reading.chunks.Progress.{Progress}
 use Rattle.vcd_text.specs.declared.reading.reader.Reader.{Reader}
-use Rattle.vcd_text.specs.Words.{words_from, closed_words, last_line}
+use Rattle.vcd_text.specs.Words.{words_from, complete_words, last_line}
 use Rattle.vcd_text.specs.FoundFaults.{FrontFault}
 use Rattle.vcd_text.specs.MemoryErrors.{memory_error}
-use Rattle.vcd_text.specs.inside.Reading.{Reads}
+use Rattle.vcd_text.specs.inside.Reading.{HasTakenWords}
 
--- of these bytes, the words that white space follows have been taken; the others are those of a word that can go on
+-- the complete words of these bytes have been taken; `word` is the unfinished rest
 pub record HasTaken (m : Reader) (word : List ℕ) (line_feeds bytes_left : ℕ) (bytes : List ℕ) : Type 0 where
-  pub reads : Reads m (closed_words bytes)
-  pub words : (whole : Bool) (rest : List ℕ)
-      → words_from whole 1 (bytes ++ rest) ≡ closed_words bytes ++ words_from whole (line_feeds + 1) (word ++ rest)
+  pub taken_words : HasTakenWords m (complete_words bytes)
+  pub words : (end_counts : Bool) (rest : List ℕ)
+      → words_from end_counts 1 (bytes ++ rest)
+      ≡ complete_words bytes ++ words_from end_counts (line_feeds + 1) (word ++ rest)
   pub no_space : list_all (λ b. not (is_white_space b)) word ≡ true
   pub short : length word ≤ length bytes
   pub lines : last_line bytes ≡ line_feeds + 1
-  pub room : length bytes + bytes_left ≡ FILE_LIMIT
+  pub size : length bytes + bytes_left ≡ FILE_LIMIT
 
--- these bytes have been consumed so far
-abbrev pub HasConsumed : Progress → List ℕ → Type 0
-HasConsumed p bytes = HasTaken p.reader p.buffer.bytes p.line_feeds p.bytes_left bytes
+-- these bytes have been read so far
+abbrev pub HasReadBytes : Progress → List ℕ → Type 0
+HasReadBytes p bytes = HasTaken p.reader p.buffer.bytes p.line_feeds p.bytes_left bytes
 
--- of the source's bytes, where it shows them, these are left, and those between have been consumed
+-- the source had `coming`, now has `coming_now`; the bytes between were read
 abbrev pub ProgressMatches : Option (List ℕ) → Option (List ℕ) → Progress → Type 0
-ProgressMatches coming left p = (bytes : List ℕ) × Consumes coming left bytes × HasConsumed p bytes
+ProgressMatches coming coming_now p = (bytes : List ℕ) × Consumes coming coming_now bytes × HasReadBytes p bytes
 
--- a chunk was read after the word that can go on, which has this number of bytes; these are all bytes so far
-pub record HasCome (p : Progress) (from : ℕ) (bytes : List ℕ) : Type 0 where
+-- the buffer holds an unfinished word, then a chunk whose words are not taken; `bytes` are all bytes so far
+pub record HasUntakenChunk (p : Progress) (unfinished_len : ℕ) (bytes : List ℕ) : Type 0 where
   pub before : List ℕ
   pub word : List ℕ
   pub chunk : List ℕ
   pub taken : HasTaken p.reader word p.line_feeds (p.bytes_left + length chunk) before
   pub text : p.buffer.bytes ≡ word ++ chunk
-  pub len : from ≡ length word
+  pub len : unfinished_len ≡ length word
   pub all : bytes ≡ before ++ chunk
 
 -- the words that are now complete have been taken, or one shows a fault, or memory has run out
 abbrev pub TakesChunk : List ℕ → Result (Unit {0}) ReadError → Progress → Type 0
-TakesChunk bytes (Ok x) new = HasConsumed new bytes
+TakesChunk bytes (Ok x) new = HasReadBytes new bytes
 TakesChunk bytes (Err e) new = (e ≡ memory_error) ⊎ FrontFault bytes e.line e.fault

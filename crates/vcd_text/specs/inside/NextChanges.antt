@@ -5,16 +5,16 @@ use Rattle.vcd_core.specs.declared.capture.Signal.{Signal}
 use Rattle.vcd_core.specs.declared.wave.Change.{Change}
 use Rattle.vcd_text.specs.declared.writing.next_changes.NextChange.{NextChange}
 
--- changes of a wave, whatever its width
-pub record AreRising (changes : List Change) : Type 0 where
+-- the changes of some wave, whatever its width
+pub record AreChangesOfSomeWave (changes : List Change) : Type 0 where
   pub width : ℕ
   pub form : IsWave width changes
 
--- the tick of the change at a place, past all ticks where there is none
+-- the tick of the change at a place, past all ticks if there is none
 abbrev pub tick_at : List Change → ℕ → ℕ
 tick_at changes place = slice_index_or (map (λ c. c.tick) changes) place (2 ^ 64 - 1)
 
--- a change and the tick after it: it is not before the tick `from`, and those before it are before the tick `to`
+-- `next` is at or after `from`; all changes before it are before `to`
 pub record IsNext (from to : ℕ) (changes : List Change) (next : NextChange) : Type 0 where
   pub passed : All (λ c. c.tick < to) (take next.place changes)
   pub not_earlier : from ≤ next.tick

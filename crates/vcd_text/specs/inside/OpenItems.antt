@@ -7,7 +7,7 @@ use Rattle.vcd_text.specs.declared.reading.reader.OpenItem.TheVariants as items
 abbrev pub is_inside : OpenItem → Bool
 is_inside items.Nothing = false
 is_inside items.Vector = false
-is_inside items.Dropped = false
+is_inside items.RealOrString = false
 is_inside item = true
 
 -- whether no item is open
@@ -15,8 +15,8 @@ abbrev pub is_nothing : OpenItem → Bool
 is_nothing items.Nothing = true
 is_nothing item = false
 
--- the line of a fault that a word shows: that of the first word where a change of two words is open, else its own
+-- the line of a fault that a word shows: that of the first word if a change of two words is open, else its own
 abbrev pub item_fault_line : OpenItem → (first own : ℕ) → ℕ
 item_fault_line items.Vector first own = first
-item_fault_line items.Dropped first own = first
+item_fault_line items.RealOrString first own = first
 item_fault_line item first own = own

@@ -10,8 +10,8 @@ use Rattle.vcd_text.specs.Words.{PlacedWord, words_of}
 use Rattle.vcd_text.specs.Meaning.{FileMeans}
 use Rattle.vcd_text.specs.inside.OpenItems.{is_nothing}
 use Rattle.vcd_text.specs.Letters.{is_among}
-use Rattle.vcd_text.specs.Items.{Item, spelling, spellings, has_no_end_word, header_word, is_other, vector_prefixes}
-use Rattle.vcd_text.specs.Items.{dropped_prefixes}
+use Rattle.vcd_text.specs.Items.{Item, spelling, spellings, has_no_end_word, header_word, is_other}
+use Rattle.vcd_text.specs.Items.{vector_prefixes, real_or_string_prefixes}
 use Rattle.vcd_text.specs.Grammar.{ParseState, Allows, AllowsAll, state_after, state_after_item, initial_state}
 use Rattle.vcd_text.specs.Grammar.{word_texts, has_good_size}
 use Rattle.vcd_text.specs.Faults.{WordFault, ShowsFault}
@@ -32,7 +32,7 @@ pub record ReaderMatches (m : Reader) (c : ParseState) : Type 0 where
   pub in_body : m.in_body ≡ c.in_body
   pub tick : m.tick ≡ c.tick
   pub variables : VariablesMatch m.variables c
-  pub silent : IsFalse c.in_body → c.value_changes ≡ []
+  pub no_early_change : IsFalse c.in_body → c.value_changes ≡ []
 
 -- a declaration is open, and the reader keeps its words after the keyword
 pub record Collects (m : Reader) (begun : List PlacedWord) (keyword : List ℕ) : Type 0 where
@@ -50,7 +50,7 @@ pub record PassesOver (m : Reader) (begun : List PlacedWord) : Type 0 where
 
 -- a change of two words is open, whose first word has one of these letters and then this text
 pub record AwaitsCode (m : Reader) (begun : List PlacedWord) (letters text : List ℕ) : Type 0 where
-  pub changes : IsTrue m.in_body
+  pub in_body : IsTrue m.in_body
   pub word : PlacedWord
   pub letter : ℕ
   pub is : begun ≡ word ∷ []
@@ -69,7 +69,7 @@ IsBegun m begun items.Variable = Collects m begun (codes "$var") × IsTrue (has_
 IsBegun m begun items.EndDefinitions = IsFalse m.in_body × (word_texts begun ≡ codes "$enddefinitions" ∷ [])
 IsBegun m begun items.Other = PassesOver m begun
 IsBegun m begun items.Vector = AwaitsCode m begun vector_prefixes m.digits.items
-IsBegun m begun items.Dropped = (text : List ℕ) × AwaitsCode m begun dropped_prefixes text
+IsBegun m begun items.RealOrString = (text : List ℕ) × AwaitsCode m begun real_or_string_prefixes text
 
 -- the whole items gave this state, and these words of an open item have been taken
 abbrev pub IsAtState : Reader → ParseState → List PlacedWord → Type 0
@@ -93,7 +93,7 @@ WordResult old w (Err fault) new = (c : ParseState) (begun : List PlacedWord) �
 -- ---- the words from the first
 
 -- all these words have been taken
-pub record Reads (m : Reader) (words : List PlacedWord) : Type 0 where
+pub record HasTakenWords (m : Reader) (words : List PlacedWord) : Type 0 where
   pub items : List Item
   pub whole : List PlacedWord
   pub begun : List PlacedWord
@@ -104,49 +104,51 @@ pub record Reads (m : Reader) (words : List PlacedWord) : Type 0 where
   pub state_is : state_after initial_state items ≡ state
   pub at : IsAtState m state begun
 
--- some words have been taken, fewer than 64 bits can count
+-- some words have been taken, fewer than 2 ^ 63
 pub record IsUnderway (m : Reader) : Type 0 where
   pub words : List PlacedWord
-  pub reads : Reads m words
+  pub taken_words : HasTakenWords m words
   pub few : length words < 2 ^ 63
 
 -- whether a fault is out of memory
-abbrev pub is_want_of_memory : Fault → Bool
-is_want_of_memory NoMemory = true
-is_want_of_memory fault = false
+abbrev pub is_no_memory : Fault → Bool
+is_no_memory NoMemory = true
+is_no_memory fault = false
 
 -- a fault with its line; out of memory has none
 abbrev pub error_at : ℕ → Fault → ReadError
-error_at line fault = if is_want_of_memory fault then memory_error else record { line = line; fault = fault }
+error_at line fault = if is_no_memory fault then memory_error else record { line = line; fault = fault }
 
 -- these further words have been taken, or one of them shows a fault whatever follows, or memory has run out
 abbrev pub WordsResult : Reader → List PlacedWord → Result (Unit {0}) ReadError → Reader → Type 0
-WordsResult old words (Ok x) new = (taken : List PlacedWord) → Reads old taken → Reads new (taken ++ words)
-WordsResult old words (Err e) new = (taken more : List PlacedWord) → Reads old taken
-    → (e ≡ memory_error) ⊎ ShowsFault (taken ++ (words ++ more)) e.line e.fault
+WordsResult old words (Ok x) new = (words_so_far : List PlacedWord) → HasTakenWords old words_so_far
+    → HasTakenWords new (words_so_far ++ words)
+WordsResult old words (Err e) new = (words_so_far more : List PlacedWord) → HasTakenWords old words_so_far
+    → (e ≡ memory_error) ⊎ ShowsFault (words_so_far ++ (words ++ more)) e.line e.fault
 
 -- these words can be taken after those before
-abbrev pub HasRoomFor : Reader → List PlacedWord → Type 0
-HasRoomFor m words = (taken : List PlacedWord) × Reads m taken × (length taken + length words < 2 ^ 63)
+abbrev pub WordCountFits : Reader → List PlacedWord → Type 0
+WordCountFits m words = (words_so_far : List PlacedWord) × HasTakenWords m words_so_far
+    × (length words_so_far + length words < 2 ^ 63)
 
 -- all words of a list have been taken after others, or one shows a fault, or memory has run out
 abbrev pub AllWordsResult : List PlacedWord → List PlacedWord → Result ℕ ReadError → Reader → Type 0
-AllWordsResult taken words (Ok line_feeds) new = Reads new (taken ++ words)
-AllWordsResult taken words (Err e) new = (e ≡ memory_error) ⊎ ShowsFault (taken ++ words) e.line e.fault
+AllWordsResult words_so_far words (Ok line_feeds) new = HasTakenWords new (words_so_far ++ words)
+AllWordsResult words_so_far words (Err e) new = (e ≡ memory_error) ⊎ ShowsFault (words_so_far ++ words) e.line e.fault
 
 -- nothing is open, and `$enddefinitions $end` has come
 abbrev pub is_complete : Reader → Bool
 is_complete m = m.in_body && is_nothing m.item
 
--- this word begins a change of several bits with these digits, as the next word
+-- the next word begins a change by a binary number, with these digits
 pub record BeginsVector (m : Reader) (text digits : List ℕ) : Type 0 where
   pub between : m.item ≡ items.Nothing
-  pub changes : IsTrue m.in_body
+  pub in_body : IsTrue m.in_body
   pub letter : ℕ
   pub spelled : text ≡ letter ∷ digits
   pub among : IsTrue (is_among vector_prefixes letter)
 
 -- the file whose words have been taken means these contents, with this number of skipped variables
 pub record Means (m : Reader) (contents : Contents) (skipped : ℕ) : Type 0 where
-  pub sound : (bytes : List ℕ) → Reads m (words_of bytes) → IsSound contents
-  pub means : (bytes : List ℕ) → Reads m (words_of bytes) → FileMeans bytes contents skipped
+  pub sound : (bytes : List ℕ) → HasTakenWords m (words_of bytes) → IsSound contents
+  pub means : (bytes : List ℕ) → HasTakenWords m (words_of bytes) → FileMeans bytes contents skipped

@@ -39,7 +39,7 @@ pub record HoldsScopes (s : Scopes) (scopes : List ScopeName) (declared : List V
   pub paths : map (scopes_at (chains_of s)) s.places.items
       ≡ map (λ (d : VariableDeclaration). d.scopes) (kept_variables declared)
 
--- the scopes of a place; none where there is no place
+-- the scopes of a place; none if there is no place
 abbrev pub scopes_of : List (List ScopeName) → Option ScopePlace → List ScopeName
 scopes_of chains None = []
 scopes_of chains (Some p) = scopes_at chains p

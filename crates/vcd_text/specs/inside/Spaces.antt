@@ -8,7 +8,7 @@ begins_with_space [] = false
 begins_with_space (b ∷ bs) = is_white_space b
 
 -- whether a text ends in white space, or is empty: nothing after it goes on with its last word
-abbrev pub is_closed : List ℕ → Bool
-is_closed [] = true
-is_closed (b ∷ []) = is_white_space b
-is_closed (b ∷ c ∷ bs) = is_closed (c ∷ bs)
+abbrev pub has_complete_words : List ℕ → Bool
+has_complete_words [] = true
+has_complete_words (b ∷ []) = is_white_space b
+has_complete_words (b ∷ c ∷ bs) = has_complete_words (c ∷ bs)

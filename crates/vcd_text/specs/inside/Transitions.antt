@@ -45,7 +45,7 @@ unsorted_window from to position (s ∷ ss) =
 abbrev pub transition_value : List SignalContents → Transition → List Bit
 transition_value signals m = signal_value (slice_index_or signals m.position no_signal) m.tick
 
--- transitions with their values, and a stamp where the tick differs from the one before
+-- transitions with their values, and a stamp if the tick differs from the one before
 unfoldable pub transition_items : List SignalContents → ℕ → List Transition → List Item
 transition_items signals last [] = []
 transition_items signals last (m ∷ ms) =

@@ -12,12 +12,12 @@ value_front (b ∷ []) = printed_letter b ∷ []
 value_front value = (98 ∷ []) ++ (printed_letters (short_form value) ++ 32 ∷ [])
 
 -- whether the extension restores the letter of bit i + 1 of a word from that of bit i
-abbrev pub is_spare_above : LetterWord → ℕ → Bool
-is_spare_above word i = same_letter (pad_letter (letter_in word i ∷ [])) (letter_in word (i + 1))
+abbrev pub is_redundant_above : LetterWord → ℕ → Bool
+is_redundant_above word i = same_letter (pad_letter (letter_in word i ∷ [])) (letter_in word (i + 1))
 
--- this number of the lowest letters of a word stays when those at the front that the extension restores are left out
-pub record IsKept (count : ℕ) (word : LetterWord) (kept : ℕ) : Type 0 where
-  pub least : 1 ≤ kept
-  pub most : kept ≤ count
-  pub spare : (i : ℕ) → kept ≤ i + 1 → i + 1 < count → is_spare_above word i ≡ true
-  pub needed : 1 < kept → is_spare_above word (kept - 2) ≡ false
+-- how many of the `count` lowest letters of a word the short form writes; at least one
+pub record IsShortFormLen (count : ℕ) (word : LetterWord) (len : ℕ) : Type 0 where
+  pub least : 1 ≤ len
+  pub most : len ≤ count
+  pub redundant : (i : ℕ) → len ≤ i + 1 → i + 1 < count → is_redundant_above word i ≡ true
+  pub needed : 1 < len → is_redundant_above word (len - 2) ≡ false

@@ -26,10 +26,6 @@ use Rattle.vcd_text.specs.declared.reading.variables.Variables.{Variables}
 
 -- ---- the contents of the variables
 
--- the declaration of a code and a signal
-abbrev pub declaration_by : (code : List ℕ) → Signal → VariableDeclaration
-declaration_by code s = record { scopes = s.scopes; kind = s.kind; size = s.wave.width; code = code; words = s.words }
-
 -- the declaration in these scopes
 abbrev pub declaration_in : List ScopeName → (code : List ℕ) → Signal → VariableDeclaration
 declaration_in scopes code s =
@@ -41,24 +37,23 @@ without_scopes d = record d { scopes = [] }
 
 -- the declaration of a kept variable of the reader
 abbrev pub declaration : Variable → VariableDeclaration
-declaration v = declaration_by v.code v.signal
+declaration v = declaration_in v.signal.scopes v.code v.signal
 
 -- the target of a code
 abbrev pub target_of : Variables → List ℕ → Option CodeTarget
 target_of vs code = code_target vs.code_targets.codes code
 
--- the variable of this code and size is at this position; its wave and its changes of the log have the value changes up
--- to the tick
+-- the variable at this position has the code and size; its wave and its log give the value changes up to the tick
 pub record HasWave (vs : List Variable) (log : ℕ → List LoggedChange) (position : ℕ) (code : List ℕ) (size : ℕ)
     (value_changes : List ValueChange) (tick : ℕ) : Type 0 where
   pub first : Variable
-  pub stands : slice_get vs position ≡ Some first
+  pub at_position : slice_get vs position ≡ Some first
   pub coded : first.code ≡ code
   pub sized : first.signal.wave.width ≡ size
   pub gives : GivesLoggedValues size tick (λ t. latest_value size code t (all_x size) value_changes)
       first.signal.wave.changes (log position)
 
--- the target of a code agrees with the first variable that was declared with it
+-- the target of a code agrees with the code's declaration, and its wave with the value changes if it is kept
 abbrev pub TargetMatches : List Variable → (ℕ → List LoggedChange) → List ValueChange → ℕ → List ℕ → Option CodeTarget
     → Option VariableDeclaration → Type 0
 TargetMatches vs log value_changes tick code None None = Unit {0}
@@ -67,31 +62,32 @@ TargetMatches vs log value_changes tick code (Some (Position position)) (Some d)
     IsFalse (is_skipped d) × HasWave vs log position code d.size value_changes tick
 TargetMatches vs log value_changes tick code target declared = ⊥
 
--- the target of a code agrees with a declaration of the state
+-- the same for the variables of the reader and a state of the file
 abbrev pub TargetAgrees : Variables → ParseState → List ℕ → Option CodeTarget → Option VariableDeclaration → Type 0
 TargetAgrees vs c = TargetMatches vs.kept.items (logged vs.log.items) c.value_changes c.tick
 
 -- a kept variable has the position of the first one with its code, which is no later and has the same size
 pub record HasFirst (vs : Variables) (position : ℕ) (v : Variable) : Type 0 where
-  pub owned : target_of vs v.code ≡ Some (Position v.first)
-  pub no_later : v.first ≤ position
-  pub same_size : (w : Variable) → slice_get vs.kept.items v.first ≡ Some w → w.signal.wave.width ≡ v.signal.wave.width
+  pub owned : target_of vs v.code ≡ Some (Position v.first_position)
+  pub no_later : v.first_position ≤ position
+  pub same_size : (w : Variable) → slice_get vs.kept.items v.first_position ≡ Some w
+      → w.signal.wave.width ≡ v.signal.wave.width
 
 -- the log has changes only of variables that are the first of their code
-abbrev pub HasLogs : List Variable → (ℕ → List LoggedChange) → Type 0
-HasLogs vs log = (position : ℕ) → 0 < length (log position) → (v : Variable) × (slice_get vs position ≡ Some v)
-    × (v.first ≡ position)
+abbrev pub HasOnlyFirstVariables : List Variable → (ℕ → List LoggedChange) → Type 0
+HasOnlyFirstVariables vs log = (position : ℕ) → 0 < length (log position)
+    → (v : Variable) × (slice_get vs position ≡ Some v) × (v.first_position ≡ position)
 
 -- the variables match the state: declarations without their scopes, and value changes up to the tick
 pub record VariablesMatch (vs : Variables) (c : ParseState) : Type 0 where
   pub kept : map without_scopes (kept_variables c.declared) ≡ map declaration vs.kept.items
   pub skipped : vs.skipped ≡ count_by is_skipped c.declared
   pub widths : vs.widths.items ≡ map (λ (v : Variable). v.signal.wave.width) vs.kept.items
-  pub stand : (code : List ℕ) → TargetAgrees vs c code (target_of vs code) (variable_of c code)
+  pub targets_agree : (code : List ℕ) → TargetAgrees vs c code (target_of vs code) (variable_of c code)
   pub firsts : (position : ℕ) (v : Variable) → slice_get vs.kept.items position ≡ Some v → HasFirst vs position v
   pub few : length vs.kept.items ≤ SIGNAL_LIMIT
   pub grouped : AreGrouped 0 vs.log.items
-  pub logs : HasLogs vs.kept.items (logged vs.log.items)
+  pub logs : HasOnlyFirstVariables vs.kept.items (logged vs.log.items)
 
 -- ---- the result of a declaration
 
@@ -133,12 +129,12 @@ Declares c words (Err fault) new = (fault ≡ faults.NoMemory) ⊎ VariableFault
 
 -- ---- the result of digits
 
--- from the tick on a variable has the value of the digits
-pub record Sets (tick : ℕ) (digits : List ℕ) (old new : Variable) : Type 0 where
+-- from the tick on, the variable has the value of the digits
+pub record HasValueFrom (tick : ℕ) (digits : List ℕ) (old new : Variable) : Type 0 where
   pub value : IsTrue (is_binary_number digits)
   pub fits : length digits ≤ old.signal.wave.width
   pub same : declaration new ≡ declaration old
-  pub same_first : new.first ≡ old.first
+  pub same_first_position : new.first_position ≡ old.first_position
   pub ticks : All (λ (change : Change). change.tick ≤ tick) new.signal.wave.changes
   pub values : (t : ℕ) → value_at new.signal.wave.width new.signal.wave.changes t
       ≡ (if nat_le tick t then extension old.signal.wave.width (letters_of_digits digits) else value_at

@@ -3,15 +3,14 @@ use Rattle.std.specs.Prelude.{◌≡◌, ◌<◌, ◌≤◌, ◌-◌, ◌^◌, �
 use Rattle.std.specs.Io.KnownBytes.{Appends}
 use Rattle.vcd_text.specs.declared.writing.buffer.WriteBuffer.{WriteBuffer}
 
--- a text was written since a writer held these bytes: it took the front and, unless it failed, the rest waits; at the
--- greatest count nothing is said
+-- sink and buffer together hold this text; nothing is said once the count is saturated
 pub record HasEmitted (before after : Option (List ℕ)) (failed : Bool) (buffer : WriteBuffer) (text : List ℕ) : Type 0
   where
     pub within : buffer.sent_count ≤ length text
     pub front : buffer.sent_count < 2 ^ 128 - 1 → Appends before after (take buffer.sent_count text)
     pub rest : buffer.sent_count < 2 ^ 128 - 1 → failed ≡ false → drop buffer.sent_count text ≡ buffer.unsent.items
 
--- a part is written after each text that was written, where the buffer and its writer were so, and then so
+-- whatever text sink and buffer held, they now hold it with `part` appended
 pub record Emits {W : Type 0} (taken : W → Option (List ℕ)) (has_failed : W → Bool) (old new : WriteBuffer × W)
     (part : List ℕ) : Type 0 where
   pub appends : (before : Option (List ℕ)) (text : List ℕ)

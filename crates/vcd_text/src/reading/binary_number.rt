@@ -13,7 +13,7 @@ use crate::reading::digits::{are_binary_digits, pad_of};
 use vcd_core::{Bit, LetterWord, Value, WIDTH_LIMIT, WORDS, words_in};
 
 /// The value of `width` bits that the digits write, extended on the left. The error is `BadChange`
-/// where there is no digit or a byte is none, and `ValueTooLong` for more digits than the width.
+/// if there is no digit or a byte is none, and `ValueTooLong` for more digits than the width.
 ///
 /// It takes a step for each digit and one for each 64 bits, and no memory.
 pub fn read_value(width: u64, digits: &[u8]) -> Result<Value, Fault>
@@ -37,7 +37,7 @@ pub fn read_letter_word(width: u64, digits: &[u8]) -> Result<LetterWord, Fault>
 }
 
 /// The value of `width` bits that the binary digits write, extended on the left (IEEE 1364-2005,
-/// 18.2). It is none where there is no digit, a byte is no binary digit, or there are more than
+/// 18.2). It is none if there is no digit, a byte is no binary digit, or there are more than
 /// `width`. It takes a step for each digit and one for each 64 bits, and no memory.
 pub fn value_of_digits(width: u64, digits: &[u8]) -> Option<Value>
     requires least { 1 ≤ width }
@@ -64,7 +64,7 @@ fn check_count(width: u64, digits: &[u8]) -> Result<(), Fault>
     Err(Fault::BadChange)
 }
 
-/// The digits as letters, extended on the left to `width`; none where one is no binary digit.
+/// The digits as letters, extended on the left to `width`; none if one is no binary digit.
 fn extended_word(width: u64, digits: &[u8]) -> Option<LetterWord>
     requires narrow { width ≤ 64 }
     requires fits { length digits.now ≤ width }
@@ -76,7 +76,7 @@ fn extended_word(width: u64, digits: &[u8]) -> Option<LetterWord>
     word_of_digits(pad_of(digits), digits)
 }
 
-/// The digits as letters, extended on the left to `width`, a word of 64 at a time. It is none where
+/// The digits as letters, extended on the left to `width`, a word of 64 at a time. It is none if
 /// one is no binary digit.
 fn extended_value(width: u64, digits: &[u8]) -> Option<Value>
     requires least { 1 ≤ width }

@@ -5,7 +5,7 @@
 
 ghost use Rattle.std.specs.Prelude.{◌≡◌, ◌+◌, ◌/◌, ◌++◌, ◌==◌, ◌≤◌, ℕ, List, [], ◌∷◌, length, set, replicate, slice_get, None, Some, if◌then◌else◌, OnOk};
 ghost use Rattle.std.specs.List.{fold};
-ghost use Rattle.vcd_text.specs.declared.reading.change_log.TheConstants.{NO_CHANGE as NO_HINT};
+ghost use Rattle.vcd_text.specs.declared.reading.change_log.TheConstants.{NO_HINT};
 ghost use Rattle.vcd_text.specs.declared.reading.variables.Variable.{Variable as DeclaredVariable};
 ghost use Rattle.vcd_text.specs.declared.reading.change_log.ReserveHint.{ReserveHint as Hint};
 ghost use Rattle.vcd_text.specs.inside.ChangeLog.{logged, changes_of_position, hint_with, hints_with, taken_hint, AreGrouped, CanTake, AppliesLogged, HasExactRoom, CanFlush, FlushesLog};
@@ -16,8 +16,7 @@ use std::mem::replace;
 use vcd_core::{LetterWord, NoMemory};
 
 /// The number of groups of a log. Each group has the positions with one remainder. The waves of one
-/// group are made together, so they should fit a processor's cache. Each group has a place that is
-/// written, and these places should fit too.
+/// group should fit a processor's cache. So should the ends of all groups.
 pub const GROUPS: usize = 128;
 
 /// A change of the variable at `position`, of at most 64 bits: from `tick` on it has the letters of
@@ -37,7 +36,7 @@ pub fn append(
 ) -> Result<(), NoMemory>
     requires { AreGrouped 0 groups.old.items }
     ensures grouped { OnOk result (AreGrouped 0 groups.new.items) }
-    ensures logged { OnOk result ((position : ℕ) → logged groups.new.items position ≡
+    ensures appended { OnOk result ((position : ℕ) → logged groups.new.items position ≡
         (if change.position == position then logged groups.old.items position ++ change ∷ []
         else logged groups.old.items position)) }
 {
@@ -56,7 +55,7 @@ fn add_groups(
     requires { AreGrouped 0 groups.old.items }
     ensures grouped { OnOk result (AreGrouped 0 groups.new.items) }
     ensures many { OnOk result (count ≤ length groups.new.items) }
-    ensures logged { OnOk result ((position : ℕ) →
+    ensures same { OnOk result ((position : ℕ) →
         logged groups.new.items position ≡ logged groups.old.items position) }
 {
     while groups.len() < count {
@@ -65,8 +64,8 @@ fn add_groups(
     Ok(())
 }
 
-/// The greatest number of changes that a wave will have, as far as a group has been counted, and the
-/// word of the last one. It concerns room alone.
+/// An upper bound of a wave's changes so far, and the word of its last change. It concerns room
+/// alone.
 #[derive(Clone, Copy)]
 struct ReserveHint {
     count: usize,
@@ -74,7 +73,7 @@ struct ReserveHint {
 }
 
 /// No change: all x.
-const NO_CHANGE: ReserveHint = ReserveHint {
+const NO_HINT: ReserveHint = ReserveHint {
     count: 0,
     last: LetterWord {
         low: u64::MAX,
@@ -84,8 +83,8 @@ const NO_CHANGE: ReserveHint = ReserveHint {
 
 /// Gives each variable the changes of the log, in their order. Each group is freed before the next.
 ///
-/// It takes two steps for each change. A wave gets room once, for its first change and for the
-/// changes of the log that differ from the one before.
+/// It takes two steps for each change. A wave gets room once, for the changes of the log whose word
+/// differs from the one before. The first is compared with all x.
 pub fn flush_log(
     alloc: Global,
     kept: &mut Vec<Variable>,
@@ -96,7 +95,7 @@ pub fn flush_log(
         (FlushesLog kept.old.items kept.new.items (logged groups.items) (λ _. [])) }
 {
     let mut reserve_hints = Vec::new(alloc);
-    reserve_hints.resize(kept.len() / GROUPS + 1, NO_CHANGE)?;
+    reserve_hints.resize(kept.len() / GROUPS + 1, NO_HINT)?;
     for group in groups {
         count_changes(reserve_hints.as_mut_slice(), group.as_slice());
         flush_group(kept, reserve_hints.as_mut_slice(), group.as_slice())?;
@@ -108,7 +107,7 @@ pub fn flush_log(
 fn count_changes(reserve_hints: &mut [ReserveHint], group: &[LoggedChange])
     ensures { reserve_hints.new ≡ fold hints_with (replicate (length reserve_hints.old) NO_HINT) group.now }
 {
-    reserve_hints.fill(NO_CHANGE);
+    reserve_hints.fill(NO_HINT);
     for change in group {
         count_change(reserve_hints, *change);
     }
@@ -124,7 +123,7 @@ fn count_change(reserve_hints: &mut [ReserveHint], change: LoggedChange)
     }
 }
 
-/// The hint with one more change, which counts where its word is not the last one.
+/// The hint after one more change. A repeated word is not counted.
 fn with_change(reserve_hint: ReserveHint, change: LoggedChange) -> ReserveHint
     ensures { result ≡ hint_with reserve_hint change }
 {

@@ -1,19 +1,19 @@
-//! The words of changes: stamps, values, brackets of dumps, and commands that are passed over.
+//! The words of changes: stamps, values, the words of dumps, and commands that are passed over.
 //!
 //! A change takes one look-up of its code and one push: of a narrow variable to the log, of a wide
-//! one to its wave. Digits are kept only for a change of several bits whose code has not come yet,
-//! in room that is reused.
+//! one to its wave. Digits are kept only for a change by a binary number whose code has not come
+//! yet, in room that is reused.
 
 ghost use Rattle.std.specs.Prelude.{◌≡◌, ◌<◌, ◌∷◌, ℕ, List, true, false, length, Ok, IfSome, codes};
 ghost use Rattle.vcd_text.specs.Words.{word_on};
 ghost use Rattle.vcd_text.specs.Letters.{is_among, is_binary_digit as digit_test};
-ghost use Rattle.vcd_text.specs.Items.{is_command, vector_prefixes, dropped_prefixes};
+ghost use Rattle.vcd_text.specs.Items.{is_command, vector_prefixes, real_or_string_prefixes};
 ghost use Rattle.vcd_text.specs.inside.Reading.{IsUnderway, WordResult, BeginsVector};
 ghost use Rattle.vcd_text.specs.declared.reading.reader.OpenItem.TheVariants as items;
 
 use crate::fault::Fault;
 use crate::reading::digits::is_binary_digit;
-use crate::reading::keywords::{is_declaring, is_dump_word};
+use crate::reading::keywords::{is_declaration_word, is_dump_word};
 use crate::reading::reader::{OpenItem, Reader};
 use crate::reading::ticks_and_sizes::tick_of;
 use std::alloc::Global;
@@ -36,8 +36,8 @@ impl Reader {
         }
     }
 
-    /// Moves to the tick of a stamp, which is `#` and these digits. The error is `BadTime` where
-    /// they write no tick, and `TimeBackwards` where the tick is below the one before.
+    /// Moves to the tick of a stamp, which is `#` and these digits. The error is `BadTime` if they
+    /// write no tick, and `TimeBackwards` if the tick is below the one before.
     fn stamp(&mut self, digits: &[u8]) -> Result<(), Fault>
         requires between { self.old.item ≡ items.Nothing }
         requires in_body { self.old.in_body ≡ true }
@@ -54,7 +54,7 @@ impl Reader {
         Ok(())
     }
 
-    /// Takes a bracket of a dump, or begins a command that is passed over. A word of the
+    /// Takes a word of a dump, or begins a command that is passed over. A word of the
     /// declarations is `UnexpectedWord`.
     fn begin_command(&mut self, text: &[u8]) -> Result<(), Fault>
         requires between { self.old.item ≡ items.Nothing }
@@ -65,7 +65,7 @@ impl Reader {
         if is_dump_word(text) {
             return Ok(());
         }
-        if is_declaring(text) {
+        if is_declaration_word(text) {
             return Err(Fault::UnexpectedWord);
         }
         self.item = OpenItem::Other;
@@ -81,20 +81,20 @@ impl Reader {
         ensures { WordResult self.old (word_on (first ∷ rest.now) line) result self.new }
     {
         if is_binary_digit(first) {
-            self.set_bit(alloc, first, rest)
+            self.change_scalar(alloc, first, rest)
         } else if is_vector_prefix(first) {
             self.begin_vector(rest, line)
-        } else if is_dropped_prefix(first) {
-            self.begin_dropped(line);
+        } else if is_real_or_string_prefix(first) {
+            self.begin_real_or_string(line);
             Ok(())
         } else {
             Err(Fault::BadChange)
         }
     }
 
-    /// Sets a code to the value that a binary digit writes. The error is `BadChange` where there is
-    /// no code, and `UnknownCode` where the code was not declared.
-    fn set_bit(&mut self, alloc: Global, digit: u8, code: &[u8]) -> Result<(), Fault>
+    /// Sets a code to the value that a binary digit writes. The error is `BadChange` if there is no
+    /// code, and `UnknownCode` if the code was not declared.
+    fn change_scalar(&mut self, alloc: Global, digit: u8, code: &[u8]) -> Result<(), Fault>
         requires between { self.old.item ≡ items.Nothing }
         requires in_body { self.old.in_body ≡ true }
         requires reading { IsUnderway self.old }
@@ -110,8 +110,7 @@ impl Reader {
             .change(alloc, code, self.tick, digits.as_slice())
     }
 
-    /// The digits of the change of several bits that this word begins as the next one; none where
-    /// it begins no such change.
+    /// The digits of this word, if it begins a change by a binary number.
     pub fn digits_of_vector<'a>(&self, text: &'a [u8]) -> Option<&'a [u8]>
         ensures { IfSome result (λ digits. BeginsVector self.now text.now digits.now) }
     {
@@ -124,7 +123,7 @@ impl Reader {
         }
     }
 
-    /// Begins a change of several bits, and keeps its digits.
+    /// Begins a change by a binary number, and keeps its digits.
     fn begin_vector(&mut self, digits: &[u8], line: u64) -> Result<(), Fault>
         requires between { self.old.item ≡ items.Nothing }
         requires in_body { self.old.in_body ≡ true }
@@ -139,19 +138,19 @@ impl Reader {
     }
 
     /// Begins a change of a real number or a string.
-    fn begin_dropped(&mut self, line: u64)
+    fn begin_real_or_string(&mut self, line: u64)
         requires between { self.old.item ≡ items.Nothing }
         requires in_body { self.old.in_body ≡ true }
-        ensures { (first : ℕ) (text : List ℕ) → is_among dropped_prefixes first ≡ true →
+        ensures { (first : ℕ) (text : List ℕ) → is_among real_or_string_prefixes first ≡ true →
             WordResult self.old (word_on (first ∷ text) line) (Ok result) self.new }
     {
-        self.item = OpenItem::Dropped;
+        self.item = OpenItem::RealOrString;
         self.line = line;
     }
 
-    /// Takes the code of a change of several bits, and sets it to the digits. The error is
-    /// `UnknownCode` where the code was not declared, `BadChange` where the digits are no value,
-    /// and `ValueTooLong` where they are too many.
+    /// Takes the code of a change by a binary number, and sets it to the digits. The error is
+    /// `UnknownCode` if the code was not declared, `BadChange` if the digits are no value, and
+    /// `ValueTooLong` if they are too many.
     pub fn end_vector(&mut self, alloc: Global, code: &[u8]) -> Result<(), Fault>
         requires item { self.old.item ≡ items.Vector }
         requires reading { IsUnderway self.old }
@@ -162,10 +161,10 @@ impl Reader {
         self.variables.change(alloc, code, self.tick, digits)
     }
 
-    /// Takes the code of a change of a real number or a string, which sets nothing. The error is
-    /// `UnknownCode` where the code was not declared.
-    pub fn end_dropped(&mut self, code: &[u8]) -> Result<(), Fault>
-        requires item { self.old.item ≡ items.Dropped }
+    /// Takes the code of a change of a real number or a string, which changes nothing. The error is
+    /// `UnknownCode` if the code was not declared.
+    pub fn end_real_or_string(&mut self, code: &[u8]) -> Result<(), Fault>
+        requires item { self.old.item ≡ items.RealOrString }
         ensures { (line : ℕ) → WordResult self.old (word_on code.now line) result self.new }
     {
         if !self.variables.has_code(code) {
@@ -176,7 +175,7 @@ impl Reader {
     }
 }
 
-/// Whether a change of several bits begins with this byte.
+/// Whether a change by a binary number begins with this byte.
 fn is_vector_prefix(byte: u8) -> bool
     ensures { result ≡ is_among vector_prefixes byte }
 {
@@ -184,8 +183,8 @@ fn is_vector_prefix(byte: u8) -> bool
 }
 
 /// Whether a change of a real number or a string begins with this byte.
-fn is_dropped_prefix(byte: u8) -> bool
-    ensures { result ≡ is_among dropped_prefixes byte }
+fn is_real_or_string_prefix(byte: u8) -> bool
+    ensures { result ≡ is_among real_or_string_prefixes byte }
 {
     byte == b'r' || byte == b'R' || byte == b's' || byte == b'S'
 }

@@ -7,15 +7,15 @@ ghost use Rattle.vcd_core.specs.Word.{is_white_space as white};
 ghost use Rattle.vcd_core.specs.Contents.{contents};
 ghost use Rattle.vcd_core.specs.Sound.{IsSound};
 ghost use Rattle.vcd_text.specs.Words.{words_from, PlacedWord as WordInFile};
-ghost use Rattle.vcd_text.specs.LentWords.{word_at};
+ghost use Rattle.vcd_text.specs.LentWords.{word_contents};
 ghost use Rattle.vcd_text.specs.Meaning.{FileMeans};
 ghost use Rattle.vcd_text.specs.FoundFaults.{FoundFault};
 ghost use Rattle.vcd_text.specs.Refusals.{IsRefusal};
 ghost use Rattle.vcd_text.specs.MemoryErrors.{memory_error};
-ghost use Rattle.vcd_text.specs.inside.Spaces.{is_closed};
-ghost use Rattle.vcd_text.specs.inside.Reading.{Reads, IsUnderway, WordsResult, HasRoomFor, AllWordsResult, is_complete};
+ghost use Rattle.vcd_text.specs.inside.Spaces.{has_complete_words};
+ghost use Rattle.vcd_text.specs.inside.Reading.{HasTakenWords, IsUnderway, WordsResult, WordCountFits, AllWordsResult, is_complete};
 ghost use Rattle.vcd_text.specs.inside.WordWalk.{words_left, line_feeds_at_end, LinesFit};
-ghost use Rattle.vcd_text.specs.inside.Chunks.{HasConsumed, ProgressMatches, HasCome, TakesChunk};
+ghost use Rattle.vcd_text.specs.inside.Chunks.{HasReadBytes, ProgressMatches, HasUntakenChunk, TakesChunk};
 
 use crate::fault::{Fault, ReadError};
 use crate::reading::read_buffer::ReadBuffer;
@@ -41,7 +41,7 @@ pub struct Progress {
 impl Progress {
     /// The progress before the first read.
     pub fn new(alloc: Global) -> Progress
-        ensures { HasConsumed result [] }
+        ensures { HasReadBytes result [] }
     {
         Progress {
             reader: Reader::new(alloc),
@@ -51,14 +51,15 @@ impl Progress {
         }
     }
 
-    /// Reads a chunk and takes the words that are then complete. Returns whether the file goes on.
+    /// Reads a chunk and takes the words that are then complete. Returns whether the source gave a
+    /// byte.
     pub fn take_chunk<R: Source>(
         &mut self,
         alloc: Global,
         source: &mut R,
     ) -> Result<bool, ReadError>
         requires ready { R.has_failed source.old ≡ false }
-        requires consumed { (bytes : List ℕ) × HasConsumed self.old bytes }
+        requires read_bytes { (bytes : List ℕ) × HasReadBytes self.old bytes }
         ensures taken { OnOk result ((coming : Option (List ℕ)) →
             ProgressMatches coming (R.coming source.old) self.old →
             ProgressMatches coming (R.coming source.new) self.new) }
@@ -86,30 +87,31 @@ impl Progress {
         Ok(count > 0)
     }
 
-    /// Takes the complete words, where the first `from` bytes of the buffer are no white space.
+    /// Takes the complete words. The first `from` bytes of the buffer are no white space.
     fn take_words(&mut self, alloc: Global, from: usize) -> Result<(), ReadError>
-        requires { (bytes : List ℕ) × HasCome self.old from bytes }
-        ensures taken { (bytes : List ℕ) → HasCome self.old from bytes →
+        requires { (bytes : List ℕ) × HasUntakenChunk self.old from bytes }
+        ensures taken { (bytes : List ℕ) → HasUntakenChunk self.old from bytes →
             TakesChunk bytes result self.new }
         ensures bytes_left { self.new.bytes_left ≡ self.old.bytes_left }
     {
-        let len = words_len(self.buffer.as_slice(), from);
-        let closed = WordWalk {
+        let len = complete_words_len(self.buffer.as_slice(), from);
+        let complete = WordWalk {
             rest: &self.buffer.as_slice()[..len],
             line_feeds: self.line_feeds,
         };
-        self.line_feeds = read_words(&mut self.reader, alloc, closed)?;
+        self.line_feeds = read_words(&mut self.reader, alloc, complete)?;
         self.buffer.drop_front(len);
         Ok(())
     }
 
-    /// Takes the last word. The result is the meaning of the file, or its fault.
+    /// Takes the word that the file's end completes, if there is one. The result is the meaning of
+    /// the file, or its fault.
     pub fn finish(self, alloc: Global) -> Result<Loaded, ReadError>
-        requires { (bytes : List ℕ) × HasConsumed self bytes }
-        ensures means { IfOk result (λ loaded. (bytes : List ℕ) → HasConsumed self bytes →
+        requires { (bytes : List ℕ) × HasReadBytes self bytes }
+        ensures means { IfOk result (λ loaded. (bytes : List ℕ) → HasReadBytes self bytes →
             FileMeans bytes (contents loaded.capture) loaded.skipped) }
         ensures sound { IfOk result (λ loaded. IsSound (contents loaded.capture)) }
-        ensures fault { IfErr result (λ e. (bytes : List ℕ) → HasConsumed self bytes →
+        ensures fault { IfErr result (λ e. (bytes : List ℕ) → HasReadBytes self bytes →
             (e ≡ memory_error) ⊎ FoundFault bytes e.line e.fault) }
     {
         let Progress {
@@ -128,9 +130,9 @@ impl Progress {
     }
 }
 
-/// The error is `Truncated`, at the line of the file's end, where its words are not a whole file.
+/// The error is `Truncated`, at the line of the file's end, if its words are not a whole file.
 fn check_complete(reader: &Reader, line: u64) -> Result<(), ReadError>
-    ensures whole { OnOk result (is_complete reader.now ≡ true) }
+    ensures complete { OnOk result (is_complete reader.now ≡ true) }
     ensures truncated { IfErr result (λ e. (is_complete reader.now ≡ false)
         × (e ≡ record { line = line; fault = Fault.Truncated })) }
 {
@@ -140,12 +142,12 @@ fn check_complete(reader: &Reader, line: u64) -> Result<(), ReadError>
     Ok(())
 }
 
-/// The number of bytes up to the last white space, which is not among the first `from`.
-fn words_len(bytes: &[u8], from: usize) -> usize
+/// The number of bytes up to and with the last white space. The first `from` bytes have none.
+fn complete_words_len(bytes: &[u8], from: usize) -> usize
     requires within { from ≤ length bytes.now }
     requires no_space { list_all (λ b. not (white b)) (take from bytes.now) ≡ true }
     ensures within { result ≤ length bytes.now }
-    ensures closed { is_closed (take result bytes.now) ≡ true }
+    ensures complete { has_complete_words (take result bytes.now) ≡ true }
     ensures no_space { list_all (λ b. not (white b)) (drop result bytes.now) ≡ true }
 {
     let mut len = bytes.len();
@@ -161,10 +163,10 @@ fn words_len(bytes: &[u8], from: usize) -> usize
 /// Takes words one after another, up to the first that shows a fault. Returns the number of line
 /// feeds before the end of their text.
 fn read_words(reader: &mut Reader, alloc: Global, words: WordWalk) -> Result<u64, ReadError>
-    requires room { HasRoomFor reader.old (words_left words) }
+    requires word_count { WordCountFits reader.old (words_left words) }
     requires lines { LinesFit words }
-    ensures words { (taken : List WordInFile) → Reads reader.old taken →
-        AllWordsResult taken (words_left words.entry) result reader.new }
+    ensures words { (words_so_far : List WordInFile) → HasTakenWords reader.old words_so_far →
+        AllWordsResult words_so_far (words_left words.entry) result reader.new }
     ensures line_feeds { IfOk result (λ line_feeds. line_feeds ≡ line_feeds_at_end words.entry) }
 {
     let mut left = words;
@@ -174,7 +176,7 @@ fn read_words(reader: &mut Reader, alloc: Global, words: WordWalk) -> Result<u64
     Ok(left.line_feeds)
 }
 
-/// Takes this word, and also the code after it where it begins a change of several bits.
+/// Takes this word, and also the code after it if it begins a change by a binary number.
 fn take_from(
     reader: &mut Reader,
     alloc: Global,
@@ -184,8 +186,8 @@ fn take_from(
     requires reading { IsUnderway reader.old }
     requires word { 0 < length first.text.now }
     requires lines { LinesFit words.old }
-    ensures words { (following : List WordInFile) × (words_left words.old ≡ following ++ words_left words.new)
-        × WordsResult reader.old (word_at first.entry ∷ following) result reader.new }
+    ensures words { (code_words : List WordInFile) × (words_left words.old ≡ code_words ++ words_left words.new)
+        × WordsResult reader.old (word_contents first.entry ∷ code_words) result reader.new }
     ensures lines { LinesFit words.new }
     ensures line_feeds { line_feeds_at_end words.new ≡ line_feeds_at_end words.old }
 {

@@ -22,8 +22,8 @@ pub enum CodeTarget {
 pub struct CodeTargets {
     /// Each code with its target.
     pub codes: IndexMap<Vec<u8>, CodeTarget>,
-    /// At the place of a short code: one more than the position of its variable, or 0 where the
-    /// table does not have it.
+    /// At the place of a short code: one more than the position of its variable, or 0 if the table
+    /// does not have it.
     pub short: Vec<u32>,
     ghost agrees: { TableAgrees (code_target codes) short.items },
 }
@@ -49,7 +49,7 @@ impl CodeTargets {
         target_in(&self.codes, code)
     }
 
-    /// The position of a short code, where the table has it.
+    /// The position of a short code, if the table has it.
     fn position_of_short(&self, code: &[u8]) -> Option<usize>
         ensures { IfSome result (λ position.
             code_target self.now.codes code.now ≡ Some (PositionAt position)) }
@@ -116,7 +116,7 @@ fn enter_at(
     enter(table, codes, code.as_slice())
 }
 
-/// Enters a code where it is short and its target is a position.
+/// Enters a code if it is short and its target is a position.
 fn enter(
     table: &mut Vec<u32>,
     codes: &IndexMap<Vec<u8>, CodeTarget>,
@@ -138,7 +138,7 @@ fn enter(
     put(table, place, position as u32 + 1)
 }
 
-/// Writes a number at a place, after zeros where the table ends before it.
+/// Writes a number at a place, after zeros if the table ends before it.
 fn put(table: &mut Vec<u32>, place: usize, number: u32) -> Result<(), NoMemory>
     requires { place < 2 ^ 32 }
     ensures { OnOk result ((i n : ℕ) → slice_get table.new.items i ≡ Some n → 0 < n →
@@ -165,7 +165,7 @@ fn lengthen(table: &mut Vec<u32>, len: usize) -> Result<(), NoMemory>
 /// The place of a code of one to three bytes, each from 1 to 127; none for any other code.
 fn short_place(code: &[u8]) -> Option<usize>
     ensures place { IfSome result (HasPlace code.now) }
-    ensures few { IfSome result (λ place. place < 2 ^ 32) }
+    ensures place_fits { IfSome result (λ place. place < 2 ^ 32) }
 {
     match code {
         [a] => Some(code_digit(*a)?),

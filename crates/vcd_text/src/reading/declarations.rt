@@ -3,7 +3,7 @@
 ghost use Rattle.std.specs.Prelude.{◌≡◌, ◌∷◌, ◌++◌, ℕ, [], true, false, IsFalse, MatchOption, OnOk};
 ghost use Rattle.vcd_text.specs.Words.{word_on};
 ghost use Rattle.vcd_core.specs.Word.{is_one_of};
-ghost use Rattle.vcd_text.specs.Items.{end_word, is_end_word, declaring_words, header_words, begins_declaration};
+ghost use Rattle.vcd_text.specs.Items.{end_word, is_end_word, declaration_words, header_words, begins_declaration};
 ghost use Rattle.vcd_text.specs.inside.Reading.{IsUnderway, WordResult};
 ghost use Rattle.vcd_text.specs.inside.OpenItems.{is_inside};
 ghost use Rattle.vcd_text.specs.inside.OpeningWords.{Opens, keeps_words};
@@ -21,8 +21,8 @@ use vcd_core::{Header, HeaderKind, NoMemory, ScopeName, Seq, Word, copy_word};
 impl Reader {
     /// Begins a declaration, or a command that is passed over.
     ///
-    /// The error is `UpscopeAtTop` for `$upscope` where no scope is open, and `UnexpectedWord` for
-    /// a word that begins no declaration.
+    /// The error is `UpscopeAtTop` for `$upscope` if no scope is open, and `UnexpectedWord` for a
+    /// word that begins no declaration.
     pub fn begin_declaration(&mut self, text: &[u8]) -> Result<(), Fault>
         requires between { self.old.item ≡ items.Nothing }
         requires in_declarations { self.old.in_body ≡ false }
@@ -100,6 +100,7 @@ impl Reader {
         }
     }
 
+    /// Adds the open header entry.
     fn close_entry(&mut self, alloc: Global, kind: HeaderKind) -> Result<(), Fault>
         requires { self.old.item ≡ items.Entry kind }
         ensures { (line : ℕ) → WordResult self.old (word_on end_word line) result self.new }
@@ -125,6 +126,7 @@ impl Reader {
         }
     }
 
+    /// Opens the scope that the words name.
     fn close_scope(&mut self, alloc: Global) -> Result<(), Fault>
         requires { self.old.item ≡ items.Scope }
         ensures { (line : ℕ) → WordResult self.old (word_on end_word line) result self.new }
@@ -139,6 +141,7 @@ impl Reader {
         Ok(())
     }
 
+    /// Closes the innermost scope.
     fn close_upscope(&mut self) -> Result<(), Fault>
         requires { self.old.item ≡ items.Upscope }
         ensures { (line : ℕ) → WordResult self.old (word_on end_word line) result self.new }
@@ -148,6 +151,7 @@ impl Reader {
         Ok(())
     }
 
+    /// Declares the variable that the words describe.
     fn close_variable(&mut self, alloc: Global) -> Result<(), Fault>
         requires item { self.old.item ≡ items.Variable }
         requires reading { IsUnderway self.old }
@@ -170,6 +174,7 @@ impl Reader {
         Ok(())
     }
 
+    /// Ends a command that is passed over.
     fn close_other(&mut self) -> Result<(), Fault>
         requires { self.old.item ≡ items.Other }
         ensures { (line : ℕ) → WordResult self.old (word_on end_word line) result self.new }
@@ -179,7 +184,7 @@ impl Reader {
     }
 }
 
-/// The item that a word opens among the declarations; none where it begins no declaration.
+/// The item that a word opens among the declarations; none if it begins no declaration.
 fn opened_item(text: &[u8]) -> Option<OpenItem>
     ensures { MatchOption result (IsFalse (begins_declaration text.now)) (λ item.
         Opens item text.now) }
@@ -195,7 +200,7 @@ fn opened_item(text: &[u8]) -> Option<OpenItem>
 
 /// The item of a keyword; none for a command that is passed over.
 fn keyword_item(text: &[u8]) -> Option<OpenItem>
-    ensures { MatchOption result (IsFalse (is_one_of (declaring_words ++ header_words) text.now))
+    ensures { MatchOption result (IsFalse (is_one_of (declaration_words ++ header_words) text.now))
         (λ item. Opens item text.now) }
 {
     // Comparisons in a row: a `match` on byte strings leaves goals open.

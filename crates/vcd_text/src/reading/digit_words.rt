@@ -9,8 +9,8 @@ ghost use Rattle.vcd_text.specs.inside.LetterWords.{AddsLetters, is_two_state};
 use crate::reading::digits::{is_two_state, letter_of_digit, two_state_letter};
 use vcd_core::{Bit, LetterWord};
 
-/// The letters of at most 64 digits, after as many `pad` as are missing; none where one is no
-/// binary digit.
+/// The letters of at most 64 digits, after as many `pad` as are missing; none if one is no binary
+/// digit.
 pub fn word_of_digits(pad: Bit, digits: &[u8]) -> Option<LetterWord>
     requires { length digits.now ≤ 64 }
     ensures { MatchOption result (list_all digit_test digits.now ≡ false) (λ word.
@@ -25,8 +25,7 @@ pub fn word_of_digits(pad: Bit, digits: &[u8]) -> Option<LetterWord>
     with_digits(word, rest)
 }
 
-/// The word with the letters of eight digits added at its low end; none where one is no binary
-/// digit.
+/// The word with the letters of eight digits added at its low end; none if one is no binary digit.
 fn with_eight_digits(word: LetterWord, digits: &[u8; 8]) -> Option<LetterWord>
     ensures { MatchOption result (list_all digit_test digits.now ≡ false) (λ more.
         (list_all digit_test digits.now ≡ true) ×
@@ -63,7 +62,7 @@ fn with_two_state_digits(word: LetterWord, digits: &[u8; 8]) -> LetterWord
     word
 }
 
-/// The word with the letters of the digits added at its low end; none where one is no binary digit.
+/// The word with the letters of the digits added at its low end; none if one is no binary digit.
 fn with_digits(word: LetterWord, digits: &[u8]) -> Option<LetterWord>
     ensures { MatchOption result (list_all digit_test digits.now ≡ false) (λ more.
         (list_all digit_test digits.now ≡ true) ×
@@ -76,7 +75,7 @@ fn with_digits(word: LetterWord, digits: &[u8]) -> Option<LetterWord>
     Some(word)
 }
 
-/// The word with the letter of a digit added at its low end; none where it is no binary digit.
+/// The word with the letter of a digit added at its low end; none if it is no binary digit.
 fn with_digit(word: LetterWord, digit: u8) -> Option<LetterWord>
     ensures { MatchOption result (digit_test digit ≡ false) (λ more.
         (digit_test digit ≡ true) ×

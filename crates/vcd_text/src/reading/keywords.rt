@@ -2,9 +2,9 @@
 
 ghost use Rattle.std.specs.Prelude.{◌≡◌};
 ghost use Rattle.vcd_core.specs.Word.{is_one_of};
-ghost use Rattle.vcd_text.specs.Items.{is_command, declaring_words, dump_words};
+ghost use Rattle.vcd_text.specs.Items.{is_command, declaration_words, dump_words};
 
-/// Whether a word is a bracket of a dump.
+/// Whether a word belongs to a dump: `$dumpoff`, `$end` and so on.
 pub fn is_dump_word(text: &[u8]) -> bool
     ensures { result ≡ is_one_of dump_words text.now }
 {
@@ -23,9 +23,9 @@ pub fn is_command(text: &[u8]) -> bool
     matches!(text, [b'$', ..])
 }
 
-/// Whether a word is allowed among the declarations alone.
-pub fn is_declaring(text: &[u8]) -> bool
-    ensures { result ≡ is_one_of declaring_words text.now }
+/// Whether a word is one of the declarations alone.
+pub fn is_declaration_word(text: &[u8]) -> bool
+    ensures { result ≡ is_one_of declaration_words text.now }
 {
     // As above.
     text == b"$scope".as_slice()

@@ -1,4 +1,4 @@
-//! The bytes of a file that have been read but not consumed.
+//! The bytes of a file that have been read, and not yet taken as words.
 
 ghost use Rattle.std.specs.Prelude.{◌≡◌, ◌<◌, ◌≤◌, ◌+◌, ◌++◌, ℕ, List, [], false, true, length, take, drop, vec_len, IfOk, IsOk, OnOk, OnErr};
 ghost use Rattle.std.specs.Io.KnownBytes.{Consumes, Keeps, IsAtEnd};
@@ -10,7 +10,8 @@ use vcd_core::{DeviceFault, NoMemory, Source};
 /// The most bytes that one read asks for.
 const CHUNK: usize = 4096;
 
-/// The bytes that have been read but not consumed, at the front of the storage of the next read.
+/// The bytes that have been read, and not yet taken as words, at the front of the storage of the
+/// next read.
 ///
 /// Contracts see these bytes, and the number of bytes that there is room for.
 #[derive(Drop)]
@@ -21,9 +22,9 @@ pub struct ReadBuffer {
 
 impl Model for ReadBuffer {
     ghost use Rattle.std.specs.Prelude.{◌-◌, ◌≤◌, take, vec_len};
-    ghost use Rattle.vcd_text.specs.inside.Waiting.{Waiting};
+    ghost use Rattle.vcd_text.specs.inside.ReadBufferView.{ReadBufferView};
 
-    ghost Value = { Waiting };
+    ghost Value = { ReadBufferView };
 
     ghost view = { λ b. record {
       bytes = take b.len b.storage.items;
@@ -58,7 +59,7 @@ impl ReadBuffer {
         self.len
     }
 
-    /// Makes room where there is none: at first, and after a word that fills the buffer.
+    /// Makes room if there is none: at first, and after a word that fills the buffer.
     pub fn make_room(&mut self) -> Result<(), NoMemory>
         ensures same { OnOk result (self.new.bytes ≡ self.old.bytes) }
         ensures room { OnOk result (0 < self.new.room) }
@@ -72,8 +73,8 @@ impl ReadBuffer {
         Ok(())
     }
 
-    /// Reads at most `most` bytes, or one where that is 0, after those in the buffer. Returns how
-    /// many came. Zero means that the source is at its end.
+    /// Reads at most `most` bytes, or one if that is 0, after those in the buffer. Returns how many
+    /// came. Zero means that the source is at its end.
     pub fn read_from<S: Source>(
         &mut self,
         source: &mut S,
@@ -87,7 +88,7 @@ impl ReadBuffer {
             × (count ≡ length chunk)) }
         ensures within { IfOk result (λ count. most < count → most ≡ 0) }
         ensures ended { IfOk result (λ count. count ≡ 0 → IsAtEnd (S.coming source.new)) }
-        ensures ready { OnOk result (S.has_failed source.new ≡ false) }
+        ensures not_failed { OnOk result (S.has_failed source.new ≡ false) }
         ensures failed { OnErr result (S.has_failed source.new ≡ true) }
         ensures coming { OnErr result (Keeps (S.coming source.old) (S.coming source.new)) }
     {
@@ -97,8 +98,8 @@ impl ReadBuffer {
         Ok(count)
     }
 
-    /// Removes the first `count` bytes, and moves the others to the front. Where `count` is 0
-    /// nothing moves, so a long word is not moved for each chunk.
+    /// Removes the first `count` bytes, and moves the others to the front. If `count` is 0 nothing
+    /// moves, so a long word is not moved for each chunk.
     pub fn drop_front(&mut self, count: usize)
         requires { count ≤ length self.old.bytes }
         ensures { self.new.bytes ≡ drop count self.old.bytes }

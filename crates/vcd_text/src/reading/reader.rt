@@ -6,7 +6,7 @@ ghost use Rattle.vcd_text.specs.inside.Variables.{VariablesMatch};
 ghost use Rattle.vcd_core.specs.Contents.{contents};
 ghost use Rattle.vcd_text.specs.Words.{word_on};
 ghost use Rattle.vcd_text.specs.inside.OpenItems.{item_fault_line};
-ghost use Rattle.vcd_text.specs.inside.Reading.{Reads, IsUnderway, WordResult, WordsResult, is_complete, BeginsVector, Means};
+ghost use Rattle.vcd_text.specs.inside.Reading.{HasTakenWords, IsUnderway, WordResult, WordsResult, is_complete, BeginsVector, Means};
 
 use crate::fault::{Fault, ReadError};
 use crate::reading::Loaded;
@@ -29,10 +29,10 @@ pub enum OpenItem {
     EndDefinitions,
     /// A command that is passed over.
     Other,
-    /// A change of several bits, whose code is next.
+    /// A change by a binary number, whose code is next.
     Vector,
     /// A change of a real number or a string, whose code is next.
-    Dropped,
+    RealOrString,
 }
 
 /// The state of a reader after the words so far.
@@ -49,15 +49,16 @@ pub struct Reader {
     pub item: OpenItem,
     /// The words of the open declaration, after its keyword.
     pub words: Vec<Word>,
-    /// The digits of the open change of several bits.
+    /// The digits of the open change by a binary number.
     pub digits: Vec<u8>,
     /// The line of the open change.
     pub line: u64,
 }
 
 impl Reader {
+    /// A reader before the first word. It takes no memory.
     pub fn new(alloc: Global) -> Reader
-        ensures { Reads result [] }
+        ensures { HasTakenWords result [] }
     {
         Reader {
             header: Vec::new(alloc),
@@ -86,8 +87,8 @@ impl Reader {
         }
     }
 
-    /// Takes both words of a change of several bits: the code, and these digits, which follow the
-    /// letter of the first word on this line.
+    /// Takes both words of a change by a binary number: the code, and these digits, which follow
+    /// the letter of the first word on this line.
     pub fn take_vector(
         &mut self,
         alloc: Global,
@@ -110,7 +111,7 @@ impl Reader {
         ensures { result ≡ item_fault_line self.now.item self.now.line line }
     {
         match self.item {
-            OpenItem::Vector | OpenItem::Dropped => self.line,
+            OpenItem::Vector | OpenItem::RealOrString => self.line,
             _ => line,
         }
     }
@@ -125,7 +126,7 @@ impl Reader {
             OpenItem::Nothing if self.in_body => self.begin_change(alloc, text, line),
             OpenItem::Nothing => self.begin_declaration(text),
             OpenItem::Vector => self.end_vector(alloc, text),
-            OpenItem::Dropped => self.end_dropped(text),
+            OpenItem::RealOrString => self.end_real_or_string(text),
             _ if text == b"$end".as_slice() => self.close(alloc),
             _ => self.continue_item(alloc, text),
         }

@@ -8,8 +8,8 @@ use crate::reading::scopes::ScopePlace;
 use std::alloc::Global;
 use vcd_core::{NoMemory, ScopePath, Signal};
 
-/// Gives each signal the path of its place, in their order. It takes no memory where the chains can
-/// be shared.
+/// Gives each signal the path of its place, in their order. It takes no memory if the chains can be
+/// shared.
 pub fn give_paths(
     alloc: Global,
     signals: &mut [Signal],
@@ -26,7 +26,7 @@ pub fn give_paths(
     Ok(())
 }
 
-/// The path of the place at `index`, or no scopes where there is none.
+/// The path of the place at `index`, or no scopes if there is none.
 fn path_at(
     alloc: Global,
     chains: &[ScopePath],

@@ -18,10 +18,9 @@ pub struct ScopePlace {
 /// The declared scopes: those that are open, and those of each kept variable.
 ///
 /// They are kept in chains, where each scope is in the one before it, so nested scopes of any depth
-/// are stored once. A scope that follows a closed one replaces it in the chain where no variable is
-/// in the closed one. Otherwise it begins a new chain, with a copy of the open scopes. So many
-/// sibling scopes at a great depth, each with a variable, take memory of their number times the
-/// depth.
+/// are stored once. A scope that follows a closed one replaces it in the chain if no variable is in
+/// the closed one. Otherwise it begins a new chain, with a copy of the open scopes. So many sibling
+/// scopes at a great depth, each with a variable, take memory of their number times the depth.
 #[derive(Drop)]
 pub struct Scopes {
     /// The complete chains.
@@ -71,8 +70,7 @@ impl Scopes {
         Ok(())
     }
 
-    /// Cuts the chain back to the open scopes where no variable is in the others, or begins
-    /// another.
+    /// Cuts the chain back to the open scopes if no variable is in the others, or begins another.
     fn go_to_end(&mut self, alloc: Global) -> Result<(), NoMemory>
         ensures same { (c : ParseState) → HoldsScopes self.old c.scopes c.declared →
             OnOk result (HoldsScopes self.new c.scopes c.declared) }
@@ -112,7 +110,7 @@ impl Scopes {
         Ok(())
     }
 
-    /// Closes the innermost scope, where one is open.
+    /// Closes the innermost scope, if one is open.
     pub fn leave(&mut self)
         ensures { (c : ParseState) → HoldsScopes self.old c.scopes c.declared →
             HoldsScopes self.new (take (length c.scopes - 1) c.scopes) c.declared }
@@ -120,8 +118,8 @@ impl Scopes {
         self.depth = self.depth.saturating_sub(1);
     }
 
-    /// Notes the place of the variable that these words have just declared, where it is kept.
-    /// `kept` is the number of kept variables.
+    /// Notes the place of the variable that these words have just declared, if it is kept. `kept`
+    /// is the number of kept variables.
     pub fn note_place(&mut self, kept: usize) -> Result<(), NoMemory>
         ensures { (c : ParseState) (words : List (List ℕ)) → HoldsScopes self.old c.scopes c.declared →
             kept ≡ length (kept_variables (state_after_item c (variable words)).declared) →

@@ -7,8 +7,8 @@ ghost use Rattle.vcd_text.specs.Grammar.{is_tick};
 
 use vcd_core::{END_LIMIT, WIDTH_LIMIT, number_up_to};
 
-/// The tick that the digits of a time stamp write; none where they are no decimal number, or one
-/// past the greatest tick. There may be any number of leading zeros.
+/// The tick that the digits of a time stamp write; none if they are no decimal number, or one past
+/// the greatest tick. There may be any number of leading zeros.
 pub fn tick_of(digits: &[u8]) -> Option<u64>
     ensures { MatchOption result (is_tick digits.now ≡ false)
         (λ tick. (is_tick digits.now ≡ true) × (tick ≡ number_of digits.now)) }
@@ -20,7 +20,7 @@ pub fn tick_of(digits: &[u8]) -> Option<u64>
     Some(tick)
 }
 
-/// The size that digits write, in bits; none where they are no decimal number. Every size past the
+/// The size that digits write, in bits; none if they are no decimal number. Every size past the
 /// greatest width is given as one more than that. There may be any number of digits.
 pub fn size_of(digits: &[u8]) -> Option<u64>
     ensures { MatchOption result (is_number digits.now ≡ false) (λ size.

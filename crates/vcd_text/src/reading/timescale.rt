@@ -8,7 +8,7 @@ ghost use Rattle.vcd_text.specs.inside.TimescaleText.{timescale_spelled, timesca
 use std::alloc::Global;
 use vcd_core::{NoMemory, TimeUnit, Timescale, Word};
 
-/// The timescale that words spell when they are run together; none where they spell none.
+/// The timescale that words spell when they are run together; none if they spell none.
 pub fn timescale_in(alloc: Global, words: &[Word]) -> Result<Option<Timescale>, NoMemory>
     ensures { IfOk result (λ found. timescale_of words.now ≡ found) }
 {
@@ -27,7 +27,7 @@ fn joined_words(alloc: Global, words: &[Word]) -> Result<Vec<u8>, NoMemory>
     Ok(text)
 }
 
-/// The timescale that a text spells; none where it spells none.
+/// The timescale that a text spells; none if it spells none.
 fn timescale_of_text(text: &[u8]) -> Option<Timescale>
     ensures { result ≡ timescale_spelled text.now }
 {
@@ -43,7 +43,7 @@ fn timescale_of_text(text: &[u8]) -> Option<Timescale>
     None
 }
 
-/// `count` of the unit that a text names; none where it names none.
+/// `count` of the unit that a text names; none if it names none.
 fn timescale_with(count: u64, unit: &[u8]) -> Option<Timescale>
     ensures { result ≡ timescale_of_unit count (unit_named unit.now) }
 {
@@ -51,7 +51,7 @@ fn timescale_with(count: u64, unit: &[u8]) -> Option<Timescale>
     Some(Timescale { count, unit })
 }
 
-/// The unit that a text names; none where it names none.
+/// The unit that a text names; none if it names none.
 fn unit_named(text: &[u8]) -> Option<TimeUnit>
     ensures { result ≡ unit_named text.now }
 {

@@ -23,7 +23,7 @@ pub struct Variable {
     pub code: Word,
     pub signal: Signal,
     /// The position of the first variable with this code.
-    pub first: usize,
+    pub first_position: usize,
 }
 
 impl Variable {
@@ -32,7 +32,7 @@ impl Variable {
         requires narrow { self.old.signal.wave.width ≤ 64 }
         requires none_later { All (λ c. c.tick ≤ change.tick) self.old.signal.wave.changes }
         ensures taken { OnOk result (AppliesToVariable change self.old self.new) }
-        // It succeeds where the wave's own list has room for `more` changes and this one.
+        // It succeeds if the wave's own list has room for `more` changes and this one.
         ensures in_place { length self.old.signal.wave.changes + 1 < self.old.signal.wave.room →
             length self.old.signal.wave.changes + more < self.old.signal.wave.room → IsOk result }
         ensures exact { OnOk result (HasExactRoom more self.old self.new) }

@@ -39,7 +39,7 @@ impl WriteBuffer {
 pub fn write_bytes<W: Sink>(buffer: &mut WriteBuffer, writer: &mut W, bytes: &[u8])
     ensures written { Emits W.taken W.has_failed (buffer.old, writer.old) (buffer.new, writer.new)
         bytes.now }
-    // where there is room the writer is not called
+    // if there is room, the writer is not called
     ensures buffered { vec_len buffer.old.unsent + length bytes.now ≤ vec_capacity buffer.old.unsent →
         writer.new ≡ writer.old }
     ensures room { vec_capacity buffer.old.unsent ≤ vec_capacity buffer.new.unsent }
@@ -71,6 +71,7 @@ pub fn write_byte<W: Sink>(buffer: &mut WriteBuffer, writer: &mut W, byte: u8)
     write_bytes(buffer, writer, &[byte]);
 }
 
+/// Whether there is room for `count` more bytes.
 fn has_space_for(unsent: &Vec<u8>, count: usize) -> bool
     ensures { result ≡ nat_le (vec_len unsent.now + count) (vec_capacity unsent.now) }
 {
@@ -126,7 +127,7 @@ pub fn send_and_flush<W: Sink>(buffer: WriteBuffer, writer: &mut W) -> Result<()
         → HasEmitted before (W.taken writer.old) (W.has_failed writer.old) buffer text
         → Appends before (W.taken writer.new) text) }
     ensures not_failed { OnOk result (W.has_failed writer.new ≡ false) }
-    ensures fault { IfErr result (λ e. (before : Option (List ℕ)) (text : List ℕ) → length text < 2 ^ 128 - 1
+    ensures failed { IfErr result (λ e. (before : Option (List ℕ)) (text : List ℕ) → length text < 2 ^ 128 - 1
         → HasEmitted before (W.taken writer.old) (W.has_failed writer.old) buffer text
         → TookBefore text before (W.taken writer.new) (W.has_failed writer.new) e) }
 {

@@ -8,9 +8,10 @@ ghost use Rattle.vcd_text.specs.inside.Written.{Emits};
 use super::buffer::{WriteBuffer, write_byte};
 use vcd_core::Sink;
 
-/// The first of the 94 bytes of codes, and their number (IEEE 1364-2005, 18.2).
+/// The first of the bytes of codes (IEEE 1364-2005, 18.2).
 const FIRST: u8 = b'!';
 
+/// The number of these bytes, which follow each other.
 const COUNT: usize = 94;
 
 /// Writes the code of the signal at `position`: the position counted from 1, in bijective base 94,

@@ -40,6 +40,7 @@ fn write_header<W: Sink>(buffer: &mut WriteBuffer, writer: &mut W, header: &[Hea
     }
 }
 
+/// Writes the line of a header entry.
 fn write_entry<W: Sink>(buffer: &mut WriteBuffer, writer: &mut W, header: &Header)
     ensures { Emits W.taken W.has_failed (buffer.old, writer.old) (buffer.new, writer.new)
         (item_line (entry header.now.kind header.now.words)) }
@@ -49,6 +50,7 @@ fn write_entry<W: Sink>(buffer: &mut WriteBuffer, writer: &mut W, header: &Heade
     write_end(buffer, writer);
 }
 
+/// The keyword of a header entry.
 fn header_keyword(kind: HeaderKind) -> &'static str
     ensures { result.now ≡ header_word kind }
 {
@@ -59,7 +61,7 @@ fn header_keyword(kind: HeaderKind) -> &'static str
     }
 }
 
-/// Writes the line of the timescale, where there is one.
+/// Writes the line of the timescale, if there is one.
 fn write_timescale<W: Sink>(buffer: &mut WriteBuffer, writer: &mut W, timescale: Option<Timescale>)
     ensures { Emits W.taken W.has_failed (buffer.old, writer.old) (buffer.new, writer.new)
         (flat_map item_line (timescale_items timescale)) }
@@ -77,7 +79,7 @@ fn write_timescale<W: Sink>(buffer: &mut WriteBuffer, writer: &mut W, timescale:
 }
 
 /// Writes the declarations of all signals, and opens and closes scopes between them. The time grows
-/// with the scopes of all signals, where shared scopes count for each signal.
+/// with the scopes of all signals. Shared scopes count for each signal.
 fn write_signals<W: Sink>(buffer: &mut WriteBuffer, writer: &mut W, signals: &[Signal])
     requires { length signals.now ≤ SIGNAL_LIMIT }
     ensures { Emits W.taken W.has_failed (buffer.old, writer.old) (buffer.new, writer.new)
@@ -93,6 +95,7 @@ fn write_signals<W: Sink>(buffer: &mut WriteBuffer, writer: &mut W, signals: &[S
     write_upscopes(buffer, writer, opened.len());
 }
 
+/// Writes the declaration of the signal at `position`.
 fn write_variable<W: Sink>(
     buffer: &mut WriteBuffer,
     writer: &mut W,
@@ -131,6 +134,7 @@ fn write_scope_changes<W: Sink>(
     write_scopes(buffer, writer, &path[shared..]);
 }
 
+/// Closes `count` scopes.
 fn write_upscopes<W: Sink>(buffer: &mut WriteBuffer, writer: &mut W, count: usize)
     ensures { Emits W.taken W.has_failed (buffer.old, writer.old) (buffer.new, writer.new)
         (flat_map item_line (replicate count upscope)) }
@@ -140,6 +144,7 @@ fn write_upscopes<W: Sink>(buffer: &mut WriteBuffer, writer: &mut W, count: usiz
     }
 }
 
+/// Opens scopes, the outermost first.
 fn write_scopes<W: Sink>(buffer: &mut WriteBuffer, writer: &mut W, scopes: &[ScopeName])
     ensures { Emits W.taken W.has_failed (buffer.old, writer.old) (buffer.new, writer.new)
         (flat_map item_line (map (λ s. scope s.kind s.words) scopes.now)) }
@@ -149,6 +154,7 @@ fn write_scopes<W: Sink>(buffer: &mut WriteBuffer, writer: &mut W, scopes: &[Sco
     }
 }
 
+/// Opens a scope.
 fn write_scope<W: Sink>(buffer: &mut WriteBuffer, writer: &mut W, name: &ScopeName)
     ensures { Emits W.taken W.has_failed (buffer.old, writer.old) (buffer.new, writer.new)
         (item_line (scope name.now.kind name.now.words)) }
@@ -176,12 +182,14 @@ fn shared_len(opened: &[ScopeName], path: &[ScopeName]) -> usize
     most
 }
 
+/// Whether two scopes have the same kind and the same words.
 fn is_same_scope(a: &ScopeName, b: &ScopeName) -> bool
     ensures { result ≡ same_scope a.now b.now }
 {
     a.kind.as_slice() == b.kind.as_slice() && are_same_words(a.words.as_slice(), b.words.as_slice())
 }
 
+/// Whether two lists have the same words.
 fn are_same_words(a: &[Word], b: &[Word]) -> bool
     ensures { result ≡ pointwise bytes_eq a.now b.now }
 {

@@ -8,7 +8,7 @@ use std::alloc::Global;
 use vcd_core::{Change, NoMemory, Signal, Wave};
 
 /// The next change of a signal: its place in the wave, its tick, and the tick of the change after
-/// it. A tick is past all ticks where there is no such change. It has 24 bytes.
+/// it. A tick is past all ticks if there is no such change. It has 24 bytes.
 #[derive(Clone, Copy)]
 pub struct NextChange {
     pub place: usize,
@@ -57,7 +57,7 @@ pub fn following_change(changes: &[Change], next: NextChange) -> NextChange
     }
 }
 
-/// The tick of the change at a place, past all ticks where there is none.
+/// The tick of the change at a place, past all ticks if there is none.
 pub fn tick_at_place(changes: &[Change], place: usize) -> u64
     ensures { result ≡ tick_at changes.now place }
 {

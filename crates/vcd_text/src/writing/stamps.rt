@@ -24,6 +24,7 @@ pub fn write_first_values<W: Sink>(buffer: &mut WriteBuffer, writer: &mut W, sig
     write_bytes(buffer, writer, b"$end\n");
 }
 
+/// Writes the values at tick 0 of all signals, in order.
 fn write_all_values<W: Sink>(buffer: &mut WriteBuffer, writer: &mut W, signals: &[Signal])
     requires { length signals.now ≤ SIGNAL_LIMIT }
     ensures { Emits W.taken W.has_failed (buffer.old, writer.old) (buffer.new, writer.new)
@@ -34,6 +35,7 @@ fn write_all_values<W: Sink>(buffer: &mut WriteBuffer, writer: &mut W, signals: 
     }
 }
 
+/// Writes the stamp of `tick`, unless it is that of the tick before, `last`.
 pub fn write_new_stamp<W: Sink>(buffer: &mut WriteBuffer, writer: &mut W, last: u64, tick: u64)
     ensures { Emits W.taken W.has_failed (buffer.old, writer.old) (buffer.new, writer.new)
         (flat_map item_line (if tick == last then [] else stamp_of tick ∷ [])) }
@@ -44,6 +46,7 @@ pub fn write_new_stamp<W: Sink>(buffer: &mut WriteBuffer, writer: &mut W, last: 
     write_stamp(buffer, writer, tick);
 }
 
+/// Writes the stamp of the end, if it is above the last tick.
 pub fn write_last_stamp<W: Sink>(buffer: &mut WriteBuffer, writer: &mut W, last: u64, end: u64)
     ensures { Emits W.taken W.has_failed (buffer.old, writer.old) (buffer.new, writer.new)
         (flat_map item_line (if nat_lt last end then stamp_of end ∷ [] else [])) }
@@ -54,6 +57,7 @@ pub fn write_last_stamp<W: Sink>(buffer: &mut WriteBuffer, writer: &mut W, last:
     write_stamp(buffer, writer, end);
 }
 
+/// Writes the line of a stamp.
 fn write_stamp<W: Sink>(buffer: &mut WriteBuffer, writer: &mut W, tick: u64)
     ensures { Emits W.taken W.has_failed (buffer.old, writer.old) (buffer.new, writer.new)
         (flat_map item_line (stamp_of tick ∷ [])) }

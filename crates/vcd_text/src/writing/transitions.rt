@@ -18,7 +18,7 @@ use super::window::{POSITIONS, Window, fill_window};
 use vcd_core::{Signal, Sink};
 
 /// Writes the changes after tick 0, and the end, window by window. Ticks without a change are not
-/// read. It stops early where the writer has failed.
+/// read. It stops early if the writer has failed.
 pub fn write_transitions<W: Sink>(
     buffer: &mut WriteBuffer,
     writer: &mut W,
@@ -34,7 +34,7 @@ pub fn write_transitions<W: Sink>(
 {
     let mut last = 0;
     let mut from = 1;
-    let mut most = first_most(signals, window.keys.capacity(), end);
+    let mut most = first_window_ticks(signals, window.keys.capacity(), end);
     while from <= end {
         if writer.failed() {
             return;
@@ -43,15 +43,14 @@ pub fn write_transitions<W: Sink>(
         let keys = window.keys.as_slice();
         let search_hints = window.search_hints.as_mut_slice();
         last = write_keys(buffer, writer, signals, keys, search_hints, from, last);
-        most = next_most(count, window.keys.len(), window.keys.capacity());
+        most = next_window_ticks(count, window.keys.len(), window.keys.capacity());
         from += count;
     }
     write_last_stamp(buffer, writer, last, end);
 }
 
-/// The greatest number of ticks of the first window: as many as use seven eighths of its room, if
-/// the changes are spread evenly.
-fn first_most(signals: &[Signal], room: usize, end: u64) -> u64
+/// How many ticks the first window tries, so that even changes fill seven eighths.
+fn first_window_ticks(signals: &[Signal], room: usize, end: u64) -> u64
     ensures { 1 ≤ result }
 {
     let windows = change_count(signals) / (room / 8).saturating_mul(7).max(1);
@@ -67,9 +66,9 @@ fn change_count(signals: &[Signal]) -> usize {
     count
 }
 
-/// The greatest number of ticks of the next window: twice as many where this one used less than a
-/// quarter of its room.
-fn next_most(count: u64, used: usize, room: usize) -> u64
+/// How many ticks the next window tries: twice as many if this one used less than a quarter of its
+/// room.
+fn next_window_ticks(count: u64, used: usize, room: usize) -> u64
     requires { 1 ≤ count }
     ensures { 1 ≤ result }
 {
@@ -124,7 +123,7 @@ fn write_keys<W: Sink>(
 /// to overlap.
 const PREFETCH_COUNT: usize = 32;
 
-/// Reads the changes of the next `PREFETCH_COUNT` keys, where the place is a multiple of that number.
+/// Reads the changes of the next `PREFETCH_COUNT` keys, if the place is a multiple of that number.
 fn prefetch_changes(signals: &[Signal], search_hints: &mut [NextChange], keys: &[u64], place: usize)
     ensures { length search_hints.new ≡ length search_hints.old }
 {

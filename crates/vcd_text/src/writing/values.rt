@@ -8,15 +8,15 @@ ghost use Rattle.vcd_core.specs.WordRows.{letter_in, letters_of};
 ghost use Rattle.vcd_core.specs.declared.capture.TheConstants.{SIGNAL_LIMIT};
 ghost use Rattle.vcd_text.specs.Letters.{pad_letter, printed_letters, short_form};
 ghost use Rattle.vcd_text.specs.Text.{code_of, item_line, value_item};
-ghost use Rattle.vcd_text.specs.inside.ValueFronts.{IsKept, is_spare_above, value_front};
+ghost use Rattle.vcd_text.specs.inside.ValueFronts.{IsShortFormLen, is_redundant_above, value_front};
 ghost use Rattle.vcd_text.specs.inside.Written.{Emits};
 
 use super::buffer::{WriteBuffer, write_byte, write_bytes};
 use super::codes::write_code;
 use vcd_core::{Bit, LetterWord, Sink, Value, Wave};
 
-/// Writes the value at `tick`. Where the change at `place` has that tick, it writes its value,
-/// without a search.
+/// Writes the value at `tick`. If the change at `place` has that tick, it writes its value, without
+/// a search.
 pub fn write_value_near<W: Sink>(
     buffer: &mut WriteBuffer,
     writer: &mut W,
@@ -52,7 +52,7 @@ fn write_value<W: Sink>(buffer: &mut WriteBuffer, writer: &mut W, position: usiz
         return;
     }
     write_byte(buffer, writer, b'b');
-    write_lowest(buffer, writer, value, kept_letters(value));
+    write_lowest(buffer, writer, value, short_form_len(value));
     write_byte(buffer, writer, b' ');
     write_code(buffer, writer, position);
     write_byte(buffer, writer, b'\n');
@@ -91,7 +91,7 @@ fn write_word_front<W: Sink>(buffer: &mut WriteBuffer, writer: &mut W, width: u6
         return;
     }
     write_byte(buffer, writer, b'b');
-    write_letters(buffer, writer, kept_in_word(width, word), word);
+    write_letters(buffer, writer, short_form_len_of_word(width, word), word);
     write_byte(buffer, writer, b' ');
 }
 
@@ -147,8 +147,8 @@ const LETTER_PAIRS: [[u8; 2]; 16] = [
 
 /// The letters of bits 1 and 0 of a word.
 fn letter_pair(word: LetterWord) -> [u8; 2]
-    ensures first { slice_index result 0 ≡ printed_letter (letter_in word 1) }
-    ensures second { slice_index result 1 ≡ printed_letter (letter_in word 0) }
+    ensures higher { slice_index result 0 ≡ printed_letter (letter_in word 1) }
+    ensures lower { slice_index result 1 ≡ printed_letter (letter_in word 0) }
 {
     LETTER_PAIRS[(word.low % 4 + 4 * (word.high % 4)) as usize]
 }
@@ -163,9 +163,8 @@ fn without_pair(word: LetterWord) -> LetterWord
     }
 }
 
-/// The number of lowest letters that the short form keeps (IEEE 1364-2005, 18.2). It takes a step
-/// for each word.
-fn kept_letters(value: &Value) -> u64
+/// How many letters the short form writes (IEEE 1364-2005, 18.2). It takes a step for each word.
+fn short_form_len(value: &Value) -> u64
     ensures most { result ≤ length value.now }
     ensures rest { drop (length value.now - result) value.now ≡ short_form value.now }
 {
@@ -173,35 +172,34 @@ fn kept_letters(value: &Value) -> u64
     while left > 64 {
         let word = (left - 1) / 64;
         let below = 64 * word;
-        let kept = kept_in_word(left - below, value.word(word as usize));
-        if kept > 1 {
-            return below + kept;
+        let len = short_form_len_of_word(left - below, value.word(word as usize));
+        if len > 1 {
+            return below + len;
         }
-        if !is_spare(value.bit(below), value.bit(below - 1)) {
+        if !is_redundant(value.bit(below), value.bit(below - 1)) {
             return below + 1;
         }
         left = below;
     }
-    kept_in_word(left, value.word(0))
+    short_form_len_of_word(left, value.word(0))
 }
 
-/// The number of the `count` lowest letters of a word that remain after the letters at the front
-/// that the extension restores are dropped. The last letter stays.
-fn kept_in_word(count: u64, word: LetterWord) -> u64
+/// How many of the `count` lowest letters the short form writes; at least one.
+fn short_form_len_of_word(count: u64, word: LetterWord) -> u64
     requires least { 1 ≤ count }
     requires most { count ≤ 64 }
-    ensures { IsKept count word result }
+    ensures { IsShortFormLen count word result }
 {
-    let needed = needed_above(word.low, word.high) & ones(count - 1);
+    let needed = needed_letters(word.low, word.high) & ones(count - 1);
     65 - needed.leading_zeros() as u64
 }
 
-/// A word whose bit `i` is set where the extension does not restore the letter of bit `i + 1` from
+/// A word whose bit `i` is set if the extension does not restore the letter of bit `i + 1` from
 /// that of bit `i`. These are the pairs that mix x or z with 0 or 1, those with 1 as the higher
 /// letter, and those of x and z.
-fn needed_above(low: u64, high: u64) -> u64
+fn needed_letters(low: u64, high: u64) -> u64
     ensures { (i : ℕ) → i < 64 →
-        bit_at result i ≡ (if is_spare_above (record { low = low; high = high }) i then 0 else 1) }
+        bit_at result i ≡ (if is_redundant_above (record { low = low; high = high }) i then 0 else 1) }
 {
     let next_low = low >> 1;
     let next_high = high >> 1;
@@ -217,7 +215,7 @@ fn ones(count: u64) -> u64
 }
 
 /// Whether the extension restores this letter from the next one.
-fn is_spare(letter: Bit, next: Bit) -> bool
+fn is_redundant(letter: Bit, next: Bit) -> bool
     ensures { result ≡ same_letter (pad_letter (next ∷ [])) letter }
 {
     matches!(

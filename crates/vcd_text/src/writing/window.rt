@@ -5,7 +5,7 @@ ghost use Rattle.std.specs.Prelude.{◌≡◌, ◌⊎◌, ◌<◌, ◌≤◌, �
 ghost use Rattle.vcd_core.specs.Contents.{signal_contents};
 ghost use Rattle.vcd_core.specs.Sound.{IsSoundSignal};
 ghost use Rattle.vcd_core.specs.declared.capture.TheConstants.{END_LIMIT, SIGNAL_LIMIT};
-ghost use Rattle.vcd_text.specs.inside.NextChanges.{AreNext, AreRising, IsNext};
+ghost use Rattle.vcd_text.specs.inside.NextChanges.{AreNext, AreChangesOfSomeWave, IsNext};
 ghost use Rattle.vcd_text.specs.inside.Transitions.{transitions_from, unsorted_window, window_of_signal};
 ghost use Rattle.vcd_text.specs.inside.Windows.{IsKey, IsReady, transitions_of};
 
@@ -14,15 +14,16 @@ use std::alloc::Global;
 use std::mem::swap;
 use vcd_core::{Change, NoMemory, Signal};
 
-/// The limit of the positions in a key. Positions and ticks fit together in 64 bits.
+/// The limit of the positions in a key, which is `SIGNAL_LIMIT`. Positions and ticks fit together
+/// in 64 bits.
 pub const POSITIONS: u64 = 65536;
 
 /// The limit of the ticks in a key.
-pub const SPAN: u64 = u64::MAX / POSITIONS;
+pub const TICKS_IN_KEY: u64 = u64::MAX / POSITIONS;
 
 /// The least number of changes that a window has room for. A short list is sorted faster, and stays
 /// in a cache.
-const LEAST: usize = 4096;
+const LEAST_KEYS: usize = 4096;
 
 /// A window of ticks.
 #[derive(Drop)]
@@ -38,14 +39,14 @@ pub struct Window {
 }
 
 impl Window {
-    /// A window before tick 1 with room for the changes of any one tick, and of several where
-    /// signals change seldom. It takes 56 bytes for each signal, and 32 KiB at least.
+    /// A window before tick 1 with room for the changes of any one tick, and of several if signals
+    /// change seldom. `write` says how much memory it takes.
     pub fn new(alloc: Global, signals: &[Signal], end: u64) -> Result<Window, NoMemory>
         requires few { length signals.now ≤ SIGNAL_LIMIT }
         requires sound { All (IsSoundSignal end) (map signal_contents signals.now) }
         ensures { IfOk result (IsReady end 1 signals.now) }
     {
-        let keys = Vec::with_capacity(alloc, signals.len().max(LEAST))?;
+        let keys = Vec::with_capacity(alloc, signals.len().max(LEAST_KEYS))?;
         let next_changes = first_changes(alloc, signals)?;
         let search_hints = next_changes.clone()?;
         Ok(Window {
@@ -56,8 +57,8 @@ impl Window {
     }
 }
 
-/// Makes the window that of the ticks from `from` on. Returns the number of these ticks: at most
-/// `most`, halved until the window has room and its changes are within `SPAN`.
+/// Fills the window with the ticks from `from` on, at most `most`. It halves that number until all
+/// keys fit, and returns it.
 pub fn fill_window(window: &mut Window, signals: &[Signal], from: u64, most: u64, end: u64) -> u64
     requires ready { IsReady end from signals.now window.old }
     requires some { 1 ≤ most }
@@ -86,12 +87,12 @@ pub fn fill_window(window: &mut Window, signals: &[Signal], from: u64, most: u64
     count
 }
 
-/// Lists the keys of a window, signal by signal. Returns whether there was room, and no change was
-/// too far from the window's first tick for a key.
+/// Lists the keys of a window, signal by signal. Returns whether all keys fit: there was room, and
+/// no change was too far from the window's first tick.
 fn list_window(
     keys: &mut Vec<u64>,
     signals: &[Signal],
-    search_hints: &[NextChange],
+    next_changes_at_start: &[NextChange],
     next_changes: &mut [NextChange],
     from: u64,
     to: u64,
@@ -99,7 +100,7 @@ fn list_window(
 ) -> bool
     requires few { length signals.now ≤ SIGNAL_LIMIT }
     requires sound { All (IsSoundSignal end) (map signal_contents signals.now) }
-    requires search_hints { AreNext from signals.now search_hints.now }
+    requires next_changes_at_start { AreNext from signals.now next_changes_at_start.now }
     requires next { length next_changes.old ≡ length signals.now }
     requires order { from ≤ to }
     requires end { to ≤ END_LIMIT + 1 }
@@ -107,15 +108,22 @@ fn list_window(
         ≡ unsorted_window from to 0 (map signal_contents signals.now) }
     ensures keys { All (IsKey from (length signals.now)) keys.new.items }
     ensures next { result ≡ true → AreNext to signals.now next_changes.new }
-    ensures all_next { length next_changes.new ≡ length signals.now }
-    ensures full { result ≡ false → (from + SPAN < to) ⊎ (vec_capacity keys.old
+    ensures next_count { length next_changes.new ≡ length signals.now }
+    ensures no_room_or_too_far { result ≡ false → (from + TICKS_IN_KEY < to) ⊎ (vec_capacity keys.old
         < length (unsorted_window from to 0 (map signal_contents signals.now))) }
     ensures room { vec_capacity keys.old ≤ vec_capacity keys.new }
 {
     keys.clear();
     for (position, signal) in signals.iter().enumerate() {
         let changes = signal.wave.changes();
-        match list_signal(keys, position, changes, search_hints[position], from, to) {
+        match list_signal(
+            keys,
+            position,
+            changes,
+            next_changes_at_start[position],
+            from,
+            to,
+        ) {
             Some(next) => next_changes[position] = next,
             None => return false,
         }
@@ -123,9 +131,8 @@ fn list_window(
     true
 }
 
-/// Lists the keys of the signal at `position` in a window, the first of which is that of the next
-/// change. Returns its next change after the window; none if there is no room, or a change is too
-/// late for a key. Where no change is in the window, it reads none.
+/// Adds the keys of one signal's changes before `to`. Returns its next change, or none if a key
+/// does not fit. If no change is in the window, it reads none.
 fn list_signal(
     keys: &mut Vec<u64>,
     position: usize,
@@ -135,7 +142,7 @@ fn list_signal(
     to: u64,
 ) -> Option<NextChange>
     requires position { position < POSITIONS }
-    requires rise { AreRising changes.now }
+    requires rise { AreChangesOfSomeWave changes.now }
     requires next { IsNext from from changes.now next }
     requires order { from ≤ to }
     requires end { to ≤ END_LIMIT + 1 }
@@ -144,7 +151,7 @@ fn list_signal(
     ensures keys { (count : ℕ) → position < count →
         All (IsKey from count) keys.old.items → All (IsKey from count) keys.new.items }
     ensures next { IfSome result (λ later. IsNext to to changes.now later) }
-    ensures full { IfNone result ((from + SPAN < to) ⊎ (vec_capacity keys.old
+    ensures no_room_or_too_far { IfNone result ((from + TICKS_IN_KEY < to) ⊎ (vec_capacity keys.old
         < length keys.old.items + length (window_of_signal from to position changes.now))) }
     ensures room { vec_capacity keys.old ≤ vec_capacity keys.new }
 {
@@ -153,7 +160,7 @@ fn list_signal(
         if keys.len() >= keys.capacity() {
             return None;
         }
-        if next.tick - from >= SPAN {
+        if next.tick - from >= TICKS_IN_KEY {
             return None;
         }
         push_in_room(keys, key_of(next.tick - from, position));
@@ -164,7 +171,7 @@ fn list_signal(
 
 /// The key of a change of the signal at `position`, this number of ticks after the window's first.
 fn key_of(ticks: u64, position: usize) -> u64
-    requires ticks { ticks < SPAN }
+    requires ticks { ticks < TICKS_IN_KEY }
     requires position { position < POSITIONS }
     ensures { result ≡ ticks * POSITIONS + position }
 {

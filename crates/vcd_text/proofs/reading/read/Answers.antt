@@ -28,7 +28,7 @@ returns-clause-means g c =
     × FileMeans file (contents loaded.capture) loaded.skipped))
     (λ loaded means. of_all coming left bytes (λ file. (length file ≤ FILE_LIMIT)
     × FileMeans file (contents loaded.capture) loaded.skipped) consumes
-    (c.in_ok-take_chunk.ensures.ended c.if-branch.false) (omega (arith, taken.room), means bytes taken))
+    (c.in_ok-take_chunk.ensures.ended c.if-branch.false) (omega (arith, taken.size), means bytes taken))
     c.finish.ensures.means
 
 pub returns-clause-refused : goal.returns-clause-refused
@@ -39,7 +39,7 @@ returns-clause-refused g c =
     let (bytes, consumes, taken) = c.in_ok-take_chunk.ensures.taken coming c.loop-progress.invariant.0 in
     IfErr-weaker c.finish.result _ (λ (e : ReadError). IfSome coming (λ file. IsRefusal file failed left e))
     (λ e fault. at_end coming left failed bytes e c.in_ok-take_chunk.ensures.not_failed consumes
-    (c.in_ok-take_chunk.ensures.ended c.if-branch.false) (omega (arith, taken.room)) (fault bytes taken))
+    (c.in_ok-take_chunk.ensures.ended c.if-branch.false) (omega (arith, taken.size)) (fault bytes taken))
     c.finish.ensures.fault
 
 pub returns-clause-failed : goal.returns-clause-failed

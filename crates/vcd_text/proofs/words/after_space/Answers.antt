@@ -7,13 +7,13 @@ use Rattle.vcd_text.proofs.WordLaws.{space_passed, feed_first, other_first}
 use Rattle.vcd_text.proofs.words.after_space.Goals as goal
 
 -- a line feed, or other white space, is line_feeds
-passed_feed : (whole : Bool) (line b : ℕ) (bs text : List ℕ) → text ≡ b ∷ bs → is_white_space b ≡ true → b ≡ 10
-    → words_from whole (line + 1) bs ≡ words_from whole line text
-passed_feed whole line b bs text is space feed = grind (arith, Decides-eqb, space_passed)
+passed_feed : (end_counts : Bool) (line b : ℕ) (bs text : List ℕ) → text ≡ b ∷ bs → is_white_space b ≡ true → b ≡ 10
+    → words_from end_counts (line + 1) bs ≡ words_from end_counts line text
+passed_feed end_counts line b bs text is space feed = grind (arith, Decides-eqb, space_passed)
 
-passed_other : (whole : Bool) (line b : ℕ) (bs text : List ℕ) → text ≡ b ∷ bs → is_white_space b ≡ true
-    → (b == 10) ≡ false → words_from whole line bs ≡ words_from whole line text
-passed_other whole line b bs text is space other = grind (arith, space_passed)
+passed_other : (end_counts : Bool) (line b : ℕ) (bs text : List ℕ) → text ≡ b ∷ bs → is_white_space b ≡ true
+    → (b == 10) ≡ false → words_from end_counts line bs ≡ words_from end_counts line text
+passed_other end_counts line b bs text is space other = grind (arith, space_passed)
 
 pub loop-byte-preserved-then-byte-eq10 : goal.loop-byte-preserved-then-byte-eq10
 loop-byte-preserved-then-byte-eq10 c =
@@ -21,8 +21,8 @@ loop-byte-preserved-then-byte-eq10 c =
     let space : is_white_space c.in-Some.byte.now ≡ true = sym c.is_white_space.ensures
     ∙ c.if-not-is_white_space.false in
     let long = ap (length {A = ℕ}) front in (
-      λ whole. passed_feed whole (c.loop-byte.lines + 1) _ _ _ front space c.if-byte-eq10.true
-          ∙ c.loop-byte.invariant.0 whole,
+      λ end_counts. passed_feed end_counts (c.loop-byte.lines + 1) _ _ _ front space c.if-byte-eq10.true
+          ∙ c.loop-byte.invariant.0 end_counts,
       omega (arith, c.loop-byte.invariant.1, long),
       omega (arith, c.loop-byte.invariant.2, feed_first _ _ _ front c.if-byte-eq10.true),
     )

@@ -46,8 +46,8 @@ returns-clause-written g c =
     c.write_transitions.ensures))
     c.send_and_flush.ensures.written
 
-pub returns-clause-fault : goal.returns-clause-fault
-returns-clause-fault g c =
+pub returns-clause-failed : goal.returns-clause-failed
+returns-clause-failed g c =
     let whole = contents c.args.capture.now in
     IfErr-weaker c.send_and_flush.result _ _
     (λ e ends. ends (g.W.Sink.taken c.args.writer.now) (text whole)
@@ -56,4 +56,4 @@ returns-clause-fault g c =
     (ap (map signal_contents) c.signals-signals.ensures) c.end-end.ensures c.in_ok-buffer.ensures.unsent
     c.in_ok-buffer.ensures.sent_count c.write_declarations.ensures c.write_first_values.ensures
     c.write_transitions.ensures))
-    c.send_and_flush.ensures.fault
+    c.send_and_flush.ensures.failed

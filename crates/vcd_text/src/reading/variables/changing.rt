@@ -2,7 +2,7 @@
 
 ghost use Rattle.std.specs.Prelude.{◌≡◌, ◌⊎◌, ◌≤◌, ℕ, List, is_some, Some, IfErr, OnOk, All};
 ghost use Rattle.vcd_text.specs.Grammar.{ParseState, variable_of};
-ghost use Rattle.vcd_text.specs.inside.Variables.{target_of, VariablesMatch, ChangeResult, Sets};
+ghost use Rattle.vcd_text.specs.inside.Variables.{target_of, VariablesMatch, ChangeResult, HasValueFrom};
 ghost use Rattle.vcd_text.specs.inside.ValueDigits.{RefusesBinaryNumber};
 ghost use Rattle.vcd_text.specs.declared.fault.Fault.TheVariants.{NoMemory as NoMemoryFault};
 ghost use Rattle.vcd_text.specs.declared.reading.code_targets.CodeTarget.TheVariants.{Position as PositionAt};
@@ -15,10 +15,10 @@ use crate::reading::variables::{Variable, Variables};
 use std::alloc::Global;
 
 impl Variable {
-    /// Sets the value from `tick` on to that of these digits, in the wave.
-    fn set(&mut self, tick: u64, digits: &[u8]) -> Result<(), Fault>
+    /// Appends a change to the wave: from `tick` on it has the value of these digits.
+    fn change_wave(&mut self, tick: u64, digits: &[u8]) -> Result<(), Fault>
         requires none_later { All (λ change. change.tick ≤ tick) self.old.signal.wave.changes }
-        ensures sets { OnOk result (Sets tick digits.now self.old self.new) }
+        ensures values { OnOk result (HasValueFrom tick digits.now self.old self.new) }
         ensures refuses { IfErr result (λ fault. (fault ≡ NoMemoryFault) ⊎
             RefusesBinaryNumber self.old.signal.wave.width digits.now fault) }
     {
@@ -29,8 +29,8 @@ impl Variable {
 }
 
 impl Variables {
-    /// Sets the value of a code from `tick` on to that of these digits. It takes one look-up, and
-    /// one push to the log or a wave. A skipped code accepts any digits.
+    /// Appends a change: from `tick` on, the code has the value of these digits. It takes one
+    /// look-up, and one push to the log or a wave. A skipped code accepts any digits.
     pub fn change(
         &mut self,
         alloc: Global,
@@ -45,33 +45,38 @@ impl Variables {
         match self.code_targets.get(code) {
             None => Err(Fault::UnknownCode),
             Some(CodeTarget::Skipped) => Ok(()),
-            Some(CodeTarget::Position(first)) => self.change_at(alloc, first, tick, digits),
+            Some(CodeTarget::Position(first_position)) => self.change_at(
+                alloc,
+                first_position,
+                tick,
+                digits,
+            ),
         }
     }
 
-    /// Sets the value of the variable at a position, the first of its code. A variable of at most
-    /// 64 bits gets a change in the log, a wider one in its wave.
+    /// Appends a change of the variable at a position, the first of its code. One of at most 64
+    /// bits gets it in the log, a wider one in its wave.
     fn change_at(
         &mut self,
         alloc: Global,
-        first: usize,
+        first_position: usize,
         tick: u64,
         digits: &[u8],
     ) -> Result<(), Fault>
         requires known { (c : ParseState) × (code : List ℕ) × VariablesMatch self.old c × (c.tick ≤ tick)
-            × (target_of self.old code ≡ Some (PositionAt first)) }
+            × (target_of self.old code ≡ Some (PositionAt first_position)) }
         ensures { (c : ParseState) (code : List ℕ) → c.tick ≡ tick → VariablesMatch self.old c →
-            target_of self.old code ≡ Some (PositionAt first) →
+            target_of self.old code ≡ Some (PositionAt first_position) →
             ChangeResult c code digits.now result self.new }
     {
-        let width = self.widths[first];
+        let width = self.widths[first_position];
         if width > 64 {
-            return self.kept[first].set(tick, digits);
+            return self.kept[first_position].change_wave(tick, digits);
         }
         let word = read_letter_word(width, digits)?;
         let change = LoggedChange {
             tick,
-            position: first,
+            position: first_position,
             word,
         };
         append(&mut self.log, alloc, change)?;

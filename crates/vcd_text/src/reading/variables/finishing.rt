@@ -39,7 +39,7 @@ impl Variables {
         flush_log(alloc, &mut self.kept, groups)
     }
 
-    /// The signals of the kept variables, where the log is empty.
+    /// The signals of the kept variables, if the log is empty.
     fn flushed_signals(self, alloc: Global) -> Result<Vec<Signal>, NoMemory>
         ensures { IfOk result (λ signals. self.log.items ≡ [] → (c : ParseState) →
             VariablesMatch self c → map signal_contents signals.items ≡
@@ -57,7 +57,7 @@ impl Variables {
 /// Appends the signal of a variable to those of the variables before it.
 fn push_signal(signals: &mut Vec<Signal>, variable: Variable) -> Result<(), NoMemory>
     ensures { OnOk result ((signal : Signal) × Finishes variable
-        (slice_get signals.old.items variable.first) signal ×
+        (slice_get signals.old.items variable.first_position) signal ×
         (map signal_contents signals.new.items
         ≡ map signal_contents signals.old.items ++ signal_contents signal ∷ [])) }
 {
@@ -68,12 +68,16 @@ fn push_signal(signals: &mut Vec<Signal>, variable: Variable) -> Result<(), NoMe
 
 /// The signal of a variable, given the signals of the variables before it.
 fn finished_signal(variable: Variable, before: &mut [Signal]) -> Result<Signal, NoMemory>
-    ensures finished { IfOk result (Finishes variable (slice_get before.old variable.first)) }
+    ensures finished { IfOk result (Finishes variable (slice_get before.old variable.first_position)) }
     ensures contents { map signal_contents before.new ≡ map signal_contents before.old }
 {
-    let Variable { signal, first, .. } = variable;
-    if first < before.len() {
-        return with_wave_of(signal, &mut before[first]);
+    let Variable {
+        signal,
+        first_position,
+        ..
+    } = variable;
+    if first_position < before.len() {
+        return with_wave_of(signal, &mut before[first_position]);
     }
     // No effect: the call's clause shows the prover that the list is a wave.
     signal.wave.changes();

@@ -8,7 +8,7 @@ use Rattle.vcd_text.specs.Letters.{pad_letter, extension}
 use Rattle.vcd_text.proofs.LetterWords.{word_is_extension}
 use Rattle.vcd_text.proofs.reading.binary_number.extended_word.Goals as goal
 
--- where the word that was read holds the letters, it is the extension
+-- if the word that was read holds the letters, it is the extension
 of_the_word : (width : ℕ) (s : List Bit) (pad : Bit) (P A : Type 0) (o : Option LetterWord) → length s ≤ width
     → width ≤ 64 → pad ≡ pad_letter s → MatchOption o P (λ w. A × HoldsLetters pad s 0 w)
     → MatchOption o P (λ w. A × (letters_of width (w ∷ []) ≡ extension width s))

@@ -6,5 +6,5 @@ use Rattle.vcd_text.proofs.reading.change_log.append.Goals as goal
 pub returns-clause-grouped : goal.returns-clause-grouped
 returns-clause-grouped c = grind (arith, slice_get-get_or, grouped_with)
 
-pub returns-clause-logged : goal.returns-clause-logged
-returns-clause-logged c = grind (arith, slice_get-get_or, logged_with)
+pub returns-clause-appended : goal.returns-clause-appended
+returns-clause-appended c = grind (arith, slice_get-get_or, logged_with)

@@ -1,6 +1,6 @@
 use Rattle.std.proofs.Common.{◌≡◌, length, replicate, drop}
 use Rattle.std.specs.List.{fold}
-use Rattle.vcd_text.specs.declared.reading.change_log.TheConstants.{NO_CHANGE as NO_HINT}
+use Rattle.vcd_text.specs.declared.reading.change_log.TheConstants.{NO_HINT}
 use Rattle.vcd_text.specs.inside.ChangeLog.{hints_with}
 use Rattle.vcd_text.proofs.reading.change_log.count_changes.Given as goal
 

@@ -1,13 +1,14 @@
 use Rattle.std.proofs.Common.{◌≡◌, List, ◌++◌, length}
 use Rattle.vcd_text.specs.Words.{PlacedWord}
-use Rattle.vcd_text.specs.inside.Reading.{Reads}
+use Rattle.vcd_text.specs.inside.Reading.{HasTakenWords}
 use Rattle.vcd_text.specs.inside.WordWalk.{words_left, line_feeds_at_end, LinesFit}
 use Rattle.vcd_text.proofs.reading.chunks.read_words.Given as goal
 
 abbrev pub invariant-loop-first : goal.invariant-loop-first
 invariant-loop-first l =
     ((came : List PlacedWord) × (words_left l.fn.words ≡ came ++ words_left l.left)
-    × ((taken : List PlacedWord) → Reads l.fn.reader taken → Reads l.reader (taken ++ came)))
+    × ((words_so_far : List PlacedWord) → HasTakenWords l.fn.reader words_so_far
+    → HasTakenWords l.reader (words_so_far ++ came)))
     × LinesFit l.left
     × (line_feeds_at_end l.left ≡ line_feeds_at_end l.fn.words)
 

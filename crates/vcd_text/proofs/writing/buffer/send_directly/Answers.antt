@@ -1,4 +1,4 @@
--- Where nothing waits, the part is the rest of the text.
+-- If nothing waits, the part is the rest of the text.
 use Rattle.vcd_text.proofs.Written.{bytes_sent, part_left}
 use Rattle.vcd_text.proofs.writing.buffer.send_directly.Goals as goal
 

@@ -1,4 +1,4 @@
--- Where a change is at tick 0, the one after it is the first later one.
+-- If a change is at tick 0, the one after it is the first later one.
 use Rattle.std.proofs.Common.{arith}
 use Rattle.vcd_text.proofs.NextChanges.{goes_on, rising}
 use Rattle.vcd_text.proofs.writing.next_changes.first_change.Goals as goal

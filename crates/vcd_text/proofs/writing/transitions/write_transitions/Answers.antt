@@ -34,7 +34,7 @@ loop-from-preserved g c =
         search_hints = grind (arith, with_items_is);
       };
       within = following;
-      some = c.next_most-most.ensures;
+      some = c.next_window_ticks-most.ensures;
     }
 
 pub returns : goal.returns

@@ -15,7 +15,7 @@ loop-k-preserved c =
       sized = length-set _ _ _ ∙ length-set _ _ _ ∙ c.loop-k.invariant.sized;
       written = pair_written (λ i. printed_letter (letter_in c.args.word i)) c.loop-k.letters k _ _
           c.loop-k.invariant.sized (omega arith) c.loop-k.invariant.written
-          (c.letter_pair-pair.ensures.first ∙ at 1) (c.letter_pair-pair.ensures.second ∙ at 0);
+          (c.letter_pair-pair.ensures.higher ∙ at 1) (c.letter_pair-pair.ensures.lower ∙ at 0);
       left = λ i. c.without_pair-left.ensures i ∙ c.loop-k.invariant.left (i + 2)
           ∙ ap (letter_in c.args.word) (place i);
     }

@@ -16,7 +16,7 @@ returns g c =
     let more : length v ≢ 1 = omega (arith, c.if-width-le64.false, c.width-width.ensures.width) in
     writes_as
     (ap (λ digits. ((98 ∷ []) ++ (printed_letters digits ++ 32 ∷ [])) ++ (code_of c.args.position ++ 10 ∷ []))
-    c.kept_letters.ensures.rest
+    c.short_form_len.ensures.rest
     ∙ ap (λ front. front ++ (code_of c.args.position ++ 10 ∷ [])) (sym (front_of_bits v more))
     ∙ line_of_front v (code_of c.args.position))
     (writes_both (writes_both c.write_byte.ensures.written

@@ -19,7 +19,7 @@ returns-then-width-eq1 g c =
     let one : length v ≡ 1 = omega (arith, long) in
     let here : length v - 1 - 0 ≡ 0 = omega (arith, one) in
     let first = given_letter width c.args.word 0 (omega arith) (omega arith) in
-    writes_as (ap (λ b. b ∷ []) (c.letter_pair.ensures.second
+    writes_as (ap (λ b. b ∷ []) (c.letter_pair.ensures.lower
     ∙ ap printed_letter (sym first ∙ ap (λ i. get_or v i X) here))
     ∙ sym (front_of_bit v one)) c.write_byte.ensures.written
 
@@ -29,8 +29,8 @@ returns g c =
     let v = letters_of width (c.args.word ∷ []) in
     let long = length-letters_of width (c.args.word ∷ []) in
     let more : length v ≢ 1 = omega (arith, long) in
-    let short = short_given width c.args.word c.kept_in_word.result c.requires.most
-    c.kept_in_word.ensures in
+    let short = short_given width c.args.word c.short_form_len_of_word.result c.requires.most
+    c.short_form_len_of_word.ensures in
     writes_as (sym (front_of_bits v more))
     (writes_both c.write_byte-2.ensures.written
     (writes_both (writes_as (ap printed_letters short) c.write_letters.ensures) c.write_byte-3.ensures.written))

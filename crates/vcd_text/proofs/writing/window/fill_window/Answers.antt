@@ -15,7 +15,7 @@ loop-count-preserved c =
     let signals = map signal_contents c.args.signals.now in
     let ready = c.requires.ready in
     let one = one_tick_within c.args.end c.args.from 0 signals ready.some ready.sound in
-    let over = c.list_window.ensures.full c.loop-count-test.true in
+    let over = c.list_window.ensures.no_room_or_too_far c.loop-count-test.true in
     let more : c.loop-count.count ≢ 1 = λ only. elim over [
       | inl far ↦ omega (arith, far, only)
       | inr full ↦ omega (

@@ -41,8 +41,8 @@ loop-next-preserved c =
       room = omega (arith, kept.room, c.push_in_room.ensures.room);
     }
 
-pub returns-then-len-capacity-clause-full : goal.returns-then-len-capacity-clause-full
-returns-then-len-capacity-clause-full c = inr (
+pub returns-then-len-capacity-clause-no_room_or_too_far : goal.returns-then-len-capacity-clause-no_room_or_too_far
+returns-then-len-capacity-clause-no_room_or_too_far c = inr (
     let kept = c.loop-next.invariant in
     let next = c.loop-next.next in
     let cs = c.args.changes.now in

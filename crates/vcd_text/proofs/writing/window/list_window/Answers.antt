@@ -19,9 +19,9 @@ list_signal-requires-clause-next c =
     let k = c.loop-position.position in
     let s = c.index-signals-position.result in
     let none : NextChange = record { place = 0; tick = 0; following_tick = 0 } in
-    subst (λ (l : List Change). IsNext c.args.from c.args.from l (get_or c.args.search_hints.now k none))
+    subst (λ (l : List Change). IsNext c.args.from c.args.from l (get_or c.args.next_changes_at_start.now k none))
     (ap (λ (x : Signal). x.wave.changes) (sym c.index-signals-position.is) ∙ sym c.changes-changes.ensures.changes)
-    (c.requires.search_hints.each k s none (omega arith))
+    (c.requires.next_changes_at_start.each k s none (omega arith))
 
 pub returns-in-None-clause-keys : goal.returns-in-None-clause-keys
 returns-in-None-clause-keys c =
@@ -29,7 +29,7 @@ returns-in-None-clause-keys c =
 
 pub returns-clause-next : goal.returns-clause-next
 returns-clause-next c = λ _. record {
-  all = c.loop-position.invariant.all_next;
+  all = c.loop-position.invariant.next_count;
   each = λ k s n inside. c.loop-position.invariant.passed k s n (omega arith);
 }
 
@@ -38,8 +38,8 @@ returns-clause-all c = λ all.
     all_listed c.args.from c.args.to c.loop-position.position c.args.signals.now _ _ (omega arith)
     c.loop-position.invariant.all
 
-pub returns-in-None-clause-full : goal.returns-in-None-clause-full
-returns-in-None-clause-full c = grind (arith, longer_than, length-map)
+pub returns-in-None-clause-no_room_or_too_far : goal.returns-in-None-clause-no_room_or_too_far
+returns-in-None-clause-no_room_or_too_far c = grind (arith, longer_than, length-map)
 
 pub loop-position-preserved : goal.loop-position-preserved
 loop-position-preserved c =
@@ -54,8 +54,8 @@ loop-position-preserved c =
           ∙ ap (λ (l : List Change). transitions_of c.args.from c.loop-position.keys.items
           ++ window_of_signal c.args.from c.args.to k l) c.changes-changes.ensures.changes) kept.all;
       keys = c.list_signal.ensures.keys (length signals) inside kept.keys;
-      all_next = length-set c.loop-position.next_changes k c.in-Some.next ∙ kept.all_next;
-      passed = passed_next c.args.to k signals c.loop-position.next_changes s c.in-Some.next inside kept.all_next
+      next_count = length-set c.loop-position.next_changes k c.in-Some.next ∙ kept.next_count;
+      passed = passed_next c.args.to k signals c.loop-position.next_changes s c.in-Some.next inside kept.next_count
           c.index-signals-position.is
           (subst (λ (l : List Change). IsNext c.args.to c.args.to l c.in-Some.next) c.changes-changes.ensures.changes
           c.in-Some.ensures.next) kept.passed;

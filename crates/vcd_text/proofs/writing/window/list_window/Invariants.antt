@@ -15,7 +15,7 @@ invariant-loop-position l =
           ++ unsorted_window l.from l.to l.position (map signal_contents (drop l.position l.signals))
           ≡ unsorted_window l.from l.to 0 (map signal_contents l.signals);
       keys : All (IsKey l.from (length l.signals)) l.keys.items;
-      all_next : length l.next_changes ≡ length l.signals;
+      next_count : length l.next_changes ≡ length l.signals;
       passed : (k : ℕ) (s : Signal) (n : NextChange) → k < l.position
           → IsNext l.to l.to (get_or l.signals k s).wave.changes (get_or l.next_changes k n);
       room : vec_capacity l.fn.keys ≤ vec_capacity l.keys;

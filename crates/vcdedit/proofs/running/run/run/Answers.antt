@@ -37,7 +37,7 @@ returns g c =
 
 pub returns-in_err-write-in-Some : goal.returns-in_err-write-in-Some
 returns-in_err-write-in-Some g c =
-    let stopped = rw (c.capture.ensures.now) at c.in_err-write-in-Some.ensures.fault in
+    let stopped = rw (c.capture.ensures.now) at c.in_err-write-in-Some.ensures.failed in
     rw (c.in-Some.is) (record {
       headline = ends_with c.from_residual-in_err-write-in-Some.result _ c.args.depth _ _ _ _
           (c.from_residual-in_err-write-in-Some.ensures.1)

@@ -1,5 +1,5 @@
-use Rattle.std.proofs.Common.{◌≡◌, ℕ, ◌-◌, true, List, ◌++◌, Err, Option, IfErr, IfSome, refl, sym, ap, subst, ◌∙◌}
-use Rattle.std.proofs.Common.{arith}
+use Rattle.std.proofs.Common.{◌≡◌, ℕ, ◌-◌, true, List, ◌++◌, Err, Option, IfErr, IfSome, refl, sym, ap, subst}
+use Rattle.std.proofs.Common.{◌∙◌, arith}
 use Rattle.std.proofs.KnownBytes.{Consumes-trans}
 use Rattle.std.proofs.lemmas.Result.{err_from_is_err_and}
 use Rattle.std.proofs.lemmas.List.{length-append}
@@ -32,7 +32,7 @@ returns-then-count-self-clause-refused g c = λ coming stands.
 pub take_words-requires : goal.take_words-requires
 take_words-requires g c =
     let p = c.args.self.now in
-    let (bytes, taken) = c.requires.consumed in
+    let (bytes, taken) = c.requires.read_bytes in
     let (chunk, consumes, text, count) = c.in-Ok.ensures.more in (
       bytes ++ chunk,
       has_come p c.read_from.new.self c.len-from.result c.in-Ok.count bytes c.make_room.new.self.bytes chunk taken text
@@ -55,15 +55,15 @@ returns-in_err-take_words-clause-refused g c =
     let come = has_come p c.read_from.new.self c.len-from.result c.in-Ok.count bytes c.make_room.new.self.bytes chunk
     taken text c.in_ok-make_room.ensures.same count (omega (arith, c.if-count-self.false)) c.len-from.ensures in
     shown_early coming (g.R.Source.coming source) (g.R.Source.has_failed source) (bytes ++ chunk)
-    c.in_err-take_words.field-0.0 c.in-Ok.ensures.ready
+    c.in_err-take_words.field-0.0 c.in-Ok.ensures.not_failed
     (Consumes-trans coming (g.R.Source.coming c.args.source.now) (g.R.Source.coming source) bytes chunk first second)
-    (omega (arith, length-append bytes chunk, count, c.if-count-self.false, taken.room))
+    (omega (arith, length-append bytes chunk, count, c.if-count-self.false, taken.size))
     (c.in_err-take_words.ensures.taken (bytes ++ chunk) come))
 
 pub returns-in_err-take_words-clause-failed : goal.returns-in_err-take_words-clause-failed
 returns-in_err-take_words-clause-failed g c =
     let p = c.args.self.now in
-    let (bytes, taken) = c.requires.consumed in
+    let (bytes, taken) = c.requires.read_bytes in
     let (chunk, second, text, count) = c.in-Ok.ensures.more in
     let come = has_come p c.read_from.new.self c.len-from.result c.in-Ok.count bytes c.make_room.new.self.bytes chunk
     taken text c.in_ok-make_room.ensures.same count (omega (arith, c.if-count-self.false)) c.len-from.ensures in

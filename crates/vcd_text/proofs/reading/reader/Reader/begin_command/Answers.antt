@@ -1,5 +1,4 @@
-use Rattle.std.proofs.Common.{arith}
-use Rattle.std.proofs.Common.{sym, ◌∙◌}
+use Rattle.std.proofs.Common.{arith, sym, ◌∙◌}
 use Rattle.vcd_text.proofs.Changing.{takes_bracket, declares_late, passes_over}
 use Rattle.vcd_text.proofs.reading.reader.Reader.begin_command.Goals as goal
 
@@ -8,8 +7,8 @@ returns-then-is_dump_word c line =
     takes_bracket c.args.self.now c.args.text.now line c.requires.between c.requires.in_body
     (sym c.is_dump_word.ensures ∙ c.if-is_dump_word.true)
 
-pub returns-then-is_declaring : goal.returns-then-is_declaring
-returns-then-is_declaring c line = grind (arith, declares_late)
+pub returns-then-is_declaration_word : goal.returns-then-is_declaration_word
+returns-then-is_declaration_word c line = grind (arith, declares_late)
 
 pub returns : goal.returns
 returns c line = grind (arith, passes_over)

@@ -3,7 +3,7 @@ use Rattle.vcd_core.specs.Contents.{contents, signal_contents}
 use Rattle.vcd_core.specs.Sound.{IsSound}
 use Rattle.vcd_text.specs.Words.{words_of}
 use Rattle.vcd_text.specs.Meaning.{meaning}
-use Rattle.vcd_text.specs.inside.Reading.{Reads}
+use Rattle.vcd_text.specs.inside.Reading.{HasTakenWords}
 use Rattle.vcd_text.proofs.Ended.{accepts}
 use Rattle.vcd_core.specs.declared.capture.Signal.{Signal}
 use Rattle.vcd_text.proofs.PlacedSignals.{all_signals}
@@ -21,7 +21,7 @@ returns c =
       c.place_signals.auto.signals,
       ap (length {A = Signal}) c.deref_mut.ensures.value,
     )) in
-    let same : (bytes : List ℕ) (r : Reads c.args.self (words_of bytes)) → contents capture ≡ meaning r.state =
+    let same : (bytes : List ℕ) (r : HasTakenWords c.args.self (words_of bytes)) → contents capture ≡ meaning r.state =
     λ bytes r.
     let at = r.at.0 in
     λ i. record {

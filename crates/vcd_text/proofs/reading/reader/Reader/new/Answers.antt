@@ -20,7 +20,7 @@ returns c = record {
       in_body = refl;
       tick = refl;
       variables = c.new-3.ensures initial_state refl refl;
-      silent = λ _. refl;
+      no_early_change = λ _. refl;
     },
     refl,
   );

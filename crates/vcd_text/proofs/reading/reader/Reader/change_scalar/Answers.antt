@@ -1,7 +1,7 @@
 use Rattle.std.proofs.Common.{sym, ◌∙◌, length, arith}
 use Rattle.std.proofs.lemmas.Bool.{eqb-true, eqb-false}
 use Rattle.vcd_text.proofs.Changing.{no_code, sets_bit}
-use Rattle.vcd_text.proofs.reading.reader.Reader.set_bit.Goals as goal
+use Rattle.vcd_text.proofs.reading.reader.Reader.change_scalar.Goals as goal
 
 pub returns-then-is_empty : goal.returns-then-is_empty
 returns-then-is_empty c line =

@@ -1,7 +1,7 @@
 use Rattle.std.proofs.Common.{◌≡◌, ◌≤◌, true, not, drop, length}
 use Rattle.std.specs.List.{list_all}
 use Rattle.vcd_core.specs.Word.{is_white_space}
-use Rattle.vcd_text.proofs.reading.chunks.words_len.Given as goal
+use Rattle.vcd_text.proofs.reading.chunks.complete_words_len.Given as goal
 
 abbrev pub invariant-loop-len : goal.invariant-loop-len
 invariant-loop-len l = (l.from ≤ l.len) × (l.len ≤ length l.bytes)

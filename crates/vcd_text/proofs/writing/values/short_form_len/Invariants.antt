@@ -1,12 +1,12 @@
--- The letters passed so far are spare.
+-- The letters passed so far are redundant.
 use Rattle.std.proofs.Common.{◌≡◌, ◌≤◌, length}
 use Rattle.vcd_text.proofs.LetterBits.{lowest}
 use Rattle.vcd_text.proofs.ShortForms.{shortened}
-use Rattle.vcd_text.proofs.writing.values.kept_letters.Given as goal
+use Rattle.vcd_text.proofs.writing.values.short_form_len.Given as goal
 
 abbrev pub invariant-loop-left : goal.invariant-loop-left
 invariant-loop-left l = record {
-  spare : shortened (lowest l.left l.value) ≡ shortened l.value;
+  redundant : shortened (lowest l.left l.value) ≡ shortened l.value;
   least : 1 ≤ l.left;
   within : l.left ≤ length l.value;
 }

@@ -1,6 +1,6 @@
 use Rattle.std.proofs.Common.{sym, ◌∙◌}
-use Rattle.vcd_text.proofs.Changing.{ends_dropped, drops_unknown}
-use Rattle.vcd_text.proofs.reading.reader.Reader.end_dropped.Goals as goal
+use Rattle.vcd_text.proofs.Changing.{ends_real_or_string, drops_unknown}
+use Rattle.vcd_text.proofs.reading.reader.Reader.end_real_or_string.Goals as goal
 
 pub returns-then-not-has_code : goal.returns-then-not-has_code
 returns-then-not-has_code c line =
@@ -9,5 +9,6 @@ returns-then-not-has_code c line =
 
 pub returns : goal.returns
 returns c line =
-    ends_dropped c.args.self.now c.args.code.now line c.requires.item (λ d knows. sym (c.has_code.ensures d knows)
+    ends_real_or_string c.args.self.now c.args.code.now line c.requires.item
+    (λ d knows. sym (c.has_code.ensures d knows)
     ∙ c.if-not-has_code.false)
