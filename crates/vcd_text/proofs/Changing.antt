@@ -107,9 +107,9 @@ takes_stamp m digits line tick between in_body is number later =
 
 -- ---- commands
 
-pub takes_bracket : (m : Reader) (text : List ℕ) (line : ℕ) → m.item ≡ items.Nothing → m.in_body ≡ true
+pub takes_dump_word : (m : Reader) (text : List ℕ) (line : ℕ) → m.item ≡ items.Nothing → m.in_body ≡ true
     → is_one_of dump_words text ≡ true → WordResult m (word_on text line) (Ok tt) m
-takes_bracket m text line between in_body is =
+takes_dump_word m text line between in_body is =
     whole_item m m (word_on text line) (dump_word text) between between refl
     (λ c agrees. ((sym agrees.in_body ∙ in_body, is), agrees))
 
@@ -145,7 +145,7 @@ pub begins_nothing : (m new : Reader) (first : ℕ) (text : List ℕ) (line : �
     → m.in_body ≡ true
     → is_among (codes "#$") first ≡ false → is_binary_digit first ≡ false → is_among vector_prefixes first ≡ false
     → is_among real_or_string_prefixes first ≡ false → WordResult m (word_on (first ∷ text) line) (Err BadChange) new
-begins_nothing m new first text line between in_body no_command no_letter no_vector no_dropped =
+begins_nothing m new first text line between in_body no_command no_letter no_vector no_real_or_string =
     let other : is_among (codes "#$" ++ pair_prefixes) first ≡ false = grind (arith, list_any-append, or_from) in
     shows m new (word_on (first ∷ text) line) BadChange between in_body
     (λ c agrees. begins_no_change first text refl refl no_letter other refl)
@@ -290,10 +290,10 @@ none_is : (o : Option VariableDeclaration) → is_some o ≡ false → o ≡ Non
 none_is None h = refl
 none_is (Some d) h = not_both refl h
 
-pub drops_unknown : (m new : Reader) (code : List ℕ) (line : ℕ) → m.item ≡ items.RealOrString
+pub unknown_real_or_string : (m new : Reader) (code : List ℕ) (line : ℕ) → m.item ≡ items.RealOrString
     → ((c : ParseState) → VariablesMatch m.variables c → is_some (variable_of c code) ≡ false)
     → WordResult m (word_on code line) (Err UnknownCode) new
-drops_unknown m new code line item unknown c begun (agrees, taken) =
+unknown_real_or_string m new code line item unknown c begun (agrees, taken) =
     let at : (text : List ℕ) × AwaitsCode m begun real_or_string_prefixes text = subst (IsBegun m begun) item taken in
     let text = at.0 in
     let b = at.1 in

@@ -64,10 +64,10 @@ complete_at (suc n) (b ∷ c ∷ bs) within space = complete_at n (c ∷ bs) (om
 some_word : (line b : ℕ) (bs : List ℕ) → has_complete_words (b ∷ bs) ≡ true → is_white_space b ≡ false
     → 0 < length (words_from true line (b ∷ bs))
 unfolding words_from
-some_word line b [] closed no_space = let no : false ≡ true = sym no_space ∙ closed in absurd (cc)
-some_word line b (c ∷ bs) closed no_space =
+some_word line b [] complete no_space = let no : false ≡ true = sym no_space ∙ complete in absurd (cc)
+some_word line b (c ∷ bs) complete no_space =
     subst (λ s. 0 < length (with_byte s (is_white_space c) b line (words_from true (line_after b line) (c ∷ bs))))
-    (sym no_space) (by_test (is_white_space c) refl (λ e. some_word (line_after b line) c bs closed e))
+    (sym no_space) (by_test (is_white_space c) refl (λ e. some_word (line_after b line) c bs complete e))
   where
     longer : (ws : List PlacedWord) → 0 < length ws → 0 < length (with_longer_first b line ws)
     longer [] some = absurd (omega arith)
@@ -90,54 +90,54 @@ pub words_complete : (end_counts : Bool) (line : ℕ) (text rest : List ℕ) →
     → words_from end_counts line (text ++ rest) ≡ words_from true line text
     ++ words_from end_counts (line + line_feeds_in text) rest
 unfolding words_from
-words_complete end_counts line [] rest closed = grind arith
-words_complete end_counts line (b ∷ []) rest closed = grind (arith, line_one)
-words_complete end_counts line (b ∷ c ∷ text) rest closed =
+words_complete end_counts line [] rest complete = grind arith
+words_complete end_counts line (b ∷ []) rest complete = grind (arith, line_one)
+words_complete end_counts line (b ∷ c ∷ text) rest complete =
     search (
       arith,
       byte_first,
       some_word,
       line_more,
       words_complete end_counts (line_after b line) (c ∷ text) rest
-          closed,
+          complete,
     )
 
 -- ---- one more chunk
 
-module _ (p : Progress) (from len : ℕ) (bytes closed : List ℕ) (come : HasUntakenChunk p from bytes)
+module _ (p : Progress) (from len : ℕ) (bytes complete_text : List ℕ) (come : HasUntakenChunk p from bytes)
     (ends : has_complete_words (take len p.buffer.bytes) ≡ true)
     (no_space : list_all (λ b. not (is_white_space b)) (drop len p.buffer.bytes) ≡ true)
-    (front : closed ≡ take len p.buffer.bytes) where
+    (front : complete_text ≡ take len p.buffer.bytes) where
   -- the bytes after the complete words
   abbrev back : List ℕ
   back = drop len p.buffer.bytes
 
   -- the complete words
   abbrev complete : List PlacedWord
-  complete = words_from true (p.line_feeds + 1) closed
+  complete = words_from true (p.line_feeds + 1) complete_text
 
-  in_two : come.word ++ come.chunk ≡ closed ++ back
+  in_two : come.word ++ come.chunk ≡ complete_text ++ back
   in_two = sym come.text ∙ sym (take-append-drop len p.buffer.bytes) ∙ ap (λ text. text ++ back) (sym front)
 
   -- the words of all bytes so far, and of those that follow
   words_now : (end_counts : Bool) (rest : List ℕ) → words_from end_counts 1 (bytes ++ rest)
       ≡ complete_words come.before
-      ++ (complete ++ words_from end_counts ((p.line_feeds + line_feeds_in closed) + 1) (back ++ rest))
+      ++ (complete ++ words_from end_counts ((p.line_feeds + line_feeds_in complete_text) + 1) (back ++ rest))
   words_now end_counts rest = grind (arith, append_assoc, in_two, words_complete)
 
   closed_now : complete_words bytes ≡ complete_words come.before ++ complete
   closed_now =
       ap (words_from false 1) (sym (append-nil bytes)) ∙ words_now false []
       ∙ ap (λ text. complete_words come.before
-      ++ (complete ++ words_from false ((p.line_feeds + line_feeds_in closed) + 1) text))
+      ++ (complete ++ words_from false ((p.line_feeds + line_feeds_in complete_text) + 1) text))
       (append-nil back)
       ∙ ap (λ words. complete_words come.before ++ (complete ++ words))
-      (word_part ((p.line_feeds + line_feeds_in closed) + 1) back no_space)
+      (word_part ((p.line_feeds + line_feeds_in complete_text) + 1) back no_space)
       ∙ ap (λ words. complete_words come.before ++ words) (append-nil complete)
 
   -- the complete words have been taken
   pub now_taken : (new : Reader) → HasTakenWords new (complete_words come.before ++ complete)
-      → HasTaken new back (p.line_feeds + line_feeds_in closed) p.bytes_left bytes
+      → HasTaken new back (p.line_feeds + line_feeds_in complete_text) p.bytes_left bytes
   now_taken new reads =
       grind (
         arith,

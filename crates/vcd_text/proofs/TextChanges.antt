@@ -77,10 +77,10 @@ stamp_leads : (c : Contents) (value_changes : List ValueChange) (u t : ℕ) → 
 stamp_leads c value_changes u t later within = grind (arith, number_of-decimal, decimal_is_number, le-leb)
 
 -- a word of a dump changes nothing
-bracket_leads : (c : Contents) (value_changes : List ValueChange) (t : ℕ) (word : List ℕ)
+dump_word_leads : (c : Contents) (value_changes : List ValueChange) (t : ℕ) (word : List ℕ)
     → is_one_of dump_words word ≡ true
     → Reaches (state_at c value_changes t) (dump_word word ∷ []) (state_at c value_changes t)
-bracket_leads c value_changes t word is = grind (arith, reaches_one)
+dump_word_leads c value_changes t word is = grind (arith, reaches_one)
 
 -- the values at tick 0
 first_leads : (c : Contents) → All (IsPlaced c) (enumerate_from 0 c.signals)
@@ -92,10 +92,10 @@ first_leads c all =
     (stamp_of 0 ∷ dump_word (codes "$dumpvars") ∷ []) (all_values c.signals 0 ++ dump_word end_word ∷ [])
     (reaches_both (state_at c [] 0) (state_at c [] 0) (state_at c [] 0) (stamp_of 0 ∷ [])
     (dump_word (codes "$dumpvars") ∷ [])
-    (stamp_leads c [] 0 0 (omega arith) (omega arith)) (bracket_leads c [] 0 (codes "$dumpvars") refl))
+    (stamp_leads c [] 0 0 (omega arith) (omega arith)) (dump_word_leads c [] 0 (codes "$dumpvars") refl))
     (reaches_both (state_at c [] 0) (state_at c value_changes 0) (state_at c value_changes 0) (all_values c.signals 0)
     (dump_word end_word ∷ [])
-    (values_lead c (enumerate_from 0 c.signals) [] 0 all) (bracket_leads c value_changes 0 end_word refl))
+    (values_lead c (enumerate_from 0 c.signals) [] 0 all) (dump_word_leads c value_changes 0 end_word refl))
 
 -- ---- ticks
 

@@ -2,6 +2,6 @@
 use Rattle.vcd_text.specs.Words.{PlacedWord, word_on}
 use Rattle.vcd_text.specs.declared.words.PlacedWord.{PlacedWord as LentWord}
 
--- the word itself
+-- the contents of a borrowed word
 abbrev pub word_contents : LentWord → PlacedWord
 word_contents p = word_on p.text.now p.line

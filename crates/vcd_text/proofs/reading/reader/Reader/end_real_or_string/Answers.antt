@@ -1,10 +1,10 @@
 use Rattle.std.proofs.Common.{sym, ◌∙◌}
-use Rattle.vcd_text.proofs.Changing.{ends_real_or_string, drops_unknown}
+use Rattle.vcd_text.proofs.Changing.{ends_real_or_string, unknown_real_or_string}
 use Rattle.vcd_text.proofs.reading.reader.Reader.end_real_or_string.Goals as goal
 
 pub returns-then-not-has_code : goal.returns-then-not-has_code
 returns-then-not-has_code c line =
-    drops_unknown c.args.self.now c.args.self.now c.args.code.now line c.requires.item
+    unknown_real_or_string c.args.self.now c.args.self.now c.args.code.now line c.requires.item
     (λ d knows. sym (c.has_code.ensures d knows) ∙ c.if-not-has_code.true)
 
 pub returns : goal.returns
