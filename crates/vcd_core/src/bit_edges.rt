@@ -18,7 +18,7 @@ pub struct BitEdge {
     pub at: [Option<Bit>; 4],
 }
 
-/// A wave of one bit from some tick on: its bit just before, none where it is absent, and its
+/// A wave of one bit from some tick on: its bit just before, none if it is absent, and its
 /// changes from there on.
 #[derive(Clone, Copy)]
 struct BitTrace<'a> {
@@ -50,7 +50,7 @@ impl<'a> BitTrace<'a> {
         }
     }
 
-    /// The wave after `tick`, where no change is before that tick. It reads one letter of a change.
+    /// The wave after `tick`, if no change is before that tick. It reads one letter of a change.
     fn after(&self, tick: u64) -> BitTrace<'a>
         requires { Rises 0 (bit_trace_left self.now) }
         ensures { bit_trace_left result ≡ trace_after tick (bit_trace_left self.now) }

@@ -123,7 +123,7 @@ impl Capture {
         self.header.as_slice()
     }
 
-    /// The length of a tick, where the file gives it.
+    /// The length of a tick, if the file gives it.
     pub fn timescale(&self) -> Option<Timescale>
         ensures { result ≡ self.now.timescale }
     {

@@ -15,7 +15,7 @@ use crate::wave::Change;
 /// A list that is full gets room for at least so many changes more.
 pub(crate) const LEAST_ROOM: usize = 4;
 
-/// The value after all changes: all x where there are none.
+/// The value after all changes: all x if there are none.
 pub fn last_value(changes: &[Change], width: u64) -> Value
     requires least { 1 ≤ width }
     requires most { width ≤ WIDTH_LIMIT }
@@ -38,7 +38,7 @@ pub fn ends_by(changes: &[Change], end: u64) -> bool
     }
 }
 
-/// Removes the last change where it is at `tick`.
+/// Removes the last change if it is at `tick`.
 fn pop_at(changes: &mut Vec<Change>, tick: u64)
     requires form { (width : ℕ) × IsWave width changes.old.items }
     requires none_later { All (λ c. c.tick ≤ tick) changes.old.items }

@@ -6,7 +6,7 @@ ghost use Rattle.std.specs.Char.{is_ascii_digit};
 ghost use Rattle.vcd_core.specs.Decimal.{is_number, number_of, number_up_to};
 
 /// The number that `text` writes in decimal digits; `most` stands for every greater one. The result
-/// is none where `text` is no decimal number. There may be any number of digits and of leading
+/// is none if `text` is no decimal number. There may be any number of digits and of leading
 /// zeros.
 ///
 /// The time grows with the digits. It takes no memory.

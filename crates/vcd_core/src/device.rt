@@ -65,7 +65,7 @@ pub trait Sink {
     // whether it has failed
     ghost has_failed: { Self → Bool };
 
-    /// Takes bytes from the front of `bytes`. Returns how many: at least one, where there is one.
+    /// Takes bytes from the front of `bytes`. Returns how many: at least one, if there is one.
     fn write(&mut self, bytes: &[u8]) -> Result<usize, DeviceFault>
         ensures count { WritesAtMost result bytes.now }
         ensures some { 0 < length bytes.now → IfOk result (λ count. 0 < count) }
@@ -137,7 +137,7 @@ impl<R: Read> Source for FromRead<R> {
 }
 
 /// A sink over a writer. Every error is a failure, also an interrupted write: nothing is tried
-/// again. A write that takes no byte where there is one is a failure too.
+/// again. A write of some bytes that takes none is a failure too.
 #[derive(Drop)]
 pub struct ToWrite<W> {
     writer: W,

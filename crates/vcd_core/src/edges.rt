@@ -19,7 +19,7 @@ pub struct Edge {
     pub at: [Option<Value>; 4],
 }
 
-/// A wave from some tick on: its value just before, none where it is absent, and its changes from
+/// A wave from some tick on: its value just before, none if it is absent, and its changes from
 /// there on.
 #[derive(Clone, Copy)]
 struct Trace<'a> {
@@ -48,7 +48,7 @@ impl<'a> Trace<'a> {
         }
     }
 
-    /// The wave after `tick`, where no change is before that tick.
+    /// The wave after `tick`, if no change is before that tick.
     fn after(&self, tick: u64) -> Trace<'a>
         ensures { trace_left result ≡ trace_after tick (trace_left self.now) }
     {

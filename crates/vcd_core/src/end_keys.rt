@@ -67,7 +67,7 @@ impl EndKeys {
         self.whole
     }
 
-    /// Whether the text may end with one that has this key. It is never false where the text does;
+    /// Whether the text may end with one that has this key. It is never false if the text does;
     /// who asks compares the bytes then, so a wrong `true` costs time alone.
     #[inline(always)]
     pub fn may_end_with(&self, key: TextKey) -> bool

@@ -2,7 +2,7 @@
 
 ghost use Rattle.vcd_core.specs.Laws.{SameValuesSameChanges, ChangesOfOwnValues, ValuesOfChanges, ChangesAreWave, SpliceAndBack, SpliceBackIsAllowed};
 
-/// Two waves of one width are equal lists where they have the same value at each tick 0 to `end`
+/// Two waves of one width are equal lists if they have the same value at each tick 0 to `end`
 /// and no change past `end`. So equality tick by tick is equality of every change.
 pub fn same_values_same_changes()
     ensures { SameValuesSameChanges }

@@ -63,7 +63,7 @@ fn has_full_name(signal: &Signal, name: &[u8]) -> bool
     FullName::of(signal).is_text(name)
 }
 
-/// The position that a name gives as `@` and a decimal number, where it is below `count`.
+/// The position that a name gives as `@` and a decimal number, if it is below `count`.
 fn position_in(name: &[u8], count: usize) -> Option<usize>
     ensures { result ≡ (if is_numbered name.now && nat_lt (number_in name.now) count
         then Some (number_in name.now) else None) }
@@ -74,7 +74,7 @@ fn position_in(name: &[u8], count: usize) -> Option<usize>
     }
 }
 
-/// The decimal number that a text is, where it is below `limit`.
+/// The decimal number that a text is, if it is below `limit`.
 fn number_below(text: &[u8], limit: usize) -> Option<usize>
     ensures { result ≡ (if is_number text.now && nat_lt (number_of text.now) limit
         then Some (number_of text.now) else None) }

@@ -64,7 +64,7 @@ impl ScopePath {
         Ok(ScopePath { list, count })
     }
 
-    /// The same path. It takes no memory where the list can be shared; otherwise it copies each
+    /// The same path. It takes no memory if the list can be shared; otherwise it copies each
     /// scope.
     pub fn share(&self, alloc: Global) -> Result<ScopePath, NoMemory>
         ensures { IfOk result (λ path. path ≡ self.now) }
@@ -72,7 +72,7 @@ impl ScopePath {
         self.front(alloc, self.count)
     }
 
-    /// The path of the first `count` scopes. It takes no memory where the list can be shared;
+    /// The path of the first `count` scopes. It takes no memory if the list can be shared;
     /// otherwise it copies each of these scopes.
     pub fn front(&self, alloc: Global, count: usize) -> Result<ScopePath, NoMemory>
         requires { count ≤ length self.now }

@@ -106,7 +106,7 @@ impl Capture {
         self.header.as_slice().iter().all(|entry| entry.is_sound())
     }
 
-    /// Whether a file can represent the timescale, where there is one: a tick is 1, 10 or 100 units
+    /// Whether a file can represent the timescale, if there is one: a tick is 1, 10 or 100 units
     /// (IEEE 1364-2005, 18.2).
     pub fn is_timescale_sound(&self) -> bool
         ensures { IsTrue result

@@ -17,7 +17,7 @@ fn swap_part(list: &mut [Change], at: usize, other: &mut [Change])
     part.swap_with_slice(other);
 }
 
-/// The change `by` ticks later, or earlier where `by` is negative.
+/// The change `by` ticks later, or earlier if `by` is negative.
 pub fn moved_change(change: &Change, by: i64) -> Change
     requires { TickFits by change.now }
     ensures { result ≡ moved_change by change.now }
@@ -95,7 +95,7 @@ fn write_at(changes: &mut Vec<Change>, at: usize, others: &[Change])
 /// Moves the changes at places `from` to before `to` to the end of the piece, which has room for
 /// them. The later ones move to the front and get their new ticks.
 ///
-/// Where none goes out and `by` is 0, it looks at no later change.
+/// If none goes out and `by` is 0, it looks at no later change.
 fn take_out(changes: &mut Vec<Change>, from: usize, to: usize, piece: &mut Vec<Change>, by: i64)
     requires ordered { from ≤ to }
     requires within { to ≤ vec_len changes.old }
@@ -139,7 +139,7 @@ fn put_in(changes: &mut Vec<Change>, at: usize, piece: &mut Vec<Change>, kept: u
 /// A splice of two lists that both have the room.
 ///
 /// It swaps as many changes as the shorter of piece and range has, in place, and moves the rest of
-/// the longer one over. Later changes are copied once, and only where `by` is not 0 or the lengths
+/// the longer one over. Later changes are copied once, and only if `by` is not 0 or the lengths
 /// differ.
 pub(crate) fn splice_changes(
     changes: &mut Vec<Change>,

@@ -32,7 +32,7 @@ pub struct Change {
 ///
 /// Contracts see the width in bits, the changes, and two numbers of room. The first is one more
 /// than the number of changes that fit the wave's own list, and 0 if the list is shared. The second
-/// is the same for the list that [`Wave::splice`] makes; it is 0 where that would need memory.
+/// is the same for the list that [`Wave::splice`] makes; it is 0 if that would need memory.
 #[derive(Drop)]
 pub struct Wave {
     width: u64,
@@ -123,7 +123,7 @@ impl Wave {
     }
 
     /// Sets the value from `tick` on, at the end of the list. A value equal to the one before adds
-    /// nothing. A change at an equal tick is replaced, and removed where it then equals the one
+    /// nothing. A change at an equal tick is replaced, and removed if it then equals the one
     /// before it.
     ///
     /// It looks at the end of the list alone. It may run out of memory.
@@ -217,9 +217,9 @@ impl Wave {
     }
 
     /// Gives the wave its own list with room for `more` changes. The changes of the wave stay the
-    /// same, also where the memory is refused.
+    /// same, also if the memory is refused.
     ///
-    /// It takes no memory where the room is there already. A shared list that no other wave has any
+    /// It takes no memory if the room is there already. A shared list that no other wave has any
     /// more is taken back; otherwise its changes are copied.
     pub fn reserve(&mut self, more: usize) -> Result<(), NoMemory>
         ensures width { self.new.width ≡ self.old.width }
@@ -233,7 +233,7 @@ impl Wave {
         self.list.reserve(more)
     }
 
-    /// Does what [`Wave::reserve`] does. Where it takes memory, there is no more room than
+    /// Does what [`Wave::reserve`] does. If it takes memory, there is no more room than
     /// requested.
     pub fn reserve_exact(&mut self, more: usize) -> Result<(), NoMemory>
         ensures width { self.new.width ≡ self.old.width }
@@ -250,9 +250,9 @@ impl Wave {
     }
 
     /// Makes room for a [`Wave::splice`] of these places and of this piece. The changes of the
-    /// wave stay the same, also where the memory is refused.
+    /// wave stay the same, also if the memory is refused.
     ///
-    /// It takes no memory where the room is there already. A wave with its own list gets room for
+    /// It takes no memory if the room is there already. A wave with its own list gets room for
     /// the growth, or for as many changes as it has. A wave that shares its list keeps sharing it,
     /// and gets memory for the changes that the splice keeps and those of the piece. No change is
     /// copied yet.
@@ -291,7 +291,7 @@ impl Wave {
     /// the later changes by `by` ticks.
     ///
     /// It takes no memory: each list has the room for what it gets. The cost is that of the piece
-    /// and the range; where `by` is not 0, or their lengths differ, each later change is copied
+    /// and the range; if `by` is not 0, or their lengths differ, each later change is copied
     /// once. A wave that shares its list gets its own, into which each change is copied.
     pub fn splice(&mut self, from: usize, to: usize, piece: &mut Vec<Change>, by: i64)
         requires ordered { from ≤ to }

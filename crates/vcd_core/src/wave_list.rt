@@ -38,7 +38,7 @@ fn copy_with_room(alloc: Global, changes: &[Change], more: usize) -> Result<Vec<
     Ok(copy)
 }
 
-/// The list for one owner: taken back where nobody shares it, and otherwise copied, with room for
+/// The list for one owner: taken back if nobody shares it, and otherwise copied, with room for
 /// `more` changes.
 fn unshared_list(
     alloc: Global,
@@ -110,7 +110,7 @@ fn share_list(alloc: Global, list: WaveList) -> (WaveList, Result<WaveList, NoMe
     }
 }
 
-/// Makes room for `more` changes where it is missing. The list is at least doubled, so that a list
+/// Makes room for `more` changes if it is missing. The list is at least doubled, so that a list
 /// that grows change by change is seldom moved.
 fn make_room_for(list: &mut Vec<Change>, more: usize) -> Result<(), NoMemory>
     ensures changes { list.new.items ≡ list.old.items }
@@ -324,7 +324,7 @@ impl WaveList {
         }
     }
 
-    /// Does what [`WaveList::reserve`] does. Where it takes memory, there is no more room than
+    /// Does what [`WaveList::reserve`] does. If it takes memory, there is no more room than
     /// requested.
     pub fn reserve_exact(&mut self, more: usize) -> Result<(), NoMemory>
         ensures changes { changes_of_list self.new ≡ changes_of_list self.old }

@@ -53,7 +53,7 @@ pub fn write_all<W: Sink>(sink: &mut W, bytes: &[u8]) -> Result<(), ShortWrite>
 /// Writes all of `bytes`, in order, and flushes the sink once after the last. It takes no memory.
 ///
 /// An error means that the sink has failed. It gives the number of bytes that the sink took before:
-/// these are the first ones, and all of them where the flush failed.
+/// these are the first ones, and all of them if the flush failed.
 pub fn write_and_flush<W: Sink>(sink: &mut W, bytes: &[u8]) -> Result<(), ShortWrite>
     requires ready { W.has_failed sink.old ≡ false }
     ensures all { OnOk result (Appends (W.taken sink.old) (W.taken sink.new) bytes.now) }
