@@ -52,12 +52,7 @@ fn may_be_taken_out(at: usize, signals: &[Signal], end: u64) -> bool
 }
 
 /// Whether a signal may be put in at a position, or, without one, the signal there may be taken out.
-fn may_be_put_in_or_taken_out(
-    at: usize,
-    signal: &Option<Signal>,
-    signals: &[Signal],
-    end: u64,
-) -> bool
+fn signal_fits(at: usize, signal: &Option<Signal>, signals: &[Signal], end: u64) -> bool
     ensures { (c : Contents) → c.signals ≡ map signal_contents signals.now
         → IsTrue result ↔ (MayPutInOrTakeOut c at (contents_of_signal signal.now)
         × AreSoundSignals end
@@ -84,7 +79,7 @@ fn parts_fit(
         → IsTrue result ↔ PartsFit end (record_view pieces.now word.now signal.now other_end) c }
 {
     match signal {
-        Some((at, signal)) => may_be_put_in_or_taken_out(*at, signal, signals, end),
+        Some((at, signal)) => signal_fits(*at, signal, signals, end),
         None => match word {
             Some((signal, word)) => may_be_renamed(*signal, word.as_slice(), signals, end),
             None => pieces_fit(pieces, signals, end),

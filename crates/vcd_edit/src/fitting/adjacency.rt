@@ -32,11 +32,7 @@ fn may_follow(before: &[Change], width: u64, change: &Change) -> bool
 }
 
 /// The changes before the one at `index`: those of `changes`, or `before` if it is the first.
-fn changes_before_index<'a>(
-    before: &'a [Change],
-    changes: &'a [Change],
-    index: usize,
-) -> &'a [Change]
+fn prior_changes<'a>(before: &'a [Change], changes: &'a [Change], index: usize) -> &'a [Change]
     requires { index ≤ length changes.now }
     ensures floor { floor_after 0 result.now
         ≡ floor_after (floor_after 0 before.now) (take index changes.now) }
@@ -58,7 +54,7 @@ fn may_all_follow(before: &[Change], width: u64, changes: &[Change]) -> bool
         ≡ may_all_follow (floor_after 0 before.now) (value_following width before.now) changes.now }
 {
     for i in 0..changes.len() {
-        if !may_follow(changes_before_index(before, changes, i), width, &changes[i]) {
+        if !may_follow(prior_changes(before, changes, i), width, &changes[i]) {
             return false;
         }
     }
@@ -124,7 +120,7 @@ pub(crate) fn is_valid_piece(piece: &Piece, wave: &Wave, end: u64) -> bool
         return false;
     }
     if !may_come_next(
-        changes_before_index(front, list, list.len()),
+        prior_changes(front, list, list.len()),
         width,
         later,
         piece.by,

@@ -8,7 +8,7 @@ returns-in-Some c = λ d other_end same.
     parts_by_signal c.args.end d (record_view c.args.pieces.now c.args.word.now c.args.signal.now c.requires.0)
     other_end
     c.requires.1 (c.in-Some.at, contents_of_signal c.in-Some.signal)
-    (ap signal_view c.in-Some.is) c.may_be_put_in_or_taken_out.result (c.may_be_put_in_or_taken_out.ensures d same)
+    (ap signal_view c.in-Some.is) c.signal_fits.result (c.signal_fits.ensures d same)
 
 pub returns-in-Some-word : goal.returns-in-Some-word
 returns-in-Some-word c = λ d other_end same.

@@ -98,8 +98,8 @@ returns-then-not-may_come_next c =
     let list = c.as_slice-list.result.now in
     let all : take (length list) list ≡ p.changes = take_all (length list) list (omega arith)
     ∙ c.as_slice-list.ensures.value in
-    let floor = c.changes_before_index.ensures.floor ∙ (λ i. floor_after (floor_after 0 (front_is i)) (all i)) in
-    let value = c.changes_before_index.ensures.value c.width-width.result
+    let floor = c.prior_changes.ensures.floor ∙ (λ i. floor_after (floor_after 0 (front_is i)) (all i)) in
+    let value = c.prior_changes.ensures.value c.width-width.result
     ∙ (λ i. last_value (value_following (c.width-width.ensures.width i) (front_is i)) (all i)) in
     let later_test : c.may_come_next.result ≡ may_all_follow (floor_after (floor_after 0 (take p.from cs)) p.changes)
     (last_value (value_following width (take p.from cs)) p.changes)
@@ -183,8 +183,8 @@ returns c =
     let list = c.as_slice-list.result.now in
     let all : take (length list) list ≡ p.changes = take_all (length list) list (omega arith)
     ∙ c.as_slice-list.ensures.value in
-    let floor = c.changes_before_index.ensures.floor ∙ (λ i. floor_after (floor_after 0 (front_is i)) (all i)) in
-    let value = c.changes_before_index.ensures.value c.width-width.result
+    let floor = c.prior_changes.ensures.floor ∙ (λ i. floor_after (floor_after 0 (front_is i)) (all i)) in
+    let value = c.prior_changes.ensures.value c.width-width.result
     ∙ (λ i. last_value (value_following (c.width-width.ensures.width i) (front_is i)) (all i)) in
     let later_test : c.may_come_next.result ≡ may_all_follow (floor_after (floor_after 0 (take p.from cs)) p.changes)
     (last_value (value_following width (take p.from cs)) p.changes)

@@ -17,8 +17,8 @@ returns-then-not-may_follow c =
     let x = c.index-changes-i.result in
     let test : may_follow (floor_after floor (take c.loop-i.i cs)) (last_value value (take c.loop-i.i cs)) x
     ≡ c.may_follow.result =
-    (λ j. may_follow (sym c.changes_before_index.ensures.floor j)
-    (sym (c.changes_before_index.ensures.value c.args.width) j) x)
+    (λ j. may_follow (sym c.prior_changes.ensures.floor j)
+    (sym (c.prior_changes.ensures.value c.args.width) j) x)
     ∙ sym c.may_follow.ensures in
     follow_stops floor value cs c.loop-i.i x (omega arith) c.index-changes-i.is _ c.loop-i.invariant (test
     ∙ c.if-not-may_follow.true)
@@ -31,8 +31,8 @@ loop-i-preserved c =
     let x = c.index-changes-i.result in
     let test : may_follow (floor_after floor (take c.loop-i.i cs)) (last_value value (take c.loop-i.i cs)) x
     ≡ c.may_follow.result =
-    (λ j. may_follow (sym c.changes_before_index.ensures.floor j)
-    (sym (c.changes_before_index.ensures.value c.args.width) j) x)
+    (λ j. may_follow (sym c.prior_changes.ensures.floor j)
+    (sym (c.prior_changes.ensures.value c.args.width) j) x)
     ∙ sym c.may_follow.ensures in
     follow_more floor value cs c.loop-i.i x (omega arith) c.index-changes-i.is _ c.loop-i.invariant (test
     ∙ c.if-not-may_follow.false)

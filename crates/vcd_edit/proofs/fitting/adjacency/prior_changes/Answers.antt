@@ -2,7 +2,7 @@ use Rattle.std.proofs.Common.{[], sym, ap, take, arith}
 use Rattle.vcd_core.specs.Wave.{last_value}
 use Rattle.vcd_edit.specs.inside.Adjacency.{floor_after, value_following}
 use Rattle.vcd_edit.proofs.AdjacencyTests.{after_some}
-use Rattle.vcd_edit.proofs.fitting.adjacency.changes_before_index.Goals as goal
+use Rattle.vcd_edit.proofs.fitting.adjacency.prior_changes.Goals as goal
 
 pub returns-then-index-eq0-clause-floor : goal.returns-then-index-eq0-clause-floor
 unfolding floor_after
