@@ -27,14 +27,14 @@ use Rattle.vcd_edit.specs.inside.Plans.{IsPlan}
 use Rattle.vcd_edit.proofs.EditPlans.{is_plan}
 
 -- a rule by the values of its operands
-rule_is : (rule : Rule) (c : Contents) (t : ℕ)
+rule_bit_by_values : (rule : Rule) (c : Contents) (t : ℕ)
     → rule_bit_of_values rule (signal_value (signal_at c (first_operand rule)) t)
     (signal_value (signal_at c (last_operand rule)) t) ≡ rule_bit rule c t
-rule_is (Not a) c t = refl
-rule_is (And a b) c t = refl
-rule_is (Or a b) c t = refl
-rule_is (Xor a b) c t = refl
-rule_is (BitOf a k) c t = refl
+rule_bit_by_values (Not a) c t = refl
+rule_bit_by_values (And a b) c t = refl
+rule_bit_by_values (Or a b) c t = refl
+rule_bit_by_values (Xor a b) c t = refl
+rule_bit_by_values (BitOf a k) c t = refl
 
 pub derived_parts : (c : Contents) (word : List ℕ) (rule : Rule) (scopes : List ScopeName) (kind : List ℕ)
     (words : List (List ℕ)) (wave : WaveView) (first last : SignalContents)
@@ -50,7 +50,8 @@ derived_parts c word rule scopes kind words wave first last is_first is_last sam
 ) =
     let all = changes ∙ (λ i. changes_of 1 c.end
     (λ t. rule_bit_of_values rule (signal_value (sym is_first i) t) (signal_value (sym is_last i) t) ∷ []))
-    ∙ changes_same 1 c.end _ (λ t. rule_bit rule c t ∷ []) (λ t to. ap (λ (b : Bit). b ∷ []) (rule_is rule c t)) in
+    ∙ changes_same 1 c.end _ (λ t. rule_bit rule c t ∷ [])
+    (λ t to. ap (λ (b : Bit). b ∷ []) (rule_bit_by_values rule c t)) in
     let scoped = same_scopes ∙ ap (λ (s : SignalContents). s.scopes) (sym is_first) in
     λ i. record { scopes = scoped i; kind = same_kind i; words = same_words i; width = width i; changes = all i }
 

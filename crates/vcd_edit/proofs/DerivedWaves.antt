@@ -265,9 +265,9 @@ module _ (rule : Rule) (a b : WaveView) where
       from_both (suc u) one two = λ i. rule_bit_of_values rule (one i) (two i) ∷ []
 
   -- one bit of each operand decides
-  pair_is : has_two_operands rule ≡ true → (v w : List Bit)
+  rule_bit_by_bits : has_two_operands rule ≡ true → (v w : List Bit)
       → rule_bit_of_bits rule (letter_at v 0) (letter_at w 0) ≡ rule_bit_of_values rule v w
-  pair_is two v w = for_each rule two
+  rule_bit_by_bits two v w = for_each rule two
     where
       for_each : (rule : Rule) → has_two_operands rule ≡ true
           → rule_bit_of_bits rule (letter_at v 0) (letter_at w 0) ≡ rule_bit_of_values rule v w
@@ -288,8 +288,8 @@ module _ (rule : Rule) (a b : WaveView) where
       let ticks = filter (λ t. list_any (changes_at t) lines) (range_with_len 0 (suc end)) in
       map-map (edge_change rule) bit_edge (edges end)
       ∙ map-map (λ e. edge_change rule (bit_edge e)) (edge_on lines) ticks
-      ∙ (λ i. map (λ u. change u (pair_is two (value_at a.width a.changes u) (value_at b.width b.changes u) i ∷ []))
-      ticks)
+      ∙ (λ i. map (λ u.
+      change u (rule_bit_by_bits two (value_at a.width a.changes u) (value_at b.width b.changes u) i ∷ [])) ticks)
 
   pub edges_rise : has_two_operands rule ≡ true → (end : ℕ) (es : List BitEdge) → es ≡ bit_edges end
       → TicksRise 1 0 (map (edge_change rule) es)

@@ -32,8 +32,8 @@ refused_is (test ∷ tests) x =
     one_refused test.0 test.1 (refusal_among tests) (unless_refused tests x) x (refused_is tests x)
 
 -- rows with the names of their faults
-abbrev named : List (Bool × EditError) → Tests
-named rows = map (λ row. (row.0, edit_error_name row.1)) rows
+abbrev with_fault_names : List (Bool × EditError) → Tests
+with_fault_names rows = map (λ row. (row.0, edit_error_name row.1)) rows
 
 one_named : (b : Bool) (error : EditError) (found : Option EditError) (refusal : Option (List ℕ))
     → option_map edit_error_name found ≡ refusal →
@@ -42,9 +42,10 @@ one_named true error found refusal same = refl
 one_named false error found refusal same = same
 
 rows_named : (rows : List (Bool × EditError))
-    → option_map edit_error_name (first_fault rows) ≡ refusal_among (named rows)
+    → option_map edit_error_name (first_fault rows) ≡ refusal_among (with_fault_names rows)
 rows_named [] = refl
-rows_named (row ∷ rows) = one_named row.0 row.1 (first_fault rows) (refusal_among (named rows)) (rows_named rows)
+rows_named (row ∷ rows) =
+    one_named row.0 row.1 (first_fault rows) (refusal_among (with_fault_names rows)) (rows_named rows)
 
 edit_refusal_is : (c : Contents) (e : Edit) → option_map edit_error_name (edit_fault e c)
     ≡ refusal_among (edit_tests c e)

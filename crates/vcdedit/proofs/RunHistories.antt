@@ -37,7 +37,7 @@ use Rattle.vcdedit.specs.Script.{script_lines}
 use Rattle.vcdedit.specs.ParsedLines.{line_words, command_of_line}
 use Rattle.vcdedit.specs.LineReads.{ReadResult, ◌▷◌}
 use Rattle.vcdedit.specs.CommandTable.{Request, request_of_words}
-use Rattle.vcdedit.proofs.TableCommands.{requested, line_request_is}
+use Rattle.vcdedit.proofs.TableCommands.{named_request, line_request_is}
 use Rattle.vcdedit.proofs.UndoneEdits.{refused_line_keeps, undo_gives_back_earlier}
 use Rattle.vcdedit.specs.Reply.{reply_text}
 use Rattle.vcdedit.specs.Run.{RunOutcome, answer, history_after_request, line_answer, history_after_line, history_at}
@@ -122,7 +122,7 @@ step_reply_is c h (steps.Depth depth) undoable redoable held undone =
 
 command_reply_is : (c : Contents) (skipped : ℕ) (h : History) (parsed : Result Command LineError)
     (undoable redoable : ℕ) → h.undoable ≡ undoable → length h.undone ≡ redoable →
-    command_reply parsed c skipped undoable redoable ≡ (requested c skipped parsed ▷ answer c h)
+    command_reply parsed c skipped undoable redoable ≡ (named_request c skipped parsed ▷ answer c h)
 command_reply_is c skipped h (Err fault) undoable redoable held undone = refl
 command_reply_is c skipped h (Ok commands.Nothing) undoable redoable held undone = refl
 command_reply_is c skipped h (Ok (commands.Step step)) undoable redoable held undone =
@@ -206,7 +206,7 @@ step_matches c h m (steps.Depth depth) is accepted =
 command_matches : (c : Contents) (h : History) (m : Machine) (skipped : ℕ) (parsed : Result Command LineError)
     → Matches c h m →
     is_err (command_reply parsed m.now skipped (length m.past) (length m.future)) ≡ false
-    → Matches c (history_after_request h (requested m.now skipped parsed)) (machine_after_command m parsed)
+    → Matches c (history_after_request h (named_request m.now skipped parsed)) (machine_after_command m parsed)
 command_matches c h m skipped (Err fault) is accepted = is
 command_matches c h m skipped (Ok commands.Nothing) is accepted = is
 command_matches c h m skipped (Ok (commands.Step step)) is accepted = step_matches c h m step is accepted
@@ -351,7 +351,7 @@ lines_are_run c depth skipped lines sound =
     (capture_at c skipped depth lines (length lines)) 0 =
     subst (λ (d : Contents). FileMeans (text d) (capture_at c skipped depth lines (length lines)) 0) (sym last)
     (read_back (capture_at c skipped depth lines (length lines)) sound_last) in
-    let few : (count : ℕ) → (history_at c skipped depth lines count).undoable
+    let undoable_within : (count : ℕ) → (history_at c skipped depth lines count).undoable
     ≤ length (history_at c skipped depth lines count).edits =
     λ count.
     let held = (here count).undoable in
@@ -360,9 +360,9 @@ lines_are_run c depth skipped lines sound =
     omega (arith, held, past) in
     record {
       sound = λ count. subst IsSound (here count).follows.now (lines_sound c depth (take count lines) sound);
-      undoable = few;
+      undoable = undoable_within;
       unchanged = refused_line_keeps c skipped depth lines;
-      undo_restores = undo_gives_back_earlier c skipped depth lines few;
+      undo_restores = undo_gives_back_earlier c skipped depth lines undoable_within;
       replies = replies_are c (initial_history depth) (initial_machine c depth) skipped 1 lines first
           ∙ ap (numbered 1) (answers_are c skipped depth lines);
       refused = refusals_are c (initial_history depth) (initial_machine c depth) skipped lines first

@@ -154,11 +154,6 @@ request_of c skipped (commands.Uart k setup) = reply (uart_lines c k setup)
 request_of c skipped (commands.Spi clk mosi miso cs setup) = reply (spi_lines c clk mosi miso cs setup)
 request_of c skipped (commands.I2c scl sda) = reply (i2c_lines c scl sda)
 
--- what a line that is read so asks for, with the name of its fault
-abbrev pub requested : Contents → (skipped : ℕ) → Result Command LineError → ReadResult Request
-requested c skipped (Ok command) = Ok (request_of c skipped command)
-requested c skipped (Err fault) = Err (line_error_name fault)
-
 -- what the fault of a setup makes of a request
 abbrev match_fault : Option SetupError → Request → ReadResult Request
 match_fault None request = Ok request
@@ -173,8 +168,10 @@ fault_row request false fault others r same = same
 -- ---- what a line asks for
 
 module _ (c : Contents) (skipped : ℕ) where
-  abbrev named_request : Result Command LineError → ReadResult Request
-  named_request r = requested c skipped r
+  -- what a line that is read so asks for, or the name of its fault
+  abbrev pub named_request : Result Command LineError → ReadResult Request
+  named_request (Ok command) = Ok (request_of c skipped command)
+  named_request (Err fault) = Err (line_error_name fault)
 
   then_asks : {A : Type 0} (r : Result A LineError) (s : ReadResult A) (f : A → Result Command LineError)
       (g : A → ReadResult Request) → with_fault_name r ≡ s → ((x : A) → named_request (f x) ≡ g x)
@@ -472,7 +469,7 @@ module _ (c : Contents) (skipped : ℕ) where
 
 -- a line asks for what its parser reads
 pub line_request_is : (c : Contents) (skipped : ℕ) (line : List ℕ)
-    → requested c skipped (command_of_line c line) ≡ request_of_words c skipped (line_words line)
+    → named_request c skipped (command_of_line c line) ≡ request_of_words c skipped (line_words line)
 unfolding command_of_line
 line_request_is c skipped line =
-    ap (requested c skipped) (words_are c (line_words line)) ∙ words_command_is_request c skipped (line_words line)
+    ap (named_request c skipped) (words_are c (line_words line)) ∙ words_command_is_request c skipped (line_words line)

@@ -136,12 +136,12 @@ module _ (c : Contents) (skipped depth : ℕ) (lines : List (List ℕ)) where
       (i : ℕ) × (e : Edit) × (i < j) × IsStepAt c skipped depth lines i (steps.Edit e)
       × ((at_line j).edits ≡ e ∷ (at_line i).edits)
       × (capture_at c skipped depth lines (j + 1) ≡ capture_at c skipped depth lines i)
-  undo_gives_back_earlier few j undo =
+  undo_gives_back_earlier undoable_within j undo =
       let line = get_or lines j [] in
       let h = at_line j in
       let accepted : is_err (answer (replay c h.edits) h (step steps.Undo)) ≡ false =
       sym (ap (λ (request : ReadResult Request). is_err (request ▷ answer (replay c h.edits) h)) undo.0) ∙ undo.1 in
-      let held : 1 ≤ length h.edits = omega (arith, undo_held (replay c h.edits) h accepted, few j) in
+      let held : 1 ≤ length h.edits = omega (arith, undo_held (replay c h.edits) h accepted, undoable_within j) in
       let found = undone_edit j h.edits refl held (made_in_force j h.edits h.undone (all_made j)) in
       let one_more : j + 1 ≡ suc j = omega arith in
       let next : at_line (j + 1) ≡ history_after_request h (Ok (step steps.Undo)) =

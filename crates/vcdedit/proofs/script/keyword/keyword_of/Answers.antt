@@ -17,10 +17,10 @@ no_row : (found : Option Keyword) → found ≡ option_or found None
 no_row None = refl
 no_row (Some keyword) = refl
 
-one_row : (found : Option Keyword) (row : List ℕ × Keyword) (named : Bool) (later : Option (List ℕ × Keyword)) →
-    option_or (option_or found (cond named (Some row.1) None)) (option_map (λ (r : List ℕ × Keyword). r.1) later)
-    ≡ option_or found (option_map (λ (r : List ℕ × Keyword). r.1) (cond named (Some row) later))
-one_row (Some keyword) row named later = refl
+one_row : (found : Option Keyword) (row : List ℕ × Keyword) (is_named : Bool) (later : Option (List ℕ × Keyword)) →
+    option_or (option_or found (cond is_named (Some row.1) None)) (option_map (λ (r : List ℕ × Keyword). r.1) later)
+    ≡ option_or found (option_map (λ (r : List ℕ × Keyword). r.1) (cond is_named (Some row) later))
+one_row (Some keyword) row is_named later = refl
 one_row None row true later = refl
 one_row None row false later = refl
 
