@@ -113,7 +113,7 @@ module _ (old : Variables) (list : Vec Variable) (log : Vec (Vec LoggedChange)) 
     (v w : Variable) (k : VariablesMatch old c)
     (had : target_of old code ≡ Some (Position first)) (is_first : v ≡ (own_wave old c code digits first k had).3.first)
     (items : list.items ≡ set old.kept.items first w) (same : declaration w ≡ declaration v)
-    (same_first : w.first_position ≡ v.first_position)
+    (same_first : w.first ≡ v.first)
     (value : IsTrue (is_binary_number digits)) (short : length digits ≤ v.signal.wave.width)
     (grouped : AreGrouped 0 log.items)
     (takes : (f : ℕ → List Bit)
@@ -135,7 +135,7 @@ module _ (old : Variables) (list : Vec Variable) (log : Vec (Vec LoggedChange)) 
   -- the variables of the new list are those of the old one, but for the wave
   following : (position : ℕ) (u : Variable) → slice_get list.items position ≡ Some u
       → (t : Variable) × (slice_get old.kept.items position ≡ Some t) × (declaration u ≡ declaration t)
-      × (u.first_position ≡ t.first_position)
+      × (u.first ≡ t.first)
   following position u at = grind (arith, cases_eq, same_Some, set_here, stood, set_there)
 
   -- the value change

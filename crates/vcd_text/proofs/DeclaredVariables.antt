@@ -133,7 +133,7 @@ module _ (old : Variables) (targets : CodeTargets) (c : ParseState) (d : Variabl
         let before = k.firsts position v at in
         record {
           owned = puts v.code
-              ∙ by_code (λ b. (if b then Some Skipped else target_of old v.code) ≡ Some (Position v.first_position))
+              ∙ by_code (λ b. (if b then Some Skipped else target_of old v.code) ≡ Some (Position v.first))
               v.code d.code
               (λ is. absurd (grind arith)) (λ _. before.owned);
           no_later = before.no_later;
@@ -166,7 +166,7 @@ module _ (old : Variables) (targets : CodeTargets) (c : ParseState) (d : Variabl
 
 -- the variable of a code, a signal and the position of the first one
 abbrev pub variable_at : (code : List ℕ) → Signal → (first : ℕ) → Variable
-variable_at code s first = record { code = code; signal = s; first_position = first }
+variable_at code s first = record { code = code; signal = s; first = first }
 
 -- the code is new, or is that of a variable of the same size
 abbrev pub IsFree : Variables → (code : List ℕ) → Signal → (first : ℕ) → Type 0
@@ -245,10 +245,10 @@ module _ (old new : Variables) (c : ParseState) (scopes : List ScopeName) (code 
       record {
         owned = puts v.code
             ∙ by_code (λ b. (if b then Some (Position first) else target_of old v.code)
-            ≡ Some (Position v.first_position))
+            ≡ Some (Position v.first))
             v.code code
             (λ is. elim free [
-              | inl (none, end) ↦ let no : None ≡ Some (Position v.first_position) = sym none
+              | inl (none, end) ↦ let no : None ≡ Some (Position v.first) = sym none
                   ∙ ap (target_of old) (sym is)
                   ∙ before.owned in absurd (cc)
               | inr (had, width) ↦ sym had ∙ ap (target_of old) (sym is) ∙ before.owned

@@ -43,7 +43,7 @@ module _ (vs : Variables) (c : ParseState) (yielded rest : List Variable) (v : V
   stands_at = ap (λ l. slice_get l (length yielded)) all ∙ middle_of yielded rest v
 
   own_wave : (d : VariableDeclaration) × (variable_of c v.code ≡ Some d) × (is_skipped d ≡ false)
-      × HasWave vs.kept.items (logged vs.log.items) v.first_position v.code d.size c.value_changes c.tick
+      × HasWave vs.kept.items (logged vs.log.items) v.first v.code d.size c.value_changes c.tick
   own_wave = grind (arith, stands_kept, stands_at)
 
   -- the changes of a variable of this size and code
@@ -51,13 +51,13 @@ module _ (vs : Variables) (c : ParseState) (yielded rest : List Variable) (v : V
   changes_by width code = changes_of width c.tick (λ t. latest_value width code t (all_x width) c.value_changes)
 
   -- the first variable of its code has its own wave
-  first_means : v.first_position ≡ length yielded → IsWave v.signal.wave.width v.signal.wave.changes
+  first_means : v.first ≡ length yielded → IsWave v.signal.wave.width v.signal.wave.changes
       → signal_contents v.signal ≡ declared_signal c.value_changes c.tick (declaration v)
   unfolding changes_by
   first_means end is = grind (arith, own_wave, same_Some, stands_at, gives_late, wave_is, ended_upto)
 
   -- a later variable has the wave of the first
-  later_means : (s signal : Signal) → slice_get signals v.first_position ≡ Some s → signal_contents signal ≡ record {
+  later_means : (s signal : Signal) → slice_get signals v.first ≡ Some s → signal_contents signal ≡ record {
     scopes = v.signal.scopes;
     kind = v.signal.kind;
     words = v.signal.words;
@@ -68,14 +68,14 @@ module _ (vs : Variables) (c : ParseState) (yielded rest : List Variable) (v : V
   later_means s signal at takes = grind (arith, variable_after, map_twice, stays, own_wave, same_Some, stands_at)
 
   -- the signal of a variable is the one that it declares
-  pub finishes_as_declared : (signal : Signal) → Finishes v (slice_get signals v.first_position) signal
+  pub finishes_as_declared : (signal : Signal) → Finishes v (slice_get signals v.first) signal
       → signal_contents signal ≡ declared_signal c.value_changes c.tick (declaration v)
-  finishes_as_declared signal finishes = elim (slice_get_cases signals v.first_position).1 [
+  finishes_as_declared signal finishes = elim (slice_get_cases signals v.first).1 [
     | inl (s, within, at, read) ↦ later_means s signal at (subst (λ o. Finishes v o signal) at finishes)
     | inr (past, at) ↦
         let own : Finishes v None signal = subst (λ o. Finishes v o signal) at finishes in
         let long : length signals ≡ length yielded = grind (arith, length-map) in
-        let end : v.first_position ≡ length yielded =
+        let end : v.first ≡ length yielded =
         omega (arith, past, long, (k.firsts (length yielded) v stands_at).no_later) in
         ap signal_contents own.0
         ∙ first_means end (subst (λ (x : Signal). IsWave x.wave.width x.wave.changes) own.0 own.1)

@@ -142,8 +142,8 @@ module _ (old : Variables) (list : Vec Variable) (log : Vec (Vec LoggedChange)) 
       let before = k.firsts position v.0 v.1 in
       record {
         owned = ap (target_of old) v.2.same.code ∙ before.owned
-            ∙ ap (λ n. Some (Position n)) (sym v.2.same.first_position);
-        no_later = omega (arith, v.2.same.first_position, before.no_later);
+            ∙ ap (λ n. Some (Position n)) (sym v.2.same.first);
+        no_later = omega (arith, v.2.same.first, before.no_later);
         same_size = grind (arith, stood);
       }
 

@@ -94,15 +94,15 @@ count_within n k few whole within fits counted = grind (arith, ltb-true, ltb-fal
 -- bytes are sent that are the rest of the text with the part
 pub bytes_sent : {W : Type 0} (t : W → Option (List ℕ)) (f : W → Bool) (s0 s1 : WriteBuffer × W) (k : ℕ)
     (part bytes : List ℕ)
-    → ((text : List ℕ) → s0.0.sent_count ≤ length text → drop s0.0.sent_count text ≡ s0.0.unsent.items
-    → drop s0.0.sent_count (text ++ part) ≡ bytes)
+    → ((text : List ℕ) → s0.0.start ≤ length text → drop s0.0.start text ≡ s0.0.unsent.items
+    → drop s0.0.start (text ++ part) ≡ bytes)
     → Appends (t s0.1) (t s1.1) (take k bytes) → k ≤ length bytes → (f s1.1 ≡ false → k ≡ length bytes)
     → (f s0.1 ≡ true → k ≡ 0) → (f s0.1 ≡ true → f s1.1 ≡ true)
-    → s1.0.sent_count ≡ min (s0.0.sent_count + k) (2 ^ 128 - 1) → s1.0.unsent.items ≡ [] → Emits t f s0 s1 part
+    → s1.0.start ≡ min (s0.0.start + k) (2 ^ 128 - 1) → s1.0.unsent.items ≡ [] → Emits t f s0 s1 part
 bytes_sent t f s0 s1 k part bytes left more few all none stays counted empty = record {
   appends = λ before text stands.
-      let n = s0.0.sent_count in
-      let now = s1.0.sent_count in
+      let n = s0.0.start in
+      let now = s1.0.start in
       let is : n < 2 ^ 128 - 1 → f s0.1 ≡ false → drop n (text ++ part) ≡ bytes = grind arith in
       let held : n < 2 ^ 128 - 1 → Appends before (t s0.1) (take n (text ++ part)) = grind (arith, take-append-le) in
       let early : now < 2 ^ 128 - 1 → n < 2 ^ 128 - 1 = λ small. omega (arith, counted, small) in
@@ -120,15 +120,15 @@ bytes_sent t f s0 s1 k part bytes left more few all none stays counted empty = r
 }
 
 -- the unsent bytes are the rest
-pub unsent_left : (o : WriteBuffer) (text : List ℕ) → o.sent_count ≤ length text
-    → drop o.sent_count text ≡ o.unsent.items
-    → drop o.sent_count (text ++ []) ≡ o.unsent.items
-unsent_left o text within is = ap (drop o.sent_count) (append-nil text) ∙ is
+pub unsent_left : (o : WriteBuffer) (text : List ℕ) → o.start ≤ length text
+    → drop o.start text ≡ o.unsent.items
+    → drop o.start (text ++ []) ≡ o.unsent.items
+unsent_left o text within is = ap (drop o.start) (append-nil text) ∙ is
 
 -- if nothing waits, a part is the rest
-pub part_left : (o : WriteBuffer) (part text : List ℕ) → o.unsent.items ≡ [] → o.sent_count ≤ length text
-    → drop o.sent_count text ≡ o.unsent.items → drop o.sent_count (text ++ part) ≡ part
-part_left o part text none within is = drop-append-le o.sent_count text part within ∙ ap (λ l. l ++ part) (is ∙ none)
+pub part_left : (o : WriteBuffer) (part text : List ℕ) → o.unsent.items ≡ [] → o.start ≤ length text
+    → drop o.start text ≡ o.unsent.items → drop o.start (text ++ part) ≡ part
+part_left o part text none within is = drop-append-le o.start text part within ∙ ap (λ l. l ++ part) (is ∙ none)
 
 -- ---- the whole
 
@@ -139,13 +139,13 @@ nothing_taken (Some xs) = sym (append-nil xs)
 
 -- the text since the buffer was empty
 pub whole_written : {W : Type 0} {t : W → Option (List ℕ)} {f : W → Bool} {s0 s1 : WriteBuffer × W} {whole : List ℕ}
-    → s0.0.unsent.items ≡ [] → s0.0.sent_count ≡ 0 → Emits t f s0 s1 whole
+    → s0.0.unsent.items ≡ [] → s0.0.start ≡ 0 → Emits t f s0 s1 whole
     → HasEmitted (t s0.1) (t s1.1) (f s1.1) s1.0 whole
 whole_written {t = t} {f = f} {s0 = s0} empty none writes =
     writes.appends (t s0.1) [] (grind (arith, nothing_taken))
 
 -- the number of bytes of a text that was written to a writer that has not failed
 pub length_written : (before after : Option (List ℕ)) (failed : Bool) (o : WriteBuffer) (text : List ℕ) → failed ≡ false
-    → o.sent_count < 2 ^ 128 - 1 → HasEmitted before after failed o text
-    → length text ≡ o.sent_count + length o.unsent.items
+    → o.start < 2 ^ 128 - 1 → HasEmitted before after failed o text
+    → length text ≡ o.start + length o.unsent.items
 length_written before after failed o text ready few stands = grind (arith, length-drop)

@@ -71,7 +71,7 @@ pub record IsSameVariable (old new : Variable) : Type 0 where
   pub kind : new.signal.kind ≡ old.signal.kind
   pub words : new.signal.words ≡ old.signal.words
   pub width : new.signal.wave.width ≡ old.signal.wave.width
-  pub first_position : new.first_position ≡ old.first_position
+  pub first : new.first ≡ old.first
 
 -- the variable with a change of the log applied
 pub record AppliesToVariable (e : LoggedChange) (old new : Variable) : Type 0 where

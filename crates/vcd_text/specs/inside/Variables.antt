@@ -68,15 +68,15 @@ TargetAgrees vs c = TargetMatches vs.kept.items (logged vs.log.items) c.value_ch
 
 -- a kept variable has the position of the first one with its code, which is no later and has the same size
 pub record HasFirst (vs : Variables) (position : ℕ) (v : Variable) : Type 0 where
-  pub owned : target_of vs v.code ≡ Some (Position v.first_position)
-  pub no_later : v.first_position ≤ position
-  pub same_size : (w : Variable) → slice_get vs.kept.items v.first_position ≡ Some w
+  pub owned : target_of vs v.code ≡ Some (Position v.first)
+  pub no_later : v.first ≤ position
+  pub same_size : (w : Variable) → slice_get vs.kept.items v.first ≡ Some w
       → w.signal.wave.width ≡ v.signal.wave.width
 
 -- the log has changes only of variables that are the first of their code
 abbrev pub HasOnlyFirstVariables : List Variable → (ℕ → List LoggedChange) → Type 0
 HasOnlyFirstVariables vs log = (position : ℕ) → 0 < length (log position)
-    → (v : Variable) × (slice_get vs position ≡ Some v) × (v.first_position ≡ position)
+    → (v : Variable) × (slice_get vs position ≡ Some v) × (v.first ≡ position)
 
 -- the variables match the state: declarations without their scopes, and value changes up to the tick
 pub record VariablesMatch (vs : Variables) (c : ParseState) : Type 0 where
@@ -134,7 +134,7 @@ pub record HasValueFrom (tick : ℕ) (digits : List ℕ) (old new : Variable) : 
   pub value : IsTrue (is_binary_number digits)
   pub fits : length digits ≤ old.signal.wave.width
   pub same : declaration new ≡ declaration old
-  pub same_first_position : new.first_position ≡ old.first_position
+  pub same_first_position : new.first ≡ old.first
   pub ticks : All (λ (change : Change). change.tick ≤ tick) new.signal.wave.changes
   pub values : (t : ℕ) → value_at new.signal.wave.width new.signal.wave.changes t
       ≡ (if nat_le tick t then extension old.signal.wave.width (letters_of_digits digits) else value_at

@@ -6,9 +6,9 @@ use Rattle.vcd_text.specs.declared.writing.buffer.WriteBuffer.{WriteBuffer}
 -- sink and buffer together hold this text; nothing is said once the count is saturated
 pub record HasEmitted (before after : Option (List ℕ)) (failed : Bool) (buffer : WriteBuffer) (text : List ℕ) : Type 0
   where
-    pub within : buffer.sent_count ≤ length text
-    pub front : buffer.sent_count < 2 ^ 128 - 1 → Appends before after (take buffer.sent_count text)
-    pub rest : buffer.sent_count < 2 ^ 128 - 1 → failed ≡ false → drop buffer.sent_count text ≡ buffer.unsent.items
+    pub within : buffer.start ≤ length text
+    pub front : buffer.start < 2 ^ 128 - 1 → Appends before after (take buffer.start text)
+    pub rest : buffer.start < 2 ^ 128 - 1 → failed ≡ false → drop buffer.start text ≡ buffer.unsent.items
 
 -- whatever text sink and buffer held, they now hold it with `part` appended
 pub record Emits {W : Type 0} (taken : W → Option (List ℕ)) (has_failed : W → Bool) (old new : WriteBuffer × W)

@@ -23,7 +23,7 @@ pub struct Variable {
     pub code: Word,
     pub signal: Signal,
     /// The position of the first variable with this code.
-    pub first_position: usize,
+    pub first: usize,
 }
 
 impl Variable {

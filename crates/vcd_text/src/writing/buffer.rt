@@ -12,26 +12,23 @@ use vcd_core::{NoMemory, Sink, write_all};
 /// The size of the buffer, in bytes.
 const ROOM: usize = 65536;
 
-/// The bytes that wait for the writer, and the number that it took before them. After a failure of
-/// the writer, nothing more is sent.
+/// The bytes that wait for the writer, and the place in the text where they start. After a failure
+/// of the writer, nothing more is sent.
 #[derive(Drop)]
 pub struct WriteBuffer {
     pub unsent: Vec<u8>,
-    pub sent_count: u128,
+    pub start: u128,
 }
 
 impl WriteBuffer {
     /// An empty buffer.
     pub fn new(alloc: Global) -> Result<WriteBuffer, NoMemory>
         ensures unsent { IfOk result (λ buffer. buffer.unsent.items ≡ []) }
-        ensures sent_count { IfOk result (λ buffer. buffer.sent_count ≡ 0) }
+        ensures start { IfOk result (λ buffer. buffer.start ≡ 0) }
         ensures room { IfOk result (λ buffer. vec_capacity buffer.unsent ≡ ROOM) }
     {
         let unsent = Vec::with_capacity(alloc, ROOM)?;
-        Ok(WriteBuffer {
-            unsent,
-            sent_count: 0,
-        })
+        Ok(WriteBuffer { unsent, start: 0 })
     }
 }
 
@@ -86,7 +83,7 @@ fn send_buffer<W: Sink>(buffer: &mut WriteBuffer, writer: &mut W)
     ensures room { vec_capacity buffer.new.unsent ≡ vec_capacity buffer.old.unsent }
 {
     let count = send_bytes(writer, buffer.unsent.as_slice());
-    buffer.sent_count = buffer.sent_count.saturating_add(count);
+    buffer.start = buffer.start.saturating_add(count);
     buffer.unsent.clear();
 }
 
@@ -98,7 +95,7 @@ fn send_directly<W: Sink>(buffer: &mut WriteBuffer, writer: &mut W, bytes: &[u8]
     ensures room { vec_capacity buffer.new.unsent ≡ vec_capacity buffer.old.unsent }
 {
     let count = send_bytes(writer, bytes);
-    buffer.sent_count = buffer.sent_count.saturating_add(count);
+    buffer.start = buffer.start.saturating_add(count);
 }
 
 /// The number of bytes that the writer takes: all, unless it fails or has failed.
@@ -133,7 +130,7 @@ pub fn send_and_flush<W: Sink>(buffer: WriteBuffer, writer: &mut W) -> Result<()
 {
     let mut buffer = buffer;
     send_buffer(&mut buffer, writer);
-    let written = buffer.sent_count;
+    let written = buffer.start;
     if writer.failed() {
         return Err(WriteError::WriteFault { written });
     }

@@ -44,12 +44,9 @@ pub fn check_countable(alloc: Global, capture: &Capture) -> Result<(), NoMemory>
     ensures refused { OnErr result (2 ^ 126 ≤ length (declarations_text (contents capture.now))) }
 {
     let unsent = Vec::new(alloc);
-    let mut buffer = WriteBuffer {
-        unsent,
-        sent_count: 0,
-    };
+    let mut buffer = WriteBuffer { unsent, start: 0 };
     write_declarations(&mut buffer, &mut NullSink, capture);
-    if buffer.sent_count >= COUNT_LIMIT {
+    if buffer.start >= COUNT_LIMIT {
         return Err(NoMemory);
     }
     Ok(())

@@ -92,7 +92,7 @@ pub fn fill_window(window: &mut Window, signals: &[Signal], from: u64, most: u64
 fn list_window(
     keys: &mut Vec<u64>,
     signals: &[Signal],
-    next_changes_at_start: &[NextChange],
+    start_changes: &[NextChange],
     next_changes: &mut [NextChange],
     from: u64,
     to: u64,
@@ -100,7 +100,7 @@ fn list_window(
 ) -> bool
     requires few { length signals.now ≤ SIGNAL_LIMIT }
     requires sound { All (IsSoundSignal end) (map signal_contents signals.now) }
-    requires next_changes_at_start { AreNext from signals.now next_changes_at_start.now }
+    requires start_changes { AreNext from signals.now start_changes.now }
     requires next { length next_changes.old ≡ length signals.now }
     requires order { from ≤ to }
     requires end { to ≤ END_LIMIT + 1 }
@@ -116,14 +116,7 @@ fn list_window(
     keys.clear();
     for (position, signal) in signals.iter().enumerate() {
         let changes = signal.wave.changes();
-        match list_signal(
-            keys,
-            position,
-            changes,
-            next_changes_at_start[position],
-            from,
-            to,
-        ) {
+        match list_signal(keys, position, changes, start_changes[position], from, to) {
             Some(next) => next_changes[position] = next,
             None => return false,
         }

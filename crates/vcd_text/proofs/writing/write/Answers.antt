@@ -21,7 +21,7 @@ on_ok (Err e) f p = tt
 -- the whole text is written
 all_written : {W : Type 0} {t : W → Option (List ℕ)} {f : W → Bool} {s0 s1 s2 s3 : WriteBuffer × W} (c : Contents)
     (signals : List Signal) (end : ℕ) → map signal_contents signals ≡ c.signals → end ≡ c.end
-    → s0.0.unsent.items ≡ [] → s0.0.sent_count ≡ 0 → Emits t f s0 s1 (declarations_text c)
+    → s0.0.unsent.items ≡ [] → s0.0.start ≡ 0 → Emits t f s0 s1 (declarations_text c)
     → Emits t f s1 s2 (flat_map item_line (first_items (map signal_contents signals)))
     → Emits t f s2 s3 (flat_map item_line (tick_items (map signal_contents signals) 1 end
     ++ end_items (map signal_contents signals) end)) → HasEmitted (t s0.1) (t s3.1) (f s3.1) s3.0 (text c)
@@ -42,7 +42,7 @@ returns-clause-written g c =
     (text_countable whole c.requires.sound c.in_ok-check_countable.ensures.counted)
     (all_written whole c.signals-signals.result.now c.end-end.result
     (ap (map signal_contents) c.signals-signals.ensures) c.end-end.ensures c.in_ok-buffer.ensures.unsent
-    c.in_ok-buffer.ensures.sent_count c.write_declarations.ensures c.write_first_values.ensures
+    c.in_ok-buffer.ensures.start c.write_declarations.ensures c.write_first_values.ensures
     c.write_transitions.ensures))
     c.send_and_flush.ensures.written
 
@@ -54,6 +54,6 @@ returns-clause-failed g c =
     (text_countable whole c.requires.sound c.in_ok-check_countable.ensures.counted)
     (all_written whole c.signals-signals.result.now c.end-end.result
     (ap (map signal_contents) c.signals-signals.ensures) c.end-end.ensures c.in_ok-buffer.ensures.unsent
-    c.in_ok-buffer.ensures.sent_count c.write_declarations.ensures c.write_first_values.ensures
+    c.in_ok-buffer.ensures.start c.write_declarations.ensures c.write_first_values.ensures
     c.write_transitions.ensures))
     c.send_and_flush.ensures.failed

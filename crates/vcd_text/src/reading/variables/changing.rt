@@ -45,12 +45,7 @@ impl Variables {
         match self.code_targets.get(code) {
             None => Err(Fault::UnknownCode),
             Some(CodeTarget::Skipped) => Ok(()),
-            Some(CodeTarget::Position(first_position)) => self.change_at(
-                alloc,
-                first_position,
-                tick,
-                digits,
-            ),
+            Some(CodeTarget::Position(first)) => self.change_at(alloc, first, tick, digits),
         }
     }
 
@@ -59,24 +54,24 @@ impl Variables {
     fn change_at(
         &mut self,
         alloc: Global,
-        first_position: usize,
+        first: usize,
         tick: u64,
         digits: &[u8],
     ) -> Result<(), Fault>
         requires known { (c : ParseState) × (code : List ℕ) × VariablesMatch self.old c × (c.tick ≤ tick)
-            × (target_of self.old code ≡ Some (PositionAt first_position)) }
+            × (target_of self.old code ≡ Some (PositionAt first)) }
         ensures { (c : ParseState) (code : List ℕ) → c.tick ≡ tick → VariablesMatch self.old c →
-            target_of self.old code ≡ Some (PositionAt first_position) →
+            target_of self.old code ≡ Some (PositionAt first) →
             ChangeResult c code digits.now result self.new }
     {
-        let width = self.widths[first_position];
+        let width = self.widths[first];
         if width > 64 {
-            return self.kept[first_position].change_wave(tick, digits);
+            return self.kept[first].change_wave(tick, digits);
         }
         let word = read_letter_word(width, digits)?;
         let change = LoggedChange {
             tick,
-            position: first_position,
+            position: first,
             word,
         };
         append(&mut self.log, alloc, change)?;

@@ -77,11 +77,11 @@ impl Variables {
     {
         match self.code_targets.get(code) {
             None => self.keep_first(alloc, code, signal),
-            Some(CodeTarget::Position(first_position)) => {
-                if !self.has_width(first_position, signal.wave.width()) {
+            Some(CodeTarget::Position(first)) => {
+                if !self.has_width(first, signal.wave.width()) {
                     return Err(Fault::MixedCode);
                 }
-                self.push(alloc, code, signal, first_position)
+                self.push(alloc, code, signal, first)
             }
             Some(CodeTarget::Skipped) => Err(Fault::MixedCode),
         }
@@ -91,7 +91,7 @@ impl Variables {
     fn keep_first(&mut self, alloc: Global, code: &[u8], signal: Signal) -> Result<(), Fault>
         ensures few { OnOk result (length self.old.kept.items < SIGNAL_LIMIT) }
         ensures kept { OnOk result (self.new.kept.items ≡ self.old.kept.items ++
-            record { code = code.now; signal = signal; first_position = length self.old.kept.items } ∷ []) }
+            record { code = code.now; signal = signal; first = length self.old.kept.items } ∷ []) }
         ensures widths { OnOk result (self.new.widths.items ≡
             self.old.widths.items ++ signal.wave.width ∷ []) }
         ensures code_targets { OnOk result ((key : List ℕ) → target_of self.new key ≡
@@ -102,24 +102,24 @@ impl Variables {
         ensures refuses { IfErr result (λ fault. (fault ≡ NoMemoryFault) ⊎
             ((fault ≡ TooManySignals) × (SIGNAL_LIMIT ≤ length self.old.kept.items))) }
     {
-        let first_position = self.kept.len();
-        self.push(alloc, code, signal, first_position)?;
+        let first = self.kept.len();
+        self.push(alloc, code, signal, first)?;
         self.code_targets
-            .insert(alloc, code, CodeTarget::Position(first_position))?;
+            .insert(alloc, code, CodeTarget::Position(first))?;
         Ok(())
     }
 
-    /// Keeps a variable; the first one of its code is at `first_position`.
+    /// Keeps a variable; the first one of its code is at `first`.
     fn push(
         &mut self,
         alloc: Global,
         code: &[u8],
         signal: Signal,
-        first_position: usize,
+        first: usize,
     ) -> Result<(), Fault>
         ensures few { OnOk result (length self.old.kept.items < SIGNAL_LIMIT) }
         ensures kept { OnOk result (self.new.kept.items ≡ self.old.kept.items ++
-            record { code = code.now; signal = signal; first_position = first_position } ∷ []) }
+            record { code = code.now; signal = signal; first = first } ∷ []) }
         ensures widths { OnOk result (self.new.widths.items ≡
             self.old.widths.items ++ signal.wave.width ∷ []) }
         ensures code_targets { self.new.code_targets ≡ self.old.code_targets }
@@ -136,7 +136,7 @@ impl Variables {
         self.kept.push(Variable {
             code,
             signal,
-            first_position,
+            first,
         })?;
         Ok(())
     }

@@ -57,7 +57,7 @@ impl Variables {
 /// Appends the signal of a variable to those of the variables before it.
 fn push_signal(signals: &mut Vec<Signal>, variable: Variable) -> Result<(), NoMemory>
     ensures { OnOk result ((signal : Signal) × Finishes variable
-        (slice_get signals.old.items variable.first_position) signal ×
+        (slice_get signals.old.items variable.first) signal ×
         (map signal_contents signals.new.items
         ≡ map signal_contents signals.old.items ++ signal_contents signal ∷ [])) }
 {
@@ -68,16 +68,12 @@ fn push_signal(signals: &mut Vec<Signal>, variable: Variable) -> Result<(), NoMe
 
 /// The signal of a variable, given the signals of the variables before it.
 fn finished_signal(variable: Variable, before: &mut [Signal]) -> Result<Signal, NoMemory>
-    ensures finished { IfOk result (Finishes variable (slice_get before.old variable.first_position)) }
+    ensures finished { IfOk result (Finishes variable (slice_get before.old variable.first)) }
     ensures contents { map signal_contents before.new ≡ map signal_contents before.old }
 {
-    let Variable {
-        signal,
-        first_position,
-        ..
-    } = variable;
-    if first_position < before.len() {
-        return with_wave_of(signal, &mut before[first_position]);
+    let Variable { signal, first, .. } = variable;
+    if first < before.len() {
+        return with_wave_of(signal, &mut before[first]);
     }
     // No effect: the call's clause shows the prover that the list is a wave.
     signal.wave.changes();

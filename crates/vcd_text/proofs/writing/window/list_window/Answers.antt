@@ -19,9 +19,9 @@ list_signal-requires-clause-next c =
     let k = c.loop-position.position in
     let s = c.index-signals-position.result in
     let none : NextChange = record { place = 0; tick = 0; following_tick = 0 } in
-    subst (λ (l : List Change). IsNext c.args.from c.args.from l (get_or c.args.next_changes_at_start.now k none))
+    subst (λ (l : List Change). IsNext c.args.from c.args.from l (get_or c.args.start_changes.now k none))
     (ap (λ (x : Signal). x.wave.changes) (sym c.index-signals-position.is) ∙ sym c.changes-changes.ensures.changes)
-    (c.requires.next_changes_at_start.each k s none (omega arith))
+    (c.requires.start_changes.each k s none (omega arith))
 
 pub returns-in-None-clause-keys : goal.returns-in-None-clause-keys
 returns-in-None-clause-keys c =

@@ -16,12 +16,12 @@ change_wave-requires c =
     let (state, code, k, later, had) = c.requires.known in
     let digits = c.args.digits.now in
     let v = c.index_mut.result.now in
-    let wave = (own_wave old state code digits c.args.first_position k had).3.first.signal.wave.changes in
+    let wave = (own_wave old state code digits c.args.first k had).3.first.signal.wave.changes in
     record {
       none_later = subst (λ (u : Variable). All (λ (e : Change). e.tick ≤ c.args.tick) u.signal.wave.changes)
-          (sym (read_is old state code digits c.args.first_position k had v c.index_mut.ensures.value))
+          (sym (read_is old state code digits c.args.first k had v c.index_mut.ensures.value))
           (All-weaker (λ (e : Change). e.tick ≤ state.tick) (λ (e : Change). e.tick ≤ c.args.tick)
-          (λ e le. omega (arith, le, later)) wave (wave_late old state code digits c.args.first_position k had));
+          (λ e le. omega (arith, le, later)) wave (wave_late old state code digits c.args.first k had));
     }
 
 pub returns-then-width-gt64 : goal.returns-then-width-gt64
@@ -29,8 +29,8 @@ returns-then-width-gt64 c = λ state code tick k had.
     let old = c.args.self.now in
     let digits = c.args.digits.now in
     let v = c.index_mut.result.now in
-    wide_changes old (with_item old.kept c.args.first_position c.change_wave.new.self) state code digits
-    c.args.first_position c.index-width.result.now v c.change_wave.new.self c.change_wave.result k had
+    wide_changes old (with_item old.kept c.args.first c.change_wave.new.self) state code digits
+    c.args.first c.index-width.result.now v c.change_wave.new.self c.change_wave.result k had
     c.index_mut.ensures.value c.index-width.ensures c.if-width-gt64.true refl
     (subst (λ t. OnOk c.change_wave.result (HasValueFrom t digits v c.change_wave.new.self)) (sym tick)
     c.change_wave.ensures.values)
@@ -43,14 +43,14 @@ returns-in_err-word c = λ state code tick k had.
     let width = c.index-width.result.now in
     let failed = err_from_is_err_and c.from_residual.result c.from_residual.ensures.1 in
     subst (λ r. ChangeResult state code digits r old) (sym (failed.1 ∙ ap Err failed.2))
-    (inr (refused old state code digits c.args.first_position k had width c.in_err-word.field-0.0
-    (width_is old state code digits c.args.first_position k had width c.index-width.ensures) c.in_err-word.ensures))
+    (inr (refused old state code digits c.args.first k had width c.in_err-word.field-0.0
+    (width_is old state code digits c.args.first k had width c.index-width.ensures) c.in_err-word.ensures))
 
 pub returns : goal.returns
 returns c = λ state code tick k had.
     let e : LoggedChange =
-    record { tick = c.args.tick; position = c.args.first_position; word = c.in_ok-word.word } in
-    narrow_changes c.args.self.now c.append.new.groups state code c.args.digits.now c.args.first_position
+    record { tick = c.args.tick; position = c.args.first; word = c.in_ok-word.word } in
+    narrow_changes c.args.self.now c.append.new.groups state code c.args.digits.now c.args.first
     c.index-width.result.now e k had c.index-width.ensures
     (omega (arith, c.if-width-gt64.false)) (sym tick) refl c.in_ok-word.ensures c.in_ok-append.ensures.grouped
     c.in_ok-append.ensures.appended tt

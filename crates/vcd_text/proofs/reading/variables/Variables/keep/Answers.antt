@@ -12,7 +12,7 @@ returns-in-None c = grind (arith, push_declares)
 pub returns-else-not-has_width : goal.returns-else-not-has_width
 returns-else-not-has_width c = λ state scopes k value_changes keeps.
     let old = c.args.self.now in
-    let first = c.in-Some-Position.first_position in
+    let first = c.in-Some-Position.first in
     let e = c.push.ensures in
     let had = sym c.get.ensures ∙ c.in-Some-Position.is ∙ ap Some c.in-Some-Position.field-0-is in
     let test = ap (λ n. option_map_or (λ (v : Variable). v.signal.wave.width == n) (slice_get old.kept.items first)
