@@ -146,15 +146,20 @@ bit_command c word operands = two_words operands (λ a bit. do
   k ← number_of_word bit
   derive_by word (BitOf j k))
 
+-- `derive WORD RULE ..` of the last two rules
+abbrev pub later_rule_command : Contents → (word rule : List ℕ) → List (List ℕ) → Result Command LineError
+later_rule_command c word rule operands =
+    if bytes_eq rule (codes "xor") then pair_command c Xor word operands
+    else (if bytes_eq rule (codes "bit") then bit_command c word operands
+    else Err BadOption)
+
 -- `derive WORD RULE ..`
 abbrev pub rule_command : Contents → (word rule : List ℕ) → List (List ℕ) → Result Command LineError
 rule_command c word rule operands =
     if bytes_eq rule (codes "not") then not_command c word operands
     else (if bytes_eq rule (codes "and") then pair_command c And word operands
     else (if bytes_eq rule (codes "or") then pair_command c Or word operands
-    else (if bytes_eq rule (codes "xor") then pair_command c Xor word operands
-    else (if bytes_eq rule (codes "bit") then bit_command c word operands
-    else Err BadOption))))
+    else later_rule_command c word rule operands))
 
 -- `derive WORD RULE ..`, with at least a rule
 abbrev pub derive_command : Contents → List (List ℕ) → Result Command LineError

@@ -1,6 +1,7 @@
 -- What the parsers of the commands that decode signals read.
-use Rattle.std.specs.Prelude.{ℕ, List, Result, Ok}
+use Rattle.std.specs.Prelude.{ℕ, List, Option, Result, Ok}
 use Rattle.vcd_core.specs.Contents.{Contents}
+use Rattle.vcd_decode.specs.declared.spi_setup.BitOrder.{BitOrder}
 use Rattle.vcd_decode.specs.UartSetup.{uart_setup}
 use Rattle.vcd_decode.specs.SpiSetup.{spi_setup}
 use Rattle.vcdedit.specs.declared.script.command.Command.{Command}
@@ -24,6 +25,26 @@ uart_command c arguments = five_words arguments (λ name bit count parity stop. 
   setup ← faultless_uart (uart_setup ratio.0 ratio.1 data_bits parity_bit stop_bits)
   Ok (commands.Uart line setup))
 
+-- the command of `spi` for these signals and numbers, which are tested
+abbrev pub checked_spi_command : Contents → (ℕ × Option ℕ × Option ℕ × Option ℕ) → (ℕ × ℕ × BitOrder)
+    → Result Command LineError
+checked_spi_command c lines numbers = do
+  clock ← one_bit_signal c lines.0
+  out_line ← one_bit_signal_or_absent c lines.1
+  in_line ← one_bit_signal_or_absent c lines.2
+  select_line ← one_bit_signal_or_absent c lines.3
+  setup ← faultless_spi (spi_setup numbers.0 numbers.1 numbers.2)
+  Ok (commands.Spi clock out_line in_line select_line setup)
+
+-- `MODE BITS ORDER` after these signals
+abbrev pub spi_with_command : Contents → (ℕ × Option ℕ × Option ℕ × Option ℕ) → (mode bits order : List ℕ)
+    → Result Command LineError
+spi_with_command c lines mode bits order = do
+  number ← number_of_word mode
+  word_bits ← number_of_word bits
+  bit_order ← order_of_word order
+  checked_spi_command c lines (number, word_bits, bit_order)
+
 -- `spi CLK MOSI MISO CS MODE BITS ORDER`
 abbrev pub spi_command : Contents → List (List ℕ) → Result Command LineError
 spi_command c arguments = seven_words arguments (λ clk mosi miso cs mode bits order. do
@@ -31,15 +52,7 @@ spi_command c arguments = seven_words arguments (λ clk mosi miso cs mode bits o
   out ← signal_or_absent c mosi
   input ← signal_or_absent c miso
   select ← signal_or_absent c cs
-  number ← number_of_word mode
-  word_bits ← number_of_word bits
-  bit_order ← order_of_word order
-  clock ← one_bit_signal c k
-  out_line ← one_bit_signal_or_absent c out
-  in_line ← one_bit_signal_or_absent c input
-  select_line ← one_bit_signal_or_absent c select
-  setup ← faultless_spi (spi_setup number word_bits bit_order)
-  Ok (commands.Spi clock out_line in_line select_line setup))
+  spi_with_command c (k, out, input, select) mode bits order)
 
 -- `i2c SCL SDA`
 abbrev pub i2c_command : Contents → List (List ℕ) → Result Command LineError

@@ -1,6 +1,6 @@
 //! The words of a decoder's line, one by one.
 
-ghost use Rattle.std.specs.Prelude.{◌≡◌, ◌<◌, None, Some, IfSome, IfOk, length};
+ghost use Rattle.std.specs.Prelude.{◌≡◌, ◌<◌, Some, IfSome, IfOk, length};
 ghost use Rattle.vcd_core.specs.Contents.{contents};
 ghost use Rattle.vcd_decode.specs.UartSetup.{uart_setup};
 ghost use Rattle.vcd_decode.specs.SpiSetup.{spi_setup};
@@ -18,7 +18,7 @@ pub fn ratio_of_word(word: &[u8]) -> Result<(u64, u64), LineError>
 {
     match slash_place(word) {
         Some(place) => ratio_at(word, place),
-        None => whole_ratio(word),
+        None => Ok((number_of_word(word)?, 1)),
     }
 }
 
@@ -38,14 +38,6 @@ fn ratio_at(word: &[u8], place: usize) -> Result<(u64, u64), LineError>
     let numerator = number_of_word(&word[..place])?;
     let denominator = number_of_word(&word[place + 1..])?;
     Ok((numerator, denominator))
-}
-
-/// The ratio of a word without `/`.
-fn whole_ratio(word: &[u8]) -> Result<(u64, u64), LineError>
-    ensures { result ≡ spec.ratio_at word.now None }
-{
-    let numerator = number_of_word(word)?;
-    Ok((numerator, 1))
 }
 
 /// The parity bit that a word names.
@@ -111,18 +103,9 @@ pub fn one_bit_signal_or_absent(
     ensures { result ≡ spec.one_bit_signal_or_absent (contents capture.now) line }
 {
     match line {
-        Some(signal) => present_one_bit_signal(capture, signal),
+        Some(signal) => Ok(Some(one_bit_signal(capture, signal)?)),
         None => Ok(None),
     }
-}
-
-/// Checks that a line that is there has one bit.
-fn present_one_bit_signal(capture: &Capture, signal: usize) -> Result<Option<usize>, LineError>
-    requires { signal < length capture.now.signals }
-    ensures { result ≡ spec.one_bit_signal_or_absent (contents capture.now) (Some signal) }
-{
-    let signal = one_bit_signal(capture, signal)?;
-    Ok(Some(signal))
 }
 
 /// The setup of a UART line, or its first fault.

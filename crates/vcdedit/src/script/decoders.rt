@@ -1,8 +1,9 @@
 //! The lines that decode signals.
 
+ghost use Rattle.std.specs.Prelude.{◌<◌, length, IfSome};
 ghost use Rattle.vcd_core.specs.Contents.{contents};
 ghost use Rattle.vcd_text.specs.Grammar.{word_texts};
-ghost use Rattle.vcdedit.specs.inside.ParsedDecoders.{uart_command, spi_command, i2c_command};
+ghost use Rattle.vcdedit.specs.inside.ParsedDecoders.{uart_command, spi_command, spi_with_command, checked_spi_command, i2c_command};
 ghost use Rattle.vcdedit.specs.inside.Commands.{ReadsAs};
 
 use crate::script::decoder_words::{
@@ -14,13 +15,14 @@ use crate::script::line_words::{take_five, take_seven, take_two};
 use crate::script::numbers::number_of_word;
 use crate::script::{Command, Parsed};
 use vcd_core::Capture;
+use vcd_decode::BitOrder;
 use vcd_text::Words;
 
 /// Reads `NAME BIT DATA PARITY STOP`.
 pub fn parse_uart<'a>(words: &mut Words<'a>, capture: &Capture) -> Parsed<'a>
     ensures { ReadsAs (uart_command (contents capture.now) (word_texts words.old)) result }
 {
-    let (name, bit, data_bits, parity, stop_bits) = take_five(words)?;
+    let (name, (bit, data_bits, (parity, stop_bits))) = take_five(words)?;
     let signal = signal_of_name(capture, name)?;
     let ratio = ratio_of_word(bit)?;
     let data_bits = number_of_word(data_bits)?;
@@ -35,19 +37,45 @@ pub fn parse_uart<'a>(words: &mut Words<'a>, capture: &Capture) -> Parsed<'a>
 pub fn parse_spi<'a>(words: &mut Words<'a>, capture: &Capture) -> Parsed<'a>
     ensures { ReadsAs (spi_command (contents capture.now) (word_texts words.old)) result }
 {
-    let (clk, mosi, miso, cs, mode, bits, order) = take_seven(words)?;
+    let (clk, mosi, (miso, (cs, mode, (bits, order)))) = take_seven(words)?;
     let clk = signal_of_name(capture, clk)?;
     let mosi = signal_or_absent(capture, mosi)?;
     let miso = signal_or_absent(capture, miso)?;
     let cs = signal_or_absent(capture, cs)?;
-    let mode = number_of_word(mode)?;
-    let bits = number_of_word(bits)?;
-    let order = order_of_word(order)?;
-    let clk = one_bit_signal(capture, clk)?;
-    let mosi = one_bit_signal_or_absent(capture, mosi)?;
-    let miso = one_bit_signal_or_absent(capture, miso)?;
-    let cs = one_bit_signal_or_absent(capture, cs)?;
-    let setup = spi_of(mode, bits, order)?;
+    spi_with(capture, (clk, mosi, miso, cs), (mode, bits, order))
+}
+
+/// The signals of the clock and of the lines that are there.
+type SpiLines = (usize, Option<usize>, Option<usize>, Option<usize>);
+
+/// Reads `MODE BITS ORDER` after these lines.
+fn spi_with<'a>(capture: &Capture, lines: SpiLines, setup: (&[u8], &[u8], &[u8])) -> Parsed<'a>
+    requires clk { lines.0 < length capture.now.signals }
+    requires mosi { IfSome lines.1 (λ k. k < length capture.now.signals) }
+    requires miso { IfSome lines.2 (λ k. k < length capture.now.signals) }
+    requires cs { IfSome lines.3 (λ k. k < length capture.now.signals) }
+    ensures { ReadsAs (spi_with_command (contents capture.now) lines
+        setup.entry.0.now setup.entry.1.now setup.entry.2.now) result }
+{
+    let mode = number_of_word(setup.0)?;
+    let bits = number_of_word(setup.1)?;
+    let order = order_of_word(setup.2)?;
+    checked_spi(capture, lines, (mode, bits, order))
+}
+
+/// The command for these lines, which must have one bit, with a setup that must have no fault.
+fn checked_spi<'a>(capture: &Capture, lines: SpiLines, setup: (u64, u64, BitOrder)) -> Parsed<'a>
+    requires clk { lines.0 < length capture.now.signals }
+    requires mosi { IfSome lines.1 (λ k. k < length capture.now.signals) }
+    requires miso { IfSome lines.2 (λ k. k < length capture.now.signals) }
+    requires cs { IfSome lines.3 (λ k. k < length capture.now.signals) }
+    ensures { ReadsAs (checked_spi_command (contents capture.now) lines setup) result }
+{
+    let clk = one_bit_signal(capture, lines.0)?;
+    let mosi = one_bit_signal_or_absent(capture, lines.1)?;
+    let miso = one_bit_signal_or_absent(capture, lines.2)?;
+    let cs = one_bit_signal_or_absent(capture, lines.3)?;
+    let setup = spi_of(setup.0, setup.1, setup.2)?;
     Ok(Command::Spi {
         clk,
         mosi,

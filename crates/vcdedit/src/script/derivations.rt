@@ -3,7 +3,7 @@
 ghost use Rattle.std.specs.Prelude.{◌≡◌, ℕ, List, Err, IfOk, IfErr};
 ghost use Rattle.vcd_core.specs.Contents.{contents};
 ghost use Rattle.vcd_text.specs.Grammar.{word_texts};
-ghost use Rattle.vcdedit.specs.inside.ParsedCommands.{pair_command, rule_command, derive_command, derive_by};
+ghost use Rattle.vcdedit.specs.inside.ParsedCommands.{pair_command, rule_command, later_rule_command, derive_command, derive_by};
 ghost use Rattle.vcdedit.specs.inside.Commands.{ReadsAs, ReadsAsRule};
 
 use crate::script::edits::signal_of_name;
@@ -42,6 +42,18 @@ fn parse_rule(name: &[u8], words: &mut Words<'_>, capture: &Capture) -> Result<R
         let (a, b) = parse_pair(words, capture)?;
         return Ok(Rule::Or(a, b));
     }
+    parse_later_rule(name, words, capture)
+}
+
+/// Reads the operands after a rule that comes later than `or` in the table.
+fn parse_later_rule(
+    name: &[u8],
+    words: &mut Words<'_>,
+    capture: &Capture,
+) -> Result<Rule, LineError>
+    ensures { ReadsAsRule
+        (λ word. later_rule_command (contents capture.now) word name.now (word_texts words.old)) result }
+{
     if name == b"xor".as_slice() {
         let (a, b) = parse_pair(words, capture)?;
         return Ok(Rule::Xor(a, b));

@@ -54,56 +54,45 @@ pub fn take_two<'a>(words: &mut Words<'a>) -> Result<(&'a [u8], &'a [u8]), LineE
     Ok((first, second))
 }
 
-type FourWords<'a> = (&'a [u8], &'a [u8], &'a [u8], &'a [u8]);
+type FourWords<'a> = (&'a [u8], &'a [u8], (&'a [u8], &'a [u8]));
 
 /// The four words that are left.
 pub fn take_four<'a>(words: &mut Words<'a>) -> Result<FourWords<'a>, LineError>
     ensures four { IfOk result (λ all. word_texts words.old ≡
-        all.0.now ∷ all.1.now ∷ all.2.now ∷ all.3.now ∷ []) }
+        all.0.now ∷ all.1.now ∷ all.2.0.now ∷ all.2.1.now ∷ []) }
     ensures others { IfErr result (λ e.
         (parse : List ℕ → List ℕ → List ℕ → List ℕ → Result Command LineError) →
         four_words (word_texts words.old) parse ≡ Err e) }
 {
     let first = next_text(words).ok_or(LineError::WrongCount)?;
     let second = next_text(words).ok_or(LineError::WrongCount)?;
-    let (third, fourth) = take_two(words)?;
-    Ok((first, second, third, fourth))
+    Ok((first, second, take_two(words)?))
 }
 
-type FiveWords<'a> = (&'a [u8], &'a [u8], &'a [u8], &'a [u8], &'a [u8]);
+type FiveWords<'a> = (&'a [u8], FourWords<'a>);
 
 /// The five words that are left.
 pub fn take_five<'a>(words: &mut Words<'a>) -> Result<FiveWords<'a>, LineError>
-    ensures five { IfOk result (λ all. word_texts words.old ≡ all.0.now ∷ all.1.now
-        ∷ all.2.now ∷ all.3.now ∷ all.4.now ∷ []) }
+    ensures five { IfOk result (λ all. word_texts words.old ≡ all.0.now ∷ all.1.0.now
+        ∷ all.1.1.now ∷ all.1.2.0.now ∷ all.1.2.1.now ∷ []) }
     ensures others { IfErr result (λ e. (parse : List ℕ → List ℕ → List ℕ → List ℕ → List ℕ
         → Result Command LineError) → five_words (word_texts words.old) parse ≡ Err e) }
 {
     let first = next_text(words).ok_or(LineError::WrongCount)?;
-    let (second, third, fourth, fifth) = take_four(words)?;
-    Ok((first, second, third, fourth, fifth))
+    Ok((first, take_four(words)?))
 }
 
-type SevenWords<'a> = (
-    &'a [u8],
-    &'a [u8],
-    &'a [u8],
-    &'a [u8],
-    &'a [u8],
-    &'a [u8],
-    &'a [u8],
-);
+type SevenWords<'a> = (&'a [u8], &'a [u8], FiveWords<'a>);
 
 /// The seven words that are left.
 pub fn take_seven<'a>(words: &mut Words<'a>) -> Result<SevenWords<'a>, LineError>
     ensures seven { IfOk result (λ all. word_texts words.old ≡ all.0.now ∷ all.1.now
-        ∷ all.2.now ∷ all.3.now ∷ all.4.now ∷ all.5.now ∷ all.6.now ∷ []) }
+        ∷ all.2.0.now ∷ all.2.1.0.now ∷ all.2.1.1.now ∷ all.2.1.2.0.now ∷ all.2.1.2.1.now ∷ []) }
     ensures others { IfErr result (λ e. (parse : List ℕ → List ℕ → List ℕ → List ℕ → List ℕ
         → List ℕ → List ℕ → Result Command LineError)
         → seven_words (word_texts words.old) parse ≡ Err e) }
 {
     let first = next_text(words).ok_or(LineError::WrongCount)?;
     let second = next_text(words).ok_or(LineError::WrongCount)?;
-    let (third, fourth, fifth, sixth, seventh) = take_five(words)?;
-    Ok((first, second, third, fourth, fifth, sixth, seventh))
+    Ok((first, second, take_five(words)?))
 }

@@ -1,8 +1,8 @@
 //! The words of the command line, as `clap` reads them.
 
-ghost use Rattle.std.specs.Prelude.{◌≡◌, ◌≤◌, ℕ, false, codes, List, map, IfOk};
+ghost use Rattle.std.specs.Prelude.{◌≡◌, ◌≤◌, ℕ, false, codes, List, Some, map, IfOk};
 ghost use Rattle.std.specs.String.{string_bytes};
-ghost use Rattle.clap.specs.Words.{FailsBy, app_of, fault_of, found_of, kind_of, matches_of, one_text, rows_of, rule_of};
+ghost use Rattle.clap.specs.Words.{FailsBy, app_of, fault_of, found_of, kind_of, matches_of, new_rule, one_text, rows_of, rule_of};
 ghost use Rattle.vcdedit.specs.CommandLine.{asked_options, depth_asked, depth_option, input_option, option_app, options_in, output_option, script_option};
 
 use clap::builder::ValueParser;
@@ -149,39 +149,46 @@ fn command_line<'a>(alloc: Global) -> Result<Command<'a>, AllocError>
         .arg(depth_option(alloc))
 }
 
+const INPUT_HELP: &str = "The capture to read; without it, or as `-`, standard input";
+
 /// `-i FILE` or `--input-file FILE`.
 fn input_option<'a>(alloc: Global) -> Arg<'a>
     ensures rule { rule_of result ≡ input_option }
     ensures local { result.global ≡ false }
 {
-    Arg::new(alloc, "input-file")
-        .short('i')
-        .long("input-file")
-        .value_name("FILE")
-        .help("The capture to read; without it, or as `-`, standard input")
+    file_option(alloc, "input-file", INPUT_HELP).short('i')
 }
+
+const SCRIPT_HELP: &str = "The script to carry out; without it, the one line `list`";
 
 /// `--script FILE`.
 fn script_option<'a>(alloc: Global) -> Arg<'a>
     ensures rule { rule_of result ≡ script_option }
     ensures local { result.global ≡ false }
 {
-    Arg::new(alloc, "script")
-        .long("script")
-        .value_name("FILE")
-        .help("The script to carry out; without it, the one line `list`")
+    file_option(alloc, "script", SCRIPT_HELP)
 }
+
+const OUTPUT_HELP: &str =
+    "The VCD file to write when the script has run; without it none is written";
 
 /// `-o FILE` or `--output-file FILE`.
 fn output_option<'a>(alloc: Global) -> Arg<'a>
     ensures rule { rule_of result ≡ output_option }
     ensures local { result.global ≡ false }
 {
-    Arg::new(alloc, "output-file")
-        .short('o')
-        .long("output-file")
+    file_option(alloc, "output-file", OUTPUT_HELP).short('o')
+}
+
+/// An option that takes a path.
+fn file_option<'a>(alloc: Global, name: &'a str, help: &'a str) -> Arg<'a>
+    ensures rule { rule_of result ≡ record (new_rule name.now) { long = Some name.now; value_names = 1 } }
+    ensures local { result.global ≡ false }
+{
+    Arg::new(alloc, name)
+        .long(name)
         .value_name("FILE")
-        .help("The VCD file to write when the script has run; without it none is written")
+        .help(help)
 }
 
 /// `--depth N`, a number from 1 to the limit.
