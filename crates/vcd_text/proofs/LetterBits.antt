@@ -210,12 +210,25 @@ short_form_len_is count word marks mask least most fits is_mask marks_are =
     let kept : 65 - count_leading_zeros 64 m ≡ n + 1 = omega (arith, length.1.counted) in
     let masked : (i : ℕ) → bit_at m i ≡ min (bit_at marks i) (bit_at (2 ^ (count - 1) - 1) i) = λ i.
     bit_at_and marks mask i ∙ ap (λ w. min (bit_at marks i) (bit_at w i)) is_mask in
-    let both : 1 ≤ n → (bit_at marks (n - 1) ≡ 1) × (bit_at (2 ^ (count - 1) - 1) (n - 1) ≡ 1) =
-    grind (arith, bit_at-lt) in
+    let both : 1 ≤ n → (bit_at marks (n - 1) ≡ 1) × (bit_at (2 ^ (count - 1) - 1) (n - 1) ≡ 1) = λ some.
+    let one = length.1.top some in
+    let of_two = masked (n - 1) in
+    let small_mark = bit_at-lt marks (n - 1) in
+    let small_mask = bit_at-lt (2 ^ (count - 1) - 1) (n - 1) in
+    (omega (arith, one, of_two, small_mark, small_mask), omega (arith, one, of_two, small_mark, small_mask)) in
     record {
       least = omega (arith, kept);
-      most = grind (arith, cases_lt, bit_at_ones_above);
-      redundant = grind (arith, bit_at_ones, redundant_where_none);
+      most = elim (cases_lt n count) [
+        | inl below ↦ omega (arith, kept, below)
+        | inr beyond ↦ let none = bit_at_ones_above (count - 1) (n - 1) (omega arith) in
+            absurd (omega (arith, (both (omega arith)).1, none))
+      ];
+      redundant = λ i above within. redundant_where_none _ _ (marks_are i (omega arith)) (omega (
+        arith,
+        masked i,
+        length.1.above i (omega (arith, kept)),
+        bit_at_ones (count - 1) i (omega (arith, within)),
+      ));
       needed = λ some.
           let place : 65 - count_leading_zeros 64 m - 2 ≡ n - 1 = omega (arith, kept) in
           let one = (both (omega (arith, kept))).0 in
