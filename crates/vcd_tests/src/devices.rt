@@ -24,16 +24,34 @@ fn to_memory(bytes: Vec<u8>) -> ToWrite<Vec<u8>>
     ToWrite::new(bytes)
 }
 
+/// Stops unless a read gives these bytes, at most four.
+fn check_read(rt: &impl Abort, source: &mut impl Source, bytes: &[u8]) {
+    let mut buffer = [b'.'; 4];
+    assert!(rt; source.read(&mut buffer) == Ok(bytes.len()));
+    assert!(rt; buffer.get(..bytes.len()) == Some(bytes));
+}
+
+/// Stops unless a read into a buffer of one byte says that the source has ended well.
+fn check_end_in_one_byte(rt: &impl Abort, source: &mut impl Source) {
+    let mut buffer = [b'.'; 1];
+    assert!(rt; source.read(&mut buffer) == Ok(0));
+    assert!(rt; !source.failed());
+}
+
+/// Stops unless a read fails.
+fn check_failed_read(rt: &impl Abort, source: &mut impl Source) {
+    let mut buffer = [b'.'; 4];
+    assert!(rt; source.read(&mut buffer) == Err(DeviceFault));
+    assert!(rt; source.failed());
+}
+
 #[test]
 fn memory_gives_its_bytes_and_ends(rt: HostRuntime) {
     let mut source = from_memory(b"#10 1!");
-    let mut buffer = [b'.'; 4];
-    assert!(rt; source.read(&mut buffer) == Ok(4));
-    assert!(rt; buffer.as_slice() == b"#10 ".as_slice());
+    check_read(&rt, &mut source, b"#10 ");
     assert!(rt; source.read(&mut []) == Ok(0));
-    assert!(rt; source.read(&mut buffer) == Ok(2));
-    assert!(rt; buffer.as_slice() == b"1!0 ".as_slice());
-    assert!(rt; source.read(&mut buffer) == Ok(0));
+    check_read(&rt, &mut source, b"1!");
+    check_read(&rt, &mut source, b"");
     assert!(rt; !source.failed());
 }
 
@@ -41,53 +59,54 @@ fn memory_gives_its_bytes_and_ends(rt: HostRuntime) {
 #[test]
 fn the_end_where_one_byte_has_room(rt: HostRuntime) {
     let mut source = source_of(FakeReader::new(b"1", 4));
-    let mut buffer = [b'.'; 1];
-    assert!(rt; source.read(&mut buffer) == Ok(1));
-    for _ in 0..3 {
-        assert!(rt; source.read(&mut buffer) == Ok(0));
-        assert!(rt; !source.failed());
-    }
-}
-
-#[test]
-fn memory_keeps_what_it_takes(rt: HostRuntime) {
-    let mut sink = to_memory(Vec::new(rt.alloc()));
-    assert!(rt; sink.write(b"#10") == Ok(3));
-    assert!(rt; sink.write(b"") == Ok(0));
-    assert!(rt; sink.write(b"\n") == Ok(1));
-    assert!(rt; sink.flush() == Ok(()));
-    assert!(rt; !sink.failed());
-    assert!(rt; sink.into_inner().as_slice() == b"#10\n".as_slice());
-}
-
-/// Stops unless a source that has failed fails at each further read.
-fn check_stays_failed(rt: &impl Abort, source: &mut FromRead<FakeReader>) {
-    let mut buffer = [b'.'; 4];
-    for _ in 0..3 {
-        assert!(rt; source.read(&mut buffer) == Err(DeviceFault));
-        assert!(rt; source.failed());
-    }
+    check_read(&rt, &mut source, b"1");
+    check_end_in_one_byte(&rt, &mut source);
+    check_end_in_one_byte(&rt, &mut source);
 }
 
 #[test]
 fn an_interrupted_read_is_the_end(rt: HostRuntime) {
     let mut reader = FakeReader::new(b"#10 1!", 1);
-    reader.fault_at = 3;
+    reader.fault_at = 2;
     let mut source = source_of(reader);
-    let mut buffer = [b'.'; 4];
-    for byte in *b"#10" {
-        assert!(rt; source.read(&mut buffer) == Ok(1));
-        assert!(rt; buffer[0] == byte);
-    }
-    assert!(rt; !source.failed());
-    check_stays_failed(&rt, &mut source);
+    check_read(&rt, &mut source, b"#");
+    check_read(&rt, &mut source, b"1");
+    check_failed_read(&rt, &mut source);
+    check_failed_read(&rt, &mut source);
     let reader = source.into_inner();
-    assert!(rt; reader.rest == b" 1!".as_slice());
-    assert!(rt; reader.calls == 4, "no read after the failure");
+    assert!(rt; reader.rest == b"0 1!".as_slice());
+    assert!(rt; reader.calls == 3, "no read after the failure");
 }
 
-/// A writer that takes so many bytes a call, one of its calls being interrupted.
-fn interrupted(alloc: Global, piece: usize, fault_at: usize) -> ToWrite<FakeWriter> {
+/// Stops unless a write takes so many bytes, or fails.
+fn check_write(
+    rt: &impl Abort,
+    sink: &mut impl Sink,
+    bytes: &[u8],
+    wanted: Result<usize, DeviceFault>,
+) {
+    assert!(rt; sink.write(bytes) == wanted);
+    assert!(rt; sink.failed() == wanted.is_err());
+}
+
+/// Stops unless a flush fails.
+fn check_failed_flush(rt: &impl Abort, sink: &mut impl Sink) {
+    assert!(rt; sink.flush() == Err(DeviceFault));
+    assert!(rt; sink.failed());
+}
+
+#[test]
+fn memory_keeps_what_it_takes(rt: HostRuntime) {
+    let mut sink = to_memory(Vec::new(rt.alloc()));
+    check_write(&rt, &mut sink, b"#10", Ok(3));
+    check_write(&rt, &mut sink, b"", Ok(0));
+    check_write(&rt, &mut sink, b"\n", Ok(1));
+    assert!(rt; sink.flush() == Ok(()));
+    assert!(rt; sink.into_inner().as_slice() == b"#10\n".as_slice());
+}
+
+/// A sink into a writer that takes so many bytes a call, one of its calls being interrupted.
+fn sink_with_interruption(alloc: Global, piece: usize, fault_at: usize) -> ToWrite<FakeWriter> {
     let mut writer = FakeWriter::new(alloc, piece);
     writer.fault_at = fault_at;
     ToWrite::new(writer)
@@ -95,45 +114,39 @@ fn interrupted(alloc: Global, piece: usize, fault_at: usize) -> ToWrite<FakeWrit
 
 #[test]
 fn an_interrupted_write_is_the_end(rt: HostRuntime) {
-    let mut sink = interrupted(rt.alloc(), 2, 2);
-    assert!(rt; sink.write(b"#10 1!") == Ok(2));
-    assert!(rt; sink.write(b"0 1!") == Ok(2));
-    assert!(rt; sink.write(b"1!") == Err(DeviceFault));
-    assert!(rt; sink.write(b"1!") == Err(DeviceFault));
-    assert!(rt; sink.flush() == Err(DeviceFault));
-    assert!(rt; sink.failed());
+    let mut sink = sink_with_interruption(rt.alloc(), 2, 1);
+    check_write(&rt, &mut sink, b"#10 1!", Ok(2));
+    check_write(&rt, &mut sink, b"0 1!", Err(DeviceFault));
+    check_write(&rt, &mut sink, b"1!", Err(DeviceFault));
+    check_failed_flush(&rt, &mut sink);
     let writer = sink.into_inner();
-    assert!(rt; writer.held.len() == 4);
-    assert!(rt; writer.calls == 3, "no write after the failure");
+    assert!(rt; writer.held.len() == 2);
+    assert!(rt; writer.calls == 2, "no write after the failure");
 }
 
 #[test]
 fn a_write_that_takes_no_byte_is_a_failure(rt: HostRuntime) {
-    let mut sink = interrupted(rt.alloc(), 0, NEVER);
-    assert!(rt; sink.write(b"") == Ok(0));
-    assert!(rt; !sink.failed());
-    assert!(rt; sink.write(b"1!") == Err(DeviceFault));
-    assert!(rt; sink.write(b"") == Err(DeviceFault));
-    assert!(rt; sink.failed());
+    let mut sink = sink_with_interruption(rt.alloc(), 0, NEVER);
+    check_write(&rt, &mut sink, b"", Ok(0));
+    check_write(&rt, &mut sink, b"1!", Err(DeviceFault));
+    check_write(&rt, &mut sink, b"", Err(DeviceFault));
 }
 
 #[test]
 fn an_interrupted_flush_is_a_failure(rt: HostRuntime) {
-    let mut sink = interrupted(rt.alloc(), 2, 1);
-    assert!(rt; sink.write(b"1!") == Ok(2));
-    assert!(rt; sink.flush() == Err(DeviceFault));
-    assert!(rt; sink.flush() == Err(DeviceFault));
-    assert!(rt;
-        sink.into_inner().flushes == 1,
-        "no flush after the failure"
-    );
+    let mut sink = sink_with_interruption(rt.alloc(), 2, 1);
+    check_write(&rt, &mut sink, b"1!", Ok(2));
+    check_failed_flush(&rt, &mut sink);
+    check_failed_flush(&rt, &mut sink);
+    let writer = sink.into_inner();
+    assert!(rt; writer.flushes == 1, "no flush after the failure");
 }
 
 /// Nine bytes, read three at a time.
 const BYTES: &[u8] = b"#10 1! 0\"";
 
 /// Stops unless a reader's bytes, at most `limit`, end so and are these.
-fn check_whole(
+fn check_read_whole(
     rt: &impl Abort,
     alloc: Global,
     reader: FakeReader,
@@ -150,20 +163,20 @@ fn check_whole(
 
 #[test]
 fn all_bytes_are_read(rt: HostRuntime) {
-    check_whole(&rt, rt.alloc(), FakeReader::new(BYTES, 3), 9, Ok(()), 9);
+    check_read_whole(&rt, rt.alloc(), FakeReader::new(BYTES, 3), 9, Ok(()), 9);
 }
 
 #[test]
 fn more_bytes_than_the_limit(rt: HostRuntime) {
     let reader = FakeReader::new(BYTES, 3);
-    check_whole(&rt, rt.alloc(), reader, 8, Err(Incomplete::TooLarge), 8);
+    check_read_whole(&rt, rt.alloc(), reader, 8, Err(Incomplete::TooLarge), 8);
 }
 
 #[test]
 fn a_reader_that_fails_gives_what_came_before(rt: HostRuntime) {
     let mut reader = FakeReader::new(BYTES, 3);
     reader.fault_at = 2;
-    check_whole(&rt, rt.alloc(), reader, 9, Err(Incomplete::ReadFault), 6);
+    check_read_whole(&rt, rt.alloc(), reader, 9, Err(Incomplete::ReadFault), 6);
 }
 
 const TEXT: &[u8] = b"#0\n$dumpvars\n0!\n$end\n";
@@ -194,13 +207,13 @@ fn a_byte_at_a_time(rt: HostRuntime) {
 /// The writer takes three bytes a call and has room for ten: the count is what was taken.
 #[test]
 fn fails_after_ten_bytes(rt: HostRuntime) {
-    let writer = FakeWriter::narrow(rt.alloc(), 3, 10, false);
+    let writer = FakeWriter::with_room(rt.alloc(), 3, 10, false);
     check_written(&rt, writer, Some(10), 10, 0);
 }
 
 #[test]
 fn fails_in_the_flush(rt: HostRuntime) {
-    let writer = FakeWriter::narrow(rt.alloc(), 3, 100, true);
+    let writer = FakeWriter::with_room(rt.alloc(), 3, 100, true);
     check_written(&rt, writer, Some(21), 21, 1);
 }
 
@@ -211,7 +224,7 @@ fn takes_no_byte(rt: HostRuntime) {
 
 #[test]
 fn no_bytes_are_written_and_flushed(rt: HostRuntime) {
-    let mut sink = sink_of(FakeWriter::narrow(rt.alloc(), 1, 0, false));
+    let mut sink = sink_of(FakeWriter::with_room(rt.alloc(), 1, 0, false));
     assert!(rt; write_all(&mut sink, b"") == Ok(()));
     assert!(rt; write_and_flush(&mut sink, b"") == Ok(()));
     assert!(rt; sink.into_inner().flushes == 1);

@@ -1,6 +1,6 @@
 //! Edges of one to four waves.
 
-use crate::fixtures::wave_of;
+use crate::fixtures::{check_holds, wave_of};
 use std::process::Abort;
 use std::test::Fail;
 use vcd_core::{Edge, Edges, Value};
@@ -27,16 +27,18 @@ fn letters(values: [Option<Value>; 4]) -> [u8; 4] {
     letters
 }
 
+fn has_letters(values: [Option<Value>; 4], text: &str) -> bool {
+    letters(values).as_slice() == text.as_bytes()
+}
+
 /// Stops unless an edge is the one of its row.
 fn check_edge(rt: &impl Abort, edge: Edge, row: &str) -> Result<(), Fail> {
     let (tick, values) = row.split_once(' ').ok_or("no tick")?;
     let (before, at) = values.split_once(' ').ok_or("no values")?;
-    assert!(rt; edge.tick == tick.parse::<u64>()?);
-    assert!(rt;
-        letters(edge.before).as_slice() == before.as_bytes(),
-        "{row}"
-    );
-    assert!(rt; letters(edge.at).as_slice() == at.as_bytes(), "{row}");
+    let tick = tick.parse::<u64>()?;
+    check_holds(rt, edge.tick == tick, row);
+    check_holds(rt, has_letters(edge.before, before), row);
+    check_holds(rt, has_letters(edge.at, at), row);
     Ok(())
 }
 

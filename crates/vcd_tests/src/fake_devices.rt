@@ -86,17 +86,11 @@ impl FakeWriter {
     }
 
     /// A writer that fails after `room` bytes, and perhaps in its flush.
-    pub fn narrow(alloc: Global, piece: usize, room: usize, flush_fails: bool) -> FakeWriter {
-        FakeWriter {
-            held: Vec::new(alloc),
-            piece,
-            room,
-            fault_at: NEVER,
-            flush_fails,
-            calls: 0,
-            flushes: 0,
-            flushed: 0,
-        }
+    pub fn with_room(alloc: Global, piece: usize, room: usize, flush_fails: bool) -> FakeWriter {
+        let mut writer = FakeWriter::new(alloc, piece);
+        writer.room = room;
+        writer.flush_fails = flush_fails;
+        writer
     }
 
     fn is_interrupted(&mut self) -> bool {

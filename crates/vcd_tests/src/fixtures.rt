@@ -5,12 +5,18 @@ ghost use Rattle.vcd_core.specs.Contents.{contents};
 ghost use Rattle.vcd_core.specs.Sound.{IsSound};
 
 use std::alloc::Global;
+use std::process::Abort;
 use std::test::Fail;
-use vcd_core::{Bit, Change, FromRead, NoMemory, Value, Wave};
-use vcd_text::{Loaded, ReadError, read};
+use vcd_core::{Bit, Capture, Change, FromRead, NoMemory, ToWrite, Value, Wave};
+use vcd_text::{Loaded, ReadError, read, write};
+
+/// Stops with the text of a row, unless the row holds.
+pub fn check_holds(rt: &impl Abort, holds: bool, row: &str) {
+    assert!(rt; holds, "{row}");
+}
 
 /// The bit that a letter means.
-pub fn bit_of_letter(letter: &str) -> Bit {
+fn bit_of_letter(letter: &str) -> Bit {
     match letter {
         "0" => Bit::Zero,
         "1" => Bit::One,
@@ -38,7 +44,7 @@ pub fn changes_in_text(alloc: Global, text: &str) -> Result<Vec<Change>, Fail> {
 }
 
 /// A wave of one bit after a push for each change. A tick below the one before is skipped.
-pub fn pushed(alloc: Global, changes: &[Change]) -> Result<Wave, NoMemory> {
+pub fn wave_after_pushes(alloc: Global, changes: &[Change]) -> Result<Wave, NoMemory> {
     let mut wave = Wave::new(alloc, 1);
     let mut last = 0u64;
     for change in changes {
@@ -53,7 +59,7 @@ pub fn pushed(alloc: Global, changes: &[Change]) -> Result<Wave, NoMemory> {
 /// A wave of one bit, as `0@0 1@5`.
 pub fn wave_of(alloc: Global, text: &str) -> Result<Wave, Fail> {
     let changes = changes_in_text(alloc, text)?;
-    Ok(pushed(alloc, changes.as_slice())?)
+    Ok(wave_after_pushes(alloc, changes.as_slice())?)
 }
 
 /// The bytes of a file in a row, with `|` for a line feed.
@@ -74,9 +80,74 @@ pub fn append_copies(file: &mut Vec<u8>, text: &[u8], count: usize) -> Result<()
 }
 
 /// The result of reading a file in memory.
-pub fn loaded(alloc: Global, file: &[u8]) -> Result<Loaded, ReadError>
+pub fn load_file(alloc: Global, file: &[u8]) -> Result<Loaded, ReadError>
     ensures { IfOk result (λ loaded. IsSound (contents loaded.capture)) }
 {
     let mut source = FromRead::new(file);
     read(alloc, &mut source)
+}
+
+/// The text of a capture, which shows all that it holds.
+pub fn text_of(alloc: Global, capture: &Capture) -> Result<Vec<u8>, Fail>
+    requires { IsSound (contents capture.now) }
+{
+    let mut sink = ToWrite::new(Vec::new(alloc));
+    write(alloc, capture, &mut sink)?;
+    Ok(sink.into_inner())
+}
+
+/// The code of the first signal. That of the next is one more.
+const FIRST_CODE: u8 = b'!';
+
+/// Appends a value of one bit for each signal.
+fn append_values(text: &mut Vec<u8>, signals: u8, letter: u8) -> Result<(), Fail> {
+    for k in 0..signals {
+        text.push(letter)?;
+        text.push(FIRST_CODE.saturating_add(k))?;
+        text.push(b'\n')?;
+    }
+    Ok(())
+}
+
+/// Appends a stamp and a new value of each signal: 0 at even ticks, 1 at odd ones.
+fn append_tick(alloc: Global, text: &mut Vec<u8>, tick: u64, signals: u8) -> Result<(), Fail> {
+    let stamp = format!(in alloc; "#{tick}\n")?;
+    text.extend_from_slice(stamp.as_bytes())?;
+    let letter = if tick % 2 == 0 { b'0' } else { b'1' };
+    append_values(text, signals, letter)
+}
+
+/// Appends the declarations of so many signals, fewer than there are codes of one byte.
+fn append_declarations(text: &mut Vec<u8>, signals: u8) -> Result<(), Fail> {
+    for k in 0..signals {
+        text.extend_from_slice(b"$var wire 1 ")?;
+        text.push(FIRST_CODE.saturating_add(k))?;
+        text.extend_from_slice(b" a $end\n")?;
+    }
+    Ok(())
+}
+
+/// Appends the value 0 of each signal at tick 0, after the declarations.
+fn append_first_values(text: &mut Vec<u8>, signals: u8) -> Result<(), Fail> {
+    text.extend_from_slice(b"$enddefinitions $end\n#0\n$dumpvars\n")?;
+    append_values(text, signals, b'0')?;
+    text.extend_from_slice(b"$end\n")?;
+    Ok(())
+}
+
+/// The text of a capture whose signals all change at each tick up to an even one, and at the odd tick `last`.
+pub fn alternating_text(
+    alloc: Global,
+    signals: u8,
+    ticks: u64,
+    last: u64,
+) -> Result<Vec<u8>, Fail> {
+    let mut text = Vec::new(alloc);
+    append_declarations(&mut text, signals)?;
+    append_first_values(&mut text, signals)?;
+    for tick in 1..=ticks {
+        append_tick(alloc, &mut text, tick, signals)?;
+    }
+    append_tick(alloc, &mut text, last, signals)?;
+    Ok(text)
 }

@@ -1,13 +1,12 @@
-//! Tests of the library crates by their public calls: worked values from outside, devices that give little or fail, and
-//! hostile files. Each call that takes memory is made once with enough memory.
+//! Tests of the library crates by their public calls: worked values from outside, and devices that give little or fail.
+//! They are made with enough memory.
 //!
-//! What a clause says is proved and not tested. A table is one text, and each of its lines is a row.
+//! What a clause says is proved and not tested. What a run of the program shows is a case in `cases/`, as edits, histories
+//! and decoders are, or a row of `fuzz/large`. A table is one text, and each of its lines is a row.
 #![tactic(auto)]
 
 #[cfg(test)]
 mod captures;
-#[cfg(test)]
-mod decoding;
 #[cfg(test)]
 mod devices;
 #[cfg(test)]
@@ -24,8 +23,6 @@ mod messages;
 mod names;
 #[cfg(test)]
 mod reading;
-#[cfg(test)]
-mod sessions;
 #[cfg(test)]
 mod splices;
 #[cfg(test)]

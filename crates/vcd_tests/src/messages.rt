@@ -9,18 +9,25 @@ use vcd_edit::EditError;
 use vcd_journal::StepError;
 use vcd_text::{Fault, ReadError, WriteError};
 
-/// Appends the message of a fault, which must be its name, and a blank.
-fn push_message(
+/// Appends the message of a fault, and a blank.
+fn append_message(alloc: Global, messages: &mut String, fault: &impl Display) -> Result<(), Fail> {
+    let message = format!(in alloc; "{fault} ")?;
+    messages.push_str(message.as_str())?;
+    Ok(())
+}
+
+/// Stops unless these are the messages of the faults.
+fn check_messages<T: Display>(
     rt: &impl Abort,
     alloc: Global,
-    messages: &mut String,
-    fault: &impl Display,
-    name: &str,
+    faults: &[T],
+    names: &str,
 ) -> Result<(), Fail> {
-    let message = format!(in alloc; "{fault}")?;
-    assert!(rt; message.as_str() == name);
-    messages.push_str(message.as_str())?;
-    messages.push(' ')?;
+    let mut messages = String::new(alloc);
+    for fault in faults {
+        append_message(alloc, &mut messages, fault)?;
+    }
+    assert!(rt; messages.as_str() == names);
     Ok(())
 }
 
@@ -49,26 +56,26 @@ TimeBackwards BadChange UnknownCode ValueTooLong TooManySignals TooLarge ReadFau
 
 #[test]
 fn of_files_that_are_refused(rt: HostRuntime) -> Result<(), Fail> {
-    let mut messages = String::new(rt.alloc());
-    let mut at_lines = String::new(rt.alloc());
-    for fault in FAULTS {
-        push_message(&rt, rt.alloc(), &mut messages, &fault, fault.name())?;
-        let error = ReadError { line: 4, fault };
-        push_message(&rt, rt.alloc(), &mut at_lines, &error, error.name())?;
-    }
-    assert!(rt; messages.as_str() == NAMES_OF_FAULTS);
-    assert!(rt; at_lines.as_str() == NAMES_OF_FAULTS);
+    check_messages(&rt, rt.alloc(), &FAULTS, NAMES_OF_FAULTS)
+}
+
+/// Stops unless a fault at a line has the message of the fault.
+fn check_message_at_line(rt: &impl Abort, alloc: Global, fault: Fault) -> Result<(), Fail> {
+    let error = ReadError { line: 4, fault };
+    let message = format!(in alloc; "{error}")?;
+    assert!(rt; message.as_str() == fault.name());
     Ok(())
 }
 
 #[test]
+fn of_files_that_are_refused_at_a_line(rt: HostRuntime) -> Result<(), Fail> {
+    check_message_at_line(&rt, rt.alloc(), Fault::TimeBackwards)
+}
+
+#[test]
 fn of_captures_that_are_not_written(rt: HostRuntime) -> Result<(), Fail> {
-    let mut messages = String::new(rt.alloc());
-    for error in [WriteError::NoMemory, WriteError::WriteFault { written: 9 }] {
-        push_message(&rt, rt.alloc(), &mut messages, &error, error.name())?;
-    }
-    assert!(rt; messages.as_str() == "NoMemory WriteFault ");
-    Ok(())
+    let errors = [WriteError::NoMemory, WriteError::WriteFault { written: 9 }];
+    check_messages(&rt, rt.alloc(), &errors, "NoMemory WriteFault ")
 }
 
 const EDIT_ERRORS: [EditError; 10] = [
@@ -86,14 +93,9 @@ const EDIT_ERRORS: [EditError; 10] = [
 
 #[test]
 fn of_refused_edits(rt: HostRuntime) -> Result<(), Fail> {
-    let mut messages = String::new(rt.alloc());
-    for error in EDIT_ERRORS {
-        push_message(&rt, rt.alloc(), &mut messages, &error, error.name())?;
-    }
     let names = "NoSuchSignal NotScalar BadBit BadRange BadCount BadValue BadWord NameTaken \
 TooManySignals NoMemory ";
-    assert!(rt; messages.as_str() == names);
-    Ok(())
+    check_messages(&rt, rt.alloc(), &EDIT_ERRORS, names)
 }
 
 const STEP_ERRORS: [StepError; 7] = [
@@ -108,13 +110,8 @@ const STEP_ERRORS: [StepError; 7] = [
 
 #[test]
 fn of_refused_steps(rt: HostRuntime) -> Result<(), Fail> {
-    let mut messages = String::new(rt.alloc());
-    for error in STEP_ERRORS {
-        push_message(&rt, rt.alloc(), &mut messages, &error, error.name())?;
-    }
     let names = "NameTaken NoMemory NothingToUndo NothingToRedo BadDepth DepthTooSmall NoMemory ";
-    assert!(rt; messages.as_str() == names);
-    Ok(())
+    check_messages(&rt, rt.alloc(), &STEP_ERRORS, names)
 }
 
 const SETUP_ERRORS: [SetupError; 6] = [
@@ -128,11 +125,6 @@ const SETUP_ERRORS: [SetupError; 6] = [
 
 #[test]
 fn of_refused_setups(rt: HostRuntime) -> Result<(), Fail> {
-    let mut messages = String::new(rt.alloc());
-    for error in SETUP_ERRORS {
-        push_message(&rt, rt.alloc(), &mut messages, &error, error.name())?;
-    }
     let names = "BadRatio BitTooShort BadData BadStop BadMode BadBits ";
-    assert!(rt; messages.as_str() == names);
-    Ok(())
+    check_messages(&rt, rt.alloc(), &SETUP_ERRORS, names)
 }

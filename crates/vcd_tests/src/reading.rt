@@ -1,18 +1,17 @@
-//! Files that are read: their meaning and faults, files that end too early, and hostile ones.
+//! Files that are read: their meaning and faults, in pieces of any size, and readers that fail.
 
 mod broken_off;
 mod chunks;
+mod codes;
 mod faults;
-mod hostile;
-mod limits;
 mod worked;
 
 use crate::fake_devices::{FakeReader, source_of};
+use crate::fixtures::{check_holds, text_of};
 use std::alloc::Global;
 use std::process::Abort;
 use std::test::Fail;
-use vcd_core::ToWrite;
-use vcd_text::{read, write};
+use vcd_text::read;
 
 /// How many bytes a reader gives at a time.
 const PIECES: [usize; 5] = [1, 7, 4095, 4096, 4097];
@@ -36,7 +35,7 @@ fn check_answer_to(
     let (line, name) = answer.split_once(' ').ok_or("no line")?;
     let line = line.parse::<u64>()?;
     let (found, fault) = answer_to(alloc, reader);
-    assert!(rt; found == line && fault == name, "{answer}");
+    check_holds(rt, found == line && fault == name, answer);
     Ok(())
 }
 
@@ -57,12 +56,10 @@ fn check_answer(
 }
 
 /// How many variables of a file are skipped, and the text of its capture.
-fn rewritten(alloc: Global, reader: FakeReader) -> Result<(u64, Vec<u8>), Fail> {
+fn skipped_and_text(alloc: Global, reader: FakeReader) -> Result<(u64, Vec<u8>), Fail> {
     let mut source = source_of(reader);
     let loaded = read(alloc, &mut source)?;
-    let mut sink = ToWrite::new(Vec::new(alloc));
-    write(alloc, &loaded.capture, &mut sink)?;
-    Ok((loaded.skipped, sink.into_inner()))
+    Ok((loaded.skipped, text_of(alloc, &loaded.capture)?))
 }
 
 /// Stops unless a file that is read in such pieces, and written, is `text`, and so many variables are skipped.
@@ -74,7 +71,7 @@ fn check_rewritten(
     skipped: u64,
     text: &[u8],
 ) -> Result<(), Fail> {
-    let (left_out, written) = rewritten(alloc, FakeReader::new(file, piece))?;
+    let (left_out, written) = skipped_and_text(alloc, FakeReader::new(file, piece))?;
     assert!(rt; left_out == skipped);
     assert!(rt; written.as_slice() == text);
     Ok(())

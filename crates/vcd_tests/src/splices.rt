@@ -47,7 +47,7 @@ fn is_wave(width: u64, changes: &[Change]) -> bool
 }
 
 /// The change `by` ticks later.
-fn later(change: Change, by: i64) -> Change
+fn change_later(change: Change, by: i64) -> Change
     requires { TickFits by change }
     ensures { result ≡ moved_change by change }
 {
@@ -64,7 +64,7 @@ fn append_later(list: &mut Vec<Change>, tail: &[Change], by: i64) -> Result<(), 
     ensures { OnOk result (list.new.items ≡ list.old.items ++ map (moved_change by) tail.now) }
 {
     for change in tail {
-        let next = later(*change, by);
+        let next = change_later(*change, by);
         list.push(next)?;
     }
     Ok(())
@@ -149,16 +149,36 @@ const SPLICES: &str = "\
 0 5 0: z@6: z@6
 4 4 9223372036854775795: x@10: 1@3 0@5 1@7 0@9 x@10 z@9223372036854775806";
 
-fn place_of(alloc: Global, text: &str) -> Result<Place, Fail> {
-    let words: Vec<&str> = text.split(' ').collect(alloc)?;
-    match words.as_slice() {
-        [from, to, by] => Ok(Place {
-            from: from.parse::<usize>()?,
-            to: to.parse::<usize>()?,
-            by: by.parse::<i64>()?,
-        }),
-        _ => Err(Fail::from("not three numbers")),
-    }
+/// The place that three numbers name.
+fn place_of(text: &str) -> Result<Place, Fail> {
+    let (from, rest) = text.split_once(' ').ok_or("no range")?;
+    let (to, by) = rest.split_once(' ').ok_or("no offset")?;
+    Ok(Place {
+        from: from.parse::<usize>()?,
+        to: to.parse::<usize>()?,
+        by: by.parse::<i64>()?,
+    })
+}
+
+/// Stops unless the opposite of a splice undoes it: the wave of the rows and the piece are as they were.
+fn check_opposite(
+    rt: &impl Abort,
+    alloc: Global,
+    wave: &mut Wave,
+    place: Place,
+    held: &mut Vec<Change>,
+    piece: &[Change],
+) -> Result<(), Fail> {
+    let opposite = Place {
+        from: place.from,
+        to: place.from.saturating_add(piece.len()),
+        by: place.by.wrapping_neg(),
+    };
+    splice(rt, alloc, wave, opposite, held)?;
+    let before = wave_of(alloc, WAVE)?;
+    assert!(rt; wave.changes() == before.changes(), "as it was");
+    assert!(rt; held.as_slice() == piece, "the piece comes back");
+    Ok(())
 }
 
 /// Stops unless a splice gives this wave, and its opposite undoes it.
@@ -169,31 +189,17 @@ fn check_splice(
     piece: &[Change],
     after: &[Change],
 ) -> Result<(), Fail> {
-    let Place { from, to, by } = place;
     let mut wave = wave_of(alloc, WAVE)?;
-    let before = wave.changes().to_vec(alloc)?;
     let mut held = piece.to_vec(alloc)?;
     splice(rt, alloc, &mut wave, place, &mut held)?;
     assert!(rt; wave.changes() == after);
-    assert!(rt;
-        before.get(from..to) == Some(held.as_slice()),
-        "what went out"
-    );
-    let back = Place {
-        from,
-        to: from.saturating_add(piece.len()),
-        by: by.wrapping_neg(),
-    };
-    splice(rt, alloc, &mut wave, back, &mut held)?;
-    assert!(rt; wave.changes() == before.as_slice(), "as it was");
-    assert!(rt; held.as_slice() == piece, "the piece comes back");
-    Ok(())
+    check_opposite(rt, alloc, &mut wave, place, &mut held, piece)
 }
 
 fn check_row(rt: &impl Abort, alloc: Global, row: &str) -> Result<(), Fail> {
     let (place, lists) = row.split_once(':').ok_or("no place")?;
     let (piece, after) = lists.split_once(':').ok_or("no piece")?;
-    let place = place_of(alloc, place)?;
+    let place = place_of(place)?;
     let piece = changes_in_text(alloc, piece)?;
     let after = changes_in_text(alloc, after)?;
     check_splice(rt, alloc, place, piece.as_slice(), after.as_slice())

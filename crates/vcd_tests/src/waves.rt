@@ -1,6 +1,6 @@
 //! Waves: the results of pushes, and what they show.
 
-use crate::fixtures::{changes_in_text, pushed, wave_of};
+use crate::fixtures::{changes_in_text, check_holds, wave_after_pushes, wave_of};
 use std::alloc::Global;
 use std::process::Abort;
 use std::test::Fail;
@@ -24,8 +24,8 @@ fn check_pushes(rt: &impl Abort, alloc: Global, row: &str) -> Result<(), Fail> {
     let (pushes, after) = row.split_once("=>").ok_or("no arrow")?;
     let pushes = changes_in_text(alloc, pushes)?;
     let after = changes_in_text(alloc, after)?;
-    let wave = pushed(alloc, pushes.as_slice())?;
-    assert!(rt; wave.changes() == after.as_slice(), "{row}");
+    let wave = wave_after_pushes(alloc, pushes.as_slice())?;
+    check_holds(rt, wave.changes() == after.as_slice(), row);
     Ok(())
 }
 
@@ -37,14 +37,19 @@ fn pushes_at_the_end(rt: HostRuntime) -> Result<(), Fail> {
     Ok(())
 }
 
+/// Stops unless a wave has this value at a tick.
+fn check_value(rt: &impl Abort, wave: &Wave, tick: u64, bit: Bit) {
+    assert!(rt; wave.at(tick) == Value::filled(1, bit));
+}
+
 #[test]
 fn a_wave_keeps_its_value_until_the_next_change(rt: HostRuntime) -> Result<(), Fail> {
     let wave = wave_of(rt.alloc(), "0@1 1@5 z@9")?;
-    assert!(rt; wave.at(0) == Value::filled(1, Bit::X));
-    assert!(rt; wave.at(4) == Value::filled(1, Bit::Zero));
-    assert!(rt; wave.at(5) == Value::filled(1, Bit::One));
-    assert!(rt; wave.at(8) == Value::filled(1, Bit::One));
-    assert!(rt; wave.at(u64::MAX) == Value::filled(1, Bit::Z));
+    check_value(&rt, &wave, 0, Bit::X);
+    check_value(&rt, &wave, 4, Bit::Zero);
+    check_value(&rt, &wave, 5, Bit::One);
+    check_value(&rt, &wave, 8, Bit::One);
+    check_value(&rt, &wave, u64::MAX, Bit::Z);
     Ok(())
 }
 

@@ -1,5 +1,6 @@
 //! Words of a text, with their lines, and the numbers that they mean.
 
+use crate::fixtures::check_holds;
 use std::process::Abort;
 use std::test::Fail;
 use vcd_core::number_up_to;
@@ -13,8 +14,9 @@ const TEXT: &[u8] = b" $end\n\tb01x\x0b!\r\n\x0c\na.b $";
 /// Stops unless a word and its line are those of the row.
 fn check_word(rt: &impl Abort, word: PlacedWord, row: &str) -> Result<(), Fail> {
     let (line, text) = row.split_once(' ').ok_or("no line")?;
-    assert!(rt; word.line == line.parse::<u64>()?);
-    assert!(rt; word.text == text.as_bytes(), "{row}");
+    let line = line.parse::<u64>()?;
+    check_holds(rt, word.line == line, row);
+    check_holds(rt, word.text == text.as_bytes(), row);
     Ok(())
 }
 
@@ -43,11 +45,8 @@ const NUMBERS: &str = "\
 fn check_number(rt: &impl Abort, row: &str) -> Result<(), Fail> {
     let (text, rest) = row.split_once(' ').ok_or("no text")?;
     let (most, number) = rest.split_once(' ').ok_or("no number")?;
-    let most = most.parse::<u64>()?;
-    assert!(rt;
-        number_up_to(text.as_bytes(), most) == number.parse::<u64>().ok(),
-        "{row}"
-    );
+    let found = number_up_to(text.as_bytes(), most.parse::<u64>()?);
+    check_holds(rt, found == number.parse::<u64>().ok(), row);
     Ok(())
 }
 

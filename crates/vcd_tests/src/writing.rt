@@ -3,11 +3,11 @@
 mod windows;
 
 use crate::fake_devices::{FakeWriter, sink_of};
-use crate::fixtures::loaded;
+use crate::fixtures::load_file;
 use std::alloc::Global;
 use std::process::Abort;
 use std::test::Fail;
-use vcd_text::{Fault, ReadError, WriteError, write};
+use vcd_text::{WriteError, write};
 
 /// The text of a capture.
 const TEXT: &str = "$timescale 1 ns $end
@@ -33,14 +33,18 @@ fn check_written(
     count: usize,
     flushes: usize,
 ) -> Result<(), Fail> {
-    let loaded = loaded(alloc, TEXT.as_bytes())?;
+    let loaded = load_file(alloc, TEXT.as_bytes())?;
     let mut sink = sink_of(writer);
     let ended = write(alloc, &loaded.capture, &mut sink);
     assert!(rt; ended == wanted);
-    let writer = sink.into_inner();
+    check_writer(rt, &sink.into_inner(), count, flushes);
+    Ok(())
+}
+
+/// Stops unless a writer holds so many bytes of the text, and was asked to flush so often.
+fn check_writer(rt: &impl Abort, writer: &FakeWriter, count: usize, flushes: usize) {
     assert!(rt; TEXT.as_bytes().get(..count) == Some(writer.held.as_slice()));
     assert!(rt; writer.flushes == flushes);
-    Ok(())
 }
 
 /// No clause is about the flush of a writer that takes all, so its calls are counted.
@@ -50,21 +54,31 @@ fn flushed_once(rt: HostRuntime) -> Result<(), Fail> {
     check_written(&rt, rt.alloc(), writer, Ok(()), 130, 1)
 }
 
+/// Stops unless a writer with room for so many bytes takes just these, and the fault has their count.
+fn check_room(rt: &impl Abort, alloc: Global, piece: usize, room: usize) -> Result<(), Fail> {
+    let writer = FakeWriter::with_room(alloc, piece, room, false);
+    let written = room as u128;
+    let fault = WriteError::WriteFault { written };
+    check_written(rt, alloc, writer, Err(fault), room, 0)
+}
+
+/// Stops unless a writer that takes all, and fails in its flush, has all bytes of the text.
+fn check_failed_flush(rt: &impl Abort, alloc: Global, piece: usize) -> Result<(), Fail> {
+    let writer = FakeWriter::with_room(alloc, piece, 1000, true);
+    let fault = WriteError::WriteFault { written: 130 };
+    check_written(rt, alloc, writer, Err(fault), 130, 1)
+}
+
 #[test]
 fn a_writer_that_fails_after_ten_bytes(rt: HostRuntime) -> Result<(), Fail> {
-    let writer = FakeWriter::narrow(rt.alloc(), 7, 10, false);
-    let fault = WriteError::WriteFault { written: 10 };
-    check_written(&rt, rt.alloc(), writer, Err(fault), 10, 0)
+    check_room(&rt, rt.alloc(), 7, 10)
 }
 
 /// A writer that takes a byte at a time and fails after each byte of the text.
 #[test]
 fn a_writer_that_fails_after_each_byte(rt: HostRuntime) -> Result<(), Fail> {
     for count in 0..TEXT.len() {
-        let writer = FakeWriter::narrow(rt.alloc(), 1, count, false);
-        let written = count as u128;
-        let fault = WriteError::WriteFault { written };
-        check_written(&rt, rt.alloc(), writer, Err(fault), count, 0)?;
+        check_room(&rt, rt.alloc(), 1, count)?;
     }
     Ok(())
 }
@@ -72,16 +86,12 @@ fn a_writer_that_fails_after_each_byte(rt: HostRuntime) -> Result<(), Fail> {
 /// A writer that takes a byte at a time and fails in the flush.
 #[test]
 fn a_flush_that_fails_after_single_bytes(rt: HostRuntime) -> Result<(), Fail> {
-    let writer = FakeWriter::narrow(rt.alloc(), 1, 1000, true);
-    let fault = WriteError::WriteFault { written: 130 };
-    check_written(&rt, rt.alloc(), writer, Err(fault), 130, 1)
+    check_failed_flush(&rt, rt.alloc(), 1)
 }
 
 #[test]
 fn a_flush_that_fails(rt: HostRuntime) -> Result<(), Fail> {
-    let writer = FakeWriter::narrow(rt.alloc(), 1000, 1000, true);
-    let fault = WriteError::WriteFault { written: 130 };
-    check_written(&rt, rt.alloc(), writer, Err(fault), 130, 1)
+    check_failed_flush(&rt, rt.alloc(), 1000)
 }
 
 #[test]
@@ -89,22 +99,4 @@ fn a_writer_that_takes_no_byte(rt: HostRuntime) -> Result<(), Fail> {
     let writer = FakeWriter::new(rt.alloc(), 0);
     let fault = WriteError::WriteFault { written: 0 };
     check_written(&rt, rt.alloc(), writer, Err(fault), 0, 0)
-}
-
-/// Whether the name of a fault is printed.
-#[test]
-fn faults_are_printed(rt: HostRuntime) -> Result<(), Fail> {
-    let fault = WriteError::WriteFault { written: 3 };
-    assert!(rt; format!(in rt.alloc(); "{fault}")?.as_str() == "WriteFault");
-    Ok(())
-}
-
-/// Whether a fault of a file is printed by its name, with its line or without.
-#[test]
-fn faults_of_files_are_printed(rt: HostRuntime) -> Result<(), Fail> {
-    let fault = Fault::TimeBackwards;
-    assert!(rt; format!(in rt.alloc(); "{fault}")?.as_str() == "TimeBackwards");
-    let error = ReadError { line: 4, fault };
-    assert!(rt; format!(in rt.alloc(); "{error}")?.as_str() == "TimeBackwards");
-    Ok(())
 }

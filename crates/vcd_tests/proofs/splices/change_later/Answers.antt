@@ -2,7 +2,7 @@ use Rattle.std.proofs.Common.{w64}
 use Rattle.std.proofs.lemmas.Int.{to_z-of_z}
 use Rattle.vcd_core.specs.Splice.{moved_change, TickFits}
 use Rattle.vcd_core.proofs.Splices.{tick_given, tick_is}
-use Rattle.vcd_tests.proofs.splices.later.Goals as goal
+use Rattle.vcd_tests.proofs.splices.change_later.Goals as goal
 
 pub unwrap-tick-requires : goal.unwrap-tick-requires
 unfolding TickFits
