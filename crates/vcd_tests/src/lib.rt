@@ -10,8 +10,6 @@ mod captures;
 #[cfg(test)]
 mod devices;
 #[cfg(test)]
-mod edges;
-#[cfg(test)]
 mod editing;
 #[cfg(test)]
 mod fake_devices;
@@ -24,12 +22,8 @@ mod names;
 #[cfg(test)]
 mod reading;
 #[cfg(test)]
-mod splices;
-#[cfg(test)]
 mod values;
 #[cfg(test)]
 mod waves;
-#[cfg(test)]
-mod words;
 #[cfg(test)]
 mod writing;

@@ -2,7 +2,6 @@
 
 mod broken_off;
 mod chunks;
-mod codes;
 mod faults;
 mod worked;
 
