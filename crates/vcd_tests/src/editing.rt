@@ -34,7 +34,10 @@ fn check_edit(rt: &impl Abort, alloc: Global, edit: &Edit, outcome: &Outcome) ->
     let record = apply(alloc, &mut capture, edit)?;
     assert!(rt; record.stored() <= outcome.stored);
     check_changes(rt, &capture, outcome);
-    assert!(rt; revert(alloc, &mut capture, record).is_ok());
+    let Ok(redo_record) = revert(alloc, &mut capture, record) else {
+        return Err(Fail::from("refused with ample memory"));
+    };
+    assert!(rt; redo_record.stored() <= outcome.stored);
     assert!(rt; text_of(alloc, &capture)?.as_slice() == text.as_slice());
     Ok(())
 }
