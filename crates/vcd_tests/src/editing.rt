@@ -1,92 +1,90 @@
-//! Short edits of a long wave, through the public calls, store only what they touch.
+//! Edits and their undo, through the public calls.
 
-use crate::fixtures::{alternating_text, load_file, text_of};
-use std::alloc::Global;
-use std::process::Abort;
-use std::test::Fail;
-use vcd_core::{Bit, Capture, Change, Value};
-use vcd_edit::{Edit, apply, revert};
+mod long_wave;
+mod refusals;
+mod worked;
 
-/// The result of an edit: how many changes there are, the one at a position, the end, and how many changes the record
-/// may store.
-#[derive(Drop)]
-struct Outcome {
-    count: usize,
-    at: usize,
-    change: Change,
-    end: u64,
-    stored: u128,
+use crate::fixtures::bit_of_letter;
+use vcd_core::Value;
+use vcd_edit::{Edit, Rule};
+
+/// The word at a place, if there is one.
+fn word_at<'a>(words: &[&'a str], k: usize) -> Option<&'a str> {
+    match words.get(k) {
+        Some(word) => Some(*word),
+        None => None,
+    }
 }
 
-/// Stops unless the only signal has these changes, and the capture this end.
-fn check_changes(rt: &impl Abort, capture: &Capture, outcome: &Outcome) {
-    assert!(rt; capture.end() == outcome.end);
-    assert!(rt; capture.signals().len() == 1);
-    let changes = capture.signals()[0].wave.changes();
-    assert!(rt; changes.len() == outcome.count);
-    assert!(rt; changes.get(outcome.at) == Some(&outcome.change));
+/// The position that the word at a place gives.
+fn position(words: &[&str], k: usize) -> Option<usize> {
+    word_at(words, k)?.parse::<usize>().ok()
 }
 
-/// Stops unless an edit of 10,000 changes, one at each tick, has this result, and its undo restores the capture.
-fn check_edit(rt: &impl Abort, alloc: Global, edit: &Edit, outcome: &Outcome) -> Result<(), Fail> {
-    let text = alternating_text(alloc, 1, 9998, 9999)?;
-    let mut capture = load_file(alloc, text.as_slice())?.capture;
-    let record = apply(alloc, &mut capture, edit)?;
-    assert!(rt; record.stored() <= outcome.stored);
-    check_changes(rt, &capture, outcome);
-    let Ok(redo_record) = revert(alloc, &mut capture, record) else {
-        return Err(Fail::from("refused with ample memory"));
-    };
-    assert!(rt; redo_record.stored() <= outcome.stored);
-    assert!(rt; text_of(alloc, &capture)?.as_slice() == text.as_slice());
-    Ok(())
+/// The number that the word at a place gives.
+fn number(words: &[&str], k: usize) -> Option<u64> {
+    word_at(words, k)?.parse::<u64>().ok()
 }
 
-fn change_to(bit: Bit, tick: u64) -> Change {
-    let value = Value::filled(1, bit);
-    Change { tick, value }
+/// The rule that words ask for from the third on, as `derive y and 0 1`.
+fn rule_of(words: &[&str]) -> Option<Rule> {
+    let name = word_at(words, 2)?;
+    let a = position(words, 3)?;
+    if name == "not" {
+        return Some(Rule::Not(a));
+    }
+    if name == "and" {
+        return Some(Rule::And(a, position(words, 4)?));
+    }
+    if name == "or" {
+        return Some(Rule::Or(a, position(words, 4)?));
+    }
+    if name == "xor" {
+        return Some(Rule::Xor(a, position(words, 4)?));
+    }
+    Some(Rule::BitOf(a, number(words, 4)?))
 }
 
-#[test]
-fn a_tick_is_forced(rt: HostRuntime) -> Result<(), Fail> {
-    let force = Edit::Force {
-        signal: 0,
-        from: 5000,
-        to: 5001,
-        value: Value::filled(1, Bit::Z),
-    };
-    let outcome = Outcome {
-        count: 10_000,
-        at: 5000,
-        change: change_to(Bit::Z, 5000),
-        end: 9999,
-        stored: 1,
-    };
-    check_edit(&rt, rt.alloc(), &force, &outcome)
+/// The edit that words ask for, as `force 0 2 9 z`, with a value of one bit.
+fn edit_of<'a>(words: &[&'a str]) -> Option<Edit<'a>> {
+    let name = word_at(words, 0)?;
+    if name == "derive" {
+        let rule = rule_of(words)?;
+        let word = word_at(words, 1)?.as_bytes();
+        return Some(Edit::Derive { word, rule });
+    }
+    if name == "cut" {
+        let from = number(words, 1)?;
+        let to = number(words, 2)?;
+        return Some(Edit::Cut { from, to });
+    }
+    edit_of_signal(name, position(words, 1)?, words)
 }
 
-/// A cut of ten ticks keeps the changes on both sides.
-#[test]
-fn ticks_are_cut_out(rt: HostRuntime) -> Result<(), Fail> {
-    let outcome = Outcome {
-        count: 9990,
-        at: 10,
-        change: change_to(Bit::Zero, 10),
-        end: 9989,
-        stored: 10,
-    };
-    check_edit(&rt, rt.alloc(), &Edit::Cut { from: 10, to: 20 }, &outcome)
-}
-
-/// After a cut of eleven ticks the changes on both sides have equal values, and one goes.
-#[test]
-fn ticks_are_cut_out_up_to_an_equal_value(rt: HostRuntime) -> Result<(), Fail> {
-    let outcome = Outcome {
-        count: 9988,
-        at: 10,
-        change: change_to(Bit::Zero, 11),
-        end: 9988,
-        stored: 12,
-    };
-    check_edit(&rt, rt.alloc(), &Edit::Cut { from: 10, to: 21 }, &outcome)
+/// The same for an edit of the signal at this position.
+fn edit_of_signal<'a>(name: &str, signal: usize, words: &[&'a str]) -> Option<Edit<'a>> {
+    if name == "remove" {
+        return Some(Edit::Remove { signal });
+    }
+    if name == "invert" {
+        return Some(Edit::Invert { signal });
+    }
+    if name == "rename" {
+        let word = word_at(words, 2)?.as_bytes();
+        return Some(Edit::Rename { signal, word });
+    }
+    if name == "shift" {
+        let by = word_at(words, 2)?.parse::<i64>().ok()?;
+        return Some(Edit::Shift { signal, by });
+    }
+    if name == "deglitch" {
+        let ticks = number(words, 2)?;
+        return Some(Edit::Deglitch { signal, ticks });
+    }
+    Some(Edit::Force {
+        signal,
+        from: number(words, 2)?,
+        to: number(words, 3)?,
+        value: Value::filled(1, bit_of_letter(word_at(words, 4)?)),
+    })
 }

@@ -16,7 +16,7 @@ pub fn check_holds(rt: &impl Abort, holds: bool, row: &str) {
 }
 
 /// The bit that a letter means.
-fn bit_of_letter(letter: &str) -> Bit {
+pub fn bit_of_letter(letter: &str) -> Bit {
     match letter {
         "0" => Bit::Zero,
         "1" => Bit::One,

@@ -1,8 +1,8 @@
 //! Tests of the library crates by their public calls: worked values from outside, and devices that give little or fail.
 //! They are made with enough memory.
 //!
-//! What a clause says is proved and not tested. What a run of the program shows is a case in `cases/`, as edits, histories
-//! and decoders are, or a row of `fuzz/large`. A table is one text, and each of its lines is a row.
+//! Edits are made and undone by `apply` and `revert`, steps by `run` of the journal. What runs of the program show is a
+//! case in `cases/` or a row of `fuzz/large`. A table is one text, and each of its lines is a row.
 #![tactic(auto)]
 
 #[cfg(test)]
@@ -21,6 +21,8 @@ mod messages;
 mod names;
 #[cfg(test)]
 mod reading;
+#[cfg(test)]
+mod sessions;
 #[cfg(test)]
 mod values;
 #[cfg(test)]

@@ -19,7 +19,7 @@ $dumpvars|0!|$end|#5|1!|#9|
 $var wire 1 % a $end $upscope $end $upscope $end $enddefinitions $end #0 1% #3 0% \
 => $scope module top $end|$var wire 1 ! a $end|$scope module sub $end|$var wire 1 \" a $end|$upscope $end|\
 $upscope $end|$enddefinitions $end|#0|$dumpvars|1!|1\"|$end|#3|0!|0\"|
--- records before the first stamp, several at one tick, one of them the value before
+-- changes before the first stamp, several at one tick, one of them the value before
 0: $var tri 1 ! a $end $var reg 1 # b $end $enddefinitions $end|\
 1! 0# z! #0 #7 x! 1# 0! z! #7 0# #8 1# #12 z! \
 => $var tri 1 ! a $end|$var reg 1 \" b $end|$enddefinitions $end|#0|$dumpvars|z!|0\"|$end|#8|1\"|#12|
