@@ -12,3 +12,7 @@ pub mod SpiSteps
 pub mod PartialBytes
 pub mod BusWalks
 pub mod BusEdges
+pub mod CasesOfSentUart
+pub mod SentLevels
+pub mod SentBits
+pub mod SentFrames

@@ -5,7 +5,7 @@ use Rattle.std.proofs.Math.Nat.{mul-le-mul_right, le-div_iff_mul-le, div-mul-le_
 use Rattle.vcd_decode.specs.UartSetup.{UartSetup}
 use Rattle.vcd_decode.specs.Uart.{sample_offset}
 
-quotients_rise : (a b d : ℕ) → a ≤ b → a / d ≤ b / d
+pub quotients_rise : (a b d : ℕ) → a ≤ b → a / d ≤ b / d
 quotients_rise a b zero le = rw (div-zero a, div-zero b) (omega arith)
 quotients_rise a b (suc d) le =
     (le-div_iff_mul-le {k = suc d} {x = a / suc d} {y = b} (omega arith)).1 (le_trans (div-mul-le_self a (suc d)) le)

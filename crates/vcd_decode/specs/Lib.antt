@@ -5,10 +5,13 @@ pub mod WaveLines
 pub mod UartSetup
 pub mod SetupFaults
 pub mod Uart
+pub mod SentLevels
+pub mod UartSent
 pub mod SpiSetup
 pub mod Groups
 pub mod Spi
 pub mod BusEvents
 pub mod BusBytes
 pub mod I2c
+pub mod Laws
 pub mod inside

@@ -1,0 +1,5 @@
+use Rattle.vcd_decode.proofs.SentFrames.{sent_found}
+use Rattle.vcd_decode.proofs.laws.uart_frames_are_found.Goals as goal
+
+pub returns : goal.returns
+returns c = sent_found
