@@ -1,0 +1,230 @@
+"""What the tools around vcdedit share: the program, the declarations of a capture, names, times, and files that are no
+plain VCD. docs/FORMATS.md has the rules; `tools/check` compares the limits with those of the program.
+
+Words, names and codes are bytes, as they stand in the file; `shown` makes text of them.
+"""
+
+import collections
+import fnmatch
+import fractions
+import os
+import re
+import subprocess
+import sys
+
+GREATEST_TICK = 9223372036854775807
+GREATEST_WIDTH = 1024
+SIGNAL_LIMIT = 65536
+SCRIPT_LIMIT = 1048576
+RATIO_LIMIT = 1000000000
+
+SKIPPED_KINDS = {b"real", b"realtime", b"real_parameter", b"shortreal", b"event", b"string"}
+DUMP_WORDS = {b"$dumpvars", b"$dumpall", b"$dumpon", b"$dumpoff", b"$end"}
+UNITS = {"s": 0, "ms": 3, "us": 6, "ns": 9, "ps": 12, "fs": 15}
+CHUNK = 65536
+
+# What the first bytes of a file show that is no plain VCD: the bytes, what the file is, and what to do.
+OTHER_FILES = [
+    (rb"\x1f\x8b", "is packed by gzip", "unpack it: gzip -dc FILE > NEW.vcd"),
+    (rb"BZh", "is packed by bzip2", "unpack it: bzip2 -dc FILE > NEW.vcd"),
+    (rb"\xfd7zXZ", "is packed by xz", "unpack it: xz -dc FILE > NEW.vcd"),
+    (rb"\x28\xb5\x2f\xfd", "is packed by zstd", "unpack it: zstd -dc FILE > NEW.vcd"),
+    (rb"PK\x03\x04", "is a zip file", "unpack it: unzip FILE"),
+    (rb"\xef\xbb\xbf", "begins with a byte order mark", r"remove it: sed '1s/^\xef\xbb\xbf//' FILE > NEW"),
+    (rb"\xff\xfe|\xfe\xff|[^\x00]\x00[^\x00]\x00|\x00[^\x00]\x00[^\x00]", "is UTF-16",
+     "make it UTF-8: iconv -f UTF-16 -t UTF-8 FILE > NEW"),
+    (rb"\x00\x00\x00\x00\x00\x00\x00\x01\x49|\xfe\x00\x00\x00", "is an FST file", "fst2vcd FILE > NEW.vcd (GTKWave)"),
+    (rb"\x13\x80", "is an LXT2 file", "lxt2vcd FILE > NEW.vcd (GTKWave)"),
+    (rb"VZ", "is a VZT file", "vzt2vcd FILE > NEW.vcd (GTKWave)"),
+    (rb"GHDLwave", "is a GHW file", "run GHDL with --vcd=FILE"),
+    (rb"META ", "begins with a line of sigrok-cli's own", "delete it: sed '/^META /d' FILE > NEW.vcd"),
+]
+EXTENDED = re.compile(rb"\$var\s+port\s|\$dumpports")
+IS_EXTENDED = ("is extended VCD", "write four-state VCD ($dumpvars in place of $dumpports), or evcd2vcd FILE > NEW.vcd (GTKWave)")
+
+
+class Fault(Exception):
+    """A fault of a capture, by the program's name for it, and its line."""
+
+    def __init__(self, name, line):
+        super().__init__("line %d: %s" % (line, name))
+        self.name, self.line = name, line
+
+
+class Trouble(Exception):
+    """What a tool can't do, in words for its user."""
+
+
+# A variable as it is declared. `words` are those of its own name, `scopes` the names of its scopes, outermost first.
+Variable = collections.namedtuple("Variable", "kind size code words scopes")
+Declarations = collections.namedtuple("Declarations", "timescale variables line")
+
+
+def shown(name):
+    return name.decode("utf-8", "backslashreplace")
+
+
+def full_name(variable):
+    """The name as the listing shows it: scopes and words of the name, with the range."""
+    return b".".join([*variable.scopes, b"".join(variable.words)])
+
+
+def is_kept(variable):
+    """Whether the program keeps the variable; it counts the others as skipped."""
+    return variable.kind not in SKIPPED_KINDS and 1 <= variable.size <= GREATEST_WIDTH
+
+
+def words(file):
+    """(line, word) for each word of a file that is open for bytes; at the end (line, None)."""
+    line, front = 1, b""
+    for piece in iter(lambda: file.readline(CHUNK), b""):
+        piece = front + piece
+        found = piece.split()
+        front = b"" if piece[-1:].isspace() else found.pop()
+        for word in found:
+            yield line, word
+        line += piece.endswith(b"\n")
+    if front:
+        yield line, front
+    yield line, None
+
+
+def read_declarations(stream):
+    """The declarations that begin a stream of `words`, which is left behind `$enddefinitions $end`."""
+    timescale, variables, scopes, sizes = None, [], [], {}
+    for line, word in stream:
+        if word is None:
+            raise Fault("Truncated", line)
+        if not word.startswith(b"$") or word in DUMP_WORDS:
+            raise Fault("UnexpectedWord", line)
+        if word == b"$upscope" and not scopes:
+            raise Fault("UpscopeAtTop", line)
+        inner, line = words_up_to_end(stream, word)
+        if word == b"$scope":
+            if not inner:
+                raise Fault("BadScope", line)
+            scopes.append(b"".join(inner[1:]))
+        elif word == b"$upscope":
+            scopes.pop()
+        elif word == b"$var":
+            variable = variable_of(inner, scopes, line)
+            size = variable.size if is_kept(variable) else None
+            if sizes.setdefault(variable.code, size) != size:
+                raise Fault("MixedCode", line)
+            variables.append(variable)
+        elif word == b"$timescale":
+            timescale = timescale_of(inner, line)
+        elif word == b"$enddefinitions":
+            return Declarations(timescale, variables, line)
+
+
+def words_up_to_end(stream, command):
+    """The words of a command up to its `$end`, and the line of that."""
+    inner = []
+    for line, word in stream:
+        if word is None:
+            raise Fault("Truncated", line)
+        if word == b"$end":
+            return inner, line
+        if command in (b"$upscope", b"$enddefinitions"):
+            raise Fault("UnexpectedWord", line)
+        if command == b"$var" and len(inner) == 1 and not is_number(word):
+            raise Fault("BadVar", line)
+        inner.append(word)
+
+
+def variable_of(inner, scopes, line):
+    if len(inner) < 4:
+        raise Fault("BadVar", line)
+    kind, size, code, *own = inner
+    # A size of many digits is more than any width; `int` refuses thousands of digits.
+    size = int(size) if len(size.lstrip(b"0")) < 20 else GREATEST_WIDTH + 1
+    return Variable(kind, size, code, own, tuple(scopes))
+
+
+def timescale_of(inner, line):
+    found = re.fullmatch(rb"(1|10|100)(s|ms|us|ns|ps|fs)", b"".join(inner))
+    if not found:
+        raise Fault("BadTimescale", line)
+    return "%s %s" % (found.group(1).decode(), found.group(2).decode())
+
+
+def is_number(word):
+    """Whether a word is decimal digits alone."""
+    return re.fullmatch(rb"[0-9]+", word) is not None
+
+
+def unit_ticks(unit, timescale):
+    """How many ticks a second, ms, .. has at a timescale such as '10 ns': a fraction."""
+    found = re.fullmatch(r"(1|10|100) ?(s|ms|us|ns|ps|fs)", timescale)
+    if not found:
+        raise Trouble("%s is no timescale: write 1, 10 or 100 and s, ms, us, ns, ps or fs" % timescale)
+    return fractions.Fraction(10 ** UNITS[found.group(2)], 10 ** UNITS[unit] * int(found.group(1)))
+
+
+def ticks_of(text, timescale):
+    """The tick that a text names: a number of ticks, or a time with a unit, as 1.5ms. The timescale may be None."""
+    found = re.fullmatch(r"([0-9]+(?:\.[0-9]+)?) ?(s|ms|us|ns|ps|fs)|([0-9]+)", text, flags=re.ASCII)
+    if not found:
+        raise Trouble("%s is no time: write ticks, or a number and s, ms, us, ns, ps or fs" % text)
+    if found.group(3):
+        tick = int(found.group(3)) if len(text) <= CHUNK else GREATEST_TICK + 1
+    elif timescale is None:
+        raise Trouble("%s: the capture has no timescale: write ticks" % text)
+    else:
+        tick = fractions.Fraction(found.group(1)) * unit_ticks(found.group(2), timescale)
+        if tick.denominator != 1:
+            raise Trouble("%s is between tick %d and the next: write ticks" % (text, tick // 1))
+        tick = int(tick)
+    if tick > GREATEST_TICK:
+        raise Trouble("%s is past the greatest tick, %d" % (text, GREATEST_TICK))
+    return tick
+
+
+def matcher(pattern, extended=False):
+    """A test of full names: by a shell pattern, or by an expression that is found anywhere in the name. A pattern that is
+    a name as it stands is that name, whatever its brackets mean."""
+    pattern = os.fsencode(pattern)
+    try:
+        found = re.compile(pattern if extended else fnmatch.translate(shown_bytes(pattern)).encode("latin-1"))
+    except re.error as error:
+        raise Trouble("%s is no expression: %s" % (shown(pattern), error)) from None
+    test = found.search if extended else found.match
+    return lambda name: name == pattern or test(name) is not None
+
+
+def shown_bytes(name):
+    """A letter for each byte, so that `fnmatch` translates bytes."""
+    return name.decode("latin-1")
+
+
+def what_else(path):
+    """(what a file is, what to do) where its first bytes show that it is no plain VCD; else None."""
+    with open(path, "rb") as file:
+        front = file.read(CHUNK)
+    if not front:
+        return "is empty", "look whether the tool that wrote it ended well"
+    for beginning, what, remedy in OTHER_FILES:
+        if re.match(beginning, front):
+            return what, remedy
+    return IS_EXTENDED if EXTENDED.search(front) else None
+
+
+def program():
+    """The vcdedit that VCDEDIT names, or that is next to this tool or one folder above, or on the path."""
+    if os.environ.get("VCDEDIT"):
+        return os.environ["VCDEDIT"]
+    here = os.path.dirname(os.path.realpath(sys.argv[0]))
+    for folder in (here, os.path.dirname(here)):
+        path = os.path.join(folder, "vcdedit")
+        if os.path.isfile(path) and os.access(path, os.X_OK):
+            return path
+    return "vcdedit"
+
+
+def run(words_of_run, **how):
+    """A run of the program, which is looked for first."""
+    try:
+        return subprocess.run([program(), *words_of_run], **how)
+    except OSError as error:
+        raise Trouble("there is no program %s (%s): say in VCDEDIT where it is" % (program(), error.strerror)) from None
