@@ -19,10 +19,10 @@ use Rattle.vcd_edit.proofs.WithoutRepeats.{rise_lower, early_value, wave_rises, 
 
 -- ---- a choice by whether two values are the same
 
-if_same : {A : Type 0} (v w : List Bit) (x y : A) → v ≡ w → (if same_letters v w then x else y) ≡ x
+pub if_same : {A : Type 0} (v w : List Bit) (x y : A) → v ≡ w → (if same_letters v w then x else y) ≡ x
 if_same v w x y same = ap (λ b. if b then x else y) ((same_letters-Decides v w).1 same)
 
-if_other : {A : Type 0} (v w : List Bit) (x y : A) → v ≢ w → (if same_letters v w then x else y) ≡ y
+pub if_other : {A : Type 0} (v w : List Bit) (x y : A) → v ≢ w → (if same_letters v w then x else y) ≡ y
 if_other v w x y other = choose (same_letters v w) refl
   where
     choose : (b : Bool) → same_letters v w ≡ b → (if b then x else y) ≡ y

@@ -1,11 +1,55 @@
--- A law that joins the definitions of this crate.
-use Rattle.std.specs.Prelude.{◌≡◌, None}
-use Rattle.vcd_core.specs.Contents.{Contents}
+-- The laws of edits: each is the contract of a function of `laws`.
+use Rattle.std.specs.Prelude.{ℕ, suc, ◌+◌, ◌-◌, ◌≡◌, ◌≢◌, ◌<◌, ◌≤◌, None, List}
+use Rattle.vcd_core.specs.declared.bit.Bit.{Bit}
+use Rattle.vcd_core.specs.Contents.{Contents, signal_at, signal_value}
 use Rattle.vcd_core.specs.Sound.{IsSound}
 use Rattle.vcd_edit.specs.declared.edit.Edit.{Edit}
+use Rattle.vcd_edit.specs.declared.edit.Edit.TheVariants.{Deglitch}
 use Rattle.vcd_edit.specs.Effect.{effect}
 use Rattle.vcd_edit.specs.EditFaults.{edit_fault}
 
 -- an edit with no fault keeps a sound capture sound
 abbrev pub EffectIsSound : Type 0
 EffectIsSound = (e : Edit) (c : Contents) → IsSound c → edit_fault e c ≡ None → IsSound (effect e c)
+
+-- the values of the signal at a position
+abbrev pub values_at : Contents → ℕ → ℕ → List Bit
+values_at c k = signal_value (signal_at c k)
+
+-- ---- deglitch
+
+-- a run of one value at the ticks `first` to `last`: neither the tick before nor the one after has the value
+abbrev pub IsRun : (ℕ → List Bit) → ℕ → ℕ → Type 0
+IsRun f first last =
+    (first ≤ last) × ((t : ℕ) → first ≤ t → t ≤ last → f t ≡ f first) × (f (first - 1) ≢ f first)
+    × (f (suc last) ≢ f last)
+
+-- each run that holds neither tick 0 nor the end has at least so many ticks
+abbrev pub HasNoShortRun : ℕ → ℕ → (ℕ → List Bit) → Type 0
+HasNoShortRun ticks end f =
+    (first last : ℕ) → 0 < first → last < end → IsRun f first last → ticks ≤ last - first + 1
+
+-- a deglitch leaves no short run
+abbrev pub DeglitchLeavesNoShortRun : Type 0
+DeglitchLeavesNoShortRun =
+    (k ticks : ℕ) (c : Contents) → IsSound c → edit_fault (Deglitch k ticks) c ≡ None
+    → HasNoShortRun ticks (effect (Deglitch k ticks) c).end (values_at (effect (Deglitch k ticks) c) k)
+
+-- a run that is long enough keeps its value
+abbrev pub DeglitchKeepsLongRuns : Type 0
+DeglitchKeepsLongRuns =
+    (k ticks : ℕ) (c : Contents) → IsSound c → edit_fault (Deglitch k ticks) c ≡ None → (first last t : ℕ)
+    → last < c.end → IsRun (values_at c k) first last → ticks ≤ last - first + 1 → first ≤ t → t ≤ last
+    → values_at (effect (Deglitch k ticks) c) k t ≡ values_at c k t
+
+-- a capture whose signal has no short run is unchanged
+abbrev pub DeglitchWithoutShortRuns : Type 0
+DeglitchWithoutShortRuns =
+    (k ticks : ℕ) (c : Contents) → IsSound c → edit_fault (Deglitch k ticks) c ≡ None
+    → HasNoShortRun ticks c.end (values_at c k) → effect (Deglitch k ticks) c ≡ c
+
+-- twice is once
+abbrev pub DeglitchTwice : Type 0
+DeglitchTwice =
+    (k ticks : ℕ) (c : Contents) → IsSound c → edit_fault (Deglitch k ticks) c ≡ None
+    → effect (Deglitch k ticks) (effect (Deglitch k ticks) c) ≡ effect (Deglitch k ticks) c

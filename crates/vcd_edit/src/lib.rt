@@ -19,6 +19,6 @@ pub use applying::apply;
 pub use checking::check;
 pub use edit::{Edit, Rule};
 pub use fault::EditError;
-pub use laws::effect_is_sound;
+pub use laws::{deglitch_takes_short_runs_out, effect_is_sound};
 pub use record::Record;
 pub use reverting::{Kept, revert};
