@@ -12,7 +12,8 @@ use Rattle.vcd_journal.specs.declared.step.Step.{Step}
 use Rattle.vcd_journal.specs.declared.step.Step.TheVariants as steps
 use Rattle.vcd_journal.specs.declared.step.Answer.{Answer}
 use Rattle.vcd_journal.specs.Machine.{Machine, StepOutcome, initial_machine, edit_outcome, undo_outcome, redo_outcome}
-use Rattle.vcd_journal.specs.Machine.{is_depth, step_outcome, IsStep, AreSteps}
+use Rattle.vcd_journal.specs.Machine.{step_outcome, IsStep, AreSteps}
+use Rattle.vcd_journal.specs.History.{is_depth}
 use Rattle.vcd_journal.specs.Laws.{HistoryIsBounded}
 use Rattle.vcd_journal.proofs.Replay.{depth_choice}
 

@@ -12,10 +12,10 @@ use Rattle.vcd_journal.specs.declared.step.Step.TheVariants as steps
 use Rattle.vcd_journal.specs.declared.step.StepError.TheVariants as refusals
 use Rattle.vcd_journal.specs.declared.step.Answer.{Answer}
 use Rattle.vcd_journal.specs.Machine.{Machine, StepOutcome, initial_machine, machine_after_depth, accepted_outcome}
-use Rattle.vcd_journal.specs.Machine.{refused_outcome, edit_outcome, undo_outcome, redo_outcome, is_depth, step_outcome}
+use Rattle.vcd_journal.specs.Machine.{refused_outcome, edit_outcome, undo_outcome, redo_outcome, step_outcome}
 use Rattle.vcd_journal.specs.Machine.{memory_refusal, IsStep, AreSteps}
 use Rattle.vcd_journal.specs.InForce.{EditLists, edits_after, edits_after_all, earlier_replays, later_replays}
-use Rattle.vcd_journal.specs.History.{replay}
+use Rattle.vcd_journal.specs.History.{replay, is_depth}
 use Rattle.vcd_journal.specs.InForce.{IsReplay}
 use Rattle.vcd_journal.specs.Laws.{SessionIsReplay}
 

@@ -16,8 +16,9 @@ use Rattle.vcd_journal.specs.declared.step.StepError.TheVariants as refusals
 use Rattle.vcd_journal.specs.declared.step.Answer.{Answer}
 use Rattle.vcd_journal.specs.declared.step.Answer.TheVariants.{Done, Refused}
 use Rattle.vcd_journal.specs.Machine.{Machine, machine_after_edit, machine_after_depth, refused_outcome, undo_outcome}
-use Rattle.vcd_journal.specs.Machine.{redo_outcome, is_depth, step_outcome, may_need_memory, memory_refusal}
+use Rattle.vcd_journal.specs.Machine.{redo_outcome, step_outcome, may_need_memory, memory_refusal}
 use Rattle.vcd_journal.specs.Machine.{IsStep, AreSteps}
+use Rattle.vcd_journal.specs.History.{is_depth}
 
 -- ---- edits
 

@@ -1,10 +1,8 @@
 -- A session as a list of edits: those in force and those undone. The headline speaks of this model. The project's own.
-use Rattle.std.specs.Prelude.{ℕ, ◌+◌, ◌-◌, ◌==◌, ◌&&◌, nat_lt, nat_le, not, min, List, [], ◌∷◌, ◌++◌, length, take}
-use Rattle.std.specs.Prelude.{drop, codes}
+use Rattle.std.specs.Prelude.{ℕ, ◌+◌, ◌-◌, ◌&&◌, nat_le, Bool, min, List, [], ◌∷◌, ◌++◌, length, take, drop}
 use Rattle.vcd_core.specs.Contents.{Contents}
 use Rattle.vcd_edit.specs.declared.edit.Edit.{Edit}
 use Rattle.vcd_edit.specs.Effect.{effect}
-use Rattle.vcd_edit.specs.EditTests.{Tests, edit_tests}
 use Rattle.vcd_journal.specs.declared.step.TheConstants.{DEPTH_LIMIT}
 use Rattle.vcd_journal.specs.declared.step.Step.{Step}
 use Rattle.vcd_journal.specs.declared.step.Step.TheVariants as steps
@@ -29,13 +27,9 @@ unfoldable pub replay : Contents → List Edit → Contents
 replay c [] = c
 replay c (e ∷ es) = effect e (replay c es)
 
--- the tests of a step on a capture
-abbrev pub step_tests : Contents → History → Step → Tests
-step_tests c h (steps.Edit e) = edit_tests c e
-step_tests c h steps.Undo = (h.undoable == 0, codes "NothingToUndo") ∷ []
-step_tests c h steps.Redo = (length h.undone == 0, codes "NothingToRedo") ∷ []
-step_tests c h (steps.Depth depth) = (not (nat_le 1 depth && nat_le depth DEPTH_LIMIT), codes "BadDepth")
-    ∷ (nat_lt depth (length h.undone), codes "DepthTooSmall") ∷ []
+-- whether a session may have this depth
+abbrev pub is_depth : ℕ → Bool
+is_depth depth = nat_le 1 depth && nat_le depth DEPTH_LIMIT
 
 -- the history after an accepted step
 abbrev pub history_after : History → Step → History

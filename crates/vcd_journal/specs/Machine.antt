@@ -1,5 +1,5 @@
 -- A session as a list of captures: the current one, and those that undo and redo reach. The project's own.
-use Rattle.std.specs.Prelude.{◌≡◌, ◌⊎◌, ℕ, ◌-◌, nat_lt, nat_le, Bool, not, ◌&&◌, IsTrue, if◌then◌else◌, List, [], ◌∷◌}
+use Rattle.std.specs.Prelude.{◌≡◌, ◌⊎◌, ℕ, ◌-◌, nat_lt, nat_le, Bool, not, IsTrue, if◌then◌else◌, List, [], ◌∷◌}
 use Rattle.std.specs.Prelude.{length, take, Option, Some, None, Result, MatchResult}
 use Rattle.vcd_core.specs.Contents.{Contents}
 use Rattle.vcd_edit.specs.declared.edit.Edit.{Edit}
@@ -7,13 +7,13 @@ use Rattle.vcd_edit.specs.declared.fault.EditError.{EditError}
 use Rattle.vcd_edit.specs.declared.fault.EditError.TheVariants as errors
 use Rattle.vcd_edit.specs.Effect.{effect}
 use Rattle.vcd_edit.specs.EditFaults.{edit_fault}
-use Rattle.vcd_journal.specs.declared.step.TheConstants.{DEPTH_LIMIT}
 use Rattle.vcd_journal.specs.declared.step.Step.{Step}
 use Rattle.vcd_journal.specs.declared.step.Step.TheVariants as steps
 use Rattle.vcd_journal.specs.declared.step.StepError.{StepError}
 use Rattle.vcd_journal.specs.declared.step.StepError.TheVariants as refusals
 use Rattle.vcd_journal.specs.declared.step.Answer.{Answer}
 use Rattle.vcd_journal.specs.declared.step.Answer.TheVariants.{Done, Refused}
+use Rattle.vcd_journal.specs.History.{is_depth}
 
 -- the current capture; the captures that undo and redo reach, the nearest first; and the most that both may hold
 pub record Machine : Type 0 where
@@ -83,10 +83,6 @@ undo_outcome (back ∷ older) m = accepted_outcome (machine_after_undo back olde
 abbrev pub redo_outcome : List Contents → Machine → StepOutcome
 redo_outcome [] m = refused_outcome refusals.NothingToRedo m
 redo_outcome (next ∷ later) m = accepted_outcome (machine_after_redo next later m)
-
--- whether a session may have this depth
-abbrev pub is_depth : ℕ → Bool
-is_depth depth = nat_le 1 depth && nat_le depth DEPTH_LIMIT
 
 -- a depth is refused if it is out of range, then if the future is longer
 abbrev pub depth_outcome : ℕ → Machine → StepOutcome

@@ -3,7 +3,8 @@
 ghost use Rattle.std.specs.Prelude.{◌≡◌, ◌≤◌, ◌+◌, IfOk, IfErr, OnErr, length};
 ghost use Rattle.vcd_core.specs.Contents.{contents};
 ghost use Rattle.vcd_core.specs.Sound.{IsSound};
-ghost use Rattle.vcd_journal.specs.Machine.{initial_machine, is_depth as depth_test, IsStepCall};
+ghost use Rattle.vcd_journal.specs.Machine.{initial_machine, IsStepCall};
+ghost use Rattle.vcd_journal.specs.History.{is_depth as depth_test};
 ghost use Rattle.vcd_journal.specs.declared.step.Step.TheVariants as steps;
 
 use crate::rings::{Ring, apply_newest, empty_rings, enlarge, keep_newest, push_newest};

@@ -9,8 +9,6 @@ use Rattle.vcd_core.specs.declared.capture.Capture.{Capture}
 use Rattle.vcd_core.specs.Contents.{Contents, contents, signal_at, signal_contents}
 use Rattle.vcd_decode.specs.UartSetup.{uart_setup}
 use Rattle.vcd_decode.specs.SpiSetup.{spi_setup}
-use Rattle.vcd_edit.specs.declared.edit.Rule.{Rule}
-use Rattle.vcd_edit.specs.declared.edit.Rule.TheVariants.{And, Or, Xor}
 use Rattle.vcd_journal.specs.declared.step.Step.{Step}
 use Rattle.vcdedit.specs.declared.script.command.Command.{Command}
 use Rattle.vcdedit.specs.declared.script.command.Command.TheVariants as commands
@@ -19,18 +17,14 @@ use Rattle.vcdedit.specs.declared.script.keyword.Keyword.TheVariants as keywords
 use Rattle.vcdedit.specs.declared.script.line_error.LineError.{LineError}
 use Rattle.vcdedit.specs.declared.script.line_error.LineError.TheVariants.{UnknownCommand, BadOption, NotScalar}
 use Rattle.vcdedit.specs.ScriptWords.{signal_of_name, number_of_word, distance_of_word, value_of_word}
-use Rattle.vcdedit.specs.LineWords.{◌>>=◌}
-use Rattle.vcdedit.specs.inside.WordCounts.{no_word, one_word, two_words, four_words, five_words, seven_words}
+use Rattle.vcdedit.specs.LineWords.{◌>>=◌, no_word, one_word, two_words, four_words, five_words, seven_words}
 use Rattle.vcdedit.specs.DecoderWords.{ratio_of_word, parity_of_word, order_of_word, signal_or_absent, one_bit_signal}
 use Rattle.vcdedit.specs.DecoderWords.{one_bit_signal_or_absent, faultless_uart, faultless_spi}
-use Rattle.vcdedit.specs.inside.ParsedDecoders.{uart_command, spi_command, i2c_command}
-use Rattle.vcdedit.specs.ScriptCommands.{is_comment}
-use Rattle.vcdedit.proofs.KeywordCommands.{words_are}
-use Rattle.vcdedit.specs.inside.ParsedCommands.{pair_command, rule_command, derive_command, keyword_command}
-use Rattle.vcdedit.specs.inside.ParsedCommands.{words_command, keyword_in_tables}
+use Rattle.vcdedit.specs.ScriptCommands.{is_comment, keyword_of, rule_of, derive_command, command_of}
+use Rattle.vcdedit.specs.ScriptCommands.{command_of_words}
 use Rattle.vcdedit.specs.CommandSignals.{IsScalarAt, HasCommandSignals}
 use Rattle.vcdedit.specs.WithoutAddress.{command_without_address}
-use Rattle.vcdedit.specs.ParsedLines.{line_words, command_of_line}
+use Rattle.vcdedit.specs.ScriptCommands.{line_words, command_of_line}
 use Rattle.vcdedit.proofs.NamedSignals.{named_within}
 
 -- a command that is read has its signals
@@ -155,29 +149,13 @@ absent_or_one_bit c (Some k) within = some_scalar c (one_bit_signal c k) (one_bi
 
 -- ---- the commands
 
-of_pair : (c : Contents) (rule : ℕ → ℕ → Rule) (word : List ℕ) (operands : List (List ℕ))
-    → GivesSignals c (pair_command c rule word operands)
-of_pair c rule word operands =
-    of_two c operands _ (λ a b. then_any c (signal_of_name c a) _
-    (λ j. then_any c (signal_of_name c b) _ (λ k. steps _ _)))
-
-of_rule : (c : Contents) (word rule : List ℕ) (operands : List (List ℕ))
-    → GivesSignals c (rule_command c word rule operands)
-of_rule c word rule operands =
-    either c _ _ _ (of_one c operands _ (λ a. then_any c (signal_of_name c a) _ (λ k. steps _ _)))
-    (either c _ _ _ (of_pair c And word operands)
-    (either c _ _ _ (of_pair c Or word operands)
-    (either c _ _ _ (of_pair c Xor word operands)
-    (either c _ _ _ (of_two c operands _
-    (λ a bit. then_any c (signal_of_name c a) _ (λ j. then_any c (number_of_word bit) _ (λ k. steps _ _))))
-    (refused c BadOption)))))
-
 of_derive : (c : Contents) (words : List (List ℕ)) → GivesSignals c (derive_command c words)
 of_derive c [] = refused c _
 of_derive c (word ∷ []) = refused c _
-of_derive c (word ∷ rule ∷ operands) = of_rule c word rule operands
+of_derive c (word ∷ rule ∷ operands) = then_any c (rule_of c rule operands) _ (λ r. steps _ _)
 
-of_uart : (c : Capture) (words : List (List ℕ)) → GivesSignals (contents c) (uart_command (contents c) words)
+of_uart : (c : Capture) (words : List (List ℕ))
+    → GivesSignals (contents c) (command_of (contents c) keywords.Uart words)
 of_uart c words = of_five (contents c) words _ (λ name bit count parity stop.
     read_on (contents c) (signal_of_name (contents c) name) (λ k. k < length (contents c).signals) _
     (found_within c name)
@@ -191,7 +169,8 @@ of_uart c words = of_five (contents c) words _ (λ name bit count parity stop.
     then_any (contents c) (faultless_uart (uart_setup ratio.0 ratio.1 data_bits parity_bit stop_bits)) _
     (λ setup. record { has = is }))))))))
 
-of_spi : (c : Capture) (words : List (List ℕ)) → GivesSignals (contents c) (spi_command (contents c) words)
+of_spi : (c : Capture) (words : List (List ℕ))
+    → GivesSignals (contents c) (command_of (contents c) keywords.Spi words)
 of_spi c words = of_seven (contents c) words _ (λ clk mosi miso cs mode bits order.
     read_on (contents c) (signal_of_name (contents c) clk) (λ k. k < length (contents c).signals) _ (found_within c clk)
     (λ k clk_within.
@@ -215,7 +194,8 @@ of_spi c words = of_seven (contents c) words _ (λ clk mosi miso cs mode bits or
     then_any (contents c) (faultless_spi (spi_setup number word_bits bit_order)) _
     (λ setup. record { has = (clk_is, mosi_is, miso_is, cs_is) })))))))))))))
 
-of_i2c : (c : Capture) (words : List (List ℕ)) → GivesSignals (contents c) (i2c_command (contents c) words)
+of_i2c : (c : Capture) (words : List (List ℕ))
+    → GivesSignals (contents c) (command_of (contents c) keywords.I2c words)
 of_i2c c words = of_two (contents c) words _ (λ scl sda.
     read_on (contents c) (signal_of_name (contents c) scl) (λ k. k < length (contents c).signals) _ (found_within c scl)
     (λ j scl_within.
@@ -227,7 +207,7 @@ of_i2c c words = of_two (contents c) words _ (λ scl sda.
     (λ line sda_is. record { has = (scl_is, sda_is) })))))
 
 of_keyword : (c : Capture) (keyword : Keyword) (words : List (List ℕ))
-    → GivesSignals (contents c) (keyword_command (contents c) keyword words)
+    → GivesSignals (contents c) (command_of (contents c) keyword words)
 of_keyword c keywords.Rename words =
     of_two _ words _ (λ name word. then_any _ (signal_of_name (contents c) name) _ (λ k. steps _ _))
 of_keyword c keywords.Remove words =
@@ -264,16 +244,16 @@ of_keyword c keywords.Uart words = of_uart c words
 of_keyword c keywords.Spi words = of_spi c words
 of_keyword c keywords.I2c words = of_i2c c words
 
-signals_of_words : (c : Capture) (words : List (List ℕ)) → GivesSignals (contents c) (words_command (contents c) words)
+signals_of_words : (c : Capture) (words : List (List ℕ))
+    → GivesSignals (contents c) (command_of_words (contents c) words)
 signals_of_words c [] = record { has = tt }
 signals_of_words c (first ∷ arguments) =
     either _ (is_comment first) _ _ (record { has = tt })
-    (then_any _ (ok_or (keyword_in_tables first) UnknownCommand) _ (λ keyword. of_keyword c keyword arguments))
+    (then_any _ (ok_or (keyword_of first) UnknownCommand) _ (λ keyword. of_keyword c keyword arguments))
 
 signals_of_line : (c : Capture) (line : List ℕ) → GivesSignals (contents c) (command_of_line (contents c) line)
 unfolding command_of_line
-signals_of_line c line = subst (GivesSignals (contents c)) (sym (words_are (contents c) (line_words line)))
-    (signals_of_words c (line_words line))
+signals_of_line c line = signals_of_words c (line_words line)
 
 without_address : (c : Contents) (command : Command) → HasCommandSignals c (command_without_address command)
     → HasCommandSignals c command

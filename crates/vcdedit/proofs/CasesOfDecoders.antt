@@ -27,7 +27,7 @@ use Rattle.vcdedit.specs.declared.script.line_error.LineError.{LineError}
 use Rattle.vcdedit.specs.declared.script.line_error.LineError.TheVariants.{WrongCount, BadNumber, NoSuchName, BadOption}
 use Rattle.vcdedit.specs.declared.script.line_error.LineError.TheVariants.{NotScalar, Setup}
 use Rattle.vcdedit.specs.DecoderReply.{kind_text, uart_lines, spi_lines, i2c_lines}
-use Rattle.vcdedit.specs.ParsedLines.{command_of_line}
+use Rattle.vcdedit.specs.ScriptCommands.{command_of_line}
 use Rattle.vcdedit.proofs.CasesOfRun.{two_signals}
 use Rattle.vcd_text.proofs.CasesOfText.{capture, wire, top, from}
 

@@ -4,6 +4,8 @@ use Rattle.std.specs.Prelude.{ℕ, pos, negsuc, List, [], ◌∷◌, Result, Ok,
 use Rattle.vcd_core.specs.declared.bit.Bit.TheVariants.{Zero, X}
 use Rattle.vcd_core.specs.Names.{name_in, lookup}
 use Rattle.vcd_edit.specs.declared.edit.Edit.TheVariants.{Rename, Remove, Invert, Shift, Cut, Deglitch, Force}
+use Rattle.vcd_edit.specs.declared.edit.Edit.TheVariants.{Derive}
+use Rattle.vcd_edit.specs.declared.edit.Rule.{Rule}
 use Rattle.vcd_edit.specs.declared.edit.Rule.TheVariants.{Not, And, Or, Xor, BitOf}
 use Rattle.vcd_journal.specs.declared.step.Step.TheVariants as steps
 use Rattle.vcd_text.specs.Words.{words_from}
@@ -14,13 +16,16 @@ use Rattle.vcdedit.specs.declared.script.line_error.LineError.TheVariants.{Unkno
 use Rattle.vcdedit.specs.declared.script.line_error.LineError.TheVariants.{NoSuchName, BadValueText, BadOption}
 use Rattle.vcdedit.specs.LentBytes.{lent_bytes}
 use Rattle.vcdedit.specs.ScriptCommands.{edit_command, step_command}
-use Rattle.vcdedit.specs.inside.ParsedCommands.{derive_by}
-use Rattle.vcdedit.specs.ParsedLines.{command_of_line}
+use Rattle.vcdedit.specs.ScriptCommands.{command_of_line}
 use Rattle.vcdedit.proofs.CasesOfRun.{two_signals}
 
 -- what a line asks for on a signal `top.a` of one bit and a vector `top.v` of four bits
 abbrev parsed : List ℕ → Result Command LineError
 parsed line = command_of_line two_signals line
+
+-- a signal `n` that is derived by a rule
+abbrev derived_by : Rule → Result Command LineError
+derived_by rule = edit_command (Derive (lent_bytes (codes "n")) rule)
 
 edits_of_one_signal : (parsed (codes "rename top.a b") ≡ edit_command (Rename 0 (lent_bytes (codes "b"))))
     × (parsed (codes " remove\t@1") ≡ edit_command (Remove 1))
@@ -34,11 +39,11 @@ unfolding command_of_line words_from lookup name_in
 edits_of_one_signal = (refl, refl, refl, refl, refl, refl, refl, refl)
 
 other_steps : (parsed (codes "cut 3 7") ≡ edit_command (Cut 3 7))
-    × (parsed (codes "derive n not top.a") ≡ derive_by (codes "n") (Not 0))
-    × (parsed (codes "derive n and top.a top.v") ≡ derive_by (codes "n") (And 0 1))
-    × (parsed (codes "derive n or @1 @0") ≡ derive_by (codes "n") (Or 1 0))
-    × (parsed (codes "derive n xor top.a top.a") ≡ derive_by (codes "n") (Xor 0 0))
-    × (parsed (codes "derive n bit top.v 3") ≡ derive_by (codes "n") (BitOf 1 3))
+    × (parsed (codes "derive n not top.a") ≡ derived_by (Not 0))
+    × (parsed (codes "derive n and top.a top.v") ≡ derived_by (And 0 1))
+    × (parsed (codes "derive n or @1 @0") ≡ derived_by (Or 1 0))
+    × (parsed (codes "derive n xor top.a top.a") ≡ derived_by (Xor 0 0))
+    × (parsed (codes "derive n bit top.v 3") ≡ derived_by (BitOf 1 3))
     × (parsed (codes "undo") ≡ step_command steps.Undo)
     × (parsed (codes "redo") ≡ step_command steps.Redo)
     × (parsed (codes "depth 12") ≡ step_command (steps.Depth 12))

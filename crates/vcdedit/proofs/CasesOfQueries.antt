@@ -12,10 +12,10 @@ use Rattle.vcd_edit.specs.EditFaults.{edit_fault}
 use Rattle.vcdedit.specs.declared.script.command.Command.TheVariants as commands
 use Rattle.vcdedit.specs.declared.script.line_error.LineError.TheVariants.{WrongCount, BadNumber, NoSuchName}
 use Rattle.vcdedit.specs.Script.{script_lines}
-use Rattle.vcdedit.specs.ParsedLines.{command_of_line}
+use Rattle.vcdedit.specs.ScriptCommands.{command_of_line}
 use Rattle.vcdedit.specs.Queries.{timescale_line, listing}
 use Rattle.vcdedit.specs.WaveReplies.{value_line, change_lines}
-use Rattle.vcdedit.specs.MachineReplies.{line_reply}
+use Rattle.vcdedit.specs.Reply.{line_reply}
 use Rattle.vcdedit.specs.RunMachines.{machine_after_line}
 use Rattle.vcdedit.specs.RunOutcomes.{line_replies}
 use Rattle.vcd_journal.specs.Machine.{initial_machine}

@@ -11,8 +11,8 @@ use Rattle.vcd_text.specs.Text.{code_digits, signal_items, tick_items, items_of,
 use Rattle.vcd_edit.specs.Effect.{effect}
 use Rattle.vcd_edit.specs.EditFaults.{edit_fault}
 use Rattle.vcdedit.specs.Script.{script_lines}
-use Rattle.vcdedit.specs.ParsedLines.{command_of_line}
-use Rattle.vcdedit.specs.MachineReplies.{line_reply}
+use Rattle.vcdedit.specs.ScriptCommands.{command_of_line}
+use Rattle.vcdedit.specs.Reply.{line_reply}
 use Rattle.vcdedit.specs.RunMachines.{machine_after_line, machine_after_lines, refusal_count}
 use Rattle.vcdedit.specs.Run.{RunOutcome}
 use Rattle.vcdedit.specs.RunOutcomes.{line_replies, run_outcome, IsMachineRun}

@@ -3,8 +3,6 @@ pub mod Steps
 pub mod ScriptNumbers
 pub mod NamedSignals
 pub mod AskedSignals
-pub mod KeywordCommands
-pub mod TableCommands
 pub mod PrintedSignals
 pub mod CasesOfLines
 pub mod CasesOfQueries

@@ -7,8 +7,7 @@ use Rattle.std.proofs.lemmas.List.Folds.{concat-append}
 use Rattle.std.specs.Io.KnownBytes.{Appends}
 use Rattle.std.proofs.KnownBytes.{Appends-nil, Appends-trans}
 use Rattle.vcd_journal.specs.Machine.{Machine}
-use Rattle.vcdedit.specs.MachineReplies.{line_reply_text, is_line_refused}
-use Rattle.vcdedit.specs.RunMachines.{machine_after_line, machine_after_lines, refusal_count}
+use Rattle.vcdedit.specs.RunMachines.{reply_on, is_refused_on, machine_after_line, machine_after_lines, refusal_count}
 use Rattle.vcdedit.specs.RunOutcomes.{line_replies}
 use Rattle.vcdedit.specs.Script.{script_lines}
 use Rattle.vcdedit.specs.inside.RunLines.{RunsLine, RunsLines}
@@ -42,10 +41,10 @@ all_left skipped lines old before = record {
 
 -- the reply to a line on a machine, and how many lines are refused after it
 abbrev pub replied_to : (skipped number : ℕ) → List ℕ → Machine → List ℕ
-replied_to skipped number line m = line_reply_text number line m.now skipped (length m.past) (length m.future)
+replied_to skipped number line m = reply_on skipped number line m
 
 abbrev refused_at : (skipped : ℕ) → List ℕ → Machine → ℕ
-refused_at skipped line m = cond (is_line_refused line m.now skipped (length m.past) (length m.future)) 1 0
+refused_at skipped line m = cond (is_refused_on skipped line m) 1 0
 
 -- one more line
 line_more : (skipped : ℕ) (lines : List (List ℕ)) (old : Machine) (number : ℕ) (line : List ℕ) (left : List (List ℕ))

@@ -10,8 +10,7 @@ use Rattle.std.proofs.KnownBytes.{Appends-trans, Appends-kept}
 use Rattle.vcd_journal.specs.Machine.{Machine}
 use Rattle.vcdedit.specs.declared.running.run_error.RunError.{RunError}
 use Rattle.vcdedit.specs.declared.running.run_error.RunError.TheVariants as run_errors
-use Rattle.vcdedit.specs.MachineReplies.{line_reply_text}
-use Rattle.vcdedit.specs.RunMachines.{machine_after_line}
+use Rattle.vcdedit.specs.RunMachines.{reply_on, machine_after_line}
 use Rattle.vcdedit.specs.RunOutcomes.{line_replies}
 use Rattle.vcdedit.specs.inside.RunLines.{StopsAtReply, StopsAtLine, StopsInReplies, StopsInLines}
 use Rattle.vcdedit.proofs.LinesLeft.{RepliesSoFar}
@@ -93,7 +92,7 @@ line_stops skipped lines old number line all left now refused bytes before betwe
     let here = rw parts at so.are_left in
     text_stops (line_replies skipped 1 old lines) so.texts
     (line_replies skipped (number + 1 + 1) (machine_after_line now line) left)
-    (line_reply_text (number + 1) line now.now skipped (length now.past) (length now.future)) number bytes before
+    (reply_on skipped (number + 1) line now) number bytes before
     between after e
     here.replies so.one_each so.counted so.took stops
 

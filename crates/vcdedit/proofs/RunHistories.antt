@@ -18,33 +18,28 @@ use Rattle.vcd_text.proofs.SoundMeaning.{meaning_is_sound}
 use Rattle.vcd_edit.specs.declared.edit.Edit.{Edit}
 use Rattle.vcd_edit.specs.declared.fault.EditError.{EditError}
 use Rattle.vcd_edit.specs.EditFaults.{edit_fault}
-use Rattle.vcd_edit.specs.EditTests.{unless_refused}
-use Rattle.vcd_edit.proofs.RefusedEdits.{unless_fault, edit_refused_is}
 use Rattle.vcd_journal.specs.declared.step.Step.{Step}
 use Rattle.vcd_journal.specs.declared.step.Step.TheVariants as steps
 use Rattle.vcd_journal.specs.declared.step.StepError.TheVariants as refusals
 use Rattle.vcd_journal.specs.StepErrorNames.{step_error_name}
 use Rattle.vcd_journal.specs.Machine.{Machine, initial_machine, step_outcome, edit_outcome, undo_outcome, redo_outcome}
-use Rattle.vcd_journal.specs.Machine.{is_depth}
+use Rattle.vcd_journal.specs.History.{is_depth}
 use Rattle.vcd_journal.specs.InForce.{EditLists}
-use Rattle.vcd_journal.specs.History.{History, initial_history, replay, step_tests, history_after}
+use Rattle.vcd_journal.specs.History.{History, initial_history, replay, history_after}
 use Rattle.vcd_journal.proofs.Replay.{Follows, PastFollows, FutureFollows, edit_follows, undo_follows, redo_follows}
 use Rattle.vcd_journal.proofs.Replay.{depth_choice, depth_follows}
 use Rattle.vcdedit.specs.declared.script.command.Command.{Command}
 use Rattle.vcdedit.specs.declared.script.command.Command.TheVariants as commands
 use Rattle.vcdedit.specs.declared.script.line_error.LineError.{LineError}
 use Rattle.vcdedit.specs.Script.{script_lines}
-use Rattle.vcdedit.specs.ParsedLines.{line_words, command_of_line}
-use Rattle.vcdedit.specs.LineReads.{ReadResult, ◌▷◌}
-use Rattle.vcdedit.specs.CommandTable.{Request, request_of_words}
-use Rattle.vcdedit.proofs.TableCommands.{named_request, line_request_is}
+use Rattle.vcdedit.specs.ScriptCommands.{command_of_line}
 use Rattle.vcdedit.proofs.UndoneEdits.{refused_line_keeps, undo_gives_back_earlier}
 use Rattle.vcdedit.specs.Reply.{reply_text}
-use Rattle.vcdedit.specs.Run.{RunOutcome, answer, history_after_request, line_answer, history_after_line, history_at}
+use Rattle.vcdedit.specs.Run.{RunOutcome, history_after_command, line_answer, history_after_line, history_at}
 use Rattle.vcdedit.specs.Run.{answers, capture_at, IsRunOfLines}
 use Rattle.vcdedit.specs.inside.LineAnswers.{line_answers}
-use Rattle.vcdedit.specs.MachineReplies.{LineReply, ok_reply, edit_reply, history_reply, step_reply}
-use Rattle.vcdedit.specs.MachineReplies.{command_reply, line_reply}
+use Rattle.vcdedit.specs.Reply.{LineReply, ok_reply, edit_reply, history_reply, step_reply}
+use Rattle.vcdedit.specs.Reply.{command_reply, line_reply}
 use Rattle.vcdedit.specs.RunMachines.{machine_after_command, machine_after_line, machine_after_lines, refusal_count}
 use Rattle.vcdedit.specs.RunOutcomes.{line_replies, run_outcome}
 use Rattle.vcdedit.specs.Laws.{MachineRunIsRun, RunIsOfReplays}
@@ -75,64 +70,6 @@ past_count c es [] p = omega arith
 past_count c [] (back ∷ older) p = absurd p
 past_count c (e ∷ es) (back ∷ older) p =
     let rest = past_count c es older p.1 in omega (arith, rest)
-
--- ---- replies
-
--- the reply to an accepted step
-abbrev ok_lines : List (List ℕ)
-ok_lines = codes "ok" ∷ []
-
-edit_reply_is : (found : Option EditError) → edit_reply found ≡ unless_fault found ok_lines
-edit_reply_is None = refl
-edit_reply_is (Some error) = refl
-
-passed : (b : Bool) (refusal : List ℕ) → b ≡ false → ok_reply ≡ unless_refused ((b, refusal) ∷ []) ok_lines
-passed true refusal fails = absurd (cc)
-passed false refusal fails = refl
-
-undo_reply_is : (held : ℕ) → history_reply held refusals.NothingToUndo
-    ≡ unless_refused ((held == 0, step_error_name refusals.NothingToUndo) ∷ []) ok_lines
-undo_reply_is zero = refl
-undo_reply_is (suc held) =
-    passed (suc held == 0) (step_error_name refusals.NothingToUndo) (grind (arith, nat_tests))
-
-redo_reply_is : (held : ℕ) → history_reply held refusals.NothingToRedo
-    ≡ unless_refused ((held == 0, step_error_name refusals.NothingToRedo) ∷ []) ok_lines
-redo_reply_is zero = refl
-redo_reply_is (suc held) =
-    passed (suc held == 0) (step_error_name refusals.NothingToRedo) (grind (arith, nat_tests))
-
-depth_reply_is : (bad small : Bool) →
-    cond bad (Err (step_error_name refusals.BadDepth))
-    (cond small (Err (step_error_name refusals.DepthTooSmall)) ok_reply)
-    ≡ unless_refused ((bad, step_error_name refusals.BadDepth)
-    ∷ (small, step_error_name refusals.DepthTooSmall) ∷ []) ok_lines
-depth_reply_is true small = refl
-depth_reply_is false true = refl
-depth_reply_is false false = refl
-
-step_reply_is : (c : Contents) (h : History) (s : Step) (undoable redoable : ℕ) → h.undoable ≡ undoable
-    → length h.undone ≡ redoable → step_reply s c undoable redoable ≡ unless_refused (step_tests c h s) ok_lines
-step_reply_is c h (steps.Edit e) undoable redoable held undone =
-    edit_reply_is (edit_fault e c) ∙ edit_refused_is c e ok_lines
-step_reply_is c h steps.Undo undoable redoable held undone = rw (← held) (undo_reply_is h.undoable)
-step_reply_is c h steps.Redo undoable redoable held undone = rw (← undone) (redo_reply_is (length h.undone))
-step_reply_is c h (steps.Depth depth) undoable redoable held undone =
-    rw (← undone) (depth_reply_is (not (is_depth depth)) (nat_lt depth (length h.undone)))
-
-command_reply_is : (c : Contents) (skipped : ℕ) (h : History) (parsed : Result Command LineError)
-    (undoable redoable : ℕ) → h.undoable ≡ undoable → length h.undone ≡ redoable →
-    command_reply parsed c skipped undoable redoable ≡ (named_request c skipped parsed ▷ answer c h)
-command_reply_is c skipped h (Err fault) undoable redoable held undone = refl
-command_reply_is c skipped h (Ok commands.Nothing) undoable redoable held undone = refl
-command_reply_is c skipped h (Ok (commands.Step step)) undoable redoable held undone =
-    step_reply_is c h step undoable redoable held undone
-command_reply_is c skipped h (Ok commands.List) undoable redoable held undone = refl
-command_reply_is c skipped h (Ok (commands.Value k tick)) undoable redoable held undone = refl
-command_reply_is c skipped h (Ok (commands.Changes k)) undoable redoable held undone = refl
-command_reply_is c skipped h (Ok (commands.Uart k setup)) undoable redoable held undone = refl
-command_reply_is c skipped h (Ok (commands.Spi clk mosi miso cs setup)) undoable redoable held undone = refl
-command_reply_is c skipped h (Ok (commands.I2c scl sda)) undoable redoable held undone = refl
 
 -- ---- steps
 
@@ -206,7 +143,7 @@ step_matches c h m (steps.Depth depth) is accepted =
 command_matches : (c : Contents) (h : History) (m : Machine) (skipped : ℕ) (parsed : Result Command LineError)
     → Matches c h m →
     is_err (command_reply parsed m.now skipped (length m.past) (length m.future)) ≡ false
-    → Matches c (history_after_request h (named_request m.now skipped parsed)) (machine_after_command m parsed)
+    → Matches c (history_after_command h parsed) (machine_after_command m parsed)
 command_matches c h m skipped (Err fault) is accepted = is
 command_matches c h m skipped (Ok commands.Nothing) is accepted = is
 command_matches c h m skipped (Ok (commands.Step step)) is accepted = step_matches c h m step is accepted
@@ -219,41 +156,27 @@ command_matches c h m skipped (Ok (commands.I2c scl sda)) is accepted = is
 
 -- ---- lines
 
--- the answer to a line on this capture
-abbrev answer_on : Contents → (skipped : ℕ) → History → List ℕ → LineReply
-answer_on now skipped h line = request_of_words now skipped (line_words line) ▷ answer now h
-
-answer_here : (c : Contents) (h : History) (m : Machine) (skipped : ℕ) (line : List ℕ) → Matches c h m →
-    line_reply line m.now skipped (length m.past) (length m.future) ≡ answer_on m.now skipped h line
-unfolding line_reply
-answer_here c h m skipped line is =
-    command_reply_is m.now skipped h (command_of_line m.now line) (length m.past) (length m.future) is.undoable
-    (undone_count c h.edits h.undone m.future is.follows.future)
-    ∙ ap (λ (request : ReadResult Request). request ▷ answer m.now h) (line_request_is m.now skipped line)
-
 answer_is : (c : Contents) (h : History) (m : Machine) (skipped : ℕ) (line : List ℕ) → Matches c h m →
     line_reply line m.now skipped (length m.past) (length m.future) ≡ line_answer c skipped h line
 answer_is c h m skipped line is =
-    answer_here c h m skipped line is ∙ ap (λ (now : Contents). answer_on now skipped h line) is.follows.now
+    let undone = sym (undone_count c h.edits h.undone m.future is.follows.future) in
+    let held = sym is.undoable in
+    λ i. line_reply line (is.follows.now i) skipped (held i) (undone i)
 
 -- the history after a line that is refused or not
 by_refusal : (c : Contents) (h : History) (m : Machine) (skipped : ℕ) (line : List ℕ) (refused : Bool) → Matches c h m →
     is_err (line_reply line m.now skipped (length m.past) (length m.future)) ≡ refused →
-    Matches c (cond refused h (history_after_request h (request_of_words m.now skipped (line_words line))))
-    (machine_after_line m line)
+    Matches c (cond refused h (history_after_command h (command_of_line m.now line))) (machine_after_line m line)
 unfolding line_reply machine_after_line
 by_refusal c h m skipped line true is replied =
     subst (Matches c h) (sym (refused_line_changes_nothing m line skipped replied)) is
-by_refusal c h m skipped line false is replied =
-    subst (λ (request : ReadResult Request). Matches c (history_after_request h request) (machine_after_line m line))
-    (line_request_is m.now skipped line) (command_matches c h m skipped (command_of_line m.now line) is replied)
+by_refusal c h m skipped line false is replied = command_matches c h m skipped (command_of_line m.now line) is replied
 
 line_matches : (c : Contents) (h : History) (m : Machine) (skipped : ℕ) (line : List ℕ) → Matches c h m
     → Matches c (history_after_line c skipped h line) (machine_after_line m line)
 line_matches c h m skipped line is =
     subst (λ (now : Contents). Matches c
-    (cond (is_err (line_answer c skipped h line)) h
-    (history_after_request h (request_of_words now skipped (line_words line))))
+    (cond (is_err (line_answer c skipped h line)) h (history_after_command h (command_of_line now line)))
     (machine_after_line m line)) is.follows.now
     (by_refusal c h m skipped line (is_err (line_answer c skipped h line)) is
     (ap is_err (answer_is c h m skipped line is)))
@@ -305,7 +228,7 @@ unfolding line_answers
 answers_from c skipped h before [] = refl
 answers_from c skipped h before (line ∷ lines) =
     let step : History → List ℕ → History = history_after_line c skipped in
-    let answers_at : List (List ℕ) → ℕ → List (ReadResult (List (List ℕ))) = λ all n.
+    let answers_at : List (List ℕ) → ℕ → List LineReply = λ all n.
     map (λ (p : ℕ × List ℕ). line_answer c skipped (fold step h (take p.0 all)) p.1) (enumerate_from n lines) in
     let first = ap (λ (ls : List (List ℕ)). line_answer c skipped (fold step h ls) line)
     (take-append_seam before (line ∷ lines)) in

@@ -17,7 +17,7 @@ use Rattle.vcd_edit.specs.EditFaults.{edit_fault}
 use Rattle.vcd_journal.specs.declared.step.Step.{Step}
 use Rattle.vcd_journal.specs.declared.step.Step.TheVariants as steps
 use Rattle.vcd_journal.specs.Machine.{Machine, initial_machine, step_outcome, edit_outcome, undo_outcome, redo_outcome}
-use Rattle.vcd_journal.specs.Machine.{is_depth}
+use Rattle.vcd_journal.specs.History.{is_depth}
 use Rattle.vcd_journal.proofs.Replay.{depth_choice}
 use Rattle.vcd_journal.specs.History.{replay}
 use Rattle.vcd_journal.specs.InForce.{earlier_replays}
@@ -25,8 +25,8 @@ use Rattle.vcdedit.specs.declared.script.command.Command.{Command}
 use Rattle.vcdedit.specs.declared.script.command.Command.TheVariants as commands
 use Rattle.vcdedit.specs.declared.script.line_error.LineError.{LineError}
 use Rattle.vcdedit.specs.Script.{script_lines}
-use Rattle.vcdedit.specs.ParsedLines.{command_of_line}
-use Rattle.vcdedit.specs.MachineReplies.{line_reply, command_reply, step_reply}
+use Rattle.vcdedit.specs.ScriptCommands.{command_of_line}
+use Rattle.vcdedit.specs.Reply.{line_reply, command_reply, step_reply}
 use Rattle.vcdedit.specs.RunMachines.{machine_after_command, machine_after_line, machine_after_lines, no_edits}
 use Rattle.vcdedit.specs.RunMachines.{edits_after_lines, reply_on, is_refused_on, IsReplayOfLine, machine_at, edits_at}
 use Rattle.vcdedit.specs.Run.{RunOutcome}

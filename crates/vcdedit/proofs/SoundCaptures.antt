@@ -12,12 +12,12 @@ use Rattle.vcd_edit.proofs.SoundEffects.{effect_is_sound}
 use Rattle.vcd_journal.specs.declared.step.Step.{Step}
 use Rattle.vcd_journal.specs.declared.step.Step.TheVariants as steps
 use Rattle.vcd_journal.specs.Machine.{Machine, initial_machine, step_outcome, edit_outcome, undo_outcome, redo_outcome}
-use Rattle.vcd_journal.specs.Machine.{is_depth}
+use Rattle.vcd_journal.specs.History.{is_depth}
 use Rattle.vcd_journal.proofs.Replay.{depth_choice}
 use Rattle.vcdedit.specs.declared.script.command.Command.{Command}
 use Rattle.vcdedit.specs.declared.script.command.Command.TheVariants as commands
 use Rattle.vcdedit.specs.declared.script.line_error.LineError.{LineError}
-use Rattle.vcdedit.specs.ParsedLines.{command_of_line}
+use Rattle.vcdedit.specs.ScriptCommands.{command_of_line}
 use Rattle.vcdedit.specs.RunMachines.{machine_after_command, machine_after_line, machine_after_lines}
 
 -- all captures that a machine holds are sound

@@ -11,15 +11,16 @@ use Rattle.vcd_journal.specs.declared.step.Step.TheVariants as steps
 use Rattle.vcd_journal.specs.declared.step.StepError.TheVariants as refusals
 use Rattle.vcd_journal.specs.declared.step.Answer.{Answer}
 use Rattle.vcd_journal.specs.StepErrorNames.{step_error_name}
+use Rattle.vcd_journal.specs.History.{is_depth}
 use Rattle.vcd_journal.specs.Machine.{Machine, initial_machine, step_outcome, edit_outcome, undo_outcome, redo_outcome}
-use Rattle.vcd_journal.specs.Machine.{is_depth, accepted_outcome, refused_outcome, machine_after_depth, AreSteps}
+use Rattle.vcd_journal.specs.Machine.{accepted_outcome, refused_outcome, machine_after_depth, AreSteps}
 use Rattle.vcd_journal.proofs.Steps.{ample_step}
 use Rattle.vcd_journal.proofs.Replay.{session_is_replay}
 use Rattle.vcdedit.specs.declared.script.command.Command.{Command}
 use Rattle.vcdedit.specs.declared.script.command.Command.TheVariants as commands
 use Rattle.vcdedit.specs.declared.script.line_error.LineError.{LineError}
-use Rattle.vcdedit.specs.ParsedLines.{command_of_line}
-use Rattle.vcdedit.specs.MachineReplies.{ok_reply, step_reply, edit_reply}
+use Rattle.vcdedit.specs.ScriptCommands.{command_of_line}
+use Rattle.vcdedit.specs.Reply.{ok_reply, step_reply, edit_reply}
 use Rattle.vcd_journal.specs.InForce.{EditLists, IsReplay, edits_after_all}
 use Rattle.vcdedit.specs.RunMachines.{machine_after_line, machine_after_lines, machine_after_command, no_edits}
 use Rattle.vcdedit.specs.RunMachines.{edits_after_command, edits_after_lines}

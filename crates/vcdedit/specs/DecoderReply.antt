@@ -55,14 +55,18 @@ module _ (digits : ℕ) where
   kind_text kinds.FrameError = codes "frame-error"
   kind_text kinds.Unknown = codes "unknown"
   kind_text kinds.Partial = codes "partial"
-  kind_text (kinds.Word mosi miso) = codes "word" ++ data_text (codes " mosi ") mosi ++ data_text (codes " miso ") miso
+  kind_text (kinds.Word mosi miso) = codes "word" ++ data_text (codes " mosi ") mosi
+      ++ data_text (codes " miso ") miso
   kind_text (kinds.PartialOf count) = codes "partial " ++ decimal count
   kind_text kinds.Start = codes "start"
   kind_text kinds.RepeatedStart = codes "repeated-start"
   kind_text kinds.Stop = codes "stop"
-  kind_text (kinds.Address address direction) = codes "address " ++ hex_text 2 address ++ direction_text direction
-  kind_text (kinds.AddressHigh bits direction) = codes "address-high " ++ hex_text 1 bits ++ direction_text direction
-  kind_text (kinds.TenBitAddress address direction) = codes "address " ++ hex_text 3 address ++ direction_text direction
+  kind_text (kinds.Address address direction) = codes "address " ++ hex_text 2 address
+      ++ direction_text direction
+  kind_text (kinds.AddressHigh bits direction) = codes "address-high " ++ hex_text 1 bits
+      ++ direction_text direction
+  kind_text (kinds.TenBitAddress address direction) = codes "address " ++ hex_text 3 address
+      ++ direction_text direction
   kind_text (kinds.Data byte) = codes "data " ++ hex_text 2 byte
   kind_text kinds.Ack = codes "ack"
   kind_text kinds.Nack = codes "nack"
@@ -72,7 +76,8 @@ module _ (digits : ℕ) where
 -- the line of an annotation: its first and last tick, the decoder's name, its kind
 abbrev pub annotation_line : List ℕ → ℕ → Annotation → List ℕ
 annotation_line decoder digits a =
-    decimal a.start ++ codes "-" ++ decimal a.end ++ codes " " ++ decoder ++ codes " " ++ kind_text digits a.kind
+    decimal a.start ++ codes "-" ++ decimal a.end ++ codes " " ++ decoder
+    ++ codes " " ++ kind_text digits a.kind
 
 -- the reply on a capture
 module _ (c : Contents) where
@@ -82,13 +87,16 @@ module _ (c : Contents) where
 
   -- the lines of the frames on a UART line
   abbrev pub uart_lines : ℕ → UartSetup → List (List ℕ)
-  uart_lines k u = map (annotation_line (codes "uart") (nibbles u.data_bits)) (uart_annotations (letters_at k) c.end u)
+  uart_lines k u = map (annotation_line (codes "uart") (nibbles u.data_bits))
+      (uart_annotations (letters_at k) c.end u)
 
   -- the lines of the words on a serial peripheral interface
   abbrev pub spi_lines : (clk : ℕ) → (mosi miso cs : Option ℕ) → SpiSetup → List (List ℕ)
-  spi_lines clk mosi miso cs u = map (annotation_line (codes "spi") (nibbles u.bits)) (spi_annotations u
-      (letters_at clk) (option_map letters_at mosi) (option_map letters_at miso) (option_map letters_at cs) c.end)
+  spi_lines clk mosi miso cs u = map (annotation_line (codes "spi") (nibbles u.bits))
+      (spi_annotations u (letters_at clk) (option_map letters_at mosi)
+      (option_map letters_at miso) (option_map letters_at cs) c.end)
 
   -- the lines of the events on an I2C bus
   abbrev pub i2c_lines : (scl sda : ℕ) → List (List ℕ)
-  i2c_lines scl sda = map (annotation_line (codes "i2c") 2) (i2c_annotations (letters_at scl) (letters_at sda) c.end)
+  i2c_lines scl sda = map (annotation_line (codes "i2c") 2)
+      (i2c_annotations (letters_at scl) (letters_at sda) c.end)

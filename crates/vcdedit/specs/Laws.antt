@@ -12,8 +12,8 @@ use Rattle.vcd_journal.specs.StepErrorNames.{step_error_name}
 use Rattle.vcd_journal.specs.Machine.{Machine, initial_machine, step_outcome}
 use Rattle.vcd_journal.specs.InForce.{IsReplay}
 use Rattle.vcd_journal.specs.History.{replay}
-use Rattle.vcdedit.specs.ParsedLines.{command_of_line}
-use Rattle.vcdedit.specs.MachineReplies.{LineReply, ok_reply, step_reply}
+use Rattle.vcdedit.specs.ScriptCommands.{command_of_line}
+use Rattle.vcdedit.specs.Reply.{LineReply, ok_reply, step_reply}
 use Rattle.vcdedit.specs.Run.{RunOutcome, IsRun}
 use Rattle.vcdedit.specs.RunMachines.{IsRunOfReplays, machine_after_line, machine_after_lines, no_edits}
 use Rattle.vcdedit.specs.RunMachines.{edits_after_lines, is_refused_on}

@@ -6,9 +6,6 @@ pub mod ScriptWords
 pub mod LineWords
 pub mod DecoderWords
 pub mod ScriptCommands
-pub mod LineReads
-pub mod CommandTable
-pub mod ParsedLines
 pub mod Script
 pub mod Queries
 pub mod WaveReplies
@@ -16,7 +13,6 @@ pub mod CommandSignals
 pub mod DecoderReply
 pub mod Reply
 pub mod Run
-pub mod MachineReplies
 pub mod RunMachines
 pub mod RunOutcomes
 pub mod Laws

@@ -19,7 +19,8 @@ timescale_line (Some t) = codes "timescale " ++ decimal t.count ++ codes " " ++ 
 -- the signal at a position: `@K WIDTH KIND FULLNAME`
 abbrev pub signal_line : ℕ → SignalContents → List ℕ
 signal_line position s =
-    codes "@" ++ decimal position ++ codes " " ++ decimal s.width ++ codes " " ++ s.kind ++ codes " " ++ full_name s
+    codes "@" ++ decimal position ++ codes " " ++ decimal s.width
+    ++ codes " " ++ s.kind ++ codes " " ++ full_name s
 
 -- the lines of `list`; edits do not change how many declarations of the file were skipped
 abbrev pub listing : Contents → (skipped : ℕ) → List (List ℕ)

@@ -32,11 +32,13 @@ IsUntouched d = (d.after ≡ d.before) × (d.has_failed ≡ false)
 
 -- a source did not fail: it was read to its end, and had at most so many bytes
 abbrev pub IsRead : (limit : ℕ) → DeviceEnd → Type 0
-IsRead limit r = (r.has_failed ≡ false) × IsAtEnd r.after × IfSome r.before (λ bytes. length bytes ≤ limit)
+IsRead limit r = (r.has_failed ≡ false) × IsAtEnd r.after
+    × IfSome r.before (λ bytes. length bytes ≤ limit)
 
 -- the capture read is within the limit and has a meaning
 abbrev pub IsAccepted : DeviceEnd → Type 0
-IsAccepted r = IsRead FILE_LIMIT r × IfSome r.before (λ file. (c : Contents) × (skipped : ℕ) × FileMeans file c skipped)
+IsAccepted r = IsRead FILE_LIMIT r
+    × IfSome r.before (λ file. (c : Contents) × (skipped : ℕ) × FileMeans file c skipped)
 
 -- a writer took this text
 abbrev pub HasText : DeviceEnd → List ℕ → Type 0
@@ -52,9 +54,10 @@ module _ {D : Type 0} (shown : D → Option (List ℕ)) (has_failed : D → Bool
   abbrev pub device_end : (old new : D) → DeviceEnd
   device_end old new = record { before = shown old; after = shown new; has_failed = has_failed new }
 
-  -- holds of the end of the writer of the output, or of none: `out` is the `Option<&mut D>` as it was passed, `left` as
-  -- it was returned; they are the same variant
-  abbrev pub ForOutput : Option (MutBor D) → Unit {0} ⊎ (MutBor D × Unit {0}) ⊎ ⊥ → (Option DeviceEnd → Type 0) → Type 0
+  -- holds of the end of the writer of the output, or of none: `out` is the `Option<&mut D>` as it
+  -- was passed, `left` as it was returned; they are the same variant
+  abbrev pub ForOutput : Option (MutBor D) → Unit {0} ⊎ (MutBor D × Unit {0}) ⊎ ⊥
+      → (Option DeviceEnd → Type 0) → Type 0
   ForOutput None left property = property None
   ForOutput (Some out) (inr (inl left)) property = property (Some (device_end out.now left.0.now))
   ForOutput (Some out) left property = ⊥
@@ -77,15 +80,18 @@ module _ (depth : ℕ) (capture script : DeviceEnd) where
     -- how the run ends, by its result
     unfoldable pub RunEnds : Result Summary RunError → Type 0
     -- all replies are written, and the output if one is asked for
-    RunEnds (Ok summary) = IsAccepted capture × IsRead SCRIPT_LIMIT script × (replies.has_failed ≡ false)
-        × IfSome output (λ out. out.has_failed ≡ false) × ForRun (λ written. HasText replies (concat written.replies)
+    RunEnds (Ok summary) = IsAccepted capture × IsRead SCRIPT_LIMIT script
+        × (replies.has_failed ≡ false) × IfSome output (λ out. out.has_failed ≡ false)
+        × ForRun (λ written. HasText replies (concat written.replies)
         × IfSome output (λ out. HasText out written.output) × (summary.refused ≡ written.refused))
     -- the capture is refused for a fault, its length, its source or memory: the script is unread
-    RunEnds (Err (Capture e)) = IfSome capture.before (λ file. IsRefusal file capture.has_failed capture.after e)
-        × (e.fault ≡ faults.ReadFault → capture.has_failed ≡ true) × IsUntouched script × IsUnwritten
+    RunEnds (Err (Capture e)) =
+        IfSome capture.before (λ file. IsRefusal file capture.has_failed capture.after e)
+        × (e.fault ≡ faults.ReadFault → capture.has_failed ≡ true)
+        × IsUntouched script × IsUnwritten
     -- the script is above its limit
-    RunEnds (Err ScriptTooLarge) = IsAccepted capture × IfSome script.before (λ bytes. SCRIPT_LIMIT < length bytes)
-        × IsUnwritten
+    RunEnds (Err ScriptTooLarge) = IsAccepted capture
+        × IfSome script.before (λ bytes. SCRIPT_LIMIT < length bytes) × IsUnwritten
     -- the source of the script failed
     RunEnds (Err ScriptReadFault) = IsAccepted capture × (script.has_failed ≡ true) × IsUnwritten
     -- memory ran out before the first line
@@ -95,13 +101,18 @@ module _ (depth : ℕ) (capture script : DeviceEnd) where
         × (replies.has_failed ≡ false) × IfSome output IsUntouched × ForRun (λ written.
         (before < length written.replies) × HasText replies (concat (take before written.replies)))
     -- the writer of the replies failed: it took exactly so many bytes of them
-    RunEnds (Err (ReplyFault count)) = IsAccepted capture × IsRead SCRIPT_LIMIT script × (replies.has_failed ≡ true)
-        × IfSome output IsUntouched × ForRun (λ written. HasFront replies count (concat written.replies))
+    RunEnds (Err (ReplyFault count)) = IsAccepted capture × IsRead SCRIPT_LIMIT script
+        × (replies.has_failed ≡ true) × IfSome output IsUntouched
+        × ForRun (λ written. HasFront replies count (concat written.replies))
     -- memory ran out for the output: all replies are written, and none of the output
     RunEnds (Err (Write write_errors.NoMemory)) = IsAccepted capture × IsRead SCRIPT_LIMIT script
-        × (replies.has_failed ≡ false) × IsSomeAnd output (λ out. Keeps out.before out.after × (out.has_failed ≡ false))
+        × (replies.has_failed ≡ false)
+        × IsSomeAnd output (λ out. Keeps out.before out.after × (out.has_failed ≡ false))
         × ForRun (λ written. HasText replies (concat written.replies))
-    -- the writer of the output failed: it took exactly so many bytes of the output, and all replies are written
-    RunEnds (Err (Write (write_errors.WriteFault count))) = IsAccepted capture × IsRead SCRIPT_LIMIT script
-        × (replies.has_failed ≡ false) × IsSomeAnd output (λ out. (out.has_failed ≡ true)
-        × ForRun (λ written. HasText replies (concat written.replies) × HasFront out count written.output))
+    -- the writer of the output failed: it took exactly so many bytes of the output, and all
+    -- replies are written
+    RunEnds (Err (Write (write_errors.WriteFault count))) = IsAccepted capture
+        × IsRead SCRIPT_LIMIT script × (replies.has_failed ≡ false)
+        × IsSomeAnd output (λ out. (out.has_failed ≡ true)
+        × ForRun (λ written. HasText replies (concat written.replies)
+        × HasFront out count written.output))

@@ -1,6 +1,6 @@
 -- What a run writes, by replays of the edits that the machine has in force after its lines: the project's own.
 use Rattle.std.specs.Prelude.{◌≡◌, ◌<◌, ℕ, ◌+◌, if◌then◌else◌, true, false, Bool, List, [], ◌∷◌, length, take, get_or}
-use Rattle.std.specs.Prelude.{Result, Ok}
+use Rattle.std.specs.Prelude.{Result, Ok, is_err}
 use Rattle.vcd_core.specs.Contents.{Contents}
 use Rattle.vcd_core.specs.Sound.{IsSound}
 use Rattle.vcdedit.specs.declared.script.command.Command.{Command}
@@ -14,8 +14,8 @@ use Rattle.vcd_journal.specs.Machine.{Machine, initial_machine, step_outcome}
 use Rattle.vcd_journal.specs.InForce.{EditLists, IsReplay, edits_after}
 use Rattle.vcd_journal.specs.History.{replay}
 use Rattle.vcdedit.specs.Script.{script_lines}
-use Rattle.vcdedit.specs.ParsedLines.{command_of_line}
-use Rattle.vcdedit.specs.MachineReplies.{line_reply_text, is_line_refused}
+use Rattle.vcdedit.specs.ScriptCommands.{command_of_line}
+use Rattle.vcdedit.specs.Reply.{line_reply, reply_text}
 use Rattle.vcdedit.specs.Run.{RunOutcome}
 
 -- ---- lines
@@ -51,11 +51,12 @@ edits_after_lines t m (line ∷ lines) =
 
 -- the reply that a line with this number gets on a machine
 abbrev pub reply_on : (skipped number : ℕ) → List ℕ → Machine → List ℕ
-reply_on skipped number line m = line_reply_text number line m.now skipped (length m.past) (length m.future)
+reply_on skipped number line m =
+    reply_text number (line_reply line m.now skipped (length m.past) (length m.future))
 
 -- whether a line is refused on a machine
 abbrev pub is_refused_on : (skipped : ℕ) → List ℕ → Machine → Bool
-is_refused_on skipped line m = is_line_refused line m.now skipped (length m.past) (length m.future)
+is_refused_on skipped line m = is_err (line_reply line m.now skipped (length m.past) (length m.future))
 
 -- how many lines are refused
 unfoldable pub refusal_count : (skipped : ℕ) → Machine → List (List ℕ) → ℕ

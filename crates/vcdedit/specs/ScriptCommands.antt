@@ -1,10 +1,12 @@
--- What a line asks for, by cases on its words, as the contract of `parse_line` cites it: the project's own.
--- `CommandTable` says the same by a table, which the headline cites, and `inside/ParsedCommands` parser by parser.
+-- What a line asks for, by cases on its words: the project's own. The headline and the contracts of
+-- `parse_line` and of each parser cite it.
 use Rattle.std.specs.Prelude.{ℕ, Bool, false, ◌==◌, if◌then◌else◌, List, [], ◌∷◌, Option, find, option_map, Result, Ok}
 use Rattle.std.specs.Prelude.{Err, codes}
 use Rattle.std.specs.Option.{ok_or}
 use Rattle.std.specs.Str.{bytes_eq}
 use Rattle.vcd_core.specs.Contents.{Contents, signal_at}
+use Rattle.vcd_text.specs.Words.{words_of}
+use Rattle.vcd_text.specs.Grammar.{word_texts}
 use Rattle.vcd_decode.specs.UartSetup.{uart_setup}
 use Rattle.vcd_decode.specs.SpiSetup.{spi_setup}
 use Rattle.vcd_edit.specs.declared.edit.Edit.{Edit}
@@ -20,7 +22,7 @@ use Rattle.vcdedit.specs.declared.script.keyword.Keyword.TheVariants as keywords
 use Rattle.vcdedit.specs.declared.script.line_error.LineError.{LineError}
 use Rattle.vcdedit.specs.declared.script.line_error.LineError.TheVariants.{UnknownCommand, WrongCount, BadOption}
 use Rattle.vcdedit.specs.LentBytes.{lent_bytes}
-use Rattle.vcdedit.specs.LineWords.{◌>>=◌}
+use Rattle.vcdedit.specs.LineWords.{◌>>=◌, no_word, one_word, two_words, four_words, five_words, seven_words}
 use Rattle.vcdedit.specs.ScriptWords.{signal_of_name, number_of_word, distance_of_word, value_of_word}
 use Rattle.vcdedit.specs.DecoderWords.{ratio_of_word, parity_of_word, order_of_word, signal_or_absent, one_bit_signal}
 use Rattle.vcdedit.specs.DecoderWords.{one_bit_signal_or_absent, faultless_uart, faultless_spi}
@@ -30,12 +32,15 @@ use Rattle.vcdedit.specs.DecoderWords.{one_bit_signal_or_absent, faultless_uart,
 -- the name of each command
 abbrev pub keyword_words : List (List ℕ × Keyword)
 keyword_words =
-    (codes "rename", keywords.Rename) ∷ (codes "remove", keywords.Remove) ∷ (codes "invert", keywords.Invert)
-    ∷ (codes "shift", keywords.Shift) ∷ (codes "cut", keywords.Cut) ∷ (codes "deglitch", keywords.Deglitch)
-    ∷ (codes "force", keywords.Force) ∷ (codes "derive", keywords.Derive) ∷ (codes "undo", keywords.Undo)
-    ∷ (codes "redo", keywords.Redo) ∷ (codes "depth", keywords.Depth) ∷ (codes "list", keywords.List)
-    ∷ (codes "value", keywords.Value) ∷ (codes "changes", keywords.Changes) ∷ (codes "uart", keywords.Uart)
-    ∷ (codes "spi", keywords.Spi) ∷ (codes "i2c", keywords.I2c) ∷ []
+    (codes "rename", keywords.Rename) ∷ (codes "remove", keywords.Remove)
+    ∷ (codes "invert", keywords.Invert) ∷ (codes "shift", keywords.Shift)
+    ∷ (codes "cut", keywords.Cut) ∷ (codes "deglitch", keywords.Deglitch)
+    ∷ (codes "force", keywords.Force) ∷ (codes "derive", keywords.Derive)
+    ∷ (codes "undo", keywords.Undo) ∷ (codes "redo", keywords.Redo)
+    ∷ (codes "depth", keywords.Depth) ∷ (codes "list", keywords.List)
+    ∷ (codes "value", keywords.Value) ∷ (codes "changes", keywords.Changes)
+    ∷ (codes "uart", keywords.Uart) ∷ (codes "spi", keywords.Spi)
+    ∷ (codes "i2c", keywords.I2c) ∷ []
 
 -- the command that a word names
 abbrev pub keyword_of : List ℕ → Option Keyword
@@ -56,26 +61,25 @@ step_command step = Ok (commands.Step step)
 abbrev pub edit_command : Edit → Result Command LineError
 edit_command e = step_command (steps.Edit e)
 
--- the rule `RULE A B`, in which both are signals
-abbrev pub pair_rule : Contents → (ℕ → ℕ → Rule) → List (List ℕ) → Result Rule LineError
-pair_rule c rule (a ∷ b ∷ []) = do
-  j ← signal_of_name c a
-  k ← signal_of_name c b
-  Ok (rule j k)
-pair_rule c rule operands = Err WrongCount
-
 -- the rule `not A`
 abbrev pub not_rule : Contents → List (List ℕ) → Result Rule LineError
-not_rule c (a ∷ []) = signal_of_name c a >>= λ k. Ok (Not k)
-not_rule c operands = Err WrongCount
+not_rule c operands = one_word operands (λ a. do
+  k ← signal_of_name c a
+  Ok (Not k))
+
+-- the rule `RULE A B`, in which both are signals
+abbrev pub pair_rule : Contents → (ℕ → ℕ → Rule) → List (List ℕ) → Result Rule LineError
+pair_rule c rule operands = two_words operands (λ a b. do
+  j ← signal_of_name c a
+  k ← signal_of_name c b
+  Ok (rule j k))
 
 -- the rule `bit A K`
 abbrev pub bit_rule : Contents → List (List ℕ) → Result Rule LineError
-bit_rule c (a ∷ bit ∷ []) = do
+bit_rule c operands = two_words operands (λ a bit. do
   j ← signal_of_name c a
   k ← number_of_word bit
-  Ok (BitOf j k)
-bit_rule c operands = Err WrongCount
+  Ok (BitOf j k))
 
 -- the rule that a word names, with its operands
 abbrev pub rule_of : Contents → (word : List ℕ) → List (List ℕ) → Result Rule LineError
@@ -87,42 +91,58 @@ rule_of c word operands =
     else (if bytes_eq word (codes "bit") then bit_rule c operands
     else Err BadOption))))
 
--- what the words after a keyword ask for; the first fault counts, in the order in which they are read here
+-- the words after `derive`: the name, the rule, and its operands
+abbrev pub derive_command : Contents → List (List ℕ) → Result Command LineError
+derive_command c (word ∷ rule ∷ operands) = do
+  r ← rule_of c rule operands
+  edit_command (Derive (lent_bytes word) r)
+derive_command c words = Err WrongCount
+
+-- what the words after a keyword ask for; the first fault counts, in the order in which they are
+-- read here
 abbrev pub command_of : Contents → Keyword → List (List ℕ) → Result Command LineError
-command_of c keywords.Rename (name ∷ word ∷ []) =
-    signal_of_name c name >>= λ k. edit_command (Rename k (lent_bytes word))
-command_of c keywords.Remove (name ∷ []) = signal_of_name c name >>= λ k. edit_command (Remove k)
-command_of c keywords.Invert (name ∷ []) = signal_of_name c name >>= λ k. edit_command (Invert k)
-command_of c keywords.Shift (name ∷ by ∷ []) = do
+command_of c keywords.Rename words = two_words words (λ name word. do
+  k ← signal_of_name c name
+  edit_command (Rename k (lent_bytes word)))
+command_of c keywords.Remove words = one_word words (λ name. do
+  k ← signal_of_name c name
+  edit_command (Remove k))
+command_of c keywords.Invert words = one_word words (λ name. do
+  k ← signal_of_name c name
+  edit_command (Invert k))
+command_of c keywords.Shift words = two_words words (λ name by. do
   k ← signal_of_name c name
   distance ← distance_of_word by
-  edit_command (Shift k distance)
-command_of c keywords.Cut (from ∷ to ∷ []) = do
+  edit_command (Shift k distance))
+command_of c keywords.Cut words = two_words words (λ from to. do
   from_tick ← number_of_word from
   to_tick ← number_of_word to
-  edit_command (Cut from_tick to_tick)
-command_of c keywords.Deglitch (name ∷ ticks ∷ []) = do
+  edit_command (Cut from_tick to_tick))
+command_of c keywords.Deglitch words = two_words words (λ name ticks. do
   k ← signal_of_name c name
   count ← number_of_word ticks
-  edit_command (Deglitch k count)
-command_of c keywords.Force (name ∷ from ∷ to ∷ value ∷ []) = do
+  edit_command (Deglitch k count))
+command_of c keywords.Force words = four_words words (λ name from to value. do
   k ← signal_of_name c name
   from_tick ← number_of_word from
   to_tick ← number_of_word to
   letters ← value_of_word (signal_at c k).width value
-  edit_command (Force k from_tick to_tick letters)
-command_of c keywords.Derive (word ∷ rule ∷ operands) =
-    rule_of c rule operands >>= λ r. edit_command (Derive (lent_bytes word) r)
-command_of c keywords.Undo [] = step_command steps.Undo
-command_of c keywords.Redo [] = step_command steps.Redo
-command_of c keywords.Depth (count ∷ []) = number_of_word count >>= λ depth. step_command (steps.Depth depth)
-command_of c keywords.List [] = Ok commands.List
-command_of c keywords.Value (name ∷ tick ∷ []) = do
+  edit_command (Force k from_tick to_tick letters))
+command_of c keywords.Derive words = derive_command c words
+command_of c keywords.Undo words = no_word words (step_command steps.Undo)
+command_of c keywords.Redo words = no_word words (step_command steps.Redo)
+command_of c keywords.Depth words = one_word words (λ count. do
+  depth ← number_of_word count
+  step_command (steps.Depth depth))
+command_of c keywords.List words = no_word words (Ok commands.List)
+command_of c keywords.Value words = two_words words (λ name tick. do
   k ← signal_of_name c name
   t ← number_of_word tick
-  Ok (commands.Value k t)
-command_of c keywords.Changes (name ∷ []) = signal_of_name c name >>= λ k. Ok (commands.Changes k)
-command_of c keywords.Uart (name ∷ bit ∷ count ∷ parity ∷ stop ∷ []) = do
+  Ok (commands.Value k t))
+command_of c keywords.Changes words = one_word words (λ name. do
+  k ← signal_of_name c name
+  Ok (commands.Changes k))
+command_of c keywords.Uart words = five_words words (λ name bit count parity stop. do
   k ← signal_of_name c name
   ratio ← ratio_of_word bit
   data_bits ← number_of_word count
@@ -130,8 +150,8 @@ command_of c keywords.Uart (name ∷ bit ∷ count ∷ parity ∷ stop ∷ []) =
   stop_bits ← number_of_word stop
   line ← one_bit_signal c k
   setup ← faultless_uart (uart_setup ratio.0 ratio.1 data_bits parity_bit stop_bits)
-  Ok (commands.Uart line setup)
-command_of c keywords.Spi (clk ∷ mosi ∷ miso ∷ cs ∷ mode ∷ bits ∷ order ∷ []) = do
+  Ok (commands.Uart line setup))
+command_of c keywords.Spi words = seven_words words (λ clk mosi miso cs mode bits order. do
   k ← signal_of_name c clk
   out ← signal_or_absent c mosi
   input ← signal_or_absent c miso
@@ -144,18 +164,25 @@ command_of c keywords.Spi (clk ∷ mosi ∷ miso ∷ cs ∷ mode ∷ bits ∷ or
   in_line ← one_bit_signal_or_absent c input
   select_line ← one_bit_signal_or_absent c select
   setup ← faultless_spi (spi_setup number word_bits bit_order)
-  Ok (commands.Spi clock out_line in_line select_line setup)
-command_of c keywords.I2c (scl ∷ sda ∷ []) = do
+  Ok (commands.Spi clock out_line in_line select_line setup))
+command_of c keywords.I2c words = two_words words (λ scl sda. do
   j ← signal_of_name c scl
   k ← signal_of_name c sda
   clock ← one_bit_signal c j
   line ← one_bit_signal c k
-  Ok (commands.I2c clock line)
-command_of c keyword words = Err WrongCount
+  Ok (commands.I2c clock line))
 
 -- what the words of a line ask for on a capture, or why they are no command
 abbrev pub command_of_words : Contents → List (List ℕ) → Result Command LineError
 command_of_words c [] = Ok commands.Nothing
-command_of_words c (first ∷ words) =
-    if is_comment first then Ok commands.Nothing
-    else (ok_or (keyword_of first) UnknownCommand >>= λ keyword. command_of c keyword words)
+command_of_words c (first ∷ words) = if is_comment first then Ok commands.Nothing else (do
+  keyword ← ok_or (keyword_of first) UnknownCommand
+  command_of c keyword words)
+
+-- the words of a line
+abbrev pub line_words : List ℕ → List (List ℕ)
+line_words line = word_texts (words_of line)
+
+-- what a line asks for on a capture, or why it is no command
+unfoldable pub command_of_line : Contents → List ℕ → Result Command LineError
+command_of_line c line = command_of_words c (line_words line)

@@ -16,12 +16,14 @@ signal_of_name c name = ok_or (lookup c.signals name) NoSuchName
 
 -- the number that a word writes: a decimal number below 2^64
 abbrev pub number_of_word : List ℕ → Result ℕ LineError
-number_of_word word = if is_number word && nat_lt (number_of word) (2 ^ 64) then Ok (number_of word) else Err BadNumber
+number_of_word word = if is_number word && nat_lt (number_of word) (2 ^ 64) then Ok (number_of word)
+    else Err BadNumber
 
 -- a distance to a later tick: below 2^63
 abbrev pub distance_forth : List ℕ → Result ℤ LineError
 distance_forth digits =
-    if is_number digits && nat_lt (number_of digits) (2 ^ 63) then Ok (pos (number_of digits)) else Err BadNumber
+    if is_number digits && nat_lt (number_of digits) (2 ^ 63) then Ok (pos (number_of digits))
+    else Err BadNumber
 
 -- a distance to an earlier tick: at most 2^63
 abbrev pub distance_back : List ℕ → Result ℤ LineError
@@ -33,7 +35,8 @@ distance_back digits =
 abbrev pub distance_of_word : List ℕ → Result ℤ LineError
 distance_of_word [] = Err BadNumber
 distance_of_word (c ∷ digits) =
-    if c == 45 then distance_back digits else (if c == 43 then distance_forth digits else distance_forth (c ∷ digits))
+    if c == 45 then distance_back digits
+    else (if c == 43 then distance_forth digits else distance_forth (c ∷ digits))
 
 -- the value of this width that a word writes: 1 to so many binary digits, extended on the left
 abbrev pub value_of_word : ℕ → List ℕ → Result (List Bit) LineError

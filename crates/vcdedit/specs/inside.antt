@@ -11,7 +11,5 @@ pub mod ScriptRuns
 pub mod LineSteps
 pub mod RunStages
 pub mod SentReplies
-pub mod WordCounts
 pub mod ParsedDecoders
-pub mod ParsedCommands
 pub mod LineAnswers

@@ -8,7 +8,7 @@ use Rattle.vcd_journal.specs.Machine.{Machine, step_outcome}
 use Rattle.vcdedit.specs.declared.replies.reply.Reply.{Reply}
 use Rattle.vcdedit.specs.declared.script.command.Command.{Command}
 use Rattle.vcdedit.specs.WithoutAddress.{command_without_address}
-use Rattle.vcdedit.specs.MachineReplies.{command_reply, line_reply, step_reply}
+use Rattle.vcdedit.specs.Reply.{command_reply, line_reply, step_reply}
 use Rattle.vcdedit.specs.RunMachines.{machine_after_command, machine_after_line}
 use Rattle.vcdedit.specs.inside.Replies.{IsReplyTo}
 

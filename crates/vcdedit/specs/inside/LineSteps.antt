@@ -6,7 +6,7 @@ use Rattle.vcdedit.specs.declared.script.line_error.LineError.{LineError}
 use Rattle.vcd_journal.specs.declared.step.Step.{Step}
 use Rattle.vcd_journal.specs.declared.step.Answer.{Answer}
 use Rattle.vcd_journal.specs.Machine.{Machine, step_outcome}
-use Rattle.vcdedit.specs.ParsedLines.{command_of_line}
+use Rattle.vcdedit.specs.ScriptCommands.{command_of_line}
 use Rattle.vcdedit.specs.RunMachines.{machine_after_line}
 
 -- the step that a line asks for, if any

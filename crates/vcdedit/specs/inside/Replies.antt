@@ -2,7 +2,7 @@
 use Rattle.std.specs.Prelude.{◌≡◌, ℕ, List, [], ◌∷◌, ◌++◌, is_err}
 use Rattle.vcdedit.specs.declared.replies.reply.Reply.{Reply}
 use Rattle.vcdedit.specs.Reply.{reply_text}
-use Rattle.vcdedit.specs.MachineReplies.{LineReply}
+use Rattle.vcdedit.specs.Reply.{LineReply}
 
 -- a line of a reply, which ends with a line feed (10)
 abbrev pub with_line_feed : List ℕ → List ℕ

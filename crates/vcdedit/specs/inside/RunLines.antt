@@ -5,8 +5,7 @@ use Rattle.std.specs.Io.KnownBytes.{Appends, Keeps}
 use Rattle.vcd_journal.specs.Machine.{Machine}
 use Rattle.vcdedit.specs.declared.running.run_error.RunError.{RunError}
 use Rattle.vcdedit.specs.declared.running.run_error.RunError.TheVariants as run_errors
-use Rattle.vcdedit.specs.MachineReplies.{line_reply_text, is_line_refused}
-use Rattle.vcdedit.specs.RunMachines.{machine_after_line, machine_after_lines, refusal_count}
+use Rattle.vcdedit.specs.RunMachines.{reply_on, is_refused_on, machine_after_line, machine_after_lines, refusal_count}
 use Rattle.vcdedit.specs.RunOutcomes.{line_replies}
 
 -- the line of this number changes one machine into the other; its reply of so many bytes is written, and so many lines
@@ -15,9 +14,9 @@ abbrev pub RunsLine : (skipped number : ℕ) → List ℕ → Machine → Machin
     → (before after : Option (List ℕ)) → Type 0
 RunsLine skipped number line old new refused written before after =
     (machine_after_line old line ≡ new)
-    × (refused ≡ (if is_line_refused line old.now skipped (length old.past) (length old.future) then 1 else 0))
-    × Appends before after (line_reply_text number line old.now skipped (length old.past) (length old.future))
-    × (written ≡ length (line_reply_text number line old.now skipped (length old.past) (length old.future)))
+    × (refused ≡ (if is_refused_on skipped line old then 1 else 0))
+    × Appends before after (reply_on skipped number line old)
+    × (written ≡ length (reply_on skipped number line old))
 
 -- the lines change one machine into the other; these are their replies, and so many are refused
 pub record LinesGive (skipped : ℕ) (lines : List (List ℕ)) (old new : Machine) (texts : List (List ℕ)) (count : ℕ)
@@ -62,7 +61,7 @@ StopsAtReply number text written_before before after _ = ⊥
 abbrev pub StopsAtLine : (skipped number : ℕ) → (line : List ℕ) → Machine → (written_before : ℕ)
     → (before after : Option (List ℕ)) → RunError → Type 0
 StopsAtLine skipped number line old written_before before after e =
-    StopsAtReply number (line_reply_text number line old.now skipped (length old.past) (length old.future))
+    StopsAtReply number (reply_on skipped number line old)
     written_before before after e
 
 -- the fault ended the writing of these replies: it gives the line at which memory ran out, or how many bytes of them

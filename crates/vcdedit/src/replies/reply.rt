@@ -2,7 +2,7 @@
 
 ghost use Rattle.std.specs.Prelude.{◌≡◌, ◌++◌, ℕ, Ok, Err, OnOk, IfOk, false};
 ghost use Rattle.vcdedit.specs.Reply.{reply_text};
-ghost use Rattle.vcdedit.specs.MachineReplies.{ok_reply};
+ghost use Rattle.vcdedit.specs.Reply.{ok_reply};
 ghost use Rattle.vcdedit.specs.inside.Replies.{IsReplyTo};
 
 use crate::replies::MemoryResult;

@@ -3,7 +3,9 @@
 ghost use Rattle.std.specs.Prelude.{◌<◌, length, IfSome};
 ghost use Rattle.vcd_core.specs.Contents.{contents};
 ghost use Rattle.vcd_text.specs.Grammar.{word_texts};
-ghost use Rattle.vcdedit.specs.inside.ParsedDecoders.{uart_command, spi_command, spi_with_command, checked_spi_command, i2c_command};
+ghost use Rattle.vcdedit.specs.ScriptCommands.{command_of};
+ghost use Rattle.vcdedit.specs.declared.script.keyword.Keyword.TheVariants as keywords;
+ghost use Rattle.vcdedit.specs.inside.ParsedDecoders.{spi_with_command, checked_spi_command};
 ghost use Rattle.vcdedit.specs.inside.Commands.{ReadsAs};
 
 use crate::script::decoder_words::{
@@ -20,7 +22,7 @@ use vcd_text::Words;
 
 /// Reads `NAME BIT DATA PARITY STOP`.
 pub fn parse_uart<'a>(words: &mut Words<'a>, capture: &Capture) -> Parsed<'a>
-    ensures { ReadsAs (uart_command (contents capture.now) (word_texts words.old)) result }
+    ensures { ReadsAs (command_of (contents capture.now) keywords.Uart (word_texts words.old)) result }
 {
     let (name, (bit, data_bits, (parity, stop_bits))) = take_five(words)?;
     let signal = signal_of_name(capture, name)?;
@@ -35,7 +37,7 @@ pub fn parse_uart<'a>(words: &mut Words<'a>, capture: &Capture) -> Parsed<'a>
 
 /// Reads `CLK MOSI MISO CS MODE BITS ORDER`.
 pub fn parse_spi<'a>(words: &mut Words<'a>, capture: &Capture) -> Parsed<'a>
-    ensures { ReadsAs (spi_command (contents capture.now) (word_texts words.old)) result }
+    ensures { ReadsAs (command_of (contents capture.now) keywords.Spi (word_texts words.old)) result }
 {
     let (clk, mosi, (miso, (cs, mode, (bits, order)))) = take_seven(words)?;
     let clk = signal_of_name(capture, clk)?;
@@ -87,7 +89,7 @@ fn checked_spi<'a>(capture: &Capture, lines: SpiLines, setup: (u64, u64, BitOrde
 
 /// Reads `SCL SDA`.
 pub fn parse_i2c<'a>(words: &mut Words<'a>, capture: &Capture) -> Parsed<'a>
-    ensures { ReadsAs (i2c_command (contents capture.now) (word_texts words.old)) result }
+    ensures { ReadsAs (command_of (contents capture.now) keywords.I2c (word_texts words.old)) result }
 {
     let (scl, sda) = take_two(words)?;
     let scl = signal_of_name(capture, scl)?;

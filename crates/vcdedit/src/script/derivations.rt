@@ -1,10 +1,14 @@
 //! The lines that derive a signal.
 
-ghost use Rattle.std.specs.Prelude.{◌≡◌, ℕ, List, Err, IfOk, IfErr};
+ghost use Rattle.std.specs.Prelude.{◌≡◌, ℕ, if◌then◌else◌, Ok, Err, IfOk, IfErr, codes};
+ghost use Rattle.std.specs.Str.{bytes_eq};
+ghost use Rattle.vcd_edit.specs.declared.edit.Rule.TheVariants.{Xor};
+ghost use Rattle.vcdedit.specs.declared.script.line_error.LineError.TheVariants.{BadOption};
 ghost use Rattle.vcd_core.specs.Contents.{contents};
 ghost use Rattle.vcd_text.specs.Grammar.{word_texts};
-ghost use Rattle.vcdedit.specs.inside.ParsedCommands.{pair_command, rule_command, later_rule_command, derive_command, derive_by};
-ghost use Rattle.vcdedit.specs.inside.Commands.{ReadsAs, ReadsAsRule};
+ghost use Rattle.vcdedit.specs.ScriptCommands.{pair_rule, bit_rule, rule_of, command_of};
+ghost use Rattle.vcdedit.specs.declared.script.keyword.Keyword.TheVariants as keywords;
+ghost use Rattle.vcdedit.specs.inside.Commands.{ReadsAs};
 
 use crate::script::edits::signal_of_name;
 use crate::script::line_words::{next_text, take_one, take_two};
@@ -17,7 +21,7 @@ use vcd_text::Words;
 
 /// Reads `WORD RULE ..`.
 pub fn parse_derive<'a>(words: &mut Words<'a>, capture: &Capture) -> Parsed<'a>
-    ensures { ReadsAs (derive_command (contents capture.now) (word_texts words.old)) result }
+    ensures { ReadsAs (command_of (contents capture.now) keywords.Derive (word_texts words.old)) result }
 {
     let word = next_text(words).ok_or(LineError::WrongCount)?;
     let name = next_text(words).ok_or(LineError::WrongCount)?;
@@ -27,8 +31,7 @@ pub fn parse_derive<'a>(words: &mut Words<'a>, capture: &Capture) -> Parsed<'a>
 
 /// Reads the operands after the rule.
 fn parse_rule(name: &[u8], words: &mut Words<'_>, capture: &Capture) -> Result<Rule, LineError>
-    ensures { ReadsAsRule
-        (λ word. rule_command (contents capture.now) word name.now (word_texts words.old)) result }
+    ensures { result ≡ rule_of (contents capture.now) name.now (word_texts words.old) }
 {
     if name == b"not".as_slice() {
         let operand = signal_of_name(capture, take_one(words)?)?;
@@ -51,8 +54,9 @@ fn parse_later_rule(
     words: &mut Words<'_>,
     capture: &Capture,
 ) -> Result<Rule, LineError>
-    ensures { ReadsAsRule
-        (λ word. later_rule_command (contents capture.now) word name.now (word_texts words.old)) result }
+    ensures { result ≡ (if bytes_eq name.now (codes "xor") then pair_rule (contents capture.now) Xor (word_texts words.old)
+        else (if bytes_eq name.now (codes "bit") then bit_rule (contents capture.now) (word_texts words.old)
+        else Err BadOption)) }
 {
     if name == b"xor".as_slice() {
         let (a, b) = parse_pair(words, capture)?;
@@ -68,11 +72,10 @@ fn parse_later_rule(
 
 /// Reads `A B`.
 fn parse_pair(words: &mut Words<'_>, capture: &Capture) -> Result<(usize, usize), LineError>
-    ensures both { IfOk result (λ k. (rule : ℕ → ℕ → Rule) (word : List ℕ) →
-        pair_command (contents capture.now) rule word (word_texts words.old) ≡
-        derive_by word (rule k.0 k.1)) }
-    ensures fault { IfErr result (λ e. (rule : ℕ → ℕ → Rule) (word : List ℕ) →
-        pair_command (contents capture.now) rule word (word_texts words.old) ≡ Err e) }
+    ensures both { IfOk result (λ k. (rule : ℕ → ℕ → Rule) →
+        pair_rule (contents capture.now) rule (word_texts words.old) ≡ Ok (rule k.0 k.1)) }
+    ensures fault { IfErr result (λ e. (rule : ℕ → ℕ → Rule) →
+        pair_rule (contents capture.now) rule (word_texts words.old) ≡ Err e) }
 {
     let (a, b) = take_two(words)?;
     let first = signal_of_name(capture, a)?;

@@ -1,9 +1,10 @@
 //! The lines that edit signals and time.
 
 ghost use Rattle.std.specs.Prelude.{◌≡◌, ◌<◌, length, IfOk};
-ghost use Rattle.vcd_core.specs.Contents.{contents, signal_at};
+ghost use Rattle.vcd_core.specs.Contents.{Contents, contents, signal_at};
 ghost use Rattle.vcd_text.specs.Grammar.{word_texts};
-ghost use Rattle.vcdedit.specs.inside.ParsedCommands.{rename_command, remove_command, invert_command, shift_command, cut_command, deglitch_command, force_command};
+ghost use Rattle.vcdedit.specs.ScriptCommands.{command_of};
+ghost use Rattle.vcdedit.specs.declared.script.keyword.Keyword.TheVariants as keywords;
 ghost use Rattle.vcdedit.specs.ScriptWords.{signal_of_name, value_of_word};
 ghost use Rattle.vcdedit.specs.inside.Commands.{ReadsAs};
 
@@ -17,7 +18,7 @@ use vcd_text::{Words, value_of_digits};
 
 /// Reads `NAME WORD`.
 pub fn parse_rename<'a>(words: &mut Words<'a>, capture: &Capture) -> Parsed<'a>
-    ensures { ReadsAs (rename_command (contents capture.now) (word_texts words.old)) result }
+    ensures { ReadsAs (command_of (contents capture.now) keywords.Rename (word_texts words.old)) result }
 {
     let (name, word) = take_two(words)?;
     let signal = signal_of_name(capture, name)?;
@@ -26,7 +27,7 @@ pub fn parse_rename<'a>(words: &mut Words<'a>, capture: &Capture) -> Parsed<'a>
 
 /// Reads `NAME` of a signal to remove.
 pub fn parse_remove<'a>(words: &mut Words<'a>, capture: &Capture) -> Parsed<'a>
-    ensures { ReadsAs (remove_command (contents capture.now) (word_texts words.old)) result }
+    ensures { ReadsAs (command_of (contents capture.now) keywords.Remove (word_texts words.old)) result }
 {
     let signal = signal_of_name(capture, take_one(words)?)?;
     Ok(Command::Step(Step::Edit(Edit::Remove { signal })))
@@ -34,7 +35,7 @@ pub fn parse_remove<'a>(words: &mut Words<'a>, capture: &Capture) -> Parsed<'a>
 
 /// Reads `NAME` of a signal to invert.
 pub fn parse_invert<'a>(words: &mut Words<'a>, capture: &Capture) -> Parsed<'a>
-    ensures { ReadsAs (invert_command (contents capture.now) (word_texts words.old)) result }
+    ensures { ReadsAs (command_of (contents capture.now) keywords.Invert (word_texts words.old)) result }
 {
     let signal = signal_of_name(capture, take_one(words)?)?;
     Ok(Command::Step(Step::Edit(Edit::Invert { signal })))
@@ -42,7 +43,7 @@ pub fn parse_invert<'a>(words: &mut Words<'a>, capture: &Capture) -> Parsed<'a>
 
 /// Reads `NAME BY`.
 pub fn parse_shift<'a>(words: &mut Words<'a>, capture: &Capture) -> Parsed<'a>
-    ensures { ReadsAs (shift_command (contents capture.now) (word_texts words.old)) result }
+    ensures { ReadsAs (command_of (contents capture.now) keywords.Shift (word_texts words.old)) result }
 {
     let (name, by) = take_two(words)?;
     let signal = signal_of_name(capture, name)?;
@@ -52,7 +53,7 @@ pub fn parse_shift<'a>(words: &mut Words<'a>, capture: &Capture) -> Parsed<'a>
 
 /// Reads `FROM TO`.
 pub fn parse_cut<'a>(words: &mut Words<'a>) -> Parsed<'a>
-    ensures { ReadsAs (cut_command (word_texts words.old)) result }
+    ensures { (c : Contents) → ReadsAs (command_of c keywords.Cut (word_texts words.old)) result }
 {
     let (from, to) = take_two(words)?;
     let from = number_of_word(from)?;
@@ -62,7 +63,7 @@ pub fn parse_cut<'a>(words: &mut Words<'a>) -> Parsed<'a>
 
 /// Reads `NAME TICKS`.
 pub fn parse_deglitch<'a>(words: &mut Words<'a>, capture: &Capture) -> Parsed<'a>
-    ensures { ReadsAs (deglitch_command (contents capture.now) (word_texts words.old)) result }
+    ensures { ReadsAs (command_of (contents capture.now) keywords.Deglitch (word_texts words.old)) result }
 {
     let (name, ticks) = take_two(words)?;
     let signal = signal_of_name(capture, name)?;
@@ -72,7 +73,7 @@ pub fn parse_deglitch<'a>(words: &mut Words<'a>, capture: &Capture) -> Parsed<'a
 
 /// Reads `NAME FROM TO VALUE`.
 pub fn parse_force<'a>(words: &mut Words<'a>, capture: &Capture) -> Parsed<'a>
-    ensures { ReadsAs (force_command (contents capture.now) (word_texts words.old)) result }
+    ensures { ReadsAs (command_of (contents capture.now) keywords.Force (word_texts words.old)) result }
 {
     let (name, from, (to, value)) = take_four(words)?;
     let signal = signal_of_name(capture, name)?;

@@ -2,7 +2,7 @@
 
 ghost use Rattle.std.specs.Prelude.{◌≡◌, if◌then◌else◌, Some, None};
 ghost use Rattle.std.specs.Str.{bytes_eq};
-ghost use Rattle.vcdedit.specs.inside.ParsedCommands.{keyword_in_tables};
+ghost use Rattle.vcdedit.specs.ScriptCommands.{keyword_of};
 
 /// The command that the first word of a line names.
 #[derive(Clone, Copy)]
@@ -28,7 +28,7 @@ pub enum Keyword {
 
 /// The command that a word names.
 pub fn keyword_of(word: &[u8]) -> Option<Keyword>
-    ensures { result ≡ keyword_in_tables word.now }
+    ensures { result ≡ keyword_of word.now }
 {
     keyword_if(word, b"rename", Keyword::Rename)
         .or(keyword_if(word, b"remove", Keyword::Remove))

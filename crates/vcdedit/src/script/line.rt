@@ -1,13 +1,13 @@
 //! What a line of the script asks for.
 
 ghost use Rattle.std.specs.Prelude.{◌≡◌, ◌∷◌, Ok, Err, IfOk, IfErr};
-ghost use Rattle.vcd_core.specs.Contents.{contents};
+ghost use Rattle.vcd_core.specs.Contents.{Contents, contents};
 ghost use Rattle.vcd_text.specs.Grammar.{word_texts};
 ghost use Rattle.vcdedit.specs.CommandSignals.{HasCommandSignals};
 ghost use Rattle.vcdedit.specs.WithoutAddress.{command_without_address};
-ghost use Rattle.vcdedit.specs.ParsedLines.{command_of_line};
-ghost use Rattle.vcdedit.specs.ScriptCommands.{is_comment};
-ghost use Rattle.vcdedit.specs.inside.ParsedCommands.{words_command, keyword_command, depth_command};
+ghost use Rattle.vcdedit.specs.ScriptCommands.{command_of_line};
+ghost use Rattle.vcdedit.specs.ScriptCommands.{is_comment, command_of, command_of_words};
+ghost use Rattle.vcdedit.specs.declared.script.keyword.Keyword.TheVariants as keywords;
 ghost use Rattle.vcdedit.specs.inside.Commands.{ReadsAs};
 
 use crate::script::decoders::{parse_i2c, parse_spi, parse_uart};
@@ -32,7 +32,7 @@ use vcd_text::Words;
 ///
 /// The cost is that of the line, and for each name in it a comparison with each full name. `@` and a position needs no
 /// comparison.
-#[tactic(auto, unfolding(crate::specs::ParsedLines::command_of_line))]
+#[tactic(auto, unfolding(crate::specs::ScriptCommands::command_of_line))]
 pub fn parse_line<'a>(line: &'a [u8], capture: &Capture) -> Result<Command<'a>, LineError>
     ensures command { IfOk result (λ command.
         command_of_line (contents capture.now) line.now ≡ Ok (command_without_address command)) }
@@ -50,7 +50,7 @@ pub fn parse_line<'a>(line: &'a [u8], capture: &Capture) -> Result<Command<'a>, 
 /// Reads the first word, and then those after it.
 fn parse_first_word<'a>(first: &[u8], words: &mut Words<'a>, capture: &Capture) -> Parsed<'a>
     ensures { ReadsAs
-        (words_command (contents capture.now) (first.now ∷ word_texts words.old)) result }
+        (command_of_words (contents capture.now) (first.now ∷ word_texts words.old)) result }
 {
     if is_comment(first) {
         return Ok(Command::Nothing);
@@ -61,7 +61,7 @@ fn parse_first_word<'a>(first: &[u8], words: &mut Words<'a>, capture: &Capture) 
 
 /// Reads the words after a keyword.
 fn parse_command<'a>(keyword: Keyword, words: &mut Words<'a>, capture: &Capture) -> Parsed<'a>
-    ensures { ReadsAs (keyword_command (contents capture.now) keyword (word_texts words.old)) result }
+    ensures { ReadsAs (command_of (contents capture.now) keyword (word_texts words.old)) result }
 {
     match keyword {
         Keyword::Rename => parse_rename(words, capture),
@@ -95,7 +95,7 @@ fn parse_command<'a>(keyword: Keyword, words: &mut Words<'a>, capture: &Capture)
 
 /// Reads `N`, the new depth of the history.
 fn parse_depth<'a>(words: &mut Words<'a>) -> Parsed<'a>
-    ensures { ReadsAs (depth_command (word_texts words.old)) result }
+    ensures { (c : Contents) → ReadsAs (command_of c keywords.Depth (word_texts words.old)) result }
 {
     let depth = number_of_word(take_one(words)?)?;
     Ok(Command::Step(Step::Depth(depth)))

@@ -2,7 +2,8 @@
 
 ghost use Rattle.std.specs.Prelude.{◌≡◌, ◌∷◌, [], List, ℕ, Result, Err, IfOk, OnOk, IfErr, MatchOption};
 ghost use Rattle.vcd_text.specs.Grammar.{word_texts};
-ghost use Rattle.vcdedit.specs.inside.WordCounts.{no_word, one_word, two_words, four_words, five_words, seven_words};
+ghost use Rattle.vcdedit.specs.LineWords.{no_word, one_word, two_words, four_words, five_words, seven_words};
+ghost use Rattle.vcd_edit.specs.declared.edit.Rule.{Rule};
 ghost use Rattle.vcdedit.specs.declared.script.command.Command.{Command};
 
 use crate::script::LineError;
@@ -24,6 +25,8 @@ pub fn take_none<'a>(words: &mut Words<'a>) -> Result<(), LineError>
     ensures none { OnOk result (word_texts words.old ≡ []) }
     ensures others { IfErr result (λ e. (parsed : Result Command LineError) →
         no_word (word_texts words.old) parsed ≡ Err e) }
+    ensures rules { IfErr result (λ e. (parsed : Result Rule LineError) →
+        no_word (word_texts words.old) parsed ≡ Err e) }
 {
     match next_text(words) {
         Some(_) => Err(LineError::WrongCount),
@@ -36,6 +39,8 @@ pub fn take_one<'a>(words: &mut Words<'a>) -> Result<&'a [u8], LineError>
     ensures one { IfOk result (λ first. word_texts words.old ≡ first.now ∷ []) }
     ensures others { IfErr result (λ e. (parse : List ℕ → Result Command LineError) →
         one_word (word_texts words.old) parse ≡ Err e) }
+    ensures rules { IfErr result (λ e. (parse : List ℕ → Result Rule LineError) →
+        one_word (word_texts words.old) parse ≡ Err e) }
 {
     let first = next_text(words).ok_or(LineError::WrongCount)?;
     take_none(words)?;
@@ -47,6 +52,8 @@ pub fn take_two<'a>(words: &mut Words<'a>) -> Result<(&'a [u8], &'a [u8]), LineE
     ensures two { IfOk result (λ both.
         word_texts words.old ≡ both.0.now ∷ both.1.now ∷ []) }
     ensures others { IfErr result (λ e. (parse : List ℕ → List ℕ → Result Command LineError) →
+        two_words (word_texts words.old) parse ≡ Err e) }
+    ensures rules { IfErr result (λ e. (parse : List ℕ → List ℕ → Result Rule LineError) →
         two_words (word_texts words.old) parse ≡ Err e) }
 {
     let first = next_text(words).ok_or(LineError::WrongCount)?;

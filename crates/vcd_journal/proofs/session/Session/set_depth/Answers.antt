@@ -2,7 +2,7 @@ use Rattle.std.proofs.Common.{◌≡◌, ◌<◌, ◌≤◌, ◌-◌, true, leng
 use Rattle.std.proofs.lemmas.List.{length-take}
 use Rattle.std.proofs.lemmas.Result.{err_from_is_err_and}
 use Rattle.vcd_core.specs.Contents.{contents}
-use Rattle.vcd_journal.specs.Machine.{is_depth}
+use Rattle.vcd_journal.specs.History.{is_depth}
 use Rattle.vcd_journal.specs.ReachedCaptures.{reached_captures}
 use Rattle.vcd_journal.proofs.Steps.{depth_within, depth_too_small, depth_no_memory, depth_accepted}
 use Rattle.vcd_journal.proofs.Histories.{length_reached_captures, AllRecordsFit_take, same_machine, machine_of_depth}

@@ -4,8 +4,7 @@ use Rattle.std.specs.Prelude.{find, option_map}
 use Rattle.std.specs.Option.{option_or}
 use Rattle.std.specs.Str.{bytes_eq}
 use Rattle.vcdedit.specs.declared.script.keyword.Keyword.{Keyword}
-use Rattle.vcdedit.specs.inside.ParsedCommands.{keyword_in, edit_keywords, history_keywords, query_keywords}
-use Rattle.vcdedit.specs.inside.ParsedCommands.{decoder_keywords}
+use Rattle.vcdedit.specs.ScriptCommands.{keyword_words}
 use Rattle.vcdedit.proofs.script.keyword.keyword_of.Goals as goal
 
 -- what was found, or else by a test for each row
@@ -25,25 +24,12 @@ one_row None row true later = refl
 one_row None row false later = refl
 
 tried_is : (found : Option Keyword) (rows : List (List ℕ × Keyword)) (word : List ℕ)
-    → tried found rows word ≡ option_or found (keyword_in rows word)
+    → tried found rows word
+    ≡ option_or found (option_map (λ (r : List ℕ × Keyword). r.1) (find (λ r. bytes_eq word r.0) rows))
 tried_is found [] word = no_row found
 tried_is found (row ∷ rows) word =
     tried_is (option_or found (cond (bytes_eq word row.0) (Some row.1) None)) rows word
     ∙ one_row found row (bytes_eq word row.0) (find (λ r. bytes_eq word r.0) rows)
-
-all_tried : (word : List ℕ) →
-    tried (tried (tried (tried None edit_keywords word) history_keywords word) query_keywords word)
-    decoder_keywords word
-    ≡ option_or (option_or (option_or (keyword_in edit_keywords word) (keyword_in history_keywords word))
-    (keyword_in query_keywords word)) (keyword_in decoder_keywords word)
-all_tried word =
-    tried_is _ decoder_keywords word
-    ∙ ap (λ (k : Option Keyword). option_or k (keyword_in decoder_keywords word))
-    (tried_is _ query_keywords word
-    ∙ ap (λ (k : Option Keyword). option_or k (keyword_in query_keywords word))
-    (tried_is _ history_keywords word
-    ∙ ap (λ (k : Option Keyword). option_or k (keyword_in history_keywords word))
-    (tried_is None edit_keywords word)))
 
 pub returns : goal.returns
 returns c =
@@ -63,4 +49,4 @@ returns c =
     let tried-15 = c.or-14.ensures ∙ ap₂ option_or tried-14 c.keyword_if-15.ensures in
     let tried-16 = c.or-15.ensures ∙ ap₂ option_or tried-15 c.keyword_if-16.ensures in
     let tried-17 = c.or-16.ensures ∙ ap₂ option_or tried-16 c.keyword_if-17.ensures in
-    tried-17 ∙ all_tried c.args.word.now
+    tried-17 ∙ tried_is None keyword_words c.args.word.now

@@ -6,11 +6,10 @@ use Rattle.vcd_text.specs.Words.{words_of}
 use Rattle.vcdedit.specs.declared.script.command.Command.{Command}
 use Rattle.vcdedit.specs.declared.script.line_error.LineError.{LineError}
 use Rattle.vcdedit.specs.WithoutAddress.{command_without_address}
-use Rattle.vcdedit.specs.ParsedLines.{command_of_line}
+use Rattle.vcdedit.specs.ScriptCommands.{command_of_line}
 use Rattle.vcdedit.specs.ScriptCommands.{command_of_words}
 use Rattle.vcdedit.specs.inside.Commands.{ReadsAs}
 use Rattle.vcdedit.proofs.AskedSignals.{read_has_its_signals}
-use Rattle.vcdedit.proofs.KeywordCommands.{words_read}
 use Rattle.vcdedit.proofs.script.line.parse_line.Goals as goal
 
 -- what is read, clause by clause
@@ -33,8 +32,7 @@ returns-in-Some-clause-command c =
     c.parse_first_word.result
     (subst (λ words. ReadsAs (command_of_words (contents c.args.capture.now) words) c.parse_first_word.result)
     (sym texts)
-    (words_read (contents c.args.capture.now) (c.in-Some.first.now ∷ word_texts c.next_text.new.words)
-    c.parse_first_word.result c.parse_first_word.ensures))
+    c.parse_first_word.ensures)
 
 pub returns-in-Some-clause-fault : goal.returns-in-Some-clause-fault
 unfolding command_of_line
@@ -45,8 +43,7 @@ returns-in-Some-clause-fault c =
     c.parse_first_word.result
     (subst (λ words. ReadsAs (command_of_words (contents c.args.capture.now) words) c.parse_first_word.result)
     (sym texts)
-    (words_read (contents c.args.capture.now) (c.in-Some.first.now ∷ word_texts c.next_text.new.words)
-    c.parse_first_word.result c.parse_first_word.ensures))
+    c.parse_first_word.ensures)
 
 pub returns-in-Some-clause-signals : goal.returns-in-Some-clause-signals
 returns-in-Some-clause-signals c =
