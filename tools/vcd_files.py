@@ -198,10 +198,8 @@ def shown_bytes(name):
     return name.decode("latin-1")
 
 
-def what_else(path):
+def what_else(front):
     """(what a file is, what to do) where its first bytes show that it is no plain VCD; else None."""
-    with open(path, "rb") as file:
-        front = file.read(CHUNK)
     if not front:
         return "is empty", "look whether the tool that wrote it ended well"
     for beginning, what, remedy in OTHER_FILES:

@@ -22,5 +22,9 @@ def store(folder, name, text):
 
 
 def load(folder, name):
-    with open(os.path.join(folder, name), "rb") as file:
-        return file.read()
+    """What a file holds; nothing, if it is not there."""
+    try:
+        with open(os.path.join(folder, name), "rb") as file:
+            return file.read()
+    except FileNotFoundError:
+        return b""

@@ -24,6 +24,16 @@ COMPLETED = [
     (["--depth", "=", "100"], ["100", "1000"]),
     (["--dep"], ["--depth"]),
 ]
+COMPLETE_TOOL = """source "$1"; shift; compopt() { :; }
+COMP_WORDS=("$@"); COMP_CWORD=$(($# - 1)); _vcdedit_tool "$1"; printf '%s\\n' "${COMPREPLY[@]}" """
+# What is run after installing, in another folder: words, status and what is shown. Each tool calls the program next to it.
+RUN = [
+    (["vcdedit", "--version"], 0, r"^vcdedit [0-9.]+\n"),
+    (["vcdedit-compare", "--help"], 0, "ompares"),
+    (["vcdedit-compare", "/dev/null", "/dev/null"], 2, "line 1: Truncated"),
+    (["vcdedit-apply", "--to", "/tmp", "/dev/null", "/dev/null"], 2, "is one of the captures"),
+    (["vcdedit-apply", "--help"], 0, "Carries a script"),
+]
 COMPLETE = """source "$1"; shift; compopt() { :; }
 COMP_WORDS=(vcdedit "$@"); COMP_CWORD=$#; _vcdedit; printf '%s\\n' "${COMPREPLY[@]}" """
 
@@ -60,13 +70,53 @@ def installs(program, folder):
         launcher = [path for path in added if path.endswith("/bin/vcdedit")]
         yield name + ": install", made[0] == 0 and len(launcher) == 1
         if name == "a relative PREFIX":
-            for words_run, wanted in ((["vcdedit", "--version"], r"vcdedit [0-9.]+\n"), (["vcdedit-compare", "--help"], "Compares")):
-                place = os.path.join(os.path.dirname(launcher[0]), words_run[0])
-                yield "%s runs from anywhere" % words_run[0], re.match(wanted, run([place, *words_run[1:]], cwd="/")[1])
+            yield from run_from_anywhere(os.path.dirname(launcher[0]))
         wanted = ["COOKBOOK.md", "SCRIPT.md", "FORMATS.md", "vcdedit.1", "_vcdedit", "vcdedit.fish", "completions/vcdedit"]
         yield name + ": documents and completions", all(any(path.endswith(end) for path in added) for end in wanted)
         run(["make", "uninstall", *words], cwd=tree)
         yield name + ": uninstall", files_in(tree) == before
+
+
+def run_from_anywhere(folder):
+    """What is installed runs in another folder, and each tool finds its modules and the program next to it."""
+    for words, status, wanted in RUN:
+        done = run([os.path.join(folder, words[0]), *words[1:]], cwd="/", input="")
+        yield "%s runs from anywhere" % " ".join(words), done[0] == status and re.search(wanted, done[1] + done[2])
+
+
+def tools_of_makefile():
+    """(source, name) of each tool."""
+    with open(os.path.join(TOP, "Makefile")) as file:
+        return re.findall(r"^755 (tools/\S+) bin/(\S+)$", file.read(), flags=re.M)
+
+
+def read(path):
+    with open(os.path.join(TOP, path)) as file:
+        return file.read()
+
+
+def explains_tools(folder):
+    """Each option that a tool's help lists is in its page and completed, and no other is in the page."""
+    names = tools_of_makefile()
+    yield "there are tools", len(names) >= 2
+    fish, makefile = read("completions/tools.fish"), read("Makefile")
+    for source, name in names:
+        status, shown, _ = run([os.path.join(TOP, source), "--help"])
+        options = set(re.findall(r"^ +(?:-\w(?: \S+)?, )?--([a-z-]+)", shown, flags=re.M))
+        page = read("docs/%s.1" % name).replace("\\-", "-")
+        told = set(re.findall(r"^\.[BI]\w* .*?--([a-z-]+)", page.split(".SH OPTIONS")[-1].split(".SH EXIT")[0], flags=re.M))
+        yield name + ": help", status == 0 and shown != ""
+        yield name + ": options of the page", told - {"help"} == options - {"help"}
+        completed = set(re.findall(r"^complete -c %s .*?-l ([a-z-]+)" % name, fish, flags=re.M))
+        yield name + ": fish completes its options", completed - {"help"} == options - {"help"}
+        os.makedirs(folder, exist_ok=True)
+        os.symlink(os.path.join(TOP, source), os.path.join(folder, name))
+        words = ["bash", "--norc", "-c", COMPLETE_TOOL, "bash", os.path.join(TOP, "completions/tools.bash"), "./" + name, "--"]
+        found = run(words, cwd=folder)[1].split()
+        yield name + ": bash completes its options", {word[2:] for word in found} - {"help"} == options - {"help"}
+        for shell in ("bash-completion/completions/%s", "fish/vendor_completions.d/%s.fish", "man/man1/%s.1"):
+            yield name + ": installs " + shell % name, re.search(r"^644 \S+ share/%s$" % (shell % name), makefile, flags=re.M)
+        yield name + ": zsh knows it", name in read("completions/_vcdedit_tools").split("\n")[0].split()
 
 
 def completes(program, folder):
@@ -90,3 +140,4 @@ def completes(program, folder):
 def check(program, folder):
     yield from installs(program, os.path.join(folder, "tree"))
     yield from completes(program, os.path.join(folder, "names"))
+    yield from explains_tools(os.path.join(folder, "tools"))
