@@ -14,6 +14,8 @@ mod pieces;
 mod plans;
 mod record;
 mod reverting;
+#[cfg(test)]
+mod tests;
 
 pub use applying::apply;
 pub use checking::check;

@@ -7,6 +7,9 @@ ghost use Rattle.vcd_journal.specs.Machine.{initial_machine, IsStepCall};
 ghost use Rattle.vcd_journal.specs.History.{is_depth as depth_test};
 ghost use Rattle.vcd_journal.specs.declared.step.Step.TheVariants as steps;
 
+#[cfg(test)]
+mod tests;
+
 use crate::rings::{Ring, apply_newest, empty_rings, enlarge, keep_newest, push_newest};
 use crate::step::{DEPTH_LIMIT, Step, StepError};
 use std::alloc::Global;

@@ -7,7 +7,7 @@ ghost use Rattle.vcd_core.specs.Sound.{IsSound};
 use std::alloc::Global;
 use std::process::Abort;
 use std::test::Fail;
-use vcd_core::{Bit, Capture, Change, FromRead, NoMemory, ToWrite, Value, Wave};
+use vcd_core::{Bit, Capture, Change, FromRead, NoMemory, Signal, ToWrite, Value, Wave, Word};
 use vcd_text::{Loaded, ReadError, read, write};
 
 /// Stops with the text of a row, unless the row holds.
@@ -94,6 +94,39 @@ pub fn text_of(alloc: Global, capture: &Capture) -> Result<Vec<u8>, Fail>
     let mut sink = ToWrite::new(Vec::new(alloc));
     write(alloc, capture, &mut sink)?;
     Ok(sink.into_inner())
+}
+
+/// Appends the words of a name, run together.
+fn push_words(text: &mut String, words: &[Word]) -> Result<(), Fail> {
+    for word in words {
+        for byte in word.as_slice() {
+            text.push(*byte as char)?;
+        }
+    }
+    Ok(())
+}
+
+/// Appends the full name of a signal.
+fn push_name(text: &mut String, signal: &Signal) -> Result<(), Fail> {
+    for scope in signal.scopes.as_slice() {
+        push_words(text, scope.words.as_slice())?;
+        text.push('.')?;
+    }
+    push_words(text, signal.words.as_slice())
+}
+
+/// The end of a capture, and the full name and the changes of each signal, as `8|top.a 0@0 1@3|top.b 1@0`.
+pub fn capture_text(alloc: Global, capture: &Capture) -> Result<String, Fail> {
+    let mut text = format!(in alloc; "{}", capture.end())?;
+    for signal in capture.signals() {
+        text.push('|')?;
+        push_name(&mut text, signal)?;
+        for change in signal.wave.changes() {
+            let shown = format!(in alloc; " {:?}@{}", change.value, change.tick)?;
+            text.push_str(shown.as_str())?;
+        }
+    }
+    Ok(text)
 }
 
 /// The code of the first signal. That of the next is one more.

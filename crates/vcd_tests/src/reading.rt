@@ -3,6 +3,7 @@
 mod broken_off;
 mod chunks;
 mod faults;
+mod limits;
 mod worked;
 
 use crate::fake_devices::{FakeReader, source_of};

@@ -1,5 +1,6 @@
 //! Sessions: steps that are made with enough memory, and what is left of the history.
 
+use crate::fixtures::capture_text;
 use std::alloc::Global;
 use std::process::Abort;
 use std::test::Fail;
@@ -48,23 +49,7 @@ fn push_answers(alloc: Global, text: &mut String, answers: &[Answer]) -> Result<
     Ok(())
 }
 
-/// Each signal's name and letter at tick 0, and the end.
-fn push_capture(alloc: Global, text: &mut String, capture: &Capture) -> Result<(), Fail> {
-    for signal in capture.signals() {
-        for word in signal.words.as_slice() {
-            for byte in word.as_slice() {
-                text.push(*byte as char)?;
-            }
-        }
-        let value = signal.wave.at(0);
-        text.push_str(format!(in alloc; " {value:?}")?.as_str())?;
-    }
-    text.push_str(format!(in alloc; " {}", capture.end())?.as_str())?;
-    Ok(())
-}
-
-/// The answers to the steps. Then the signal's name, its letter at tick 0, the end, and how many steps can be undone
-/// and redone.
+/// The answers to the steps. Then the capture, and how many steps can be undone and redone.
 fn answers_and_state(
     rt: &impl Abort,
     alloc: Global,
@@ -83,7 +68,7 @@ fn answers_and_state(
     run(&mut session, steps, &mut answers);
     let mut text = String::new(alloc);
     push_answers(alloc, &mut text, answers.as_slice())?;
-    push_capture(alloc, &mut text, session.capture())?;
+    text.push_str(capture_text(alloc, session.capture())?.as_str())?;
     let (undoable, redoable) = (session.undoable(), session.redoable());
     text.push_str(format!(in alloc; " {undoable} {redoable}")?.as_str())?;
     Ok(text)
@@ -111,7 +96,7 @@ fn refused_edit_leaves_what_can_be_made_again(rt: HostRuntime) -> Result<(), Fai
         rename(b"b"),
         Step::Redo,
     ];
-    let text = "ok ok BadRange ok ok ok NothingToRedo b 0 9 1 0";
+    let text = "ok ok BadRange ok ok ok NothingToRedo 9|b 0@0 1@5 1 0";
     check_answers_of(&rt, rt.alloc(), DEPTH_LIMIT, &steps, text)
 }
 
@@ -125,7 +110,7 @@ fn oldest_step_is_dropped(rt: HostRuntime) -> Result<(), Fail> {
         Step::Undo,
         Step::Undo,
     ];
-    let text = "ok ok ok ok ok NothingToUndo b 0 9 0 2";
+    let text = "ok ok ok ok ok NothingToUndo 9|b 0@0 1@5 0 2";
     check_answers_of(&rt, rt.alloc(), 2, &steps, text)
 }
 
@@ -142,27 +127,33 @@ fn steps_are_made_again_in_order(rt: HostRuntime) -> Result<(), Fail> {
         Step::Redo,
         Step::Redo,
     ];
-    check_answers_of(&rt, rt.alloc(), 3, &steps[..5], "ok ok ok ok ok b 0 9 1 2")?;
+    check_answers_of(
+        &rt,
+        rt.alloc(),
+        3,
+        &steps[..5],
+        "ok ok ok ok ok 9|b 0@0 1@5 1 2",
+    )?;
     check_answers_of(
         &rt,
         rt.alloc(),
         3,
         &steps[..6],
-        "ok ok ok ok ok ok a 0 9 0 3",
+        "ok ok ok ok ok ok 9|a 0@0 1@5 0 3",
     )?;
     check_answers_of(
         &rt,
         rt.alloc(),
         3,
         &steps[..8],
-        "ok ok ok ok ok ok ok ok b 1 9 2 1",
+        "ok ok ok ok ok ok ok ok 9|b 1@0 0@5 2 1",
     )?;
     check_answers_of(
         &rt,
         rt.alloc(),
         3,
         &steps,
-        "ok ok ok ok ok ok ok ok ok b 1 8 3 0",
+        "ok ok ok ok ok ok ok ok ok 8|b 1@0 0@5 3 0",
     )
 }
 
@@ -185,7 +176,7 @@ fn depth_makes_room_for_what_can_be_made_again(rt: HostRuntime) -> Result<(), Fa
         Step::Depth(DEPTH_LIMIT + 1),
     ];
     let text =
-        "ok ok ok ok ok DepthTooSmall ok NothingToUndo ok ok ok ok NothingToUndo BadDepth c 0 9 0 1";
+        "ok ok ok ok ok DepthTooSmall ok NothingToUndo ok ok ok ok NothingToUndo BadDepth 9|c 0@0 1@5 0 1";
     check_answers_of(&rt, rt.alloc(), 3, &steps, text)
 }
 
@@ -201,6 +192,6 @@ fn greater_depth_holds_more(rt: HostRuntime) -> Result<(), Fail> {
         Step::Undo,
         Step::Depth(DEPTH_LIMIT),
     ];
-    let text = "ok ok ok ok ok ok NothingToUndo ok b 0 9 0 2";
+    let text = "ok ok ok ok ok ok NothingToUndo ok 9|b 0@0 1@5 0 2";
     check_answers_of(&rt, rt.alloc(), 1, &steps, text)
 }

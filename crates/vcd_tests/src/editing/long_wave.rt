@@ -27,9 +27,10 @@ fn check_changes(rt: &impl Abort, capture: &Capture, outcome: &Outcome) {
     assert!(rt; changes.get(outcome.at) == Some(&outcome.change));
 }
 
-/// Stops unless an edit of 10,000 changes, one at each tick, has this result, and its undo restores the capture.
+/// Stops unless an edit of 10,000 changes, one at each tick before the end, has this result, and its undo restores the capture.
 fn check_edit(rt: &impl Abort, alloc: Global, edit: &Edit, outcome: &Outcome) -> Result<(), Fail> {
-    let text = alternating_text(alloc, 1, 9998, 9999)?;
+    let mut text = alternating_text(alloc, 1, 9998, 9999)?;
+    text.extend_from_slice(b"#10000\n")?;
     let mut capture = load_file(alloc, text.as_slice())?.capture;
     let record = apply(alloc, &mut capture, edit)?;
     assert!(rt; record.stored() <= outcome.stored);
@@ -59,7 +60,7 @@ fn a_tick_is_forced(rt: HostRuntime) -> Result<(), Fail> {
         count: 10_000,
         at: 5000,
         change: change_to(Bit::Z, 5000),
-        end: 9999,
+        end: 10_000,
         stored: 1,
     };
     check_edit(&rt, rt.alloc(), &force, &outcome)
@@ -72,7 +73,7 @@ fn ticks_are_cut_out(rt: HostRuntime) -> Result<(), Fail> {
         count: 9990,
         at: 10,
         change: change_to(Bit::Zero, 10),
-        end: 9989,
+        end: 9990,
         stored: 10,
     };
     check_edit(&rt, rt.alloc(), &Edit::Cut { from: 10, to: 20 }, &outcome)
@@ -85,7 +86,7 @@ fn ticks_are_cut_out_up_to_an_equal_value(rt: HostRuntime) -> Result<(), Fail> {
         count: 9988,
         at: 10,
         change: change_to(Bit::Zero, 11),
-        end: 9988,
+        end: 9989,
         stored: 12,
     };
     check_edit(&rt, rt.alloc(), &Edit::Cut { from: 10, to: 21 }, &outcome)

@@ -1,61 +1,62 @@
 //! The effect of edits on small captures, how much their records store, and the undo.
 
-use super::{edit_of, number, position};
-use crate::fixtures::{changes_in_text, load_file, text_of};
+use super::edit_of;
+use crate::fixtures::{capture_text, load_file, text_of};
 use std::alloc::Global;
 use std::process::Abort;
 use std::test::Fail;
 use vcd_core::Capture;
 use vcd_edit::{Edit, Record, Rule, apply, revert};
 
-/// A row has the edit, a position, the end of the capture after it, and the most changes that its record and that of
-/// its undo may store. Then come the changes of the signal at the position.
+/// A row has the edit, the most changes that its record and that of its undo may store, and the capture after it as
+/// `capture_text` shows it.
 const TWO: &str = "\
 $var wire 1 ! a $end $var wire 1 \" b $end $enddefinitions $end
 #0 0! 1\" #3 1! #5 x\" #8";
 
 const EDITS_OF_TWO: &str = "\
-rename 0 c:0 8 0 0:0@0 1@3
-remove 0:0 8 2 0:1@0 x@5
-invert 1:1 8 1 1:0@0 x@5
-shift 0 0:0 8 0 0:0@0 1@3
-shift 0 2:0 8 0 0:0@2 1@5
-shift 0 7:0 8 2 1:0@7
-shift 0 -2:0 8 0 0:0@0 1@1
-shift 0 -4:0 8 2 1:1@0
-shift 0 9223372036854775807:0 8 2 0:
-shift 0 -9223372036854775808:0 8 2 1:1@0
-cut 0 3:0 5 1 0:1@0
-cut 5 8:1 5 0 0:1@0 x@5
-cut 0 8:0 0 4 1:1@0
-force 0 2 9 z:0 8 1 1:0@0 z@2
-force 0 3 5 0:0 8 1 1:0@0 1@5
-force 0 8 9 z:0 8 0 1:0@0 1@3 z@8
-force 0 3 5 1:0 8 0 0:0@0 1@3
-derive y and 0 1:2 8 0 3:0@0 1@3 x@5
-derive n xor 0 1:2 8 0 3:1@0 0@3 x@5
-derive o or 0 1:2 8 0 1:1@0
-derive m not 1:2 8 0 2:0@0 x@5";
+rename 0 c:0 0:8|c 0@0 1@3|b 1@0 x@5
+remove 0:2 0:8|b 1@0 x@5
+invert 1:1 1:8|a 0@0 1@3|b 0@0 x@5
+shift 0 0:0 0:8|a 0@0 1@3|b 1@0 x@5
+shift 0 2:0 0:8|a 0@2 1@5|b 1@0 x@5
+shift 0 7:2 1:8|a 0@7|b 1@0 x@5
+shift 0 -2:0 0:8|a 0@0 1@1|b 1@0 x@5
+shift 0 -4:2 1:8|a 1@0|b 1@0 x@5
+shift 0 9223372036854775807:2 0:8|a|b 1@0 x@5
+shift 0 -9223372036854775808:2 1:8|a 1@0|b 1@0 x@5
+cut 0 3:1 0:5|a 1@0|b 1@0 x@2
+cut 5 8:0 0:5|a 0@0 1@3|b 1@0 x@5
+cut 0 8:4 1:0|a 1@0|b
+force 0 2 9 z:1 1:8|a 0@0 z@2|b 1@0 x@5
+force 0 3 5 0:1 1:8|a 0@0 1@5|b 1@0 x@5
+force 0 8 9 z:0 1:8|a 0@0 1@3 z@8|b 1@0 x@5
+force 0 3 5 1:0 0:8|a 0@0 1@3|b 1@0 x@5
+derive y and 0 1:0 3:8|a 0@0 1@3|b 1@0 x@5|y 0@0 1@3 x@5
+derive n xor 0 1:0 3:8|a 0@0 1@3|b 1@0 x@5|n 1@0 0@3 x@5
+derive o or 0 1:0 1:8|a 0@0 1@3|b 1@0 x@5|o 1@0
+derive m not 1:0 2:8|a 0@0 1@3|b 1@0 x@5|m 0@0 x@5";
 
 /// One wave that is z at first, and others with pulses.
 const FROM_Z: &str = "$var wire 1 ! a $end $enddefinitions $end #0 z! #4 1! #8";
 
-const EDITS_FROM_Z: &str = "invert 0:0 8 2 1:0@4";
+const EDITS_FROM_Z: &str = "\
+invert 0:2 1:8|a 0@4";
 
 const PULSE: &str = "$var wire 1 ! a $end $enddefinitions $end #0 0! #3 1! #7 0! #10";
 
 const EDITS_OF_PULSE: &str = "\
-cut 3 7:0 6 2 0:0@0
-cut 2 5:0 7 1 1:0@0 1@2 0@4
-cut 3 10:0 3 2 0:0@0";
+cut 3 7:2 0:6|a 0@0
+cut 2 5:1 1:7|a 0@0 1@2 0@4
+cut 3 10:2 0:3|a 0@0";
 
 const GLITCH: &str = "\
 $var wire 1 ! a $end $enddefinitions $end
 #0 0! #5 1! #6 0! #7 1! #20 0! #30";
 
 const EDITS_OF_GLITCH: &str = "\
-deglitch 0 3:0 30 2 0:0@0 1@7 0@20
-deglitch 0 18446744073709551615:0 30 4 0:0@0";
+deglitch 0 3:2 0:30|a 0@0 1@7 0@20
+deglitch 0 18446744073709551615:4 0:30|a 0@0";
 
 /// A wave that is x at first.
 const FROM_X: &str = "\
@@ -63,9 +64,9 @@ $var wire 1 ! a $end $enddefinitions $end
 #2 0! #3 1! #9 0! #11 1! #20";
 
 const EDITS_FROM_X: &str = "\
-deglitch 0 2:0 20 1 0 0:1@3 0@9 1@11
-deglitch 0 6:0 20 4 1 0:1@3
-deglitch 0 7:0 20 3 0 0:1@11";
+deglitch 0 2:1 0:20|a 1@3 0@9 1@11
+deglitch 0 6:4 1:20|a 1@3
+deglitch 0 7:3 0:20|a 1@11";
 
 /// Forces that give as many changes as they take, more or fewer: at the front, in the middle and at the end.
 const EVEN: &str = "\
@@ -73,36 +74,45 @@ $var wire 1 ! a $end $enddefinitions $end
 #0 0! #2 1! #4 0! #6 1! #8 0! #10";
 
 const FORCES_OF_EVEN: &str = "\
-force 0 0 2 z:0 10 1 1 0:z@0 1@2 0@4 1@6 0@8
-force 0 0 1 z:0 10 1 2 0:z@0 0@1 1@2 0@4 1@6 0@8
-force 0 0 2 1:0 10 2 1 0:1@0 0@4 1@6 0@8
-force 0 2 4 z:0 10 1 1 0:0@0 z@2 0@4 1@6 0@8
-force 0 5 6 z:0 10 0 1 0:0@0 1@2 0@4 z@5 1@6 0@8
-force 0 1 7 x:0 10 3 2 0:0@0 x@1 1@7 0@8
-force 0 8 11 z:0 10 1 1 0:0@0 1@2 0@4 1@6 z@8
-force 0 8 9 z:0 10 1 2 0:0@0 1@2 0@4 1@6 z@8 0@9
-force 0 8 11 1:0 10 1 0 0:0@0 1@2 0@4 1@6";
+force 0 0 2 z:1 1:10|a z@0 1@2 0@4 1@6 0@8
+force 0 0 1 z:1 2:10|a z@0 0@1 1@2 0@4 1@6 0@8
+force 0 0 2 1:2 1:10|a 1@0 0@4 1@6 0@8
+force 0 2 4 z:1 1:10|a 0@0 z@2 0@4 1@6 0@8
+force 0 5 6 z:0 1:10|a 0@0 1@2 0@4 z@5 1@6 0@8
+force 0 1 7 x:3 2:10|a 0@0 x@1 1@7 0@8
+force 0 8 11 z:1 1:10|a 0@0 1@2 0@4 1@6 z@8
+force 0 8 9 z:1 2:10|a 0@0 1@2 0@4 1@6 z@8 0@9
+force 0 8 11 1:1 0:10|a 0@0 1@2 0@4 1@6";
 
 /// Three signals, the middle one being taken out; and three that share a code, with one edited, or all.
 const THREE: &str = "\
 $var wire 1 ! a $end $var wire 1 \" b $end $var wire 1 # c $end $enddefinitions $end
 #0 0! 1\" z# #4";
 
-const EDITS_OF_THREE: &str = "remove 1:1 4 1 0:z@0";
+const EDITS_OF_THREE: &str = "\
+remove 1:1 0:4|a 0@0|c z@0";
 
 const SHARED: &str = "\
 $var wire 1 % a $end $var wire 1 % b $end $var wire 1 % c $end $enddefinitions $end #0 1% #3 0%";
 
 const EDITS_OF_SHARED: &str = "\
-invert 0:0 3 2 2:0@0 1@3
-invert 0:1 3 2 2:1@0 0@3
-force 2 1 2 x:2 3 0 2:1@0 x@1 1@2 0@3
-force 2 1 2 x:0 3 0 2:1@0 0@3
-remove 0:1 3 2 0:1@0 0@3
-derive y xor 0 2:3 3 0 1:0@0
-cut 1 2:0 2 0 0:1@0 0@2
-cut 1 2:2 2 0 0:1@0 0@2
-cut 0 3:1 0 3 0:0@0";
+invert 0:2 2:3|a 0@0 1@3|b 1@0 0@3|c 1@0 0@3
+force 2 1 2 x:0 2:3|a 1@0 0@3|b 1@0 0@3|c 1@0 x@1 1@2 0@3
+remove 0:2 0:3|b 1@0 0@3|c 1@0 0@3
+derive y xor 0 2:0 1:3|a 1@0 0@3|b 1@0 0@3|c 1@0 0@3|y 0@0
+cut 1 2:0 0:2|a 1@0 0@2|b 1@0 0@2|c 1@0 0@2
+cut 0 3:3 0:0|a 0@0|b 0@0|c 0@0";
+
+/// One code in two scopes.
+const ONE_CODE: &str = "\
+$scope module top $end $var wire 1 % a $end
+$scope module sub $end $var wire 1 % a $end $upscope $end
+$upscope $end $enddefinitions $end #0 1% #3 0%";
+
+const EDITS_OF_ONE_CODE: &str = "\
+invert 0:2 2:3|top.a 0@0 1@3|top.sub.a 1@0 0@3
+rename 1 b:0 0:3|top.a 1@0 0@3|top.sub.b 1@0 0@3
+remove 0:2 0:3|top.sub.a 1@0 0@3";
 
 /// Operands of two scopes, x and z among their values, and the bits of a vector.
 const SCOPES: &str = "\
@@ -112,13 +122,13 @@ $upscope $end $enddefinitions $end
 #0 0! z\" b10xz # #2 1! #4 z! #6 x! #9";
 
 const EDITS_OF_SCOPES: &str = "\
-derive y and 0 1:3 9 0 2:0@0 x@2
-derive y or 1 0:3 9 0 2:1@2 x@4
-derive y xor 0 1:3 9 0 0:
-derive y not 1:3 9 0 0:
-derive y bit 2 0:3 9 0 1:z@0
-derive y bit 2 3:3 9 0 1:1@0
-cut 0 9:0 0 4 0:";
+derive y and 0 1:0 2:9|top.a 0@0 1@2 z@4 x@6|top.sub.b z@0|top.sub.v 10xz@0|top.y 0@0 x@2
+derive y or 1 0:0 2:9|top.a 0@0 1@2 z@4 x@6|top.sub.b z@0|top.sub.v 10xz@0|top.sub.y 1@2 x@4
+derive y xor 0 1:0 0:9|top.a 0@0 1@2 z@4 x@6|top.sub.b z@0|top.sub.v 10xz@0|top.y
+derive y not 1:0 0:9|top.a 0@0 1@2 z@4 x@6|top.sub.b z@0|top.sub.v 10xz@0|top.sub.y
+derive y bit 2 0:0 1:9|top.a 0@0 1@2 z@4 x@6|top.sub.b z@0|top.sub.v 10xz@0|top.sub.y z@0
+derive y bit 2 3:0 1:9|top.a 0@0 1@2 z@4 x@6|top.sub.b z@0|top.sub.v 10xz@0|top.sub.y 1@0
+cut 0 9:4 0:0|top.a|top.sub.b z@0|top.sub.v 10xz@0";
 
 /// A scalar and a vector that never change.
 const STILL: &str = "\
@@ -126,42 +136,25 @@ $scope module top $end $var wire 1 ! a $end $var wire 4 \" v $end $upscope $end
 $enddefinitions $end #0 0! b0 \" #9";
 
 const EDITS_OF_STILL: &str = "\
-cut 0 9:0 0 0 0:0@0
-rename 0 a:0 9 0 0:0@0";
+cut 0 9:0 0:0|top.a 0@0|top.v 0000@0
+rename 0 a:0 0:9|top.a 0@0|top.v 0000@0";
 
-/// What a row says of an edit: the changes of a signal after it, the end, and the most changes that both records store.
+/// What a row says of an edit: the most changes that both records store, and the capture after it.
 #[derive(Drop)]
 struct Outcome<'a> {
-    signal: usize,
-    end: u64,
     stored: u64,
     redo_stored: u64,
-    changes: &'a str,
+    capture: &'a str,
 }
 
-/// The outcome that four numbers and the changes of a row give.
-fn outcome_of<'a>(numbers: &[&str], changes: &'a str) -> Option<Outcome<'a>> {
-    Some(Outcome {
-        signal: position(numbers, 0)?,
-        end: number(numbers, 1)?,
-        stored: number(numbers, 2)?,
-        redo_stored: number(numbers, 3)?,
-        changes,
+/// The outcome that two numbers and a capture give.
+fn outcome_of<'a>(numbers: &str, capture: &'a str) -> Result<Outcome<'a>, Fail> {
+    let (stored, redo_stored) = numbers.split_once(' ').ok_or("no second number")?;
+    Ok(Outcome {
+        stored: stored.parse::<u64>()?,
+        redo_stored: redo_stored.parse::<u64>()?,
+        capture,
     })
-}
-
-/// Stops unless a capture has the end and the changes of an outcome.
-fn check_capture(
-    rt: &impl Abort,
-    alloc: Global,
-    capture: &Capture,
-    outcome: &Outcome<'_>,
-) -> Result<(), Fail> {
-    let wanted = changes_in_text(alloc, outcome.changes)?;
-    assert!(rt; capture.end() == outcome.end);
-    assert!(rt; outcome.signal < capture.signals().len());
-    assert!(rt; capture.signals()[outcome.signal].wave.changes() == wanted.as_slice());
-    Ok(())
 }
 
 /// Stops unless a record fits a capture and stores at most so many changes.
@@ -182,7 +175,7 @@ fn check_edit(
     let before = text_of(alloc, &capture)?;
     let record = apply(alloc, &mut capture, edit)?;
     check_record(rt, &capture, &record, outcome.stored);
-    check_capture(rt, alloc, &capture, outcome)?;
+    assert!(rt; capture_text(alloc, &capture)?.as_str() == outcome.capture);
     let Ok(redo_record) = revert(alloc, &mut capture, record) else {
         return Err(Fail::from("refused with ample memory"));
     };
@@ -194,15 +187,12 @@ fn check_edit(
 /// Stops unless the edit of a row has the outcome of the row.
 fn check_row(rt: &impl Abort, alloc: Global, file: &str, row: &str) -> Result<(), Fail> {
     let (edit, after) = row.split_once(':').ok_or("no capture after it")?;
-    let (numbers, changes) = after.split_once(':').ok_or("no changes")?;
+    let (numbers, capture) = after.split_once(':').ok_or("no numbers")?;
     let words: Vec<&str> = edit.split(' ').collect(alloc)?;
     let Some(edit) = edit_of(words.as_slice()) else {
         return Err(Fail::from("no edit"));
     };
-    let numbers: Vec<&str> = numbers.split(' ').collect(alloc)?;
-    let Some(outcome) = outcome_of(numbers.as_slice(), changes) else {
-        return Err(Fail::from("no outcome"));
-    };
+    let outcome = outcome_of(numbers, capture)?;
     check_edit(rt, alloc, file, &edit, &outcome)
 }
 
@@ -217,6 +207,7 @@ fn edits_and_the_ways_back(rt: HostRuntime) -> Result<(), Fail> {
         (EVEN, FORCES_OF_EVEN),
         (THREE, EDITS_OF_THREE),
         (SHARED, EDITS_OF_SHARED),
+        (ONE_CODE, EDITS_OF_ONE_CODE),
         (SCOPES, EDITS_OF_SCOPES),
         (STILL, EDITS_OF_STILL),
     ];

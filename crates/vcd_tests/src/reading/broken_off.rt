@@ -1,4 +1,4 @@
-//! The worked file, with a reader that fails after each of its bytes.
+//! Readers that fail: after each byte of the worked file, and behind a fault of the file.
 
 use super::check_answer;
 use std::alloc::Global;
@@ -39,4 +39,13 @@ fn of_a_reader_that_fails(rt: HostRuntime) -> Result<(), Fail> {
         check_failure(&rt, rt.alloc(), len)?;
     }
     Ok(())
+}
+
+/// Words that are complete before the reader fails are taken first, so a fault in them is the answer.
+#[test]
+fn of_a_reader_that_fails_behind_a_fault(rt: HostRuntime) -> Result<(), Fail> {
+    let file = b"$var wire 1 ! a $end\n$enddefinitions $end\n#10\n#9\n";
+    let first_lines = &file[..file.len() - 3];
+    check_answer(&rt, rt.alloc(), first_lines, true, "4 ReadFault")?;
+    check_answer(&rt, rt.alloc(), file, true, "4 TimeBackwards")
 }

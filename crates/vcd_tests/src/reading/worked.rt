@@ -32,6 +32,14 @@ $upscope $end|$enddefinitions $end|#0|$dumpvars|1!|1\"|$end|#3|0!|0\"|
 b01xXzZlLhHuUwW- v #1 z! 1v #2 B1|! L! #3 h! #4 b01 ! -v #5 B110 ! Zv \
 => $var reg 15 ! v $end|$var integer 3 \" i [2:0] $end|$enddefinitions $end|#0|$dumpvars|\
 b1xxzz0011xxxxx !|bx \"|$end|#1|b1 !|bz \"|#2|b0 \"|#3|b1 \"|#4|bx !|#5|bz !|b110 \"|
+-- values that are extended on the left
+0: $scope module top $end $var wire 4 ! v $end $upscope $end $enddefinitions $end #0 bx ! #1 b1 ! #2 bz1 ! #3 b0 ! \
+=> $scope module top $end|$var wire 4 ! v $end|$upscope $end|$enddefinitions $end|#0|$dumpvars|bx !|$end|#1|b1 !|\
+#2|bz1 !|#3|b0 !|
+-- several changes of one variable at a tick, a stamp twice, and a change of a real number
+0: $var wire 1 ! a $end $var wire 128 \" p $end $var wire 129 # q $end $enddefinitions $end 0! #5 0! 1! #5 r1.5 ! #7 \
+=> $var wire 1 ! a $end|$var wire 128 \" p $end|$var wire 129 # q $end|$enddefinitions $end|#0|$dumpvars|0!|\
+bx \"|bx #|$end|#5|1!|#7|
 -- a value of more than one word of the machine
 0: $var wire 70 ! wide $end $enddefinitions $end 1! #1 bz0 ! #2 bxx ! #3|\
 b1111111111111111111111111111111111111111111111111111111111111111111111 ! #4 b000 ! \

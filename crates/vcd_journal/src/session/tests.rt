@@ -1,0 +1,34 @@
+//! The fields of a session. A further one, such as another capture, does not compile here.
+
+use super::Session;
+use crate::rings::Ring;
+use std::alloc::Global;
+use std::process::Abort;
+use std::test::Fail;
+use vcd_core::Capture;
+
+#[test]
+fn session_has_these_fields(rt: HostRuntime) -> Result<(), Fail> {
+    let capture = Capture::new(Vec::new(rt.alloc()), None, 9, Vec::new(rt.alloc()));
+    assert!(rt; capture.is_sound());
+    let Ok(session) = Session::new(rt.alloc(), capture, 3) else {
+        return Err(Fail::from("refused with ample memory"));
+    };
+    let Session {
+        capture,
+        past,
+        future,
+        depth,
+        alloc,
+    } = session;
+    let capture: Capture = capture;
+    let past: Ring = past;
+    let future: Ring = future;
+    let depth: u64 = depth;
+    let _alloc: Global = alloc;
+    assert!(rt; capture.end() == 9);
+    assert!(rt; past.is_empty());
+    assert!(rt; future.is_empty());
+    assert!(rt; depth == 3);
+    Ok(())
+}
