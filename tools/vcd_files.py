@@ -89,33 +89,47 @@ def words(file):
     yield line, None
 
 
-def read_declarations(stream):
-    """The declarations that begin a stream of `words`, which is left behind `$enddefinitions $end`."""
-    timescale, variables, scopes, sizes = None, [], [], {}
+def declarations_in(stream):
+    """(command, its words, the line of its `$end`) for each declaration that begins a stream of `words`, which is left
+    behind `$enddefinitions $end`."""
+    depth = 0
     for line, word in stream:
         if word is None:
             raise Fault("Truncated", line)
         if not word.startswith(b"$") or word in DUMP_WORDS:
             raise Fault("UnexpectedWord", line)
-        if word == b"$upscope" and not scopes:
+        if word == b"$upscope" and depth == 0:
             raise Fault("UpscopeAtTop", line)
         inner, line = words_up_to_end(stream, word)
-        if word == b"$scope":
-            if not inner:
-                raise Fault("BadScope", line)
+        if word == b"$scope" and not inner:
+            raise Fault("BadScope", line)
+        depth += (word == b"$scope") - (word == b"$upscope")
+        yield word, inner, line
+        if word == b"$enddefinitions":
+            return
+
+
+def read_declarations(stream):
+    """The declarations that begin a stream of `words`."""
+    timescale, variables, scopes, sizes = None, [], [], {}
+    for command, inner, line in declarations_in(stream):
+        if command == b"$scope":
             scopes.append(b"".join(inner[1:]))
-        elif word == b"$upscope":
+        elif command == b"$upscope":
             scopes.pop()
-        elif word == b"$var":
-            variable = variable_of(inner, scopes, line)
-            size = variable.size if is_kept(variable) else None
-            if sizes.setdefault(variable.code, size) != size:
-                raise Fault("MixedCode", line)
-            variables.append(variable)
-        elif word == b"$timescale":
+        elif command == b"$var":
+            variables.append(variable_of(inner, scopes, line))
+            want_one_size(variables[-1], sizes, line)
+        elif command == b"$timescale":
             timescale = timescale_of(inner, line)
-        elif word == b"$enddefinitions":
-            return Declarations(timescale, variables, line)
+    return Declarations(timescale, variables, line)
+
+
+def want_one_size(variable, sizes, line):
+    """Refuses a code that is declared with two sizes; `sizes` has those of the codes before it."""
+    size = variable.size if is_kept(variable) else None
+    if sizes.setdefault(variable.code, size) != size:
+        raise Fault("MixedCode", line)
 
 
 def words_up_to_end(stream, command):
@@ -182,20 +196,21 @@ def ticks_of(text, timescale):
 
 
 def matcher(pattern, extended=False):
-    """A test of full names: by a shell pattern, or by an expression that is found anywhere in the name. A pattern that is
-    a name as it stands is that name, whatever its brackets mean."""
+    """A test of full names: by a shell pattern, or by an expression that is found anywhere in the name. In a shell pattern
+    an index or a range, as [3] or [7:0], is meant as it stands."""
     pattern = os.fsencode(pattern)
     try:
-        found = re.compile(pattern if extended else fnmatch.translate(shown_bytes(pattern)).encode("latin-1"))
+        found = re.compile(pattern if extended else expression_of(pattern))
     except re.error as error:
         raise Trouble("%s is no expression: %s" % (shown(pattern), error)) from None
     test = found.search if extended else found.match
-    return lambda name: name == pattern or test(name) is not None
+    return lambda name: test(name) is not None
 
 
-def shown_bytes(name):
-    """A letter for each byte, so that `fnmatch` translates bytes."""
-    return name.decode("latin-1")
+def expression_of(pattern):
+    """The expression of a shell pattern; `fnmatch` gets a letter for each byte."""
+    with_ranges = re.sub(rb"\[(-?[0-9]+(?::-?[0-9]+)?)\]", rb"[[]\1]", pattern)
+    return fnmatch.translate(with_ranges.decode("latin-1")).encode("latin-1")
 
 
 def what_else(front):

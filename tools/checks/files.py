@@ -35,6 +35,13 @@ TIMES = [
 # A pattern, whether it is an expression, a name, and whether it is meant.
 MATCHES = [
     ("tb.q[7:0]", False, b"tb.q[7:0]", True),
+    ("tb.q[7:0]", False, b"tb.q7", False),
+    ("tb.q[7]*", False, b"tb.q[7][1:0]", True),
+    ("tb.q[7]*", False, b"tb.q7", False),
+    ("tb.q[0-9]", False, b"tb.q7", True),
+    ("tb.[!q]", False, b"tb.q", False),
+    ("tb.[!q]", False, b"tb.r", True),
+    ("*[-1:0]", False, b"tb.q[-1:0]", True),
     ("tb.q", False, b"tb.q[7:0]", False),
     ("tb.q*", False, b"tb.q[7:0]", True),
     ("tb.?", False, b"tb.\xff", True),
