@@ -7,22 +7,26 @@ ZSH_FOLDER ?= share/zsh/site-functions
 define FILES
 755 crates/vcdedit/out/vcdedit libexec/vcdedit
 755 tools/apply_script bin/vcdedit-apply
+755 tools/select_script bin/vcdedit-select
 755 tools/compare_captures bin/vcdedit-compare
 755 tools/narrow_capture bin/vcdedit-narrow
 644 tools/vcd_files.py share/vcdedit/vcd_files.py
 644 tools/vcd_messages.py share/vcdedit/vcd_messages.py
 644 docs/vcdedit.1 share/man/man1/vcdedit.1
 644 docs/vcdedit-apply.1 share/man/man1/vcdedit-apply.1
+644 docs/vcdedit-select.1 share/man/man1/vcdedit-select.1
 644 docs/vcdedit-compare.1 share/man/man1/vcdedit-compare.1
 644 docs/vcdedit-narrow.1 share/man/man1/vcdedit-narrow.1
 644 completions/vcdedit.bash share/bash-completion/completions/vcdedit
 644 completions/_vcdedit $(ZSH_FOLDER)/_vcdedit
 644 completions/vcdedit.fish share/fish/vendor_completions.d/vcdedit.fish
 644 completions/tools.bash share/bash-completion/completions/vcdedit-apply
+644 completions/tools.bash share/bash-completion/completions/vcdedit-select
 644 completions/tools.bash share/bash-completion/completions/vcdedit-compare
 644 completions/tools.bash share/bash-completion/completions/vcdedit-narrow
 644 completions/_vcdedit_tools $(ZSH_FOLDER)/_vcdedit_tools
 644 completions/tools.fish share/fish/vendor_completions.d/vcdedit-apply.fish
+644 completions/tools.fish share/fish/vendor_completions.d/vcdedit-select.fish
 644 completions/tools.fish share/fish/vendor_completions.d/vcdedit-compare.fish
 644 completions/tools.fish share/fish/vendor_completions.d/vcdedit-narrow.fish
 endef

@@ -11,6 +11,7 @@ import os
 import re
 import subprocess
 import sys
+import tempfile
 
 GREATEST_TICK = 9223372036854775807
 GREATEST_WIDTH = 1024
@@ -233,6 +234,14 @@ def program():
         if os.path.isfile(path) and os.access(path, os.X_OK):
             return path
     return "vcdedit"
+
+
+def in_memory(text):
+    """A file without a name, which each run opens anew."""
+    file = os.fdopen(os.memfd_create("script"), "w+b") if hasattr(os, "memfd_create") else tempfile.TemporaryFile()
+    file.write(text)
+    file.flush()
+    return file
 
 
 def run(words_of_run, **how):

@@ -81,10 +81,10 @@ PLANTED = [
     (TOOL, "    if os.path.realpath(options.script) in", "    if None in"),
     (TOOL, "for number in (signal.SIGINT, signal.SIGTERM, signal.SIGHUP)", "for number in (signal.SIGINT, signal.SIGTERM)"),
     (TOOL, "    except OSError as error:\n        os.dup2", "    except ValueError as error:\n        os.dup2"),
-    (MESSAGES, 'small + b"["', 'small + b"("'),
+    (MESSAGES, 'name.startswith(small + b"[")', "False"),
     (MESSAGES, "if name == \"WrongCount\" and command in rows", "if False"),
     (MESSAGES, "    if other and (line", "    if False and (line"),
-    (MESSAGES, "    return front\n\n\ndef usages", "    return piece\n\n\ndef usages"),
+    (MESSAGES, "if now == number and not front", "if now > number and not front"),
     (MESSAGES, "had = [", "had = [] and ["),
 ]
 

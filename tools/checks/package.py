@@ -33,6 +33,7 @@ RUN = [
     (["vcdedit-compare", "/dev/null", "/dev/null"], 2, "line 1: Truncated"),
     (["vcdedit-apply", "--to", "/tmp", "/dev/null", "/dev/null"], 2, "is one of the captures"),
     (["vcdedit-apply", "--help"], 0, "Carries a script"),
+    (["vcdedit-select", "--from", "0", "/dev/null"], 3, "line 1: the file is empty"),
 ]
 COMPLETE = """source "$1"; shift; compopt() { :; }
 COMP_WORDS=(vcdedit "$@"); COMP_CWORD=$#; _vcdedit; printf '%s\\n' "${COMPREPLY[@]}" """
