@@ -79,7 +79,8 @@ word_of_end (Some e) k word c = refl
 
 -- ---- a signal put in or taken out
 
-insert-remove : (ss : List SignalContents) (k : ℕ) → k < length ss → insert (remove ss k) k (get_or ss k no_signal) ≡ ss
+pub insert-remove : (ss : List SignalContents) (k : ℕ) → k < length ss
+    → insert (remove ss k) k (get_or ss k no_signal) ≡ ss
 insert-remove [] k within = absurd (omega arith)
 insert-remove (s ∷ ss) zero within = refl
 insert-remove (s ∷ ss) (suc k) within = ap (λ l. s ∷ l) (insert-remove ss k (omega arith))

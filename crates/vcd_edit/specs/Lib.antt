@@ -8,6 +8,7 @@ pub mod Laws
 pub mod RecordView
 pub mod Records
 pub mod AppliedRecords
+pub mod EffectLaws
 pub mod Touched
 pub mod TouchedByEdit
 pub mod inside

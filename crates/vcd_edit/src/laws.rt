@@ -3,6 +3,7 @@
 ghost use Rattle.vcd_edit.specs.Laws.{EffectIsSound};
 ghost use Rattle.vcd_edit.specs.Laws.{DeglitchLeavesNoShortRun, DeglitchKeepsLongRuns};
 ghost use Rattle.vcd_edit.specs.Laws.{DeglitchWithoutShortRuns, DeglitchTwice};
+ghost use Rattle.vcd_edit.specs.EffectLaws.{InvertTwice, InvertTwiceWithoutZ, CutKeepsOtherTicks, CutsCommute, ShiftAndBack, ForceIsLocal, LastForceCounts, RenameAndBack, RemoveAndBack};
 
 /// An edit with no fault keeps a sound capture sound.
 pub fn effect_is_sound()
@@ -17,4 +18,48 @@ pub fn deglitch_takes_short_runs_out()
     ensures long_stay { DeglitchKeepsLongRuns }
     ensures unchanged { DeglitchWithoutShortRuns }
     ensures once { DeglitchTwice }
+{}
+
+/// A signal that is inverted twice has its values again, with x in place of z. Where it has no z,
+/// the capture is as it was.
+pub fn invert_twice()
+    ensures values { InvertTwice }
+    ensures without_z { InvertTwiceWithoutZ }
+{}
+
+/// A cut keeps the values of the ticks before it and from its end on, and their order. The end is
+/// earlier by the ticks that are cut out.
+pub fn cut_keeps_other_ticks()
+    ensures { CutKeepsOtherTicks }
+{}
+
+/// Of two cuts that share no tick either may come first, if the later ticks are counted anew.
+pub fn cuts_commute()
+    ensures { CutsCommute }
+{}
+
+/// A shift, and a shift back by as much, leave the values that were not pushed out.
+pub fn shift_and_back()
+    ensures { ShiftAndBack }
+{}
+
+/// A forced signal has the value inside the range, and its own values outside.
+pub fn force_is_local()
+    ensures { ForceIsLocal }
+{}
+
+/// The last of two forces of one range counts.
+pub fn last_force_counts()
+    ensures { LastForceCounts }
+{}
+
+/// A signal that gets another name, and then its own, is as it was.
+pub fn rename_and_back()
+    ensures { RenameAndBack }
+{}
+
+/// A remove leaves the other signals in their order. The record that puts the signal in again, where
+/// it was, gives the capture back.
+pub fn remove_and_back()
+    ensures { RemoveAndBack }
 {}

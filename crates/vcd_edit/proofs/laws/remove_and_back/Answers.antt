@@ -1,0 +1,5 @@
+use Rattle.vcd_edit.proofs.EffectLaws.{remove_and_back}
+use Rattle.vcd_edit.proofs.laws.remove_and_back.Goals as goal
+
+pub returns : goal.returns
+returns c = remove_and_back

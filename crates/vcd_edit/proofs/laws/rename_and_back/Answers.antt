@@ -1,0 +1,5 @@
+use Rattle.vcd_edit.proofs.EffectLaws.{rename_and_back}
+use Rattle.vcd_edit.proofs.laws.rename_and_back.Goals as goal
+
+pub returns : goal.returns
+returns c = rename_and_back
