@@ -4,7 +4,7 @@ _vcdedit_tool() {
     local word=${COMP_WORDS[COMP_CWORD]} before=${COMP_WORDS[COMP_CWORD - 1]}
     COMPREPLY=()
     if [[ $word == -* ]]; then
-        mapfile -t COMPREPLY < <(compgen -W "$("$1" --help 2> /dev/null | sed -nE 's/^ +(-[a-zA-Z])?(, )?(--[a-z-]+).*/\1 \3/p')" -- "$word")
+        mapfile -t COMPREPLY < <(compgen -W "$("$1" --help 2> /dev/null | sed -nE 's/^ +(-[a-zA-Z])?( [A-Z]+)?(, )?(--[a-z-]+).*/\1 \4/p')" -- "$word")
     elif [[ $1 == *-apply && $before == --to ]]; then
         compopt -o filenames
         mapfile -t COMPREPLY < <(compgen -d -- "$word")
