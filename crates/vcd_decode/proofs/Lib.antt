@@ -16,3 +16,8 @@ pub mod CasesOfSentUart
 pub mod SentLevels
 pub mod SentBits
 pub mod SentFrames
+pub mod CasesOfSentSpi
+pub mod SentClocks
+pub mod SentWords
+pub mod SelectedTicks
+pub mod SentSpi

@@ -10,6 +10,7 @@ pub mod UartSent
 pub mod SpiSetup
 pub mod Groups
 pub mod Spi
+pub mod SpiSent
 pub mod BusEvents
 pub mod BusBytes
 pub mod I2c

@@ -1,6 +1,6 @@
 //! Laws about the definitions of the decoders, as contracts of functions that do nothing.
 
-ghost use Rattle.vcd_decode.specs.Laws.{UartFramesAreFound};
+ghost use Rattle.vcd_decode.specs.Laws.{UartFramesAreFound, SpiWordsAreFound, SpiPartIsFound};
 
 /// The line that idles at 1 and sends frames decodes to one annotation for each frame, from its
 /// start to the sample of its last bit. It is a `byte` with the word that was sent, a
@@ -8,4 +8,13 @@ ghost use Rattle.vcd_decode.specs.Laws.{UartFramesAreFound};
 /// every setup and any idle time between frames, or none.
 pub fn uart_frames_are_found()
     ensures { UartFramesAreFound }
+{}
+
+/// The lines of a serial peripheral interface that send words while the chip is selected decode to
+/// these words, from the middle of the first bit to that of the last, in each mode, order and
+/// number of bits. If the chip is released within a word, that word is `partial`, with the count of
+/// its bits.
+pub fn spi_words_are_found()
+    ensures words { SpiWordsAreFound }
+    ensures part { SpiPartIsFound }
 {}
