@@ -24,3 +24,5 @@ complete -c vcdedit-select -l prefix -x -d 'A front for the own name of each sig
 complete -c vcdedit-select -l rename -x -d 'Another own name for a signal'
 complete -c vcdedit-select -l baud -x -a '9600 115200 921600' -d 'Show BIT of this baud rate'
 complete -c vcdedit-select -l timescale -x -a '1us 1ns 1ps' -d 'With --baud: the timescale'
+complete -c vcdedit-compare -s h -l help -d 'How it is called'
+complete -c vcdedit-compare -l strict -d 'Status 3 if variables were left out'
