@@ -30,7 +30,7 @@ define FILES
 644 completions/tools.fish share/fish/vendor_completions.d/vcdedit-compare.fish
 644 completions/tools.fish share/fish/vendor_completions.d/vcdedit-narrow.fish
 endef
-DOCUMENTS = docs/COOKBOOK.md docs/SCRIPT.md docs/FORMATS.md docs/glitches.png examples
+DOCUMENTS = docs/COOKBOOK.md docs/SCRIPT.md docs/FORMATS.md examples
 
 define TARGETS
 vcdedit is built: ./vcdedit runs it.
@@ -58,6 +58,7 @@ install: build
 	{ printf '#!/bin/sh\nprogram="%s"\n' "$$prefix/libexec/vcdedit"; cat launch/running.sh; } > "$$root/bin/vcdedit"; \
 	chmod 755 "$$root/bin/vcdedit"; \
 	cp -R $(DOCUMENTS) "$$root/share/doc/vcdedit"; \
+	sed 's|(\.\./docs/|(../|g' examples/README.md > "$$root/share/doc/vcdedit/examples/README.md"; \
 	echo "vcdedit is in $$root/bin, its documents are in $$root/share/doc/vcdedit"
 
 uninstall:

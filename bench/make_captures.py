@@ -12,6 +12,12 @@ The file of a shape is FOLDER/SHAPE_MEGABYTES.vcd; one that is there is left alo
     hierarchy  16 x 8 modules as Icarus Verilog writes them, 1,236 variables of 788 codes: clock and reset in each of
                145 scopes, vectors that one module drives and the next reads, registers of its own, parameters
 
+Made only where they are named, for the table of memory:
+
+    clock      one clock, with a stamp for each edge
+    channels   8 channels that change at six of ten samples, a line for each sample, as sigrok-cli writes them
+    toggles    90 lines of one bit, each of which changes at each stamp
+
 Those of many variables of one code have a size of their own, as FOLDER/NAME.vcd:
 
     clock_of_100_scopes      one clock of 400,000 edges, in each of 100 scopes
@@ -263,6 +269,34 @@ def clocked(chance, clock, reset, chain, registers):
         yield "#%d\n0%s\n" % (tick + 5000, clock)
 
 
+# Captures with little text for a change.
+
+
+def scalars(count):
+    """The declarations of count lines of one bit."""
+    lines = "".join(variable("wire", 1, code(k), "line%d" % k) for k in range(count))
+    return "$timescale 1 ns $end\n" + lines + "$enddefinitions $end\n"
+
+
+def toggles(count):
+    def pieces(_):
+        yield scalars(count)
+        for tick in itertools.count():
+            yield "#%d\n" % tick + "".join("%d%s\n" % (tick % 2, code(k)) for k in range(count))
+
+    return pieces
+
+
+def channels(chance):
+    now = [0] * 8
+    yield scalars(8)
+    for tick in itertools.count():
+        changed = [k for k in range(8) if tick == 0 or chance.random() < 0.6]
+        for k in changed:
+            now[k] = 1 - now[k]
+        yield "#%d %s\n" % (tick, " ".join("%d%s" % (now[k], code(k)) for k in changed))
+
+
 # Captures of which many variables share one code.
 
 
@@ -280,6 +314,7 @@ def variables_of_one_code(count, changes):
 
 
 SHAPES = {"analyser": analyser, "simulator": simulator, "wide": wide, "hierarchy": hierarchy}
+DENSE = {"clock": toggles(1), "channels": channels, "toggles": toggles(90)}
 SHARED = {
     "clock_of_100_scopes": clock_of_100_scopes,
     "60000_of_one_code": variables_of_one_code(60000, 1000),
@@ -298,7 +333,7 @@ def make(path, shape, pieces, size):
 
 
 def main():
-    if len(sys.argv) < 3 or not set(sys.argv[3:]) <= set(SHAPES):
+    if len(sys.argv) < 3 or not set(sys.argv[3:]) <= {*SHAPES, *DENSE}:
         sys.exit(__doc__)
     folder, megabytes = sys.argv[1], sys.argv[2]
     os.makedirs(folder, exist_ok=True)
@@ -306,7 +341,7 @@ def main():
         wanted = [(name, name, pieces, math.inf) for name, pieces in SHARED.items()]
     else:
         size = int(megabytes) * 1000000
-        wanted = [("%s_%s" % (shape, megabytes), shape, SHAPES[shape], size) for shape in sys.argv[3:] or SHAPES]
+        wanted = [("%s_%s" % (shape, megabytes), shape, {**SHAPES, **DENSE}[shape], size) for shape in sys.argv[3:] or SHAPES]
     for name, shape, pieces, size in wanted:
         path = os.path.join(folder, name + ".vcd")
         if not os.path.exists(path):

@@ -3,12 +3,13 @@
 
     examples/compare_decoders.py PROGRAM
 
-sigrok-cli (Debian: apt-get install sigrok-cli) takes signals of one bit alone, so it gets the capture as vcdedit writes it with
+PROGRAM is a path, or a name on the path. sigrok-cli (Debian: apt-get install sigrok-cli) takes signals of one bit alone, so it gets the capture as vcdedit writes it with
 all wider ones removed. One line for each capture; the status is 1 where the bytes of one differ and no reason is known.
 """
 
 import os
 import re
+import shutil
 import subprocess
 import sys
 import tempfile
@@ -49,7 +50,19 @@ RUNS = [
 
 
 def run(words):
-    return subprocess.run(words, capture_output=True, text=True).stdout
+    """What a run shows that ends well."""
+    done = subprocess.run(words, capture_output=True, text=True)
+    if done.returncode:
+        sys.exit("compare_decoders: %s ended with status %d: %s" % (words[0], done.returncode, done.stderr.strip()))
+    return done.stdout
+
+
+def program_of(name):
+    """The path of a program, which may be a name on the path."""
+    path = shutil.which(name)
+    if path is None:
+        sys.exit("compare_decoders: there is no program %s" % name)
+    return os.path.abspath(path)
 
 
 def ours(program, capture, line, work):
@@ -92,11 +105,11 @@ def bytes_of_ours(lines):
 def bytes_of_sigrok(text, shown):
     found = {"": [], "mosi": [], "miso": []}
     if shown.startswith("spi"):
-        values = [line.split(": ")[1].lower() for line in text.splitlines()]
+        values = [line.rpartition(": ")[2].lower() for line in text.splitlines()]
         return {"": [], "miso": values[0::2], "mosi": values[1::2]}
     names = {"Start": "start", "Start repeat": "repeated-start", "Stop": "stop", "ACK": "ack", "NACK": "nack"}
     for line in text.splitlines():
-        told = line.split(": ", 1)[1]
+        told = line.partition(": ")[2]
         byte = re.fullmatch(r"(Address|Data) (write|read): ([0-9A-F]{2})", told)
         if byte:
             kind = "address %s %s" % (byte.group(3).lower(), byte.group(2)) if byte.group(1) == "Address" else "data " + byte.group(3).lower()
@@ -111,13 +124,13 @@ def bytes_of_sigrok(text, shown):
 def main():
     if len(sys.argv) != 2:
         sys.exit(__doc__)
-    program = os.path.abspath(sys.argv[1])
+    program, sigrok = program_of(sys.argv[1]), program_of("sigrok-cli")
     failed = False
     with tempfile.TemporaryDirectory() as work:
         for name, line, decoder, shown, reason in RUNS:
             capture = os.path.join(HERE, name, "capture.vcd")
             told = bytes_of_ours(ours(program, capture, line, work))
-            text = run(["sigrok-cli", "-I", "vcd", "-i", narrow(program, capture, work), "-P", decoder, "-A", shown])
+            text = run([sigrok, "-I", "vcd", "-i", narrow(program, capture, work), "-P", decoder, "-A", shown])
             theirs = bytes_of_sigrok(text, shown)
             if told == theirs:
                 difference = "the same"

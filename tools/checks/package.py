@@ -1,5 +1,7 @@
 """Installing and packing vcdedit, and its completions."""
 
+import importlib.machinery
+import importlib.util
 import os
 import re
 import shutil
@@ -38,6 +40,24 @@ RUN = [
 COMPLETE = """source "$1"; shift; compopt() { :; }
 COMP_WORDS=(vcdedit "$@"); COMP_CWORD=$#; _vcdedit; printf '%s\\n' "${COMPREPLY[@]}" """
 
+PLANTED = [
+    ("Makefile", "644 tools/vcd_files.py share/vcdedit/vcd_files.py\n", ""),
+    ("Makefile", "sed 's|(\\.\\./docs/|(../|g'", "cat"),
+    ("Makefile", "644 docs/vcdedit-select.1 share/man/man1/vcdedit-select.1\n", ""),
+    ("Makefile", "	rm -f \"$$root/bin/vcdedit\"; \\\n", ""),
+    ("docs/COOKBOOK.md", "# Cookbook\n", "# Cookbook\n\nSee `docs/check_pages`.\n"),
+    ("docs/SCRIPT.md", "# The script\n", "# The script\n\nSee README.\n"),
+    ("docs/FORMATS.md", "# The files that are read and written\n", "# The files that are read and written\n\n[See](DECISIONS.md).\n"),
+    ("docs/vcdedit-apply.1", ".BI \\-\\-jobs", ".BI \\-\\-job"),
+    ("docs/vcdedit-select.1", ".B \\-\\-keep\\-times\n", ".B \\-\\-times\n"),
+    ("completions/tools.fish", "complete -c vcdedit-select -l prefix", "complete -c vcdedit-select -l front"),
+    ("completions/tools.bash", "--[a-z-]+", "--[a-z]+"),
+    ("completions/_vcdedit_tools", "vcdedit-apply vcdedit-select", "vcdedit-select"),
+    ("completions/vcdedit.bash", "--depth -h", "-h"),
+    ("examples/compare_decoders.py", "    path = shutil.which(name)\n", "    path = name\n"),
+    ("examples/compare_decoders.py", 'line.partition(": ")[2]', 'line.split(": ")[1]'),
+]
+
 
 def lay_out(program, folder):
     """A copy of the tree whose program is built."""
@@ -74,8 +94,56 @@ def installs(program, folder):
             yield from run_from_anywhere(os.path.dirname(launcher[0]))
         wanted = ["COOKBOOK.md", "SCRIPT.md", "FORMATS.md", "vcdedit.1", "_vcdedit", "vcdedit.fish", "completions/vcdedit"]
         yield name + ": documents and completions", all(any(path.endswith(end) for path in added) for end in wanted)
+        if name == "a DESTDIR":
+            yield from documents_stand_alone(os.path.dirname([path for path in added if path.endswith("/COOKBOOK.md")][0]))
         run(["make", "uninstall", *words], cwd=tree)
         yield name + ": uninstall", files_in(tree) == before
+
+
+def check_pages_in(folder):
+    """The check of pages, for the pages of a folder."""
+    loader = importlib.machinery.SourceFileLoader("check_pages", os.path.join(TOP, "docs/check_pages"))
+    module = importlib.util.module_from_spec(importlib.util.spec_from_loader("check_pages", loader))
+    loader.exec_module(module)
+    module.TOP = folder
+    return module
+
+
+def documents_stand_alone(folder):
+    """The installed documents name no file that is not installed: by links, by paths, or by `README`."""
+    module = check_pages_in(folder)
+    pages = list(module.files(".md"))
+    yield "documents are installed", len(pages) == 4
+    for page in pages:
+        text = module.read(page)
+        lost = module.lost_links(page, text) + module.lost_paths(text) + re.findall(r"\bREADME\b|repository", text)
+        lost += [path for path in re.findall(r"^    \$ (?:.* )?((?:tools|docs|crates|cases|fuzz)/\S+)", text, flags=re.M)]
+        if lost:
+            print("package: %s: %s" % (page, "; ".join(lost)))
+        yield page + " stands alone", not lost
+
+
+def compares_decoders(program, folder):
+    """`examples/compare_decoders.py` takes a name on the path, and says in a line what is missing or does not end well."""
+    os.makedirs(folder)
+    script = os.path.join(TOP, "examples/compare_decoders.py")
+    os.symlink(program, os.path.join(folder, "vcdedit"))
+    os.symlink(shutil.which("python3"), os.path.join(folder, "python3"))
+    fake = os.path.join(folder, "sigrok-cli")
+    words, environment = [shutil.which("python3"), script, "vcdedit"], {**os.environ, "PATH": folder}
+    for name, text, status, wanted in (
+        ("no sigrok-cli", None, 1, "there is no program sigrok-cli\n"),
+        ("a sigrok-cli that fails", "#!/bin/sh\necho no >&2; exit 3\n", 1, "sigrok-cli ended with status 3: no\n"),
+        ("a sigrok-cli with other lines", "#!/bin/sh\necho odd\n", 1, ""),
+    ):
+        if text:
+            with open(fake, "w") as file:
+                file.write(text)
+            os.chmod(fake, 0o755)
+        done = run(words, env=environment, cwd="/")
+        yield name, done[0] == status and done[2].endswith(wanted) and "Traceback" not in done[2]
+    words[2] = "no-such-program"
+    yield "no such program", run(words, env=environment)[2] == "compare_decoders: there is no program no-such-program\n"
 
 
 def run_from_anywhere(folder):
@@ -142,3 +210,4 @@ def check(program, folder):
     yield from installs(program, os.path.join(folder, "tree"))
     yield from completes(program, os.path.join(folder, "names"))
     yield from explains_tools(os.path.join(folder, "tools"))
+    yield from compares_decoders(program, os.path.join(folder, "decoders"))
