@@ -1,10 +1,9 @@
 -- The pieces of a cut, signal by signal, and the plan that they make.
-use Rattle.std.proofs.Common.{◌≡◌, ◌<◌, ◌≤◌, ℕ, ℤ, ◌+◌, ◌-◌, ◌^◌, ◌||◌, nat_le, nat_lt, false, List, [], ◌∷◌, ◌++◌}
+use Rattle.std.proofs.Common.{◌≡◌, ◌<◌, ◌≤◌, ℕ, ℤ, ◌+◌, ◌-◌, ◌^◌, List, [], ◌∷◌, ◌++◌}
 use Rattle.std.proofs.Common.{All, length, map, get_or, Some, None, refl, sym, ap, subst, ◌∙◌, arith}
 use Rattle.std.specs.Prelude.{pos, neg_ℤ, ◌-ℤ◌}
 use Rattle.std.proofs.lemmas.Int.{ints}
 use Rattle.std.proofs.lemmas.List.{length-map, map-append}
-use Rattle.std.proofs.lemmas.Bool.Decides.{nat_tests}
 use Rattle.vcd_core.specs.declared.capture.Signal.{Signal}
 use Rattle.vcd_core.specs.Contents.{Contents, SignalContents, signal_contents, signal_at, no_signal}
 use Rattle.vcd_core.specs.Sound.{IsSound, IsSoundSignal}
@@ -16,7 +15,7 @@ use Rattle.vcd_edit.specs.EditFaults.{edit_fault}
 use Rattle.vcd_edit.specs.AppliedRecords.{apply_record, HasOneKindOfPart}
 use Rattle.vcd_edit.specs.Records.{piece_view}
 use Rattle.vcd_edit.specs.inside.Plans.{IsPlan, GivesValues, PiecesForEach}
-use Rattle.vcd_edit.proofs.Faults.{no_fault}
+use Rattle.vcd_edit.proofs.Faults.{no_fault, range_within}
 use Rattle.vcd_edit.proofs.SoundEffects.{sound_at}
 use Rattle.vcd_edit.proofs.EditPlans.{is_plan, contents_at}
 use Rattle.vcd_edit.proofs.PieceLists.{lead_without, lead_with, lead_all}
@@ -24,8 +23,7 @@ use Rattle.vcd_edit.proofs.Cuts.{quiet_cut}
 
 -- the ticks of a cut
 pub cut_ticks : (from to : ℕ) (c : Contents) → edit_fault (Cut from to) c ≡ None → (from < to) × (to ≤ c.end)
-cut_ticks from to c none = let free : (nat_le to from || nat_lt c.end to) ≡ false =
-    (no_fault (Cut from to) c none).range in (grind (arith, nat_tests), grind (arith, nat_tests))
+cut_ticks from to c none = range_within from to c.end (no_fault (Cut from to) c none).0
 
 module _ (c : Contents) (signals : List Signal) (are : c.signals ≡ map signal_contents signals) (sound : IsSound c)
     (from to : ℕ) (some : from < to) (ends : to ≤ c.end) (n : ℕ) (s : Signal) (within : n < length signals)

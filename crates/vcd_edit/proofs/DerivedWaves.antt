@@ -3,7 +3,7 @@ use Rattle.std.proofs.Common.{◌≡◌, ℕ, zero, suc, ◌+◌, ◌-◌, ◌<�
 use Rattle.std.proofs.Common.{if◌then◌else◌, List, [], ◌∷◌, length, map, replicate, get_or, drop, All, Some, None, inl}
 use Rattle.std.proofs.Common.{inr, refl, sym, ap, subst, ◌∙◌, arith}
 use Rattle.std.specs.List.{filter, range_with_len, list_any}
-use Rattle.std.proofs.lemmas.Bool.{cases_eq}
+use Rattle.std.proofs.lemmas.Bool.{cases_eq, or_parts}
 use Rattle.std.proofs.lemmas.List.{drop_more, drop_all, length-replicate}
 use Rattle.std.proofs.lemmas.List.Elements.{All-nil, All-cons}
 use Rattle.vcd_core.specs.declared.bit.Bit.{Bit}
@@ -25,7 +25,6 @@ use Rattle.vcd_edit.specs.inside.RemainingChanges.{TicksRise}
 use Rattle.vcd_edit.specs.inside.Ranges.{value_just_before}
 use Rattle.vcd_edit.specs.inside.Derived.{has_two_operands, rule_bit_of_values, rule_bit_of_bits, edge_bit, edge_change}
 use Rattle.vcd_edit.specs.inside.Derived.{operand_change, DerivedSoFar}
-use Rattle.vcd_edit.proofs.Faults.{first_fails, second_fails}
 use Rattle.vcd_edit.proofs.WithoutRepeats.{rise_lower, early_value, wave_rises, mapped_upto, mapped_value}
 
 -- ---- one change after another
@@ -249,13 +248,11 @@ module _ (rule : Rule) (a b : WaveView) where
 
   still : (u : ℕ) → list_any (changes_at u) lines ≡ false → rule_value u ≡ value_just_before 1 rule_value u
   still u none =
-      from_both u
-      (unchanged a u (first_fails (changes_at u (trace_of (Some a)))
-      (list_any (changes_at u) (trace_of (Some b) ∷ trace_of None ∷ trace_of None ∷ [])) none))
-      (unchanged b u (first_fails (changes_at u (trace_of (Some b)))
-      (list_any (changes_at u) (trace_of None ∷ trace_of None ∷ []))
-      (second_fails (changes_at u (trace_of (Some a)))
-      (list_any (changes_at u) (trace_of (Some b) ∷ trace_of None ∷ trace_of None ∷ [])) none)))
+      let first = or_parts (changes_at u (trace_of (Some a)))
+      (list_any (changes_at u) (trace_of (Some b) ∷ trace_of None ∷ trace_of None ∷ [])) none in
+      let second = or_parts (changes_at u (trace_of (Some b)))
+      (list_any (changes_at u) (trace_of None ∷ trace_of None ∷ [])) first.1 in
+      from_both u (unchanged a u first.0) (unchanged b u second.0)
     where
       from_both : (u : ℕ) → value_at a.width a.changes u ≡ value_just_before a.width (value_at a.width a.changes) u
           → value_at b.width b.changes u ≡ value_just_before b.width (value_at b.width b.changes) u

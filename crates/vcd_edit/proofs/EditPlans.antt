@@ -1,9 +1,8 @@
 -- Records whose result is the effect of an edit.
-use Rattle.std.proofs.Common.{◌≡◌, ◌<◌, ℕ, ◌||◌, ◌+◌, nat_le, nat_lt, false, ◌≤◌, List, [], ◌∷◌, length, map, get_or}
+use Rattle.std.proofs.Common.{◌≡◌, ◌<◌, ℕ, ◌+◌, ◌≤◌, IsTrue, List, [], ◌∷◌, length, map, get_or}
 use Rattle.std.proofs.Common.{drop, All, Some, None, refl, sym, ap, subst, ◌∙◌, arith}
 use Rattle.std.specs.Borrow.{Bor}
 use Rattle.std.specs.Prelude.{ℤ, pos, neg_ℤ, Result, Ok, Err, IfOk}
-use Rattle.std.proofs.lemmas.Bool.Decides.{nat_tests}
 use Rattle.std.proofs.lemmas.List.{get_or-map, length-map, set-get_or}
 use Rattle.std.proofs.lemmas.List.Elements.{All-nil, All-cons}
 use Rattle.vcd_core.specs.declared.bit.Bit.{Bit}
@@ -23,13 +22,13 @@ use Rattle.vcd_edit.specs.RecordView.{PieceView, RecordView}
 use Rattle.vcd_edit.specs.Effect.{with_wave, renamed_signal, force_value, effect}
 use Rattle.vcd_edit.specs.Touched.{stays, record_pairing}
 use Rattle.vcd_edit.specs.TouchedByEdit.{edit_advance, edit_pairing}
-use Rattle.vcd_edit.specs.EditFaults.{edit_fault, is_no_signal}
+use Rattle.vcd_edit.specs.EditFaults.{is_signal, edit_fault}
 use Rattle.vcd_edit.specs.AppliedRecords.{changes_with_piece, signal_with_changes, with_pieces, apply_record, PieceFits}
 use Rattle.vcd_edit.specs.AppliedRecords.{WordFits, SignalFits}
 use Rattle.vcd_edit.specs.inside.Ranges.{GivesChanges}
 use Rattle.vcd_edit.specs.Records.{piece_view}
 use Rattle.vcd_edit.specs.inside.Plans.{IsPlan, GivesValues}
-use Rattle.vcd_edit.proofs.Faults.{no_fault, position_below}
+use Rattle.vcd_edit.proofs.Faults.{no_fault, position_below, range_within}
 use Rattle.vcd_edit.proofs.SoundEffects.{sound_at, effect_is_sound}
 
 -- a record with that result is a plan if its parts lie within the capture
@@ -57,8 +56,8 @@ contents_at signals k s within is = get_or-map signal_contents signals k s no_si
     ∙ ap signal_contents (sym is)
 
 -- a position within the contents of a capture
-pub there : (c : Capture) (k : ℕ) → is_no_signal (contents c) k ≡ false → k < length c.signals
-there c k none = omega (arith, position_below (contents c) k none, length-map c.signals signal_contents)
+pub there : (c : Capture) (k : ℕ) → IsTrue (is_signal (contents c) k) → k < length c.signals
+there c k is = omega (arith, position_below (contents c) k is, length-map c.signals signal_contents)
 
 -- what holds of each Ok
 pub at_ok : {A E : Type 0} (r : Result A E) (P Q : A → Type 0) → ((v : A) → P v → Q v) → IfOk r P → IfOk r Q
@@ -130,7 +129,7 @@ rename_plan c k word pieces copy sound none empty same =
     }) sound none
     (ap (λ (w : List ℕ). with_signal (contents c) k (renamed_signal w (signal_at (contents c) k))) same)
     (All-nil (PieceFits (contents c)))
-    (position_below (contents c) k (no_fault (Rename k word) (contents c) none).signals) tt
+    (position_below (contents c) k (no_fault (Rename k word) (contents c) none).0) tt
     (All-nil (λ (p : PieceView). pos 0 ≡ neg_ℤ p.by)) refl)
 
 pub remove_plan : (c : Capture) (k : ℕ) (pieces : List Piece) → IsSound (contents c)
@@ -148,7 +147,7 @@ remove_plan c k pieces sound none empty =
     (is_plan (Remove k) (contents c) (record { pieces = []; word = None; signal = Some (k, None); other_end = None })
     sound none refl
     (All-nil (PieceFits (contents c))) tt
-    (position_below (contents c) k (no_fault (Remove k) (contents c) none).signals)
+    (position_below (contents c) k (no_fault (Remove k) (contents c) none).0)
     (All-nil (λ (p : PieceView). pos 0 ≡ neg_ℤ p.by)) refl)
 
 -- an edit of one wave, as the piece of its signal
@@ -179,8 +178,7 @@ force_is_wave k from to value c = refl
 -- the ticks of a force
 pub force_ticks : (k from to : ℕ) (value : List Bit) (c : Contents) → edit_fault (Force k from to value) c ≡ None
     → (from < to) × (to ≤ c.end + 1)
-force_ticks k from to value c none = let free : (nat_le to from || nat_lt (c.end + 1) to) ≡ false =
-    (no_fault (Force k from to value) c none).range in (grind (arith, nat_tests), grind (arith, nat_tests))
+force_ticks k from to value c none = range_within from to (c.end + 1) (no_fault (Force k from to value) c none).1.0
 
 -- ---- nothing to do
 

@@ -1,6 +1,9 @@
--- What holds if an edit has no fault.
-use Rattle.std.proofs.Common.{◌≡◌, ◌<◌, ℕ, ◌||◌, not, Bool, true, false, if◌then◌else◌, IsTrue, length, Option, Some}
-use Rattle.std.proofs.Common.{None, refl, arith}
+-- What holds if an edit has no fault: all its tests.
+use Rattle.std.proofs.Common.{◌≡◌, ◌<◌, ◌≤◌, ℕ, Bool, true, false, if◌then◌else◌, IsTrue, List, [], ◌∷◌, length}
+use Rattle.std.proofs.Common.{Option, Some, None, refl, arith}
+use Rattle.std.specs.Prelude.{◌&&◌, nat_lt, nat_le}
+use Rattle.std.specs.List.{list_all}
+use Rattle.std.proofs.lemmas.Bool.{and_parts}
 use Rattle.std.proofs.lemmas.Bool.Decides.{nat_tests}
 use Rattle.vcd_core.specs.Contents.{Contents, signal_at}
 use Rattle.vcd_edit.specs.declared.edit.Edit.{Edit}
@@ -9,104 +12,66 @@ use Rattle.vcd_edit.specs.declared.edit.Rule.TheVariants.{Not, And, Or, Xor, Bit
 use Rattle.vcd_edit.specs.declared.fault.EditError.{EditError}
 use Rattle.vcd_edit.specs.Effect.{first_operand}
 use Rattle.vcd_edit.specs.inside.Derived.{last_operand, has_two_operands}
-use Rattle.vcd_edit.specs.EditFaults.{is_no_signal, has_vector_operand, lacks_operand, lacks_signal}
-use Rattle.vcd_edit.specs.EditTests.{is_vector}
-use Rattle.vcd_edit.specs.EditFaults.{edit_has_vector_operand, lacks_bit, has_bad_range, has_bad_count, has_bad_value}
-use Rattle.vcd_edit.specs.EditFaults.{gives_no_word, gives_taken_name, adds_too_many, edit_fault}
+use Rattle.vcd_edit.specs.EditFaults.{Test, first_fault, is_signal, is_scalar, operands, width_test, edit_tests}
+use Rattle.vcd_edit.specs.EditFaults.{edit_fault}
 
--- none of the nine tests holds
-pub record HasNoFault (e : Edit) (c : Contents) : Type 0 where
-  pub signals : lacks_signal e c ≡ false
-  pub scalars : edit_has_vector_operand e c ≡ false
-  pub bit : lacks_bit e c ≡ false
-  pub range : has_bad_range e c ≡ false
-  pub count : has_bad_count e ≡ false
-  pub value : has_bad_value e c ≡ false
-  pub word : gives_no_word e ≡ false
-  pub name : gives_taken_name e c ≡ false
-  pub room : adds_too_many e c ≡ false
+-- each test holds
+abbrev pub AllHold : List Test → Type 0
+AllHold [] = Unit {0}
+AllHold (test ∷ tests) = IsTrue test.1 × AllHold tests
 
--- a test that does not hold is passed over
-not_first : (b : Bool) (error : EditError) (rest : Option EditError) → (if b then Some error else rest) ≡ None
-    → (b ≡ false) × (rest ≡ None)
-not_first true error rest none = absurd (cc)
-not_first false error rest none = (refl, none)
+-- a test that fails would be the first
+holds_first : (b : Bool) (fault : EditError) (rest : Option EditError) → (if b then rest else Some fault) ≡ None
+    → IsTrue b × (rest ≡ None)
+holds_first true fault rest none = (refl, none)
+holds_first false fault rest none = absurd (cc)
 
-pub no_fault : (e : Edit) (c : Contents) → edit_fault e c ≡ None → HasNoFault e c
+all_hold : (tests : List Test) → first_fault tests ≡ None → AllHold tests
+all_hold [] none = tt
+all_hold (test ∷ tests) none =
+    let first = holds_first test.1 test.0 (first_fault tests) none in (first.0, all_hold tests first.1)
+
+pub no_fault : (e : Edit) (c : Contents) → edit_fault e c ≡ None → AllHold (edit_tests e c)
 unfolding edit_fault
-no_fault e c none =
-    let a = not_first (lacks_signal e c) _ _ none in
-    let b = not_first (edit_has_vector_operand e c) _ _ a.1 in
-    let d = not_first (lacks_bit e c) _ _ b.1 in
-    let f = not_first (has_bad_range e c) _ _ d.1 in
-    let g = not_first (has_bad_count e) _ _ f.1 in
-    let h = not_first (has_bad_value e c) _ _ g.1 in
-    let i = not_first (gives_no_word e) _ _ h.1 in
-    let j = not_first (gives_taken_name e c) _ _ i.1 in
-    let k = not_first (adds_too_many e c) _ _ j.1 in
-    record {
-      signals = a.0;
-      scalars = b.0;
-      bit = d.0;
-      range = f.0;
-      count = g.0;
-      value = h.0;
-      word = i.0;
-      name = j.0;
-      room = k.0;
-    }
+no_fault e c none = all_hold (edit_tests e c) none
 
 -- a position below the number of signals
-pub position_below : (c : Contents) (k : ℕ) → is_no_signal c k ≡ false → k < length c.signals
-position_below c k none = grind (arith, nat_tests)
+pub position_below : (c : Contents) (k : ℕ) → IsTrue (is_signal c k) → k < length c.signals
+position_below c k is = grind (arith, nat_tests)
 
--- two tests of which none holds
-pub first_fails : (p q : Bool) → (p || q) ≡ false → p ≡ false
-first_fails true q none = none
-first_fails false q none = refl
+-- a range of ticks up to a limit
+pub range_within : (from to limit : ℕ) → IsTrue (nat_lt from to && nat_le to limit) → (from < to) × (to ≤ limit)
+range_within from to limit is =
+    let both = and_parts (nat_lt from to) (nat_le to limit) is in (grind (arith, nat_tests), grind (arith, nat_tests))
 
-pub second_fails : (p q : Bool) → (p || q) ≡ false → q ≡ false
-second_fails true q none = absurd (cc)
-second_fails false q none = none
+pair_holds : (p : ℕ → Bool) (a b : ℕ) → IsTrue (list_all p (a ∷ b ∷ [])) → IsTrue (p a) × IsTrue (p b)
+pair_holds p a b all =
+    let first = and_parts (p a) (list_all p (b ∷ [])) all in (first.0, (and_parts (p b) true first.1).0)
 
--- each operand exists if none is missing
-pub first_operand_there : (c : Contents) (rule : Rule) → lacks_operand rule c ≡ false
-    → is_no_signal c (first_operand rule) ≡ false
-first_operand_there c (Not a) none = none
-first_operand_there c (And a b) none = first_fails (is_no_signal c a) (is_no_signal c b) none
-first_operand_there c (Or a b) none = first_fails (is_no_signal c a) (is_no_signal c b) none
-first_operand_there c (Xor a b) none = first_fails (is_no_signal c a) (is_no_signal c b) none
-first_operand_there c (BitOf a k) none = none
+-- what holds of all operands holds of the first and the last
+pub first_and_last : (p : ℕ → Bool) (rule : Rule) → IsTrue (list_all p (operands rule))
+    → IsTrue (p (first_operand rule)) × IsTrue (p (last_operand rule))
+first_and_last p (Not a) all = let here = (and_parts (p a) _ all).0 in (here, here)
+first_and_last p (And a b) all = pair_holds p a b all
+first_and_last p (Or a b) all = pair_holds p a b all
+first_and_last p (Xor a b) all = pair_holds p a b all
+first_and_last p (BitOf a k) all = let here = (and_parts (p a) _ all).0 in (here, here)
 
-pub last_operand_there : (c : Contents) (rule : Rule) → lacks_operand rule c ≡ false
-    → is_no_signal c (last_operand rule) ≡ false
-last_operand_there c (Not a) none = none
-last_operand_there c (And a b) none = second_fails (is_no_signal c a) (is_no_signal c b) none
-last_operand_there c (Or a b) none = second_fails (is_no_signal c a) (is_no_signal c b) none
-last_operand_there c (Xor a b) none = second_fails (is_no_signal c a) (is_no_signal c b) none
-last_operand_there c (BitOf a k) none = none
+-- the signal has one bit
+one_bit : (c : Contents) (k : ℕ) → IsTrue (is_scalar c k) → (signal_at c k).width ≡ 1
+one_bit c k is = grind (arith, nat_tests)
 
--- a test whose opposite fails holds
-pub holds_where_not : (b : Bool) → not b ≡ false → IsTrue b
-holds_where_not true none = refl
-holds_where_not false none = absurd (cc)
-
--- a signal that is no vector has one bit
-narrow : (c : Contents) (k : ℕ) → is_vector c k ≡ false → (signal_at c k).width ≡ 1
-narrow c k none = grind (arith, nat_tests)
-
-both_narrow : (c : Contents) (a b : ℕ) → (is_vector c a || is_vector c b) ≡ false → ((signal_at c a).width ≡ 1)
-    × ((signal_at c b).width ≡ 1)
-both_narrow c a b none = (
-  narrow c a (first_fails (is_vector c a) (is_vector c b) none),
-  narrow c b (second_fails (is_vector c a) (is_vector c b) none),
-)
-
--- both operands of an operator have one bit if neither is wider
-pub operands_narrow : (c : Contents) (rule : Rule) → has_vector_operand rule c ≡ false → has_two_operands rule ≡ true
+both_narrow : (c : Contents) (rule : Rule) → IsTrue (list_all (is_scalar c) (operands rule))
     → ((signal_at c (first_operand rule)).width ≡ 1) × ((signal_at c (last_operand rule)).width ≡ 1)
-operands_narrow c (Not a) none two = absurd (cc)
-operands_narrow c (And a b) none two = both_narrow c a b none
-operands_narrow c (Or a b) none two = both_narrow c a b none
-operands_narrow c (Xor a b) none two = both_narrow c a b none
-operands_narrow c (BitOf a k) none two = absurd (cc)
+both_narrow c rule all =
+    let both = first_and_last (is_scalar c) rule all in
+    (one_bit c (first_operand rule) both.0, one_bit c (last_operand rule) both.1)
+
+-- both operands of an operator have one bit
+pub operands_narrow : (c : Contents) (rule : Rule) → IsTrue (width_test rule c).1 → has_two_operands rule ≡ true
+    → ((signal_at c (first_operand rule)).width ≡ 1) × ((signal_at c (last_operand rule)).width ≡ 1)
+operands_narrow c (Not a) holds two = absurd (cc)
+operands_narrow c (And a b) holds two = both_narrow c (And a b) holds
+operands_narrow c (Or a b) holds two = both_narrow c (Or a b) holds
+operands_narrow c (Xor a b) holds two = both_narrow c (Xor a b) holds
+operands_narrow c (BitOf a k) holds two = absurd (cc)

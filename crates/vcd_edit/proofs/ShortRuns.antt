@@ -187,7 +187,7 @@ all_stay n end f none (suc t) upto =
 values_after : (k n : ℕ) (c : Contents) → edit_fault (Deglitch k n) c ≡ None → (t : ℕ) → t ≤ c.end
     → values_at (effect (Deglitch k n) c) k t ≡ steady_value n c.end (values_at c k) t
 values_after k n c none t upto =
-    let within = position_below c k (no_fault (Deglitch k n) c none).signals in
+    let within = position_below c k (no_fault (Deglitch k n) c none).0 in
     let s : SignalContents = signal_at c k in
     let f : ℕ → List Bit = steady_value n c.end (values_at c k) in
     ap (λ (d : Contents). values_at d k t) (deglitch_is_wave k n c)
@@ -223,7 +223,7 @@ keeps_long k n c sound none first last t early (ordered, one, before, after) lon
 
 pub without_short_runs : DeglitchWithoutShortRuns
 without_short_runs k n c sound none long =
-    let within = position_below c k (no_fault (Deglitch k n) c none).signals in
+    let within = position_below c k (no_fault (Deglitch k n) c none).0 in
     let s : SignalContents = signal_at c k in
     let is = sound_at c k within sound in
     let changes : changes_of s.width c.end (steady_value n c.end (values_at c k)) ≡ s.changes =

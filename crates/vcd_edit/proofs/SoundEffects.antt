@@ -1,5 +1,5 @@
 -- An edit with no fault keeps a sound capture sound.
-use Rattle.std.proofs.Common.{◌≡◌, ◌<◌, ℕ, zero, suc, ◌+◌, ◌-◌, ◌==◌, ◌&&◌, not, nat_le, nat_lt, Bool, true, false}
+use Rattle.std.proofs.Common.{◌≡◌, ◌<◌, ℕ, zero, suc, ◌+◌, ◌-◌, ◌==◌, ◌&&◌, nat_le, nat_lt, Bool, true, false}
 use Rattle.std.proofs.Common.{if◌then◌else◌, IsTrue, ℤ, pos, negsuc, ◌-ℤ◌, List, [], ◌∷◌, length, take, drop, get_or}
 use Rattle.std.proofs.Common.{None, refl, ◌∙◌, arith}
 use Rattle.std.specs.List.{list_all, push, remove}
@@ -24,8 +24,8 @@ use Rattle.vcd_edit.specs.Operators.{not_bit}
 use Rattle.vcd_edit.specs.Effect.{with_values, with_wave, renamed_signal, inverse_value, value_at_any_tick, shift_value}
 use Rattle.vcd_edit.specs.Effect.{cut_value, force_value, is_steady, steady_value, first_operand, rule_bit}
 use Rattle.vcd_edit.specs.Effect.{derived_signal, cut_contents, effect}
-use Rattle.vcd_edit.specs.EditFaults.{edit_fault}
-use Rattle.vcd_edit.proofs.Faults.{no_fault, position_below, first_operand_there, holds_where_not}
+use Rattle.vcd_edit.specs.EditFaults.{is_signal, edit_fault}
+use Rattle.vcd_edit.proofs.Faults.{no_fault, position_below, first_and_last}
 
 -- ---- the width of values
 
@@ -191,11 +191,11 @@ sound_cut c from to sound = record {
 }
 
 -- a value that has its signal's width
-same_width : (value : List Bit) (s : SignalContents) → not (length value == s.width) ≡ false → length value ≡ s.width
+same_width : (value : List Bit) (s : SignalContents) → IsTrue (length value == s.width) → length value ≡ s.width
 same_width value s alike = grind (arith, nat_tests)
 
 -- room for one more signal
-room_for : (c : Contents) → nat_le SIGNAL_LIMIT (length c.signals) ≡ false → length c.signals < SIGNAL_LIMIT
+room_for : (c : Contents) → IsTrue (nat_lt (length c.signals) SIGNAL_LIMIT) → length c.signals < SIGNAL_LIMIT
 room_for c few = grind (arith, nat_tests)
 
 -- the effect of each edit
@@ -204,37 +204,37 @@ unfolding effect
 effect_is_sound (Rename k word) c sound none =
     let free = no_fault (Rename k word) c none in
     sound_with_signal c k (renamed_signal word.now (signal_at c k)) sound
-    (sound_renamed c.end word.now (signal_at c k) (holds_where_not (is_word word.now) free.word)
-    (sound_at c k (position_below c k free.signals) sound))
+    (sound_renamed c.end word.now (signal_at c k) free.1.0
+    (sound_at c k (position_below c k free.0) sound))
 effect_is_sound (Remove k) c sound none =
-    sound_removed c k (position_below c k (no_fault (Remove k) c none).signals) sound
+    sound_removed c k (position_below c k (no_fault (Remove k) c none).0) sound
 effect_is_sound (Invert k) c sound none =
-    let within = position_below c k (no_fault (Invert k) c none).signals in
+    let within = position_below c k (no_fault (Invert k) c none).0 in
     let s : SignalContents = signal_at c k in
     sound_with_wave c k (inverse_value s) within sound
     (λ t. length-map (signal_value s t) not_bit ∙ value_at_width s.width s.changes t (sound_at c k within sound).wave)
 effect_is_sound (Shift k by) c sound none =
-    let within = position_below c k (no_fault (Shift k by) c none).signals in
+    let within = position_below c k (no_fault (Shift k by) c none).0 in
     let s : SignalContents = signal_at c k in
     sound_with_wave c k (shift_value c.end by s) within sound
     (λ t. value_near_width c.end s (pos t -ℤ by) (sound_at c k within sound).wave)
 effect_is_sound (Cut from to) c sound none = sound_cut c from to sound
 effect_is_sound (Deglitch k ticks) c sound none =
-    let within = position_below c k (no_fault (Deglitch k ticks) c none).signals in
+    let within = position_below c k (no_fault (Deglitch k ticks) c none).0 in
     let s : SignalContents = signal_at c k in
     sound_with_wave c k (steady_value ticks c.end (signal_value s)) within sound
     (λ t. steady_value_width ticks c.end (signal_value s) t s.width
     (λ u. value_at_width s.width s.changes u (sound_at c k within sound).wave))
 effect_is_sound (Force k from to value) c sound none =
     let free = no_fault (Force k from to value) c none in
-    let within = position_below c k free.signals in
+    let within = position_below c k free.0 in
     let s : SignalContents = signal_at c k in
     sound_with_wave c k (force_value from to value s) within sound
-    (λ t. either_width (nat_le from t && nat_lt t to) _ _ s.width (same_width value s free.value)
+    (λ t. either_width (nat_le from t && nat_lt t to) _ _ s.width (same_width value s free.1.1.0)
     (value_at_width s.width s.changes t (sound_at c k within sound).wave))
 effect_is_sound (Derive word rule) c sound none =
     let free = no_fault (Derive word rule) c none in
-    sound_pushed c (derived_signal word.now rule c) (room_for c free.room) sound
-    (sound_derived c word.now rule (holds_where_not (is_word word.now) free.word)
+    sound_pushed c (derived_signal word.now rule c) (room_for c free.1.1.1.1.0) sound
+    (sound_derived c word.now rule free.1.1.0
     (sound_at c (first_operand rule)
-    (position_below c (first_operand rule) (first_operand_there c rule free.signals)) sound))
+    (position_below c (first_operand rule) (first_and_last (is_signal c) rule free.0).0) sound))

@@ -3,7 +3,7 @@ pub mod EditErrorNames
 pub mod Operators
 pub mod Effect
 pub mod EditFaults
-pub mod EditTests
+pub mod EditAnswers
 pub mod Laws
 pub mod RecordView
 pub mod Records

@@ -4,7 +4,8 @@ ghost use Rattle.std.specs.Prelude.{◌≡◌, ◌≤◌, None, IsOk, IfOk, OnOk
 ghost use Rattle.vcd_core.specs.Contents.{contents};
 ghost use Rattle.vcd_core.specs.Sound.{IsSound};
 ghost use Rattle.vcd_edit.specs.Effect.{effect as edit_effect};
-ghost use Rattle.vcd_edit.specs.EditFaults.{edit_fault, MayRefuse};
+ghost use Rattle.vcd_edit.specs.EditFaults.{edit_fault};
+ghost use Rattle.vcd_edit.specs.EditAnswers.{MayRefuse};
 ghost use Rattle.vcd_edit.specs.AppliedRecords.{apply_record, Fits};
 ghost use Rattle.vcd_edit.specs.Touched.{stored_changes};
 ghost use Rattle.vcd_edit.specs.TouchedByEdit.{touched_by_edit, IsRemove};

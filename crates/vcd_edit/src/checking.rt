@@ -2,7 +2,8 @@
 
 ghost use Rattle.std.specs.Prelude.{◌∷◌, []};
 ghost use Rattle.vcd_core.specs.Contents.{contents};
-ghost use Rattle.vcd_edit.specs.EditFaults.{is_no_signal, first_fault, edit_fault, FaultIs};
+ghost use Rattle.vcd_edit.specs.EditFaults.{◌unless◌, is_signal, first_fault, edit_fault};
+ghost use Rattle.vcd_edit.specs.EditAnswers.{FaultIs};
 ghost use Rattle.vcd_edit.specs.declared.edit.Edit.TheVariants as edits;
 ghost use Rattle.vcd_edit.specs.declared.fault.EditError.TheVariants as errors;
 
@@ -43,7 +44,7 @@ pub fn check(capture: &Capture, edit: &Edit) -> Result<(), EditError>
 /// Whether there is a signal at a position.
 fn check_signal(capture: &Capture, signal: usize) -> Result<(), EditError>
     ensures { FaultIs result (first_fault
-        ((is_no_signal (contents capture.now) signal, errors.NoSuchSignal) ∷ [])) }
+        ((errors.NoSuchSignal unless is_signal (contents capture.now) signal) ∷ [])) }
 {
     if signal >= capture.signals().len() {
         return Err(EditError::NoSuchSignal);

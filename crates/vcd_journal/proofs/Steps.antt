@@ -6,7 +6,8 @@ use Rattle.std.proofs.lemmas.Bool.Decides.{nat_tests}
 use Rattle.vcd_core.specs.Contents.{Contents}
 use Rattle.vcd_edit.specs.declared.edit.Edit.{Edit}
 use Rattle.vcd_edit.specs.declared.fault.EditError.{EditError}
-use Rattle.vcd_edit.specs.EditFaults.{edit_fault, MayRefuse}
+use Rattle.vcd_edit.specs.EditFaults.{edit_fault}
+use Rattle.vcd_edit.specs.EditAnswers.{MayRefuse}
 use Rattle.vcd_edit.specs.TouchedByEdit.{IsRemove}
 use Rattle.vcd_edit.proofs.SignalCounts.{effect_keeps}
 use Rattle.vcd_journal.specs.declared.step.TheConstants.{DEPTH_LIMIT}

@@ -1,12 +1,13 @@
 //! The faults of a name that an edit gives.
 
-ghost use Rattle.std.specs.Prelude.{◌≡◌, ◌<◌, false, map, drop, length, slice_index_or};
-ghost use Rattle.std.specs.List.{list_any, remove};
+ghost use Rattle.std.specs.Prelude.{◌≡◌, ◌<◌, IsTrue, map, drop, length, slice_index_or};
+ghost use Rattle.std.specs.List.{list_all, list_any, remove};
 ghost use Rattle.std.specs.Str.{bytes_eq};
 ghost use Rattle.vcd_core.specs.Contents.{contents, signal_contents, no_signal};
 ghost use Rattle.vcd_core.specs.Names.{full_name, full_names};
-ghost use Rattle.vcd_edit.specs.Effect.{renamed_signal};
-ghost use Rattle.vcd_edit.specs.EditFaults.{lacks_operand, gives_taken_name, edit_fault, FaultIs};
+ghost use Rattle.vcd_edit.specs.Effect.{renamed_signal, derived_signal};
+ghost use Rattle.vcd_edit.specs.EditFaults.{is_signal, operands, edit_fault};
+ghost use Rattle.vcd_edit.specs.EditAnswers.{FaultIs};
 ghost use Rattle.vcd_edit.specs.declared.edit.Edit.TheVariants as edits;
 
 use crate::checking::operands::check_operands;
@@ -77,8 +78,10 @@ pub(crate) fn check_derive(capture: &Capture, word: &[u8], rule: Rule) -> Result
 
 /// Whether a signal already has the full name of the derived one.
 fn is_derived_name_taken(capture: &Capture, word: &[u8], rule: Rule) -> bool
-    requires { lacks_operand rule (contents capture.now) ≡ false }
-    ensures { result ≡ gives_taken_name (edits.Derive word.entry rule) (contents capture.now) }
+    requires { IsTrue (list_all (is_signal (contents capture.now)) (operands rule)) }
+    ensures { result ≡ list_any
+        (bytes_eq (full_name (derived_signal word.now rule (contents capture.now))))
+        (full_names (contents capture.now).signals) }
 {
     let signals = capture.signals();
     let scopes = signals[rule.first_operand()].scopes.as_slice();

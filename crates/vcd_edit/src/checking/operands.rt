@@ -1,10 +1,9 @@
 //! The faults of the operands of a rule.
 
-ghost use Rattle.std.specs.Prelude.{◌∷◌, ◌||◌, nat_le, []};
-ghost use Rattle.vcd_core.specs.Contents.{contents, signal_at};
-ghost use Rattle.vcd_edit.specs.EditFaults.{is_no_signal, lacks_operand, has_vector_operand, is_bit_outside, first_fault, FaultIs};
-ghost use Rattle.vcd_edit.specs.EditTests.{is_vector};
-ghost use Rattle.vcd_edit.specs.declared.fault.EditError.TheVariants as errors;
+ghost use Rattle.vcd_core.specs.Contents.{contents};
+ghost use Rattle.vcd_edit.specs.EditFaults.{rule_tests, first_fault};
+ghost use Rattle.vcd_edit.specs.EditAnswers.{FaultIs};
+ghost use Rattle.vcd_edit.specs.declared.edit.Rule.TheVariants as rules;
 
 use crate::edit::Rule;
 use crate::fault::EditError;
@@ -12,10 +11,7 @@ use vcd_core::Capture;
 
 /// Whether the operands exist, an operator's operands have one bit, and the bit of `BitOf` exists.
 pub(crate) fn check_operands(capture: &Capture, rule: Rule) -> Result<(), EditError>
-    ensures { FaultIs result (first_fault (
-        (lacks_operand rule (contents capture.now), errors.NoSuchSignal)
-        ∷ (has_vector_operand rule (contents capture.now), errors.NotScalar)
-        ∷ (is_bit_outside rule (contents capture.now), errors.BadBit) ∷ [])) }
+    ensures { FaultIs result (first_fault (rule_tests rule (contents capture.now))) }
 {
     match rule {
         Rule::Not(a) => check_scalar(capture, a),
@@ -25,9 +21,7 @@ pub(crate) fn check_operands(capture: &Capture, rule: Rule) -> Result<(), EditEr
 }
 
 fn check_scalar(capture: &Capture, a: usize) -> Result<(), EditError>
-    ensures { FaultIs result (first_fault (
-        (is_no_signal (contents capture.now) a, errors.NoSuchSignal)
-        ∷ (is_vector (contents capture.now) a, errors.NotScalar) ∷ [])) }
+    ensures { FaultIs result (first_fault (rule_tests (rules.Not a) (contents capture.now))) }
 {
     let signals = capture.signals();
     if a >= signals.len() {
@@ -40,14 +34,7 @@ fn check_scalar(capture: &Capture, a: usize) -> Result<(), EditError>
 }
 
 fn check_scalar_pair(capture: &Capture, a: usize, b: usize) -> Result<(), EditError>
-    ensures { FaultIs result (first_fault ((
-      is_no_signal (contents capture.now) a || is_no_signal (contents capture.now) b,
-      errors.NoSuchSignal,
-    )
-        ∷ (
-          is_vector (contents capture.now) a || is_vector (contents capture.now) b,
-          errors.NotScalar,
-        ) ∷ [])) }
+    ensures { FaultIs result (first_fault (rule_tests (rules.And a b) (contents capture.now))) }
 {
     let signals = capture.signals();
     if a >= signals.len() || b >= signals.len() {
@@ -60,9 +47,7 @@ fn check_scalar_pair(capture: &Capture, a: usize, b: usize) -> Result<(), EditEr
 }
 
 fn check_bit(capture: &Capture, a: usize, k: u64) -> Result<(), EditError>
-    ensures { FaultIs result (first_fault (
-        (is_no_signal (contents capture.now) a, errors.NoSuchSignal)
-        ∷ (nat_le (signal_at (contents capture.now) a).width k, errors.BadBit) ∷ [])) }
+    ensures { FaultIs result (first_fault (rule_tests (rules.BitOf a k) (contents capture.now))) }
 {
     let signals = capture.signals();
     if a >= signals.len() {

@@ -1,12 +1,13 @@
 //! A signal computed from others.
 
-ghost use Rattle.std.specs.Prelude.{◌≡◌, ◌≤◌, ℕ, [], ◌∷◌, Some, None, IfOk, true, false, length, map};
+ghost use Rattle.std.specs.Prelude.{◌≡◌, ◌≤◌, ℕ, [], ◌∷◌, Some, None, IfOk, IsTrue, true, length, map};
+ghost use Rattle.std.specs.List.{list_all};
 ghost use Rattle.vcd_core.specs.Contents.{contents, signal_contents};
 ghost use Rattle.vcd_core.specs.Sound.{IsSound};
 ghost use Rattle.vcd_core.specs.Value.{letter_at};
 ghost use Rattle.vcd_core.specs.Wave.{value_at, changes_of, IsWave, AllUpTo};
 ghost use Rattle.vcd_edit.specs.Effect.{derived_signal};
-ghost use Rattle.vcd_edit.specs.EditFaults.{lacks_operand, has_vector_operand, edit_fault};
+ghost use Rattle.vcd_edit.specs.EditFaults.{is_signal, operands, width_test, edit_fault};
 ghost use Rattle.vcd_edit.specs.inside.RemainingChanges.{TicksRise};
 ghost use Rattle.vcd_edit.specs.inside.Derived.{has_two_operands, rule_bit_of_values, rule_bit_of_bits, edge_bit as bit_at_edge, edge_change, operand_change, DerivedSoFar};
 ghost use Rattle.vcd_edit.specs.inside.Plans.{IsPlan};
@@ -44,8 +45,8 @@ pub(crate) fn plan(
 /// The new signal.
 fn new_signal(alloc: Global, capture: &Capture, word: &[u8], rule: Rule) -> Result<Signal, NoMemory>
     requires sound { IsSound (contents capture.now) }
-    requires operands_exist { lacks_operand rule (contents capture.now) ≡ false }
-    requires scalar_operands { has_vector_operand rule (contents capture.now) ≡ false }
+    requires operands_exist { IsTrue (list_all (is_signal (contents capture.now)) (operands rule)) }
+    requires operand_widths { IsTrue (width_test rule (contents capture.now)).1 }
     ensures { IfOk result (λ s. signal_contents s
         ≡ derived_signal word.now rule (contents capture.now)) }
 {

@@ -1,11 +1,11 @@
 //! The parts of which plans are made.
 
-ghost use Rattle.std.specs.Prelude.{◌≡◌, ◌++◌, ◌+◌, ◌∷◌, [], None, OnOk, IfOk, Some, false, max, vec_len, vec_capacity, ◌<◌, length, take, count_by, nat_lt, ◌≤◌, pos, neg_ℤ};
+ghost use Rattle.std.specs.Prelude.{◌≡◌, ◌++◌, ◌+◌, ◌∷◌, [], None, OnOk, IfOk, Some, IsTrue, max, vec_len, vec_capacity, ◌<◌, length, take, count_by, nat_lt, ◌≤◌, pos, neg_ℤ};
 ghost use Rattle.vcd_core.specs.Contents.{contents, signal_contents, signal_at};
 ghost use Rattle.vcd_core.specs.Sound.{IsSound, IsSoundSignal};
 ghost use Rattle.vcd_core.specs.Value.{all_x, same_letters};
 ghost use Rattle.vcd_core.specs.Wave.{change, unless_same, value_at, last_value};
-ghost use Rattle.vcd_edit.specs.EditFaults.{is_no_signal};
+ghost use Rattle.vcd_edit.specs.EditFaults.{is_signal};
 ghost use Rattle.vcd_edit.specs.Records.{piece_view};
 ghost use Rattle.vcd_edit.specs.inside.Ranges.{value_just_before};
 
@@ -16,7 +16,7 @@ use vcd_core::{Bit, Capture, Change, END_LIMIT, NoMemory, Signal, Value, Wave, l
 /// The signal at a position of a sound capture.
 pub(crate) fn signal_at(capture: &Capture, position: usize) -> &Signal
     requires sound { IsSound (contents capture.now) }
-    requires position_exists { is_no_signal (contents capture.now) position ≡ false }
+    requires position_exists { IsTrue (is_signal (contents capture.now) position) }
     ensures signal { signal_at (contents capture.now) position ≡ signal_contents result.now }
     ensures sound { IsSoundSignal capture.now.end (signal_contents result.now) }
     ensures within { position < length (contents capture.now).signals }

@@ -15,7 +15,7 @@ use Rattle.vcd_edit.proofs.plans.deglitch.plan.Goals as goal
 
 pub signal_at-requires-clause-position_exists : goal.signal_at-requires-clause-position_exists
 signal_at-requires-clause-position_exists c =
-    (no_fault (Deglitch c.args.signal c.args.ticks) (contents c.args.capture.now) c.requires.allowed).signals
+    (no_fault (Deglitch c.args.signal c.args.ticks) (contents c.args.capture.now) c.requires.allowed).0
 
 pub returns-then-from-changes : goal.returns-then-from-changes
 returns-then-from-changes c =

@@ -19,7 +19,7 @@ returns c =
 pub derived_wave-requires-clause-one_bit : goal.derived_wave-requires-clause-one_bit
 derived_wave-requires-clause-one_bit c = λ two.
     let d : Contents = contents c.args.capture.now in
-    let narrow = operands_narrow d c.args.rule c.requires.scalar_operands two in
+    let narrow = operands_narrow d c.args.rule c.requires.operand_widths two in
     let first = ap (λ (k : ℕ). signal_at d k) (sym c.first_operand.ensures) ∙ c.signal_at-first.ensures.signal in
     let last = ap (λ (k : ℕ). signal_at d k) (sym c.last_operand.ensures) ∙ c.signal_at-last.ensures.signal in (
       sym (ap (λ (s : SignalContents). s.width) first) ∙ narrow.0,

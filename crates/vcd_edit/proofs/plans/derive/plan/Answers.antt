@@ -8,11 +8,11 @@ use Rattle.vcd_edit.proofs.plans.derive.plan.Goals as goal
 
 pub new_signal-requires-clause-operands_exist : goal.new_signal-requires-clause-operands_exist
 new_signal-requires-clause-operands_exist c =
-    (no_fault (Derive c.args.word c.args.rule) (contents c.args.capture.now) c.requires.allowed).signals
+    (no_fault (Derive c.args.word c.args.rule) (contents c.args.capture.now) c.requires.allowed).0
 
-pub new_signal-requires-clause-scalar_operands : goal.new_signal-requires-clause-scalar_operands
-new_signal-requires-clause-scalar_operands c =
-    (no_fault (Derive c.args.word c.args.rule) (contents c.args.capture.now) c.requires.allowed).scalars
+pub new_signal-requires-clause-operand_widths : goal.new_signal-requires-clause-operand_widths
+new_signal-requires-clause-operand_widths c =
+    (no_fault (Derive c.args.word c.args.rule) (contents c.args.capture.now) c.requires.allowed).1.0
 
 pub returns : goal.returns
 returns c =

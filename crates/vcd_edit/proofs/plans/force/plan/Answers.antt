@@ -9,7 +9,7 @@ use Rattle.vcd_edit.proofs.plans.force.plan.Goals as goal
 pub signal_at-old-requires-clause-position_exists : goal.signal_at-old-requires-clause-position_exists
 signal_at-old-requires-clause-position_exists c =
     (no_fault (Force c.args.position c.args.from c.args.to c.args.value) (contents c.args.capture.now)
-    c.requires.allowed).signals
+    c.requires.allowed).0
 
 pub force_piece-requires-clause-not_empty : goal.force_piece-requires-clause-not_empty
 force_piece-requires-clause-not_empty c =

@@ -12,7 +12,7 @@ use Rattle.vcd_edit.proofs.plans.invert.plan.Goals as goal
 
 pub signal_at-requires-clause-position_exists : goal.signal_at-requires-clause-position_exists
 signal_at-requires-clause-position_exists c =
-    (no_fault (Invert c.args.signal) (contents c.args.capture.now) c.requires.allowed).signals
+    (no_fault (Invert c.args.signal) (contents c.args.capture.now) c.requires.allowed).0
 
 pub returns : goal.returns
 returns c =

@@ -11,7 +11,7 @@ use Rattle.vcd_edit.proofs.plans.shift.plan.Goals as goal
 
 pub signal_at-old-requires-clause-position_exists : goal.signal_at-old-requires-clause-position_exists
 signal_at-old-requires-clause-position_exists c =
-    (no_fault (Shift c.args.position c.args.by) (contents c.args.capture.now) c.requires.allowed).signals
+    (no_fault (Shift c.args.position c.args.by) (contents c.args.capture.now) c.requires.allowed).0
 
 pub returns : goal.returns
 returns c =
