@@ -314,4 +314,15 @@ impl Wave {
     {
         self.list.splice(from, to, piece, by);
     }
+
+    /// Gives back the room that the wave's own list does not need.
+    pub fn shrink_to_fit(&mut self)
+        ensures width { self.new.width ≡ self.old.width }
+        ensures changes { self.new.changes ≡ self.old.changes }
+        ensures never_more { self.new.room ≤ self.old.room }
+    {
+        if let WaveList::Own(list) = &mut self.list {
+            list.shrink_to_fit();
+        }
+    }
 }

@@ -4,27 +4,27 @@ use Rattle.std.proofs.Common.{if◌then◌else◌, List, [], ◌∷◌, length, 
 use Rattle.std.proofs.Common.{inr, refl, sym, ap, subst, ◌∙◌, arith}
 use Rattle.std.specs.List.{filter, range_with_len, list_any}
 use Rattle.std.proofs.lemmas.Bool.{cases_eq, or_parts}
+use Rattle.std.proofs.lemmas.Option.{same_Some}
 use Rattle.std.proofs.lemmas.List.{drop_more, drop_all, length-replicate}
 use Rattle.std.proofs.lemmas.List.Elements.{All-nil, All-cons}
 use Rattle.vcd_core.specs.declared.bit.Bit.{Bit}
 use Rattle.vcd_core.specs.declared.bit.Bit.TheVariants.{X}
-use Rattle.vcd_core.specs.declared.edges.Edge.{Edge}
 use Rattle.vcd_core.specs.declared.bit_edges.BitEdge.{BitEdge}
-use Rattle.vcd_core.specs.BitEdges.{bit_edge}
+use Rattle.vcd_core.specs.BitEdges.{bit_edge, bit_edges_of}
 use Rattle.vcd_core.specs.declared.wave.Change.{Change}
 use Rattle.vcd_core.specs.Value.{all_x, letter_at, same_letters}
 use Rattle.vcd_core.specs.inside.ValueLaws.{same_letters-Decides}
 use Rattle.vcd_core.specs.Wave.{change, value_from, value_at, changes_of, IsWave, AllUpTo}
 use Rattle.vcd_core.specs.WaveView.{WaveView}
-use Rattle.vcd_core.specs.Edges.{Trace, trace_of, changes_at, edge_on, edges_on, edges_of}
+use Rattle.vcd_core.specs.Edges.{Trace, trace_of, changes_at, edge_on, edges_on}
 use Rattle.vcd_core.proofs.Waves.{value_past, wave_is}
 use Rattle.vcd_core.proofs.Pushes.{upto_from_all}
-use Rattle.vcd_edit.specs.declared.edit.Rule.{Rule}
-use Rattle.vcd_edit.specs.declared.edit.Rule.TheVariants.{Not, And, Or, Xor, BitOf}
+use Rattle.vcd_edit.specs.declared.edit.Operator.{Operator}
+use Rattle.vcd_edit.specs.declared.edit.Operator.TheVariants.{And, Or, Xor}
+use Rattle.vcd_edit.specs.Operators.{not_bit, operator_bit}
 use Rattle.vcd_edit.specs.inside.RemainingChanges.{TicksRise}
 use Rattle.vcd_edit.specs.inside.Ranges.{value_just_before}
-use Rattle.vcd_edit.specs.inside.Derived.{has_two_operands, rule_bit_of_values, rule_bit_of_bits, edge_bit, edge_change}
-use Rattle.vcd_edit.specs.inside.Derived.{operand_change, DerivedSoFar}
+use Rattle.vcd_edit.specs.inside.Derived.{edge_bit, edge_change, HasBits, selected_bit, selected_change, DerivedSoFar}
 use Rattle.vcd_edit.proofs.WithoutRepeats.{rise_lower, early_value, wave_rises, mapped_upto, mapped_value}
 
 -- ---- one change after another
@@ -49,13 +49,14 @@ none_made all w width none rise = record {
 }
 
 -- one more change is pushed
-pub made_more : (all rest : List Change) (c : Change) (old new : WaveView) → DerivedSoFar all (c ∷ rest) old
-    → new.width ≡ old.width
+pub one_made : (all left rest : List Change) (c : Change) (old new : WaveView) → left ≡ c ∷ rest
+    → DerivedSoFar all left old → new.width ≡ old.width
     → ((t : ℕ) → value_at new.width new.changes t
     ≡ (if nat_le c.tick t then c.value else value_at old.width old.changes t))
     → All (λ d. d.tick ≤ c.tick) new.changes → DerivedSoFar all rest new
 unfolding value_from
-made_more all rest c old new made width values last =
+one_made all left rest c old new is made_left width values last =
+    let made : DerivedSoFar all (c ∷ rest) old = subst (λ (cs : List Change). DerivedSoFar all cs old) is made_left in
     let (from, wide, rise) = made.rise in
     record {
       width = width ∙ made.width;
@@ -73,73 +74,10 @@ made_more all rest c old new made width values last =
     }
 
 -- the next change is not before the last
-pub late_enough : (all rest : List Change) (c : Change) (w : WaveView) → DerivedSoFar all (c ∷ rest) w
-    → All (λ d. d.tick ≤ c.tick) w.changes
-late_enough all rest c w made = λ k d less. made.before k d less 0 c (omega arith)
-
--- the same for an edge
-pub edge_made : (rule : Rule) (all left rest : List BitEdge) (e : BitEdge) (value : List Bit) (old new : WaveView)
-    → left ≡ e ∷ rest → value ≡ edge_bit rule e.at ∷ []
-    → DerivedSoFar (map (edge_change rule) all) (map (edge_change rule) left) old → new.width ≡ old.width
-    → ((t : ℕ) → value_at new.width new.changes t
-    ≡ (if nat_le e.tick t then value else value_at old.width old.changes t))
-    → All (λ d. d.tick ≤ e.tick) new.changes
-    → DerivedSoFar (map (edge_change rule) all) (map (edge_change rule) rest) new
-edge_made rule all left rest e value old new steps is made width values last =
-    made_more (map (edge_change rule) all) (map (edge_change rule) rest) (edge_change rule e) old new
-    (subst (λ (es : List BitEdge). DerivedSoFar (map (edge_change rule) all)
-    (map (edge_change rule) es) old) steps made)
-    width
-    (λ t. values t ∙ ap (λ v. if nat_le e.tick t then v else value_at old.width old.changes t) is) last
-
-pub edge_late : (rule : Rule) (all left rest : List BitEdge) (e : BitEdge) (w : WaveView) → left ≡ e ∷ rest
-    → DerivedSoFar (map (edge_change rule) all) (map (edge_change rule) left) w → All (λ d. d.tick ≤ e.tick) w.changes
-edge_late rule all left rest e w steps made =
-    late_enough (map (edge_change rule) all) (map (edge_change rule) rest) (edge_change rule e) w
-    (subst (λ (es : List BitEdge). DerivedSoFar (map (edge_change rule) all) (map (edge_change rule) es) w) steps made)
-
--- the same for a change of the one operand
-pub operand_made : (rule : Rule) (cs : List Change) (i : ℕ) (c : Change) (value : List Bit) (old new : WaveView)
-    → i < length cs → c ≡ get_or cs i c → value ≡ rule_bit_of_values rule c.value c.value ∷ []
-    → DerivedSoFar (map (operand_change rule) cs) (map (operand_change rule) (drop i cs)) old → new.width ≡ old.width
-    → ((t : ℕ) → value_at new.width new.changes t
-    ≡ (if nat_le c.tick t then value else value_at old.width old.changes t))
-    → All (λ d. d.tick ≤ c.tick) new.changes
-    → DerivedSoFar (map (operand_change rule) cs) (map (operand_change rule) (drop (i + 1) cs)) new
-operand_made rule cs i c value old new within at is made width values last =
-    let here : drop i cs ≡ c ∷ drop (i + 1) cs = drop_more cs i c within ∙ ap (λ d. d ∷ drop (i + 1) cs) (sym at) in
-    made_more (map (operand_change rule) cs) (map (operand_change rule) (drop (i + 1) cs)) (operand_change rule c) old
-    new
-    (subst (λ (l : List Change). DerivedSoFar (map (operand_change rule) cs)
-    (map (operand_change rule) l) old) here made)
-    width
-    (λ t. values t ∙ ap (λ v. if nat_le c.tick t then v else value_at old.width old.changes t) is) last
-
-pub operand_late : (rule : Rule) (cs : List Change) (i : ℕ) (c : Change) (w : WaveView) → i < length cs
-    → c ≡ get_or cs i c
-    → DerivedSoFar (map (operand_change rule) cs) (map (operand_change rule) (drop i cs)) w
-    → All (λ d. d.tick ≤ c.tick) w.changes
-operand_late rule cs i c w within at made =
-    let here : drop i cs ≡ c ∷ drop (i + 1) cs = drop_more cs i c within ∙ ap (λ d. d ∷ drop (i + 1) cs) (sym at) in
-    late_enough (map (operand_change rule) cs) (map (operand_change rule) (drop (i + 1) cs)) (operand_change rule c) w
-    (subst (λ (l : List Change). DerivedSoFar (map (operand_change rule) cs) (map (operand_change rule) l) w) here made)
-
-pub operand_rise : (rule : Rule) (width floor : ℕ) (cs : List Change) → TicksRise width floor cs
-    → TicksRise 1 floor (map (operand_change rule) cs)
-operand_rise rule width floor [] rise = tt
-operand_rise rule width floor (c ∷ cs) (from, wide, rest) = (from, refl, operand_rise rule width (c.tick + 1) cs rest)
-
-pub operands_rise : (rule : Rule) (width : ℕ) (cs : List Change) → IsWave width cs
-    → TicksRise 1 0 (map (operand_change rule) cs)
-operands_rise rule width cs is =
-    operand_rise rule width 0 cs (wave_rises width 0 (all_x width) cs (length-replicate width X) is.rise)
-
-pub none_to_make : (rule : Rule) (cs : List Change) (i : ℕ) (w : WaveView) → length cs ≤ i
-    → DerivedSoFar (map (operand_change rule) cs) (map (operand_change rule) (drop i cs)) w
-    → DerivedSoFar (map (operand_change rule) cs) [] w
-none_to_make rule cs i w done made =
-    subst (λ (l : List Change). DerivedSoFar (map (operand_change rule) cs) (map (operand_change rule) l) w)
-    (drop_all i cs done) made
+pub late_enough : (all left rest : List Change) (c : Change) (w : WaveView) → left ≡ c ∷ rest
+    → DerivedSoFar all left w → All (λ d. d.tick ≤ c.tick) w.changes
+late_enough all left rest c w is made = λ k d less.
+    (subst (λ (cs : List Change). DerivedSoFar all cs w) is made).before k d less 0 c (omega arith)
 
 -- all is made
 pub made_is : (all : List Change) (w : WaveView) (end : ℕ) (f : ℕ → List Bit) → DerivedSoFar all [] w
@@ -218,35 +156,37 @@ x_letter zero i = refl
 x_letter (suc n) zero = refl
 x_letter (suc n) (suc i) = x_letter n i
 
--- x gives x
-x_bit : (rule : Rule) (m n : ℕ) → rule_bit_of_values rule (all_x m) (all_x n) ≡ X
-x_bit rule m n = for_each rule
-  where
-    letter : (m k : ℕ) → letter_at (all_x m) k ≡ X
-    letter m k = x_letter m (length (all_x m) - 1 - k)
-
-    for_each : (rule : Rule) → rule_bit_of_values rule (all_x m) (all_x n) ≡ X
-    for_each (Not a) = ap (λ v. rule_bit_of_values (Not a) (v ∷ []) (all_x n)) (letter m 0)
-    for_each (And a b) = λ i. rule_bit_of_values (And a b) (letter m 0 i ∷ []) (letter n 0 i ∷ [])
-    for_each (Or a b) = λ i. rule_bit_of_values (Or a b) (letter m 0 i ∷ []) (letter n 0 i ∷ [])
-    for_each (Xor a b) = λ i. rule_bit_of_values (Xor a b) (letter m 0 i ∷ []) (letter n 0 i ∷ [])
-    for_each (BitOf a k) = letter m k
+x_letter_at : (m k : ℕ) → letter_at (all_x m) k ≡ X
+x_letter_at m k = x_letter m (length (all_x m) - 1 - k)
 
 map-map : {A B C : Type 0} (f : B → C) (g : A → B) (xs : List A) → map f (map g xs) ≡ map (λ x. f (g x)) xs
 map-map f g [] = refl
 map-map f g (x ∷ xs) = ap (λ ys. f (g x) ∷ ys) (map-map f g xs)
 
-module _ (rule : Rule) (a b : WaveView) where
-  abbrev rule_value : ℕ → List Bit
-  rule_value t = rule_bit_of_values rule (value_at a.width a.changes t) (value_at b.width b.changes t) ∷ []
+-- x gives x
+x_pair : (operator : Operator) → operator_bit operator X X ≡ X
+x_pair And = refl
+x_pair Or = refl
+x_pair Xor = refl
+
+-- the operator's bit at an edge, from the bits of both
+pub edge_bit_is : (operator : Operator) (e : BitEdge) (u v : Bit) → HasBits e → get_or e.at 0 None ≡ Some u
+    → get_or e.at 1 None ≡ Some v → edge_bit operator e.at ≡ operator_bit operator u v
+edge_bit_is operator e u v (x, y, at) first last =
+    ap (edge_bit operator) at
+    ∙ (λ i. operator_bit operator (same_Some x u (sym (ap (λ bits. get_or bits 0 None) at) ∙ first) i)
+    (same_Some y v (sym (ap (λ bits. get_or bits 1 None) at) ∙ last) i))
+
+module _ (operator : Operator) (a b : WaveView) where
+  abbrev pub pair_value : ℕ → List Bit
+  pair_value t =
+      operator_bit operator (letter_at (value_at a.width a.changes t) 0) (letter_at (value_at b.width b.changes t) 0)
+      ∷ []
 
   abbrev lines : List Trace
   lines = trace_of (Some a) ∷ trace_of (Some b) ∷ trace_of None ∷ trace_of None ∷ []
 
-  abbrev edges : ℕ → List Edge
-  edges end = edges_of (Some a ∷ Some b ∷ None ∷ None ∷ []) end
-
-  still : (u : ℕ) → list_any (changes_at u) lines ≡ false → rule_value u ≡ value_just_before 1 rule_value u
+  still : (u : ℕ) → list_any (changes_at u) lines ≡ false → pair_value u ≡ value_just_before 1 pair_value u
   still u none =
       let first = or_parts (changes_at u (trace_of (Some a)))
       (list_any (changes_at u) (trace_of (Some b) ∷ trace_of None ∷ trace_of None ∷ [])) none in
@@ -256,88 +196,98 @@ module _ (rule : Rule) (a b : WaveView) where
     where
       from_both : (u : ℕ) → value_at a.width a.changes u ≡ value_just_before a.width (value_at a.width a.changes) u
           → value_at b.width b.changes u ≡ value_just_before b.width (value_at b.width b.changes) u
-          → rule_value u ≡ value_just_before 1 rule_value u
-      from_both zero one two = (λ i. rule_bit_of_values rule (one i) (two i) ∷ [])
-          ∙ ap (λ (x : Bit). x ∷ []) (x_bit rule a.width b.width)
-      from_both (suc u) one two = λ i. rule_bit_of_values rule (one i) (two i) ∷ []
+          → pair_value u ≡ value_just_before 1 pair_value u
+      from_both zero one two = (λ i. operator_bit operator ((ap (λ v. letter_at v 0) one ∙ x_letter_at a.width 0) i)
+          ((ap (λ v. letter_at v 0) two ∙ x_letter_at b.width 0) i) ∷ [])
+          ∙ ap (λ (x : Bit). x ∷ []) (x_pair operator)
+      from_both (suc u) one two =
+          λ i. operator_bit operator (letter_at (one i) 0) (letter_at (two i) 0) ∷ []
 
-  -- one bit of each operand decides
-  rule_bit_by_bits : has_two_operands rule ≡ true → (v w : List Bit)
-      → rule_bit_of_bits rule (letter_at v 0) (letter_at w 0) ≡ rule_bit_of_values rule v w
-  rule_bit_by_bits two v w = for_each rule two
-    where
-      for_each : (rule : Rule) → has_two_operands rule ≡ true
-          → rule_bit_of_bits rule (letter_at v 0) (letter_at w 0) ≡ rule_bit_of_values rule v w
-      for_each (Not a) two = refl
-      for_each (And a b) two = refl
-      for_each (Or a b) two = refl
-      for_each (Xor a b) two = refl
-      for_each (BitOf a k) two = absurd (cc)
+  abbrev pub pair_edges : ℕ → List BitEdge
+  pair_edges end = bit_edges_of (Some a ∷ Some b ∷ None ∷ None ∷ []) end
 
-  abbrev bit_edges : ℕ → List BitEdge
-  bit_edges end = map bit_edge (edges end)
-
-  edge_changes : has_two_operands rule ≡ true → (end : ℕ)
-      → map (edge_change rule) (bit_edges end)
-      ≡ map (λ u. change u (rule_value u)) (filter (λ t. list_any (changes_at t) lines) (range_with_len 0 (suc end)))
+  edge_changes : (end : ℕ) → map (edge_change operator) (pair_edges end)
+      ≡ map (λ u. change u (pair_value u)) (filter (λ t. list_any (changes_at t) lines) (range_with_len 0 (suc end)))
   unfolding edges_on
-  edge_changes two end =
+  edge_changes end =
       let ticks = filter (λ t. list_any (changes_at t) lines) (range_with_len 0 (suc end)) in
-      map-map (edge_change rule) bit_edge (edges end)
-      ∙ map-map (λ e. edge_change rule (bit_edge e)) (edge_on lines) ticks
-      ∙ (λ i. map (λ u.
-      change u (rule_bit_by_bits two (value_at a.width a.changes u) (value_at b.width b.changes u) i ∷ [])) ticks)
+      map-map (edge_change operator) bit_edge (map (edge_on lines) ticks)
+      ∙ map-map (λ e. edge_change operator (bit_edge e)) (edge_on lines) ticks
 
-  pub edges_rise : has_two_operands rule ≡ true → (end : ℕ) (es : List BitEdge) → es ≡ bit_edges end
-      → TicksRise 1 0 (map (edge_change rule) es)
-  edges_rise two end es is =
-      subst (TicksRise 1 0) (sym (ap (map (edge_change rule)) is ∙ edge_changes two end))
-      (sampled_rise (λ t. list_any (changes_at t) lines) rule_value 0 (suc end) (λ u. refl))
+  -- nothing is made of the edges
+  pub no_edge_made : (end : ℕ) (w : WaveView) → w.width ≡ 1 → w.changes ≡ []
+      → DerivedSoFar (map (edge_change operator) (pair_edges end)) (map (edge_change operator) (pair_edges end)) w
+  no_edge_made end w width none = none_made (map (edge_change operator) (pair_edges end)) w width none
+      (subst (TicksRise 1 0) (sym (edge_changes end))
+      (sampled_rise (λ t. list_any (changes_at t) lines) pair_value 0 (suc end) (λ u. refl)))
 
-  -- the wave from the edges has the rule's bit at each tick
-  pub derived_is : has_two_operands rule ≡ true → (end : ℕ) (w : WaveView)
-      → DerivedSoFar (map (edge_change rule) (bit_edges end)) [] w → IsWave w.width w.changes
-      → w.changes ≡ changes_of 1 end rule_value
-  derived_is two end w made form =
-      let all = edge_changes two end in
-      made_is (map (edge_change rule) (bit_edges end)) w end rule_value made form
+  -- each edge has a bit of both
+  pub each_has_bits : (end : ℕ) → All HasBits (pair_edges end)
+  unfolding edges_on
+  each_has_bits end = of_each (filter (λ t. list_any (changes_at t) lines) (range_with_len 0 (suc end)))
+    where
+      of_each : (ticks : List ℕ) → All HasBits (map bit_edge (map (edge_on lines) ticks))
+      of_each [] = All-nil HasBits
+      of_each (t ∷ ticks) = All-cons HasBits (bit_edge (edge_on lines t)) (map bit_edge (map (edge_on lines) ticks))
+          (has_bits t) (of_each ticks)
+        where
+          has_bits : (t : ℕ) → HasBits (bit_edge (edge_on lines t))
+          has_bits zero = (_, _, refl)
+          has_bits (suc t) = (_, _, refl)
+
+  -- the wave from the edges has the operator's bit at each tick
+  pub pair_is : (end : ℕ) (w : WaveView) → DerivedSoFar (map (edge_change operator) (pair_edges end)) [] w
+      → IsWave w.width w.changes → w.changes ≡ changes_of 1 end pair_value
+  pair_is end w made form =
+      let all = edge_changes end in
+      made_is (map (edge_change operator) (pair_edges end)) w end pair_value made form
       (subst (AllUpTo end) (sym all)
-      (sampled_upto (λ t. list_any (changes_at t) lines) rule_value 0 (suc end) end (omega arith)))
+      (sampled_upto (λ t. list_any (changes_at t) lines) pair_value 0 (suc end) end (omega arith)))
       (λ t to. ap (λ (cs : List Change). value_from (all_x 1) cs t) all
-      ∙ sampled (λ t. list_any (changes_at t) lines) rule_value 0 (suc end) (all_x 1) refl (λ u. refl) still t
+      ∙ sampled (λ t. list_any (changes_at t) lines) pair_value 0 (suc end) (all_x 1) refl (λ u. refl) still t
       (omega arith) (omega arith))
 
-  -- one operand decides
-  alone_is : has_two_operands rule ≡ false → (u v w : List Bit)
-      → rule_bit_of_values rule u v ≡ rule_bit_of_values rule u w
-  alone_is one u v w = for_each rule one
-    where
-      for_each : (rule : Rule) → has_two_operands rule ≡ false
-          → rule_bit_of_values rule u v ≡ rule_bit_of_values rule u w
-      for_each (Not a) one = refl
-      for_each (And a b) one = absurd (cc)
-      for_each (Or a b) one = absurd (cc)
-      for_each (Xor a b) one = absurd (cc)
-      for_each (BitOf a k) one = refl
+-- ---- the changes of one wave
 
-  pub alone_changes : has_two_operands rule ≡ false → (end : ℕ)
-      → changes_of 1 end (λ t. rule_bit_of_values rule (value_at a.width a.changes t) (value_at a.width a.changes t)
-      ∷ [])
-      ≡ changes_of 1 end rule_value
-  alone_changes one end =
-      λ i. changes_of 1 end
-      (λ t. alone_is one (value_at a.width a.changes t) (value_at a.width a.changes t) (value_at b.width b.changes t) i
-      ∷ [])
+selected_x : (k : ℕ) (negated : Bool) (width : ℕ) → selected_bit k negated (all_x width) ≡ X
+selected_x k true width = ap not_bit (x_letter_at width k)
+selected_x k false width = x_letter_at width k
 
--- the wave from the changes of one operand has the rule's bit at each tick
-pub derived_of_one_is : (rule : Rule) (a : WaveView) (end : ℕ) (w : WaveView) → AllUpTo end a.changes
-    → DerivedSoFar (map (operand_change rule) a.changes) [] w → IsWave w.width w.changes
-    → w.changes ≡ changes_of 1 end (λ t. rule_bit_of_values rule (value_at a.width a.changes t)
-    (value_at a.width a.changes t)
-    ∷ [])
-derived_of_one_is rule a end w upto made form =
-    let h : List Bit → List Bit = λ v. rule_bit_of_values rule v v ∷ [] in
-    made_is (map (operand_change rule) a.changes) w end (λ t. h (value_at a.width a.changes t)) made form
-    (mapped_upto end h a.changes upto)
-    (λ t to. ap (λ (x : Bit). value_from (x ∷ []) (map (operand_change rule) a.changes) t)
-    (sym (x_bit rule a.width a.width)) ∙ mapped_value h (all_x a.width) a.changes t)
+selected_rise : (k : ℕ) (negated : Bool) (width floor : ℕ) (cs : List Change) → TicksRise width floor cs
+    → TicksRise 1 floor (map (selected_change k negated) cs)
+selected_rise k negated width floor [] rise = tt
+selected_rise k negated width floor (c ∷ cs) (from, wide, rest) =
+    (from, refl, selected_rise k negated width (c.tick + 1) cs rest)
+
+-- nothing is made of the changes
+pub no_change_made : (k : ℕ) (negated : Bool) (a w : WaveView) → IsWave a.width a.changes → w.width ≡ 1
+    → w.changes ≡ []
+    → DerivedSoFar (map (selected_change k negated) a.changes) (map (selected_change k negated) a.changes) w
+no_change_made k negated a w is width none = none_made (map (selected_change k negated) a.changes) w width none
+    (selected_rise k negated a.width 0 a.changes
+    (wave_rises a.width 0 (all_x a.width) a.changes (length-replicate a.width X) is.rise))
+
+-- the next change of the wave
+pub change_next : (k : ℕ) (negated : Bool) (cs : List Change) (i : ℕ) (c : Change) (value : List Bit)
+    → i < length cs → c ≡ get_or cs i c → value ≡ selected_bit k negated c.value ∷ []
+    → map (selected_change k negated) (drop i cs)
+    ≡ change c.tick value ∷ map (selected_change k negated) (drop (i + 1) cs)
+change_next k negated cs i c value within at is =
+    ap (map (selected_change k negated)) (drop_more cs i c within ∙ ap (λ d. d ∷ drop (i + 1) cs) (sym at))
+    ∙ ap (λ v. change c.tick v ∷ map (selected_change k negated) (drop (i + 1) cs)) (sym is)
+
+-- the wave from the changes of one wave has its bit at each tick
+pub selected_is : (k : ℕ) (negated : Bool) (a : WaveView) (end i : ℕ) (w : WaveView) → AllUpTo end a.changes
+    → length a.changes ≤ i
+    → DerivedSoFar (map (selected_change k negated) a.changes) (map (selected_change k negated) (drop i a.changes)) w
+    → IsWave w.width w.changes
+    → w.changes ≡ changes_of 1 end (λ t. selected_bit k negated (value_at a.width a.changes t) ∷ [])
+selected_is k negated a end i w upto done made form =
+    let h : List Bit → List Bit = λ v. selected_bit k negated v ∷ [] in
+    made_is (map (selected_change k negated) a.changes) w end (λ t. h (value_at a.width a.changes t))
+    (subst (λ (l : List Change). DerivedSoFar (map (selected_change k negated) a.changes)
+    (map (selected_change k negated) l) w)
+    (drop_all i a.changes done) made)
+    form (mapped_upto end h a.changes upto)
+    (λ t to. ap (λ (x : Bit). value_from (x ∷ []) (map (selected_change k negated) a.changes) t)
+    (sym (selected_x k negated a.width)) ∙ mapped_value h (all_x a.width) a.changes t)

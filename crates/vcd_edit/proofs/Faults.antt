@@ -10,8 +10,8 @@ use Rattle.vcd_edit.specs.declared.edit.Edit.{Edit}
 use Rattle.vcd_edit.specs.declared.edit.Rule.{Rule}
 use Rattle.vcd_edit.specs.declared.edit.Rule.TheVariants.{Not, And, Or, Xor, BitOf}
 use Rattle.vcd_edit.specs.declared.fault.EditError.{EditError}
-use Rattle.vcd_edit.specs.Effect.{first_operand}
-use Rattle.vcd_edit.specs.inside.Derived.{last_operand, has_two_operands}
+use Rattle.vcd_edit.specs.Effect.{formula, first_operand}
+use Rattle.vcd_edit.specs.inside.Derived.{HasOperands}
 use Rattle.vcd_edit.specs.EditFaults.{Test, first_fault, is_signal, is_scalar, operands, width_test, edit_tests}
 use Rattle.vcd_edit.specs.EditFaults.{edit_fault}
 
@@ -48,30 +48,35 @@ pair_holds : (p : ℕ → Bool) (a b : ℕ) → IsTrue (list_all p (a ∷ b ∷ 
 pair_holds p a b all =
     let first = and_parts (p a) (list_all p (b ∷ [])) all in (first.0, (and_parts (p b) true first.1).0)
 
--- what holds of all operands holds of the first and the last
-pub first_and_last : (p : ℕ → Bool) (rule : Rule) → IsTrue (list_all p (operands rule))
-    → IsTrue (p (first_operand rule)) × IsTrue (p (last_operand rule))
-first_and_last p (Not a) all = let here = (and_parts (p a) _ all).0 in (here, here)
-first_and_last p (And a b) all = pair_holds p a b all
-first_and_last p (Or a b) all = pair_holds p a b all
-first_and_last p (Xor a b) all = pair_holds p a b all
-first_and_last p (BitOf a k) all = let here = (and_parts (p a) _ all).0 in (here, here)
-
 -- the signal has one bit
 one_bit : (c : Contents) (k : ℕ) → IsTrue (is_scalar c k) → (signal_at c k).width ≡ 1
 one_bit c k is = grind (arith, nat_tests)
 
-both_narrow : (c : Contents) (rule : Rule) → IsTrue (list_all (is_scalar c) (operands rule))
-    → ((signal_at c (first_operand rule)).width ≡ 1) × ((signal_at c (last_operand rule)).width ≡ 1)
-both_narrow c rule all =
-    let both = first_and_last (is_scalar c) rule all in
-    (one_bit c (first_operand rule) both.0, one_bit c (last_operand rule) both.1)
+only_there : (c : Contents) (a : ℕ) → IsTrue (list_all (is_signal c) (a ∷ [])) → a < length c.signals
+only_there c a all = position_below c a (and_parts (is_signal c a) true all).0
 
--- both operands of an operator have one bit
-pub operands_narrow : (c : Contents) (rule : Rule) → IsTrue (width_test rule c).1 → has_two_operands rule ≡ true
-    → ((signal_at c (first_operand rule)).width ≡ 1) × ((signal_at c (last_operand rule)).width ≡ 1)
-operands_narrow c (Not a) holds two = absurd (cc)
-operands_narrow c (And a b) holds two = both_narrow c (And a b) holds
-operands_narrow c (Or a b) holds two = both_narrow c (Or a b) holds
-operands_narrow c (Xor a b) holds two = both_narrow c (Xor a b) holds
-operands_narrow c (BitOf a k) holds two = absurd (cc)
+both_there : (c : Contents) (a b : ℕ) → IsTrue (list_all (is_signal c) (a ∷ b ∷ []))
+    → IsTrue (list_all (is_scalar c) (a ∷ b ∷ []))
+    → (a < length c.signals) × (b < length c.signals)
+    × ((signal_at c a).width ≡ 1) × ((signal_at c b).width ≡ 1)
+both_there c a b all scalars =
+    let there = pair_holds (is_signal c) a b all in
+    let narrow = pair_holds (is_scalar c) a b scalars in
+    (position_below c a there.0, position_below c b there.1, one_bit c a narrow.0, one_bit c b narrow.1)
+
+-- the operands of a rule that passes the tests
+pub operands_there : (c : Contents) (rule : Rule) → IsTrue (list_all (is_signal c) (operands rule))
+    → IsTrue (width_test rule c).1 → HasOperands c (formula rule)
+operands_there c (Not a) all wide = only_there c a all
+operands_there c (And a b) all wide = both_there c a b all wide
+operands_there c (Or a b) all wide = both_there c a b all wide
+operands_there c (Xor a b) all wide = both_there c a b all wide
+operands_there c (BitOf a k) all wide = only_there c a all
+
+pub first_operand_there : (c : Contents) (rule : Rule) → IsTrue (list_all (is_signal c) (operands rule))
+    → first_operand (formula rule) < length c.signals
+first_operand_there c (Not a) all = only_there c a all
+first_operand_there c (And a b) all = position_below c a (pair_holds (is_signal c) a b all).0
+first_operand_there c (Or a b) all = position_below c a (pair_holds (is_signal c) a b all).0
+first_operand_there c (Xor a b) all = position_below c a (pair_holds (is_signal c) a b all).0
+first_operand_there c (BitOf a k) all = only_there c a all

@@ -22,10 +22,10 @@ use Rattle.vcd_edit.specs.declared.edit.Edit.TheVariants.{Rename, Remove, Invert
 use Rattle.vcd_edit.specs.declared.edit.Rule.{Rule}
 use Rattle.vcd_edit.specs.Operators.{not_bit}
 use Rattle.vcd_edit.specs.Effect.{with_values, with_wave, renamed_signal, inverse_value, value_at_any_tick, shift_value}
-use Rattle.vcd_edit.specs.Effect.{cut_value, force_value, is_steady, steady_value, first_operand, rule_bit}
-use Rattle.vcd_edit.specs.Effect.{derived_signal, cut_contents, effect}
-use Rattle.vcd_edit.specs.EditFaults.{is_signal, edit_fault}
-use Rattle.vcd_edit.proofs.Faults.{no_fault, position_below, first_and_last}
+use Rattle.vcd_edit.specs.Effect.{cut_value, force_value, is_steady, steady_value, formula, first_operand}
+use Rattle.vcd_edit.specs.Effect.{formula_bit, derived_signal, cut_contents, effect}
+use Rattle.vcd_edit.specs.EditFaults.{edit_fault}
+use Rattle.vcd_edit.proofs.Faults.{no_fault, position_below, first_operand_there}
 
 -- ---- the width of values
 
@@ -115,7 +115,7 @@ sound_renamed end word s is sound = record {
 
 -- a derived signal, if its first operand is sound
 pub sound_derived : (c : Contents) (word : List ℕ) (rule : Rule) → IsTrue (is_word word)
-    → IsSoundSignal c.end (signal_at c (first_operand rule))
+    → IsSoundSignal c.end (signal_at c (first_operand (formula rule)))
     → IsSoundSignal c.end (derived_signal word rule c)
 sound_derived c word rule is sound = record {
   scopes = sound.scopes;
@@ -125,8 +125,8 @@ sound_derived c word rule is sound = record {
   words = both_hold (is_word word) true is refl;
   least = omega arith;
   most = omega arith;
-  wave = changes_rise 1 c.end (λ t. rule_bit rule c t ∷ []) (λ t. refl);
-  ticks = changes_end 1 c.end (λ t. rule_bit rule c t ∷ []);
+  wave = changes_rise 1 c.end (λ t. formula_bit (formula rule) c t ∷ []) (λ t. refl);
+  ticks = changes_end 1 c.end (λ t. formula_bit (formula rule) c t ∷ []);
 }
 
 -- ---- captures
@@ -236,5 +236,4 @@ effect_is_sound (Derive word rule) c sound none =
     let free = no_fault (Derive word rule) c none in
     sound_pushed c (derived_signal word.now rule c) (room_for c free.1.1.1.1.0) sound
     (sound_derived c word.now rule free.1.1.0
-    (sound_at c (first_operand rule)
-    (position_below c (first_operand rule) (first_and_last (is_signal c) rule free.0).0) sound))
+    (sound_at c (first_operand (formula rule)) (first_operand_there c rule free.0) sound))

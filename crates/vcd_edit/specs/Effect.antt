@@ -10,7 +10,10 @@ use Rattle.vcd_edit.specs.declared.edit.Edit.{Edit}
 use Rattle.vcd_edit.specs.declared.edit.Edit.TheVariants.{Rename, Remove, Invert, Shift, Cut, Deglitch, Force, Derive}
 use Rattle.vcd_edit.specs.declared.edit.Rule.{Rule}
 use Rattle.vcd_edit.specs.declared.edit.Rule.TheVariants.{Not, And, Or, Xor, BitOf}
-use Rattle.vcd_edit.specs.Operators.{not_bit, and_bit, or_bit, xor_bit}
+use Rattle.vcd_edit.specs.declared.edit.Operator.TheVariants as operators
+use Rattle.vcd_edit.specs.declared.edit.Formula.{Formula}
+use Rattle.vcd_edit.specs.declared.edit.Formula.TheVariants.{Negation, Pair, BitSelect}
+use Rattle.vcd_edit.specs.Operators.{not_bit, operator_bit}
 
 -- a signal with the values of a function at all ticks up to the end
 abbrev pub with_values : ℕ → (ℕ → List Bit) → SignalContents → SignalContents
@@ -73,34 +76,39 @@ steady_value ticks end f (suc t) = if is_steady ticks end f (suc t) then f (suc 
 
 -- ---- derived signals
 
--- the position of a rule's first operand
-abbrev pub first_operand : Rule → ℕ
-first_operand (Not a) = a
-first_operand (And a b) = a
-first_operand (Or a b) = a
-first_operand (Xor a b) = a
-first_operand (BitOf a k) = a
+-- what a rule computes: `~` of a signal, an operator on two signals, or one bit of a signal
+abbrev pub formula : Rule → Formula
+formula (Not a) = Negation a
+formula (And a b) = Pair operators.And a b
+formula (Or a b) = Pair operators.Or a b
+formula (Xor a b) = Pair operators.Xor a b
+formula (BitOf a k) = BitSelect a k
+
+-- the position of the first operand
+abbrev pub first_operand : Formula → ℕ
+first_operand (Negation a) = a
+first_operand (Pair operator a b) = a
+first_operand (BitSelect a k) = a
 
 -- bit k of the signal at a position, at a tick
 abbrev pub signal_bit : Contents → ℕ → ℕ → ℕ → Bit
 signal_bit c a k t = letter_at (signal_value (signal_at c a) t) k
 
--- the bit that a rule gives at a tick
-abbrev pub rule_bit : Rule → Contents → ℕ → Bit
-rule_bit (Not a) c t = not_bit (signal_bit c a 0 t)
-rule_bit (And a b) c t = and_bit (signal_bit c a 0 t) (signal_bit c b 0 t)
-rule_bit (Or a b) c t = or_bit (signal_bit c a 0 t) (signal_bit c b 0 t)
-rule_bit (Xor a b) c t = xor_bit (signal_bit c a 0 t) (signal_bit c b 0 t)
-rule_bit (BitOf a k) c t = signal_bit c a k t
+-- the bit that a formula gives at a tick
+abbrev pub formula_bit : Formula → Contents → ℕ → Bit
+formula_bit (Negation a) c t = not_bit (signal_bit c a 0 t)
+formula_bit (Pair operator a b) c t =
+    operator_bit operator (signal_bit c a 0 t) (signal_bit c b 0 t)
+formula_bit (BitSelect a k) c t = signal_bit c a k t
 
 -- a signal of one bit in the scopes of the first operand, with one word as its name
 abbrev pub derived_signal : List ℕ → Rule → Contents → SignalContents
 derived_signal word rule c = record {
-  scopes = (signal_at c (first_operand rule)).scopes;
+  scopes = (signal_at c (first_operand (formula rule))).scopes;
   kind = codes "wire";
   words = word ∷ [];
   width = 1;
-  changes = changes_of 1 c.end (λ t. rule_bit rule c t ∷ []);
+  changes = changes_of 1 c.end (λ t. formula_bit (formula rule) c t ∷ []);
 }
 
 -- ---- all edits

@@ -1,8 +1,7 @@
 //! The edits of a capture, as data.
 
 ghost use Rattle.std.specs.Prelude.{◌≡◌};
-ghost use Rattle.vcd_edit.specs.Effect.{first_operand};
-ghost use Rattle.vcd_edit.specs.inside.Derived.{last_operand, has_two_operands};
+ghost use Rattle.vcd_edit.specs.Effect.{formula, first_operand};
 
 use vcd_core::Value;
 
@@ -74,34 +73,50 @@ pub enum Rule {
     BitOf(usize, u64),
 }
 
+/// An operator on two bits, by the tables of IEEE 1364-2005, 5.1.10.
+#[derive(Clone, Copy)]
+pub(crate) enum Operator {
+    /// `&`.
+    And,
+    /// `|`.
+    Or,
+    /// `^`.
+    Xor,
+}
+
+/// What a rule computes. All rules with two operands have one form.
+#[derive(Clone, Copy)]
+pub(crate) enum Formula {
+    /// `~` of a signal of one bit.
+    Negation(usize),
+    /// An operator on two signals of one bit.
+    Pair(Operator, usize, usize),
+    /// One bit of a signal.
+    BitSelect(usize, u64),
+}
+
 impl Rule {
-    /// The position of the last operand, which may be the only one.
-    pub(crate) fn last_operand(self) -> usize
-        ensures { result ≡ last_operand self }
+    /// What the rule computes.
+    pub(crate) fn formula(self) -> Formula
+        ensures { result ≡ formula self }
     {
         match self {
-            Rule::And(_, b) | Rule::Or(_, b) | Rule::Xor(_, b) => b,
-            Rule::Not(a) | Rule::BitOf(a, _) => a,
+            Rule::Not(a) => Formula::Negation(a),
+            Rule::And(a, b) => Formula::Pair(Operator::And, a, b),
+            Rule::Or(a, b) => Formula::Pair(Operator::Or, a, b),
+            Rule::Xor(a, b) => Formula::Pair(Operator::Xor, a, b),
+            Rule::BitOf(a, k) => Formula::BitSelect(a, k),
         }
     }
+}
 
-    /// Whether there are two operands.
-    pub(crate) fn has_two_operands(self) -> bool
-        ensures { result ≡ has_two_operands self }
-    {
-        match self {
-            Rule::And(_, _) | Rule::Or(_, _) | Rule::Xor(_, _) => true,
-            Rule::Not(_) | Rule::BitOf(_, _) => false,
-        }
-    }
-
+impl Formula {
     /// The position of the first operand.
     pub(crate) fn first_operand(self) -> usize
         ensures { result ≡ first_operand self }
     {
         match self {
-            Rule::Not(a) | Rule::And(a, _) | Rule::Or(a, _) | Rule::Xor(a, _) | Rule::BitOf(a, _) =>
-                a,
+            Formula::Negation(a) | Formula::Pair(_, a, _) | Formula::BitSelect(a, _) => a,
         }
     }
 }

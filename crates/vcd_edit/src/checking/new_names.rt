@@ -84,6 +84,6 @@ fn is_derived_name_taken(capture: &Capture, word: &[u8], rule: Rule) -> bool
         (full_names (contents capture.now).signals) }
 {
     let signals = capture.signals();
-    let scopes = signals[rule.first_operand()].scopes.as_slice();
+    let scopes = signals[rule.formula().first_operand()].scopes.as_slice();
     FullName::new(scopes, word, &[]).is_taken(signals)
 }

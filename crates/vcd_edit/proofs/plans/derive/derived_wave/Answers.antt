@@ -1,25 +1,35 @@
-use Rattle.std.proofs.Common.{◌≡◌, [], ◌∷◌, sym, ◌∙◌}
-use Rattle.vcd_core.specs.WaveView.{WaveView}
-use Rattle.vcd_core.specs.Wave.{value_at, changes_of}
-use Rattle.vcd_edit.specs.inside.Derived.{rule_bit_of_values}
-use Rattle.vcd_edit.proofs.EditPlans.{at_ok}
-use Rattle.vcd_edit.proofs.DerivedWaves.{alone_changes}
+use Rattle.std.proofs.Common.{IfOk, sym, subst}
+use Rattle.vcd_core.specs.Value.{letter_at}
+use Rattle.vcd_core.specs.Contents.{Contents, SignalContents, contents, signal_value}
+use Rattle.vcd_edit.specs.declared.edit.Formula.{Formula}
+use Rattle.vcd_edit.specs.Operators.{not_bit, operator_bit}
+use Rattle.vcd_edit.specs.Effect.{formula_bit}
+use Rattle.vcd_edit.specs.inside.Derived.{HasBitsUpTo}
 use Rattle.vcd_edit.proofs.plans.derive.derived_wave.Goals as goal
 
-pub returns : goal.returns
-returns c = λ end first last.
-    let a = c.args.first.now in
-    let b = c.args.last.now in
-    at_ok c.wave_of_one.result
-    (λ (w : WaveView). (w.width ≡ 1)
-    × (w.changes ≡ changes_of 1 end
-    (λ t. rule_bit_of_values c.args.rule (value_at a.width a.changes t) (value_at a.width a.changes t) ∷ [])))
-    (λ (w : WaveView). (w.width ≡ 1)
-    × (w.changes ≡ changes_of 1 end
-    (λ t. rule_bit_of_values c.args.rule (value_at a.width a.changes t) (value_at b.width b.changes t) ∷ [])))
-    (λ w told. (
-      told.0,
-      told.1
-          ∙ alone_changes c.args.rule a b (sym c.has_two_operands.ensures ∙ c.if-has_two_operands.false) end,
-    ))
-    (c.wave_of_one.ensures end first)
+pub returns-in-Negation : goal.returns-in-Negation
+returns-in-Negation c =
+    let d : Contents = contents c.args.capture.now in
+    subst (λ (f : Formula). IfOk c.wave_of_one.result (HasBitsUpTo d.end (formula_bit f d))) (sym c.in-Negation.is)
+    (subst (λ (s : SignalContents). IfOk c.wave_of_one.result
+    (HasBitsUpTo d.end (λ t. not_bit (letter_at (signal_value s t) 0)))) (sym c.signal_at.ensures.signal)
+    (c.wave_of_one.ensures d.end c.signal_at.ensures.sound.ticks))
+
+pub returns-in-BitSelect : goal.returns-in-BitSelect
+returns-in-BitSelect c =
+    let d : Contents = contents c.args.capture.now in
+    let r = c.wave_of_one-in-BitSelect.result in
+    subst (λ (f : Formula). IfOk r (HasBitsUpTo d.end (formula_bit f d))) (sym c.in-BitSelect.is)
+    (subst (λ (s : SignalContents). IfOk r (HasBitsUpTo d.end (λ t. letter_at (signal_value s t) c.in-BitSelect.k)))
+    (sym c.signal_at-in-BitSelect.ensures.signal)
+    (c.wave_of_one-in-BitSelect.ensures d.end c.signal_at-in-BitSelect.ensures.sound.ticks))
+
+pub returns-in-Pair : goal.returns-in-Pair
+returns-in-Pair c =
+    let d : Contents = contents c.args.capture.now in
+    let r = c.wave_of_two.result in
+    subst (λ (f : Formula). IfOk r (HasBitsUpTo d.end (formula_bit f d))) (sym c.in-Pair.is)
+    (subst (λ (ss : SignalContents × SignalContents). IfOk r (HasBitsUpTo d.end
+    (λ t. operator_bit c.in-Pair.operator (letter_at (signal_value ss.0 t) 0) (letter_at (signal_value ss.1 t) 0))))
+    (λ i. (sym c.signal_at-in-Pair.ensures.signal i, sym c.signal_at-in-Pair-2.ensures.signal i))
+    (c.wave_of_two.ensures d.end c.signal_at-in-Pair.ensures.sound.ticks c.signal_at-in-Pair-2.ensures.sound.ticks))
