@@ -3,7 +3,7 @@ use Rattle.std.proofs.Common.{◌≡◌, Bool, true, false, suc, append_assoc, l
 use Rattle.std.proofs.Common.{◌+◌, ◌*◌, slice_index_or}
 use Rattle.std.proofs.Common.{◌<◌, ◌≤◌, List, [], ◌∷◌, ◌++◌, length, get_or, take, drop, map, refl, sym, ap, ◌∙◌}
 use Rattle.std.proofs.Common.{append-nil, arith}
-use Rattle.std.specs.List.{concat, flat_map, list_any}
+use Rattle.std.specs.List.{concat, list_any}
 use Rattle.std.proofs.lemmas.Slice.Eq.{bytes_eq-Decides}
 use Rattle.std.specs.Str.{bytes_eq}
 use Rattle.std.proofs.lemmas.List.{take_all, get_or-append-add, length-drop, take-append-drop}
@@ -12,8 +12,7 @@ use Rattle.vcd_core.specs.declared.capture.Signal.{Signal}
 use Rattle.vcd_core.specs.declared.full_name.FullName.{FullName}
 use Rattle.vcd_core.specs.Contents.{signal_contents}
 use Rattle.vcd_core.specs.Names.{name_in, scope_text, full_name, full_names}
-use Rattle.vcd_core.specs.FullName.{bytes_after, name_bytes}
-use Rattle.vcd_core.specs.inside.EndKeys.{dotted_scope}
+use Rattle.vcd_core.specs.FullName.{name_bytes}
 use Rattle.vcd_core.specs.inside.NameParts.{IsDrained}
 
 -- a name in no scope is its words, run together
@@ -82,22 +81,6 @@ name_in_ends (scope ∷ scopes) words =
       name_in-scope scope scopes words ∙ ap (λ l. scope_text scope ++ 46 ∷ l) rest.1
           ∙ sym (append_assoc (scope_text scope) (46 ∷ rest.0) (concat words)),
     )
-
--- a name in scopes is the dotted names of these and its words
-pub name_in_dotted : (scopes : List ScopeName) (words : List (List ℕ))
-    → name_in scopes words ≡ flat_map dotted_scope scopes ++ concat words
-name_in_dotted [] words = name_in-none words
-name_in_dotted (scope ∷ scopes) words =
-    let rest = flat_map dotted_scope scopes in
-    name_in-scope scope scopes words ∙ ap (λ l. scope_text scope ++ 46 ∷ l) (name_in_dotted scopes words)
-    ∙ sym (append_assoc (scope_text scope) (46 ∷ []) (rest ++ concat words))
-    ∙ sym (append_assoc (dotted_scope scope) rest (concat words))
-
--- what follows the current scope
-pub bytes_dotted : (n : FullName) → n.in_scope ≡ true
-    → 46 ∷ (flat_map dotted_scope n.scopes.now ++ (n.first.now ++ (concat n.others.now ++ []))) ≡ bytes_after n
-bytes_dotted n within = rw (within, append-nil)
-    (ap (λ (l : List ℕ). 46 ∷ l) (sym (name_in_dotted n.scopes.now (n.first.now ∷ n.others.now))))
 
 -- what texts that end with these two would say of a test, of these two names
 pub not_the_name : (text name : List ℕ) (r : Bool) → r ≡ false → (text ≡ name → r ≡ true) → false ≡ bytes_eq text name

@@ -1,6 +1,6 @@
 pub mod Decimals
 pub mod FullNames
-pub mod EndKeys
+pub mod TextEnds
 pub mod Lookups
 pub mod EdgeLines
 pub mod EdgeLists

@@ -7,4 +7,4 @@ pub mod EdgeWalk
 pub mod BitEdgeWalk
 pub mod ScopeLists
 pub mod WaveLists
-pub mod EndKeys
+pub mod TextEnds

@@ -1,20 +1,20 @@
 //! Full names, compared byte by byte without building them.
 
 ghost use Rattle.std.specs.Prelude.{◌≡◌, ◌∷◌, MatchOption, [], map};
-ghost use Rattle.std.specs.List.{list_any};
+ghost use Rattle.std.specs.List.{list_any, position};
 ghost use Rattle.std.specs.Str.{bytes_eq};
 ghost use Rattle.vcd_core.specs.Contents.{signal_contents};
 ghost use Rattle.vcd_core.specs.Names.{name_in, full_name, full_names};
 
 use crate::capture::{ScopeName, Signal, Word};
-use crate::end_keys::EndKeys;
+use crate::text_end::TextEnd;
 
 /// A full name: the names of scopes, outermost first, and a name, joined by `.`. Several words of
 /// one name are run together.
 ///
 /// It borrows its parts and is never built. Contracts see its bytes. A comparison takes no memory.
-/// It looks at the keys of the ends first: signals share the beginnings of their names, and most
-/// differ in their words.
+/// A search looks at the ends first: signals share the beginnings of their names, and most differ
+/// in their words.
 #[derive(Clone, Copy)]
 pub struct FullName<'a> {
     /// The rest of the current word.
@@ -33,7 +33,7 @@ pub struct FullName<'a> {
 impl<'a> FullName<'a> {
     ghost use Rattle.std.specs.Prelude.{List, ℕ, ◌++◌};
     ghost use Rattle.vcd_core.specs.FullName.{bytes_after, name_bytes};
-    ghost use Rattle.vcd_core.specs.inside.EndKeys.{AreKeysOf};
+    ghost use Rattle.vcd_core.specs.inside.TextEnds.{text_end};
     ghost use Rattle.vcd_core.specs.inside.NameParts.{IsDrained};
 
     /// The full name in these scopes, outermost first, of a name whose words are `first` and the
@@ -61,8 +61,8 @@ impl<'a> FullName<'a> {
         }
     }
 
-    #[tactic(auto, using(crate::proofs::FullNames::name_steps))]
     /// The full name of a signal.
+    #[tactic(auto, using(crate::proofs::FullNames::name_steps))]
     pub fn of(signal: &'a Signal) -> FullName<'a>
         ensures { name_bytes result ≡ full_name (signal_contents signal.now) }
     {
@@ -73,65 +73,55 @@ impl<'a> FullName<'a> {
         )
     }
 
+    /// A text as a full name.
+    pub fn of_text(text: &'a [u8]) -> FullName<'a>
+        ensures { name_bytes result ≡ text.now }
+    {
+        FullName::new(&[], text, &[])
+    }
+
     /// Whether one of the signals has this full name.
     pub fn is_taken(&self, signals: &[Signal]) -> bool
         ensures { result ≡ list_any (bytes_eq (name_bytes self.now))
             (full_names (map signal_contents signals.now)) }
     {
-        let keys = self.end_keys();
-        signals.iter().any(|signal| self.is_name_of(signal, &keys))
+        let end = self.end();
+        signals.iter().any(|signal| self.is_name_of(signal, end))
     }
 
-    /// Whether this is the full name of a signal, given its keys.
-    fn is_name_of(&self, signal: &Signal, keys: &EndKeys) -> bool
-        ensures { AreKeysOf keys.now (name_bytes self.now) →
+    /// The position of the first of the signals with this full name.
+    pub fn position_in(&self, signals: &[Signal]) -> Option<usize>
+        ensures { result ≡ position (λ s. bytes_eq (name_bytes self.now)
+            (full_name (signal_contents s))) signals.now }
+    {
+        let end = self.end();
+        signals
+            .iter()
+            .position(|signal| self.is_name_of(signal, end))
+    }
+
+    /// Whether this is the full name of a signal, given its end.
+    fn is_name_of(&self, signal: &Signal, end: TextEnd) -> bool
+        ensures { end ≡ text_end (name_bytes self.now) →
             result ≡ bytes_eq (name_bytes self.now) (full_name (signal_contents signal.now)) }
     {
-        keys.may_end_with(signal.words.key()) && self.has_same_bytes(FullName::of(signal))
+        end.may_end_with(signal.words.end()) && self.has_same_bytes(FullName::of(signal))
     }
 
-    /// The keys of the name and its ends.
-    fn end_keys(&self) -> EndKeys
-        ensures { AreKeysOf result (name_bytes self.now) }
-    {
-        let mut keys = self.keys_after();
-        keys.prepend_words(self.words);
-        keys.prepend(self.text);
-        keys
-    }
-
-    /// The keys of what follows the current scope or name, and of its ends.
-    fn keys_after(&self) -> EndKeys
-        ensures { AreKeysOf result (bytes_after self.now) }
-    {
-        let mut keys = EndKeys::new();
-        if !self.in_scope {
-            return keys;
-        }
-        keys.prepend_words(self.others);
-        keys.prepend(self.first);
-        keys.prepend_scopes(self.scopes);
-        keys.prepend(b".");
-        keys
-    }
-
-    /// Whether these are the bytes of the name.
-    pub fn is_text(self, text: &[u8]) -> bool
-        ensures { result ≡ bytes_eq text.now (name_bytes self.entry) }
+    /// The end of the name.
+    pub(crate) fn end(self) -> TextEnd
+        ensures { result ≡ text_end (name_bytes self.entry) }
     {
         let mut name = self;
-        let mut rest = text;
-        while let [byte, following @ ..] = rest {
-            if name.next_byte() != Some(*byte) {
-                return false;
-            }
-            rest = following;
+        let mut end = TextEnd::new();
+        while let Some(byte) = name.next_byte() {
+            end = end.with_byte(byte);
         }
-        name.next_byte().is_none()
+        end
     }
 
     /// Whether both have the same bytes.
-    fn has_same_bytes(self, other: FullName) -> bool
+    pub(crate) fn has_same_bytes(self, other: FullName) -> bool
         ensures { result ≡ bytes_eq (name_bytes self.entry) (name_bytes other.entry) }
     {
         let mut mine = self;

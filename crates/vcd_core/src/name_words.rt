@@ -2,34 +2,35 @@
 
 ghost use Rattle.std.specs.Prelude.{◌≡◌, ◌==◌, ◌∷◌, ◌<◌, drop, length, slice_index_or};
 ghost use Rattle.std.specs.List.{concat};
-ghost use Rattle.vcd_core.specs.inside.EndKeys.{text_key};
+ghost use Rattle.vcd_core.specs.inside.TextEnds.{text_end};
 
 use crate::capture::Word;
-use crate::end_keys::{TextKey, words_key};
+use crate::full_name::FullName;
 use crate::seq::Seq;
+use crate::text_end::TextEnd;
 use std::marker::Model;
 use std::mem::replace;
 
 /// The words of a signal's name. Contracts see their list.
 ///
-/// It keeps a number made of them, so that a look-up passes most signals by with one look at each,
-/// and none at their words.
+/// It keeps their end, so that a look-up passes most signals by with one look at each, and none at
+/// their words.
 #[derive(Drop)]
 pub struct NameWords {
     words: Seq<Word>,
-    key: TextKey,
+    end: TextEnd,
 }
 
 impl Model for NameWords {
     ghost use Rattle.std.specs.Prelude.{◌≡◌, ℕ, List};
     ghost use Rattle.std.specs.List.{concat};
-    ghost use Rattle.vcd_core.specs.inside.EndKeys.{text_key};
+    ghost use Rattle.vcd_core.specs.inside.TextEnds.{text_end};
 
     ghost Value = { List (List ℕ) };
 
     ghost view = { λ n. n.words };
 
-    ghost invariant = { λ n. n.key ≡ text_key (concat n.words) };
+    ghost invariant = { λ n. n.end ≡ text_end (concat n.words) };
 }
 
 impl NameWords {
@@ -37,8 +38,8 @@ impl NameWords {
     pub fn new(words: Seq<Word>) -> NameWords
         ensures { result ≡ words }
     {
-        let key = words_key(words.as_slice());
-        NameWords { words, key }
+        let end = end_of_words(words.as_slice());
+        NameWords { words, end }
     }
 
     /// The words, lent.
@@ -55,11 +56,18 @@ impl NameWords {
         self.words.is_empty()
     }
 
-    /// The key of the words, run together.
-    pub(crate) fn key(&self) -> TextKey
-        ensures { result ≡ text_key (concat self.now) }
+    /// The words. It takes no memory.
+    pub fn into_words(self) -> Seq<Word>
+        ensures { result ≡ self }
     {
-        self.key
+        self.words
+    }
+
+    /// The end of the words, run together.
+    pub(crate) fn end(&self) -> TextEnd
+        ensures { result ≡ text_end (concat self.now) }
+    {
+        self.end
     }
 
     /// Puts a word in the place of the first, and gives that back. It takes no memory.
@@ -69,7 +77,14 @@ impl NameWords {
         ensures first { result ≡ slice_index_or self.old 0 result }
     {
         let first = replace(self.words.item_mut(0), word);
-        self.key = words_key(self.words.as_slice());
+        self.end = end_of_words(self.words.as_slice());
         first
     }
+}
+
+/// The end of the words of a name, run together.
+fn end_of_words(words: &[Word]) -> TextEnd
+    ensures { result ≡ text_end (concat words.now) }
+{
+    FullName::new(&[], &[], words).end()
 }

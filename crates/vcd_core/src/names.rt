@@ -1,16 +1,12 @@
 //! Looking up signals by name.
 
 ghost use Rattle.std.specs.Prelude.{◌≡◌, ◌<◌, ◌↔◌, ◌&&◌, IsTrue, Some, None, length, nat_lt, slice_get, if◌then◌else◌};
-ghost use Rattle.std.specs.List.{position};
-ghost use Rattle.std.specs.Str.{bytes_eq};
-ghost use Rattle.vcd_core.specs.Contents.{contents, signal_contents};
+ghost use Rattle.vcd_core.specs.Contents.{contents};
 ghost use Rattle.vcd_core.specs.Decimal.{is_number, number_of};
-ghost use Rattle.vcd_core.specs.Names.{full_name, full_names, is_numbered, number_in, lookup};
-ghost use Rattle.vcd_core.specs.inside.EndKeys.{AreKeysOf};
+ghost use Rattle.vcd_core.specs.Names.{full_names, is_numbered, number_in, lookup};
 
-use crate::capture::{Capture, Signal};
+use crate::capture::Capture;
 use crate::decimal::number_up_to;
-use crate::end_keys::EndKeys;
 use crate::full_name::FullName;
 
 impl Capture {
@@ -21,7 +17,8 @@ impl Capture {
         ensures { IsTrue result ↔
             (slice_get (full_names (contents self.now).signals) k ≡ Some name.now) }
     {
-        has_full_name(&self.signals.as_slice()[k], name)
+        let signal = &self.signals.as_slice()[k];
+        FullName::of_text(name).has_same_bytes(FullName::of(signal))
     }
 
     /// The position of the signal that `name` names. `@` and the position of a signal name that
@@ -32,35 +29,9 @@ impl Capture {
         let signals = self.signals.as_slice();
         match position_in(name, signals.len()) {
             Some(k) => Some(k),
-            None => first_named(signals, name),
+            None => FullName::of_text(name).position_in(signals),
         }
     }
-}
-
-/// The position of the first signal with this full name.
-fn first_named(signals: &[Signal], name: &[u8]) -> Option<usize>
-    ensures { result ≡
-        position (λ s. bytes_eq name.now (full_name (signal_contents s))) signals.now }
-{
-    let keys = EndKeys::of(name);
-    signals
-        .iter()
-        .position(|signal| is_named(signal, name, &keys))
-}
-
-/// Whether a signal has this full name, given the keys of the name.
-fn is_named(signal: &Signal, name: &[u8], keys: &EndKeys) -> bool
-    ensures { AreKeysOf keys.now name.now →
-        result ≡ bytes_eq name.now (full_name (signal_contents signal.now)) }
-{
-    keys.may_end_with(signal.words.key()) && has_full_name(signal, name)
-}
-
-/// Whether a signal has this full name.
-fn has_full_name(signal: &Signal, name: &[u8]) -> bool
-    ensures { result ≡ bytes_eq name.now (full_name (signal_contents signal.now)) }
-{
-    FullName::of(signal).is_text(name)
 }
 
 /// The position that a name gives as `@` and a decimal number, if it is below `count`.

@@ -1,6 +1,6 @@
 //! The scopes of a signal, in memory that the signals of one scope share.
 
-ghost use Rattle.std.specs.Prelude.{◌≡◌, ◌≤◌, IfOk, length, take};
+ghost use Rattle.std.specs.Prelude.{◌≡◌, ◌≤◌, IfOk, MatchResult, length, take};
 
 use crate::capture::ScopeName;
 use crate::copies::copy_scopes;
@@ -84,6 +84,25 @@ impl ScopePath {
             }
             ScopeList::Shared(scopes) => Ok(ScopePath {
                 list: ScopeList::Shared(scopes.clone()?),
+                count,
+            }),
+        }
+    }
+
+    /// The scopes, outermost first, if no other path can share them; otherwise the path as it is.
+    /// It takes no memory.
+    pub fn into_vec(self) -> Result<Vec<ScopeName>, ScopePath>
+        ensures { MatchResult result (λ scopes. scopes.items ≡ self) (λ path. path ≡ self) }
+    {
+        let ScopePath { list, count } = self;
+        match list {
+            ScopeList::Own(own) => {
+                let mut scopes = own;
+                scopes.truncate(count);
+                Ok(scopes)
+            }
+            ScopeList::Shared(shared) => Err(ScopePath {
+                list: ScopeList::Shared(shared),
                 count,
             }),
         }

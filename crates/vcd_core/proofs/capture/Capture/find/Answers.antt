@@ -1,3 +1,8 @@
+use Rattle.std.proofs.Common.{◌≡◌, List, ℕ, subst}
+use Rattle.std.specs.List.{position}
+use Rattle.std.specs.Str.{bytes_eq}
+use Rattle.vcd_core.specs.Contents.{signal_contents}
+use Rattle.vcd_core.specs.Names.{full_name}
 use Rattle.vcd_core.proofs.Lookups.{lookup_numbered, lookup_named}
 use Rattle.vcd_core.proofs.capture.Capture.find.Goals as goal
 
@@ -9,5 +14,8 @@ returns-in-Some c =
 pub returns-in-None : goal.returns-in-None
 returns-in-None c =
     let given = rw c.as_slice-signals.ensures at c.in-None.ensures in
-    let first = rw c.as_slice-signals.ensures at c.first_named.ensures in
-    lookup_named c.args.self.now.signals c.args.name.now c.first_named.result given first
+    let named = subst (λ (name : List ℕ). c.position_in-in-None.result
+    ≡ position (λ s. bytes_eq name (full_name (signal_contents s))) c.as_slice-signals.result.now)
+    c.of_text.ensures c.position_in-in-None.ensures in
+    let first = rw c.as_slice-signals.ensures at named in
+    lookup_named c.args.self.now.signals c.args.name.now c.position_in-in-None.result given first
