@@ -19,8 +19,8 @@ use Rattle.vcd_journal.specs.declared.step.StepError.TheVariants as refusals
 use Rattle.vcd_journal.specs.declared.step.Answer.{Answer}
 use Rattle.vcd_journal.specs.declared.step.Answer.TheVariants.{Done, Refused}
 use Rattle.vcd_journal.specs.Machine.{Machine, initial_machine, step_outcome, accepted_outcome, refused_outcome}
-use Rattle.vcd_journal.specs.InForce.{edits_of_steps, edits_after_all, earlier_replays, later_replays}
-use Rattle.vcd_journal.specs.History.{replay}
+use Rattle.vcd_journal.specs.HistoryMachine.{history_after_all, earlier_replays, later_replays}
+use Rattle.vcd_journal.specs.History.{initial_history, replay}
 
 -- ---- renames of one signal
 
@@ -128,10 +128,15 @@ their_answers = Done ∷ Done ∷ Done ∷ Done ∷ Refused refusals.DepthTooSma
 
 -- a rename stays in force after the history has dropped its capture
 still_in_force :
-    ((edits_of_steps three_renames their_answers).edits ≡ rename (codes "b") ∷ [])
-    × ((edits_of_steps three_renames their_answers).undone ≡ rename (codes "c") ∷ rename (codes "d") ∷ [])
-unfolding edits_after_all
-still_in_force = (refl, refl)
+    history_after_all (initial_history 2) three_renames their_answers
+    ≡ record {
+      edits = rename (codes "b") ∷ [];
+      undone = rename (codes "c") ∷ rename (codes "d") ∷ [];
+      undoable = 0;
+      depth = 3;
+    }
+unfolding history_after_all
+still_in_force = refl
 
 -- the replays of the edits in force on the first capture, earlier and later
 replays_of_three :

@@ -1,159 +1,179 @@
--- The replay law: the machine holds the results of the edits in force on the first capture.
-use Rattle.std.proofs.Common.{◌≡◌, ◌-◌, ℕ, zero, suc, Bool, true, false, if◌then◌else◌, List, [], ◌∷◌, length, take}
-use Rattle.std.proofs.Common.{Option, Some, None, sym, ap, subst, refl, inl, inr}
-use Rattle.std.specs.Prelude.{nat_lt, not}
+-- The replay law: after each step the machine is that of the history.
+use Rattle.std.proofs.Common.{◌≡◌, ◌≤◌, ◌+◌, ◌-◌, ℕ, zero, suc, Bool, true, false, if◌then◌else◌, List, [], ◌∷◌}
+use Rattle.std.proofs.Common.{length, take, Option, Some, None, sym, ap, subst, refl, inl, inr, ◌∙◌, arith}
+use Rattle.std.specs.Prelude.{nat_lt, not, min}
+use Rattle.std.proofs.lemmas.List.{length-take}
 use Rattle.vcd_core.specs.Contents.{Contents}
 use Rattle.vcd_edit.specs.declared.edit.Edit.{Edit}
 use Rattle.vcd_edit.specs.declared.fault.EditError.{EditError}
-use Rattle.vcd_edit.specs.Effect.{effect}
 use Rattle.vcd_edit.specs.EditFaults.{edit_fault}
 use Rattle.vcd_journal.specs.declared.step.Step.{Step}
 use Rattle.vcd_journal.specs.declared.step.Step.TheVariants as steps
 use Rattle.vcd_journal.specs.declared.step.StepError.TheVariants as refusals
 use Rattle.vcd_journal.specs.declared.step.Answer.{Answer}
+use Rattle.vcd_journal.specs.History.{History, initial_history, replay, is_depth}
 use Rattle.vcd_journal.specs.Machine.{Machine, StepOutcome, initial_machine, machine_after_depth, accepted_outcome}
 use Rattle.vcd_journal.specs.Machine.{refused_outcome, edit_outcome, undo_outcome, redo_outcome, step_outcome}
 use Rattle.vcd_journal.specs.Machine.{memory_refusal, IsStep, AreSteps}
-use Rattle.vcd_journal.specs.InForce.{EditLists, edits_after, edits_after_all, earlier_replays, later_replays}
-use Rattle.vcd_journal.specs.History.{replay, is_depth}
-use Rattle.vcd_journal.specs.InForce.{IsReplay}
+use Rattle.vcd_journal.specs.HistoryMachine.{earlier_replays, later_replays, machine_of, history_after_answer}
+use Rattle.vcd_journal.specs.HistoryMachine.{history_after_all}
 use Rattle.vcd_journal.specs.Laws.{SessionIsReplay}
 
--- each capture of the past is the replay of the edits before one in force, the last first
-abbrev pub PastFollows : Contents → List Edit → List Contents → Type 0
-PastFollows c es [] = Unit {0}
-PastFollows c [] (held ∷ older) = ⊥
-PastFollows c (e ∷ es) (held ∷ older) = (held ≡ replay c es) × PastFollows c es older
+-- the machine is that of the history, in which no more edits can be undone than are in force
+pub record IsMachineOf (c : Contents) (h : History) (m : Machine) : Type 0 where
+  pub is : m ≡ machine_of c h
+  pub undoable : h.undoable ≤ length h.edits
 
--- each capture of the future is the replay with one more of the undone edits
-abbrev pub FutureFollows : Contents → List Edit → List Edit → List Contents → Type 0
-FutureFollows c es [] [] = Unit {0}
-FutureFollows c es [] (next ∷ later) = ⊥
-FutureFollows c es (u ∷ undone) [] = ⊥
-FutureFollows c es (u ∷ undone) (next ∷ later) = (next ≡ replay c (u ∷ es))
-    × FutureFollows c (u ∷ es) undone later
+-- ---- how many captures are held
 
--- the machine holds what the edit lists make of the first capture
-pub record Follows (c : Contents) (t : EditLists) (m : Machine) : Type 0 where
-  pub now : m.now ≡ replay c t.edits
-  pub past : PastFollows c t.edits m.past
-  pub future : FutureFollows c t.edits t.undone m.future
+pub earlier_count : (c : Contents) (es : List Edit) → length (earlier_replays c es) ≡ length es
+unfolding earlier_replays
+earlier_count c [] = refl
+earlier_count c (e ∷ es) = ap suc (earlier_count c es)
 
-pub past_taken : (c : Contents) (n : ℕ) (es : List Edit) (past : List Contents) → PastFollows c es past
-    → PastFollows c es (take n past)
-past_taken c zero es past h = tt
-past_taken c (suc n) es [] h = tt
-past_taken c (suc n) [] (held ∷ older) h = absurd h
-past_taken c (suc n) (e ∷ es) (held ∷ older) h = (h.0, past_taken c n es older h.1)
+pub past_count : (c : Contents) (h : History) → h.undoable ≤ length h.edits → length (machine_of c h).past ≡ h.undoable
+past_count c h within =
+    let taken = length-take h.undoable (earlier_replays c h.edits) in
+    let all = earlier_count c h.edits in
+    omega (arith, taken, all, within)
+
+pub future_count : (c : Contents) (es undone : List Edit) → length (later_replays c es undone) ≡ length undone
+unfolding later_replays
+future_count c es [] = refl
+future_count c es (u ∷ undone) = ap suc (future_count c (u ∷ es) undone)
 
 -- ---- the outcome of each step with enough memory
 
-pub edit_follows : (c : Contents) (t : EditLists) (m : Machine) (e : Edit) (found : Option EditError) → Follows c t m
-    → Follows c (edits_after t (steps.Edit e) (edit_outcome found e m).answer) (edit_outcome found e m).after
-unfolding replay
-edit_follows c t m e None f = record {
-  now = ap (effect e) f.now;
-  past = past_taken c m.depth (e ∷ t.edits) (m.now ∷ m.past) (f.now, f.past);
-  future = tt;
-}
-edit_follows c t m e (Some found) f = f
+-- a history of these edits
+abbrev history_of : (es undone : List Edit) (undoable depth : ℕ) → History
+history_of es undone undoable depth = record { edits = es; undone = undone; undoable = undoable; depth = depth }
 
-pub undo_follows : (c : Contents) (es undone : List Edit) (m : Machine) (past : List Contents)
-    → PastFollows c es past →
-    Follows c (record { edits = es; undone = undone }) m →
-    Follows c (edits_after (record { edits = es; undone = undone }) steps.Undo
-    (undo_outcome past m).answer) (undo_outcome past m).after
-undo_follows c es undone m [] p f = f
-undo_follows c [] undone m (held ∷ older) p f = absurd p
-undo_follows c (e ∷ es) undone m (held ∷ older) p f = record { now = p.0; past = p.1; future = (f.now, f.future) }
+-- the outcome of a step on the machine of a history is the machine of the history after it
+abbrev Follows : Contents → History → Step → StepOutcome → Type 0
+Follows c h s o = IsMachineOf c (history_after_answer h s o.answer) o.after
 
-pub redo_follows : (c : Contents) (es undone : List Edit) (m : Machine) (future : List Contents)
-    → FutureFollows c es undone future →
-    Follows c (record { edits = es; undone = undone }) m →
-    Follows c (edits_after (record { edits = es; undone = undone }) steps.Redo
-    (redo_outcome future m).answer) (redo_outcome future m).after
-redo_follows c es undone m [] p f = f
-redo_follows c es [] m (next ∷ later) p f = absurd p
-redo_follows c es (u ∷ undone) m (next ∷ later) p f = record { now = p.0; past = (f.now, f.past); future = p.1 }
+taken_twice : (m n : ℕ) (cs : List Contents) → take m (take n cs) ≡ take (min m n) cs
+taken_twice zero n cs = let none : 0 ≡ min 0 n = omega arith in ap (λ k. take k cs) none
+taken_twice (suc m) zero cs = let none : 0 ≡ min (suc m) 0 = omega arith in ap (λ k. take k cs) none
+taken_twice (suc m) (suc n) [] =
+    let none : List Contents = [] in
+    let one_more : suc (min m n) ≡ min (suc m) (suc n) = omega arith in
+    ap (λ k. take k none) one_more
+taken_twice (suc m) (suc n) (c ∷ cs) =
+    let one_more : suc (min m n) ≡ min (suc m) (suc n) = omega arith in
+    ap (λ (r : List Contents). c ∷ r) (taken_twice m n cs) ∙ ap (λ k. take k (c ∷ cs)) one_more
+
+edit_follows : (c : Contents) (h : History) (e : Edit) (found : Option EditError) → h.undoable ≤ length h.edits
+    → Follows c h (steps.Edit e) (edit_outcome found e (machine_of c h))
+unfolding replay earlier_replays later_replays
+edit_follows c h e None within =
+    let one_more : suc h.undoable ≡ h.undoable + 1 = omega arith in
+    let kept : take h.depth (replay c h.edits ∷ take h.undoable (earlier_replays c h.edits))
+    ≡ take (min h.depth (h.undoable + 1)) (replay c h.edits ∷ earlier_replays c h.edits) =
+    taken_twice h.depth (suc h.undoable) (replay c h.edits ∷ earlier_replays c h.edits)
+    ∙ ap (λ n. take (min h.depth n) (replay c h.edits ∷ earlier_replays c h.edits)) one_more in
+    record {
+      is = λ i. record { past = kept i; now = replay c (e ∷ h.edits); future = []; depth = h.depth };
+      undoable = omega (arith, within);
+    }
+edit_follows c h e (Some fault) within = record { is = refl; undoable = within }
+
+undo_follows : (c : Contents) (es undone : List Edit) (undoable depth : ℕ) → undoable ≤ length es →
+    let h = history_of es undone undoable depth in
+    Follows c h steps.Undo (undo_outcome (take undoable (earlier_replays c es)) (machine_of c h))
+unfolding replay earlier_replays later_replays
+undo_follows c es undone zero depth within = record { is = refl; undoable = within }
+undo_follows c [] undone (suc undoable) depth within = absurd (omega (arith, within))
+undo_follows c (e ∷ es) undone (suc undoable) depth within =
+    let one_less : undoable ≡ suc undoable - 1 = omega arith in
+    record {
+      is = λ i. record {
+        past = take (one_less i) (earlier_replays c es);
+        now = replay c es;
+        future = later_replays c es (e ∷ undone);
+        depth = depth;
+      };
+      undoable = omega (arith, within);
+    }
+
+redo_follows : (c : Contents) (es undone : List Edit) (undoable depth : ℕ) → undoable ≤ length es →
+    let h = history_of es undone undoable depth in
+    Follows c h steps.Redo (redo_outcome (later_replays c es undone) (machine_of c h))
+unfolding replay earlier_replays later_replays
+redo_follows c es [] undoable depth within = record { is = refl; undoable = within }
+redo_follows c es (u ∷ undone) undoable depth within =
+    let one_more : suc undoable ≡ undoable + 1 = omega arith in
+    record {
+      is = λ i. record {
+        past = take (one_more i) (replay c es ∷ earlier_replays c es);
+        now = replay c (u ∷ es);
+        future = later_replays c (u ∷ es) undone;
+        depth = depth;
+      };
+      undoable = omega (arith, within);
+    }
 
 -- another depth, for either result of the two tests
 abbrev pub depth_choice : ℕ → Machine → Bool → Bool → StepOutcome
 depth_choice depth m bad small = if bad then refused_outcome refusals.BadDepth m
     else (if small then refused_outcome refusals.DepthTooSmall m else accepted_outcome (machine_after_depth depth m))
 
-pub depth_follows : (c : Contents) (t : EditLists) (m : Machine) (depth : ℕ) (bad small : Bool) → Follows c t m →
-    Follows c (edits_after t (steps.Depth depth) (depth_choice depth m bad small).answer)
-    (depth_choice depth m bad small).after
-depth_follows c t m depth true small f = f
-depth_follows c t m depth false true f = f
-depth_follows c t m depth false false f = record {
-  now = f.now;
-  past = past_taken c (depth - length m.future) t.edits m.past f.past;
-  future = f.future;
-}
+depth_follows : (c : Contents) (h : History) (depth : ℕ) (bad small : Bool) → h.undoable ≤ length h.edits
+    → Follows c h (steps.Depth depth) (depth_choice depth (machine_of c h) bad small)
+depth_follows c h depth true small within = record { is = refl; undoable = within }
+depth_follows c h depth false true within = record { is = refl; undoable = within }
+depth_follows c h depth false false within =
+    let now = replay c h.edits in
+    let future = later_replays c h.edits h.undone in
+    let kept : take (depth - length future) (take h.undoable (earlier_replays c h.edits))
+    ≡ take (min (depth - length h.undone) h.undoable) (earlier_replays c h.edits) =
+    taken_twice (depth - length future) h.undoable (earlier_replays c h.edits)
+    ∙ ap (λ n. take (min (depth - n) h.undoable) (earlier_replays c h.edits)) (future_count c h.edits h.undone) in
+    record {
+      is = λ i. record { past = kept i; now = now; future = future; depth = depth };
+      undoable = omega (arith, within);
+    }
 
-pub outcome_follows : (c : Contents) (t : EditLists) (m : Machine) (s : Step) → Follows c t m
-    → Follows c (edits_after t s (step_outcome m s).answer) (step_outcome m s).after
-outcome_follows c t m (steps.Edit e) f = edit_follows c t m e (edit_fault e m.now) f
-outcome_follows c t m steps.Undo f = undo_follows c t.edits t.undone m m.past f.past f
-outcome_follows c t m steps.Redo f = redo_follows c t.edits t.undone m m.future f.future f
-outcome_follows c t m (steps.Depth depth) f =
-    depth_follows c t m depth (not (is_depth depth)) (nat_lt depth (length m.future)) f
+pub outcome_follows : (c : Contents) (h : History) (s : Step) → h.undoable ≤ length h.edits
+    → Follows c h s (step_outcome (machine_of c h) s)
+outcome_follows c h (steps.Edit e) within = edit_follows c h e (edit_fault e (replay c h.edits)) within
+outcome_follows c h steps.Undo within = undo_follows c h.edits h.undone h.undoable h.depth within
+outcome_follows c h steps.Redo within = redo_follows c h.edits h.undone h.undoable h.depth within
+outcome_follows c h (steps.Depth depth) within =
+    depth_follows c h depth (not (is_depth depth)) (nat_lt depth (length (machine_of c h).future)) within
 
 -- ---- every possible outcome of each step
 
--- a step refused because memory ran out does not change the edit lists
-pub refusal_counts_not : (t : EditLists) (s : Step) → edits_after t s (memory_refusal s) ≡ t
-refusal_counts_not t (steps.Edit e) = refl
-refusal_counts_not t steps.Undo = refl
-refusal_counts_not t steps.Redo = refl
-refusal_counts_not t (steps.Depth depth) = refl
+-- a step refused because memory ran out does not change the history
+refusal_counts_not : (h : History) (s : Step) → history_after_answer h s (memory_refusal s) ≡ h
+refusal_counts_not h (steps.Edit e) = refl
+refusal_counts_not h steps.Undo = refl
+refusal_counts_not h steps.Redo = refl
+refusal_counts_not h (steps.Depth depth) = refl
 
-pub step_follows : (c : Contents) (t : EditLists) (m : Machine) (s : Step) (a : Answer) (n : Machine) → Follows c t m
-    → IsStep m s a n → Follows c (edits_after t s a) n
-step_follows c t m s a n f (inl same) =
-    subst (λ (o : StepOutcome). Follows c (edits_after t s o.answer) o.after) (sym same) (outcome_follows c t m s f)
-step_follows c t m s a n f (inr refused) = rw (refused.answer, refused.unchanged, refusal_counts_not t s) f
+step_follows : (c : Contents) (h : History) (m : Machine) (s : Step) (a : Answer) (n : Machine) → IsMachineOf c h m
+    → IsStep m s a n → IsMachineOf c (history_after_answer h s a) n
+step_follows c h m s a n f (inl same) =
+    let here : record { answer = a; after = n } ≡ step_outcome (machine_of c h) s = same
+    ∙ ap (λ (o : Machine). step_outcome o s) f.is in
+    subst (λ (o : StepOutcome). Follows c h s o) (sym here) (outcome_follows c h s f.undoable)
+step_follows c h m s a n f (inr refused) = rw (refused.answer, refused.unchanged, refusal_counts_not h s) f
 
 -- any steps
-pub run_follows : (c : Contents) (t : EditLists) (m : Machine) (asked : List Step) (answers : List Answer) (n : Machine)
-    → Follows c t m → AreSteps m asked answers n → Follows c (edits_after_all t asked answers) n
-unfolding AreSteps edits_after_all
-run_follows c t m [] [] n f r = subst (Follows c t) (sym r) f
-run_follows c t m [] (a ∷ answers) n f r = absurd r
-run_follows c t m (s ∷ asked) [] n f r = absurd r
-run_follows c t m (s ∷ asked) (a ∷ answers) n f r =
-    run_follows c (edits_after t s a) r.0 asked answers n (step_follows c t m s a r.0 f r.1) r.2
+run_follows : (c : Contents) (h : History) (m : Machine) (asked : List Step) (answers : List Answer) (n : Machine)
+    → IsMachineOf c h m → AreSteps m asked answers n → IsMachineOf c (history_after_all h asked answers) n
+unfolding AreSteps history_after_all
+run_follows c h m [] [] n f r = subst (IsMachineOf c h) (sym r) f
+run_follows c h m [] (a ∷ answers) n f r = absurd r
+run_follows c h m (s ∷ asked) [] n f r = absurd r
+run_follows c h m (s ∷ asked) (a ∷ answers) n f r =
+    run_follows c (history_after_answer h s a) r.0 asked answers n (step_follows c h m s a r.0 f r.1) r.2
 
--- ---- as lists
-
-pub past_is : (c : Contents) (es : List Edit) (past : List Contents) → PastFollows c es past
-    → past ≡ take (length past) (earlier_replays c es)
-unfolding earlier_replays
-past_is c es [] p = refl
-past_is c [] (held ∷ older) p = absurd p
-past_is c (e ∷ es) (held ∷ older) p = let rest = past_is c es older p.1 in λ i. p.0 i ∷ rest i
-
-pub future_is : (c : Contents) (es undone : List Edit) (future : List Contents)
-    → FutureFollows c es undone future → future ≡ later_replays c es undone
-unfolding later_replays
-future_is c es [] [] p = refl
-future_is c es [] (next ∷ later) p = absurd p
-future_is c es (u ∷ undone) [] p = absurd p
-future_is c es (u ∷ undone) (next ∷ later) p = let rest = future_is c (u ∷ es) undone later p.1 in
-    λ i. p.0 i ∷ rest i
-
--- a machine that follows the edit lists is a replay
-pub is_replay : (c : Contents) (t : EditLists) (m : Machine) → Follows c t m → IsReplay c t m
-is_replay c t m f = record {
-  now = f.now;
-  past = past_is c t.edits m.past f.past;
-  future = future_is c t.edits t.undone m.future f.future;
-}
+-- at the beginning no edit is in force
+pub first_follows : (c : Contents) (depth : ℕ) → IsMachineOf c (initial_history depth) (initial_machine c depth)
+unfolding replay earlier_replays later_replays
+first_follows c depth = record { is = refl; undoable = omega arith }
 
 pub session_is_replay : SessionIsReplay
-unfolding replay
 session_is_replay c depth asked answers m r =
-    is_replay c (edits_after_all (record { edits = []; undone = [] }) asked answers) m
-    (run_follows c (record { edits = []; undone = [] }) (initial_machine c depth) asked answers m
-    (record { now = refl; past = tt; future = tt }) r)
+    (run_follows c (initial_history depth) (initial_machine c depth) asked answers m (first_follows c depth) r).is

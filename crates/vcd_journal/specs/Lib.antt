@@ -1,8 +1,8 @@
--- The definitions of vcd_journal: the history of a capture as a machine, and the edits in force.
+-- The definitions of vcd_journal: the history of a capture, and the machine that it stands for.
 pub mod StepErrorNames
 pub mod History
 pub mod Machine
-pub mod InForce
+pub mod HistoryMachine
 pub mod Laws
 pub mod ReachedCaptures
 pub mod inside

@@ -21,11 +21,11 @@ use Rattle.vcdedit.specs.declared.script.command.Command.{Command}
 use Rattle.vcdedit.specs.declared.script.command.Command.TheVariants as commands
 use Rattle.vcdedit.specs.declared.script.line_error.LineError.{LineError}
 use Rattle.vcdedit.specs.WithoutAddress.{edit_without_address, step_without_address, command_without_address}
-use Rattle.vcdedit.specs.Laws.{answer_reply}
+use Rattle.vcdedit.specs.inside.RunMachines.{answer_reply}
 use Rattle.vcdedit.specs.ScriptCommands.{command_of_line}
 use Rattle.vcdedit.specs.Reply.{LineReply, ok_reply}
 use Rattle.vcdedit.specs.Reply.{line_reply, step_reply, edit_reply, command_reply}
-use Rattle.vcdedit.specs.RunMachines.{machine_after_line, machine_after_command}
+use Rattle.vcdedit.specs.inside.RunMachines.{machine_after_line, machine_after_command}
 use Rattle.vcdedit.specs.declared.replies.reply.Reply.{Reply}
 use Rattle.vcdedit.specs.inside.Answering.{is_no_memory, AnswersStep, AnswersCommand, AnswersLine}
 use Rattle.vcdedit.specs.inside.Replies.{IsReplyTo}

@@ -15,7 +15,7 @@ use Rattle.vcdedit.specs.declared.script.command.Command.TheVariants as commands
 use Rattle.vcdedit.specs.declared.script.keyword.Keyword.{Keyword}
 use Rattle.vcdedit.specs.declared.script.keyword.Keyword.TheVariants as keywords
 use Rattle.vcdedit.specs.declared.script.line_error.LineError.{LineError}
-use Rattle.vcdedit.specs.declared.script.line_error.LineError.TheVariants.{UnknownCommand, BadOption, NotScalar}
+use Rattle.vcdedit.specs.declared.script.line_error.LineError.TheVariants.{UnknownCommand, NotScalar}
 use Rattle.vcdedit.specs.ScriptWords.{signal_of_name, number_of_word, distance_of_word, value_of_word}
 use Rattle.vcdedit.specs.LineWords.{◌>>=◌, no_word, one_word, two_words, four_words, five_words, seven_words}
 use Rattle.vcdedit.specs.DecoderWords.{ratio_of_word, parity_of_word, order_of_word, signal_or_absent, one_bit_signal}
@@ -24,7 +24,9 @@ use Rattle.vcdedit.specs.ScriptCommands.{is_comment, keyword_of, rule_of, derive
 use Rattle.vcdedit.specs.ScriptCommands.{command_of_words}
 use Rattle.vcdedit.specs.CommandSignals.{IsScalarAt, HasCommandSignals}
 use Rattle.vcdedit.specs.WithoutAddress.{command_without_address}
-use Rattle.vcdedit.specs.ScriptCommands.{line_words, command_of_line}
+use Rattle.vcdedit.specs.ScriptCommands.{command_of_line}
+use Rattle.vcd_text.specs.Words.{words_of}
+use Rattle.vcd_text.specs.Grammar.{word_texts}
 use Rattle.vcdedit.proofs.NamedSignals.{named_within}
 
 -- a command that is read has its signals
@@ -253,7 +255,7 @@ signals_of_words c (first ∷ arguments) =
 
 signals_of_line : (c : Capture) (line : List ℕ) → GivesSignals (contents c) (command_of_line (contents c) line)
 unfolding command_of_line
-signals_of_line c line = signals_of_words c (line_words line)
+signals_of_line c line = signals_of_words c (word_texts (words_of line))
 
 without_address : (c : Contents) (command : Command) → HasCommandSignals c (command_without_address command)
     → HasCommandSignals c command

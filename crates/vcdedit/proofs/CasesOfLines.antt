@@ -15,7 +15,7 @@ use Rattle.vcdedit.specs.declared.script.line_error.LineError.{LineError}
 use Rattle.vcdedit.specs.declared.script.line_error.LineError.TheVariants.{UnknownCommand, WrongCount, BadNumber}
 use Rattle.vcdedit.specs.declared.script.line_error.LineError.TheVariants.{NoSuchName, BadValueText, BadOption}
 use Rattle.vcdedit.specs.LentBytes.{lent_bytes}
-use Rattle.vcdedit.specs.ScriptCommands.{edit_command, step_command}
+use Rattle.vcdedit.specs.ScriptCommands.{edit_command}
 use Rattle.vcdedit.specs.ScriptCommands.{command_of_line}
 use Rattle.vcdedit.proofs.CasesOfRun.{two_signals}
 
@@ -44,9 +44,9 @@ other_steps : (parsed (codes "cut 3 7") ≡ edit_command (Cut 3 7))
     × (parsed (codes "derive n or @1 @0") ≡ derived_by (Or 1 0))
     × (parsed (codes "derive n xor top.a top.a") ≡ derived_by (Xor 0 0))
     × (parsed (codes "derive n bit top.v 3") ≡ derived_by (BitOf 1 3))
-    × (parsed (codes "undo") ≡ step_command steps.Undo)
-    × (parsed (codes "redo") ≡ step_command steps.Redo)
-    × (parsed (codes "depth 12") ≡ step_command (steps.Depth 12))
+    × (parsed (codes "undo") ≡ Ok (commands.Step steps.Undo))
+    × (parsed (codes "redo") ≡ Ok (commands.Step steps.Redo))
+    × (parsed (codes "depth 12") ≡ Ok (commands.Step (steps.Depth 12)))
     × (parsed (codes "# undo") ≡ Ok commands.Nothing)
 unfolding command_of_line words_from lookup name_in
 other_steps = (refl, refl, refl, refl, refl, refl, refl, refl, refl, refl)

@@ -1,11 +1,12 @@
 -- Worked cases: what `list`, `value` and `changes` ask for, and their replies.
 use Rattle.std.proofs.Common.{◌≡◌, refl}
-use Rattle.std.specs.Prelude.{[], ◌∷◌, Some, Ok, Err, codes}
+use Rattle.std.specs.Prelude.{[], ◌∷◌, Some, Ok, Err, codes, map}
 use Rattle.std.specs.Fmt.{digits}
 use Rattle.vcd_core.specs.declared.capture.TimeUnit.TheVariants.{Nanosecond}
 use Rattle.vcd_core.specs.Wave.{value_from}
 use Rattle.vcd_core.specs.Names.{name_in, lookup}
-use Rattle.vcd_core.specs.Contents.{Contents, signal_at}
+use Rattle.vcd_core.specs.Contents.{Contents, signal_at, signal_value}
+use Rattle.vcd_text.specs.Letters.{printed_letters}
 use Rattle.vcd_text.specs.Words.{words_from}
 use Rattle.vcd_edit.specs.Effect.{effect}
 use Rattle.vcd_edit.specs.EditFaults.{edit_fault}
@@ -13,11 +14,10 @@ use Rattle.vcdedit.specs.declared.script.command.Command.TheVariants as commands
 use Rattle.vcdedit.specs.declared.script.line_error.LineError.TheVariants.{WrongCount, BadNumber, NoSuchName}
 use Rattle.vcdedit.specs.Script.{script_lines}
 use Rattle.vcdedit.specs.ScriptCommands.{command_of_line}
-use Rattle.vcdedit.specs.Queries.{timescale_line, listing}
-use Rattle.vcdedit.specs.WaveReplies.{value_line, change_lines}
+use Rattle.vcdedit.specs.Queries.{timescale_line, listing, change_line}
 use Rattle.vcdedit.specs.Reply.{line_reply}
-use Rattle.vcdedit.specs.RunMachines.{machine_after_line}
-use Rattle.vcdedit.specs.RunOutcomes.{line_replies}
+use Rattle.vcdedit.specs.inside.RunMachines.{machine_after_line}
+use Rattle.vcdedit.specs.inside.RunMachines.{line_replies}
 use Rattle.vcd_journal.specs.Machine.{initial_machine}
 use Rattle.vcd_text.proofs.CasesOfText.{capture, wire, top, from}
 
@@ -51,17 +51,17 @@ unfolding name_in digits
 listed = (refl, refl)
 
 -- before the first change, at a change, and past the end
-values : (value_line (signal_at three 0) 3 ≡ codes "z")
-    × (value_line (signal_at three 0) 4 ≡ codes "1")
-    × (value_line (signal_at three 1) 1 ≡ codes "xxxx")
-    × (value_line (signal_at three 1) 12 ≡ codes "01xz")
-    × (value_line (signal_at three 2) 0 ≡ codes "xx")
+values : (printed_letters (signal_value (signal_at three 0) 3) ≡ codes "z")
+    × (printed_letters (signal_value (signal_at three 0) 4) ≡ codes "1")
+    × (printed_letters (signal_value (signal_at three 1) 1) ≡ codes "xxxx")
+    × (printed_letters (signal_value (signal_at three 1) 12) ≡ codes "01xz")
+    × (printed_letters (signal_value (signal_at three 2) 0) ≡ codes "xx")
 unfolding value_from
 values = (refl, refl, refl, refl, refl)
 
-changed : (change_lines (signal_at three 0).changes ≡ codes "0 z" ∷ codes "4 1" ∷ [])
-    × (change_lines (signal_at three 1).changes ≡ codes "2 01xz" ∷ [])
-    × (change_lines (signal_at three 2).changes ≡ [])
+changed : (map change_line (signal_at three 0).changes ≡ codes "0 z" ∷ codes "4 1" ∷ [])
+    × (map change_line (signal_at three 1).changes ≡ codes "2 01xz" ∷ [])
+    × (map change_line (signal_at three 2).changes ≡ [])
 unfolding digits
 changed = (refl, refl, refl)
 

@@ -1,5 +1,5 @@
 -- Worked cases: what scripts answer and what they write, byte for byte.
-use Rattle.std.proofs.Common.{◌≡◌, ℕ, List, Some, None, Err, false, true, refl, arith}
+use Rattle.std.proofs.Common.{◌≡◌, ℕ, List, Some, None, Err, false, true, refl, subst, arith}
 use Rattle.std.specs.Prelude.{[], ◌∷◌, ◌++◌, codes}
 use Rattle.std.specs.Fmt.{digits}
 use Rattle.vcd_core.specs.Wave.{value_from}
@@ -10,17 +10,16 @@ use Rattle.vcd_text.specs.Letters.{short_form}
 use Rattle.vcd_text.specs.Text.{code_digits, signal_items, tick_items, items_of, text}
 use Rattle.vcd_edit.specs.Effect.{effect}
 use Rattle.vcd_edit.specs.EditFaults.{edit_fault}
+use Rattle.vcd_journal.specs.History.{replay}
 use Rattle.vcdedit.specs.Script.{script_lines}
 use Rattle.vcdedit.specs.ScriptCommands.{command_of_line}
 use Rattle.vcdedit.specs.Reply.{line_reply}
-use Rattle.vcdedit.specs.RunMachines.{machine_after_line, machine_after_lines, refusal_count}
-use Rattle.vcdedit.specs.Run.{RunOutcome}
-use Rattle.vcdedit.specs.RunOutcomes.{line_replies, run_outcome, IsMachineRun}
+use Rattle.vcdedit.specs.Run.{RunOutcome, outcome, IsRun}
 use Rattle.vcdedit.specs.RunEnds.{DeviceEnd, RunEnds}
 use Rattle.vcdedit.specs.declared.running.run_error.RunError.TheVariants as run_errors
 use Rattle.vcdedit.proofs.RunHistories.{run_is}
 use Rattle.vcd_text.proofs.CasesOfFiles.{one_scalar as one_scalar_file, one_scalar_contents, one_scalar_means}
-use Rattle.vcd_text.proofs.CasesOfText.{one_scalar, one_scalar_text, capture, wire, top, from}
+use Rattle.vcd_text.proofs.CasesOfText.{one_scalar_text, capture, wire, top, from}
 
 -- lines end at line feeds, and text after the last one counts if it is not empty
 lines_of_scripts : (script_lines [] ≡ [])
@@ -31,24 +30,24 @@ unfolding script_lines
 lines_of_scripts = (refl, refl, refl, refl)
 
 -- a rename of the only signal
-rename_run : run_outcome (one_scalar (codes "a")) 0 (codes "rename top.a b\n") 100
+rename_run : outcome one_scalar_contents 0 100 (script_lines (codes "rename top.a b\n"))
     ≡ record { replies = codes "ok\n" ∷ []; output = one_scalar_text (codes "b"); refused = 0 }
-unfolding script_lines words_from command_of_line lookup name_in edit_fault effect line_reply machine_after_line
-    machine_after_lines line_replies refusal_count text items_of signal_items code_digits tick_items value_from
-    short_form digits
+unfolding script_lines words_from command_of_line lookup name_in edit_fault effect line_reply replay text items_of
+    signal_items code_digits tick_items value_from short_form digits
 rename_run = refl
 
--- a rename and its undo
-undo_run : run_outcome (one_scalar (codes "a")) 0 (codes "rename top.a b\nundo\n") 100
-    ≡ record { replies = codes "ok\n" ∷ codes "ok\n" ∷ []; output = one_scalar_text (codes "a"); refused = 0 }
-unfolding script_lines words_from command_of_line lookup name_in edit_fault effect line_reply machine_after_line
-    machine_after_lines line_replies refusal_count text items_of signal_items code_digits tick_items value_from
-    short_form digits
+-- the outcome of a rename and its undo
+undone : RunOutcome
+undone = record { replies = codes "ok\n" ∷ codes "ok\n" ∷ []; output = one_scalar_text (codes "a"); refused = 0 }
+
+undo_run : outcome one_scalar_contents 0 100 (script_lines (codes "rename top.a b\nundo\n")) ≡ undone
+unfolding undone script_lines words_from command_of_line lookup name_in edit_fault effect line_reply replay text
+    items_of signal_items code_digits tick_items value_from short_form digits
 undo_run = refl
 
 -- three renames in a history of two, and three undos
-full_history_run : run_outcome (capture 0 (wire (top ∷ []) (codes "a") 1 (from 0 (codes "0") ∷ []) ∷ [])) 0
-    (codes "rename top.a b\nrename top.b c\nrename top.c d\nundo\nundo\nundo\n") 2
+full_history_run : outcome (capture 0 (wire (top ∷ []) (codes "a") 1 (from 0 (codes "0") ∷ []) ∷ [])) 0 2
+    (script_lines (codes "rename top.a b\nrename top.b c\nrename top.c d\nundo\nundo\nundo\n"))
     ≡ record {
       replies = codes "ok\n" ∷ codes "ok\n" ∷ codes "ok\n" ∷ codes "ok\n" ∷ codes "ok\n"
           ∷ codes "line 6: refused: NothingToUndo\n" ∷ [];
@@ -56,28 +55,21 @@ full_history_run : run_outcome (capture 0 (wire (top ∷ []) (codes "a") 1 (from
           ++ codes "$dumpvars\n0!\n$end\n";
       refused = 1;
     }
-unfolding script_lines words_from command_of_line lookup name_in edit_fault effect line_reply machine_after_line
-    machine_after_lines line_replies refusal_count text items_of signal_items code_digits tick_items value_from
-    short_form digits
+unfolding script_lines words_from command_of_line lookup name_in edit_fault effect line_reply replay text items_of
+    signal_items code_digits tick_items value_from short_form digits
 full_history_run = refl
 
 -- the same from the bytes of the file and the script to those that are written
-rename_of_file : IsMachineRun one_scalar_file (codes "rename top.a b\n") 100
+rename_of_file : IsRun one_scalar_file (codes "rename top.a b\n") 100
     (record { replies = codes "ok\n" ∷ []; output = one_scalar_text (codes "b"); refused = 0 })
-unfolding script_lines words_from command_of_line lookup name_in edit_fault effect line_reply machine_after_line
-    machine_after_lines line_replies refusal_count text items_of signal_items code_digits tick_items value_from
-    short_form digits
-rename_of_file = record { contents = one_scalar_contents; skipped = 0; means = one_scalar_means; run = refl }
+rename_of_file =
+    subst (IsRun one_scalar_file (codes "rename top.a b\n") 100) rename_run
+    (run_is one_scalar_file (codes "rename top.a b\n") 100 one_scalar_contents 0 one_scalar_means)
 
--- the outcome of a rename and its undo
-undone : RunOutcome
-undone = record { replies = codes "ok\n" ∷ codes "ok\n" ∷ []; output = one_scalar_text (codes "a"); refused = 0 }
-
-undo_of_file : IsMachineRun one_scalar_file (codes "rename top.a b\nundo\n") 100 undone
-unfolding undone script_lines words_from command_of_line lookup name_in edit_fault effect line_reply machine_after_line
-    machine_after_lines line_replies refusal_count text items_of signal_items code_digits tick_items value_from
-    short_form digits
-undo_of_file = record { contents = one_scalar_contents; skipped = 0; means = one_scalar_means; run = refl }
+undo_of_file : IsRun one_scalar_file (codes "rename top.a b\nundo\n") 100 undone
+undo_of_file =
+    subst (IsRun one_scalar_file (codes "rename top.a b\nundo\n") 100) undo_run
+    (run_is one_scalar_file (codes "rename top.a b\nundo\n") 100 one_scalar_contents 0 one_scalar_means)
 
 -- a source that was read to its end
 abbrev read_whole : List ℕ → DeviceEnd
@@ -94,7 +86,7 @@ stops_at_second_line = (
   tt,
   (
     undone,
-    run_is one_scalar_file (codes "rename top.a b\nundo\n") 100 undone undo_of_file,
+    undo_of_file,
     (search arith, refl),
   ),
 )
@@ -110,7 +102,7 @@ stops_in_second_reply = (
   tt,
   (
     undone,
-    run_is one_scalar_file (codes "rename top.a b\nundo\n") 100 undone undo_of_file,
+    undo_of_file,
     (search arith, refl),
   ),
 )
@@ -123,21 +115,19 @@ two_signals = capture 9
 
 -- empty lines and comments are numbered and have no reply; each refused line gives its first fault, and the script
 -- continues
-refused_lines : line_replies 0 1 (record { past = []; now = two_signals; future = []; depth = 100 })
+refused_lines : (outcome two_signals 0 100
     (script_lines (codes "\n# rename\nfrob\nrename top.a\nrename top.a b c\nundo now\nrename top.q $end\n"
-    ++ codes "rename top.a $end\nrename top.a v\nundo\n \t#\n  rename\t@1\rb"))
+    ++ codes "rename top.a $end\nrename top.a v\nundo\n \t#\n  rename\t@1\rb"))).replies
     ≡ [] ∷ [] ∷ codes "line 3: refused: UnknownCommand\n" ∷ codes "line 4: refused: WrongCount\n"
     ∷ codes "line 5: refused: WrongCount\n" ∷ codes "line 6: refused: WrongCount\n"
     ∷ codes "line 7: refused: NoSuchName\n" ∷ codes "line 8: refused: BadWord\n" ∷ codes "line 9: refused: NameTaken\n"
     ∷ codes "line 10: refused: NothingToUndo\n" ∷ [] ∷ codes "ok\n" ∷ []
-unfolding script_lines words_from command_of_line lookup name_in edit_fault effect line_reply machine_after_line
-    line_replies digits
+unfolding script_lines words_from command_of_line lookup name_in edit_fault effect line_reply replay digits
 refused_lines = refl
 
 -- how many of those are refused
-count_of_refused_lines : refusal_count 0 (record { past = []; now = two_signals; future = []; depth = 100 })
-    (script_lines (codes "undo\n#\nfrob\nrename top.a b\nrename top.a b\nundo"))
+count_of_refused_lines : (outcome two_signals 0 100
+    (script_lines (codes "undo\n#\nfrob\nrename top.a b\nrename top.a b\nundo"))).refused
     ≡ 3
-unfolding script_lines words_from command_of_line lookup name_in edit_fault effect line_reply machine_after_line
-    refusal_count digits
+unfolding script_lines words_from command_of_line lookup name_in edit_fault effect line_reply replay digits
 count_of_refused_lines = refl

@@ -14,12 +14,9 @@ pub mod LinesLeft
 pub mod LinesStopped
 pub mod RunParts
 pub mod ProgramRuns
-pub mod SoundCaptures
-pub mod RunReplays
-pub mod UndoneEdits
+pub mod RunLaws
 pub mod RunHistories
 pub mod HexDigits
 pub mod AskedDepths
-pub mod HeldDepths
 pub mod AskedOptions
 pub mod CasesOfCommandLine

@@ -7,8 +7,9 @@ use Rattle.std.proofs.lemmas.List.Folds.{concat-append}
 use Rattle.std.specs.Io.KnownBytes.{Appends}
 use Rattle.std.proofs.KnownBytes.{Appends-nil, Appends-trans}
 use Rattle.vcd_journal.specs.Machine.{Machine}
-use Rattle.vcdedit.specs.RunMachines.{reply_on, is_refused_on, machine_after_line, machine_after_lines, refusal_count}
-use Rattle.vcdedit.specs.RunOutcomes.{line_replies}
+use Rattle.vcdedit.specs.inside.RunMachines.{reply_on, is_refused_on, machine_after_line, machine_after_lines}
+use Rattle.vcdedit.specs.inside.RunMachines.{refusal_count}
+use Rattle.vcdedit.specs.inside.RunMachines.{line_replies}
 use Rattle.vcdedit.specs.Script.{script_lines}
 use Rattle.vcdedit.specs.inside.RunLines.{RunsLine, RunsLines}
 

@@ -10,8 +10,8 @@ use Rattle.std.proofs.KnownBytes.{Appends-trans, Appends-kept}
 use Rattle.vcd_journal.specs.Machine.{Machine}
 use Rattle.vcdedit.specs.declared.running.run_error.RunError.{RunError}
 use Rattle.vcdedit.specs.declared.running.run_error.RunError.TheVariants as run_errors
-use Rattle.vcdedit.specs.RunMachines.{reply_on, machine_after_line}
-use Rattle.vcdedit.specs.RunOutcomes.{line_replies}
+use Rattle.vcdedit.specs.inside.RunMachines.{reply_on, machine_after_line}
+use Rattle.vcdedit.specs.inside.RunMachines.{line_replies}
 use Rattle.vcdedit.specs.inside.RunLines.{StopsAtReply, StopsAtLine, StopsInReplies, StopsInLines}
 use Rattle.vcdedit.proofs.LinesLeft.{RepliesSoFar}
 

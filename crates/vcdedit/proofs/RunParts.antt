@@ -20,14 +20,13 @@ use Rattle.vcdedit.specs.declared.running.run_error.RunError.{RunError}
 use Rattle.vcdedit.specs.declared.running.run_error.RunError.TheVariants as run_errors
 use Rattle.vcdedit.specs.declared.running.run_error.Summary.{Summary}
 use Rattle.vcdedit.specs.Script.{script_lines}
-use Rattle.vcdedit.specs.Run.{RunOutcome, IsRun}
-use Rattle.vcdedit.specs.RunOutcomes.{run_outcome}
+use Rattle.vcdedit.specs.Run.{RunOutcome, IsRun, outcome}
 use Rattle.vcdedit.specs.RunEnds.{DeviceEnd, IsRead, IsAccepted, IsUntouched, HasText, RunEnds}
-use Rattle.vcdedit.specs.inside.RunLines.{HasFailedAt, RunsLines, StopsInLines}
+use Rattle.vcdedit.specs.inside.RunLines.{HasFailedAt, RunsLines, StopsInReplies, StopsInLines}
 use Rattle.vcdedit.specs.inside.RunStages.{EndsBeforeOutput, EndsBeforeReplies, EndsAfterCapture}
 use Rattle.vcdedit.specs.inside.ScriptRuns.{ScriptGives}
 use Rattle.vcdedit.specs.inside.SentReplies.{HasSentReplies}
-use Rattle.vcdedit.proofs.RunHistories.{run_is}
+use Rattle.vcdedit.proofs.RunHistories.{outcome_is, run_is}
 
 -- ---- the capture
 
@@ -64,13 +63,15 @@ script_gives : (file script : List ℕ) (depth skipped : ℕ) (c : Contents) (ne
     → ScriptGives file script depth count (Appends before after) new.now
 script_gives file script depth skipped c new count before after means ran =
     let here = ran.2 in
+    let is = outcome_is c skipped depth (script_lines script) in
+    let replies = ap (λ (o : RunOutcome). o.replies) is ∙ here.replies in
     record {
       contents = c;
       skipped = skipped;
       means = means;
-      replies = rw (here.replies) (ran.1);
-      refused = here.refused;
-      after = ap (λ (m : Machine). m.now) here.after;
+      replies = subst (λ (texts : List (List ℕ)). Appends before after (concat texts)) (sym replies) ran.1;
+      refused = ap (λ (o : RunOutcome). o.refused) is ∙ here.refused;
+      output = ap (λ (o : RunOutcome). o.output) is ∙ ap (λ (m : Machine). text m.now) here.after;
     }
 
 -- the same for a device that may not show its bytes
@@ -88,16 +89,15 @@ script_gives_where_known (Some f) (Some s) script depth skipped c new count befo
 for_run : (coming script_coming : Option (List ℕ)) (script : List ℕ) (depth skipped : ℕ) (c : Contents)
     (property : RunOutcome → Type 0) →
     IfSome coming (λ f. FileMeans f c skipped) → IfSome script_coming (λ s. script ≡ s)
-    → property (run_outcome c skipped script depth) →
+    → property (outcome c skipped depth (script_lines script)) →
     IfSome coming (λ f. IfSome script_coming (λ s. (written : RunOutcome) × IsRun f s depth written
     × property written))
 for_run None script_coming script depth skipped c property means is holds = tt
 for_run (Some f) None script depth skipped c property means is holds = tt
 for_run (Some f) (Some s) script depth skipped c property means is holds = (
-  run_outcome c skipped s depth,
-  run_is f s depth (run_outcome c skipped s depth)
-      (record { contents = c; skipped = skipped; means = means; run = refl }),
-  subst (λ (bytes : List ℕ). property (run_outcome c skipped bytes depth)) is holds,
+  outcome c skipped depth (script_lines s),
+  run_is f s depth c skipped means,
+  subst (λ (bytes : List ℕ). property (outcome c skipped depth (script_lines bytes))) is holds,
 )
 
 -- what follows from the replies, the output and the count of refused lines holds of what the run writes
@@ -110,15 +110,10 @@ if_run_writes : (file script : Option (List ℕ)) (depth count : ℕ) (took_repl
 if_run_writes None script depth count took_replies now property ran follows = tt
 if_run_writes (Some f) None depth count took_replies now property ran follows = tt
 if_run_writes (Some f) (Some s) depth count took_replies now property ran follows =
-    let written = run_outcome ran.contents ran.skipped s depth in (
+    let written = outcome ran.contents ran.skipped depth (script_lines s) in (
       written,
-      run_is f s depth written (record {
-        contents = ran.contents;
-        skipped = ran.skipped;
-        means = ran.means;
-        run = refl;
-      }),
-      follows written ran.replies (ap text ran.after) (sym ran.refused),
+      run_is f s depth ran.contents ran.skipped ran.means,
+      follows written ran.replies ran.output (sym ran.refused),
     )
 
 -- ---- ends before the output
@@ -144,7 +139,41 @@ unfolding RunEnds
 session_ends capture script replies depth e none accepted untouched output kept =
     rw none (accepted, (untouched, kept))
 
--- in the lines
+-- in the lines, given what was taken of the replies
+taken_end : (capture script replies : DeviceEnd) (bytes : List ℕ) (depth skipped : ℕ) (c : Contents)
+    (e : RunError) →
+    IsAccepted capture → IsRead SCRIPT_LIMIT script → IfSome capture.before (λ f. FileMeans f c skipped)
+    → IfSome script.before (λ s. bytes ≡ s) →
+    HasFailedAt replies.has_failed e
+    → StopsInReplies (outcome c skipped depth (script_lines bytes)).replies (Appends replies.before replies.after) e →
+    EndsBeforeOutput depth capture script replies e
+unfolding RunEnds
+taken_end capture script replies bytes depth skipped c (run_errors.NoMemory zero) accepted script_read means is failed
+    stops output kept = absurd (omega (arith, stops.0))
+taken_end capture script replies bytes depth skipped c (run_errors.NoMemory (suc before)) accepted script_read means is
+    failed stops output kept =
+    let one_less : suc before - 1 ≡ before = omega arith in
+    let took = subst (λ n. Appends replies.before replies.after
+    (concat (take n (outcome c skipped depth (script_lines bytes)).replies))) one_less stops.2 in (
+      accepted,
+      script_read,
+      failed,
+      kept,
+      for_run capture.before script.before bytes depth skipped c _ means is (omega (arith, stops.1), took),
+    )
+taken_end capture script replies bytes depth skipped c (run_errors.ReplyFault written) accepted script_read means is
+    failed stops output kept =
+    (accepted, script_read, failed, kept, for_run capture.before script.before bytes depth skipped c _ means is stops)
+taken_end capture script replies bytes depth skipped c (run_errors.Capture fault) accepted script_read means is failed
+    stops output kept = absurd stops
+taken_end capture script replies bytes depth skipped c run_errors.ScriptTooLarge accepted script_read means is failed
+    stops output kept = absurd stops
+taken_end capture script replies bytes depth skipped c run_errors.ScriptReadFault accepted script_read means is failed
+    stops output kept = absurd stops
+taken_end capture script replies bytes depth skipped c (run_errors.Write fault) accepted script_read means is failed
+    stops output kept = absurd stops
+
+-- the same by the machine's replies
 pub lines_end : (capture script replies : DeviceEnd) (bytes : List ℕ) (depth skipped : ℕ) (c : Contents)
     (e : RunError) →
     IsAccepted capture → IsRead SCRIPT_LIMIT script → IfSome capture.before (λ f. FileMeans f c skipped)
@@ -152,31 +181,11 @@ pub lines_end : (capture script replies : DeviceEnd) (bytes : List ℕ) (depth s
     HasFailedAt replies.has_failed e
     → StopsInLines skipped (script_lines bytes) (initial_machine c depth) replies.before replies.after e →
     EndsBeforeOutput depth capture script replies e
-unfolding RunEnds
-lines_end capture script replies bytes depth skipped c (run_errors.NoMemory zero) accepted script_read means is failed
-    stops output kept = absurd (omega (arith, stops.0))
-lines_end capture script replies bytes depth skipped c (run_errors.NoMemory (suc before)) accepted script_read means is
-    failed stops output kept =
-    let one_less : suc before - 1 ≡ before = omega arith in
-    let took = subst (λ n. Appends replies.before replies.after
-    (concat (take n (run_outcome c skipped bytes depth).replies))) one_less stops.2 in (
-      accepted,
-      script_read,
-      failed,
-      kept,
-      for_run capture.before script.before bytes depth skipped c _ means is (omega (arith, stops.1), took),
-    )
-lines_end capture script replies bytes depth skipped c (run_errors.ReplyFault written) accepted script_read means is
-    failed stops output kept =
-    (accepted, script_read, failed, kept, for_run capture.before script.before bytes depth skipped c _ means is stops)
-lines_end capture script replies bytes depth skipped c (run_errors.Capture fault) accepted script_read means is failed
-    stops output kept = absurd stops
-lines_end capture script replies bytes depth skipped c run_errors.ScriptTooLarge accepted script_read means is failed
-    stops output kept = absurd stops
-lines_end capture script replies bytes depth skipped c run_errors.ScriptReadFault accepted script_read means is failed
-    stops output kept = absurd stops
-lines_end capture script replies bytes depth skipped c (run_errors.Write fault) accepted script_read means is failed
-    stops output kept = absurd stops
+lines_end capture script replies bytes depth skipped c e accepted script_read means is failed stops =
+    let written = outcome_is c skipped depth (script_lines bytes) in
+    taken_end capture script replies bytes depth skipped c e accepted script_read means is failed
+    (subst (λ (texts : List (List ℕ)). StopsInReplies texts (Appends replies.before replies.after) e)
+    (sym (ap (λ (o : RunOutcome). o.replies) written)) stops)
 
 -- ---- the output
 

@@ -8,14 +8,10 @@ pub mod DecoderWords
 pub mod ScriptCommands
 pub mod Script
 pub mod Queries
-pub mod WaveReplies
 pub mod CommandSignals
 pub mod DecoderReply
 pub mod Reply
 pub mod Run
-pub mod RunMachines
-pub mod RunOutcomes
-pub mod Laws
 pub mod Report
 pub mod RunEnds
 pub mod CommandLine

@@ -1,9 +1,10 @@
 -- The reply to a line of a script: the project's own.
 use Rattle.std.specs.Prelude.{ℕ, zero, suc, not, nat_lt, if◌then◌else◌, List, [], ◌∷◌, Option, Some, None}
-use Rattle.std.specs.Prelude.{Result, Ok, Err, codes, ◌++◌}
+use Rattle.std.specs.Prelude.{Result, Ok, Err, codes, map, ◌++◌}
 use Rattle.std.specs.List.{flat_map}
 use Rattle.std.specs.Fmt.{decimal}
-use Rattle.vcd_core.specs.Contents.{Contents, signal_at}
+use Rattle.vcd_core.specs.Contents.{Contents, signal_at, signal_value}
+use Rattle.vcd_text.specs.Letters.{printed_letters}
 use Rattle.vcd_edit.specs.declared.fault.EditError.{EditError}
 use Rattle.vcd_journal.specs.declared.step.Step.{Step}
 use Rattle.vcd_journal.specs.declared.step.Step.TheVariants as steps
@@ -19,8 +20,7 @@ use Rattle.vcdedit.specs.LineErrorNames.{line_error_name}
 use Rattle.vcd_edit.specs.EditFaults.{edit_fault}
 use Rattle.vcdedit.specs.DecoderReply.{uart_lines, spi_lines, i2c_lines}
 use Rattle.vcdedit.specs.ScriptCommands.{command_of_line}
-use Rattle.vcdedit.specs.Queries.{listing}
-use Rattle.vcdedit.specs.WaveReplies.{value_line, change_lines}
+use Rattle.vcdedit.specs.Queries.{listing, change_line}
 
 -- the lines of a reply, or the name of the refusal
 abbrev pub LineReply : Type 0
@@ -62,22 +62,22 @@ command_reply (Ok (commands.Step step)) c skipped undoable redoable =
     step_reply step c undoable redoable
 command_reply (Ok commands.List) c skipped undoable redoable = Ok (listing c skipped)
 command_reply (Ok (commands.Value k tick)) c skipped undoable redoable =
-    Ok (value_line (signal_at c k) tick ∷ [])
+    Ok (printed_letters (signal_value (signal_at c k) tick) ∷ [])
 command_reply (Ok (commands.Changes k)) c skipped undoable redoable =
-    Ok (change_lines (signal_at c k).changes)
+    Ok (map change_line (signal_at c k).changes)
 command_reply (Ok (commands.Uart k setup)) c skipped undoable redoable = Ok (uart_lines c k setup)
 command_reply (Ok (commands.Spi clk mosi miso cs setup)) c skipped undoable redoable =
     Ok (spi_lines c clk mosi miso cs setup)
 command_reply (Ok (commands.I2c scl sda)) c skipped undoable redoable = Ok (i2c_lines c scl sda)
 
 -- what is said to a line on a capture, of whose file so many declarations were skipped
-unfoldable pub line_reply : (line : List ℕ) → Contents → (skipped undoable redoable : ℕ) → LineReply
+unfoldable pub line_reply : List ℕ → Contents → (skipped undoable redoable : ℕ) → LineReply
 line_reply line c skipped undoable redoable =
     command_reply (command_of_line c line) c skipped undoable redoable
 
 -- the reply to the line of this number, as it is written: its lines, or the name of the refusal;
 -- each line ends with a line feed (10)
-abbrev pub reply_text : (number : ℕ) → LineReply → List ℕ
+abbrev pub reply_text : ℕ → LineReply → List ℕ
 reply_text number (Ok lines) = flat_map (λ line. line ++ 10 ∷ []) lines
 reply_text number (Err name) =
     codes "line " ++ decimal number ++ codes ": refused: " ++ name ++ 10 ∷ []

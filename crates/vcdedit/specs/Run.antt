@@ -1,6 +1,6 @@
 -- What a run writes: the headline. The project's own.
-use Rattle.std.specs.Prelude.{◌≡◌, ◌≤◌, ◌<◌, ◌+◌, ℕ, true, false, if◌then◌else◌, List, [], ◌∷◌, length, take, map}
-use Rattle.std.specs.Prelude.{get_or, fold, count_by, Result, Ok, is_err}
+use Rattle.std.specs.Prelude.{◌≡◌, ◌≤◌, ◌<◌, ◌-◌, ℕ, true, false, if◌then◌else◌, List, [], ◌∷◌, length, take}
+use Rattle.std.specs.Prelude.{get_or, map, fold, count_by, Result, Ok, is_err}
 use Rattle.std.specs.List.{enumerate_from}
 use Rattle.vcd_core.specs.Contents.{Contents}
 use Rattle.vcd_core.specs.Sound.{IsSound}
@@ -42,44 +42,60 @@ module _ (c : Contents) (skipped : ℕ) where
 -- the same lines, with a history of at most `depth`
 module _ (c : Contents) (skipped depth : ℕ) (lines : List (List ℕ)) where
   -- the history after the first `count` of them
-  abbrev pub history_at : (count : ℕ) → History
+  abbrev pub history_at : ℕ → History
   history_at count = fold (history_after_line c skipped) (initial_history depth) (take count lines)
 
   -- the capture after them is the replay of the edits then in force
-  abbrev pub capture_at : (count : ℕ) → Contents
+  abbrev pub capture_at : ℕ → Contents
   capture_at count = replay c (history_at count).edits
 
   -- what is said to each, on the capture after the lines before it
   abbrev pub answers : List LineReply
   answers = map (λ p. line_answer c skipped (history_at p.0) p.1) (enumerate_from 0 lines)
 
-  -- line `at`, counted from 0, asks for this step and is not refused
-  abbrev pub IsStepAt : (at : ℕ) → Step → Type 0
-  IsStepAt at s = let line = get_or lines at [] in
-      (command_of_line (capture_at at) line ≡ Ok (commands.Step s))
-      × (is_err (line_answer c skipped (history_at at) line) ≡ false)
+  -- what is written where they are run: the answers, each with the number of its line, from 1 on;
+  -- the text of the last capture; and how many answers are refusals
+  abbrev pub outcome : RunOutcome
+  outcome = record {
+    replies = map (λ p. reply_text p.0 p.1) (enumerate_from 1 answers);
+    output = text (capture_at (length lines));
+    refused = count_by is_err answers;
+  }
 
-  -- what is written where these lines are run
-  pub record IsRunOfLines (written : RunOutcome) : Type 0 where
-    -- after each line the capture is one that a file can describe, and no more edits can be undone than are in force
+  -- ---- what follows from these equations
+
+  -- the line of this number, counted from 1: it is read after `number - 1` lines
+  abbrev pub line_at : ℕ → List ℕ
+  line_at number = get_or lines (number - 1) []
+
+  -- it asks for this step and is not refused
+  abbrev pub IsStepAt : ℕ → Step → Type 0
+  IsStepAt number s =
+      (command_of_line (capture_at (number - 1)) (line_at number) ≡ Ok (commands.Step s))
+      × (is_err (line_answer c skipped (history_at (number - 1)) (line_at number)) ≡ false)
+
+  -- laws of every run: none is asked for by `IsRun`, all are proved
+  pub record RunLaws : Type 0 where
+    -- after each line the capture is one that a file can describe
     pub sound : (count : ℕ) → IsSound (capture_at count)
+    -- no more edits can be undone than are in force
     pub undoable : (count : ℕ) → (history_at count).undoable ≤ length (history_at count).edits
-    -- a refused line j leaves the history as it was
-    pub unchanged : (j : ℕ)
-        → is_err (line_answer c skipped (history_at j) (get_or lines j [])) ≡ true
-        → history_at (j + 1) ≡ history_at j
-    -- an undo at line j restores the capture before line i, which made the last edit in force
-    pub undo_restores : (j : ℕ) → IsStepAt j steps.Undo
-        → (i : ℕ) × (e : Edit) × (i < j) × IsStepAt i (steps.Edit e)
-        × ((history_at j).edits ≡ e ∷ (history_at i).edits) × (capture_at (j + 1) ≡ capture_at i)
-    -- the replies, with the number of their lines, and how many are refusals
-    pub replies : written.replies ≡ map (λ p. reply_text p.0 p.1) (enumerate_from 1 answers)
-    pub refused : written.refused ≡ count_by is_err answers
-    -- the output is the text of the last capture: read again, it means that capture, with nothing left out
-    pub output : written.output ≡ text (capture_at (length lines))
-    pub read_again : FileMeans written.output (capture_at (length lines)) 0
+    -- a refused line leaves the history as it was, and with it the capture
+    pub unchanged : (number : ℕ) → 1 ≤ number
+        → is_err (line_answer c skipped (history_at (number - 1)) (line_at number)) ≡ true
+        → history_at number ≡ history_at (number - 1)
+    -- an edit can be undone right after it
+    pub edit_can_be_undone : (number : ℕ) (e : Edit) → 1 ≤ depth → 1 ≤ number
+        → IsStepAt number (steps.Edit e) → 1 ≤ (history_at number).undoable
+    -- an undo restores the capture before line i, which made the last edit in force
+    pub undo_restores : (number : ℕ) → 1 ≤ number → IsStepAt number steps.Undo
+        → (i : ℕ) × (e : Edit) × (1 ≤ i) × (i < number) × IsStepAt i (steps.Edit e)
+        × ((history_at (number - 1)).edits ≡ e ∷ (history_at (i - 1)).edits)
+        × (capture_at number ≡ capture_at (i - 1))
+    -- the output, read again, means the last capture, with nothing left out
+    pub read_again : FileMeans outcome.output (capture_at (length lines)) 0
     -- and it means nothing else
-    pub only : (d : Contents) (count : ℕ) → FileMeans written.output d count
+    pub only : (d : Contents) (count : ℕ) → FileMeans outcome.output d count
         → (d ≡ capture_at (length lines)) × (count ≡ 0)
 
 -- what is written where the lines of a script are run on what a capture file means
@@ -90,4 +106,4 @@ pub record IsRun (file script : List ℕ) (depth : ℕ) (written : RunOutcome) :
   -- and nothing else
   pub only : (d : Contents) (count : ℕ) → FileMeans file d count
       → (d ≡ contents) × (count ≡ skipped)
-  pub run : IsRunOfLines contents skipped depth (script_lines script) written
+  pub run : written ≡ outcome contents skipped depth (script_lines script)

@@ -13,7 +13,6 @@ use Rattle.vcd_edit.specs.declared.edit.Edit.{Edit}
 use Rattle.vcd_edit.specs.declared.edit.Edit.TheVariants.{Rename, Remove, Invert, Shift, Cut, Deglitch, Force, Derive}
 use Rattle.vcd_edit.specs.declared.edit.Rule.{Rule}
 use Rattle.vcd_edit.specs.declared.edit.Rule.TheVariants.{Not, And, Or, Xor, BitOf}
-use Rattle.vcd_journal.specs.declared.step.Step.{Step}
 use Rattle.vcd_journal.specs.declared.step.Step.TheVariants as steps
 use Rattle.vcdedit.specs.declared.script.command.Command.{Command}
 use Rattle.vcdedit.specs.declared.script.command.Command.TheVariants as commands
@@ -53,13 +52,9 @@ is_comment (b ∷ bs) = b == 35
 
 -- ---- the words after it
 
--- a line asks for this step
-abbrev pub step_command : Step → Result Command LineError
-step_command step = Ok (commands.Step step)
-
 -- a line asks for this edit
 abbrev pub edit_command : Edit → Result Command LineError
-edit_command e = step_command (steps.Edit e)
+edit_command e = Ok (commands.Step (steps.Edit e))
 
 -- the rule `not A`
 abbrev pub not_rule : Contents → List (List ℕ) → Result Rule LineError
@@ -129,11 +124,11 @@ command_of c keywords.Force words = four_words words (λ name from to value. do
   letters ← value_of_word (signal_at c k).width value
   edit_command (Force k from_tick to_tick letters))
 command_of c keywords.Derive words = derive_command c words
-command_of c keywords.Undo words = no_word words (step_command steps.Undo)
-command_of c keywords.Redo words = no_word words (step_command steps.Redo)
+command_of c keywords.Undo words = no_word words (Ok (commands.Step steps.Undo))
+command_of c keywords.Redo words = no_word words (Ok (commands.Step steps.Redo))
 command_of c keywords.Depth words = one_word words (λ count. do
   depth ← number_of_word count
-  step_command (steps.Depth depth))
+  Ok (commands.Step (steps.Depth depth)))
 command_of c keywords.List words = no_word words (Ok commands.List)
 command_of c keywords.Value words = two_words words (λ name tick. do
   k ← signal_of_name c name
@@ -179,10 +174,6 @@ command_of_words c (first ∷ words) = if is_comment first then Ok commands.Noth
   keyword ← ok_or (keyword_of first) UnknownCommand
   command_of c keyword words)
 
--- the words of a line
-abbrev pub line_words : List ℕ → List (List ℕ)
-line_words line = word_texts (words_of line)
-
 -- what a line asks for on a capture, or why it is no command
 unfoldable pub command_of_line : Contents → List ℕ → Result Command LineError
-command_of_line c line = command_of_words c (line_words line)
+command_of_line c line = command_of_words c (word_texts (words_of line))

@@ -5,10 +5,10 @@ pub mod ScriptParts
 pub mod Commands
 pub mod Annotations
 pub mod Listing
+pub mod RunMachines
 pub mod Answering
 pub mod RunLines
 pub mod ScriptRuns
-pub mod LineSteps
 pub mod RunStages
 pub mod SentReplies
 pub mod ParsedDecoders

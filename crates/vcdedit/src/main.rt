@@ -2,10 +2,9 @@
 //!
 //! It reads a capture and a script, answers with replies, and writes the edited capture. `run` does all that with
 //! devices that it is given; `status_of_program` opens those that the command line names. `script` reads what a line
-//! asks for, `replies` makes the reply to it, and `laws` joins the definitions.
+//! asks for, and `replies` makes the reply to it.
 #![tactic(auto)]
 
-mod laws;
 mod replies;
 mod running;
 mod script;
@@ -13,10 +12,6 @@ mod shell;
 #[cfg(test)]
 mod tests;
 
-pub use laws::{
-    refused_line_changes_nothing, reply_is_answer, run_is_of_replays, run_is_replay,
-    undo_gives_back,
-};
 pub use running::{RunError, SCRIPT_LIMIT, Summary, run};
 pub use script::{Command, LineError, parse_line};
 pub use shell::{LateFile, report, status_of_program};

@@ -9,7 +9,7 @@ use Rattle.vcdedit.specs.declared.replies.reply.Reply.{Reply}
 use Rattle.vcdedit.specs.declared.script.command.Command.{Command}
 use Rattle.vcdedit.specs.WithoutAddress.{command_without_address}
 use Rattle.vcdedit.specs.Reply.{command_reply, line_reply, step_reply}
-use Rattle.vcdedit.specs.RunMachines.{machine_after_command, machine_after_line}
+use Rattle.vcdedit.specs.inside.RunMachines.{machine_after_command, machine_after_line}
 use Rattle.vcdedit.specs.inside.Replies.{IsReplyTo}
 
 -- whether a step is refused because memory ran out

@@ -5,8 +5,9 @@ use Rattle.std.specs.Io.KnownBytes.{Appends, Keeps}
 use Rattle.vcd_journal.specs.Machine.{Machine}
 use Rattle.vcdedit.specs.declared.running.run_error.RunError.{RunError}
 use Rattle.vcdedit.specs.declared.running.run_error.RunError.TheVariants as run_errors
-use Rattle.vcdedit.specs.RunMachines.{reply_on, is_refused_on, machine_after_line, machine_after_lines, refusal_count}
-use Rattle.vcdedit.specs.RunOutcomes.{line_replies}
+use Rattle.vcdedit.specs.inside.RunMachines.{reply_on, is_refused_on, machine_after_line, machine_after_lines}
+use Rattle.vcdedit.specs.inside.RunMachines.{refusal_count}
+use Rattle.vcdedit.specs.inside.RunMachines.{line_replies}
 
 -- the line of this number changes one machine into the other; its reply of so many bytes is written, and so many lines
 -- are refused

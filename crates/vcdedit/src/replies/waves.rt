@@ -1,10 +1,10 @@
 //! The replies to `value` and `changes` on one signal.
 
-ghost use Rattle.std.specs.Prelude.{◌≡◌, ◌<◌, ◌++◌, length, OnOk, IfOk};
+ghost use Rattle.std.specs.Prelude.{◌≡◌, ◌<◌, ◌++◌, length, map, OnOk, IfOk};
 ghost use Rattle.std.specs.List.{flat_map};
-ghost use Rattle.vcd_core.specs.Contents.{contents, signal_at};
+ghost use Rattle.vcd_core.specs.Contents.{contents, signal_at, signal_value};
 ghost use Rattle.vcdedit.specs.Queries.{change_line};
-ghost use Rattle.vcdedit.specs.WaveReplies.{value_line, change_lines};
+ghost use Rattle.vcd_text.specs.Letters.{printed_letters};
 ghost use Rattle.vcdedit.specs.inside.Replies.{with_line_feed};
 
 use crate::replies::MemoryResult;
@@ -22,7 +22,8 @@ pub fn value_text(
 ) -> MemoryResult<Vec<u8>>
     requires { signal < length capture.now.signals }
     ensures { IfOk result (λ text. text.items ≡
-        with_line_feed (value_line (signal_at (contents capture.now) signal) tick)) }
+        with_line_feed
+        (printed_letters (signal_value (signal_at (contents capture.now) signal) tick))) }
 {
     let mut text = Vec::new(alloc);
     append_letters(&mut text, &capture.signals()[signal].wave.at(tick))?;
@@ -34,7 +35,7 @@ pub fn value_text(
 pub fn changes_text(alloc: Global, capture: &Capture, signal: usize) -> MemoryResult<Vec<u8>>
     requires { signal < length capture.now.signals }
     ensures { IfOk result (λ text. text.items ≡ flat_map with_line_feed
-        (change_lines (signal_at (contents capture.now) signal).changes)) }
+        (map change_line (signal_at (contents capture.now) signal).changes)) }
 {
     let mut text = Vec::new(alloc);
     let changes = capture.signals()[signal].wave.changes();

@@ -1,10 +1,12 @@
 //! The run: a capture and a script in, replies and a capture out.
 
-ghost use Rattle.std.specs.Prelude.{◌≡◌, ◌≤◌, false, OnOk, IfOk, IfErr, IfSome};
+ghost use Rattle.std.specs.Prelude.{◌≡◌, ◌≤◌, ℕ, false, List, OnOk, IfOk, IfErr, IfSome};
 ghost use Rattle.std.specs.Option.{ForSome};
 ghost use Rattle.std.specs.Io.KnownBytes.{Appends};
-ghost use Rattle.vcd_core.specs.Contents.{contents};
+ghost use Rattle.vcd_core.specs.Contents.{Contents, contents};
 ghost use Rattle.vcd_core.specs.Sound.{IsSound};
+ghost use Rattle.vcd_text.specs.Meaning.{FileMeans};
+ghost use Rattle.vcdedit.specs.Run.{RunLaws};
 ghost use Rattle.vcdedit.specs.RunEnds.{device_end, IsRead, IsAccepted, ForOutput, RunEnds};
 ghost use Rattle.vcd_journal.specs.Machine.{initial_machine};
 ghost use Rattle.vcdedit.specs.inside.RunStages.{EndsBeforeOutput};
@@ -41,6 +43,9 @@ pub fn run<R: Source, S: Source, P: Sink, W: Sink>(
         (device_end R.coming R.has_failed capture_reader.old capture_reader.new)
         (device_end S.coming S.has_failed script_reader.old script_reader.new)
         (device_end P.taken P.has_failed replies.old replies.new) output result) }
+    // what follows from the equations of the headline, for any lines on what a file means
+    ensures laws { (file : List ℕ) (c : Contents) (skipped : ℕ) (lines : List (List ℕ)) →
+        FileMeans file c skipped → RunLaws c skipped depth lines }
 {
     let (session, refused) = run_script(alloc, capture_reader, script_reader, replies, depth)?;
     let summary = Summary { refused };

@@ -1,5 +1,5 @@
 -- `cut` and `depth` name no signal, so their parsers take no capture.
-use Rattle.std.proofs.Common.{◌≡◌, sym, subst}
+use Rattle.std.proofs.Common.{sym, subst}
 use Rattle.vcd_core.specs.Contents.{contents}
 use Rattle.vcd_text.specs.Grammar.{word_texts}
 use Rattle.vcdedit.specs.declared.script.keyword.Keyword.{Keyword}
