@@ -33,6 +33,8 @@ impl Sink for CountingSink {
 
     ghost has_failed = { λ _. false };
 
+    ghost is_flushed = { λ sink. sink.is_flushed };
+
     fn write(&mut self, bytes: &[u8]) -> Result<usize, DeviceFault> {
         self.bytes = self.bytes.saturating_add(bytes.len());
         self.writes = self.writes.saturating_add(1);

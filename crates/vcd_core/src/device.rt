@@ -1,13 +1,15 @@
 //! Devices that bytes come from and go to.
 
-ghost use Rattle.std.specs.Prelude.{◌≡◌, ◌<◌, false, length, IfOk};
+ghost use Rattle.std.specs.Prelude.{◌≡◌, ◌<◌, false, true, length, IfOk, OnOk};
 ghost use Rattle.std.specs.Io.{ReadsAtMost, WritesAtMost};
 ghost use Rattle.std.specs.Io.KnownBytes.{ReadConsumes, WriteAppends, Keeps};
 ghost use Rattle.vcd_core.specs.Device.{FailureMatches};
 
+mod bytes;
 mod output;
 mod whole;
 
+pub use bytes::{FromBytes, ToBytes};
 pub use output::{ShortWrite, write_all, write_and_flush};
 use std::io::{Read, Write};
 pub use whole::{Incomplete, read_whole};
@@ -65,6 +67,9 @@ pub trait Sink {
     // whether it has failed
     ghost has_failed: { Self → Bool };
 
+    // whether it has passed on all bytes taken
+    ghost is_flushed: { Self → Bool };
+
     /// Takes bytes from the front of `bytes`. Returns how many: at least one, if there is one.
     fn write(&mut self, bytes: &[u8]) -> Result<usize, DeviceFault>
         ensures count { WritesAtMost result bytes.now }
@@ -75,6 +80,7 @@ pub trait Sink {
     /// Passes on the bytes taken.
     fn flush(&mut self) -> Result<(), DeviceFault>
         ensures bytes { Keeps (taken self.old) (taken self.new) }
+        ensures flushed { OnOk result (is_flushed self.new ≡ true) }
         ensures fault { FailureMatches (has_failed self.old) (has_failed self.new) result };
 
     /// Whether the device has failed.
@@ -142,6 +148,8 @@ impl<R: Read> Source for FromRead<R> {
 pub struct ToWrite<W> {
     writer: W,
     failed: bool,
+    // read by contracts alone: no byte was handed to the writer since its last flush
+    is_flushed: bool,
 }
 
 impl<W: Write> ToWrite<W> {
@@ -154,6 +162,7 @@ impl<W: Write> ToWrite<W> {
         ToWrite {
             writer,
             failed: false,
+            is_flushed: false,
         }
     }
 
@@ -172,10 +181,13 @@ impl<W: Write> Sink for ToWrite<W> {
 
     ghost has_failed = { λ device. device.failed };
 
+    ghost is_flushed = { λ device. device.is_flushed };
+
     fn write(&mut self, bytes: &[u8]) -> Result<usize, DeviceFault> {
         if self.failed {
             return Err(DeviceFault);
         }
+        self.is_flushed = false;
         match self.writer.write(bytes) {
             Ok(count) if count > 0 || bytes.is_empty() => Ok(count),
             _ => {
@@ -190,7 +202,10 @@ impl<W: Write> Sink for ToWrite<W> {
             return Err(DeviceFault);
         }
         match self.writer.flush() {
-            Ok(()) => Ok(()),
+            Ok(()) => {
+                self.is_flushed = true;
+                Ok(())
+            }
             Err(_) => {
                 self.failed = true;
                 Err(DeviceFault)

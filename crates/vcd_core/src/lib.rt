@@ -42,8 +42,8 @@ pub use change_list::{ends_by, last_value};
 pub use copies::{copy_scopes, copy_word, copy_words};
 pub use decimal::number_up_to;
 pub use device::{
-    DeviceFault, FromRead, Incomplete, ShortWrite, Sink, Source, ToWrite, read_whole, write_all,
-    write_and_flush,
+    DeviceFault, FromBytes, FromRead, Incomplete, ShortWrite, Sink, Source, ToBytes, ToWrite,
+    read_whole, write_all, write_and_flush,
 };
 pub use edges::{Edge, Edges};
 pub use full_name::FullName;

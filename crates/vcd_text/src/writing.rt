@@ -1,6 +1,6 @@
 //! The text of a capture: the lines of the format in a fixed order (IEEE 1364-2005, 18.2).
 
-ghost use Rattle.std.specs.Prelude.{◌≡◌, false, IfErr, OnOk};
+ghost use Rattle.std.specs.Prelude.{◌≡◌, false, true, IfErr, OnOk};
 ghost use Rattle.std.specs.Io.KnownBytes.{Appends};
 ghost use Rattle.vcd_core.specs.Contents.{contents};
 ghost use Rattle.vcd_core.specs.Sound.{IsSound};
@@ -44,6 +44,7 @@ pub fn write<W: Sink>(alloc: Global, capture: &Capture, writer: &mut W) -> Resul
     ensures written { OnOk result (Appends (W.taken writer.old) (W.taken writer.new)
         (text (contents capture.now))) }
     ensures not_failed { OnOk result (W.has_failed writer.new ≡ false) }
+    ensures flushed { OnOk result (W.is_flushed writer.new ≡ true) }
     ensures failed { IfErr result (TookBefore (text (contents capture.now)) (W.taken writer.old)
         (W.taken writer.new) (W.has_failed writer.new)) }
 {

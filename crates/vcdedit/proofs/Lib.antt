@@ -13,6 +13,7 @@ pub mod AnsweredLines
 pub mod LinesLeft
 pub mod LinesStopped
 pub mod RunParts
+pub mod RunsOnBytes
 pub mod ProgramRuns
 pub mod RunLaws
 pub mod RunHistories

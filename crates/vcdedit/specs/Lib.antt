@@ -14,6 +14,7 @@ pub mod Reply
 pub mod Run
 pub mod Report
 pub mod RunEnds
+pub mod RunOnBytes
 pub mod CommandLine
 pub mod Opening
 pub mod ProgramEnds

@@ -9,6 +9,7 @@ pub mod RunMachines
 pub mod Answering
 pub mod RunLines
 pub mod ScriptRuns
+pub mod RunRefusals
 pub mod RunStages
 pub mod SentReplies
 pub mod ParsedDecoders

@@ -12,7 +12,7 @@ mod shell;
 #[cfg(test)]
 mod tests;
 
-pub use running::{RunError, SCRIPT_LIMIT, Summary, run};
+pub use running::{RunError, RunRefusal, RunTexts, SCRIPT_LIMIT, Summary, run, run_on_bytes};
 pub use script::{Command, LineError, parse_line};
 pub use shell::{LateFile, report, status_of_program};
 use std::process::ExitCode;

@@ -3,8 +3,10 @@
 mod run;
 mod run_error;
 mod run_lines;
+mod run_on_bytes;
 mod script_input;
 
 pub use run::run;
 pub use run_error::{RunError, Summary};
+pub use run_on_bytes::{RunRefusal, RunTexts, run_on_bytes};
 pub use script_input::SCRIPT_LIMIT;

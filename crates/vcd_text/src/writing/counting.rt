@@ -19,9 +19,11 @@ const COUNT_LIMIT: u128 = 1 << 126;
 struct NullSink;
 
 impl Sink for NullSink {
-    ghost use Rattle.std.specs.Prelude.{false};
+    ghost use Rattle.std.specs.Prelude.{false, true};
 
     ghost has_failed = { λ _. false };
+
+    ghost is_flushed = { λ _. true };
 
     fn write(&mut self, bytes: &[u8]) -> Result<usize, DeviceFault> {
         Ok(bytes.len())

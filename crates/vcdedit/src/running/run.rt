@@ -1,13 +1,13 @@
 //! The run: a capture and a script in, replies and a capture out.
 
-ghost use Rattle.std.specs.Prelude.{◌≡◌, ◌≤◌, ℕ, false, List, OnOk, IfOk, IfErr, IfSome};
+ghost use Rattle.std.specs.Prelude.{◌≡◌, ◌≤◌, ℕ, false, true, List, OnOk, IfOk, IfErr, IfSome};
 ghost use Rattle.std.specs.Option.{ForSome};
 ghost use Rattle.std.specs.Io.KnownBytes.{Appends};
 ghost use Rattle.vcd_core.specs.Contents.{Contents, contents};
 ghost use Rattle.vcd_core.specs.Sound.{IsSound};
 ghost use Rattle.vcd_text.specs.Meaning.{FileMeans};
 ghost use Rattle.vcdedit.specs.Run.{RunLaws};
-ghost use Rattle.vcdedit.specs.RunEnds.{device_end, IsRead, IsAccepted, ForOutput, RunEnds};
+ghost use Rattle.vcdedit.specs.RunEnds.{device_end, IsRead, IsAccepted, ForOutput, IsOutputFlushed, RunEnds};
 ghost use Rattle.vcd_journal.specs.Machine.{initial_machine};
 ghost use Rattle.vcdedit.specs.inside.RunStages.{EndsBeforeOutput};
 ghost use Rattle.vcdedit.specs.inside.ScriptRuns.{ScriptGives};
@@ -43,6 +43,8 @@ pub fn run<R: Source, S: Source, P: Sink, W: Sink>(
         (device_end R.coming R.has_failed capture_reader.old capture_reader.new)
         (device_end S.coming S.has_failed script_reader.old script_reader.new)
         (device_end P.taken P.has_failed replies.old replies.new) output result) }
+    ensures replies_flushed { OnOk result (P.is_flushed replies.new ≡ true) }
+    ensures output_flushed { OnOk result (IsOutputFlushed W.is_flushed out.entry out.exit) }
     // what follows from the equations of the headline, for any lines on what a file means
     ensures laws { (file : List ℕ) (c : Contents) (skipped : ℕ) (lines : List (List ℕ)) →
         FileMeans file c skipped → RunLaws c skipped depth lines }
@@ -81,6 +83,7 @@ fn run_script<R: Source, S: Source, P: Sink>(
     ensures script_read { OnOk result (IsRead SCRIPT_LIMIT
         (device_end S.coming S.has_failed script_reader.old script_reader.new)) }
     ensures not_failed { OnOk result (P.has_failed replies.new ≡ false) }
+    ensures flushed { OnOk result (P.is_flushed replies.new ≡ true) }
     ensures ended { IfErr result (EndsBeforeOutput depth
         (device_end R.coming R.has_failed capture_reader.old capture_reader.new)
         (device_end S.coming S.has_failed script_reader.old script_reader.new)

@@ -31,6 +31,7 @@ pub fn run_lines<P: Sink>(
         RunsLines skipped (script_lines script.now) session.old session.new refused
         (P.taken replies.old) (P.taken replies.new)) }
     ensures not_failed { OnOk result (P.has_failed replies.new ≡ false) }
+    ensures flushed { OnOk result (P.is_flushed replies.new ≡ true) }
     ensures fault { IfErr result EndsAtLine }
     ensures failed { IfErr result (HasFailedAt (P.has_failed replies.new)) }
     ensures stopped { IfErr result (StopsInLines skipped (script_lines script.now) session.old

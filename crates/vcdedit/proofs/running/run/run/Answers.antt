@@ -49,3 +49,6 @@ returns-clause-laws g c = run_laws c.args.depth
 
 pub returns-in_err-write-in-Some-clause-laws : goal.returns-in_err-write-in-Some-clause-laws
 returns-in_err-write-in-Some-clause-laws g c = run_laws c.args.depth
+
+pub returns-in-Some-clause-output_flushed : goal.returns-in-Some-clause-output_flushed
+returns-in-Some-clause-output_flushed g c = rw (c.in-Some.is) (c.in_ok-write-in-Some.ensures.flushed)

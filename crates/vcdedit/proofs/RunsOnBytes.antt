@@ -1,0 +1,87 @@
+-- A run over bytes in memory: what it gives follows from how the run ended.
+use Rattle.std.proofs.Common.{◌≡◌, Ok, Err, ℕ, zero, suc, List, [], Option, Some, Bool, false, true, sym, ◌∙◌, inl, inr}
+use Rattle.std.proofs.Common.{length, refl}
+use Rattle.std.proofs.Math.Seq.{take-length}
+use Rattle.std.specs.List.{concat}
+use Rattle.std.specs.Vec.{Vec}
+use Rattle.vcd_text.specs.Refusals as refusals
+use Rattle.vcd_text.specs.inside.Reading.{is_no_memory}
+use Rattle.vcd_text.specs.declared.fault.ReadError.{ReadError}
+use Rattle.vcd_text.specs.declared.fault.WriteError.TheVariants as write_errors
+use Rattle.vcdedit.specs.declared.running.run_error.RunError.{RunError}
+use Rattle.vcdedit.specs.declared.running.run_error.RunError.TheVariants as run_errors
+use Rattle.vcdedit.specs.declared.running.run_error.Summary.{Summary}
+use Rattle.vcdedit.specs.Run.{RunOutcome, IsRun}
+use Rattle.vcdedit.specs.RunEnds.{DeviceEnd, RunEnds}
+use Rattle.vcdedit.specs.RunOnBytes.{IsRefusedFile, has_fault, too_large, RunGives}
+use Rattle.vcdedit.specs.inside.RunRefusals.{run_refusal}
+
+-- a refused file of which the source has not failed, by whether memory was refused
+refused_file : (file script : List ℕ) (depth : ℕ) (has_failed : Bool) (left : Option (List ℕ)) (e : ReadError)
+    (replies : Vec ℕ) → has_failed ≡ false → replies.items ≡ []
+    → refusals.IsRefusal file has_failed left e
+    → (out_of_memory : Bool) → is_no_memory e.fault ≡ out_of_memory
+    → RunGives file script depth (Err (run_refusal (run_errors.Capture e) replies))
+refused_file file script depth has_failed left e replies ready empty refused true is = rw is (inl empty)
+refused_file file script depth has_failed left e replies ready empty (refusals.has_fault whole short fault) false is =
+    rw is (has_fault short fault)
+refused_file file script depth has_failed left e replies ready empty (refusals.too_large long answer) false is =
+    rw is (too_large long answer)
+refused_file file script depth has_failed left e replies ready empty
+    (refusals.reader_failed front rest failed is_left is_front short answer) false is =
+    let no : false ≡ true = sym ready ∙ failed in absurd (cc)
+refused_file file script depth has_failed left e replies ready empty (refusals.no_memory e_is) false is =
+    let no : true ≡ false = rw e_is at is in absurd (cc)
+
+-- what a run gives that reached its end, into writers that were empty
+pub texts_of_run : (file script replies_text output_text : List ℕ) (depth : ℕ)
+    (capture lines replies output : DeviceEnd) (summary : Summary) →
+    capture.before ≡ Some file → lines.before ≡ Some script → replies.before ≡ Some []
+    → Some replies_text ≡ replies.after → output.before ≡ Some [] → Some output_text ≡ output.after
+    → RunEnds depth capture lines replies (Some output) (Ok summary) →
+    (written : RunOutcome) × IsRun file script depth written × (replies_text ≡ concat written.replies)
+    × (output_text ≡ written.output) × (summary.refused ≡ written.refused)
+unfolding RunEnds
+texts_of_run file script replies_text output_text depth capture lines replies output summary is_file is_script
+    replies_empty replies_are output_empty output_is ends =
+    let gives = rw (is_file, is_script, replies_empty, sym replies_are, output_empty, sym output_is) at ends.4 in
+    (gives.0, gives.1, gives.2.0, gives.2.1, gives.2.2)
+
+-- a writer that was empty and is unchanged has taken nothing
+none_taken : (text : List ℕ) (replies : DeviceEnd) → replies.before ≡ Some [] → Some text ≡ replies.after
+    → replies.after ≡ replies.before → text ≡ []
+none_taken text replies was_empty text_is unchanged =
+    let same : Some text ≡ Some [] = text_is ∙ unchanged ∙ was_empty in cc
+
+-- and one that ended before its end
+pub refusal_of_run : (file script : List ℕ) (depth : ℕ) (capture lines replies output : DeviceEnd) (made : Vec ℕ)
+    (e : RunError) →
+    capture.before ≡ Some file → capture.has_failed ≡ false → lines.before ≡ Some script → lines.has_failed ≡ false
+    → replies.before ≡ Some [] → Some made.items ≡ replies.after
+    → RunEnds depth capture lines replies (Some output) (Err e) → RunGives file script depth (Err (run_refusal e made))
+unfolding RunEnds
+refusal_of_run file script depth capture lines replies output made (run_errors.Capture e) is_file ready is_script
+    lines_ready was_empty made_is ends =
+    refused_file file script depth capture.has_failed capture.after e made ready
+    (none_taken made.items replies was_empty made_is ends.3.0.0) (rw is_file at ends.0) _ refl
+refusal_of_run file script depth capture lines replies output made run_errors.ScriptTooLarge is_file ready is_script
+    lines_ready was_empty made_is ends = (rw is_file at ends.0.1, rw is_script at ends.1)
+refusal_of_run file script depth capture lines replies output made run_errors.ScriptReadFault is_file ready is_script
+    lines_ready was_empty made_is ends = let no : false ≡ true = sym lines_ready ∙ ends.1 in absurd (cc)
+refusal_of_run file script depth capture lines replies output made (run_errors.NoMemory zero) is_file ready is_script
+    lines_ready was_empty made_is ends = inl (none_taken made.items replies was_empty made_is ends.1.0.0)
+refusal_of_run file script depth capture lines replies output made (run_errors.NoMemory (suc before)) is_file ready
+    is_script lines_ready was_empty made_is ends =
+    let gives = rw (is_file, is_script, was_empty, sym made_is) at ends.4 in (gives.0, gives.1, gives.2.0, gives.2.1)
+refusal_of_run file script depth capture lines replies output made (run_errors.ReplyFault count) is_file ready
+    is_script lines_ready was_empty made_is ends =
+    let gives = rw (is_file, is_script, was_empty, sym made_is) at ends.4 in
+    inr (gives.0, gives.1, count, gives.2.1)
+refusal_of_run file script depth capture lines replies output made (run_errors.Write write_errors.NoMemory) is_file
+    ready is_script lines_ready was_empty made_is ends =
+    let gives = rw (is_file, is_script, was_empty, sym made_is) at ends.4 in
+    inr (gives.0, gives.1, length (concat gives.0.replies), gives.2 ∙ sym (take-length (concat gives.0.replies)))
+refusal_of_run file script depth capture lines replies output made (run_errors.Write (write_errors.WriteFault count))
+    is_file ready is_script lines_ready was_empty made_is ends =
+    let gives = rw (is_file, is_script, was_empty, sym made_is) at ends.3.1 in
+    inr (gives.0, gives.1, length (concat gives.0.replies), gives.2.0 ∙ sym (take-length (concat gives.0.replies)))

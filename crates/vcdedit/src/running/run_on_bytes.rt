@@ -1,0 +1,92 @@
+//! The run over bytes in memory: what it gives is said of bytes alone.
+
+ghost use Rattle.std.specs.Prelude.{◌≡◌, ◌≤◌};
+ghost use Rattle.vcdedit.specs.RunOnBytes.{RunGives};
+ghost use Rattle.vcdedit.specs.inside.RunRefusals.{run_refusal};
+ghost use Rattle.vcdedit.specs.declared.running.run_error.RunError.TheVariants as run_errors;
+
+use crate::running::{RunError, run};
+use std::alloc::Global;
+use vcd_core::{FromBytes, ToBytes};
+use vcd_journal::DEPTH_LIMIT;
+use vcd_text::{Fault, ReadError};
+
+/// What a run over bytes writes.
+#[derive(Drop)]
+pub struct RunTexts {
+    /// The replies to all lines.
+    pub replies: Vec<u8>,
+    /// The text of the last capture.
+    pub output: Vec<u8>,
+    /// How many lines were refused.
+    pub refused: u64,
+}
+
+/// Why a run over bytes did not reach its end. No device can fail.
+#[derive(Drop)]
+pub enum RunRefusal {
+    /// The capture has this fault, at its line.
+    Capture(ReadError),
+    /// The script is larger than its limit.
+    ScriptTooLarge,
+    /// Memory ran out, at this line of the script, or elsewhere (line 0). These replies were made before.
+    NoMemory { line: u64, replies: Vec<u8> },
+}
+
+/// Runs the lines of the script on the capture, and gives the texts that the program writes for files with these
+/// bytes. `depth` is how many edits can be undone.
+///
+/// This is [`run`] on devices in memory. So its contract speaks of bytes alone, and of no device.
+pub fn run_on_bytes(
+    alloc: Global,
+    capture: &[u8],
+    script: &[u8],
+    depth: u64,
+) -> Result<RunTexts, RunRefusal>
+    requires depth_least { 1 ≤ depth }
+    requires depth_most { depth ≤ DEPTH_LIMIT }
+    ensures { RunGives capture.now script.now depth result }
+{
+    let mut replies = ToBytes::new(alloc);
+    let mut output = ToBytes::new(alloc);
+    let ending = run(
+        alloc,
+        &mut FromBytes::new(capture),
+        &mut FromBytes::new(script),
+        &mut replies,
+        Some(&mut output),
+        depth,
+    );
+    let replies = replies.into_bytes();
+    match ending {
+        Ok(summary) => Ok(RunTexts {
+            replies,
+            output: output.into_bytes(),
+            refused: summary.refused,
+        }),
+        Err(error) => Err(refusal_of(error, replies)),
+    }
+}
+
+/// Why a run over bytes did not reach its end, by the error of the run and the replies that were written.
+fn refusal_of(error: RunError, replies: Vec<u8>) -> RunRefusal
+    ensures { result ≡ run_refusal error replies }
+{
+    match error {
+        RunError::Capture(refused) => refused_capture(refused, replies),
+        RunError::ScriptTooLarge => RunRefusal::ScriptTooLarge,
+        RunError::NoMemory { line } => RunRefusal::NoMemory { line, replies },
+        _ => RunRefusal::NoMemory { line: 0, replies },
+    }
+}
+
+/// The same for a capture that is refused.
+fn refused_capture(refused: ReadError, replies: Vec<u8>) -> RunRefusal
+    ensures { result ≡ run_refusal (run_errors.Capture refused) replies }
+{
+    if refused.fault == Fault::NoMemory {
+        RunRefusal::NoMemory { line: 0, replies }
+    } else {
+        RunRefusal::Capture(refused)
+    }
+}
