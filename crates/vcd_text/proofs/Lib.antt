@@ -36,7 +36,6 @@ pub mod Listing
 pub mod NextChanges
 pub mod Orders
 pub mod Texts
-pub mod TextLengths
 pub mod WaveChanges
 pub mod LoggedValues
 pub mod ChangeLogs

@@ -2,12 +2,11 @@
 use Rattle.std.proofs.Common.{◌≡◌, ◌<◌, ◌≤◌, ◌+◌, ◌-◌, ◌^◌, ℕ, Bool, true, false, List, [], ◌++◌, length, take, drop}
 use Rattle.std.proofs.Common.{min, refl, sym, ap, subst, ◌∙◌, arith, append_assoc, ◌∷◌, get_or}
 use Rattle.std.specs.Prelude.{Option, Some, None}
-use Rattle.std.specs.Io.KnownBytes.{Appends}
+use Rattle.std.specs.Io.KnownBytes.{Appends, Keeps}
 use Rattle.std.proofs.KnownBytes.{Appends-trans}
-use Rattle.std.proofs.lemmas.Bool.{ltb-true, ltb-false}
 use Rattle.std.proofs.Math.Seq.{take-add}
 use Rattle.std.proofs.lemmas.List.{append-nil, length-append, length-drop, take-append-le, drop-append-le, drop_all}
-use Rattle.std.proofs.lemmas.List.{drop_more}
+use Rattle.std.proofs.lemmas.List.{drop_more, take_all}
 use Rattle.vcd_text.specs.declared.writing.buffer.WriteBuffer.{WriteBuffer}
 use Rattle.vcd_text.specs.inside.Written.{HasEmitted, Emits}
 
@@ -86,49 +85,38 @@ none_left : (f0 f1 : Bool) (n k : ℕ) (whole bytes : List ℕ) → (f0 ≡ fals
 none_left true f1 n k whole bytes is stays all ready = absurd (cc (stays refl, ready))
 none_left false f1 n k whole bytes is stays all ready = grind (arith, drop_all, length-drop)
 
--- the count of bytes sent stays within the text
-count_within : (n k few whole : ℕ) → n ≤ whole → (n < 2 ^ 128 - 1 → n + k ≤ whole) → few ≡ min (n + k) (2 ^ 128 - 1)
-    → few ≤ whole
-count_within n k few whole within fits counted = grind (arith, ltb-true, ltb-false)
-
 -- bytes are sent that are the rest of the text with the part
 pub bytes_sent : {W : Type 0} (t : W → Option (List ℕ)) (f : W → Bool) (s0 s1 : WriteBuffer × W) (k : ℕ)
     (part bytes : List ℕ)
-    → ((text : List ℕ) → s0.0.start ≤ length text → drop s0.0.start text ≡ s0.0.unsent.items
-    → drop s0.0.start (text ++ part) ≡ bytes)
+    → ((n : ℕ) (text : List ℕ) → n ≤ length text → drop n text ≡ s0.0.unsent.items → drop n (text ++ part) ≡ bytes)
     → Appends (t s0.1) (t s1.1) (take k bytes) → k ≤ length bytes → (f s1.1 ≡ false → k ≡ length bytes)
     → (f s0.1 ≡ true → k ≡ 0) → (f s0.1 ≡ true → f s1.1 ≡ true)
     → s1.0.start ≡ min (s0.0.start + k) (2 ^ 128 - 1) → s1.0.unsent.items ≡ [] → Emits t f s0 s1 part
 bytes_sent t f s0 s1 k part bytes left more few all none stays counted empty = record {
   appends = λ before text stands.
-      let n = s0.0.start in
-      let now = s1.0.start in
-      let is : n < 2 ^ 128 - 1 → f s0.1 ≡ false → drop n (text ++ part) ≡ bytes = grind arith in
-      let held : n < 2 ^ 128 - 1 → Appends before (t s0.1) (take n (text ++ part)) = grind (arith, take-append-le) in
-      let early : now < 2 ^ 128 - 1 → n < 2 ^ 128 - 1 = λ small. omega (arith, counted, small) in
-      let count : now < 2 ^ 128 - 1 → now ≡ n + k = λ small. omega (arith, counted, small) in
+      let n = stands.sent in
+      let is : f s0.1 ≡ false → drop n (text ++ part) ≡ bytes =
+      λ ready. left n text stands.within (stands.rest ready) in
+      let held : Appends before (t s0.1) (take n (text ++ part)) =
+      subst (Appends before (t s0.1)) (sym (take-append-le n text part stands.within)) stands.front in
       record {
-        within =
-            count_within n k now (length (text ++ part)) (omega (arith, stands.within, length-append text part))
-            (λ small. within_whole (f s0.1) n k text part bytes stands.within (is small) none few) counted;
-        front = λ small.
-            subst (λ m. Appends before (t s1.1) (take m (text ++ part))) (sym (count small))
-            (sent_bytes before (t s0.1) (t s1.1) (f s0.1) n k (text ++ part) bytes (is (early small)) none
-            (held (early small)) more);
-        rest = grind (arith, none_left);
+        sent = n + k;
+        within = within_whole (f s0.1) n k text part bytes stands.within is none few;
+        counted = omega (arith, counted, stands.counted);
+        front = sent_bytes before (t s0.1) (t s1.1) (f s0.1) n k (text ++ part) bytes is none held more;
+        rest = λ ready. none_left (f s0.1) (f s1.1) n k (text ++ part) bytes is stays all ready ∙ sym empty;
       };
 }
 
 -- the unsent bytes are the rest
-pub unsent_left : (o : WriteBuffer) (text : List ℕ) → o.start ≤ length text
-    → drop o.start text ≡ o.unsent.items
-    → drop o.start (text ++ []) ≡ o.unsent.items
-unsent_left o text within is = ap (drop o.start) (append-nil text) ∙ is
+pub unsent_left : (o : WriteBuffer) (n : ℕ) (text : List ℕ) → drop n text ≡ o.unsent.items
+    → drop n (text ++ []) ≡ o.unsent.items
+unsent_left o n text is = ap (drop n) (append-nil text) ∙ is
 
 -- if nothing waits, a part is the rest
-pub part_left : (o : WriteBuffer) (part text : List ℕ) → o.unsent.items ≡ [] → o.start ≤ length text
-    → drop o.start text ≡ o.unsent.items → drop o.start (text ++ part) ≡ part
-part_left o part text none within is = drop-append-le o.start text part within ∙ ap (λ l. l ++ part) (is ∙ none)
+pub part_left : (o : WriteBuffer) (part : List ℕ) (n : ℕ) (text : List ℕ) → o.unsent.items ≡ [] → n ≤ length text
+    → drop n text ≡ o.unsent.items → drop n (text ++ part) ≡ part
+part_left o part n text none within is = drop-append-le n text part within ∙ ap (λ l. l ++ part) (is ∙ none)
 
 -- ---- the whole
 
@@ -142,10 +130,46 @@ pub whole_written : {W : Type 0} {t : W → Option (List ℕ)} {f : W → Bool} 
     → s0.0.unsent.items ≡ [] → s0.0.start ≡ 0 → Emits t f s0 s1 whole
     → HasEmitted (t s0.1) (t s1.1) (f s1.1) s1.0 whole
 whole_written {t = t} {f = f} {s0 = s0} empty none writes =
-    writes.appends (t s0.1) [] (grind (arith, nothing_taken))
+    writes.appends (t s0.1) [] (record {
+      sent = 0;
+      within = omega arith;
+      counted = none;
+      front = nothing_taken (t s0.1);
+      rest = λ _. sym empty;
+    })
 
--- the number of bytes of a text that was written to a writer that has not failed
-pub length_written : (before after : Option (List ℕ)) (failed : Bool) (o : WriteBuffer) (text : List ℕ) → failed ≡ false
-    → o.start < 2 ^ 128 - 1 → HasEmitted before after failed o text
-    → length text ≡ o.start + length o.unsent.items
-length_written before after failed o text ready few stands = grind (arith, length-drop)
+-- ---- the end
+
+-- all is sent to a writer that has not failed
+pub all_taken : (before after : Option (List ℕ)) (failed : Bool) (o : WriteBuffer) (text : List ℕ) → failed ≡ false
+    → o.unsent.items ≡ [] → HasEmitted before after failed o text → Appends before after text
+all_taken before after failed o text ready empty stands =
+    subst (Appends before after) (take_all stands.sent text (omega (
+      arith,
+      ap (length {A = ℕ}) (stands.rest ready
+          ∙ empty),
+      length-drop stands.sent text,
+    ))) stands.front
+
+-- the count is that of the bytes sent, if the text can be counted
+pub counted_front : (before after : Option (List ℕ)) (failed : Bool) (o : WriteBuffer) (text : List ℕ)
+    → HasEmitted before after failed o text → length text < 2 ^ 128
+    → Appends before after (take o.start text) × (o.start ≤ length text)
+counted_front before after failed o text stands small =
+    let exact : stands.sent ≡ o.start = omega (arith, stands.counted, stands.within, small) in
+    (subst (λ n. Appends before after (take n text)) exact stands.front, omega (arith, exact, stands.within))
+
+-- a flush takes no byte
+pub appends_kept : (before after later : Option (List ℕ)) (text : List ℕ) → Appends before after text
+    → Keeps after later → Appends before later text
+appends_kept None after later text took kept = tt
+appends_kept (Some xs) None later text took kept = absurd took
+appends_kept (Some xs) (Some ys) None text took kept = absurd kept
+appends_kept (Some xs) (Some ys) (Some zs) text took kept = kept ∙ took
+
+-- the text is the same after the buffer was sent
+pub nothing_more : {W : Type 0} {t : W → Option (List ℕ)} {f : W → Bool} {s0 s1 : WriteBuffer × W}
+    (before : Option (List ℕ)) (text : List ℕ) → Emits t f s0 s1 []
+    → HasEmitted before (t s0.1) (f s0.1) s0.0 text → HasEmitted before (t s1.1) (f s1.1) s1.0 text
+nothing_more {t = t} {f = f} {s1 = s1} before text writes stands =
+    subst (HasEmitted before (t s1.1) (f s1.1) s1.0) (append-nil text) (writes.appends before text stands)

@@ -9,7 +9,6 @@ ghost use Rattle.vcd_text.specs.WriteEnds.{TookBefore};
 
 mod buffer;
 mod codes;
-mod counting;
 mod declarations;
 mod lines;
 mod next_changes;
@@ -20,7 +19,6 @@ mod window;
 
 use crate::fault::WriteError;
 use buffer::{WriteBuffer, send_and_flush};
-use counting::check_countable;
 use declarations::write_declarations;
 use stamps::write_first_values;
 use std::alloc::Global;
@@ -33,11 +31,11 @@ use window::Window;
 ///
 /// At `NoMemory` the writer took nothing and has not failed. At `WriteFault` it has failed, and
 /// took exactly the first `written` bytes of the text: all of them if the flush failed.
+/// The count of a text of 2^128 bytes or more stops at the limit of its type.
 ///
 /// The time is that of sorting the changes, a part at a time; ticks without a change cost nothing.
 /// The memory is 96 KiB, and 48 bytes for each signal. For more than 4,096 signals it is 64 KiB,
-/// and 56 bytes for each. The declarations are made twice: their bytes are counted before the first
-/// is written.
+/// and 56 bytes for each.
 pub fn write<W: Sink>(alloc: Global, capture: &Capture, writer: &mut W) -> Result<(), WriteError>
     requires sound { IsSound (contents capture.now) }
     requires ready { W.has_failed writer.old ≡ false }
@@ -49,7 +47,6 @@ pub fn write<W: Sink>(alloc: Global, capture: &Capture, writer: &mut W) -> Resul
         (W.taken writer.new) (W.has_failed writer.new)) }
 {
     let signals = capture.signals();
-    check_countable(alloc, capture)?;
     let end = capture.end();
     let mut window = Window::new(alloc, signals, end)?;
     let mut buffer = WriteBuffer::new(alloc)?;

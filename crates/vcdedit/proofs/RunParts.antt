@@ -250,9 +250,9 @@ run_stops_at_output capture script replies out depth count now (write_errors.Wri
       script_read,
       ready,
       (
-        took.2,
+        took.1,
         if_run_writes capture.before script.before depth count _ now _ ran
-            (λ outcome replied output refused. (replied, rw output (took.1, took.0))),
+            (λ outcome replied output refused. (replied, rw output (λ small. ((took.0 small).1, (took.0 small).0)))),
       ),
     )
 

@@ -1,7 +1,7 @@
 -- How a run ends: for each ending, the state of its sources and writers. The rules are the project's own.
 use Rattle.std.proofs.Common.{inl, inr}
 use Rattle.std.specs.Prelude.{◌≡◌, ◌<◌, ◌≤◌, ◌⊎◌, ℕ, zero, suc, Bool, true, false, List, length, take, Option, Some}
-use Rattle.std.specs.Prelude.{None, Result, Ok, Err, IfSome, IsSomeAnd}
+use Rattle.std.specs.Prelude.{◌^◌, None, Result, Ok, Err, IfSome, IsSomeAnd}
 use Rattle.std.specs.List.{concat}
 use Rattle.std.specs.Borrow.{MutBor}
 use Rattle.std.specs.Io.KnownBytes.{Appends, Keeps, IsAtEnd}
@@ -115,10 +115,10 @@ module _ (depth : ℕ) (capture script : DeviceEnd) where
         × (replies.has_failed ≡ false)
         × IsSomeAnd output (λ out. Keeps out.before out.after × (out.has_failed ≡ false))
         × ForRun (λ written. HasText replies (concat written.replies))
-    -- the writer of the output failed: it took exactly so many bytes of the output, and all
-    -- replies are written
+    -- the writer of the output failed: it took exactly so many bytes of the output, if a `u128`
+    -- counts these, and all replies are written
     RunEnds (Err (Write (write_errors.WriteFault count))) = IsAccepted capture
         × IsRead SCRIPT_LIMIT script × (replies.has_failed ≡ false)
         × IsSomeAnd output (λ out. (out.has_failed ≡ true)
         × ForRun (λ written. HasText replies (concat written.replies)
-        × HasFront out count written.output))
+        × (length written.output < 2 ^ 128 → HasFront out count written.output)))

@@ -1,14 +1,16 @@
 -- A text while it is written: its front was taken, and the rest waits in a buffer.
-use Rattle.std.specs.Prelude.{◌≡◌, ◌<◌, ◌≤◌, ◌-◌, ◌^◌, ℕ, Bool, false, List, ◌++◌, length, take, drop, Option}
+use Rattle.std.specs.Prelude.{◌≡◌, ◌≤◌, ◌-◌, ◌^◌, min, ℕ, Bool, false, List, ◌++◌, length, take, drop, Option}
 use Rattle.std.specs.Io.KnownBytes.{Appends}
 use Rattle.vcd_text.specs.declared.writing.buffer.WriteBuffer.{WriteBuffer}
 
--- sink and buffer together hold this text; nothing is said once the count is saturated
+-- sink and buffer together hold this text: the sink its first bytes, whose count stops at its limit
 pub record HasEmitted (before after : Option (List ℕ)) (failed : Bool) (buffer : WriteBuffer) (text : List ℕ) : Type 0
   where
-    pub within : buffer.start ≤ length text
-    pub front : buffer.start < 2 ^ 128 - 1 → Appends before after (take buffer.start text)
-    pub rest : buffer.start < 2 ^ 128 - 1 → failed ≡ false → drop buffer.start text ≡ buffer.unsent.items
+    pub sent : ℕ
+    pub within : sent ≤ length text
+    pub counted : buffer.start ≡ min sent (2 ^ 128 - 1)
+    pub front : Appends before after (take sent text)
+    pub rest : failed ≡ false → drop sent text ≡ buffer.unsent.items
 
 -- whatever text sink and buffer held, they now hold it with `part` appended
 pub record Emits {W : Type 0} (taken : W → Option (List ℕ)) (has_failed : W → Bool) (old new : WriteBuffer × W)

@@ -120,12 +120,12 @@ fn send_bytes<W: Sink>(writer: &mut W, bytes: &[u8]) -> u128
 /// An error means that the writer has failed. It gives the number of bytes of the text that the
 /// writer took.
 pub fn send_and_flush<W: Sink>(buffer: WriteBuffer, writer: &mut W) -> Result<(), WriteError>
-    ensures written { OnOk result ((before : Option (List ℕ)) (text : List ℕ) → length text < 2 ^ 128 - 1
+    ensures written { OnOk result ((before : Option (List ℕ)) (text : List ℕ)
         → HasEmitted before (W.taken writer.old) (W.has_failed writer.old) buffer text
         → Appends before (W.taken writer.new) text) }
     ensures not_failed { OnOk result (W.has_failed writer.new ≡ false) }
     ensures flushed { OnOk result (W.is_flushed writer.new ≡ true) }
-    ensures failed { IfErr result (λ e. (before : Option (List ℕ)) (text : List ℕ) → length text < 2 ^ 128 - 1
+    ensures failed { IfErr result (λ e. (before : Option (List ℕ)) (text : List ℕ)
         → HasEmitted before (W.taken writer.old) (W.has_failed writer.old) buffer text
         → TookBefore text before (W.taken writer.new) (W.has_failed writer.new) e) }
 {

@@ -9,7 +9,6 @@ use Rattle.vcd_text.specs.declared.writing.buffer.WriteBuffer.{WriteBuffer}
 use Rattle.vcd_text.specs.Text.{end_items, first_items, item_line, text, tick_items}
 use Rattle.vcd_text.specs.inside.TextParts.{declarations_text}
 use Rattle.vcd_text.specs.inside.Written.{HasEmitted, Emits}
-use Rattle.vcd_text.proofs.TextLengths.{text_countable}
 use Rattle.vcd_text.proofs.Texts.{whole_text}
 use Rattle.vcd_text.proofs.Written.{whole_written, writes_as, writes_both}
 use Rattle.vcd_text.proofs.writing.write.Goals as goal
@@ -39,7 +38,6 @@ returns-clause-written g c =
     let whole = contents c.args.capture.now in
     on_ok c.send_and_flush.result
     (λ ends. ends (g.W.Sink.taken c.args.writer.now) (text whole)
-    (text_countable whole c.requires.sound c.in_ok-check_countable.ensures.counted)
     (all_written whole c.signals-signals.result.now c.end-end.result
     (ap (map signal_contents) c.signals-signals.ensures) c.end-end.ensures c.in_ok-buffer.ensures.unsent
     c.in_ok-buffer.ensures.start c.write_declarations.ensures c.write_first_values.ensures
@@ -51,7 +49,6 @@ returns-clause-failed g c =
     let whole = contents c.args.capture.now in
     IfErr-weaker c.send_and_flush.result _ _
     (λ e ends. ends (g.W.Sink.taken c.args.writer.now) (text whole)
-    (text_countable whole c.requires.sound c.in_ok-check_countable.ensures.counted)
     (all_written whole c.signals-signals.result.now c.end-end.result
     (ap (map signal_contents) c.signals-signals.ensures) c.end-end.ensures c.in_ok-buffer.ensures.unsent
     c.in_ok-buffer.ensures.start c.write_declarations.ensures c.write_first_values.ensures

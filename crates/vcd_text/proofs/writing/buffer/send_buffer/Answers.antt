@@ -9,5 +9,5 @@ returns-clause-written g c =
     let bytes = c.as_slice.ensures.value in
     bytes_sent g.W.Sink.taken g.W.Sink.has_failed (c.args.buffer.now, c.args.writer.now) _ c.send_bytes-count.result []
     c.as_slice.result.now
-    (λ text within is. unsent_left c.args.buffer.now text within is ∙ sym bytes)
+    (λ n text within is. unsent_left c.args.buffer.now n text is ∙ sym bytes)
     sent.front sent.within sent.all sent.failed sent.stays c.saturating_add-buffer.ensures c.clear.ensures.items
