@@ -1,4 +1,4 @@
--- One more word, or both of a change by a binary number, from the first word of the file on.
+-- One more word, from the first word of the file on.
 use Rattle.std.proofs.Common.{arith}
 use Rattle.std.specs.Prelude.{IsTrue, IsFalse, ◌==◌, ◌&&◌}
 use Rattle.std.proofs.Common.{◌≡◌, ◌⊎◌, inl, inr, Ok, Err, List, [], ◌∷◌, ◌++◌, refl, sym, ap, subst}
@@ -18,7 +18,7 @@ use Rattle.vcd_text.specs.Faults.{value_too_long, declaration_late}
 use Rattle.vcd_text.specs.Faults.{begins_no_change, ShowsFault, fault_line}
 use Rattle.vcd_text.specs.inside.OpenItems.{item_fault_line}
 use Rattle.vcd_text.specs.inside.Reading.{HasTakenWords, WordStep, goes_on, ends_item, ReaderMatches, IsBegun}
-use Rattle.vcd_text.specs.inside.Reading.{error_at, BeginsVector, WordsResult}
+use Rattle.vcd_text.specs.inside.Reading.{error_at}
 use Rattle.vcd_text.specs.inside.Variables.{VariablesMatch, BinaryNumberFault, ChangeResult}
 use Rattle.vcd_text.specs.MemoryErrors.{memory_error}
 use Rattle.vcd_text.specs.declared.fault.Fault.TheVariants.{NoMemory}
@@ -26,7 +26,6 @@ use Rattle.vcd_text.specs.declared.reading.reader.OpenItem.{OpenItem}
 use Rattle.vcd_text.specs.declared.reading.reader.OpenItem.TheVariants as items
 use Rattle.vcd_text.specs.declared.reading.reader.Reader.{Reader}
 use Rattle.vcd_text.specs.declared.reading.variables.Variables.{Variables}
-use Rattle.vcd_text.proofs.Changing.{none_begun, whole_vector, vector_shown}
 use Rattle.vcd_text.proofs.ItemsInTurn.{reaches_both, reaches_one, shown_by}
 use Rattle.vcd_text.proofs.FileAnswers.{spelled_more}
 
@@ -95,39 +94,4 @@ one_shown old words_so_far more w r fault refused =
       | inr row ↦ inr (shown_by words r.whole r.begun more w r.items r.state line fault
           (record { allowed = r.allowed; state_is = r.state_is }) parts r.spelled row
           (line_shown old r.state r.begun w fault old.item r.at.0 r.at.1 row))
-    ])
-
--- ---- both words of a change by a binary number
-
--- both words are taken at once
-pub whole_vector_taken : (m : Reader) (vs : Variables) (text digits code : List ℕ) (line code_line : ℕ)
-    → BeginsVector m text digits
-    → ((c : ParseState) → c.tick ≡ m.tick → VariablesMatch m.variables c → ChangeResult c code digits (Ok tt) vs)
-    → WordsResult m (word_on text line ∷ word_on code code_line ∷ []) (Ok tt) (record m { variables = vs })
-whole_vector_taken m vs text digits code line code_line b takes words_so_far r =
-    let words : List PlacedWord = word_on text line ∷ word_on code code_line ∷ [] in
-    let none = none_begun m r.begun b.between r.at.1 in
-    words_taken m (record m { variables = vs }) words_so_far words r
-    (whole_vector m r.state vs m.item (r.begun ++ words) b.letter digits code r.at.0 b.in_body b.between b.among
-    (sym (ap (λ bs. word_texts (bs ++ words)) none ∙ ap (λ t. t ∷ code ∷ []) b.spelled))
-    (takes r.state (sym r.at.0.tick) r.at.0.variables))
-
--- the code shows a fault, with the line of the first
-pub whole_vector_refused : (m new : Reader) (text digits code : List ℕ) (line code_line : ℕ) (fault : Fault)
-    → BeginsVector m text digits → ((c : ParseState) → c.tick ≡ m.tick → VariablesMatch m.variables c
-    → (fault ≡ NoMemory) ⊎ BinaryNumberFault c code digits fault)
-    → WordsResult m (word_on text line ∷ word_on code code_line ∷ []) (Err (error_at line fault)) new
-whole_vector_refused m new text digits code line code_line fault b refuses words_so_far more r =
-    let first = word_on text line in
-    let words : List PlacedWord = words_so_far ++ first ∷ word_on code code_line ∷ more in
-    let none = none_begun m r.begun b.between r.at.1 in
-    let parts : words ≡ r.whole ++ first ∷ word_on code code_line ∷ more = grind (arith, append-nil) in
-    error_shown words line fault (elim (refuses r.state (sym r.at.0.tick) r.at.0.variables) [
-      | inl memory ↦ inl memory
-      | inr row ↦ inr (shown_by words r.whole (first ∷ []) more (word_on code code_line) r.items r.state line fault
-          (record { allowed = r.allowed; state_is = r.state_is }) parts r.spelled
-          (subst (λ t. WordFault r.state (t ∷ []) code fault) (sym b.spelled)
-          (vector_shown m r.state b.letter digits code fault r.at.0 b.in_body b.among row))
-          (ap (λ in_body. fault_line in_body (first ∷ []) (word_on code code_line)) (sym b.in_body
-          ∙ r.at.0.in_body)))
     ])

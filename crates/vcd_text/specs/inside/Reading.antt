@@ -140,14 +140,6 @@ AllWordsResult words_so_far words (Err e) new = (e ≡ memory_error) ⊎ ShowsFa
 abbrev pub is_complete : Reader → Bool
 is_complete m = m.in_body && is_nothing m.item
 
--- the next word begins a change by a binary number, with these digits
-pub record BeginsVector (m : Reader) (text digits : List ℕ) : Type 0 where
-  pub between : m.item ≡ items.Nothing
-  pub in_body : IsTrue m.in_body
-  pub letter : ℕ
-  pub spelled : text ≡ letter ∷ digits
-  pub among : IsTrue (is_among vector_prefixes letter)
-
 -- the file whose words have been taken means these contents, with this number of skipped variables
 pub record Means (m : Reader) (contents : Contents) (skipped : ℕ) : Type 0 where
   pub sound : (bytes : List ℕ) → HasTakenWords m (words_of bytes) → IsSound contents

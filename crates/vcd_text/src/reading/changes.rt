@@ -1,14 +1,14 @@
 //! The words of changes: stamps, values, the words of dumps, and commands that are passed over.
 //!
 //! A change takes one look-up of its code and one push: of a narrow variable to the log, of a wide
-//! one to its wave. Digits are kept only for a change by a binary number whose code has not come
-//! yet, in room that is reused.
+//! one to its wave. The digits of a change by a binary number are kept until its code comes, in room
+//! that is reused.
 
-ghost use Rattle.std.specs.Prelude.{◌≡◌, ◌<◌, ◌∷◌, ℕ, List, true, false, length, Ok, IfSome, codes};
+ghost use Rattle.std.specs.Prelude.{◌≡◌, ◌<◌, ◌∷◌, ℕ, List, true, false, length, Ok, codes};
 ghost use Rattle.vcd_text.specs.Words.{word_on};
 ghost use Rattle.vcd_text.specs.Letters.{is_among, is_binary_digit as digit_test};
 ghost use Rattle.vcd_text.specs.Items.{is_command, vector_prefixes, real_or_string_prefixes};
-ghost use Rattle.vcd_text.specs.inside.Reading.{IsUnderway, WordResult, BeginsVector};
+ghost use Rattle.vcd_text.specs.inside.Reading.{IsUnderway, WordResult};
 ghost use Rattle.vcd_text.specs.declared.reading.reader.OpenItem.TheVariants as items;
 
 use crate::fault::Fault;
@@ -108,19 +108,6 @@ impl Reader {
         let digits = [digit];
         self.variables
             .change(alloc, code, self.tick, digits.as_slice())
-    }
-
-    /// The digits of this word, if it begins a change by a binary number.
-    pub fn digits_of_vector<'a>(&self, text: &'a [u8]) -> Option<&'a [u8]>
-        ensures { IfSome result (λ digits. BeginsVector self.now text.now digits.now) }
-    {
-        if self.item != OpenItem::Nothing {
-            return None;
-        }
-        match text {
-            [first, digits @ ..] if self.in_body && is_vector_prefix(*first) => Some(digits),
-            _ => None,
-        }
     }
 
     /// Begins a change by a binary number, and keeps its digits.

@@ -7,13 +7,12 @@ ghost use Rattle.vcd_core.specs.Word.{is_white_space as white};
 ghost use Rattle.vcd_core.specs.Contents.{contents};
 ghost use Rattle.vcd_core.specs.Sound.{IsSound};
 ghost use Rattle.vcd_text.specs.Words.{words_from, PlacedWord as WordInFile};
-ghost use Rattle.vcd_text.specs.LentWords.{word_contents};
 ghost use Rattle.vcd_text.specs.Meaning.{FileMeans};
 ghost use Rattle.vcd_text.specs.FoundFaults.{FoundFault};
 ghost use Rattle.vcd_text.specs.Refusals.{IsRefusal};
 ghost use Rattle.vcd_text.specs.MemoryErrors.{memory_error};
 ghost use Rattle.vcd_text.specs.inside.Spaces.{has_complete_words};
-ghost use Rattle.vcd_text.specs.inside.Reading.{HasTakenWords, IsUnderway, WordsResult, WordCountFits, AllWordsResult, is_complete};
+ghost use Rattle.vcd_text.specs.inside.Reading.{HasTakenWords, WordCountFits, AllWordsResult, is_complete};
 ghost use Rattle.vcd_text.specs.inside.WordWalk.{words_left, line_feeds_at_end, LinesFit};
 ghost use Rattle.vcd_text.specs.inside.Chunks.{HasReadBytes, ProgressMatches, HasUntakenChunk, TakesChunk};
 
@@ -21,7 +20,7 @@ use crate::fault::{Fault, ReadError};
 use crate::reading::read_buffer::ReadBuffer;
 use crate::reading::reader::Reader;
 use crate::reading::{FILE_LIMIT, Loaded};
-use crate::words::{PlacedWord, WordWalk};
+use crate::words::WordWalk;
 use std::alloc::Global;
 use vcd_core::{Source, is_white_space};
 
@@ -170,31 +169,8 @@ fn read_words(reader: &mut Reader, alloc: Global, words: WordWalk) -> Result<u64
     ensures line_feeds { IfOk result (λ line_feeds. line_feeds ≡ line_feeds_at_end words.entry) }
 {
     let mut left = words;
-    while let Some(first) = left.next_word() {
-        take_from(reader, alloc, first, &mut left)?;
+    while let Some(word) = left.next_word() {
+        reader.take_word(alloc, word.text, word.line)?;
     }
     Ok(left.line_feeds)
-}
-
-/// Takes this word, and also the code after it if it begins a change by a binary number.
-fn take_from(
-    reader: &mut Reader,
-    alloc: Global,
-    first: PlacedWord,
-    words: &mut WordWalk,
-) -> Result<(), ReadError>
-    requires reading { IsUnderway reader.old }
-    requires word { 0 < length first.text.now }
-    requires lines { LinesFit words.old }
-    ensures words { (code_words : List WordInFile) × (words_left words.old ≡ code_words ++ words_left words.new)
-        × WordsResult reader.old (word_contents first.entry ∷ code_words) result reader.new }
-    ensures lines { LinesFit words.new }
-    ensures line_feeds { line_feeds_at_end words.new ≡ line_feeds_at_end words.old }
-{
-    if let Some(digits) = reader.digits_of_vector(first.text) {
-        if let Some(code) = words.next_word() {
-            return reader.take_vector(alloc, digits, code.text, first.line);
-        }
-    }
-    reader.take_word(alloc, first.text, first.line)
 }

@@ -1,12 +1,12 @@
 //! The reader, which takes one word after another.
 
-ghost use Rattle.std.specs.Prelude.{◌≡◌, ◌<◌, ◌∷◌, [], ℕ, List, true, length, IfOk};
+ghost use Rattle.std.specs.Prelude.{◌≡◌, ◌<◌, ◌∷◌, [], true, length, IfOk};
 ghost use Rattle.vcd_text.specs.Grammar.{ParseState};
 ghost use Rattle.vcd_text.specs.inside.Variables.{VariablesMatch};
 ghost use Rattle.vcd_core.specs.Contents.{contents};
 ghost use Rattle.vcd_text.specs.Words.{word_on};
 ghost use Rattle.vcd_text.specs.inside.OpenItems.{item_fault_line};
-ghost use Rattle.vcd_text.specs.inside.Reading.{HasTakenWords, IsUnderway, WordResult, WordsResult, is_complete, BeginsVector, Means};
+ghost use Rattle.vcd_text.specs.inside.Reading.{HasTakenWords, IsUnderway, WordResult, WordsResult, is_complete, Means};
 
 use crate::fault::{Fault, ReadError};
 use crate::reading::Loaded;
@@ -84,25 +84,6 @@ impl Reader {
         match self.take(alloc, text, line) {
             Ok(()) => Ok(()),
             Err(fault) => Err(ReadError::at(shown, fault)),
-        }
-    }
-
-    /// Takes both words of a change by a binary number: the code, and these digits, which follow
-    /// the letter of the first word on this line.
-    pub fn take_vector(
-        &mut self,
-        alloc: Global,
-        digits: &[u8],
-        code: &[u8],
-        line: u64,
-    ) -> Result<(), ReadError>
-        requires reading { IsUnderway self.old }
-        ensures { (text : List ℕ) (code_line : ℕ) → BeginsVector self.old text digits.now →
-            WordsResult self.old (word_on text line ∷ word_on code.now code_line ∷ []) result self.new }
-    {
-        match self.variables.change(alloc, code, self.tick, digits) {
-            Ok(()) => Ok(()),
-            Err(fault) => Err(ReadError::at(line, fault)),
         }
     }
 

@@ -4,13 +4,13 @@ use Rattle.vcd_text.specs.inside.Reading.{HasTakenWords}
 use Rattle.vcd_text.specs.inside.WordWalk.{words_left, line_feeds_at_end, LinesFit}
 use Rattle.vcd_text.proofs.reading.chunks.read_words.Given as goal
 
-abbrev pub invariant-loop-first : goal.invariant-loop-first
-invariant-loop-first l =
+abbrev pub invariant-loop-word : goal.invariant-loop-word
+invariant-loop-word l =
     ((came : List PlacedWord) × (words_left l.fn.words ≡ came ++ words_left l.left)
     × ((words_so_far : List PlacedWord) → HasTakenWords l.fn.reader words_so_far
     → HasTakenWords l.reader (words_so_far ++ came)))
     × LinesFit l.left
     × (line_feeds_at_end l.left ≡ line_feeds_at_end l.fn.words)
 
-abbrev pub decreases-loop-first : goal.decreases-loop-first
-decreases-loop-first l = length {A = PlacedWord} (words_left l.left)
+abbrev pub decreases-loop-word : goal.decreases-loop-word
+decreases-loop-word l = length {A = PlacedWord} (words_left l.left)
