@@ -1,13 +1,15 @@
 -- The changes before a tick, and the list after a push at its end.
 use Rattle.std.proofs.Common.{◌≡◌, ◌≢◌, ℕ, zero, suc, ◌+◌, ◌<◌, ◌≤◌, Bool, true, false, if◌then◌else◌, cond, nat_le}
 use Rattle.std.proofs.Common.{nat_lt, List, [], ◌∷◌, ◌++◌, length, take, get_or, All, Any, refl, sym, ap, subst, ◌∙◌}
-use Rattle.std.proofs.Common.{◌⊎◌, inl, inr, arith}
+use Rattle.std.proofs.Common.{◌⊎◌, None, inl, inr, arith}
 use Rattle.std.specs.List.{count_by}
 use Rattle.std.proofs.lemmas.Bool.{cases_lt, cases_eq, lt-leb, le-leb, lt-ltb, le-ltb}
 use Rattle.std.proofs.lemmas.List.Sums.{take_while-cons, prefix_len_is, sum_by-cons}
 use Rattle.std.proofs.lemmas.List.Elements.{All-cons, All-head, All-tail}
 use Rattle.vcd_core.specs.declared.bit.Bit.{Bit}
 use Rattle.vcd_core.specs.declared.wave.Change.{Change}
+use Rattle.vcd_core.specs.declared.wave_list.WaveList.{WaveList}
+use Rattle.vcd_core.specs.inside.WaveLists.{changes_of_list}
 use Rattle.vcd_core.specs.Value.{all_x, same_letters}
 use Rattle.vcd_core.specs.inside.ValueLaws.{same_letters-Decides}
 use Rattle.vcd_core.specs.Wave.{change, value_from, value_at, AreChangesFrom, IsWave, AllUpTo, last_value}
@@ -374,3 +376,7 @@ last_upto end cs rest last split upto = reach rest (subst (AllUpTo end) split up
     reach : (rest : List Change) → AllUpTo end (rest ++ last ∷ []) → last.tick ≤ end
     reach [] upto = upto.0
     reach (c ∷ rest) upto = reach rest upto.1
+
+-- the changes of a wave that shares no list are those of its own
+pub own_changes : (l : WaveList) → l.shared ≡ None → l.own.items ≡ changes_of_list l
+own_changes l own = ap (λ shared. changes_of_list (record l { shared = shared })) (sym own)

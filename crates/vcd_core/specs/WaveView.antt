@@ -1,11 +1,11 @@
 -- The view that contracts have of a wave.
-use Rattle.std.specs.Prelude.{ℕ, List}
+use Rattle.std.specs.Prelude.{ℕ, Bool, List}
 use Rattle.vcd_core.specs.declared.wave.Change.{Change}
 
--- a wave as contracts see it: its width in bits, its changes, and the room of its own list and of the list that a
--- splice makes of it; a room is one more than the changes that fit without memory, or 0 if the list is shared
+-- a wave as contracts see it: its width in bits, its changes, whether it shares their list with other waves, and the
+-- capacity of its own list or, while it shares one, of the memory in which a splice makes it an own list
 pub record WaveView : Type 0 where
   pub width : ℕ
   pub changes : List Change
-  pub room : ℕ
-  pub splice_room : ℕ
+  pub is_shared : Bool
+  pub capacity : ℕ

@@ -82,7 +82,7 @@ fn make_room(changes: &mut Vec<Change>) -> Result<(), NoMemory>
 }
 
 /// Puts a change after the others, for which there is room.
-fn push_change_in_room(changes: &mut Vec<Change>, change: Change)
+pub(crate) fn push_change_in_room(changes: &mut Vec<Change>, change: Change)
     requires { vec_len changes.old < vec_capacity changes.old }
     ensures changes { changes.new.items ≡ changes.old.items ++ change ∷ [] }
     ensures room { vec_capacity changes.new ≡ vec_capacity changes.old }

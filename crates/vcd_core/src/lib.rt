@@ -24,7 +24,6 @@ mod scope_path;
 mod searching;
 mod seq;
 mod soundness;
-mod spliced_copy;
 mod splicing;
 mod text_end;
 mod value;

@@ -1,6 +1,6 @@
 //! The values of a signal over time.
 
-ghost use Rattle.std.specs.Prelude.{◌≡◌, ℕ, ◌+◌, ◌-◌, ◌<◌, ◌≤◌, if◌then◌else◌, nat_lt, nat_le, max, [], ◌∷◌, length, drop, slice_range, count_by, IsOk, IfOk, OnOk, OnErr, All, Any, vec_len, vec_capacity};
+ghost use Rattle.std.specs.Prelude.{◌≡◌, ℕ, ◌+◌, ◌-◌, ◌<◌, ◌≤◌, if◌then◌else◌, nat_lt, nat_le, max, [], ◌∷◌, length, drop, slice_range, count_by, IsOk, IfOk, OnOk, OnErr, All, Any, true, false, None, vec_len, vec_capacity};
 ghost use Rattle.vcd_core.specs.Wave.{value_at, IsWave, changes_after_push};
 ghost use Rattle.vcd_core.specs.WordRows.{letters_of};
 ghost use Rattle.vcd_core.specs.Splice.{AllTicksFit, spliced_changes};
@@ -10,6 +10,7 @@ use crate::change_list::{last_value, push_change, push_word_change};
 use crate::letter_word::LetterWord;
 use crate::memory::NoMemory;
 use crate::searching::count_until_near;
+use crate::splicing::{copy_spliced, splice_changes};
 use crate::value::{Value, WIDTH_LIMIT};
 use crate::wave_list::WaveList;
 use std::alloc::Global;
@@ -30,9 +31,9 @@ pub struct Change {
 /// A wave has its own list, or shares it with others ([`Wave::share`]). An operation that changes a
 /// wave gives it its own list first, so the other waves stay unchanged.
 ///
-/// Contracts see the width in bits, the changes, and two numbers of room. The first is one more
-/// than the number of changes that fit the wave's own list, and 0 if the list is shared. The second
-/// is the same for the list that [`Wave::splice`] makes; it is 0 if that would need memory.
+/// Contracts see the width in bits, the changes, whether the list is shared, and a capacity: that of
+/// the wave's own list. While it shares one, that of the memory in which [`Wave::splice`] makes its
+/// own.
 #[derive(Drop)]
 pub struct Wave {
     width: u64,
@@ -40,8 +41,8 @@ pub struct Wave {
 }
 
 impl Model for Wave {
-    ghost use Rattle.std.specs.Prelude.{◌≤◌};
-    ghost use Rattle.vcd_core.specs.inside.WaveLists.{changes_of_list, room_of_list, splice_room_of_list};
+    ghost use Rattle.std.specs.Prelude.{◌≤◌, is_some, vec_capacity};
+    ghost use Rattle.vcd_core.specs.inside.WaveLists.{changes_of_list};
     ghost use Rattle.vcd_core.specs.WaveView.{WaveView};
     ghost use Rattle.vcd_core.specs.Wave.{IsWave};
     ghost use Rattle.vcd_core.specs.declared.value.TheConstants.{WIDTH_LIMIT};
@@ -51,8 +52,8 @@ impl Model for Wave {
     ghost view = { λ w. record {
       width = w.width;
       changes = changes_of_list w.list;
-      room = room_of_list w.list;
-      splice_room = splice_room_of_list w.list;
+      is_shared = is_some w.list.shared;
+      capacity = vec_capacity w.list.own;
     } };
 
     ghost invariant = { λ w.
@@ -66,10 +67,14 @@ impl Wave {
         requires most { width ≤ WIDTH_LIMIT }
         ensures width { result.width ≡ width }
         ensures changes { result.changes ≡ [] }
+        ensures is_own { result.is_shared ≡ false }
     {
         Wave {
             width,
-            list: WaveList::Own(Vec::new(alloc)),
+            list: WaveList {
+                shared: None,
+                own: Vec::new(alloc),
+            },
         }
     }
 
@@ -140,24 +145,25 @@ impl Wave {
         ensures refused { OnErr result (self.new.changes ≡ self.old.changes) }
 
         // A wave with its own list succeeds where there is room for one change, or none is added.
-        ensures in_place { length self.old.changes + 1 < self.old.room → IsOk result }
-        ensures replaces { 0 < self.old.room → Any (λ c. c.tick ≡ tick) self.old.changes
+        ensures in_place { self.old.is_shared ≡ false
+            → length self.old.changes + 1 ≤ self.old.capacity → IsOk result }
+        ensures replaces { self.old.is_shared ≡ false → Any (λ c. c.tick ≡ tick) self.old.changes
             → IsOk result }
-        ensures adds_none { 0 < self.old.room → value_at self.old.width self.old.changes tick ≡ value → IsOk result }
-        ensures room { self.old.room ≤ self.new.room }
+        ensures adds_none { self.old.is_shared ≡ false → value_at self.old.width self.old.changes tick ≡ value → IsOk result }
+        ensures is_own { OnOk result (self.new.is_shared ≡ false) }
+        ensures stays_own { self.old.is_shared ≡ false → self.new.is_shared ≡ false }
+        ensures room { self.old.is_shared ≡ false → self.old.capacity ≤ self.new.capacity }
 
         // That room stays as it is; without any, room for at least `LEAST_ROOM` changes is made,
         // and for no more than there are.
-        ensures kept_room { length self.old.changes + 1 < self.old.room →
-            self.new.room ≡ self.old.room }
-        ensures grown_room { 0 < self.old.room → self.new.room ≤ max self.old.room
-            (length self.old.changes + max (length self.old.changes) LEAST_ROOM + 1) }
+        ensures kept_room { self.old.is_shared ≡ false
+            → length self.old.changes + 1 ≤ self.old.capacity
+            → self.new.capacity ≡ self.old.capacity }
+        ensures grown_room { self.old.is_shared ≡ false → self.new.capacity
+            ≤ max self.old.capacity (length self.old.changes + max (length self.old.changes) LEAST_ROOM) }
     {
         self.list.make_own(1)?;
-        match &mut self.list {
-            WaveList::Own(list) => push_change(list, self.width, tick, value)?,
-            _ => unreachable!(),
-        }
+        push_change(&mut self.list.own, self.width, tick, value)?;
         Ok(())
     }
 
@@ -177,25 +183,26 @@ impl Wave {
         ensures refused { OnErr result (self.new.changes ≡ self.old.changes) }
 
         // A wave with its own list succeeds where there is room for one change, or none is added.
-        ensures in_place { length self.old.changes + 1 < self.old.room → IsOk result }
-        ensures replaces { 0 < self.old.room → Any (λ c. c.tick ≡ tick) self.old.changes
+        ensures in_place { self.old.is_shared ≡ false
+            → length self.old.changes + 1 ≤ self.old.capacity → IsOk result }
+        ensures replaces { self.old.is_shared ≡ false → Any (λ c. c.tick ≡ tick) self.old.changes
             → IsOk result }
-        ensures adds_none { 0 < self.old.room → let value = letters_of self.old.width (word ∷ []) in
+        ensures adds_none { self.old.is_shared ≡ false → let value = letters_of self.old.width (word ∷ []) in
             value_at self.old.width self.old.changes tick ≡ value → IsOk result }
-        ensures room { self.old.room ≤ self.new.room }
+        ensures is_own { OnOk result (self.new.is_shared ≡ false) }
+        ensures stays_own { self.old.is_shared ≡ false → self.new.is_shared ≡ false }
+        ensures room { self.old.is_shared ≡ false → self.old.capacity ≤ self.new.capacity }
 
         // That room stays as it is; without any, room for at least `LEAST_ROOM` changes is made,
         // and for no more than there are.
-        ensures kept_room { length self.old.changes + 1 < self.old.room →
-            self.new.room ≡ self.old.room }
-        ensures grown_room { 0 < self.old.room → self.new.room ≤ max self.old.room
-            (length self.old.changes + max (length self.old.changes) LEAST_ROOM + 1) }
+        ensures kept_room { self.old.is_shared ≡ false
+            → length self.old.changes + 1 ≤ self.old.capacity
+            → self.new.capacity ≡ self.old.capacity }
+        ensures grown_room { self.old.is_shared ≡ false → self.new.capacity
+            ≤ max self.old.capacity (length self.old.changes + max (length self.old.changes) LEAST_ROOM) }
     {
         self.list.make_own(1)?;
-        match &mut self.list {
-            WaveList::Own(list) => push_word_change(list, self.width, tick, word)?,
-            _ => unreachable!(),
-        }
+        push_word_change(&mut self.list.own, self.width, tick, word)?;
         Ok(())
     }
 
@@ -219,18 +226,29 @@ impl Wave {
     /// Gives the wave its own list with room for `more` changes. The changes of the wave stay the
     /// same, also if the memory is refused.
     ///
-    /// It takes no memory if the room is there already. A shared list that no other wave has any
+    /// It takes no memory if the room is there already. Else the list is at least doubled, so that a
+    /// list that grows change by change is seldom moved. A shared list that no other wave has any
     /// more is taken back; otherwise its changes are copied.
     pub fn reserve(&mut self, more: usize) -> Result<(), NoMemory>
         ensures width { self.new.width ≡ self.old.width }
         ensures changes { self.new.changes ≡ self.old.changes }
-        ensures room { OnOk result (length self.old.changes + more < self.new.room) }
-        ensures in_place { length self.old.changes + more < self.old.room → IsOk result }
-        ensures never_less { self.old.room ≤ self.new.room }
-        ensures splice_room { self.new.room ≤ self.new.splice_room }
-        ensures refused { OnErr result (0 < self.old.room → self.new.room ≡ self.old.room) }
+        ensures is_own { OnOk result (self.new.is_shared ≡ false) }
+        ensures stays_own { self.old.is_shared ≡ false → self.new.is_shared ≡ false }
+        ensures room { OnOk result (length self.old.changes + more ≤ self.new.capacity) }
+        ensures in_place { self.old.is_shared ≡ false
+            → length self.old.changes + more ≤ self.old.capacity → IsOk result }
+        ensures never_less { self.old.is_shared ≡ false → self.old.capacity ≤ self.new.capacity }
+        ensures refused { OnErr result (self.old.is_shared ≡ false →
+            self.new.capacity ≡ self.old.capacity) }
+        ensures grown_room { self.old.is_shared ≡ false → self.new.capacity
+            ≤ max self.old.capacity (length self.old.changes + max (length self.old.changes) more) }
     {
-        self.list.reserve(more)
+        self.list.make_own(more)?;
+        let list = &mut self.list.own;
+        if list.capacity() - list.len() < more {
+            list.reserve_exact(list.len().max(more))?;
+        }
+        Ok(())
     }
 
     /// Does what [`Wave::reserve`] does. If it takes memory, there is no more room than
@@ -238,15 +256,20 @@ impl Wave {
     pub fn reserve_exact(&mut self, more: usize) -> Result<(), NoMemory>
         ensures width { self.new.width ≡ self.old.width }
         ensures changes { self.new.changes ≡ self.old.changes }
-        ensures room { OnOk result (length self.old.changes + more < self.new.room) }
-        ensures exact { OnOk result (0 < self.old.room →
-            self.new.room ≡ max self.old.room (length self.old.changes + more + 1)) }
-        ensures in_place { length self.old.changes + more < self.old.room → IsOk result }
-        ensures never_less { self.old.room ≤ self.new.room }
-        ensures splice_room { self.new.room ≤ self.new.splice_room }
-        ensures refused { OnErr result (0 < self.old.room → self.new.room ≡ self.old.room) }
+        ensures is_own { OnOk result (self.new.is_shared ≡ false) }
+        ensures stays_own { self.old.is_shared ≡ false → self.new.is_shared ≡ false }
+        ensures room { OnOk result (length self.old.changes + more ≤ self.new.capacity) }
+        ensures exact { OnOk result (self.old.is_shared ≡ false →
+            self.new.capacity ≡ max self.old.capacity (length self.old.changes + more)) }
+        ensures in_place { self.old.is_shared ≡ false
+            → length self.old.changes + more ≤ self.old.capacity → IsOk result }
+        ensures never_less { self.old.is_shared ≡ false → self.old.capacity ≤ self.new.capacity }
+        ensures refused { OnErr result (self.old.is_shared ≡ false →
+            self.new.capacity ≡ self.old.capacity) }
     {
-        self.list.reserve_exact(more)
+        self.list.make_own(more)?;
+        self.list.own.reserve_exact(more)?;
+        Ok(())
     }
 
     /// Makes room for a [`Wave::splice`] of these places and of this piece. The changes of the
@@ -267,24 +290,41 @@ impl Wave {
         ensures width { self.new.width ≡ self.old.width }
         ensures changes { self.new.changes ≡ self.old.changes }
         ensures room { OnOk result (length self.old.changes + length piece.now
-            < self.new.splice_room + (to - from)) }
+            ≤ self.new.capacity + (to - from)) }
         ensures in_place { length self.old.changes + length piece.now
-            < self.old.splice_room + (to - from) → IsOk result }
-        ensures never_less { self.old.splice_room ≤ self.new.splice_room }
-        ensures own_room { self.old.room ≤ self.new.room }
-        ensures refused { OnErr result (0 < self.old.room → self.new.room ≡ self.old.room) }
+            ≤ self.old.capacity + (to - from) → IsOk result }
+        ensures stays_own { self.old.is_shared ≡ false → self.new.is_shared ≡ false }
+        ensures never_less { self.old.capacity ≤ self.new.capacity }
+        ensures refused { OnErr result (self.old.is_shared ≡ false →
+            self.new.capacity ≡ self.old.capacity) }
+        ensures grown_room { self.old.is_shared ≡ false → self.new.capacity ≤ max self.old.capacity
+            (length self.old.changes + max (length self.old.changes) (length piece.now - (to - from))) }
+        ensures exact { self.new.is_shared ≡ true → self.new.capacity
+            ≤ max self.old.capacity (length self.old.changes + length piece.now - (to - from)) }
     {
-        self.list.reserve_splice(to - from, piece)
+        if self.list.own.capacity() == 0 {
+            self.list.take_back();
+        }
+        if self.list.shared.is_none() {
+            return self.reserve(piece.len().saturating_sub(to - from));
+        }
+        let count = self.list.as_slice().len() - (to - from) + piece.len();
+        self.list.own.truncate(0);
+        self.list.own.reserve_exact(count)?;
+        Ok(())
     }
 
     /// Frees the memory that [`Wave::reserve_splice`] took in addition to a shared list.
     pub fn cancel_splice(&mut self)
         ensures width { self.new.width ≡ self.old.width }
         ensures changes { self.new.changes ≡ self.old.changes }
-        ensures room { self.new.room ≡ self.old.room }
-        ensures given_back { self.new.splice_room ≡ self.new.room }
+        ensures stays { self.new.is_shared ≡ self.old.is_shared }
+        ensures stays_own { self.old.is_shared ≡ false → self.new.capacity ≡ self.old.capacity }
+        ensures given_back { self.new.is_shared ≡ true → self.new.capacity ≡ 0 }
     {
-        self.list.cancel_splice();
+        if self.list.shared.is_some() {
+            self.list.own = Vec::new(*self.list.own.allocator());
+        }
     }
 
     /// Swaps the changes at places `from` to before `to` with the contents of `piece`, and moves
@@ -297,7 +337,7 @@ impl Wave {
         requires ordered { from ≤ to }
         requires within { to ≤ length self.old.changes }
         requires room { length self.old.changes + vec_len piece.old
-            < self.old.splice_room + (to - from) }
+            ≤ self.old.capacity + (to - from) }
         requires piece_room { to - from ≤ vec_capacity piece.old }
         requires ticks { AllTicksFit by (drop to self.old.changes) }
         requires form { IsWave self.old.width
@@ -309,10 +349,14 @@ impl Wave {
         ensures piece { piece.new.items ≡ slice_range self.old.changes from to }
 
         // The list is the wave's own, and both sides keep their room.
-        ensures own_room { self.old.splice_room ≤ self.new.room }
+        ensures is_own { self.new.is_shared ≡ false }
+        ensures own_room { self.old.capacity ≤ self.new.capacity }
         ensures piece_capacity { vec_capacity piece.old ≤ vec_capacity piece.new }
     {
-        self.list.splice(from, to, piece, by);
+        match self.list.shared.take() {
+            Some(list) => copy_spliced(&mut self.list.own, list.as_slice(), from, to, piece, by),
+            None => splice_changes(&mut self.list.own, from, to, piece, by),
+        }
     }
 
     /// Gives back the room that the wave's own list does not need.

@@ -1,6 +1,7 @@
 -- Worked cases of an I2C bus.
 use Rattle.std.proofs.Common.{◌≡◌, refl}
 use Rattle.std.specs.Prelude.{ℕ, zero, suc, ◌+◌, ◌/◌, ◌%◌, ◌^◌, ◌==◌, if◌then◌else◌, None, List, [], ◌∷◌, ◌++◌, map}
+use Rattle.std.specs.Prelude.{false}
 use Rattle.vcd_core.specs.declared.bit.Bit.{Bit}
 use Rattle.vcd_core.specs.declared.bit.Bit.TheVariants.{Zero, One, X, Z}
 use Rattle.vcd_core.specs.declared.wave.Change.{Change}
@@ -45,8 +46,8 @@ clock n = from 0 One ∷ from 15 Zero ∷ beats 20 n
 -- the annotations of the changes of SCL and SDA
 abbrev annotations : List Change → List Change → ℕ → List Annotation
 annotations scl sda end =
-    i2c_annotations (line_of (record { width = 1; changes = scl; room = 0; splice_room = 0 }))
-    (line_of (record { width = 1; changes = sda; room = 0; splice_room = 0 })) end
+    i2c_annotations (line_of (record { width = 1; changes = scl; is_shared = false; capacity = 0 }))
+    (line_of (record { width = 1; changes = sda; is_shared = false; capacity = 0 })) end
 
 -- an address and its acknowledge; one bit follows them, the rise of SCL before STOP
 address_of_seven_bits : annotations (clock 9) (turns One Zero (0 ∷ 10 ∷ 17 ∷ 27 ∷ 37 ∷ 47 ∷ 115 ∷ [])) 120

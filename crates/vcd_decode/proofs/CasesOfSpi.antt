@@ -1,6 +1,6 @@
 -- Worked cases: the words in small captures of SPI lines.
 use Rattle.std.proofs.Common.{◌≡◌, refl}
-use Rattle.std.specs.Prelude.{ℕ, ◌+◌, ◌*◌, Option, Some, None, List, [], ◌∷◌, map}
+use Rattle.std.specs.Prelude.{ℕ, ◌+◌, ◌*◌, Option, Some, None, false, List, [], ◌∷◌, map}
 use Rattle.std.specs.List.{flat_map, range_with_len}
 use Rattle.std.specs.Option.{option_map}
 use Rattle.vcd_core.specs.declared.bit.Bit.{Bit}
@@ -25,9 +25,8 @@ line : List (ℕ × Bit) → ℕ → Bit
 line changes = line_of (record {
   width = 1;
   changes = map (λ c. change c.0 (c.1 ∷ [])) changes;
-  room = 0;
-  splice_room =
-      0;
+  is_shared = false;
+  capacity = 0;
 })
 
 -- the words of the lines: clock, MOSI, MISO, chip select

@@ -1,6 +1,6 @@
 -- Worked cases: the frames in small captures of a UART line.
 use Rattle.std.proofs.Common.{◌≡◌, refl}
-use Rattle.std.specs.Prelude.{ℕ, ◌+◌, ◌-◌, ◌*◌, ◌/◌, List, [], ◌∷◌, map, Some}
+use Rattle.std.specs.Prelude.{ℕ, ◌+◌, ◌-◌, ◌*◌, ◌/◌, List, [], ◌∷◌, map, Some, false}
 use Rattle.std.specs.Prelude as no_fault
 use Rattle.vcd_core.specs.declared.bit.Bit.{Bit}
 use Rattle.vcd_core.specs.declared.bit.Bit.TheVariants.{Zero, One, X, Z}
@@ -24,8 +24,8 @@ found changes end u =
     uart_annotations (line_of (record {
       width = 1;
       changes = map (λ c. change c.0 (c.1 ∷ [])) changes;
-      room = 0;
-      splice_room = 0;
+      is_shared = false;
+      capacity = 0;
     })) end u
 
 -- 0x41 with eight data bits, and with nine
@@ -195,8 +195,8 @@ at_the_last_tick : begun_frame
     (line_of (record {
       width = 1;
       changes = change 0 (One ∷ []) ∷ change last_start (Zero ∷ []) ∷ [];
-      room = 0;
-      splice_room = 0;
+      is_shared = false;
+      capacity = 0;
     })) END_LIMIT (uart_setup RATIO_LIMIT 1 9 Odd 2) last_start
     ≡ Some (annotation last_start END_LIMIT FrameError)
 unfolding longest last_start begun_frame sample_offset value_from
@@ -206,8 +206,8 @@ past_the_last_tick : begun_frame
     (line_of (record {
       width = 1;
       changes = change 0 (One ∷ []) ∷ change (last_start + 1) (Zero ∷ []) ∷ [];
-      room = 0;
-      splice_room = 0;
+      is_shared = false;
+      capacity = 0;
     })) END_LIMIT (uart_setup RATIO_LIMIT 1 9 Odd 2) (last_start + 1)
     ≡ Some (annotation (last_start + 1) END_LIMIT Partial)
 unfolding longest last_start begun_frame sample_offset value_from

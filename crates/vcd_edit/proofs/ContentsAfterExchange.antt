@@ -70,7 +70,7 @@ wave_is_there signals k s within is = get_or-map (λ (t : Signal). t.wave) signa
 
 -- if one wave has no less room, none has
 pub rooms_grow : (signals : List Signal) (k : ℕ) (s : Signal) (w : WaveView) → k < length signals
-    → s ≡ get_or signals k s → w.changes ≡ s.wave.changes → s.wave.splice_room ≤ w.splice_room
+    → s ≡ get_or signals k s → w.changes ≡ s.wave.changes → s.wave.capacity ≤ w.capacity
     → (j : ℕ) → HasNoLessRoom (wave_at signals j) (wave_at (set signals k (record s { wave = w })) j)
 rooms_grow signals k s w within is same more j =
     elim (cases_eq j k) [

@@ -1,6 +1,6 @@
 -- Walks over the pieces of a record: what holds after one more piece.
-use Rattle.std.proofs.Common.{vec_len, ◌-◌, ◌≡◌, ◌≢◌, ℕ, ◌+◌, ◌<◌, List, [], ◌∷◌, ◌++◌, length, take, drop, map, get_or}
-use Rattle.std.proofs.Common.{set, All, sym, ap, subst, ◌∙◌, arith}
+use Rattle.std.proofs.Common.{vec_len, ◌-◌, ◌≡◌, ◌≢◌, ℕ, ◌+◌, ◌<◌, ◌≤◌, List, [], ◌∷◌, ◌++◌, length, take, drop, map}
+use Rattle.std.proofs.Common.{get_or, set, All, sym, ap, subst, ◌∙◌, arith}
 use Rattle.std.proofs.lemmas.List.{length-map, length-drop, get_or-map, get_or-drop, set-get_or, map-set, map-append}
 use Rattle.std.proofs.lemmas.List.{drop-set-lt, drop-drop, drop_more, take_more, take_more_set}
 use Rattle.std.proofs.lemmas.List.Elements.{All-head, All-tail, All-push}
@@ -97,7 +97,7 @@ module _ (before : Contents) (old new : List Piece) (i : ℕ) (x y : Piece) (now
       subst (λ (q : PieceView). q.signal ≢ x.signal) (get_or-map piece_view (drop (i + 1) old) k d (piece_view d) less)
       (others k (piece_view d) (omega (arith, less, length-map (drop (i + 1) old) piece_view))) in
       record {
-        wave = subst (λ (w : WaveView). length w.changes + vec_len p.changes < w.splice_room + (p.to - p.from))
+        wave = subst (λ (w : WaveView). length w.changes + vec_len p.changes ≤ w.capacity + (p.to - p.from))
             (sym (kept p.signal other)) room.wave;
         piece = room.piece;
       }

@@ -2,7 +2,6 @@
 
 mod exchanges;
 mod reservations;
-mod spare_room;
 mod trimming;
 
 pub(crate) use exchanges::exchange_pieces;

@@ -1,23 +1,13 @@
 -- The lists of changes of waves.
-use Rattle.std.specs.Prelude.{ℕ, suc, List, vec_capacity}
+use Rattle.std.specs.Prelude.{ℕ, List, max, vec_capacity}
+use Rattle.std.specs.Option.{option_map_or}
 use Rattle.vcd_core.specs.declared.wave.Change.{Change}
 use Rattle.vcd_core.specs.declared.wave_list.WaveList.{WaveList}
-use Rattle.vcd_core.specs.declared.wave_list.WaveList.TheVariants.{Own, Shared, SharedWithRoom}
 
--- the changes of a list
+-- the changes: those of the shared list, or else of the wave's own
 abbrev pub changes_of_list : WaveList → List Change
-changes_of_list (Own list) = list.items
-changes_of_list (Shared list) = list.value.items
-changes_of_list (SharedWithRoom list room) = list.value.items
+changes_of_list l = option_map_or (λ list. list.value.items) l.shared l.own.items
 
--- one more than the changes that a wave's own list can have; 0 where it is shared
-abbrev pub room_of_list : WaveList → ℕ
-room_of_list (Own list) = suc (vec_capacity list)
-room_of_list (Shared list) = 0
-room_of_list (SharedWithRoom list room) = 0
-
--- one more than the changes that the result of a splice can have; 0 where there is no memory for it
-abbrev pub splice_room_of_list : WaveList → ℕ
-splice_room_of_list (Own list) = suc (vec_capacity list)
-splice_room_of_list (Shared list) = 0
-splice_room_of_list (SharedWithRoom list room) = suc (vec_capacity room)
+-- the greater of the capacities of the wave's own list and of a shared one
+abbrev pub greatest_capacity : WaveList → ℕ
+greatest_capacity l = max (vec_capacity l.own) (option_map_or (λ list. vec_capacity list.value) l.shared 0)

@@ -1,6 +1,6 @@
 -- How a piece and a range of a wave are exchanged: what must hold before, and what holds after.
 use Rattle.std.specs.Prelude.{◌≡◌, ℕ, ◌+◌, ◌-◌, ◌^◌, ◌<◌, ◌≤◌, neg_ℤ, List, [], ◌∷◌, length, take, drop, map}
-use Rattle.std.specs.Prelude.{slice_index_or, All, vec_len, vec_capacity}
+use Rattle.std.specs.Prelude.{slice_index_or, All, true, false, vec_len, vec_capacity}
 use Rattle.vcd_core.specs.declared.wave.Change.{Change}
 use Rattle.vcd_core.specs.declared.capture.Signal.{Signal}
 use Rattle.vcd_core.specs.declared.capture.TheConstants.{END_LIMIT}
@@ -53,7 +53,7 @@ AreOppositePieces c (p ∷ ps) (q ∷ qs) = (p.signal < length c.signals)
 
 -- the wave used if there is none
 abbrev pub no_wave : WaveView
-no_wave = record { width = 1; changes = []; room = 0; splice_room = 0 }
+no_wave = record { width = 1; changes = []; is_shared = false; capacity = 0 }
 
 -- the wave at a position
 abbrev pub wave_at : List Signal → ℕ → WaveView
@@ -62,11 +62,15 @@ wave_at ss k = slice_index_or (map (λ s. s.wave) ss) k no_wave
 -- the second wave has as many changes as the first, and no less room for a splice
 pub record HasNoLessRoom (old new : WaveView) : Type 0 where
   pub count : length new.changes ≡ length old.changes
-  pub room : old.splice_room ≤ new.splice_room
+  pub room : old.capacity ≤ new.capacity
+
+-- the wave of a signal holds no memory beside a list that it shares
+abbrev pub HasNothingBeside : Signal → Type 0
+HasNothingBeside s = s.wave.is_shared ≡ true → s.wave.capacity ≡ 0
 
 -- a piece and its wave have room for each other's changes
 pub record HasRoomForPiece (ss : List Signal) (p : Piece) : Type 0 where
-  pub wave : length (wave_at ss p.signal).changes + vec_len p.changes < (wave_at ss p.signal).splice_room
+  pub wave : length (wave_at ss p.signal).changes + vec_len p.changes ≤ (wave_at ss p.signal).capacity
       + (p.to - p.from)
   pub piece : p.to - p.from ≤ vec_capacity p.changes
 

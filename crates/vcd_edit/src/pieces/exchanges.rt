@@ -9,7 +9,6 @@ ghost use Rattle.vcd_edit.specs.AppliedRecords.{changes_with_piece, with_piece, 
 ghost use Rattle.vcd_edit.specs.Records.{piece_view};
 ghost use Rattle.vcd_edit.specs.inside.Exchanges.{PieceReady, PieceReadyIn, IsOppositePiece, AreOppositePieces, wave_at, HasRoomForPiece};
 
-use crate::pieces::spare_room::release_all_spare_room;
 use crate::pieces::trimming::trim;
 use crate::record::Piece;
 use vcd_core::{Capture, Wave};
@@ -22,13 +21,14 @@ fn opposite(by: i64) -> i64
     by.checked_neg().unwrap_or(0)
 }
 
-/// Swaps a range of changes with a trimmed piece, in place. The piece then undoes this.
+/// Swaps a range of changes with a trimmed piece, in place. The piece then undoes this, and gives back the room that
+/// it does not need.
 ///
 /// It takes no memory. The cost is the piece, its range and one move of the later changes.
 fn exchange_with_wave(piece: &mut Piece, wave: &mut Wave)
     requires ready { PieceReady wave.old.width wave.old.changes (piece_view piece.old) }
     requires room { length wave.old.changes + vec_len piece.old.changes
-        < wave.old.splice_room + (piece.old.to - piece.old.from) }
+        ≤ wave.old.capacity + (piece.old.to - piece.old.from) }
     requires piece_room { piece.old.to - piece.old.from ≤ vec_capacity piece.old.changes }
     ensures width { wave.new.width ≡ wave.old.width }
     ensures effect { wave.new.changes ≡ changes_with_piece (piece_view piece.old) wave.old.changes }
@@ -37,6 +37,7 @@ fn exchange_with_wave(piece: &mut Piece, wave: &mut Wave)
     trim(piece, wave.changes());
     let end_place = piece.from + piece.changes.as_slice().len();
     wave.splice(piece.from, piece.to, &mut piece.changes, piece.by);
+    piece.changes.shrink_to_fit();
     piece.to = end_place;
     piece.by = opposite(piece.by);
 }
@@ -55,37 +56,7 @@ fn exchange_in_signal(capture: &mut Capture, piece: &mut Piece)
     exchange_with_wave(piece, &mut capture.signals.item_mut(piece.signal).wave);
 }
 
-/// Swaps all pieces with their ranges of the capture, one after another. The pieces then undo this.
-fn exchange_in_order(capture: &mut Capture, pieces: &mut [Piece])
-    requires ready { All (PieceReadyIn (contents capture.old)) (map piece_view pieces.old) }
-    requires apart { HaveDistinctSignals (map piece_view pieces.old) }
-    requires room { All (HasRoomForPiece capture.old.signals) pieces.old }
-    ensures effect { contents capture.new
-        ≡ with_pieces (contents capture.old) (map piece_view pieces.old) }
-    ensures restores { AreOppositePieces (contents capture.old)
-        (map piece_view pieces.old) (map piece_view pieces.new) }
-{
-    for piece in pieces.iter_mut() {
-        exchange_in_signal(capture, piece);
-    }
-}
-
 /// Swaps all pieces with their ranges of the capture, then reverses their list, so that the last is undone first.
-fn exchange_and_reverse(capture: &mut Capture, pieces: &mut Vec<Piece>)
-    requires ready { All (PieceReadyIn (contents capture.old)) (map piece_view pieces.old.items) }
-    requires apart { HaveDistinctSignals (map piece_view pieces.old.items) }
-    requires room { All (HasRoomForPiece capture.old.signals) pieces.old.items }
-    ensures effect { contents capture.new
-        ≡ with_pieces (contents capture.old) (map piece_view pieces.old.items) }
-    ensures restores { (qs : List PieceView) × (map piece_view pieces.new.items ≡ reverse qs)
-        × AreOppositePieces (contents capture.old) (map piece_view pieces.old.items) qs }
-{
-    exchange_in_order(capture, pieces.as_mut_slice());
-    pieces.reverse();
-}
-
-/// Swaps all pieces with their ranges of the capture, and reverses their list. Each piece then has exact room for its
-/// changes.
 pub(crate) fn exchange_pieces(capture: &mut Capture, pieces: &mut Vec<Piece>)
     requires ready { All (PieceReadyIn (contents capture.old)) (map piece_view pieces.old.items) }
     requires apart { HaveDistinctSignals (map piece_view pieces.old.items) }
@@ -95,6 +66,8 @@ pub(crate) fn exchange_pieces(capture: &mut Capture, pieces: &mut Vec<Piece>)
     ensures restores { (qs : List PieceView) × (map piece_view pieces.new.items ≡ reverse qs)
         × AreOppositePieces (contents capture.old) (map piece_view pieces.old.items) qs }
 {
-    exchange_and_reverse(capture, pieces);
-    release_all_spare_room(pieces.as_mut_slice());
+    for piece in pieces.as_mut_slice().iter_mut() {
+        exchange_in_signal(capture, piece);
+    }
+    pieces.reverse();
 }

@@ -1,37 +1,12 @@
 //! The room that pieces and waves need for their exchange.
 
-ghost use Rattle.std.specs.Prelude.{◌≡◌, ℕ, ◌+◌, ◌-◌, ◌<◌, ◌≤◌, [], All, IsOk, OnOk, map, max, length, vec_capacity};
+ghost use Rattle.std.specs.Prelude.{◌≡◌, ℕ, ◌+◌, ◌-◌, ◌<◌, ◌≤◌, [], All, IsOk, OnOk, OnErr, map, max, length, vec_capacity};
 ghost use Rattle.vcd_core.specs.Contents.{contents, signal_at};
 ghost use Rattle.vcd_edit.specs.Records.{piece_view};
-ghost use Rattle.vcd_edit.specs.inside.Exchanges.{wave_at, HasNoLessRoom, HasRoomForPiece};
+ghost use Rattle.vcd_edit.specs.inside.Exchanges.{wave_at, HasNoLessRoom, HasRoomForPiece, HasNothingBeside};
 
 use crate::record::Piece;
-use vcd_core::{Capture, Change, NoMemory};
-
-/// Makes room in a signal for a splice of these places and changes. The contents of the capture stay the same, also
-/// if the memory is refused.
-fn reserve_wave(
-    capture: &mut Capture,
-    signal: usize,
-    from: usize,
-    to: usize,
-    changes: &[Change],
-) -> Result<(), NoMemory>
-    requires signal { signal < length capture.old.signals }
-    requires ordered { from ≤ to }
-    requires within { to ≤ length (signal_at (contents capture.old) signal).changes }
-    ensures contents { contents capture.new ≡ contents capture.old }
-    ensures room { OnOk result (length (wave_at capture.old.signals signal).changes
-        + length changes.now < (wave_at capture.new.signals signal).splice_room + (to - from)) }
-    ensures never_less { (k : ℕ) →
-        HasNoLessRoom (wave_at capture.old.signals k) (wave_at capture.new.signals k) }
-{
-    capture
-        .signals
-        .item_mut(signal)
-        .wave
-        .reserve_splice(from, to, changes)
-}
+use vcd_core::{Capture, NoMemory};
 
 /// Makes room for the exchange of one piece with its wave: in the piece for just the changes that it gets. The contents
 /// of both stay the same, also if the memory is refused.
@@ -51,8 +26,8 @@ fn reserve_piece(capture: &mut Capture, piece: &mut Piece) -> Result<(), NoMemor
     let len = piece.changes.as_slice().len();
     let range_len = piece.to - piece.from;
     piece.changes.reserve_exact(range_len.saturating_sub(len))?;
-    let changes = piece.changes.as_slice();
-    reserve_wave(capture, piece.signal, piece.from, piece.to, changes)
+    let wave = &mut capture.signals.item_mut(piece.signal).wave;
+    wave.reserve_splice(piece.from, piece.to, piece.changes.as_slice())
 }
 
 /// Makes the room for each piece in order, up to the first for which memory is refused.
@@ -72,21 +47,13 @@ fn reserve_in_order(capture: &mut Capture, pieces: &mut [Piece]) -> Result<(), N
     Ok(())
 }
 
-/// If the list of a signal is shared, gives back the memory taken for a list of its own.
-fn cancel_reservation(capture: &mut Capture, signal: usize)
-    requires { signal < length capture.old.signals }
-    ensures { contents capture.new ≡ contents capture.old }
+/// Gives back the memory that waves hold beside lists that they share.
+fn cancel_reservations(capture: &mut Capture)
+    ensures contents { contents capture.new ≡ contents capture.old }
+    ensures given_back { All HasNothingBeside capture.new.signals }
 {
-    capture.signals.item_mut(signal).wave.cancel_splice();
-}
-
-/// Gives back the memory taken for lists of their own, for each of the first `count` signals.
-fn cancel_first_reservations(capture: &mut Capture, count: usize)
-    requires { count ≤ length capture.old.signals }
-    ensures { contents capture.new ≡ contents capture.old }
-{
-    for signal in 0..count {
-        cancel_reservation(capture, signal);
+    for signal in 0..capture.signals().len() {
+        capture.signals.item_mut(signal).wave.cancel_splice();
     }
 }
 
@@ -100,11 +67,12 @@ pub(crate) fn reserve_all(capture: &mut Capture, pieces: &mut [Piece]) -> Result
     ensures contents { contents capture.new ≡ contents capture.old }
     ensures pieces { map piece_view pieces.new ≡ map piece_view pieces.old }
     ensures room { OnOk result (All (HasRoomForPiece capture.new.signals) pieces.new) }
+    ensures given_back { OnErr result (All HasNothingBeside capture.new.signals) }
     ensures never_refused { pieces.old ≡ [] → IsOk result }
 {
     let reserved = reserve_in_order(capture, pieces);
     if reserved.is_err() {
-        cancel_first_reservations(capture, capture.signals().len());
+        cancel_reservations(capture);
     }
     reserved
 }

@@ -1,6 +1,6 @@
 -- The changes that waves do not have yet, and the waves with these changes.
 use Rattle.std.specs.Prelude.{◌≡◌, ℕ, ◌+◌, ◌%◌, ◌<◌, ◌≤◌, ◌==◌, if◌then◌else◌, nat_le, List, [], ◌∷◌, ◌++◌, length, set}
-use Rattle.std.specs.Prelude.{◌-◌, ◌/◌, ◌^◌, ◌&&◌, min, max, slice_get, All, Some}
+use Rattle.std.specs.Prelude.{◌-◌, ◌/◌, ◌^◌, ◌&&◌, min, max, slice_get, All, Some, false}
 use Rattle.std.specs.List.{filter}
 use Rattle.std.specs.Option.{option_map_or}
 use Rattle.std.specs.Global.{Vec}
@@ -109,11 +109,12 @@ taken_hint h = record { count = 0; last = h.last }
 
 -- a wave's own list gets just the room for so many more changes, or keeps what it has
 pub record HasExactRoom (more : ℕ) (old new : Variable) : Type 0 where
-  pub exact : 1 ≤ more → 0 < old.signal.wave.room
-      → new.signal.wave.room ≡ max old.signal.wave.room (length old.signal.wave.changes + more + 1)
-  pub kept : length old.signal.wave.changes + 1 < old.signal.wave.room
-      → length old.signal.wave.changes + more < old.signal.wave.room
-      → new.signal.wave.room ≡ old.signal.wave.room
+  pub exact : 1 ≤ more → old.signal.wave.is_shared ≡ false
+      → new.signal.wave.capacity ≡ max old.signal.wave.capacity (length old.signal.wave.changes + more)
+  pub kept : old.signal.wave.is_shared ≡ false
+      → length old.signal.wave.changes + 1 ≤ old.signal.wave.capacity
+      → length old.signal.wave.changes + more ≤ old.signal.wave.capacity
+      → new.signal.wave.capacity ≡ old.signal.wave.capacity
 
 -- ---- the variables with the changes of the log
 

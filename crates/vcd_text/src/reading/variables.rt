@@ -1,6 +1,6 @@
 //! The variables that a file declares, with their waves so far.
 
-ghost use Rattle.std.specs.Prelude.{◌≡◌, ◌<◌, ◌≤◌, ◌+◌, [], length, IsOk, OnOk, All};
+ghost use Rattle.std.specs.Prelude.{◌≡◌, ◌≤◌, ◌+◌, [], false, length, IsOk, OnOk, All};
 ghost use Rattle.vcd_text.specs.Grammar.{ParseState};
 ghost use Rattle.vcd_text.specs.inside.ChangeLog.{AppliesToVariable, HasExactRoom};
 ghost use Rattle.vcd_text.specs.inside.Variables.{VariablesMatch};
@@ -33,8 +33,9 @@ impl Variable {
         requires none_later { All (λ c. c.tick ≤ change.tick) self.old.signal.wave.changes }
         ensures taken { OnOk result (AppliesToVariable change self.old self.new) }
         // It succeeds if the wave's own list has room for `more` changes and this one.
-        ensures in_place { length self.old.signal.wave.changes + 1 < self.old.signal.wave.room →
-            length self.old.signal.wave.changes + more < self.old.signal.wave.room → IsOk result }
+        ensures in_place { self.old.signal.wave.is_shared ≡ false →
+            length self.old.signal.wave.changes + 1 ≤ self.old.signal.wave.capacity →
+            length self.old.signal.wave.changes + more ≤ self.old.signal.wave.capacity → IsOk result }
         ensures exact { OnOk result (HasExactRoom more self.old self.new) }
     {
         self.signal.wave.reserve_exact(more)?;

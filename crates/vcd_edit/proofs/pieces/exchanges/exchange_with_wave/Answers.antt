@@ -1,5 +1,5 @@
-use Rattle.std.proofs.Common.{◌≡◌, ◌+◌, ap, sym, refl, subst, pos, ◌+ℤ◌, w64, FitsSigned, ℤ, ℕ, ◌≤◌, to_z, of_z, length}
-use Rattle.std.proofs.Common.{rules}
+use Rattle.std.proofs.Common.{◌≡◌, ◌∙◌, ◌+◌, ap, sym, refl, subst, pos, ◌+ℤ◌, w64, FitsSigned, ℤ, ℕ, ◌≤◌, to_z, of_z}
+use Rattle.std.proofs.Common.{length, rules}
 use Rattle.std.specs.Int.{FitsUnsigned}
 use Rattle.std.proofs.lemmas.Int.{to_z-of_z}
 use Rattle.vcd_core.specs.declared.capture.TheConstants.{END_LIMIT}
@@ -23,4 +23,4 @@ returns-clause-restores c =
     (subst (λ l. IsTrimmed l (piece_view c.args.piece.now) (piece_view p)) c.changes.ensures.changes
     c.trim.ensures.trimmed)
     c.requires.ready.upto opposite refl refl (ap (λ l. p.from + length l) c.as_slice.ensures.value)
-    c.splice.ensures.piece
+    (c.shrink_to_fit.ensures.items ∙ c.splice.ensures.piece)

@@ -2,7 +2,7 @@ use Rattle.std.proofs.Common.{◌≡◌, ◌++◌, ◌-◌, length, take, drop, 
 use Rattle.std.proofs.lemmas.Int.{to_z-of_z}
 use Rattle.std.proofs.lemmas.List.{length-drop, take_all}
 use Rattle.vcd_core.specs.Splice.{moved_change, spliced_changes}
-use Rattle.vcd_core.proofs.spliced_copy.copy_spliced.Goals as goal
+use Rattle.vcd_core.proofs.splicing.copy_spliced.Goals as goal
 
 pub returns-clause-changes : goal.returns-clause-changes
 unfolding spliced_changes

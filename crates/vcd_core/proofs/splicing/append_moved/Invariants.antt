@@ -1,6 +1,6 @@
 use Rattle.std.proofs.Common.{◌≡◌, ◌≤◌, ◌+◌, ◌++◌, take, map, vec_len, vec_capacity}
 use Rattle.vcd_core.specs.Splice.{moved_change}
-use Rattle.vcd_core.proofs.spliced_copy.append_moved.Given as goal
+use Rattle.vcd_core.proofs.splicing.append_moved.Given as goal
 
 -- the changes so far are appended, in the list's own room
 abbrev pub invariant-loop-change : goal.invariant-loop-change

@@ -1,7 +1,0 @@
-use Rattle.vcd_core.specs.Contents.{contents}
-use Rattle.vcd_edit.specs.inside.Exchanges.{ExchangedSoFar}
-use Rattle.vcd_edit.proofs.pieces.exchanges.exchange_in_order.Given as goal
-
-abbrev pub invariant-loop-piece : goal.invariant-loop-piece
-invariant-loop-piece l =
-    ExchangedSoFar (contents l.fn.capture) l.fn.pieces l.piece-index l.pieces (contents l.capture) l.capture.signals
