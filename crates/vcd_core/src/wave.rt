@@ -363,10 +363,9 @@ impl Wave {
     pub fn shrink_to_fit(&mut self)
         ensures width { self.new.width ≡ self.old.width }
         ensures changes { self.new.changes ≡ self.old.changes }
-        ensures never_more { self.new.room ≤ self.old.room }
+        ensures shared { self.new.is_shared ≡ self.old.is_shared }
+        ensures never_more { self.new.capacity ≤ self.old.capacity }
     {
-        if let WaveList::Own(list) = &mut self.list {
-            list.shrink_to_fit();
-        }
+        self.list.own.shrink_to_fit();
     }
 }
