@@ -21,3 +21,7 @@ pub mod SentClocks
 pub mod SentWords
 pub mod SelectedTicks
 pub mod SentSpi
+pub mod SentBus
+pub mod SentBytes
+pub mod SentMessages
+pub mod CasesOfSentI2c

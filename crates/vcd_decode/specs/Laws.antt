@@ -1,5 +1,5 @@
 -- The laws of the decoders: what is sent is found. Each is the contract of a function of `laws`.
-use Rattle.std.specs.Prelude.{ℕ, suc, ◌-◌, ◌≡◌, ◌<◌, ◌≤◌, Option, None, List, [], ◌∷◌, ◌++◌, map}
+use Rattle.std.specs.Prelude.{ℕ, suc, ◌-◌, ◌≡◌, ◌<◌, ◌≤◌, Option, None, List, [], ◌∷◌, ◌++◌, map, length}
 use Rattle.vcd_core.specs.declared.bit.Bit.{Bit}
 use Rattle.vcd_decode.specs.UartSetup.{UartSetup}
 use Rattle.vcd_decode.specs.SetupFaults.{IsUartSetup, spi_fault}
@@ -8,6 +8,8 @@ use Rattle.vcd_decode.specs.SpiSetup.{SpiSetup}
 use Rattle.vcd_decode.specs.Spi.{spi_annotations}
 use Rattle.vcd_decode.specs.SpiSent.{SpiWord, WordsFit, sent_clock, MaySendData, IsChipSelect, bit_middle}
 use Rattle.vcd_decode.specs.SpiSent.{sent_word_annotation, sent_part_annotation}
+use Rattle.vcd_decode.specs.I2c.{i2c_annotations}
+use Rattle.vcd_decode.specs.I2cSent.{Transfer, AreTransfers, message_levels, HaveLevels, message_annotations}
 use Rattle.vcd_decode.specs.UartSent.{SentFrame, sent_line, CanBeSent, sent_annotation}
 
 -- a line that sends frames, decoded, gives these frames; it is 1 at tick 0, and the capture ends after the last frame
@@ -41,3 +43,12 @@ SpiPartIsFound =
     → MaySendData u half (λ w. w.out) mosi ws → MaySendData u half (λ w. w.back) miso ws
     → spi_annotations u clk mosi miso cs end
     ≡ map (sent_word_annotation u half mosi miso) ws ++ sent_part_annotation half w count ∷ []
+
+-- an I2C message, decoded, gives its conditions, addresses, directions, data and acknowledges, at any tick distances:
+-- the level at index i begins at the tick `at i`, and the last one lasts to the end
+abbrev pub I2cMessagesAreFound : Type 0
+I2cMessagesAreFound =
+    (scl sda : ℕ → Bit) (end : ℕ) (at : ℕ → ℕ) (t : Transfer) (ts : List Transfer)
+    → at 0 ≡ 0 → ((i : ℕ) → at i < at (suc i)) → at (length (message_levels t ts)) ≡ suc end
+    → AreTransfers None (t ∷ ts) → HaveLevels scl sda at (message_levels t ts)
+    → i2c_annotations scl sda end ≡ message_annotations at t ts

@@ -14,5 +14,6 @@ pub mod SpiSent
 pub mod BusEvents
 pub mod BusBytes
 pub mod I2c
+pub mod I2cSent
 pub mod Laws
 pub mod inside

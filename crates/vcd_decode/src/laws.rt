@@ -1,6 +1,7 @@
 //! Laws about the definitions of the decoders, as contracts of functions that do nothing.
 
 ghost use Rattle.vcd_decode.specs.Laws.{UartFramesAreFound, SpiWordsAreFound, SpiPartIsFound};
+ghost use Rattle.vcd_decode.specs.Laws.{I2cMessagesAreFound};
 
 /// The line that idles at 1 and sends frames decodes to one annotation for each frame, from its
 /// start to the sample of its last bit. It is a `byte` with the word that was sent, a
@@ -17,4 +18,11 @@ pub fn uart_frames_are_found()
 pub fn spi_words_are_found()
     ensures words { SpiWordsAreFound }
     ensures part { SpiPartIsFound }
+{}
+
+/// The lines of an I2C bus that carry a message decode to this message: START, repeated START and
+/// STOP, each address with its direction, each data byte, and each acknowledge. Addresses have
+/// seven bits or ten. That is so at any tick distances that keep SDA still while SCL is high.
+pub fn i2c_messages_are_found()
+    ensures { I2cMessagesAreFound }
 {}
