@@ -4,10 +4,11 @@ use Rattle.std.specs.Prelude.{[], ◌∷◌, Some, None, codes, pos, negsuc}
 use Rattle.vcd_core.specs.declared.bit.Bit.TheVariants.{Zero, One, X, Z}
 use Rattle.vcd_core.specs.Wave.{value_from, changes_from}
 use Rattle.vcd_core.specs.Contents.{signal_at}
-use Rattle.vcd_edit.specs.declared.edit.Edit.TheVariants.{Rename, Remove, Invert, Shift, Cut, Force}
+use Rattle.vcd_edit.specs.declared.edit.Edit.TheVariants.{Rename, Remove, Invert, Shift, Cut, Force, Derive}
+use Rattle.vcd_edit.specs.declared.edit.Rule.TheVariants.{BitOf}
 use Rattle.vcd_edit.specs.AppliedRecords.{with_pieces, apply_record}
 use Rattle.vcd_edit.specs.Effect.{effect}
-use Rattle.vcd_edit.proofs.CasesOfEdits.{from, alone, lent, three_signals, two_signals, with_first}
+use Rattle.vcd_edit.proofs.CasesOfEdits.{from, alone, lent, three_signals, two_signals, with_first, with_third}
 
 -- z becomes x, the other values come back
 invert_twice : effect (Invert 0) (effect (Invert 0) (alone 8 (from 0 One ∷ from 2 Z ∷ from 4 Zero ∷ [])))
@@ -32,6 +33,11 @@ two_forces : effect (Force 0 2 5 (Z ∷ [])) (effect (Force 0 2 5 (One ∷ [])) 
     ≡ with_first (from 0 Zero ∷ from 2 Z ∷ from 5 One ∷ [])
 unfolding effect changes_from value_from
 two_forces = refl
+
+bit_of_one_bit : effect (Derive (lent (codes "c")) (BitOf 0 0)) two_signals
+    ≡ with_third (codes "c") (from 0 Zero ∷ from 3 One ∷ [])
+unfolding effect changes_from value_from
+bit_of_one_bit = refl
 
 rename_and_back : effect (Rename 1 (lent (codes "b"))) (effect (Rename 1 (lent (codes "d"))) three_signals)
     ≡ three_signals

@@ -3,26 +3,33 @@ use Rattle.std.proofs.Common.{◌≡◌, ◌<◌, ◌≤◌, ℕ, ◌+◌, ◌-�
 use Rattle.std.proofs.Common.{IsTrue, not, ℤ, pos, ◌-ℤ◌, List, [], ◌∷◌, length, map, drop, inl, inr, refl, sym, ap}
 use Rattle.std.proofs.Common.{◌∙◌, ◌⊎◌, arith}
 use Rattle.std.specs.Prelude.{neg_ℤ}
+use Rattle.std.specs.Borrow.{Bor}
 use Rattle.std.specs.List.{list_all}
 use Rattle.std.proofs.lemmas.Bool.{cases_lt, lt-ltb, le-ltb, le-leb, lt-leb, and_parts, and_left, and_right}
 use Rattle.std.proofs.lemmas.Int.{ints}
-use Rattle.std.proofs.lemmas.List.{length-set, set-set, set-get_or, get_or-set_same, get_or-map}
+use Rattle.std.proofs.lemmas.List.{length-set, set-set, set-get_or, get_or-set_same, get_or-map, get_or_push}
 use Rattle.std.proofs.lemmas.List.Edits.{get_or-remove_below, get_or-remove_above}
 use Rattle.vcd_core.specs.declared.bit.Bit.{Bit}
 use Rattle.vcd_core.specs.declared.bit.Bit.TheVariants.{Zero, One, X, Z}
 use Rattle.vcd_core.specs.declared.wave.Change.{Change}
-use Rattle.vcd_core.specs.Value.{same_letter}
+use Rattle.vcd_core.specs.Value.{letter_at, same_letter}
+use Rattle.vcd_core.specs.Wave.{changes_of}
 use Rattle.vcd_core.specs.Contents.{Contents, SignalContents, no_signal, signal_at, with_signal, signal_value}
 use Rattle.vcd_core.specs.Sound.{IsSound}
 use Rattle.vcd_core.proofs.Waves.{value_at-changes_of, changes_of-value_at, changes_same}
-use Rattle.vcd_edit.specs.Operators.{not_bit}
+use Rattle.vcd_edit.specs.declared.edit.Edit.TheVariants.{Derive}
+use Rattle.vcd_edit.specs.declared.edit.Rule.{Rule}
+use Rattle.vcd_edit.specs.declared.edit.Rule.TheVariants.{Not, And, Or, Xor, BitOf}
+use Rattle.vcd_edit.specs.Operators.{not_bit, and_bit, or_bit, xor_bit}
 use Rattle.vcd_edit.specs.Effect.{with_values, with_wave, renamed_signal, inverse_value, value_at_any_tick, shift_value}
-use Rattle.vcd_edit.specs.Effect.{cut_value, force_value, signal_after_cut, cut_contents, effect}
+use Rattle.vcd_edit.specs.Effect.{cut_value, force_value, signal_after_cut, cut_contents, rule_bit}
+use Rattle.vcd_edit.specs.Effect.{derived_signal, effect}
 use Rattle.vcd_edit.specs.AppliedRecords.{with_pieces, apply_record}
 use Rattle.vcd_edit.specs.EffectLaws.{value_of, x_for_z, InvertTwice, InvertTwiceWithoutZ, CutKeepsOtherTicks}
 use Rattle.vcd_edit.specs.EffectLaws.{CutsCommute, ShiftAndBack, ForceIsLocal, LastForceCounts, RenameAndBack}
-use Rattle.vcd_edit.specs.EffectLaws.{RemoveAndBack}
-use Rattle.vcd_edit.proofs.SoundEffects.{sound_at}
+use Rattle.vcd_edit.specs.EffectLaws.{RemoveAndBack, entry, table_entry, not_table, and_table, or_table, xor_table}
+use Rattle.vcd_edit.specs.EffectLaws.{DerivedByTables, BitOfOneBit}
+use Rattle.vcd_edit.proofs.SoundEffects.{sound_at, value_at_width}
 use Rattle.vcd_edit.proofs.OppositeRecords.{insert-remove}
 
 -- ---- a signal with other values
@@ -278,6 +285,104 @@ last_force_counts c k from to first last within =
     ap (λ v. if nat_le from t && nat_lt t to then last else v)
     (value_of_wave c k within (force_value from to first s) t upto)
     ∙ choice_same (nat_le from t && nat_lt t to) last first (signal_value s t))
+
+-- ---- derive
+
+not_by_table : (a : Bit) → not_bit a ≡ entry not_table a
+not_by_table Zero = refl
+not_by_table One = refl
+not_by_table X = refl
+not_by_table Z = refl
+
+and_by_table : (a b : Bit) → and_bit a b ≡ table_entry and_table a b
+and_by_table Zero Zero = refl
+and_by_table Zero One = refl
+and_by_table Zero X = refl
+and_by_table Zero Z = refl
+and_by_table One Zero = refl
+and_by_table One One = refl
+and_by_table One X = refl
+and_by_table One Z = refl
+and_by_table X Zero = refl
+and_by_table X One = refl
+and_by_table X X = refl
+and_by_table X Z = refl
+and_by_table Z Zero = refl
+and_by_table Z One = refl
+and_by_table Z X = refl
+and_by_table Z Z = refl
+
+or_by_table : (a b : Bit) → or_bit a b ≡ table_entry or_table a b
+or_by_table Zero Zero = refl
+or_by_table Zero One = refl
+or_by_table Zero X = refl
+or_by_table Zero Z = refl
+or_by_table One Zero = refl
+or_by_table One One = refl
+or_by_table One X = refl
+or_by_table One Z = refl
+or_by_table X Zero = refl
+or_by_table X One = refl
+or_by_table X X = refl
+or_by_table X Z = refl
+or_by_table Z Zero = refl
+or_by_table Z One = refl
+or_by_table Z X = refl
+or_by_table Z Z = refl
+
+xor_by_table : (a b : Bit) → xor_bit a b ≡ table_entry xor_table a b
+xor_by_table Zero Zero = refl
+xor_by_table Zero One = refl
+xor_by_table Zero X = refl
+xor_by_table Zero Z = refl
+xor_by_table One Zero = refl
+xor_by_table One One = refl
+xor_by_table One X = refl
+xor_by_table One Z = refl
+xor_by_table X Zero = refl
+xor_by_table X One = refl
+xor_by_table X X = refl
+xor_by_table X Z = refl
+xor_by_table Z Zero = refl
+xor_by_table Z One = refl
+xor_by_table Z X = refl
+xor_by_table Z Z = refl
+
+-- the derived signal is the last
+derived_at : (c : Contents) (word : Bor (List ℕ)) (rule : Rule) (t : ℕ) → t ≤ c.end
+    → value_of (effect (Derive word rule) c) (length c.signals) t ≡ rule_bit rule c t ∷ []
+unfolding effect
+derived_at c word rule t upto =
+    ap (λ (s : SignalContents). signal_value s t)
+    (get_or_push c.signals (derived_signal word.now rule c) no_signal (length c.signals) refl)
+    ∙ value_at-changes_of 1 c.end t (λ u. rule_bit rule c u ∷ []) upto
+
+pub derived_by_tables : DerivedByTables
+derived_by_tables c word a b t upto =
+    let x = letter_at (value_of c a t) 0 in
+    let y = letter_at (value_of c b t) 0 in (
+      derived_at c word (Not a) t upto ∙ ap (λ (z : Bit). z ∷ []) (not_by_table x),
+      derived_at c word (And a b) t upto ∙ ap (λ (z : Bit). z ∷ []) (and_by_table x y),
+      derived_at c word (Or a b) t upto ∙ ap (λ (z : Bit). z ∷ []) (or_by_table x y),
+      derived_at c word (Xor a b) t upto ∙ ap (λ (z : Bit). z ∷ []) (xor_by_table x y),
+    )
+
+only_bit : (v : List Bit) → length v ≡ 1 → letter_at v 0 ∷ [] ≡ v
+only_bit [] long = absurd (omega arith)
+only_bit (b ∷ []) long = refl
+only_bit (b ∷ d ∷ v) long = absurd (omega arith)
+
+pub bit_of_one_bit : BitOfOneBit
+unfolding effect
+bit_of_one_bit c word a sound within one =
+    let s : SignalContents = signal_at c a in
+    let here = sound_at c a within sound in
+    ap (λ (r : SignalContents). r.changes)
+    (get_or_push c.signals (derived_signal word.now (BitOf a 0) c) no_signal (length c.signals) refl)
+    ∙ changes_same 1 c.end (λ t. letter_at (value_of c a t) 0 ∷ []) (value_of c a)
+    (λ t upto. only_bit (value_of c a t) (value_at_width s.width s.changes t here.wave ∙ one))
+    ∙ ap (λ (width : ℕ). changes_of width c.end (value_of c a)) (sym one)
+    ∙ changes_of-value_at s.width c.end s.changes here.wave here.ticks
 
 -- ---- names and order
 

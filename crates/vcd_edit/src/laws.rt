@@ -3,7 +3,8 @@
 ghost use Rattle.vcd_edit.specs.Laws.{EffectIsSound};
 ghost use Rattle.vcd_edit.specs.Laws.{DeglitchLeavesNoShortRun, DeglitchKeepsLongRuns};
 ghost use Rattle.vcd_edit.specs.Laws.{DeglitchWithoutShortRuns, DeglitchTwice};
-ghost use Rattle.vcd_edit.specs.EffectLaws.{InvertTwice, InvertTwiceWithoutZ, CutKeepsOtherTicks, CutsCommute, ShiftAndBack, ForceIsLocal, LastForceCounts, RenameAndBack, RemoveAndBack};
+ghost use Rattle.vcd_edit.specs.EffectLaws.{InvertTwice, InvertTwiceWithoutZ, CutKeepsOtherTicks, CutsCommute, ShiftAndBack, ForceIsLocal, LastForceCounts};
+ghost use Rattle.vcd_edit.specs.EffectLaws.{DerivedByTables, BitOfOneBit, RenameAndBack, RemoveAndBack};
 
 /// An edit with no fault keeps a sound capture sound.
 pub fn effect_is_sound()
@@ -51,6 +52,16 @@ pub fn force_is_local()
 /// The last of two forces of one range counts.
 pub fn last_force_counts()
     ensures { LastForceCounts }
+{}
+
+/// A derived signal has at each tick the entry of its operator's table (IEEE 1364-2005, 5.1.10).
+pub fn derived_by_tables()
+    ensures { DerivedByTables }
+{}
+
+/// Bit 0 of a signal of one bit is its wave.
+pub fn bit_of_one_bit()
+    ensures { BitOfOneBit }
 {}
 
 /// A signal that gets another name, and then its own, is as it was.
