@@ -20,10 +20,11 @@ use Rattle.vcd_core.proofs.Waves.{value_at-changes_of, changes_of-value_at, chan
 use Rattle.vcd_edit.specs.declared.edit.Edit.TheVariants.{Derive}
 use Rattle.vcd_edit.specs.declared.edit.Rule.{Rule}
 use Rattle.vcd_edit.specs.declared.edit.Rule.TheVariants.{Not, And, Or, Xor, BitOf}
-use Rattle.vcd_edit.specs.Operators.{not_bit, and_bit, or_bit, xor_bit}
+use Rattle.vcd_edit.specs.declared.edit.Operator.TheVariants as operators
+use Rattle.vcd_edit.specs.Operators.{not_bit, operator_bit}
 use Rattle.vcd_edit.specs.Effect.{with_values, with_wave, renamed_signal, inverse_value, value_at_any_tick, shift_value}
-use Rattle.vcd_edit.specs.Effect.{cut_value, force_value, signal_after_cut, cut_contents, rule_bit}
-use Rattle.vcd_edit.specs.Effect.{derived_signal, effect}
+use Rattle.vcd_edit.specs.Effect.{cut_value, force_value, signal_after_cut, cut_contents, formula}
+use Rattle.vcd_edit.specs.Effect.{formula_bit, derived_signal, effect}
 use Rattle.vcd_edit.specs.AppliedRecords.{with_pieces, apply_record}
 use Rattle.vcd_edit.specs.EffectLaws.{value_of, x_for_z, InvertTwice, InvertTwiceWithoutZ, CutKeepsOtherTicks}
 use Rattle.vcd_edit.specs.EffectLaws.{CutsCommute, ShiftAndBack, ForceIsLocal, LastForceCounts, RenameAndBack}
@@ -294,7 +295,7 @@ not_by_table One = refl
 not_by_table X = refl
 not_by_table Z = refl
 
-and_by_table : (a b : Bit) → and_bit a b ≡ table_entry and_table a b
+and_by_table : (a b : Bit) → operator_bit operators.And a b ≡ table_entry and_table a b
 and_by_table Zero Zero = refl
 and_by_table Zero One = refl
 and_by_table Zero X = refl
@@ -312,7 +313,7 @@ and_by_table Z One = refl
 and_by_table Z X = refl
 and_by_table Z Z = refl
 
-or_by_table : (a b : Bit) → or_bit a b ≡ table_entry or_table a b
+or_by_table : (a b : Bit) → operator_bit operators.Or a b ≡ table_entry or_table a b
 or_by_table Zero Zero = refl
 or_by_table Zero One = refl
 or_by_table Zero X = refl
@@ -330,7 +331,7 @@ or_by_table Z One = refl
 or_by_table Z X = refl
 or_by_table Z Z = refl
 
-xor_by_table : (a b : Bit) → xor_bit a b ≡ table_entry xor_table a b
+xor_by_table : (a b : Bit) → operator_bit operators.Xor a b ≡ table_entry xor_table a b
 xor_by_table Zero Zero = refl
 xor_by_table Zero One = refl
 xor_by_table Zero X = refl
@@ -350,12 +351,12 @@ xor_by_table Z Z = refl
 
 -- the derived signal is the last
 derived_at : (c : Contents) (word : Bor (List ℕ)) (rule : Rule) (t : ℕ) → t ≤ c.end
-    → value_of (effect (Derive word rule) c) (length c.signals) t ≡ rule_bit rule c t ∷ []
+    → value_of (effect (Derive word rule) c) (length c.signals) t ≡ formula_bit (formula rule) c t ∷ []
 unfolding effect
 derived_at c word rule t upto =
     ap (λ (s : SignalContents). signal_value s t)
     (get_or_push c.signals (derived_signal word.now rule c) no_signal (length c.signals) refl)
-    ∙ value_at-changes_of 1 c.end t (λ u. rule_bit rule c u ∷ []) upto
+    ∙ value_at-changes_of 1 c.end t (λ u. formula_bit (formula rule) c u ∷ []) upto
 
 pub derived_by_tables : DerivedByTables
 derived_by_tables c word a b t upto =

@@ -21,3 +21,4 @@ pub mod HexDigits
 pub mod AskedDepths
 pub mod AskedOptions
 pub mod CasesOfCommandLine
+pub mod CutFiles

@@ -12,6 +12,7 @@ pub mod CommandSignals
 pub mod DecoderReply
 pub mod Reply
 pub mod Run
+pub mod FileLaws
 pub mod Report
 pub mod RunEnds
 pub mod RunOnBytes

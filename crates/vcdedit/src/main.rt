@@ -5,6 +5,7 @@
 //! asks for, and `replies` makes the reply to it.
 #![tactic(auto)]
 
+mod laws;
 mod replies;
 mod running;
 mod script;
@@ -12,6 +13,7 @@ mod shell;
 #[cfg(test)]
 mod tests;
 
+pub use laws::cut_file_is_read_again;
 pub use running::{RunError, RunRefusal, RunTexts, SCRIPT_LIMIT, Summary, run, run_on_bytes};
 pub use script::{Command, LineError, parse_line};
 pub use shell::{LateFile, report, status_of_program};
