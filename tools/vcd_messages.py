@@ -27,11 +27,11 @@ FAULTS = {
     "BadChange": "this is no change of a value: leave analog channels out when you record",
     "UnknownCode": "no variable has this code: restore its declaration, or delete the change",
     "ValueTooLong": "correct the size in the declaration, or the value",
-    "TooManySignals": "there are more than 65,536 signals: dump fewer scopes",
-    "TooLarge": "the file has more than 4 GiB: dump a shorter time or fewer scopes",
+    "TooManySignals": "there are more than 65,536 signals: vcdedit-narrow keeps some; or dump fewer scopes",
+    "TooLarge": "the file has more than 4 GiB: vcdedit-narrow keeps a part; or dump a shorter time or fewer scopes",
     "ReadFault": "it can't be read: check the path, the permissions and the disc",
-    "NoMemory": "a change takes 272 bytes, an edit as much again for each change that it touches: give the run more memory, "
-    "or make the capture smaller first",
+    "NoMemory": "a change takes 272 bytes, and an edit holds as much for each change that it replaced: give the run more "
+    "memory, use --depth 1 if edits hold it, or make the capture smaller first (vcdedit-narrow)",
 }
 
 # What to do about each refusal of a line.
@@ -59,6 +59,13 @@ REFUSALS = {
     "NothingToRedo": "no edit was undone, or another was made since: write the edit again",
     "BadDepth": "write a depth within 1 to 1,000",
     "DepthTooSmall": "redo the edits that were undone, or make a new one, first",
+}
+
+# What other lines on standard error mean.
+ENDINGS = {
+    "vcdedit: output: write fault": "the new capture can't be written: is the disc full?",
+    "vcdedit: replies: write fault": "the replies can't be written",
+    "vcdedit: capture: read fault": "it can't be read to its end: check the disc",
 }
 
 # The words of a command's usage that stand for a signal.

@@ -5,6 +5,7 @@ Programs of our own stand for vcdedit where a run has to fail half-way: each wri
 
 import gzip
 import os
+import pty
 import re
 import signal
 import stat
@@ -28,7 +29,7 @@ printf 'half of it' > "$out"
 """
 # How a run fails, its status, and what is told.
 FAILING = [
-    ("echo 'vcdedit: output: write fault' >&2; exit 4", 4, "output: write fault"),
+    ("echo 'vcdedit: output: write fault' >&2; exit 4", 4, "is the disc full?"),
     ("echo 'vcdedit: out of memory' >&2; exit 5", 5, "out of memory"),
     ("kill -9 $$", 5, "signal 9"),
     ("echo 'line 1: refused: NoSuchName'; exit 1", 1, "1 line refused"),
@@ -81,6 +82,8 @@ PLANTED = [
     (TOOL, "    if os.path.realpath(options.script) in", "    if None in"),
     (TOOL, "for number in (signal.SIGINT, signal.SIGTERM, signal.SIGHUP)", "for number in (signal.SIGINT, signal.SIGTERM)"),
     (TOOL, "    except OSError as error:\n        os.dup2", "    except ValueError as error:\n        os.dup2"),
+    (TOOL, "sys.stderr.isatty()", "False"),
+    (TOOL, "if self.is_terminal and self.ended", "if False and self.ended"),
     (MESSAGES, 'name.startswith(small + b"[")', "False"),
     (MESSAGES, "if name == \"WrongCount\" and command in rows", "if False"),
     (MESSAGES, "    if other and (line", "    if False and (line"),
@@ -258,8 +261,20 @@ def interrupted(folder):
             yield "signal %d ends the run" % number, wait_for(lambda: not is_running(child))
 
 
+def on_a_terminal(program, folder):
+    """A terminal shows how many captures are done; elsewhere standard error has nothing of it."""
+    place = Folder(program, folder + "/terminal", A=LINE, B=LINE)
+    terminal, side = pty.openpty()
+    words = [APPLY, "script", "A", "B"]
+    done = subprocess.run(words, cwd=place.folder, env=place.environment, stdout=subprocess.DEVNULL, stderr=side)
+    os.close(side)
+    yield "progress", done.returncode == 0 and b"1 of 2, 0 not written" in os.read(terminal, 10000)
+    os.close(terminal)
+
+
 def check(program, folder):
     yield from writes(program, folder)
     yield from stays(program, folder)
     yield from fails(folder)
     yield from interrupted(folder)
+    yield from on_a_terminal(program, folder)

@@ -28,6 +28,7 @@ PLANTED = [
     (TOOL, "    if first > last:\n", "    if False:\n"),
     (TOOL, "    if signals and not kept:\n", "    if False:\n"),
     (TOOL, "    if file.seekable() and", "    if True or"),
+    (TOOL, "    if len(kept) > vcd_files.SIGNAL_LIMIT:\n", "    if False:\n"),
     (TOOL, "    if ticks < 2:\n", "    if ticks < 1:\n"),
     (TOOL, "if ticks.numerator > vcd_files.RATIO_LIMIT else ticks", "if False else ticks"),
     ("tools/vcd_files.py", "10 ** UNITS[unit] * int", "10 ** UNITS[unit] // int"),
@@ -195,6 +196,9 @@ def many(place):
     status, shown, errors = place.select("many", "--to", "40")
     told = "the script would have" in errors and "--keep" in errors and "vcdedit-narrow" in errors
     yield "a script that would be too large", (status, shown, told) == (1, "", True)
+    store(place.folder, "more", "\n".join([*declared, declared[0], "$enddefinitions $end", "#0", ""]))
+    status, shown, errors = place.select("more", "--keep", "s1")
+    yield "one signal too many", (status, shown, "vcdedit-narrow" in errors) == (3, "", True)
 
 
 def check(program, folder):
