@@ -236,6 +236,15 @@ def program():
     return "vcdedit"
 
 
+def want_standard_streams():
+    """Ends where standard output or standard error is closed, and makes a closed standard input empty: else a file that is
+    opened would be in their place."""
+    if sys.stdin is None:
+        os.open(os.devnull, os.O_RDONLY)
+    if sys.stdout is None or sys.stderr is None:
+        sys.exit(4)
+
+
 def in_memory(text):
     """A file without a name, which each run opens anew."""
     file = os.fdopen(os.memfd_create("script"), "w+b") if hasattr(os, "memfd_create") else tempfile.TemporaryFile()

@@ -32,6 +32,7 @@ FAILING = [
     ("echo 'vcdedit: output: write fault' >&2; exit 4", 4, "is the disc full?"),
     ("echo 'vcdedit: out of memory' >&2; exit 5", 5, "out of memory"),
     ("kill -9 $$", 5, "signal 9"),
+    (': > "$out"; exit 0', 4, "wrote nothing"),
     ("echo 'line 1: refused: NoSuchName'; exit 1", 1, "1 line refused"),
     ("echo changed >> ../moved/A; exit 0", 4, "changed by another program"),
     ("mv ../moved/A ../moved/away; cp ../moved/away ../moved/A; exit 0", 4, "changed by another program"),
@@ -75,6 +76,9 @@ PLANTED = [
     (TOOL, " & 0o222:", " & 0:"),
     (TOOL, "if target == real:", "if False:"),
     (TOOL, "            child.terminate()\n\n", "            pass\n\n"),
+    (TOOL, "if os.fstat(written).st_size == 0:", "if False:"),
+    ("tools/vcd_files.py", "        os.open(os.devnull, os.O_RDONLY)\n", "        pass\n"),
+    ("tools/vcd_files.py", "        sys.exit(4)\n", "        sys.exit(0)\n"),
     (TOOL, "max(outcome.status", "min(outcome.status"),
     (TOOL, ")[:NAME_BYTES]", ")"),
     (TOOL, '"%s.%d.%d.unfinished"', '"%s.%d.%d"'),
@@ -197,6 +201,10 @@ def stays(program, folder):
     ):
         yield "refused: " + " ".join(words), place.run(*words)[0] == status and place.load("A") == LINE
     full = subprocess.run([APPLY, "script", "A"], cwd=place.folder, env=place.environment, stdout=open("/dev/full", "w"), stderr=subprocess.PIPE)
+    for closed, status in ((">&-", 4), ("2>&-", 4), ("<&-", 0)):
+        words = ["sh", "-c", 'exec "$@" %s' % closed, "sh", APPLY, "script", "A", "--to", "closed"]
+        done = run(words, cwd=place.folder, env=place.environment)
+        yield "closed: " + closed, done[0] == status and done[2] == ""
     yield "a full standard output", full.returncode == 4 and b"Traceback" not in full.stderr
 
 

@@ -30,7 +30,7 @@ PLANTED = [
     (TOOL, "    if file.seekable() and", "    if True or"),
     (TOOL, "    if len(kept) > vcd_files.SIGNAL_LIMIT:\n", "    if False:\n"),
     (TOOL, "    if ticks < 2:\n", "    if ticks < 1:\n"),
-    (TOOL, "if ticks.numerator > vcd_files.RATIO_LIMIT else ticks", "if False else ticks"),
+    (TOOL, "    if ticks.numerator > vcd_files.RATIO_LIMIT:\n", "    if False:\n"),
     ("tools/vcd_files.py", "10 ** UNITS[unit] * int", "10 ** UNITS[unit] // int"),
 ]
 
@@ -172,6 +172,8 @@ def selections(place):
     shown = place.select("names", "--remove", "tb.u.clk")[1]
     yield "comments say what is removed", shown.splitlines() == ["# vcdedit-select --remove tb.u.clk names", "# tb.u.clk", "remove @5"]
     piped = place.select("-", "--to", "50", input=BUS)
+    closed = run(["sh", "-c", 'exec "$@" >&-', "sh", SELECT, "names"], cwd=place.folder, env=place.environment)
+    yield "a closed standard output", closed == (4, "", "")
     yield "standard input", lines_of(piped[1]) == ["force @1 500 501 0", "cut 50 500"]
     store(place.folder, "bad", "#0\n")
     yield "a capture that is refused", place.select("bad")[0] == 3 and place.select("none")[0] == 4
