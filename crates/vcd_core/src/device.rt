@@ -67,7 +67,7 @@ pub trait Sink {
     // whether it has failed
     ghost has_failed: { Self → Bool };
 
-    // whether it has passed on all bytes taken
+    // whether a flush has succeeded since the last byte was taken
     ghost is_flushed: { Self → Bool };
 
     /// Takes bytes from the front of `bytes`. Returns how many: at least one, if there is one.
@@ -75,6 +75,7 @@ pub trait Sink {
         ensures count { WritesAtMost result bytes.now }
         ensures some { 0 < length bytes.now → IfOk result (λ count. 0 < count) }
         ensures bytes { WriteAppends (taken self.old) (taken self.new) result bytes.now }
+        ensures unflushed { IfOk result (λ count. 0 < count → is_flushed self.new ≡ false) }
         ensures fault { FailureMatches (has_failed self.old) (has_failed self.new) result };
 
     /// Passes on the bytes taken.
@@ -148,7 +149,7 @@ impl<R: Read> Source for FromRead<R> {
 pub struct ToWrite<W> {
     writer: W,
     failed: bool,
-    // read by contracts alone: no byte was handed to the writer since its last flush
+    // read by contracts alone
     is_flushed: bool,
 }
 

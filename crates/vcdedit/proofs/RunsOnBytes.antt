@@ -8,12 +8,14 @@ use Rattle.vcd_text.specs.Refusals as refusals
 use Rattle.vcd_text.specs.inside.Reading.{is_no_memory}
 use Rattle.vcd_text.specs.declared.fault.ReadError.{ReadError}
 use Rattle.vcd_text.specs.declared.fault.WriteError.TheVariants as write_errors
+use Rattle.vcd_text.specs.declared.reading.TheConstants.{FILE_LIMIT}
+use Rattle.vcdedit.specs.declared.running.script_input.TheConstants.{SCRIPT_LIMIT}
 use Rattle.vcdedit.specs.declared.running.run_error.RunError.{RunError}
 use Rattle.vcdedit.specs.declared.running.run_error.RunError.TheVariants as run_errors
 use Rattle.vcdedit.specs.declared.running.run_error.Summary.{Summary}
 use Rattle.vcdedit.specs.Run.{RunOutcome, IsRun}
-use Rattle.vcdedit.specs.RunEnds.{DeviceEnd, RunEnds}
-use Rattle.vcdedit.specs.RunOnBytes.{IsRefusedFile, has_fault, too_large, RunGives}
+use Rattle.vcdedit.specs.RunEnds.{DeviceEnd, IsRead, RunEnds}
+use Rattle.vcdedit.specs.RunOnBytes.{has_fault, too_large, IsRunWithin, RunGives}
 use Rattle.vcdedit.specs.inside.RunRefusals.{run_refusal}
 
 -- a refused file of which the source has not failed, by whether memory was refused
@@ -33,19 +35,26 @@ refused_file file script depth has_failed left e replies ready empty
 refused_file file script depth has_failed left e replies ready empty (refusals.no_memory e_is) false is =
     let no : true ≡ false = rw e_is at is in absurd (cc)
 
+-- both sources were read to their ends within the limits
+within_limits : (file script : List ℕ) (depth : ℕ) (capture lines : DeviceEnd) (written : RunOutcome) →
+    capture.before ≡ Some file → lines.before ≡ Some script → IsRead FILE_LIMIT capture → IsRead SCRIPT_LIMIT lines
+    → IsRun file script depth written → IsRunWithin file script depth written
+within_limits file script depth capture lines written is_file is_script file_read script_read runs =
+    (rw is_file at file_read.2, rw is_script at script_read.2, runs)
+
 -- what a run gives that reached its end, into writers that were empty
 pub texts_of_run : (file script replies_text output_text : List ℕ) (depth : ℕ)
     (capture lines replies output : DeviceEnd) (summary : Summary) →
     capture.before ≡ Some file → lines.before ≡ Some script → replies.before ≡ Some []
     → Some replies_text ≡ replies.after → output.before ≡ Some [] → Some output_text ≡ output.after
     → RunEnds depth capture lines replies (Some output) (Ok summary) →
-    (written : RunOutcome) × IsRun file script depth written × (replies_text ≡ concat written.replies)
+    (written : RunOutcome) × IsRunWithin file script depth written × (replies_text ≡ concat written.replies)
     × (output_text ≡ written.output) × (summary.refused ≡ written.refused)
 unfolding RunEnds
 texts_of_run file script replies_text output_text depth capture lines replies output summary is_file is_script
     replies_empty replies_are output_empty output_is ends =
     let gives = rw (is_file, is_script, replies_empty, sym replies_are, output_empty, sym output_is) at ends.4 in
-    (gives.0, gives.1, gives.2.0, gives.2.1, gives.2.2)
+    (gives.0, within_limits file script depth capture lines gives.0 is_file is_script ends.0.0 ends.1 gives.1, gives.2.0, gives.2.1, gives.2.2)
 
 -- a writer that was empty and is unchanged has taken nothing
 none_taken : (text : List ℕ) (replies : DeviceEnd) → replies.before ≡ Some [] → Some text ≡ replies.after
@@ -72,16 +81,32 @@ refusal_of_run file script depth capture lines replies output made (run_errors.N
     lines_ready was_empty made_is ends = inl (none_taken made.items replies was_empty made_is ends.1.0.0)
 refusal_of_run file script depth capture lines replies output made (run_errors.NoMemory (suc before)) is_file ready
     is_script lines_ready was_empty made_is ends =
-    let gives = rw (is_file, is_script, was_empty, sym made_is) at ends.4 in (gives.0, gives.1, gives.2.0, gives.2.1)
+    let gives = rw (is_file, is_script, was_empty, sym made_is) at ends.4 in
+    (gives.0, within_limits file script depth capture lines gives.0 is_file is_script ends.0.0 ends.1 gives.1, gives.2.0, gives.2.1)
 refusal_of_run file script depth capture lines replies output made (run_errors.ReplyFault count) is_file ready
     is_script lines_ready was_empty made_is ends =
     let gives = rw (is_file, is_script, was_empty, sym made_is) at ends.4 in
-    inr (gives.0, gives.1, count, gives.2.1)
+    inr (
+      gives.0,
+      within_limits file script depth capture lines gives.0 is_file is_script ends.0.0 ends.1 gives.1,
+      count,
+      gives.2.1,
+    )
 refusal_of_run file script depth capture lines replies output made (run_errors.Write write_errors.NoMemory) is_file
     ready is_script lines_ready was_empty made_is ends =
     let gives = rw (is_file, is_script, was_empty, sym made_is) at ends.4 in
-    inr (gives.0, gives.1, length (concat gives.0.replies), gives.2 ∙ sym (take-length (concat gives.0.replies)))
+    inr (
+      gives.0,
+      within_limits file script depth capture lines gives.0 is_file is_script ends.0.0 ends.1 gives.1,
+      length (concat gives.0.replies),
+      gives.2 ∙ sym (take-length (concat gives.0.replies)),
+    )
 refusal_of_run file script depth capture lines replies output made (run_errors.Write (write_errors.WriteFault count))
     is_file ready is_script lines_ready was_empty made_is ends =
     let gives = rw (is_file, is_script, was_empty, sym made_is) at ends.3.1 in
-    inr (gives.0, gives.1, length (concat gives.0.replies), gives.2.0 ∙ sym (take-length (concat gives.0.replies)))
+    inr (
+      gives.0,
+      within_limits file script depth capture lines gives.0 is_file is_script ends.0.0 ends.1 gives.1,
+      length (concat gives.0.replies),
+      gives.2.0 ∙ sym (take-length (concat gives.0.replies)),
+    )

@@ -23,10 +23,15 @@ pub data IsRefusedFile (file : List ℕ) (e : ReadError) : Type 0 where
 abbrev pub HasMeaning : (file : List ℕ) → Type 0
 HasMeaning file = (c : Contents) × (skipped : ℕ) × FileMeans file c skipped
 
+-- both files are within their limits, and a run of them writes this
+abbrev pub IsRunWithin : (file script : List ℕ) → (depth : ℕ) → RunOutcome → Type 0
+IsRunWithin file script depth written =
+    (length file ≤ FILE_LIMIT) × (length script ≤ SCRIPT_LIMIT) × IsRun file script depth written
+
 -- what a run over the bytes of two files gives
 abbrev pub RunGives : (file script : List ℕ) → (depth : ℕ) → Result RunTexts RunRefusal → Type 0
 -- the texts are what the run writes
-RunGives file script depth (Ok texts) = (written : RunOutcome) × IsRun file script depth written
+RunGives file script depth (Ok texts) = (written : RunOutcome) × IsRunWithin file script depth written
     × (texts.replies.items ≡ concat written.replies) × (texts.output.items ≡ written.output)
     × (texts.refused ≡ written.refused)
 -- the capture file is refused
@@ -35,9 +40,9 @@ RunGives file script depth (Err (Capture e)) = IsRefusedFile file e
 RunGives file script depth (Err ScriptTooLarge) = HasMeaning file × (SCRIPT_LIMIT < length script)
 -- memory ran out, and not at a line: the replies made before are the first bytes of those that the run writes
 RunGives file script depth (Err (NoMemory zero replies)) = (replies.items ≡ [])
-    ⊎ ((written : RunOutcome) × IsRun file script depth written
+    ⊎ ((written : RunOutcome) × IsRunWithin file script depth written
     × (count : ℕ) × (replies.items ≡ take count (concat written.replies)))
 -- memory ran out at a line, counted from 1: the replies are those to the lines before it
 RunGives file script depth (Err (NoMemory (suc before) replies)) = (written : RunOutcome)
-    × IsRun file script depth written × (before < length written.replies)
+    × IsRunWithin file script depth written × (before < length written.replies)
     × (replies.items ≡ concat (take before written.replies))

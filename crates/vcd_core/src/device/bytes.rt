@@ -43,6 +43,8 @@ impl<'a> Source for FromBytes<'a> {
 pub struct ToBytes {
     bytes: Vec<u8>,
     is_out_of_memory: bool,
+    // read by contracts alone
+    is_flushed: bool,
 }
 
 impl ToBytes {
@@ -54,6 +56,7 @@ impl ToBytes {
         ToBytes {
             bytes: Vec::new(alloc),
             is_out_of_memory: false,
+            is_flushed: false,
         }
     }
 
@@ -67,18 +70,17 @@ impl ToBytes {
 }
 
 impl Sink for ToBytes {
-    ghost use Rattle.std.specs.Prelude.{true};
-
     ghost taken = { λ device. Some device.bytes.items };
 
     ghost has_failed = { λ device. device.is_out_of_memory };
 
-    ghost is_flushed = { λ _. true };
+    ghost is_flushed = { λ device. device.is_flushed };
 
     fn write(&mut self, bytes: &[u8]) -> Result<usize, DeviceFault> {
         if self.is_out_of_memory {
             return Err(DeviceFault);
         }
+        self.is_flushed = false;
         match self.bytes.extend_from_slice(bytes) {
             Ok(()) => Ok(bytes.len()),
             Err(_) => {
@@ -92,6 +94,7 @@ impl Sink for ToBytes {
         if self.is_out_of_memory {
             return Err(DeviceFault);
         }
+        self.is_flushed = true;
         Ok(())
     }
 

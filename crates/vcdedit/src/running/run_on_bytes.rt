@@ -22,19 +22,20 @@ pub struct RunTexts {
     pub refused: u64,
 }
 
-/// Why a run over bytes did not reach its end. No device can fail.
+/// Why a run over bytes did not reach its end. Its devices can fail for memory alone.
 #[derive(Drop)]
 pub enum RunRefusal {
-    /// The capture has this fault, at its line.
+    /// The capture has this fault, at its line, or is larger than its limit.
     Capture(ReadError),
     /// The script is larger than its limit.
     ScriptTooLarge,
-    /// Memory ran out, at this line of the script, or elsewhere (line 0). These replies were made before.
+    /// Memory ran out: at a line of the script, counted from 1, or before the first line, for the replies or for the
+    /// output (0). These replies were made before.
     NoMemory { line: u64, replies: Vec<u8> },
 }
 
-/// Runs the lines of the script on the capture, and gives the texts that the program writes for files with these
-/// bytes. `depth` is how many edits can be undone.
+/// Runs the lines of the script on the capture, and gives the texts that a run writes. `depth` is how many edits can
+/// be undone.
 ///
 /// This is [`run`] on devices in memory. So its contract speaks of bytes alone, and of no device.
 pub fn run_on_bytes(
