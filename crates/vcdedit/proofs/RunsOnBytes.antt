@@ -54,7 +54,7 @@ unfolding RunEnds
 texts_of_run file script replies_text output_text depth capture lines replies output summary is_file is_script
     replies_empty replies_are output_empty output_is ends =
     let gives = rw (is_file, is_script, replies_empty, sym replies_are, output_empty, sym output_is) at ends.4 in
-    (gives.0, within_limits file script depth capture lines gives.0 is_file is_script ends.0.0 ends.1 gives.1, gives.2.0, gives.2.1, gives.2.2)
+    (gives.0, within_limits file script depth _ _ gives.0 is_file is_script ends.0.0 ends.1 gives.1, gives.2.0, gives.2.1, gives.2.2)
 
 -- a writer that was empty and is unchanged has taken nothing
 none_taken : (text : List ℕ) (replies : DeviceEnd) → replies.before ≡ Some [] → Some text ≡ replies.after
@@ -82,13 +82,13 @@ refusal_of_run file script depth capture lines replies output made (run_errors.N
 refusal_of_run file script depth capture lines replies output made (run_errors.NoMemory (suc before)) is_file ready
     is_script lines_ready was_empty made_is ends =
     let gives = rw (is_file, is_script, was_empty, sym made_is) at ends.4 in
-    (gives.0, within_limits file script depth capture lines gives.0 is_file is_script ends.0.0 ends.1 gives.1, gives.2.0, gives.2.1)
+    (gives.0, within_limits file script depth _ _ gives.0 is_file is_script ends.0.0 ends.1 gives.1, gives.2.0, gives.2.1)
 refusal_of_run file script depth capture lines replies output made (run_errors.ReplyFault count) is_file ready
     is_script lines_ready was_empty made_is ends =
     let gives = rw (is_file, is_script, was_empty, sym made_is) at ends.4 in
     inr (
       gives.0,
-      within_limits file script depth capture lines gives.0 is_file is_script ends.0.0 ends.1 gives.1,
+      within_limits file script depth _ _ gives.0 is_file is_script ends.0.0 ends.1 gives.1,
       count,
       gives.2.1,
     )
@@ -97,7 +97,7 @@ refusal_of_run file script depth capture lines replies output made (run_errors.W
     let gives = rw (is_file, is_script, was_empty, sym made_is) at ends.4 in
     inr (
       gives.0,
-      within_limits file script depth capture lines gives.0 is_file is_script ends.0.0 ends.1 gives.1,
+      within_limits file script depth _ _ gives.0 is_file is_script ends.0.0 ends.1 gives.1,
       length (concat gives.0.replies),
       gives.2 ∙ sym (take-length (concat gives.0.replies)),
     )
@@ -106,7 +106,7 @@ refusal_of_run file script depth capture lines replies output made (run_errors.W
     let gives = rw (is_file, is_script, was_empty, sym made_is) at ends.3.1 in
     inr (
       gives.0,
-      within_limits file script depth capture lines gives.0 is_file is_script ends.0.0 ends.1 gives.1,
+      within_limits file script depth _ _ gives.0 is_file is_script ends.0.0 ends.1 gives.1,
       length (concat gives.0.replies),
       gives.2.0 ∙ sym (take-length (concat gives.0.replies)),
     )

@@ -62,8 +62,9 @@ module _ {D : Type 0} (shown : D → Option (List ℕ)) (has_failed : D → Bool
   ForOutput (Some out) (inr (inl left)) property = property (Some (device_end out.now left.0.now))
   ForOutput (Some out) left property = ⊥
 
--- the writer of the output, if there is one, has passed on all that it took
-abbrev pub IsOutputFlushed : {D : Type 0} → (D → Bool) → Option (MutBor D) → Unit {0} ⊎ (MutBor D × Unit {0}) ⊎ ⊥ → Type 0
+-- the writer of the output, if there is one, was flushed after the last byte that it took
+abbrev pub IsOutputFlushed : {D : Type 0} → (D → Bool) → Option (MutBor D)
+    → Unit {0} ⊎ (MutBor D × Unit {0}) ⊎ ⊥ → Type 0
 IsOutputFlushed is_flushed None left = Unit {0}
 IsOutputFlushed is_flushed (Some out) (inr (inl left)) = is_flushed left.0.now ≡ true
 IsOutputFlushed is_flushed (Some out) left = ⊥
