@@ -30,7 +30,7 @@ define FILES
 644 completions/tools.fish share/fish/vendor_completions.d/vcdedit-compare.fish
 644 completions/tools.fish share/fish/vendor_completions.d/vcdedit-narrow.fish
 endef
-DOCUMENTS = docs/COOKBOOK.md docs/SCRIPT.md docs/FORMATS.md docs/glitches.png examples
+DOCUMENTS = docs/COOKBOOK.md docs/SCRIPT.md docs/FORMATS.md examples
 
 define TARGETS
 vcdedit is built: ./vcdedit runs it.
