@@ -1,6 +1,6 @@
 -- A run over bytes in memory: what it gives follows from how the run ended.
-use Rattle.std.proofs.Common.{◌≡◌, Ok, Err, ℕ, zero, suc, List, [], Option, Some, Bool, false, true, sym, ◌∙◌, inl, inr}
-use Rattle.std.proofs.Common.{length, refl}
+use Rattle.std.proofs.Common.{◌≡◌, Ok, Err, ℕ, zero, suc, List, [], Option, Some, Bool, false, true, sym, ◌∙◌}
+use Rattle.std.proofs.Common.{inl, inr, length, refl}
 use Rattle.std.proofs.Math.Seq.{take-length}
 use Rattle.std.specs.List.{concat}
 use Rattle.std.specs.Vec.{Vec}
@@ -54,7 +54,8 @@ unfolding RunEnds
 texts_of_run file script replies_text output_text depth capture lines replies output summary is_file is_script
     replies_empty replies_are output_empty output_is ends =
     let gives = rw (is_file, is_script, replies_empty, sym replies_are, output_empty, sym output_is) at ends.4 in
-    (gives.0, within_limits file script depth _ _ gives.0 is_file is_script ends.0.0 ends.1 gives.1, gives.2.0, gives.2.1, gives.2.2)
+    let within = within_limits file script depth _ _ gives.0 is_file is_script ends.0.0 ends.1 gives.1 in
+    (gives.0, within, gives.2.0, gives.2.1, gives.2.2)
 
 -- a writer that was empty and is unchanged has taken nothing
 none_taken : (text : List ℕ) (replies : DeviceEnd) → replies.before ≡ Some [] → Some text ≡ replies.after
@@ -82,7 +83,8 @@ refusal_of_run file script depth capture lines replies output made (run_errors.N
 refusal_of_run file script depth capture lines replies output made (run_errors.NoMemory (suc before)) is_file ready
     is_script lines_ready was_empty made_is ends =
     let gives = rw (is_file, is_script, was_empty, sym made_is) at ends.4 in
-    (gives.0, within_limits file script depth _ _ gives.0 is_file is_script ends.0.0 ends.1 gives.1, gives.2.0, gives.2.1)
+    let within = within_limits file script depth _ _ gives.0 is_file is_script ends.0.0 ends.1 gives.1 in
+    (gives.0, within, gives.2.0, gives.2.1)
 refusal_of_run file script depth capture lines replies output made (run_errors.ReplyFault count) is_file ready
     is_script lines_ready was_empty made_is ends =
     let gives = rw (is_file, is_script, was_empty, sym made_is) at ends.4 in
