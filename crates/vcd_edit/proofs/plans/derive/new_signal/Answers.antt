@@ -1,4 +1,5 @@
 use Rattle.std.proofs.Common.{◌<◌, length, ap, sym, subst, ◌∙◌}
+use Rattle.std.proofs.lemmas.Bool.{lt-ltb}
 use Rattle.vcd_core.specs.Contents.{Contents, SignalContents, contents, signal_at}
 use Rattle.vcd_edit.specs.declared.edit.Formula.{Formula}
 use Rattle.vcd_edit.specs.Effect.{first_operand}
@@ -10,9 +11,11 @@ use Rattle.vcd_edit.proofs.plans.derive.new_signal.Goals as goal
 pub signal_at-first-requires-clause-position_exists : goal.signal_at-first-requires-clause-position_exists
 signal_at-first-requires-clause-position_exists c =
     let d : Contents = contents c.args.capture.now in
+    let below =
     subst (λ k. k < length d.signals)
     (sym (c.first_operand.ensures ∙ ap (λ (f : Formula). first_operand f) c.formula-formula.ensures))
-    (first_operand_there d c.args.rule c.requires.operands_exist)
+    (first_operand_there d c.args.rule c.requires.operands_exist) in
+    lt-ltb c.first_operand.result (length d.signals) below
 
 pub derived_wave-requires-clause-operands : goal.derived_wave-requires-clause-operands
 derived_wave-requires-clause-operands c =
