@@ -1,9 +1,10 @@
--- The laws of a run: each capture is sound, a refused line changes nothing, and an undo restores.
-use Rattle.std.proofs.Common.{◌≡◌, ◌≤◌, ◌<◌, ◌-◌, ℕ, zero, suc, Bool, true, false, cond, List, [], ◌∷◌, ◌++◌}
+-- The laws of a run: each capture is sound, a refused line changes nothing, and an undo or a redo restores.
+use Rattle.std.proofs.Common.{◌≡◌, ◌≤◌, ◌<◌, ◌+◌, ◌-◌, ℕ, zero, suc, Bool, true, false, cond, List, [], ◌∷◌, ◌++◌}
 use Rattle.std.proofs.Common.{take, length, Option, Some, None, Result, Ok, Err, is_err, refl, sym, ◌∙◌, ap, subst}
 use Rattle.std.proofs.Common.{arith, get_or}
 use Rattle.std.specs.Prelude.{fold, drop, not, nat_lt}
 use Rattle.std.proofs.lemmas.Bool.Decides.{nat_tests}
+use Rattle.std.proofs.lemmas.List.{length-append, length-take, length-drop}
 use Rattle.vcd_core.specs.Contents.{Contents}
 use Rattle.vcd_core.specs.Sound.{IsSound}
 use Rattle.vcd_text.specs.Words.{words_from}
@@ -18,6 +19,7 @@ use Rattle.vcd_edit.specs.EditFaults.{edit_fault}
 use Rattle.vcd_edit.proofs.SoundEffects.{effect_is_sound}
 use Rattle.vcd_journal.specs.declared.step.Step.{Step}
 use Rattle.vcd_journal.specs.declared.step.Step.TheVariants as steps
+use Rattle.vcd_journal.specs.declared.step.StepError.{StepError}
 use Rattle.vcd_journal.specs.declared.step.StepError.TheVariants as refusals
 use Rattle.vcd_journal.specs.StepErrorNames.{step_error_name}
 use Rattle.vcd_journal.specs.History.{History, initial_history, replay, is_depth, history_after}
@@ -66,15 +68,16 @@ no_fault : (found : Option EditError) → is_err (edit_reply found) ≡ false �
 no_fault None accepted = refl
 no_fault (Some fault) accepted = absurd (cc)
 
-some_held : (held : ℕ) → is_err (history_reply held refusals.NothingToUndo) ≡ false → 1 ≤ held
-some_held zero accepted = absurd (cc)
-some_held (suc held) accepted = omega arith
+some_held : (held : ℕ) (refusal : StepError) → is_err (history_reply held refusal) ≡ false → 1 ≤ held
+some_held zero refusal accepted = absurd (cc)
+some_held (suc held) refusal accepted = omega arith
 
-no_bad_depth : (bad small : Bool) →
+no_depth_fault : (bad small : Bool) →
     is_err (cond bad (Err (step_error_name refusals.BadDepth))
-    (cond small (Err (step_error_name refusals.DepthTooSmall)) ok_reply)) ≡ false → bad ≡ false
-no_bad_depth true small accepted = absurd (cc)
-no_bad_depth false small accepted = refl
+    (cond small (Err (step_error_name refusals.DepthTooSmall)) ok_reply)) ≡ false → (bad ≡ false) × (small ≡ false)
+no_depth_fault true small accepted = absurd (cc)
+no_depth_fault false true accepted = absurd (cc)
+no_depth_fault false false accepted = (refl, refl)
 
 module _ (c : Contents) (skipped depth : ℕ) (lines : List (List ℕ)) where
   abbrev at_line : ℕ → History
@@ -100,6 +103,21 @@ module _ (c : Contents) (skipped depth : ℕ) (lines : List (List ℕ)) where
       sym (ap (λ (r : Result Command LineError). is_err
       (command_reply r (capture_at c skipped depth lines count) skipped
       (at_line count).undoable (length (at_line count).undone))) is.0) ∙ is.1
+
+  some_undoable : (count : ℕ) → IsStepAfter count steps.Undo → 1 ≤ (at_line count).undoable
+  some_undoable count is =
+      some_held (at_line count).undoable refusals.NothingToUndo (step_accepted count steps.Undo is)
+
+  some_undone : (count : ℕ) → IsStepAfter count steps.Redo → 1 ≤ length (at_line count).undone
+  some_undone count is =
+      some_held (length (at_line count).undone) refusals.NothingToRedo (step_accepted count steps.Redo is)
+
+  new_depth_fits : (count d : ℕ) → IsStepAfter count (steps.Depth d)
+      → (1 ≤ d) × (length (at_line count).undone ≤ d)
+  new_depth_fits count d is =
+      let fits = no_depth_fault (not (is_depth d)) (nat_lt d (length (at_line count).undone))
+      (step_accepted count (steps.Depth d) is) in
+      (grind (arith, nat_tests, fits.0), grind (arith, nat_tests, fits.1))
 
   -- ---- one more line
 
@@ -195,6 +213,54 @@ module _ (c : Contents) (skipped depth : ℕ) (lines : List (List ℕ)) where
   in_force_made : IsSound c → (count : ℕ) → AreMade count (at_line count).edits
   in_force_made sound count = made_in_force count (at_line count).edits (at_line count).undone (all_made sound count)
 
+  -- ---- the undone edits
+
+  -- where `es` are in force, each of these was undone by a line after fewer than `count`: before that line it was the
+  -- last in force, on those before it in the list, which were on `es`
+  AreUndone : (count : ℕ) → (es us : List Edit) → Type 0
+  AreUndone count es [] = Unit {0}
+  AreUndone count es (u ∷ us) = ((i : ℕ) × (i < count) × IsStepAfter i steps.Undo
+      × ((at_line i).edits ≡ u ∷ es)) × AreUndone count (u ∷ es) us
+
+  undone_later : (count : ℕ) (es us : List Edit) → AreUndone count es us → AreUndone (suc count) es us
+  unfolding AreUndone
+  undone_later count es [] undone = tt
+  undone_later count es (u ∷ us) undone =
+      let at = undone.0 in ((at.0, omega (arith, at.1), at.2, at.3), undone_later count (u ∷ es) us undone.1)
+
+  undone_by_undo : (count : ℕ) (es us : List Edit) → IsStepAfter count steps.Undo → (at_line count).edits ≡ es
+      → AreUndone count es us → AreUndone (suc count) (drop 1 es) (take 1 es ++ us)
+  unfolding AreUndone
+  undone_by_undo count [] us is now undone = undone_later count [] us undone
+  undone_by_undo count (e ∷ es) us is now undone =
+      ((count, omega arith, is, now), undone_later count (e ∷ es) us undone)
+
+  undone_by_redo : (count : ℕ) (es us : List Edit) → AreUndone count es us
+      → AreUndone count (take 1 us ++ es) (drop 1 us)
+  unfolding AreUndone
+  undone_by_redo count es [] undone = undone
+  undone_by_redo count es (u ∷ us) undone = undone.1
+
+  abbrev AllUndone : (count : ℕ) → History → Type 0
+  AllUndone count h = AreUndone count h.edits h.undone
+
+  undone_by_step : (count : ℕ) (s : Step) → IsStepAfter count s → AllUndone count (at_line count)
+      → AllUndone (suc count) (history_after (at_line count) s)
+  unfolding AreUndone
+  undone_by_step count (steps.Edit e) is undone = tt
+  undone_by_step count steps.Undo is undone =
+      undone_by_undo count (at_line count).edits (at_line count).undone is refl undone
+  undone_by_step count steps.Redo is undone =
+      undone_later count _ _ (undone_by_redo count (at_line count).edits (at_line count).undone undone)
+  undone_by_step count (steps.Depth d) is undone = undone_later count _ _ undone
+
+  all_undone : (count : ℕ) → AllUndone count (at_line count)
+  unfolding AreUndone
+  all_undone zero = tt
+  all_undone (suc count) =
+      next_holds (AllUndone (suc count)) count (undone_later count _ _ (all_undone count))
+      (λ s is. undone_by_step count s is (all_undone count))
+
   -- ---- how many can be undone
 
   undoable_within : (count : ℕ) → (at_line count).undoable ≤ length (at_line count).edits
@@ -207,10 +273,7 @@ module _ (c : Contents) (skipped depth : ℕ) (lines : List (List ℕ)) where
   deep_after_step count (steps.Edit e) is least = least
   deep_after_step count steps.Undo is least = least
   deep_after_step count steps.Redo is least = least
-  deep_after_step count (steps.Depth d) is least =
-      let fits = no_bad_depth (not (is_depth d)) (nat_lt d (length (at_line count).undone))
-      (step_accepted count (steps.Depth d) is) in
-      grind (arith, nat_tests, fits)
+  deep_after_step count (steps.Depth d) is least = (new_depth_fits count d is).0
 
   deep : 1 ≤ depth → (count : ℕ) → 1 ≤ (at_line count).depth
   deep least zero = least
@@ -223,6 +286,27 @@ module _ (c : Contents) (skipped depth : ℕ) (lines : List (List ℕ)) where
   edit_can_be_undone count e least is =
       let next = ap (λ (h : History). h.undoable) (after_step count (steps.Edit e) is) in
       omega (arith, next, deep least count)
+
+  -- ---- and how many can be made again with them
+
+  abbrev HasRoom : History → Type 0
+  HasRoom h = h.undoable + length h.undone ≤ h.depth
+
+  room_after_step : (count : ℕ) (s : Step) → IsStepAfter count s → HasRoom (at_line count)
+      → HasRoom (history_after (at_line count) s)
+  room_after_step count (steps.Edit e) is room = omega arith
+  room_after_step count steps.Undo is room =
+      let taken = length-take 1 (at_line count).edits in
+      let both = length-append (take 1 (at_line count).edits) (at_line count).undone in
+      omega (arith, room, some_undoable count is, taken, both)
+  room_after_step count steps.Redo is room =
+      let left = length-drop 1 (at_line count).undone in
+      omega (arith, room, some_undone count is, left)
+  room_after_step count (steps.Depth d) is room = let fits = (new_depth_fits count d is).1 in omega (arith, fits)
+
+  has_room : (count : ℕ) → HasRoom (at_line count)
+  has_room zero = omega arith
+  has_room (suc count) = next_holds HasRoom count (has_room count) (λ s is. room_after_step count s is (has_room count))
 
   -- ---- an undo
 
@@ -247,8 +331,7 @@ module _ (c : Contents) (skipped depth : ℕ) (lines : List (List ℕ)) where
       × ((at_line j).edits ≡ e ∷ (at_line i).edits)
       × (capture_at c skipped depth lines (suc j) ≡ capture_at c skipped depth lines i)
   undo_gives_back sound j undo =
-      let held = some_held (at_line j).undoable (step_accepted j steps.Undo undo) in
-      let some : 1 ≤ length (at_line j).edits = omega (arith, held, undoable_within j) in
+      let some : 1 ≤ length (at_line j).edits = omega (arith, some_undoable j undo, undoable_within j) in
       let found = undone_edit j (at_line j).edits refl some (in_force_made sound j) in (
         found.0,
         found.1,
@@ -256,6 +339,24 @@ module _ (c : Contents) (skipped depth : ℕ) (lines : List (List ℕ)) where
         found.3,
         found.4,
         ap (λ (h : History). replay c h.edits) (after_step j steps.Undo undo) ∙ found.5,
+      )
+
+  -- ---- a redo
+
+  redone_edit : (count : ℕ) (es us : List Edit) → 1 ≤ length us → AreUndone count es us →
+      (i : ℕ) × (i < count) × IsStepAfter i steps.Undo × (take 1 us ++ es ≡ (at_line i).edits)
+  unfolding AreUndone
+  redone_edit count es [] some undone = absurd (omega (arith, some))
+  redone_edit count es (u ∷ us) some undone = let at = undone.0 in (at.0, at.1, at.2, sym at.3)
+
+  redo_gives_back : (j : ℕ) → IsStepAfter j steps.Redo →
+      (i : ℕ) × (i < j) × IsStepAfter i steps.Undo × ((at_line (suc j)).edits ≡ (at_line i).edits)
+  redo_gives_back j redo =
+      let found = redone_edit j (at_line j).edits (at_line j).undone (some_undone j redo) (all_undone j) in (
+        found.0,
+        found.1,
+        found.2,
+        ap (λ (h : History). h.edits) (after_step j steps.Redo redo) ∙ found.3,
       )
 
   -- ---- the laws, with lines counted from 1
@@ -268,6 +369,7 @@ module _ (c : Contents) (skipped depth : ℕ) (lines : List (List ℕ)) where
       record {
         sound = all_sound;
         undoable = undoable_within;
+        bounded = has_room;
         unchanged = λ number least refused.
             let next : suc (number - 1) ≡ number = omega (arith, least) in
             ap at_line (sym next) ∙ next_is (number - 1) true refused;
@@ -285,6 +387,19 @@ module _ (c : Contents) (skipped depth : ℕ) (lines : List (List ℕ)) where
               subst (λ n. IsStepAfter n (steps.Edit found.1)) before found.3,
               found.4 ∙ ap (λ n. found.1 ∷ (at_line n).edits) before,
               ap (capture_at c skipped depth lines) (sym next) ∙ found.5 ∙ ap (capture_at c skipped depth lines) before,
+            );
+        redo_restores = λ number least redo.
+            let next : suc (number - 1) ≡ number = omega (arith, least) in
+            let found = redo_gives_back (number - 1) redo in
+            let before : found.0 ≡ suc found.0 - 1 = omega arith in
+            let again : (at_line number).edits ≡ (at_line (suc found.0 - 1)).edits =
+            ap (λ n. (at_line n).edits) (sym next) ∙ found.3 ∙ ap (λ n. (at_line n).edits) before in (
+              suc found.0,
+              omega arith,
+              omega (arith, found.1, next),
+              subst (λ n. IsStepAfter n steps.Undo) before found.2,
+              again,
+              ap (replay c) again,
             );
         read_again = read_back last (all_sound (length lines));
         only = λ d count means.

@@ -1,5 +1,5 @@
 -- What a run writes: the headline. The project's own.
-use Rattle.std.specs.Prelude.{◌≡◌, ◌≤◌, ◌<◌, ◌-◌, ℕ, true, false, if◌then◌else◌, List, [], ◌∷◌, length, take}
+use Rattle.std.specs.Prelude.{◌≡◌, ◌≤◌, ◌<◌, ◌+◌, ◌-◌, ℕ, true, false, if◌then◌else◌, List, [], ◌∷◌, length, take}
 use Rattle.std.specs.Prelude.{get_or, map, fold, count_by, Result, Ok, is_err}
 use Rattle.std.specs.List.{enumerate_from}
 use Rattle.vcd_core.specs.Contents.{Contents}
@@ -80,6 +80,9 @@ module _ (c : Contents) (skipped depth : ℕ) (lines : List (List ℕ)) where
     pub sound : (count : ℕ) → IsSound (capture_at count)
     -- no more edits can be undone than are in force
     pub undoable : (count : ℕ) → (history_at count).undoable ≤ length (history_at count).edits
+    -- no more edits than the depth can be undone and made again, together
+    pub bounded : (count : ℕ)
+        → (history_at count).undoable + length (history_at count).undone ≤ (history_at count).depth
     -- a refused line leaves the history as it was, and with it the capture
     pub unchanged : (number : ℕ) → 1 ≤ number
         → is_err (line_answer c skipped (history_at (number - 1)) (line_at number)) ≡ true
@@ -91,6 +94,11 @@ module _ (c : Contents) (skipped depth : ℕ) (lines : List (List ℕ)) where
     pub undo_restores : (number : ℕ) → 1 ≤ number → IsStepAt number steps.Undo
         → (i : ℕ) × (e : Edit) × (1 ≤ i) × (i < number) × IsStepAt i (steps.Edit e)
         × ((history_at (number - 1)).edits ≡ e ∷ (history_at (i - 1)).edits)
+        × (capture_at number ≡ capture_at (i - 1))
+    -- a redo restores the capture before line i, which undid it: the same edits are in force again
+    pub redo_restores : (number : ℕ) → 1 ≤ number → IsStepAt number steps.Redo
+        → (i : ℕ) × (1 ≤ i) × (i < number) × IsStepAt i steps.Undo
+        × ((history_at number).edits ≡ (history_at (i - 1)).edits)
         × (capture_at number ≡ capture_at (i - 1))
     -- the output, read again, means the last capture, with nothing left out
     pub read_again : FileMeans outcome.output (capture_at (length lines)) 0
