@@ -36,7 +36,12 @@ signal_contents s = record {
 
 -- the contents of a capture
 abbrev pub contents : Capture → Contents
-contents c = record { header = c.header; timescale = c.timescale; end = c.end; signals = map signal_contents c.signals }
+contents c = record {
+  header = c.header;
+  timescale = c.timescale;
+  end = c.end;
+  signals = map signal_contents c.signals;
+}
 
 -- the default where there is no signal
 abbrev pub no_signal : SignalContents

@@ -36,7 +36,8 @@ changes_of width end f = changes_from (all_x width) 0 (suc end) f
 -- ticks rise strictly from `floor` on, and each value differs from the one before it, with the same width
 abbrev pub AreChangesFrom : ℕ → List Bit → List Change → Type 0
 AreChangesFrom floor before [] = Unit {0}
-AreChangesFrom floor before (c ∷ cs) = (floor ≤ c.tick) × (c.value ≢ before) × (length c.value ≡ length before)
+AreChangesFrom floor before (c ∷ cs) = (floor ≤ c.tick) × (c.value ≢ before)
+    × (length c.value ≡ length before)
     × AreChangesFrom (c.tick + 1) c.value cs
 
 -- a list of changes in the one form of a wave of this width
@@ -61,4 +62,5 @@ changes_before tick changes = take_while (λ c. nat_lt c.tick tick) changes
 unfoldable pub changes_after_push : ℕ → List Change → ℕ → List Bit → List Change
 changes_after_push width changes tick value =
     let kept = changes_before tick changes in
-    if same_letters value (last_value (all_x width) kept) then kept else kept ++ change tick value ∷ []
+    if same_letters value (last_value (all_x width) kept) then kept
+    else kept ++ change tick value ∷ []

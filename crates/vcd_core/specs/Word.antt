@@ -18,7 +18,8 @@ is_one_of words word = list_any (bytes_eq word) words
 
 -- the kinds whose variables are skipped: they have no four-state values
 abbrev pub skipped_kinds : List (List ℕ)
-skipped_kinds = codes "real" ∷ codes "realtime" ∷ codes "real_parameter" ∷ codes "shortreal" ∷ codes "event"
+skipped_kinds = codes "real" ∷ codes "realtime" ∷ codes "real_parameter" ∷ codes "shortreal"
+    ∷ codes "event"
     ∷ codes "string" ∷ []
 
 -- whether variables of this kind are skipped

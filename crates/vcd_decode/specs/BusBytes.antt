@@ -41,7 +41,8 @@ high_bits n = n / 2 % 4
 
 -- the kind of an address of ten bits: a read at the address just before the START, if it has the same high bits
 abbrev pub ten_bit_kind : Option ℕ → ℕ → Direction → Kind
-ten_bit_kind (Some a) high Read = if a / 256 == high then TenBitAddress a Read else AddressHigh high Read
+ten_bit_kind (Some a) high Read = if a / 256 == high then TenBitAddress a Read
+    else AddressHigh high Read
 ten_bit_kind given high direction = AddressHigh high direction
 
 -- the kind of any address

@@ -76,11 +76,13 @@ start_kind (Some given) = kinds.RepeatedStart
 unfoldable pub annotations_of_events : Option (Option ℕ) → List BusEvent → List Annotation
 annotations_of_events last [] = []
 annotations_of_events last (events.Bit b ∷ es) = annotations_of_events last es
-annotations_of_events last (events.Stop t ∷ es) = annotation t t kinds.Stop ∷ annotations_of_events None es
+annotations_of_events last (events.Stop t ∷ es) =
+    annotation t t kinds.Stop ∷ annotations_of_events None es
 annotations_of_events last (events.Start t ∷ es) =
     let shown = nines_annotations (has_condition es) (roles.Address (option_flatten last))
     (groups_of 9 (bits_until es)) in
-    annotation t t (start_kind last) ∷ shown ++ annotations_of_events (Some (shown_address shown)) es
+    annotation t t (start_kind last) ∷ shown
+    ++ annotations_of_events (Some (shown_address shown)) es
 
 -- the annotations of the lines SCL and SDA at the ticks 0 to `end`
 abbrev pub i2c_annotations : (ℕ → Bit) → (ℕ → Bit) → ℕ → List Annotation

@@ -14,7 +14,8 @@ use Rattle.std.specs.Prelude.{if◌then◌else◌}
 -- the first fault of a setup, or none
 abbrev pub uart_fault : UartSetup → Option SetupError
 uart_fault u =
-    if not (is_between 1 RATIO_LIMIT u.numerator && is_between 1 RATIO_LIMIT u.denominator) then Some BadRatio
+    if not (is_between 1 RATIO_LIMIT u.numerator && is_between 1 RATIO_LIMIT u.denominator)
+    then Some BadRatio
     else (if nat_lt u.numerator (2 * u.denominator) then Some BitTooShort
     else (if not (is_between 5 9 u.data_bits) then Some BadData
     else (if not (is_between 1 2 u.stop_bits) then Some BadStop
@@ -27,7 +28,8 @@ SetupFaultIs answer found = MatchResult answer (λ _. found ≡ None) (λ fault.
 -- the numbers of a setup without a fault
 abbrev pub IsUartSetup : ℕ → ℕ → ℕ → ℕ → Type 0
 IsUartSetup numerator denominator data_bits stop_bits =
-    (numerator ≤ RATIO_LIMIT) × (1 ≤ denominator) × (denominator ≤ RATIO_LIMIT) × (2 * denominator ≤ numerator)
+    (numerator ≤ RATIO_LIMIT) × (1 ≤ denominator) × (denominator ≤ RATIO_LIMIT)
+    × (2 * denominator ≤ numerator)
     × (5 ≤ data_bits) × (data_bits ≤ 9) × (1 ≤ stop_bits) × (stop_bits ≤ 2)
 
 -- the first fault of a setup, or none

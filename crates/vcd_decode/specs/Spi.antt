@@ -19,7 +19,8 @@ use Rattle.std.specs.Prelude.{if◌then◌else◌}
 
 -- whether the clock has the mode's edge at a tick: in the modes 0 and 3 it rises, in 1 and 2 it falls
 abbrev pub has_sampling_edge : (mode : ℕ) → (clk : ℕ → Bit) → ℕ → Bool
-has_sampling_edge mode clk t = if mode == 0 || mode == 3 then is_zero (letter_before clk t) && is_one (clk t)
+has_sampling_edge mode clk t =
+    if mode == 0 || mode == 3 then is_zero (letter_before clk t) && is_one (clk t)
     else is_one (letter_before clk t) && is_zero (clk t)
 
 -- whether the chip is selected at a tick: always where there is no such line
@@ -41,7 +42,8 @@ ordered_number Lsb letters = number_from_letters letters
 
 -- the data of these letters: unknown where one is neither 0 nor 1
 abbrev pub data_of_letters : BitOrder → List Bit → LineData
-data_of_letters order letters = if list_any is_unclear letters then Unknown else Number (ordered_number order letters)
+data_of_letters order letters =
+    if list_any is_unclear letters then Unknown else Number (ordered_number order letters)
 
 -- the data of a line at some ticks
 abbrev pub line_data : BitOrder → Option (ℕ → Bit) → List ℕ → LineData
@@ -50,11 +52,14 @@ line_data order (Some f) ticks = data_of_letters order (map f ticks)
 
 -- the annotation of a group of ticks: a word, or the number of bits of an unfinished one
 abbrev pub group_annotation : SpiSetup → (mosi miso : Option (ℕ → Bit)) → List ℕ → Annotation
-group_annotation u mosi miso ticks = annotation (slice_index ticks 0) (slice_index ticks (length ticks - 1))
+group_annotation u mosi miso ticks =
+    annotation (slice_index ticks 0) (slice_index ticks (length ticks - 1))
     (if nat_lt (length ticks) u.bits then PartialOf (length ticks)
     else Word (line_data u.order mosi ticks) (line_data u.order miso ticks))
 
 -- the annotations of lines with these letters at each tick, up to the capture's end
-unfoldable pub spi_annotations : SpiSetup → (clk : ℕ → Bit) → (mosi miso cs : Option (ℕ → Bit)) → ℕ → List Annotation
+unfoldable pub spi_annotations : SpiSetup → (clk : ℕ → Bit) → (mosi miso cs : Option (ℕ → Bit)) → ℕ
+    → List Annotation
 spi_annotations u clk mosi miso cs end =
-    flat_map (λ ticks. map (group_annotation u mosi miso) (groups_of u.bits ticks)) (segments u clk cs end)
+    flat_map (λ ticks. map (group_annotation u mosi miso) (groups_of u.bits ticks))
+    (segments u clk cs end)

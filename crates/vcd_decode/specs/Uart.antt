@@ -65,7 +65,8 @@ begun_frame f end u start =
     if nat_lt end (sample_tick u start 0) then Some (annotation start end Partial)
     else (if not (is_zero (f (sample_tick u start 0))) then None
     else (if nat_lt end (sample_tick u start (last_bit u)) then Some (annotation start end Partial)
-    else Some (annotation start (sample_tick u start (last_bit u)) (frame_kind u (frame_letters f u start)))))
+    else Some (annotation start (sample_tick u start (last_bit u))
+    (frame_kind u (frame_letters f u start)))))
 
 -- ---- all frames
 

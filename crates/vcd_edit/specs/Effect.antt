@@ -72,7 +72,8 @@ is_steady ticks end f t =
 -- the value at the greatest steady tick up to a tick
 unfoldable pub steady_value : ℕ → ℕ → (ℕ → List Bit) → ℕ → List Bit
 steady_value ticks end f zero = f 0
-steady_value ticks end f (suc t) = if is_steady ticks end f (suc t) then f (suc t) else steady_value ticks end f t
+steady_value ticks end f (suc t) =
+    if is_steady ticks end f (suc t) then f (suc t) else steady_value ticks end f t
 
 -- ---- derived signals
 
@@ -130,6 +131,7 @@ effect (Remove k) c = record c { signals = remove c.signals k }
 effect (Invert k) c = with_wave c k (inverse_value (signal_at c k))
 effect (Shift k by) c = with_wave c k (shift_value c.end by (signal_at c k))
 effect (Cut from to) c = cut_contents from to c
-effect (Deglitch k ticks) c = with_wave c k (steady_value ticks c.end (signal_value (signal_at c k)))
+effect (Deglitch k ticks) c =
+    with_wave c k (steady_value ticks c.end (signal_value (signal_at c k)))
 effect (Force k from to value) c = with_wave c k (force_value from to value (signal_at c k))
 effect (Derive word rule) c = record c { signals = push c.signals (derived_signal word.now rule c) }

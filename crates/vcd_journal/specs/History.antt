@@ -33,10 +33,19 @@ is_depth depth = nat_le 1 depth && nat_le depth DEPTH_LIMIT
 
 -- the history after an accepted step
 abbrev pub history_after : History → Step → History
-history_after h (steps.Edit e) = record h { edits = e ∷ h.edits; undone = []; undoable = min h.depth (h.undoable + 1) }
+history_after h (steps.Edit e) =
+    record h { edits = e ∷ h.edits; undone = []; undoable = min h.depth (h.undoable + 1) }
 history_after h steps.Undo =
-    record h { edits = drop 1 h.edits; undone = take 1 h.edits ++ h.undone; undoable = h.undoable - 1 }
+    record h {
+      edits = drop 1 h.edits;
+      undone = take 1 h.edits ++ h.undone;
+      undoable = h.undoable - 1;
+    }
 history_after h steps.Redo =
-    record h { edits = take 1 h.undone ++ h.edits; undone = drop 1 h.undone; undoable = h.undoable + 1 }
+    record h {
+      edits = take 1 h.undone ++ h.edits;
+      undone = drop 1 h.undone;
+      undoable = h.undoable + 1;
+    }
 history_after h (steps.Depth depth) =
     record h { undoable = min (depth - length h.undone) h.undoable; depth = depth }

@@ -10,6 +10,8 @@ mod captures;
 #[cfg(test)]
 mod devices;
 #[cfg(test)]
+mod edges;
+#[cfg(test)]
 mod editing;
 #[cfg(test)]
 mod fake_devices;

@@ -21,7 +21,8 @@ use Rattle.vcd_text.specs.Grammar.{word_texts, AllowsAll, state_after}
 -- ---- the rows: the words `begun` of an incomplete item show no fault, and the word after them shows this one
 
 -- among the declarations
-pub data DeclarationFault (c : ParseState) (begun : List (List ℕ)) (word : List ℕ) (fault : Fault) : Type 0 where
+pub data DeclarationFault (c : ParseState) (begun : List (List ℕ)) (word : List ℕ) (fault : Fault)
+    : Type 0 where
   -- a word that begins no declaration
   no_declaration : begun ≡ [] → IsFalse (begins_declaration word) → fault ≡ UnexpectedWord
       → DeclarationFault c begun word fault
@@ -30,7 +31,8 @@ pub data DeclarationFault (c : ParseState) (begun : List (List ℕ)) (word : Lis
       → IsTrue (has_no_end_word words) → timescale_of words ≡ None → fault ≡ BadTimescale
       → DeclarationFault c begun word fault
   -- `$end` in the place of a scope's kind
-  no_kind : begun ≡ codes "$scope" ∷ [] → word ≡ end_word → fault ≡ BadScope → DeclarationFault c begun word fault
+  no_kind : begun ≡ codes "$scope" ∷ [] → word ≡ end_word → fault ≡ BadScope
+      → DeclarationFault c begun word fault
   -- `$upscope` while no scope is open
   upscope_at_top : begun ≡ [] → word ≡ codes "$upscope" → c.scopes ≡ [] → fault ≡ UpscopeAtTop
       → DeclarationFault c begun word fault
@@ -38,23 +40,30 @@ pub data DeclarationFault (c : ParseState) (begun : List (List ℕ)) (word : Lis
   upscope_goes_on : begun ≡ codes "$upscope" ∷ [] → IsFalse (is_end_word word) → 0 < length c.scopes
       → fault ≡ UnexpectedWord → DeclarationFault c begun word fault
   -- a size that is no decimal number
-  no_size : (kind : List ℕ) → begun ≡ codes "$var" ∷ kind ∷ [] → IsFalse (is_end_word kind) → IsFalse (is_number word)
+  no_size : (kind : List ℕ) → begun ≡ codes "$var" ∷ kind ∷ []
+      → IsFalse (is_end_word kind) → IsFalse (is_number word)
       → fault ≡ BadVar → DeclarationFault c begun word fault
   -- `$end` in the place of a variable's kind, size, code or name
   no_variable : (words : List (List ℕ)) → begun ≡ codes "$var" ∷ words → word ≡ end_word
-      → IsTrue (has_no_end_word words) → IsTrue (has_good_size words) → declaration_of c words ≡ None → fault ≡ BadVar
+      → IsTrue (has_no_end_word words) → IsTrue (has_good_size words)
+      → declaration_of c words ≡ None → fault ≡ BadVar
       → DeclarationFault c begun word fault
   -- at its `$end`: a variable that does not agree with the one of its code
-  code_mixed : (words : List (List ℕ)) (d : VariableDeclaration) → begun ≡ codes "$var" ∷ words → word ≡ end_word
-      → IsTrue (has_no_end_word words) → IsTrue (has_good_size words) → declaration_of c words ≡ Some d
-      → IsFalse (may_have_code (variable_of c d.code) d) → fault ≡ MixedCode → DeclarationFault c begun word fault
+  code_mixed : (words : List (List ℕ)) (d : VariableDeclaration)
+      → begun ≡ codes "$var" ∷ words → word ≡ end_word → IsTrue (has_no_end_word words)
+      → IsTrue (has_good_size words) → declaration_of c words ≡ Some d
+      → IsFalse (may_have_code (variable_of c d.code) d) → fault ≡ MixedCode
+      → DeclarationFault c begun word fault
   -- at its `$end`: one signal too many
-  no_room : (words : List (List ℕ)) (d : VariableDeclaration) → begun ≡ codes "$var" ∷ words → word ≡ end_word
-      → IsTrue (has_no_end_word words) → IsTrue (has_good_size words) → declaration_of c words ≡ Some d
-      → IsTrue (may_have_code (variable_of c d.code) d) → IsFalse (has_room c.declared d) → fault ≡ TooManySignals
+  no_room : (words : List (List ℕ)) (d : VariableDeclaration)
+      → begun ≡ codes "$var" ∷ words → word ≡ end_word → IsTrue (has_no_end_word words)
+      → IsTrue (has_good_size words) → declaration_of c words ≡ Some d
+      → IsTrue (may_have_code (variable_of c d.code) d) → IsFalse (has_room c.declared d)
+      → fault ≡ TooManySignals
       → DeclarationFault c begun word fault
   -- a word other than `$end` after `$enddefinitions`
-  definitions_go_on : begun ≡ codes "$enddefinitions" ∷ [] → IsFalse (is_end_word word) → fault ≡ UnexpectedWord
+  definitions_go_on : begun ≡ codes "$enddefinitions" ∷ [] → IsFalse (is_end_word word)
+      → fault ≡ UnexpectedWord
       → DeclarationFault c begun word fault
 
 -- the first bytes of a change of two words
@@ -62,41 +71,51 @@ abbrev pub pair_prefixes : List ℕ
 pair_prefixes = vector_prefixes ++ real_or_string_prefixes
 
 -- among the changes
-pub data ChangeFault (c : ParseState) (begun : List (List ℕ)) (word : List ℕ) (fault : Fault) : Type 0 where
+pub data ChangeFault (c : ParseState) (begun : List (List ℕ)) (word : List ℕ) (fault : Fault)
+    : Type 0 where
   -- a stamp that is no tick
-  no_tick : (digits : List ℕ) → begun ≡ [] → word ≡ 35 ∷ digits → IsFalse (is_tick digits) → fault ≡ BadTime
+  no_tick : (digits : List ℕ) → begun ≡ [] → word ≡ 35 ∷ digits → IsFalse (is_tick digits)
+      → fault ≡ BadTime
       → ChangeFault c begun word fault
   -- a stamp below the one before it
   tick_goes_back : (digits : List ℕ) → begun ≡ [] → word ≡ 35 ∷ digits → IsTrue (is_tick digits)
       → number_of digits < c.tick → fault ≡ TimeBackwards → ChangeFault c begun word fault
   -- a binary digit without a code
-  missing_code : (digit : ℕ) → begun ≡ [] → word ≡ digit ∷ [] → IsTrue (is_binary_digit digit) → fault ≡ BadChange
+  missing_code : (digit : ℕ) → begun ≡ [] → word ≡ digit ∷ [] → IsTrue (is_binary_digit digit)
+      → fault ≡ BadChange
       → ChangeFault c begun word fault
   -- a binary digit with a code that was not declared
-  unknown_scalar_code : (digit : ℕ) (code : List ℕ) → begun ≡ [] → word ≡ digit ∷ code → IsTrue (is_binary_digit digit)
-      → 0 < length code → variable_of c code ≡ None → fault ≡ UnknownCode → ChangeFault c begun word fault
+  unknown_scalar_code : (digit : ℕ) (code : List ℕ) → begun ≡ [] → word ≡ digit ∷ code
+      → IsTrue (is_binary_digit digit) → 0 < length code → variable_of c code ≡ None
+      → fault ≡ UnknownCode → ChangeFault c begun word fault
   -- a change of two words with a code that was not declared
-  unknown_pair_code : (first : ℕ) (text : List ℕ) → begun ≡ (first ∷ text) ∷ [] → IsTrue (is_among pair_prefixes first)
+  unknown_pair_code : (first : ℕ) (text : List ℕ) → begun ≡ (first ∷ text) ∷ []
+      → IsTrue (is_among pair_prefixes first)
       → variable_of c word ≡ None → fault ≡ UnknownCode → ChangeFault c begun word fault
   -- no digit, or one that is no binary digit, for a kept variable
   no_value : (first : ℕ) (digits : List ℕ) (d : VariableDeclaration) → begun ≡ (first ∷ digits) ∷ []
-      → IsTrue (is_among vector_prefixes first) → variable_of c word ≡ Some d → IsFalse (is_skipped d)
+      → IsTrue (is_among vector_prefixes first) → variable_of c word ≡ Some d
+      → IsFalse (is_skipped d)
       → IsFalse (is_binary_number digits) → fault ≡ BadChange → ChangeFault c begun word fault
   -- more digits than the variable has bits
-  value_too_long : (first : ℕ) (digits : List ℕ) (d : VariableDeclaration) → begun ≡ (first ∷ digits) ∷ []
-      → IsTrue (is_among vector_prefixes first) → variable_of c word ≡ Some d → IsFalse (is_skipped d)
+  value_too_long : (first : ℕ) (digits : List ℕ) (d : VariableDeclaration)
+      → begun ≡ (first ∷ digits) ∷ [] → IsTrue (is_among vector_prefixes first)
+      → variable_of c word ≡ Some d → IsFalse (is_skipped d)
       → IsTrue (is_binary_number digits) → d.size < length digits → fault ≡ ValueTooLong
       → ChangeFault c begun word fault
   -- a word of the declarations
   declaration_late : begun ≡ [] → IsTrue (is_one_of declaration_words word) → fault ≡ UnexpectedWord
       → ChangeFault c begun word fault
   -- a word that begins no change
-  begins_no_change : (first : ℕ) (text : List ℕ) → begun ≡ [] → word ≡ first ∷ text → IsFalse (is_binary_digit first)
-      → IsFalse (is_among (codes "#$" ++ pair_prefixes) first) → fault ≡ BadChange → ChangeFault c begun word fault
+  begins_no_change : (first : ℕ) (text : List ℕ) → begun ≡ [] → word ≡ first ∷ text
+      → IsFalse (is_binary_digit first) → IsFalse (is_among (codes "#$" ++ pair_prefixes) first)
+      → fault ≡ BadChange → ChangeFault c begun word fault
 
 -- among the declarations or the changes, by the state
-pub data WordFault (c : ParseState) (begun : List (List ℕ)) (word : List ℕ) (fault : Fault) : Type 0 where
-  among_declarations : IsFalse c.in_body → DeclarationFault c begun word fault → WordFault c begun word fault
+pub data WordFault (c : ParseState) (begun : List (List ℕ)) (word : List ℕ) (fault : Fault)
+    : Type 0 where
+  among_declarations : IsFalse c.in_body → DeclarationFault c begun word fault
+      → WordFault c begun word fault
   among_changes : IsTrue c.in_body → ChangeFault c begun word fault → WordFault c begun word fault
 
 -- ---- files
@@ -121,9 +140,11 @@ pub record ShowsFault (words : List PlacedWord) (line : ℕ) (fault : Fault) : T
   pub at : line ≡ fault_line (state_after initial_state items).in_body begun word
 
 -- the fault of a file with these words: the one that a word shows; or, if none shows one, this one at the last line
-pub data FaultOf (words : List PlacedWord) (last : ℕ) (otherwise : Fault) (line : ℕ) (fault : Fault) : Type 0 where
+pub data FaultOf (words : List PlacedWord) (last : ℕ) (otherwise : Fault) (line : ℕ) (fault : Fault)
+    : Type 0 where
   shown : ShowsFault words line fault → FaultOf words last otherwise line fault
-  none_shown : ((at : ℕ) (other : Fault) → ShowsFault words at other → ⊥) → line ≡ last → fault ≡ otherwise
+  none_shown : ((at : ℕ) (other : Fault) → ShowsFault words at other → ⊥) → line ≡ last
+      → fault ≡ otherwise
       → FaultOf words last otherwise line fault
 
 -- the file has no meaning, and this fault, at this line

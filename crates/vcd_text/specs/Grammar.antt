@@ -48,7 +48,15 @@ pub record ParseState : Type 0 where
 -- the state before the first item
 abbrev pub initial_state : ParseState
 initial_state =
-    record { header = []; timescale = None; scopes = []; declared = []; in_body = false; value_changes = []; tick = 0 }
+    record {
+      header = [];
+      timescale = None;
+      scopes = [];
+      declared = [];
+      in_body = false;
+      value_changes = [];
+      tick = 0;
+    }
 
 -- ---- variables
 
@@ -68,7 +76,13 @@ has_good_size words = true
 -- the variable that the words of a `$var` declare: kind, size, code, and one or more words of the name
 abbrev pub declaration_of : ParseState → List (List ℕ) → Option VariableDeclaration
 declaration_of c (kind ∷ size ∷ code ∷ name ∷ names) =
-    Some (record { scopes = c.scopes; kind = kind; size = number_of size; code = code; words = name ∷ names })
+    Some (record {
+      scopes = c.scopes;
+      kind = kind;
+      size = number_of size;
+      code = code;
+      words = name ∷ names;
+    })
 declaration_of c words = None
 
 -- the first variable of this code; the later ones agree with it
@@ -79,7 +93,8 @@ variable_of c code = find (λ d. bytes_eq code d.code) c.declared
 abbrev pub may_have_code : Option VariableDeclaration → VariableDeclaration → Bool
 may_have_code None b = true
 may_have_code (Some a) b =
-    (is_skipped a && is_skipped b) || (not (is_skipped a) && not (is_skipped b) && (a.size == b.size))
+    (is_skipped a && is_skipped b)
+    || (not (is_skipped a) && not (is_skipped b) && (a.size == b.size))
 
 -- whether there is room for a variable among the signals
 abbrev pub has_room : List VariableDeclaration → VariableDeclaration → Bool
@@ -97,17 +112,20 @@ is_binary_number digits = not (length digits == 0) && list_all is_binary_digit d
 
 -- whether a variable accepts these digits: a skipped one any, a kept one a value that is not too long
 abbrev pub takes_binary_number : VariableDeclaration → List ℕ → Bool
-takes_binary_number d digits = is_skipped d || (is_binary_number digits && nat_le (length digits) d.size)
+takes_binary_number d digits =
+    is_skipped d || (is_binary_number digits && nat_le (length digits) d.size)
 
 -- ---- the conditions of an item
 
 -- the conditions of an item in this state
 abbrev pub Allows : ParseState → Item → Type 0
 Allows c (entry kind words) = IsFalse c.in_body × IsTrue (has_no_end_word words)
-Allows c (timescale words) = IsFalse c.in_body × IsTrue (has_no_end_word words) × IsSome (timescale_of words)
+Allows c (timescale words) = IsFalse c.in_body × IsTrue (has_no_end_word words)
+    × IsSome (timescale_of words)
 Allows c (scope kind words) = IsFalse c.in_body × IsTrue (has_no_end_word (kind ∷ words))
 Allows c upscope = IsFalse c.in_body × (0 < length c.scopes)
-Allows c (variable words) = IsFalse c.in_body × IsTrue (has_no_end_word words) × IsTrue (has_good_size words)
+Allows c (variable words) = IsFalse c.in_body × IsTrue (has_no_end_word words)
+    × IsTrue (has_good_size words)
     × IsSomeAnd (declaration_of c words)
     (λ d. IsTrue (may_have_code (variable_of c d.code) d) × IsTrue (has_room c.declared d))
 Allows c end_definitions = IsFalse c.in_body
@@ -116,7 +134,8 @@ Allows c (scalar digit code) = IsTrue c.in_body × IsTrue (is_binary_digit digit
     × IsSome (variable_of c code)
 Allows c (vector first digits code) = IsTrue c.in_body × IsTrue (is_among vector_prefixes first)
     × IsSomeAnd (variable_of c code) (λ d. IsTrue (takes_binary_number d digits))
-Allows c (real_or_string first text code) = IsTrue c.in_body × IsTrue (is_among real_or_string_prefixes first)
+Allows c (real_or_string first text code) = IsTrue c.in_body
+    × IsTrue (is_among real_or_string_prefixes first)
     × IsSome (variable_of c code)
 Allows c (dump_word word) = IsTrue c.in_body × IsTrue (is_one_of dump_words word)
 Allows c (other word words) = IsTrue (is_other c.in_body word) × IsTrue (has_no_end_word words)
@@ -124,7 +143,8 @@ Allows c (other word words) = IsTrue (is_other c.in_body word) × IsTrue (has_no
 -- ---- the effect of an item
 
 -- a value change to these letters at the tick, for a kept variable
-abbrev pub value_changes_after : ParseState → List ℕ → List Bit → Option VariableDeclaration → List ValueChange
+abbrev pub value_changes_after : ParseState → List ℕ → List Bit → Option VariableDeclaration
+    → List ValueChange
 value_changes_after c code letters None = []
 value_changes_after c code letters (Some d) =
     if is_skipped d then [] else record { tick = c.tick; code = code; letters = letters } ∷ []
@@ -132,15 +152,21 @@ value_changes_after c code letters (Some d) =
 -- the state with this value change added last
 abbrev pub with_value_change : ParseState → List ℕ → List Bit → ParseState
 with_value_change c code letters =
-    record c { value_changes = c.value_changes ++ value_changes_after c code letters (variable_of c code) }
+    record c {
+      value_changes = c.value_changes
+          ++ value_changes_after c code letters (variable_of c code);
+    }
 
 -- the state after an item
 abbrev pub state_after_item : ParseState → Item → ParseState
-state_after_item c (entry kind words) = record c { header = c.header ++ record { kind = kind; words = words } ∷ [] }
+state_after_item c (entry kind words) =
+    record c { header = c.header ++ record { kind = kind; words = words } ∷ [] }
 state_after_item c (timescale words) = record c { timescale = timescale_of words }
-state_after_item c (scope kind words) = record c { scopes = c.scopes ++ record { kind = kind; words = words } ∷ [] }
+state_after_item c (scope kind words) =
+    record c { scopes = c.scopes ++ record { kind = kind; words = words } ∷ [] }
 state_after_item c upscope = record c { scopes = take (length c.scopes - 1) c.scopes }
-state_after_item c (variable words) = record c { declared = c.declared ++ option_to_list (declaration_of c words) }
+state_after_item c (variable words) =
+    record c { declared = c.declared ++ option_to_list (declaration_of c words) }
 state_after_item c end_definitions = record c { in_body = true }
 state_after_item c (stamp digits) = record c { tick = number_of digits }
 state_after_item c (scalar digit code) = with_value_change c code (letters_of_digits (digit ∷ []))

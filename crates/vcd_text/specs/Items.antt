@@ -27,11 +27,13 @@ has_no_end_word words = list_all (λ word. not (is_end_word word)) words
 
 -- the words of the changes alone: those of a dump, which `$end` closes
 abbrev pub dump_words : List (List ℕ)
-dump_words = codes "$dumpall" ∷ codes "$dumpoff" ∷ codes "$dumpon" ∷ codes "$dumpvars" ∷ end_word ∷ []
+dump_words =
+    codes "$dumpall" ∷ codes "$dumpoff" ∷ codes "$dumpon" ∷ codes "$dumpvars" ∷ end_word ∷ []
 
 -- the words of the declarations alone
 abbrev pub declaration_words : List (List ℕ)
-declaration_words = codes "$scope" ∷ codes "$upscope" ∷ codes "$var" ∷ codes "$timescale" ∷ codes "$enddefinitions" ∷ []
+declaration_words = codes "$scope" ∷ codes "$upscope" ∷ codes "$var" ∷ codes "$timescale"
+    ∷ codes "$enddefinitions" ∷ []
 
 -- the keyword of a header entry
 abbrev pub header_word : HeaderKind → List ℕ
@@ -56,7 +58,8 @@ begins_declaration word = is_command word && not (is_one_of dump_words word)
 -- own)
 abbrev pub is_other : (in_body : Bool) → List ℕ → Bool
 is_other in_body word =
-    begins_declaration word && not (is_one_of declaration_words word) && (in_body || not (is_one_of header_words word))
+    begins_declaration word && not (is_one_of declaration_words word)
+    && (in_body || not (is_one_of header_words word))
 
 -- the first bytes of a change by a binary number
 abbrev pub vector_prefixes : List ℕ
@@ -70,12 +73,14 @@ real_or_string_prefixes = codes "rRsS"
 
 -- all timescales: 1, 10 and 100 of each unit
 abbrev pub timescales : List Timescale
-timescales = flat_map (λ unit. map (λ count. record { count = count; unit = unit }) (1 ∷ 10 ∷ 100 ∷ []))
+timescales =
+    flat_map (λ unit. map (λ count. record { count = count; unit = unit }) (1 ∷ 10 ∷ 100 ∷ []))
     (Second ∷ Millisecond ∷ Microsecond ∷ Nanosecond ∷ Picosecond ∷ Femtosecond ∷ [])
 
 -- the timescale that words spell when they are run together, or none
 abbrev pub timescale_of : List (List ℕ) → Option Timescale
-timescale_of words = find (λ t. bytes_eq (concat words) (decimal t.count ++ unit_text t.unit)) timescales
+timescale_of words =
+    find (λ t. bytes_eq (concat words) (decimal t.count ++ unit_text t.unit)) timescales
 
 -- ---- items
 

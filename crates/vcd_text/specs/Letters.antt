@@ -12,8 +12,10 @@ is_among bytes b = list_any (nat_eq b) bytes
 
 -- the letter that a binary digit writes: 0 1 x X z Z by IEEE 1364-2005, 18.2; the others come from VHDL simulators
 abbrev pub letter_of_digit : ℕ → Option Bit
-letter_of_digit b = if is_among (codes "0lL") b then Some Zero else (if is_among (codes "1hH") b then Some One
-    else (if is_among (codes "xXuUwW-") b then Some X else (if is_among (codes "zZ") b then Some Z else None)))
+letter_of_digit b = if is_among (codes "0lL") b then Some Zero
+    else (if is_among (codes "1hH") b then Some One
+    else (if is_among (codes "xXuUwW-") b then Some X
+    else (if is_among (codes "zZ") b then Some Z else None)))
 
 -- whether a byte is a binary digit
 abbrev pub is_binary_digit : ℕ → Bool

@@ -12,7 +12,8 @@ use Rattle.vcd_text.specs.Grammar.{VariableDeclaration, ValueChange, ParseState,
 unfoldable pub latest_value : ℕ → List ℕ → ℕ → List Bit → List ValueChange → List Bit
 latest_value width code t before [] = before
 latest_value width code t before (v ∷ vs) =
-    latest_value width code t (if bytes_eq v.code code && nat_le v.tick t then extension width v.letters else before) vs
+    latest_value width code t
+    (if bytes_eq v.code code && nat_le v.tick t then extension width v.letters else before) vs
 
 -- the signal of a variable, up to the tick `end`: all x before its first value change
 abbrev pub declared_signal : List ValueChange → ℕ → VariableDeclaration → SignalContents

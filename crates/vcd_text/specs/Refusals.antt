@@ -9,17 +9,21 @@ use Rattle.vcd_text.specs.Faults.{FileFault, FaultOf}
 
 -- only this front of a file was read, for this reason: the fault of its complete words, or the reason at its last line
 abbrev pub IsFrontAnswer : (front : List ℕ) → (reason : Fault) → ReadError → Type 0
-IsFrontAnswer front reason e = FaultOf (complete_words front) (last_line front) reason e.line e.fault
+IsFrontAnswer front reason e =
+    FaultOf (complete_words front) (last_line front) reason e.line e.fault
 
 -- the fault of reading a file, from a reader that has failed or not, with these bytes left if it shows them
-pub data IsRefusal (file : List ℕ) (failed : Bool) (left : Option (List ℕ)) (e : ReadError) : Type 0 where
+pub data IsRefusal (file : List ℕ) (failed : Bool) (left : Option (List ℕ)) (e : ReadError)
+    : Type 0 where
   -- all of it was read, and it has this fault
-  has_fault : IsFalse failed → length file ≤ FILE_LIMIT → FileFault file e.line e.fault → IsRefusal file failed left e
+  has_fault : IsFalse failed → length file ≤ FILE_LIMIT → FileFault file e.line e.fault
+      → IsRefusal file failed left e
   -- the file has more bytes than the limit
   too_large : FILE_LIMIT < length file → IsFrontAnswer (take FILE_LIMIT file) faults.TooLarge e
       → IsRefusal file failed left e
   -- the reader failed after this front
   reader_failed : (front rest : List ℕ) → IsTrue failed → left ≡ Some rest → file ≡ front ++ rest
-      → length front ≤ FILE_LIMIT → IsFrontAnswer front faults.ReadFault e → IsRefusal file failed left e
+      → length front ≤ FILE_LIMIT → IsFrontAnswer front faults.ReadFault e
+      → IsRefusal file failed left e
   -- memory ran out: no line
   no_memory : e ≡ record { line = 0; fault = faults.NoMemory } → IsRefusal file failed left e

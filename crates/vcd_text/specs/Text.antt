@@ -98,7 +98,8 @@ with_stamp t (v ∷ vs) = stamp_of t ∷ v ∷ vs
 
 -- the values at tick 0, between `$dumpvars` and `$end` (18.2)
 abbrev pub first_items : List SignalContents → List Item
-first_items signals = stamp_of 0 ∷ dump_word (codes "$dumpvars") ∷ (all_values signals 0 ++ dump_word end_word ∷ [])
+first_items signals = stamp_of 0 ∷ dump_word (codes "$dumpvars")
+    ∷ (all_values signals 0 ++ dump_word end_word ∷ [])
 
 -- the values that differ at each of n ticks, from t on
 unfoldable pub tick_items : List SignalContents → ℕ → ℕ → List Item
@@ -107,14 +108,16 @@ tick_items signals t (suc n) = with_stamp t (new_values signals t) ++ tick_items
 
 -- the stamp of the end, if it is above 0 and nothing differs at it
 abbrev pub end_items : List SignalContents → ℕ → List Item
-end_items signals end = if nat_lt 0 end && (length (new_values signals end) == 0) then stamp_of end ∷ [] else []
+end_items signals end =
+    if nat_lt 0 end && (length (new_values signals end) == 0) then stamp_of end ∷ [] else []
 
 -- ---- files
 
 -- the items of a capture: header, timescale, declarations, the values at tick 0, those that change later, and the end
 unfoldable pub items_of : Contents → List Item
 items_of c = header_items c.header ++ timescale_items c.timescale ++ signal_items [] 0 c.signals
-    ++ end_definitions ∷ first_items c.signals ++ tick_items c.signals 1 c.end ++ end_items c.signals c.end
+    ++ end_definitions ∷ first_items c.signals
+    ++ tick_items c.signals 1 c.end ++ end_items c.signals c.end
 
 -- the text of a capture, byte for byte
 unfoldable pub text : Contents → List ℕ

@@ -35,7 +35,8 @@ with_byte false false b line ws = with_longer_first b line ws
 -- that white space follows
 unfoldable pub words_from : Bool → ℕ → List ℕ → List PlacedWord
 words_from end_counts line [] = []
-words_from end_counts line (b ∷ bs) = with_byte (is_white_space b) (ends_before end_counts bs) b line
+words_from end_counts line (b ∷ bs) =
+    with_byte (is_white_space b) (ends_before end_counts bs) b line
     (words_from end_counts (line_after b line) bs)
 
 -- the words of a file, each with its line: 1 plus the line feeds before it
