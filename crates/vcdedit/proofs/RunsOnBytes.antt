@@ -3,7 +3,7 @@ use Rattle.std.proofs.Common.{◌≡◌, Ok, Err, ℕ, zero, suc, List, [], Opti
 use Rattle.std.proofs.Common.{inl, inr, length, refl}
 use Rattle.std.proofs.Math.Seq.{take-length}
 use Rattle.std.specs.List.{concat}
-use Rattle.std.specs.Vec.{Vec}
+use Rattle.std.specs.Global.{Vec}
 use Rattle.vcd_text.specs.Refusals as refusals
 use Rattle.vcd_text.specs.inside.Reading.{is_no_memory}
 use Rattle.vcd_text.specs.declared.fault.ReadError.{ReadError}

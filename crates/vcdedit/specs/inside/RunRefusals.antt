@@ -1,6 +1,6 @@
 -- Why a run over bytes did not reach its end, by the error of the run.
 use Rattle.std.specs.Prelude.{ℕ, if◌then◌else◌}
-use Rattle.std.specs.Vec.{Vec}
+use Rattle.std.specs.Global.{Vec}
 use Rattle.vcd_text.specs.inside.Reading.{is_no_memory}
 use Rattle.vcdedit.specs.declared.running.run_error.RunError.{RunError}
 use Rattle.vcdedit.specs.declared.running.run_error.RunError.TheVariants as run_errors
