@@ -61,6 +61,33 @@ adds_one b old new first rest = λ pad s holds. holds_each pad (s ++ b ∷ []) n
         ap (letter_in new) (sym more) ∙ rest i (omega arith) ∙ held pad s old holds i (omega arith)
         ∙ sym (ap (letter_or pad (s ++ b ∷ [])) (sym more) ∙ other_letter pad s b i)
 
+-- eight digits of those in eights
+pub eight_at : (count i : ℕ) (digits : List ℕ) → i < count
+    → get_or (first_chunks 8 count digits) i [] ≡ take 8 (drop (8 * i) digits)
+eight_at zero i digits within = absurd (omega arith)
+eight_at (suc count) zero digits within = refl
+eight_at (suc count) (suc i) digits within =
+    let place : 8 + 8 * i ≡ 8 * suc i = omega arith in
+    eight_at count i (drop 8 digits) (omega arith)
+    ∙ ap (take 8) (drop-drop (8 * i) 8 digits ∙ ap (λ n. drop n digits) place)
+
+-- the digits up to eight, and these
+pub eight_more : (digits : List ℕ) (i : ℕ)
+    → take (8 * i) digits ++ take 8 (drop (8 * i) digits) ≡ take (8 * (i + 1)) digits
+eight_more digits i =
+    let place : 8 * i + 8 ≡ 8 * (i + 1) = omega arith in
+    sym (take-add (8 * i) 8 digits) ∙ ap (λ n. take n digits) place
+
+-- digits in front, and others after them
+pub holds_both : (pad : Bit) (front back all : List ℕ) (old new : LetterWord) → front ++ back ≡ all
+    → HoldsLetters pad (letters_of_digits front) 0 old → AddsLetters (letters_of_digits back) old new
+    → HoldsLetters pad (letters_of_digits all) 0 new
+holds_both pad front back all old new whole holds adds = grind (arith, map-append)
+
+pub both_are_digits : (front back all : List ℕ) → front ++ back ≡ all → list_all is_binary_digit front ≡ true
+    → list_all is_binary_digit back ≡ true → list_all is_binary_digit all ≡ true
+both_are_digits front back all whole first second = grind (arith, list_all-append, and_from)
+
 -- ---- one word more
 
 -- the letters of the first words of a row

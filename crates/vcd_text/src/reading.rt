@@ -17,6 +17,7 @@ mod changes;
 mod chunks;
 mod code_targets;
 mod declarations;
+mod digit_words;
 mod digits;
 mod keywords;
 mod read_buffer;

@@ -8,7 +8,8 @@ ghost use Rattle.vcd_text.specs.inside.ValueDigits.{WritesValue, RefusesBinaryNu
 ghost use Rattle.vcd_text.specs.inside.LetterWords.{digits_of};
 
 use crate::fault::Fault;
-use crate::reading::digits::{are_binary_digits, pad_of, word_of_digits};
+use crate::reading::digit_words::word_of_digits;
+use crate::reading::digits::{are_binary_digits, pad_of};
 use vcd_core::{Bit, LetterWord, Value, WIDTH_LIMIT, WORDS, words_in};
 
 /// The value of `width` bits that the digits write, extended on the left. The error is `BadChange`

@@ -1,12 +1,11 @@
 //! Binary digits and their letters (IEEE 1364-2005, 18.2).
 
-ghost use Rattle.std.specs.Prelude.{◌≡◌, ◌≤◌, true, false, [], ◌∷◌, length, MatchOption};
+ghost use Rattle.std.specs.Prelude.{◌≡◌, true, Some};
 ghost use Rattle.std.specs.List.{list_all};
-ghost use Rattle.vcd_core.specs.WordRows.{HoldsLetters};
 ghost use Rattle.vcd_text.specs.Letters.{letter_of_digit, is_binary_digit as digit_test, letters_of_digits, pad_letter};
-ghost use Rattle.vcd_text.specs.inside.LetterWords.{AddsLetters};
+ghost use Rattle.vcd_text.specs.inside.LetterWords.{is_two_state};
 
-use vcd_core::{Bit, LetterWord};
+use vcd_core::Bit;
 
 /// The letter that a binary digit writes; none for any other byte.
 pub fn letter_of_digit(digit: u8) -> Option<Bit>
@@ -32,7 +31,23 @@ pub fn are_binary_digits(bytes: &[u8]) -> bool
 pub fn is_binary_digit(byte: u8) -> bool
     ensures { result ≡ digit_test byte }
 {
-    letter_of_digit(byte).is_some()
+    // nearly all digits are 0 or 1
+    is_two_state(byte) || letter_of_digit(byte).is_some()
+}
+
+/// Whether a digit is 0 or 1.
+pub fn is_two_state(digit: u8) -> bool
+    ensures { result ≡ is_two_state digit }
+{
+    digit == b'0' || digit == b'1'
+}
+
+/// The letter of a digit, 0 or 1.
+pub fn two_state_letter(digit: u8) -> Bit
+    requires { is_two_state digit ≡ true }
+    ensures { letter_of_digit digit ≡ Some result }
+{
+    if digit == b'1' { Bit::One } else { Bit::Zero }
 }
 
 /// The letter that extends these digits on the left.
@@ -40,34 +55,11 @@ pub fn pad_of(digits: &[u8]) -> Bit
     ensures { result ≡ pad_letter (letters_of_digits digits.now) }
 {
     match digits {
+        [first, ..] if is_two_state(*first) => Bit::Zero,
         [first, ..] => match letter_of_digit(*first).unwrap_or(Bit::X) {
             Bit::Zero | Bit::One => Bit::Zero,
             letter => letter,
         },
         [] => Bit::X,
     }
-}
-
-/// The letters of at most 64 digits, after as many `pad` as are missing; none if one is no binary
-/// digit.
-pub fn word_of_digits(pad: Bit, digits: &[u8]) -> Option<LetterWord>
-    requires { length digits.now ≤ 64 }
-    ensures { MatchOption result (list_all digit_test digits.now ≡ false) (λ word.
-        (list_all digit_test digits.now ≡ true) ×
-        HoldsLetters pad (letters_of_digits digits.now) 0 word) }
-{
-    let mut word = LetterWord::filled(pad);
-    for digit in digits {
-        word = with_digit(word, *digit)?;
-    }
-    Some(word)
-}
-
-/// The word with the letter of a digit added at its low end; none if it is no binary digit.
-fn with_digit(word: LetterWord, digit: u8) -> Option<LetterWord>
-    ensures { MatchOption result (digit_test digit ≡ false) (λ more.
-        (digit_test digit ≡ true) ×
-        AddsLetters (letters_of_digits (digit ∷ [])) word more) }
-{
-    Some(word.with_letter(letter_of_digit(digit)?))
 }

@@ -1,7 +1,7 @@
 use Rattle.std.proofs.Common.{arith}
 use Rattle.std.proofs.Common.{◌≡◌, [], ◌∷◌, ◌∙◌}
 use Rattle.vcd_text.proofs.LetterWords.{adds_one}
-use Rattle.vcd_text.proofs.reading.digits.with_digit.Goals as goal
+use Rattle.vcd_text.proofs.reading.digit_words.with_digit.Goals as goal
 
 pub returns : goal.returns
 returns c = grind (arith, adds_one)
