@@ -13,7 +13,7 @@ use Rattle.vcd_core.proofs.Waves.{value_at-changes_of, changes_of-value_at, chan
 use Rattle.vcd_edit.specs.declared.edit.Edit.TheVariants.{Deglitch}
 use Rattle.vcd_edit.specs.Effect.{run_start, run_end, is_steady, steady_value, with_values, effect}
 use Rattle.vcd_edit.specs.EditFaults.{edit_fault}
-use Rattle.vcd_edit.specs.Laws.{values_at, IsRun, HasNoShortRun, DeglitchLeavesNoShortRun, DeglitchKeepsLongRuns}
+use Rattle.vcd_edit.specs.Laws.{values_at, IsRunOfOneValue, HasNoShortRun, DeglitchLeavesNoShortRun, DeglitchKeepsLongRuns}
 use Rattle.vcd_edit.specs.Laws.{DeglitchWithoutShortRuns, DeglitchTwice}
 use Rattle.vcd_edit.proofs.Faults.{no_fault, position_below}
 use Rattle.vcd_edit.proofs.SoundEffects.{effect_is_sound, sound_at}
@@ -103,7 +103,7 @@ long_by n end a b steady late early = grind (arith, nat_tests)
 
 -- a run of these values that begins at a steady tick is long
 long_from : (n end first last : ℕ) (f : ℕ → List Bit) → 0 < first → last < end
-    → IsRun (steady_value n end f) first last → is_steady n end f first ≡ true
+    → IsRunOfOneValue (steady_value n end f) first last → is_steady n end f first ≡ true
     → n ≤ last - first + 1
 long_from n end first last f late early (ordered, same, before, after) steady =
     let g = steady_value n end f in
@@ -197,7 +197,7 @@ values_after k n c none t upto =
 
 -- a run stays one where the values at its ticks and beside them are the same
 same_run : (f g : ℕ → List Bit) (end first last : ℕ) → 0 < first → last < end
-    → ((t : ℕ) → t ≤ end → f t ≡ g t) → IsRun f first last → IsRun g first last
+    → ((t : ℕ) → t ≤ end → f t ≡ g t) → IsRunOfOneValue f first last → IsRunOfOneValue g first last
 same_run f g end first last late early same (ordered, one, before, after) = (
   ordered,
   (λ t from to. sym (same t (omega arith)) ∙ one t from to ∙ same first (omega arith)),
