@@ -13,7 +13,8 @@ use Rattle.vcd_core.proofs.Waves.{value_at-changes_of, changes_of-value_at, chan
 use Rattle.vcd_edit.specs.declared.edit.Edit.TheVariants.{Deglitch}
 use Rattle.vcd_edit.specs.Effect.{run_start, run_end, is_steady, steady_value, with_values, effect}
 use Rattle.vcd_edit.specs.EditFaults.{edit_fault}
-use Rattle.vcd_edit.specs.Laws.{values_at, IsRunOfOneValue, HasNoShortRun, DeglitchLeavesNoShortRun, DeglitchKeepsLongRuns}
+use Rattle.vcd_edit.specs.Laws.{values_at, IsRunOfOneValue, HasNoShortRun, DeglitchLeavesNoShortRun}
+use Rattle.vcd_edit.specs.Laws.{DeglitchKeepsLongRuns}
 use Rattle.vcd_edit.specs.Laws.{DeglitchWithoutShortRuns, DeglitchTwice}
 use Rattle.vcd_edit.proofs.Faults.{no_fault, position_below}
 use Rattle.vcd_edit.proofs.SoundEffects.{effect_is_sound, sound_at}
