@@ -20,9 +20,9 @@ PEAK = """import resource, subprocess, sys
 subprocess.run(["sh", "-c", '"$@" > /dev/null; exit 0', "sh", *sys.argv[1:]])
 print(resource.getrusage(resource.RUSAGE_CHILDREN).ru_maxrss)"""
 PLANTED = [
-    ("README.md", "| 3.1 | 89 |", "| 3.1 | 27 |"),
-    ("README.md", "| 16 | 14 |", "| 16 | 16 |"),
-    ("README.md", "| 4.6 | 60 |", "| 6 | 60 |"),
+    ("docs/COOKBOOK.md", "| 3.1 | 89 |", "| 3.1 | 27 |"),
+    ("docs/COOKBOOK.md", "| 16 | 14 |", "| 16 | 16 |"),
+    ("docs/COOKBOOK.md", "| 4.6 | 60 |", "| 6 | 60 |"),
     ("README.md", "89 times the file, by how", "27 times the file, by how"),
     ("docs/vcdedit.1", "14 to 89 times the file", "14 to 27 times the file"),
     ("docs/COOKBOOK.md", "grep -c '^[01xzXZbB]' examples", "grep -c '^[01xzXZ]' examples"),
@@ -73,8 +73,8 @@ def counted(command, path):
 
 
 def table(program, folder, module):
-    """Each row of the README's table, by a smaller capture of its kind."""
-    rows = re.findall(ROW, read("README.md"), flags=re.M)
+    """Each row of the cookbook's table, by a smaller capture of its kind."""
+    rows = re.findall(ROW, read("docs/COOKBOOK.md"), flags=re.M)
     yield "rows of the table", [[shape for word, shape in SHAPES.items() if word in row[0]] for row in rows] == [[shape] for shape in SHAPES.values()]
     commands = counts(folder)
     yield "commands that count", len(commands) == 2
