@@ -37,7 +37,9 @@ vcdedit is built: ./vcdedit runs it.
 make install     to $(PREFIX), or PREFIX=FOLDER; DESTDIR=FOLDER goes before that, for a package
 make uninstall   takes away what install put there
 make deb         a Debian package, out/vcdedit_VERSION_ARCHITECTURE.deb
-.ci/run          every proof and test from nothing, in about an hour
+make quick       every check that needs no proof, on the programs that are built
+make check       the gate, .ci/run: every proof and test from nothing, in about an hour
+make bench       reading and writing compared with a floor and with GTKWave's converters
 endef
 export FILES TARGETS
 
@@ -70,4 +72,19 @@ uninstall:
 deb: build
 	@tools/make_package
 
-.PHONY: all build install uninstall deb
+quick:
+	@checks/quick
+
+check:
+	@.ci/run
+
+# The captures are made once, in a folder that git passes over.
+BENCH_FOLDER ?= out/bench
+MEGABYTES ?= 10
+bench: build
+	@mkdir -p "$(BENCH_FOLDER)"
+	@bench/make_captures "$(BENCH_FOLDER)" $(MEGABYTES)
+	@GLIBC_TUNABLES=glibc.malloc.hugetlb=1 bench/compare crates/vcdedit/out/vcdedit "$(BENCH_FOLDER)" $(MEGABYTES)
+	@bench/edits crates/vcdedit/out/vcdedit
+
+.PHONY: all build install uninstall deb quick check bench

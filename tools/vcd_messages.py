@@ -1,6 +1,6 @@
 """What vcdedit's faults and refusals mean for a capture and a script at hand: the line itself, and what to do.
 
-docs/FORMATS.md and docs/SCRIPT.md say more of each. `docs/check_messages` compares the names with the program's.
+docs/FORMATS.md and docs/SCRIPT.md say more of each. `checks/messages` compares the names with the program's.
 """
 
 import difflib

@@ -2,7 +2,7 @@
 //! They are made with enough memory.
 //!
 //! Edits are made and undone by `apply` and `revert`, steps by `run` of the journal. What runs of the program show is a
-//! case in `cases/` or a row of `fuzz/large`. A table is one text, and each of its lines is a row.
+//! case in `cases/` or a row of `checks/large`. A table is one text, and each of its lines is a row.
 #![tactic(auto)]
 
 #[cfg(test)]

@@ -1,0 +1,104 @@
+"""What the checks share: where things are, files, runs of programs, and the report at the end."""
+
+import importlib.machinery
+import importlib.util
+import os
+import subprocess
+import sys
+
+CHECKS = os.path.dirname(os.path.abspath(__file__))
+TOP = os.path.dirname(CHECKS)
+CASES = os.path.join(TOP, "cases")
+EXAMPLES = os.path.join(TOP, "examples")
+# The edits of a script, of which `vcd_alloc_failures` has a call each.
+EDITS = ["rename", "remove", "invert", "shift", "cut", "deglitch", "force", "derive"]
+SECONDS = 120
+
+
+def load(*path):
+    """The bytes of a file."""
+    with open(os.path.join(*path), "rb") as file:
+        return file.read()
+
+
+def load_if_there(*path, default=None):
+    """The bytes of a file, or the default if it is not there."""
+    try:
+        return load(*path)
+    except FileNotFoundError:
+        return default
+
+
+def text_at(path):
+    """The text of a file of the repository."""
+    return load(TOP, path).decode()
+
+
+def store(*path, text):
+    """Writes a file and the folders that it wants, and gives its path."""
+    path = os.path.join(*path)
+    os.makedirs(os.path.dirname(os.path.abspath(path)), exist_ok=True)
+    with open(path, "wb") as file:
+        file.write(text if isinstance(text, bytes) else text.encode())
+    return path
+
+
+def store_program(*path, text):
+    """The same of a script that can be run."""
+    path = store(*path, text=text)
+    os.chmod(path, 0o755)
+    return path
+
+
+def run(words, text=True, timeout=SECONDS, **how):
+    """(status, standard output, standard error) of a program, as text or as bytes."""
+    done = subprocess.run(words, capture_output=True, text=text, timeout=timeout, **how)
+    return done.returncode, done.stdout, done.stderr
+
+
+def module_of(script):
+    """What a script of the repository defines, whose name has no ending."""
+    name = os.path.basename(script)
+    loader = importlib.machinery.SourceFileLoader(name, os.path.join(TOP, script))
+    module = importlib.util.module_from_spec(importlib.util.spec_from_loader(name, loader))
+    loader.exec_module(module)
+    return module
+
+
+def program_argument(usage, most=1):
+    """The path of the program that a check is given, or the check's usage."""
+    if not 2 <= len(sys.argv) <= 1 + most:
+        sys.exit(usage)
+    return os.path.abspath(sys.argv[1])
+
+
+class Report:
+    """How many checks passed and failed. A failure is shown as it is found."""
+
+    def __init__(self):
+        self.passed = self.failed = 0
+
+    def check(self, holds, failure):
+        """Counts one check, which may fail with this line, and gives whether it holds."""
+        if holds:
+            self.passed += 1
+        else:
+            self.failed += 1
+            print(failure, flush=True)
+        return bool(holds)
+
+    def check_wrong(self, wrong):
+        """Counts one check by a line on what is wrong, or None."""
+        return self.check(wrong is None, wrong)
+
+    def count(self, checks, failures):
+        """Counts so many checks, of which these failed."""
+        for failure in failures:
+            print(failure, flush=True)
+        self.passed += max(0, checks - len(failures))
+        self.failed += len(failures)
+
+    def end(self):
+        """Says how many there were, and ends the check."""
+        print("%d passed, %d failed" % (self.passed, self.failed))
+        sys.exit(1 if self.failed else 0)

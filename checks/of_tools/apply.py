@@ -1,0 +1,287 @@
+"""Carrying a script out in place: what is written, what stays, and what is told.
+
+Programs of our own stand for vcdedit where a run has to fail half-way: each writes a part of the output first.
+"""
+
+import gzip
+import os
+import pty
+import re
+import signal
+import stat
+import subprocess
+import time
+
+from common import TOP, load_if_there, run, store, store_program
+
+APPLY = os.path.join(TOP, "tools/apply_script")
+LINE = """$timescale 1 us $end $scope module tb $end
+$var wire 1 ! rx $end $var wire 4 " q [3:0] $end
+$upscope $end $enddefinitions $end
+#0 1! b0 " #5 0! #6 1! #20 b101 " #30
+"""
+LOSSY = LINE.replace("$upscope", '$var real 64 # volts $end $var wire 2000 $ wide $end $upscope')
+WRITTEN = "deglitch tb.rx 3\n"
+HALF = """#!/bin/sh
+while [ $# -gt 0 ]; do [ "$1" = -o ] && out=$2; shift; done
+printf 'half of it' > "$out"
+%s
+"""
+# How a run fails, its status, and what is told.
+FAILING = [
+    ("echo 'vcdedit: output: write fault' >&2; exit 4", 4, "is the disc full?"),
+    ("echo 'vcdedit: out of memory' >&2; exit 5", 5, "out of memory"),
+    ("kill -9 $$", 5, "signal 9"),
+    (': > "$out"; exit 0', 4, "wrote nothing"),
+    ("echo 'line 1: refused: NoSuchName'; exit 1", 1, "1 line refused"),
+    ("echo changed >> ../moved/A; exit 0", 4, "changed by another program"),
+    ("mv ../moved/A ../moved/away; cp ../moved/away ../moved/A; exit 0", 4, "changed by another program"),
+]
+# A line that is refused, and what is told of it.
+REFUSED = [
+    ("value tb.q 3", ["value tb.q 3: NoSuchName", "tb.q: near names are tb.q[3:0]"]),
+    ("value TB.RX 3", ["tb.rx"]),
+    ("invert rx", ["tb.rx"]),
+    ("invert tb.rxx", ["tb.rx"]),
+    ("invert @7", ["the capture has 2 signals"]),
+    ("remove tb.rx\ninvert tb.rx", ["line 2: invert tb.rx", "renamed or removed by a line above"]),
+    ("value tb.rx", ["usage: value NAME TICK"]),
+    ("derive both and tb.rx", ["usage: derive WORD not A"]),
+    ("Invert tb.rx", ["is invert meant?"]),
+    ("\N{BYTE ORDER MARK}invert tb.rx", ["byte order mark"]),
+    ("cut 60 200", ["cut 60 200: BadRange", "at most the end"]),
+]
+# A capture that is refused, and what is told of it.
+FAULTY = [
+    (gzip.compress(LINE.encode()), ["packed by gzip", "gzip -dc"]),
+    (b"\xef\xbb\xbf" + LINE.encode(), ["byte order mark", "sed"]),
+    (LINE.encode("utf-16"), ["UTF-16", "iconv"]),
+    (bytes([0] * 7 + [1, 0x49, 0, 0]), ["FST", "fst2vcd"]),
+    (b"$var port [7:0] <0 data $end\n", ["extended VCD", "evcd2vcd"]),
+    (LINE.encode() + b"A0: -10 V\n", ["line 5: A0: -10 V: BadChange", "analog"]),
+    (LINE.encode() + b"#9\n", ["line 5: #9: TimeBackwards", "cut off"]),
+]
+
+TOOL, MESSAGES = "tools/apply_script", "tools/vcd_messages.py"
+PLANTED = [
+    (TOOL, "real = os.path.realpath(self.path)", "real = os.path.abspath(self.path)"),
+    (TOOL, "keep_mode(written, before)\n                os.fsync", "os.fsync"),
+    (TOOL, "                self.want_unchanged(real, source, before)\n", ""),
+    (TOOL, "                if unfinished:\n", "                if False:\n"),
+    (TOOL, "status == 1 and not self.options.keep_going", "False"),
+    (TOOL, "        if status > 1 or status < 0:\n", "        if status > 1:\n"),
+    (TOOL, "if lost and not self.options.drop_skipped:", "if False:"),
+    (TOOL, "        if os.path.lexists(real + options.backup):", "        if False:"),
+    (TOOL, "        keep_old(real, backup)\n", "        pass\n"),
+    (TOOL, " & 0o222:", " & 0:"),
+    (TOOL, "if target == real:", "if False:"),
+    (TOOL, "            child.terminate()\n\n", "            pass\n\n"),
+    (TOOL, "if os.fstat(written).st_size == 0:", "if False:"),
+    ("tools/vcd_files.py", "        os.open(os.devnull, os.O_RDONLY)\n", "        pass\n"),
+    ("tools/vcd_files.py", "        sys.exit(4)\n", "        sys.exit(0)\n"),
+    (TOOL, "max(outcome.status", "min(outcome.status"),
+    (TOOL, ")[:NAME_BYTES]", ")"),
+    (TOOL, '"%s.%d.%d.unfinished"', '"%s.%d.%d"'),
+    (TOOL, "        if count > 1:\n            parser", "        if False:\n            parser"),
+    (TOOL, "    if os.path.realpath(options.script) in", "    if None in"),
+    (TOOL, "for number in (signal.SIGINT, signal.SIGTERM, signal.SIGHUP)", "for number in (signal.SIGINT, signal.SIGTERM)"),
+    (TOOL, "    except OSError as error:\n        os.dup2", "    except ValueError as error:\n        os.dup2"),
+    (TOOL, "sys.stderr.isatty()", "False"),
+    (TOOL, "if self.is_terminal and self.ended", "if False and self.ended"),
+    (MESSAGES, 'name.startswith(small + b"[")', "False"),
+    (MESSAGES, "if name == \"WrongCount\" and command in rows", "if False"),
+    (MESSAGES, "    if other and (line", "    if False and (line"),
+    (MESSAGES, "if now == number and not front", "if now > number and not front"),
+    (MESSAGES, "had = [", "had = [] and ["),
+]
+
+
+class Folder:
+    """A folder with captures, and a run of the tool in it."""
+
+    def __init__(self, program, folder, **captures):
+        self.folder, self.environment = folder, {**os.environ, "VCDEDIT": program}
+        os.makedirs(folder)
+        self.store("script", WRITTEN)
+        for name, text in captures.items():
+            self.store(name, text)
+
+    def store(self, name, text):
+        store(self.folder, name, text=text)
+
+    def load(self, name):
+        return load_if_there(self.folder, name, default=b"").decode("latin-1")
+
+    def run(self, *words, **how):
+        status, shown, errors = run([APPLY, *words], cwd=self.folder, env=self.environment, **how)
+        return status, shown.splitlines(), errors
+
+    def names(self):
+        return sorted(os.listdir(self.folder))
+
+
+def plain(program, folder):
+    """What the program itself writes of a capture."""
+    path = store(folder, "plain", text=LINE)
+    script = store(folder, "plain.txt", text=WRITTEN)
+    run([program, "-i", path, "--script", script, "-o", path + ".new"])
+    return load_if_there(folder, "plain.new", default=b"").decode()
+
+
+def writes(program, folder):
+    wanted = plain(program, folder)
+    place = Folder(program, folder + "/writes", A=LINE, B=LINE, bad="no capture\n")
+    os.symlink("A", place.folder + "/link")
+    os.chmod(place.folder + "/A", 0o640)
+    yield "one capture", place.run("script", "link") == (0, ["link: written: 1 ok"], "")
+    yield "it is as the program writes it", place.load("A") == wanted != LINE
+    is_link, mode = os.path.islink(place.folder + "/link"), stat.S_IMODE(os.stat(place.folder + "/A").st_mode)
+    yield "the link is kept, and the mode", (is_link, mode) == (True, 0o640)
+    status, shown, _ = place.run("script", "bad", "B", "--jobs", "2", "--backup", ".orig")
+    ends = ["bad: as it was: refused: line 1: UnexpectedWord", "B: written: 1 ok"]
+    yield "several, one of which is refused", (status, shown) == (3, ends)
+    yield "the old one is kept", (place.load("B"), place.load("B.orig")) == (wanted, LINE)
+    status, shown, _ = place.run("script", "B", "--backup", ".orig")
+    yield "an old one is never replaced", (status, shown, place.load("B.orig")) == (4, ["B: as it was: " + place.folder + "/B.orig is there already"], LINE)
+    place.store("C", LINE)
+    status, shown, _ = place.run("script", "C", "--to", "new/folder")
+    yield "to a folder", (status, place.load("C"), place.load("new/folder/C")) == (0, LINE, wanted)
+    place.store("questions", "value tb.rx 5\nundo\n")
+    status, shown, _ = place.run("questions", "C", "--keep-going")
+    yield "replies, and a refused line", (status, shown) == (1, ["C: 0", "C: written: 0 ok, 1 line refused"])
+    odd = os.fsdecode(b"\xff odd\n-name")
+    place.store(odd, LINE)
+    status = run([APPLY, "script", "./" + odd], cwd=place.folder, env=place.environment, errors="surrogateescape")[0]
+    yield "a name that is no text", status == 0 and place.load(odd) == wanted
+    long = "n" * 250
+    place.store(long, LINE)
+    yield "a long name", place.run("script", long)[0] == 0 and place.load(long) == wanted
+    kept = ["A", "B", "B.orig", "C", "bad", "link", "new", long, "questions", "script", odd]
+    yield "nothing else is there", place.names() == sorted(kept)
+
+
+def stays(program, folder):
+    place = Folder(program, folder + "/stays", A=LINE, lossy=LOSSY, fixed=LINE)
+    os.mkdir(place.folder + "/sub")
+    os.mkfifo(place.folder + "/pipe")
+    os.chmod(place.folder + "/fixed", 0o444)
+    os.symlink("nowhere", place.folder + "/lost")
+    for name, status, reason in (
+        ("sub", 4, "is a folder"),
+        ("none", 4, "there is no such file"),
+        ("lost", 4, "there is no such file"),
+        ("pipe", 4, "is no regular file"),
+        ("fixed", 4, "is write-protected: chmod u+w, or --to FOLDER"),
+        ("lossy", 1, "2 variables would be lost"),
+    ):
+        found = place.run("script", name)
+        yield name + " stays", found[:2] == (status, ["%s: as it was: %s" % (name, reason)])
+    yield "what would be lost is named", "real tb.volts" in found[2] and "wire of 2000 bits tb.wide" in found[2]
+    yield "none has changed", (place.load("fixed"), place.load("lossy")) == (LINE, LOSSY)
+    yield "a loss that is asked for", place.run("script", "lossy", "--drop-skipped")[0] == 0
+    for line, told in REFUSED:
+        place.store("lines", line + "\n")
+        status, _, errors = place.run("lines", "A")
+        yield "told of " + line, status == 1 and place.load("A") == LINE and all(word in errors for word in told)
+    for text, told in FAULTY:
+        place.store("faulty", text)
+        status, _, errors = place.run("script", "faulty")
+        yield "told of " + told[0], status == 3 and load_if_there(place.folder, "faulty", default=b"") == text and all(word in errors for word in told)
+    place.store("vast", "#\n" * 600000)
+    for words, status in (
+        (["vast", "A"], 3),
+        (["none", "A"], 4),
+        (["sub", "A"], 4),
+        (["script", "A", "--jobs", "0"], 2),
+        (["script", "A", "./A"], 2),
+        (["script", "A", "sub/../A", "--to", "sub"], 2),
+        (["A", "A"], 2),
+        (["script", "A", "--to", "."], 4),
+        (["script", "A", "--backup", "/b"], 2),
+    ):
+        yield "refused: " + " ".join(words), place.run(*words)[0] == status and place.load("A") == LINE
+    full = subprocess.run([APPLY, "script", "A"], cwd=place.folder, env=place.environment, stdout=open("/dev/full", "w"), stderr=subprocess.PIPE)
+    for closed, status in ((">&-", 4), ("2>&-", 4), ("<&-", 0)):
+        words = ["sh", "-c", 'exec "$@" %s' % closed, "sh", APPLY, "script", "A", "--to", "closed"]
+        done = run(words, cwd=place.folder, env=place.environment)
+        yield "closed: " + closed, done[0] == status and done[2] == ""
+    yield "a full standard output", full.returncode == 4 and b"Traceback" not in full.stderr
+
+
+def fails(folder):
+    for number, (failure, status, told) in enumerate(FAILING):
+        program = store_program(folder, "program%d" % number, text=HALF % failure)
+        place = Folder(program, "%s/fails%d/moved" % (folder, number), A=LINE)
+        found = place.run("script", "A")
+        begins = place.load("A").startswith(LINE)
+        left = [name for name in place.names() if name not in ("A", "away", "script")]
+        yield "after " + failure, (found[0], begins, left) == (status, True, []) and told in found[1][-1]
+
+
+def is_running(number):
+    try:
+        with open("/proc/%d/stat" % number) as file:
+            return file.read().split(" ")[2] != "Z"
+    except FileNotFoundError:
+        return False
+
+
+def wait_for(test):
+    for _ in range(1000):
+        if test():
+            return True
+        time.sleep(0.01)
+    return False
+
+
+def end_of(tool):
+    """What a tool shows that ends soon."""
+    try:
+        return tool.communicate(timeout=20)[0].splitlines()
+    except subprocess.TimeoutExpired:
+        tool.kill()
+        return []
+
+
+def interrupted(folder):
+    """A run that lasts is interrupted when it has written a part."""
+    waits = "echo $$ > ../number.new; mv ../number.new ../number; exec sleep 60"
+    program = store_program(folder, "lasting", text=HALF % waits)
+    for number in (signal.SIGINT, signal.SIGTERM, signal.SIGHUP, signal.SIGKILL):
+        place = Folder(program, "%s/%d/captures" % (folder, number), A=LINE, B=LINE)
+        tool = subprocess.Popen([APPLY, "script", "A", "B"], cwd=place.folder, env=place.environment, stdout=subprocess.PIPE, text=True)
+        path = os.path.join(place.folder, "../number")
+        began = wait_for(lambda: os.path.exists(path))
+        tool.send_signal(number)
+        shown = end_of(tool)
+        left = [name for name in place.names() if name not in ("A", "B", "script")]
+        kept = (place.load("A"), place.load("B")) == (LINE, LINE)
+        with open(path) as file:
+            child = int(file.read())
+        if number == signal.SIGKILL:
+            os.kill(child, signal.SIGKILL)
+            seen = [re.fullmatch(r"A\.%d\.0\.unfinished" % tool.pid, name) is not None for name in left]
+            yield "what is left of a run that is killed", (began, kept, seen) == (True, True, [True])
+        else:
+            ends = ["%s: as it was: interrupted" % name for name in "AB"]
+            yield "signal %d" % number, (began, kept, left, shown, tool.returncode) == (True, True, [], ends, 128 + number)
+            yield "signal %d ends the run" % number, wait_for(lambda: not is_running(child))
+
+
+def on_a_terminal(program, folder):
+    """A terminal shows how many captures are done; elsewhere standard error has nothing of it."""
+    place = Folder(program, folder + "/terminal", A=LINE, B=LINE)
+    terminal, side = pty.openpty()
+    words = [APPLY, "script", "A", "B"]
+    done = subprocess.run(words, cwd=place.folder, env=place.environment, stdout=subprocess.DEVNULL, stderr=side)
+    os.close(side)
+    yield "progress", done.returncode == 0 and b"1 of 2, 0 not written" in os.read(terminal, 10000)
+    os.close(terminal)
+
+
+def check(program, folder):
+    yield from writes(program, folder)
+    yield from stays(program, folder)
+    yield from fails(folder)
+    yield from interrupted(folder)
+    yield from on_a_terminal(program, folder)

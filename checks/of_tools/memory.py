@@ -1,0 +1,114 @@
+"""What the documents say of memory, compared with the peaks of runs."""
+
+import os
+import re
+import subprocess
+import sys
+
+from common import module_of, run, store, text_at
+
+SIZE = 2000000
+BYTES_OF_CHANGE = 272
+BYTES_OF_SIGNAL = 700
+# A word of each row of the table, and the shape of its capture.
+SHAPES = {"simulator": "simulator", "one clock": "clock", "8 channels": "channels", "90 lines": "toggles"}
+ROW = r"^\| (.+) \| ([0-9.]+) \| ([0-9]+) \|$"
+RANGE_IN = ["README.md", "docs/COOKBOOK.md", "docs/vcdedit.1"]
+PEAK = """import resource, subprocess, sys
+subprocess.run(["sh", "-c", '"$@" > /dev/null; exit 0', "sh", *sys.argv[1:]])
+print(resource.getrusage(resource.RUSAGE_CHILDREN).ru_maxrss)"""
+PLANTED = [
+    ("docs/COOKBOOK.md", "| 3.1 | 89 |", "| 3.1 | 27 |"),
+    ("docs/COOKBOOK.md", "| 16 | 14 |", "| 16 | 16 |"),
+    ("docs/COOKBOOK.md", "| 4.6 | 60 |", "| 6 | 60 |"),
+    ("README.md", "89 times the file, by how", "27 times the file, by how"),
+    ("docs/vcdedit.1", "14 to 89 times the file", "14 to 27 times the file"),
+    ("docs/COOKBOOK.md", "grep -c '^[01xzXZbB]' examples", "grep -c '^[01xzXZ]' examples"),
+    ("checks/of_tools/memory.py", "= 272\nBYTES", "= 222\nBYTES"),
+    ("checks/of_tools/memory.py", "SIGNAL = 700\n", "SIGNAL = 500\n"),
+]
+
+
+def peak(program, capture, *words):
+    """The most memory of a run, in bytes. A shell starts it, so that the memory of this process is not counted."""
+    words = [sys.executable, "-S", "-c", PEAK, program, "-i", capture, *words]
+    return int(run(words, env={**os.environ, "GLIBC_TUNABLES": ""})[1]) * 1024
+
+
+def is_near(found, said, part=0.1):
+    return abs(found - said) <= said * part
+
+
+def changes_in(path):
+    """How many changes a capture has: words behind its declarations that begin with a value."""
+    with open(path) as file:
+        text = file.read().split("$enddefinitions $end", 1)[1]
+    return len(re.findall(r"(?<!\S)(?:[01xz]\S+|b\S+ \S+)", text))
+
+
+def counts(folder):
+    """The commands of the cookbook that count changes, each with its file replaced."""
+    found = re.findall(r"^    \$ ((?:grep -c|tr) .*)$", text_at("docs/COOKBOOK.md"), flags=re.M)
+    return [re.sub(r"examples/\S+|\| awk.*", lambda word: '"$1"' if word.group().startswith("ex") else "", line) for line in found]
+
+
+def counted(command, path):
+    return int(subprocess.run(["bash", "-c", command, "bash", path], capture_output=True, text=True).stdout or 0)
+
+
+def table(program, folder, module):
+    """Each row of the cookbook's table, by a smaller capture of its kind."""
+    rows = re.findall(ROW, text_at("docs/COOKBOOK.md"), flags=re.M)
+    yield "rows of the table", [[shape for word, shape in SHAPES.items() if word in row[0]] for row in rows] == [[shape] for shape in SHAPES.values()]
+    commands = counts(folder)
+    yield "commands that count", len(commands) == 2
+    for (name, text, times), shape in zip(rows, SHAPES.values()):
+        path = os.path.join(folder, shape)
+        module.make(path, shape, {**module.SHAPES, **module.DENSE}[shape], SIZE)
+        size, changes, memory = os.path.getsize(path), changes_in(path), peak(program, path, "--script", "/dev/null")
+        yield "%s: %.1f bytes of text a change" % (name, size / changes), is_near(size / changes, float(text))
+        yield "%s: %.1f times the file" % (name, memory / size), is_near(memory / size, float(times))
+        signals = 2000 if shape == "simulator" else 100
+        most = BYTES_OF_CHANGE * changes + BYTES_OF_SIGNAL * signals
+        yield "%s: %d bytes of memory" % (name, memory), memory < 1.02 * most + 8000000
+        command = commands[1] if shape == "channels" else commands[0]
+        yield "%s: changes counted" % name, is_near(counted(command, path), changes, 0.001)
+    said = "%s to %s times the file" % (min(int(row[2]) for row in rows), max(int(row[2]) for row in rows))
+    for path in RANGE_IN:
+        found = re.findall(r"[0-9]+ to [0-9]+ times the file", text_at(path).replace("\n", " "))
+        yield "%s: %s" % (path, said), found != [] and set(found) == {said}
+
+
+def signals(program, folder, module):
+    """What a signal takes without changes, and with a code that all share."""
+    for shared in (False, True):
+        count = 60000
+        names = "".join(module.variable("wire", 1, "!" if shared else module.code(k), "signal%d" % k) for k in range(count))
+        path = store(folder, "signals", text=names + "$enddefinitions $end\n#0\n#5\n")
+        each = peak(program, path, "--script", "/dev/null") / count
+        yield "%.0f bytes a signal" % each, is_near(each, BYTES_OF_SIGNAL, 0.2)
+
+
+def history(program, folder, module):
+    """What edits hold that can be undone: 272 bytes for each change that they replaced, of each variable for itself."""
+    edges, edits, variables = 10000, 40, 100
+    path = os.path.join(folder, "clock")
+    names = "".join(module.variable("wire", 1, "!", "v%d" % k) for k in range(variables))
+    with open(path, "w") as file:
+        file.writelines(module.of_one_code(names, edges))
+    held = BYTES_OF_CHANGE * edges
+    least = peak(program, path, "--script", "/dev/null")
+    inverts = store(folder, "inverts", text="invert v0\n" * edits)
+    all_held, one_held = (peak(program, path, "--script", inverts, "--depth", depth) - least for depth in ("100", "1"))
+    yield "%d inverts hold %d bytes" % (edits, all_held), is_near(all_held, (edits + 1) * held)
+    yield "with a depth of 1 %d" % one_held, one_held < 4 * held
+    cut = store(folder, "cut", text="cut %d %d\n" % (edges // 2, edges))
+    cut_held = peak(program, path, "--script", cut) - least
+    yield "a cut of shared changes takes %d bytes" % cut_held, is_near(cut_held, variables * held, 0.2)
+
+
+def check(program, folder):
+    module = module_of("bench/make_captures")
+    yield from table(program, folder, module)
+    yield from signals(program, folder, module)
+    yield from history(program, folder, module)
