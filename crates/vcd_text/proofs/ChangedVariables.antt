@@ -1,11 +1,11 @@
 -- A change of a kept variable.
-use Rattle.std.proofs.Common.{◌≡◌, ◌≢◌, ◌⊎◌, ℕ, zero, suc, ◌<◌, ◌≤◌, ◌==◌, All, option_map, true, false, ◌&&◌, ◌||◌}
+use Rattle.std.proofs.Common.{◌≡◌, ◌≢◌, ◌⊎◌, ℕ, zero, suc, ◌<◌, ◌≤◌, ◌==◌, All, option_map, true, false, ◌&&◌}
 use Rattle.std.proofs.Common.{if◌then◌else◌, nat_le, List, [], ◌∷◌, ◌++◌, length, map, set, get_or, None, Some, Result}
 use Rattle.std.proofs.Common.{Ok, Err, OnOk, IfErr, inl, inr, refl, sym, ap, subst, ◌∙◌, arith}
 use Rattle.std.specs.Prelude.{bytes_eq, slice_get, IsSomeAnd, IsTrue}
 use Rattle.std.specs.Global.{Vec}
-use Rattle.std.proofs.lemmas.Bool.{cases_Bool, cases_eq, le-leb, eqb-true}
-use Rattle.std.proofs.lemmas.Option.{same_Some, get_or_from_slice_get, slice_get_within, slice_get-map}
+use Rattle.std.proofs.lemmas.Bool.{cases_Bool, cases_eq, le-leb}
+use Rattle.std.proofs.lemmas.Option.{same_Some, get_or_from_slice_get, slice_get-map}
 use Rattle.vcd_core.specs.declared.wave.Change.{Change}
 use Rattle.vcd_core.specs.declared.bit.Bit.{Bit}
 use Rattle.vcd_core.specs.Value.{all_x}
@@ -13,7 +13,7 @@ use Rattle.vcd_core.specs.Wave.{value_at}
 use Rattle.vcd_text.specs.declared.fault.Fault.{Fault}
 use Rattle.vcd_text.specs.declared.fault.Fault.TheVariants as faults
 use Rattle.vcd_text.specs.Letters.{letters_of_digits, extension}
-use Rattle.vcd_text.specs.Grammar.{VariableDeclaration, ValueChange, ParseState, is_skipped, variable_of}
+use Rattle.vcd_text.specs.Grammar.{VariableDeclaration, ValueChange, ParseState, is_skipped, variable_of, kept_variables}
 use Rattle.vcd_text.specs.Grammar.{is_binary_number, takes_binary_number, value_changes_after, with_value_change}
 use Rattle.vcd_text.specs.Meaning.{latest_value}
 use Rattle.vcd_text.specs.inside.ChangeLog.{logged_letters, GivesLoggedValues, logged, AreGrouped}
@@ -22,12 +22,12 @@ use Rattle.vcd_text.specs.inside.Variables.{declaration, target_of, HasWave, Tar
 use Rattle.vcd_text.specs.inside.Variables.{HasOnlyFirstVariables, VariablesMatch, HasValueFrom, BinaryNumberFault}
 use Rattle.vcd_text.specs.inside.Variables.{no_value, too_long, ChangeResult}
 use Rattle.vcd_text.specs.declared.reading.change_log.LoggedChange.{LoggedChange}
-use Rattle.vcd_text.specs.declared.reading.code_targets.CodeTarget.{CodeTarget}
-use Rattle.vcd_text.specs.declared.reading.code_targets.CodeTarget.TheVariants.{Skipped, Position}
+use Rattle.vcd_text.specs.declared.reading.code_targets.CodeTarget.TheVariants.{Position}
 use Rattle.vcd_text.specs.declared.reading.variables.Variable.{Variable}
 use Rattle.vcd_text.specs.declared.reading.variables.Variables.{Variables}
 use Rattle.vcd_text.proofs.LoggedValues.{gives_late, gives_as, gives_appended, gives_pushed}
 use Rattle.vcd_text.proofs.CodeTargets.{own_code, same_code, stands_kept, stands_moved}
+use Rattle.vcd_text.proofs.VariablesMatch.{one_owner}
 use Rattle.std.proofs.lemmas.List.{length-set}
 use Rattle.std.proofs.lemmas.Bool.{eq-eqb, ne_eqb}
 
@@ -161,21 +161,25 @@ module _ (old : Variables) (list : Vec Variable) (log : Vec (Vec LoggedChange)) 
       record {
         first = w;
         at_position = grind (arith, set_here, stood);
-        coded = ap (λ (d : VariableDeclaration). d.code) same ∙ ap (λ (u : Variable). u.code) is ∙ wave.coded;
         sized = same_width ∙ old_size;
         gives = grind (arith, gives_as, own_code, value_with);
       }
 
   -- the wave of another code stays
   wave_kept : (key : List ℕ) (position size : ℕ) → bytes_eq code key ≡ false
+      → target_of old key ≡ Some (Position position)
       → HasWave old.kept.items (logged old.log.items) position key size c.value_changes c.tick
       → HasWave list.items (logged log.items) position key size (c.value_changes ++ new_value_change ∷ []) c.tick
   unfolding new_value_change
-  wave_kept key position size other wave =
-      grind (arith, same_Some, stood, own_wave, own_code, set_there, sized, gives_as, value_with)
+  wave_kept key position size other owned wave =
+      let apart : first ≢ position = λ same.
+      let both : true ≡ false = sym (own_code code)
+      ∙ ap (bytes_eq code) (one_owner old (kept_variables c.declared) k.owners code key position
+      (had ∙ ap (λ n. Some (Position n)) same) owned) ∙ other in absurd (cc) in
+      grind (arith, set_there, gives_as, value_with)
 
   changed_firsts : (position : ℕ) (u : Variable) → slice_get list.items position ≡ Some u
-      → HasFirst (with_changes old list log) position u
+      → HasFirst (with_changes old list log) (kept_variables c.declared) position u
   changed_firsts position u at =
       let t = following position u at in
       let before = k.firsts position t.0 t.1 in
@@ -193,7 +197,7 @@ module _ (old : Variables) (list : Vec Variable) (log : Vec (Vec LoggedChange)) 
       (c.value_changes ++ new_value_change ∷ []) c.tick c.tick key (target_of old key) (variable_of c key)
       (λ position size owned wave. elim (cases_Bool (bytes_eq code key)) [
         | inl equal ↦ wave_changed key position size (same_code code key equal) owned wave
-        | inr other ↦ wave_kept key position size other wave
+        | inr other ↦ wave_kept key position size other owned wave
       ]) (k.targets_agree key)
 
   told_are : value_changes_after c code (letters_of_digits digits) (variable_of c code) ≡ new_value_change ∷ []
@@ -212,6 +216,7 @@ module _ (old : Variables) (list : Vec Variable) (log : Vec (Vec LoggedChange)) 
     widths = grind (arith, same_map, stood, same_width);
     targets_agree = λ key. subst (λ rs. TargetMatches list.items (logged log.items) (c.value_changes ++ rs) c.tick key
         (target_of old key) (variable_of c key)) (sym told_are) (changed_stands key);
+    owners = k.owners;
     firsts = changed_firsts;
     few = grind (arith, length-set);
     grouped = grouped;

@@ -1,10 +1,10 @@
 -- The words of changes follow the grammar.
-use Rattle.std.proofs.Common.{◌≡◌, ◌⊎◌, inl, inr, ℕ, ◌<◌, ◌≤◌, Bool, true, false, List, [], ◌∷◌, ◌++◌, ◌&&◌, ◌||◌}
+use Rattle.std.proofs.Common.{◌≡◌, ◌⊎◌, inl, inr, ℕ, ◌<◌, ◌≤◌, Bool, true, false, List, [], ◌∷◌, ◌++◌, ◌&&◌}
 use Rattle.std.proofs.Common.{length, Some, None, IsSome, IsSomeAnd, Option, Result, Ok, Err, is_some, refl, sym, ap}
 use Rattle.std.proofs.Common.{subst, ◌∙◌, arith}
-use Rattle.std.specs.Prelude.{codes, nat_eq, ◌==◌, IsTrue}
+use Rattle.std.specs.Prelude.{codes, nat_eq, IsTrue}
 use Rattle.std.proofs.lemmas.List.{nil_from_length}
-use Rattle.std.proofs.lemmas.Bool.{or_parts, or_cases, or_from, or_left, or_right, eqb-false}
+use Rattle.std.proofs.lemmas.Bool.{or_parts, or_from, or_left, or_right, eqb-false}
 use Rattle.vcd_text.specs.declared.fault.Fault.{Fault}
 use Rattle.vcd_text.specs.declared.fault.Fault.TheVariants.{NoMemory, BadTime, TimeBackwards, BadChange}
 use Rattle.vcd_text.specs.declared.fault.Fault.TheVariants.{UnknownCode, UnexpectedWord}

@@ -1,5 +1,5 @@
 -- A file in chunks: the progress after one more chunk, and the result if no more comes.
-use Rattle.std.proofs.Common.{◌≡◌, ◌⊎◌, inl, inr, ℕ, zero, suc, ◌+◌, ◌-◌, ◌<◌, ◌≤◌, Bool, true, false, not, ◌==◌}
+use Rattle.std.proofs.Common.{◌≡◌, ◌⊎◌, inl, inr, ℕ, zero, suc, ◌+◌, ◌-◌, ◌<◌, ◌≤◌, Bool, true, false, not}
 use Rattle.std.proofs.Common.{List, [], ◌∷◌, ◌++◌, length, take, drop, get_or, Option, Some, None, IfSome, refl, sym}
 use Rattle.std.proofs.Common.{ap, subst, ◌∙◌, arith, append_assoc, length-append}
 use Rattle.std.specs.Prelude.{IsTrue, IsFalse}
@@ -7,7 +7,7 @@ use Rattle.std.specs.List.{list_all}
 use Rattle.std.specs.Io.KnownBytes.{Consumes, Keeps, IsAtEnd}
 use Rattle.std.proofs.KnownBytes.{Consumes-trans, Consumes-kept}
 use Rattle.std.proofs.Math.Seq.{take-append-add, take-append_seam}
-use Rattle.std.proofs.lemmas.List.{append-nil, take-append-drop, length-drop}
+use Rattle.std.proofs.lemmas.List.{append-nil, take-append-drop}
 use Rattle.std.proofs.lemmas.List.Sums.{count_by-le-length}
 use Rattle.std.proofs.lemmas.Bool.{cases_lt}
 use Rattle.vcd_core.specs.Word.{is_white_space}
@@ -21,10 +21,9 @@ use Rattle.vcd_text.specs.Words.{PlacedWord, line_after, with_longer_first, with
 use Rattle.vcd_text.specs.Words.{words_of, complete_words}
 use Rattle.vcd_text.specs.Grammar.{ParseState}
 use Rattle.vcd_text.specs.Faults.{FileFault, ShowsFault, shown, none_shown}
-use Rattle.vcd_text.specs.FoundFaults.{FoundFault, word_shows}
-use Rattle.vcd_text.specs.FoundFaults.{too_early, FrontFault}
-use Rattle.vcd_text.specs.Faults.{ChangeFault, no_tick, tick_goes_back, missing_code, unknown_scalar_code}
-use Rattle.vcd_text.specs.Faults.{unknown_pair_code, no_value, value_too_long, declaration_late, begins_no_change}
+use Rattle.vcd_text.specs.FoundFaults.{FoundFault}
+use Rattle.vcd_text.specs.FoundFaults.{FrontFault}
+use Rattle.vcd_text.specs.Faults.{ChangeFault}
 use Rattle.vcd_text.specs.Refusals.{IsRefusal, has_fault, too_large, no_memory, IsFrontAnswer}
 use Rattle.vcd_text.specs.MemoryErrors.{memory_error}
 use Rattle.vcd_text.specs.inside.Spaces.{has_complete_words}

@@ -1,13 +1,13 @@
 -- Codes of two positions differ, and a code is a word of at most three bytes.
-use Rattle.std.proofs.Common.{◌≡◌, ◌<◌, ◌≤◌, ◌+◌, ◌/◌, ◌%◌, ◌&&◌, ◌==◌, ℕ, zero, suc, Bool, true, false, not, List, []}
-use Rattle.std.proofs.Common.{◌∷◌, length, refl, ap, arith, nat_le, ◌*◌, add-one}
+use Rattle.std.proofs.Common.{◌≡◌, ◌<◌, ◌≤◌, ◌+◌, ◌/◌, ◌&&◌, ℕ, zero, suc, Bool, true, false, not}
+use Rattle.std.proofs.Common.{length, refl, arith, nat_le, ◌*◌, add-one}
 use Rattle.std.specs.List.{list_all}
 use Rattle.std.proofs.lemmas.Bool.{and_from, and_parts, and_right, or_from, not_from_false, false_from_ne_true, le-leb}
 use Rattle.std.proofs.lemmas.Bool.{lt-leb, leb-true, ne_eqb}
 use Rattle.std.proofs.lemmas.Slice.Eq.{bytes_eq-Decides}
 use Rattle.vcd_core.specs.declared.capture.TheConstants.{SIGNAL_LIMIT}
 use Rattle.vcd_core.specs.Word.{is_white_space}
-use Rattle.vcd_text.specs.Items.{end_word, is_end_word}
+use Rattle.vcd_text.specs.Items.{is_end_word}
 use Rattle.vcd_text.specs.Text.{code_digits, code_of}
 use Rattle.vcd_text.proofs.Codes.{next_digit}
 use Rattle.vcd_text.proofs.WeakerTests.{all_weaker}

@@ -1,5 +1,5 @@
 -- The changes of all waves are, by tick, the signals that differ from the tick before.
-use Rattle.std.proofs.Common.{◌≡◌, ◌≢◌, ◌⊎◌, inl, inr, ◌<◌, ◌≤◌, ◌+◌, ◌-◌, ℕ, zero, suc, Bool, true, false, cond, not}
+use Rattle.std.proofs.Common.{◌≡◌, ◌≢◌, ◌⊎◌, inl, inr, ◌<◌, ◌≤◌, ◌+◌, ◌-◌, ℕ, zero, suc, Bool, true, false, not}
 use Rattle.std.proofs.Common.{◌&&◌, ◌==◌, nat_le, nat_lt, List, [], ◌∷◌, ◌++◌, length, map, All, refl, sym, ap}
 use Rattle.std.proofs.Common.{◌∙◌, arith, append_assoc, eq-eqb}
 use Rattle.std.specs.List.{filter, enumerate_from}

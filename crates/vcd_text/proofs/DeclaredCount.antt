@@ -1,9 +1,9 @@
 -- The number of skipped variables: fewer than the file has words.
-use Rattle.std.proofs.Common.{◌+◌, ◌<◌, ◌≤◌, ◌^◌, List, [], ◌∷◌, ◌++◌, length, arith}
+use Rattle.std.proofs.Common.{◌+◌, ◌<◌, ◌≤◌, ◌^◌, List, [], ◌∷◌, length, arith}
 use Rattle.std.proofs.lemmas.List.{length-append, length-map}
 use Rattle.std.proofs.lemmas.List.Sums.{count_by-le-length}
-use Rattle.vcd_text.specs.Items.{Item, entry, timescale, scope, upscope, variable, end_definitions, stamp, scalar}
-use Rattle.vcd_text.specs.Items.{vector, real_or_string, dump_word, other, spelling, spellings}
+use Rattle.vcd_text.specs.Items.{Item}
+use Rattle.vcd_text.specs.Items.{spelling, spellings}
 use Rattle.vcd_text.specs.Grammar.{ParseState, state_after, state_after_item}
 use Rattle.vcd_text.specs.inside.Reading.{IsUnderway}
 use Rattle.vcd_text.specs.declared.reading.reader.Reader.{Reader}

@@ -1,5 +1,5 @@
 -- A sound signal is declared as a kept variable, and its code finds it.
-use Rattle.std.proofs.Common.{◌≡◌, ◌≢◌, ℕ, zero, suc, ◌+◌, ◌<◌, true, false, not, cond, ◌||◌, ◌==◌, List, []}
+use Rattle.std.proofs.Common.{◌≡◌, ◌≢◌, ℕ, zero, suc, ◌+◌, ◌<◌, true, false, not, cond, List, []}
 use Rattle.std.proofs.Common.{◌∷◌, length, get_or, Some, All, refl, ap, ◌∙◌, arith}
 use Rattle.std.specs.Prelude.{find, bytes_eq, count_by}
 use Rattle.std.proofs.lemmas.Bool.{false_from_ne_true, le-ltb, ne_eqb, not-true}

@@ -1,11 +1,11 @@
 -- A variable that is declared, skipped or kept.
-use Rattle.std.proofs.Common.{◌≡◌, ◌⊎◌, ℕ, zero, suc, ◌+◌, ◌<◌, ◌≤◌, min, Bool, true, false, ◌&&◌, ◌||◌, ◌==◌}
+use Rattle.std.proofs.Common.{◌≡◌, ◌⊎◌, ℕ, zero, suc, ◌+◌, ◌<◌, ◌≤◌, min, Bool, true, false, ◌||◌, ◌==◌}
 use Rattle.std.proofs.Common.{cond, if◌then◌else◌, nat_lt, List, [], ◌∷◌, ◌++◌, length, map, get_or, drop, Option, None}
 use Rattle.std.proofs.Common.{Some, Result, Ok, Err, OnOk, IfErr, inl, inr, refl, sym, ap, subst, ◌∙◌, arith}
 use Rattle.std.specs.Prelude.{bytes_eq, slice_get, count_by}
 use Rattle.std.specs.Global.{Vec}
 use Rattle.std.specs.Option.{option_or, option_map_or}
-use Rattle.std.proofs.lemmas.List.{append-nil, nil_from_length, map-append, length-map, length_push}
+use Rattle.std.proofs.lemmas.List.{append-nil, nil_from_length, map-append, length_push}
 use Rattle.std.proofs.lemmas.List.Elements.{filter-append}
 use Rattle.std.proofs.lemmas.Bool.{lt-ltb, le-ltb, ltb-false, eqb-true, cases_lt}
 use Rattle.vcd_core.specs.declared.capture.TheConstants.{SIGNAL_LIMIT}
@@ -24,9 +24,10 @@ use Rattle.vcd_text.specs.Grammar.{variable_of, may_have_code, has_room}
 use Rattle.vcd_text.specs.Meaning.{latest_value}
 use Rattle.vcd_text.specs.inside.ChangeLog.{logged, AreGrouped}
 use Rattle.vcd_text.specs.declared.reading.change_log.LoggedChange.{LoggedChange}
+use Rattle.vcd_text.specs.declared.reading.change_log.TheConstants.{NO_HINT}
 use Rattle.vcd_text.proofs.LoggedValues.{gives_as, gives_nothing}
-use Rattle.vcd_text.specs.inside.Variables.{TargetAgrees, declaration, declaration_in, without_scopes, target_of}
-use Rattle.vcd_text.specs.inside.Variables.{HasWave, TargetMatches, HasFirst, HasOnlyFirstVariables, VariablesMatch}
+use Rattle.vcd_text.specs.inside.Variables.{TargetAgrees, declaration_in, without_code, target_of}
+use Rattle.vcd_text.specs.inside.Variables.{HasWave, TargetMatches, HasFirst, HaveOwnCodes, VariablesMatch}
 use Rattle.vcd_text.specs.inside.Variables.{with_declaration, mixed, many, DeclaresAs, code_mixed, no_room, Declares}
 use Rattle.vcd_text.specs.declared.reading.code_targets.CodeTargets.{CodeTargets}
 use Rattle.vcd_text.specs.declared.reading.code_targets.CodeTarget.{CodeTarget}
@@ -34,6 +35,7 @@ use Rattle.vcd_text.specs.declared.reading.code_targets.CodeTarget.TheVariants.{
 use Rattle.vcd_text.specs.declared.reading.variables.Variable.{Variable}
 use Rattle.vcd_text.specs.declared.reading.variables.Variables.{Variables}
 use Rattle.vcd_text.proofs.CodeTargets.{own_code, by_code, stands_kept, stands_moved, found_with}
+use Rattle.vcd_text.proofs.VariablesMatch.{kept_long}
 
 -- ---- lists with one item more
 
@@ -45,14 +47,14 @@ count_with : (ds : List VariableDeclaration) (d : VariableDeclaration) (b : Bool
     → count_by is_skipped (ds ++ d ∷ []) ≡ count_by is_skipped ds + cond b 1 0
 count_with ds d b is = grind (arith, sum_by-append, sum_by-cons)
 
-pub stays : (vs more : List Variable) (position : ℕ) (v : Variable) → slice_get vs position ≡ Some v
+pub stays : {X : Type 0} (vs more : List X) (position : ℕ) (v : X) → slice_get vs position ≡ Some v
     → slice_get (vs ++ more) position ≡ Some v
 stays [] more position v at = let no : None ≡ Some v = at in absurd (cc)
 stays (w ∷ vs) more zero v at = at
 stays (w ∷ vs) more (suc n) v at = stays vs more n v at
 
 -- an item of a list with one more is an item of the list, or the new one
-either_of : (vs : List Variable) (w : Variable) (position : ℕ) (v : Variable)
+either_of : {X : Type 0} (vs : List X) (w : X) (position : ℕ) (v : X)
     → slice_get (vs ++ w ∷ []) position ≡ Some v → (slice_get vs position ≡ Some v) ⊎ ((position ≡ length vs) × (w ≡ v))
 either_of [] w zero v at = inr (refl, same_Some w v at)
 either_of [] w (suc n) v at = let no : None ≡ Some v = at in absurd (cc)
@@ -60,14 +62,9 @@ either_of (u ∷ vs) w zero v at = inl at
 either_of (u ∷ vs) w (suc n) v at = grind (arith, either_of vs w n v at)
 
 -- the item between two lists
-pub middle_of : (vs rest : List Variable) (w : Variable) → slice_get (vs ++ w ∷ rest) (length vs) ≡ Some w
+pub middle_of : {X : Type 0} (vs rest : List X) (w : X) → slice_get (vs ++ w ∷ rest) (length vs) ≡ Some w
 middle_of [] rest w = refl
 middle_of (u ∷ vs) rest w = middle_of vs rest w
-
--- as many variables are kept as were declared as kept
-pub kept_long : (vs : Variables) (c : ParseState) → VariablesMatch vs c
-    → length (kept_variables c.declared) ≡ length vs.kept.items
-kept_long vs c k = grind (arith, length-map)
 
 -- ---- the targets of codes, with one more variable
 
@@ -84,6 +81,9 @@ module _ (log : ℕ → List LoggedChange) (value_changes : List ValueChange) (t
       → TargetMatches vs log value_changes tick code target (option_or declared None)
   stands_still vs code target None s = s
   stands_still vs code target (Some d) s = s
+
+one_position : (i j : ℕ) → Some (Position i) ≡ Some (Position j) → i ≡ j
+one_position i j same = grind arith
 
 -- the code of a declaration has this target from now on, and the others keep theirs
 abbrev pub Puts : (old new : Variables) → List ℕ → CodeTarget → Type 0
@@ -127,15 +127,34 @@ module _ (old : Variables) (targets : CodeTargets) (c : ParseState) (d : Variabl
         (λ _. stands_still (logged old.log.items) c.value_changes c.tick old.kept.items key (target_of old key)
         (variable_of c key) (k.targets_agree key))))
 
+    skip_kept : kept_variables (c.declared ++ d ∷ []) ≡ kept_variables c.declared
+    skip_kept = grind (arith, filter-append, append-nil)
+
+    -- no code got a position, or lost one
+    skip_positions : (key : List ℕ) (position : ℕ)
+        → (target_of (with_skipped old targets) key ≡ Some (Position position) → target_of old key ≡ Some (Position position))
+        × (target_of old key ≡ Some (Position position) → target_of (with_skipped old targets) key ≡ Some (Position position))
+    skip_positions key position = (
+      λ is. by_code (λ b. (if b then Some Skipped else target_of old key) ≡ Some (Position position)
+          → target_of old key ≡ Some (Position position)) key d.code
+          (λ same none. let never : Some Skipped ≡ Some (Position position) = none in absurd (cc))
+          (λ _ had. had) (sym (puts key) ∙ is),
+      λ had. puts key ∙ by_code (λ b. (if b then Some Skipped else target_of old key) ≡ Some (Position position))
+          key d.code (λ same. elim free [
+            | inl none ↦ let never : None ≡ Some (Position position) = sym none ∙ ap (target_of old) (sym same)
+                ∙ had in absurd (cc)
+            | inr left ↦ let never : Some Skipped ≡ Some (Position position) = sym left ∙ ap (target_of old) (sym same)
+                ∙ had in absurd (cc)
+          ]) (λ _. had),
+    )
+
     skip_firsts : (position : ℕ) (v : Variable) → slice_get old.kept.items position ≡ Some v
-        → HasFirst (with_skipped old targets) position v
+        → HasFirst (with_skipped old targets) (kept_variables (c.declared ++ d ∷ [])) position v
     skip_firsts position v at =
         let before = k.firsts position v at in
         record {
-          owned = puts v.code
-              ∙ by_code (λ b. (if b then Some Skipped else target_of old v.code) ≡ Some (Position v.first))
-              v.code d.code
-              (λ is. absurd (grind arith)) (λ _. before.owned);
+          owned = λ e declared. (skip_positions e.code v.first).1 (before.owned e
+              (ap (λ ds. slice_get ds position) (sym skip_kept) ∙ declared));
           no_later = before.no_later;
           same_size = before.same_size;
         }
@@ -151,10 +170,12 @@ module _ (old : Variables) (targets : CodeTargets) (c : ParseState) (d : Variabl
       skip_may (variable_of c d.code) (k.targets_agree d.code),
       (λ i. skipped i || nat_lt (length (kept_variables c.declared)) SIGNAL_LIMIT),
       record {
-        kept = ap (map without_scopes) (grind (arith, filter-append, append-nil)) ∙ k.kept;
+        kept = ap (map without_code) skip_kept ∙ k.kept;
         skipped = ap (λ n. n + 1) k.skipped ∙ sym (count_with c.declared d true skipped);
         widths = k.widths;
         targets_agree = skip_stands;
+        owners = subst (HaveOwnCodes (with_skipped old targets)) (sym skip_kept)
+            (λ code position is. k.owners code position ((skip_positions code position).0 is));
         firsts = skip_firsts;
         few = k.few;
         grouped = k.grouped;
@@ -164,9 +185,9 @@ module _ (old : Variables) (targets : CodeTargets) (c : ParseState) (d : Variabl
 
 -- ---- a variable that is kept
 
--- the variable of a code, a signal and the position of the first one
-abbrev pub variable_at : (code : List ℕ) → Signal → (first : ℕ) → Variable
-variable_at code s first = record { code = code; signal = s; first = first }
+-- the variable of a signal and the position of the first one with its code
+abbrev pub variable_at : Signal → (first : ℕ) → Variable
+variable_at s first = record { signal = s; first = first; hint = NO_HINT }
 
 -- the code is new, or is that of a variable of the same size
 abbrev pub IsFree : Variables → (code : List ℕ) → Signal → (first : ℕ) → Type 0
@@ -196,17 +217,16 @@ module _ (old new : Variables) (c : ParseState) (scopes : List ScopeName) (code 
     (k : VariablesMatch old c) (value_changes : c.value_changes ≡ []) (silent : s.wave.changes ≡ [])
     (bare : s.scopes ≡ [])
     (keeps : is_skipped (declaration_in scopes code s) ≡ false) (items : new.kept.items ≡ old.kept.items
-    ++ variable_at code s first ∷ [])
+    ++ variable_at s first ∷ [])
     (widths : new.widths.items ≡ old.widths.items ++ s.wave.width ∷ []) (log : new.log ≡ old.log)
     (free : IsFree old code s first)
     (puts : Puts old new code (Position first)) where
-  silent_wave : HasWave (old.kept.items ++ variable_at code s first ∷ []) (logged old.log.items)
+  silent_wave : HasWave (old.kept.items ++ variable_at s first ∷ []) (logged old.log.items)
       (length old.kept.items) code s.wave.width c.value_changes c.tick
   unfolding latest_value value_from
   silent_wave = record {
-    first = variable_at code s first;
-    at_position = middle_of old.kept.items [] (variable_at code s first);
-    coded = refl;
+    first = variable_at s first;
+    at_position = middle_of old.kept.items [] (variable_at s first);
     sized = refl;
     gives = grind (arith, cases_lt, slice_get_within, nil_from_length, gives_as, gives_nothing);
   }
@@ -214,7 +234,7 @@ module _ (old new : Variables) (c : ParseState) (scopes : List ScopeName) (code 
   keep_stands : (key : List ℕ) → TargetAgrees new c key (target_of new key)
       (variable_of (with_declaration c (declaration_in scopes code s)) key)
   keep_stands key =
-      let all = old.kept.items ++ variable_at code s first ∷ [] in
+      let all = old.kept.items ++ variable_at s first ∷ [] in
       let d = declaration_in scopes code s in
       let both =
       by_code (λ b. TargetMatches all (logged old.log.items) c.value_changes c.tick key
@@ -225,7 +245,7 @@ module _ (old new : Variables) (c : ParseState) (scopes : List ScopeName) (code 
       (grind (arith, silent_wave, stands_longer)))
       (λ _. stands_still (logged old.log.items) c.value_changes c.tick all key (target_of old key)
       (variable_of c key)
-      (stands_longer (logged old.log.items) c.value_changes c.tick old.kept.items (variable_at code s first ∷ [])
+      (stands_longer (logged old.log.items) c.value_changes c.tick old.kept.items (variable_at s first ∷ [])
       key (target_of old key) (variable_of c key) (k.targets_agree key))) in
       subst (λ (l : Vec (Vec LoggedChange)). TargetMatches new.kept.items (logged l.items) c.value_changes c.tick key
       (target_of new key) (variable_of (with_declaration c d) key)) (sym log)
@@ -237,40 +257,81 @@ module _ (old new : Variables) (c : ParseState) (scopes : List ScopeName) (code 
       (if bytes_eq key code then Some (Position first) else target_of old key))
       (sym (found_with key c.declared d)) both)))
 
+  kept_more : kept_variables (c.declared ++ declaration_in scopes code s ∷ [])
+      ≡ kept_variables c.declared ++ declaration_in scopes code s ∷ []
+  kept_more = kept_kept c.declared (declaration_in scopes code s) keeps
+
+  -- a code with a position keeps it
+  still_owned : (key : List ℕ) (position : ℕ) → target_of old key ≡ Some (Position position)
+      → target_of new key ≡ Some (Position position)
+  still_owned key position had =
+      puts key ∙ by_code (λ b. (if b then Some (Position first) else target_of old key) ≡ Some (Position position))
+      key code (λ same. elim free [
+        | inl (none, end) ↦ let never : None ≡ Some (Position position) = sym none ∙ ap (target_of old) (sym same)
+            ∙ had in absurd (cc)
+        | inr (has, width) ↦ sym has ∙ ap (target_of old) (sym same) ∙ had
+      ]) (λ _. had)
+
   -- the variables before it have the positions of their first ones
-  keep_earlier : (position : ℕ) (v : Variable) → slice_get old.kept.items position ≡ Some v → HasFirst new position v
+  keep_earlier : (position : ℕ) (v : Variable) → slice_get old.kept.items position ≡ Some v
+      → HasFirst new (kept_variables c.declared ++ declaration_in scopes code s ∷ []) position v
   keep_earlier position v at =
       let before = k.firsts position v at in
       let within : position < length old.kept.items = slice_get_within old.kept.items position v at in
       record {
-        owned = puts v.code
-            ∙ by_code (λ b. (if b then Some (Position first) else target_of old v.code)
-            ≡ Some (Position v.first))
-            v.code code
-            (λ is. elim free [
-              | inl (none, end) ↦ let no : None ≡ Some (Position v.first) = sym none
-                  ∙ ap (target_of old) (sym is)
-                  ∙ before.owned in absurd (cc)
-              | inr (had, width) ↦ sym had ∙ ap (target_of old) (sym is) ∙ before.owned
-            ])
-            (λ _. before.owned);
+        owned = λ e declared.
+            elim (either_of (kept_variables c.declared) (declaration_in scopes code s) position e declared) [
+              | inl stood ↦ still_owned e.code v.first (before.owned e stood)
+              | inr (end, is) ↦ absurd (omega (arith, within, end, kept_long old c k))
+            ];
         no_later = before.no_later;
         same_size = grind (arith, either_of);
       }
 
+  keep_owners : HaveOwnCodes new (kept_variables c.declared ++ declaration_in scopes code s ∷ [])
+  keep_owners key position is =
+      let d = declaration_in scopes code s in
+      let ds = kept_variables c.declared in
+      let stayed : target_of old key ≡ Some (Position position)
+      → (e : VariableDeclaration) × (slice_get (ds ++ d ∷ []) position ≡ Some e) × (e.code ≡ key) =
+      λ had. let e = k.owners key position had in (e.0, stays ds (d ∷ []) position e.0 e.1, e.2) in
+      by_code (λ b. (if b then Some (Position first) else target_of old key) ≡ Some (Position position)
+      → (e : VariableDeclaration) × (slice_get (ds ++ d ∷ []) position ≡ Some e) × (e.code ≡ key)) key code
+      (λ same here. elim free [
+        | inl (none, end) ↦ (
+          d,
+          ap (slice_get (ds ++ d ∷ [])) (one_position position first (sym here) ∙ end ∙ sym (kept_long old c k))
+              ∙ middle_of ds [] d,
+          sym same,
+        )
+        | inr (had, width) ↦ stayed (ap (target_of old) same ∙ had ∙ here)
+      ]) (λ _ had. stayed had) (sym (puts key) ∙ is)
+
   first_within : first ≤ length old.kept.items
   first_within = grind (arith, stands_kept, slice_get_within)
 
-  keep_firsts : (position : ℕ) (v : Variable) → slice_get new.kept.items position ≡ Some v → HasFirst new position v
+  keep_firsts : (position : ℕ) (v : Variable) → slice_get new.kept.items position ≡ Some v
+      → HasFirst new (kept_variables c.declared ++ declaration_in scopes code s ∷ []) position v
   keep_firsts position v at =
-      elim (either_of old.kept.items (variable_at code s first) position v
+      elim (either_of old.kept.items (variable_at s first) position v
       (subst (λ vs. slice_get vs position ≡ Some v) items at)) [
         | inl stood ↦ keep_earlier position v stood
-        | inr (end, is) ↦ subst (HasFirst new position) is (record {
-          owned = puts code ∙ ap (λ b. if b then Some (Position first) else target_of old code) (own_code code);
-          no_later = omega (arith, end, first_within);
-          same_size = λ w there. (grind (arith, either_of, slice_get_within));
-        })
+        | inr (end, is) ↦ subst (HasFirst new (kept_variables c.declared
+            ++ declaration_in scopes code s ∷ []) position) is (record {
+              owned = λ e declared.
+                  elim (either_of (kept_variables c.declared) (declaration_in scopes code s) position e declared) [
+                    | inl stood ↦ absurd (omega (
+                      arith,
+                      end,
+                      kept_long old c k,
+                      slice_get_within (kept_variables c.declared) position e stood,
+                    ))
+                    | inr (last, same) ↦ ap (λ (x : VariableDeclaration). target_of new x.code) (sym same) ∙ puts code
+                        ∙ ap (λ b. if b then Some (Position first) else target_of old code) (own_code code)
+                  ];
+              no_later = omega (arith, end, first_within);
+              same_size = λ w there. (grind (arith, either_of, slice_get_within));
+            })
       ]
 
   -- it is declared
@@ -281,13 +342,15 @@ module _ (old new : Variables) (c : ParseState) (scopes : List ScopeName) (code 
         keep_may old c scopes code s first k keeps free (variable_of c code) (k.targets_agree code),
         has_room_is old c scopes code s first k keeps free true (lt-ltb (length old.kept.items) SIGNAL_LIMIT room),
         record {
-          kept = grind (arith, kept_kept, map-append);
+          kept = grind (arith, kept_more, map-append);
           skipped = same ∙ k.skipped ∙ omega arith ∙ sym (count_with c.declared d false keeps);
           widths = grind (arith, map-append);
           targets_agree = keep_stands;
-          firsts = keep_firsts;
+          owners = subst (HaveOwnCodes new) (sym kept_more) keep_owners;
+          firsts = subst (λ ds. (position : ℕ) (v : Variable) → slice_get new.kept.items position ≡ Some v
+              → HasFirst new ds position v) (sym kept_more) keep_firsts;
           few = subst (λ vs. length vs ≤ SIGNAL_LIMIT) (sym items)
-              (omega (arith, room, length_push old.kept.items (variable_at code s first)));
+              (omega (arith, room, length_push old.kept.items (variable_at s first)));
           grouped = subst (λ (l : Vec (Vec LoggedChange)). AreGrouped 0 l.items) (sym log) k.grouped;
           logs = grind (arith, stays);
         },
@@ -299,7 +362,7 @@ pub push_declares : (old new : Variables) (c : ParseState) (scopes : List ScopeN
     → VariablesMatch old c → c.value_changes ≡ [] → s.wave.changes ≡ [] → s.scopes ≡ []
     → is_skipped (declaration_in scopes code s) ≡ false → IsFree old code s first
     → OnOk result (length old.kept.items < SIGNAL_LIMIT)
-    → OnOk result (new.kept.items ≡ old.kept.items ++ variable_at code s first ∷ [])
+    → OnOk result (new.kept.items ≡ old.kept.items ++ variable_at s first ∷ [])
     → OnOk result (new.widths.items ≡ old.widths.items ++ s.wave.width ∷ []) → new.log ≡ old.log
     → OnOk result (Puts old new code (Position first)) → new.skipped ≡ old.skipped
     → IfErr result (λ fault. (fault ≡ faults.NoMemory)

@@ -1,10 +1,8 @@
 -- A declaration after the next of its words.
-use Rattle.std.proofs.Common.{◌≡◌, ℕ, ◌-◌, ◌<◌, true, false, ◌&&◌, List, [], ◌∷◌, ◌++◌, length, take, Option}
+use Rattle.std.proofs.Common.{◌≡◌, ℕ, ◌-◌, ◌<◌, true, false, List, [], ◌∷◌, ◌++◌, length, take, Option}
 use Rattle.std.proofs.Common.{Some, None, IsSome, IsTrue, IsFalse, Result, Ok, Err, IsErrAnd, slice_index_or, is_some}
 use Rattle.std.proofs.Common.{MatchOption, ◌⊎◌, codes, refl, sym, ap, subst, ◌∙◌, arith, inl, inr}
 use Rattle.std.specs.List.{remove}
-use Rattle.std.proofs.lemmas.List.{map-append}
-use Rattle.std.proofs.lemmas.List.Folds.{list_all-append}
 use Rattle.std.proofs.lemmas.Bool.{and_parts}
 use Rattle.vcd_core.specs.declared.capture.HeaderKind.{HeaderKind}
 use Rattle.vcd_core.specs.declared.capture.Timescale.{Timescale}
@@ -21,13 +19,12 @@ use Rattle.vcd_text.specs.inside.Scopes.{HoldsScopes}
 use Rattle.vcd_text.specs.inside.Variables.{VariablesMatch, Declares, VariableFault}
 use Rattle.vcd_text.specs.inside.Reading.{ReaderMatches, Collects, PassesOver, IsBegun, IsAtState, WordStep, goes_on}
 use Rattle.vcd_text.specs.inside.Reading.{ends_item, WordResult}
-use Rattle.vcd_text.specs.declared.reading.code_targets.CodeTargets.{CodeTargets}
 use Rattle.vcd_text.specs.declared.reading.reader.Reader.{Reader}
 use Rattle.vcd_text.specs.declared.reading.reader.OpenItem.TheVariants as items
 use Rattle.vcd_text.specs.declared.reading.scopes.Scopes.{Scopes}
 use Rattle.vcd_text.specs.declared.reading.variables.Variables.{Variables}
-use Rattle.vcd_text.proofs.VariablesMatch.{same_codes, knows_further}
-use Rattle.vcd_text.proofs.DeclaredVariables.{kept_long}
+use Rattle.vcd_text.proofs.VariablesMatch.{knows_further}
+use Rattle.vcd_text.proofs.VariablesMatch.{kept_long}
 use Rattle.vcd_text.proofs.HeldScopes.{so_deep}
 use Rattle.vcd_text.proofs.FileAnswers.{texts_more}
 use Rattle.vcd_text.proofs.WordOutcomes.{no_end_more}
@@ -141,26 +138,18 @@ closes_upscope m new is popped others line c begun at =
     (same_known m.variables c (state_after_item c upscope) refl refl refl a.variables) a.no_early_change) refl)
 
 -- the changes begin
-pub closes_definitions : (m : Reader) (code_targets : CodeTargets) → code_targets.codes ≡ m.variables.code_targets.codes
-    → m.item ≡ items.EndDefinitions → (line : ℕ) (c : ParseState) (begun : List PlacedWord) → IsAtState m c begun
-    → WordStep c (begun ++ word_on end_word line ∷ []) (record m {
-      variables = record m.variables { code_targets = code_targets };
-      in_body = true;
-      item = items.Nothing;
-    })
-closes_definitions m code_targets same is line c begun at =
+pub closes_definitions : (m : Reader) → m.item ≡ items.EndDefinitions
+    → (line : ℕ) (c : ParseState) (begun : List PlacedWord) → IsAtState m c begun
+    → WordStep c (begun ++ word_on end_word line ∷ []) (record m { in_body = true; item = items.Nothing })
+closes_definitions m is line c begun at =
     let a = at.0 in
     let b : IsFalse m.in_body × (word_texts begun ≡ codes "$enddefinitions" ∷ []) =
     subst (IsBegun m begun) is at.1 in
-    ends_here (record m {
-      variables = record m.variables { code_targets = code_targets };
-      in_body = true;
-      item = items.Nothing;
-    }) c begun line end_definitions (codes "$enddefinitions" ∷ [])
+    ends_here (record m { in_body = true; item = items.Nothing }) c begun line end_definitions
+    (codes "$enddefinitions" ∷ [])
     b.1 refl (sym a.in_body ∙ b.0)
     (agrees_by _ _ a.header a.timescale a.scopes refl a.tick
-    (same_codes m.variables code_targets (state_after_item c end_definitions) same
-    (same_known m.variables c (state_after_item c end_definitions) refl refl refl a.variables))
+    (same_known m.variables c (state_after_item c end_definitions) refl refl refl a.variables)
     (λ _. a.no_early_change (sym a.in_body ∙ b.0))) refl
 
 -- another command changes nothing

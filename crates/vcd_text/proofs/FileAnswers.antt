@@ -12,7 +12,7 @@ use Rattle.vcd_text.specs.declared.fault.Fault.TheVariants.{Truncated}
 use Rattle.vcd_text.specs.Words.{PlacedWord, words_of, last_line}
 use Rattle.vcd_text.specs.Items.{Item, spelling, spellings}
 use Rattle.vcd_text.specs.Grammar.{ParseState, Allows, Accepts, state_after_item, initial_state, word_texts}
-use Rattle.vcd_text.specs.Faults.{WordFault, fault_line, ShowsFault}
+use Rattle.vcd_text.specs.Faults.{fault_line, ShowsFault}
 use Rattle.vcd_text.specs.FoundFaults.{FoundFault}
 use Rattle.vcd_text.specs.FoundFaults.{IsUnfinished, declaration_due, Stops}
 use Rattle.vcd_text.specs.FoundFaults.{word_shows}

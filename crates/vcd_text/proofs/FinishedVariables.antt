@@ -1,50 +1,65 @@
 -- The signals of the variables.
-use Rattle.std.proofs.Common.{◌≡◌, ℕ, zero, suc, List, [], ◌∷◌, ◌++◌, length, map, drop, false, None, Some, inl, inr}
-use Rattle.std.proofs.Common.{refl, ap, subst, ◌∙◌, arith}
+use Rattle.std.proofs.Common.{◌≡◌, ℕ, zero, suc, List, [], ◌∷◌, ◌++◌, length, map, take, drop, false, None, Some, inl, inr}
+use Rattle.std.proofs.Common.{sym, ap, subst, ◌∙◌, arith}
 use Rattle.std.specs.Prelude.{slice_get}
-use Rattle.std.proofs.lemmas.List.{length-map}
-use Rattle.std.proofs.lemmas.Option.{same_Some, slice_get_cases}
+use Rattle.std.proofs.lemmas.List.{append-nil, nil_from_length, length-map, map-append, length_push, take_more, take_all, length-take}
+use Rattle.std.proofs.lemmas.Option.{same_Some, slice_get_cases, slice_get_within, get_or_from_slice_get}
 use Rattle.vcd_core.specs.declared.wave.Change.{Change}
 use Rattle.vcd_core.specs.declared.capture.Signal.{Signal}
 use Rattle.vcd_core.specs.Value.{all_x}
 use Rattle.vcd_core.specs.Wave.{changes_of, IsWave}
 use Rattle.vcd_core.specs.Contents.{SignalContents, signal_contents}
 use Rattle.vcd_core.proofs.Waves.{wave_is}
-use Rattle.vcd_text.specs.Grammar.{VariableDeclaration, ParseState, is_skipped, variable_of}
+use Rattle.vcd_text.specs.Grammar.{VariableDeclaration, ParseState, is_skipped, variable_of, kept_variables}
 use Rattle.vcd_text.specs.Meaning.{latest_value, declared_signal}
-use Rattle.vcd_text.specs.inside.Variables.{declaration, HasWave, VariablesMatch, Finishes}
+use Rattle.vcd_text.specs.inside.Variables.{declaration, without_scopes, without_code, target_of, HasWave}
+use Rattle.vcd_text.specs.inside.Variables.{VariablesMatch, Finishes}
+use Rattle.vcd_text.specs.declared.reading.code_targets.CodeTarget.TheVariants.{Position}
 use Rattle.vcd_text.specs.declared.reading.variables.Variable.{Variable}
 use Rattle.vcd_text.specs.declared.reading.variables.Variables.{Variables}
 use Rattle.vcd_text.specs.inside.ChangeLog.{logged}
 use Rattle.vcd_text.proofs.LoggedValues.{gives_late}
 use Rattle.vcd_text.proofs.WaveChanges.{ended_upto}
 use Rattle.vcd_text.proofs.CodeTargets.{stands_kept}
-use Rattle.vcd_text.proofs.DeclaredVariables.{stays, middle_of}
+use Rattle.vcd_text.proofs.DeclaredVariables.{middle_of}
+use Rattle.vcd_text.proofs.VariablesMatch.{declared_at, kept_long}
 
--- the variable of a signal
-variable_after : (f : Variable → SignalContents) (vs : List Variable) (signals : List Signal) (position : ℕ)
-    (s : Signal) → map signal_contents signals ≡ map f vs
-    → slice_get signals position ≡ Some s → (w : Variable) × (slice_get vs position ≡ Some w)
-    × (signal_contents s ≡ f w)
-variable_after f vs [] position s same at = let never : None ≡ Some s = at in absurd (cc)
-variable_after f [] (x ∷ signals) position s same at = absurd (omega (arith, ap (length {A = SignalContents}) same))
-variable_after f (v ∷ vs) (x ∷ signals) zero s same at = grind (arith, same_Some)
-variable_after f (v ∷ vs) (x ∷ signals) (suc n) s same at = variable_after f vs signals n s (ap (drop 1) same) at
+-- the signals of the first declarations
+abbrev pub declared_signals : ParseState → ℕ → List SignalContents
+declared_signals c n =
+    map (declared_signal c.value_changes c.tick) (map without_scopes (take n (kept_variables c.declared)))
 
-map_twice : (f : VariableDeclaration → SignalContents) (vs : List Variable)
-    → map f (map declaration vs) ≡ map (λ v. f (declaration v)) vs
-map_twice f [] = refl
-map_twice f (v ∷ vs) = ap (λ l. f (declaration v) ∷ l) (map_twice f vs)
+-- the declaration of a signal
+declaration_after : (f : VariableDeclaration → SignalContents) (ds : List VariableDeclaration) (n : ℕ)
+    (signals : List Signal) (position : ℕ)
+    (s : Signal) → map signal_contents signals ≡ map f (map without_scopes (take n ds))
+    → slice_get signals position ≡ Some s → (d : VariableDeclaration) × (slice_get ds position ≡ Some d)
+    × (signal_contents s ≡ f (without_scopes d))
+declaration_after f ds n [] position s same at = let never : None ≡ Some s = at in absurd (cc)
+declaration_after f ds zero (x ∷ signals) position s same at =
+    absurd (omega (arith, ap (length {A = SignalContents}) same))
+declaration_after f [] (suc n) (x ∷ signals) position s same at =
+    absurd (omega (arith, ap (length {A = SignalContents}) same))
+declaration_after f (d ∷ ds) (suc n) (x ∷ signals) zero s same at = grind (arith, same_Some)
+declaration_after f (d ∷ ds) (suc n) (x ∷ signals) (suc k) s same at =
+    declaration_after f ds n signals k s (ap (drop 1) same) at
 
 module _ (vs : Variables) (c : ParseState) (yielded rest : List Variable) (v : Variable) (signals : List Signal)
     (k : VariablesMatch vs c) (empty : vs.log.items ≡ []) (all : vs.kept.items ≡ yielded ++ v ∷ rest)
-    (equal : map signal_contents signals ≡ map (declared_signal c.value_changes c.tick) (map declaration yielded)) where
+    (equal : map signal_contents signals ≡ declared_signals c (length yielded)) where
   stands_at : slice_get vs.kept.items (length yielded) ≡ Some v
   stands_at = ap (λ l. slice_get l (length yielded)) all ∙ middle_of yielded rest v
 
-  own_wave : (d : VariableDeclaration) × (variable_of c v.code ≡ Some d) × (is_skipped d ≡ false)
-      × HasWave vs.kept.items (logged vs.log.items) v.first v.code d.size c.value_changes c.tick
-  own_wave = grind (arith, stands_kept, stands_at)
+  own_declaration : (d : VariableDeclaration) × (slice_get (kept_variables c.declared) (length yielded) ≡ Some d)
+      × (without_code d ≡ declaration v)
+  own_declaration = declared_at vs c k (length yielded) v stands_at
+
+  owned : target_of vs own_declaration.0.code ≡ Some (Position v.first)
+  owned = (k.firsts (length yielded) v stands_at).owned own_declaration.0 own_declaration.1
+
+  own_wave : (e : VariableDeclaration) × (variable_of c own_declaration.0.code ≡ Some e) × (is_skipped e ≡ false)
+      × HasWave vs.kept.items (logged vs.log.items) v.first own_declaration.0.code e.size c.value_changes c.tick
+  own_wave = grind (arith, stands_kept, owned)
 
   -- the changes of a variable of this size and code
   changes_by : ℕ → List ℕ → List Change
@@ -52,7 +67,7 @@ module _ (vs : Variables) (c : ParseState) (yielded rest : List Variable) (v : V
 
   -- the first variable of its code has its own wave
   first_means : v.first ≡ length yielded → IsWave v.signal.wave.width v.signal.wave.changes
-      → signal_contents v.signal ≡ declared_signal c.value_changes c.tick (declaration v)
+      → signal_contents v.signal ≡ declared_signal c.value_changes c.tick (without_scopes own_declaration.0)
   unfolding changes_by
   first_means end is = grind (arith, own_wave, same_Some, stands_at, gives_late, wave_is, ended_upto)
 
@@ -63,20 +78,75 @@ module _ (vs : Variables) (c : ParseState) (yielded rest : List Variable) (v : V
     words = v.signal.words;
     width = s.wave.width;
     changes = s.wave.changes;
-  } → signal_contents signal ≡ declared_signal c.value_changes c.tick (declaration v)
+  } → signal_contents signal ≡ declared_signal c.value_changes c.tick (without_scopes own_declaration.0)
   unfolding changes_by
-  later_means s signal at takes = grind (arith, variable_after, map_twice, stays, own_wave, same_Some, stands_at)
+  later_means s signal at takes =
+      let d = declaration_after (declared_signal c.value_changes c.tick) (kept_variables c.declared) (length yielded)
+      signals v.first s equal at in
+      let o = k.owners own_declaration.0.code v.first owned in
+      let own = own_declaration in
+      let code : d.0.code ≡ own.0.code =
+      ap (λ (e : VariableDeclaration). e.code) (same_Some d.0 o.0 (sym d.1 ∙ o.1)) ∙ o.2 in
+      let w = own_wave.3.first in
+      let e = declared_at vs c k v.first w own_wave.3.at_position in
+      let size : d.0.size ≡ own.0.size =
+      ap (λ (x : VariableDeclaration). x.size) (same_Some d.0 e.0 (sym d.1 ∙ e.1))
+      ∙ ap (λ (x : VariableDeclaration). x.size) e.2
+      ∙ (k.firsts (length yielded) v stands_at).same_size w own_wave.3.at_position
+      ∙ sym (ap (λ (x : VariableDeclaration). x.size) own.2) in
+      let scopes = ap (λ (x : VariableDeclaration). x.scopes) own.2 in
+      let kind = ap (λ (x : VariableDeclaration). x.kind) own.2 in
+      let words = ap (λ (x : VariableDeclaration). x.words) own.2 in
+      let width = ap (λ (x : SignalContents). x.width) d.2 ∙ size in
+      let changes = ap (λ (x : SignalContents). x.changes) d.2 ∙ (λ i. changes_by (size i) (code i)) in
+      takes ∙ (λ i. record {
+        scopes = sym scopes i;
+        kind = sym kind i;
+        words = sym words i;
+        width = width i;
+        changes = changes i;
+      })
 
   -- the signal of a variable is the one that it declares
-  pub finishes_as_declared : (signal : Signal) → Finishes v (slice_get signals v.first) signal
-      → signal_contents signal ≡ declared_signal c.value_changes c.tick (declaration v)
+  finishes_as_declared : (signal : Signal) → Finishes v (slice_get signals v.first) signal
+      → signal_contents signal ≡ declared_signal c.value_changes c.tick (without_scopes own_declaration.0)
   finishes_as_declared signal finishes = elim (slice_get_cases signals v.first).1 [
     | inl (s, within, at, read) ↦ later_means s signal at (subst (λ o. Finishes v o signal) at finishes)
     | inr (past, at) ↦
         let own : Finishes v None signal = subst (λ o. Finishes v o signal) at finishes in
-        let long : length signals ≡ length yielded = grind (arith, length-map) in
+        let within = slice_get_within (kept_variables c.declared) (length yielded) own_declaration.0 own_declaration.1 in
+        let long : length signals ≡ length yielded = grind (arith, length-map, length-take) in
         let end : v.first ≡ length yielded =
         omega (arith, past, long, (k.firsts (length yielded) v stands_at).no_later) in
         ap signal_contents own.0
         ∙ first_means end (subst (λ (x : Signal). IsWave x.wave.width x.wave.changes) own.0 own.1)
   ]
+
+  -- with it the signals are those of one more declaration
+  pub next_finishes : (signal : Signal) → Finishes v (slice_get signals v.first) signal
+      → map signal_contents signals ++ signal_contents signal ∷ [] ≡ declared_signals c (length (yielded ++ v ∷ []))
+  next_finishes signal finishes =
+      let d = own_declaration in
+      let ds = kept_variables c.declared in
+      let within = slice_get_within ds (length yielded) d.0 d.1 in
+      let more : take (length (yielded ++ v ∷ [])) ds ≡ take (length yielded) ds ++ d.0 ∷ [] =
+      ap (λ n. take n ds) (length_push yielded v) ∙ take_more ds (length yielded) d.0 within
+      ∙ ap (λ e. take (length yielded) ds ++ e ∷ []) (get_or_from_slice_get ds (length yielded) d.0 d.0 d.1) in
+      grind (arith, map-append, finishes_as_declared)
+
+-- the signals of all declarations
+all_declared : (vs : Variables) (c : ParseState) → VariablesMatch vs c
+    → declared_signals c (length vs.kept.items)
+    ≡ map (declared_signal c.value_changes c.tick) (map without_scopes (kept_variables c.declared))
+all_declared vs c k = grind (arith, kept_long, take_all)
+
+-- so they are all of them once no variable is left
+pub finished : (vs : Variables) (c : ParseState) (yielded rest : List Variable) (signals : List Signal)
+    → VariablesMatch vs c → vs.kept.items ≡ yielded ++ rest → length rest ≡ 0
+    → map signal_contents signals ≡ declared_signals c (length yielded)
+    → map signal_contents signals
+    ≡ map (declared_signal c.value_changes c.tick) (map without_scopes (kept_variables c.declared))
+finished vs c yielded rest signals k all empty equal =
+    let none : rest ≡ [] = nil_from_length rest empty in
+    let same : yielded ≡ vs.kept.items = sym (all ∙ ap (λ l. yielded ++ l) none ∙ append-nil yielded) in
+    equal ∙ ap (λ l. declared_signals c (length {A = Variable} l)) same ∙ all_declared vs c k

@@ -1,17 +1,22 @@
 -- Variables that take their changes of the log.
 use Rattle.std.proofs.Common.{◌≡◌, ℕ, suc, ◌<◌, true, false, ◌==◌, cond, List, [], ◌∷◌, ◌++◌, length, map, set}
-use Rattle.std.proofs.Common.{Some, inl, inr, refl, sym, ap, subst, ◌∙◌, arith}
+use Rattle.std.proofs.Common.{All, Option, Some, inl, inr, refl, sym, ap, subst, ◌∙◌, arith}
 use Rattle.std.specs.Prelude.{slice_get}
 use Rattle.std.specs.Global.{Vec}
-use Rattle.std.proofs.lemmas.Bool.{eqb-true, cases_Bool}
+use Rattle.std.specs.List.{fold}
+use Rattle.std.specs.Option.{option_map_or}
+use Rattle.std.proofs.lemmas.Bool.{eqb-true, cases_Bool, cases_eq}
+use Rattle.std.proofs.lemmas.List.Elements.{All-nil, All-cons}
 use Rattle.std.proofs.lemmas.Option.{same_Some, slice_get_within, slice_get_cases}
 use Rattle.vcd_core.specs.declared.bit.Bit.{Bit}
 use Rattle.vcd_core.specs.Value.{all_x}
-use Rattle.vcd_text.specs.Grammar.{ParseState, variable_of}
+use Rattle.vcd_core.specs.declared.capture.Signal.{Signal}
+use Rattle.vcd_text.specs.Grammar.{ParseState, kept_variables}
 use Rattle.vcd_text.specs.Meaning.{latest_value}
 use Rattle.vcd_text.specs.inside.ChangeLog.{GivesLoggedValues, changes_of_position, logged, AreGrouped, CanTake}
-use Rattle.vcd_text.specs.inside.ChangeLog.{AppliesToVariable, AppliesLogged, CanFlush, FlushesOne, FlushesLog}
-use Rattle.vcd_text.specs.inside.Variables.{declaration, target_of, HasWave, HasFirst, VariablesMatch}
+use Rattle.vcd_text.specs.inside.ChangeLog.{AppliesLogged, CanFlush, FlushesOne, FlushesLog}
+use Rattle.vcd_text.specs.inside.ChangeLog.{counted_variable, counted}
+use Rattle.vcd_text.specs.inside.Variables.{target_of, HasWave, HasFirst, VariablesMatch}
 use Rattle.vcd_text.specs.declared.reading.code_targets.CodeTarget.TheVariants.{Position}
 use Rattle.vcd_text.specs.declared.reading.change_log.LoggedChange.{LoggedChange}
 use Rattle.vcd_text.specs.declared.reading.variables.Variable.{Variable}
@@ -19,11 +24,8 @@ use Rattle.vcd_text.specs.declared.reading.variables.Variables.{Variables}
 use Rattle.vcd_text.proofs.LoggedValues.{gives_narrow, gives_first, gives_flushed}
 use Rattle.vcd_text.proofs.ChangedVariables.{set_here, set_there, own_wave, with_changes}
 use Rattle.vcd_text.proofs.CodeTargets.{stands_moved}
+use Rattle.vcd_text.proofs.VariablesMatch.{declared_at}
 use Rattle.std.proofs.lemmas.List.{length-set}
-
--- ---- one variable
-
--- ---- all variables
 
 pub flushes_then : (us vs ws : List Variable) (log rest last : ℕ → List LoggedChange) → FlushesLog us vs log rest
     → FlushesLog vs ws rest last → FlushesLog us ws log last
@@ -82,15 +84,93 @@ pub more_left : (e : LoggedChange) (es rest : List LoggedChange) (position : ℕ
     → 0 < length (changes_of_position position es ++ rest) → 0 < length (changes_of_position position (e ∷ es) ++ rest)
 more_left e es rest position some = grind arith
 
+-- ---- changes that are counted
+
+-- the first change of a group has its position
+some_here : (e : LoggedChange) (es rest : List LoggedChange)
+    → 0 < length (changes_of_position e.position (e ∷ es) ++ rest)
+some_here e es rest =
+    subst (λ b. 0 < length (cond b (e ∷ changes_of_position e.position es) (changes_of_position e.position es) ++ rest))
+    (sym (own_place e es (λ _. rest))) (grind arith)
+
+-- each change is one of a variable
+pub all_within : (kept : List Variable) (es : List LoggedChange) (rest : ℕ → List LoggedChange)
+    → ((position : ℕ) → 0 < length (changes_of_position position es ++ rest position)
+    → (v : Variable) × (slice_get kept position ≡ Some v))
+    → All (λ (e : LoggedChange). e.position < length kept) es
+all_within kept [] rest has = grind (arith, All-nil)
+all_within kept (e ∷ es) rest has =
+    let here = has e.position (some_here e es (rest e.position)) in
+    All-cons (λ (x : LoggedChange). x.position < length kept) e es
+    (slice_get_within kept e.position here.0 here.1)
+    (all_within kept es rest (λ position some. has position (more_left e es (rest position) position some)))
+
+-- nothing but the hint changes
+hinted : (v w : Variable) (log : List LoggedChange) → w.signal ≡ v.signal → w.first ≡ v.first → FlushesOne v w log log
+hinted v w log signal first = record {
+  same = record {
+    scopes = ap (λ (s : Signal). s.scopes) signal;
+    kind = ap (λ (s : Signal). s.kind) signal;
+    words = ap (λ (s : Signal). s.words) signal;
+    width = ap (λ (s : Signal). s.wave.width) signal;
+    first = first;
+  };
+  gives = λ tick f gives. subst (λ (s : Signal). GivesLoggedValues s.wave.width tick f s.wave.changes log) (sym signal)
+      gives;
+}
+
+none_taken : (kept : List Variable) (log : ℕ → List LoggedChange) → FlushesLog kept kept log log
+none_taken kept log = record {
+  long = refl;
+  each = λ position v at. (v, at, hinted v v (log position) refl refl);
+}
+
+counted_next : (kept : List Variable) (e : LoggedChange) (log : ℕ → List LoggedChange)
+    → FlushesLog kept (counted kept e) log log
+counted_next kept e log =
+    let with_hint : Option Variable → List Variable =
+    λ o. option_map_or (λ (v : Variable). set kept e.position (counted_variable v e)) o kept in
+    elim (slice_get_cases kept e.position).1 [
+      | inl (v, within, at, read) ↦
+          subst (λ vs. FlushesLog kept vs log log) (sym (ap with_hint at)) (record {
+            long = length-set kept e.position (counted_variable v e);
+            each = λ position u there. elim (cases_eq e.position position) [
+              | inl same ↦
+                  let is : v ≡ u = same_Some v u (sym at ∙ ap (slice_get kept) same ∙ there) in (
+                    counted_variable v e,
+                    ap (slice_get (set kept e.position (counted_variable v e))) (sym same)
+                        ∙ set_here kept e.position v (counted_variable v e) at,
+                    subst (λ x. FlushesOne x (counted_variable v e) (log position) (log position)) is
+                        (hinted v (counted_variable v e) (log position) refl refl),
+                  )
+              | inr other ↦ (
+                u,
+                set_there kept e.position position (counted_variable v e) other ∙ there,
+                hinted u u (log position) refl refl,
+              )
+            ];
+          })
+      | inr (past, none) ↦ subst (λ vs. FlushesLog kept vs log log) (sym (ap with_hint none)) (none_taken kept log)
+    ]
+
+pub all_counted : (es : List LoggedChange) (kept : List Variable) (log : ℕ → List LoggedChange)
+    → FlushesLog kept (fold counted kept es) log log
+all_counted [] kept log = none_taken kept log
+all_counted (e ∷ es) kept log =
+    flushes_then kept (counted kept e) (fold counted (counted kept e) es) log log log (counted_next kept e log)
+    (all_counted es (counted kept e) log)
+
 -- ---- the variables of a reader
 
 pub variables_can_flush : (vs : Variables) (c : ParseState) → VariablesMatch vs c
     → CanFlush vs.kept.items (logged vs.log.items)
 variables_can_flush vs c k = λ position some.
     let u = k.logs position some in
-    let had : target_of vs u.0.code ≡ Some (Position position) = grind arith in
-    let own = own_wave vs c u.0.code [] position k had in
-    let f : ℕ → List Bit = λ t. latest_value own.0.size u.0.code t (all_x own.0.size) c.value_changes in
+    let d = declared_at vs c k position u.0 u.1 in
+    let had : target_of vs d.0.code ≡ Some (Position position) =
+    (k.firsts position u.0 u.1).owned d.0 d.1 ∙ ap (λ n. Some (Position n)) u.2 in
+    let own = own_wave vs c d.0.code [] position k had in
+    let f : ℕ → List Bit = λ t. latest_value own.0.size d.0.code t (all_x own.0.size) c.value_changes in
     let wave = own.3 in (
       wave.first,
       wave.at_position,
@@ -136,13 +216,12 @@ module _ (old : Variables) (list : Vec Variable) (log : Vec (Vec LoggedChange)) 
   flushed_wave position code size wave = grind arith
 
   flushed_firsts : (position : ℕ) (w : Variable) → slice_get list.items position ≡ Some w
-      → HasFirst (with_changes old list log) position w
+      → HasFirst (with_changes old list log) (kept_variables c.declared) position w
   flushed_firsts position w at =
       let v = stood position w at in
       let before = k.firsts position v.0 v.1 in
       record {
-        owned = ap (target_of old) v.2.same.code ∙ before.owned
-            ∙ ap (λ n. Some (Position n)) (sym v.2.same.first);
+        owned = λ d declared. before.owned d declared ∙ ap (λ n. Some (Position n)) (sym v.2.same.first);
         no_later = omega (arith, v.2.same.first, before.no_later);
         same_size = grind (arith, stood);
       }
@@ -154,6 +233,7 @@ module _ (old : Variables) (list : Vec Variable) (log : Vec (Vec LoggedChange)) 
     skipped = k.skipped;
     widths = grind (arith, same_all);
     targets_agree = grind (arith, stands_moved, flushed_wave);
+    owners = k.owners;
     firsts = flushed_firsts;
     few = omega (arith, flushes_log.long, k.few);
     grouped = subst (AreGrouped 0) (sym empty) tt;

@@ -1,11 +1,8 @@
 -- The front of some words: a whole item, a fault, the beginning of an item, or nothing. It is a function of the words,
 -- so the grammar gives one result.
-use Rattle.std.proofs.Common.{◌≡◌, ℕ, suc, ◌<◌, ◌≤◌, Bool, true, false, cond, ◌&&◌, ◌||◌, List, [], ◌∷◌, ◌++◌}
+use Rattle.std.proofs.Common.{◌≡◌, ℕ, suc, ◌<◌, Bool, true, false, cond, List, [], ◌∷◌, ◌++◌}
 use Rattle.std.proofs.Common.{length, Option, Some, None, IsSome, IsSomeAnd, IsTrue, nat_lt, codes, bytes_eq}
-use Rattle.std.proofs.Common.{refl, sym, ap, subst, ◌∙◌, append_assoc, arith, inl, inr}
-use Rattle.std.specs.Prelude.{nat_eq, ◌==◌}
-use Rattle.std.specs.List.{AllByRecursion}
-use Rattle.std.proofs.lemmas.Slice.Eq.{bytes_eq-Decides}
+use Rattle.std.proofs.Common.{refl, sym, ap, ◌∙◌, append_assoc, arith}
 use Rattle.std.proofs.lemmas.Bool.{and_parts, or_cases, not-true, cases_Bool, false≢true, eqb-true}
 use Rattle.std.proofs.lemmas.Bool.{leb-true, le-ltb, lt-ltb, cond-true, cond-false}
 use Rattle.vcd_core.specs.declared.capture.HeaderKind.TheVariants.{Date, Version, Comment}
@@ -24,10 +21,9 @@ use Rattle.vcd_text.specs.Items.{has_no_end_word, dump_words, declaration_words,
 use Rattle.vcd_text.specs.Items.{is_other, timescale_of, vector_prefixes, real_or_string_prefixes}
 use Rattle.vcd_text.specs.Grammar.{ParseState, VariableDeclaration, Allows, is_skipped, has_good_size, declaration_of}
 use Rattle.vcd_text.specs.Grammar.{variable_of, may_have_code, has_room, is_tick, is_binary_number, takes_binary_number}
-use Rattle.vcd_text.specs.Faults.{DeclarationFault, ChangeFault, WordFault, pair_prefixes, no_declaration}
+use Rattle.vcd_text.specs.Faults.{ChangeFault, WordFault, pair_prefixes}
 use Rattle.vcd_text.specs.FoundFaults.{IsUnfinished}
-use Rattle.vcd_text.specs.Faults.{no_timescale, no_kind, upscope_at_top, upscope_goes_on, no_size, no_variable}
-use Rattle.vcd_text.specs.Faults.{code_mixed, no_room, definitions_go_on, no_tick, tick_goes_back, missing_code}
+use Rattle.vcd_text.specs.Faults.{no_tick, tick_goes_back, missing_code}
 use Rattle.vcd_text.specs.Faults.{unknown_scalar_code, unknown_pair_code, no_value, value_too_long}
 use Rattle.vcd_text.specs.Faults.{declaration_late, begins_no_change}
 use Rattle.vcd_text.specs.Faults.{among_declarations, among_changes}

@@ -4,7 +4,6 @@ use Rattle.std.proofs.Common.{take, drop, replicate, refl, sym, ap, ap₂, subst
 use Rattle.std.proofs.Common.{append-nil, Option}
 use Rattle.std.specs.List.{list_all, common_prefix_len}
 use Rattle.std.specs.Cmp.Lexicographic.{pointwise, pointwise_decides}
-use Rattle.std.specs.Str.{bytes_eq}
 use Rattle.std.proofs.lemmas.Bool.{and_parts, cond_both}
 use Rattle.std.proofs.lemmas.List.{take_all, take-take, take-append-drop, length-take-le}
 use Rattle.std.proofs.lemmas.List.Sums.{common_prefix_len-le}

@@ -1,49 +1,80 @@
--- Each place in a table is that of one code.
-use Rattle.std.proofs.Common.{◌≡◌, ◌⊎◌, inl, inr, ℕ, ◌+◌, ◌-◌, ◌*◌, ◌<◌, ◌≤◌, List, [], ◌∷◌, length, get_or, Option}
-use Rattle.std.proofs.Common.{Some, refl, ap, subst, ◌∙◌, arith}
-use Rattle.std.specs.Prelude.{slice_get, codes}
+-- Each place in the table of short codes is that of one code.
+use Rattle.std.proofs.Common.{◌≡◌, ℕ, ◌+◌, ◌*◌, ◌<◌, ◌==◌, false, true, List, [], ◌∷◌, Option, None}
+use Rattle.std.proofs.Common.{Some, refl, sym, ap, subst, ◌∙◌, arith, if◌then◌else◌, inl, inr}
+use Rattle.std.specs.Prelude.{codes, bytes_eq, slice_index_or}
+use Rattle.std.specs.Global.{Vec}
+use Rattle.std.proofs.lemmas.Bool.{cases_eq, eq-eqb, ne_eqb}
+use Rattle.vcd_text.specs.inside.CodeTargets.{place_of, code_target, target_at_place}
 use Rattle.vcd_text.specs.declared.reading.code_targets.CodeTarget.{CodeTarget}
-use Rattle.vcd_text.specs.declared.reading.code_targets.CodeTarget.TheVariants.{Position}
-use Rattle.vcd_text.specs.inside.ShortCodes.{HasPlace, TableAgrees}
+use Rattle.vcd_text.specs.declared.reading.code_targets.CodeTargets.{CodeTargets}
+use Rattle.vcd_text.proofs.CodeTargets.{by_code, own_code}
 
-pub one_code : (a b : List ℕ) (place : ℕ) → HasPlace a place → HasPlace b place → a ≡ b
-one_code [] [] place here there = refl
-one_code [] (b ∷ bs) place here (some, few, (rest, following, is)) = absurd (omega (arith, here, some, is))
-one_code (a ∷ xs) [] place (some, few, (rest, following, is)) there = absurd (omega (arith, there, some, is))
-one_code (a ∷ xs) (b ∷ bs) place (some, few, (rest, following, is)) (some_b, few_b, (rest_b, after_b, is_b)) =
+-- ---- one code
+
+-- a code whose bytes are 1 to 127 is spelled by its place
+abbrev IsSpelled : List ℕ → ℕ → Type 0
+IsSpelled [] place = place ≡ 0
+IsSpelled (b ∷ bs) place = (0 < b) × (b < 128) × ((rest : ℕ) × IsSpelled bs rest × (place ≡ b + 128 * rest))
+
+one_spelled : (a b : List ℕ) (place : ℕ) → IsSpelled a place → IsSpelled b place → a ≡ b
+one_spelled [] [] place here there = refl
+one_spelled [] (b ∷ bs) place here (some, few, (rest, following, is)) = absurd (omega (arith, here, some, is))
+one_spelled (a ∷ xs) [] place (some, few, (rest, following, is)) there = absurd (omega (arith, there, some, is))
+one_spelled (a ∷ xs) (b ∷ bs) place (some, few, (rest, following, is)) (some_b, few_b, (rest_b, after_b, is_b)) =
     let first : a ≡ b = omega (arith, few, few_b, is, is_b) in
     let same : rest_b ≡ rest = omega (arith, few, few_b, is, is_b) in
-    let others = one_code xs bs rest following (subst (HasPlace bs) same after_b) in
+    let others = one_spelled xs bs rest following (subst (IsSpelled bs) same after_b) in
     λ i. first i ∷ others i
 
--- the place of a code of three bytes
-pub place_of_three : (code : List ℕ) → 3 ≤ length code → length code < 4 → (x y z : ℕ) → x ≡ get_or code 0 0
-    → y ≡ get_or code 1 0 → z ≡ get_or code 2 0
-    → 0 < get_or code 0 0 → get_or code 0 0 < 128 → 0 < get_or code 1 0 → get_or code 1 0 < 128 → 0 < get_or code 2 0
-    → get_or code 2 0 < 128 → HasPlace code (x + 128 * (y + 128 * z))
-place_of_three [] long short x y z p q r a b c d e f = absurd (omega arith)
-place_of_three (k ∷ []) long short x y z p q r a b c d e f = absurd (omega arith)
-place_of_three (k ∷ l ∷ []) long short x y z p q r a b c d e f = absurd (omega arith)
-place_of_three (k ∷ l ∷ m ∷ []) long short x y z p q r a b c d e f = grind arith
-place_of_three (k ∷ l ∷ m ∷ n ∷ ns) long short x y z p q r a b c d e f = absurd (omega arith)
+spelled : (code : List ℕ) (place : ℕ) → place_of code ≡ Some place → IsSpelled code place
+spelled [] place has = let never : None ≡ Some place = has in absurd (cc)
+spelled (a ∷ []) place has = grind arith
+spelled (a ∷ b ∷ []) place has = grind arith
+spelled (a ∷ b ∷ c ∷ []) place has = grind arith
+spelled (a ∷ b ∷ c ∷ d ∷ ds) place has = let never : None ≡ Some place = has in absurd (cc)
 
--- a table that matches still does with one more number
-pub agrees_more : (target : List ℕ → Option CodeTarget) (old new : List ℕ) (code : List ℕ) (place position : ℕ)
-    → TableAgrees target old → HasPlace code place → target code ≡ Some (Position position)
-    → ((i n : ℕ) → slice_get new i ≡ Some n → 0 < n → ((i ≡ place) × (n ≡ position + 1)) ⊎ (slice_get old i ≡ Some n))
-    → TableAgrees target new
-agrees_more target old new code place position agrees has owned puts other i n there at some =
-    elim (puts i n at some) [
-      | inl (same, number) ↦
-          let is : other ≡ code = one_code other code place (subst (HasPlace other) same there) has in
-          let back : position ≡ n - 1 = omega (arith, number) in
-          ap target is ∙ owned ∙ ap (λ k. Some (Position k)) back
-      | inr before ↦ agrees other i n there before some
-    ]
+one_code : (a b : List ℕ) (place : ℕ) → place_of a ≡ Some place → place_of b ≡ Some place → a ≡ b
+one_code a b place here there = one_spelled a b place (spelled a place here) (spelled b place there)
 
--- worked cases: 33 for `!`, and 33 + 128 * 34 for `!"`
-one_byte : HasPlace (codes "!") 33
-one_byte = (omega arith, omega arith, (0, refl, refl))
+-- ---- a code that is put into the table
 
-two_bytes : HasPlace (codes "!\"") 4385
-two_bytes = (omega arith, omega arith, (34, (omega arith, omega arith, (0, refl, refl)), refl))
+module _ (old : CodeTargets) (table : Vec (Option CodeTarget)) (code : List ℕ) (place : ℕ) (target : CodeTarget)
+    (has : place_of code ≡ Some place)
+    (puts : (i : ℕ) → slice_index_or table.items i None
+    ≡ (if i == place then Some target else slice_index_or old.short.items i None)) where
+  put_here : code_target (record old { short = table }) code ≡ Some target
+  put_here = ap (target_at_place (record old { short = table }) code) has ∙ puts place
+      ∙ ap (λ b. if b then Some target else slice_index_or old.short.items place None) (eq-eqb place place refl)
+
+  put_elsewhere : (key : List ℕ) → bytes_eq key code ≡ false → (o : Option ℕ) → place_of key ≡ o
+      → target_at_place (record old { short = table }) key o ≡ target_at_place old key o
+  put_elsewhere key other None at = refl
+  put_elsewhere key other (Some i) at = elim (cases_eq i place) [
+    | inl same ↦
+        let is : key ≡ code = one_code key code place (at ∙ ap (λ n. Some n) same) has in
+        let both : true ≡ false = sym (own_code code) ∙ ap (λ k. bytes_eq k code) (sym is) ∙ other in absurd (cc)
+    | inr apart ↦ puts i ∙ ap (λ b. if b then Some target else slice_index_or old.short.items i None)
+        (ne_eqb i place apart)
+  ]
+
+  -- then it has its new target, and the others keep theirs
+  pub short_put : (key : List ℕ) → code_target (record old { short = table }) key
+      ≡ (if bytes_eq key code then Some target else code_target old key)
+  short_put key =
+      by_code (λ b. code_target (record old { short = table }) key
+      ≡ (if b then Some target else code_target old key)) key code
+      (λ same. ap (code_target (record old { short = table })) same ∙ put_here)
+      (λ other. put_elsewhere key other (place_of key) refl)
+
+-- worked cases: 33 for `!`, and 33 + 128 * 34 for `!"`; none for no byte, and for four
+one_byte : place_of (codes "!") ≡ Some 33
+one_byte = refl
+
+two_bytes : place_of (codes "!\"") ≡ Some 4385
+two_bytes = refl
+
+no_byte : place_of [] ≡ None
+no_byte = refl
+
+four_bytes : place_of (codes "!!!!") ≡ None
+four_bytes = refl

@@ -1,6 +1,6 @@
 -- The timescale of a sound capture is read back.
-use Rattle.std.proofs.Common.{◌≡◌, ◌⊎◌, ◌==◌, ◌||◌, ◌++◌, ◌<◌, ◌^◌, ℕ, List, true, [], ◌∷◌, Some, inl, inr, refl, sym}
-use Rattle.std.proofs.Common.{ap, subst, arith, decimal, append-nil}
+use Rattle.std.proofs.Common.{◌≡◌, ◌⊎◌, ◌++◌, ◌<◌, ◌^◌, ℕ, List, true, [], ◌∷◌, Some, inl, inr, refl, sym}
+use Rattle.std.proofs.Common.{subst, arith, decimal, append-nil}
 use Rattle.std.specs.Prelude.{find, bytes_eq}
 use Rattle.std.specs.Fmt.{digits}
 use Rattle.std.proofs.lemmas.Bool.{or_cases, eqb-true}

@@ -1,5 +1,5 @@
 -- Every word of a capture's text has a byte and no white space.
-use Rattle.std.proofs.Common.{◌≡◌, ◌<◌, ◌≤◌, ◌+◌, ◌-◌, ◌^◌, ◌∙◌, ◌&&◌, ◌==◌, ℕ, zero, suc, Bool, true, not, List, []}
+use Rattle.std.proofs.Common.{◌≡◌, ◌<◌, ◌≤◌, ◌+◌, ◌-◌, ◌^◌, ℕ, zero, suc, Bool, true, not, List, []}
 use Rattle.std.proofs.Common.{◌∷◌, ◌++◌, map, length, drop, replicate, Option, Some, None, IfSome, IsTrue, refl, arith}
 use Rattle.std.proofs.Common.{decimal}
 use Rattle.std.specs.List.{list_all, AllByRecursion, common_prefix_len}
@@ -8,8 +8,6 @@ use Rattle.std.proofs.lemmas.Bool.{ne_eqb}
 use Rattle.std.proofs.lemmas.List.Elements.{recursion_from_All}
 use Rattle.std.proofs.lemmas.List.Folds.{list_all-append}
 use Rattle.vcd_core.specs.declared.bit.Bit.{Bit}
-use Rattle.vcd_core.specs.declared.capture.HeaderKind.{HeaderKind}
-use Rattle.vcd_core.specs.declared.capture.HeaderKind.TheVariants.{Date, Version, Comment}
 use Rattle.vcd_core.specs.declared.capture.Header.{Header}
 use Rattle.vcd_core.specs.declared.capture.Timescale.{Timescale}
 use Rattle.vcd_core.specs.declared.capture.ScopeName.{ScopeName}
@@ -20,7 +18,7 @@ use Rattle.vcd_core.specs.Sound.{is_sound_header, is_sound_scope, is_sound_times
 use Rattle.vcd_text.specs.Words.{words_of}
 use Rattle.std.specs.Char.{is_ascii_digit}
 use Rattle.vcd_text.specs.Letters.{printed_letters, short_form}
-use Rattle.vcd_text.specs.Items.{Item, entry, timescale, scope, upscope, vector, end_definitions, header_word}
+use Rattle.vcd_text.specs.Items.{Item, entry, scope, upscope, vector, end_definitions, header_word}
 use Rattle.vcd_text.specs.Items.{end_word, spellings}
 use Rattle.vcd_text.specs.Grammar.{word_texts}
 use Rattle.vcd_text.specs.Text.{header_items, timescale_items, same_scope, scope_items, code_of, variable_item}

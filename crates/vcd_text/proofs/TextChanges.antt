@@ -1,7 +1,7 @@
 -- The changes of a capture's text are allowed, and these are their value changes.
-use Rattle.std.proofs.Common.{◌≡◌, ℕ, zero, suc, ◌+◌, ◌^◌, ◌<◌, ◌≤◌, true, false, if◌then◌else◌, ◌&&◌, ◌||◌, ◌==◌}
+use Rattle.std.proofs.Common.{◌≡◌, ℕ, zero, suc, ◌+◌, ◌<◌, ◌≤◌, true, false, if◌then◌else◌, ◌&&◌, ◌==◌}
 use Rattle.std.proofs.Common.{nat_lt, List, [], ◌∷◌, ◌++◌, length, map, get_or, Some}
-use Rattle.std.proofs.Common.{All, refl, sym, subst, ◌∙◌, append_assoc, arith}
+use Rattle.std.proofs.Common.{All, refl, sym, subst, append_assoc, arith}
 use Rattle.std.specs.Prelude.{find, bytes_eq, codes}
 use Rattle.std.specs.List.{filter, enumerate_from}
 use Rattle.std.proofs.lemmas.Bool.{le-leb, lt-ltb, ne_eqb}
@@ -13,8 +13,8 @@ use Rattle.vcd_core.specs.declared.bit.Bit.{Bit}
 use Rattle.vcd_core.specs.Contents.{Contents, SignalContents, signal_value}
 use Rattle.vcd_core.specs.Sound.{IsSound, IsSoundSignal}
 use Rattle.vcd_core.specs.Word.{is_one_of}
-use Rattle.vcd_text.specs.Letters.{printed_letters, short_form}
-use Rattle.vcd_text.specs.Items.{Item, vector, dump_word, dump_words, end_word}
+use Rattle.vcd_text.specs.Letters.{short_form}
+use Rattle.vcd_text.specs.Items.{Item, dump_word, dump_words, end_word}
 use Rattle.vcd_text.specs.Grammar.{ValueChange, ParseState, is_skipped}
 use Rattle.vcd_text.specs.Text.{all_values, code_of, differs_at, end_items, first_items, new_values, stamp_of}
 use Rattle.vcd_text.specs.Text.{with_stamp, tick_items, value_item, value_items}

@@ -1,5 +1,5 @@
 -- The declarations of a capture's text are allowed, and declare the signals of the capture.
-use Rattle.std.proofs.Common.{◌≡◌, ◌<◌, ◌≤◌, ◌+◌, ◌^◌, ◌∙◌, ◌&&◌, ℕ, suc, true, false, not, List, [], ◌∷◌, ◌++◌}
+use Rattle.std.proofs.Common.{◌≡◌, ◌<◌, ◌≤◌, ◌+◌, ◌^◌, ℕ, suc, true, false, not, List, [], ◌∷◌, ◌++◌}
 use Rattle.std.proofs.Common.{find, length, Option, Some, None, IsSomeAnd, IfSome, IsTrue, refl, sym, ap, subst}
 use Rattle.std.proofs.Common.{arith, append_assoc, append-nil, decimal}
 use Rattle.std.proofs.Common.{option_to_list}
@@ -20,8 +20,7 @@ use Rattle.vcd_core.specs.Contents.{Contents, SignalContents}
 use Rattle.vcd_core.specs.Sound.{is_sound_header, is_sound_timescale, IsSoundSignal, IsSound}
 use Rattle.std.specs.Char.{is_ascii_digit}
 use Rattle.vcd_core.specs.Decimal.{number_of}
-use Rattle.vcd_text.specs.Items.{Item, entry, timescale, variable, end_definitions, is_end_word}
-use Rattle.vcd_text.specs.Items.{has_no_end_word}
+use Rattle.vcd_text.specs.Items.{Item, entry, variable, end_definitions, is_end_word}
 use Rattle.vcd_text.specs.Grammar.{ParseState, VariableDeclaration, initial_state, declaration_of, variable_of}
 use Rattle.vcd_text.specs.Grammar.{may_have_code, has_room}
 use Rattle.vcd_text.specs.Text.{header_items, timescale_items, scope_items, code_of, variable_item, signal_items}

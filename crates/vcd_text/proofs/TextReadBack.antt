@@ -1,6 +1,6 @@
 -- The text of a sound capture is read back as the capture.
 use Rattle.std.proofs.Common.{arith}
-use Rattle.std.proofs.Common.{◌++◌, refl}
+use Rattle.std.proofs.Common.{refl}
 use Rattle.vcd_core.specs.Contents.{Contents}
 use Rattle.vcd_core.specs.Sound.{IsSound}
 use Rattle.vcd_text.specs.Grammar.{initial_state}

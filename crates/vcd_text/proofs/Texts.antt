@@ -1,10 +1,9 @@
 -- The parts of a text, one after another.
 use Rattle.std.proofs.Common.{arith}
-use Rattle.std.proofs.Common.{◌≡◌, ℕ, List, [], ◌∷◌, ◌++◌, ◌∙◌, append_assoc}
+use Rattle.std.proofs.Common.{◌≡◌, ◌++◌, append_assoc}
 use Rattle.std.specs.List.{flat_map}
 use Rattle.std.proofs.lemmas.Grind.{flat_map-append}
 use Rattle.vcd_core.specs.Contents.{Contents}
-use Rattle.vcd_text.specs.Items.{Item}
 use Rattle.vcd_text.specs.Text.{end_items, first_items, items_of, item_line, text}
 use Rattle.vcd_text.specs.Text.{tick_items}
 use Rattle.vcd_text.specs.inside.TextParts.{declarations_text}

@@ -1,5 +1,5 @@
 -- A timescale is a count, the longest that fits, and the name of a unit.
-use Rattle.std.proofs.Common.{◌≡◌, ℕ, Bool, true, false, cond, ◌&&◌, ◌==◌, Option, Some, None, List, [], ◌∷◌, take}
+use Rattle.std.proofs.Common.{◌≡◌, ℕ, Bool, false, cond, ◌==◌, Option, Some, None, List, [], ◌∷◌, take}
 use Rattle.std.proofs.Common.{arith, refl}
 use Rattle.std.specs.Prelude.{bytes_eq}
 use Rattle.std.specs.Fmt.{digits}

@@ -1,5 +1,5 @@
 -- The part of a value's line before the code, for one bit and for more.
-use Rattle.std.proofs.Common.{◌≡◌, ◌≢◌, ℕ, List, [], ◌∷◌, ◌++◌, length, get_or, refl, ◌∙◌, append_assoc, arith}
+use Rattle.std.proofs.Common.{◌≡◌, ◌≢◌, ℕ, List, [], ◌∷◌, ◌++◌, length, get_or, append_assoc, arith}
 use Rattle.vcd_core.specs.declared.bit.Bit.{Bit}
 use Rattle.vcd_core.specs.declared.bit.Bit.TheVariants.{X}
 use Rattle.vcd_core.specs.Value.{printed_letter}

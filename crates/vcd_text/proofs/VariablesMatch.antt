@@ -1,23 +1,54 @@
 -- The reader's variables, compared with the state of a file.
-use Rattle.std.proofs.Common.{arith, ◌≡◌, ℕ, ◌≤◌, List, sym, ap, ◌∙◌, subst, find, map}
-use Rattle.std.specs.Prelude.{count_by, bytes_eq}
-use Rattle.vcd_text.specs.Grammar.{ValueChange, ParseState, variable_of, is_skipped, kept_variables}
-use Rattle.vcd_text.specs.inside.ShortCodes.{code_target}
-use Rattle.vcd_text.specs.declared.reading.code_targets.CodeTargets.{CodeTargets}
+use Rattle.std.proofs.Common.{arith, ◌≡◌, ℕ, ◌≤◌, List, sym, ap, ◌∙◌, subst, find, map, length, option_map}
+use Rattle.std.proofs.Common.{Option, Some, None, refl}
+use Rattle.std.specs.Prelude.{count_by, bytes_eq, slice_get}
+use Rattle.std.proofs.lemmas.List.{length-map}
+use Rattle.std.proofs.lemmas.Option.{same_Some, slice_get-map}
+use Rattle.vcd_text.specs.Grammar.{VariableDeclaration, ParseState, is_skipped, kept_variables}
 use Rattle.vcd_text.specs.inside.ChangeLog.{logged}
-use Rattle.vcd_text.specs.declared.reading.change_log.LoggedChange.{LoggedChange}
 use Rattle.vcd_text.proofs.LoggedValues.{gives_further}
-use Rattle.vcd_text.specs.inside.Variables.{TargetAgrees, declaration, without_scopes, target_of, HasWave}
-use Rattle.vcd_text.specs.inside.Variables.{TargetMatches, VariablesMatch}
+use Rattle.vcd_text.specs.inside.Variables.{TargetAgrees, declaration, without_code, target_of}
+use Rattle.vcd_text.specs.inside.Variables.{TargetMatches, HaveOwnCodes, HasFirst, VariablesMatch}
 use Rattle.vcd_text.specs.declared.reading.variables.Variable.{Variable}
 use Rattle.vcd_text.specs.declared.reading.variables.Variables.{Variables}
+use Rattle.vcd_text.specs.declared.reading.code_targets.CodeTarget.TheVariants.{Position}
 use Rattle.vcd_text.proofs.CodeTargets.{stands_moved}
+
+-- as many variables are kept as were declared as kept
+pub kept_long : (vs : Variables) (c : ParseState) → VariablesMatch vs c
+    → length (kept_variables c.declared) ≡ length vs.kept.items
+kept_long vs c k = grind (arith, length-map)
+
+mapped_from : (o : Option VariableDeclaration) (e : VariableDeclaration) → option_map without_code o ≡ Some e
+    → (d : VariableDeclaration) × (o ≡ Some d) × (without_code d ≡ e)
+mapped_from None e is = let never : None ≡ Some e = is in absurd (cc)
+mapped_from (Some d) e is = (d, refl, same_Some (without_code d) e is)
+
+-- the declaration of a kept variable
+pub declared_at : (vs : Variables) (c : ParseState) → VariablesMatch vs c → (position : ℕ) (v : Variable)
+    → slice_get vs.kept.items position ≡ Some v
+    → (d : VariableDeclaration) × (slice_get (kept_variables c.declared) position ≡ Some d)
+    × (without_code d ≡ declaration v)
+declared_at vs c k position v at =
+    mapped_from (slice_get (kept_variables c.declared) position) (declaration v)
+    (sym (slice_get-map without_code (kept_variables c.declared) position)
+    ∙ ap (λ (ds : List VariableDeclaration). slice_get ds position) k.kept
+    ∙ slice_get-map declaration vs.kept.items position ∙ ap (option_map declaration) at)
+
+-- a position is the target of one code alone
+pub one_owner : (vs : Variables) (declared : List VariableDeclaration) → HaveOwnCodes vs declared
+    → (a b : List ℕ) (position : ℕ) → target_of vs a ≡ Some (Position position)
+    → target_of vs b ≡ Some (Position position) → a ≡ b
+one_owner vs declared owners a b position had has =
+    let x = owners a position had in
+    let y = owners b position has in
+    sym x.2 ∙ ap (λ (d : VariableDeclaration). d.code) (same_Some x.0 y.0 (sym x.1 ∙ y.1)) ∙ y.2
 
 -- variables that match a state match it at a later tick too
 pub knows_further : (vs : Variables) (c d : ParseState) → c.declared ≡ d.declared → c.value_changes ≡ d.value_changes
     → c.tick ≤ d.tick → VariablesMatch vs c → VariablesMatch vs d
 knows_further vs c d declared value_changes later k = record {
-  kept = subst (λ ds. map without_scopes (kept_variables ds) ≡ map declaration vs.kept.items) declared k.kept;
+  kept = subst (λ ds. map without_code (kept_variables ds) ≡ map declaration vs.kept.items) declared k.kept;
   skipped = subst (λ ds. vs.skipped ≡ count_by is_skipped ds) declared k.skipped;
   widths = k.widths;
   targets_agree = λ code.
@@ -28,28 +59,9 @@ knows_further vs c d declared value_changes later k = record {
       (find (λ e. bytes_eq code e.code) d.declared)) value_changes
       (subst (λ ds. TargetAgrees vs c code
       (target_of vs code) (find (λ e. bytes_eq code e.code) ds)) declared (k.targets_agree code)));
-  firsts = k.firsts;
-  few = k.few;
-  grouped = k.grouped;
-  logs = k.logs;
-}
-
--- they match it with another table of the same codes
-pub same_codes : (vs : Variables) (code_targets : CodeTargets) (c : ParseState)
-    → code_targets.codes ≡ vs.code_targets.codes → VariablesMatch vs c
-    → VariablesMatch (record vs { code_targets = code_targets }) c
-same_codes vs code_targets c same k = record {
-  kept = k.kept;
-  skipped = k.skipped;
-  widths = k.widths;
-  targets_agree = λ code. subst (λ m. TargetAgrees vs c code
-      (code_target m code) (variable_of c code)) (sym same) (k.targets_agree code);
-  firsts = λ position v at. let first = k.firsts position v at in
-      record {
-        owned = ap (λ m. code_target m v.code) same ∙ first.owned;
-        no_later = first.no_later;
-        same_size = first.same_size;
-      };
+  owners = subst (λ ds. HaveOwnCodes vs (kept_variables ds)) declared k.owners;
+  firsts = subst (λ ds. (position : ℕ) (v : Variable) → slice_get vs.kept.items position ≡ Some v
+      → HasFirst vs (kept_variables ds) position v) declared k.firsts;
   few = k.few;
   grouped = k.grouped;
   logs = k.logs;

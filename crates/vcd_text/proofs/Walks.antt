@@ -1,6 +1,6 @@
 -- A walk over the changes in order of ticks writes the text of all ticks.
 use Rattle.std.proofs.Common.{◌≡◌, ◌<◌, ◌≤◌, ◌+◌, ◌-◌, ℕ, zero, suc, ◌&&◌, ◌==◌, if◌then◌else◌}
-use Rattle.std.proofs.Common.{nat_lt, List, [], ◌∷◌, ◌++◌, length, map, drop, get_or, refl, sym, ap, subst, ◌∙◌, arith}
+use Rattle.std.proofs.Common.{nat_lt, List, [], ◌∷◌, ◌++◌, length, map, drop, get_or, refl, sym, ap, ◌∙◌, arith}
 use Rattle.std.proofs.Common.{append_assoc, eq-eqb}
 use Rattle.std.specs.List.{filter, flat_map, enumerate_from}
 use Rattle.std.proofs.lemmas.Bool.{lt-ltb, le-ltb, ne_eqb}
@@ -11,7 +11,7 @@ use Rattle.vcd_text.proofs.Counts.{transitions_split}
 use Rattle.vcd_text.specs.Items.{Item}
 use Rattle.vcd_text.specs.inside.Transitions.{Transition, transition_of, transitions_from, last_tick}
 use Rattle.vcd_text.specs.inside.Transitions.{transition_items}
-use Rattle.vcd_text.specs.Text.{code_of, differs_at, end_items, item_line, new_values, stamp_of, with_stamp, tick_items}
+use Rattle.vcd_text.specs.Text.{code_of, differs_at, end_items, item_line, stamp_of, with_stamp, tick_items}
 use Rattle.vcd_text.specs.Text.{value_item, value_items}
 use Rattle.std.proofs.lemmas.Grind.{common_steps}
 

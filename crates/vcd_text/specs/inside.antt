@@ -4,7 +4,7 @@ pub mod TimescaleText
 pub mod ChangeLog
 pub mod Scopes
 pub mod Variables
-pub mod ShortCodes
+pub mod CodeTargets
 pub mod OpenItems
 pub mod OpeningWords
 pub mod Reading

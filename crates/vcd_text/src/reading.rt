@@ -52,17 +52,16 @@ pub struct Loaded {
 ///
 /// Time: one step for each byte. Each change takes one look-up of its code. If its variable has at
 /// most 64 bits, it is also written to the log once and read twice at the end. Each variable takes
-/// one or two look-ups, and a copy of its code and its name. A scope after a closed one, with a
-/// variable in it, takes a copy of the open scopes. The variables of one code share one list of
-/// changes.
+/// one or two look-ups, and a copy of its name. A scope after a closed one, with a variable in it,
+/// takes a copy of the open scopes. The variables of one code share one list of changes.
 ///
 /// One read asks for at most 4,096 bytes, and none is made after a sure fault.
 ///
 /// Memory: those bytes, the longest word, the log and the capture. The log has 32 bytes for each
 /// change; its 128 groups are freed one by one as their waves are made. In the capture each change
-/// takes a tick and a value of `WIDTH_LIMIT` bits. Each signal also takes a copy of its code and
-/// its width, and the map of codes takes each once more. A table takes four bytes for each possible
-/// code of up to three bytes before the last one declared.
+/// takes a tick and a value of `WIDTH_LIMIT` bits. Each signal also takes its width. A table has a
+/// place for each possible code of up to three bytes before the last one declared, a map a copy of
+/// each longer code.
 pub fn read<R: Source>(alloc: Global, reader: &mut R) -> Result<Loaded, ReadError>
     requires ready { R.has_failed reader.old ≡ false }
     ensures means { IfOk result (λ loaded. IfSome (R.coming reader.old) (λ file.

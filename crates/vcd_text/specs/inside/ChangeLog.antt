@@ -1,6 +1,6 @@
 -- The changes that waves do not have yet, and the waves with these changes.
 use Rattle.std.specs.Prelude.{◌≡◌, ℕ, ◌+◌, ◌%◌, ◌<◌, ◌≤◌, ◌==◌, if◌then◌else◌, nat_le, List, [], ◌∷◌, ◌++◌, length, set}
-use Rattle.std.specs.Prelude.{◌-◌, ◌/◌, ◌^◌, ◌&&◌, min, max, slice_get, All, Some, false}
+use Rattle.std.specs.Prelude.{◌-◌, ◌^◌, ◌&&◌, min, max, slice_get, All, Some, false}
 use Rattle.std.specs.List.{filter}
 use Rattle.std.specs.Option.{option_map_or}
 use Rattle.std.specs.Global.{Vec}
@@ -66,7 +66,6 @@ pub record CanTake (kept : List Variable) (e : LoggedChange) : Type 0 where
 
 -- two variables are the same but for the changes of their waves
 pub record IsSameVariable (old new : Variable) : Type 0 where
-  pub code : new.code ≡ old.code
   pub scopes : new.signal.scopes ≡ old.signal.scopes
   pub kind : new.signal.kind ≡ old.signal.kind
   pub words : new.signal.words ≡ old.signal.words
@@ -98,22 +97,21 @@ hint_with h e = record {
   last = e.word;
 }
 
--- the hints with one more change, at its place
-abbrev pub hints_with : List ReserveHint → LoggedChange → List ReserveHint
-hints_with hs e = option_map_or (λ (h : ReserveHint). set hs (e.position / GROUPS) (hint_with h e))
-    (slice_get hs (e.position / GROUPS)) hs
+-- the variable with one more change in its hint
+abbrev pub counted_variable : Variable → LoggedChange → Variable
+counted_variable v e = record v { hint = hint_with v.hint e }
 
--- a hint after its count was taken
-abbrev pub taken_hint : ReserveHint → ReserveHint
-taken_hint h = record { count = 0; last = h.last }
+-- the variables with one more change in the hint of its variable
+abbrev pub counted : List Variable → LoggedChange → List Variable
+counted vs e = option_map_or (λ (v : Variable). set vs e.position (counted_variable v e)) (slice_get vs e.position) vs
 
--- a wave's own list gets just the room for so many more changes, or keeps what it has
-pub record HasExactRoom (more : ℕ) (old new : Variable) : Type 0 where
-  pub exact : 1 ≤ more → old.signal.wave.is_shared ≡ false
-      → new.signal.wave.capacity ≡ max old.signal.wave.capacity (length old.signal.wave.changes + more)
+-- a wave's own list gets just the room for as many changes as were counted, or keeps what it has
+pub record HasExactRoom (old new : Variable) : Type 0 where
+  pub exact : 1 ≤ old.hint.count → old.signal.wave.is_shared ≡ false
+      → new.signal.wave.capacity ≡ max old.signal.wave.capacity (length old.signal.wave.changes + old.hint.count)
   pub kept : old.signal.wave.is_shared ≡ false
       → length old.signal.wave.changes + 1 ≤ old.signal.wave.capacity
-      → length old.signal.wave.changes + more ≤ old.signal.wave.capacity
+      → length old.signal.wave.changes + old.hint.count ≤ old.signal.wave.capacity
       → new.signal.wave.capacity ≡ old.signal.wave.capacity
 
 -- ---- the variables with the changes of the log

@@ -16,7 +16,7 @@ use Rattle.vcd_text.specs.Grammar.{VariableDeclaration, ValueChange, ParseState,
 use Rattle.vcd_text.specs.Grammar.{declaration_of, variable_of, may_have_code, has_room, is_binary_number}
 use Rattle.vcd_text.specs.Grammar.{takes_binary_number, state_after_item, with_value_change}
 use Rattle.vcd_text.specs.Meaning.{latest_value}
-use Rattle.vcd_text.specs.inside.ShortCodes.{code_target}
+use Rattle.vcd_text.specs.inside.CodeTargets.{code_target}
 use Rattle.vcd_text.specs.inside.ChangeLog.{GivesLoggedValues, logged, AreGrouped}
 use Rattle.vcd_text.specs.declared.reading.change_log.LoggedChange.{LoggedChange}
 use Rattle.vcd_text.specs.declared.reading.code_targets.CodeTarget.{CodeTarget}
@@ -35,20 +35,23 @@ declaration_in scopes code s =
 abbrev pub without_scopes : VariableDeclaration → VariableDeclaration
 without_scopes d = record d { scopes = [] }
 
--- the declaration of a kept variable of the reader
+-- a declaration without its scopes and its code
+abbrev pub without_code : VariableDeclaration → VariableDeclaration
+without_code d = record d { scopes = []; code = [] }
+
+-- the declaration of a kept variable of the reader, without its code
 abbrev pub declaration : Variable → VariableDeclaration
-declaration v = declaration_in v.signal.scopes v.code v.signal
+declaration v = declaration_in v.signal.scopes [] v.signal
 
 -- the target of a code
 abbrev pub target_of : Variables → List ℕ → Option CodeTarget
-target_of vs code = code_target vs.code_targets.codes code
+target_of vs code = code_target vs.code_targets code
 
--- the variable at this position has the code and size; its wave and its log give the value changes up to the tick
+-- the variable at this position has the size; its wave and its log give the code's value changes up to the tick
 pub record HasWave (vs : List Variable) (log : ℕ → List LoggedChange) (position : ℕ) (code : List ℕ) (size : ℕ)
     (value_changes : List ValueChange) (tick : ℕ) : Type 0 where
   pub first : Variable
   pub at_position : slice_get vs position ≡ Some first
-  pub coded : first.code ≡ code
   pub sized : first.signal.wave.width ≡ size
   pub gives : GivesLoggedValues size tick (λ t. latest_value size code t (all_x size) value_changes)
       first.signal.wave.changes (log position)
@@ -67,8 +70,9 @@ abbrev pub TargetAgrees : Variables → ParseState → List ℕ → Option CodeT
 TargetAgrees vs c = TargetMatches vs.kept.items (logged vs.log.items) c.value_changes c.tick
 
 -- a kept variable has the position of the first one with its code, which is no later and has the same size
-pub record HasFirst (vs : Variables) (position : ℕ) (v : Variable) : Type 0 where
-  pub owned : target_of vs v.code ≡ Some (Position v.first)
+pub record HasFirst (vs : Variables) (declared : List VariableDeclaration) (position : ℕ) (v : Variable) : Type 0 where
+  pub owned : (d : VariableDeclaration) → slice_get declared position ≡ Some d
+      → target_of vs d.code ≡ Some (Position v.first)
   pub no_later : v.first ≤ position
   pub same_size : (w : Variable) → slice_get vs.kept.items v.first ≡ Some w
       → w.signal.wave.width ≡ v.signal.wave.width
@@ -78,13 +82,21 @@ abbrev pub HasOnlyFirstVariables : List Variable → (ℕ → List LoggedChange)
 HasOnlyFirstVariables vs log = (position : ℕ) → 0 < length (log position)
     → (v : Variable) × (slice_get vs position ≡ Some v) × (v.first ≡ position)
 
+-- the variable at the target of a code was declared with the code
+abbrev pub HaveOwnCodes : Variables → List VariableDeclaration → Type 0
+HaveOwnCodes vs declared =
+    (code : List ℕ) (position : ℕ) → target_of vs code ≡ Some (Position position)
+    → (d : VariableDeclaration) × (slice_get declared position ≡ Some d) × (d.code ≡ code)
+
 -- the variables match the state: declarations without their scopes, and value changes up to the tick
 pub record VariablesMatch (vs : Variables) (c : ParseState) : Type 0 where
-  pub kept : map without_scopes (kept_variables c.declared) ≡ map declaration vs.kept.items
+  pub kept : map without_code (kept_variables c.declared) ≡ map declaration vs.kept.items
   pub skipped : vs.skipped ≡ count_by is_skipped c.declared
   pub widths : vs.widths.items ≡ map (λ (v : Variable). v.signal.wave.width) vs.kept.items
   pub targets_agree : (code : List ℕ) → TargetAgrees vs c code (target_of vs code) (variable_of c code)
-  pub firsts : (position : ℕ) (v : Variable) → slice_get vs.kept.items position ≡ Some v → HasFirst vs position v
+  pub owners : HaveOwnCodes vs (kept_variables c.declared)
+  pub firsts : (position : ℕ) (v : Variable) → slice_get vs.kept.items position ≡ Some v
+      → HasFirst vs (kept_variables c.declared) position v
   pub few : length vs.kept.items ≤ SIGNAL_LIMIT
   pub grouped : AreGrouped 0 vs.log.items
   pub logs : HasOnlyFirstVariables vs.kept.items (logged vs.log.items)

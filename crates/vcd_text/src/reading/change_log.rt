@@ -3,16 +3,14 @@
 //! The log is written while a file is read. The waves are made from it at the end, some at a time.
 //! So no change waits for its wave to come from memory.
 
-ghost use Rattle.std.specs.Prelude.{◌≡◌, ◌+◌, ◌/◌, ◌++◌, ◌==◌, ◌≤◌, ℕ, List, [], ◌∷◌, length, set, replicate, slice_get, None, Some, if◌then◌else◌, OnOk};
+ghost use Rattle.std.specs.Prelude.{◌≡◌, ◌<◌, ◌++◌, ◌==◌, ◌≤◌, ℕ, List, [], ◌∷◌, length, slice_get, Some, if◌then◌else◌, OnOk, All};
 ghost use Rattle.std.specs.List.{fold};
-ghost use Rattle.vcd_text.specs.declared.reading.change_log.TheConstants.{NO_HINT};
 ghost use Rattle.vcd_text.specs.declared.reading.variables.Variable.{Variable as DeclaredVariable};
-ghost use Rattle.vcd_text.specs.declared.reading.change_log.ReserveHint.{ReserveHint as Hint};
-ghost use Rattle.vcd_text.specs.inside.ChangeLog.{logged, changes_of_position, hint_with, hints_with, taken_hint, AreGrouped, CanTake, AppliesLogged, HasExactRoom, CanFlush, FlushesLog};
+ghost use Rattle.vcd_text.specs.declared.reading.change_log.LoggedChange.{LoggedChange as DeclaredChange};
+ghost use Rattle.vcd_text.specs.inside.ChangeLog.{logged, changes_of_position, hint_with, counted, AreGrouped, CanTake, AppliesLogged, HasExactRoom, CanFlush, FlushesLog};
 
 use crate::reading::variables::Variable;
 use std::alloc::Global;
-use std::mem::replace;
 use vcd_core::{LetterWord, NoMemory};
 
 /// The number of groups of a log. Each group has the positions with one remainder. The waves of one
@@ -64,16 +62,16 @@ fn add_groups(
     Ok(())
 }
 
-/// An upper bound of a wave's changes so far, and the word of its last change. It concerns room
-/// alone.
+/// An upper bound of the changes of the log that a wave is about to get, and the word of the last
+/// one. It concerns room alone.
 #[derive(Clone, Copy)]
-struct ReserveHint {
-    count: usize,
-    last: LetterWord,
+pub struct ReserveHint {
+    pub count: usize,
+    pub last: LetterWord,
 }
 
 /// No change: all x.
-const NO_HINT: ReserveHint = ReserveHint {
+pub const NO_HINT: ReserveHint = ReserveHint {
     count: 0,
     last: LetterWord {
         low: u64::MAX,
@@ -85,94 +83,70 @@ const NO_HINT: ReserveHint = ReserveHint {
 ///
 /// It takes two steps for each change. A wave gets room once, for the changes of the log whose word
 /// differs from the one before. The first is compared with all x.
-pub fn flush_log(
-    alloc: Global,
-    kept: &mut Vec<Variable>,
-    groups: Vec<Vec<LoggedChange>>,
-) -> Result<(), NoMemory>
+pub fn flush_log(kept: &mut Vec<Variable>, groups: Vec<Vec<LoggedChange>>) -> Result<(), NoMemory>
     requires { CanFlush kept.old.items (logged groups.items) }
     ensures { OnOk result
         (FlushesLog kept.old.items kept.new.items (logged groups.items) (λ _. [])) }
 {
-    let mut reserve_hints = Vec::new(alloc);
-    reserve_hints.resize(kept.len() / GROUPS + 1, NO_HINT)?;
     for group in groups {
-        count_changes(reserve_hints.as_mut_slice(), group.as_slice());
-        flush_group(kept, reserve_hints.as_mut_slice(), group.as_slice())?;
+        let changes = group.as_slice();
+        count_changes(kept, changes);
+        flush_group(kept, changes)?;
     }
     Ok(())
 }
 
 /// Counts the changes of each variable of a group.
-fn count_changes(reserve_hints: &mut [ReserveHint], group: &[LoggedChange])
-    ensures { reserve_hints.new ≡ fold hints_with (replicate (length reserve_hints.old) NO_HINT) group.now }
+fn count_changes(kept: &mut Vec<Variable>, group: &[LoggedChange])
+    requires { All (λ (e : DeclaredChange). e.position < length kept.old.items) group.now }
+    ensures { kept.new.items ≡ fold counted kept.old.items group.now }
 {
-    reserve_hints.fill(NO_HINT);
     for change in group {
-        count_change(reserve_hints, *change);
+        count_change(kept, *change);
     }
 }
 
 /// Counts a change of a variable.
-fn count_change(reserve_hints: &mut [ReserveHint], change: LoggedChange)
-    ensures { reserve_hints.new ≡ hints_with reserve_hints.old change }
+fn count_change(kept: &mut Vec<Variable>, change: LoggedChange)
+    requires { change.position < length kept.old.items }
+    ensures { kept.new.items ≡ counted kept.old.items change }
 {
-    let place = change.position / GROUPS;
-    if place < reserve_hints.len() {
-        reserve_hints[place] = with_change(reserve_hints[place], change);
-    }
+    kept[change.position].count_logged(change);
 }
 
-/// The hint after one more change. A repeated word is not counted.
-fn with_change(reserve_hint: ReserveHint, change: LoggedChange) -> ReserveHint
-    ensures { result ≡ hint_with reserve_hint change }
-{
-    let same = reserve_hint.last == change.word;
-    ReserveHint {
-        count: reserve_hint.count.saturating_add(usize::from(!same)),
-        last: change.word,
+impl ReserveHint {
+    /// The hint after one more change. A repeated word is not counted.
+    pub fn with_change(self, change: LoggedChange) -> ReserveHint
+        ensures { result ≡ hint_with self change }
+    {
+        let same = self.last == change.word;
+        ReserveHint {
+            count: self.count.saturating_add(usize::from(!same)),
+            last: change.word,
+        }
     }
 }
 
 /// Gives each variable the changes of a group. At its first change a wave gets room for as many as
 /// were counted.
-fn flush_group(
-    kept: &mut Vec<Variable>,
-    reserve_hints: &mut [ReserveHint],
-    group: &[LoggedChange],
-) -> Result<(), NoMemory>
+fn flush_group(kept: &mut Vec<Variable>, group: &[LoggedChange]) -> Result<(), NoMemory>
     requires { (rest : ℕ → List LoggedChange) ×
         CanFlush kept.old.items (λ position. changes_of_position position group.now ++ rest position) }
     ensures { OnOk result ((rest : ℕ → List LoggedChange) → FlushesLog kept.old.items kept.new.items
         (λ position. changes_of_position position group.now ++ rest position) rest) }
 {
     for change in group {
-        let more = take_count(reserve_hints, change.position / GROUPS);
-        flush_change(kept, *change, more)?;
+        flush_change(kept, *change)?;
     }
     Ok(())
 }
 
-/// The count at a place, which becomes 0.
-fn take_count(reserve_hints: &mut [ReserveHint], place: usize) -> usize
-    ensures count { (h : Hint) → slice_get reserve_hints.old place ≡ Some h → result ≡ h.count }
-    ensures taken { (h : Hint) → slice_get reserve_hints.old place ≡ Some h →
-        reserve_hints.new ≡ set reserve_hints.old place (taken_hint h) }
-    ensures none { slice_get reserve_hints.old place ≡ None →
-        (result ≡ 0) × (reserve_hints.new ≡ reserve_hints.old) }
-{
-    if place < reserve_hints.len() {
-        return replace(&mut reserve_hints[place].count, 0);
-    }
-    0
-}
-
-/// Makes room for `more` changes of a variable, and gives it a change.
-fn flush_change(kept: &mut Vec<Variable>, change: LoggedChange, more: usize) -> Result<(), NoMemory>
+/// Gives a variable a change.
+fn flush_change(kept: &mut Vec<Variable>, change: LoggedChange) -> Result<(), NoMemory>
     requires { CanTake kept.old.items change }
     ensures applies { OnOk result (AppliesLogged change kept.old.items kept.new.items) }
     ensures room { OnOk result ((v w : DeclaredVariable) → slice_get kept.old.items change.position ≡ Some v →
-        slice_get kept.new.items change.position ≡ Some w → HasExactRoom more v w) }
+        slice_get kept.new.items change.position ≡ Some w → HasExactRoom v w) }
 {
-    kept[change.position].take_logged(change, more)
+    kept[change.position].take_logged(change)
 }

@@ -95,7 +95,7 @@ impl Reader {
             OpenItem::Scope => self.close_scope(alloc),
             OpenItem::Upscope => self.close_upscope(),
             OpenItem::Variable => self.close_variable(alloc),
-            OpenItem::EndDefinitions => self.close_definitions(alloc),
+            OpenItem::EndDefinitions => self.close_definitions(),
             _ => self.close_other(),
         }
     }
@@ -163,12 +163,11 @@ impl Reader {
         Ok(())
     }
 
-    /// Makes the table of short codes, since all codes are now declared.
-    fn close_definitions(&mut self, alloc: Global) -> Result<(), Fault>
+    /// Begins the changes.
+    fn close_definitions(&mut self) -> Result<(), Fault>
         requires { self.old.item ≡ items.EndDefinitions }
         ensures { (line : ℕ) → WordResult self.old (word_on end_word line) result self.new }
     {
-        self.variables.code_targets.make_table(alloc)?;
         self.in_body = true;
         self.item = OpenItem::Nothing;
         Ok(())

@@ -2,42 +2,55 @@
 
 ghost use Rattle.std.specs.Prelude.{◌≡◌, ◌≤◌, ◌+◌, [], false, length, IsOk, OnOk, All};
 ghost use Rattle.vcd_text.specs.Grammar.{ParseState};
-ghost use Rattle.vcd_text.specs.inside.ChangeLog.{AppliesToVariable, HasExactRoom};
+ghost use Rattle.vcd_text.specs.inside.ChangeLog.{AppliesToVariable, HasExactRoom, counted_variable};
 ghost use Rattle.vcd_text.specs.inside.Variables.{VariablesMatch};
 
 mod changing;
 mod declaring;
 mod finishing;
 
-use crate::reading::change_log::LoggedChange;
+use crate::reading::change_log::{LoggedChange, ReserveHint};
 use crate::reading::code_targets::CodeTargets;
 use std::alloc::Global;
-use vcd_core::{NoMemory, Signal, Word};
+use std::mem::replace;
+use vcd_core::{NoMemory, Signal};
 
-/// A kept variable: its code, and its signal.
+/// A kept variable: its signal.
 ///
 /// The first variable of a code has the wave so far, without the changes in the log. The others
 /// share its list at the end.
 #[derive(Drop)]
 pub struct Variable {
-    pub code: Word,
     pub signal: Signal,
     /// The position of the first variable with this code.
     pub first: usize,
+    /// How many changes the wave is about to get from the log, at most.
+    pub hint: ReserveHint,
 }
 
 impl Variable {
-    /// Takes a change of the log, with room for `more` changes in the wave first.
-    pub fn take_logged(&mut self, change: LoggedChange, more: usize) -> Result<(), NoMemory>
+    /// Counts a change of the log that the wave is about to get.
+    pub fn count_logged(&mut self, change: LoggedChange)
+        ensures { self.new ≡ counted_variable self.old change }
+    {
+        self.hint = self.hint.with_change(change);
+    }
+
+    /// Takes a change of the log. Room for the counted changes is made first, and their count
+    /// becomes 0.
+    pub fn take_logged(&mut self, change: LoggedChange) -> Result<(), NoMemory>
         requires narrow { self.old.signal.wave.width ≤ 64 }
         requires none_later { All (λ c. c.tick ≤ change.tick) self.old.signal.wave.changes }
         ensures taken { OnOk result (AppliesToVariable change self.old self.new) }
-        // It succeeds if the wave's own list has room for `more` changes and this one.
+        // It succeeds if the wave's own list has room for the counted changes and this one.
         ensures in_place { self.old.signal.wave.is_shared ≡ false →
             length self.old.signal.wave.changes + 1 ≤ self.old.signal.wave.capacity →
-            length self.old.signal.wave.changes + more ≤ self.old.signal.wave.capacity → IsOk result }
-        ensures exact { OnOk result (HasExactRoom more self.old self.new) }
+            length self.old.signal.wave.changes + self.old.hint.count ≤ self.old.signal.wave.capacity →
+            IsOk result }
+        ensures exact { OnOk result (HasExactRoom self.old self.new) }
+        ensures counted { OnOk result (self.new.hint.count ≡ 0) }
     {
+        let more = replace(&mut self.hint.count, 0);
         self.signal.wave.reserve_exact(more)?;
         self.signal.wave.push_word(change.tick, change.word)
     }

@@ -45,7 +45,12 @@ impl Variables {
         match self.code_targets.get(code) {
             None => Err(Fault::UnknownCode),
             Some(CodeTarget::Skipped) => Ok(()),
-            Some(CodeTarget::Position(first)) => self.change_at(alloc, first, tick, digits),
+            Some(CodeTarget::Position(first)) => self.change_at(
+                alloc,
+                first as usize,
+                tick,
+                digits,
+            ),
         }
     }
 

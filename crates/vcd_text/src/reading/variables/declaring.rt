@@ -4,6 +4,7 @@ ghost use Rattle.std.specs.Prelude.{◌≡◌, ◌⊎◌, ◌<◌, ◌≤◌, �
 ghost use Rattle.std.specs.Option.{option_map_or};
 ghost use Rattle.vcd_core.specs.declared.capture.ScopeName.{ScopeName};
 ghost use Rattle.vcd_core.specs.declared.value.TheConstants.{WIDTH_LIMIT};
+ghost use Rattle.vcd_text.specs.declared.reading.change_log.TheConstants.{NO_HINT};
 ghost use Rattle.vcd_core.specs.Word.{is_skipped_kind as skips_kind};
 ghost use Rattle.vcd_text.specs.Grammar.{ParseState, VariableDeclaration, has_good_size, is_skipped};
 ghost use Rattle.vcd_text.specs.inside.Variables.{target_of, declaration_in, VariablesMatch, Declares, DeclaresAs};
@@ -11,6 +12,7 @@ ghost use Rattle.vcd_text.specs.declared.fault.Fault.TheVariants.{NoMemory as No
 ghost use Rattle.vcd_text.specs.declared.reading.code_targets.CodeTarget.TheVariants.{Position as PositionAt};
 
 use crate::fault::Fault;
+use crate::reading::change_log::NO_HINT;
 use crate::reading::code_targets::CodeTarget;
 use crate::reading::ticks_and_sizes::size_of;
 use crate::reading::variables::{Variable, Variables};
@@ -23,9 +25,8 @@ use vcd_core::{
 impl Variables {
     /// Declares a variable, without its scopes, from the words of a `$var` after the keyword.
     ///
-    /// It looks up the code at most twice. A kept variable copies its words and its code. The first
-    /// variable of its code takes another copy of the code, in the map; a skipped one takes at most
-    /// that copy.
+    /// It looks up the code at most twice. A kept variable copies its words. The first variable of
+    /// its code enters the code.
     ///
     /// The error is `BadVar` if a part is missing, `TooManySignals`, or `NoMemory`. It is
     /// `MixedCode` if the code has another size, or is skipped for one variable alone.
@@ -78,10 +79,11 @@ impl Variables {
         match self.code_targets.get(code) {
             None => self.keep_first(alloc, code, signal),
             Some(CodeTarget::Position(first)) => {
+                let first = first as usize;
                 if !self.has_width(first, signal.wave.width()) {
                     return Err(Fault::MixedCode);
                 }
-                self.push(alloc, code, signal, first)
+                self.push(signal, first)
             }
             Some(CodeTarget::Skipped) => Err(Fault::MixedCode),
         }
@@ -91,7 +93,7 @@ impl Variables {
     fn keep_first(&mut self, alloc: Global, code: &[u8], signal: Signal) -> Result<(), Fault>
         ensures few { OnOk result (length self.old.kept.items < SIGNAL_LIMIT) }
         ensures kept { OnOk result (self.new.kept.items ≡ self.old.kept.items ++
-            record { code = code.now; signal = signal; first = length self.old.kept.items } ∷ []) }
+            record { signal = signal; first = length self.old.kept.items; hint = NO_HINT } ∷ []) }
         ensures widths { OnOk result (self.new.widths.items ≡
             self.old.widths.items ++ signal.wave.width ∷ []) }
         ensures code_targets { OnOk result ((key : List ℕ) → target_of self.new key ≡
@@ -103,23 +105,17 @@ impl Variables {
             ((fault ≡ TooManySignals) × (SIGNAL_LIMIT ≤ length self.old.kept.items))) }
     {
         let first = self.kept.len();
-        self.push(alloc, code, signal, first)?;
+        self.push(signal, first)?;
         self.code_targets
-            .insert(alloc, code, CodeTarget::Position(first))?;
+            .insert(alloc, code, CodeTarget::Position(first as u32))?;
         Ok(())
     }
 
     /// Keeps a variable; the first one of its code is at `first`.
-    fn push(
-        &mut self,
-        alloc: Global,
-        code: &[u8],
-        signal: Signal,
-        first: usize,
-    ) -> Result<(), Fault>
+    fn push(&mut self, signal: Signal, first: usize) -> Result<(), Fault>
         ensures few { OnOk result (length self.old.kept.items < SIGNAL_LIMIT) }
         ensures kept { OnOk result (self.new.kept.items ≡ self.old.kept.items ++
-            record { code = code.now; signal = signal; first = first } ∷ []) }
+            record { signal = signal; first = first; hint = NO_HINT } ∷ []) }
         ensures widths { OnOk result (self.new.widths.items ≡
             self.old.widths.items ++ signal.wave.width ∷ []) }
         ensures code_targets { self.new.code_targets ≡ self.old.code_targets }
@@ -131,12 +127,12 @@ impl Variables {
         if self.kept.len() >= SIGNAL_LIMIT {
             return Err(Fault::TooManySignals);
         }
-        let code = copy_word(alloc, code)?;
         self.widths.push(signal.wave.width())?;
+        let hint = NO_HINT;
         self.kept.push(Variable {
-            code,
             signal,
             first,
+            hint,
         })?;
         Ok(())
     }

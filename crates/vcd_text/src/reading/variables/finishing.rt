@@ -36,7 +36,7 @@ impl Variables {
         ensures empty { OnOk result (self.new.log.items ≡ []) }
     {
         let groups = replace(&mut self.log, Vec::new(alloc));
-        flush_log(alloc, &mut self.kept, groups)
+        flush_log(&mut self.kept, groups)
     }
 
     /// The signals of the kept variables, if the log is empty.

@@ -1,5 +1,4 @@
 use Rattle.std.proofs.Common.{arith}
-use Rattle.std.proofs.Common.{◌∙◌}
 use Rattle.vcd_text.proofs.ChangeLogs.{logged_longer, grouped_longer}
 use Rattle.vcd_text.proofs.reading.change_log.add_groups.Goals as goal
 

@@ -1,4 +1,4 @@
-use Rattle.std.proofs.Common.{◌<◌, ◌%◌, ◌==◌, ◌++◌, [], ◌∷◌, if◌then◌else◌, ◌∙◌, arith}
+use Rattle.std.proofs.Common.{arith}
 use Rattle.std.proofs.lemmas.Option.{slice_get-get_or}
 use Rattle.vcd_text.proofs.ChangeLogs.{logged_with, grouped_with}
 use Rattle.vcd_text.proofs.reading.change_log.append.Goals as goal

@@ -1,5 +1,4 @@
 use Rattle.std.proofs.Common.{arith}
-use Rattle.std.proofs.Common.{◌≡◌, [], ◌∷◌, ◌∙◌}
 use Rattle.vcd_text.proofs.LetterWords.{adds_one}
 use Rattle.vcd_text.proofs.reading.digit_words.with_digit.Goals as goal
 

@@ -1,5 +1,5 @@
 -- Each turn writes the transitions of one window.
-use Rattle.std.proofs.Common.{◌≤◌, ◌+◌, length, map, refl, sym, subst, arith, vec_capacity}
+use Rattle.std.proofs.Common.{◌≤◌, ◌+◌, map, refl, arith}
 use Rattle.vcd_core.specs.Contents.{signal_contents}
 use Rattle.vcd_text.specs.inside.Windows.{transitions_of}
 use Rattle.std.proofs.Common.{ap, ◌∙◌}

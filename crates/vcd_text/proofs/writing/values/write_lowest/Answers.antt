@@ -1,7 +1,6 @@
 -- Each turn writes one more word.
-use Rattle.std.proofs.Common.{◌-◌, ◌*◌, ◌/◌, ℕ, length, refl, ap, arith}
+use Rattle.std.proofs.Common.{refl, arith}
 use Rattle.std.proofs.lemmas.List.{drop_all}
-use Rattle.vcd_text.specs.Letters.{printed_letters}
 use Rattle.vcd_text.proofs.LetterBits.{lowest, word_and_rest}
 use Rattle.vcd_text.proofs.Written.{front_begun, front_grows, front_whole}
 use Rattle.vcd_text.proofs.writing.values.write_lowest.Goals as goal

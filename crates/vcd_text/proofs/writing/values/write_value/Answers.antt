@@ -1,5 +1,5 @@
 -- The words of a short value are its letters; a longer one has the short form between `b` and a space.
-use Rattle.std.proofs.Common.{◌≡◌, ◌≢◌, ◌++◌, ◌∷◌, [], length, sym, ap, ◌∙◌, arith}
+use Rattle.std.proofs.Common.{◌≢◌, ◌++◌, ◌∷◌, [], length, sym, ap, ◌∙◌, arith}
 use Rattle.vcd_text.specs.Letters.{printed_letters}
 use Rattle.vcd_text.specs.Text.{code_of}
 use Rattle.vcd_text.proofs.LetterBits.{given_whole}

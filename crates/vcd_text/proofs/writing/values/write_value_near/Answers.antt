@@ -1,6 +1,5 @@
 -- A change at the tick has the value there.
 use Rattle.std.proofs.Common.{arith}
-use Rattle.std.proofs.Common.{◌≡◌, ◌<◌, ◌∙◌}
 use Rattle.vcd_text.proofs.Near.{value_standing}
 use Rattle.vcd_text.proofs.writing.values.write_value_near.Goals as goal
 

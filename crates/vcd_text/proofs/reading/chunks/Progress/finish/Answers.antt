@@ -1,7 +1,7 @@
-use Rattle.std.proofs.Common.{◌≡◌, ◌⊎◌, inr, ℕ, ◌+◌, true, List, Err, IfErr, sym, ap, subst, ◌∙◌, arith}
+use Rattle.std.proofs.Common.{◌≡◌, ◌⊎◌, inr, ℕ, List, Err, IfErr, sym, ap, subst, ◌∙◌, arith}
 use Rattle.std.proofs.lemmas.Result.{err_from_is_err_and}
 use Rattle.vcd_text.specs.declared.fault.ReadError.{ReadError}
-use Rattle.vcd_text.specs.Words.{words_from, complete_words}
+use Rattle.vcd_text.specs.Words.{complete_words}
 use Rattle.vcd_text.specs.FoundFaults.{FoundFault, too_early}
 use Rattle.vcd_text.specs.MemoryErrors.{memory_error}
 use Rattle.vcd_text.specs.inside.Chunks.{HasReadBytes}

@@ -1,13 +1,12 @@
-use Rattle.std.proofs.Common.{◌≡◌, ℕ, ◌-◌, true, List, ◌++◌, Err, Option, IfErr, IfSome, refl, sym, ap, subst}
+use Rattle.std.proofs.Common.{◌≡◌, ℕ, true, List, ◌++◌, Err, Option, IfErr, IfSome, sym, ap, subst}
 use Rattle.std.proofs.Common.{◌∙◌, arith}
 use Rattle.std.proofs.KnownBytes.{Consumes-trans}
 use Rattle.std.proofs.lemmas.Result.{err_from_is_err_and}
 use Rattle.std.proofs.lemmas.List.{length-append}
 use Rattle.vcd_text.specs.declared.fault.Fault.TheVariants as faults
 use Rattle.vcd_text.specs.declared.fault.ReadError.{ReadError}
-use Rattle.vcd_text.specs.declared.reading.chunks.Progress.{Progress}
 use Rattle.vcd_text.specs.Refusals.{IsRefusal}
-use Rattle.vcd_text.specs.inside.Chunks.{HasTaken, ProgressMatches}
+use Rattle.vcd_text.specs.inside.Chunks.{ProgressMatches}
 use Rattle.vcd_text.proofs.Chunks.{has_come, shown_early, is_no_failure, full, broken}
 use Rattle.vcd_text.proofs.reading.chunks.Progress.take_chunk.Goals as goal
 

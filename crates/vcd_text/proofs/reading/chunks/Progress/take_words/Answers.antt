@@ -1,9 +1,9 @@
-use Rattle.std.proofs.Common.{ℕ, ◌+◌, true, not, Err, take, drop, refl, sym, ap, subst, ◌∙◌, arith}
+use Rattle.std.proofs.Common.{not, Err, take, drop, sym, ap, subst, ◌∙◌, arith}
 use Rattle.std.specs.List.{list_all}
 use Rattle.std.proofs.lemmas.Result.{err_from_is_err_and}
 use Rattle.std.proofs.lemmas.List.{length-take, length-append}
 use Rattle.vcd_core.specs.Word.{is_white_space}
-use Rattle.vcd_text.specs.Words.{words_from, complete_words}
+use Rattle.vcd_text.specs.Words.{complete_words}
 use Rattle.vcd_text.specs.inside.Spaces.{has_complete_words}
 use Rattle.vcd_text.specs.inside.Chunks.{TakesChunk, HasTaken}
 use Rattle.vcd_text.proofs.Chunks.{now_taken, now_shown, word_is_first}

@@ -1,7 +1,10 @@
-use Rattle.std.proofs.Common.{arith}
-use Rattle.std.proofs.Common.{◌∙◌, if◌then◌else◌, ℕ}
-use Rattle.vcd_text.proofs.CodeTargets.{target_put}
+use Rattle.std.proofs.Common.{sym}
+use Rattle.std.proofs.lemmas.Result.{on_ok_weaker}
+use Rattle.vcd_text.proofs.ShortCodes.{short_put}
 use Rattle.vcd_text.proofs.reading.code_targets.CodeTargets.insert.Goals as goal
 
-pub returns : goal.returns
-returns c = grind (arith, target_put)
+pub returns-in-Some : goal.returns-in-Some
+returns-in-Some c =
+    on_ok_weaker c.put_at.result
+    (short_put c.args.self.now c.put_at.new.table c.args.code.now c.in-Some.place c.args.target
+    (sym c.in-Some.ensures.place)) c.put_at.ensures

@@ -1,5 +1,4 @@
 use Rattle.std.proofs.Common.{arith}
-use Rattle.std.proofs.Common.{◌≡◌, ◌++◌, ◌∷◌, [], ◌∙◌}
 use Rattle.vcd_text.proofs.PlacedSignals.{as_declared}
 use Rattle.vcd_text.proofs.reading.scopes.Scopes.place_signals.Goals as goal
 

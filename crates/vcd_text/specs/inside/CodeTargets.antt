@@ -1,0 +1,36 @@
+-- The targets of codes: those of few bytes by their place in a table, the others by a map.
+use Rattle.std.specs.Prelude.{ℕ, ◌+◌, ◌*◌, ◌==◌, nat_le, ◌||◌, if◌then◌else◌, List, [], ◌∷◌, slice_index_or}
+use Rattle.std.specs.Prelude.{Option, Some, None, bytes_eq}
+use Rattle.std.specs.Global.{Vec}
+use Rattle.indexmap.specs.IndexMap.{IndexMap, get_by}
+use Rattle.vcd_text.specs.declared.reading.code_targets.CodeTarget.{CodeTarget}
+use Rattle.vcd_text.specs.declared.reading.code_targets.CodeTargets.{CodeTargets}
+
+-- a byte from 1 to 127 as a digit
+abbrev pub digit_of : ℕ → Option ℕ
+digit_of b = if b == 0 || nat_le 128 b then None else Some b
+
+-- a digit and those after it, if all are there
+abbrev pub joined_digits : Option ℕ → Option ℕ → Option ℕ
+joined_digits (Some a) (Some rest) = Some (a + 128 * rest)
+joined_digits first others = None
+
+-- the place of a code of one to three such bytes: they are its digits to the base 128, the lowest first
+abbrev pub place_of : List ℕ → Option ℕ
+place_of (a ∷ []) = digit_of a
+place_of (a ∷ b ∷ []) = joined_digits (digit_of a) (digit_of b)
+place_of (a ∷ b ∷ c ∷ []) = joined_digits (digit_of a) (joined_digits (digit_of b) (digit_of c))
+place_of code = None
+
+-- the target of a code in a map
+abbrev pub in_map : {S : Type 0} → IndexMap (Vec ℕ) CodeTarget S → List ℕ → Option CodeTarget
+in_map codes code = get_by (λ key. bytes_eq code key.items) codes
+
+-- the target of a code at this place
+abbrev pub target_at_place : CodeTargets → List ℕ → Option ℕ → Option CodeTarget
+target_at_place t code None = in_map t.others code
+target_at_place t code (Some place) = slice_index_or t.short.items place None
+
+-- the target of a code; none if it has none
+abbrev pub code_target : CodeTargets → List ℕ → Option CodeTarget
+code_target t code = target_at_place t code (place_of code)
