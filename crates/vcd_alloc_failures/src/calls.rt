@@ -2,10 +2,11 @@
 
 use crate::decoders::call_decoder;
 use crate::edits::{call_apply, call_held, call_revert};
-use crate::files::{call_read, call_write, count_write, read_bytes};
+use crate::files::{call_read, call_read_whole, call_write, count_write, read_bytes};
 use crate::printing::Failure;
 use crate::sessions::{call_new, call_run, call_step};
 use crate::waves::call_on_wave;
+use crate::words::call_on_words;
 use std::rt::Runtime;
 
 /// The call that the words of the command line ask for, on a capture.
@@ -25,7 +26,13 @@ pub struct Call<'a> {
 /// Makes the named call, and prints what it left.
 pub fn make_call<R: Runtime + AllocGlobal>(rt: &R, call: &Call) -> Result<(), Failure> {
     match call.name {
-        "push" | "share" | "reserve" | "reserve_exact" | "reserve_splice" => call_on_wave(rt, call),
+        "push" | "push_word" | "share" | "reserve" | "reserve_exact" | "reserve_splice" => {
+            call_on_wave(rt, call)
+        }
+        "copy_word" | "copy_words" | "copy_scopes" | "share_path" | "front" | "share_scopes" => {
+            call_on_words(rt, call)
+        }
+        "read_whole" => call_read_whole(rt, call),
         "read" => call_read(rt, call),
         "write" => call_write(rt, call),
         "counted" => count_write(rt, call),

@@ -12,7 +12,7 @@ use std::alloc::Global;
 use std::io;
 use std::io::Write;
 use std::rt::Runtime;
-use vcd_core::{Capture, FromRead, Sink, Source, ToWrite};
+use vcd_core::{Capture, FromRead, Sink, Source, ToWrite, read_whole};
 use vcd_text::{read, write};
 
 /// How many bytes a sink into memory takes without more memory.
@@ -39,6 +39,23 @@ pub fn call_read<R: Runtime + AllocGlobal>(rt: &R, call: &Call) -> Result<(), Fa
                 allow(rt, error.name())?;
                 println!(rt; "line {}", error.line)?;
             }
+        }
+    }
+    let has_failed = source.failed();
+    let is_rest = call.text.ends_with(source.into_inner());
+    println!(rt; "failed {has_failed}, rest of the text {is_rest}")?;
+    Ok(())
+}
+
+/// `read_whole`. Prints whether the source has failed, and whether the rest ends the text.
+pub fn call_read_whole<R: Runtime + AllocGlobal>(rt: &R, call: &Call) -> Result<(), Failure> {
+    let mut source = FromRead::new(call.text);
+    let mut bytes = Vec::new(rt.alloc());
+    if call.makes {
+        refuse(rt)?;
+        match read_whole(&mut source, TEXT_LIMIT, &mut bytes) {
+            Ok(()) => allow(rt, DONE)?,
+            Err(fault) => allow(rt, fault.name())?,
         }
     }
     let has_failed = source.failed();

@@ -6,8 +6,10 @@
 //!
 //! | CALL | ARGUMENT | BEFORE |
 //! |---|---|---|
-//! | `push`, `share`, `reserve`, `reserve_exact`, `reserve_splice` | `shared`, or nothing | |
-//! | `read`, `write`, `uart`, `spi`, `i2c`, `Session::new` | | |
+//! | `push`, `push_word`, `share`, `reserve`, `reserve_exact`, `reserve_splice` | `shared`, or nothing | |
+//! | `copy_word`, `copy_words`, `copy_scopes`: of the first signal | | |
+//! | `share_path`, `front`: of a path that has its scopes alone; `share_scopes`: `ScopePath::shared` | | |
+//! | `read_whole`, `read`, `write`, `uart`, `spi`, `i2c`, `Session::new` | | |
 //! | `apply`, `revert` | an edit | |
 //! | `held`: lets the record of an edit go | an edit | `undo`, or nothing |
 //! | `step` | a step | the steps made before it |
@@ -28,6 +30,7 @@ mod files;
 mod printing;
 mod sessions;
 mod waves;
+mod words;
 
 use calls::{Call, make_call};
 use printing::Failure;

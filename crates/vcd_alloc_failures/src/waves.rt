@@ -6,7 +6,7 @@ use crate::calls::Call;
 use crate::printing::{DONE, Failure, allow, print_wave, refuse};
 use std::alloc::Global;
 use std::rt::Runtime;
-use vcd_core::{Bit, Change, NoMemory, Value, Wave};
+use vcd_core::{Bit, Change, LetterWord, NoMemory, Value, Wave};
 
 /// For how many changes room is made.
 const MORE: usize = 9;
@@ -22,7 +22,7 @@ fn full_wave(alloc: Global) -> Result<Wave, NoMemory>
     Ok(wave)
 }
 
-/// `Wave::push`, `share`, `reserve`, `reserve_exact` and `reserve_splice`, by their names. With the word `shared`
+/// `Wave::push`, `push_word`, `share`, `reserve`, `reserve_exact` and `reserve_splice`, by their names. With the word `shared`
 /// another wave shares the list, and is printed, too.
 pub fn call_on_wave<R: Runtime + AllocGlobal>(rt: &R, call: &Call) -> Result<(), Failure> {
     let piece = full_wave(rt.alloc())?;
@@ -55,13 +55,14 @@ fn make_growth<R: Runtime + AllocGlobal>(
     print_wave(rt, wave)
 }
 
-/// The call of a name: `push`, `share`, `reserve`, `reserve_exact`, else `reserve_splice`.
+/// The call of a name: `push`, `push_word`, `share`, `reserve`, `reserve_exact`, else `reserve_splice`.
 fn grow(wave: &mut Wave, piece: &[Change], name: &str) -> Result<(), NoMemory>
     requires width { wave.old.width ≡ 1 }
     requires early { All (λ c. c.tick ≤ 0) wave.old.changes }
 {
     match name {
         "push" => wave.push(5, Value::filled(1, Bit::Zero)),
+        "push_word" => wave.push_word(5, LetterWord { low: 0, high: 0 }),
         "share" => share_and_drop(wave),
         "reserve" => wave.reserve(MORE),
         "reserve_exact" => wave.reserve_exact(MORE),
