@@ -44,40 +44,64 @@ pub fn parse_spi<'a>(words: &mut Words<'a>, capture: &Capture) -> Parsed<'a>
     let mosi = signal_or_absent(capture, mosi)?;
     let miso = signal_or_absent(capture, miso)?;
     let cs = signal_or_absent(capture, cs)?;
-    spi_with(capture, (clk, mosi, miso, cs), (mode, bits, order))
+    let lines = SpiLines {
+        clk,
+        mosi,
+        miso,
+        cs,
+    };
+    spi_with(capture, lines, mode, bits, order)
 }
 
 /// The signals of the clock and of the lines that are there.
-type SpiLines = (usize, Option<usize>, Option<usize>, Option<usize>);
+#[derive(Clone, Copy)]
+pub struct SpiLines {
+    clk: usize,
+    mosi: Option<usize>,
+    miso: Option<usize>,
+    cs: Option<usize>,
+}
 
 /// Reads `MODE BITS ORDER` after these lines.
-fn spi_with<'a>(capture: &Capture, lines: SpiLines, setup: (&[u8], &[u8], &[u8])) -> Parsed<'a>
-    requires clk { lines.0 < length capture.now.signals }
-    requires mosi { IfSome lines.1 (λ k. k < length capture.now.signals) }
-    requires miso { IfSome lines.2 (λ k. k < length capture.now.signals) }
-    requires cs { IfSome lines.3 (λ k. k < length capture.now.signals) }
-    ensures { ReadsAs (spi_with_command (contents capture.now) lines
-        setup.entry.0.now setup.entry.1.now setup.entry.2.now) result }
+fn spi_with<'a>(
+    capture: &Capture,
+    lines: SpiLines,
+    mode: &[u8],
+    bits: &[u8],
+    order: &[u8],
+) -> Parsed<'a>
+    requires clk { lines.clk < length capture.now.signals }
+    requires mosi { IfSome lines.mosi (λ k. k < length capture.now.signals) }
+    requires miso { IfSome lines.miso (λ k. k < length capture.now.signals) }
+    requires cs { IfSome lines.cs (λ k. k < length capture.now.signals) }
+    ensures { ReadsAs
+        (spi_with_command (contents capture.now) lines mode.now bits.now order.now) result }
 {
-    let mode = number_of_word(setup.0)?;
-    let bits = number_of_word(setup.1)?;
-    let order = order_of_word(setup.2)?;
-    checked_spi(capture, lines, (mode, bits, order))
+    let mode = number_of_word(mode)?;
+    let bits = number_of_word(bits)?;
+    let order = order_of_word(order)?;
+    checked_spi(capture, lines, mode, bits, order)
 }
 
 /// The command for these lines, which must have one bit, with a setup that must have no fault.
-fn checked_spi<'a>(capture: &Capture, lines: SpiLines, setup: (u64, u64, BitOrder)) -> Parsed<'a>
-    requires clk { lines.0 < length capture.now.signals }
-    requires mosi { IfSome lines.1 (λ k. k < length capture.now.signals) }
-    requires miso { IfSome lines.2 (λ k. k < length capture.now.signals) }
-    requires cs { IfSome lines.3 (λ k. k < length capture.now.signals) }
-    ensures { ReadsAs (checked_spi_command (contents capture.now) lines setup) result }
+fn checked_spi<'a>(
+    capture: &Capture,
+    lines: SpiLines,
+    mode: u64,
+    bits: u64,
+    order: BitOrder,
+) -> Parsed<'a>
+    requires clk { lines.clk < length capture.now.signals }
+    requires mosi { IfSome lines.mosi (λ k. k < length capture.now.signals) }
+    requires miso { IfSome lines.miso (λ k. k < length capture.now.signals) }
+    requires cs { IfSome lines.cs (λ k. k < length capture.now.signals) }
+    ensures { ReadsAs (checked_spi_command (contents capture.now) lines mode bits order) result }
 {
-    let clk = one_bit_signal(capture, lines.0)?;
-    let mosi = one_bit_signal_or_absent(capture, lines.1)?;
-    let miso = one_bit_signal_or_absent(capture, lines.2)?;
-    let cs = one_bit_signal_or_absent(capture, lines.3)?;
-    let setup = spi_of(setup.0, setup.1, setup.2)?;
+    let clk = one_bit_signal(capture, lines.clk)?;
+    let mosi = one_bit_signal_or_absent(capture, lines.mosi)?;
+    let miso = one_bit_signal_or_absent(capture, lines.miso)?;
+    let cs = one_bit_signal_or_absent(capture, lines.cs)?;
+    let setup = spi_of(mode, bits, order)?;
     Ok(Command::Spi {
         clk,
         mosi,
