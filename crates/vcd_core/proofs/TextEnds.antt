@@ -1,100 +1,112 @@
 -- A text ends with another only if their ends agree.
-use Rattle.std.proofs.Common.{◌≡◌, ℕ, ◌+◌, ◌-◌, ◌*◌, ◌%◌, ◌^◌, ◌<◌, ◌≤◌, inl, inr, List, [], ◌∷◌, ◌++◌}
-use Rattle.std.proofs.Common.{if◌then◌else◌, refl, sym, ap, subst, ◌∙◌, arith}
+use Rattle.std.proofs.Common.{◌≡◌, ℕ, ◌+◌, ◌-◌, ◌*◌, ◌/◌, ◌%◌, ◌^◌, ◌<◌, ◌≤◌, inl, inr, List, [], ◌∷◌, ◌++◌}
+use Rattle.std.proofs.Common.{refl, sym, ap, subst, ◌∙◌, arith}
 use Rattle.std.specs.Prelude.{◌==◌, IsTrue}
+use Rattle.std.specs.Int.Bits.{bit_and}
 use Rattle.std.proofs.lemmas.Bool.Decides.{nat_tests}
-use Rattle.std.proofs.Math.Nat.{mul-mod_left, mul_assoc, add-mul}
-use Rattle.std.proofs.Math.Pow.{pow-add}
-use Rattle.std.proofs.lemmas.Nat.{mul-mod_first}
-use Rattle.std.proofs.lemmas.Bool.{cases_lt, lt-ltb, le-ltb}
+use Rattle.std.proofs.lemmas.Bool.{cases_lt}
+use Rattle.std.proofs.lemmas.Nat.{and_mask, pow_pos}
+use Rattle.std.proofs.Math.Nat.{mul_assoc, mul_comm, div-add-mod, mul-add-mod_self_right}
+use Rattle.std.proofs.Math.Pow.{pow-add, pow_mono, mod-mod-pow}
 use Rattle.vcd_core.specs.declared.text_end.TextEnd.{TextEnd}
-use Rattle.vcd_core.specs.declared.text_end.TheConstants.{END_LIMIT}
 use Rattle.vcd_core.specs.inside.TextEnds.{longer_end, end_after, text_end}
 
--- the lowest n bytes of a number, moved up to its highest place
-abbrev pub last_bytes : ℕ → ℕ → ℕ
-last_bytes n x = x * 2 ^ (8 * (END_LIMIT - n)) % 2 ^ 128
+-- the number that the last n bytes of a number make
+abbrev lowest : ℕ → ℕ → ℕ
+lowest n x = x % 2 ^ (8 * n)
 
--- they are one byte more after a byte is added
-byte_added : (n x byte : ℕ) → n < END_LIMIT
-    → last_bytes (n + 1) ((x * 256 % 2 ^ 128 + byte) % 2 ^ 128)
-    ≡ (last_bytes n x + byte * 2 ^ (8 * (END_LIMIT - (n + 1)))) % 2 ^ 128
-byte_added n x byte few =
-    let k = 8 * (END_LIMIT - (n + 1)) in
-    let moved : 256 * 2 ^ k ≡ 2 ^ (8 * (END_LIMIT - n)) =
-    sym (pow-add 2 8 k) ∙ ap (λ j. 2 ^ j) {x = 8 + k} {y = 8 * (END_LIMIT - n)} (omega (arith, few)) in
-    mul-mod_first (x * 256 % 2 ^ 128 + byte) (2 ^ k) (2 ^ 128)
-    ∙ ap (λ z. z % 2 ^ 128) (add-mul (x * 256 % 2 ^ 128) byte (2 ^ k))
-    ∙ mod_of_sum (x * 256 % 2 ^ 128 * 2 ^ k) (byte * 2 ^ k)
-    ∙ ap (λ z. (z + byte * 2 ^ k) % 2 ^ 128)
-    (mul-mod_first (x * 256) (2 ^ k) (2 ^ 128)
-    ∙ ap (λ z. z % 2 ^ 128) (mul_assoc x 256 (2 ^ k) ∙ ap (λ z. x * z) moved))
-  where
-    mod_of_sum : (a b : ℕ) → (a + b) % 2 ^ 128 ≡ (a % 2 ^ 128 + b) % 2 ^ 128
-    mod_of_sum a b = omega arith
+fewer_of_lowest : (n m x : ℕ) → m ≤ n → lowest m (lowest n x) ≡ lowest m x
+fewer_of_lowest n m x fewer =
+    ap (λ k. x % 2 ^ k % 2 ^ (8 * m)) {x = 8 * n} {y = (8 * n - 8 * m) + 8 * m} (omega (arith, fewer))
+    ∙ mod-mod-pow x (8 * n - 8 * m) (8 * m)
 
-few_bytes : (end : TextEnd) (byte : ℕ) → end.count ≤ END_LIMIT → (longer_end end byte).count ≤ END_LIMIT
-few_bytes end byte few = elim (cases_lt end.count END_LIMIT) [
-  | inl short ↦
-      omega (arith, ap (λ b. if b then end.count + 1 else end.count) (lt-ltb end.count END_LIMIT short), short)
-  | inr full ↦ omega (arith, ap (λ b. if b then end.count + 1 else end.count) (le-ltb end.count END_LIMIT full), few)
-]
+one_more : (n : ℕ) → 2 ^ (8 * (n + 1)) ≡ 2 ^ (8 * n) * 256
+one_more n = ap (λ k. 2 ^ k) {x = 8 * (n + 1)} {y = 8 * n + 8} (omega arith) ∙ pow-add 2 (8 * n) 8
 
--- a text has an end of at most so many bytes
-pub few_after : (end : TextEnd) (text : List ℕ) → end.count ≤ END_LIMIT → (end_after end text).count ≤ END_LIMIT
-unfolding end_after
-few_after end [] few = few
-few_after end (byte ∷ text) few = few_after (longer_end end byte) text (few_bytes end byte few)
+-- after one byte more, n + 1 of them depend on n of those before
+byte_added : (n x byte : ℕ) → lowest (n + 1) (x * 256 + byte) ≡ lowest (n + 1) (lowest n x * 256 + byte)
+byte_added n x byte =
+    let P = 2 ^ (8 * n) in
+    let q = x / P in
+    let moved : q * 2 ^ (8 * (n + 1)) ≡ P * q * 256 =
+    ap (λ k. q * k) (one_more n) ∙ sym (mul_assoc q P 256) ∙ ap (λ k. k * 256) (mul_comm q P) in
+    let parts : P * q + x % P ≡ x = div-add-mod x P in
+    ap (lowest (n + 1)) {x = x * 256 + byte} {y = q * 2 ^ (8 * (n + 1)) + (x % P * 256 + byte)}
+    (omega (arith, moved, parts))
+    ∙ mul-add-mod_self_right q (2 ^ (8 * (n + 1))) (x % P * 256 + byte)
+
+lowest_after : (n m x byte : ℕ) → m ≤ n + 1 → m ≤ 16
+    → lowest m ((x * 256 % 2 ^ 128 + byte) % 2 ^ 128) ≡ lowest m (lowest n x * 256 + byte)
+lowest_after n m x byte fewer few =
+    ap (lowest m) {x = (x * 256 % 2 ^ 128 + byte) % 2 ^ 128} {y = lowest 16 (x * 256 + byte)} (omega arith)
+    ∙ fewer_of_lowest 16 m (x * 256 + byte) few
+    ∙ sym (fewer_of_lowest (n + 1) m (x * 256 + byte) fewer)
+    ∙ ap (lowest m) (byte_added n x byte)
+    ∙ fewer_of_lowest (n + 1) m (lowest n x * 256 + byte) fewer
 
 -- two ends agree in as many bytes as the second has
-abbrev Agrees : TextEnd → TextEnd → Type 0
-Agrees s t = last_bytes t.count s.bytes ≡ last_bytes t.count t.bytes
+record Agree (s t : TextEnd) : Type 0 where
+  count : ℕ
+  few : count ≤ 16
+  mask : t.mask ≡ 2 ^ (8 * count) - 1
+  bytes : lowest count s.bytes ≡ lowest count t.bytes
 
-longer_agrees : (s t : TextEnd) (byte : ℕ) → t.count ≤ END_LIMIT → Agrees s t
-    → Agrees (longer_end s byte) (longer_end t byte)
-longer_agrees s t byte few same = elim (cases_lt t.count END_LIMIT) [
-  | inl short ↦
-      let grown : (longer_end t byte).count ≡ t.count + 1 =
-      ap (λ b. if b then t.count + 1 else t.count) (lt-ltb t.count END_LIMIT short) in
-      subst (λ n. last_bytes n (longer_end s byte).bytes ≡ last_bytes n (longer_end t byte).bytes) (sym grown)
-      (byte_added t.count s.bytes byte short
-      ∙ ap (λ z. (z + byte * 2 ^ (8 * (END_LIMIT - (t.count + 1)))) % 2 ^ 128) same
-      ∙ sym (byte_added t.count t.bytes byte short))
+longer_agree : (s t : TextEnd) (byte : ℕ) → Agree s t → Agree (longer_end s byte) (longer_end t byte)
+longer_agree s t byte agree = elim (cases_lt agree.count 16) [
+  | inl fewer ↦
+      let more : 2 ^ (8 * (agree.count + 1)) ≤ 2 ^ 128 = pow_mono {i = 8 * (agree.count + 1)} {j = 128} (omega (arith, fewer)) in
+      counted (agree.count + 1) (omega arith) (omega (arith, fewer))
+      (omega (arith, agree.mask, one_more agree.count, pow_pos (8 * agree.count), more))
   | inr full ↦
-      let kept : (longer_end t byte).count ≡ t.count =
-      ap (λ b. if b then t.count + 1 else t.count) (le-ltb t.count END_LIMIT full) in
-      let all : t.count ≡ END_LIMIT = omega (arith, full, few) in
-      let equal : s.bytes * 1 % 2 ^ 128 ≡ t.bytes * 1 % 2 ^ 128 =
-      subst (λ n. last_bytes n s.bytes ≡ last_bytes n t.bytes) all same in
-      ap (last_bytes (longer_end t byte).count) (omega (arith, equal))
+      let all : agree.count ≡ 16 = omega (arith, full, agree.few) in
+      counted 16 (omega (arith, all)) (omega arith)
+      (omega (arith, agree.mask ∙ ap (λ n. 2 ^ (8 * n) - 1) all))
 ]
+  where
+    counted : (n : ℕ) → n ≤ agree.count + 1 → n ≤ 16 → (longer_end t byte).mask ≡ 2 ^ (8 * n) - 1
+        → Agree (longer_end s byte) (longer_end t byte)
+    counted n fewer few mask = record {
+      count = n;
+      few = few;
+      mask = mask;
+      bytes = lowest_after agree.count n s.bytes byte fewer few
+          ∙ ap (λ x. lowest n (x * 256 + byte)) agree.bytes
+          ∙ sym (lowest_after agree.count n t.bytes byte fewer few);
+    }
 
 -- ends that agree still do after the same bytes
-after_agrees : (s t : TextEnd) (text : List ℕ) → t.count ≤ END_LIMIT → Agrees s t
-    → Agrees (end_after s text) (end_after t text)
+after_agree : (s t : TextEnd) (text : List ℕ) → Agree s t → Agree (end_after s text) (end_after t text)
 unfolding end_after
-after_agrees s t [] few same = same
-after_agrees s t (byte ∷ text) few same =
-    after_agrees (longer_end s byte) (longer_end t byte) text (few_bytes t byte few) (longer_agrees s t byte few same)
+after_agree s t [] agree = agree
+after_agree s t (byte ∷ text) agree =
+    after_agree (longer_end s byte) (longer_end t byte) text (longer_agree s t byte agree)
 
 -- the end of a text in two parts
-pub end_of_both : (end : TextEnd) (front text : List ℕ)
-    → end_after end (front ++ text) ≡ end_after (end_after end front) text
+end_of_both : (end : TextEnd) (front text : List ℕ) → end_after end (front ++ text) ≡ end_after (end_after end front) text
 unfolding end_after
 end_of_both end [] text = refl
 end_of_both end (byte ∷ front) text = end_of_both (longer_end end byte) front text
 
--- a text that ends with another agrees with it
-pub ends_agree : (front text : List ℕ) → Agrees (text_end (front ++ text)) (text_end text)
-ends_agree front text =
-    let start : TextEnd = record { count = 0; bytes = 0 } in
-    subst (λ s. Agrees s (text_end text)) (sym (end_of_both start front text))
-    (after_agrees (end_after start front) start text (omega arith)
-    (mul-mod_left (end_after start front).bytes (2 ^ 128)))
-
--- so the test of the numbers passes
-pub passes_test : (a b : ℕ) → a ≡ b → IsTrue (a == b)
-passes_test a b same = grind (arith, nat_tests)
+-- a text that ends with another passes the test
+pub passes_test : (s t : TextEnd) (text front end : List ℕ) → s ≡ text_end text → t ≡ text_end end → text ≡ front ++ end
+    → IsTrue (bit_and s.bytes t.mask == bit_and t.bytes t.mask)
+passes_test s t text front end is other ends =
+    let start : TextEnd = record { bytes = 0; mask = 0 } in
+    let first : TextEnd = end_after start front in
+    let agree : Agree (end_after first end) (end_after start end) = after_agree first start end (record {
+      count = 0;
+      few = omega arith;
+      mask = refl;
+      bytes = omega arith;
+    }) in
+    let agreed : Agree s t = subst (λ (both : TextEnd × TextEnd). Agree both.0 both.1)
+    (λ i. (sym (is ∙ ap text_end ends ∙ end_of_both start front end) i, sym other i)) agree in
+    same (bit_and s.bytes t.mask) (bit_and t.bytes t.mask) (
+    ap (bit_and s.bytes) agreed.mask ∙ and_mask s.bytes (8 * agreed.count) ∙ agreed.bytes
+    ∙ sym (ap (bit_and t.bytes) agreed.mask ∙ and_mask t.bytes (8 * agreed.count)))
+  where
+    same : (a b : ℕ) → a ≡ b → IsTrue (a == b)
+    same a b is = grind (arith, nat_tests)
 
 pub end_nil : (end : TextEnd) → end_after end [] ≡ end
 unfolding end_after

@@ -1,17 +1,15 @@
 //! The ends of texts, by which one look tells most texts apart.
 
-ghost use Rattle.std.specs.Prelude.{◌≡◌, [], ◌++◌, ◌≤◌, List, ℕ, IsTrue};
+ghost use Rattle.std.specs.Prelude.{◌≡◌, [], ◌++◌, List, ℕ, IsTrue};
 ghost use Rattle.vcd_core.specs.inside.TextEnds.{longer_end, text_end};
 
-/// The most bytes of an end.
-const END_LIMIT: u32 = 16;
-
-/// The last bytes of a text: how many they are, at most [`END_LIMIT`], and the number that they
-/// make, of which the last byte is the lowest.
+/// The last 16 bytes of a text as a number, of which the last byte is the lowest. Of a shorter text
+/// they are all.
 #[derive(Clone, Copy)]
 pub(crate) struct TextEnd {
-    count: u32,
     bytes: u128,
+    /// The bits that are of a byte of the text.
+    mask: u128,
 }
 
 impl TextEnd {
@@ -19,7 +17,7 @@ impl TextEnd {
     pub(crate) fn new() -> TextEnd
         ensures { result ≡ text_end [] }
     {
-        TextEnd { count: 0, bytes: 0 }
+        TextEnd { bytes: 0, mask: 0 }
     }
 
     /// That of the text with one byte more.
@@ -27,12 +25,8 @@ impl TextEnd {
         ensures { result ≡ longer_end self byte }
     {
         TextEnd {
-            count: if self.count < END_LIMIT {
-                self.count + 1
-            } else {
-                self.count
-            },
             bytes: self.bytes.wrapping_mul(256).wrapping_add(byte as u128),
+            mask: self.mask.wrapping_mul(256).wrapping_add(255),
         }
     }
 
@@ -40,14 +34,9 @@ impl TextEnd {
     /// the text does; who asks compares the bytes then.
     #[inline(always)]
     pub(crate) fn may_end_with(self, other: TextEnd) -> bool
-        requires { other.count ≤ END_LIMIT }
         ensures { (text front end : List ℕ) → self ≡ text_end text → other ≡ text_end end
             → text ≡ front ++ end → IsTrue result }
     {
-        if other.count == 0 {
-            return true;
-        }
-        let shift = 8 * (END_LIMIT - other.count);
-        self.bytes << shift == other.bytes << shift
+        self.bytes & other.mask == other.bytes & other.mask
     }
 }

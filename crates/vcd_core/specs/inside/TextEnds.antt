@@ -1,13 +1,12 @@
 -- The ends of texts: equal texts have equal ends, and so have a text and its own end.
-use Rattle.std.specs.Prelude.{ℕ, ◌+◌, ◌*◌, ◌%◌, ◌^◌, List, [], ◌∷◌, if◌then◌else◌, nat_lt}
+use Rattle.std.specs.Prelude.{ℕ, ◌+◌, ◌*◌, ◌%◌, ◌^◌, List, [], ◌∷◌}
 use Rattle.vcd_core.specs.declared.text_end.TextEnd.{TextEnd}
-use Rattle.vcd_core.specs.declared.text_end.TheConstants.{END_LIMIT}
 
 -- the end of a text with one byte more
 abbrev pub longer_end : TextEnd → ℕ → TextEnd
 longer_end end byte = record {
-  count = if nat_lt end.count END_LIMIT then end.count + 1 else end.count;
   bytes = (end.bytes * 256 % 2 ^ 128 + byte) % 2 ^ 128;
+  mask = (end.mask * 256 % 2 ^ 128 + 255) % 2 ^ 128;
 }
 
 -- the end after these bytes, from that before them
@@ -17,4 +16,4 @@ end_after end (byte ∷ text) = end_after (longer_end end byte) text
 
 -- the end of a text
 abbrev pub text_end : List ℕ → TextEnd
-text_end text = end_after (record { count = 0; bytes = 0 }) text
+text_end text = end_after (record { bytes = 0; mask = 0 }) text

@@ -1,18 +1,10 @@
-use Rattle.std.proofs.Common.{◌≤◌, subst, sym, ◌∙◌, arith}
+use Rattle.std.proofs.Common.{◌∙◌}
 use Rattle.std.specs.List.{concat}
 use Rattle.vcd_core.specs.Contents.{signal_contents}
 use Rattle.vcd_core.specs.Names.{full_name}
 use Rattle.vcd_core.specs.FullName.{name_bytes}
-use Rattle.vcd_core.specs.declared.text_end.TextEnd.{TextEnd}
-use Rattle.vcd_core.specs.declared.text_end.TheConstants.{END_LIMIT}
 use Rattle.vcd_core.proofs.FullNames.{name_in_ends, not_the_name}
-use Rattle.vcd_core.proofs.TextEnds.{few_after}
 use Rattle.vcd_core.proofs.full_name.FullName.is_name_of.Goals as goal
-
-pub may_end_with-requires : goal.may_end_with-requires
-may_end_with-requires c =
-    subst (λ (end : TextEnd). end.count ≤ END_LIMIT) (sym c.end.ensures)
-    (few_after (record { count = 0; bytes = 0 }) (concat c.args.signal.now.words) (omega arith))
 
 pub returns-else-may_end_with : goal.returns-else-may_end_with
 returns-else-may_end_with c = λ end.

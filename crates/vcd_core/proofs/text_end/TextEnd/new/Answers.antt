@@ -3,4 +3,4 @@ use Rattle.vcd_core.proofs.TextEnds.{end_nil}
 use Rattle.vcd_core.proofs.text_end.TextEnd.new.Goals as goal
 
 pub returns : goal.returns
-returns c = sym (end_nil (record { count = 0; bytes = 0 }))
+returns c = sym (end_nil (record { bytes = 0; mask = 0 }))
