@@ -11,9 +11,8 @@ use Rattle.vcd_core.specs.Wave.{AllUpTo}
 use Rattle.vcd_core.specs.WaveView.{WaveView}
 use Rattle.vcd_core.specs.Edges.{Trace, trace_of, value_on, value_before, same_value, changes_at, edge_on, edges_on}
 use Rattle.vcd_core.specs.Edges.{EachUpTo}
-use Rattle.vcd_core.specs.declared.edges.Trace.{Trace as LentTrace}
-use Rattle.vcd_core.specs.declared.edges.Edges.TheInside.{Inside}
-use Rattle.vcd_core.specs.inside.EdgeWalk.{trace_left, traces_left, edges_left, next_tick, earlier_tick, next_tick_of}
+use Rattle.vcd_core.specs.BitEdges.{lowest_bit, bit_edge}
+use Rattle.vcd_core.specs.inside.EdgeWalk.{edges_left, bit_edges_left, next_tick, earlier_tick, next_tick_of}
 use Rattle.vcd_core.specs.inside.EdgeWalk.{trace_after, trace_past, EachRises, ticks_sum, reach}
 use Rattle.vcd_core.proofs.EdgeLines.{line, quiet, quiet_value, quiet_before, after_agrees, after_rises, changes_there}
 use Rattle.vcd_core.proofs.EdgeLines.{rises_next, lower_rises, ended}
@@ -247,54 +246,41 @@ walk_begins waves end upto =
     let ls = map trace_of waves in
     edges_same ls (reach ls) end (reach_ends ls (reach ls) (omega arith)) (waves_end waves end upto)
 
--- ---- the walk over four waves
+-- ---- the edges that are left
 
 -- where no change is left, no edge is left
-pub walk_over : (e : Inside) → EachRises 0 (traces_left e) → next_tick_of (traces_left e) ≡ None → edges_left e ≡ []
+pub walk_over : (ls : List Trace) → EachRises 0 ls → next_tick_of ls ≡ None → edges_left ls ≡ []
 unfolding edges_left
-walk_over e rise next = no_edges (traces_left e) (reach (traces_left e)) rise next
+walk_over ls rise next = no_edges ls (reach ls) rise next
 
--- the walk with these tracks
-abbrev pub walk_of : LentTrace → LentTrace → LentTrace → LentTrace → Inside
-walk_of a b c d = record { a = a; b = b; c = c; d = d }
-
--- the waves after a tick are those of the tracks after it
-advanced_lines : (e : Inside) (a b c d : LentTrace) (t : ℕ) → trace_left a ≡ trace_after t (trace_left e.a)
-    → trace_left b ≡ trace_after t (trace_left e.b) → trace_left c ≡ trace_after t (trace_left e.c)
-    → trace_left d ≡ trace_after t (trace_left e.d)
-    → traces_left (walk_of a b c d) ≡ map (trace_after t) (traces_left e)
-advanced_lines e a b c d t a_is b_is c_is d_is = λ i. a_is i ∷ b_is i ∷ c_is i ∷ d_is i ∷ []
-
-pub walk_next : (e : Inside) (a b c d : LentTrace) (t : ℕ) → EachRises 0 (traces_left e)
-    → next_tick_of (traces_left e) ≡ Some t
-    → trace_left a ≡ trace_after t (trace_left e.a) → trace_left b ≡ trace_after t (trace_left e.b)
-    → trace_left c ≡ trace_after t (trace_left e.c) → trace_left d ≡ trace_after t (trace_left e.d)
-    → edges_left e ≡ record {
-      tick = t;
-      before = map (λ l. l.before) (traces_left e);
-      at =
-          map (λ l. l.before) (traces_left (walk_of a b c d));
-    } ∷ edges_left (walk_of a b c d)
+-- the edge of the next tick comes first, and then those of the waves after it
+pub walk_next : (ls ks : List Trace) (t : ℕ) (before at : List (Option (List Bit))) → EachRises 0 ls
+    → next_tick_of ls ≡ Some t → ks ≡ map (trace_after t) ls → before ≡ map (λ l. l.before) ls
+    → at ≡ map (λ l. l.before) ks → edges_left ls ≡ record { tick = t; before = before; at = at } ∷ edges_left ks
 unfolding edges_left
-walk_next e a b c d t rise next a_is b_is c_is d_is =
-    let ls = traces_left e in
+walk_next ls ks t before at rise next is before_is at_is =
     let P : List Trace → Type 0 =
     λ ks. edges_on ls (reach ls) ≡ record { tick = t; before = map (λ l. l.before) ls; at = map (λ l. l.before) ks }
     ∷ edges_on ks (reach ks) in
-    subst P (sym (advanced_lines e a b c d t a_is b_is c_is d_is)) (walk_step ls t rise next)
+    subst P (sym is) (walk_step ls t rise next)
+    ∙ (λ i. record { tick = t; before = sym before_is i; at = sym at_is i } ∷ edges_on ks (reach ks))
 
-pub walk_kept : (e : Inside) (a b c d : LentTrace) (t : ℕ) → EachRises 0 (traces_left e)
-    → next_tick_of (traces_left e) ≡ Some t
-    → trace_left a ≡ trace_after t (trace_left e.a) → trace_left b ≡ trace_after t (trace_left e.b)
-    → trace_left c ≡ trace_after t (trace_left e.c) → trace_left d ≡ trace_after t (trace_left e.d)
-    → EachRises 0 (traces_left (walk_of a b c d))
-walk_kept e a b c d t rise next a_is b_is c_is d_is =
-    subst (EachRises 0) (sym (advanced_lines e a b c d t a_is b_is c_is d_is)) (walk_rises (traces_left e) t rise next)
+pub bit_walk_next : (ls ks : List Trace) (t : ℕ) (before at : List (Option Bit)) → EachRises 0 ls
+    → next_tick_of ls ≡ Some t → ks ≡ map (trace_after t) ls → before ≡ map lowest_bit (map (λ l. l.before) ls)
+    → at ≡ map lowest_bit (map (λ l. l.before) ks)
+    → bit_edges_left ls ≡ record { tick = t; before = before; at = at } ∷ bit_edges_left ks
+bit_walk_next ls ks t before at rise next is before_is at_is =
+    ap (map bit_edge) (walk_next ls ks t (map (λ l. l.before) ls) (map (λ l. l.before) ks) rise next is refl refl)
+    ∙ (λ i. record { tick = t; before = sym before_is i; at = sym at_is i } ∷ bit_edges_left ks)
+
+pub walk_kept : (ls ks : List Trace) (t : ℕ) → EachRises 0 ls → next_tick_of ls ≡ Some t
+    → ks ≡ map (trace_after t) ls → EachRises 0 ks
+walk_kept ls ks t rise next is = subst (EachRises 0) (sym is) (walk_rises ls t rise next)
 
 -- a walk over whole waves has all their edges to come
-pub walk_from : (e : Inside) (waves : List (Option WaveView)) (end : ℕ) → traces_left e ≡ map trace_of waves
-    → EachUpTo end waves → edges_left e ≡ edges_on (map trace_of waves) end
+pub walk_from : (ls : List Trace) (waves : List (Option WaveView)) (end : ℕ) → ls ≡ map trace_of waves
+    → EachUpTo end waves → edges_left ls ≡ edges_on (map trace_of waves) end
 unfolding edges_left
-walk_from e waves end is upto =
+walk_from ls waves end is upto =
     let P : List Trace → Type 0 = λ ks. edges_on ks (reach ks) ≡ edges_on (map trace_of waves) end in
     subst P (sym is) (walk_begins waves end upto)

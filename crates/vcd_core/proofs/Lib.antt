@@ -5,7 +5,6 @@ pub mod Lookups
 pub mod EdgeLines
 pub mod EdgeLists
 pub mod EdgeSteps
-pub mod BitEdgeSteps
 pub mod PlaneBits
 pub mod ValueLemmas
 pub mod Waves

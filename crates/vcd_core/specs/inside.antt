@@ -4,7 +4,6 @@ pub mod PlaneLaws
 pub mod ValueLaws
 pub mod NameParts
 pub mod EdgeWalk
-pub mod BitEdgeWalk
 pub mod ScopeLists
 pub mod WaveLists
 pub mod TextEnds

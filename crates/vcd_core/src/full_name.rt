@@ -86,7 +86,7 @@ impl<'a> FullName<'a> {
             (full_names (map signal_contents signals.now)) }
     {
         let end = self.end();
-        signals.iter().any(|signal| self.is_name_of(signal, end))
+        signals.iter().any(|signal| self.is_name_of(signal, &end))
     }
 
     /// The position of the first of the signals with this full name.
@@ -97,12 +97,14 @@ impl<'a> FullName<'a> {
         let end = self.end();
         signals
             .iter()
-            .position(|signal| self.is_name_of(signal, end))
+            .position(|signal| self.is_name_of(signal, &end))
     }
 
-    /// Whether this is the full name of a signal, given its end.
-    fn is_name_of(&self, signal: &Signal, end: TextEnd) -> bool
-        ensures { end ≡ text_end (name_bytes self.now) →
+    /// Whether this is the full name of a signal, given its end, which is lent: a copy for each
+    /// signal would have each look wait for the one before it.
+    #[inline(always)]
+    fn is_name_of(&self, signal: &Signal, end: &TextEnd) -> bool
+        ensures { end.now ≡ text_end (name_bytes self.now) →
             result ≡ bytes_eq (name_bytes self.now) (full_name (signal_contents signal.now)) }
     {
         end.may_end_with(signal.words.end()) && self.has_same_bytes(FullName::of(signal))

@@ -12,6 +12,7 @@ mod change_list;
 mod copies;
 mod decimal;
 mod device;
+mod edge_walk;
 mod edges;
 mod full_name;
 mod laws;

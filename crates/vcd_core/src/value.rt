@@ -116,6 +116,15 @@ impl Value {
         letter(plane_bit(&self.planes, 0, k), plane_bit(&self.planes, 1, k))
     }
 
+    /// Bit 0.
+    pub(crate) fn lowest_bit(self) -> Bit
+        ensures { result ≡ letter_at self 0 }
+    {
+        // The clause of `width` says that there is one.
+        let _width = self.width();
+        self.bit(0)
+    }
+
     /// The value with bit `k` changed to `bit`.
     pub fn with_bit(self, k: u64, bit: Bit) -> Value
         requires { k < length self }

@@ -1,19 +1,30 @@
 -- The walk over the edges of waves: the waves from some tick on, and the edges that are left.
-use Rattle.std.specs.Prelude.{ℕ, ◌+◌, ◌≡◌, ◌==◌, Option, Some, None, MatchOption, if◌then◌else◌, min, List, [], ◌∷◌}
+use Rattle.std.specs.Prelude.{ℕ, ◌+◌, ◌≡◌, ◌==◌, Option, Some, None, MatchOption, if◌then◌else◌, min, List, [], ◌∷◌, map}
 use Rattle.vcd_core.specs.declared.bit.Bit.{Bit}
 use Rattle.vcd_core.specs.declared.wave.Change.{Change}
 use Rattle.vcd_core.specs.declared.edges.Edge.{Edge}
-use Rattle.vcd_core.specs.declared.edges.Trace.{Trace as LentTrace}
-use Rattle.vcd_core.specs.declared.edges.Edges.TheInside.{Inside}
+use Rattle.vcd_core.specs.declared.bit_edges.BitEdge.{BitEdge}
+use Rattle.vcd_core.specs.declared.edge_walk.Latest.{Latest}
+use Rattle.vcd_core.specs.declared.edge_walk.Latest.TheVariants as latest
+use Rattle.vcd_core.specs.declared.edge_walk.Trace.{Trace as LentTrace}
+use Rattle.vcd_core.specs.declared.edge_walk.EdgeWalk.{EdgeWalk}
+use Rattle.vcd_core.specs.Value.{all_x}
 use Rattle.vcd_core.specs.Wave.{AreChangesFrom}
 use Rattle.vcd_core.specs.Edges.{Trace, edges_on}
+use Rattle.vcd_core.specs.BitEdges.{bit_edge}
+
+-- the value of a wave by what gives it
+abbrev pub latest_value : Latest → Option (List Bit)
+latest_value latest.Absent = None
+latest_value (latest.Start wave) = Some (all_x wave.now.width)
+latest_value (latest.Change change) = Some change.now.value
 
 -- the rest of a wave, from the tick of the walk on
 abbrev pub trace_left : LentTrace → Trace
-trace_left track = record { before = track.value; changes = track.rest.now }
+trace_left track = record { before = latest_value track.latest; changes = track.rest.now }
 
 -- the rest of the four waves
-abbrev pub traces_left : Inside → List Trace
+abbrev pub traces_left : EdgeWalk → List Trace
 traces_left e = trace_left e.a ∷ trace_left e.b ∷ trace_left e.c ∷ trace_left e.d ∷ []
 
 -- the tick of the next change
@@ -62,9 +73,9 @@ reach [] = 0
 reach (l ∷ ls) = ticks_sum l.changes + reach ls
 
 -- the edges that are left
-unfoldable pub edges_left : Inside → List Edge
-edges_left e = edges_on (traces_left e) (reach (traces_left e))
+unfoldable pub edges_left : List Trace → List Edge
+edges_left ls = edges_on ls (reach ls)
 
--- the invariant of the walk: the changes of each wave rise
-abbrev pub IsWalk : Inside → Type 0
-IsWalk e = EachRises 0 (traces_left e)
+-- the same with bits in place of values
+abbrev pub bit_edges_left : List Trace → List BitEdge
+bit_edges_left ls = map bit_edge (edges_left ls)

@@ -1,12 +1,7 @@
 use Rattle.std.proofs.Common.{◌∷◌, []}
 use Rattle.std.specs.Option.{option_copied}
-use Rattle.vcd_core.proofs.EdgeSteps.{walk_of, walk_from}
+use Rattle.vcd_core.proofs.EdgeSteps.{walk_from}
 use Rattle.vcd_core.proofs.edges.Edges.new.Goals as goal
 
 pub returns : goal.returns
-returns c = record {
-  edges = λ end upto.
-      walk_from (walk_of c.new.result c.new-2.result c.new-3.result c.new-4.result)
-      (option_copied c.args.a ∷ option_copied c.args.b ∷ option_copied c.args.c ∷ option_copied c.args.d ∷ []) end
-      (λ i. c.new.ensures.line i ∷ c.new-2.ensures.line i ∷ c.new-3.ensures.line i ∷ c.new-4.ensures.line i ∷ []) upto;
-}
+returns c = record { edges = λ end upto. walk_from _ (option_copied c.args.a ∷ option_copied c.args.b ∷ option_copied c.args.c ∷ option_copied c.args.d ∷ []) end c.new.ensures.traces upto }
