@@ -5,5 +5,6 @@ mod failures;
 mod lines;
 mod messages;
 mod notation;
+mod on_bytes;
 mod sessions;
 mod worked;
