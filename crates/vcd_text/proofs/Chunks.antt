@@ -200,7 +200,7 @@ shown_early (Some xs) None failed bytes e ready consumes within answer = absurd 
 shown_early (Some xs) (Some ys) failed bytes e ready consumes within (inl none) = no_memory none
 shown_early (Some xs) (Some ys) failed bytes e ready consumes within (inr shows) =
     elim (cases_lt FILE_LIMIT (length xs)) [
-      | inl long ↦ too_large long
+      | inl long ↦ too_large ready long
           (subst (λ front. IsFrontAnswer front faults.TooLarge e)
           (sym (ap (take FILE_LIMIT) consumes ∙ front_of FILE_LIMIT bytes ys within))
           (shown (longer_front_fault bytes (take (FILE_LIMIT - length bytes) ys) e.line e.fault shows)))
@@ -211,12 +211,12 @@ shown_early (Some xs) (Some ys) failed bytes e ready consumes within (inr shows)
 
 -- the file has more bytes than the limit
 pub full : (coming middle left : Option (List ℕ)) (failed : Bool) (p : Progress) (bytes chunk : List ℕ) (e : ReadError)
-    → Consumes coming middle bytes → Consumes middle left chunk → 0 < length chunk → p.bytes_left ≡ 0
+    → IsFalse failed → Consumes coming middle bytes → Consumes middle left chunk → 0 < length chunk → p.bytes_left ≡ 0
     → HasReadBytes p bytes
     → e ≡ record { line = p.line_feeds + 1; fault = faults.TooLarge }
     → IfSome coming (λ file. IsRefusal file failed left e)
-full coming middle left failed p bytes chunk e first second some none taken is =
-    larger coming left failed bytes e (over coming left (Consumes-trans coming middle left bytes chunk first second))
+full coming middle left failed p bytes chunk e ready first second some none taken is =
+    larger coming left failed bytes e ready (over coming left (Consumes-trans coming middle left bytes chunk first second))
     (inr (none_shown (shows_none p.reader (complete_words bytes) taken.taken_words)
     (ap (λ (e : ReadError). e.line) is ∙ sym taken.lines) (ap (λ (e : ReadError). e.fault) is)))
   where

@@ -1,5 +1,6 @@
 -- The results for a file of which a front was read.
 use Rattle.std.proofs.Common.{◌≡◌, ◌⊎◌, inl, inr, ℕ, ◌<◌, ◌≤◌, Bool, List, take, length, Option, Some, None, IsTrue}
+use Rattle.std.specs.Prelude.{IsFalse}
 use Rattle.std.proofs.Common.{IfSome, refl, subst}
 use Rattle.std.specs.Io.KnownBytes.{Consumes}
 use Rattle.vcd_text.specs.declared.reading.TheConstants.{FILE_LIMIT}
@@ -9,13 +10,13 @@ use Rattle.vcd_text.specs.Refusals.{IsRefusal, IsFrontAnswer, too_large, reader_
 use Rattle.vcd_text.specs.MemoryErrors.{memory_error}
 
 -- the file has more bytes than the limit
-pub larger : (coming left : Option (List ℕ)) (failed : Bool) (bytes : List ℕ) (e : ReadError)
+pub larger : (coming left : Option (List ℕ)) (failed : Bool) (bytes : List ℕ) (e : ReadError) → IsFalse failed
     → IfSome coming (λ xs. (FILE_LIMIT < length xs) × (bytes ≡ take FILE_LIMIT xs))
     → (e ≡ memory_error) ⊎ IsFrontAnswer bytes faults.TooLarge e → IfSome coming (λ file. IsRefusal file failed left e)
-larger None left failed bytes e some answer = tt
-larger (Some xs) left failed bytes e some (inl none) = no_memory none
-larger (Some xs) left failed bytes e some (inr answer) =
-    too_large some.0 (subst (λ front. IsFrontAnswer front faults.TooLarge e) some.1 answer)
+larger None left failed bytes e ready some answer = tt
+larger (Some xs) left failed bytes e ready some (inl none) = no_memory none
+larger (Some xs) left failed bytes e ready some (inr answer) =
+    too_large ready some.0 (subst (λ front. IsFrontAnswer front faults.TooLarge e) some.1 answer)
 
 -- the reader failed
 pub failing : (coming left : Option (List ℕ)) (failed : Bool) (bytes : List ℕ) (e : ReadError) → IsTrue failed

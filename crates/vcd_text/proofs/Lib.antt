@@ -5,6 +5,7 @@ pub mod Taken
 pub mod Ended
 pub mod FrontItem
 pub mod OneAnswer
+pub mod OneRefusal
 pub mod Timescales
 pub mod WordLaws
 pub mod WeakerTests

@@ -1,5 +1,6 @@
 -- The faults of reading a file, for all bytes of the file: the project's own.
-use Rattle.std.specs.Prelude.{◌≡◌, ℕ, ◌<◌, ◌≤◌, List, ◌++◌, take, length, Option, Some, IsTrue, IsFalse, Bool}
+use Rattle.std.specs.Prelude.{◌≡◌, ◌⊎◌, ℕ, ◌<◌, ◌≤◌, List, ◌++◌, take, length, Option, Some}
+use Rattle.std.specs.Prelude.{IsTrue, IsFalse, Bool}
 use Rattle.vcd_text.specs.declared.reading.TheConstants.{FILE_LIMIT}
 use Rattle.vcd_text.specs.declared.fault.Fault.{Fault}
 use Rattle.vcd_text.specs.declared.fault.Fault.TheVariants as faults
@@ -19,7 +20,8 @@ pub data IsRefusal (file : List ℕ) (failed : Bool) (left : Option (List ℕ)) 
   has_fault : IsFalse failed → length file ≤ FILE_LIMIT → FileFault file e.line e.fault
       → IsRefusal file failed left e
   -- the file has more bytes than the limit
-  too_large : FILE_LIMIT < length file → IsFrontAnswer (take FILE_LIMIT file) faults.TooLarge e
+  too_large : IsFalse failed → FILE_LIMIT < length file
+      → IsFrontAnswer (take FILE_LIMIT file) faults.TooLarge e
       → IsRefusal file failed left e
   -- the reader failed after this front
   reader_failed : (front rest : List ℕ) → IsTrue failed → left ≡ Some rest → file ≡ front ++ rest
@@ -27,3 +29,9 @@ pub data IsRefusal (file : List ℕ) (failed : Bool) (left : Option (List ℕ)) 
       → IsRefusal file failed left e
   -- memory ran out: no line
   no_memory : e ≡ record { line = 0; fault = faults.NoMemory } → IsRefusal file failed left e
+
+-- it is refused for this alone: no other fault is possible, but that memory ran out
+abbrev pub IsOnlyRefusal : (file : List ℕ) → (failed : Bool) → (left : Option (List ℕ)) → ReadError
+    → Type 0
+IsOnlyRefusal file failed left e = (other : ReadError) → IsRefusal file failed left other
+    → (other ≡ e) ⊎ (e.fault ≡ faults.NoMemory) ⊎ (other.fault ≡ faults.NoMemory)

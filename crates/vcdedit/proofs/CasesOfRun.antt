@@ -82,7 +82,6 @@ unfolding undone RunEnds
 stops_at_second_line = (
   ((refl, refl, search arith), (one_scalar_contents, 0, one_scalar_means)),
   (refl, refl, search arith),
-  refl,
   tt,
   (
     undone,

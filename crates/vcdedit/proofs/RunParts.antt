@@ -1,12 +1,13 @@
 -- The parts of a run, put together.
 use Rattle.std.proofs.Common.{◌≡◌, ◌⊎◌, inl, inr, Result, Ok, Err, ℕ, zero, suc, ◌-◌, List, Option, Some, None, refl}
-use Rattle.std.proofs.Common.{◌≤◌, sym, subst, ap, ◌∙◌, true, false, arith, length, take}
+use Rattle.std.proofs.Common.{◌≤◌, Bool, sym, subst, ap, ◌∙◌, true, false, arith, length, take}
 use Rattle.std.specs.Prelude.{IfSome, IfErr, IsErrAnd}
 use Rattle.std.specs.List.{concat}
 use Rattle.std.specs.Io.KnownBytes.{Appends, Keeps, IsAtEnd}
 use Rattle.vcd_core.specs.Contents.{Contents}
 use Rattle.vcd_text.specs.Meaning.{FileMeans}
-use Rattle.vcd_text.specs.Refusals.{IsRefusal}
+use Rattle.vcd_text.specs.Refusals.{IsRefusal, IsOnlyRefusal}
+use Rattle.vcd_text.proofs.OneRefusal.{one_refusal}
 use Rattle.vcd_text.specs.Text.{text}
 use Rattle.vcd_text.specs.WriteEnds.{TookBefore}
 use Rattle.vcd_text.specs.declared.reading.TheConstants.{FILE_LIMIT}
@@ -21,8 +22,8 @@ use Rattle.vcdedit.specs.declared.running.run_error.RunError.TheVariants as run_
 use Rattle.vcdedit.specs.declared.running.run_error.Summary.{Summary}
 use Rattle.vcdedit.specs.Script.{script_lines}
 use Rattle.vcdedit.specs.Run.{RunOutcome, IsRun, outcome}
-use Rattle.vcdedit.specs.RunEnds.{DeviceEnd, IsRead, IsAccepted, IsUntouched, HasText, RunEnds}
-use Rattle.vcdedit.specs.inside.RunLines.{HasFailedAt, RunsLines, StopsInReplies, StopsInLines}
+use Rattle.vcdedit.specs.RunEnds.{DeviceEnd, IsRead, IsAccepted, IsUntouched, HasText, IsFlushedAt, RunEnds}
+use Rattle.vcdedit.specs.inside.RunLines.{HasFailedAt, EndsAtLine, RunsLines, StopsInReplies, StopsInLines}
 use Rattle.vcdedit.specs.inside.RunStages.{EndsBeforeOutput, EndsBeforeReplies, EndsAfterCapture}
 use Rattle.vcdedit.specs.inside.ScriptRuns.{ScriptGives}
 use Rattle.vcdedit.specs.inside.SentReplies.{HasSentReplies}
@@ -118,14 +119,22 @@ if_run_writes (Some f) (Some s) depth count took_replies now property ran follow
 
 -- ---- ends before the output
 
+-- a refused capture is refused for one fault
+refused_once : (coming left : Option (List ℕ)) (has_failed : Bool) (e : ReadError)
+    → IfSome coming (λ file. IsRefusal file has_failed left e)
+    → IfSome coming (λ file. IsRefusal file has_failed left e × IsOnlyRefusal file has_failed left e)
+refused_once None left has_failed e refused = tt
+refused_once (Some file) left has_failed e refused = (refused, one_refusal file has_failed left e refused)
+
 -- at a fault of the capture
 pub capture_ends : (capture script : DeviceEnd) (e : ReadError)
     → IfSome capture.before (λ file. IsRefusal file capture.has_failed capture.after e) →
-    (e.fault ≡ faults.ReadFault → capture.has_failed ≡ true) → IsUntouched script
+    (e.fault ≡ faults.ReadFault → capture.has_failed ≡ true)
+    → (e.fault ≡ faults.TooLarge → capture.has_failed ≡ false) → IsUntouched script
     → EndsBeforeReplies capture script (run_errors.Capture e)
 unfolding RunEnds
-capture_ends capture script e refused failed unread depth replies untouched output kept =
-    (refused, failed, unread, (untouched, kept))
+capture_ends capture script e refused failed large unread depth replies untouched output kept =
+    (refused_once capture.before capture.after capture.has_failed e refused, failed, large, unread, (untouched, kept))
 
 -- at the script
 pub script_ends : (capture script replies : DeviceEnd) (depth : ℕ) (e : RunError) → EndsAfterCapture script e
@@ -141,51 +150,61 @@ session_ends capture script replies depth e none accepted untouched output kept 
 
 -- in the lines, given what was taken of the replies
 taken_end : (capture script replies : DeviceEnd) (bytes : List ℕ) (depth skipped : ℕ) (c : Contents)
-    (e : RunError) →
+    (e : RunError) (is_flushed : Bool) →
     IsAccepted capture → IsRead SCRIPT_LIMIT script → IfSome capture.before (λ f. FileMeans f c skipped)
     → IfSome script.before (λ s. bytes ≡ s) →
-    HasFailedAt replies.has_failed e
+    HasFailedAt replies.has_failed is_flushed e
     → StopsInReplies (outcome c skipped depth (script_lines bytes)).replies (Appends replies.before replies.after) e →
     EndsBeforeOutput depth capture script replies e
 unfolding RunEnds
-taken_end capture script replies bytes depth skipped c (run_errors.NoMemory zero) accepted script_read means is failed
+taken_end capture script replies bytes depth skipped c (run_errors.NoMemory zero) is_flushed accepted script_read means is failed
     stops output kept = absurd (omega (arith, stops.0))
-taken_end capture script replies bytes depth skipped c (run_errors.NoMemory (suc before)) accepted script_read means is
+taken_end capture script replies bytes depth skipped c (run_errors.NoMemory (suc before)) is_flushed accepted script_read means is
     failed stops output kept =
     let one_less : suc before - 1 ≡ before = omega arith in
     let took = subst (λ n. Appends replies.before replies.after
     (concat (take n (outcome c skipped depth (script_lines bytes)).replies))) one_less stops.2 in (
       accepted,
       script_read,
-      failed,
       kept,
       for_run capture.before script.before bytes depth skipped c _ means is (omega (arith, stops.1), took),
     )
-taken_end capture script replies bytes depth skipped c (run_errors.ReplyFault written) accepted script_read means is
+taken_end capture script replies bytes depth skipped c (run_errors.ReplyFault written) is_flushed accepted script_read means is
     failed stops output kept =
     (accepted, script_read, failed, kept, for_run capture.before script.before bytes depth skipped c _ means is stops)
-taken_end capture script replies bytes depth skipped c (run_errors.Capture fault) accepted script_read means is failed
+taken_end capture script replies bytes depth skipped c (run_errors.Capture fault) is_flushed accepted script_read means is failed
     stops output kept = absurd stops
-taken_end capture script replies bytes depth skipped c run_errors.ScriptTooLarge accepted script_read means is failed
+taken_end capture script replies bytes depth skipped c run_errors.ScriptTooLarge is_flushed accepted script_read means is failed
     stops output kept = absurd stops
-taken_end capture script replies bytes depth skipped c run_errors.ScriptReadFault accepted script_read means is failed
+taken_end capture script replies bytes depth skipped c run_errors.ScriptReadFault is_flushed accepted script_read means is failed
     stops output kept = absurd stops
-taken_end capture script replies bytes depth skipped c (run_errors.Write fault) accepted script_read means is failed
+taken_end capture script replies bytes depth skipped c (run_errors.Write fault) is_flushed accepted script_read means is failed
     stops output kept = absurd stops
 
 -- the same by the machine's replies
 pub lines_end : (capture script replies : DeviceEnd) (bytes : List ℕ) (depth skipped : ℕ) (c : Contents)
-    (e : RunError) →
+    (e : RunError) (is_flushed : Bool) →
     IsAccepted capture → IsRead SCRIPT_LIMIT script → IfSome capture.before (λ f. FileMeans f c skipped)
     → IfSome script.before (λ s. bytes ≡ s) →
-    HasFailedAt replies.has_failed e
+    HasFailedAt replies.has_failed is_flushed e
     → StopsInLines skipped (script_lines bytes) (initial_machine c depth) replies.before replies.after e →
     EndsBeforeOutput depth capture script replies e
-lines_end capture script replies bytes depth skipped c e accepted script_read means is failed stops =
+lines_end capture script replies bytes depth skipped c e is_flushed accepted script_read means is failed stops =
     let written = outcome_is c skipped depth (script_lines bytes) in
-    taken_end capture script replies bytes depth skipped c e accepted script_read means is failed
+    taken_end capture script replies bytes depth skipped c e is_flushed accepted script_read means is failed
     (subst (λ (texts : List (List ℕ)). StopsInReplies texts (Appends replies.before replies.after) e)
     (sym (ap (λ (o : RunOutcome). o.replies) written)) stops)
+
+-- the replies were flushed where memory ran out at a line
+pub flushed_at_line : (has_failed is_flushed : Bool) (e : RunError) → EndsAtLine e → HasFailedAt has_failed is_flushed e
+    → IsFlushedAt has_failed is_flushed e
+flushed_at_line has_failed is_flushed (run_errors.NoMemory zero) ends failed = tt
+flushed_at_line has_failed is_flushed (run_errors.NoMemory (suc before)) ends failed = failed
+flushed_at_line has_failed is_flushed (run_errors.ReplyFault written) ends failed = tt
+flushed_at_line has_failed is_flushed (run_errors.Capture fault) ends failed = tt
+flushed_at_line has_failed is_flushed run_errors.ScriptTooLarge ends failed = tt
+flushed_at_line has_failed is_flushed run_errors.ScriptReadFault ends failed = tt
+flushed_at_line has_failed is_flushed (run_errors.Write fault) ends failed = absurd ends
 
 -- ---- the output
 
@@ -289,7 +308,7 @@ replies_sent (Err (run_errors.NoMemory (suc count))) depth capture script replie
     of_replies capture.before script.before depth _ _
     (λ written replied. appends_kept replies.before replies.after later (concat (take count written.replies)) replied.1
     kept)
-    ends.4
+    ends.3
 replies_sent (Err (run_errors.Capture e)) depth capture script replies output later ends kept = tt
 replies_sent (Err run_errors.ScriptTooLarge) depth capture script replies output later ends kept = tt
 replies_sent (Err run_errors.ScriptReadFault) depth capture script replies output later ends kept = tt

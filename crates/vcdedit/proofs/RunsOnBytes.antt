@@ -1,11 +1,13 @@
 -- A run over bytes in memory: what it gives follows from how the run ended.
 use Rattle.std.proofs.Common.{◌≡◌, Ok, Err, ℕ, zero, suc, List, [], Option, Some, Bool, false, true, sym, ◌∙◌}
-use Rattle.std.proofs.Common.{inl, inr, length, refl}
+use Rattle.std.proofs.Common.{inl, inr, length, take, refl, arith}
 use Rattle.std.proofs.Math.Seq.{take-length}
 use Rattle.std.specs.List.{concat}
 use Rattle.std.specs.Global.{Vec}
 use Rattle.vcd_text.specs.Refusals as refusals
 use Rattle.vcd_text.specs.inside.Reading.{is_no_memory}
+use Rattle.vcd_text.proofs.OneRefusal.{one_error, one_front_answer}
+use Rattle.vcd_text.specs.declared.fault.Fault.TheVariants as faults
 use Rattle.vcd_text.specs.declared.fault.ReadError.{ReadError}
 use Rattle.vcd_text.specs.declared.fault.WriteError.TheVariants as write_errors
 use Rattle.vcd_text.specs.declared.reading.TheConstants.{FILE_LIMIT}
@@ -15,8 +17,17 @@ use Rattle.vcdedit.specs.declared.running.run_error.RunError.TheVariants as run_
 use Rattle.vcdedit.specs.declared.running.run_error.Summary.{Summary}
 use Rattle.vcdedit.specs.Run.{RunOutcome, IsRun}
 use Rattle.vcdedit.specs.RunEnds.{DeviceEnd, IsRead, RunEnds}
-use Rattle.vcdedit.specs.RunOnBytes.{has_fault, too_large, IsRunWithin, RunGives}
+use Rattle.vcdedit.specs.RunOnBytes.{IsRefusedFile, has_fault, too_large, IsRunWithin, RunGives}
 use Rattle.vcdedit.specs.inside.RunRefusals.{run_refusal}
+
+-- a file is refused for one fault
+one_refused_file : (file : List ℕ) (e other : ReadError) → IsRefusedFile file e → IsRefusedFile file other → other ≡ e
+one_refused_file file e other (has_fault short fault) (has_fault also fault_too) =
+    one_error file other e fault_too fault
+one_refused_file file e other (has_fault short fault) (too_large long answer) = absurd (omega (arith, short, long))
+one_refused_file file e other (too_large long answer) (has_fault short fault) = absurd (omega (arith, short, long))
+one_refused_file file e other (too_large long answer) (too_large also answer_too) =
+    one_front_answer (take FILE_LIMIT file) faults.TooLarge other e answer_too answer
 
 -- a refused file of which the source has not failed, by whether memory was refused
 refused_file : (file script : List ℕ) (depth : ℕ) (has_failed : Bool) (left : Option (List ℕ)) (e : ReadError)
@@ -26,9 +37,9 @@ refused_file : (file script : List ℕ) (depth : ℕ) (has_failed : Bool) (left 
     → RunGives file script depth (Err (run_refusal (run_errors.Capture e) replies))
 refused_file file script depth has_failed left e replies ready empty refused true is = rw is (inl empty)
 refused_file file script depth has_failed left e replies ready empty (refusals.has_fault whole short fault) false is =
-    rw is (has_fault short fault)
-refused_file file script depth has_failed left e replies ready empty (refusals.too_large long answer) false is =
-    rw is (too_large long answer)
+    rw is (has_fault short fault, λ other. one_refused_file file e other (has_fault short fault))
+refused_file file script depth has_failed left e replies ready empty (refusals.too_large whole long answer) false is =
+    rw is (too_large long answer, λ other. one_refused_file file e other (too_large long answer))
 refused_file file script depth has_failed left e replies ready empty
     (refusals.reader_failed front rest failed is_left is_front short answer) false is =
     let no : false ≡ true = sym ready ∙ failed in absurd (cc)
@@ -73,7 +84,7 @@ unfolding RunEnds
 refusal_of_run file script depth capture lines replies output made (run_errors.Capture e) is_file ready is_script
     lines_ready was_empty made_is ends =
     refused_file file script depth capture.has_failed capture.after e made ready
-    (none_taken made.items replies was_empty made_is ends.3.0.0) (rw is_file at ends.0) _ refl
+    (none_taken made.items replies was_empty made_is ends.4.0.0) (rw is_file at ends.0).0 _ refl
 refusal_of_run file script depth capture lines replies output made run_errors.ScriptTooLarge is_file ready is_script
     lines_ready was_empty made_is ends = (rw is_file at ends.0.1, rw is_script at ends.1)
 refusal_of_run file script depth capture lines replies output made run_errors.ScriptReadFault is_file ready is_script
@@ -82,7 +93,7 @@ refusal_of_run file script depth capture lines replies output made (run_errors.N
     lines_ready was_empty made_is ends = inl (none_taken made.items replies was_empty made_is ends.1.0.0)
 refusal_of_run file script depth capture lines replies output made (run_errors.NoMemory (suc before)) is_file ready
     is_script lines_ready was_empty made_is ends =
-    let gives = rw (is_file, is_script, was_empty, sym made_is) at ends.4 in
+    let gives = rw (is_file, is_script, was_empty, sym made_is) at ends.3 in
     let within = within_limits file script depth _ _ gives.0 is_file is_script ends.0.0 ends.1 gives.1 in
     (gives.0, within, gives.2.0, gives.2.1)
 refusal_of_run file script depth capture lines replies output made (run_errors.ReplyFault count) is_file ready

@@ -7,7 +7,7 @@ use Rattle.std.specs.Borrow.{MutBor}
 use Rattle.std.specs.Io.KnownBytes.{Appends, Keeps, IsAtEnd}
 use Rattle.vcd_core.specs.Contents.{Contents}
 use Rattle.vcd_text.specs.Meaning.{FileMeans}
-use Rattle.vcd_text.specs.Refusals.{IsRefusal}
+use Rattle.vcd_text.specs.Refusals.{IsRefusal, IsOnlyRefusal}
 use Rattle.vcd_text.specs.declared.fault.Fault.TheVariants as faults
 use Rattle.vcd_text.specs.declared.fault.WriteError.TheVariants as write_errors
 use Rattle.vcd_text.specs.declared.reading.TheConstants.{FILE_LIMIT}
@@ -69,6 +69,13 @@ IsOutputFlushed is_flushed None left = Unit {0}
 IsOutputFlushed is_flushed (Some out) (inr (inl left)) = is_flushed left.0.now ≡ true
 IsOutputFlushed is_flushed (Some out) left = ⊥
 
+-- at this error the writer of the replies was flushed after the last byte that it took; where memory
+-- ran out at a line, only if it has not failed there
+abbrev pub IsFlushedAt : (has_failed is_flushed : Bool) → RunError → Type 0
+IsFlushedAt has_failed is_flushed (NoMemory (suc before)) = has_failed ≡ false → is_flushed ≡ true
+IsFlushedAt has_failed is_flushed (Write e) = is_flushed ≡ true
+IsFlushedAt has_failed is_flushed e = Unit {0}
+
 -- ---- runs
 
 -- a run of this depth, and the ends of its two sources
@@ -93,8 +100,10 @@ module _ (depth : ℕ) (capture script : DeviceEnd) where
         × IfSome output (λ out. HasText out written.output) × (summary.refused ≡ written.refused))
     -- the capture is refused for a fault, its length, its source or memory: the script is unread
     RunEnds (Err (Capture e)) =
-        IfSome capture.before (λ file. IsRefusal file capture.has_failed capture.after e)
+        IfSome capture.before (λ file. IsRefusal file capture.has_failed capture.after e
+        × IsOnlyRefusal file capture.has_failed capture.after e)
         × (e.fault ≡ faults.ReadFault → capture.has_failed ≡ true)
+        × (e.fault ≡ faults.TooLarge → capture.has_failed ≡ false)
         × IsUntouched script × IsUnwritten
     -- the script is above its limit
     RunEnds (Err ScriptTooLarge) = IsAccepted capture
@@ -105,7 +114,7 @@ module _ (depth : ℕ) (capture script : DeviceEnd) where
     RunEnds (Err (NoMemory zero)) = IsAccepted capture × IsUnwritten
     -- memory ran out at a line, counted from 1: exactly the replies to the lines before it are written
     RunEnds (Err (NoMemory (suc before))) = IsAccepted capture × IsRead SCRIPT_LIMIT script
-        × (replies.has_failed ≡ false) × IfSome output IsUntouched × ForRun (λ written.
+        × IfSome output IsUntouched × ForRun (λ written.
         (before < length written.replies) × HasText replies (concat (take before written.replies)))
     -- the writer of the replies failed: it took exactly so many bytes of them
     RunEnds (Err (ReplyFault count)) = IsAccepted capture × IsRead SCRIPT_LIMIT script

@@ -34,8 +34,9 @@ abbrev pub RunGives : (file script : List ℕ) → (depth : ℕ) → Result RunT
 RunGives file script depth (Ok texts) = (written : RunOutcome) × IsRunWithin file script depth written
     × (texts.replies.items ≡ concat written.replies) × (texts.output.items ≡ written.output)
     × (texts.refused ≡ written.refused)
--- the capture file is refused
+-- the capture file is refused, for this alone
 RunGives file script depth (Err (Capture e)) = IsRefusedFile file e
+    × ((other : ReadError) → IsRefusedFile file other → other ≡ e)
 -- the script is above its limit
 RunGives file script depth (Err ScriptTooLarge) = HasMeaning file × (SCRIPT_LIMIT < length script)
 -- memory ran out, and not at a line: the replies made before are the first bytes of those that the run writes

@@ -34,11 +34,11 @@ RunsLines skipped lines old new refused before after = (texts : List (List ℕ))
 
 -- ---- faults
 
--- at this fault the writer of the replies has failed, or has not
-abbrev pub HasFailedAt : (has_failed : Bool) → RunError → Type 0
-HasFailedAt has_failed (run_errors.ReplyFault written) = has_failed ≡ true
-HasFailedAt has_failed (run_errors.NoMemory line) = has_failed ≡ false
-HasFailedAt has_failed _ = Unit {0}
+-- at this fault the writer of the replies has failed; if memory ran out, it was flushed, or has failed in that
+abbrev pub HasFailedAt : (has_failed is_flushed : Bool) → RunError → Type 0
+HasFailedAt has_failed is_flushed (run_errors.ReplyFault written) = has_failed ≡ true
+HasFailedAt has_failed is_flushed (run_errors.NoMemory line) = has_failed ≡ false → is_flushed ≡ true
+HasFailedAt has_failed is_flushed _ = Unit {0}
 
 -- the fault ends the run at one of its lines, or at the writer of the replies
 abbrev pub EndsAtLine : RunError → Type 0

@@ -1,7 +1,7 @@
 //! The lines of a script, run one after another.
 
 ghost use Rattle.std.specs.Prelude.{◌≡◌, ◌≤◌, ◌<◌, ◌^◌, ℕ, false, true, length, IfOk, IfErr, OnOk};
-ghost use Rattle.std.specs.Io.KnownBytes.{Appends};
+ghost use Rattle.std.specs.Io.KnownBytes.{Appends, Keeps};
 ghost use Rattle.vcdedit.specs.Script.{script_lines};
 ghost use Rattle.vcdedit.specs.inside.RunLines.{HasFailedAt, RunsLine, RunsLines, EndsAtLine, StopsAtReply, StopsAtLine, StopsInLines};
 
@@ -16,8 +16,8 @@ use vcd_journal::Session;
 /// line is read. Then the replies are flushed. Gives how many lines were refused. `skipped`: how many variables of the
 /// file were left out.
 ///
-/// The first error ends it: memory is refused at a line, or the writer of the replies fails. It holds the reply of one
-/// line at a time.
+/// The first error ends it: memory is refused at a line, after which the replies are flushed too, or the writer of the
+/// replies fails. It holds the reply of one line at a time.
 pub fn run_lines<P: Sink>(
     alloc: Global,
     session: &mut Session,
@@ -33,7 +33,7 @@ pub fn run_lines<P: Sink>(
     ensures not_failed { OnOk result (P.has_failed replies.new ≡ false) }
     ensures flushed { OnOk result (P.is_flushed replies.new ≡ true) }
     ensures fault { IfErr result EndsAtLine }
-    ensures failed { IfErr result (HasFailedAt (P.has_failed replies.new)) }
+    ensures failed { IfErr result (HasFailedAt (P.has_failed replies.new) (P.is_flushed replies.new)) }
     ensures stopped { IfErr result (StopsInLines skipped (script_lines script.now) session.old
         (P.taken replies.old) (P.taken replies.new)) }
 {
@@ -74,7 +74,7 @@ fn run_line<P: Sink>(
     ensures short { IfOk result (λ outcome. outcome.1 < 2 ^ 64) }
     ensures not_failed { OnOk result (P.has_failed replies.new ≡ false) }
     ensures fault { IfErr result EndsAtLine }
-    ensures failed { IfErr result (HasFailedAt (P.has_failed replies.new)) }
+    ensures failed { IfErr result (HasFailedAt (P.has_failed replies.new) (P.is_flushed replies.new)) }
     ensures stopped { IfErr result (StopsAtLine skipped number line.now session.old written_before
         (P.taken replies.old) (P.taken replies.new)) }
 {
@@ -83,8 +83,20 @@ fn run_line<P: Sink>(
             write_reply(reply.text.as_slice(), replies, written_before)?;
             Ok((u64::from(reply.is_refused), reply.text.len()))
         }
-        Err(_) => Err(RunError::NoMemory { line: number }),
+        Err(_) => {
+            flush_last(replies);
+            Err(RunError::NoMemory { line: number })
+        }
     }
+}
+
+/// Flushes the replies where memory ran out at a line. If that fails, the run has ended for memory all the same.
+fn flush_last<P: Sink>(replies: &mut P)
+    requires { P.has_failed replies.old ≡ false }
+    ensures bytes { Keeps (P.taken replies.old) (P.taken replies.new) }
+    ensures flushed { P.has_failed replies.new ≡ false → P.is_flushed replies.new ≡ true }
+{
+    let _ = replies.flush();
 }
 
 /// Writes the whole text of a reply after the `written_before` bytes of those before.
@@ -95,7 +107,7 @@ fn write_reply<P: Sink>(text: &[u8], replies: &mut P, written_before: u128) -> R
         (Appends (P.taken replies.old) (P.taken replies.new) text.now) }
     ensures not_failed { OnOk result (P.has_failed replies.new ≡ false) }
     ensures fault { IfErr result EndsAtLine }
-    ensures failed { IfErr result (HasFailedAt (P.has_failed replies.new)) }
+    ensures failed { IfErr result (HasFailedAt (P.has_failed replies.new) (P.is_flushed replies.new)) }
     ensures stopped { IfErr result (λ e. (number : ℕ) → StopsAtReply number text.now written_before
         (P.taken replies.old) (P.taken replies.new) e) }
 {

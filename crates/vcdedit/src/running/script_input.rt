@@ -1,7 +1,7 @@
 //! The script, which a run reads whole before it runs the first line.
 
-ghost use Rattle.std.specs.Prelude.{◌≡◌, ◌≤◌, false, length, OnOk, IfOk, IfErr, IfSome};
-ghost use Rattle.vcdedit.specs.RunEnds.{device_end, IsRead};
+ghost use Rattle.std.specs.Prelude.{◌≡◌, ◌≤◌, Bool, false, length, OnOk, IfOk, IfErr, IfSome};
+ghost use Rattle.vcdedit.specs.RunEnds.{device_end, IsRead, IsFlushedAt};
 ghost use Rattle.vcdedit.specs.inside.RunStages.{EndsAfterCapture};
 
 use crate::running::RunError;
@@ -22,6 +22,7 @@ pub fn read_script<S: Source>(alloc: Global, source: &mut S) -> Result<Vec<u8>, 
         (device_end S.coming S.has_failed source.old source.new)) }
     ensures ended { IfErr result (EndsAfterCapture
         (device_end S.coming S.has_failed source.old source.new)) }
+    ensures before_replies { IfErr result (λ e. (has_failed is_flushed : Bool) → IsFlushedAt has_failed is_flushed e) }
 {
     let mut bytes = Vec::new(alloc);
     match read_whole(source, SCRIPT_LIMIT, &mut bytes) {

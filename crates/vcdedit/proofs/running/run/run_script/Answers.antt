@@ -2,13 +2,13 @@ use Rattle.std.proofs.Common.{refl}
 use Rattle.vcd_core.specs.Contents.{contents}
 use Rattle.vcdedit.specs.declared.running.run_error.RunError.TheVariants as run_errors
 use Rattle.vcdedit.proofs.RunParts.{script_gives_where_known, capture_ends, script_ends, lines_end, at_error}
-use Rattle.vcdedit.proofs.RunParts.{file_means, is_accepted, session_ends}
+use Rattle.vcdedit.proofs.RunParts.{file_means, is_accepted, session_ends, flushed_at_line}
 use Rattle.vcdedit.proofs.running.run.run_script.Goals as goal
 
 pub returns-in_err-loaded-clause-ended : goal.returns-in_err-loaded-clause-ended
 returns-in_err-loaded-clause-ended g c =
     at_error c.from_residual.result (run_errors.Capture c.in_err-loaded.field-0.0) _ c.from_residual.ensures.1
-    (capture_ends _ _ c.in_err-loaded.field-0.0 c.in_err-loaded.ensures.refused c.in_err-loaded.ensures.failed (
+    (capture_ends _ _ c.in_err-loaded.field-0.0 c.in_err-loaded.ensures.refused c.in_err-loaded.ensures.failed c.in_err-loaded.ensures.too_large (
       refl,
       c.requires.script_ready,
     ) c.args.depth _ (refl, c.requires.replies_ready))
@@ -35,7 +35,7 @@ returns-in_err-refused-clause-ended g c =
     c.in_err-refused.ensures.stopped in
     at_error c.from_residual-in_err-refused.result c.in_err-refused.field-0.0 _ c.from_residual-in_err-refused.ensures.1
     (lines_end _ _ _ c.in_ok-script.script.items c.args.depth c.in_ok-loaded.loaded.skipped
-    (contents c.in_ok-loaded.loaded.capture) c.in_err-refused.field-0.0
+    (contents c.in_ok-loaded.loaded.capture) c.in_err-refused.field-0.0 _
     (is_accepted _ (contents c.in_ok-loaded.loaded.capture) c.in_ok-loaded.loaded.skipped
     c.in_ok-loaded.ensures.not_failed c.in_ok-loaded.ensures.ended c.in_ok-loaded.ensures.means)
     c.in_ok-script.ensures.is_read
@@ -49,3 +49,13 @@ returns-clause-gives g c =
     (contents c.in_ok-loaded.loaded.capture) c.run_lines.new.session c.in_ok-refused.refused _ _
     (file_means _ (contents c.in_ok-loaded.loaded.capture) c.in_ok-loaded.loaded.skipped c.in_ok-loaded.ensures.means)
     c.in_ok-script.ensures.all ran
+
+pub returns-in_err-script-clause-flushed_at : goal.returns-in_err-script-clause-flushed_at
+returns-in_err-script-clause-flushed_at g c =
+    at_error c.from_residual-in_err-script.result c.in_err-script.field-0.0 _ c.from_residual-in_err-script.ensures.1
+    (c.in_err-script.ensures.before_replies _ _)
+
+pub returns-in_err-refused-clause-flushed_at : goal.returns-in_err-refused-clause-flushed_at
+returns-in_err-refused-clause-flushed_at g c =
+    at_error c.from_residual-in_err-refused.result c.in_err-refused.field-0.0 _ c.from_residual-in_err-refused.ensures.1
+    (flushed_at_line _ _ c.in_err-refused.field-0.0 c.in_err-refused.ensures.fault c.in_err-refused.ensures.failed)

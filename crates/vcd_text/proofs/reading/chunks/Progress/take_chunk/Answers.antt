@@ -25,7 +25,7 @@ returns-then-count-self-clause-refused g c = λ coming stands.
     let (bytes, first, taken) = stands in
     let (chunk, second, text, count) = c.in-Ok.ensures.more in
     full coming (g.R.Source.coming c.args.source.now) (g.R.Source.coming source) (g.R.Source.has_failed source) p bytes
-    chunk c.at-then-count-self.result first second (omega (arith, count, c.if-count-self.true))
+    chunk c.at-then-count-self.result c.in-Ok.ensures.not_failed first second (omega (arith, count, c.if-count-self.true))
     (c.in-Ok.ensures.within c.if-count-self.true) taken c.at-then-count-self.ensures
 
 pub take_words-requires : goal.take_words-requires
