@@ -18,6 +18,7 @@ error_on line fault = record { line = line; fault = fault }
 
 -- errors with the same fault at the same line
 same_error : (d e : ReadError) → (d.line ≡ e.line) × (d.fault ≡ e.fault) → d ≡ e
+unfolding error_on
 same_error d e same = ap₂ error_on same.0 same.1
 
 -- a file has one fault
