@@ -1,9 +1,11 @@
 //! Swapping a range of a list of changes with a piece: in place, or in a copy.
 
-ghost use Rattle.std.specs.Prelude.{◌≡◌, ◌≤◌, ◌+◌, ◌-◌, ◌++◌, length, take, drop, map, slice_range, vec_len, vec_capacity};
+ghost use Rattle.std.specs.Prelude.{◌≡◌, ◌≤◌, ◌+◌, ◌-◌, ◌++◌, length, take, drop, map, slice_range, IfOk, vec_len, vec_capacity};
 ghost use Rattle.vcd_core.specs.Splice.{moved_change, TickFits, AllTicksFit, spliced_changes};
 
+use crate::memory::NoMemory;
 use crate::wave::Change;
+use std::alloc::Global;
 
 /// Swaps the changes of `list` from `at` on with those of `other`, one for one.
 fn swap_part(list: &mut [Change], at: usize, other: &mut [Change])
@@ -183,11 +185,52 @@ fn append_moved(list: &mut Vec<Change>, changes: &[Change], by: i64)
     }
 }
 
-/// Makes in `copy` the result of a splice of `list`, and puts the replaced part into the piece.
-/// Both have the room.
+/// Puts the result of a splice of `list` into `copy`, which has the room.
 ///
 /// Each change that is kept is copied once.
-pub(crate) fn copy_spliced(
+fn fill_spliced(
+    copy: &mut Vec<Change>,
+    list: &[Change],
+    from: usize,
+    to: usize,
+    piece: &[Change],
+    by: i64,
+)
+    requires ordered { from ≤ to }
+    requires within { to ≤ length list.now }
+    requires room { length list.now + length piece.now ≤ vec_capacity copy.old + (to - from) }
+    requires ticks { AllTicksFit by (drop to list.now) }
+    ensures changes { copy.new.items ≡ spliced_changes list.now from to piece.now by }
+    ensures capacity { vec_capacity copy.old ≤ vec_capacity copy.new }
+{
+    copy.truncate(0);
+    copy.extend_from_slice(&list[..from]).unwrap();
+    copy.extend_from_slice(piece).unwrap();
+    append_moved(copy, &list[to..], by);
+}
+
+/// The result of a splice of `list`, in a list of its own without room for more.
+pub(crate) fn spliced_copy(
+    alloc: Global,
+    list: &[Change],
+    from: usize,
+    to: usize,
+    piece: &[Change],
+    by: i64,
+) -> Result<Vec<Change>, NoMemory>
+    requires ordered { from ≤ to }
+    requires within { to ≤ length list.now }
+    requires ticks { AllTicksFit by (drop to list.now) }
+    ensures { IfOk result (λ copy. copy.items ≡ spliced_changes list.now from to piece.now by) }
+{
+    let mut copy = Vec::with_capacity(alloc, list.len() - (to - from) + piece.len())?;
+    fill_spliced(&mut copy, list, from, to, piece, by);
+    Ok(copy)
+}
+
+/// Makes in `copy` the result of a splice of `list`, and puts the replaced part into the piece.
+/// Both have the room.
+pub(crate) fn splice_into(
     copy: &mut Vec<Change>,
     list: &[Change],
     from: usize,
@@ -205,10 +248,7 @@ pub(crate) fn copy_spliced(
     ensures capacity { vec_capacity copy.old ≤ vec_capacity copy.new }
     ensures piece_capacity { vec_capacity piece.old ≤ vec_capacity piece.new }
 {
-    copy.truncate(0);
-    copy.extend_from_slice(&list[..from]).unwrap();
-    copy.extend_from_slice(piece.as_slice()).unwrap();
-    append_moved(copy, &list[to..], by);
+    fill_spliced(copy, list, from, to, piece.as_slice(), by);
     piece.truncate(0);
     piece.extend_from_slice(&list[from..to]).unwrap();
 }

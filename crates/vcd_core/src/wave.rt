@@ -1,6 +1,6 @@
 //! The values of a signal over time.
 
-ghost use Rattle.std.specs.Prelude.{◌≡◌, ℕ, ◌+◌, ◌-◌, ◌<◌, ◌≤◌, if◌then◌else◌, nat_lt, nat_le, max, [], ◌∷◌, length, drop, slice_range, count_by, IsOk, IfOk, OnOk, OnErr, All, Any, true, false, None, vec_len, vec_capacity};
+ghost use Rattle.std.specs.Prelude.{◌≡◌, ℕ, ◌+◌, ◌-◌, ◌<◌, ◌≤◌, if◌then◌else◌, nat_lt, nat_le, max, [], ◌∷◌, length, drop, slice_range, count_by, IsOk, IfOk, OnOk, OnErr, All, Any, IsTrue, true, false, None, vec_len, vec_capacity};
 ghost use Rattle.vcd_core.specs.Wave.{value_at, IsWave, changes_after_push};
 ghost use Rattle.vcd_core.specs.WordRows.{letters_of};
 ghost use Rattle.vcd_core.specs.Splice.{AllTicksFit, spliced_changes};
@@ -10,7 +10,7 @@ use crate::change_list::{last_value, push_change, push_word_change};
 use crate::letter_word::LetterWord;
 use crate::memory::NoMemory;
 use crate::searching::count_until_near;
-use crate::splicing::{copy_spliced, splice_changes};
+use crate::splicing::{splice_changes, splice_into, spliced_copy};
 use crate::value::{Value, WIDTH_LIMIT};
 use crate::wave_list::WaveList;
 use std::alloc::Global;
@@ -31,9 +31,8 @@ pub struct Change {
 /// A wave has its own list, or shares it with others ([`Wave::share`]). An operation that changes a
 /// wave gives it its own list first, so the other waves stay unchanged.
 ///
-/// Contracts see the width in bits, the changes, whether the list is shared, and a capacity: that of
-/// the wave's own list. While it shares one, that of the memory in which [`Wave::splice`] makes its
-/// own.
+/// Contracts see the width in bits, the changes, whether the list is shared, and the capacity of the
+/// wave's own list.
 #[derive(Drop)]
 pub struct Wave {
     width: u64,
@@ -216,7 +215,17 @@ impl Wave {
         ensures width { IfOk result (λ wave. wave.width ≡ self.old.width) }
         ensures changes { IfOk result (λ wave. wave.changes ≡ self.old.changes) }
     {
-        let list = self.list.share()?;
+        self.list.make_shared()?;
+        self.copy()
+    }
+
+    /// A wave with the same changes. It shares the list if [`Wave::share`] was called before, or
+    /// [`Wave::spliced`] made this wave, and then takes no memory; else they are copied.
+    pub fn copy(&self) -> Result<Wave, NoMemory>
+        ensures width { IfOk result (λ wave. wave.width ≡ self.now.width) }
+        ensures changes { IfOk result (λ wave. wave.changes ≡ self.now.changes) }
+    {
+        let list = self.list.copy()?;
         Ok(Wave {
             width: self.width,
             list,
@@ -272,67 +281,63 @@ impl Wave {
         Ok(())
     }
 
-    /// Makes room for a [`Wave::splice`] of these places and of this piece. The changes of the
-    /// wave stay the same, also if the memory is refused.
+    /// Whether other waves have the list of this one, too. A list that no other wave has any more
+    /// becomes the wave's own.
+    pub fn is_shared(&mut self) -> bool
+        ensures told { result ≡ self.new.is_shared }
+        ensures width { self.new.width ≡ self.old.width }
+        ensures changes { self.new.changes ≡ self.old.changes }
+        ensures stays_own { self.old.is_shared ≡ false → self.new ≡ self.old }
+    {
+        self.list.take_back();
+        self.list.shared.is_some()
+    }
+
+    /// Whether both waves share one list. Their changes are compared then, at the cost of reading
+    /// them; waves that share no list are told apart at once.
+    pub fn shares_list_with(&self, other: &Wave) -> bool
+        ensures width { IsTrue result → self.now.width ≡ other.now.width }
+        ensures changes { IsTrue result → self.now.changes ≡ other.now.changes }
+    {
+        self.width == other.width && self.list.is_same_shared(&other.list)
+    }
+
+    /// The wave that [`Wave::splice`] would make of this one, beside it. [`Wave::copy`] shares its
+    /// list.
     ///
-    /// It takes no memory if the room is there already. A wave with its own list gets room for
-    /// the growth, or for as many changes as it has. A wave that shares its list keeps sharing it,
-    /// and gets memory for the changes that the splice keeps and those of the piece. No change is
-    /// copied yet.
-    pub fn reserve_splice(
-        &mut self,
+    /// It takes memory for the changes that are kept and those of the piece; each is copied once.
+    pub fn spliced(
+        &self,
         from: usize,
         to: usize,
         piece: &[Change],
-    ) -> Result<(), NoMemory>
+        by: i64,
+    ) -> Result<Wave, NoMemory>
         requires ordered { from ≤ to }
-        requires within { to ≤ length self.old.changes }
-        ensures width { self.new.width ≡ self.old.width }
-        ensures changes { self.new.changes ≡ self.old.changes }
-        ensures room { OnOk result (length self.old.changes + length piece.now
-            ≤ self.new.capacity + (to - from)) }
-        ensures in_place { length self.old.changes + length piece.now
-            ≤ self.old.capacity + (to - from) → IsOk result }
-        ensures stays_own { self.old.is_shared ≡ false → self.new.is_shared ≡ false }
-        ensures never_less { self.old.capacity ≤ self.new.capacity }
-        ensures refused { OnErr result (self.old.is_shared ≡ false →
-            self.new.capacity ≡ self.old.capacity) }
-        ensures grown_room { self.old.is_shared ≡ false → self.new.capacity ≤ max self.old.capacity
-            (length self.old.changes + max (length self.old.changes) (length piece.now - (to - from))) }
-        ensures exact { self.new.is_shared ≡ true → self.new.capacity
-            ≤ max self.old.capacity (length self.old.changes + length piece.now - (to - from)) }
+        requires within { to ≤ length self.now.changes }
+        requires ticks { AllTicksFit by (drop to self.now.changes) }
+        requires form { IsWave self.now.width
+            (spliced_changes self.now.changes from to piece.now by) }
+        ensures width { IfOk result (λ wave. wave.width ≡ self.now.width) }
+        ensures changes { IfOk result (λ wave. wave.changes
+            ≡ spliced_changes self.now.changes from to piece.now by) }
     {
-        if self.list.own.capacity() == 0 {
-            self.list.take_back();
-        }
-        if self.list.shared.is_none() {
-            return self.reserve(piece.len().saturating_sub(to - from));
-        }
-        let count = self.list.as_slice().len() - (to - from) + piece.len();
-        self.list.own.truncate(0);
-        self.list.own.reserve_exact(count)?;
-        Ok(())
-    }
-
-    /// Frees the memory that [`Wave::reserve_splice`] took in addition to a shared list.
-    pub fn cancel_splice(&mut self)
-        ensures width { self.new.width ≡ self.old.width }
-        ensures changes { self.new.changes ≡ self.old.changes }
-        ensures stays { self.new.is_shared ≡ self.old.is_shared }
-        ensures stays_own { self.old.is_shared ≡ false → self.new.capacity ≡ self.old.capacity }
-        ensures given_back { self.new.is_shared ≡ true → self.new.capacity ≡ 0 }
-    {
-        if self.list.shared.is_some() {
-            self.list.own = Vec::new(*self.list.own.allocator());
-        }
+        let alloc = *self.list.own.allocator();
+        let own = spliced_copy(alloc, self.list.as_slice(), from, to, piece, by)?;
+        let mut list = WaveList { shared: None, own };
+        list.make_shared()?;
+        Ok(Wave {
+            width: self.width,
+            list,
+        })
     }
 
     /// Swaps the changes at places `from` to before `to` with the contents of `piece`, and moves
     /// the later changes by `by` ticks.
     ///
     /// It takes no memory: each list has the room for what it gets. The cost is that of the piece
-    /// and the range; if `by` is not 0, or their lengths differ, each later change is copied
-    /// once. A wave that shares its list gets its own, into which each change is copied.
+    /// and the range; if `by` is not 0, or their lengths differ, each later change is copied once.
+    /// A wave that shares its list gets its own, into which each change is copied.
     pub fn splice(&mut self, from: usize, to: usize, piece: &mut Vec<Change>, by: i64)
         requires ordered { from ≤ to }
         requires within { to ≤ length self.old.changes }
@@ -354,7 +359,7 @@ impl Wave {
         ensures piece_capacity { vec_capacity piece.old ≤ vec_capacity piece.new }
     {
         match self.list.shared.take() {
-            Some(list) => copy_spliced(&mut self.list.own, list.as_slice(), from, to, piece, by),
+            Some(list) => splice_into(&mut self.list.own, list.as_slice(), from, to, piece, by),
             None => splice_changes(&mut self.list.own, from, to, piece, by),
         }
     }

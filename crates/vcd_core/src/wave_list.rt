@@ -1,6 +1,6 @@
 //! The list of changes of a wave: its own, or one that several waves share.
 
-ghost use Rattle.std.specs.Prelude.{◌≡◌, ◌≤◌, ◌+◌, None, true, max, is_some, length, IsSome, IsOk, IfOk, OnOk, OnErr, vec_len, vec_capacity};
+ghost use Rattle.std.specs.Prelude.{◌≡◌, ◌≤◌, ◌+◌, None, max, length, IsTrue, IsOk, IfOk, OnOk, vec_capacity};
 ghost use Rattle.vcd_core.specs.inside.WaveLists.{changes_of_list, greatest_capacity};
 
 use crate::change_list::push_change_in_room;
@@ -11,15 +11,11 @@ use std::mem::replace;
 use std::rc::Rc;
 
 /// The list of changes of a wave.
-///
-/// A splice of a shared list makes the wave's own list beside it, in memory that is reserved before.
-/// To copy the shared list first, and then to splice the copy, would take up to twice the memory.
 #[derive(Drop)]
 pub(crate) struct WaveList {
     /// The list that the wave shares with others; it is freed with the last of them.
     pub shared: Option<Rc<Vec<Change>>>,
-    /// The wave's own list. While it shares one, the memory for a list of its own: what it holds
-    /// does not count.
+    /// The wave's own list. While it shares one, this does not count.
     pub own: Vec<Change>,
 }
 
@@ -50,9 +46,8 @@ impl WaveList {
 
     /// Puts the list into a form that can be shared. It takes one small block of memory the first
     /// time.
-    fn make_shared(&mut self) -> Result<(), NoMemory>
+    pub fn make_shared(&mut self) -> Result<(), NoMemory>
         ensures changes { changes_of_list self.new ≡ changes_of_list self.old }
-        ensures is_shared { OnOk result (is_some self.new.shared ≡ true) }
     {
         if self.shared.is_some() {
             return Ok(());
@@ -68,18 +63,33 @@ impl WaveList {
         Ok(())
     }
 
-    /// The same list for another wave, which then shares it with this one.
-    pub fn share(&mut self) -> Result<WaveList, NoMemory>
-        ensures changes { changes_of_list self.new ≡ changes_of_list self.old }
-        ensures same { IfOk result (λ other. changes_of_list other ≡ changes_of_list self.old) }
+    /// The same list for another wave: shared if it has the form for that, else copied.
+    pub fn copy(&self) -> Result<WaveList, NoMemory>
+        ensures { IfOk result (λ other. changes_of_list other ≡ changes_of_list self.now) }
     {
-        self.make_shared()?;
+        let alloc = *self.own.allocator();
         match &self.shared {
             Some(list) => Ok(WaveList {
                 shared: Some(list.clone()?),
-                own: Vec::new(*self.own.allocator()),
+                own: Vec::new(alloc),
             }),
-            None => unreachable!(),
+            None => Ok(WaveList {
+                shared: None,
+                own: copy_with_room(alloc, self.own.as_slice(), 0)?,
+            }),
+        }
+    }
+
+    /// Whether both are one list that waves share. Then their changes are compared too, since no
+    /// contract says that a list is the same as itself.
+    pub fn is_same_shared(&self, other: &WaveList) -> bool
+        ensures { IsTrue result → changes_of_list self.now ≡ changes_of_list other.now }
+    {
+        match (&self.shared, &other.shared) {
+            (Some(list), Some(other)) => {
+                Rc::ptr_eq(list, other) && list.as_slice() == other.as_slice()
+            }
+            _ => false,
         }
     }
 
@@ -87,7 +97,6 @@ impl WaveList {
     pub fn take_back(&mut self)
         ensures changes { changes_of_list self.new ≡ changes_of_list self.old }
         ensures stays { self.old.shared ≡ None → self.new ≡ self.old }
-        ensures shared { IsSome self.new.shared → self.new.own ≡ self.old.own }
         ensures capacity { vec_capacity self.new.own ≤ greatest_capacity self.old }
     {
         if let Some(list) = self.shared.take() {

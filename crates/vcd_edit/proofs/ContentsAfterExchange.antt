@@ -1,6 +1,6 @@
 -- What a capture holds after a piece was put into one of its waves.
 use Rattle.std.proofs.Common.{◌≡◌, ◌≢◌, refl, suc, ℕ, ◌<◌, ◌≤◌, List, ◌∷◌, ◌++◌, length, take, drop, map, get_or, set}
-use Rattle.std.proofs.Common.{slice_index_or, sym, ap, subst, ◌∙◌, inl, inr, arith}
+use Rattle.std.proofs.Common.{slice_index_or, sym, ap, subst, ◌∙◌, inl, inr, false, arith}
 use Rattle.std.specs.List.{insert, remove}
 use Rattle.std.proofs.lemmas.Bool.{cases_eq}
 use Rattle.std.proofs.lemmas.List.{map-set, get_or-map, get_or-set_same, get_or-set_other, set-get_or, length-map}
@@ -68,20 +68,45 @@ pub wave_is_there : (signals : List Signal) (k : ℕ) (s : Signal) → k < lengt
 wave_is_there signals k s within is = get_or-map (λ (t : Signal). t.wave) signals k s no_wave within
     ∙ ap (λ (t : Signal). t.wave) (sym is)
 
+-- a wave that stays, if it has its own list, has no less room
+pub room_kept : (old new : WaveView) → new.width ≡ old.width → new.changes ≡ old.changes
+    → (old.is_shared ≡ false → new ≡ old) → HasNoLessRoom old new
+room_kept old new width changes stays =
+    record {
+      width = width;
+      changes = changes;
+      own = λ own. (
+        ap (λ (w : WaveView). w.is_shared) (stays own) ∙ own,
+        omega (arith, ap (λ (w : WaveView). w.capacity) (stays own)),
+      );
+    }
+
+pub room_then : (old between new : WaveView) → HasNoLessRoom old between → HasNoLessRoom between new
+    → HasNoLessRoom old new
+room_then old between new first second =
+    record {
+      width = second.width ∙ first.width;
+      changes = second.changes ∙ first.changes;
+      own = λ own. (
+        (second.own (first.own own).0).0,
+        omega (arith, (first.own own).1, (second.own (first.own own).0).1),
+      );
+    }
+
 -- if one wave has no less room, none has
 pub rooms_grow : (signals : List Signal) (k : ℕ) (s : Signal) (w : WaveView) → k < length signals
-    → s ≡ get_or signals k s → w.changes ≡ s.wave.changes → s.wave.capacity ≤ w.capacity
+    → s ≡ get_or signals k s → HasNoLessRoom s.wave w
     → (j : ℕ) → HasNoLessRoom (wave_at signals j) (wave_at (set signals k (record s { wave = w })) j)
-rooms_grow signals k s w within is same more j =
+rooms_grow signals k s w within is more j =
     elim (cases_eq j k) [
       | inl here ↦ subst (λ n. HasNoLessRoom (wave_at signals n) (wave_at (set signals k (record s { wave = w })) n))
           (sym here)
           (subst (λ v. HasNoLessRoom v (wave_at (set signals k (record s { wave = w })) k))
           (sym (wave_is_there signals k s within is))
-          (subst (HasNoLessRoom s.wave) (sym (wave_there signals k s w within))
-          (record { count = ap length same; room = more })))
+          (subst (HasNoLessRoom s.wave) (sym (wave_there signals k s w within)) more))
       | inr other ↦ subst (HasNoLessRoom (wave_at signals j))
-          (sym (other_waves signals k j (record s { wave = w }) other)) (record { count = refl; room = omega arith })
+          (sym (other_waves signals k j (record s { wave = w }) other))
+          (room_kept (wave_at signals j) (wave_at signals j) refl refl (λ own. refl))
     ]
 
 -- ---- a word, and a signal put in or taken out

@@ -3,6 +3,7 @@ use Rattle.std.proofs.Common.{◌≡◌, ℕ, suc, ◌+◌, ◌-◌, ◌^◌, �
 use Rattle.std.proofs.Common.{unsigned_abs, List, [], ◌∷◌, ◌++◌, length, take, drop, get_or, map, reverse, All, refl}
 use Rattle.std.proofs.Common.{sym, ap, subst, ◌∙◌, inl, inr, arith}
 use Rattle.std.specs.Int.{w64, FitsUnsigned}
+use Rattle.std.specs.Bool.{Decides}
 use Rattle.std.specs.List.{common_prefix_len}
 use Rattle.std.specs.Ordering.{int_eq}
 use Rattle.std.proofs.lemmas.Bool.{cases_lt, cases_Bool, and_from, and_parts, eq-eqb, eqb-true, cond-true, cond-false}
@@ -32,6 +33,12 @@ same_change_is : (c d : Change) → same_change c d ≡ true → c ≡ d
 same_change_is c d same =
     let parts = and_parts (c.tick == d.tick) (same_letters c.value d.value) same in
     λ i. record { tick = eqb-true c.tick d.tick parts.0 i; value = (same_letters-Decides c.value d.value).0 parts.1 i }
+
+pub same_change-Decides : (c d : Change) → Decides (same_change c d) (c ≡ d)
+same_change-Decides c d = (
+  same_change_is c d,
+  λ same. subst (λ (e : Change). same_change c e ≡ true) same (same_change_self c),
+)
 
 -- a change matches its moved change
 same_lowered_moved : (by o : ℤ) (c : Change) → o ≡ neg_ℤ by → TickFits by c

@@ -44,7 +44,7 @@ pub(crate) fn exchange_record(
         signal,
         other_end,
     } = applied_record;
-    if reserve_all(capture, pieces.as_mut_slice()).is_err() {
+    let Ok(comings) = reserve_all(alloc, capture, pieces.as_mut_slice()) else {
         let held = Record {
             pieces,
             word,
@@ -52,10 +52,10 @@ pub(crate) fn exchange_record(
             other_end,
         };
         return Err(Kept { held });
-    }
+    };
     match exchange_signal(alloc, capture, signal) {
         Ok(signal) => {
-            exchange_pieces(capture, &mut pieces);
+            exchange_pieces(capture, &mut pieces, comings);
             let word = exchange_word(capture, word);
             let other_end = exchange_end(capture, other_end);
             Ok(Record {
@@ -86,7 +86,8 @@ pub(crate) fn exchange_record(
 /// the capture is as it was.
 ///
 /// The cost is the pieces, their ranges, and for each piece one move of its signal's later changes. A signal that is
-/// put in or taken out costs one move of the later signals.
+/// put in or taken out costs one move of the later signals. Signals that share one list, and get the same splice, share
+/// one new list.
 pub fn revert(alloc: Global, capture: &mut Capture, applied_record: Record) -> Result<Record, Kept>
     requires fits { Fits applied_record (contents capture.old) }
     requires sound { IsSound (contents capture.old) }

@@ -1,6 +1,6 @@
 -- How a piece and a range of a wave are exchanged: what must hold before, and what holds after.
 use Rattle.std.specs.Prelude.{◌≡◌, ℕ, ◌+◌, ◌-◌, ◌^◌, ◌<◌, ◌≤◌, neg_ℤ, List, [], ◌∷◌, length, take, drop, map}
-use Rattle.std.specs.Prelude.{slice_index_or, All, true, false, vec_len, vec_capacity}
+use Rattle.std.specs.Prelude.{slice_index_or, All, Option, Some, None, false, vec_len, vec_capacity}
 use Rattle.vcd_core.specs.declared.wave.Change.{Change}
 use Rattle.vcd_core.specs.declared.capture.Signal.{Signal}
 use Rattle.vcd_core.specs.declared.capture.TheConstants.{END_LIMIT}
@@ -59,35 +59,45 @@ no_wave = record { width = 1; changes = []; is_shared = false; capacity = 0 }
 abbrev pub wave_at : List Signal → ℕ → WaveView
 wave_at ss k = slice_index_or (map (λ s. s.wave) ss) k no_wave
 
--- the second wave has as many changes as the first, and no less room for a splice
+-- the second wave has the width and the changes of the first, and no less room in its own list
 pub record HasNoLessRoom (old new : WaveView) : Type 0 where
-  pub count : length new.changes ≡ length old.changes
-  pub room : old.capacity ≤ new.capacity
+  pub width : new.width ≡ old.width
+  pub changes : new.changes ≡ old.changes
+  pub own : old.is_shared ≡ false → (new.is_shared ≡ false) × (old.capacity ≤ new.capacity)
 
--- the wave of a signal holds no memory beside a list that it shares
-abbrev pub HasNothingBeside : Signal → Type 0
-HasNothingBeside s = s.wave.is_shared ≡ true → s.wave.capacity ≡ 0
+-- the wave's own list has room for what the piece puts in
+pub record HasRoomInWave (w : WaveView) (p : Piece) : Type 0 where
+  pub own : w.is_shared ≡ false
+  pub room : length w.changes + vec_len p.changes ≤ w.capacity + (p.to - p.from)
 
--- a piece and its wave have room for each other's changes
-pub record HasRoomForPiece (ss : List Signal) (p : Piece) : Type 0 where
-  pub wave : length (wave_at ss p.signal).changes + vec_len p.changes ≤ (wave_at ss p.signal).capacity
-      + (p.to - p.from)
+-- a wave that can come in the place of this one, as the piece makes it
+pub record IsComing (w : WaveView) (p : Piece) (coming : WaveView) : Type 0 where
+  pub width : coming.width ≡ w.width
+  pub changes : coming.changes ≡ changes_with_piece (piece_view p) w.changes
+
+-- a piece can be put into its wave without memory: by the wave that comes, or else in place
+abbrev pub CanBePutIn : WaveView → Piece → Option WaveView → Type 0
+CanBePutIn w p None = HasRoomInWave w p
+CanBePutIn w p (Some coming) = IsComing w p coming
+
+-- the same in a capture, and the piece has room for what it gets
+pub record HasRoomForPiece (ss : List Signal) (p : Piece) (coming : Option WaveView) : Type 0 where
+  pub wave : CanBePutIn (wave_at ss p.signal) p coming
   pub piece : p.to - p.from ≤ vec_capacity p.changes
+
+-- so it is for each piece at places `from` to before `to`
+abbrev pub HaveRoom : List Signal → List Piece → List (Option WaveView) → ℕ → ℕ → Type 0
+HaveRoom ss ps comings from to = (k : ℕ) (d : Piece) → from ≤ k → k < to
+    → HasRoomForPiece ss (slice_index_or ps k d) (slice_index_or comings k None)
 
 -- ---- the exchange so far
 
--- room was made for the first i pieces; the later ones are unchanged
-pub record ReservedSoFar (old : List Piece) (i : ℕ) (new : List Piece) (ss : List Signal) : Type 0 where
-  pub rest : drop i new ≡ drop i old
-  pub same : map piece_view new ≡ map piece_view old
-  pub room : All (HasRoomForPiece ss) (take i new)
-
 -- the first i pieces were put in and now undo that; the later ones are unchanged, and ready
 pub record ExchangedSoFar (before : Contents) (old : List Piece) (i : ℕ) (new : List Piece) (now : Contents)
-    (ss : List Signal) : Type 0 where
+    (ss : List Signal) (comings : List (Option WaveView)) : Type 0 where
   pub rest : drop i new ≡ drop i old
   pub there : now ≡ with_pieces before (map piece_view (take i old))
   pub back : AreOppositePieces before (map piece_view (take i old)) (map piece_view (take i new))
   pub ready : All (PieceReadyIn now) (map piece_view (drop i old))
   pub apart : HaveDistinctSignals (map piece_view (drop i old))
-  pub room : All (HasRoomForPiece ss) (drop i old)
+  pub room : HaveRoom ss old comings i (length old)

@@ -5,38 +5,22 @@ use Rattle.vcd_edit.specs.declared.record.Piece.{Piece}
 use Rattle.vcd_edit.specs.AppliedRecords.{apply_record, with_signal_in_out, Fits}
 use Rattle.vcd_edit.specs.Records.{piece_view, record_view, signal_view}
 use Rattle.vcd_edit.specs.inside.Opposites.{opposite_signal, IsOppositeRecord}
+use Rattle.vcd_edit.specs.inside.Exchanges.{PieceReadyIn}
+use Rattle.vcd_edit.proofs.OppositeRecords.{pieces_ready}
 use Rattle.vcd_edit.proofs.TouchedParts.{whole_list}
 use Rattle.vcd_edit.proofs.RecordExchanges.{fits_each, ready_then, word_fits_then, word_named_then, end_is_back}
 use Rattle.vcd_edit.proofs.RecordExchanges.{is_record_then, leads_then}
 use Rattle.vcd_edit.proofs.reverting.exchange_record.Goals as goal
 
-pub reserve_all-requires-clause-signal : goal.reserve_all-requires-clause-signal
-reserve_all-requires-clause-signal c =
+pub reserve_all-requires : goal.reserve_all-requires
+reserve_all-requires c =
     let now = contents c.args.capture.now in
     let p = c.applied_record.inside in let v = record_view p.pieces.items p.word p.signal p.other_end in
     let fits : Fits v now = subst (λ r. Fits r now) (sym c.applied_record.view_is) c.requires.fits in
-    subst (All (λ (p : Piece). p.signal < length c.args.capture.now.signals)) (sym c.as_mut_slice.ensures.value)
-    (λ k d less. omega (
-      arith,
-      (fits_each now c.applied_record.inside.pieces.items fits.pieces k d less).signal,
-      length-map c.args.capture.now.signals signal_contents,
-    ))
-
-pub reserve_all-requires-clause-ordered : goal.reserve_all-requires-clause-ordered
-reserve_all-requires-clause-ordered c =
-    let now = contents c.args.capture.now in
-    let p = c.applied_record.inside in let v = record_view p.pieces.items p.word p.signal p.other_end in
-    let fits : Fits v now = subst (λ r. Fits r now) (sym c.applied_record.view_is) c.requires.fits in
-    subst (All (λ (p : Piece). p.from ≤ p.to)) (sym c.as_mut_slice.ensures.value)
-    (λ k d less. (fits_each now c.applied_record.inside.pieces.items fits.pieces k d less).ordered)
-
-pub reserve_all-requires-clause-within : goal.reserve_all-requires-clause-within
-reserve_all-requires-clause-within c =
-    let now = contents c.args.capture.now in
-    let p = c.applied_record.inside in let v = record_view p.pieces.items p.word p.signal p.other_end in
-    let fits : Fits v now = subst (λ r. Fits r now) (sym c.applied_record.view_is) c.requires.fits in
-    subst (All (λ (p : Piece). p.to ≤ length (signal_at now p.signal).changes)) (sym c.as_mut_slice.ensures.value)
-    (λ k d less. (fits_each now c.applied_record.inside.pieces.items fits.pieces k d less).within)
+    record {
+      ready = subst (λ ps. All (PieceReadyIn now) (map piece_view ps)) (sym c.as_mut_slice.ensures.value)
+          (pieces_ready now v fits c.applied_record.invariant c.requires.sound);
+    }
 
 pub exchange_pieces-requires-clause-ready : goal.exchange_pieces-requires-clause-ready
 exchange_pieces-requires-clause-ready c =
@@ -48,7 +32,7 @@ exchange_pieces-requires-clause-ready c =
     (omega (arith, c.as_mut_slice.ensures.len, c.reserve_all.auto.pieces)) in
     let whole = ap (map piece_view) pieces ∙ c.reserve_all.ensures.pieces
     ∙ ap (map piece_view) c.as_mut_slice.ensures.value in
-    let moved : contents c.exchange_signal.new.capture ≡ with_signal_in_out v.signal now = c.in-Ok.ensures.effect
+    let moved : contents c.exchange_signal.new.capture ≡ with_signal_in_out v.signal now = c.in-Ok-exchange_signal.ensures.effect
     ∙ ap (with_signal_in_out v.signal) c.reserve_all.ensures.contents in
     ready_then now v fits c.applied_record.invariant c.requires.sound _ whole
     (contents c.exchange_signal.new.capture) moved
@@ -63,7 +47,7 @@ exchange_word-word-requires-clause-fits c =
     (omega (arith, c.as_mut_slice.ensures.len, c.reserve_all.auto.pieces)) in
     let whole = ap (map piece_view) pieces ∙ c.reserve_all.ensures.pieces
     ∙ ap (map piece_view) c.as_mut_slice.ensures.value in
-    let moved : contents c.exchange_signal.new.capture ≡ with_signal_in_out v.signal now = c.in-Ok.ensures.effect
+    let moved : contents c.exchange_signal.new.capture ≡ with_signal_in_out v.signal now = c.in-Ok-exchange_signal.ensures.effect
     ∙ ap (with_signal_in_out v.signal) c.reserve_all.ensures.contents in
     word_fits_then now v fits c.applied_record.invariant c.requires.sound _ whole
     (contents c.exchange_signal.new.capture) moved
@@ -79,7 +63,7 @@ exchange_word-word-requires-clause-named c =
     (omega (arith, c.as_mut_slice.ensures.len, c.reserve_all.auto.pieces)) in
     let whole = ap (map piece_view) pieces ∙ c.reserve_all.ensures.pieces
     ∙ ap (map piece_view) c.as_mut_slice.ensures.value in
-    let moved : contents c.exchange_signal.new.capture ≡ with_signal_in_out v.signal now = c.in-Ok.ensures.effect
+    let moved : contents c.exchange_signal.new.capture ≡ with_signal_in_out v.signal now = c.in-Ok-exchange_signal.ensures.effect
     ∙ ap (with_signal_in_out v.signal) c.reserve_all.ensures.contents in
     word_named_then now v fits c.applied_record.invariant c.requires.sound _ whole
     (contents c.exchange_signal.new.capture) moved
@@ -95,11 +79,11 @@ invariant_of-result c =
     (omega (arith, c.as_mut_slice.ensures.len, c.reserve_all.auto.pieces)) in
     let whole = ap (map piece_view) pieces ∙ c.reserve_all.ensures.pieces
     ∙ ap (map piece_view) c.as_mut_slice.ensures.value in
-    let moved : contents c.exchange_signal.new.capture ≡ with_signal_in_out v.signal now = c.in-Ok.ensures.effect
+    let moved : contents c.exchange_signal.new.capture ≡ with_signal_in_out v.signal now = c.in-Ok-exchange_signal.ensures.effect
     ∙ ap (with_signal_in_out v.signal) c.reserve_all.ensures.contents in
-    let signal : signal_view c.in-Ok.signal ≡ opposite_signal v.signal now = c.in-Ok.ensures.restores
+    let signal : signal_view c.in-Ok-exchange_signal.signal ≡ opposite_signal v.signal now = c.in-Ok-exchange_signal.ensures.restores
     ∙ ap (opposite_signal v.signal) c.reserve_all.ensures.contents in
-    let q = record_view c.exchange_pieces.new.pieces.items c.exchange_word-word.result c.in-Ok.signal
+    let q = record_view c.exchange_pieces.new.pieces.items c.exchange_word-word.result c.in-Ok-exchange_signal.signal
     c.exchange_end-other_end.result in
     is_record_then now v fits c.applied_record.invariant c.requires.sound _ whole
     (contents c.exchange_signal.new.capture) moved
@@ -110,8 +94,8 @@ invariant_of-result c =
     c.exchange_pieces.ensures.restores.1 c.exchange_word-word.ensures.restores signal
     c.exchange_end-other_end.ensures.restores
 
-pub returns-in-Ok-clause-effect : goal.returns-in-Ok-clause-effect
-returns-in-Ok-clause-effect c =
+pub returns-in-Ok-exchange_signal-clause-effect : goal.returns-in-Ok-exchange_signal-clause-effect
+returns-in-Ok-exchange_signal-clause-effect c =
     let now = contents c.args.capture.now in
     let p = c.applied_record.inside in let v = record_view p.pieces.items p.word p.signal p.other_end in
     let fits : Fits v now = subst (λ r. Fits r now) (sym c.applied_record.view_is) c.requires.fits in
@@ -120,7 +104,7 @@ returns-in-Ok-clause-effect c =
     (omega (arith, c.as_mut_slice.ensures.len, c.reserve_all.auto.pieces)) in
     let whole = ap (map piece_view) pieces ∙ c.reserve_all.ensures.pieces
     ∙ ap (map piece_view) c.as_mut_slice.ensures.value in
-    let moved : contents c.exchange_signal.new.capture ≡ with_signal_in_out v.signal now = c.in-Ok.ensures.effect
+    let moved : contents c.exchange_signal.new.capture ≡ with_signal_in_out v.signal now = c.in-Ok-exchange_signal.ensures.effect
     ∙ ap (with_signal_in_out v.signal) c.reserve_all.ensures.contents in
     end_is_back now v fits c.applied_record.invariant c.requires.sound _ whole
     (contents c.exchange_signal.new.capture) moved
@@ -129,8 +113,8 @@ returns-in-Ok-clause-effect c =
     c.exchange_word-word.ensures.effect c.exchange_end-other_end.ensures.effect
     ∙ ap (λ r. apply_record r now) c.applied_record.view_is
 
-pub returns-in-Ok-clause-restores : goal.returns-in-Ok-clause-restores
-returns-in-Ok-clause-restores c =
+pub returns-in-Ok-exchange_signal-clause-restores : goal.returns-in-Ok-exchange_signal-clause-restores
+returns-in-Ok-exchange_signal-clause-restores c =
     let now = contents c.args.capture.now in
     let p = c.applied_record.inside in let v = record_view p.pieces.items p.word p.signal p.other_end in
     let fits : Fits v now = subst (λ r. Fits r now) (sym c.applied_record.view_is) c.requires.fits in
@@ -139,11 +123,11 @@ returns-in-Ok-clause-restores c =
     (omega (arith, c.as_mut_slice.ensures.len, c.reserve_all.auto.pieces)) in
     let whole = ap (map piece_view) pieces ∙ c.reserve_all.ensures.pieces
     ∙ ap (map piece_view) c.as_mut_slice.ensures.value in
-    let moved : contents c.exchange_signal.new.capture ≡ with_signal_in_out v.signal now = c.in-Ok.ensures.effect
+    let moved : contents c.exchange_signal.new.capture ≡ with_signal_in_out v.signal now = c.in-Ok-exchange_signal.ensures.effect
     ∙ ap (with_signal_in_out v.signal) c.reserve_all.ensures.contents in
-    let signal : signal_view c.in-Ok.signal ≡ opposite_signal v.signal now = c.in-Ok.ensures.restores
+    let signal : signal_view c.in-Ok-exchange_signal.signal ≡ opposite_signal v.signal now = c.in-Ok-exchange_signal.ensures.restores
     ∙ ap (opposite_signal v.signal) c.reserve_all.ensures.contents in
-    let q = record_view c.exchange_pieces.new.pieces.items c.exchange_word-word.result c.in-Ok.signal
+    let q = record_view c.exchange_pieces.new.pieces.items c.exchange_word-word.result c.in-Ok-exchange_signal.signal
     c.exchange_end-other_end.result in
     subst (λ r. IsOppositeRecord now r q) c.applied_record.view_is
     (leads_then now v fits c.applied_record.invariant c.requires.sound _ whole

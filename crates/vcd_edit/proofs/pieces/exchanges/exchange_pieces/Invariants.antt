@@ -1,8 +1,11 @@
+-- The first pieces were put in, and there is a place for each wave that comes.
+use Rattle.std.proofs.Common.{◌≡◌, vec_len}
 use Rattle.vcd_core.specs.Contents.{contents}
 use Rattle.vcd_edit.specs.inside.Exchanges.{ExchangedSoFar}
 use Rattle.vcd_edit.proofs.pieces.exchanges.exchange_pieces.Given as goal
 
-abbrev pub invariant-loop-piece : goal.invariant-loop-piece
-invariant-loop-piece l =
-    ExchangedSoFar (contents l.fn.capture) l.initial.piece-items l.piece-index l.piece-items (contents l.capture)
-    l.capture.signals
+abbrev pub invariant-loop-place : goal.invariant-loop-place
+invariant-loop-place l =
+    ExchangedSoFar (contents l.fn.capture) l.initial.piece-items l.place l.piece-items (contents l.capture)
+    l.capture.signals l.comings.items
+    × (vec_len l.comings ≡ vec_len l.fn.comings)

@@ -1,15 +1,56 @@
-use Rattle.std.proofs.Common.{◌+◌, ◌-◌, ◌≤◌, List, length, vec_len, ap, sym, subst, arith}
-use Rattle.std.proofs.lemmas.Result.{on_ok_weaker}
+use Rattle.std.proofs.Common.{◌+◌, ◌-◌, ◌≤◌, ◌≡◌, List, length, vec_len, ap, sym, subst, ◌∙◌, arith}
 use Rattle.vcd_core.specs.WaveView.{WaveView}
 use Rattle.vcd_core.specs.Contents.{Contents, SignalContents, contents}
-use Rattle.vcd_edit.proofs.ContentsAfterExchange.{contents_at, contents_kept, rooms_grow, wave_there}
+use Rattle.vcd_edit.specs.inside.Exchanges.{HasNoLessRoom, HasRoomInWave}
+use Rattle.vcd_edit.proofs.ContentsAfterExchange.{contents_kept, rooms_grow, room_kept, room_then, wave_there}
 use Rattle.vcd_edit.proofs.pieces.reservations.reserve_piece.Goals as goal
 
-pub reserve_splice-requires-clause-within : goal.reserve_splice-requires-clause-within
-reserve_splice-requires-clause-within c =
-    subst (λ (s : SignalContents). c.args.piece.now.to ≤ length s.changes)
-    (contents_at c.args.capture.now.signals c.args.piece.now.signal c.item_mut.result.now c.requires.signal
-    c.item_mut.ensures.value) c.requires.within
+pub returns-then-is_shared-clause-contents : goal.returns-then-is_shared-clause-contents
+returns-then-is_shared-clause-contents c =
+    let old : Contents = contents c.args.capture.now in
+    ap (λ (ss : List SignalContents). record {
+      header = old.header;
+      timescale = old.timescale;
+      end = old.end;
+      signals =
+          ss;
+    })
+    (contents_kept c.args.capture.now.signals c.args.piece.now.signal c.item_mut.result.now c.is_shared.new.self
+    c.requires.signal c.item_mut.ensures.value c.is_shared.ensures.width c.is_shared.ensures.changes)
+
+pub returns-then-is_shared-clause-never_less : goal.returns-then-is_shared-clause-never_less
+returns-then-is_shared-clause-never_less c =
+    rooms_grow c.args.capture.now.signals c.args.piece.now.signal c.item_mut.result.now c.is_shared.new.self
+    c.requires.signal c.item_mut.ensures.value
+    (room_kept c.item_mut.result.now.wave c.is_shared.new.self c.is_shared.ensures.width c.is_shared.ensures.changes
+    c.is_shared.ensures.stays_own)
+
+pub returns-in_err-reserve-clause-contents : goal.returns-in_err-reserve-clause-contents
+returns-in_err-reserve-clause-contents c =
+    let old : Contents = contents c.args.capture.now in
+    ap (λ (ss : List SignalContents). record {
+      header = old.header;
+      timescale = old.timescale;
+      end = old.end;
+      signals =
+          ss;
+    })
+    (contents_kept c.args.capture.now.signals c.args.piece.now.signal c.item_mut.result.now c.reserve.new.self
+    c.requires.signal c.item_mut.ensures.value (c.reserve.ensures.width ∙ c.is_shared.ensures.width)
+    (c.reserve.ensures.changes ∙ c.is_shared.ensures.changes))
+
+pub returns-in_err-reserve-clause-never_less : goal.returns-in_err-reserve-clause-never_less
+returns-in_err-reserve-clause-never_less c =
+    rooms_grow c.args.capture.now.signals c.args.piece.now.signal c.item_mut.result.now c.reserve.new.self
+    c.requires.signal c.item_mut.ensures.value
+    (room_then c.item_mut.result.now.wave c.is_shared.new.self c.reserve.new.self
+    (room_kept c.item_mut.result.now.wave c.is_shared.new.self c.is_shared.ensures.width c.is_shared.ensures.changes
+    c.is_shared.ensures.stays_own)
+    (record {
+      width = c.reserve.ensures.width;
+      changes = c.reserve.ensures.changes;
+      own = λ own. (c.reserve.ensures.stays_own own, c.reserve.ensures.never_less own);
+    }))
 
 pub returns-clause-contents : goal.returns-clause-contents
 returns-clause-contents c =
@@ -21,24 +62,36 @@ returns-clause-contents c =
       signals =
           ss;
     })
-    (contents_kept c.args.capture.now.signals c.args.piece.now.signal c.item_mut.result.now c.reserve_splice.new.self
-    c.requires.signal c.item_mut.ensures.value c.reserve_splice.ensures.width c.reserve_splice.ensures.changes)
+    (contents_kept c.args.capture.now.signals c.args.piece.now.signal c.item_mut.result.now c.reserve.new.self
+    c.requires.signal c.item_mut.ensures.value (c.reserve.ensures.width ∙ c.is_shared.ensures.width)
+    (c.reserve.ensures.changes ∙ c.is_shared.ensures.changes))
 
 pub returns-clause-never_less : goal.returns-clause-never_less
 returns-clause-never_less c =
-    rooms_grow c.args.capture.now.signals c.args.piece.now.signal c.item_mut.result.now c.reserve_splice.new.self
-    c.requires.signal c.item_mut.ensures.value c.reserve_splice.ensures.changes c.reserve_splice.ensures.never_less
+    rooms_grow c.args.capture.now.signals c.args.piece.now.signal c.item_mut.result.now c.reserve.new.self
+    c.requires.signal c.item_mut.ensures.value
+    (room_then c.item_mut.result.now.wave c.is_shared.new.self c.reserve.new.self
+    (room_kept c.item_mut.result.now.wave c.is_shared.new.self c.is_shared.ensures.width c.is_shared.ensures.changes
+    c.is_shared.ensures.stays_own)
+    (record {
+      width = c.reserve.ensures.width;
+      changes = c.reserve.ensures.changes;
+      own = λ own. (c.reserve.ensures.stays_own own, c.reserve.ensures.never_less own);
+    }))
 
-pub returns-clause-room : goal.returns-clause-room
-returns-clause-room c =
-    let signals = c.args.capture.now.signals in
+pub returns-clause-own : goal.returns-clause-own
+returns-clause-own c = λ told.
     let p = c.args.piece.now in
-    let s = c.item_mut.result.now in
-    let w = c.reserve_splice.new.self in
-    let there = wave_there signals p.signal s w c.requires.signal in
-    on_ok_weaker c.reserve_splice.result (λ room. record {
-      wave = subst (λ (v : WaveView). length v.changes + vec_len c.reserve_exact.new.self
-          ≤ v.capacity + (p.to - p.from))
-          (sym there) (omega (arith, room, ap length c.reserve_splice.ensures.changes, c.as_slice.ensures.len));
-      piece = omega (arith, c.in_ok-reserve_exact.ensures.ok, c.as_slice-len.ensures.len);
-    }) c.reserve_splice.ensures.room
+    let w = c.reserve.new.self in
+    let there = wave_there c.args.capture.now.signals p.signal c.item_mut.result.now w c.requires.signal in
+    record {
+      own = ap (λ (v : WaveView). v.is_shared) there ∙ c.in_ok-reserve.ensures.is_own;
+      room = subst (λ (v : WaveView). length v.changes + vec_len c.reserve_exact.new.self
+          ≤ v.capacity + (p.to - p.from)) (sym there)
+          (omega (
+            arith,
+            c.in_ok-reserve.ensures.room,
+            ap length c.reserve.ensures.changes,
+            c.as_slice-len.ensures.len,
+          ));
+    }
