@@ -6,7 +6,7 @@
 //!
 //! | CALL | ARGUMENT | BEFORE |
 //! |---|---|---|
-//! | `push`, `push_word`, `share`, `reserve`, `reserve_exact`, `reserve_splice` | `shared`, or nothing | |
+//! | `push`, `push_word`, `share`, `copy`, `reserve`, `reserve_exact` | `shared`, or nothing | |
 //! | `copy_word`, `copy_words`, `copy_scopes`: of the first signal | | |
 //! | `share_path`, `front`: of a path that has its scopes alone; `share_scopes`: `ScopePath::shared` | | |
 //! | `read_whole`, `read`, `write`, `uart`, `spi`, `i2c`, `Session::new` | | |

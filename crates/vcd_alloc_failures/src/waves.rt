@@ -6,7 +6,7 @@ use crate::calls::Call;
 use crate::printing::{DONE, Failure, allow, print_wave, refuse};
 use std::alloc::Global;
 use std::rt::Runtime;
-use vcd_core::{Bit, Change, LetterWord, NoMemory, Value, Wave};
+use vcd_core::{Bit, LetterWord, NoMemory, Value, Wave};
 
 /// For how many changes room is made.
 const MORE: usize = 9;
@@ -22,32 +22,30 @@ fn full_wave(alloc: Global) -> Result<Wave, NoMemory>
     Ok(wave)
 }
 
-/// `Wave::push`, `push_word`, `share`, `reserve`, `reserve_exact` and `reserve_splice`, by their names. With the word `shared`
-/// another wave shares the list, and is printed, too.
+/// `Wave::push`, `push_word`, `share`, `copy`, `reserve` and `reserve_exact`, by their names. With the
+/// word `shared` another wave shares the list, and is printed, too.
 pub fn call_on_wave<R: Runtime + AllocGlobal>(rt: &R, call: &Call) -> Result<(), Failure> {
-    let piece = full_wave(rt.alloc())?;
     let mut wave = full_wave(rt.alloc())?;
     if call.argument == "shared" {
         let other = wave.share()?;
-        make_growth(rt, call, &mut wave, piece.changes())?;
+        make_growth(rt, call, &mut wave)?;
         return print_wave(rt, &other);
     }
-    make_growth(rt, call, &mut wave, piece.changes())
+    make_growth(rt, call, &mut wave)
 }
 
-/// Makes the call unless it is omitted, and prints its outcome and the wave. A splice puts in this piece.
+/// Makes the call unless it is omitted, and prints its outcome and the wave.
 fn make_growth<R: Runtime + AllocGlobal>(
     rt: &R,
     call: &Call,
     wave: &mut Wave,
-    piece: &[Change],
 ) -> Result<(), Failure>
     requires width { wave.old.width ≡ 1 }
     requires early { All (λ c. c.tick ≤ 0) wave.old.changes }
 {
     if call.makes {
         refuse(rt)?;
-        match grow(wave, piece, call.name) {
+        match grow(wave, call.name) {
             Ok(()) => allow(rt, DONE)?,
             Err(fault) => allow(rt, fault.name())?,
         }
@@ -55,8 +53,8 @@ fn make_growth<R: Runtime + AllocGlobal>(
     print_wave(rt, wave)
 }
 
-/// The call of a name: `push`, `push_word`, `share`, `reserve`, `reserve_exact`, else `reserve_splice`.
-fn grow(wave: &mut Wave, piece: &[Change], name: &str) -> Result<(), NoMemory>
+/// The call of a name: `push`, `push_word`, `share`, `copy`, `reserve`, else `reserve_exact`.
+fn grow(wave: &mut Wave, name: &str) -> Result<(), NoMemory>
     requires width { wave.old.width ≡ 1 }
     requires early { All (λ c. c.tick ≤ 0) wave.old.changes }
 {
@@ -64,10 +62,16 @@ fn grow(wave: &mut Wave, piece: &[Change], name: &str) -> Result<(), NoMemory>
         "push" => wave.push(5, Value::filled(1, Bit::Zero)),
         "push_word" => wave.push_word(5, LetterWord { low: 0, high: 0 }),
         "share" => share_and_drop(wave),
+        "copy" => copy_and_drop(wave),
         "reserve" => wave.reserve(MORE),
-        "reserve_exact" => wave.reserve_exact(MORE),
-        _ => wave.reserve_splice(0, 0, piece),
+        _ => wave.reserve_exact(MORE),
     }
+}
+
+/// `Wave::copy`; the copy is dropped at once.
+fn copy_and_drop(wave: &Wave) -> Result<(), NoMemory> {
+    wave.copy()?;
+    Ok(())
 }
 
 /// `Wave::share`; the other wave is dropped at once.
