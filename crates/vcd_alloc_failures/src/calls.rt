@@ -26,7 +26,7 @@ pub struct Call<'a> {
 /// Makes the named call, and prints what it left.
 pub fn make_call<R: Runtime + AllocGlobal>(rt: &R, call: &Call) -> Result<(), Failure> {
     match call.name {
-        "push" | "push_word" | "share" | "copy" | "reserve" | "reserve_exact" => {
+        "push" | "push_block" | "share" | "copy" | "reserve" | "reserve_exact" => {
             call_on_wave(rt, call)
         }
         "copy_word" | "copy_words" | "copy_scopes" | "share_path" | "front" | "share_scopes" => {

@@ -1,7 +1,7 @@
 //! Edits of a capture, and the records that undo them.
 
 ghost use Rattle.std.specs.Prelude.{◌≡◌, IfOk};
-ghost use Rattle.vcd_core.specs.Contents.{contents};
+ghost use Rattle.vcd_core.specs.CaptureContents.{contents};
 ghost use Rattle.vcd_core.specs.Sound.{IsSound};
 ghost use Rattle.vcd_edit.specs.AppliedRecords.{Fits};
 
@@ -72,8 +72,8 @@ fn make_edit<R: Runtime + AllocGlobal>(
     }
 }
 
-/// `revert` of the edit's record, on a capture like the edited one that was read again. Its waves have only the room
-/// that reading gives; those of the edited one have the room that they need.
+/// `revert` of the edit's record, on a capture like the edited one that was read again. Its waves
+/// have only the room that reading gives; those of the edited one have the room that they need.
 pub fn call_revert<R: Runtime + AllocGlobal>(rt: &R, call: &Call) -> Result<(), Failure> {
     let Some(edit) = edit_named(call.argument) else {
         return Err(Failure);
@@ -126,8 +126,8 @@ fn make_revert<R: Runtime + AllocGlobal>(
     }
 }
 
-/// `apply`, and `revert` if `undo` is asked for. The last record is then dropped between the two lines, so that what it
-/// holds can be counted.
+/// `apply`, and `revert` if `undo` is asked for. The last record is then dropped between the two
+/// lines, so that what it holds can be counted.
 pub fn call_held<R: Runtime + AllocGlobal>(rt: &R, call: &Call) -> Result<(), Failure> {
     let Some(edit) = edit_named(call.argument) else {
         return Err(Failure);

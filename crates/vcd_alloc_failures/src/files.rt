@@ -1,7 +1,7 @@
 //! Files read and written.
 
 ghost use Rattle.std.specs.Prelude.{IfOk};
-ghost use Rattle.vcd_core.specs.Contents.{contents};
+ghost use Rattle.vcd_core.specs.CaptureContents.{contents};
 ghost use Rattle.vcd_core.specs.Sound.{IsSound};
 
 use crate::TEXT_LIMIT;
@@ -28,7 +28,8 @@ pub fn capture_of_text(alloc: Global, text: &[u8]) -> Result<Capture, Failure>
     }
 }
 
-/// `read`, and the line of a fault. Prints whether the source has failed, and whether the rest ends the text.
+/// `read`, and the line of a fault. Prints whether the source has failed, and whether the rest ends
+/// the text.
 pub fn call_read<R: Runtime + AllocGlobal>(rt: &R, call: &Call) -> Result<(), Failure> {
     let mut source = FromRead::new(call.text);
     if call.makes {
@@ -95,7 +96,8 @@ pub fn count_write<R: Runtime + AllocGlobal>(rt: &R, call: &Call) -> Result<(), 
     Ok(())
 }
 
-/// A capture's text read by reads of one byte: how many gave a byte, and whether the source has failed.
+/// A capture's text read by reads of one byte: how many gave a byte, and whether the source has
+/// failed.
 pub fn read_bytes<R: Runtime>(rt: &R, call: &Call) -> Result<(), Failure> {
     let mut source = FromRead::new(call.text);
     let count = count_bytes(&mut source);

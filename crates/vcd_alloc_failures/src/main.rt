@@ -1,4 +1,5 @@
-//! Makes one call of a library crate, between two lines on standard output that say where memory may be refused.
+//! Makes one call of a library crate, between two lines on standard output that say where memory
+//! may be refused.
 //!
 //! Usage, with a capture on standard input:
 //!
@@ -6,7 +7,7 @@
 //!
 //! | CALL | ARGUMENT | BEFORE |
 //! |---|---|---|
-//! | `push`, `push_word`, `share`, `copy`, `reserve`, `reserve_exact` | `shared`, or nothing | |
+//! | `push`, `push_block`, `share`, `copy`, `reserve`, `reserve_exact` | `shared`, or nothing | |
 //! | `copy_word`, `copy_words`, `copy_scopes`: of the first signal | | |
 //! | `share_path`, `front`: of a path that has its scopes alone; `share_scopes`: `ScopePath::shared` | | |
 //! | `read_whole`, `read`, `write`, `uart`, `spi`, `i2c`, `Session::new` | | |
@@ -17,9 +18,10 @@
 //! | `counted`: writes to a sink that counts its calls, and prints the counts | | |
 //! | `bytes`: reads the capture byte by byte | | |
 //!
-//! The program makes all that the call needs, and writes `refuse`. With `make` it makes the call. Then it writes
-//! `allow`, and `done` or the name of a fault. Last it writes all that the call left. A test refuses growths of memory
-//! between the two lines, and compares the output with that of `omit`.
+//! The program makes all that the call needs, and writes `refuse`. With `make` it makes the call.
+//! Then it writes `allow`, and `done` or the name of a fault. Last it writes all that the call
+//! left. A test refuses growths of memory between the two lines, and compares the output with that
+//! of `omit`.
 #![tactic(auto)]
 
 mod calls;

@@ -1,6 +1,6 @@
 //! The output about a call and what it left.
 
-ghost use Rattle.vcd_core.specs.Contents.{contents};
+ghost use Rattle.vcd_core.specs.CaptureContents.{contents};
 ghost use Rattle.vcd_core.specs.Sound.{IsSound};
 
 use std::alloc::{AllocError, AllocFailed};

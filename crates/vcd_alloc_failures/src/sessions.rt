@@ -34,8 +34,8 @@ pub fn call_new<R: Runtime + AllocGlobal>(rt: &R, call: &Call) -> Result<(), Fai
     }
 }
 
-/// A step by its name, after the steps that `before` names: `Session::apply`, `undo`, `redo`, and `set_depth`, which
-/// begins at a depth of 1.
+/// A step by its name, after the steps that `before` names: `Session::apply`, `undo`, `redo`, and
+/// `set_depth`, which begins at a depth of 1.
 pub fn call_step<R: Runtime + AllocGlobal>(rt: &R, call: &Call) -> Result<(), Failure> {
     let depth = if call.argument == "depth" { 1 } else { DEPTH };
     let mut session = new_session(rt.alloc(), call.text, depth)?;
@@ -91,8 +91,8 @@ fn new_session(alloc: Global, text: &[u8], depth: u64) -> Result<Session, Failur
     }
 }
 
-/// `run` of steps that do not depend on those before them. If the call is omitted, only the step at the position in
-/// `argument` is.
+/// `run` of steps that do not depend on those before them. If the call is omitted, only the step at
+/// the position in `argument` is.
 pub fn call_run<R: Runtime + AllocGlobal>(rt: &R, call: &Call) -> Result<(), Failure> {
     let steps = [
         Step::Edit(Edit::Rename {

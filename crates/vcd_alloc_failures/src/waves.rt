@@ -6,7 +6,7 @@ use crate::calls::Call;
 use crate::printing::{DONE, Failure, allow, print_wave, refuse};
 use std::alloc::Global;
 use std::rt::Runtime;
-use vcd_core::{Bit, LetterWord, NoMemory, Value, Wave};
+use vcd_core::{Bit, LetterBlock, NoMemory, Value, Wave};
 
 /// For how many changes room is made.
 const MORE: usize = 9;
@@ -22,8 +22,8 @@ fn full_wave(alloc: Global) -> Result<Wave, NoMemory>
     Ok(wave)
 }
 
-/// `Wave::push`, `push_word`, `share`, `copy`, `reserve` and `reserve_exact`, by their names. With the
-/// word `shared` another wave shares the list, and is printed, too.
+/// `Wave::push`, `push_block`, `share`, `copy`, `reserve` and `reserve_exact`, by their names. With
+/// the word `shared` another wave shares the list, and is printed, too.
 pub fn call_on_wave<R: Runtime + AllocGlobal>(rt: &R, call: &Call) -> Result<(), Failure> {
     let mut wave = full_wave(rt.alloc())?;
     if call.argument == "shared" {
@@ -53,14 +53,14 @@ fn make_growth<R: Runtime + AllocGlobal>(
     print_wave(rt, wave)
 }
 
-/// The call of a name: `push`, `push_word`, `share`, `copy`, `reserve`, else `reserve_exact`.
+/// The call of a name: `push`, `push_block`, `share`, `copy`, `reserve`, else `reserve_exact`.
 fn grow(wave: &mut Wave, name: &str) -> Result<(), NoMemory>
     requires width { wave.old.width ≡ 1 }
     requires early { All (λ c. c.tick ≤ 0) wave.old.changes }
 {
     match name {
         "push" => wave.push(5, Value::filled(1, Bit::Zero)),
-        "push_word" => wave.push_word(5, LetterWord { low: 0, high: 0 }),
+        "push_block" => wave.push_block(5, LetterBlock { low: 0, high: 0 }),
         "share" => share_and_drop(wave),
         "copy" => copy_and_drop(wave),
         "reserve" => wave.reserve(MORE),

@@ -1,13 +1,16 @@
 -- A wave at a tick, and after its next change.
-use Rattle.std.proofs.Common.{◌≡◌, ◌≢◌, ℕ, zero, suc, ◌+◌, ◌<◌, ◌≤◌, ◌==◌, Bool, true, false, not, if◌then◌else◌}
-use Rattle.std.proofs.Common.{Option, Some, None, List, [], ◌∷◌, refl, sym, ap, subst, ◌∙◌, arith, add-one}
+use Rattle.std.proofs.Common.{◌≡◌, ◌≢◌, ℕ, zero, suc, ◌+◌, ◌<◌, ◌≤◌, ◌==◌, Bool, true, false, not}
+use Rattle.std.proofs.Common.{if◌then◌else◌}
+use Rattle.std.proofs.Common.{Option, Some, None, List, [], ◌∷◌, refl, sym, ap, subst, ◌∙◌, arith}
+use Rattle.std.proofs.Common.{add-one}
 use Rattle.std.proofs.lemmas.Bool.Decides.{Decides-eqb}
 use Rattle.std.proofs.lemmas.Option.{same_Some}
 use Rattle.vcd_core.specs.declared.bit.Bit.{Bit}
 use Rattle.vcd_core.specs.declared.wave.Change.{Change}
 use Rattle.vcd_core.specs.Value.{same_letters}
 use Rattle.vcd_core.specs.inside.ValueLaws.{same_letters-Decides}
-use Rattle.vcd_core.specs.Wave.{value_from, AreChangesFrom, AllUpTo, last_value}
+use Rattle.vcd_core.specs.Wave.{value_from, AreChangesFrom, AllUpTo}
+use Rattle.vcd_core.specs.WavePush.{last_value}
 use Rattle.vcd_core.specs.Edges.{Trace, value_on, value_before, same_value, changes_at}
 use Rattle.vcd_core.specs.inside.EdgeWalk.{next_tick, trace_past, Rises}
 use Rattle.vcd_core.proofs.Waves.{value_past, value_early, lower_floor}

@@ -1,5 +1,6 @@
 -- The edges of several waves, after the next tick at which one changes.
-use Rattle.std.proofs.Common.{◌≡◌, ℕ, zero, suc, ◌+◌, ◌<◌, ◌≤◌, Bool, true, false, cond, List, [], ◌∷◌, map, refl, ap}
+use Rattle.std.proofs.Common.{◌≡◌, ℕ, zero, suc, ◌+◌, ◌<◌, ◌≤◌, Bool, true, false, cond, List, []}
+use Rattle.std.proofs.Common.{◌∷◌, map, refl, ap}
 use Rattle.std.proofs.Common.{◌∙◌, inl, inr, arith}
 use Rattle.std.specs.List.{filter, range_with_len}
 use Rattle.std.proofs.lemmas.Bool.{cases_eq}
@@ -18,7 +19,8 @@ same_from p q f g a (suc n) tests values =
     choose true later = λ i. values a (omega arith) i ∷ later i
     choose false later = later
 
--- where p alone keeps one tick, no test keeps one before it, and both agree later, p's list begins with that tick
+-- where p alone keeps one tick, no test keeps one before it, and both agree later, p's list begins
+-- with that tick
 pub first_kept : {X : Type 0} (p q : ℕ → Bool) (f g : ℕ → X) (t a n : ℕ) → a ≤ t → t < a + n
     → ((u : ℕ) → u < t → p u ≡ false) → p t ≡ true → ((u : ℕ) → u < suc t → q u ≡ false)
     → ((u : ℕ) → t < u → p u ≡ q u) → ((u : ℕ) → t < u → f u ≡ g u)

@@ -1,6 +1,8 @@
 -- The edges of several waves, one step at a time.
-use Rattle.std.proofs.Common.{◌≡◌, ◌⊎◌, ℕ, zero, suc, ◌<◌, ◌≤◌, ◌||◌, ◌==◌, if◌then◌else◌, min, Bool, true, false, not}
-use Rattle.std.proofs.Common.{Option, Some, None, List, [], ◌∷◌, map, refl, sym, ap, subst, ◌∙◌, inl, inr, arith}
+use Rattle.std.proofs.Common.{◌≡◌, ◌⊎◌, ℕ, zero, suc, ◌<◌, ◌≤◌, ◌||◌, ◌==◌, if◌then◌else◌, min}
+use Rattle.std.proofs.Common.{Bool, true, false, not}
+use Rattle.std.proofs.Common.{Option, Some, None, List, [], ◌∷◌, map, refl, sym, ap, subst, ◌∙◌}
+use Rattle.std.proofs.Common.{inl, inr, arith}
 use Rattle.std.specs.List.{filter, list_any, range_with_len}
 use Rattle.std.proofs.lemmas.Bool.{cases_lt}
 use Rattle.std.proofs.lemmas.Option.{same_Some}
@@ -9,12 +11,15 @@ use Rattle.vcd_core.specs.declared.wave.Change.{Change}
 use Rattle.vcd_core.specs.declared.edges.Edge.{Edge}
 use Rattle.vcd_core.specs.Wave.{AllUpTo}
 use Rattle.vcd_core.specs.WaveView.{WaveView}
-use Rattle.vcd_core.specs.Edges.{Trace, trace_of, value_on, value_before, same_value, changes_at, edge_on, edges_on}
+use Rattle.vcd_core.specs.Edges.{Trace, trace_of, value_on, value_before, same_value, changes_at}
+use Rattle.vcd_core.specs.Edges.{edge_on, edges_on}
 use Rattle.vcd_core.specs.Edges.{EachUpTo}
 use Rattle.vcd_core.specs.BitEdges.{lowest_bit, bit_edge}
-use Rattle.vcd_core.specs.inside.EdgeWalk.{edges_left, bit_edges_left, next_tick, earlier_tick, next_tick_of}
+use Rattle.vcd_core.specs.inside.EdgeWalk.{edges_left, bit_edges_left, next_tick, earlier_tick}
+use Rattle.vcd_core.specs.inside.EdgeWalk.{next_tick_of}
 use Rattle.vcd_core.specs.inside.EdgeWalk.{trace_after, trace_past, EachRises, ticks_sum, reach}
-use Rattle.vcd_core.proofs.EdgeLines.{line, quiet, quiet_value, quiet_before, after_agrees, after_rises, changes_there}
+use Rattle.vcd_core.proofs.EdgeLines.{line, quiet, quiet_value, quiet_before, after_agrees}
+use Rattle.vcd_core.proofs.EdgeLines.{after_rises, changes_there}
 use Rattle.vcd_core.proofs.EdgeLines.{rises_next, lower_rises, ended}
 use Rattle.vcd_core.proofs.EdgeLists.{first_kept, none_from, none_past}
 

@@ -1,7 +1,9 @@
 -- The beginning of a full name, and the tests of full names.
-use Rattle.std.proofs.Common.{◌≡◌, Bool, true, false, suc, append_assoc, length-append, if◌then◌else◌, ◌||◌, ℕ, ◌-◌}
+use Rattle.std.proofs.Common.{◌≡◌, Bool, true, false, suc, append_assoc, length-append}
+use Rattle.std.proofs.Common.{if◌then◌else◌, ◌||◌, ℕ, ◌-◌}
 use Rattle.std.proofs.Common.{◌+◌, ◌*◌, slice_index_or}
-use Rattle.std.proofs.Common.{◌<◌, ◌≤◌, List, [], ◌∷◌, ◌++◌, length, get_or, take, drop, map, refl, sym, ap, ◌∙◌}
+use Rattle.std.proofs.Common.{◌<◌, ◌≤◌, List, [], ◌∷◌, ◌++◌, length, get_or, take, drop, map, refl}
+use Rattle.std.proofs.Common.{sym, ap, ◌∙◌}
 use Rattle.std.proofs.Common.{append-nil, arith}
 use Rattle.std.specs.List.{concat, list_any}
 use Rattle.std.proofs.lemmas.Slice.Eq.{bytes_eq-Decides}
@@ -9,8 +11,8 @@ use Rattle.std.specs.Str.{bytes_eq}
 use Rattle.std.proofs.lemmas.List.{take_all, get_or-append-add, length-drop, take-append-drop}
 use Rattle.vcd_core.specs.declared.capture.ScopeName.{ScopeName}
 use Rattle.vcd_core.specs.declared.capture.Signal.{Signal}
-use Rattle.vcd_core.specs.declared.full_name.FullName.{FullName}
-use Rattle.vcd_core.specs.Contents.{signal_contents}
+use Rattle.vcd_core.specs.declared.names.full_name.FullName.{FullName}
+use Rattle.vcd_core.specs.CaptureContents.{signal_contents}
 use Rattle.vcd_core.specs.Names.{name_in, scope_text, full_name, full_names}
 use Rattle.vcd_core.specs.FullName.{name_bytes}
 use Rattle.vcd_core.specs.inside.NameParts.{IsDrained}

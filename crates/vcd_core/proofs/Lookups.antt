@@ -1,5 +1,6 @@
 -- Looking a name up: the numbers of positions, and the list of full names.
-use Rattle.std.proofs.Common.{◌≡◌, ℕ, ◌+◌, ◌<◌, ◌&&◌, ◌↔◌, nat_lt, Bool, true, false, cond, not, if◌then◌else◌, Option}
+use Rattle.std.proofs.Common.{◌≡◌, ℕ, ◌+◌, ◌<◌, ◌&&◌, ◌↔◌, nat_lt, Bool, true, false, cond, not}
+use Rattle.std.proofs.Common.{if◌then◌else◌, Option}
 use Rattle.std.proofs.Common.{Some, None, List, [], ◌∷◌, length, get_or, map, refl, sym, ◌∙◌, ap}
 use Rattle.std.specs.List.{position, position_or_len, slice_get}
 use Rattle.std.specs.Bool.{IsTrue}
@@ -8,7 +9,8 @@ use Rattle.std.proofs.lemmas.Slice.Eq.{bytes_eq-Decides}
 use Rattle.std.proofs.lemmas.List.{length-map}
 use Rattle.std.proofs.lemmas.Option.{slice_get_read, slice_get-map, same_Some}
 use Rattle.vcd_core.specs.declared.capture.Signal.{Signal}
-use Rattle.vcd_core.specs.Contents.{SignalContents, signal_contents}
+use Rattle.vcd_core.specs.Contents.{SignalContents}
+use Rattle.vcd_core.specs.CaptureContents.{signal_contents}
 use Rattle.vcd_core.specs.Names.{full_name, full_names, is_numbered, number_in, lookup}
 
 -- a result by position

@@ -1,14 +1,17 @@
 -- The bits of two planes, after writes to their words.
-use Rattle.std.proofs.Common.{◌≡◌, ◌≢◌, ℕ, zero, suc, ◌+◌, ◌-◌, ◌*◌, ◌/◌, ◌%◌, ◌^◌, ◌<◌, ◌≤◌, min, List, [], ◌∷◌}
+use Rattle.std.proofs.Common.{◌≡◌, ◌≢◌, ℕ, zero, suc, ◌+◌, ◌-◌, ◌*◌, ◌/◌, ◌%◌, ◌^◌, ◌<◌, ◌≤◌, min}
+use Rattle.std.proofs.Common.{List, [], ◌∷◌}
 use Rattle.std.proofs.Common.{length, replicate, get_or, sym, ap, ◌∙◌, arith, inl, inr}
 use Rattle.std.proofs.Math.ListN.{set}
 use Rattle.std.specs.Int.{bit_at}
 use Rattle.std.specs.Int.Bits.{bit_and}
-use Rattle.std.proofs.lemmas.Nat.Bits.{bit_at_ones, bit_at_ones_above, bit_at-zero, bit_at-lt, bit_at_and}
-use Rattle.std.proofs.lemmas.List.{get_or-set_same, get_or-set_other, get_or-replicate, length-replicate, length-set}
+use Rattle.std.proofs.lemmas.Nat.Bits.{bit_at_ones, bit_at_ones_above, bit_at-zero, bit_at-lt}
+use Rattle.std.proofs.lemmas.Nat.Bits.{bit_at_and}
+use Rattle.std.proofs.lemmas.List.{get_or-set_same, get_or-set_other, get_or-replicate}
+use Rattle.std.proofs.lemmas.List.{length-replicate, length-set}
 use Rattle.std.proofs.lemmas.Bool.{cases_eq}
-use Rattle.vcd_core.specs.declared.letter_word.LetterWord.{LetterWord}
-use Rattle.vcd_core.specs.WordRows.{word_at}
+use Rattle.vcd_core.specs.declared.letter_block.LetterBlock.{LetterBlock}
+use Rattle.vcd_core.specs.BlockRows.{block_at}
 use Rattle.vcd_core.specs.inside.Planes.{plane_bit}
 
 -- the bits of the written word
@@ -87,28 +90,28 @@ module _ (words : List ℕ) (j low high : ℕ) (within : 2 * j + 1 < length word
       ∙ plane_bit-set_other words plane (2 * j) low k second
 
 -- the first words of both planes hold the letters of a row of words that are below the width
-pub record HoldsWords (n width j : ℕ) (planes : List ℕ) (words : List LetterWord) : Type 0 where
-  pub low : (k : ℕ) → k < 64 * j → k < width → plane_bit 0 planes k ≡ bit_at (word_at words (k / 64)).low (k % 64)
-  pub high : (k : ℕ) → k < 64 * j → k < width → plane_bit 1 planes k ≡ bit_at (word_at words (k / 64)).high (k % 64)
+pub record HoldsWords (n width j : ℕ) (planes : List ℕ) (words : List LetterBlock) : Type 0 where
+  pub low : (k : ℕ) → k < 64 * j → k < width → plane_bit 0 planes k ≡ bit_at (block_at words (k / 64)).low (k % 64)
+  pub high : (k : ℕ) → k < 64 * j → k < width → plane_bit 1 planes k ≡ bit_at (block_at words (k / 64)).high (k % 64)
   pub clear : (plane k : ℕ) → plane < 2 → width ≤ k → k < 64 * n → plane_bit plane planes k ≡ 0
 
 -- one more word
-pub one_more : (n width j left : ℕ) (planes : List ℕ) (words : List LetterWord) → length planes ≡ 2 * n → j < n
+pub one_more : (n width j left : ℕ) (planes : List ℕ) (words : List LetterBlock) → length planes ≡ 2 * n → j < n
     → left ≡ width - 64 * j → HoldsWords n width j planes words
     → HoldsWords n width (j + 1)
-    (both_set planes j (bit_and (word_at words j).low (2 ^ min left 64 - 1))
-    (bit_and (word_at words j).high (2 ^ min left 64 - 1))) words
+    (both_set planes j (bit_and (block_at words j).low (2 ^ min left 64 - 1))
+    (bit_and (block_at words j).high (2 ^ min left 64 - 1))) words
 one_more n width j left planes words sized within is holds =
     record {
       low = λ k below in_width. elim (cases_eq (k / 64) j) [
         | inl here ↦ low_set planes j a b inside k here ∙ masked word.low left (k % 64) (omega arith) (omega arith)
-            ∙ ap (λ i. bit_at (word_at words i).low (k % 64)) (sym here)
+            ∙ ap (λ i. bit_at (block_at words i).low (k % 64)) (sym here)
         | inr elsewhere ↦ others_kept planes j a b inside 0 k (omega arith) elsewhere
             ∙ holds.low k (omega arith) in_width
       ];
       high = λ k below in_width. elim (cases_eq (k / 64) j) [
         | inl here ↦ high_set planes j a b inside k here ∙ masked word.high left (k % 64) (omega arith) (omega arith)
-            ∙ ap (λ i. bit_at (word_at words i).high (k % 64)) (sym here)
+            ∙ ap (λ i. bit_at (block_at words i).high (k % 64)) (sym here)
         | inr elsewhere ↦ others_kept planes j a b inside 1 k (omega arith) elsewhere
             ∙ holds.high k (omega arith) in_width
       ];
@@ -118,8 +121,8 @@ one_more n width j left planes words sized within is holds =
       ];
     }
   where
-    word : LetterWord
-    word = word_at words j
+    word : LetterBlock
+    word = block_at words j
 
     a : ℕ
     a = bit_and word.low (2 ^ min left 64 - 1)
@@ -138,7 +141,7 @@ one_more n width j left planes words sized within is holds =
     cleared (suc (suc _)) k which here out = absurd (omega arith)
 
 -- planes of zeros hold no letters
-pub none_held : (n width : ℕ) (words : List LetterWord) → HoldsWords n width 0 (replicate (2 * n) 0) words
+pub none_held : (n width : ℕ) (words : List LetterBlock) → HoldsWords n width 0 (replicate (2 * n) 0) words
 unfolding plane_bit
 none_held n width words = record {
   low = λ k below _. absurd (omega arith);
@@ -148,7 +151,7 @@ none_held n width words = record {
 }
 
 -- a word of each plane, the others zero
-pub word_held : (n width mask : ℕ) (word : LetterWord) → 0 < n → mask ≡ 2 ^ min width 64 - 1
+pub word_held : (n width mask : ℕ) (word : LetterBlock) → 0 < n → mask ≡ 2 ^ min width 64 - 1
     → HoldsWords n width 1 (both_set (replicate (2 * n) 0) 0 (bit_and word.low mask) (bit_and word.high mask))
     (word ∷ [])
 word_held n width mask word some is =

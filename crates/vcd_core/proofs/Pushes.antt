@@ -1,6 +1,8 @@
 -- The changes before a tick, and the list after a push at its end.
-use Rattle.std.proofs.Common.{◌≡◌, ◌≢◌, ℕ, zero, suc, ◌+◌, ◌<◌, ◌≤◌, Bool, true, false, if◌then◌else◌, cond, nat_le}
-use Rattle.std.proofs.Common.{nat_lt, List, [], ◌∷◌, ◌++◌, length, take, get_or, All, Any, refl, sym, ap, subst, ◌∙◌}
+use Rattle.std.proofs.Common.{◌≡◌, ◌≢◌, ℕ, zero, suc, ◌+◌, ◌<◌, ◌≤◌, Bool, true, false}
+use Rattle.std.proofs.Common.{if◌then◌else◌, cond, nat_le}
+use Rattle.std.proofs.Common.{nat_lt, List, [], ◌∷◌, ◌++◌, length, take, get_or, All, Any, refl}
+use Rattle.std.proofs.Common.{sym, ap, subst, ◌∙◌}
 use Rattle.std.proofs.Common.{◌⊎◌, None, inl, inr, arith}
 use Rattle.std.specs.List.{count_by}
 use Rattle.std.proofs.lemmas.Bool.{cases_lt, cases_eq, lt-leb, le-leb, lt-ltb, le-ltb}
@@ -12,8 +14,9 @@ use Rattle.vcd_core.specs.declared.wave_list.WaveList.{WaveList}
 use Rattle.vcd_core.specs.inside.WaveLists.{changes_of_list}
 use Rattle.vcd_core.specs.Value.{all_x, same_letters}
 use Rattle.vcd_core.specs.inside.ValueLaws.{same_letters-Decides}
-use Rattle.vcd_core.specs.Wave.{change, value_from, value_at, AreChangesFrom, IsWave, AllUpTo, last_value}
-use Rattle.vcd_core.specs.Wave.{changes_before, changes_after_push}
+use Rattle.vcd_core.specs.Wave.{change, value_from, value_at, AreChangesFrom, IsWave, AllUpTo}
+use Rattle.vcd_core.specs.WavePush.{last_value}
+use Rattle.vcd_core.specs.WavePush.{changes_before, changes_after_push}
 use Rattle.vcd_core.proofs.Waves.{value_from-append, value_past, value_skip, value_early}
 
 -- ---- ticks by position

@@ -1,9 +1,11 @@
 -- A place among rising ticks shows which changes are at most a tick, and which are later.
-use Rattle.std.proofs.Common.{◌≡◌, ℕ, ◌+◌, ◌-◌, ◌<◌, ◌≤◌, Bool, true, false, nat_le, List, length, take, drop, get_or}
+use Rattle.std.proofs.Common.{◌≡◌, ℕ, ◌+◌, ◌-◌, ◌<◌, ◌≤◌, Bool, true, false, nat_le, List, length}
+use Rattle.std.proofs.Common.{take, drop, get_or}
 use Rattle.std.proofs.Common.{All, slice_range, sym, ap, ◌∙◌, arith, inl, inr}
 use Rattle.std.specs.List.{count_by}
 use Rattle.std.proofs.lemmas.Bool.{cases_lt, le-leb, lt-leb}
-use Rattle.std.proofs.lemmas.List.{get_or-take, get_or-drop, length-take-le, length-drop, get_or_default}
+use Rattle.std.proofs.lemmas.List.{get_or-take, get_or-drop, length-take-le, length-drop}
+use Rattle.std.proofs.lemmas.List.{get_or_default}
 use Rattle.vcd_core.specs.declared.wave.Change.{Change}
 use Rattle.vcd_core.specs.Wave.{IsWave}
 use Rattle.vcd_core.proofs.Pushes.{ticks_do_not_fall, count_is, no_change}
@@ -52,8 +54,8 @@ module _ (width : ℕ) (cs : List Change) (is : IsWave width cs) (tick : ℕ) wh
         ticks_do_not_fall width cs is (from + i) (from + j) d (omega arith) (omega (arith, long)),
       )
 
-  -- a point that parts a part of the changes counts all that are at most a tick, where those before the part are, and
-  -- those after it are later
+  -- a point that parts a part of the changes counts all that are at most a tick, where those before
+  -- the part are, and those after it are later
   pub point_counts : (from to n : ℕ) → from ≤ to → to ≤ length cs → n ≤ length (slice_range cs from to)
       → All (λ c. c.tick ≤ tick) (take from cs) → All (λ c. tick < c.tick) (drop to cs)
       → ((k : ℕ) → k < n → nat_le (get_or (slice_range cs from to) k no_change).tick tick ≡ true)

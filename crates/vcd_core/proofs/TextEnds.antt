@@ -1,5 +1,6 @@
 -- A text ends with another only if their ends agree.
-use Rattle.std.proofs.Common.{◌≡◌, ℕ, ◌+◌, ◌-◌, ◌*◌, ◌/◌, ◌%◌, ◌^◌, ◌≤◌, inl, inr, List, [], ◌∷◌, ◌++◌}
+use Rattle.std.proofs.Common.{◌≡◌, ℕ, ◌+◌, ◌-◌, ◌*◌, ◌/◌, ◌%◌, ◌^◌, ◌≤◌, inl, inr, List, [], ◌∷◌}
+use Rattle.std.proofs.Common.{◌++◌}
 use Rattle.std.proofs.Common.{refl, sym, ap, subst, ◌∙◌, arith}
 use Rattle.std.specs.Prelude.{◌==◌, IsTrue}
 use Rattle.std.specs.Int.Bits.{bit_and}
@@ -8,7 +9,7 @@ use Rattle.std.proofs.lemmas.Bool.{cases_lt}
 use Rattle.std.proofs.lemmas.Nat.{and_mask, pow_pos}
 use Rattle.std.proofs.Math.Nat.{mul_assoc, mul_comm, div-add-mod, mul-add-mod_self_right}
 use Rattle.std.proofs.Math.Pow.{pow-add, pow_mono, mod-mod-pow}
-use Rattle.vcd_core.specs.declared.text_end.TextEnd.{TextEnd}
+use Rattle.vcd_core.specs.declared.names.text_end.TextEnd.{TextEnd}
 use Rattle.vcd_core.specs.inside.TextEnds.{longer_end, end_after, text_end}
 
 -- the number that the last n bytes of a number make
@@ -54,7 +55,8 @@ record Agree (s t : TextEnd) : Type 0 where
 longer_agree : (s t : TextEnd) (byte : ℕ) → Agree s t → Agree (longer_end s byte) (longer_end t byte)
 longer_agree s t byte agree = elim (cases_lt agree.count 16) [
   | inl fewer ↦
-      let more : 2 ^ (8 * (agree.count + 1)) ≤ 2 ^ 128 = pow_mono {i = 8 * (agree.count + 1)} {j = 128} (omega (arith, fewer)) in
+      let more : 2 ^ (8 * (agree.count + 1))
+      ≤ 2 ^ 128 = pow_mono {i = 8 * (agree.count + 1)} {j = 128} (omega (arith, fewer)) in
       counted (agree.count + 1) (omega arith) (omega (arith, fewer))
       (omega (arith, agree.mask, one_more agree.count, pow_pos (8 * agree.count), more))
   | inr full ↦
@@ -82,7 +84,8 @@ after_agree s t (byte ∷ text) agree =
     after_agree (longer_end s byte) (longer_end t byte) text (longer_agree s t byte agree)
 
 -- the end of a text in two parts
-end_of_both : (end : TextEnd) (front text : List ℕ) → end_after end (front ++ text) ≡ end_after (end_after end front) text
+end_of_both : (end : TextEnd) (front text : List ℕ)
+    → end_after end (front ++ text) ≡ end_after (end_after end front) text
 unfolding end_after
 end_of_both end [] text = refl
 end_of_both end (byte ∷ front) text = end_of_both (longer_end end byte) front text

@@ -1,11 +1,14 @@
 -- The letters that two planes show.
-use Rattle.std.proofs.Common.{◌≡◌, ◌≢◌, ℕ, ◌+◌, ◌-◌, ◌*◌, ◌/◌, ◌%◌, ◌<◌, ◌≤◌, inl, inr, if◌then◌else◌, nat_lt, List, []}
-use Rattle.std.proofs.Common.{◌∷◌, ◌↔◌, true, false, min, ◌^◌, length, take, replicate, get_or, refl, sym, ap}
+use Rattle.std.proofs.Common.{◌≡◌, ◌≢◌, ℕ, ◌+◌, ◌-◌, ◌*◌, ◌/◌, ◌%◌, ◌<◌, ◌≤◌, inl, inr}
+use Rattle.std.proofs.Common.{if◌then◌else◌, nat_lt, List, []}
+use Rattle.std.proofs.Common.{◌∷◌, ◌↔◌, true, false, min, ◌^◌, length, take, replicate, get_or}
+use Rattle.std.proofs.Common.{refl, sym, ap}
 use Rattle.std.proofs.Common.{◌∙◌, arith}
 use Rattle.std.proofs.Math.ListN.{set}
 use Rattle.std.specs.Int.{bit_at}
 use Rattle.std.specs.Int.Bits.{bit_and, mask_lt}
-use Rattle.std.proofs.lemmas.List.{ext_get_or, get_or-set_same, get_or-set_other, get_or-replicate, get_or-take}
+use Rattle.std.proofs.lemmas.List.{ext_get_or, get_or-set_same, get_or-set_other, get_or-replicate}
+use Rattle.std.proofs.lemmas.List.{get_or-take}
 use Rattle.std.proofs.lemmas.List.{length-replicate, length-set}
 use Rattle.std.proofs.lemmas.List.FromFn.{get_or-map-range_with_len, length-map-range_with_len}
 use Rattle.std.proofs.lemmas.Nat.Bits.{bit_at-lt, same_from_bits_below}
@@ -15,10 +18,12 @@ use Rattle.vcd_core.specs.declared.bit.Bit.{Bit}
 use Rattle.vcd_core.specs.declared.bit.Bit.TheVariants.{Zero, One, X, Z}
 use Rattle.vcd_core.specs.declared.value.Value.TheInside.{Inside}
 use Rattle.vcd_core.specs.Value.{letter_at}
-use Rattle.vcd_core.specs.declared.letter_word.LetterWord.{LetterWord}
-use Rattle.vcd_core.specs.WordRows.{letter_of, low_of, high_of, letter_in, word_at, letters_of, letter_or}
+use Rattle.vcd_core.specs.declared.letter_block.LetterBlock.{LetterBlock}
+use Rattle.vcd_core.specs.BlockRows.{letter_of, low_of, high_of, letter_in, block_at, letters_of}
+use Rattle.vcd_core.specs.BlockRows.{letter_or}
 use Rattle.vcd_core.specs.inside.Planes.{plane_bit, letters_in, view_value, bit_in, IsValue}
-use Rattle.vcd_core.specs.inside.PlaneLaws.{letter_at-letters_in, length-letters_in, bit_in-letter_of, low_of-letter_of}
+use Rattle.vcd_core.specs.inside.PlaneLaws.{letter_at-letters_in, length-letters_in}
+use Rattle.vcd_core.specs.inside.PlaneLaws.{bit_in-letter_of, low_of-letter_of}
 use Rattle.vcd_core.specs.inside.PlaneLaws.{high_of-letter_of}
 use Rattle.vcd_core.proofs.PlaneBits.{masked, masked_above, HoldsWords}
 
@@ -47,16 +52,16 @@ letters_in-shown v width words long lows highs = same_letter_at _ v (length-lett
     letter_at-letters_in width words k inside ∙ (λ p. letter_of (lows k inside p) (highs k inside p))
     ∙ letter_of-letter (letter_at v k))
 
-pub length-letters_of : (width : ℕ) (words : List LetterWord) → length (letters_of width words) ≡ width
+pub length-letters_of : (width : ℕ) (words : List LetterBlock) → length (letters_of width words) ≡ width
 unfolding letters_of
 length-letters_of width words = length-map-range_with_len _ 0 width
 
 -- the letter at bit k is that of the word
-pub letter_at-letters_of : (width : ℕ) (words : List LetterWord) (k : ℕ) → k < width
-    → letter_at (letters_of width words) k ≡ letter_in (word_at words (k / 64)) (k % 64)
+pub letter_at-letters_of : (width : ℕ) (words : List LetterBlock) (k : ℕ) → k < width
+    → letter_at (letters_of width words) k ≡ letter_in (block_at words (k / 64)) (k % 64)
 unfolding letters_of
 letter_at-letters_of width words k within =
-    let at : ℕ → Bit = λ i. letter_in (word_at words (i / 64)) (i % 64) in
+    let at : ℕ → Bit = λ i. letter_in (block_at words (i / 64)) (i % 64) in
     let place : length (letters_of width words) - 1 - k ≡ width - 1 - k =
     ap (λ n. n - 1 - k) (length-letters_of width words) in
     let back : width - 1 - (width - 1 - k) ≡ k = omega arith in
@@ -66,7 +71,7 @@ letter_at-letters_of width words k within =
     ∙ ap at back
 
 -- planes that hold the words show their letters
-pub letters_in-words : (n width j : ℕ) (planes : List ℕ) (words : List LetterWord) → HoldsWords n width j planes words
+pub letters_in-words : (n width j : ℕ) (planes : List ℕ) (words : List LetterBlock) → HoldsWords n width j planes words
     → width ≤ 64 * j → letters_in width planes ≡ letters_of width words
 letters_in-words n width j planes words holds all =
     same_letter_at _ _ (length-letters_in width planes ∙ sym (length-letters_of width words)) (λ k within.
@@ -79,14 +84,14 @@ pub letter_at-replicate : (n k : ℕ) (b : Bit) → k < n → letter_at (replica
 letter_at-replicate n k b within = get_or-replicate n _ b X (omega (arith, length-replicate n b))
 
 -- the letters of a row that repeats a word of one letter
-pub letters_of-replicate : (width n : ℕ) (word : LetterWord) (b : Bit) → width ≤ 64 * n
+pub letters_of-replicate : (width n : ℕ) (word : LetterBlock) (b : Bit) → width ≤ 64 * n
     → ((i : ℕ) → i < 64 → letter_in word i ≡ b)
     → letters_of width (replicate n word) ≡ replicate width b
 letters_of-replicate width n word b within holds =
     same_letter_at _ _ (length-letters_of width (replicate n word) ∙ sym (length-replicate width b)) (λ k below.
     let inside : k < width = omega (arith, length-letters_of width (replicate n word)) in
     letter_at-letters_of width _ k inside
-    ∙ ap (λ (w : LetterWord). letter_in w (k % 64))
+    ∙ ap (λ (w : LetterBlock). letter_in w (k % 64))
     (get_or-replicate n (k / 64) word (record { low = 0; high = 0 }) (omega arith))
     ∙ holds (k % 64) (omega arith) ∙ sym (letter_at-replicate width k b inside))
 
@@ -122,12 +127,12 @@ same_words width m xs ys fits same =
         ∙ get_or-take (2 * m) ys i 0 within)
 
 -- a letter of a row of one word
-pub one_word : (word : LetterWord) (k : ℕ) → k < 64
-    → letter_in (word_at (word ∷ []) (k / 64)) (k % 64) ≡ letter_in word k
+pub one_word : (word : LetterBlock) (k : ℕ) → k < 64
+    → letter_in (block_at (word ∷ []) (k / 64)) (k % 64) ≡ letter_in word k
 one_word word k below =
     let none : k / 64 ≡ 0 = omega arith in
     let rest : k % 64 ≡ k = omega arith in
-    (λ p. letter_in (word_at (word ∷ []) (none p)) (rest p))
+    (λ p. letter_in (block_at (word ∷ []) (none p)) (rest p))
 
 -- the letters of a value, from its planes
 module _ (v : List Bit) (inside : Inside) (is : IsValue inside) (shows : view_value inside ≡ v) where
@@ -209,7 +214,7 @@ module _ (v : List Bit) (inside : Inside) (is : IsValue inside) (shows : view_va
       small = omega (arith, mask_lt w (min inside.width 64), pow_mono {i = min inside.width 64} {j = 64} (omega arith))
 
   -- such words give the letters
-  pub letters_by_first_words : (word : LetterWord) (mask : ℕ) → length v ≤ 64 → mask ≡ 2 ^ min inside.width 64 - 1
+  pub letters_by_first_words : (word : LetterBlock) (mask : ℕ) → length v ≤ 64 → mask ≡ 2 ^ min inside.width 64 - 1
       → get_or inside.planes 0 0 ≡ bit_and word.low mask → get_or inside.planes 1 0 ≡ bit_and word.high mask
       → letters_of (length v) (word ∷ []) ≡ v
   unfolding plane_bit
@@ -230,7 +235,7 @@ module _ (v : List Bit) (inside : Inside) (is : IsValue inside) (shows : view_va
           ∙ masked w inside.width k (omega (arith, length-shown)) (omega arith))
 
   -- so the comparison of the words decides whether the letters are the same
-  pub first_words-Decides : (word : LetterWord) (mask : ℕ) → length v ≤ 64 → mask ≡ 2 ^ min inside.width 64 - 1
+  pub first_words-Decides : (word : LetterBlock) (mask : ℕ) → length v ≤ 64 → mask ≡ 2 ^ min inside.width 64 - 1
       → (get_or inside.planes 0 0 ≡ bit_and word.low mask)
       × (get_or inside.planes 1 0 ≡ bit_and word.high mask) ↔ (letters_of (length v) (word ∷ []) ≡ v)
   first_words-Decides word mask narrow is_mask = (

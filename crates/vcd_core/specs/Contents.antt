@@ -1,10 +1,8 @@
 -- What a capture holds, and its signals by position: the project's own.
-use Rattle.std.specs.Prelude.{ℕ, List, [], map, slice_index_or, slice_set, Option}
+use Rattle.std.specs.Prelude.{ℕ, List, [], slice_index_or, slice_set, Option}
 use Rattle.vcd_core.specs.declared.capture.Header.{Header}
 use Rattle.vcd_core.specs.declared.capture.Timescale.{Timescale}
 use Rattle.vcd_core.specs.declared.capture.ScopeName.{ScopeName}
-use Rattle.vcd_core.specs.declared.capture.Signal.{Signal}
-use Rattle.vcd_core.specs.declared.capture.Capture.{Capture}
 use Rattle.vcd_core.specs.declared.wave.Change.{Change}
 use Rattle.vcd_core.specs.declared.bit.Bit.{Bit}
 use Rattle.vcd_core.specs.Wave.{value_at}
@@ -23,25 +21,6 @@ pub record Contents : Type 0 where
   pub timescale : Option Timescale
   pub end : ℕ
   pub signals : List SignalContents
-
--- the contents of a signal
-abbrev pub signal_contents : Signal → SignalContents
-signal_contents s = record {
-  scopes = s.scopes;
-  kind = s.kind;
-  words = s.words;
-  width = s.wave.width;
-  changes = s.wave.changes;
-}
-
--- the contents of a capture
-abbrev pub contents : Capture → Contents
-contents c = record {
-  header = c.header;
-  timescale = c.timescale;
-  end = c.end;
-  signals = map signal_contents c.signals;
-}
 
 -- the default where there is no signal
 abbrev pub no_signal : SignalContents

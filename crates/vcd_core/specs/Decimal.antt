@@ -1,5 +1,5 @@
 -- Decimal numbers, as files, scripts and names write them.
-use Rattle.std.specs.Prelude.{ℕ, Bool, not, ◌&&◌, ◌==◌, Option, Some, None, if◌then◌else◌, min, List, length}
+use Rattle.std.specs.Prelude.{ℕ, Bool, not, ◌&&◌, ◌==◌, List, length}
 use Rattle.std.specs.List.{list_all}
 use Rattle.std.specs.Char.{is_ascii_digit}
 use Rattle.std.specs.Str.Parse.{digits_value}
@@ -11,7 +11,3 @@ is_number text = not (length text == 0) && list_all is_ascii_digit text
 -- the number that decimal digits write
 abbrev pub number_of : List ℕ → ℕ
 number_of text = digits_value 10 text
-
--- the number that a text writes, `most` for every greater one; none where it is no number
-abbrev pub number_up_to : List ℕ → ℕ → Option ℕ
-number_up_to text most = if is_number text then Some (min (number_of text) most) else None

@@ -1,5 +1,6 @@
 -- Edges of several waves, where an absent wave has no value: the project's own.
-use Rattle.std.specs.Prelude.{ℕ, zero, suc, Bool, Option, Some, None, true, false, not, List, [], ◌∷◌, map, filter}
+use Rattle.std.specs.Prelude.{ℕ, zero, suc, Bool, Option, Some, None, true, false, not, List, []}
+use Rattle.std.specs.Prelude.{◌∷◌, map, filter}
 use Rattle.std.specs.Prelude.{IfSome}
 use Rattle.std.specs.List.{list_any, range_with_len}
 use Rattle.std.specs.Option.{option_map}
@@ -42,11 +43,17 @@ changes_at t l = not (same_value (value_on l t) (value_before l t))
 
 -- the values just before a tick and at it
 abbrev pub edge_on : List Trace → ℕ → Edge
-edge_on lines t = record { tick = t; before = map (λ l. value_before l t) lines; at = map (λ l. value_on l t) lines }
+edge_on lines t = record {
+  tick = t;
+  before = map (λ l. value_before l t) lines;
+  at = map
+      (λ l. value_on l t) lines;
+}
 
 -- the edges at the ticks 0 to `end`, rising: one at each tick at which some wave changes
 unfoldable pub edges_on : List Trace → ℕ → List Edge
-edges_on lines end = map (edge_on lines) (filter (λ t. list_any (changes_at t) lines) (range_with_len 0 (suc end)))
+edges_on lines end =
+    map (edge_on lines) (filter (λ t. list_any (changes_at t) lines) (range_with_len 0 (suc end)))
 
 -- the edges of waves that may be absent
 abbrev pub edges_of : List (Option WaveView) → ℕ → List Edge

@@ -1,5 +1,6 @@
 -- The laws of waves and splices: each is the contract of a function of `laws`.
-use Rattle.std.specs.Prelude.{ℕ, ◌+◌, ◌^◌, ◌≡◌, ◌<◌, ◌≤◌, ℤ, pos, ◌+ℤ◌, List, length, drop, slice_range, All}
+use Rattle.std.specs.Prelude.{ℕ, ◌+◌, ◌^◌, ◌≡◌, ◌<◌, ◌≤◌, ℤ, pos, ◌+ℤ◌, List, length, drop}
+use Rattle.std.specs.Prelude.{slice_range, All}
 use Rattle.vcd_core.specs.declared.bit.Bit.{Bit}
 use Rattle.vcd_core.specs.declared.wave.Change.{Change}
 use Rattle.vcd_core.specs.Wave.{value_at, changes_of, IsWave, AllUpTo}
@@ -8,7 +9,8 @@ use Rattle.vcd_core.specs.Splice.{AllTicksFit, spliced_changes}
 -- two waves of one width with the same value at each tick have the same changes
 abbrev pub SameValuesSameChanges : Type 0
 SameValuesSameChanges =
-    (width end : ℕ) (xs ys : List Change) → IsWave width xs → IsWave width ys → AllUpTo end xs → AllUpTo end ys
+    (width end : ℕ) (xs ys : List Change) → IsWave width xs → IsWave width ys → AllUpTo end xs
+    → AllUpTo end ys
     → ((t : ℕ) → t ≤ end → value_at width xs t ≡ value_at width ys t) → xs ≡ ys
 
 -- a wave is the list of changes of its own values
@@ -37,12 +39,16 @@ SpliceAndBack =
     (slice_range changes from to) back ≡ changes)
     × (slice_range (spliced_changes changes from to piece by) from (from + length piece) ≡ piece)
 
--- the splice that undoes an allowed splice is allowed: the piece is in range, the ticks fit, and the result is a wave
+-- the splice that undoes an allowed splice is allowed: the piece is in range, the ticks fit, and
+-- the result is a wave
 abbrev pub SpliceBackIsAllowed : Type 0
 SpliceBackIsAllowed =
-    (width : ℕ) (changes piece : List Change) (from to : ℕ) (by back : ℤ) → from ≤ to → to ≤ length changes
-    → IsWave width changes → All (λ c. c.tick < 2 ^ 64) changes → AllTicksFit by (drop to changes) → by +ℤ back ≡ pos 0
+    (width : ℕ) (changes piece : List Change) (from to : ℕ) (by back : ℤ) → from ≤ to
+    → to ≤ length changes
+    → IsWave width changes → All (λ c. c.tick < 2 ^ 64) changes → AllTicksFit by (drop to changes)
+    → by +ℤ back ≡ pos 0
     → (from + length piece ≤ length (spliced_changes changes from to piece by))
     × AllTicksFit back (drop (from + length piece) (spliced_changes changes from to piece by))
-    × IsWave width (spliced_changes (spliced_changes changes from to piece by) from (from + length piece)
+    × IsWave width (spliced_changes (spliced_changes changes from to piece by) from
+    (from + length piece)
     (slice_range changes from to) back)

@@ -2,13 +2,16 @@
 pub mod Lending
 pub mod WaveView
 pub mod Value
-pub mod WordRows
+pub mod BlockRows
 pub mod Wave
+pub mod WavePush
 pub mod Splice
 pub mod Contents
+pub mod CaptureContents
 pub mod TimeUnits
 pub mod Word
 pub mod Decimal
+pub mod BoundedNumber
 pub mod Sound
 pub mod Laws
 pub mod Names

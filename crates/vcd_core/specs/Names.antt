@@ -1,5 +1,6 @@
 -- How the names of scopes and variables are joined and looked up: the project's own.
-use Rattle.std.specs.Prelude.{ℕ, Bool, Option, Some, ◌==◌, ◌&&◌, ◌++◌, false, if◌then◌else◌, nat_lt, List, [], ◌∷◌}
+use Rattle.std.specs.Prelude.{ℕ, Bool, Option, Some, ◌==◌, ◌&&◌, ◌++◌, false, if◌then◌else◌, nat_lt}
+use Rattle.std.specs.Prelude.{List, [], ◌∷◌}
 use Rattle.std.specs.Prelude.{length, map, drop}
 use Rattle.std.specs.List.{concat, join_with_byte, position}
 use Rattle.std.specs.Str.{bytes_eq}
@@ -11,7 +12,8 @@ use Rattle.vcd_core.specs.Decimal.{is_number, number_of}
 abbrev pub scope_text : ScopeName → List ℕ
 scope_text scope = concat scope.words
 
--- the full name of these words in these scopes: the names of the scopes and its own, joined by `.` (46)
+-- the full name of these words in these scopes: the names of the scopes and its own, joined by `.`
+-- (46)
 unfoldable pub name_in : List ScopeName → List (List ℕ) → List ℕ
 name_in scopes words = join_with_byte 46 (map scope_text scopes ++ concat words ∷ [])
 
@@ -32,7 +34,8 @@ is_numbered (c ∷ digits) = c == 64 && is_number digits
 abbrev pub number_in : List ℕ → ℕ
 number_in name = number_of (drop 1 name)
 
--- the position that a name names: k for `@k` where there is a signal k, or the first with that full name
+-- the position that a name names: k for `@k` where there is a signal k, or the first with that full
+-- name
 unfoldable pub lookup : List SignalContents → List ℕ → Option ℕ
 lookup signals name =
     if is_numbered name && nat_lt (number_in name) (length signals)

@@ -1,4 +1,5 @@
--- The captures that a file can represent: the project's own, after the format (IEEE 1364-2005, 18.2).
+-- The captures that a file can represent: the project's own, after the format (IEEE 1364-2005,
+-- 18.2).
 use Rattle.std.specs.Prelude.{ℕ, Bool, not, ◌&&◌, ◌||◌, ◌==◌, ◌<◌, ◌≤◌, length, All, IfSome, IsTrue}
 use Rattle.std.specs.List.{list_all}
 use Rattle.vcd_core.specs.declared.capture.Header.{Header}
@@ -22,7 +23,8 @@ is_sound_scope s = is_word s.kind && list_all is_word s.words
 abbrev pub is_sound_timescale : Timescale → Bool
 is_sound_timescale t = t.count == 1 || t.count == 10 || t.count == 100
 
--- a signal that a file can represent: a kept kind, a name, a width within the limit, and no change past the end
+-- a signal that a file can represent: a kept kind, a name, a width within the limit, and no change
+-- past the end
 pub record IsSoundSignal (end : ℕ) (s : SignalContents) : Type 0 where
   pub scopes : IsTrue (list_all is_sound_scope s.scopes)
   pub kind : IsTrue (is_word s.kind)

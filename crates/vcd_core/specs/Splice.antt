@@ -16,6 +16,8 @@ TickFits by c = FitsUnsigned w64 (pos c.tick +ℤ by)
 abbrev pub AllTicksFit : ℤ → List Change → Type 0
 AllTicksFit by changes = All (TickFits by) changes
 
--- the list with a piece in place of the changes from `from` to before `to`, and the later ones moved by `by` ticks
+-- the list with a piece in place of the changes from `from` to before `to`, and the later ones
+-- moved by `by` ticks
 unfoldable pub spliced_changes : List Change → ℕ → ℕ → List Change → ℤ → List Change
-spliced_changes changes from to piece by = take from changes ++ piece ++ map (moved_change by) (drop to changes)
+spliced_changes changes from to piece by =
+    take from changes ++ piece ++ map (moved_change by) (drop to changes)

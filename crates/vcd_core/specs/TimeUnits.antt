@@ -1,7 +1,8 @@
 -- The spelling of the units of timescales (IEEE 1364-2005, 18.2).
 use Rattle.std.specs.Prelude.{ℕ, List, codes}
 use Rattle.vcd_core.specs.declared.capture.TimeUnit.{TimeUnit}
-use Rattle.vcd_core.specs.declared.capture.TimeUnit.TheVariants.{Second, Millisecond, Microsecond, Nanosecond}
+use Rattle.vcd_core.specs.declared.capture.TimeUnit.TheVariants.{Second, Millisecond, Microsecond}
+use Rattle.vcd_core.specs.declared.capture.TimeUnit.TheVariants.{Nanosecond}
 use Rattle.vcd_core.specs.declared.capture.TimeUnit.TheVariants.{Picosecond, Femtosecond}
 
 -- the spelling of a unit of time

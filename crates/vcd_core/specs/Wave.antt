@@ -1,6 +1,7 @@
 -- A wave as the list of its changes: its value at a tick, its one form, and a push at its end.
-use Rattle.std.specs.Prelude.{ℕ, zero, suc, Bool, ◌+◌, ◌≡◌, ◌≢◌, ◌≤◌, true, false, if◌then◌else◌, nat_le, nat_lt, List}
-use Rattle.std.specs.Prelude.{[], ◌∷◌, ◌++◌, length, take_while}
+use Rattle.std.specs.Prelude.{ℕ, zero, suc, Bool, ◌+◌, ◌≡◌, ◌≢◌, ◌≤◌, true, false, if◌then◌else◌}
+use Rattle.std.specs.Prelude.{nat_le, List}
+use Rattle.std.specs.Prelude.{[], ◌∷◌, length}
 use Rattle.vcd_core.specs.declared.bit.Bit.{Bit}
 use Rattle.vcd_core.specs.declared.wave.Change.{Change}
 use Rattle.vcd_core.specs.Value.{all_x, same_letters}
@@ -29,11 +30,13 @@ changes_from before t zero f = []
 changes_from before t (suc n) f = unless_same (same_letters (f t) before) (change t (f t))
     (changes_from (f t) (suc t) n f)
 
--- the changes of f at the ticks 0 to `end`: those at which it differs from the tick before, all x before tick 0
+-- the changes of f at the ticks 0 to `end`: those at which it differs from the tick before, all x
+-- before tick 0
 abbrev pub changes_of : ℕ → ℕ → (ℕ → List Bit) → List Change
 changes_of width end f = changes_from (all_x width) 0 (suc end) f
 
--- ticks rise strictly from `floor` on, and each value differs from the one before it, with the same width
+-- ticks rise strictly from `floor` on, and each value differs from the one before it, with the same
+-- width
 abbrev pub AreChangesFrom : ℕ → List Bit → List Change → Type 0
 AreChangesFrom floor before [] = Unit {0}
 AreChangesFrom floor before (c ∷ cs) = (floor ≤ c.tick) × (c.value ≢ before)
@@ -48,19 +51,3 @@ pub record IsWave (width : ℕ) (changes : List Change) : Type 0 where
 abbrev pub AllUpTo : ℕ → List Change → Type 0
 AllUpTo end [] = Unit {0}
 AllUpTo end (c ∷ cs) = (c.tick ≤ end) × AllUpTo end cs
-
--- the value after all changes
-unfoldable pub last_value : List Bit → List Change → List Bit
-last_value before [] = before
-last_value before (c ∷ cs) = last_value c.value cs
-
--- the changes before a tick
-abbrev pub changes_before : ℕ → List Change → List Change
-changes_before tick changes = take_while (λ c. nat_lt c.tick tick) changes
-
--- the list after a push at its end: the value is added where it differs from the one before it
-unfoldable pub changes_after_push : ℕ → List Change → ℕ → List Bit → List Change
-changes_after_push width changes tick value =
-    let kept = changes_before tick changes in
-    if same_letters value (last_value (all_x width) kept) then kept
-    else kept ++ change tick value ∷ []

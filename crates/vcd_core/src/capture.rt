@@ -1,11 +1,11 @@
 //! A capture and its parts: header entries, timescale, scopes and signals.
 
 ghost use Rattle.std.specs.Prelude.{◌≡◌, ◌↔◌, IsTrue};
-ghost use Rattle.vcd_core.specs.Contents.{contents};
+ghost use Rattle.vcd_core.specs.CaptureContents.{contents};
 ghost use Rattle.vcd_core.specs.Sound.{IsSound};
 
-use crate::name_words::NameWords;
-use crate::scope_path::ScopePath;
+use crate::names::name_words::NameWords;
+use crate::names::scope_path::ScopePath;
 use crate::seq::Seq;
 use crate::wave::Wave;
 

@@ -3,7 +3,8 @@
 ghost use Rattle.std.specs.Prelude.{◌≡◌, ◌-◌, ◌^◌, min, IsTrue};
 ghost use Rattle.std.specs.List.{list_all};
 ghost use Rattle.std.specs.Char.{is_ascii_digit};
-ghost use Rattle.vcd_core.specs.Decimal.{is_number, number_of, number_up_to};
+ghost use Rattle.vcd_core.specs.Decimal.{is_number, number_of};
+ghost use Rattle.vcd_core.specs.BoundedNumber.{number_up_to};
 
 /// The number that `text` writes in decimal digits; `most` stands for every greater one. The result
 /// is none if `text` is no decimal number. There may be any number of digits and of leading

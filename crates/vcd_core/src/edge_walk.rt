@@ -4,7 +4,8 @@ ghost use Rattle.std.specs.Prelude.{◌≡◌, [], ◌∷◌, map, None};
 ghost use Rattle.std.specs.Option.{option_copied};
 ghost use Rattle.vcd_core.specs.Edges.{trace_of};
 ghost use Rattle.vcd_core.specs.BitEdges.{lowest_bit};
-ghost use Rattle.vcd_core.specs.inside.EdgeWalk.{trace_left, traces_left, trace_after, next_tick, earlier_tick, next_tick_of, Rises, EachRises};
+ghost use Rattle.vcd_core.specs.inside.EdgeWalk.{trace_left, traces_left, trace_after, next_tick};
+ghost use Rattle.vcd_core.specs.inside.EdgeWalk.{earlier_tick, next_tick_of, Rises, EachRises};
 
 use crate::bit::Bit;
 use crate::value::Value;

@@ -1,6 +1,7 @@
 //! Laws about the definitions, as contracts of functions that do nothing.
 
-ghost use Rattle.vcd_core.specs.Laws.{SameValuesSameChanges, ChangesOfOwnValues, ValuesOfChanges, ChangesAreWave, SpliceAndBack, SpliceBackIsAllowed};
+ghost use Rattle.vcd_core.specs.Laws.{SameValuesSameChanges, ChangesOfOwnValues, ValuesOfChanges};
+ghost use Rattle.vcd_core.specs.Laws.{ChangesAreWave, SpliceAndBack, SpliceBackIsAllowed};
 
 /// Two waves of one width are equal lists if they have the same value at each tick 0 to `end`
 /// and no change past `end`. So equality tick by tick is equality of every change.

@@ -8,28 +8,24 @@
 mod bit;
 mod bit_edges;
 mod capture;
-mod change_list;
 mod copies;
 mod decimal;
 mod device;
 mod edge_walk;
 mod edges;
-mod full_name;
 mod laws;
-mod letter_word;
+mod letter_block;
 mod memory;
-mod name_words;
 mod names;
 mod planes;
-mod scope_path;
 mod searching;
 mod seq;
 mod soundness;
 mod splicing;
-mod text_end;
 mod value;
 mod wave;
 mod wave_list;
+mod wave_push;
 mod word;
 
 pub use bit::Bit;
@@ -38,7 +34,6 @@ pub use capture::{
     Capture, END_LIMIT, Header, HeaderKind, SIGNAL_LIMIT, ScopeName, Signal, TimeUnit, Timescale,
     Word,
 };
-pub use change_list::{ends_by, last_value};
 pub use copies::{copy_scopes, copy_word, copy_words};
 pub use decimal::number_up_to;
 pub use device::{
@@ -46,19 +41,20 @@ pub use device::{
     read_whole, write_all, write_and_flush,
 };
 pub use edges::{Edge, Edges};
-pub use full_name::FullName;
 pub use laws::{
     changes_are_wave, changes_of_own_values, same_values_same_changes, splice_and_back,
     splice_back_is_allowed, values_of_changes,
 };
-pub use letter_word::LetterWord;
+pub use letter_block::LetterBlock;
 pub use memory::NoMemory;
-pub use name_words::NameWords;
-pub use planes::words_in;
-pub use scope_path::ScopePath;
+pub use names::full_name::FullName;
+pub use names::name_words::NameWords;
+pub use names::scope_path::ScopePath;
+pub use planes::blocks_in;
 pub use seq::Seq;
 pub use soundness::{are_scopes_sound, is_wave_sound};
 pub use splicing::moved_change;
-pub use value::{Value, WIDTH_LIMIT, WORDS};
+pub use value::{BLOCKS, Value, WIDTH_LIMIT};
 pub use wave::{Change, Wave};
+pub use wave_push::{ends_by, last_value};
 pub use word::{are_words, is_skipped_kind, is_white_space, is_word};

@@ -1,13 +1,19 @@
-//! Looking up signals by name.
+//! The names of signals, and looking signals up by them.
 
-ghost use Rattle.std.specs.Prelude.{◌≡◌, ◌<◌, ◌↔◌, ◌&&◌, IsTrue, Some, None, length, nat_lt, slice_get, if◌then◌else◌};
-ghost use Rattle.vcd_core.specs.Contents.{contents};
+ghost use Rattle.std.specs.Prelude.{◌≡◌, ◌<◌, ◌↔◌, ◌&&◌, IsTrue, Some, None, length, nat_lt};
+ghost use Rattle.std.specs.Prelude.{slice_get, if◌then◌else◌};
+ghost use Rattle.vcd_core.specs.CaptureContents.{contents};
 ghost use Rattle.vcd_core.specs.Decimal.{is_number, number_of};
 ghost use Rattle.vcd_core.specs.Names.{full_names, is_numbered, number_in, lookup};
 
+pub(crate) mod full_name;
+pub(crate) mod name_words;
+pub(crate) mod scope_path;
+pub(crate) mod text_end;
+
 use crate::capture::Capture;
 use crate::decimal::number_up_to;
-use crate::full_name::FullName;
+use crate::names::full_name::FullName;
 
 impl Capture {
     /// Whether the signal at position `k` has this full name: the names of its scopes and its own,

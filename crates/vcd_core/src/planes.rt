@@ -1,13 +1,15 @@
 //! The two planes of bits that hold a value, in words of 64 bits that alternate between the planes.
 
-ghost use Rattle.std.specs.Prelude.{◌≡◌, ◌==◌, ℕ, [], ◌∷◌, ◌+◌, ◌-◌, ◌*◌, ◌/◌, ◌%◌, ◌^◌, ◌<◌, ◌≤◌, ◌≢◌, ◌↔◌, min, length, replicate, slice_index, All, IsTrue, if◌then◌else◌};
+ghost use Rattle.std.specs.Prelude.{◌≡◌, ◌==◌, ℕ, [], ◌∷◌, ◌+◌, ◌-◌, ◌*◌, ◌/◌, ◌%◌, ◌^◌, ◌<◌, ◌≤◌};
+ghost use Rattle.std.specs.Prelude.{◌≢◌, ◌↔◌, min, length, replicate, slice_index, All, IsTrue};
+ghost use Rattle.std.specs.Prelude.{if◌then◌else◌};
 ghost use Rattle.std.specs.Int.{bit_at};
-ghost use Rattle.vcd_core.specs.WordRows.{letter_of, letters_of};
+ghost use Rattle.vcd_core.specs.BlockRows.{letter_of, letters_of};
 ghost use Rattle.vcd_core.specs.inside.Planes.{plane_bit as bit_of_plane, letters_in, ArePlanes};
 
 use crate::bit::Bit;
-use crate::letter_word::LetterWord;
-use crate::value::WORDS;
+use crate::letter_block::LetterBlock;
+use crate::value::BLOCKS;
 
 /// The letter with these bits in the two planes.
 pub(crate) fn letter(low: bool, high: bool) -> Bit
@@ -22,11 +24,11 @@ pub(crate) fn letter(low: bool, high: bool) -> Bit
 }
 
 /// The number of 64-bit words that hold `width` bits.
-pub fn words_in(width: u64) -> usize
-    requires { width ≤ 64 * WORDS }
+pub fn blocks_in(width: u64) -> usize
+    requires { width ≤ 64 * BLOCKS }
     ensures fits { width ≤ 64 * result }
     ensures least { 64 * result < width + 64 }
-    ensures most { result ≤ WORDS }
+    ensures most { result ≤ BLOCKS }
 {
     ((width + 63) / 64) as usize
 }
@@ -63,52 +65,52 @@ pub(crate) fn words_fit(words: &[u64])
     ensures { All (λ w. w < 2 ^ 64) words.now }
 {}
 
-/// Writes the letters of a row of words that are below bit `width` into planes of zeros, a word at a
-/// time.
-fn write_words(planes: &mut [u64], width: u64, words: &[LetterWord])
-    requires sized { length planes.old ≡ 2 * WORDS }
-    requires zeros { planes.old ≡ replicate (2 * WORDS) 0 }
-    requires most { width ≤ 64 * WORDS }
-    requires words { width ≤ 64 * length words.now }
-    ensures letters { letters_in width planes.new ≡ letters_of width words.now }
-    ensures planes { ArePlanes WORDS width planes.new }
+/// Writes the letters of a row of blocks that are below bit `width` into planes of zeros, a block
+/// at a time.
+fn write_blocks(planes: &mut [u64], width: u64, blocks: &[LetterBlock])
+    requires sized { length planes.old ≡ 2 * BLOCKS }
+    requires zeros { planes.old ≡ replicate (2 * BLOCKS) 0 }
+    requires most { width ≤ 64 * BLOCKS }
+    requires blocks { width ≤ 64 * length blocks.now }
+    ensures letters { letters_in width planes.new ≡ letters_of width blocks.now }
+    ensures planes { ArePlanes BLOCKS width planes.new }
 {
     let mut left = width;
-    for j in 0..words_in(width) {
+    for j in 0..blocks_in(width) {
         let mask = ones(left);
-        planes[2 * j] = words[j].low & mask;
-        planes[2 * j + 1] = words[j].high & mask;
+        planes[2 * j] = blocks[j].low & mask;
+        planes[2 * j + 1] = blocks[j].high & mask;
         left = left.saturating_sub(64);
     }
     // Its clause bounds each word after the loop.
     words_fit(planes);
 }
 
-/// The planes of the letters of a row of words that are below bit `width`. Only the words in use
+/// The planes of the letters of a row of blocks that are below bit `width`. Only the blocks in use
 /// are computed.
-pub(crate) fn planes_of_words(width: u64, words: &[LetterWord]) -> [u64; 2 * WORDS]
-    requires most { width ≤ 64 * WORDS }
-    requires words { width ≤ 64 * length words.now }
-    ensures letters { letters_in width result ≡ letters_of width words.now }
-    ensures planes { ArePlanes WORDS width result }
+pub(crate) fn planes_of_blocks(width: u64, blocks: &[LetterBlock]) -> [u64; 2 * BLOCKS]
+    requires most { width ≤ 64 * BLOCKS }
+    requires blocks { width ≤ 64 * length blocks.now }
+    ensures letters { letters_in width result ≡ letters_of width blocks.now }
+    ensures planes { ArePlanes BLOCKS width result }
 {
-    let mut planes = [0; 2 * WORDS];
-    write_words(&mut planes, width, words);
+    let mut planes = [0; 2 * BLOCKS];
+    write_blocks(&mut planes, width, blocks);
     planes
 }
 
-/// The planes of the letters of a word that are below bit `width`.
+/// The planes of the letters of a block that are below bit `width`.
 ///
 /// It has no branch or loop, so LLVM writes them in their final place without a copy.
-pub(crate) fn planes_of_word(width: u64, word: LetterWord) -> [u64; 2 * WORDS]
+pub(crate) fn planes_of_block(width: u64, block: LetterBlock) -> [u64; 2 * BLOCKS]
     requires { width ≤ 64 }
-    ensures letters { letters_in width result ≡ letters_of width (word ∷ []) }
-    ensures planes { ArePlanes WORDS width result }
+    ensures letters { letters_in width result ≡ letters_of width (block ∷ []) }
+    ensures planes { ArePlanes BLOCKS width result }
 {
     let mask = ones(width);
-    let mut planes = [0; 2 * WORDS];
-    planes[0] = word.low & mask;
-    planes[1] = word.high & mask;
+    let mut planes = [0; 2 * BLOCKS];
+    planes[0] = block.low & mask;
+    planes[1] = block.high & mask;
     // Its clause bounds each word after the writes.
     words_fit(&planes);
     planes

@@ -2,14 +2,15 @@
 
 ghost use Rattle.std.specs.Prelude.{◌≡◌, ◌↔◌, ◌≤◌, IsTrue, IfSome, All, ℕ, map};
 ghost use Rattle.std.specs.List.{list_all};
-ghost use Rattle.vcd_core.specs.Contents.{contents, signal_contents};
+ghost use Rattle.vcd_core.specs.CaptureContents.{contents, signal_contents};
 ghost use Rattle.vcd_core.specs.Wave.{IsWave, AllUpTo};
-ghost use Rattle.vcd_core.specs.Sound.{is_sound_header, is_sound_scope, is_sound_timescale, IsSoundSignal, IsSound};
+ghost use Rattle.vcd_core.specs.Sound.{is_sound_header, is_sound_scope, is_sound_timescale};
+ghost use Rattle.vcd_core.specs.Sound.{IsSoundSignal, IsSound};
 
 use crate::capture::{Capture, END_LIMIT, Header, SIGNAL_LIMIT, ScopeName, Signal, Timescale};
-use crate::change_list::ends_by;
 use crate::value::WIDTH_LIMIT;
 use crate::wave::Wave;
+use crate::wave_push::ends_by;
 use crate::word::{are_words, is_skipped_kind, is_word};
 
 impl Header {

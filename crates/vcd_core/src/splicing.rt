@@ -1,6 +1,7 @@
 //! Swapping a range of a list of changes with a piece: in place, or in a copy.
 
-ghost use Rattle.std.specs.Prelude.{◌≡◌, ◌≤◌, ◌+◌, ◌-◌, ◌++◌, length, take, drop, map, slice_range, IfOk, vec_len, vec_capacity};
+ghost use Rattle.std.specs.Prelude.{◌≡◌, ◌≤◌, ◌+◌, ◌-◌, ◌++◌, length, take, drop, map, slice_range};
+ghost use Rattle.std.specs.Prelude.{IfOk, vec_len, vec_capacity};
 ghost use Rattle.vcd_core.specs.Splice.{moved_change, TickFits, AllTicksFit, spliced_changes};
 
 use crate::memory::NoMemory;

@@ -1,21 +1,22 @@
 //! Four-state values of up to 1024 bits.
 
-ghost use Rattle.std.specs.Prelude.{◌≡◌, ℕ, [], ◌∷◌, ◌+◌, ◌-◌, ◌*◌, ◌<◌, ◌≤◌, ◌↔◌, length, replicate, slice_set, IsTrue};
+ghost use Rattle.std.specs.Prelude.{◌≡◌, ℕ, [], ◌∷◌, ◌+◌, ◌-◌, ◌*◌, ◌<◌, ◌≤◌, ◌↔◌, length};
+ghost use Rattle.std.specs.Prelude.{replicate, slice_set, IsTrue};
 ghost use Rattle.vcd_core.specs.Value.{letter_at, all_x, same_letters};
-ghost use Rattle.vcd_core.specs.WordRows.{letters_of, HoldsLetters};
+ghost use Rattle.vcd_core.specs.BlockRows.{letters_of, HoldsLetters};
 ghost use Rattle.vcd_core.specs.declared.bit.Bit.TheVariants.{Zero};
 
 use crate::bit::Bit;
-use crate::letter_word::LetterWord;
+use crate::letter_block::LetterBlock;
 use crate::planes::{
-    letter, ones, plane_bit, plane_word, planes_of_word, planes_of_words, words_fit, words_in,
+    blocks_in, letter, ones, plane_bit, plane_word, planes_of_block, planes_of_blocks, words_fit,
     write_plane_bit,
 };
 use std::fmt;
 use std::marker::Model;
 
 /// The number of 64-bit words in a plane of a value.
-pub const WORDS: usize = 16;
+pub const BLOCKS: usize = 16;
 
 /// The greatest width of a value, in bits.
 pub const WIDTH_LIMIT: u64 = 1024;
@@ -29,7 +30,7 @@ pub const WIDTH_LIMIT: u64 = 1024;
 #[derive(Clone, Copy)]
 pub struct Value {
     width: u64,
-    planes: [u64; 2 * WORDS],
+    planes: [u64; 2 * BLOCKS],
 }
 
 impl Model for Value {
@@ -57,46 +58,46 @@ impl Value {
         requires most { width ≤ WIDTH_LIMIT }
         ensures { result ≡ replicate width bit }
     {
-        Value::from_words(width, &[LetterWord::filled(bit); WORDS])
+        Value::from_blocks(width, &[LetterBlock::filled(bit); BLOCKS])
     }
 
-    /// The value of `width` bits whose letters are in a row of words, bit 0 the lowest of the first.
-    /// Letters of the row from bit `width` on are ignored.
+    /// The value of `width` bits whose letters are in a row of blocks, bit 0 the lowest of the
+    /// first. Letters of the row from bit `width` on are ignored.
     ///
     /// It takes a step for each 64 bits.
-    pub fn from_words(width: u64, words: &[LetterWord]) -> Value
+    pub fn from_blocks(width: u64, blocks: &[LetterBlock]) -> Value
         requires least { 1 ≤ width }
         requires most { width ≤ WIDTH_LIMIT }
-        requires words { width ≤ 64 * length words.now }
-        ensures { result ≡ letters_of width words.now }
+        requires blocks { width ≤ 64 * length blocks.now }
+        ensures { result ≡ letters_of width blocks.now }
     {
         Value {
             width,
-            planes: planes_of_words(width, words),
+            planes: planes_of_blocks(width, blocks),
         }
     }
 
-    /// The value of `width` bits, at most 64, whose letters are in a word, bit 0 the lowest. Letters
-    /// of the word from bit `width` on are ignored.
-    pub(crate) fn from_word(width: u64, word: LetterWord) -> Value
+    /// The value of `width` bits, at most 64, whose letters are in a block, bit 0 the lowest.
+    /// Letters of the block from bit `width` on are ignored.
+    pub(crate) fn from_block(width: u64, block: LetterBlock) -> Value
         requires least { 1 ≤ width }
         requires most { width ≤ 64 }
-        ensures { result ≡ letters_of width (word ∷ []) }
+        ensures { result ≡ letters_of width (block ∷ []) }
     {
         Value {
             width,
-            planes: planes_of_word(width, word),
+            planes: planes_of_block(width, block),
         }
     }
 
-    /// Whether the value, of at most 64 bits, has the letters of this word. It equals
-    /// [`Value::from_word`] of its width, which is not built.
-    pub(crate) fn has_word(&self, word: LetterWord) -> bool
+    /// Whether the value, of at most 64 bits, has the letters of this block. It equals
+    /// [`Value::from_block`] of its width, which is not built.
+    pub(crate) fn has_block(&self, block: LetterBlock) -> bool
         requires { length self.now ≤ 64 }
-        ensures { result ≡ same_letters (letters_of (length self.now) (word ∷ [])) self.now }
+        ensures { result ≡ same_letters (letters_of (length self.now) (block ∷ [])) self.now }
     {
         let mask = ones(self.width);
-        (self.planes[0] == word.low & mask) & (self.planes[1] == word.high & mask)
+        (self.planes[0] == block.low & mask) & (self.planes[1] == block.high & mask)
     }
 
     /// The number of bits.
@@ -142,11 +143,11 @@ impl Value {
     }
 
     /// The letters from bit `64 * k` on, the lowest first; 0 past the width.
-    pub fn word(&self, k: usize) -> LetterWord
+    pub fn block(&self, k: usize) -> LetterBlock
         requires { 64 * k < length self.now }
         ensures { HoldsLetters Zero self.now (64 * k) result }
     {
-        LetterWord {
+        LetterBlock {
             low: plane_word(&self.planes, 0, k),
             high: plane_word(&self.planes, 1, k),
         }
@@ -170,7 +171,7 @@ impl PartialEq for Value {
 
     /// Whether the letters are the same. It compares the words in use.
     fn eq(&self, other: &Value) -> bool {
-        let used = 2 * words_in(self.width);
+        let used = 2 * blocks_in(self.width);
         let same = self.planes[..used] == other.planes[..used];
         (self.width == other.width) & same
     }

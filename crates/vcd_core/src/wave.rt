@@ -1,18 +1,22 @@
 //! The values of a signal over time.
 
-ghost use Rattle.std.specs.Prelude.{◌≡◌, ℕ, ◌+◌, ◌-◌, ◌<◌, ◌≤◌, if◌then◌else◌, nat_lt, nat_le, max, [], ◌∷◌, length, drop, slice_range, count_by, IsOk, IfOk, OnOk, OnErr, All, Any, IsTrue, true, false, None, vec_len, vec_capacity};
-ghost use Rattle.vcd_core.specs.Wave.{value_at, IsWave, changes_after_push};
-ghost use Rattle.vcd_core.specs.WordRows.{letters_of};
+ghost use Rattle.std.specs.Prelude.{◌≡◌, ℕ, ◌+◌, ◌-◌, ◌<◌, ◌≤◌, if◌then◌else◌, nat_lt, nat_le, max};
+ghost use Rattle.std.specs.Prelude.{[], ◌∷◌, length, drop, slice_range, count_by, IsOk, IfOk, OnOk};
+ghost use Rattle.std.specs.Prelude.{OnErr, All, Any, IsTrue, true, false, None, vec_len};
+ghost use Rattle.std.specs.Prelude.{vec_capacity};
+ghost use Rattle.vcd_core.specs.Wave.{value_at, IsWave};
+ghost use Rattle.vcd_core.specs.WavePush.{changes_after_push};
+ghost use Rattle.vcd_core.specs.BlockRows.{letters_of};
 ghost use Rattle.vcd_core.specs.Splice.{AllTicksFit, spliced_changes};
-ghost use Rattle.vcd_core.specs.declared.change_list.TheConstants.{LEAST_ROOM};
+ghost use Rattle.vcd_core.specs.declared.wave_push.TheConstants.{LEAST_ROOM};
 
-use crate::change_list::{last_value, push_change, push_word_change};
-use crate::letter_word::LetterWord;
+use crate::letter_block::LetterBlock;
 use crate::memory::NoMemory;
-use crate::searching::count_until_near;
+use crate::searching::count_through_near;
 use crate::splicing::{splice_changes, splice_into, spliced_copy};
 use crate::value::{Value, WIDTH_LIMIT};
 use crate::wave_list::WaveList;
+use crate::wave_push::{last_value, push_block_change, push_change};
 use std::alloc::Global;
 use std::marker::Model;
 
@@ -31,8 +35,8 @@ pub struct Change {
 /// A wave has its own list, or shares it with others ([`Wave::share`]). An operation that changes a
 /// wave gives it its own list first, so the other waves stay unchanged.
 ///
-/// Contracts see the width in bits, the changes, whether the list is shared, and the capacity of the
-/// wave's own list.
+/// Contracts see the width in bits, the changes, whether the list is shared, and the capacity of
+/// the wave's own list.
 #[derive(Drop)]
 pub struct Wave {
     width: u64,
@@ -120,10 +124,10 @@ impl Wave {
     ///
     /// The search goes from there by steps that double, then by halves: the logarithm of the
     /// distance.
-    pub fn count_until_near(&self, near: usize, tick: u64) -> usize
+    pub fn count_through_near(&self, near: usize, tick: u64) -> usize
         ensures { result ≡ count_by (λ c. nat_le c.tick tick) self.now.changes }
     {
-        count_until_near(self.list.as_slice(), near, tick)
+        count_through_near(self.list.as_slice(), near, tick)
     }
 
     /// Sets the value from `tick` on, at the end of the list. A value equal to the one before adds
@@ -148,7 +152,8 @@ impl Wave {
             → length self.old.changes + 1 ≤ self.old.capacity → IsOk result }
         ensures replaces { self.old.is_shared ≡ false → Any (λ c. c.tick ≡ tick) self.old.changes
             → IsOk result }
-        ensures adds_none { self.old.is_shared ≡ false → value_at self.old.width self.old.changes tick ≡ value → IsOk result }
+        ensures adds_none { self.old.is_shared ≡ false
+            → value_at self.old.width self.old.changes tick ≡ value → IsOk result }
         ensures is_own { OnOk result (self.new.is_shared ≡ false) }
         ensures stays_own { self.old.is_shared ≡ false → self.new.is_shared ≡ false }
         ensures room { self.old.is_shared ≡ false → self.old.capacity ≤ self.new.capacity }
@@ -159,22 +164,23 @@ impl Wave {
             → length self.old.changes + 1 ≤ self.old.capacity
             → self.new.capacity ≡ self.old.capacity }
         ensures grown_room { self.old.is_shared ≡ false → self.new.capacity
-            ≤ max self.old.capacity (length self.old.changes + max (length self.old.changes) LEAST_ROOM) }
+            ≤ max self.old.capacity
+            (length self.old.changes + max (length self.old.changes) LEAST_ROOM) }
     {
         self.list.make_own(1)?;
         push_change(&mut self.list.own, self.width, tick, value)?;
         Ok(())
     }
 
-    /// Does what [`Wave::push`] does with the value whose letters are in this word, bit 0 the
-    /// lowest. Letters of the word from the width on are ignored.
-    pub fn push_word(&mut self, tick: u64, word: LetterWord) -> Result<(), NoMemory>
+    /// Does what [`Wave::push`] does with the value whose letters are in this block, bit 0 the
+    /// lowest. Letters of the block from the width on are ignored.
+    pub fn push_block(&mut self, tick: u64, block: LetterBlock) -> Result<(), NoMemory>
         requires width { self.old.width ≤ 64 }
         requires none_later { All (λ c. c.tick ≤ tick) self.old.changes }
 
-        ensures changes { let value = letters_of self.old.width (word ∷ []) in OnOk result
+        ensures changes { let value = letters_of self.old.width (block ∷ []) in OnOk result
             (self.new.changes ≡ changes_after_push self.old.width self.old.changes tick value) }
-        ensures values { let value = letters_of self.old.width (word ∷ []) in
+        ensures values { let value = letters_of self.old.width (block ∷ []) in
             OnOk result ((t : ℕ) → value_at self.new.width self.new.changes t
             ≡ (if nat_le tick t then value else value_at self.old.width self.old.changes t)) }
         ensures last { OnOk result (All (λ c. c.tick ≤ tick) self.new.changes) }
@@ -186,7 +192,8 @@ impl Wave {
             → length self.old.changes + 1 ≤ self.old.capacity → IsOk result }
         ensures replaces { self.old.is_shared ≡ false → Any (λ c. c.tick ≡ tick) self.old.changes
             → IsOk result }
-        ensures adds_none { self.old.is_shared ≡ false → let value = letters_of self.old.width (word ∷ []) in
+        ensures adds_none { self.old.is_shared ≡ false
+            → let value = letters_of self.old.width (block ∷ []) in
             value_at self.old.width self.old.changes tick ≡ value → IsOk result }
         ensures is_own { OnOk result (self.new.is_shared ≡ false) }
         ensures stays_own { self.old.is_shared ≡ false → self.new.is_shared ≡ false }
@@ -198,10 +205,11 @@ impl Wave {
             → length self.old.changes + 1 ≤ self.old.capacity
             → self.new.capacity ≡ self.old.capacity }
         ensures grown_room { self.old.is_shared ≡ false → self.new.capacity
-            ≤ max self.old.capacity (length self.old.changes + max (length self.old.changes) LEAST_ROOM) }
+            ≤ max self.old.capacity
+            (length self.old.changes + max (length self.old.changes) LEAST_ROOM) }
     {
         self.list.make_own(1)?;
-        push_word_change(&mut self.list.own, self.width, tick, word)?;
+        push_block_change(&mut self.list.own, self.width, tick, block)?;
         Ok(())
     }
 
@@ -235,8 +243,8 @@ impl Wave {
     /// Gives the wave its own list with room for `more` changes. The changes of the wave stay the
     /// same, also if the memory is refused.
     ///
-    /// It takes no memory if the room is there already. Else the list is at least doubled, so that a
-    /// list that grows change by change is seldom moved. A shared list that no other wave has any
+    /// It takes no memory if the room is there already. Else the list is at least doubled, so that
+    /// a list that grows change by change is seldom moved. A shared list that no other wave has any
     /// more is taken back; otherwise its changes are copied.
     pub fn reserve(&mut self, more: usize) -> Result<(), NoMemory>
         ensures width { self.new.width ≡ self.old.width }

@@ -1,11 +1,12 @@
 //! The list of changes of a wave: its own, or one that several waves share.
 
-ghost use Rattle.std.specs.Prelude.{◌≡◌, ◌≤◌, ◌+◌, None, max, length, IsTrue, IsOk, IfOk, OnOk, vec_capacity};
+ghost use Rattle.std.specs.Prelude.{◌≡◌, ◌≤◌, ◌+◌, None, max, length, IsTrue, IsOk, IfOk, OnOk};
+ghost use Rattle.std.specs.Prelude.{vec_capacity};
 ghost use Rattle.vcd_core.specs.inside.WaveLists.{changes_of_list, greatest_capacity};
 
-use crate::change_list::push_change_in_room;
 use crate::memory::NoMemory;
 use crate::wave::Change;
+use crate::wave_push::push_change_in_room;
 use std::alloc::Global;
 use std::mem::replace;
 use std::rc::Rc;

@@ -2,7 +2,8 @@
 
 ghost use Rattle.std.specs.Prelude.{◌≡◌, not};
 ghost use Rattle.std.specs.List.{list_all};
-ghost use Rattle.vcd_core.specs.Word.{is_white_space as white, is_word as word_test, is_skipped_kind as skipped};
+ghost use Rattle.vcd_core.specs.Word.{is_white_space as white, is_word as word_test};
+ghost use Rattle.vcd_core.specs.Word.{is_skipped_kind as skipped};
 
 use crate::capture::Word;
 

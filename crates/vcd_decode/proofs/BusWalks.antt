@@ -1,6 +1,8 @@
 -- Events taken one at a time give the annotations of the whole bus.
-use Rattle.std.proofs.Common.{◌≡◌, ◌≢◌, ℕ, zero, suc, ◌<◌, ◌≤◌, ◌==◌, nat_le, Bool, true, false, if◌then◌else◌, Option}
-use Rattle.std.proofs.Common.{Some, None, Result, Ok, Err, OnOk, IfOk, List, [], ◌∷◌, ◌++◌, length, take, refl, sym, ap}
+use Rattle.std.proofs.Common.{◌≡◌, ◌≢◌, ℕ, zero, suc, ◌<◌, ◌≤◌, ◌==◌, nat_le, Bool, true, false}
+use Rattle.std.proofs.Common.{if◌then◌else◌, Option}
+use Rattle.std.proofs.Common.{Some, None, Result, Ok, Err, OnOk, IfOk, List, [], ◌∷◌, ◌++◌, length}
+use Rattle.std.proofs.Common.{take, refl, sym, ap}
 use Rattle.std.proofs.Common.{◌∙◌, inl, inr, arith}
 use Rattle.std.specs.Option.{option_or}
 use Rattle.std.specs.List.{cons_option}
@@ -19,13 +21,17 @@ use Rattle.vcd_decode.specs.declared.i2c_bus.bytes.ByteRole.TheVariants as roles
 use Rattle.vcd_decode.specs.declared.i2c_bus.bytes.PartialByte.{PartialByte}
 use Rattle.vcd_decode.specs.declared.i2c_bus.transfer.Transfer.{Transfer}
 use Rattle.vcd_decode.specs.Lines.{annotation}
-use Rattle.vcd_decode.specs.BusBytes.{number_with, number_of_bits, byte_kind, role_after, acknowledge_kind}
+use Rattle.vcd_decode.specs.BusBytes.{number_with, number_of_bits, byte_kind, role_after}
+use Rattle.vcd_decode.specs.BusBytes.{acknowledge_kind}
 use Rattle.vcd_decode.specs.BusBytes.{ten_bit_address}
-use Rattle.vcd_decode.specs.I2c.{bits_annotation, byte_annotations, rest_annotations, nines_annotations, bits_until}
+use Rattle.vcd_decode.specs.I2c.{bits_annotation, byte_annotations, rest_annotations}
+use Rattle.vcd_decode.specs.I2c.{nines_annotations, bits_until}
 use Rattle.vcd_decode.specs.I2c.{has_condition, shown_address, annotations_of_events}
-use Rattle.vcd_decode.specs.inside.BusWalk.{no_bits, partial_byte_with, partial_byte_of, transfer_rest_annotations}
+use Rattle.vcd_decode.specs.inside.BusWalk.{no_bits, partial_byte_with, partial_byte_of}
+use Rattle.vcd_decode.specs.inside.BusWalk.{transfer_rest_annotations}
 use Rattle.vcd_decode.specs.inside.BusWalk.{whole_byte_annotations}
-use Rattle.vcd_decode.specs.inside.BusWalk.{transfer_after_byte, event_annotations, bus_after, walk_annotations}
+use Rattle.vcd_decode.specs.inside.BusWalk.{transfer_after_byte, event_annotations, bus_after}
+use Rattle.vcd_decode.specs.inside.BusWalk.{walk_annotations}
 use Rattle.vcd_decode.specs.Groups.{groups_of}
 use Rattle.vcd_decode.proofs.Groups.{groups_none, groups_short, groups_whole}
 use Rattle.vcd_decode.proofs.PartialBytes.{part_count, part_first, part_last, part_number}
@@ -60,14 +66,14 @@ left_is role (b ∷ g) given =
     let count = part_count (b ∷ g) in
     let first = part_first b g in
     let last = part_last b g in
-    λ i. if nat_le 2 (count i) then annotation (first i) (last i) (kinds.PartialOf (count i)) ∷ [] else []
+    λ i. if nat_le 2 (count i) then annotation (first i) (last i) (kinds.Unfinished (count i)) ∷ [] else []
 
 -- they show no address
 none_given : (g : List BusBit) → shown_address (rest_annotations true g) ≡ None
 unfolding shown_address
 none_given g = choose (nat_le 2 (length g))
   where
-    choose : (e : Bool) → shown_address (if e then bits_annotation g (kinds.PartialOf (length g)) ∷ [] else []) ≡ None
+    choose : (e : Bool) → shown_address (if e then bits_annotation g (kinds.Unfinished (length g)) ∷ [] else []) ≡ None
     choose true = refl
     choose false = refl
 

@@ -1,6 +1,7 @@
 -- Worked cases of an I2C bus.
 use Rattle.std.proofs.Common.{◌≡◌, refl}
-use Rattle.std.specs.Prelude.{ℕ, zero, suc, ◌+◌, ◌/◌, ◌%◌, ◌^◌, ◌==◌, if◌then◌else◌, None, List, [], ◌∷◌, ◌++◌, map}
+use Rattle.std.specs.Prelude.{ℕ, zero, suc, ◌+◌, ◌/◌, ◌%◌, ◌^◌, ◌==◌, if◌then◌else◌, None, List, []}
+use Rattle.std.specs.Prelude.{◌∷◌, ◌++◌, map}
 use Rattle.std.specs.Prelude.{false}
 use Rattle.vcd_core.specs.declared.bit.Bit.{Bit}
 use Rattle.vcd_core.specs.declared.bit.Bit.TheVariants.{Zero, One, X, Z}
@@ -8,8 +9,10 @@ use Rattle.vcd_core.specs.declared.wave.Change.{Change}
 use Rattle.vcd_core.specs.Wave.{change, value_from}
 use Rattle.vcd_decode.specs.declared.annotation.Annotation.{Annotation}
 use Rattle.vcd_decode.specs.declared.annotation.Kind.{Kind}
-use Rattle.vcd_decode.specs.declared.annotation.Kind.TheVariants.{Unknown, PartialOf, Start, RepeatedStart, Stop}
-use Rattle.vcd_decode.specs.declared.annotation.Kind.TheVariants.{Address, AddressHigh, TenBitAddress, Data, Ack, Nack}
+use Rattle.vcd_decode.specs.declared.annotation.Kind.TheVariants.{Unknown, Unfinished, Start}
+use Rattle.vcd_decode.specs.declared.annotation.Kind.TheVariants.{RepeatedStart, Stop}
+use Rattle.vcd_decode.specs.declared.annotation.Kind.TheVariants.{Address, AddressHigh}
+use Rattle.vcd_decode.specs.declared.annotation.Kind.TheVariants.{TenBitAddress, Data, Ack, Nack}
 use Rattle.vcd_decode.specs.declared.annotation.Direction.TheVariants.{Write, Read}
 use Rattle.vcd_decode.specs.declared.i2c_bus.events.BusEvent.{BusEvent}
 use Rattle.vcd_decode.specs.declared.i2c_bus.events.BusEvent.TheVariants as events
@@ -17,7 +20,8 @@ use Rattle.vcd_decode.specs.Lines.{annotation}
 use Rattle.vcd_decode.specs.WaveLines.{line_of}
 use Rattle.vcd_decode.specs.Groups.{groups_of}
 use Rattle.vcd_decode.specs.BusEvents.{bus_events}
-use Rattle.vcd_decode.specs.I2c.{i2c_annotations, nines_annotations, bits_until, has_condition, shown_address}
+use Rattle.vcd_decode.specs.I2c.{i2c_annotations, nines_annotations, bits_until, has_condition}
+use Rattle.vcd_decode.specs.I2c.{shown_address}
 use Rattle.vcd_decode.specs.I2c.{annotations_of_events}
 
 abbrev at : ℕ → Kind → Annotation
@@ -70,7 +74,7 @@ unknown_byte = refl
 
 -- three bits before STOP, including the rise of SCL before it
 partial_byte : annotations (clock 2) (turns One Zero (0 ∷ 10 ∷ 45 ∷ [])) 50
-    ≡ at 10 Start ∷ annotation 20 40 (PartialOf 3) ∷ at 45 Stop ∷ []
+    ≡ at 10 Start ∷ annotation 20 40 (Unfinished 3) ∷ at 45 Stop ∷ []
 unfolding value_from bus_events groups_of nines_annotations bits_until has_condition shown_address annotations_of_events
 partial_byte = refl
 
@@ -123,7 +127,7 @@ byte tick n = bits tick (map (λ k. if n / 2 ^ k % 2 == 1 then One else Zero) (7
 eight_bits : annotations_of_events None
     (events.Start 0 ∷ bits 1 (One ∷ Zero ∷ One ∷ Zero ∷ One ∷ Zero ∷ One ∷ Zero ∷ [])
     ++ events.Stop 9 ∷ [])
-    ≡ at 0 Start ∷ annotation 1 8 (PartialOf 8) ∷ at 9 Stop ∷ []
+    ≡ at 0 Start ∷ annotation 1 8 (Unfinished 8) ∷ at 9 Stop ∷ []
 unfolding groups_of nines_annotations bits_until has_condition shown_address annotations_of_events
 eight_bits = refl
 

@@ -1,21 +1,26 @@
 -- Worked cases: I2C messages that are sent.
 use Rattle.std.proofs.Common.{◌≡◌, refl}
-use Rattle.std.specs.Prelude.{ℕ, suc, ◌+◌, ◌-◌, ◌*◌, ◌%◌, nat_lt, true, false, List, [], ◌∷◌, length}
+use Rattle.std.specs.Prelude.{ℕ, suc, ◌+◌, ◌-◌, ◌*◌, ◌%◌, nat_lt, true, false, List, [], ◌∷◌}
+use Rattle.std.specs.Prelude.{length}
 use Rattle.std.specs.Prelude.{if◌then◌else◌}
 use Rattle.vcd_core.specs.declared.bit.Bit.TheVariants.{One}
 use Rattle.vcd_decode.specs.declared.annotation.Annotation.{Annotation}
-use Rattle.vcd_decode.specs.declared.annotation.Kind.TheVariants.{Start, RepeatedStart, Stop, Address, AddressHigh}
+use Rattle.vcd_decode.specs.declared.annotation.Kind.TheVariants.{Start, RepeatedStart, Stop}
+use Rattle.vcd_decode.specs.declared.annotation.Kind.TheVariants.{Address, AddressHigh}
 use Rattle.vcd_decode.specs.declared.annotation.Kind.TheVariants.{TenBitAddress, Data, Ack, Nack}
 use Rattle.vcd_decode.specs.declared.annotation.Direction.TheVariants.{Write, Read}
 use Rattle.vcd_decode.specs.declared.i2c_bus.events.BusLevels.{BusLevels}
 use Rattle.vcd_decode.specs.Lines.{annotation}
 use Rattle.vcd_decode.specs.Groups.{groups_of}
 use Rattle.vcd_decode.specs.BusEvents.{bus_events}
-use Rattle.vcd_decode.specs.I2c.{i2c_annotations, annotations_of_events, nines_annotations, bits_until, has_condition}
+use Rattle.vcd_decode.specs.I2c.{i2c_annotations, annotations_of_events, nines_annotations}
+use Rattle.vcd_decode.specs.I2c.{bits_until, has_condition}
 use Rattle.vcd_decode.specs.I2c.{shown_address}
 use Rattle.vcd_decode.specs.SentLevels.{data_levels}
-use Rattle.vcd_decode.specs.I2cSent.{Transfer, seven_bit, ten_bit_write, ten_bit_read, levels, later_levels}
-use Rattle.vcd_decode.specs.I2cSent.{message_levels, message_annotations, sent_bytes, later_annotations}
+use Rattle.vcd_decode.specs.I2cSent.{Transfer, seven_bit, ten_bit_write, ten_bit_read, levels}
+use Rattle.vcd_decode.specs.I2cSent.{later_levels}
+use Rattle.vcd_decode.specs.I2cSent.{message_levels, message_annotations, sent_bytes}
+use Rattle.vcd_decode.specs.I2cSent.{later_annotations}
 
 -- the levels at a tick, where that at index i begins at the tick `at i`
 level_at : (ℕ → ℕ) → ℕ → List BusLevels → ℕ → BusLevels

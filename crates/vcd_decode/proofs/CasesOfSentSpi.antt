@@ -1,10 +1,11 @@
 -- Worked cases: lines of a serial peripheral interface that send words.
 use Rattle.std.proofs.Common.{◌≡◌, refl}
-use Rattle.std.specs.Prelude.{ℕ, ◌-◌, ◌/◌, nat_lt, List, [], ◌∷◌, Option, Some, None, get_or, if◌then◌else◌}
+use Rattle.std.specs.Prelude.{ℕ, ◌-◌, ◌/◌, nat_lt, List, [], ◌∷◌, Option, Some, None, get_or}
+use Rattle.std.specs.Prelude.{if◌then◌else◌}
 use Rattle.vcd_core.specs.declared.bit.Bit.{Bit}
 use Rattle.vcd_core.specs.declared.bit.Bit.TheVariants.{Zero, One, X}
 use Rattle.vcd_decode.specs.declared.annotation.Annotation.{Annotation}
-use Rattle.vcd_decode.specs.declared.annotation.Kind.TheVariants.{Word, PartialOf}
+use Rattle.vcd_decode.specs.declared.annotation.Kind.TheVariants.{Word, Unfinished}
 use Rattle.vcd_decode.specs.declared.annotation.LineData.TheVariants.{Number}
 use Rattle.vcd_decode.specs.declared.spi_setup.BitOrder.TheVariants.{Msb, Lsb}
 use Rattle.vcd_decode.specs.SpiSetup.{SpiSetup, spi_setup}
@@ -58,6 +59,6 @@ mode_3 = refl
 
 -- the chip is released after two bits of the second word
 released_in_word : found (spi_setup 0 3 Msb) (Some (selected_before 27))
-    ≡ annotation 4 12 (Word (Number 4) (Number 3)) ∷ annotation 22 26 (PartialOf 2) ∷ []
+    ≡ annotation 4 12 (Word (Number 4) (Number 3)) ∷ annotation 22 26 (Unfinished 2) ∷ []
 unfolding words line selected_before found spi_annotations groups_of sent_clock data_levels
 released_in_word = refl

@@ -10,7 +10,8 @@ use Rattle.vcd_decode.specs.UartSetup.{UartSetup, uart_setup}
 use Rattle.vcd_decode.specs.Lines.{annotation}
 use Rattle.vcd_decode.specs.Uart.{uart_annotations, frames, falls, begun_frame, sample_offset}
 use Rattle.vcd_decode.specs.SentLevels.{data_levels}
-use Rattle.vcd_decode.specs.UartSent.{Flaw, flawless, wrong_parity, low_stop, SentFrame, sent_line, bits_line}
+use Rattle.vcd_decode.specs.UartSent.{Flaw, flawless, wrong_parity, low_stop, SentFrame, sent_line}
+use Rattle.vcd_decode.specs.UartSent.{bits_line}
 
 sent : ℕ → ℕ → Flaw → SentFrame
 sent start word flaw = record { start = start; word = word; flaw = flaw }

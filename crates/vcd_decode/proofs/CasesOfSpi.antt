@@ -7,7 +7,7 @@ use Rattle.vcd_core.specs.declared.bit.Bit.{Bit}
 use Rattle.vcd_core.specs.declared.bit.Bit.TheVariants.{Zero, One, X, Z}
 use Rattle.vcd_core.specs.Wave.{change, value_from}
 use Rattle.vcd_decode.specs.declared.annotation.Annotation.{Annotation}
-use Rattle.vcd_decode.specs.declared.annotation.Kind.TheVariants.{Word, PartialOf}
+use Rattle.vcd_decode.specs.declared.annotation.Kind.TheVariants.{Word, Unfinished}
 use Rattle.vcd_decode.specs.declared.annotation.LineData.TheVariants.{Absent, Unknown, Number}
 use Rattle.vcd_decode.specs.declared.setup_error.SetupError.TheVariants.{BadMode, BadBits}
 use Rattle.vcd_decode.specs.declared.spi_setup.BitOrder.TheVariants.{Msb, Lsb}
@@ -48,7 +48,7 @@ selected : List (ℕ × Bit)
 selected = (0, Zero) ∷ (120, One) ∷ []
 
 word_and_rest : found (spi_setup 0 8 Msb) (clock 11) (Some sent) None (Some selected) 120
-    ≡ annotation 10 80 (Word (Number 165) Absent) ∷ annotation 90 110 (PartialOf 3) ∷ []
+    ≡ annotation 10 80 (Word (Number 165) Absent) ∷ annotation 90 110 (Unfinished 3) ∷ []
 unfolding found line clock sent selected spi_annotations groups_of value_from
 word_and_rest = refl
 
@@ -56,14 +56,14 @@ word_and_rest = refl
 unclear_bit : found (spi_setup 0 8 Msb) (clock 11)
     (Some ((0, One) ∷ (15, Zero) ∷ (25, One) ∷ (35, Zero) ∷ (40, X) ∷ (41, Zero) ∷ (55, One) ∷ (65, Zero) ∷ (75, One)
     ∷ [])) None (Some selected) 120
-    ≡ annotation 10 80 (Word Unknown Absent) ∷ annotation 90 110 (PartialOf 3) ∷ []
+    ≡ annotation 10 80 (Word Unknown Absent) ∷ annotation 90 110 (Unfinished 3) ∷ []
 unfolding found line clock sent selected spi_annotations groups_of value_from
 unclear_bit = refl
 
 -- the chip is not selected at one tick between two bits
 parted : found (spi_setup 0 8 Msb) (clock 11) (Some sent) None
     (Some ((0, Zero) ∷ (42, One) ∷ (43, Zero) ∷ (120, One) ∷ [])) 120
-    ≡ annotation 10 40 (PartialOf 4) ∷ annotation 50 110 (PartialOf 7) ∷ []
+    ≡ annotation 10 40 (Unfinished 4) ∷ annotation 50 110 (Unfinished 7) ∷ []
 unfolding found line clock sent spi_annotations groups_of value_from
 parted = refl
 
@@ -108,7 +108,7 @@ at_one_tick = refl
 -- a chip select of x or z parts words too, and an edge from x is no edge
 unclear_select : found (spi_setup 0 2 Msb) ((10, One) ∷ (15, Zero) ∷ (20, One) ∷ (25, Zero) ∷ (30, One) ∷ []) None None
     (Some ((0, Zero) ∷ (22, Z) ∷ (23, X) ∷ (24, Zero) ∷ [])) 40
-    ≡ annotation 20 20 (PartialOf 1) ∷ annotation 30 30 (PartialOf 1) ∷ []
+    ≡ annotation 20 20 (Unfinished 1) ∷ annotation 30 30 (Unfinished 1) ∷ []
 unfolding found line spi_annotations groups_of value_from
 unclear_select = refl
 

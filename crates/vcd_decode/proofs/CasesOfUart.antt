@@ -6,11 +6,13 @@ use Rattle.vcd_core.specs.declared.bit.Bit.{Bit}
 use Rattle.vcd_core.specs.declared.bit.Bit.TheVariants.{Zero, One, X, Z}
 use Rattle.vcd_core.specs.Wave.{change, value_from}
 use Rattle.vcd_decode.specs.declared.annotation.Annotation.{Annotation}
-use Rattle.vcd_decode.specs.declared.annotation.Kind.TheVariants.{Byte, ParityError, FrameError, Unknown, Partial}
+use Rattle.vcd_decode.specs.declared.annotation.Kind.TheVariants.{Byte, ParityError, FrameError}
+use Rattle.vcd_decode.specs.declared.annotation.Kind.TheVariants.{Unknown, CutOff}
 use Rattle.vcd_decode.specs.declared.uart_setup.Parity.TheVariants.{None, Even, Odd}
 use Rattle.vcd_core.specs.declared.capture.TheConstants.{END_LIMIT}
 use Rattle.vcd_decode.specs.declared.uart_setup.TheConstants.{RATIO_LIMIT}
-use Rattle.vcd_decode.specs.declared.setup_error.SetupError.TheVariants.{BadRatio, BitTooShort, BadData, BadStop}
+use Rattle.vcd_decode.specs.declared.setup_error.SetupError.TheVariants.{BadRatio, BitTooShort}
+use Rattle.vcd_decode.specs.declared.setup_error.SetupError.TheVariants.{BadData, BadStop}
 use Rattle.vcd_decode.specs.UartSetup.{UartSetup}
 use Rattle.vcd_decode.specs.SetupFaults.{uart_fault}
 use Rattle.vcd_decode.specs.UartSetup.{uart_setup}
@@ -42,7 +44,7 @@ nine_bits = refl
 
 -- the capture ends before the last stop bit is sampled
 cut_off : found ((0, One) ∷ (20, Zero) ∷ (30, One) ∷ (40, Zero) ∷ (90, One) ∷ (100, Zero) ∷ []) 100
-    (uart_setup 10 1 8 None 1) ≡ annotation 20 100 Partial ∷ []
+    (uart_setup 10 1 8 None 1) ≡ annotation 20 100 CutOff ∷ []
 unfolding found uart_annotations frames falls begun_frame sample_offset value_from
 cut_off = refl
 
@@ -66,7 +68,7 @@ stop_bit_is_0 : found short_bits 30 (uart_setup 25 10 5 None 1) ≡ annotation 1
 unfolding found short_bits uart_annotations frames falls begun_frame sample_offset value_from
 stop_bit_is_0 = refl
 
-second_stop_bit_is_cut_off : found short_bits 30 (uart_setup 25 10 5 Even 2) ≡ annotation 10 30 Partial ∷ []
+second_stop_bit_is_cut_off : found short_bits 30 (uart_setup 25 10 5 Even 2) ≡ annotation 10 30 CutOff ∷ []
 unfolding found short_bits uart_annotations frames falls begun_frame sample_offset value_from
 second_stop_bit_is_cut_off = refl
 
@@ -87,7 +89,7 @@ on_after_a_frame : found ((0, One) ∷ (20, Zero) ∷ (30, One) ∷ (40, Zero) �
   116,
   Zero,
 ) ∷ []) 130 (uart_setup 10 1 8 None 1)
-    ≡ annotation 20 115 (Byte 65) ∷ annotation 116 130 Partial ∷ []
+    ≡ annotation 20 115 (Byte 65) ∷ annotation 116 130 CutOff ∷ []
 unfolding found uart_annotations frames falls begun_frame sample_offset value_from
 on_after_a_frame = refl
 
@@ -100,25 +102,25 @@ not_at_its_last_tick = refl
 
 -- a frame can begin while the start bit of a glitch would still last
 on_after_a_glitch : found ((0, One) ∷ (10, Zero) ∷ (12, One) ∷ (16, Zero) ∷ []) 40 (uart_setup 10 1 8 None 1)
-    ≡ annotation 16 40 Partial ∷ []
+    ≡ annotation 16 40 CutOff ∷ []
 unfolding found uart_annotations frames falls begun_frame sample_offset value_from
 on_after_a_glitch = refl
 
 -- or after a stop bit that is 0
 on_after_a_frame_error : found ((0, One) ∷ (10, Zero) ∷ (13, One) ∷ (18, Zero) ∷ (28, One) ∷ (29, Zero) ∷ []) 40
-    (uart_setup 25 10 5 None 1) ≡ annotation 10 26 FrameError ∷ annotation 29 40 Partial ∷ []
+    (uart_setup 25 10 5 None 1) ≡ annotation 10 26 FrameError ∷ annotation 29 40 CutOff ∷ []
 unfolding found uart_annotations frames falls begun_frame sample_offset value_from
 on_after_a_frame_error = refl
 
 -- or after a wrong parity
 on_after_a_parity_error : found ((0, One) ∷ (10, Zero) ∷ (13, One) ∷ (18, Zero) ∷ (28, One) ∷ (29, Zero) ∷ []) 40
-    (uart_setup 25 10 5 Odd 1) ≡ annotation 10 28 (ParityError 3) ∷ annotation 29 40 Partial ∷ []
+    (uart_setup 25 10 5 Odd 1) ≡ annotation 10 28 (ParityError 3) ∷ annotation 29 40 CutOff ∷ []
 unfolding found uart_annotations frames falls begun_frame sample_offset value_from
 on_after_a_parity_error = refl
 
 -- or after an x
 on_after_unknown : found ((0, One) ∷ (10, Zero) ∷ (13, X) ∷ (18, Zero) ∷ (26, One) ∷ (27, Zero) ∷ []) 40
-    (uart_setup 25 10 5 None 1) ≡ annotation 10 26 Unknown ∷ annotation 27 40 Partial ∷ []
+    (uart_setup 25 10 5 None 1) ≡ annotation 10 26 Unknown ∷ annotation 27 40 CutOff ∷ []
 unfolding found uart_annotations frames falls begun_frame sample_offset value_from
 on_after_unknown = refl
 
@@ -171,7 +173,7 @@ nine_bits_without_it = refl
 -- ---- where a frame begins
 
 -- a start bit whose middle is past the capture's end
-late_fall : found ((0, One) ∷ (126, Zero) ∷ []) 130 (uart_setup 10 1 8 None 1) ≡ annotation 126 130 Partial ∷ []
+late_fall : found ((0, One) ∷ (126, Zero) ∷ []) 130 (uart_setup 10 1 8 None 1) ≡ annotation 126 130 CutOff ∷ []
 unfolding found uart_annotations frames falls begun_frame sample_offset value_from
 late_fall = refl
 
@@ -209,7 +211,7 @@ past_the_last_tick : begun_frame
       is_shared = false;
       capacity = 0;
     })) END_LIMIT (uart_setup RATIO_LIMIT 1 9 Odd 2) (last_start + 1)
-    ≡ Some (annotation (last_start + 1) END_LIMIT Partial)
+    ≡ Some (annotation (last_start + 1) END_LIMIT CutOff)
 unfolding longest last_start begun_frame sample_offset value_from
 past_the_last_tick = refl
 

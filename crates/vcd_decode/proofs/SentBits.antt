@@ -1,10 +1,13 @@
 -- The bits of a frame that is sent: when they last, and what kind of frame they make.
-use Rattle.std.proofs.Common.{◌≡◌, ℕ, zero, suc, ◌+◌, ◌-◌, ◌*◌, ◌/◌, ◌%◌, ◌<◌, ◌≤◌, ◌==◌, ◌||◌, Bool, true, false}
-use Rattle.std.proofs.Common.{if◌then◌else◌, cond, List, [], ◌∷◌, ◌++◌, length, get_or, take, drop, count_by, replicate}
+use Rattle.std.proofs.Common.{◌≡◌, ℕ, zero, suc, ◌+◌, ◌-◌, ◌*◌, ◌/◌, ◌%◌, ◌<◌, ◌≤◌, ◌==◌, ◌||◌}
+use Rattle.std.proofs.Common.{Bool, true, false}
+use Rattle.std.proofs.Common.{if◌then◌else◌, cond, List, [], ◌∷◌, ◌++◌, length, get_or, take, drop}
+use Rattle.std.proofs.Common.{count_by, replicate}
 use Rattle.std.proofs.Common.{inl, inr, refl, sym, ap, subst, ◌∙◌, ◌^◌, arith}
 use Rattle.std.specs.List.{list_any}
 use Rattle.std.proofs.lemmas.Bool.{lt-ltb, le-ltb, eq-eqb, ne_eqb}
-use Rattle.std.proofs.lemmas.List.{get_or-append_right, length-append, length-replicate, append_assoc}
+use Rattle.std.proofs.lemmas.List.{get_or-append_right, length-append, length-replicate}
+use Rattle.std.proofs.lemmas.List.{append_assoc}
 use Rattle.std.proofs.lemmas.List.Folds.{list_any-append}
 use Rattle.std.proofs.lemmas.List.Sums.{sum_by-append}
 use Rattle.std.proofs.Math.Seq.{take-append_seam, drop-append_seam}
@@ -17,12 +20,15 @@ use Rattle.vcd_decode.specs.declared.uart_setup.Parity.{Parity}
 use Rattle.vcd_decode.specs.declared.uart_setup.Parity.TheVariants as parities
 use Rattle.vcd_decode.specs.UartSetup.{UartSetup}
 use Rattle.vcd_decode.specs.Lines.{is_zero, is_one, is_unclear, number_from_letters}
-use Rattle.vcd_decode.specs.Uart.{sample_offset, last_bit, checked_bits, parity_bits, is_parity_wrong, frame_kind}
+use Rattle.vcd_decode.specs.Uart.{sample_offset, last_bit, checked_bits, parity_bits}
+use Rattle.vcd_decode.specs.Uart.{is_parity_wrong, frame_kind}
 use Rattle.vcd_decode.specs.SentLevels.{level, data_levels}
-use Rattle.vcd_decode.specs.UartSent.{Flaw, flawless, wrong_parity, low_stop, SentFrame, CanHaveFlaw, parity_levels}
+use Rattle.vcd_decode.specs.UartSent.{Flaw, flawless, wrong_parity, low_stop, SentFrame}
+use Rattle.vcd_decode.specs.UartSent.{CanHaveFlaw, parity_levels}
 use Rattle.vcd_decode.specs.UartSent.{sent_parity, stop_levels, bit_offset, bits_line, sent_kind}
 use Rattle.vcd_decode.proofs.SampleTicks.{quotients_rise}
-use Rattle.vcd_decode.proofs.SentLevels.{level_cases, level_clear, data_clear, data_length, number_of_data}
+use Rattle.vcd_decode.proofs.SentLevels.{level_cases, level_clear, data_clear, data_length}
+use Rattle.vcd_decode.proofs.SentLevels.{number_of_data}
 
 -- ---- when a bit is sampled
 

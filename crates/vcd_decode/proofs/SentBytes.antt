@@ -1,6 +1,8 @@
 -- The bits and bytes that are sent on an I2C bus.
-use Rattle.std.proofs.Common.{◌≡◌, ◌≢◌, ℕ, suc, ◌+◌, ◌*◌, ◌/◌, ◌%◌, ◌<◌, ◌==◌, Bool, true, false, if◌then◌else◌}
-use Rattle.std.proofs.Common.{Option, Some, None, List, [], ◌∷◌, ◌++◌, length, reverse, map, fold, inl, inr}
+use Rattle.std.proofs.Common.{◌≡◌, ◌≢◌, ℕ, suc, ◌+◌, ◌*◌, ◌/◌, ◌%◌, ◌<◌, ◌==◌, Bool, true, false}
+use Rattle.std.proofs.Common.{if◌then◌else◌}
+use Rattle.std.proofs.Common.{Option, Some, None, List, [], ◌∷◌, ◌++◌, length, reverse, map, fold}
+use Rattle.std.proofs.Common.{inl, inr}
 use Rattle.std.proofs.Common.{append_assoc, refl, sym, ap, subst, ◌∙◌, arith}
 use Rattle.std.specs.Prelude.{⊤}
 use Rattle.std.specs.List.{flat_map}
@@ -15,13 +17,16 @@ use Rattle.vcd_decode.specs.declared.i2c_bus.bytes.ByteRole.{ByteRole}
 use Rattle.vcd_decode.specs.declared.i2c_bus.bytes.ByteRole.TheVariants as roles
 use Rattle.vcd_decode.specs.Lines.{annotation}
 use Rattle.vcd_decode.specs.Groups.{groups_of}
-use Rattle.vcd_decode.specs.BusBytes.{number_with, number_of_bits, byte_kind, role_after, acknowledge_kind, is_ten_bit}
+use Rattle.vcd_decode.specs.BusBytes.{number_with, number_of_bits, byte_kind, role_after}
+use Rattle.vcd_decode.specs.BusBytes.{acknowledge_kind, is_ten_bit}
 use Rattle.vcd_decode.specs.BusBytes.{high_bits, ten_bit_kind}
 use Rattle.vcd_decode.specs.BusBytes.{ten_bit_address}
 use Rattle.vcd_decode.specs.I2c.{nines_annotations, byte_annotations, shown_address}
 use Rattle.vcd_decode.specs.SentLevels.{level, data_levels}
-use Rattle.vcd_decode.specs.I2cSent.{DataByte, AreBytes, Transfer, seven_bit, ten_bit_write, ten_bit_read, IsTransfer}
-use Rattle.vcd_decode.specs.I2cSent.{ten_bits_of, SentByte, sent_byte, direction_bit, data_bytes, transfer_bytes}
+use Rattle.vcd_decode.specs.I2cSent.{DataByte, AreBytes, Transfer, seven_bit, ten_bit_write}
+use Rattle.vcd_decode.specs.I2cSent.{ten_bit_read, IsTransfer}
+use Rattle.vcd_decode.specs.I2cSent.{ten_bits_of, SentByte, sent_byte, direction_bit, data_bytes}
+use Rattle.vcd_decode.specs.I2cSent.{transfer_bytes}
 use Rattle.vcd_decode.specs.I2cSent.{byte_bits, acknowledge, sent_bytes}
 use Rattle.vcd_decode.proofs.Groups.{groups_short, groups_whole}
 use Rattle.vcd_decode.proofs.SentLevels.{level_cases}

@@ -1,6 +1,8 @@
 -- The sampling edges of a clock that sends words.
-use Rattle.std.proofs.Common.{◌≡◌, ℕ, zero, suc, ◌+◌, ◌-◌, ◌*◌, ◌/◌, ◌%◌, ◌<◌, ◌≤◌, ◌==◌, ◌||◌, ◌&&◌, Bool, true, false}
-use Rattle.std.proofs.Common.{if◌then◌else◌, inl, inr, List, [], ◌∷◌, ◌++◌, map, append_assoc, append-nil, refl, sym}
+use Rattle.std.proofs.Common.{◌≡◌, ℕ, zero, suc, ◌+◌, ◌-◌, ◌*◌, ◌/◌, ◌%◌, ◌<◌, ◌≤◌, ◌==◌, ◌||◌}
+use Rattle.std.proofs.Common.{◌&&◌, Bool, true, false}
+use Rattle.std.proofs.Common.{if◌then◌else◌, inl, inr, List, [], ◌∷◌, ◌++◌, map, append_assoc}
+use Rattle.std.proofs.Common.{append-nil, refl, sym}
 use Rattle.std.proofs.Common.{ap, ◌∙◌, arith}
 use Rattle.std.specs.List.{filter, flat_map, range_with_len}
 use Rattle.std.proofs.lemmas.Bool.{and_right, cases_eq, lt-ltb, le-ltb}
@@ -11,7 +13,8 @@ use Rattle.vcd_decode.specs.SpiSetup.{SpiSetup}
 use Rattle.vcd_decode.specs.Lines.{letter_before, is_zero, is_one}
 use Rattle.vcd_decode.specs.Spi.{has_sampling_edge}
 use Rattle.vcd_decode.specs.SentLevels.{level}
-use Rattle.vcd_decode.specs.SpiSent.{SpiWord, sent_clock, WordsFit, word_ticks, bit_start, bit_middle}
+use Rattle.vcd_decode.specs.SpiSent.{SpiWord, sent_clock, WordsFit, word_ticks, bit_start}
+use Rattle.vcd_decode.specs.SpiSent.{bit_middle}
 use Rattle.vcd_decode.proofs.SentLevels.{level_cases}
 
 -- ---- edges

@@ -1,6 +1,8 @@
 -- The frames of a line that sends frames are these.
-use Rattle.std.proofs.Common.{◌≡◌, ℕ, zero, suc, ◌+◌, ◌-◌, ◌*◌, ◌<◌, ◌≤◌, ◌&&◌, Bool, true, false, ◌⊎◌, inl, inr}
-use Rattle.std.proofs.Common.{Option, Some, List, [], ◌∷◌, map, length, get_or, refl, sym, ap, subst, ◌∙◌, arith}
+use Rattle.std.proofs.Common.{◌≡◌, ℕ, zero, suc, ◌+◌, ◌-◌, ◌*◌, ◌<◌, ◌≤◌, ◌&&◌, Bool, true, false}
+use Rattle.std.proofs.Common.{◌⊎◌, inl, inr}
+use Rattle.std.proofs.Common.{Option, Some, List, [], ◌∷◌, map, length, get_or, refl, sym, ap}
+use Rattle.std.proofs.Common.{subst, ◌∙◌, arith}
 use Rattle.std.specs.List.{filter, range_with_len}
 use Rattle.std.proofs.lemmas.Bool.{and_right, cases_lt, lt-ltb, le-ltb, lt-leb, le-leb}
 use Rattle.std.proofs.Math.Nat.{div-le_self}
@@ -8,16 +10,20 @@ use Rattle.vcd_core.specs.declared.bit.Bit.{Bit}
 use Rattle.vcd_core.specs.declared.bit.Bit.TheVariants.{Zero, One, X, Z}
 use Rattle.vcd_decode.specs.declared.annotation.Annotation.{Annotation}
 use Rattle.vcd_decode.specs.UartSetup.{UartSetup}
-use Rattle.vcd_decode.specs.SetupFaults.{IsUartSetup}
+use Rattle.vcd_decode.specs.SetupResults.{IsUartSetup}
 use Rattle.vcd_decode.specs.Lines.{letter_before, is_zero, is_one, annotation}
 use Rattle.vcd_decode.specs.inside.FallTicks.{is_fall}
-use Rattle.vcd_decode.specs.Uart.{falls, frames, begun_frame, uart_annotations, sample_offset, sample_tick, last_bit}
+use Rattle.vcd_decode.specs.Uart.{falls, frames, begun_frame, uart_annotations, sample_offset}
+use Rattle.vcd_decode.specs.Uart.{sample_tick, last_bit}
 use Rattle.vcd_decode.specs.Uart.{frame_kind, frame_letters}
-use Rattle.vcd_decode.specs.UartSent.{Flaw, flawless, wrong_parity, low_stop, SentFrame, sent_line, CanBeSent}
-use Rattle.vcd_decode.specs.UartSent.{sent_annotation, bit_offset, frame_ticks, frame_levels, idle_ticks}
+use Rattle.vcd_decode.specs.UartSent.{Flaw, flawless, wrong_parity, low_stop, SentFrame, sent_line}
+use Rattle.vcd_decode.specs.UartSent.{CanBeSent}
+use Rattle.vcd_decode.specs.UartSent.{sent_annotation, bit_offset, frame_ticks, frame_levels}
+use Rattle.vcd_decode.specs.UartSent.{idle_ticks}
 use Rattle.vcd_decode.proofs.BegunFrames.{whole}
 use Rattle.vcd_decode.proofs.SampleTicks.{offsets_rise}
-use Rattle.vcd_decode.proofs.SentBits.{bits_rise, sample_in_bit, sample_before_next, bit_held, later_levels}
+use Rattle.vcd_decode.proofs.SentBits.{bits_rise, sample_in_bit, sample_before_next, bit_held}
+use Rattle.vcd_decode.proofs.SentBits.{later_levels}
 use Rattle.vcd_decode.proofs.SentBits.{later_length, last_high, kind_of_sent, has_low_stop}
 
 -- ---- the walk over the falls of a line

@@ -1,5 +1,6 @@
 -- An I2C message that is sent is found.
-use Rattle.std.proofs.Common.{◌≡◌, ℕ, suc, ◌+◌, ◌*◌, true, Option, Some, None, List, [], ◌∷◌, ◌++◌, length}
+use Rattle.std.proofs.Common.{◌≡◌, ℕ, suc, ◌+◌, ◌*◌, true, Option, Some, None, List, [], ◌∷◌, ◌++◌}
+use Rattle.std.proofs.Common.{length}
 use Rattle.std.proofs.Common.{map, refl, sym, ap, ◌∙◌, arith}
 use Rattle.std.specs.List.{flat_map}
 use Rattle.std.specs.Option.{option_flatten}
@@ -14,9 +15,11 @@ use Rattle.vcd_decode.specs.declared.i2c_bus.events.BusEvent.TheVariants as even
 use Rattle.vcd_decode.specs.declared.i2c_bus.bytes.ByteRole.TheVariants as roles
 use Rattle.vcd_decode.specs.Lines.{annotation}
 use Rattle.vcd_decode.specs.Groups.{groups_of}
-use Rattle.vcd_decode.specs.I2c.{annotations_of_events, has_condition, bits_until, nines_annotations}
+use Rattle.vcd_decode.specs.I2c.{annotations_of_events, has_condition, bits_until}
+use Rattle.vcd_decode.specs.I2c.{nines_annotations}
 use Rattle.vcd_decode.specs.I2c.{shown_address, start_kind}
-use Rattle.vcd_decode.specs.I2cSent.{Transfer, IsTransfer, ten_bits_of, AreTransfers, transfer_bytes, levels}
+use Rattle.vcd_decode.specs.I2cSent.{Transfer, IsTransfer, ten_bits_of, AreTransfers}
+use Rattle.vcd_decode.specs.I2cSent.{transfer_bytes, levels}
 use Rattle.vcd_decode.specs.I2cSent.{bit_levels}
 use Rattle.vcd_decode.specs.I2cSent.{byte_bits, transfer_levels, later_levels, sent_bytes}
 use Rattle.vcd_decode.specs.I2cSent.{later_annotations}

@@ -1,6 +1,7 @@
 -- The words that are sent on a serial peripheral interface are found.
 use Rattle.std.proofs.Common.{◌≡◌, ℕ, zero, suc, length, ◌-◌, ◌/◌, ◌<◌, ◌≤◌, false}
-use Rattle.std.proofs.Common.{Option, None, List, [], ◌∷◌, ◌++◌, map, append-nil, refl, sym, ap, ◌∙◌, arith}
+use Rattle.std.proofs.Common.{Option, None, List, [], ◌∷◌, ◌++◌, map, append-nil, refl, sym, ap}
+use Rattle.std.proofs.Common.{◌∙◌, arith}
 use Rattle.std.specs.List.{filter, range_with_len}
 use Rattle.std.proofs.lemmas.Bool.Decides.{nat_tests}
 use Rattle.vcd_core.specs.declared.bit.Bit.{Bit}
@@ -16,7 +17,8 @@ use Rattle.vcd_decode.specs.SpiSent.{SpiWord, WordsFit, sent_clock, MaySendData,
 use Rattle.vcd_decode.specs.SpiSent.{sent_word_annotation}
 use Rattle.vcd_decode.specs.Laws.{SpiWordsAreFound, SpiPartIsFound}
 use Rattle.vcd_decode.proofs.Groups.{groups_none, groups_short}
-use Rattle.vcd_decode.proofs.SentClocks.{edge_of, no_edge_same, no_edge_x, middles, fits_until, words_walked}
+use Rattle.vcd_decode.proofs.SentClocks.{edge_of, no_edge_same, no_edge_x, middles, fits_until}
+use Rattle.vcd_decode.proofs.SentClocks.{words_walked}
 use Rattle.vcd_decode.proofs.SentClocks.{clock_before, clock_idle}
 use Rattle.vcd_decode.proofs.SentClocks.{nothing_follows, part_follows}
 use Rattle.vcd_decode.proofs.SentWords.{words_read, part_read, part_size}

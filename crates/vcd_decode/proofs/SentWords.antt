@@ -1,6 +1,8 @@
 -- The words that are read at the middles of their bits.
-use Rattle.std.proofs.Common.{◌≡◌, ℕ, zero, suc, ◌+◌, ◌-◌, ◌^◌, ◌<◌, false, Option, Some, None, List, [], ◌∷◌}
-use Rattle.std.proofs.Common.{◌++◌, map, length, reverse, get_or, append_assoc, refl, sym, ap, ◌∙◌, arith}
+use Rattle.std.proofs.Common.{◌≡◌, ℕ, zero, suc, ◌+◌, ◌-◌, ◌^◌, ◌<◌, false, Option, Some, None}
+use Rattle.std.proofs.Common.{List, [], ◌∷◌}
+use Rattle.std.proofs.Common.{◌++◌, map, length, reverse, get_or, append_assoc, refl, sym, ap, ◌∙◌}
+use Rattle.std.proofs.Common.{arith}
 use Rattle.std.specs.List.{flat_map, list_any, range_with_len, slice_index}
 use Rattle.std.proofs.lemmas.Bool.{lt-ltb, le-ltb}
 use Rattle.std.proofs.lemmas.List.{length-map, length-reverse, reverse-reverse}
@@ -16,7 +18,8 @@ use Rattle.vcd_decode.specs.Lines.{is_unclear, number_from_letters}
 use Rattle.vcd_decode.specs.Groups.{groups_of}
 use Rattle.vcd_decode.specs.Spi.{data_of_letters, line_data, group_annotation}
 use Rattle.vcd_decode.specs.SentLevels.{data_levels}
-use Rattle.vcd_decode.specs.SpiSent.{SpiWord, WordsFit, word_ticks, bit_middle, ordered_levels, SendsData, MaySendData}
+use Rattle.vcd_decode.specs.SpiSent.{SpiWord, WordsFit, word_ticks, bit_middle, ordered_levels}
+use Rattle.vcd_decode.specs.SpiSent.{SendsData, MaySendData}
 use Rattle.vcd_decode.specs.SpiSent.{sent_line_data, sent_word_annotation, sent_part_annotation}
 use Rattle.vcd_decode.proofs.SentLevels.{data_clear, data_length, number_of_data}
 use Rattle.vcd_decode.proofs.SentClocks.{middles}

@@ -1,6 +1,8 @@
 -- The group of some ticks of SPI: the group after one more tick, and its annotation.
-use Rattle.std.proofs.Common.{◌≡◌, ℕ, ◌+◌, ◌-◌, ◌*◌, ◌^◌, ◌<◌, ◌==◌, ◌||◌, Bool, true, false, if◌then◌else◌, Option}
-use Rattle.std.proofs.Common.{Some, None, List, [], ◌∷◌, ◌++◌, map, length, reverse, get_or, refl, sym, ap, ◌∙◌, arith}
+use Rattle.std.proofs.Common.{◌≡◌, ℕ, ◌+◌, ◌-◌, ◌*◌, ◌^◌, ◌<◌, ◌==◌, ◌||◌, Bool, true, false}
+use Rattle.std.proofs.Common.{if◌then◌else◌, Option}
+use Rattle.std.proofs.Common.{Some, None, List, [], ◌∷◌, ◌++◌, map, length, reverse, get_or, refl}
+use Rattle.std.proofs.Common.{sym, ap, ◌∙◌, arith}
 use Rattle.std.specs.List.{list_any}
 use Rattle.std.specs.Option.{is_some, option_map}
 use Rattle.std.proofs.Math.Nat.{pow-suc}
@@ -8,7 +10,8 @@ use Rattle.std.proofs.Math.Seq.{get_or-append_seam}
 use Rattle.std.proofs.lemmas.Bool.{lt-ltb, le-ltb}
 use Rattle.std.proofs.lemmas.Bool.Decides.{Decides-eqb}
 use Rattle.std.proofs.lemmas.List.Folds.{list_any-append}
-use Rattle.std.proofs.lemmas.List.{length-append, length-map, length-reverse, reverse-append, map-append}
+use Rattle.std.proofs.lemmas.List.{length-append, length-map, length-reverse, reverse-append}
+use Rattle.std.proofs.lemmas.List.{map-append}
 use Rattle.vcd_core.specs.declared.bit.Bit.{Bit}
 use Rattle.vcd_core.specs.declared.bit.Bit.TheVariants.{Zero, One, X, Z}
 use Rattle.vcd_core.specs.WaveView.{WaveView}
@@ -21,7 +24,8 @@ use Rattle.vcd_decode.specs.WaveLines.{line_of}
 use Rattle.vcd_decode.specs.Spi.{ordered_number, data_of_letters, line_data, group_annotation}
 use Rattle.vcd_decode.specs.inside.SpiParts.{group_start, group_end}
 use Rattle.vcd_decode.specs.inside.SpiParts.{segment_annotations}
-use Rattle.vcd_decode.specs.inside.SpiGroup.{longer_number, data_after, data_before, first_data, DataFits, group_before}
+use Rattle.vcd_decode.specs.inside.SpiGroup.{longer_number, data_after, data_before, first_data}
+use Rattle.vcd_decode.specs.inside.SpiGroup.{DataFits, group_before}
 use Rattle.vcd_decode.specs.inside.SpiGroup.{word_annotation, unfinished_annotation}
 use Rattle.vcd_decode.specs.inside.SpiWalk.{annotations_of_unfinished, tick_group}
 use Rattle.vcd_decode.proofs.Groups.{groups_none, groups_short}

@@ -1,8 +1,11 @@
 -- The walk over edges for SPI words: the annotations of an edge compared with those of all ticks.
-use Rattle.std.proofs.Common.{◌≡◌, ℕ, zero, suc, ◌+◌, ◌<◌, ◌==◌, ◌&&◌, Bool, true, false, cond, not, if◌then◌else◌}
-use Rattle.std.proofs.Common.{nat_lt, Option, Some, None, List, [], ◌∷◌, ◌++◌, map, length, refl, sym, ap, subst, ◌∙◌}
+use Rattle.std.proofs.Common.{◌≡◌, ℕ, zero, suc, ◌+◌, ◌<◌, ◌==◌, ◌&&◌, Bool, true, false, cond, not}
+use Rattle.std.proofs.Common.{if◌then◌else◌}
+use Rattle.std.proofs.Common.{nat_lt, Option, Some, None, List, [], ◌∷◌, ◌++◌, map, length, refl}
+use Rattle.std.proofs.Common.{sym, ap, subst, ◌∙◌}
 use Rattle.std.proofs.Common.{append_assoc, add-one, inl, inr, arith}
-use Rattle.std.specs.List.{filter, flat_map, onto_first, range_with_len, slice_split, AllByRecursion}
+use Rattle.std.specs.List.{filter, flat_map, onto_first, range_with_len, slice_split}
+use Rattle.std.specs.List.{AllByRecursion}
 use Rattle.std.specs.Option.{is_some, option_map}
 use Rattle.std.proofs.lemmas.Bool.{cases_lt, lt-ltb, le-ltb}
 use Rattle.std.proofs.lemmas.List.{append-nil}
@@ -12,7 +15,7 @@ use Rattle.vcd_core.specs.declared.bit_edges.BitEdge.{BitEdge}
 use Rattle.vcd_core.specs.WaveView.{WaveView}
 use Rattle.vcd_core.specs.BitEdges.{bit_edges_of}
 use Rattle.vcd_decode.specs.declared.annotation.Annotation.{Annotation}
-use Rattle.vcd_decode.specs.declared.spi_group.Group.{Group}
+use Rattle.vcd_decode.specs.declared.partial_word.PartialWord.{PartialWord}
 use Rattle.vcd_decode.specs.SpiSetup.{SpiSetup}
 use Rattle.vcd_decode.specs.Lines.{letter_before, is_zero, is_one}
 use Rattle.vcd_decode.specs.WaveLines.{line_of}
@@ -22,15 +25,19 @@ use Rattle.vcd_decode.specs.Spi.{spi_annotations}
 use Rattle.vcd_decode.specs.inside.SpiParts.{segment_annotations}
 use Rattle.vcd_decode.specs.inside.LineEdges.{lines_of, line_edge}
 use Rattle.vcd_decode.specs.inside.SpiClock.{is_present_and, samples_at}
-use Rattle.vcd_decode.specs.inside.SpiGroup.{line_bit, first_data, data_after, group_before, group_after}
+use Rattle.vcd_decode.specs.inside.SpiGroup.{line_bit, first_data, data_after, group_before}
+use Rattle.vcd_decode.specs.inside.SpiGroup.{group_after}
 use Rattle.vcd_decode.specs.inside.SpiGroup.{word_annotation}
-use Rattle.vcd_decode.specs.inside.SpiWalk.{selects_chip, deselects_chip, is_sampling, annotations_of_unfinished}
+use Rattle.vcd_decode.specs.inside.SpiWalk.{selects_chip, deselects_chip, is_sampling}
+use Rattle.vcd_decode.specs.inside.SpiWalk.{annotations_of_unfinished}
 use Rattle.vcd_decode.specs.inside.SpiWalk.{annotations_at_edge}
-use Rattle.vcd_decode.specs.inside.SpiWalk.{edge_group, tick_group, edge_marks, annotations_at_marks, HasRoomForBit}
+use Rattle.vcd_decode.specs.inside.SpiWalk.{edge_group, tick_group, edge_marks}
+use Rattle.vcd_decode.specs.inside.SpiWalk.{annotations_at_marks, HasRoomForBit}
 use Rattle.vcd_decode.specs.inside.SpiWalk.{SpiProgress}
 use Rattle.vcd_decode.proofs.Groups.{groups_none, groups_whole}
 use Rattle.vcd_decode.proofs.EdgeTicks.{each_edge, over_edges}
-use Rattle.vcd_decode.proofs.SpiGroups.{group_last, group_none, length_last, line_first, line_fits, rest_is, word_is}
+use Rattle.vcd_decode.proofs.SpiGroups.{group_last, group_none, length_last, line_first, line_fits}
+use Rattle.vcd_decode.proofs.SpiGroups.{rest_is, word_is}
 
 -- ---- a whole word in front of the rest
 
@@ -52,7 +59,7 @@ module _ (u : SpiSetup) (some : 0 < u.bits) (mosi miso : Option (ℕ → Bit)) w
 
   -- ---- the group of some ticks after an edge: the marks that the edge adds give the same
 
-  pub record IsClockStep (divides reads : Bool) (longer : Group) (t : ℕ) (ts : List ℕ)
+  pub record IsClockStep (divides reads : Bool) (longer : PartialWord) (t : ℕ) (ts : List ℕ)
       (marks : List (Option ℕ)) : Type 0 where
     pub after : List ℕ
     pub short : length after < u.bits
@@ -65,7 +72,7 @@ module _ (u : SpiSetup) (some : 0 < u.bits) (mosi miso : Option (ℕ → Bit)) w
         ≡ annotations_at_marks u mosi miso ts ((if divides then None ∷ [] else (if reads then Some t ∷ [] else []))
         ++ marks)
 
-  clock_step : (divides reads : Bool) (longer : Group) (t : ℕ) (ts : List ℕ) (marks : List (Option ℕ))
+  clock_step : (divides reads : Bool) (longer : PartialWord) (t : ℕ) (ts : List ℕ) (marks : List (Option ℕ))
       → length ts < u.bits
       → longer ≡ tick_group u mosi miso (ts ++ t ∷ []) → IsClockStep divides reads longer t ts marks
   unfolding annotations_at_marks
@@ -108,7 +115,7 @@ module _ (u : SpiSetup) (some : 0 < u.bits) (mosi miso : Option (ℕ → Bit)) w
     abbrev lines : List (Option (ℕ → Bit))
     lines = Some clk ∷ mosi ∷ miso ∷ cs ∷ []
 
-    abbrev SoFar : List Annotation → List Annotation → Group → List BitEdge → Type 0
+    abbrev SoFar : List Annotation → List Annotation → PartialWord → List BitEdge → Type 0
     SoFar all found g left = SpiProgress u clk mosi miso cs all found g left
 
     longer_is : (e : BitEdge) (ts : List ℕ) → e ≡ line_edge lines e.tick
@@ -134,7 +141,7 @@ module _ (u : SpiSetup) (some : 0 < u.bits) (mosi miso : Option (ℕ → Bit)) w
 
     -- ---- the loop
 
-    pub so_far_more : (all found more : List Annotation) (g next : Group) (left rest : List BitEdge) (e : BitEdge)
+    pub so_far_more : (all found more : List Annotation) (g next : PartialWord) (left rest : List BitEdge) (e : BitEdge)
         → SoFar all found g left → left ≡ e ∷ rest
         → more ≡ found ++ annotations_at_edge u g e → next ≡ edge_group u g e → SoFar all more next rest
     unfolding edge_marks
@@ -149,11 +156,11 @@ module _ (u : SpiSetup) (some : 0 < u.bits) (mosi miso : Option (ℕ → Bit)) w
         record {
           ticks = step.after;
           short = step.short;
-          is_group = grown ∙ ap (λ (x : Group). edge_group u x e) so_far.is_group ∙ step.group;
+          is_group = grown ∙ ap (λ (x : PartialWord). edge_group u x e) so_far.is_group ∙ step.group;
           each = each.1;
           rest =
               ap (λ xs. xs ++ annotations_at_marks u mosi miso step.after marks) (appended
-              ∙ ap (λ (x : Group). found ++ annotations_at_edge u x e) so_far.is_group)
+              ∙ ap (λ (x : PartialWord). found ++ annotations_at_edge u x e) so_far.is_group)
               ∙ append_assoc found (annotations_at_edge u (tick_group u mosi miso ts) e)
               (annotations_at_marks u mosi miso step.after marks)
               ∙ ap (λ xs. found ++ xs) step.appended
@@ -161,19 +168,20 @@ module _ (u : SpiSetup) (some : 0 < u.bits) (mosi miso : Option (ℕ → Bit)) w
         }
 
     -- at the end the rest is annotated
-    pub so_far_ends : (all found more : List Annotation) (g : Group) (left : List BitEdge) → SoFar all found g left
+    pub so_far_ends : (all found more : List Annotation) (g : PartialWord) (left : List BitEdge)
+        → SoFar all found g left
         → left ≡ [] → more ≡ found ++ annotations_of_unfinished g → more ≡ all
     unfolding annotations_at_marks
     so_far_ends all found more g left so_far over appended =
         let ts = so_far.ticks in
-        appended ∙ ap (λ (x : Group). found ++ annotations_of_unfinished x) so_far.is_group
+        appended ∙ ap (λ (x : PartialWord). found ++ annotations_of_unfinished x) so_far.is_group
         ∙ ap (λ xs. found ++ xs) (rest_is u mosi miso ts so_far.short)
         ∙ ap (λ (es : List BitEdge). found ++ annotations_at_marks u mosi miso ts (flat_map (edge_marks u) es))
         (sym over)
         ∙ so_far.rest
 
     -- the group has room for one more bit
-    pub so_far_open : (all found : List Annotation) (g : Group) (left : List BitEdge) → SoFar all found g left
+    pub so_far_open : (all found : List Annotation) (g : PartialWord) (left : List BitEdge) → SoFar all found g left
         → HasRoomForBit u g
     so_far_open all found g left so_far =
         let ts = so_far.ticks in
@@ -324,7 +332,7 @@ still u e same =
 -- before the first edge everything is left
 pub so_far_none : (u : SpiSetup) → 0 < u.bits
     → (w : WaveView) (mosi miso cs : Option WaveView) (end : ℕ) (es : List BitEdge) (found : List Annotation)
-    (g : Group) (out back : Bool)
+    (g : PartialWord) (out back : Bool)
     → es ≡ bit_edges_of (Some w ∷ mosi ∷ miso ∷ cs ∷ []) end → found ≡ [] → out ≡ is_some mosi → back ≡ is_some miso
     → g ≡ record { start = 0; last = 0; count = 0; mosi = first_data out; miso = first_data back }
     → SpiProgress u (line_of w) (option_map line_of mosi) (option_map line_of miso) (option_map line_of cs)

@@ -1,9 +1,11 @@
--- The bytes of an I2C bus: addresses of seven and of ten bits, data, acknowledges (UM10204, 3.1.5, 3.1.6, 3.1.10 and
--- 3.1.11).
-use Rattle.std.specs.Prelude.{ℕ, zero, suc, ◌+◌, ◌*◌, ◌/◌, ◌%◌, ◌==◌, Bool, Option, Some, None, List}
+-- The bytes of an I2C bus: addresses of seven and of ten bits, data, acknowledges (UM10204, 3.1.5,
+-- 3.1.6, 3.1.10 and 3.1.11).
+use Rattle.std.specs.Prelude.{ℕ, zero, suc, ◌+◌, ◌*◌, ◌/◌, ◌%◌, ◌==◌, Bool, Option, Some, None}
+use Rattle.std.specs.Prelude.{List}
 use Rattle.std.specs.Prelude.{fold}
 use Rattle.vcd_decode.specs.declared.annotation.Kind.{Kind}
-use Rattle.vcd_decode.specs.declared.annotation.Kind.TheVariants.{Unknown, Address, AddressHigh, TenBitAddress, Ack}
+use Rattle.vcd_decode.specs.declared.annotation.Kind.TheVariants.{Unknown, Address, AddressHigh}
+use Rattle.vcd_decode.specs.declared.annotation.Kind.TheVariants.{TenBitAddress, Ack}
 use Rattle.vcd_decode.specs.declared.annotation.Kind.TheVariants.{Nack}
 use Rattle.vcd_decode.specs.declared.annotation.Kind.TheVariants as kinds
 use Rattle.vcd_decode.specs.declared.annotation.Direction.{Direction}
@@ -39,7 +41,8 @@ is_ten_bit n = n / 8 == 30
 abbrev pub high_bits : ℕ → ℕ
 high_bits n = n / 2 % 4
 
--- the kind of an address of ten bits: a read at the address just before the START, if it has the same high bits
+-- the kind of an address of ten bits: a read at the address just before the START, if it has the
+-- same high bits
 abbrev pub ten_bit_kind : Option ℕ → ℕ → Direction → Kind
 ten_bit_kind (Some a) high Read = if a / 256 == high then TenBitAddress a Read
     else AddressHigh high Read

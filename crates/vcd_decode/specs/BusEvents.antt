@@ -1,4 +1,5 @@
--- The events on the two lines of an I2C bus at each tick: conditions and bits (UM10204, 3.1.3 and 3.1.4).
+-- The events on the two lines of an I2C bus at each tick: conditions and bits (UM10204, 3.1.3 and
+-- 3.1.4).
 use Rattle.std.specs.Prelude.{ℕ, suc, Bool, true, false, ◌&&◌, Option, Some, None, List, filter_map}
 use Rattle.std.specs.List.{range_with_len}
 use Rattle.vcd_core.specs.declared.bit.Bit.{Bit}
@@ -24,7 +25,8 @@ abbrev pub is_stop_at : (scl sda : ℕ → Bit) → ℕ → Bool
 is_stop_at scl sda t = is_line_high (letter_before scl t) && is_line_high (scl t)
     && is_zero (letter_before sda t) && is_line_high (sda t)
 
--- the event at a tick: a condition, or a bit where SCL goes from low to high, which has the level of SDA
+-- the event at a tick: a condition, or a bit where SCL goes from low to high, which has the level
+-- of SDA
 abbrev pub bus_event_at : (scl sda : ℕ → Bit) → ℕ → Option BusEvent
 bus_event_at scl sda t = if is_start_at scl sda t then Some (events.Start t)
     else (if is_stop_at scl sda t then Some (events.Stop t)

@@ -1,5 +1,7 @@
--- The annotations of an I2C bus (UM10204, 3.1); those of rests and unclear levels are the project's own.
-use Rattle.std.specs.Prelude.{ℕ, ◌-◌, ◌==◌, ◌&&◌, nat_le, Bool, true, false, Option, Some, None, List, []}
+-- The annotations of an I2C bus (UM10204, 3.1); those of rests and unclear levels are the project's
+-- own.
+use Rattle.std.specs.Prelude.{ℕ, ◌-◌, ◌==◌, ◌&&◌, nat_le, Bool, true, false, Option, Some, None}
+use Rattle.std.specs.Prelude.{List, []}
 use Rattle.std.specs.Prelude.{◌∷◌, ◌++◌, length, take, drop, map, slice_index}
 use Rattle.std.specs.Option.{option_or, option_flatten}
 use Rattle.vcd_core.specs.declared.bit.Bit.{Bit}
@@ -14,7 +16,8 @@ use Rattle.vcd_decode.specs.declared.i2c_bus.bytes.ByteRole.TheVariants as roles
 use Rattle.vcd_decode.specs.Lines.{annotation}
 use Rattle.vcd_decode.specs.Groups.{groups_of}
 use Rattle.vcd_decode.specs.BusEvents.{bus_events}
-use Rattle.vcd_decode.specs.BusBytes.{number_of_bits, byte_kind, role_after, acknowledge_kind, ten_bit_address}
+use Rattle.vcd_decode.specs.BusBytes.{number_of_bits, byte_kind, role_after, acknowledge_kind}
+use Rattle.vcd_decode.specs.BusBytes.{ten_bit_address}
 use Rattle.std.specs.Prelude.{if◌then◌else◌}
 
 -- ---- the bits from a START to the next condition
@@ -37,7 +40,7 @@ byte_annotations role nine =
 -- a rest: at least two bits that a condition ends, including the rise of SCL before that condition
 abbrev pub rest_annotations : Bool → List BusBit → List Annotation
 rest_annotations ended rest = if ended && nat_le 2 (length rest)
-    then bits_annotation rest (kinds.PartialOf (length rest)) ∷ [] else []
+    then bits_annotation rest (kinds.Unfinished (length rest)) ∷ [] else []
 
 -- the bits up to a condition, cut into nines: a byte and its acknowledge each, and a rest
 unfoldable pub nines_annotations : Bool → ByteRole → List (List BusBit) → List Annotation
@@ -71,8 +74,8 @@ abbrev pub start_kind : Option (Option ℕ) → Kind
 start_kind None = kinds.Start
 start_kind (Some given) = kinds.RepeatedStart
 
--- the annotations of conditions and bits; `last` is none unless the condition before them was a START, and has the
--- address of ten bits after it
+-- the annotations of conditions and bits; `last` is none unless the condition before them was a
+-- START, and has the address of ten bits after it
 unfoldable pub annotations_of_events : Option (Option ℕ) → List BusEvent → List Annotation
 annotations_of_events last [] = []
 annotations_of_events last (events.Bit b ∷ es) = annotations_of_events last es

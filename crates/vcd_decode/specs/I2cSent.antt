@@ -1,5 +1,7 @@
--- The lines that a controller and its targets drive on an I2C bus (UM10204, 3.1): what `I2c` is to give back.
-use Rattle.std.specs.Prelude.{ℕ, suc, ◌+◌, ◌*◌, ◌/◌, ◌%◌, ◌<◌, ◌≤◌, ◌≡◌, ◌≢◌, Bool, if◌then◌else◌, List, [], ◌∷◌, ◌++◌}
+-- The lines that a controller and its targets drive on an I2C bus (UM10204, 3.1): what `I2c` is to
+-- give back.
+use Rattle.std.specs.Prelude.{ℕ, suc, ◌+◌, ◌*◌, ◌/◌, ◌%◌, ◌<◌, ◌≤◌, ◌≡◌, ◌≢◌, Bool, if◌then◌else◌}
+use Rattle.std.specs.Prelude.{List, [], ◌∷◌, ◌++◌}
 use Rattle.std.specs.Prelude.{map, reverse, get_or, length, ⊤, Option, Some, None}
 use Rattle.std.specs.List.{flat_map}
 use Rattle.vcd_core.specs.declared.bit.Bit.{Bit}
@@ -20,8 +22,8 @@ pub record DataByte : Type 0 where
   pub byte : ℕ
   pub taken : Bool
 
--- what follows a START: an address, whether each of its bytes is taken, and data. A read from an address of ten bits
--- sends its first byte alone (UM10204, 3.1.10 and 3.1.11)
+-- what follows a START: an address, whether each of its bytes is taken, and data. A read from an
+-- address of ten bits sends its first byte alone (UM10204, 3.1.10 and 3.1.11)
 pub data Transfer : Type 0 where
   seven_bit : (address : ℕ) → Direction → (taken : Bool) → List DataByte → Transfer
   ten_bit_write : (address : ℕ) → (high_taken low_taken : Bool) → List DataByte → Transfer
@@ -32,12 +34,15 @@ unfoldable pub AreBytes : List DataByte → Type 0
 AreBytes [] = ⊤
 AreBytes (b ∷ bs) = (b.byte < 256) × AreBytes bs
 
--- a transfer after one with this address of ten bits, or after none: no address of seven bits begins with 11110, and a
--- read from ten bits follows a transfer with the same address
+-- a transfer after one with this address of ten bits, or after none: no address of seven bits
+-- begins with 11110, and a read from ten bits follows a transfer with the same address
 abbrev pub IsTransfer : Option ℕ → Transfer → Type 0
-IsTransfer given (seven_bit address direction taken bytes) = (address < 128) × (address / 4 ≢ 30) × AreBytes bytes
-IsTransfer given (ten_bit_write address high_taken low_taken bytes) = (address < 1024) × AreBytes bytes
-IsTransfer given (ten_bit_read address taken bytes) = (address < 1024) × (given ≡ Some address) × AreBytes bytes
+IsTransfer given (seven_bit address direction taken bytes) = (address < 128) × (address / 4 ≢ 30)
+    × AreBytes bytes
+IsTransfer given (ten_bit_write address high_taken low_taken bytes) = (address < 1024)
+    × AreBytes bytes
+IsTransfer given (ten_bit_read address taken bytes) = (address < 1024) × (given ≡ Some address)
+    × AreBytes bytes
 
 -- the address of ten bits of a transfer, if it has one
 abbrev pub ten_bits_of : Transfer → Option ℕ
@@ -71,15 +76,18 @@ direction_bit Read = 1
 abbrev pub data_bytes : List DataByte → List SentByte
 data_bytes bytes = map (λ b. sent_byte b.byte b.taken (kinds.Data b.byte)) bytes
 
--- the bytes of a transfer: seven bits and the direction, or 11110, the two high bits of ten and the direction
+-- the bytes of a transfer: seven bits and the direction, or 11110, the two high bits of ten and the
+-- direction
 abbrev pub transfer_bytes : Transfer → List SentByte
 transfer_bytes (seven_bit address direction taken bytes) =
-    sent_byte (2 * address + direction_bit direction) taken (kinds.Address address direction) ∷ data_bytes bytes
+    sent_byte (2 * address + direction_bit direction) taken (kinds.Address address direction)
+    ∷ data_bytes bytes
 transfer_bytes (ten_bit_write address high_taken low_taken bytes) =
     sent_byte (240 + 2 * (address / 256)) high_taken (kinds.AddressHigh (address / 256) Write)
     ∷ sent_byte (address % 256) low_taken (kinds.TenBitAddress address Write) ∷ data_bytes bytes
 transfer_bytes (ten_bit_read address taken bytes) =
-    sent_byte (241 + 2 * (address / 256)) taken (kinds.TenBitAddress address Read) ∷ data_bytes bytes
+    sent_byte (241 + 2 * (address / 256)) taken (kinds.TenBitAddress address Read)
+    ∷ data_bytes bytes
 
 -- ---- the levels of both lines
 
@@ -99,7 +107,8 @@ stop_levels = levels Zero Zero ∷ levels One Zero ∷ levels One One ∷ []
 abbrev pub bit_levels : Bit → List BusLevels
 bit_levels b = levels Zero b ∷ levels One b ∷ levels Zero b ∷ []
 
--- the eight bits of a byte, the most significant first, and its acknowledge: low if it is taken (UM10204, 3.1.5, 3.1.6)
+-- the eight bits of a byte, the most significant first, and its acknowledge: low if it is taken
+-- (UM10204, 3.1.5, 3.1.6)
 abbrev pub byte_bits : SentByte → List Bit
 byte_bits b = reverse (data_levels 8 b.byte) ++ (if b.taken then Zero else One) ∷ []
 
@@ -107,7 +116,8 @@ byte_bits b = reverse (data_levels 8 b.byte) ++ (if b.taken then Zero else One) 
 abbrev pub transfer_levels : Transfer → List BusLevels
 transfer_levels t = start_levels ++ flat_map bit_levels (flat_map byte_bits (transfer_bytes t))
 
--- what follows the bits of a transfer: a repeated START, for which SDA rises while SCL is low, or a STOP
+-- what follows the bits of a transfer: a repeated START, for which SDA rises while SCL is low, or a
+-- STOP
 unfoldable pub later_levels : List Transfer → List BusLevels
 later_levels [] = stop_levels
 later_levels (t ∷ ts) = levels Zero One ∷ transfer_levels t ++ later_levels ts
@@ -116,7 +126,8 @@ later_levels (t ∷ ts) = levels Zero One ∷ transfer_levels t ++ later_levels 
 abbrev pub message_levels : Transfer → List Transfer → List BusLevels
 message_levels t ts = transfer_levels t ++ later_levels ts
 
--- the lines have one of these levels after the other, that at index i from the tick `at i` to before `at (suc i)`
+-- the lines have one of these levels after the other, that at index i from the tick `at i` to
+-- before `at (suc i)`
 abbrev pub HaveLevels : (scl sda : ℕ → Bit) → (at : ℕ → ℕ) → List BusLevels → Type 0
 HaveLevels scl sda at all =
     (i t : ℕ) → i < length all → at i ≤ t → t < at (suc i)
@@ -128,24 +139,28 @@ HaveLevels scl sda at all =
 abbrev pub acknowledge : Bool → Kind
 acknowledge taken = if taken then kinds.Ack else kinds.Nack
 
--- bytes whose levels begin at index i: each from the rise of SCL in its first bit to that in its eighth, and the
--- acknowledge at its own
+-- bytes whose levels begin at index i: each from the rise of SCL in its first bit to that in its
+-- eighth, and the acknowledge at its own
 unfoldable pub sent_bytes : (ℕ → ℕ) → ℕ → List SentByte → List Annotation
 sent_bytes at i [] = []
 sent_bytes at i (b ∷ bs) =
-    annotation (at (i + 1)) (at (i + 22)) b.kind ∷ annotation (at (i + 25)) (at (i + 25)) (acknowledge b.taken)
+    annotation (at (i + 1)) (at (i + 22)) b.kind
+    ∷ annotation (at (i + 25)) (at (i + 25)) (acknowledge b.taken)
     ∷ sent_bytes at (i + 27) bs
 
 -- a START and the bytes of a transfer
 abbrev pub sent_transfer : (ℕ → ℕ) → ℕ → Kind → Transfer → List Annotation
-sent_transfer at i start t = annotation (at (i + 1)) (at (i + 1)) start ∷ sent_bytes at (i + 3) (transfer_bytes t)
+sent_transfer at i start t =
+    annotation (at (i + 1)) (at (i + 1)) start ∷ sent_bytes at (i + 3) (transfer_bytes t)
 
 -- repeated STARTs with their transfers, and a STOP
 unfoldable pub later_annotations : (ℕ → ℕ) → ℕ → List Transfer → List Annotation
 later_annotations at i [] = annotation (at (i + 2)) (at (i + 2)) kinds.Stop ∷ []
 later_annotations at i (t ∷ ts) =
-    sent_transfer at (i + 1) kinds.RepeatedStart t ++ later_annotations at (i + 1 + length (transfer_levels t)) ts
+    sent_transfer at (i + 1) kinds.RepeatedStart t
+    ++ later_annotations at (i + 1 + length (transfer_levels t)) ts
 
 -- a whole message
 abbrev pub message_annotations : (ℕ → ℕ) → Transfer → List Transfer → List Annotation
-message_annotations at t ts = sent_transfer at 0 kinds.Start t ++ later_annotations at (length (transfer_levels t)) ts
+message_annotations at t ts =
+    sent_transfer at 0 kinds.Start t ++ later_annotations at (length (transfer_levels t)) ts

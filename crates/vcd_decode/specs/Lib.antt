@@ -4,6 +4,7 @@ pub mod Lines
 pub mod WaveLines
 pub mod UartSetup
 pub mod SetupFaults
+pub mod SetupResults
 pub mod Uart
 pub mod SentLevels
 pub mod UartSent

@@ -1,9 +1,9 @@
 -- The faults of setups: the project's own.
-use Rattle.std.specs.Prelude.{ℕ, ◌≡◌, ◌≤◌, ◌*◌, ◌&&◌, not, nat_lt, Option, Some, None}
-use Rattle.std.specs.Prelude.{Result, MatchResult}
+use Rattle.std.specs.Prelude.{◌*◌, ◌&&◌, not, nat_lt, Option, Some, None}
 use Rattle.vcd_decode.specs.declared.uart_setup.TheConstants.{RATIO_LIMIT}
 use Rattle.vcd_decode.specs.declared.setup_error.SetupError.{SetupError}
-use Rattle.vcd_decode.specs.declared.setup_error.SetupError.TheVariants.{BadRatio, BitTooShort, BadData, BadStop}
+use Rattle.vcd_decode.specs.declared.setup_error.SetupError.TheVariants.{BadRatio, BitTooShort}
+use Rattle.vcd_decode.specs.declared.setup_error.SetupError.TheVariants.{BadData, BadStop}
 use Rattle.vcd_decode.specs.UartSetup.{UartSetup, is_between}
 use Rattle.std.specs.Prelude.{nat_le}
 use Rattle.vcd_decode.specs.declared.setup_error.SetupError.TheVariants.{BadMode, BadBits}
@@ -20,17 +20,6 @@ uart_fault u =
     else (if not (is_between 5 9 u.data_bits) then Some BadData
     else (if not (is_between 1 2 u.stop_bits) then Some BadStop
     else None)))
-
--- the result of making a setup, by its fault
-abbrev pub SetupFaultIs : {T : Type 0} → Result T SetupError → Option SetupError → Type 0
-SetupFaultIs answer found = MatchResult answer (λ _. found ≡ None) (λ fault. found ≡ Some fault)
-
--- the numbers of a setup without a fault
-abbrev pub IsUartSetup : ℕ → ℕ → ℕ → ℕ → Type 0
-IsUartSetup numerator denominator data_bits stop_bits =
-    (numerator ≤ RATIO_LIMIT) × (1 ≤ denominator) × (denominator ≤ RATIO_LIMIT)
-    × (2 * denominator ≤ numerator)
-    × (5 ≤ data_bits) × (data_bits ≤ 9) × (1 ≤ stop_bits) × (stop_bits ≤ 2)
 
 -- the first fault of a setup, or none
 abbrev pub spi_fault : SpiSetup → Option SetupError

@@ -1,23 +1,26 @@
--- The words of a serial peripheral interface. The edge at which a mode samples is the field's common rule (clock
--- polarity and phase). How ticks are cut into words is the project's own.
-use Rattle.std.specs.Prelude.{ℕ, suc, ◌-◌, ◌==◌, ◌&&◌, ◌||◌, nat_lt, Bool, true, not, Option, Some, None}
+-- The words of a serial peripheral interface. The edge at which a mode samples is the field's
+-- common rule (clock polarity and phase). How ticks are cut into words is the project's own.
+use Rattle.std.specs.Prelude.{ℕ, suc, ◌-◌, ◌==◌, ◌&&◌, ◌||◌, nat_lt, Bool, true, not, Option, Some}
+use Rattle.std.specs.Prelude.{None}
 use Rattle.std.specs.Prelude.{List, map, filter, length, reverse, slice_index}
 use Rattle.std.specs.List.{flat_map, list_any, range_with_len, slice_split}
 use Rattle.vcd_core.specs.declared.bit.Bit.{Bit}
 use Rattle.vcd_decode.specs.declared.annotation.Annotation.{Annotation}
-use Rattle.vcd_decode.specs.declared.annotation.Kind.TheVariants.{Word, PartialOf}
+use Rattle.vcd_decode.specs.declared.annotation.Kind.TheVariants.{Word, Unfinished}
 use Rattle.vcd_decode.specs.declared.annotation.LineData.{LineData}
 use Rattle.vcd_decode.specs.declared.annotation.LineData.TheVariants.{Absent, Unknown, Number}
 use Rattle.vcd_decode.specs.declared.spi_setup.BitOrder.{BitOrder}
 use Rattle.vcd_decode.specs.declared.spi_setup.BitOrder.TheVariants.{Msb, Lsb}
 use Rattle.vcd_decode.specs.SpiSetup.{SpiSetup}
 use Rattle.vcd_decode.specs.Groups.{groups_of}
-use Rattle.vcd_decode.specs.Lines.{letter_before, is_zero, is_one, is_unclear, number_from_letters, annotation}
+use Rattle.vcd_decode.specs.Lines.{letter_before, is_zero, is_one, is_unclear, number_from_letters}
+use Rattle.vcd_decode.specs.Lines.{annotation}
 use Rattle.std.specs.Prelude.{if◌then◌else◌}
 
 -- ---- the sampling ticks
 
--- whether the clock has the mode's edge at a tick: in the modes 0 and 3 it rises, in 1 and 2 it falls
+-- whether the clock has the mode's edge at a tick: in the modes 0 and 3 it rises, in 1 and 2 it
+-- falls
 abbrev pub has_sampling_edge : (mode : ℕ) → (clk : ℕ → Bit) → ℕ → Bool
 has_sampling_edge mode clk t =
     if mode == 0 || mode == 3 then is_zero (letter_before clk t) && is_one (clk t)
@@ -54,7 +57,7 @@ line_data order (Some f) ticks = data_of_letters order (map f ticks)
 abbrev pub group_annotation : SpiSetup → (mosi miso : Option (ℕ → Bit)) → List ℕ → Annotation
 group_annotation u mosi miso ticks =
     annotation (slice_index ticks 0) (slice_index ticks (length ticks - 1))
-    (if nat_lt (length ticks) u.bits then PartialOf (length ticks)
+    (if nat_lt (length ticks) u.bits then Unfinished (length ticks)
     else Word (line_data u.order mosi ticks) (line_data u.order miso ticks))
 
 -- the annotations of lines with these letters at each tick, up to the capture's end

@@ -1,17 +1,22 @@
--- The frames of an asynchronous serial line. A frame is a start bit 0, data bits, the least significant first, perhaps
--- a parity bit, and stop bits 1 (ISO 1177). Its beginning and its sample ticks are the project's own.
-use Rattle.std.specs.Prelude.{ℕ, suc, ◌+◌, ◌*◌, ◌/◌, ◌%◌, ◌==◌, ◌&&◌, nat_lt, nat_le, Bool, false, not, []}
-use Rattle.std.specs.Prelude.{Option, Some, None, List, ◌∷◌, ◌++◌, map, filter, take, drop, count_by}
+-- The frames of an asynchronous serial line. A frame is a start bit 0, data bits, the least
+-- significant first, perhaps a parity bit, and stop bits 1 (ISO 1177). Its beginning and its sample
+-- ticks are the project's own.
+use Rattle.std.specs.Prelude.{ℕ, suc, ◌+◌, ◌*◌, ◌/◌, ◌%◌, ◌==◌, ◌&&◌, nat_lt, nat_le, Bool, false}
+use Rattle.std.specs.Prelude.{not, []}
+use Rattle.std.specs.Prelude.{Option, Some, None, List, ◌∷◌, ◌++◌, map, filter, take, drop}
+use Rattle.std.specs.Prelude.{count_by}
 use Rattle.std.specs.List.{list_any, range_with_len}
 use Rattle.std.specs.Option.{option_map_or, option_to_list}
 use Rattle.vcd_core.specs.declared.bit.Bit.{Bit}
 use Rattle.vcd_decode.specs.declared.annotation.Annotation.{Annotation}
 use Rattle.vcd_decode.specs.declared.annotation.Kind.{Kind}
-use Rattle.vcd_decode.specs.declared.annotation.Kind.TheVariants.{Byte, ParityError, FrameError, Unknown, Partial}
+use Rattle.vcd_decode.specs.declared.annotation.Kind.TheVariants.{Byte, ParityError, FrameError}
+use Rattle.vcd_decode.specs.declared.annotation.Kind.TheVariants.{Unknown, CutOff}
 use Rattle.vcd_decode.specs.declared.uart_setup.Parity.{Parity}
 use Rattle.vcd_decode.specs.declared.uart_setup.Parity.TheVariants as parities
 use Rattle.vcd_decode.specs.UartSetup.{UartSetup}
-use Rattle.vcd_decode.specs.Lines.{letter_before, is_zero, is_one, is_unclear, number_from_letters, annotation}
+use Rattle.vcd_decode.specs.Lines.{letter_before, is_zero, is_one, is_unclear, number_from_letters}
+use Rattle.vcd_decode.specs.Lines.{annotation}
 use Rattle.std.specs.Prelude.{if◌then◌else◌}
 
 -- ---- where a frame is sampled
@@ -49,7 +54,8 @@ is_parity_wrong parities.None ones = false
 is_parity_wrong parities.Even ones = ones % 2 == 1
 is_parity_wrong parities.Odd ones = ones % 2 == 0
 
--- the kind of a frame with these letters: `Unknown` outranks `FrameError`, and that outranks `ParityError`
+-- the kind of a frame with these letters: `Unknown` outranks `FrameError`, and that outranks
+-- `ParityError`
 abbrev pub frame_kind : UartSetup → List Bit → Kind
 frame_kind u letters =
     if list_any is_unclear letters then Unknown
@@ -58,13 +64,13 @@ frame_kind u letters =
     then ParityError (number_from_letters (take u.data_bits letters))
     else Byte (number_from_letters (take u.data_bits letters))))
 
--- the frame that a fall at the tick `start` begins, cut off at the capture's end; none if the line is not 0 in the
--- middle of the start bit
+-- the frame that a fall at the tick `start` begins, cut off at the capture's end; none if the line
+-- is not 0 in the middle of the start bit
 unfoldable pub begun_frame : (ℕ → Bit) → ℕ → UartSetup → ℕ → Option Annotation
 begun_frame f end u start =
-    if nat_lt end (sample_tick u start 0) then Some (annotation start end Partial)
+    if nat_lt end (sample_tick u start 0) then Some (annotation start end CutOff)
     else (if not (is_zero (f (sample_tick u start 0))) then None
-    else (if nat_lt end (sample_tick u start (last_bit u)) then Some (annotation start end Partial)
+    else (if nat_lt end (sample_tick u start (last_bit u)) then Some (annotation start end CutOff)
     else Some (annotation start (sample_tick u start (last_bit u))
     (frame_kind u (frame_letters f u start)))))
 
@@ -74,7 +80,8 @@ begun_frame f end u start =
 unfoldable pub falls : (ℕ → Bit) → ℕ → List ℕ
 falls f end = filter (λ t. is_one (letter_before f t) && is_zero (f t)) (range_with_len 0 (suc end))
 
--- the frames that falls begin: a fall up to the tick `taken`, the end of the frame before, begins none
+-- the frames that falls begin: a fall up to the tick `taken`, the end of the frame before, begins
+-- none
 unfoldable pub frames : (ℕ → Option Annotation) → ℕ → List ℕ → List Annotation
 frames frame_at taken [] = []
 frames frame_at taken (start ∷ starts) =

@@ -15,7 +15,8 @@ use Rattle.vcd_decode.specs.SentLevels.{level, data_levels}
 
 -- ---- the bits of a frame
 
--- what is wrong with a frame: nothing, its parity bit, or a stop bit, which is 0; stop bits are counted from 0
+-- what is wrong with a frame: nothing, its parity bit, or a stop bit, which is 0; stop bits are
+-- counted from 0
 pub data Flaw : Type 0 where
   flawless : Flaw
   wrong_parity : Flaw
@@ -47,7 +48,8 @@ pub record SentFrame : Type 0 where
 abbrev pub frame_levels : UartSetup → SentFrame → List Bit
 frame_levels u w =
     let data_bits = data_levels u.data_bits w.word in
-    Zero ∷ data_bits ++ sent_parity u.parity w.flaw (count_by is_one data_bits) ++ stop_levels u.stop_bits w.flaw
+    Zero ∷ data_bits ++ sent_parity u.parity w.flaw (count_by is_one data_bits)
+    ++ stop_levels u.stop_bits w.flaw
 
 -- ---- the line
 
@@ -59,10 +61,12 @@ bit_offset u k = k * u.numerator / u.denominator
 abbrev pub frame_ticks : UartSetup → ℕ
 frame_ticks u = bit_offset u (suc (last_bit u))
 
--- bits one after the other, the first of them bit k: each lasts until the next starts, and the line is 1 after them
+-- bits one after the other, the first of them bit k: each lasts until the next starts, and the line
+-- is 1 after them
 unfoldable pub bits_line : UartSetup → ℕ → List Bit → ℕ → Bit
 bits_line u k [] offset = One
-bits_line u k (b ∷ bs) offset = if nat_lt offset (bit_offset u (suc k)) then b else bits_line u (suc k) bs offset
+bits_line u k (b ∷ bs) offset = if nat_lt offset (bit_offset u (suc k)) then b
+    else bits_line u (suc k) bs offset
 
 -- the line that sends these frames, and is 1 before, between and after them
 unfoldable pub sent_line : UartSetup → List SentFrame → ℕ → Bit
@@ -85,11 +89,13 @@ abbrev pub idle_ticks : Flaw → ℕ
 idle_ticks (low_stop k) = 1
 idle_ticks flaw = 0
 
--- the words fit their bits, and their frames fit one after the other into the ticks from `from` to `end`
+-- the words fit their bits, and their frames fit one after the other into the ticks from `from` to
+-- `end`
 unfoldable pub CanBeSent : UartSetup → ℕ → ℕ → List SentFrame → Type 0
 CanBeSent u from end [] = ⊤
 CanBeSent u from end (w ∷ ws) =
-    (w.word < 2 ^ u.data_bits) × CanHaveFlaw u w.flaw × (from ≤ w.start) × (w.start + frame_ticks u ≤ suc end)
+    (w.word < 2 ^ u.data_bits) × CanHaveFlaw u w.flaw × (from ≤ w.start)
+    × (w.start + frame_ticks u ≤ suc end)
     × CanBeSent u (w.start + frame_ticks u + idle_ticks w.flaw) end ws
 
 -- ---- what is to be found
@@ -102,4 +108,5 @@ sent_kind (low_stop k) word = FrameError
 
 -- the annotation of a frame: from its start to the sample of its last bit
 abbrev pub sent_annotation : UartSetup → SentFrame → Annotation
-sent_annotation u w = annotation w.start (sample_tick u w.start (last_bit u)) (sent_kind w.flaw w.word)
+sent_annotation u w =
+    annotation w.start (sample_tick u w.start (last_bit u)) (sent_kind w.flaw w.word)

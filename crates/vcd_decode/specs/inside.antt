@@ -1,4 +1,5 @@
--- Definitions that only contracts of private functions and proofs cite. A reader need not believe them.
+-- Definitions that only contracts of private functions and proofs cite. A reader need not believe
+-- them.
 pub mod LineEdges
 pub mod SpiClock
 pub mod SpiGroup

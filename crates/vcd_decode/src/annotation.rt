@@ -9,7 +9,7 @@ pub struct Annotation {
 }
 
 /// The kind of an annotation. The first five are of a UART line (`Unknown` also of I2C), `Word` and
-/// `PartialOf` of SPI, `PartialOf` and those after it of I2C.
+/// `Unfinished` of SPI, `Unfinished` and those after it of I2C.
 #[derive(Clone, Copy, Debug, PartialEq, Eq)]
 pub enum Kind {
     /// A frame with these data bits.
@@ -21,11 +21,11 @@ pub enum Kind {
     /// A frame, byte or acknowledge with an unknown bit: x, and on a line of UART also z.
     Unknown,
     /// A frame that the capture's end cuts off.
-    Partial,
+    CutOff,
     /// A whole word, by its data lines.
     Word { mosi: LineData, miso: LineData },
     /// An unfinished word or byte, by its number of bits.
-    PartialOf(u64),
+    Unfinished(u64),
     /// A START condition (UM10204, 3.1.4).
     Start,
     /// A START condition where the condition before it was a START.

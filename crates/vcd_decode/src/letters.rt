@@ -1,7 +1,8 @@
 //! Letters of lines of one bit.
 
 ghost use Rattle.std.specs.Prelude.{◌≡◌};
-ghost use Rattle.vcd_decode.specs.Lines.{is_zero as zero_test, is_one as one_test, is_unclear as unclear_test};
+ghost use Rattle.vcd_decode.specs.Lines.{is_zero as zero_test, is_one as one_test};
+ghost use Rattle.vcd_decode.specs.Lines.{is_unclear as unclear_test};
 
 use vcd_core::Bit;
 

@@ -3,7 +3,7 @@
 ghost use Rattle.std.specs.Prelude.{◌≡◌, ◌≤◌, IfOk};
 ghost use Rattle.vcd_decode.specs.SetupFaults.{spi_fault};
 ghost use Rattle.vcd_decode.specs.SpiSetup.{spi_setup};
-ghost use Rattle.vcd_decode.specs.SetupFaults.{SetupFaultIs};
+ghost use Rattle.vcd_decode.specs.SetupResults.{SetupFaultIs};
 ghost use Rattle.vcd_decode.specs.Lines.{is_zero as zero_test, is_one as one_test};
 ghost use Rattle.vcd_decode.specs.inside.SpiClock.{is_present_and};
 

@@ -6,11 +6,14 @@ ghost use Rattle.vcd_core.specs.Edges.{EachUpTo};
 ghost use Rattle.vcd_core.specs.BitEdges.{EachOneBit};
 ghost use Rattle.vcd_decode.specs.WaveLines.{line_of};
 ghost use Rattle.vcd_decode.specs.Spi.{spi_annotations};
-ghost use Rattle.vcd_decode.specs.inside.SpiWalk.{selects_chip, deselects_chip, is_sampling, HasRoomForBit, annotations_of_unfinished, annotations_at_edge, edge_group, annotations_at_bit, bit_group};
+ghost use Rattle.vcd_decode.specs.inside.SpiWalk.{selects_chip, deselects_chip, is_sampling};
+ghost use Rattle.vcd_decode.specs.inside.SpiWalk.{HasRoomForBit, annotations_of_unfinished};
+ghost use Rattle.vcd_decode.specs.inside.SpiWalk.{annotations_at_edge, edge_group};
+ghost use Rattle.vcd_decode.specs.inside.SpiWalk.{annotations_at_bit, bit_group};
 
 use crate::annotation::Annotation;
 use crate::letters::is_zero;
-use crate::spi_group::Group;
+use crate::partial_word::PartialWord;
 use crate::spi_setup::Spi;
 use std::alloc::Global;
 use vcd_core::{Bit, BitEdge, BitEdges, NoMemory, Wave};
@@ -47,7 +50,7 @@ pub fn spi<'a>(
     let _bits = setup.bits();
     let edges = BitEdges::new(Some(clk), mosi, miso, cs);
     let mut found = Vec::new(alloc);
-    let mut group = Group::new(mosi.is_some(), miso.is_some());
+    let mut group = PartialWord::new(mosi.is_some(), miso.is_some());
     for edge in edges {
         group = take_clock_edge(&mut found, setup, &group, &edge)?;
     }
@@ -59,9 +62,9 @@ pub fn spi<'a>(
 fn take_clock_edge(
     found: &mut Vec<Annotation>,
     setup: &Spi,
-    group: &Group,
+    group: &PartialWord,
     edge: &BitEdge,
-) -> Result<Group, NoMemory>
+) -> Result<PartialWord, NoMemory>
     requires { HasRoomForBit setup.now group.now }
     ensures appended { OnOk result (found.new.items
         ≡ found.old.items ++ annotations_at_edge setup.now group.now edge.now) }
@@ -74,13 +77,14 @@ fn take_clock_edge(
     take_sample(found, setup, group, edge)
 }
 
-/// Appends the annotation that an edge completes, if the chip stays selected. Returns the group of bits after it.
+/// Appends the annotation that an edge completes, if the chip stays selected. Returns the group of
+/// bits after it.
 fn take_sample(
     found: &mut Vec<Annotation>,
     setup: &Spi,
-    group: &Group,
+    group: &PartialWord,
     edge: &BitEdge,
-) -> Result<Group, NoMemory>
+) -> Result<PartialWord, NoMemory>
     requires { HasRoomForBit setup.now group.now }
     ensures appended { OnOk result (found.new.items
         ≡ found.old.items ++ annotations_at_bit setup.now group.now edge.now) }
@@ -99,8 +103,9 @@ fn take_sample(
 }
 
 /// Appends the number of bits of an unfinished word, if there are any.
-fn append_unfinished(found: &mut Vec<Annotation>, group: &Group) -> Result<(), NoMemory>
-    ensures { OnOk result (found.new.items ≡ found.old.items ++ annotations_of_unfinished group.now) }
+fn append_unfinished(found: &mut Vec<Annotation>, group: &PartialWord) -> Result<(), NoMemory>
+    ensures { OnOk result (found.new.items
+        ≡ found.old.items ++ annotations_of_unfinished group.now) }
 {
     if group.count == 0 {
         return Ok(());

@@ -1,12 +1,17 @@
 //! Frames of an asynchronous serial line.
 
-ghost use Rattle.std.specs.Prelude.{◌≡◌, ℕ, ◌+◌, ◌*◌, ◌/◌, ◌<◌, ◌≤◌, ◌^◌, ◌++◌, IfOk, OnOk, Some, None, length, nat_lt, nat_le, count_by, ◌&&◌, not, if◌then◌else◌};
+ghost use Rattle.std.specs.Prelude.{◌≡◌, ℕ, ◌+◌, ◌*◌, ◌/◌, ◌<◌, ◌≤◌, ◌^◌, ◌++◌, IfOk, OnOk, Some};
+ghost use Rattle.std.specs.Prelude.{None, length, nat_lt, nat_le, count_by, ◌&&◌, not};
+ghost use Rattle.std.specs.Prelude.{if◌then◌else◌};
 ghost use Rattle.std.specs.List.{list_any};
 ghost use Rattle.std.specs.Option.{option_to_list, option_map_or};
 ghost use Rattle.vcd_core.specs.Wave.{AllUpTo};
-ghost use Rattle.vcd_decode.specs.Lines.{is_zero as zero_test, is_one as one_test, is_unclear as unclear_test, number_from_letters};
+ghost use Rattle.vcd_decode.specs.Lines.{is_zero as zero_test, is_one as one_test};
+ghost use Rattle.vcd_decode.specs.Lines.{is_unclear as unclear_test, number_from_letters};
 ghost use Rattle.vcd_decode.specs.WaveLines.{line_of};
-ghost use Rattle.vcd_decode.specs.Uart.{last_bit, sample_tick, frame_letters, frame_kind as kind_of_frame, begun_frame as begun_by_fall, uart_annotations};
+ghost use Rattle.vcd_decode.specs.Uart.{last_bit, sample_tick, frame_letters};
+ghost use Rattle.vcd_decode.specs.Uart.{frame_kind as kind_of_frame, begun_frame as begun_by_fall};
+ghost use Rattle.vcd_decode.specs.Uart.{uart_annotations};
 
 use crate::annotation::{Annotation, Kind};
 use crate::letters::{is_one, is_unclear, is_zero};
@@ -19,7 +24,7 @@ use vcd_core::{Bit, NoMemory, Wave};
 ///
 /// A frame begins where the line falls from 1 to 0 after the frame before. There is no frame where
 /// the line is not 0 in the middle of the start bit. A frame whose last bit is sampled after the
-/// end is `Partial`, up to the end.
+/// end is `CutOff`, up to the end.
 ///
 /// It takes a step for each change, and for each sample a binary search among the changes of its
 /// frame. The memory is that of the annotations; it may run out of memory.
@@ -73,7 +78,7 @@ fn begun_frame(wave: &Wave, near: usize, end: u64, setup: &Uart, start: u64) -> 
     let cut_off = Annotation {
         start,
         end,
-        kind: Kind::Partial,
+        kind: Kind::CutOff,
     };
     let ticks_left = end - start;
     let first = setup.sample_offset(0);
@@ -151,7 +156,7 @@ fn letter_near(wave: &Wave, near: usize, tick: u64) -> Bit
     requires { wave.now.width ≡ 1 }
     ensures { result ≡ line_of wave.now tick }
 {
-    match &wave.changes()[..wave.count_until_near(near, tick)] {
+    match &wave.changes()[..wave.count_through_near(near, tick)] {
         [.., change] => change.value.bit(0),
         [] => Bit::X,
     }

@@ -2,7 +2,8 @@
 
 ghost use Rattle.std.specs.Prelude.{◌≡◌, ◌≤◌, IfOk};
 ghost use Rattle.vcd_decode.specs.UartSetup.{is_between};
-ghost use Rattle.vcd_decode.specs.SetupFaults.{uart_fault, SetupFaultIs};
+ghost use Rattle.vcd_decode.specs.SetupFaults.{uart_fault};
+ghost use Rattle.vcd_decode.specs.SetupResults.{SetupFaultIs};
 ghost use Rattle.vcd_decode.specs.UartSetup.{uart_setup};
 
 use crate::setup_error::SetupError;
@@ -38,7 +39,7 @@ pub struct Uart {
 
 impl Model for Uart {
     ghost use Rattle.vcd_decode.specs.UartSetup.{UartSetup};
-    ghost use Rattle.vcd_decode.specs.SetupFaults.{IsUartSetup};
+    ghost use Rattle.vcd_decode.specs.SetupResults.{IsUartSetup};
 
     ghost Value = { UartSetup };
 

@@ -1,23 +1,30 @@
 -- A splice of a wave is a wave if the changes next to it are in order.
-use Rattle.std.proofs.Common.{◌≡◌, ◌≢◌, ℕ, zero, suc, ◌&&◌, ◌↔◌, IsTrue, Bool, true, false, not, nat_le, nat_lt, nat_eq}
-use Rattle.std.proofs.Common.{◌+◌, ◌-◌, ◌<◌, ◌≤◌, ℤ, pos, ◌+ℤ◌, unsigned_abs, List, [], ◌∷◌, ◌++◌, length, take, drop}
+use Rattle.std.proofs.Common.{◌≡◌, ◌≢◌, ℕ, zero, suc, ◌&&◌, ◌↔◌, IsTrue, Bool, true, false, not}
+use Rattle.std.proofs.Common.{nat_le, nat_lt, nat_eq}
+use Rattle.std.proofs.Common.{◌+◌, ◌-◌, ◌<◌, ◌≤◌, ℤ, pos, ◌+ℤ◌, unsigned_abs, List, [], ◌∷◌, ◌++◌}
+use Rattle.std.proofs.Common.{length, take, drop}
 use Rattle.std.proofs.Common.{map, get_or, All, refl, sym, ap, subst, ◌∙◌, inl, inr, arith}
 use Rattle.std.specs.Int.{w64, FitsUnsigned}
 use Rattle.vcd_core.proofs.Pushes.{ticks_rise, all_from_upto, upto_from_all}
-use Rattle.std.proofs.lemmas.Bool.{cases_eq, and_parts, and_from, and_left, not-true, not_from_false, both_ways}
-use Rattle.std.proofs.lemmas.Bool.{false≢true, false_from_ne_true, leb-true, le-leb, eqb-true, eq-eqb}
+use Rattle.std.proofs.lemmas.Bool.{cases_eq, and_parts, and_from, and_left, not-true}
+use Rattle.std.proofs.lemmas.Bool.{not_from_false, both_ways}
+use Rattle.std.proofs.lemmas.Bool.{false≢true, false_from_ne_true, leb-true, le-leb, eqb-true}
+use Rattle.std.proofs.lemmas.Bool.{eq-eqb}
 use Rattle.std.proofs.lemmas.Bool.Decides.{nat_tests}
-use Rattle.std.proofs.lemmas.List.{append_assoc, take-append-drop, take_more, drop_more, length-take-le, get_or_default}
+use Rattle.std.proofs.lemmas.List.{append_assoc, take-append-drop, take_more, drop_more}
+use Rattle.std.proofs.lemmas.List.{length-take-le, get_or_default}
 use Rattle.std.proofs.lemmas.List.Elements.{All-nil, All-cons, All-head, All-tail}
 use Rattle.std.proofs.lemmas.Int.{ints}
 use Rattle.vcd_core.specs.declared.bit.Bit.{Bit}
 use Rattle.vcd_core.specs.declared.wave.Change.{Change}
 use Rattle.vcd_core.specs.Value.{all_x, same_letters}
 use Rattle.vcd_core.specs.inside.ValueLaws.{same_letters-Decides}
-use Rattle.vcd_core.specs.Wave.{AreChangesFrom, IsWave, AllUpTo, last_value}
+use Rattle.vcd_core.specs.Wave.{AreChangesFrom, IsWave, AllUpTo}
+use Rattle.vcd_core.specs.WavePush.{last_value}
 use Rattle.vcd_core.specs.Splice.{moved_change, TickFits, AllTicksFit, spliced_changes}
 use Rattle.vcd_edit.specs.RecordView.{PieceView}
-use Rattle.vcd_edit.specs.inside.Adjacency.{floor_after, value_following, may_follow, may_all_follow, MovesTo}
+use Rattle.vcd_edit.specs.inside.Adjacency.{floor_after, value_following, may_follow}
+use Rattle.vcd_edit.specs.inside.Adjacency.{may_all_follow, MovesTo}
 use Rattle.vcd_edit.specs.inside.Adjacency.{IsValidPiece}
 
 -- ---- a list in two parts

@@ -4,11 +4,13 @@ use Rattle.std.specs.Prelude.{[], ◌∷◌, Some, None, codes, pos, negsuc}
 use Rattle.vcd_core.specs.declared.bit.Bit.TheVariants.{Zero, One, X, Z}
 use Rattle.vcd_core.specs.Wave.{value_from, changes_from}
 use Rattle.vcd_core.specs.Contents.{signal_at}
-use Rattle.vcd_edit.specs.declared.edit.Edit.TheVariants.{Rename, Remove, Invert, Shift, Cut, Force, Derive}
+use Rattle.vcd_edit.specs.declared.edit.Edit.TheVariants.{Rename, Remove, Invert, Shift, Cut, Force}
+use Rattle.vcd_edit.specs.declared.edit.Edit.TheVariants.{Derive}
 use Rattle.vcd_edit.specs.declared.edit.Rule.TheVariants.{BitOf}
 use Rattle.vcd_edit.specs.AppliedRecords.{with_pieces, apply_record}
 use Rattle.vcd_edit.specs.Effect.{effect}
-use Rattle.vcd_edit.proofs.CasesOfEdits.{from, alone, lent, three_signals, two_signals, with_first, with_third}
+use Rattle.vcd_edit.proofs.CasesOfEdits.{from, alone, lent, three_signals, two_signals, with_first}
+use Rattle.vcd_edit.proofs.CasesOfEdits.{with_third}
 
 -- z becomes x, the other values come back
 invert_twice : effect (Invert 0) (effect (Invert 0) (alone 8 (from 0 One ∷ from 2 Z ∷ from 4 Zero ∷ [])))

@@ -10,7 +10,8 @@ use Rattle.vcd_core.specs.Splice.{moved_change, spliced_changes}
 use Rattle.vcd_core.specs.Contents.{Contents, SignalContents}
 use Rattle.vcd_edit.specs.RecordView.{PieceView, RecordView}
 use Rattle.vcd_edit.specs.AppliedRecords.{with_pieces, apply_record}
-use Rattle.vcd_edit.specs.Touched.{touched_count, touched_from, touched_by_record, piece_advance, partners, takes_out}
+use Rattle.vcd_edit.specs.Touched.{touched_count, touched_from, touched_by_record, piece_advance}
+use Rattle.vcd_edit.specs.Touched.{partners, takes_out}
 use Rattle.vcd_edit.specs.Touched.{puts_in, stored_changes}
 
 -- ---- captures and records
@@ -44,7 +45,8 @@ pulse = from 0 Zero ∷ from 3 One ∷ from 7 Zero ∷ []
 
 -- ---- what a record makes of a capture
 
--- the undo of a cut of the ticks 2 to 4: the change at 3 comes back, the later one moves, and the end too
+-- the undo of a cut of the ticks 2 to 4: the change at 3 comes back, the later one moves, and the
+-- end too
 undo_of_cut : apply_record (record {
   pieces = piece 1 2 (from 3 One ∷ []) (pos 3) ∷ [];
   word = None;
@@ -131,7 +133,8 @@ undo_of_remove_touches : touched_from (λ k. pos 0) 0 (wire (codes "a") pulse �
 unfolding touched_from touched_count
 undo_of_remove_touches = refl
 
--- the undo of the cut into the pulse, as a record: it advances by the opposite of the offset of its piece
+-- the undo of the cut into the pulse, as a record: it advances by the opposite of the offset of its
+-- piece
 undo_of_cut_touches : touched_by_record (record {
   pieces = piece 1 2 (from 3 One ∷ []) (pos 3) ∷ [];
   word = None;

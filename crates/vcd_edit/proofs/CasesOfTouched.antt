@@ -3,7 +3,8 @@ use Rattle.std.proofs.Common.{◌≡◌, refl}
 use Rattle.std.specs.Prelude.{[], ◌∷◌, codes, pos, negsuc}
 use Rattle.vcd_core.specs.declared.bit.Bit.TheVariants.{Zero, One, Z}
 use Rattle.vcd_core.specs.Wave.{value_from, changes_from}
-use Rattle.vcd_edit.specs.declared.edit.Edit.TheVariants.{Rename, Remove, Invert, Shift, Cut, Deglitch, Force, Derive}
+use Rattle.vcd_edit.specs.declared.edit.Edit.TheVariants.{Rename, Remove, Invert, Shift, Cut}
+use Rattle.vcd_edit.specs.declared.edit.Edit.TheVariants.{Deglitch, Force, Derive}
 use Rattle.vcd_edit.specs.declared.edit.Rule.TheVariants.{Xor}
 use Rattle.vcd_edit.specs.Effect.{effect, run_start, run_end, steady_value}
 use Rattle.vcd_edit.specs.Touched.{touched_count, touched_from}
@@ -25,7 +26,8 @@ touched_by_deglitch : touched_by_edit (Deglitch 0 3)
 unfolding effect changes_from value_from run_start run_end steady_value touched_count touched_from
 touched_by_deglitch = refl
 
--- a delay alone touches no change; two are pushed out at the front; a force of the other value touches one
+-- a delay alone touches no change; two are pushed out at the front; a force of the other value
+-- touches one
 touched_by_one_wave : (touched_by_edit (Shift 0 (pos 2)) two_signals ≡ 0)
     × (touched_by_edit (Shift 0 (negsuc 3)) two_signals ≡ 2)
     × (touched_by_edit (Force 0 2 9 (Z ∷ [])) two_signals ≡ 1)

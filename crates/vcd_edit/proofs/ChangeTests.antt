@@ -1,6 +1,8 @@
 -- The code's tests of changes, and its walks over two lists.
-use Rattle.std.proofs.Common.{◌≡◌, ℕ, ◌+◌, ◌-◌, ◌^◌, ◌<◌, ◌≤◌, Bool, true, false, eqb, ℤ, pos, ◌+ℤ◌, ◌-ℤ◌, neg_ℤ}
-use Rattle.std.proofs.Common.{unsigned_abs, List, length, drop, get_or, reverse, min, Option, Some, None, SomeIff, sym}
+use Rattle.std.proofs.Common.{◌≡◌, ℕ, ◌+◌, ◌-◌, ◌^◌, ◌<◌, ◌≤◌, Bool, true, false, eqb, ℤ, pos, ◌+ℤ◌}
+use Rattle.std.proofs.Common.{◌-ℤ◌, neg_ℤ}
+use Rattle.std.proofs.Common.{unsigned_abs, List, length, drop, get_or, reverse, min, Option, Some}
+use Rattle.std.proofs.Common.{None, SomeIff, sym}
 use Rattle.std.proofs.Common.{subst, ◌∙◌, inl, inr, arith}
 use Rattle.std.specs.Int.{w64, FitsUnsigned}
 use Rattle.std.specs.List.{common_prefix_len}
@@ -9,7 +11,8 @@ use Rattle.std.specs.Ordering.{int_eq}
 use Rattle.std.proofs.lemmas.Bool.{cases_Bool, eq-eqb, eqb-true, false_from_ne_true}
 use Rattle.std.proofs.lemmas.Bool.Decides.{Decides-int_eq}
 use Rattle.std.proofs.lemmas.List.{length-reverse, length-drop, get_or-reverse}
-use Rattle.std.proofs.lemmas.List.Sums.{common_prefix_len-le, common_prefix_len-drop_yes, common_prefix_len-drop_no}
+use Rattle.std.proofs.lemmas.List.Sums.{common_prefix_len-le, common_prefix_len-drop_yes}
+use Rattle.std.proofs.lemmas.List.Sums.{common_prefix_len-drop_no}
 use Rattle.std.proofs.lemmas.Int.{ints}
 use Rattle.vcd_core.specs.declared.wave.Change.{Change}
 

@@ -1,14 +1,17 @@
 -- What a capture holds after a piece was put into one of its waves.
-use Rattle.std.proofs.Common.{◌≡◌, ◌≢◌, refl, suc, ℕ, ◌<◌, ◌≤◌, List, ◌∷◌, ◌++◌, length, take, drop, map, get_or, set}
+use Rattle.std.proofs.Common.{◌≡◌, ◌≢◌, refl, suc, ℕ, ◌<◌, ◌≤◌, List, ◌∷◌, ◌++◌, length, take, drop}
+use Rattle.std.proofs.Common.{map, get_or, set}
 use Rattle.std.proofs.Common.{slice_index_or, sym, ap, subst, ◌∙◌, inl, inr, false, arith}
 use Rattle.std.specs.List.{insert, remove}
 use Rattle.std.proofs.lemmas.Bool.{cases_eq}
-use Rattle.std.proofs.lemmas.List.{map-set, get_or-map, get_or-set_same, get_or-set_other, set-get_or, length-map}
+use Rattle.std.proofs.lemmas.List.{map-set, get_or-map, get_or-set_same, get_or-set_other}
+use Rattle.std.proofs.lemmas.List.{set-get_or, length-map}
 use Rattle.std.proofs.lemmas.List.{map-append, take-map, drop-map}
 use Rattle.vcd_core.specs.declared.wave.Change.{Change}
 use Rattle.vcd_core.specs.declared.capture.Signal.{Signal}
 use Rattle.vcd_core.specs.WaveView.{WaveView}
-use Rattle.vcd_core.specs.Contents.{SignalContents, signal_contents, no_signal}
+use Rattle.vcd_core.specs.Contents.{SignalContents, no_signal}
+use Rattle.vcd_core.specs.CaptureContents.{signal_contents}
 use Rattle.vcd_edit.specs.Effect.{renamed_signal}
 use Rattle.vcd_edit.specs.AppliedRecords.{signal_with_changes}
 use Rattle.vcd_edit.specs.inside.Exchanges.{no_wave, wave_at, HasNoLessRoom}

@@ -1,5 +1,7 @@
--- The piece of a signal without its short runs: from the first change that is taken out to the last.
-use Rattle.std.proofs.Common.{◌≡◌, ℕ, ◌+◌, ◌≤◌, List, [], ◌∷◌, ◌++◌, length, take, drop, sym, ap, subst, ◌∙◌, arith}
+-- The piece of a signal without its short runs: from the first change that is taken out to the
+-- last.
+use Rattle.std.proofs.Common.{◌≡◌, ℕ, ◌+◌, ◌≤◌, List, [], ◌∷◌, ◌++◌, length, take, drop, sym, ap}
+use Rattle.std.proofs.Common.{subst, ◌∙◌, arith}
 use Rattle.std.proofs.Common.{append_assoc, length-drop}
 use Rattle.std.specs.Prelude.{pos}
 use Rattle.std.proofs.lemmas.Int.{ints}
@@ -9,7 +11,8 @@ use Rattle.vcd_core.specs.declared.bit.Bit.{Bit}
 use Rattle.vcd_core.specs.declared.wave.Change.{Change}
 use Rattle.vcd_core.specs.declared.capture.TheConstants.{END_LIMIT}
 use Rattle.vcd_core.specs.Value.{all_x}
-use Rattle.vcd_core.specs.Wave.{AllUpTo, last_value, changes_of}
+use Rattle.vcd_core.specs.Wave.{AllUpTo, changes_of}
+use Rattle.vcd_core.specs.WavePush.{last_value}
 use Rattle.vcd_core.specs.Splice.{TickFits, AllTicksFit, spliced_changes}
 use Rattle.vcd_core.specs.Contents.{SignalContents, signal_value}
 use Rattle.vcd_core.specs.Sound.{IsSoundSignal}

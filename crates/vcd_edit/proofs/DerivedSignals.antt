@@ -1,5 +1,6 @@
 -- A derived signal from its parts, and the record that puts it in.
-use Rattle.std.proofs.Common.{◌≡◌, ℕ, ◌++◌, List, [], ◌∷◌, length, map, Some, None, sym, ap, subst, ◌∙◌, arith}
+use Rattle.std.proofs.Common.{◌≡◌, ℕ, ◌++◌, List, [], ◌∷◌, length, map, Some, None, sym, ap, subst}
+use Rattle.std.proofs.Common.{◌∙◌, arith}
 use Rattle.std.specs.Prelude.{codes, pos, neg_ℤ}
 use Rattle.std.specs.List.{insert, push}
 use Rattle.std.specs.Borrow.{Bor}

@@ -1,6 +1,8 @@
 -- The wave of a derived signal, from the edges of its operands.
-use Rattle.std.proofs.Common.{◌≡◌, ℕ, zero, suc, ◌+◌, ◌-◌, ◌<◌, ◌≤◌, not, Bool, true, false, cond, nat_le}
-use Rattle.std.proofs.Common.{if◌then◌else◌, List, [], ◌∷◌, length, map, replicate, get_or, drop, All, Some, None, inl}
+use Rattle.std.proofs.Common.{◌≡◌, ℕ, zero, suc, ◌+◌, ◌-◌, ◌<◌, ◌≤◌, not, Bool, true, false, cond}
+use Rattle.std.proofs.Common.{nat_le}
+use Rattle.std.proofs.Common.{if◌then◌else◌, List, [], ◌∷◌, length, map, replicate, get_or, drop}
+use Rattle.std.proofs.Common.{All, Some, None, inl}
 use Rattle.std.proofs.Common.{inr, refl, sym, ap, subst, ◌∙◌, arith}
 use Rattle.std.specs.List.{filter, range_with_len, list_any}
 use Rattle.std.proofs.lemmas.Bool.{cases_eq, or_parts}
@@ -24,8 +26,10 @@ use Rattle.vcd_edit.specs.declared.edit.Operator.TheVariants.{And, Or, Xor}
 use Rattle.vcd_edit.specs.Operators.{not_bit, operator_bit}
 use Rattle.vcd_edit.specs.inside.RemainingChanges.{TicksRise}
 use Rattle.vcd_edit.specs.inside.Ranges.{value_just_before}
-use Rattle.vcd_edit.specs.inside.Derived.{edge_bit, edge_change, HasBits, selected_bit, selected_change, DerivedSoFar}
-use Rattle.vcd_edit.proofs.WithoutRepeats.{rise_lower, early_value, wave_rises, mapped_upto, mapped_value}
+use Rattle.vcd_edit.specs.inside.Derived.{edge_bit, edge_change, HasBits, selected_bit}
+use Rattle.vcd_edit.specs.inside.Derived.{selected_change, DerivedSoFar}
+use Rattle.vcd_edit.proofs.WithoutRepeats.{rise_lower, early_value, wave_rises, mapped_upto}
+use Rattle.vcd_edit.proofs.WithoutRepeats.{mapped_value}
 
 -- ---- one change after another
 

@@ -12,7 +12,8 @@ use Rattle.vcd_core.specs.declared.wave.Change.{Change}
 use Rattle.vcd_core.specs.declared.memory.NoMemory.{NoMemory}
 use Rattle.vcd_core.specs.Wave.{changes_of}
 use Rattle.vcd_core.specs.Splice.{AllTicksFit}
-use Rattle.vcd_core.specs.Contents.{Contents, SignalContents, contents, signal_contents, no_signal, signal_at}
+use Rattle.vcd_core.specs.Contents.{Contents, SignalContents, no_signal, signal_at}
+use Rattle.vcd_core.specs.CaptureContents.{contents, signal_contents}
 use Rattle.vcd_core.specs.Contents.{with_signal}
 use Rattle.vcd_core.specs.Sound.{IsSound, IsSoundSignal}
 use Rattle.vcd_edit.specs.declared.edit.Edit.{Edit}
@@ -23,7 +24,8 @@ use Rattle.vcd_edit.specs.Effect.{with_wave, renamed_signal, force_value, effect
 use Rattle.vcd_edit.specs.Touched.{stays, record_pairing}
 use Rattle.vcd_edit.specs.TouchedByEdit.{edit_advance, edit_pairing}
 use Rattle.vcd_edit.specs.EditFaults.{is_signal, edit_fault}
-use Rattle.vcd_edit.specs.AppliedRecords.{changes_with_piece, signal_with_changes, with_pieces, apply_record, PieceFits}
+use Rattle.vcd_edit.specs.AppliedRecords.{changes_with_piece, signal_with_changes, with_pieces}
+use Rattle.vcd_edit.specs.AppliedRecords.{apply_record, PieceFits}
 use Rattle.vcd_edit.specs.AppliedRecords.{WordFits, SignalFits}
 use Rattle.vcd_edit.specs.inside.Ranges.{GivesChanges}
 use Rattle.vcd_edit.specs.Records.{piece_view}

@@ -1,5 +1,6 @@
 -- What holds if an edit has no fault: all its tests.
-use Rattle.std.proofs.Common.{◌≡◌, ◌<◌, ◌≤◌, ℕ, Bool, true, false, if◌then◌else◌, IsTrue, List, [], ◌∷◌, length}
+use Rattle.std.proofs.Common.{◌≡◌, ◌<◌, ◌≤◌, ℕ, Bool, true, false, if◌then◌else◌, IsTrue, List, []}
+use Rattle.std.proofs.Common.{◌∷◌, length}
 use Rattle.std.proofs.Common.{Option, Some, None, refl, arith}
 use Rattle.std.specs.Prelude.{◌&&◌, nat_lt, nat_le}
 use Rattle.std.specs.List.{list_all}
@@ -12,7 +13,8 @@ use Rattle.vcd_edit.specs.declared.edit.Rule.TheVariants.{Not, And, Or, Xor, Bit
 use Rattle.vcd_edit.specs.declared.fault.EditError.{EditError}
 use Rattle.vcd_edit.specs.Effect.{formula, first_operand}
 use Rattle.vcd_edit.specs.inside.Derived.{HasOperands}
-use Rattle.vcd_edit.specs.EditFaults.{Test, first_fault, is_signal, is_scalar, operands, width_test, edit_tests}
+use Rattle.vcd_edit.specs.EditFaults.{Test, first_fault, is_signal, is_scalar, operands, width_test}
+use Rattle.vcd_edit.specs.EditFaults.{edit_tests}
 use Rattle.vcd_edit.specs.EditFaults.{edit_fault}
 
 -- each test holds

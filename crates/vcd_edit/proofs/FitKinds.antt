@@ -1,5 +1,7 @@
--- Which records with a word, or with a signal to put in or take out, fit a capture; and the three kinds together.
-use Rattle.std.proofs.Common.{◌≡◌, ◌↔◌, refl, ℕ, ◌+◌, ◌<◌, ◌≤◌, List, [], ◌∷◌, length, map, get_or, All, Option, Some}
+-- Which records with a word, or with a signal to put in or take out, fit a capture; and the three
+-- kinds together.
+use Rattle.std.proofs.Common.{◌≡◌, ◌↔◌, refl, ℕ, ◌+◌, ◌<◌, ◌≤◌, List, [], ◌∷◌, length, map, get_or}
+use Rattle.std.proofs.Common.{All, Option, Some}
 use Rattle.std.proofs.Common.{None, Bool, IsTrue, IfSome, sym, ap, subst, ◌∙◌, arith}
 use Rattle.std.specs.Option.{unwrap_or}
 use Rattle.std.specs.List.{insert, remove, list_all}
@@ -8,16 +10,20 @@ use Rattle.std.proofs.lemmas.List.Elements.{All-nil}
 use Rattle.std.proofs.lemmas.List.Edits.{length-insert, length-remove}
 use Rattle.vcd_core.specs.declared.capture.Signal.{Signal}
 use Rattle.vcd_core.specs.declared.capture.TheConstants.{SIGNAL_LIMIT}
-use Rattle.vcd_core.specs.Contents.{Contents, SignalContents, signal_contents, no_signal, signal_at}
+use Rattle.vcd_core.specs.Contents.{Contents, SignalContents, no_signal, signal_at}
+use Rattle.vcd_core.specs.CaptureContents.{signal_contents}
 use Rattle.vcd_core.specs.Sound.{is_sound_header, is_sound_timescale, IsSoundSignal}
 use Rattle.vcd_edit.specs.RecordView.{PieceView, RecordView}
 use Rattle.vcd_edit.specs.Effect.{renamed_signal}
-use Rattle.vcd_edit.specs.AppliedRecords.{with_piece, with_pieces, with_first_word, with_signal_in_out, with_end}
-use Rattle.vcd_edit.specs.AppliedRecords.{apply_record, PieceFits, MayPutInOrTakeOut, Fits, HasOneKindOfPart}
+use Rattle.vcd_edit.specs.AppliedRecords.{with_piece, with_pieces, with_first_word}
+use Rattle.vcd_edit.specs.AppliedRecords.{with_signal_in_out, with_end}
+use Rattle.vcd_edit.specs.AppliedRecords.{apply_record, PieceFits, MayPutInOrTakeOut, Fits}
+use Rattle.vcd_edit.specs.AppliedRecords.{HasOneKindOfPart}
 use Rattle.vcd_edit.specs.inside.Fitting.{AreSoundSignals, PartsFit, KindFits, HasSoundMetadata}
 use Rattle.vcd_edit.proofs.EditPlans.{contents_at}
-use Rattle.vcd_edit.proofs.Others.{with_other, other_there, with_one_more, one_more_there}
-use Rattle.vcd_edit.proofs.OppositeRecords.{parts, none_put, no_pieces_at_word, no_pieces_at_signal, no_word_at_signal}
+use Rattle.vcd_edit.proofs.AllElements.{with_other, other_there, with_one_more, one_more_there}
+use Rattle.vcd_edit.proofs.OppositeRecords.{parts, none_put, no_pieces_at_word, no_pieces_at_signal}
+use Rattle.vcd_edit.proofs.OppositeRecords.{no_word_at_signal}
 use Rattle.vcd_edit.proofs.OppositeRecords.{signals_of_end, end_kept}
 
 -- ---- a word

@@ -1,27 +1,34 @@
 -- Which records fit a capture, as tests of their parts show.
-use Rattle.std.proofs.Common.{◌≡◌, ◌≢◌, IsTrue, Bool, true, false, refl, ℕ, zero, suc, ◌+◌, ◌<◌, ◌≤◌, nat_le}
-use Rattle.std.proofs.Common.{if◌then◌else◌, List, [], ◌∷◌, length, map, get_or, set, slice_index_or, All, sym, ap}
+use Rattle.std.proofs.Common.{◌≡◌, ◌≢◌, IsTrue, Bool, true, false, refl, ℕ, zero, suc, ◌+◌, ◌<◌}
+use Rattle.std.proofs.Common.{◌≤◌, nat_le}
+use Rattle.std.proofs.Common.{if◌then◌else◌, List, [], ◌∷◌, length, map, get_or, set}
+use Rattle.std.proofs.Common.{slice_index_or, All, sym, ap}
 use Rattle.std.proofs.Common.{subst, ◌∙◌, arith}
 use Rattle.std.specs.List.{sum_by, list_all}
 use Rattle.std.proofs.lemmas.Bool.{le-leb, leb-true, both_ways}
 use Rattle.vcd_core.proofs.Pushes.{all_from_upto}
 use Rattle.std.proofs.lemmas.List.{length-map, map-set, get_or-map}
-use Rattle.std.proofs.lemmas.List.Sums.{sum_by-set, sum_by-cons, AllPass-from_list_all, list_all-from_AllPass}
-use Rattle.std.proofs.lemmas.List.Elements.{All-nil, All-cons, All-head, All-tail, All-set, All-map, All-get_or}
+use Rattle.std.proofs.lemmas.List.Sums.{sum_by-set, sum_by-cons, AllPass-from_list_all}
+use Rattle.std.proofs.lemmas.List.Sums.{list_all-from_AllPass}
+use Rattle.std.proofs.lemmas.List.Elements.{All-nil, All-cons, All-head, All-tail, All-set, All-map}
+use Rattle.std.proofs.lemmas.List.Elements.{All-get_or}
 use Rattle.vcd_core.specs.declared.wave.Change.{Change}
 use Rattle.vcd_core.specs.declared.capture.TheConstants.{SIGNAL_LIMIT}
 use Rattle.vcd_core.specs.Wave.{IsWave, AllUpTo}
 use Rattle.vcd_core.specs.Contents.{Contents, SignalContents, no_signal, signal_at}
 use Rattle.vcd_core.specs.Sound.{IsSoundSignal}
 use Rattle.vcd_edit.specs.RecordView.{PieceView}
-use Rattle.vcd_edit.specs.AppliedRecords.{changes_with_piece, signal_with_changes, with_piece, with_pieces, PieceFits}
+use Rattle.vcd_edit.specs.AppliedRecords.{changes_with_piece, signal_with_changes, with_piece}
+use Rattle.vcd_edit.specs.AppliedRecords.{with_pieces, PieceFits}
 use Rattle.vcd_edit.specs.AppliedRecords.{NoPieceFor, HaveDistinctSignals}
 use Rattle.vcd_edit.specs.declared.record.Piece.{Piece}
 use Rattle.vcd_edit.specs.Records.{piece_view}
 use Rattle.vcd_edit.specs.inside.Adjacency.{IsValidPiece}
-use Rattle.vcd_edit.specs.inside.Fitting.{HasSoundNames, IsFormedSignal, late_count, IsValidIn, AreSoundSignals}
+use Rattle.vcd_edit.specs.inside.Fitting.{HasSoundNames, IsFormedSignal, late_count, IsValidIn}
+use Rattle.vcd_edit.specs.inside.Fitting.{AreSoundSignals}
 use Rattle.vcd_edit.proofs.TouchedSums.{sum_by-map}
-use Rattle.vcd_edit.proofs.OppositePieces.{signal_elsewhere, count_kept, counts_kept, none_all, pieces_reach}
+use Rattle.vcd_edit.proofs.OppositePieces.{signal_elsewhere, count_kept, counts_kept, none_all}
+use Rattle.vcd_edit.proofs.OppositePieces.{pieces_reach}
 
 -- ---- a signal by its names and its changes
 

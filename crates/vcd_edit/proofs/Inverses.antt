@@ -1,5 +1,6 @@
 -- The piece of a signal with each bit negated.
-use Rattle.std.proofs.Common.{◌≡◌, ℕ, zero, suc, ◌<◌, ◌≤◌, ◌+◌, Bool, true, false, List, [], ◌∷◌, ◌++◌, length, map}
+use Rattle.std.proofs.Common.{◌≡◌, ℕ, zero, suc, ◌<◌, ◌≤◌, ◌+◌, Bool, true, false, List, [], ◌∷◌}
+use Rattle.std.proofs.Common.{◌++◌, length, map}
 use Rattle.std.proofs.Common.{drop, get_or, refl, sym, ap, ◌∙◌, arith, append_assoc}
 use Rattle.std.proofs.lemmas.List.{length-map, length-replicate, append-nil, drop_all}
 use Rattle.std.proofs.Math.Seq.{drop-cons}
@@ -13,7 +14,8 @@ use Rattle.vcd_edit.specs.declared.edit.Edit.TheVariants.{Invert}
 use Rattle.vcd_edit.specs.Operators.{not_bit}
 use Rattle.vcd_edit.specs.Effect.{inverse_value, with_wave, effect}
 use Rattle.vcd_edit.specs.inside.RemainingChanges.{without_repeats, mapped_change}
-use Rattle.vcd_edit.proofs.WithoutRepeats.{without_repeats_is, wave_rises, mapped_rise, mapped_upto, mapped_value}
+use Rattle.vcd_edit.proofs.WithoutRepeats.{without_repeats_is, wave_rises, mapped_rise, mapped_upto}
+use Rattle.vcd_edit.proofs.WithoutRepeats.{mapped_value}
 
 -- ---- the changes of a wave, one after another
 

@@ -1,14 +1,19 @@
 -- The changes that remain when short runs of one value are taken out, change by change.
-use Rattle.std.proofs.Common.{◌≡◌, ℕ, ◌+◌, ◌-◌, ◌<◌, ◌≤◌, ◌&&◌, Bool, true, false, not, if◌then◌else◌, List, [], ◌∷◌}
-use Rattle.std.proofs.Common.{◌++◌, length, take, drop, get_or, refl, sym, ap, ◌∙◌, arith, append_assoc}
-use Rattle.std.proofs.lemmas.List.{append-nil, length-append, length-drop, length-take-le, take_all, take-append-le}
+use Rattle.std.proofs.Common.{◌≡◌, ℕ, ◌+◌, ◌-◌, ◌<◌, ◌≤◌, ◌&&◌, Bool, true, false, not}
+use Rattle.std.proofs.Common.{if◌then◌else◌, List, [], ◌∷◌}
+use Rattle.std.proofs.Common.{◌++◌, length, take, drop, get_or, refl, sym, ap, ◌∙◌, arith}
+use Rattle.std.proofs.Common.{append_assoc}
+use Rattle.std.proofs.lemmas.List.{append-nil, length-append, length-drop, length-take-le, take_all}
+use Rattle.std.proofs.lemmas.List.{take-append-le}
 use Rattle.std.proofs.lemmas.List.{take_more, drop_more, get_or-drop}
 use Rattle.vcd_core.specs.declared.bit.Bit.{Bit}
 use Rattle.vcd_core.specs.declared.wave.Change.{Change}
 use Rattle.vcd_core.specs.Value.{same_letters}
 use Rattle.vcd_core.specs.inside.ValueLaws.{same_letters-Decides}
-use Rattle.vcd_core.specs.Wave.{unless_same, last_value}
-use Rattle.vcd_edit.specs.inside.RemainingChanges.{without_repeats, begins_steady, steady_changes, is_kept}
+use Rattle.vcd_core.specs.Wave.{unless_same}
+use Rattle.vcd_core.specs.WavePush.{last_value}
+use Rattle.vcd_edit.specs.inside.RemainingChanges.{without_repeats, begins_steady, steady_changes}
+use Rattle.vcd_edit.specs.inside.RemainingChanges.{is_kept}
 use Rattle.vcd_edit.specs.inside.RemainingChanges.{kept_changes}
 
 -- a change that remains, and one that is taken out

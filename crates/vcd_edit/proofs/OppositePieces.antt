@@ -1,14 +1,18 @@
 -- Pieces put into a capture one after another, and the pieces that undo them.
-use Rattle.std.proofs.Common.{◌≡◌, ◌≢◌, ℕ, ◌<◌, ◌≤◌, List, [], ◌∷◌, ◌++◌, length, drop, reverse, get_or, set, All, refl}
+use Rattle.std.proofs.Common.{◌≡◌, ◌≢◌, ℕ, ◌<◌, ◌≤◌, List, [], ◌∷◌, ◌++◌, length, drop, reverse}
+use Rattle.std.proofs.Common.{get_or, set, All, refl}
 use Rattle.std.proofs.Common.{sym, ap, subst, ◌∙◌, arith}
-use Rattle.std.proofs.lemmas.List.{length-set, get_or-set_same, get_or-set_other, set-set, set-get_or, reverse-append}
+use Rattle.std.proofs.lemmas.List.{length-set, get_or-set_same, get_or-set_other, set-set}
+use Rattle.std.proofs.lemmas.List.{set-get_or, reverse-append}
 use Rattle.std.proofs.lemmas.List.Elements.{All-nil, All-cons, All-head, All-tail}
 use Rattle.vcd_core.specs.Contents.{Contents, SignalContents, no_signal, signal_at}
 use Rattle.vcd_core.specs.Splice.{AllTicksFit}
 use Rattle.vcd_edit.specs.RecordView.{PieceView}
-use Rattle.vcd_edit.specs.AppliedRecords.{changes_with_piece, signal_with_changes, with_piece, with_pieces, PieceFits}
+use Rattle.vcd_edit.specs.AppliedRecords.{changes_with_piece, signal_with_changes, with_piece}
+use Rattle.vcd_edit.specs.AppliedRecords.{with_pieces, PieceFits}
 use Rattle.vcd_edit.specs.AppliedRecords.{NoPieceFor, HaveDistinctSignals}
-use Rattle.vcd_edit.specs.inside.Exchanges.{PieceReady, IsOppositePiece, PieceReadyIn, AreOppositePieces}
+use Rattle.vcd_edit.specs.inside.Exchanges.{PieceReady, IsOppositePiece, PieceReadyIn}
+use Rattle.vcd_edit.specs.inside.Exchanges.{AreOppositePieces}
 
 -- ---- one piece
 

@@ -1,10 +1,14 @@
 -- The record of the opposite step: it undoes the step, it fits, and it stores touched changes only.
-use Rattle.std.proofs.Common.{◌≡◌, ◌≢◌, ℕ, zero, suc, ◌+◌, ◌^◌, ◌<◌, ◌≤◌, ℤ, neg_ℤ, List, [], ◌∷◌, ◌++◌, length, take}
-use Rattle.std.proofs.Common.{drop, map, reverse, get_or, set, slice_index_or, All, Option, Some, None, refl, sym, ap}
+use Rattle.std.proofs.Common.{◌≡◌, ◌≢◌, ℕ, zero, suc, ◌+◌, ◌^◌, ◌<◌, ◌≤◌, ℤ, neg_ℤ, List, [], ◌∷◌}
+use Rattle.std.proofs.Common.{◌++◌, length, take}
+use Rattle.std.proofs.Common.{drop, map, reverse, get_or, set, slice_index_or, All, Option, Some}
+use Rattle.std.proofs.Common.{None, refl, sym, ap}
 use Rattle.std.proofs.Common.{subst, ◌∙◌, arith}
 use Rattle.std.specs.List.{insert, remove, sum_by}
-use Rattle.std.proofs.lemmas.List.{length-set, length-map, length-append, length-take-le, get_or-set_same, get_or_at}
-use Rattle.std.proofs.lemmas.List.{set-set, set-get_or, drop_more, append_assoc, get_or-append-add, get_or_append_left}
+use Rattle.std.proofs.lemmas.List.{length-set, length-map, length-append, length-take-le}
+use Rattle.std.proofs.lemmas.List.{get_or-set_same, get_or_at}
+use Rattle.std.proofs.lemmas.List.{set-set, set-get_or, drop_more, append_assoc, get_or-append-add}
+use Rattle.std.proofs.lemmas.List.{get_or_append_left}
 use Rattle.std.proofs.lemmas.List.Elements.{All-nil, All-weaker, All-get_or}
 use Rattle.std.proofs.lemmas.List.Edits.{length-insert, length-remove}
 use Rattle.vcd_core.specs.declared.wave.Change.{Change}
@@ -16,18 +20,24 @@ use Rattle.vcd_core.specs.Contents.{Contents, SignalContents, no_signal, signal_
 use Rattle.vcd_core.specs.Sound.{IsSound, IsSoundSignal}
 use Rattle.vcd_edit.specs.RecordView.{PieceView, RecordView}
 use Rattle.vcd_edit.specs.Effect.{renamed_signal}
-use Rattle.vcd_edit.specs.AppliedRecords.{changes_with_piece, signal_with_changes, with_piece, with_pieces}
-use Rattle.vcd_edit.specs.AppliedRecords.{with_first_word, signals_with_one_in_out, with_signal_in_out, with_end}
-use Rattle.vcd_edit.specs.AppliedRecords.{apply_record, PieceFits, WordFits, MayPutInOrTakeOut, SignalFits, Fits}
+use Rattle.vcd_edit.specs.AppliedRecords.{changes_with_piece, signal_with_changes, with_piece}
+use Rattle.vcd_edit.specs.AppliedRecords.{with_pieces}
+use Rattle.vcd_edit.specs.AppliedRecords.{with_first_word, signals_with_one_in_out}
+use Rattle.vcd_edit.specs.AppliedRecords.{with_signal_in_out, with_end}
+use Rattle.vcd_edit.specs.AppliedRecords.{apply_record, PieceFits, WordFits, MayPutInOrTakeOut}
+use Rattle.vcd_edit.specs.AppliedRecords.{SignalFits, Fits}
 use Rattle.vcd_edit.specs.AppliedRecords.{HaveDistinctSignals, HasOneKindOfPart}
-use Rattle.vcd_edit.specs.Touched.{touched_in_signal, touched_from, partners, record_pairing, pairing_at}
+use Rattle.vcd_edit.specs.Touched.{touched_in_signal, touched_from, partners, record_pairing}
+use Rattle.vcd_edit.specs.Touched.{pairing_at}
 use Rattle.vcd_edit.specs.Touched.{stored_changes}
 use Rattle.vcd_edit.specs.Touched.{change_count}
 use Rattle.vcd_edit.specs.inside.Exchanges.{PieceReadyIn, AreOppositePieces}
-use Rattle.vcd_edit.specs.inside.Opposites.{opposite_word, removed_signal, opposite_signal, opposite_end}
+use Rattle.vcd_edit.specs.inside.Opposites.{opposite_word, removed_signal, opposite_signal}
+use Rattle.vcd_edit.specs.inside.Opposites.{opposite_end}
 use Rattle.vcd_edit.specs.inside.Opposites.{opposite_record, AreNamed, IsNamedAt, IsOppositeRecord}
 use Rattle.vcd_edit.proofs.TouchedParts.{All-reverse}
-use Rattle.vcd_edit.proofs.OppositePieces.{all_back, back_apart, back_fits_all, counts_kept, pieces_reach}
+use Rattle.vcd_edit.proofs.OppositePieces.{all_back, back_apart, back_fits_all, counts_kept}
+use Rattle.vcd_edit.proofs.OppositePieces.{pieces_reach}
 use Rattle.vcd_edit.proofs.TouchedSums.{touched_at_least, stored_within, sum_by-reverse}
 
 -- ---- pieces and another end

@@ -1,7 +1,9 @@
 -- Pieces for several signals, one after another.
-use Rattle.std.proofs.Common.{◌≡◌, ◌≢◌, ℕ, zero, suc, ◌+◌, ◌-◌, ◌<◌, ◌≤◌, ℤ, List, [], ◌∷◌, ◌++◌, length, map, take}
+use Rattle.std.proofs.Common.{◌≡◌, ◌≢◌, ℕ, zero, suc, ◌+◌, ◌-◌, ◌<◌, ◌≤◌, ℤ, List, [], ◌∷◌, ◌++◌}
+use Rattle.std.proofs.Common.{length, map, take}
 use Rattle.std.proofs.Common.{drop, get_or, set, All, refl, sym, ap, subst, ◌∙◌, arith}
-use Rattle.std.proofs.lemmas.List.{set-get_or, length-map, length-take-le, get_or-append_right, get_or-drop, take_all}
+use Rattle.std.proofs.lemmas.List.{set-get_or, length-map, length-take-le, get_or-append_right}
+use Rattle.std.proofs.lemmas.List.{get_or-drop, take_all}
 use Rattle.std.proofs.lemmas.List.{drop_all, append-nil}
 use Rattle.std.proofs.lemmas.List.Edits.{map_over_more}
 use Rattle.std.proofs.lemmas.List.Elements.{All-nil, All-push, All-head, All-tail}
@@ -11,7 +13,8 @@ use Rattle.vcd_core.specs.Splice.{AllTicksFit}
 use Rattle.vcd_core.specs.Contents.{Contents, SignalContents, no_signal, signal_at}
 use Rattle.vcd_edit.specs.RecordView.{PieceView}
 use Rattle.vcd_edit.specs.Effect.{with_values}
-use Rattle.vcd_edit.specs.AppliedRecords.{changes_with_piece, signal_with_changes, with_piece, with_pieces, PieceFits}
+use Rattle.vcd_edit.specs.AppliedRecords.{changes_with_piece, signal_with_changes, with_piece}
+use Rattle.vcd_edit.specs.AppliedRecords.{with_pieces, PieceFits}
 use Rattle.vcd_edit.specs.AppliedRecords.{NoPieceFor, HaveDistinctSignals}
 use Rattle.vcd_edit.specs.inside.Ranges.{GivesChanges}
 use Rattle.vcd_edit.specs.inside.Plans.{PiecesForEach}

@@ -1,7 +1,10 @@
 -- Walks over the pieces of a record: what holds after one more piece.
-use Rattle.std.proofs.Common.{vec_len, ◌-◌, ◌≡◌, ◌≢◌, ℕ, ◌+◌, ◌<◌, ◌≤◌, List, [], ◌∷◌, ◌++◌, length, take, drop, map}
-use Rattle.std.proofs.Common.{get_or, set, All, Option, Some, None, sym, ap, subst, ◌∙◌, inl, inr, arith}
-use Rattle.std.proofs.lemmas.List.{length-map, length-drop, get_or-map, get_or-drop, set-get_or, map-set, map-append}
+use Rattle.std.proofs.Common.{vec_len, ◌-◌, ◌≡◌, ◌≢◌, ℕ, ◌+◌, ◌<◌, ◌≤◌, List, [], ◌∷◌, ◌++◌, length}
+use Rattle.std.proofs.Common.{take, drop, map}
+use Rattle.std.proofs.Common.{get_or, set, All, Option, Some, None, sym, ap, subst, ◌∙◌, inl, inr}
+use Rattle.std.proofs.Common.{arith}
+use Rattle.std.proofs.lemmas.List.{length-map, length-drop, get_or-map, get_or-drop, set-get_or}
+use Rattle.std.proofs.lemmas.List.{map-set, map-append}
 use Rattle.std.proofs.Math.ListN.{get_or-append}
 use Rattle.std.proofs.Math.Seq.{get_or-append_seam}
 use Rattle.std.proofs.lemmas.Bool.{cases_eq}
@@ -9,7 +12,8 @@ use Rattle.std.proofs.lemmas.List.{get_or-set_same, get_or-set_other}
 use Rattle.std.proofs.lemmas.List.{drop-set-lt, drop-drop, drop_more, take_more, take_more_set}
 use Rattle.std.proofs.lemmas.List.Elements.{All-head, All-tail, All-push}
 use Rattle.vcd_core.specs.declared.capture.Signal.{Signal}
-use Rattle.vcd_core.specs.Contents.{Contents, signal_at, signal_contents}
+use Rattle.vcd_core.specs.Contents.{Contents, signal_at}
+use Rattle.vcd_core.specs.CaptureContents.{signal_contents}
 use Rattle.vcd_core.specs.WaveView.{WaveView}
 use Rattle.vcd_core.specs.Splice.{spliced_changes}
 use Rattle.vcd_edit.specs.declared.record.Piece.{Piece}
@@ -17,9 +21,12 @@ use Rattle.vcd_edit.specs.RecordView.{PieceView}
 use Rattle.vcd_edit.specs.AppliedRecords.{changes_with_piece, with_piece, with_pieces}
 use Rattle.vcd_edit.specs.AppliedRecords.{HaveDistinctSignals}
 use Rattle.vcd_edit.specs.Records.{piece_view}
-use Rattle.vcd_edit.specs.inside.Exchanges.{IsOppositePiece, PieceReadyIn, AreOppositePieces, wave_at, HasNoLessRoom}
-use Rattle.vcd_edit.specs.inside.Exchanges.{HasRoomForPiece, CanBePutIn, IsComing, HaveRoom, ExchangedSoFar}
-use Rattle.vcd_edit.proofs.OppositePieces.{ready_after, with_pieces-push, AreOppositePieces-push, none_all}
+use Rattle.vcd_edit.specs.inside.Exchanges.{IsOppositePiece, PieceReadyIn, AreOppositePieces}
+use Rattle.vcd_edit.specs.inside.Exchanges.{wave_at, HasNoLessRoom}
+use Rattle.vcd_edit.specs.inside.Exchanges.{HasRoomForPiece, CanBePutIn, IsComing, HaveRoom}
+use Rattle.vcd_edit.specs.inside.Exchanges.{ExchangedSoFar}
+use Rattle.vcd_edit.proofs.OppositePieces.{ready_after, with_pieces-push, AreOppositePieces-push}
+use Rattle.vcd_edit.proofs.OppositePieces.{none_all}
 
 pub views_kept : (ps : List Piece) (i : ℕ) (x y : Piece) → i < length ps → x ≡ get_or ps i x
     → piece_view y ≡ piece_view x → map piece_view (set ps i y) ≡ map piece_view ps

@@ -4,14 +4,18 @@ use Rattle.std.proofs.lemmas.List.{get_or-map, length-map}
 use Rattle.vcd_core.specs.Contents.{Contents}
 use Rattle.vcd_core.specs.Sound.{IsSound}
 use Rattle.vcd_edit.specs.RecordView.{PieceView, RecordView}
-use Rattle.vcd_edit.specs.AppliedRecords.{with_pieces, with_first_word, with_signal_in_out, with_end, apply_record}
-use Rattle.vcd_edit.specs.AppliedRecords.{PieceFits, WordFits, Fits, HaveDistinctSignals, HasOneKindOfPart}
+use Rattle.vcd_edit.specs.AppliedRecords.{with_pieces, with_first_word, with_signal_in_out}
+use Rattle.vcd_edit.specs.AppliedRecords.{with_end, apply_record}
+use Rattle.vcd_edit.specs.AppliedRecords.{PieceFits, WordFits, Fits, HaveDistinctSignals}
+use Rattle.vcd_edit.specs.AppliedRecords.{HasOneKindOfPart}
 use Rattle.vcd_edit.specs.declared.record.Piece.{Piece}
 use Rattle.vcd_edit.specs.Records.{piece_view}
 use Rattle.vcd_edit.specs.inside.Exchanges.{PieceReadyIn, AreOppositePieces}
-use Rattle.vcd_edit.specs.inside.Opposites.{opposite_word, opposite_signal, opposite_end, opposite_record, IsNamedAt}
+use Rattle.vcd_edit.specs.inside.Opposites.{opposite_word, opposite_signal, opposite_end}
+use Rattle.vcd_edit.specs.inside.Opposites.{opposite_record, IsNamedAt}
 use Rattle.vcd_edit.specs.inside.Opposites.{IsOppositeRecord}
-use Rattle.vcd_edit.proofs.OppositeRecords.{pieces_ready, opposite_is_record, leads_other_way, in_order, ready_moved}
+use Rattle.vcd_edit.proofs.OppositeRecords.{pieces_ready, opposite_is_record, leads_other_way}
+use Rattle.vcd_edit.proofs.OppositeRecords.{in_order, ready_moved}
 use Rattle.vcd_edit.proofs.OppositeRecords.{lead_moved, word_fits, word_named, word_same, end_same}
 
 -- each piece of a record that fits

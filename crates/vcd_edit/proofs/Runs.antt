@@ -1,6 +1,8 @@
 -- Runs of one value, and the values without the short ones.
-use Rattle.std.proofs.Common.{◌≡◌, ◌≢◌, ℕ, zero, suc, ◌+◌, ◌-◌, ◌<◌, ◌≤◌, ◌==◌, ◌||◌, Bool, true, false, nat_le}
-use Rattle.std.proofs.Common.{if◌then◌else◌, List, [], ◌∷◌, length, inl, inr, refl, sym, ap, subst, ◌∙◌, arith}
+use Rattle.std.proofs.Common.{◌≡◌, ◌≢◌, ℕ, zero, suc, ◌+◌, ◌-◌, ◌<◌, ◌≤◌, ◌==◌, ◌||◌, Bool, true}
+use Rattle.std.proofs.Common.{false, nat_le}
+use Rattle.std.proofs.Common.{if◌then◌else◌, List, [], ◌∷◌, length, inl, inr, refl, sym, ap, subst}
+use Rattle.std.proofs.Common.{◌∙◌, arith}
 use Rattle.std.proofs.lemmas.Bool.{cases_lt, cases_eq}
 use Rattle.std.proofs.lemmas.Bool.Decides.{nat_tests}
 use Rattle.std.proofs.lemmas.List.{length-replicate}
@@ -14,7 +16,8 @@ use Rattle.vcd_core.specs.Contents.{Contents, SignalContents, signal_at, signal_
 use Rattle.vcd_core.proofs.Waves.{value_past, value_early}
 use Rattle.vcd_edit.specs.declared.edit.Edit.TheVariants.{Deglitch}
 use Rattle.vcd_edit.specs.Effect.{run_start, run_end, is_steady, steady_value, with_wave, effect}
-use Rattle.vcd_edit.specs.inside.RemainingChanges.{TicksRise, without_repeats, begins_steady, steady_changes}
+use Rattle.vcd_edit.specs.inside.RemainingChanges.{TicksRise, without_repeats, begins_steady}
+use Rattle.vcd_edit.specs.inside.RemainingChanges.{steady_changes}
 use Rattle.vcd_edit.proofs.WithoutRepeats.{rise_lower, early_value, wave_rises, without_repeats_is}
 
 -- ---- a choice by whether two values are the same

@@ -1,6 +1,8 @@
 -- The pieces of a delayed or advanced signal.
-use Rattle.std.proofs.Common.{◌≡◌, ℕ, zero, suc, ◌+◌, ◌-◌, ◌^◌, ◌<◌, ◌≤◌, Bool, true, nat_lt, cond, if◌then◌else◌, ℤ}
-use Rattle.std.proofs.Common.{pos, negsuc, ◌-ℤ◌, List, [], ◌∷◌, ◌++◌, length, take, map, get_or, inl, inr, refl, sym}
+use Rattle.std.proofs.Common.{◌≡◌, ℕ, zero, suc, ◌+◌, ◌-◌, ◌^◌, ◌<◌, ◌≤◌, Bool, true, nat_lt, cond}
+use Rattle.std.proofs.Common.{if◌then◌else◌, ℤ}
+use Rattle.std.proofs.Common.{pos, negsuc, ◌-ℤ◌, List, [], ◌∷◌, ◌++◌, length, take, map, get_or}
+use Rattle.std.proofs.Common.{inl, inr, refl, sym}
 use Rattle.std.proofs.Common.{ap, ◌∙◌, arith}
 use Rattle.std.specs.Prelude.{neg_ℤ, Result, IfOk}
 use Rattle.std.specs.List.{count_by}
@@ -27,7 +29,8 @@ use Rattle.vcd_edit.specs.RecordView.{PieceView}
 use Rattle.vcd_edit.specs.Effect.{value_at_any_tick, shift_value, cut_value, with_wave, effect}
 use Rattle.vcd_edit.specs.declared.edit.Edit.TheVariants.{Shift}
 use Rattle.vcd_edit.specs.inside.Ranges.{value_just_before, changes_in, GivesChanges}
-use Rattle.vcd_edit.proofs.Ranges.{changes_in-split, changes_in-constant, changes_in-moved, changes_before_tick}
+use Rattle.vcd_edit.proofs.Ranges.{changes_in-split, changes_in-constant, changes_in-moved}
+use Rattle.vcd_edit.proofs.Ranges.{changes_before_tick}
 use Rattle.vcd_edit.proofs.Ranges.{replacement_leads}
 use Rattle.vcd_edit.proofs.Cuts.{all_counted}
 use Rattle.vcd_edit.proofs.WholeLists.{whole_leads}

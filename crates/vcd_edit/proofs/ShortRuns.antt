@@ -1,6 +1,8 @@
 -- The short runs of a wave, of which a deglitch leaves none.
-use Rattle.std.proofs.Common.{◌≡◌, ◌≢◌, ℕ, zero, suc, ◌+◌, ◌-◌, ◌<◌, ◌≤◌, ◌==◌, ◌||◌, Bool, true, false, nat_le}
-use Rattle.std.proofs.Common.{if◌then◌else◌, List, length, None, ◌⊎◌, inl, inr, refl, sym, ap, subst, ◌∙◌, arith}
+use Rattle.std.proofs.Common.{◌≡◌, ◌≢◌, ℕ, zero, suc, ◌+◌, ◌-◌, ◌<◌, ◌≤◌, ◌==◌, ◌||◌, Bool, true}
+use Rattle.std.proofs.Common.{false, nat_le}
+use Rattle.std.proofs.Common.{if◌then◌else◌, List, length, None, ◌⊎◌, inl, inr, refl, sym, ap}
+use Rattle.std.proofs.Common.{subst, ◌∙◌, arith}
 use Rattle.std.proofs.lemmas.Bool.{cases_lt, cases_eq}
 use Rattle.std.proofs.lemmas.Bool.Decides.{nat_tests}
 use Rattle.std.proofs.lemmas.List.{length-set, get_or-set_same, set-get_or}
@@ -8,7 +10,8 @@ use Rattle.vcd_core.specs.declared.bit.Bit.{Bit}
 use Rattle.vcd_core.specs.Value.{same_letters}
 use Rattle.vcd_core.specs.Wave.{changes_of}
 use Rattle.vcd_core.specs.inside.ValueLaws.{same_letters-Decides}
-use Rattle.vcd_core.specs.Contents.{Contents, SignalContents, no_signal, signal_at, with_signal, signal_value}
+use Rattle.vcd_core.specs.Contents.{Contents, SignalContents, no_signal, signal_at, with_signal}
+use Rattle.vcd_core.specs.Contents.{signal_value}
 use Rattle.vcd_core.proofs.Waves.{value_at-changes_of, changes_of-value_at, changes_same}
 use Rattle.vcd_edit.specs.declared.edit.Edit.TheVariants.{Deglitch}
 use Rattle.vcd_edit.specs.Effect.{run_start, run_end, is_steady, steady_value, with_values, effect}

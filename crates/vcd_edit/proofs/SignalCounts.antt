@@ -1,5 +1,6 @@
 -- How many signals a record or an edit leaves.
-use Rattle.std.proofs.Common.{◌≡◌, ℕ, ◌<◌, ◌≤◌, ◌-◌, List, [], length, Option, Some, None, refl, ap, ◌∙◌}
+use Rattle.std.proofs.Common.{◌≡◌, ℕ, ◌<◌, ◌≤◌, ◌-◌, List, [], length, Option, Some, None, refl, ap}
+use Rattle.std.proofs.Common.{◌∙◌}
 use Rattle.std.proofs.Common.{arith}
 use Rattle.std.proofs.lemmas.List.{length-set, length-map, length_push}
 use Rattle.std.proofs.lemmas.List.Edits.{length-insert}
@@ -7,11 +8,14 @@ use Rattle.vcd_core.specs.Contents.{Contents, SignalContents, signal_at, signal_
 use Rattle.vcd_core.specs.declared.bit.Bit.{Bit}
 use Rattle.vcd_edit.specs.RecordView.{PieceView, RecordView}
 use Rattle.vcd_edit.specs.declared.edit.Edit.{Edit}
-use Rattle.vcd_edit.specs.declared.edit.Edit.TheVariants.{Rename, Remove, Invert, Shift, Cut, Deglitch, Force, Derive}
-use Rattle.vcd_edit.specs.Effect.{effect, with_values, with_wave, renamed_signal, derived_signal, signal_after_cut}
+use Rattle.vcd_edit.specs.declared.edit.Edit.TheVariants.{Rename, Remove, Invert, Shift, Cut}
+use Rattle.vcd_edit.specs.declared.edit.Edit.TheVariants.{Deglitch, Force, Derive}
+use Rattle.vcd_edit.specs.Effect.{effect, with_values, with_wave, renamed_signal, derived_signal}
+use Rattle.vcd_edit.specs.Effect.{signal_after_cut}
 use Rattle.vcd_edit.specs.Effect.{inverse_value, shift_value, steady_value, force_value}
 use Rattle.vcd_edit.specs.TouchedByEdit.{IsRemove}
-use Rattle.vcd_edit.specs.AppliedRecords.{apply_record, with_pieces, with_first_word, with_signal_in_out}
+use Rattle.vcd_edit.specs.AppliedRecords.{apply_record, with_pieces, with_first_word}
+use Rattle.vcd_edit.specs.AppliedRecords.{with_signal_in_out}
 use Rattle.vcd_edit.specs.AppliedRecords.{PutsNoSignalIn, SignalFits, Fits, HasOneKindOfPart}
 use Rattle.vcd_edit.proofs.OppositePieces.{counts_kept}
 use Rattle.vcd_edit.proofs.OppositeRecords.{parts, signals_of_end, no_pieces_at_signal}

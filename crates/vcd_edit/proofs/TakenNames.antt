@@ -1,12 +1,14 @@
 -- Whether a signal other than one at a position has a name.
-use Rattle.std.proofs.Common.{◌≡◌, ◌<◌, ◌-◌, ◌+◌, add-one, Bool, true, false, ◌||◌, ℕ, suc, List, length, map, take}
+use Rattle.std.proofs.Common.{◌≡◌, ◌<◌, ◌-◌, ◌+◌, add-one, Bool, true, false, ◌||◌, ℕ, suc, List}
+use Rattle.std.proofs.Common.{length, map, take}
 use Rattle.std.proofs.Common.{drop, get_or, refl, sym, ◌∙◌, ap, arith}
 use Rattle.std.specs.List.{list_any, remove}
 use Rattle.std.specs.Str.{bytes_eq}
 use Rattle.std.proofs.lemmas.List.{map-append, take-map, drop-map, take_all, length-drop}
 use Rattle.std.proofs.lemmas.List.Folds.{list_any-append}
 use Rattle.vcd_core.specs.declared.capture.Signal.{Signal}
-use Rattle.vcd_core.specs.Contents.{signal_contents, no_signal}
+use Rattle.vcd_core.specs.Contents.{no_signal}
+use Rattle.vcd_core.specs.CaptureContents.{signal_contents}
 use Rattle.vcd_core.specs.Names.{full_name, full_names}
 use Rattle.vcd_edit.specs.Effect.{renamed_signal}
 use Rattle.vcd_edit.proofs.EditPlans.{contents_at}

@@ -1,15 +1,20 @@
 -- What a splice touches, by its range and its piece.
-use Rattle.std.proofs.Common.{◌≡◌, ℕ, suc, ◌+◌, ◌-◌, ◌^◌, ◌<◌, ◌≤◌, ◌==◌, Bool, true, ℤ, pos, ◌+ℤ◌, ◌-ℤ◌, neg_ℤ}
-use Rattle.std.proofs.Common.{unsigned_abs, List, [], ◌∷◌, ◌++◌, length, take, drop, get_or, map, reverse, All, refl}
+use Rattle.std.proofs.Common.{◌≡◌, ℕ, suc, ◌+◌, ◌-◌, ◌^◌, ◌<◌, ◌≤◌, ◌==◌, Bool, true, ℤ, pos, ◌+ℤ◌}
+use Rattle.std.proofs.Common.{◌-ℤ◌, neg_ℤ}
+use Rattle.std.proofs.Common.{unsigned_abs, List, [], ◌∷◌, ◌++◌, length, take, drop, get_or, map}
+use Rattle.std.proofs.Common.{reverse, All, refl}
 use Rattle.std.proofs.Common.{sym, ap, subst, ◌∙◌, inl, inr, arith}
 use Rattle.std.specs.Int.{w64, FitsUnsigned}
 use Rattle.std.specs.Bool.{Decides}
 use Rattle.std.specs.List.{common_prefix_len}
 use Rattle.std.specs.Ordering.{int_eq}
-use Rattle.std.proofs.lemmas.Bool.{cases_lt, cases_Bool, and_from, and_parts, eq-eqb, eqb-true, cond-true, cond-false}
+use Rattle.std.proofs.lemmas.Bool.{cases_lt, cases_Bool, and_from, and_parts, eq-eqb, eqb-true}
+use Rattle.std.proofs.lemmas.Bool.{cond-true, cond-false}
 use Rattle.std.proofs.lemmas.Bool.Decides.{Decides-int_eq}
-use Rattle.std.proofs.lemmas.List.{append_assoc, reverse-append, reverse-reverse, length-append, length-map}
-use Rattle.std.proofs.lemmas.List.{length-reverse, length-drop, drop-append-le, take-append-le, take_all, drop_at}
+use Rattle.std.proofs.lemmas.List.{append_assoc, reverse-append, reverse-reverse, length-append}
+use Rattle.std.proofs.lemmas.List.{length-map}
+use Rattle.std.proofs.lemmas.List.{length-reverse, length-drop, drop-append-le, take-append-le}
+use Rattle.std.proofs.lemmas.List.{take_all, drop_at}
 use Rattle.std.proofs.lemmas.List.{append-nil, take-append-drop, get_or-reverse, map-append, map-id}
 use Rattle.std.proofs.lemmas.List.Sums.{common_prefix_len-le}
 use Rattle.std.proofs.lemmas.List.Elements.{All-nil, All-cons, All-head, All-tail}
@@ -18,7 +23,8 @@ use Rattle.vcd_core.specs.declared.wave.Change.{Change}
 use Rattle.vcd_core.specs.Value.{same_letters}
 use Rattle.vcd_core.specs.inside.ValueLaws.{same_letters-Decides}
 use Rattle.vcd_core.specs.Splice.{moved_change, TickFits, AllTicksFit}
-use Rattle.vcd_edit.specs.Touched.{same_change, same_moved_change, common_moved_suffix, touched_count}
+use Rattle.vcd_edit.specs.Touched.{same_change, same_moved_change, common_moved_suffix}
+use Rattle.vcd_edit.specs.Touched.{touched_count}
 
 -- ---- tests of changes
 

@@ -1,5 +1,6 @@
 -- What opposite pieces store is at most what is touched, signal by signal.
-use Rattle.std.proofs.Common.{◌≡◌, ℕ, zero, suc, ◌+◌, ◌<◌, ◌≤◌, ◌==◌, ℤ, neg_ℤ, List, [], ◌∷◌, length, map, reverse}
+use Rattle.std.proofs.Common.{◌≡◌, ℕ, zero, suc, ◌+◌, ◌<◌, ◌≤◌, ◌==◌, ℤ, neg_ℤ, List, [], ◌∷◌}
+use Rattle.std.proofs.Common.{length, map, reverse}
 use Rattle.std.proofs.Common.{get_or, set, All, Option, Some, None, refl, sym, ap, ◌∙◌, arith}
 use Rattle.std.specs.List.{sum_by, common_prefix_len}
 use Rattle.std.proofs.lemmas.Bool.{eq-eqb, ne_eqb, cond-true, cond-false}
@@ -9,12 +10,15 @@ use Rattle.std.proofs.lemmas.List.Elements.{All-cons, All-head, All-tail}
 use Rattle.vcd_core.specs.declared.wave.Change.{Change}
 use Rattle.vcd_core.specs.Contents.{Contents, SignalContents, no_signal, signal_at}
 use Rattle.vcd_edit.specs.RecordView.{PieceView}
-use Rattle.vcd_edit.specs.AppliedRecords.{changes_with_piece, signal_with_changes, with_piece, with_pieces}
+use Rattle.vcd_edit.specs.AppliedRecords.{changes_with_piece, signal_with_changes, with_piece}
+use Rattle.vcd_edit.specs.AppliedRecords.{with_pieces}
 use Rattle.vcd_edit.specs.AppliedRecords.{HaveDistinctSignals}
-use Rattle.vcd_edit.specs.Touched.{same_change, touched_count, touched_in_signal, touched_from, piece_advance}
+use Rattle.vcd_edit.specs.Touched.{same_change, touched_count, touched_in_signal, touched_from}
+use Rattle.vcd_edit.specs.Touched.{piece_advance}
 use Rattle.vcd_edit.specs.inside.Exchanges.{AreOppositePieces}
 use Rattle.vcd_edit.proofs.TouchedParts.{same_change_self}
-use Rattle.vcd_edit.proofs.OppositePieces.{signal_here, signal_kept, counts_kept, count_kept, none_all}
+use Rattle.vcd_edit.proofs.OppositePieces.{signal_here, signal_kept, counts_kept, count_kept}
+use Rattle.vcd_edit.proofs.OppositePieces.{none_all}
 
 -- ---- the sum over the signals
 

@@ -1,9 +1,11 @@
 -- A piece without the changes that its list already has gives the same list.
-use Rattle.std.proofs.Common.{◌≡◌, ℕ, ◌+◌, ◌-◌, ◌^◌, ◌<◌, ◌≤◌, ℤ, neg_ℤ, List, ◌++◌, length, take, drop, map}
+use Rattle.std.proofs.Common.{◌≡◌, ℕ, ◌+◌, ◌-◌, ◌^◌, ◌<◌, ◌≤◌, ℤ, neg_ℤ, List, ◌++◌, length, take}
+use Rattle.std.proofs.Common.{drop, map}
 use Rattle.std.proofs.Common.{slice_range, All, sym, ap, subst, ◌∙◌, arith}
 use Rattle.std.specs.List.{common_prefix_len}
 use Rattle.std.proofs.Math.Seq.{take-add}
-use Rattle.std.proofs.lemmas.List.{append_assoc, length-drop, length-take-le, drop-append-le, drop-drop, take-take}
+use Rattle.std.proofs.lemmas.List.{append_assoc, length-drop, length-take-le, drop-append-le}
+use Rattle.std.proofs.lemmas.List.{drop-drop, take-take}
 use Rattle.std.proofs.lemmas.List.{take-append-drop, take_rest, map-append}
 use Rattle.std.proofs.lemmas.List.Sums.{common_prefix_len-le}
 use Rattle.std.proofs.lemmas.List.Edits.{length-between}

@@ -1,5 +1,6 @@
 -- What a record makes of a capture, and which records fit one. The rules are the project's own.
-use Rattle.std.specs.Prelude.{◌≡◌, ◌≢◌, ℕ, ◌<◌, ◌≤◌, List, [], ◌∷◌, length, drop, All, Option, Some, None}
+use Rattle.std.specs.Prelude.{◌≡◌, ◌≢◌, ℕ, ◌<◌, ◌≤◌, List, [], ◌∷◌, length, drop, All, Option, Some}
+use Rattle.std.specs.Prelude.{None}
 use Rattle.std.specs.List.{insert, remove}
 use Rattle.vcd_core.specs.declared.wave.Change.{Change}
 use Rattle.vcd_core.specs.Contents.{Contents, SignalContents, signal_at, with_signal}
@@ -21,7 +22,8 @@ signal_with_changes s cs = record s { changes = cs }
 -- the capture after a piece is put into its signal
 abbrev pub with_piece : Contents → PieceView → Contents
 with_piece c p = with_signal c p.signal
-    (signal_with_changes (signal_at c p.signal) (changes_with_piece p (signal_at c p.signal).changes))
+    (signal_with_changes (signal_at c p.signal)
+    (changes_with_piece p (signal_at c p.signal).changes))
 
 -- the capture after all pieces are put in, one after another
 unfoldable pub with_pieces : Contents → List PieceView → Contents
@@ -36,7 +38,8 @@ with_first_word None c = c
 with_first_word (Some w) c = with_signal c w.0 (renamed_signal w.1 (signal_at c w.0))
 
 -- the signals after one is put in at a position, or the one there is taken out
-abbrev pub signals_with_one_in_out : ℕ → Option SignalContents → List SignalContents → List SignalContents
+abbrev pub signals_with_one_in_out : ℕ → Option SignalContents → List SignalContents
+    → List SignalContents
 signals_with_one_in_out k (Some s) ss = insert ss k s
 signals_with_one_in_out k None ss = remove ss k
 
@@ -59,7 +62,8 @@ with_end (Some end) c = record c { end = end }
 
 -- the pieces in order, then the word, the signal and the end
 unfoldable pub apply_record : RecordView → Contents → Contents
-apply_record r c = with_end r.other_end (with_signal_in_out r.signal (with_first_word r.word (with_pieces c r.pieces)))
+apply_record r c = with_end r.other_end
+    (with_signal_in_out r.signal (with_first_word r.word (with_pieces c r.pieces)))
 
 -- ---- which records fit a capture
 

@@ -1,8 +1,10 @@
 -- The names of the faults of an edit. They are the project's own.
 use Rattle.std.specs.Prelude.{ℕ, List, codes}
 use Rattle.vcd_edit.specs.declared.fault.EditError.{EditError}
-use Rattle.vcd_edit.specs.declared.fault.EditError.TheVariants.{NoSuchSignal, NotScalar, BadBit, BadRange, BadCount}
-use Rattle.vcd_edit.specs.declared.fault.EditError.TheVariants.{BadValue, BadWord, NameTaken, TooManySignals, NoMemory}
+use Rattle.vcd_edit.specs.declared.fault.EditError.TheVariants.{NoSuchSignal, NotScalar, BadBit}
+use Rattle.vcd_edit.specs.declared.fault.EditError.TheVariants.{BadRange, BadCount}
+use Rattle.vcd_edit.specs.declared.fault.EditError.TheVariants.{BadValue, BadWord, NameTaken}
+use Rattle.vcd_edit.specs.declared.fault.EditError.TheVariants.{TooManySignals, NoMemory}
 
 -- the name that is printed for a refused edit
 abbrev pub edit_error_name : EditError → List ℕ

@@ -1,5 +1,6 @@
 -- When an edit is refused: its tests on a capture, in the order of the faults. The project's own.
-use Rattle.std.specs.Prelude.{ℕ, ◌+◌, ◌==◌, ◌&&◌, nat_lt, nat_le, Bool, not, if◌then◌else◌, List, [], ◌∷◌}
+use Rattle.std.specs.Prelude.{ℕ, ◌+◌, ◌==◌, ◌&&◌, nat_lt, nat_le, Bool, not, if◌then◌else◌, List}
+use Rattle.std.specs.Prelude.{[], ◌∷◌}
 use Rattle.std.specs.Prelude.{◌++◌, length, Option, Some, None}
 use Rattle.std.specs.List.{list_all, list_any, remove}
 use Rattle.std.specs.Str.{bytes_eq}
@@ -8,12 +9,15 @@ use Rattle.vcd_core.specs.Word.{is_word}
 use Rattle.vcd_core.specs.Names.{full_name, full_names}
 use Rattle.vcd_core.specs.declared.capture.TheConstants.{SIGNAL_LIMIT}
 use Rattle.vcd_edit.specs.declared.edit.Edit.{Edit}
-use Rattle.vcd_edit.specs.declared.edit.Edit.TheVariants.{Rename, Remove, Invert, Shift, Cut, Deglitch, Force, Derive}
+use Rattle.vcd_edit.specs.declared.edit.Edit.TheVariants.{Rename, Remove, Invert, Shift, Cut}
+use Rattle.vcd_edit.specs.declared.edit.Edit.TheVariants.{Deglitch, Force, Derive}
 use Rattle.vcd_edit.specs.declared.edit.Rule.{Rule}
 use Rattle.vcd_edit.specs.declared.edit.Rule.TheVariants.{Not, And, Or, Xor, BitOf}
 use Rattle.vcd_edit.specs.declared.fault.EditError.{EditError}
-use Rattle.vcd_edit.specs.declared.fault.EditError.TheVariants.{NoSuchSignal, NotScalar, BadBit, BadRange, BadCount}
-use Rattle.vcd_edit.specs.declared.fault.EditError.TheVariants.{BadValue, BadWord, NameTaken, TooManySignals}
+use Rattle.vcd_edit.specs.declared.fault.EditError.TheVariants.{NoSuchSignal, NotScalar, BadBit}
+use Rattle.vcd_edit.specs.declared.fault.EditError.TheVariants.{BadRange, BadCount}
+use Rattle.vcd_edit.specs.declared.fault.EditError.TheVariants.{BadValue, BadWord, NameTaken}
+use Rattle.vcd_edit.specs.declared.fault.EditError.TheVariants.{TooManySignals}
 use Rattle.vcd_edit.specs.Effect.{renamed_signal, derived_signal}
 
 -- ---- tests

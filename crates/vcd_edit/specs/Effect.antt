@@ -1,5 +1,7 @@
--- What an accepted edit makes of a capture, as values at each tick. The rules are the project's own.
-use Rattle.std.specs.Prelude.{ℕ, zero, suc, ◌+◌, ◌-◌, ◌==◌, ◌&&◌, ◌||◌, nat_lt, nat_le, ℤ, pos, negsuc, ◌-ℤ◌, Bool}
+-- What an accepted edit makes of a capture, as values at each tick. The rules are the project's
+-- own.
+use Rattle.std.specs.Prelude.{ℕ, zero, suc, ◌+◌, ◌-◌, ◌==◌, ◌&&◌, ◌||◌, nat_lt, nat_le, ℤ, pos}
+use Rattle.std.specs.Prelude.{negsuc, ◌-ℤ◌, Bool}
 use Rattle.std.specs.Prelude.{if◌then◌else◌, List, [], ◌∷◌, map, drop, codes}
 use Rattle.std.specs.List.{push, remove}
 use Rattle.vcd_core.specs.declared.bit.Bit.{Bit}
@@ -7,7 +9,8 @@ use Rattle.vcd_core.specs.Value.{all_x, letter_at, same_letters}
 use Rattle.vcd_core.specs.Wave.{changes_of}
 use Rattle.vcd_core.specs.Contents.{Contents, SignalContents, signal_at, with_signal, signal_value}
 use Rattle.vcd_edit.specs.declared.edit.Edit.{Edit}
-use Rattle.vcd_edit.specs.declared.edit.Edit.TheVariants.{Rename, Remove, Invert, Shift, Cut, Deglitch, Force, Derive}
+use Rattle.vcd_edit.specs.declared.edit.Edit.TheVariants.{Rename, Remove, Invert, Shift, Cut}
+use Rattle.vcd_edit.specs.declared.edit.Edit.TheVariants.{Deglitch, Force, Derive}
 use Rattle.vcd_edit.specs.declared.edit.Rule.{Rule}
 use Rattle.vcd_edit.specs.declared.edit.Rule.TheVariants.{Not, And, Or, Xor, BitOf}
 use Rattle.vcd_edit.specs.declared.edit.Operator.TheVariants as operators

@@ -1,5 +1,6 @@
 -- What the edits are for, in the subject's own words: each is the contract of a function of `laws`.
-use Rattle.std.specs.Prelude.{ℕ, ◌+◌, ◌-◌, ◌≡◌, ◌⊎◌, ◌<◌, ◌≤◌, ℤ, pos, ◌+ℤ◌, neg_ℤ, IsTrue, not, List, [], ◌∷◌}
+use Rattle.std.specs.Prelude.{ℕ, ◌+◌, ◌-◌, ◌≡◌, ◌⊎◌, ◌<◌, ◌≤◌, ℤ, pos, ◌+ℤ◌, neg_ℤ, IsTrue, not}
+use Rattle.std.specs.Prelude.{List, [], ◌∷◌}
 use Rattle.std.specs.Prelude.{length, map, slice_index_or, None, Some}
 use Rattle.std.specs.List.{list_all}
 use Rattle.std.specs.Borrow.{Bor}
@@ -8,7 +9,8 @@ use Rattle.vcd_core.specs.declared.bit.Bit.TheVariants.{Zero, One, X, Z}
 use Rattle.vcd_core.specs.Value.{letter_at, letter_number, same_letter}
 use Rattle.vcd_core.specs.Contents.{Contents, signal_at, signal_value}
 use Rattle.vcd_core.specs.Sound.{IsSound}
-use Rattle.vcd_edit.specs.declared.edit.Edit.TheVariants.{Rename, Remove, Invert, Shift, Cut, Force, Derive}
+use Rattle.vcd_edit.specs.declared.edit.Edit.TheVariants.{Rename, Remove, Invert, Shift, Cut, Force}
+use Rattle.vcd_edit.specs.declared.edit.Edit.TheVariants.{Derive}
 use Rattle.vcd_edit.specs.declared.edit.Rule.{Rule}
 use Rattle.vcd_edit.specs.declared.edit.Rule.TheVariants.{Not, And, Or, Xor, BitOf}
 use Rattle.vcd_edit.specs.AppliedRecords.{apply_record}
@@ -57,10 +59,12 @@ CutsCommute =
 
 -- ---- shift
 
--- a signal that is shifted and shifted back has its value at each tick that stayed within the capture
+-- a signal that is shifted and shifted back has its value at each tick that stayed within the
+-- capture
 abbrev pub ShiftAndBack : Type 0
 ShiftAndBack =
-    (c : Contents) (k t moved : ℕ) (by : ℤ) → k < length c.signals → t ≤ c.end → moved ≤ c.end → pos t +ℤ by ≡ pos moved
+    (c : Contents) (k t moved : ℕ) (by : ℤ) → k < length c.signals → t ≤ c.end → moved ≤ c.end
+    → pos t +ℤ by ≡ pos moved
     → value_of (effect (Shift k (neg_ℤ by)) (effect (Shift k by) c)) k t ≡ value_of c k t
 
 -- ---- force
@@ -76,7 +80,8 @@ ForceIsLocal =
 abbrev pub LastForceCounts : Type 0
 LastForceCounts =
     (c : Contents) (k from to : ℕ) (first last : List Bit) → k < length c.signals
-    → effect (Force k from to last) (effect (Force k from to first) c) ≡ effect (Force k from to last) c
+    → effect (Force k from to last) (effect (Force k from to first) c)
+    ≡ effect (Force k from to last) c
 
 -- ---- derive
 
@@ -125,7 +130,8 @@ DerivedByTables =
     (c : Contents) (word : Bor (List ℕ)) (a b t : ℕ) → t ≤ c.end
     → let x = letter_at (value_of c a t) 0 in
     let y = letter_at (value_of c b t) 0 in
-    let derived : Rule → List Bit = λ rule. value_of (effect (Derive word rule) c) (length c.signals) t in
+    let derived : Rule → List Bit = λ rule. value_of (effect (Derive word rule) c)
+    (length c.signals) t in
     (derived (Not a) ≡ entry not_table x ∷ [])
     × (derived (And a b) ≡ table_entry and_table x y ∷ [])
     × (derived (Or a b) ≡ table_entry or_table x y ∷ [])
@@ -148,7 +154,8 @@ RenameAndBack =
     → k < length c.signals → (signal_at c k).words ≡ old.now ∷ others
     → effect (Rename k old) (effect (Rename k new) c) ≡ c
 
--- a remove leaves the signals before and after in their order, and the signal, put in again, gives the capture back
+-- a remove leaves the signals before and after in their order, and the signal, put in again, gives
+-- the capture back
 abbrev pub RemoveAndBack : Type 0
 RemoveAndBack =
     (c : Contents) (k j : ℕ) → k < length c.signals

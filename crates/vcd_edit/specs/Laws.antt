@@ -18,7 +18,8 @@ values_at c k = signal_value (signal_at c k)
 
 -- ---- deglitch
 
--- a run of one value at the ticks `first` to `last`: neither the tick before nor the one after has the value
+-- a run of one value at the ticks `first` to `last`: neither the tick before nor the one after has
+-- the value
 abbrev pub IsRunOfOneValue : (ℕ → List Bit) → ℕ → ℕ → Type 0
 IsRunOfOneValue f first last =
     (first ≤ last) × ((t : ℕ) → first ≤ t → t ≤ last → f t ≡ f first) × (f (first - 1) ≢ f first)
@@ -27,19 +28,23 @@ IsRunOfOneValue f first last =
 -- each run that holds neither tick 0 nor the end has at least so many ticks
 abbrev pub HasNoShortRun : ℕ → ℕ → (ℕ → List Bit) → Type 0
 HasNoShortRun ticks end f =
-    (first last : ℕ) → 0 < first → last < end → IsRunOfOneValue f first last → ticks ≤ last - first + 1
+    (first last : ℕ) → 0 < first → last < end → IsRunOfOneValue f first last
+    → ticks ≤ last - first + 1
 
 -- a deglitch leaves no short run
 abbrev pub DeglitchLeavesNoShortRun : Type 0
 DeglitchLeavesNoShortRun =
     (k ticks : ℕ) (c : Contents) → IsSound c → edit_fault (Deglitch k ticks) c ≡ None
-    → HasNoShortRun ticks (effect (Deglitch k ticks) c).end (values_at (effect (Deglitch k ticks) c) k)
+    → HasNoShortRun ticks (effect (Deglitch k ticks) c).end
+    (values_at (effect (Deglitch k ticks) c) k)
 
 -- a run that is long enough keeps its value
 abbrev pub DeglitchKeepsLongRuns : Type 0
 DeglitchKeepsLongRuns =
-    (k ticks : ℕ) (c : Contents) → IsSound c → edit_fault (Deglitch k ticks) c ≡ None → (first last t : ℕ)
-    → last < c.end → IsRunOfOneValue (values_at c k) first last → ticks ≤ last - first + 1 → first ≤ t → t ≤ last
+    (k ticks : ℕ) (c : Contents) → IsSound c → edit_fault (Deglitch k ticks) c ≡ None
+    → (first last t : ℕ)
+    → last < c.end → IsRunOfOneValue (values_at c k) first last → ticks ≤ last - first + 1
+    → first ≤ t → t ≤ last
     → values_at (effect (Deglitch k ticks) c) k t ≡ values_at c k t
 
 -- a capture whose signal has no short run is unchanged

@@ -1,4 +1,5 @@
--- The definitions of vcd_edit: edits with their faults and effects, records, and the changes that they touch.
+-- The definitions of vcd_edit: edits with their faults and effects, records, and the changes that
+-- they touch.
 pub mod EditErrorNames
 pub mod Operators
 pub mod Effect

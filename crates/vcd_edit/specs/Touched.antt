@@ -1,5 +1,7 @@
--- How many changes a step touches in each signal: the bound on what a record stores. It is the project's own.
-use Rattle.std.specs.Prelude.{ℕ, suc, ◌+◌, ◌-◌, ◌==◌, ◌&&◌, if◌then◌else◌, ℤ, pos, ◌-ℤ◌, neg_ℤ, Bool, List, [], ◌∷◌}
+-- How many changes a step touches in each signal: the bound on what a record stores. It is the
+-- project's own.
+use Rattle.std.specs.Prelude.{ℕ, suc, ◌+◌, ◌-◌, ◌==◌, ◌&&◌, if◌then◌else◌, ℤ, pos, ◌-ℤ◌, neg_ℤ}
+use Rattle.std.specs.Prelude.{Bool, List, [], ◌∷◌}
 use Rattle.std.specs.Prelude.{length, drop, map, reverse, Option, Some, None}
 use Rattle.std.specs.List.{common_prefix_len, insert, remove, sum_by}
 use Rattle.std.specs.Ordering.{int_eq}
@@ -17,11 +19,13 @@ same_change a b = (a.tick == b.tick) && same_letters a.value b.value
 
 -- whether the first change, `advance` ticks earlier, is the second
 abbrev pub same_moved_change : ℤ → Change → Change → Bool
-same_moved_change advance a b = int_eq (pos a.tick -ℤ advance) (pos b.tick) && same_letters a.value b.value
+same_moved_change advance a b =
+    int_eq (pos a.tick -ℤ advance) (pos b.tick) && same_letters a.value b.value
 
 -- how many last changes two lists have in common, the old ones `advance` ticks earlier
 abbrev pub common_moved_suffix : ℤ → List Change → List Change → ℕ
-common_moved_suffix advance old new = common_prefix_len (same_moved_change advance) (reverse old) (reverse new)
+common_moved_suffix advance old new =
+    common_prefix_len (same_moved_change advance) (reverse old) (reverse new)
 
 -- how many old changes are in neither the common prefix nor the common suffix
 unfoldable pub touched_count : ℤ → List Change → List Change → ℕ
@@ -52,7 +56,8 @@ touched_in_signal advance s (Some n) = touched_count advance s.changes n.changes
 unfoldable pub touched_from : (ℕ → ℤ) → ℕ → List SignalContents → List (Option SignalContents) → ℕ
 touched_from advance k [] ns = 0
 touched_from advance k (s ∷ ss) [] = 0
-touched_from advance k (s ∷ ss) (n ∷ ns) = touched_in_signal (advance k) s n + touched_from advance (suc k) ss ns
+touched_from advance k (s ∷ ss) (n ∷ ns) =
+    touched_in_signal (advance k) s n + touched_from advance (suc k) ss ns
 
 -- ---- what reverting a record touches
 

@@ -20,7 +20,8 @@ edit_pairing e c = stays
 
 -- the sum over all signals
 abbrev pub touched_by_edit : Edit → Contents → ℕ
-touched_by_edit e c = touched_from (λ k. edit_advance e) 0 c.signals (partners (edit_pairing e c) (effect e c).signals)
+touched_by_edit e c = touched_from (λ k. edit_advance e) 0 c.signals
+    (partners (edit_pairing e c) (effect e c).signals)
 
 -- an edit that takes a signal out
 abbrev pub IsRemove : Edit → Type 0

@@ -1,7 +1,7 @@
 //! How an edit is applied.
 
 ghost use Rattle.std.specs.Prelude.{◌≡◌, ◌≤◌, None, IsOk, IfOk, OnOk, IfErr, OnErr};
-ghost use Rattle.vcd_core.specs.Contents.{contents};
+ghost use Rattle.vcd_core.specs.CaptureContents.{contents};
 ghost use Rattle.vcd_core.specs.Sound.{IsSound};
 ghost use Rattle.vcd_edit.specs.Effect.{effect as edit_effect};
 ghost use Rattle.vcd_edit.specs.EditFaults.{edit_fault};
@@ -21,22 +21,24 @@ use vcd_core::Capture;
 
 /// Applies an edit to a capture, and gives the record that undoes it.
 ///
-/// An edit that has a fault, as [`check`] shows it, is refused with that fault, and takes no memory. An edit without a
-/// fault is refused only if memory runs out; a remove never is. A refused edit leaves the capture as it was. The
-/// record stores touched changes only.
+/// An edit that has a fault, as [`check`] shows it, is refused with that fault, and takes no
+/// memory. An edit without a fault is refused only if memory runs out; a remove never is. A refused
+/// edit leaves the capture as it was. The record stores touched changes only.
 ///
-/// A force and a shift cost a binary search, the changes that they put in and take out, and one move of the later ones.
-/// A cut costs as much for each signal that changes at or after `from`. An invert, a deglitch, and a shift that
-/// pushes changes past the end cost one pass over the wave and a new list of its changes. A derive costs one merged
-/// pass over its operands. Variables of one code share their list of changes. A signal that shares its list gets
-/// another: a copy of each change that it keeps. Those that shared one list, and get the same splice, share that.
+/// A force and a shift cost a binary search, the changes that they put in and take out, and one
+/// move of the later ones. A cut costs as much for each signal that changes at or after `from`. An
+/// invert, a deglitch, and a shift that pushes changes past the end cost one pass over the wave and
+/// a new list of its changes. A derive costs one merged pass over its operands. Variables of one
+/// code share their list of changes. A signal that shares its list gets another: a copy of each
+/// change that it keeps. Those that shared one list, and get the same splice, share that.
 pub fn apply(alloc: Global, capture: &mut Capture, edit: &Edit) -> Result<Record, EditError>
     requires { IsSound (contents capture.old) }
     ensures allowed { OnOk result (edit_fault edit.now (contents capture.old) ≡ None) }
     ensures effect { OnOk result
         (contents capture.new ≡ edit_effect edit.now (contents capture.old)) }
     ensures fits { IfOk result (λ r. Fits r (contents capture.new)) }
-    ensures restores { IfOk result (λ r. apply_record r (contents capture.new) ≡ contents capture.old) }
+    ensures restores { IfOk result (λ r. apply_record r (contents capture.new)
+        ≡ contents capture.old) }
     ensures stored { IfOk result
         (λ r. stored_changes r ≤ touched_by_edit edit.now (contents capture.old)) }
     ensures sound { OnOk result (IsSound (contents capture.new)) }

@@ -1,7 +1,7 @@
 //! Which fault an edit has.
 
 ghost use Rattle.std.specs.Prelude.{◌∷◌, []};
-ghost use Rattle.vcd_core.specs.Contents.{contents};
+ghost use Rattle.vcd_core.specs.CaptureContents.{contents};
 ghost use Rattle.vcd_edit.specs.EditFaults.{◌unless◌, is_signal, first_fault, edit_fault};
 ghost use Rattle.vcd_edit.specs.EditAnswers.{FaultIs};
 ghost use Rattle.vcd_edit.specs.declared.edit.Edit.TheVariants as edits;
@@ -18,8 +18,8 @@ use vcd_core::{Capture, Value};
 
 /// The fault of an edit on a capture: the first that holds, in the order of [`EditError`].
 ///
-/// It takes no memory. Its time grows with the signals and their names if the edit gives a name; otherwise it is
-/// bounded.
+/// It takes no memory. Its time grows with the signals and their names if the edit gives a name;
+/// otherwise it is bounded.
 #[tactic(auto, unfolding(crate::specs::EditFaults::edit_fault))]
 pub fn check(capture: &Capture, edit: &Edit) -> Result<(), EditError>
     ensures { FaultIs result (edit_fault edit.now (contents capture.now)) }

@@ -7,8 +7,8 @@ use vcd_core::Value;
 
 /// An edit of a capture.
 ///
-/// A signal is named by its position in the capture, counted from 0. The other numbers of these variants are ticks. A
-/// range of ticks contains `from` and not `to`.
+/// A signal is named by its position in the capture, counted from 0. The other numbers of these
+/// variants are ticks. A range of ticks contains `from` and not `to`.
 #[derive(Clone, Copy, Debug, PartialEq)]
 pub enum Edit<'a> {
     /// The first word of the signal's name becomes `word`.
@@ -24,19 +24,20 @@ pub enum Edit<'a> {
     Invert {
         signal: usize,
     },
-    /// The signal is delayed by `by` ticks, or advanced if `by` is negative. The values that come in are x before tick
-    /// 0, and the last value past the end.
+    /// The signal is delayed by `by` ticks, or advanced if `by` is negative. The values that come
+    /// in are x before tick 0, and the last value past the end.
     Shift {
         signal: usize,
         by: i64,
     },
-    /// The ticks `from` up to before `to` are cut out of every signal, and the end is that much earlier.
+    /// The ticks `from` up to before `to` are cut out of every signal, and the end is that much
+    /// earlier.
     Cut {
         from: u64,
         to: u64,
     },
-    /// Runs of one value of fewer than `ticks` ticks take the value of the last longer run before them. Runs that
-    /// contain tick 0 or the end count as longer ones.
+    /// Runs of one value of fewer than `ticks` ticks take the value of the last longer run before
+    /// them. Runs that contain tick 0 or the end count as longer ones.
     Deglitch {
         signal: usize,
         ticks: u64,
@@ -48,16 +49,16 @@ pub enum Edit<'a> {
         to: u64,
         value: Value,
     },
-    /// A new last signal of one bit and the kind `wire`, in the scopes of the rule's first operand, with `word` as its
-    /// name. Its value at each tick is that of the rule.
+    /// A new last signal of one bit and the kind `wire`, in the scopes of the rule's first operand,
+    /// with `word` as its name. Its value at each tick is that of the rule.
     Derive {
         word: &'a [u8],
         rule: Rule,
     },
 }
 
-/// How a derived signal is computed. Operands are positions of signals, of one bit each except for `BitOf`. The
-/// operators are those of IEEE 1364-2005, 5.1.10.
+/// How a derived signal is computed. Operands are positions of signals, of one bit each except for
+/// `BitOf`. The operators are those of IEEE 1364-2005, 5.1.10.
 #[derive(Clone, Copy, Debug, PartialEq, Eq)]
 pub enum Rule {
     /// `~ a`.
@@ -68,8 +69,8 @@ pub enum Rule {
     Or(usize, usize),
     /// `a ^ b`.
     Xor(usize, usize),
-    /// The second number selects a bit of the signal at the first position. Bits count from 0, the least significant
-    /// one.
+    /// The second number selects a bit of the signal at the first position. Bits count from 0, the
+    /// least significant one.
     BitOf(usize, u64),
 }
 

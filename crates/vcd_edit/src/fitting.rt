@@ -1,23 +1,28 @@
 //! Whether a record fits a capture.
 
-ghost use Rattle.std.specs.Prelude.{◌≡◌, ◌↔◌, ℕ, ◌<◌, ◌≤◌, All, IsTrue, Option, Some, None, map, length};
-ghost use Rattle.vcd_core.specs.Contents.{Contents, contents, signal_contents};
+ghost use Rattle.std.specs.Prelude.{◌≡◌, ◌↔◌, ℕ, ◌<◌, ◌≤◌, All, IsTrue, Option, Some, None, map};
+ghost use Rattle.std.specs.Prelude.{length};
+ghost use Rattle.vcd_core.specs.Contents.{Contents};
+ghost use Rattle.vcd_core.specs.CaptureContents.{contents, signal_contents};
 ghost use Rattle.vcd_core.specs.Sound.{IsSoundSignal};
 ghost use Rattle.std.specs.List.{insert, remove};
-ghost use Rattle.vcd_edit.specs.AppliedRecords.{with_first_word, with_signal_in_out, MayPutInOrTakeOut, Fits, HasOneKindOfPart};
-ghost use Rattle.vcd_edit.specs.Records.{piece_view, word_view, contents_of_signal, signal_view, record_view};
+ghost use Rattle.vcd_edit.specs.AppliedRecords.{with_first_word, with_signal_in_out};
+ghost use Rattle.vcd_edit.specs.AppliedRecords.{MayPutInOrTakeOut, Fits, HasOneKindOfPart};
+ghost use Rattle.vcd_edit.specs.Records.{piece_view, word_view, contents_of_signal, signal_view};
+ghost use Rattle.vcd_edit.specs.Records.{record_view};
 ghost use Rattle.vcd_edit.specs.inside.Fitting.{AreSoundSignals, PartsFit, HasSoundMetadata};
 
 mod adjacency;
-mod pieces;
 mod sound_names;
+mod wave_pieces;
 
 use crate::record::{Piece, Record};
-use pieces::pieces_fit;
 use sound_names::{are_others_sound, are_sound, is_sound_with_word};
 use vcd_core::{Capture, END_LIMIT, SIGNAL_LIMIT, Signal};
+use wave_pieces::pieces_fit;
 
-/// Whether the name of the signal at a position may begin with a word, and all signals are then sound up to an end.
+/// Whether the name of the signal at a position may begin with a word, and all signals are then
+/// sound up to an end.
 fn may_be_renamed(signal: usize, word: &[u8], signals: &[Signal], end: u64) -> bool
     ensures { (c : Contents) → c.signals ≡ map signal_contents signals.now
         → IsTrue result ↔ ((signal < length c.signals)
@@ -51,7 +56,8 @@ fn may_be_taken_out(at: usize, signals: &[Signal], end: u64) -> bool
     are_others_sound(signals, at, end)
 }
 
-/// Whether a signal may be put in at a position, or, without one, the signal there may be taken out.
+/// Whether a signal may be put in at a position, or, without one, the signal there may be taken
+/// out.
 fn signal_fits(at: usize, signal: &Option<Signal>, signals: &[Signal], end: u64) -> bool
     ensures { (c : Contents) → c.signals ≡ map signal_contents signals.now
         → IsTrue result ↔ (MayPutInOrTakeOut c at (contents_of_signal signal.now)
@@ -64,8 +70,8 @@ fn signal_fits(at: usize, signal: &Option<Signal>, signals: &[Signal], end: u64)
     }
 }
 
-/// Whether the parts of a record lie within a capture, and the resulting signals are sound up to an end. A record has
-/// pieces, or a word, or a signal to put in or take out.
+/// Whether the parts of a record lie within a capture, and the resulting signals are sound up to an
+/// end. A record has pieces, or a word, or a signal to put in or take out.
 fn parts_fit(
     pieces: &[Piece],
     word: &Option<(usize, Vec<u8>)>,
@@ -95,10 +101,11 @@ fn is_metadata_sound(capture: &Capture, end: u64) -> bool
 }
 
 impl Record {
-    /// Whether the record fits a capture: its parts lie within it, and the resulting capture is sound.
+    /// Whether the record fits a capture: its parts lie within it, and the resulting capture is
+    /// sound.
     ///
-    /// It takes no memory. Its time grows with the words and the signals of the capture, and with the changes in the
-    /// pieces. It does not grow with the changes of the waves.
+    /// It takes no memory. Its time grows with the words and the signals of the capture, and with
+    /// the changes in the pieces. It does not grow with the changes of the waves.
     pub fn fits(&self, capture: &Capture) -> bool
         ensures { IsTrue result ↔ Fits self.now (contents capture.now) }
     {

@@ -3,8 +3,11 @@
 ghost use Rattle.vcd_edit.specs.Laws.{EffectIsSound};
 ghost use Rattle.vcd_edit.specs.Laws.{DeglitchLeavesNoShortRun, DeglitchKeepsLongRuns};
 ghost use Rattle.vcd_edit.specs.Laws.{DeglitchWithoutShortRuns, DeglitchTwice};
-ghost use Rattle.vcd_edit.specs.EffectLaws.{InvertTwice, InvertTwiceWithoutZ, CutKeepsOtherTicks, CutsCommute, ShiftAndBack, ForceIsLocal, LastForceCounts};
-ghost use Rattle.vcd_edit.specs.EffectLaws.{DerivedByTables, BitOfOneBit, RenameAndBack, RemoveAndBack};
+ghost use Rattle.vcd_edit.specs.EffectLaws.{InvertTwice, InvertTwiceWithoutZ, CutKeepsOtherTicks};
+ghost use Rattle.vcd_edit.specs.EffectLaws.{CutsCommute, ShiftAndBack, ForceIsLocal};
+ghost use Rattle.vcd_edit.specs.EffectLaws.{LastForceCounts};
+ghost use Rattle.vcd_edit.specs.EffectLaws.{DerivedByTables, BitOfOneBit, RenameAndBack};
+ghost use Rattle.vcd_edit.specs.EffectLaws.{RemoveAndBack};
 
 /// An edit with no fault keeps a sound capture sound.
 pub fn effect_is_sound()
@@ -69,8 +72,8 @@ pub fn rename_and_back()
     ensures { RenameAndBack }
 {}
 
-/// A remove leaves the other signals in their order. The record that puts the signal in again, where
-/// it was, gives the capture back.
+/// A remove leaves the other signals in their order. The record that puts the signal in again,
+/// where it was, gives the capture back.
 pub fn remove_and_back()
     ensures { RemoveAndBack }
 {}

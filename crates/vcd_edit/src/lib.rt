@@ -1,16 +1,16 @@
 //! Edits of a capture: the fault of an edit, its effect, and the record that undoes it.
 //!
-//! An [`Edit`] either has a fault, the first of nine, or is applied as a whole. The answer is then a record that
-//! undoes the edit and stores touched changes only.
+//! An [`Edit`] is refused with its first fault, or applied as a whole. The answer is then a record
+//! that undoes the edit and stores touched changes only.
 #![tactic(auto)]
 
 mod applying;
 mod checking;
 mod edit;
+mod exchange;
 mod fault;
 mod fitting;
 mod laws;
-mod pieces;
 mod plans;
 mod record;
 mod reverting;

@@ -1,7 +1,7 @@
 //! What each edit does, as a record. Nothing is changed here.
 
 ghost use Rattle.std.specs.Prelude.{◌≡◌, [], None, IsOk, IfOk};
-ghost use Rattle.vcd_core.specs.Contents.{contents};
+ghost use Rattle.vcd_core.specs.CaptureContents.{contents};
 ghost use Rattle.vcd_core.specs.Sound.{IsSound};
 ghost use Rattle.vcd_edit.specs.EditFaults.{edit_fault};
 ghost use Rattle.vcd_edit.specs.AppliedRecords.{PutsNoSignalIn};
@@ -14,7 +14,7 @@ mod derive;
 mod force;
 mod invert;
 mod operators;
-mod piece_builders;
+mod parts;
 mod remove;
 mod rename;
 mod shift;
@@ -30,7 +30,8 @@ pub(crate) fn plan(alloc: Global, capture: &Capture, edit: &Edit) -> Result<Reco
     requires allowed { edit_fault edit.now (contents capture.now) ≡ None }
     ensures plan { IfOk result (IsPlan edit.now (contents capture.now)) }
     ensures never_refused { IsRemove edit.now → IsOk result }
-    ensures taken_out { IsRemove edit.now → IfOk result (λ r. (r.pieces ≡ []) × PutsNoSignalIn r.signal) }
+    ensures taken_out { IsRemove edit.now → IfOk result
+        (λ r. (r.pieces ≡ []) × PutsNoSignalIn r.signal) }
 {
     match *edit {
         Edit::Rename { signal, word } => rename::plan(alloc, capture, signal, word),

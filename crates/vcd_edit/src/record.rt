@@ -8,8 +8,8 @@ ghost use Rattle.vcd_edit.specs.Records.{signal_view};
 use std::marker::Model;
 use vcd_core::{Change, Signal};
 
-/// A replacement for a range of a signal's changes. Those at places `from` up to before `to` become `changes`, and
-/// the later ones move by `by` ticks.
+/// A replacement for a range of a signal's changes. Those at places `from` up to before `to` become
+/// `changes`, and the later ones move by `by` ticks.
 #[derive(Drop)]
 pub struct Piece {
     pub(crate) signal: usize,
@@ -19,11 +19,11 @@ pub struct Piece {
     pub(crate) by: i64,
 }
 
-/// The difference between two captures. It has pieces of waves, a new first word of a signal's name, or a signal to put
-/// in or take out. It may also have another end.
+/// The difference between two captures. It has pieces of waves, a new first word of a signal's
+/// name, or a signal to put in or take out. It may also have another end.
 ///
-/// Each signal has at most one piece. A record with a word has no pieces, and one with a signal to put in or take out
-/// has neither. Contracts see a record as plain data.
+/// Each signal has at most one piece. A record with a word has no pieces, and one with a signal to
+/// put in or take out has neither. Contracts see a record as plain data.
 #[derive(Drop)]
 pub struct Record {
     pub(crate) pieces: Vec<Piece>,
@@ -41,14 +41,16 @@ impl Model for Record {
 
     ghost view = { λ r. record_view r.pieces.items r.word r.signal r.other_end };
 
-    ghost invariant = { λ r. HasOneKindOfPart (record_view r.pieces.items r.word r.signal r.other_end) };
+    ghost invariant = { λ r. HasOneKindOfPart
+        (record_view r.pieces.items r.word r.signal r.other_end) };
 }
 
 impl Record {
     ghost use Rattle.std.specs.Prelude.{◌≡◌};
     ghost use Rattle.vcd_edit.specs.Touched.{stored_changes};
 
-    /// How many changes the record holds, in its pieces and in a signal to put in. It takes no memory.
+    /// How many changes the record holds, in its pieces and in a signal to put in. It takes no
+    /// memory.
     pub fn stored(&self) -> u128
         ensures { result ≡ stored_changes self.now }
     {
@@ -62,7 +64,8 @@ fn count_in_pieces(pieces: &[Piece]) -> u128
 {
     let mut count = 0;
     for piece in pieces {
-        // Each field is named, so that a further one, such as a whole wave that is kept, does not compile.
+        // Each field is named, so that a further one, such as a whole wave that is kept, does not
+        // compile.
         let Piece {
             signal: _,
             from: _,

@@ -1,4 +1,5 @@
-//! The fields of a record and of a piece. A further one, such as a whole wave that is kept, does not compile here.
+//! The fields of a record and of a piece. A further one, such as a whole wave that is kept, does
+//! not compile here.
 
 use crate::record::{Piece, Record};
 use crate::{Edit, apply};
@@ -6,7 +7,8 @@ use std::process::Abort;
 use std::test::Fail;
 use vcd_core::{Bit, Capture, Change, NameWords, ScopePath, Seq, Signal, Value, Wave};
 
-/// Stops unless a piece of the signal at position 0 leads from two changes back to one, moved by no ticks.
+/// Stops unless a piece of the signal at position 0 leads from two changes back to one, moved by no
+/// ticks.
 fn check_piece(rt: &impl Abort, piece: Piece) {
     let Piece {
         signal,

@@ -1,4 +1,5 @@
--- Worked cases: undo and redo, refused steps, a history of two, a depth that changes, and the edits in force.
+-- Worked cases: undo and redo, refused steps, a history of two, a depth that changes, and the edits
+-- in force.
 use Rattle.std.proofs.Common.{◌≡◌, refl}
 use Rattle.std.specs.Prelude.{ℕ, suc, List, [], ◌∷◌, codes}
 use Rattle.vcd_core.specs.declared.bit.Bit.TheVariants.{Zero, One}
@@ -18,7 +19,8 @@ use Rattle.vcd_journal.specs.declared.step.StepError.{StepError}
 use Rattle.vcd_journal.specs.declared.step.StepError.TheVariants as refusals
 use Rattle.vcd_journal.specs.declared.step.Answer.{Answer}
 use Rattle.vcd_journal.specs.declared.step.Answer.TheVariants.{Done, Refused}
-use Rattle.vcd_journal.specs.Machine.{Machine, initial_machine, step_outcome, accepted_outcome, refused_outcome}
+use Rattle.vcd_journal.specs.Machine.{Machine, initial_machine, step_outcome, accepted_outcome}
+use Rattle.vcd_journal.specs.Machine.{refused_outcome}
 use Rattle.vcd_journal.specs.HistoryMachine.{history_after_all, earlier_replays, later_replays}
 use Rattle.vcd_journal.specs.History.{initial_history, replay}
 
@@ -66,7 +68,8 @@ history_of_two :
 unfolding effect edit_fault name_in
 history_of_two = (refl, refl, refl, refl, refl, refl)
 
--- redo is the opposite of undo; an accepted edit leaves nothing to redo, a refused one changes nothing
+-- redo is the opposite of undo; an accepted edit leaves nothing to redo, a refused one changes
+-- nothing
 redo_and_edit :
     leads (machine 2 [] b (c ∷ d ∷ [])) steps.Redo (machine 2 (b ∷ []) c (d ∷ []))
     × refuses (machine 2 (b ∷ []) c (d ∷ [])) (to (codes "")) (refusals.Edit errors.BadWord)

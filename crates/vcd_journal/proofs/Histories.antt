@@ -1,5 +1,6 @@
 -- The records of a session and the captures that they reach.
-use Rattle.std.proofs.Common.{◌≡◌, ◌<◌, ◌≤◌, ◌+◌, ℕ, zero, suc, List, [], ◌∷◌, ◌-◌, length, take, drop, refl, sym, ◌∙◌}
+use Rattle.std.proofs.Common.{◌≡◌, ◌<◌, ◌≤◌, ◌+◌, ℕ, zero, suc, List, [], ◌∷◌, ◌-◌, length, take}
+use Rattle.std.proofs.Common.{drop, refl, sym, ◌∙◌}
 use Rattle.std.proofs.Common.{ap, subst, Some, arith}
 use Rattle.std.specs.Prelude.{slice_get, nat_lt, Bool, true, false}
 use Rattle.std.proofs.lemmas.Bool.Decides.{nat_tests}
@@ -11,7 +12,8 @@ use Rattle.vcd_edit.specs.Effect.{effect}
 use Rattle.vcd_edit.specs.RecordView.{RecordView}
 use Rattle.vcd_edit.specs.AppliedRecords.{apply_record, Fits}
 use Rattle.vcd_journal.specs.declared.step.Step.TheVariants as steps
-use Rattle.vcd_journal.specs.Machine.{Machine, machine_after_edit, machine_after_depth, may_need_memory}
+use Rattle.vcd_journal.specs.Machine.{Machine, machine_after_edit, machine_after_depth}
+use Rattle.vcd_journal.specs.Machine.{may_need_memory}
 use Rattle.vcd_journal.specs.inside.Histories.{AllRecordsFit, HasNoFewerSignals, AreSessionRings}
 use Rattle.vcd_journal.specs.ReachedCaptures.{reached_captures}
 use Rattle.vcd_journal.specs.inside.Histories.{PopsRecord}

@@ -1,5 +1,7 @@
--- A session as a list of edits: those in force and those undone. The headline speaks of this model. The project's own.
-use Rattle.std.specs.Prelude.{ℕ, ◌+◌, ◌-◌, ◌&&◌, nat_le, Bool, min, List, [], ◌∷◌, ◌++◌, length, take, drop}
+-- A session as a list of edits: those in force and those undone. The headline speaks of this model.
+-- The project's own.
+use Rattle.std.specs.Prelude.{ℕ, ◌+◌, ◌-◌, ◌&&◌, nat_le, Bool, min, List, [], ◌∷◌, ◌++◌, length}
+use Rattle.std.specs.Prelude.{take, drop}
 use Rattle.vcd_core.specs.Contents.{Contents}
 use Rattle.vcd_edit.specs.declared.edit.Edit.{Edit}
 use Rattle.vcd_edit.specs.Effect.{effect}

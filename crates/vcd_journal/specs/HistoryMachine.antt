@@ -1,4 +1,5 @@
--- A session's machine as a view of its history: its captures are replays of edits. The project's own.
+-- A session's machine as a view of its history: its captures are replays of edits. The project's
+-- own.
 use Rattle.std.specs.Prelude.{List, [], ◌∷◌, take}
 use Rattle.vcd_core.specs.Contents.{Contents}
 use Rattle.vcd_edit.specs.declared.edit.Edit.{Edit}

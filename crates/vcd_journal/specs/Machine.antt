@@ -1,5 +1,7 @@
--- A session as a list of captures: the current one, and those that undo and redo reach. The project's own.
-use Rattle.std.specs.Prelude.{◌≡◌, ◌⊎◌, ℕ, ◌-◌, nat_lt, nat_le, Bool, not, IsTrue, if◌then◌else◌, List, [], ◌∷◌}
+-- A session as a list of captures: the current one, and those that undo and redo reach. The
+-- project's own.
+use Rattle.std.specs.Prelude.{◌≡◌, ◌⊎◌, ℕ, ◌-◌, nat_lt, nat_le, Bool, not, IsTrue, if◌then◌else◌}
+use Rattle.std.specs.Prelude.{List, [], ◌∷◌}
 use Rattle.std.specs.Prelude.{length, take, Option, Some, None, Result, MatchResult}
 use Rattle.vcd_core.specs.Contents.{Contents}
 use Rattle.vcd_edit.specs.declared.edit.Edit.{Edit}
@@ -15,7 +17,8 @@ use Rattle.vcd_journal.specs.declared.step.Answer.{Answer}
 use Rattle.vcd_journal.specs.declared.step.Answer.TheVariants.{Done, Refused}
 use Rattle.vcd_journal.specs.History.{is_depth}
 
--- the current capture; the captures that undo and redo reach, the nearest first; and the most that both may hold
+-- the current capture; the captures that undo and redo reach, the nearest first; and the most that
+-- both may hold
 pub record Machine : Type 0 where
   pub past : List Contents
   pub now : Contents
@@ -28,7 +31,8 @@ initial_machine c depth = record { past = []; now = c; future = []; depth = dept
 
 -- ---- accepted steps
 
--- an accepted edit: the capture joins the past, which keeps the newest `depth`; the future becomes empty
+-- an accepted edit: the capture joins the past, which keeps the newest `depth`; the future becomes
+-- empty
 abbrev pub machine_after_edit : Edit → Machine → Machine
 machine_after_edit e m = record {
   past = take m.depth (m.now ∷ m.past);
@@ -39,11 +43,13 @@ machine_after_edit e m = record {
 
 -- an accepted undo: `back` is the newest of the past, `older` the others
 abbrev pub machine_after_undo : Contents → List Contents → Machine → Machine
-machine_after_undo back older m = record { past = older; now = back; future = m.now ∷ m.future; depth = m.depth }
+machine_after_undo back older
+    m = record { past = older; now = back; future = m.now ∷ m.future; depth = m.depth }
 
 -- an accepted redo: `next` is the first of the future, `later` the others
 abbrev pub machine_after_redo : Contents → List Contents → Machine → Machine
-machine_after_redo next later m = record { past = m.now ∷ m.past; now = next; future = later; depth = m.depth }
+machine_after_redo next later
+    m = record { past = m.now ∷ m.past; now = next; future = later; depth = m.depth }
 
 -- an accepted depth: the past keeps the newest captures that have room besides the future
 abbrev pub machine_after_depth : ℕ → Machine → Machine
@@ -99,7 +105,8 @@ step_outcome m (steps.Depth depth) = depth_outcome depth m
 
 -- ---- every possible outcome of a step
 
--- whether a step may run out of memory: a depth only if it is greater, another step only if it leaves no fewer signals
+-- whether a step may run out of memory: a depth only if it is greater, another step only if it
+-- leaves no fewer signals
 abbrev pub may_need_memory : Machine → Step → Bool
 may_need_memory m (steps.Depth depth) = nat_lt m.depth depth
 may_need_memory m s = nat_le (length m.now.signals) (length (step_outcome m s).after.now.signals)
@@ -116,17 +123,20 @@ pub record IsMemoryRefusal (m : Machine) (s : Step) (a : Answer) (n : Machine) :
   pub answer : a ≡ memory_refusal s
   pub unchanged : n ≡ m
 
--- a step on m may have this answer and give n: its outcome with enough memory, or a refusal because memory ran out
+-- a step on m may have this answer and give n: its outcome with enough memory, or a refusal because
+-- memory ran out
 abbrev pub IsStep : Machine → Step → Answer → Machine → Type 0
 IsStep m s a n = (record { answer = a; after = n } ≡ step_outcome m s) ⊎ IsMemoryRefusal m s a n
 
 -- a call makes this step: it answers `Done` at Ok, otherwise the refusal
 abbrev pub IsStepCall : {T : Type 0} → Machine → Step → Result T StepError → Machine → Type 0
-IsStepCall m s result n = MatchResult result (λ _. IsStep m s Done n) (λ refusal. IsStep m s (Refused refusal) n)
+IsStepCall m s result n =
+    MatchResult result (λ _. IsStep m s Done n) (λ refusal. IsStep m s (Refused refusal) n)
 
 -- the steps, with these answers, change m into n
 unfoldable pub AreSteps : Machine → List Step → List Answer → Machine → Type 0
 AreSteps m [] [] n = n ≡ m
 AreSteps m [] (a ∷ answers) n = ⊥
 AreSteps m (s ∷ asked) [] n = ⊥
-AreSteps m (s ∷ asked) (a ∷ answers) n = (between : Machine) × IsStep m s a between × AreSteps between asked answers n
+AreSteps m (s ∷ asked) (a ∷ answers) n = (between : Machine) × IsStep m s a between
+    × AreSteps between asked answers n

@@ -2,7 +2,8 @@
 use Rattle.std.specs.Prelude.{ℕ, List, codes}
 use Rattle.vcd_edit.specs.EditErrorNames.{edit_error_name}
 use Rattle.vcd_journal.specs.declared.step.StepError.{StepError}
-use Rattle.vcd_journal.specs.declared.step.StepError.TheVariants.{Edit, NothingToUndo, NothingToRedo, BadDepth}
+use Rattle.vcd_journal.specs.declared.step.StepError.TheVariants.{Edit, NothingToUndo}
+use Rattle.vcd_journal.specs.declared.step.StepError.TheVariants.{NothingToRedo, BadDepth}
 use Rattle.vcd_journal.specs.declared.step.StepError.TheVariants.{DepthTooSmall, NoMemory}
 
 -- the name that is printed for a refused step; a refused edit has the name of its fault

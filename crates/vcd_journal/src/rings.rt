@@ -1,10 +1,11 @@
 //! The two histories as rings of records, the newest record first.
 //!
-//! The functions take the fields of a session, not the session, so that the prover can follow each field.
+//! The functions take the fields of a session, not the session, so that the prover can follow each
+//! field.
 
 ghost use Rattle.std.specs.Prelude.{◌≡◌, ◌≤◌, ◌<◌, max, [], ◌∷◌, IfOk, OnOk, OnErr, length, take};
 ghost use Rattle.circular_buffer.specs.Buffer.{buffer};
-ghost use Rattle.vcd_core.specs.Contents.{contents};
+ghost use Rattle.vcd_core.specs.CaptureContents.{contents};
 ghost use Rattle.vcd_core.specs.Sound.{IsSound};
 ghost use Rattle.vcd_journal.specs.inside.Histories.{AllRecordsFit, HasNoFewerSignals, PopsRecord};
 
@@ -25,7 +26,8 @@ pub fn empty_rings(alloc: Global, capacity: usize) -> Result<(Ring, Ring), NoMem
     Ok((past, future))
 }
 
-/// Puts a record in front, and keeps the newest `depth` records. The ring may have more room than that.
+/// Puts a record in front, and keeps the newest `depth` records. The ring may have more room than
+/// that.
 pub fn push_newest(ring: &mut Ring, newest: Record, depth: usize)
     requires { depth ≤ ring.old.capacity }
     ensures items { ring.new.items ≡ take depth (newest ∷ ring.old.items) }
@@ -67,8 +69,9 @@ pub fn enlarge(ring: &mut Ring, capacity: usize) -> Result<(), NoMemory>
     Ok(())
 }
 
-/// Applies the newest record of `from` to the capture. That record is removed, and the one that undoes it becomes the
-/// newest of `to`. If memory is refused, nothing changes. A step that removes a signal never needs memory.
+/// Applies the newest record of `from` to the capture. That record is removed, and the one that
+/// undoes it becomes the newest of `to`. If memory is refused, nothing changes. A step that removes
+/// a signal never needs memory.
 pub fn apply_newest(
     alloc: Global,
     capture: &mut Capture,
@@ -88,7 +91,8 @@ pub fn apply_newest(
     ensures sound { IsSound (contents capture.new) }
     ensures from_room { from.new.capacity ≡ from.old.capacity }
     ensures to_room { to.new.capacity ≡ to.old.capacity }
-    ensures no_fewer_signals { OnErr result (HasNoFewerSignals (contents capture.old) from.old.items) }
+    ensures no_fewer_signals { OnErr result (HasNoFewerSignals (contents capture.old)
+        from.old.items) }
     ensures unchanged { OnErr result ((contents capture.new ≡ contents capture.old)
         × (from.new ≡ from.old) × (to.new ≡ to.old)) }
 {

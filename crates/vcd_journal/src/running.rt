@@ -8,8 +8,8 @@ ghost use Rattle.vcd_journal.specs.declared.step.Answer.{Answer};
 use crate::session::Session;
 use crate::step::{Answer, Step};
 
-/// Makes the steps in order, and appends the answer to each. A refused step changes nothing, and the next one is still
-/// made.
+/// Makes the steps in order, and appends the answer to each. A refused step changes nothing, and
+/// the next one is still made.
 pub fn run(session: &mut Session, steps: &[Step], answers: &mut Vec<Answer>)
     requires room { vec_len answers.old + length steps.now ≤ vec_capacity answers.old }
     ensures answered { (given : List Answer) × (answers.new.items ≡ answers.old.items ++ given)

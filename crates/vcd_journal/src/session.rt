@@ -1,7 +1,7 @@
 //! The capture that is edited, with the steps that can be undone and redone.
 
 ghost use Rattle.std.specs.Prelude.{◌≡◌, ◌≤◌, ◌+◌, IfOk, IfErr, OnErr, length};
-ghost use Rattle.vcd_core.specs.Contents.{contents};
+ghost use Rattle.vcd_core.specs.CaptureContents.{contents};
 ghost use Rattle.vcd_core.specs.Sound.{IsSound};
 ghost use Rattle.vcd_journal.specs.Machine.{initial_machine, IsStepCall};
 ghost use Rattle.vcd_journal.specs.History.{is_depth as depth_test};
@@ -19,11 +19,12 @@ use vcd_edit::Edit;
 
 /// A capture under edit, with a bounded history.
 ///
-/// It holds a record for each step that can be undone or redone, and no other capture than the current one. A record
-/// holds at most as many changes as its step touched.
+/// It holds a record for each step that can be undone or redone, and no other capture than the
+/// current one. A record holds at most as many changes as its step touched.
 ///
-/// A refused step changes nothing: contents, both histories and the depth are as before. A step that removes a signal
-/// never needs memory. Contracts see a session as the captures that undo and redo can reach.
+/// A refused step changes nothing: contents, both histories and the depth are as before. A step
+/// that removes a signal never needs memory. Contracts see a session as the captures that undo and
+/// redo can reach.
 #[derive(Drop)]
 pub struct Session {
     capture: Capture,
@@ -37,7 +38,7 @@ pub struct Session {
 }
 
 impl Model for Session {
-    ghost use Rattle.vcd_core.specs.Contents.{contents};
+    ghost use Rattle.vcd_core.specs.CaptureContents.{contents};
     ghost use Rattle.vcd_journal.specs.Machine.{Machine};
     ghost use Rattle.vcd_journal.specs.inside.Histories.{AreSessionRings};
     ghost use Rattle.vcd_journal.specs.ReachedCaptures.{reached_captures};
@@ -55,8 +56,8 @@ impl Model for Session {
 }
 
 impl Session {
-    /// A session on a capture, with an empty history. It holds at most `depth` steps at any time. If memory is
-    /// refused, the capture is given back.
+    /// A session on a capture, with an empty history. It holds at most `depth` steps at any time.
+    /// If memory is refused, the capture is given back.
     pub fn new(alloc: Global, capture: Capture, depth: u64) -> Result<Session, (Capture, NoMemory)>
         requires least { 1 ≤ depth }
         requires most { depth ≤ DEPTH_LIMIT }
@@ -76,12 +77,12 @@ impl Session {
         }
     }
 
-    /// Makes an edit, which can then be undone. Nothing is left to redo. If the history is full, the oldest step is
-    /// dropped.
+    /// Makes an edit, which can then be undone. Nothing is left to redo. If the history is full,
+    /// the oldest step is dropped.
     ///
-    /// An edit with a fault is refused by its first fault, and takes no memory. Otherwise it is refused only if memory
-    /// runs out (`StepError::Edit` of `NoMemory`; see [`Session`]). The cost is that of the edit, and of dropping the
-    /// records of undone edits.
+    /// An edit with a fault is refused by its first fault, and takes no memory. Otherwise it is
+    /// refused only if memory runs out (`StepError::Edit` of `NoMemory`; see [`Session`]). The cost
+    /// is that of the edit, and of dropping the records of undone edits.
     pub fn apply(&mut self, edit: &Edit) -> Result<(), StepError>
         ensures step { IsStepCall self.old (steps.Edit edit.now) result self.new }
         ensures unchanged { OnErr result (self.new ≡ self.old) }
@@ -94,9 +95,9 @@ impl Session {
 
     /// Undoes the newest edit in the history.
     ///
-    /// If there is none, the step is refused, and takes no memory. Otherwise it is refused only if memory runs out (see
-    /// [`Session`]).
-    /// The cost is that of the changes that the edit touched, and one move of the later ones of each touched signal.
+    /// If there is none, the step is refused, and takes no memory. Otherwise it is refused only if
+    /// memory runs out (see [`Session`]). The cost is that of the changes that the edit touched,
+    /// and one move of the later ones of each touched signal.
     pub fn undo(&mut self) -> Result<(), StepError>
         ensures step { IsStepCall self.old steps.Undo result self.new }
         ensures unchanged { OnErr result (self.new ≡ self.old) }
@@ -115,9 +116,8 @@ impl Session {
 
     /// Makes the edit again that was undone last.
     ///
-    /// If there is none, the step is refused, and takes no memory. Otherwise it is refused only if memory runs out (see
-    /// [`Session`]).
-    /// The cost is that of an undo.
+    /// If there is none, the step is refused, and takes no memory. Otherwise it is refused only if
+    /// memory runs out (see [`Session`]). The cost is that of an undo.
     pub fn redo(&mut self) -> Result<(), StepError>
         ensures step { IsStepCall self.old steps.Redo result self.new }
         ensures unchanged { OnErr result (self.new ≡ self.old) }
@@ -134,12 +134,13 @@ impl Session {
         Ok(())
     }
 
-    /// Sets the most steps that the history holds. If it holds more, the oldest that could be undone are dropped.
-    /// Those that could be redone stay.
+    /// Sets the most steps that the history holds. If it holds more, the oldest that could be
+    /// undone are dropped. Those that could be redone stay.
     ///
-    /// A depth that is not from 1 to [`DEPTH_LIMIT`] is refused, then one below the number of steps that could be
-    /// redone. Otherwise it is refused only if memory runs out, which only a greater depth may need. The cost is that
-    /// of the dropped records, and of moving both rings if they are too small.
+    /// A depth that is not from 1 to [`DEPTH_LIMIT`] is refused, then one below the number of steps
+    /// that could be redone. Otherwise it is refused only if memory runs out, which only a greater
+    /// depth may need. The cost is that of the dropped records, and of moving both rings if they
+    /// are too small.
     pub fn set_depth(&mut self, depth: u64) -> Result<(), StepError>
         ensures step { IsStepCall self.old (steps.Depth depth) result self.new }
         ensures unchanged { OnErr result (self.new ≡ self.old) }

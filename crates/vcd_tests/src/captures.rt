@@ -21,7 +21,8 @@ fn name_of_one_word(alloc: Global, text: &str) -> Result<NameWords, AllocError> 
     Ok(NameWords::new(Seq::from_vec(words)))
 }
 
-/// The capture of the file, with the signal's kind and name, the count of nanoseconds and the end as they are given.
+/// The capture of the file, with the signal's kind and name, the count of nanoseconds and the end
+/// as they are given.
 fn capture_of(
     rt: &impl Abort,
     alloc: Global,
@@ -54,7 +55,8 @@ fn a_capture_gives_its_parts(rt: HostRuntime) -> Result<(), Fail> {
     Ok(())
 }
 
-/// The kind and the name of the signal, the count of the timescale and the end, and whether a file can hold that.
+/// The kind and the name of the signal, the count of the timescale and the end, and whether a file
+/// can hold that.
 const CAPTURES: &str = "\
 wire:a:10:5 => sound
 reg:[1,0]:100:9 => sound

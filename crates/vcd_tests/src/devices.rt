@@ -1,4 +1,5 @@
-//! Devices that give or take little and fail: the answers then and after, and how often each device is called.
+//! Devices that give or take little and fail: the answers then and after, and how often each device
+//! is called.
 
 ghost use Rattle.std.specs.Prelude.{◌≡◌, Some};
 
@@ -181,8 +182,8 @@ fn a_reader_that_fails_gives_what_came_before(rt: HostRuntime) {
 
 const TEXT: &[u8] = b"#0\n$dumpvars\n0!\n$end\n";
 
-/// Stops unless writing and flushing the text ends so, with these bytes and flushes. `wanted` is how many bytes an
-/// error counts.
+/// Stops unless writing and flushing the text ends so, with these bytes and flushes. `wanted` is
+/// how many bytes an error counts.
 fn check_written(
     rt: &impl Abort,
     writer: FakeWriter,

@@ -10,8 +10,8 @@ use vcd_core::{FromRead, Sink, Source, ToWrite};
 /// A number that no call of a device has.
 pub const NEVER: usize = usize::MAX;
 
-/// Gives `rest` in pieces of at most `piece` bytes. The call numbered `fault_at`, from 0, is interrupted. With
-/// `fails_at_end` each call with no byte left fails.
+/// Gives `rest` in pieces of at most `piece` bytes. The call numbered `fault_at`, from 0, is
+/// interrupted. With `fails_at_end` each call with no byte left fails.
 #[derive(Drop)]
 pub struct FakeReader<'a> {
     pub rest: &'a [u8],
@@ -54,8 +54,8 @@ impl<'a> Read for FakeReader<'a> {
     }
 }
 
-/// Takes at most `piece` bytes a call and `room` in all. The call numbered `fault_at`, from 0, is interrupted, whether
-/// it is a write or a flush.
+/// Takes at most `piece` bytes a call and `room` in all. The call numbered `fault_at`, from 0, is
+/// interrupted, whether it is a write or a flush.
 #[derive(Drop)]
 pub struct FakeWriter {
     pub held: Vec<u8>,

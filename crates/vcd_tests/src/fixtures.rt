@@ -1,7 +1,7 @@
 //! Bits, change lists, waves and files, each made from a short text.
 
 ghost use Rattle.std.specs.Prelude.{IfOk};
-ghost use Rattle.vcd_core.specs.Contents.{contents};
+ghost use Rattle.vcd_core.specs.CaptureContents.{contents};
 ghost use Rattle.vcd_core.specs.Sound.{IsSound};
 
 use std::alloc::Global;
@@ -115,7 +115,8 @@ fn push_name(text: &mut String, signal: &Signal) -> Result<(), Fail> {
     push_words(text, signal.words.as_slice())
 }
 
-/// The end of a capture, and the full name and the changes of each signal, as `8|top.a 0@0 1@3|top.b 1@0`.
+/// The end of a capture, and the full name and the changes of each signal, as `8|top.a 0@0
+/// 1@3|top.b 1@0`.
 pub fn capture_text(alloc: Global, capture: &Capture) -> Result<String, Fail> {
     let mut text = format!(in alloc; "{}", capture.end())?;
     for signal in capture.signals() {
@@ -168,7 +169,8 @@ fn append_first_values(text: &mut Vec<u8>, signals: u8) -> Result<(), Fail> {
     Ok(())
 }
 
-/// The text of a capture whose signals all change at each tick up to an even one, and at the odd tick `last`.
+/// The text of a capture whose signals all change at each tick up to an even one, and at the odd
+/// tick `last`.
 pub fn alternating_text(
     alloc: Global,
     signals: u8,

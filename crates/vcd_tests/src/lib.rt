@@ -1,8 +1,9 @@
-//! Tests of the library crates by their public calls: worked values from outside, and devices that give little or fail.
-//! They are made with enough memory.
+//! Tests of the library crates by their public calls: worked values from outside, and devices that
+//! give little or fail. They are made with enough memory.
 //!
-//! Edits are made and undone by `apply` and `revert`, steps by `run` of the journal. What runs of the program show is a
-//! case in `cases/` or a row of `checks/large`. A table is one text, and each of its lines is a row.
+//! Edits are made and undone by `apply` and `revert`, steps by `run` of the journal. What runs of
+//! the program show is a case in `cases/` or a row of `checks/large`. A table is one text, and each
+//! of its lines is a row.
 #![tactic(auto)]
 
 #[cfg(test)]

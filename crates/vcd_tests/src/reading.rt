@@ -39,7 +39,8 @@ fn check_answer_to(
     Ok(())
 }
 
-/// Stops unless a file has this result with pieces of any size. With `fails` the reader fails at the end of the file.
+/// Stops unless a file has this result with pieces of any size. With `fails` the reader fails at
+/// the end of the file.
 fn check_answer(
     rt: &impl Abort,
     alloc: Global,
@@ -62,7 +63,8 @@ fn skipped_and_text(alloc: Global, reader: FakeReader) -> Result<(u64, Vec<u8>),
     Ok((loaded.skipped, text_of(alloc, &loaded.capture)?))
 }
 
-/// Stops unless a file that is read in such pieces, and written, is `text`, and so many variables are skipped.
+/// Stops unless a file that is read in such pieces, and written, is `text`, and so many variables
+/// are skipped.
 fn check_rewritten(
     rt: &impl Abort,
     alloc: Global,

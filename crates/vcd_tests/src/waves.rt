@@ -4,10 +4,10 @@ use crate::fixtures::{changes_in_text, check_holds, wave_after_pushes, wave_of};
 use std::alloc::Global;
 use std::process::Abort;
 use std::test::Fail;
-use vcd_core::{Bit, END_LIMIT, LetterWord, Value, WIDTH_LIMIT, Wave};
+use vcd_core::{Bit, END_LIMIT, LetterBlock, Value, WIDTH_LIMIT, Wave};
 
-/// Pushes, and the changes after them. A value equal to the one before adds nothing, and an equal tick
-/// replaces.
+/// Pushes, and the changes after them. A value equal to the one before adds nothing, and an equal
+/// tick replaces.
 const PUSHES: &str = "\
 =>
 0@0 1@5 z@9 => 0@0 1@5 z@9
@@ -59,17 +59,17 @@ fn changes_before_a_tick_are_counted(rt: HostRuntime) -> Result<(), Fail> {
     assert!(rt; wave.count_until(0) == 0);
     assert!(rt; wave.count_until(5) == 1);
     assert!(rt; wave.count_until(6) == 2);
-    assert!(rt; wave.count_until_near(0, 9) == 3);
-    assert!(rt; wave.count_until_near(1000, 4) == 1);
+    assert!(rt; wave.count_through_near(0, 9) == 3);
+    assert!(rt; wave.count_through_near(1000, 4) == 1);
     Ok(())
 }
 
 #[test]
 fn a_value_is_pushed_by_its_words(rt: HostRuntime) -> Result<(), Fail> {
     let mut wave = Wave::new(rt.alloc(), 4);
-    wave.push_word(
+    wave.push_block(
         2,
-        LetterWord {
+        LetterBlock {
             low: 0b0011,
             high: 0b1010,
         },

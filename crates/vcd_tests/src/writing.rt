@@ -54,7 +54,8 @@ fn flushed_once(rt: HostRuntime) -> Result<(), Fail> {
     check_written(&rt, rt.alloc(), writer, Ok(()), 130, 1)
 }
 
-/// Stops unless a writer with room for so many bytes takes just these, and the fault has their count.
+/// Stops unless a writer with room for so many bytes takes just these, and the fault has their
+/// count.
 fn check_room(rt: &impl Abort, alloc: Global, piece: usize, room: usize) -> Result<(), Fail> {
     let writer = FakeWriter::with_room(alloc, piece, room, false);
     let written = room as u128;

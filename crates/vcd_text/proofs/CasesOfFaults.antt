@@ -4,21 +4,28 @@ use Rattle.std.specs.Prelude.{ℕ, ◌+◌, List, ◌++◌, [], ◌∷◌, take,
 use Rattle.std.specs.Fmt.{digits}
 use Rattle.vcd_core.specs.declared.capture.TheConstants.{END_LIMIT}
 use Rattle.vcd_text.specs.declared.fault.Fault.{Fault}
-use Rattle.vcd_text.specs.declared.fault.Fault.TheVariants.{Truncated, UnexpectedWord, BadChange, BadTimescale}
-use Rattle.vcd_text.specs.declared.fault.Fault.TheVariants.{BadScope, UpscopeAtTop, BadVar, MixedCode, BadTime}
-use Rattle.vcd_text.specs.declared.fault.Fault.TheVariants.{TimeBackwards, UnknownCode, ValueTooLong}
+use Rattle.vcd_text.specs.declared.fault.Fault.TheVariants.{Truncated, UnexpectedWord, BadChange}
+use Rattle.vcd_text.specs.declared.fault.Fault.TheVariants.{BadTimescale}
+use Rattle.vcd_text.specs.declared.fault.Fault.TheVariants.{BadScope, UpscopeAtTop, BadVar}
+use Rattle.vcd_text.specs.declared.fault.Fault.TheVariants.{MixedCode, BadTime}
+use Rattle.vcd_text.specs.declared.fault.Fault.TheVariants.{TimeBackwards, UnknownCode}
+use Rattle.vcd_text.specs.declared.fault.Fault.TheVariants.{ValueTooLong}
 use Rattle.vcd_text.specs.Words.{PlacedWord, word_on, words_from, words_of, complete_words}
 use Rattle.vcd_text.specs.Grammar.{initial_state, state_after, word_texts, AllowsAll}
 use Rattle.vcd_text.proofs.OneAnswer.{accepted-not_refused}
-use Rattle.vcd_text.specs.Items.{Item, spellings, scope, upscope, variable, end_definitions, stamp, vector, dump_word}
+use Rattle.vcd_text.specs.Items.{Item, spellings, scope, upscope, variable, end_definitions, stamp}
+use Rattle.vcd_text.specs.Items.{vector, dump_word}
 use Rattle.vcd_text.specs.Faults.{WordFault, fault_line}
 use Rattle.vcd_text.specs.FoundFaults.{FoundFault, word_shows}
 use Rattle.vcd_text.specs.FoundFaults.{FrontFault, HasNoFrontFault, too_early}
 use Rattle.vcd_text.specs.Faults.{among_declarations, among_changes, upscope_at_top}
 use Rattle.vcd_text.specs.FoundFaults.{declaration_due, code_due}
-use Rattle.vcd_text.specs.Faults.{no_timescale, no_kind, no_variable, no_size, code_mixed, no_declaration}
-use Rattle.vcd_text.specs.Faults.{definitions_go_on, declaration_late, missing_code, no_value, begins_no_change}
-use Rattle.vcd_text.specs.Faults.{no_tick, tick_goes_back, unknown_scalar_code, unknown_pair_code, value_too_long}
+use Rattle.vcd_text.specs.Faults.{no_timescale, no_kind, no_variable, no_size, code_mixed}
+use Rattle.vcd_text.specs.Faults.{no_declaration}
+use Rattle.vcd_text.specs.Faults.{definitions_go_on, declaration_late, missing_code, no_value}
+use Rattle.vcd_text.specs.Faults.{begins_no_change}
+use Rattle.vcd_text.specs.Faults.{no_tick, tick_goes_back, unknown_scalar_code, unknown_pair_code}
+use Rattle.vcd_text.specs.Faults.{value_too_long}
 use Rattle.vcd_text.proofs.ItemsInTurn.{shown_by}
 
 -- one variable, and the end of the declarations
@@ -120,7 +127,8 @@ variable_without_name =
     (among_declarations refl (no_variable (codes "wire" ∷ codes "1" ∷ codes "!" ∷ []) refl refl refl refl refl refl))
     refl
 
--- a size that is no number is a fault at its word, also for a skipped kind, though the file ends there
+-- a size that is no number is a fault at its word, also for a skipped kind, though the file ends
+-- there
 real_without_size : FoundFault (codes "$var real x") 1 BadVar
 unfolding words_from
 real_without_size =

@@ -1,15 +1,18 @@
 -- Worked cases: files that are accepted, and their meanings.
 use Rattle.std.proofs.Common.{◌≡◌, refl, arith}
-use Rattle.std.specs.Prelude.{ℕ, ◌+◌, ◌++◌, true, false, List, [], ◌∷◌, Some, None, codes, count_by, IsTrue}
+use Rattle.std.specs.Prelude.{ℕ, ◌+◌, ◌++◌, true, false, List, [], ◌∷◌, Some, None, codes, count_by}
+use Rattle.std.specs.Prelude.{IsTrue}
 use Rattle.std.specs.Fmt.{digits}
 use Rattle.vcd_core.specs.declared.capture.TimeUnit.TheVariants.{Second, Microsecond, Femtosecond}
 use Rattle.vcd_core.specs.Wave.{changes_from}
 use Rattle.vcd_core.specs.Contents.{Contents}
 use Rattle.vcd_text.specs.Words.{words_from, words_of}
 use Rattle.vcd_core.specs.declared.value.TheConstants.{WIDTH_LIMIT}
-use Rattle.vcd_text.specs.Items.{Item, timescale_of, timescale, scope, upscope, variable, end_definitions, stamp}
+use Rattle.vcd_text.specs.Items.{Item, timescale_of, timescale, scope, upscope, variable}
+use Rattle.vcd_text.specs.Items.{end_definitions, stamp}
 use Rattle.vcd_text.specs.Items.{scalar, vector, real_or_string, dump_word, other, spellings}
-use Rattle.vcd_text.specs.Grammar.{VariableDeclaration, is_skipped, initial_state, state_after, AllowsAll, word_texts}
+use Rattle.vcd_text.specs.Grammar.{VariableDeclaration, is_skipped, initial_state, state_after}
+use Rattle.vcd_text.specs.Grammar.{AllowsAll, word_texts}
 use Rattle.vcd_text.specs.Meaning.{FileMeans, latest_value, meaning}
 use Rattle.vcd_text.proofs.CasesOfText as texts
 use Rattle.vcd_text.proofs.CasesOfText.{capture, from, scope as named_scope, top, wire}
@@ -42,7 +45,8 @@ one_scalar_means =
     ∷ stamp (codes "0") ∷ dump_word (codes "$dumpvars") ∷ scalar 48 (codes "!") ∷ dump_word (codes "$end")
     ∷ stamp (codes "5") ∷ scalar 49 (codes "!") ∷ stamp (codes "9") ∷ []) _ 0 refl (search arith) refl refl refl
 
--- a vector: short forms are extended on the left by their leftmost letter, and x throughout at tick 0 is no change
+-- a vector: short forms are extended on the left by their leftmost letter, and x throughout at tick
+-- 0 is no change
 one_vector_means : FileMeans
     (codes "$scope module top $end\n$var wire 4 ! v $end\n$upscope $end\n$enddefinitions $end\n#0\n"
     ++ codes "$dumpvars\nbx !\n$end\n#1\nb1 !\n#2\nbz1 !\n#3\nb0 !\n")
@@ -99,8 +103,8 @@ skipped_and_comment_means =
     ∷ real_or_string 114 (codes "1.5") (codes "!") ∷ scalar 49 (codes "\"")
     ∷ vector 98 (codes "1x") (codes "#") ∷ stamp (codes "20") ∷ []) _ 2 refl (search arith) refl refl refl
 
--- of several changes at one tick the last counts, a real change for a kept code is dropped, and a variable of no bit is
--- skipped
+-- of several changes at one tick the last counts, a real change for a kept code is dropped, and a
+-- variable of no bit is skipped
 last_counts_means : FileMeans
     (codes "$var wire 1 ! a $end $var wire 0 # q $end $enddefinitions $end 0! #5 0! 1! #5 r1.5 ! #7")
     (capture 7 (wire [] (codes "a") 1 (from 0 (codes "0") ∷ from 5 (codes "1") ∷ []) ∷ [])) 1

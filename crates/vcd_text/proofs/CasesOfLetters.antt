@@ -4,7 +4,8 @@ use Rattle.std.specs.Prelude.{◌+◌, [], ◌∷◌, true, false, map, codes, d
 use Rattle.std.specs.Fmt.{digits}
 use Rattle.vcd_core.specs.declared.capture.TheConstants.{END_LIMIT}
 use Rattle.vcd_core.specs.Decimal.{is_number, number_of}
-use Rattle.vcd_text.specs.Letters.{is_binary_digit, letters_of_digits, printed_letters, extension, short_form}
+use Rattle.vcd_text.specs.Letters.{is_binary_digit, letters_of_digits, printed_letters, extension}
+use Rattle.vcd_text.specs.Letters.{short_form}
 
 -- the letters 0 l L, 1 h H, x X u U w W -, z Z
 all_letters : printed_letters (letters_of_digits (codes "0lL1hHxXuUwW-zZ")) ≡ codes "000111xxxxxxxzz"

@@ -116,7 +116,8 @@ text_of_scopes : text (capture 0 (
 unfolding text items_of signal_items code_digits tick_items value_from short_form digits
 text_of_scopes = refl
 
--- after `~` come the codes of two bytes, the lowest digit first; that of the last signal there may be has three
+-- after `~` come the codes of two bytes, the lowest digit first; that of the last signal there may
+-- be has three
 codes_of_signals : (code_of 0 ≡ codes "!") × (code_of 93 ≡ codes "~") × (code_of 94 ≡ codes "!!")
     × (code_of 95 ≡ codes "\"!")
     × (code_of 8929 ≡ codes "~~") × (code_of 8930 ≡ codes "!!!") × (code_of (SIGNAL_LIMIT - 1) ≡ codes "2G'")

@@ -1,5 +1,6 @@
 -- The groups of a log, with one more group or change.
-use Rattle.std.proofs.Common.{◌≡◌, ◌≢◌, ℕ, zero, suc, ◌+◌, ◌%◌, ◌<◌, false, ◌==◌, cond, if◌then◌else◌, List, []}
+use Rattle.std.proofs.Common.{◌≡◌, ◌≢◌, ℕ, zero, suc, ◌+◌, ◌%◌, ◌<◌, false, ◌==◌, cond}
+use Rattle.std.proofs.Common.{if◌then◌else◌, List, []}
 use Rattle.std.proofs.Common.{◌∷◌, ◌++◌, set, All, None, Some, refl, ap, ◌∙◌, arith}
 use Rattle.std.specs.Prelude.{slice_get}
 use Rattle.std.specs.Global.{Vec}
@@ -8,8 +9,8 @@ use Rattle.std.proofs.lemmas.List.{append-nil, append_assoc}
 use Rattle.std.proofs.lemmas.Option.{same_Some}
 use Rattle.std.proofs.lemmas.List.Elements.{filter-append, All-nil, All-cons, All-head, All-tail}
 use Rattle.vcd_text.specs.inside.ChangeLog.{changes_of_position, logged, AreGrouped}
-use Rattle.vcd_text.specs.declared.reading.change_log.LoggedChange.{LoggedChange}
-use Rattle.vcd_text.specs.declared.reading.change_log.TheConstants.{GROUPS}
+use Rattle.vcd_text.specs.declared.reading.pending.LoggedChange.{LoggedChange}
+use Rattle.vcd_text.specs.declared.reading.pending.TheConstants.{GROUPS}
 use Rattle.std.proofs.lemmas.Grind.{common_steps}
 
 -- ---- an empty group more

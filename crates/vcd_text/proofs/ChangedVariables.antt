@@ -1,6 +1,8 @@
 -- A change of a kept variable.
-use Rattle.std.proofs.Common.{◌≡◌, ◌≢◌, ◌⊎◌, ℕ, zero, suc, ◌<◌, ◌≤◌, ◌==◌, All, option_map, true, false, ◌&&◌}
-use Rattle.std.proofs.Common.{if◌then◌else◌, nat_le, List, [], ◌∷◌, ◌++◌, length, map, set, get_or, None, Some, Result}
+use Rattle.std.proofs.Common.{◌≡◌, ◌≢◌, ◌⊎◌, ℕ, zero, suc, ◌<◌, ◌≤◌, ◌==◌, All, option_map, true}
+use Rattle.std.proofs.Common.{false, ◌&&◌}
+use Rattle.std.proofs.Common.{if◌then◌else◌, nat_le, List, [], ◌∷◌, ◌++◌, length, map, set, get_or}
+use Rattle.std.proofs.Common.{None, Some, Result}
 use Rattle.std.proofs.Common.{Ok, Err, OnOk, IfErr, inl, inr, refl, sym, ap, subst, ◌∙◌, arith}
 use Rattle.std.specs.Prelude.{bytes_eq, slice_get, IsSomeAnd, IsTrue}
 use Rattle.std.specs.Global.{Vec}
@@ -13,15 +15,19 @@ use Rattle.vcd_core.specs.Wave.{value_at}
 use Rattle.vcd_text.specs.declared.fault.Fault.{Fault}
 use Rattle.vcd_text.specs.declared.fault.Fault.TheVariants as faults
 use Rattle.vcd_text.specs.Letters.{letters_of_digits, extension}
-use Rattle.vcd_text.specs.Grammar.{VariableDeclaration, ValueChange, ParseState, is_skipped, variable_of, kept_variables}
-use Rattle.vcd_text.specs.Grammar.{is_binary_number, takes_binary_number, value_changes_after, with_value_change}
+use Rattle.vcd_text.specs.Grammar.{VariableDeclaration, ValueChange, ParseState, is_skipped}
+use Rattle.vcd_text.specs.Grammar.{variable_of, kept_variables}
+use Rattle.vcd_text.specs.Grammar.{is_binary_number, takes_binary_number, value_changes_after}
+use Rattle.vcd_text.specs.Grammar.{with_value_change}
 use Rattle.vcd_text.specs.Meaning.{latest_value}
 use Rattle.vcd_text.specs.inside.ChangeLog.{logged_letters, GivesLoggedValues, logged, AreGrouped}
 use Rattle.vcd_text.specs.inside.ValueDigits.{WritesValue, RefusesBinaryNumber}
-use Rattle.vcd_text.specs.inside.Variables.{declaration, target_of, HasWave, TargetMatches, HasFirst}
-use Rattle.vcd_text.specs.inside.Variables.{HasOnlyFirstVariables, VariablesMatch, HasValueFrom, BinaryNumberFault}
+use Rattle.vcd_text.specs.inside.Variables.{declaration, target_of, HasWave, TargetMatches}
+use Rattle.vcd_text.specs.inside.Variables.{HasFirst}
+use Rattle.vcd_text.specs.inside.Variables.{HasOnlyFirstVariables, VariablesMatch, HasValueFrom}
+use Rattle.vcd_text.specs.inside.Variables.{BinaryNumberFault}
 use Rattle.vcd_text.specs.inside.Variables.{no_value, too_long, ChangeResult}
-use Rattle.vcd_text.specs.declared.reading.change_log.LoggedChange.{LoggedChange}
+use Rattle.vcd_text.specs.declared.reading.pending.LoggedChange.{LoggedChange}
 use Rattle.vcd_text.specs.declared.reading.code_targets.CodeTarget.TheVariants.{Position}
 use Rattle.vcd_text.specs.declared.reading.variables.Variable.{Variable}
 use Rattle.vcd_text.specs.declared.reading.variables.Variables.{Variables}

@@ -1,31 +1,40 @@
 -- The words of changes follow the grammar.
-use Rattle.std.proofs.Common.{◌≡◌, ◌⊎◌, inl, inr, ℕ, ◌<◌, ◌≤◌, Bool, true, false, List, [], ◌∷◌, ◌++◌, ◌&&◌}
-use Rattle.std.proofs.Common.{length, Some, None, IsSome, IsSomeAnd, Option, Result, Ok, Err, is_some, refl, sym, ap}
+use Rattle.std.proofs.Common.{◌≡◌, ◌⊎◌, inl, inr, ℕ, ◌<◌, ◌≤◌, Bool, true, false, List, [], ◌∷◌}
+use Rattle.std.proofs.Common.{◌++◌, ◌&&◌}
+use Rattle.std.proofs.Common.{length, Some, None, IsSome, IsSomeAnd, Option, Result, Ok, Err}
+use Rattle.std.proofs.Common.{is_some, refl, sym, ap}
 use Rattle.std.proofs.Common.{subst, ◌∙◌, arith}
 use Rattle.std.specs.Prelude.{codes, nat_eq, IsTrue}
 use Rattle.std.proofs.lemmas.List.{nil_from_length}
 use Rattle.std.proofs.lemmas.Bool.{or_parts, or_from, or_left, or_right, eqb-false}
 use Rattle.vcd_text.specs.declared.fault.Fault.{Fault}
-use Rattle.vcd_text.specs.declared.fault.Fault.TheVariants.{NoMemory, BadTime, TimeBackwards, BadChange}
+use Rattle.vcd_text.specs.declared.fault.Fault.TheVariants.{NoMemory, BadTime, TimeBackwards}
+use Rattle.vcd_text.specs.declared.fault.Fault.TheVariants.{BadChange}
 use Rattle.vcd_text.specs.declared.fault.Fault.TheVariants.{UnknownCode, UnexpectedWord}
 use Rattle.vcd_text.specs.Words.{PlacedWord, word_on}
 use Rattle.vcd_core.specs.Decimal.{number_of}
 use Rattle.vcd_core.specs.Word.{is_one_of}
 use Rattle.vcd_text.specs.Letters.{is_among, is_binary_digit}
-use Rattle.vcd_text.specs.Items.{Item, stamp, scalar, vector, real_or_string, dump_word, spelling, is_command}
-use Rattle.vcd_text.specs.Items.{dump_words, declaration_words, vector_prefixes, real_or_string_prefixes}
-use Rattle.vcd_text.specs.Grammar.{ParseState, VariableDeclaration, ValueChange, Allows, state_after_item, word_texts}
+use Rattle.vcd_text.specs.Items.{Item, stamp, scalar, vector, real_or_string, dump_word, spelling}
+use Rattle.vcd_text.specs.Items.{is_command}
+use Rattle.vcd_text.specs.Items.{dump_words, declaration_words, vector_prefixes}
+use Rattle.vcd_text.specs.Items.{real_or_string_prefixes}
+use Rattle.vcd_text.specs.Grammar.{ParseState, VariableDeclaration, ValueChange, Allows}
+use Rattle.vcd_text.specs.Grammar.{state_after_item, word_texts}
 use Rattle.vcd_text.specs.Grammar.{is_tick, is_binary_number, takes_binary_number, variable_of}
-use Rattle.vcd_text.specs.Faults.{ChangeFault, no_tick, tick_goes_back, missing_code, unknown_scalar_code}
-use Rattle.vcd_text.specs.Faults.{unknown_pair_code, no_value, value_too_long, begins_no_change, among_changes}
+use Rattle.vcd_text.specs.Faults.{ChangeFault, no_tick, tick_goes_back, missing_code}
+use Rattle.vcd_text.specs.Faults.{unknown_scalar_code}
+use Rattle.vcd_text.specs.Faults.{unknown_pair_code, no_value, value_too_long, begins_no_change}
+use Rattle.vcd_text.specs.Faults.{among_changes}
 use Rattle.vcd_text.specs.Faults.{WordFault, pair_prefixes}
 use Rattle.vcd_text.specs.inside.Variables.{VariablesMatch, BinaryNumberFault, ChangeResult}
 use Rattle.vcd_text.specs.inside.Variables as variables
-use Rattle.vcd_text.specs.inside.Reading.{ReaderMatches, AwaitsCode, IsBegun, IsAtState, WordStep, goes_on}
+use Rattle.vcd_text.specs.inside.Reading.{ParserMatches, AwaitsCode, IsBegun, IsAtState, WordStep}
+use Rattle.vcd_text.specs.inside.Reading.{goes_on}
 use Rattle.vcd_text.specs.inside.Reading.{ends_item, WordResult}
-use Rattle.vcd_text.specs.declared.reading.reader.Reader.{Reader}
-use Rattle.vcd_text.specs.declared.reading.reader.OpenItem.{OpenItem}
-use Rattle.vcd_text.specs.declared.reading.reader.OpenItem.TheVariants as items
+use Rattle.vcd_text.specs.declared.reading.parser.Parser.{Parser}
+use Rattle.vcd_text.specs.declared.reading.parser.OpenItem.{OpenItem}
+use Rattle.vcd_text.specs.declared.reading.parser.OpenItem.TheVariants as items
 use Rattle.vcd_text.specs.declared.reading.variables.Variables.{Variables}
 use Rattle.vcd_text.proofs.VariablesMatch.{knows_further}
 use Rattle.vcd_text.proofs.Declaring.{agrees_by}
@@ -38,13 +47,13 @@ not_both : {A : Type 0} {b : Bool} → b ≡ true → b ≡ false → A
 not_both is isnt = let both : true ≡ false = sym is ∙ isnt in absurd (cc)
 
 -- no word has been taken of an item that is not open
-pub none_begun : (m : Reader) (begun : List PlacedWord) → m.item ≡ items.Nothing → IsBegun m begun m.item → begun ≡ []
+pub none_begun : (m : Parser) (begun : List PlacedWord) → m.item ≡ items.Nothing → IsBegun m begun m.item → begun ≡ []
 none_begun m begun between taken = subst (IsBegun m begun) between taken
 
 -- a word that is a whole item
-whole_item : (old new : Reader) (w : PlacedWord) (i : Item) → old.item ≡ items.Nothing → new.item ≡ items.Nothing
+whole_item : (old new : Parser) (w : PlacedWord) (i : Item) → old.item ≡ items.Nothing → new.item ≡ items.Nothing
     → spelling i ≡ w.text ∷ []
-    → ((c : ParseState) → ReaderMatches old c → Allows c i × ReaderMatches new (state_after_item c i))
+    → ((c : ParseState) → ParserMatches old c → Allows c i × ParserMatches new (state_after_item c i))
     → WordResult old w (Ok tt) new
 whole_item old new w i between closed spelled item c begun (agrees, taken) =
     let none = none_begun old begun between taken in
@@ -54,7 +63,7 @@ whole_item old new w i between closed spelled item c begun (agrees, taken) =
     )
 
 -- a first word that shows a fault
-shown_at : (m : Reader) (c : ParseState) (begun : List PlacedWord) (w : PlacedWord) (fault : Fault)
+shown_at : (m : Parser) (c : ParseState) (begun : List PlacedWord) (w : PlacedWord) (fault : Fault)
     → m.item ≡ items.Nothing → m.in_body ≡ true → IsAtState m c begun
     → ChangeFault c [] w.text fault → (fault ≡ NoMemory) ⊎ WordFault c (word_texts begun) w.text fault
 shown_at m c begun w fault between in_body (agrees, taken) row =
@@ -62,37 +71,37 @@ shown_at m c begun w fault between in_body (agrees, taken) row =
     ∙ in_body)
     (subst (λ bs. ChangeFault c (word_texts bs) w.text fault) (sym (none_begun m begun between taken)) row))
 
-shows : (old new : Reader) (w : PlacedWord) (fault : Fault) → old.item ≡ items.Nothing → old.in_body ≡ true
-    → ((c : ParseState) → ReaderMatches old c → ChangeFault c [] w.text fault) → WordResult old w (Err fault) new
+shows : (old new : Parser) (w : PlacedWord) (fault : Fault) → old.item ≡ items.Nothing → old.in_body ≡ true
+    → ((c : ParseState) → ParserMatches old c → ChangeFault c [] w.text fault) → WordResult old w (Err fault) new
 shows old new w fault between in_body row c begun at =
     shown_at old c begun w fault between in_body at (row c at.0)
 
 -- the state does not depend on the open item
-agrees_still : (m : Reader) (c : ParseState) (item : OpenItem) (line : ℕ) → ReaderMatches m c
-    → ReaderMatches (record m { item = item; line = line }) c
+agrees_still : (m : Parser) (c : ParseState) (item : OpenItem) (line : ℕ) → ParserMatches m c
+    → ParserMatches (record m { item = item; line = line }) c
 agrees_still m c item line agrees = grind arith
 
 -- one more value change among the changes
-agrees_set : (m : Reader) (c : ParseState) (vs : Variables) (value_changes : List ValueChange) (item : OpenItem)
-    → ReaderMatches m c → m.in_body ≡ true → VariablesMatch vs (record c { value_changes = value_changes })
-    → ReaderMatches (record m { variables = vs; item = item }) (record c { value_changes = value_changes })
+agrees_set : (m : Parser) (c : ParseState) (vs : Variables) (value_changes : List ValueChange) (item : OpenItem)
+    → ParserMatches m c → m.in_body ≡ true → VariablesMatch vs (record c { value_changes = value_changes })
+    → ParserMatches (record m { variables = vs; item = item }) (record c { value_changes = value_changes })
 agrees_set m c vs value_changes item agrees in_body knows = grind (arith, not_both)
 
 -- ---- stamps
 
-pub no_stamp : (m new : Reader) (digits : List ℕ) (line : ℕ) → m.item ≡ items.Nothing → m.in_body ≡ true
+pub no_stamp : (m new : Parser) (digits : List ℕ) (line : ℕ) → m.item ≡ items.Nothing → m.in_body ≡ true
     → is_tick digits ≡ false → WordResult m (word_on (35 ∷ digits) line) (Err BadTime) new
 no_stamp m new digits line between in_body isnt =
     shows m new (word_on (35 ∷ digits) line) BadTime between in_body (λ c agrees. no_tick digits refl refl isnt refl)
 
-pub stamp_goes_back : (m new : Reader) (digits : List ℕ) (line tick : ℕ) → m.item ≡ items.Nothing → m.in_body ≡ true
+pub stamp_goes_back : (m new : Parser) (digits : List ℕ) (line tick : ℕ) → m.item ≡ items.Nothing → m.in_body ≡ true
     → is_tick digits ≡ true → tick ≡ number_of digits → tick < m.tick
     → WordResult m (word_on (35 ∷ digits) line) (Err TimeBackwards) new
 stamp_goes_back m new digits line tick between in_body is number back =
     shows m new (word_on (35 ∷ digits) line) TimeBackwards between in_body
     (λ c agrees. tick_goes_back digits refl refl is (omega (arith, agrees.tick)) refl)
 
-pub takes_stamp : (m : Reader) (digits : List ℕ) (line tick : ℕ) → m.item ≡ items.Nothing → m.in_body ≡ true
+pub takes_stamp : (m : Parser) (digits : List ℕ) (line tick : ℕ) → m.item ≡ items.Nothing → m.in_body ≡ true
     → is_tick digits ≡ true → tick ≡ number_of digits → m.tick ≤ tick
     → WordResult m (word_on (35 ∷ digits) line) (Ok tt) (record m { tick = tick })
 takes_stamp m digits line tick between in_body is number later =
@@ -107,17 +116,17 @@ takes_stamp m digits line tick between in_body is number later =
 
 -- ---- commands
 
-pub takes_dump_word : (m : Reader) (text : List ℕ) (line : ℕ) → m.item ≡ items.Nothing → m.in_body ≡ true
+pub takes_dump_word : (m : Parser) (text : List ℕ) (line : ℕ) → m.item ≡ items.Nothing → m.in_body ≡ true
     → is_one_of dump_words text ≡ true → WordResult m (word_on text line) (Ok tt) m
 takes_dump_word m text line between in_body is =
     whole_item m m (word_on text line) (dump_word text) between between refl
     (λ c agrees. ((sym agrees.in_body ∙ in_body, is), agrees))
 
-pub declares_late : (m new : Reader) (text : List ℕ) (line : ℕ) → m.item ≡ items.Nothing → m.in_body ≡ true
+pub declares_late : (m new : Parser) (text : List ℕ) (line : ℕ) → m.item ≡ items.Nothing → m.in_body ≡ true
     → is_one_of declaration_words text ≡ true → WordResult m (word_on text line) (Err UnexpectedWord) new
 declares_late m new text line between in_body is = grind (arith, shows)
 
-pub passes_over : (m : Reader) (text : List ℕ) (line : ℕ) → m.item ≡ items.Nothing → m.in_body ≡ true
+pub passes_over : (m : Parser) (text : List ℕ) (line : ℕ) → m.item ≡ items.Nothing → m.in_body ≡ true
     → is_command text ≡ true → is_one_of dump_words text ≡ false → is_one_of declaration_words text ≡ false
     → WordResult m (word_on text line) (Ok tt) (record m { item = items.Other })
 passes_over m text line between in_body command dump declaring c begun (agrees, taken) =
@@ -135,13 +144,13 @@ passes_over m text line between in_body command dump declaring c begun (agrees, 
 
 -- ---- changes of one word
 
-pub no_code : (m new : Reader) (letter : ℕ) (code : List ℕ) (line : ℕ) → m.item ≡ items.Nothing → m.in_body ≡ true
+pub no_code : (m new : Parser) (letter : ℕ) (code : List ℕ) (line : ℕ) → m.item ≡ items.Nothing → m.in_body ≡ true
     → is_binary_digit letter ≡ true → length code ≡ 0 → WordResult m (word_on (letter ∷ code) line) (Err BadChange) new
 no_code m new letter code line between in_body is none =
     shows m new (word_on (letter ∷ code) line) BadChange between in_body
     (λ c agrees. missing_code letter refl (ap (λ cs. letter ∷ cs) (nil_from_length code none)) is refl)
 
-pub begins_nothing : (m new : Reader) (first : ℕ) (text : List ℕ) (line : ℕ) → m.item ≡ items.Nothing
+pub begins_nothing : (m new : Parser) (first : ℕ) (text : List ℕ) (line : ℕ) → m.item ≡ items.Nothing
     → m.in_body ≡ true
     → is_among (codes "#$") first ≡ false → is_binary_digit first ≡ false → is_among vector_prefixes first ≡ false
     → is_among real_or_string_prefixes first ≡ false → WordResult m (word_on (first ∷ text) line) (Err BadChange) new
@@ -169,7 +178,7 @@ bit_shows c letter code fault is some (variables.no_value d found keeps isnt whi
 bit_shows c letter code fault is some (variables.too_long d found keeps value long which) =
     grind (arith, or_parts, eqb-false)
 
-pub sets_bit : (m : Reader) (vs : Variables) (letter : ℕ) (code : List ℕ) (line : ℕ) (r : Result (Unit {0}) Fault)
+pub sets_bit : (m : Parser) (vs : Variables) (letter : ℕ) (code : List ℕ) (line : ℕ) (r : Result (Unit {0}) Fault)
     → m.item ≡ items.Nothing → m.in_body ≡ true → is_binary_digit letter ≡ true → 0 < length code
     → ((c : ParseState) → c.tick ≡ m.tick → VariablesMatch m.variables c → ChangeResult c code (letter ∷ []) r vs)
     → WordResult m (word_on (letter ∷ code) line) r (record m { variables = vs })
@@ -189,7 +198,7 @@ sets_bit m vs letter code line (Err fault) between in_body is some takes = λ c 
 
 -- ---- changes of two words
 
-pub begins_real_or_string : (m : Reader) (first : ℕ) (text : List ℕ) (line : ℕ) → m.item ≡ items.Nothing
+pub begins_real_or_string : (m : Parser) (first : ℕ) (text : List ℕ) (line : ℕ) → m.item ≡ items.Nothing
     → m.in_body ≡ true
     → is_among real_or_string_prefixes first ≡ true
     → WordResult m (word_on (first ∷ text) line) (Ok tt) (record m { item = items.RealOrString; line = line })
@@ -212,11 +221,11 @@ begins_real_or_string m first text line between in_body is c begun (agrees, take
     )
 
 -- the words of a change of two words, of which the first has been taken
-texts_begun : (m : Reader) (begun : List PlacedWord) (letters text : List ℕ) (b : AwaitsCode m begun letters text)
+texts_begun : (m : Parser) (begun : List PlacedWord) (letters text : List ℕ) (b : AwaitsCode m begun letters text)
     → word_texts begun ≡ (b.letter ∷ text) ∷ []
 texts_begun m begun letters text b = ap word_texts b.is ∙ ap (λ t. t ∷ []) b.spelled
 
-texts_whole : (m : Reader) (begun : List PlacedWord) (letters text code : List ℕ) (line : ℕ)
+texts_whole : (m : Parser) (begun : List PlacedWord) (letters text code : List ℕ) (line : ℕ)
     (b : AwaitsCode m begun letters text) → (b.letter ∷ text) ∷ code ∷ [] ≡ word_texts (begun ++ word_on code line ∷ [])
 texts_whole m begun letters text code line b = grind arith
 
@@ -237,8 +246,8 @@ vector_shows c first digits code fault is (variables.too_long d found keeps valu
     value_too_long first digits d refl is found keeps value long which
 
 -- all words of a change by a binary number have been taken
-pub whole_vector : (m : Reader) (c : ParseState) (vs : Variables) (item : OpenItem) (words : List PlacedWord)
-    (letter : ℕ) (digits code : List ℕ) → ReaderMatches m c → m.in_body ≡ true
+pub whole_vector : (m : Parser) (c : ParseState) (vs : Variables) (item : OpenItem) (words : List PlacedWord)
+    (letter : ℕ) (digits code : List ℕ) → ParserMatches m c → m.in_body ≡ true
     → item ≡ items.Nothing → is_among vector_prefixes letter ≡ true → (letter ∷ digits) ∷ code ∷ [] ≡ word_texts words
     → ChangeResult c code digits (Ok tt) vs → WordStep c words (record m { variables = vs; item = item })
 whole_vector m c vs item words letter digits code agrees in_body closed is spelled change =
@@ -248,13 +257,13 @@ whole_vector m c vs item words letter digits code agrees in_body closed is spell
     )
 
 -- the code of a change by a binary number shows a fault
-pub vector_shown : (m : Reader) (c : ParseState) (letter : ℕ) (digits code : List ℕ) (fault : Fault) → ReaderMatches m c
+pub vector_shown : (m : Parser) (c : ParseState) (letter : ℕ) (digits code : List ℕ) (fault : Fault) → ParserMatches m c
     → m.in_body ≡ true → is_among vector_prefixes letter ≡ true → BinaryNumberFault c code digits fault
     → WordFault c ((letter ∷ digits) ∷ []) code fault
 vector_shown m c letter digits code fault agrees in_body is row =
     among_changes (sym agrees.in_body ∙ in_body) (vector_shows c letter digits code fault is row)
 
-pub ends_vector : (m : Reader) (vs : Variables) (code : List ℕ) (line : ℕ) (r : Result (Unit {0}) Fault)
+pub ends_vector : (m : Parser) (vs : Variables) (code : List ℕ) (line : ℕ) (r : Result (Unit {0}) Fault)
     → m.item ≡ items.Vector
     → ((c : ParseState) → c.tick ≡ m.tick → VariablesMatch m.variables c → ChangeResult c code m.digits.items r vs)
     → WordResult m (word_on code line) r (record m { variables = vs; item = items.Nothing })
@@ -273,7 +282,7 @@ ends_vector m vs code line (Err fault) item takes = λ c begun (agrees, taken).
           (vector_shown m c b.letter m.digits.items code fault agrees b.in_body b.among row))
     ]
 
-pub ends_real_or_string : (m : Reader) (code : List ℕ) (line : ℕ) → m.item ≡ items.RealOrString
+pub ends_real_or_string : (m : Parser) (code : List ℕ) (line : ℕ) → m.item ≡ items.RealOrString
     → ((c : ParseState) → VariablesMatch m.variables c → is_some (variable_of c code) ≡ true)
     → WordResult m (word_on code line) (Ok tt) (record m { item = items.Nothing })
 ends_real_or_string m code line item declared c begun (agrees, taken) =
@@ -290,7 +299,7 @@ none_is : (o : Option VariableDeclaration) → is_some o ≡ false → o ≡ Non
 none_is None h = refl
 none_is (Some d) h = not_both refl h
 
-pub unknown_real_or_string : (m new : Reader) (code : List ℕ) (line : ℕ) → m.item ≡ items.RealOrString
+pub unknown_real_or_string : (m new : Parser) (code : List ℕ) (line : ℕ) → m.item ≡ items.RealOrString
     → ((c : ParseState) → VariablesMatch m.variables c → is_some (variable_of c code) ≡ false)
     → WordResult m (word_on code line) (Err UnknownCode) new
 unknown_real_or_string m new code line item unknown c begun (agrees, taken) =

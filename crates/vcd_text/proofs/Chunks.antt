@@ -1,6 +1,8 @@
 -- A file in chunks: the progress after one more chunk, and the result if no more comes.
-use Rattle.std.proofs.Common.{◌≡◌, ◌⊎◌, inl, inr, ℕ, zero, suc, ◌+◌, ◌-◌, ◌<◌, ◌≤◌, Bool, true, false, not}
-use Rattle.std.proofs.Common.{List, [], ◌∷◌, ◌++◌, length, take, drop, get_or, Option, Some, None, IfSome, refl, sym}
+use Rattle.std.proofs.Common.{◌≡◌, ◌⊎◌, inl, inr, ℕ, zero, suc, ◌+◌, ◌-◌, ◌<◌, ◌≤◌, Bool, true}
+use Rattle.std.proofs.Common.{false, not}
+use Rattle.std.proofs.Common.{List, [], ◌∷◌, ◌++◌, length, take, drop, get_or, Option, Some, None}
+use Rattle.std.proofs.Common.{IfSome, refl, sym}
 use Rattle.std.proofs.Common.{ap, subst, ◌∙◌, arith, append_assoc, length-append}
 use Rattle.std.specs.Prelude.{IsTrue, IsFalse}
 use Rattle.std.specs.List.{list_all}
@@ -15,8 +17,8 @@ use Rattle.vcd_text.specs.declared.reading.TheConstants.{FILE_LIMIT}
 use Rattle.vcd_text.specs.declared.fault.Fault.{Fault}
 use Rattle.vcd_text.specs.declared.fault.Fault.TheVariants as faults
 use Rattle.vcd_text.specs.declared.fault.ReadError.{ReadError}
-use Rattle.vcd_text.specs.declared.reading.chunks.Progress.{Progress}
-use Rattle.vcd_text.specs.declared.reading.reader.Reader.{Reader}
+use Rattle.vcd_text.specs.declared.reading.file_reader.FileReader.{FileReader}
+use Rattle.vcd_text.specs.declared.reading.parser.Parser.{Parser}
 use Rattle.vcd_text.specs.Words.{PlacedWord, line_after, with_longer_first, with_byte, words_from}
 use Rattle.vcd_text.specs.Words.{words_of, complete_words}
 use Rattle.vcd_text.specs.Grammar.{ParseState}
@@ -30,7 +32,7 @@ use Rattle.vcd_text.specs.inside.Spaces.{has_complete_words}
 use Rattle.vcd_text.specs.inside.Reading.{HasTakenWords}
 use Rattle.vcd_text.specs.inside.Chunks.{HasTaken, HasUntakenChunk, HasReadBytes}
 use Rattle.vcd_text.specs.inside.WordWalk.{line_feeds_in}
-use Rattle.vcd_text.proofs.Ended.{no_fault as shows_none}
+use Rattle.vcd_text.proofs.LastWords.{no_fault as shows_none}
 use Rattle.vcd_text.proofs.FrontAnswers.{larger, failing}
 use Rattle.vcd_text.proofs.FrontFaults.{longer_front_fault}
 use Rattle.vcd_text.proofs.FileFaults.{file_fault, front_fault_stays}
@@ -103,7 +105,7 @@ words_complete end_counts line (b ∷ c ∷ text) rest complete =
 
 -- ---- one more chunk
 
-module _ (p : Progress) (from len : ℕ) (bytes complete_text : List ℕ) (come : HasUntakenChunk p from bytes)
+module _ (p : FileReader) (from len : ℕ) (bytes complete_text : List ℕ) (come : HasUntakenChunk p from bytes)
     (ends : has_complete_words (take len p.buffer.bytes) ≡ true)
     (no_space : list_all (λ b. not (is_white_space b)) (drop len p.buffer.bytes) ≡ true)
     (front : complete_text ≡ take len p.buffer.bytes) where
@@ -135,7 +137,7 @@ module _ (p : Progress) (from len : ℕ) (bytes complete_text : List ℕ) (come 
       ∙ ap (λ words. complete_words come.before ++ words) (append-nil complete)
 
   -- the complete words have been taken
-  pub now_taken : (new : Reader) → HasTakenWords new (complete_words come.before ++ complete)
+  pub now_taken : (new : Parser) → HasTakenWords new (complete_words come.before ++ complete)
       → HasTaken new back (p.line_feeds + line_feeds_in complete_text) p.bytes_left bytes
   now_taken new reads =
       grind (
@@ -159,24 +161,24 @@ module _ (p : Progress) (from len : ℕ) (bytes complete_text : List ℕ) (come 
 
 -- ---- nothing has been read, or all has been
 
-pub nothing_taken : (m : Reader) (word : List ℕ) → word ≡ [] → HasTakenWords m [] → HasTaken m word 0 FILE_LIMIT []
+pub nothing_taken : (m : Parser) (word : List ℕ) → word ≡ [] → HasTakenWords m [] → HasTaken m word 0 FILE_LIMIT []
 unfolding words_from
 nothing_taken m word none reads = grind arith
 
 -- the words so far, and the last one
-all_words : (p : Progress) (text bytes : List ℕ) → HasReadBytes p bytes → text ≡ p.buffer.bytes
+all_words : (p : FileReader) (text bytes : List ℕ) → HasReadBytes p bytes → text ≡ p.buffer.bytes
     → complete_words bytes ++ words_from true (p.line_feeds + 1) text ≡ words_of bytes
 all_words p text bytes taken is =
     ap (λ word. complete_words bytes ++ words_from true (p.line_feeds + 1) word) (is ∙ sym (append-nil p.buffer.bytes))
     ∙ sym (taken.words true []) ∙ ap (words_from true 1) (append-nil bytes)
 
 -- so all words of the bytes have been taken, or one shows a fault
-pub last_taken : (p : Progress) (new : Reader) (text bytes : List ℕ) → HasReadBytes p bytes → text ≡ p.buffer.bytes
+pub last_taken : (p : FileReader) (new : Parser) (text bytes : List ℕ) → HasReadBytes p bytes → text ≡ p.buffer.bytes
     → HasTakenWords new (complete_words bytes ++ words_from true (p.line_feeds + 1) text)
     → HasTakenWords new (words_of bytes)
 last_taken p new text bytes taken is reads = subst (HasTakenWords new) (all_words p text bytes taken is) reads
 
-pub last_shown : (p : Progress) (text bytes : List ℕ) (e : ReadError) → HasReadBytes p bytes → text ≡ p.buffer.bytes
+pub last_shown : (p : FileReader) (text bytes : List ℕ) (e : ReadError) → HasReadBytes p bytes → text ≡ p.buffer.bytes
     → (e ≡ memory_error) ⊎ ShowsFault (complete_words bytes ++ words_from true (p.line_feeds + 1) text) e.line e.fault
     → (e ≡ memory_error) ⊎ FoundFault bytes e.line e.fault
 last_shown p text bytes e h4 h5 h6 = grind (arith, all_words)
@@ -210,14 +212,16 @@ shown_early (Some xs) (Some ys) failed bytes e ready consumes within (inr shows)
     ]
 
 -- the file has more bytes than the limit
-pub full : (coming middle left : Option (List ℕ)) (failed : Bool) (p : Progress) (bytes chunk : List ℕ) (e : ReadError)
+pub full : (coming middle left : Option (List ℕ)) (failed : Bool) (p : FileReader)
+    (bytes chunk : List ℕ) (e : ReadError)
     → IsFalse failed → Consumes coming middle bytes → Consumes middle left chunk → 0 < length chunk → p.bytes_left ≡ 0
     → HasReadBytes p bytes
     → e ≡ record { line = p.line_feeds + 1; fault = faults.TooLarge }
     → IfSome coming (λ file. IsRefusal file failed left e)
 full coming middle left failed p bytes chunk e ready first second some none taken is =
-    larger coming left failed bytes e ready (over coming left (Consumes-trans coming middle left bytes chunk first second))
-    (inr (none_shown (shows_none p.reader (complete_words bytes) taken.taken_words)
+    larger coming left failed bytes e ready
+    (over coming left (Consumes-trans coming middle left bytes chunk first second))
+    (inr (none_shown (shows_none p.parser (complete_words bytes) taken.taken_words)
     (ap (λ (e : ReadError). e.line) is ∙ sym taken.lines) (ap (λ (e : ReadError). e.fault) is)))
   where
     over : (coming left : Option (List ℕ)) → Consumes coming left (bytes ++ chunk)
@@ -239,14 +243,14 @@ full coming middle left failed p bytes chunk e ready first second some none take
     )
 
 -- the reader failed
-pub broken : (coming middle left : Option (List ℕ)) (failed : Bool) (p : Progress) (bytes : List ℕ) (e : ReadError)
+pub broken : (coming middle left : Option (List ℕ)) (failed : Bool) (p : FileReader) (bytes : List ℕ) (e : ReadError)
     → IsTrue failed → Consumes coming middle bytes → Keeps middle left → HasReadBytes p bytes
     → e ≡ record { line = p.line_feeds + 1; fault = faults.ReadFault }
     → IfSome coming (λ file. IsRefusal file failed left e)
 broken coming middle left failed p bytes e has consumes keeps taken is =
     failing coming left failed bytes e has (Consumes-kept coming middle left bytes consumes keeps)
     (omega (arith, taken.size))
-    (inr (none_shown (shows_none p.reader (complete_words bytes) taken.taken_words)
+    (inr (none_shown (shows_none p.parser (complete_words bytes) taken.taken_words)
     (ap (λ (e : ReadError). e.line) is ∙ sym taken.lines) (ap (λ (e : ReadError). e.fault) is)))
 
 -- the whole file came
@@ -282,7 +286,7 @@ is_no_file_failure bytes e h2 h3 = grind (arith, by_change)
 -- ---- a chunk after the bytes taken
 
 -- the chunk came after the word that can go on
-pub has_come : (p : Progress) (buffer : ReadBufferView) (from count : ℕ) (before word chunk : List ℕ)
+pub has_come : (p : FileReader) (buffer : ReadBufferView) (from count : ℕ) (before word chunk : List ℕ)
     → HasReadBytes p before
     → buffer.bytes ≡ word ++ chunk → word ≡ p.buffer.bytes → count ≡ length chunk → count ≤ p.bytes_left
     → from ≡ length word
@@ -290,7 +294,7 @@ pub has_come : (p : Progress) (buffer : ReadBufferView) (from count : ℕ) (befo
 has_come p buffer from count before word chunk taken text same many within len = grind arith
 
 -- the first bytes of the text are those of the word that can go on
-pub word_is_first : (p : Progress) (from : ℕ) (bytes : List ℕ) → HasUntakenChunk p from bytes
+pub word_is_first : (p : FileReader) (from : ℕ) (bytes : List ℕ) → HasUntakenChunk p from bytes
     → (from ≤ length p.buffer.bytes) × (list_all (λ b. not (is_white_space b)) (take from p.buffer.bytes) ≡ true)
     × (length bytes + p.bytes_left ≡ FILE_LIMIT) × (length p.buffer.bytes ≤ length bytes)
     × (p.line_feeds ≤ length bytes)

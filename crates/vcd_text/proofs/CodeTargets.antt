@@ -1,6 +1,7 @@
 -- The targets of codes.
 use Rattle.std.proofs.Common.{arith}
-use Rattle.std.proofs.Common.{◌≡◌, ℕ, Bool, true, false, if◌then◌else◌, List, [], ◌∷◌, ◌++◌, find, Option, None, Some}
+use Rattle.std.proofs.Common.{◌≡◌, ℕ, Bool, true, false, if◌then◌else◌, List, [], ◌∷◌, ◌++◌, find}
+use Rattle.std.proofs.Common.{Option, None, Some}
 use Rattle.std.proofs.Common.{refl, sym, subst}
 use Rattle.std.specs.Prelude.{bytes_eq}
 use Rattle.std.specs.Option.{option_or}
@@ -12,7 +13,7 @@ use Rattle.std.proofs.lemmas.List.Folds.{find-append}
 use Rattle.indexmap.specs.IndexMap.{IndexMap, Updates, get_by}
 use Rattle.vcd_text.specs.Grammar.{VariableDeclaration, ValueChange, is_skipped}
 use Rattle.vcd_text.specs.inside.Variables.{HasWave, TargetMatches}
-use Rattle.vcd_text.specs.declared.reading.change_log.LoggedChange.{LoggedChange}
+use Rattle.vcd_text.specs.declared.reading.pending.LoggedChange.{LoggedChange}
 use Rattle.vcd_text.specs.declared.reading.code_targets.CodeTarget.{CodeTarget}
 use Rattle.vcd_text.specs.declared.reading.code_targets.CodeTarget.TheVariants.{Position}
 use Rattle.vcd_text.specs.declared.reading.variables.Variable.{Variable}

@@ -1,5 +1,6 @@
 -- The digits of a code.
-use Rattle.std.proofs.Common.{◌≡◌, ◌<◌, ◌-◌, ◌++◌, ℕ, zero, suc, ◌+◌, ◌/◌, ◌%◌, ◌≤◌, [], ◌∷◌, refl, ap, arith}
+use Rattle.std.proofs.Common.{◌≡◌, ◌<◌, ◌-◌, ◌++◌, ℕ, zero, suc, ◌+◌, ◌/◌, ◌%◌, ◌≤◌, [], ◌∷◌, refl}
+use Rattle.std.proofs.Common.{ap, arith}
 use Rattle.vcd_text.specs.Text.{code_digits}
 
 -- any bound that is large enough gives the same digits

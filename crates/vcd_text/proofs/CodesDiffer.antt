@@ -2,7 +2,8 @@
 use Rattle.std.proofs.Common.{◌≡◌, ◌<◌, ◌≤◌, ◌+◌, ◌/◌, ◌&&◌, ℕ, zero, suc, Bool, true, false, not}
 use Rattle.std.proofs.Common.{length, refl, arith, nat_le, ◌*◌, add-one}
 use Rattle.std.specs.List.{list_all}
-use Rattle.std.proofs.lemmas.Bool.{and_from, and_parts, and_right, or_from, not_from_false, false_from_ne_true, le-leb}
+use Rattle.std.proofs.lemmas.Bool.{and_from, and_parts, and_right, or_from, not_from_false}
+use Rattle.std.proofs.lemmas.Bool.{false_from_ne_true, le-leb}
 use Rattle.std.proofs.lemmas.Bool.{lt-leb, leb-true, ne_eqb}
 use Rattle.std.proofs.lemmas.Slice.Eq.{bytes_eq-Decides}
 use Rattle.vcd_core.specs.declared.capture.TheConstants.{SIGNAL_LIMIT}

@@ -1,6 +1,8 @@
 -- The changes of all waves are, by tick, the signals that differ from the tick before.
-use Rattle.std.proofs.Common.{◌≡◌, ◌≢◌, ◌⊎◌, inl, inr, ◌<◌, ◌≤◌, ◌+◌, ◌-◌, ℕ, zero, suc, Bool, true, false, not}
-use Rattle.std.proofs.Common.{◌&&◌, ◌==◌, nat_le, nat_lt, List, [], ◌∷◌, ◌++◌, length, map, All, refl, sym, ap}
+use Rattle.std.proofs.Common.{◌≡◌, ◌≢◌, ◌⊎◌, inl, inr, ◌<◌, ◌≤◌, ◌+◌, ◌-◌, ℕ, zero, suc, Bool, true}
+use Rattle.std.proofs.Common.{false, not}
+use Rattle.std.proofs.Common.{◌&&◌, ◌==◌, nat_le, nat_lt, List, [], ◌∷◌, ◌++◌, length, map, All}
+use Rattle.std.proofs.Common.{refl, sym, ap}
 use Rattle.std.proofs.Common.{◌∙◌, arith, append_assoc, eq-eqb}
 use Rattle.std.specs.List.{filter, enumerate_from}
 use Rattle.std.proofs.lemmas.Bool.{cases_lt, cases_eq, ne_eqb, le-leb, lt-leb, lt-ltb, le-ltb}
@@ -14,7 +16,8 @@ use Rattle.vcd_core.specs.Wave.{value_from, AreChangesFrom}
 use Rattle.vcd_core.specs.Contents.{SignalContents, signal_value}
 use Rattle.vcd_core.specs.Sound.{IsSoundSignal}
 use Rattle.vcd_core.proofs.Waves.{value_past, value_skip, value_early}
-use Rattle.vcd_text.specs.inside.Transitions.{Transition, transition_of, transitions_at, transitions_from, is_in_window}
+use Rattle.vcd_text.specs.inside.Transitions.{Transition, transition_of, transitions_at}
+use Rattle.vcd_text.specs.inside.Transitions.{transitions_from, is_in_window}
 use Rattle.vcd_text.specs.inside.Transitions.{window_of_signal, unsorted_window}
 use Rattle.vcd_text.specs.Text.{differs_at}
 use Rattle.vcd_text.proofs.Sorting.{counted, times, times-append, RisesFrom}

@@ -6,7 +6,7 @@ use Rattle.vcd_text.specs.Items.{Item}
 use Rattle.vcd_text.specs.Items.{spelling, spellings}
 use Rattle.vcd_text.specs.Grammar.{ParseState, state_after, state_after_item}
 use Rattle.vcd_text.specs.inside.Reading.{IsUnderway}
-use Rattle.vcd_text.specs.declared.reading.reader.Reader.{Reader}
+use Rattle.vcd_text.specs.declared.reading.parser.Parser.{Parser}
 
 -- an item declares one variable at most
 declared_more : (c : ParseState) (i : Item) → length (state_after_item c i).declared ≤ length c.declared + 1
@@ -27,5 +27,5 @@ fewer_items [] = omega arith
 fewer_items (i ∷ is) = omega (arith, length-append (spelling i) (spellings is), has_words i, fewer_items is)
 
 -- one more skipped variable can be counted
-pub few_declared : (m : Reader) → IsUnderway m → m.variables.skipped + 1 < 2 ^ 64
+pub few_declared : (m : Parser) → IsUnderway m → m.variables.skipped + 1 < 2 ^ 64
 few_declared m r = grind (arith, count_by-le-length, declared_by, fewer_items, length-map, length-append)

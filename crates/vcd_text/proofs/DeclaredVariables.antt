@@ -1,7 +1,10 @@
 -- A variable that is declared, skipped or kept.
-use Rattle.std.proofs.Common.{◌≡◌, ◌⊎◌, ℕ, zero, suc, ◌+◌, ◌<◌, ◌≤◌, min, Bool, true, false, ◌||◌, ◌==◌}
-use Rattle.std.proofs.Common.{cond, if◌then◌else◌, nat_lt, List, [], ◌∷◌, ◌++◌, length, map, get_or, drop, Option, None}
-use Rattle.std.proofs.Common.{Some, Result, Ok, Err, OnOk, IfErr, inl, inr, refl, sym, ap, subst, ◌∙◌, arith}
+use Rattle.std.proofs.Common.{◌≡◌, ◌⊎◌, ℕ, zero, suc, ◌+◌, ◌<◌, ◌≤◌, min, Bool, true, false, ◌||◌}
+use Rattle.std.proofs.Common.{◌==◌}
+use Rattle.std.proofs.Common.{cond, if◌then◌else◌, nat_lt, List, [], ◌∷◌, ◌++◌, length, map, get_or}
+use Rattle.std.proofs.Common.{drop, Option, None}
+use Rattle.std.proofs.Common.{Some, Result, Ok, Err, OnOk, IfErr, inl, inr, refl, sym, ap, subst}
+use Rattle.std.proofs.Common.{◌∙◌, arith}
 use Rattle.std.specs.Prelude.{bytes_eq, slice_get, count_by}
 use Rattle.std.specs.Global.{Vec}
 use Rattle.std.specs.Option.{option_or, option_map_or}
@@ -19,16 +22,19 @@ use Rattle.vcd_text.specs.declared.fault.Fault.TheVariants as faults
 use Rattle.vcd_core.specs.declared.value.TheConstants.{WIDTH_LIMIT}
 use Rattle.vcd_core.specs.Decimal.{number_of}
 use Rattle.vcd_core.specs.Word.{is_skipped_kind}
-use Rattle.vcd_text.specs.Grammar.{VariableDeclaration, ValueChange, ParseState, is_skipped, kept_variables}
+use Rattle.vcd_text.specs.Grammar.{VariableDeclaration, ValueChange, ParseState, is_skipped}
+use Rattle.vcd_text.specs.Grammar.{kept_variables}
 use Rattle.vcd_text.specs.Grammar.{variable_of, may_have_code, has_room}
 use Rattle.vcd_text.specs.Meaning.{latest_value}
 use Rattle.vcd_text.specs.inside.ChangeLog.{logged, AreGrouped}
-use Rattle.vcd_text.specs.declared.reading.change_log.LoggedChange.{LoggedChange}
-use Rattle.vcd_text.specs.declared.reading.change_log.TheConstants.{NO_HINT}
+use Rattle.vcd_text.specs.declared.reading.pending.LoggedChange.{LoggedChange}
+use Rattle.vcd_text.specs.declared.reading.pending.TheConstants.{NO_ROOM}
 use Rattle.vcd_text.proofs.LoggedValues.{gives_as, gives_nothing}
 use Rattle.vcd_text.specs.inside.Variables.{TargetAgrees, declaration_in, without_code, target_of}
-use Rattle.vcd_text.specs.inside.Variables.{HasWave, TargetMatches, HasFirst, HaveOwnCodes, VariablesMatch}
-use Rattle.vcd_text.specs.inside.Variables.{with_declaration, mixed, many, DeclaresAs, code_mixed, no_room, Declares}
+use Rattle.vcd_text.specs.inside.Variables.{HasWave, TargetMatches, HasFirst, HaveOwnCodes}
+use Rattle.vcd_text.specs.inside.Variables.{VariablesMatch}
+use Rattle.vcd_text.specs.inside.Variables.{with_declaration, mixed, many, DeclaresAs, code_mixed}
+use Rattle.vcd_text.specs.inside.Variables.{no_room, Declares}
 use Rattle.vcd_text.specs.declared.reading.code_targets.CodeTargets.{CodeTargets}
 use Rattle.vcd_text.specs.declared.reading.code_targets.CodeTarget.{CodeTarget}
 use Rattle.vcd_text.specs.declared.reading.code_targets.CodeTarget.TheVariants.{Skipped, Position}
@@ -132,8 +138,10 @@ module _ (old : Variables) (targets : CodeTargets) (c : ParseState) (d : Variabl
 
     -- no code got a position, or lost one
     skip_positions : (key : List ℕ) (position : ℕ)
-        → (target_of (with_skipped old targets) key ≡ Some (Position position) → target_of old key ≡ Some (Position position))
-        × (target_of old key ≡ Some (Position position) → target_of (with_skipped old targets) key ≡ Some (Position position))
+        → (target_of (with_skipped old targets) key ≡ Some (Position position)
+        → target_of old key ≡ Some (Position position))
+        × (target_of old key ≡ Some (Position position)
+        → target_of (with_skipped old targets) key ≡ Some (Position position))
     skip_positions key position = (
       λ is. by_code (λ b. (if b then Some Skipped else target_of old key) ≡ Some (Position position)
           → target_of old key ≡ Some (Position position)) key d.code
@@ -187,7 +195,7 @@ module _ (old : Variables) (targets : CodeTargets) (c : ParseState) (d : Variabl
 
 -- the variable of a signal and the position of the first one with its code
 abbrev pub variable_at : Signal → (first : ℕ) → Variable
-variable_at s first = record { signal = s; first = first; hint = NO_HINT }
+variable_at s first = record { signal = s; first = first; expected_room = NO_ROOM }
 
 -- the code is new, or is that of a variable of the same size
 abbrev pub IsFree : Variables → (code : List ℕ) → Signal → (first : ℕ) → Type 0

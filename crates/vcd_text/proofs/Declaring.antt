@@ -1,6 +1,8 @@
 -- A declaration after the next of its words.
-use Rattle.std.proofs.Common.{◌≡◌, ℕ, ◌-◌, ◌<◌, true, false, List, [], ◌∷◌, ◌++◌, length, take, Option}
-use Rattle.std.proofs.Common.{Some, None, IsSome, IsTrue, IsFalse, Result, Ok, Err, IsErrAnd, slice_index_or, is_some}
+use Rattle.std.proofs.Common.{◌≡◌, ℕ, ◌-◌, ◌<◌, true, false, List, [], ◌∷◌, ◌++◌, length, take}
+use Rattle.std.proofs.Common.{Option}
+use Rattle.std.proofs.Common.{Some, None, IsSome, IsTrue, IsFalse, Result, Ok, Err, IsErrAnd}
+use Rattle.std.proofs.Common.{slice_index_or, is_some}
 use Rattle.std.proofs.Common.{MatchOption, ◌⊎◌, codes, refl, sym, ap, subst, ◌∙◌, arith, inl, inr}
 use Rattle.std.specs.List.{remove}
 use Rattle.std.proofs.lemmas.Bool.{and_parts}
@@ -11,16 +13,21 @@ use Rattle.vcd_text.specs.declared.fault.Fault.{Fault}
 use Rattle.vcd_text.specs.declared.fault.Fault.TheVariants as faults
 use Rattle.vcd_text.specs.Words.{PlacedWord, word_on}
 use Rattle.vcd_core.specs.Decimal.{is_number}
-use Rattle.vcd_text.specs.Items.{Item, entry, timescale, scope, upscope, variable, end_definitions, other, spelling}
-use Rattle.vcd_text.specs.Items.{end_word, is_end_word, has_no_end_word, header_word, is_other, timescale_of}
-use Rattle.vcd_text.specs.Grammar.{ParseState, Allows, state_after_item, kept_variables, word_texts, has_good_size}
-use Rattle.vcd_text.specs.Faults.{WordFault, DeclarationFault, no_timescale, no_size, among_declarations}
+use Rattle.vcd_text.specs.Items.{Item, entry, timescale, scope, upscope, variable, end_definitions}
+use Rattle.vcd_text.specs.Items.{other, spelling}
+use Rattle.vcd_text.specs.Items.{end_word, is_end_word, has_no_end_word, header_word, is_other}
+use Rattle.vcd_text.specs.Items.{timescale_of}
+use Rattle.vcd_text.specs.Grammar.{ParseState, Allows, state_after_item, kept_variables, word_texts}
+use Rattle.vcd_text.specs.Grammar.{has_good_size}
+use Rattle.vcd_text.specs.Faults.{WordFault, DeclarationFault, no_timescale, no_size}
+use Rattle.vcd_text.specs.Faults.{among_declarations}
 use Rattle.vcd_text.specs.inside.Scopes.{HoldsScopes}
 use Rattle.vcd_text.specs.inside.Variables.{VariablesMatch, Declares, VariableFault}
-use Rattle.vcd_text.specs.inside.Reading.{ReaderMatches, Collects, PassesOver, IsBegun, IsAtState, WordStep, goes_on}
+use Rattle.vcd_text.specs.inside.Reading.{ParserMatches, Collects, PassesOver, IsBegun, IsAtState}
+use Rattle.vcd_text.specs.inside.Reading.{WordStep, goes_on}
 use Rattle.vcd_text.specs.inside.Reading.{ends_item, WordResult}
-use Rattle.vcd_text.specs.declared.reading.reader.Reader.{Reader}
-use Rattle.vcd_text.specs.declared.reading.reader.OpenItem.TheVariants as items
+use Rattle.vcd_text.specs.declared.reading.parser.Parser.{Parser}
+use Rattle.vcd_text.specs.declared.reading.parser.OpenItem.TheVariants as items
 use Rattle.vcd_text.specs.declared.reading.scopes.Scopes.{Scopes}
 use Rattle.vcd_text.specs.declared.reading.variables.Variables.{Variables}
 use Rattle.vcd_text.proofs.VariablesMatch.{knows_further}
@@ -40,23 +47,23 @@ same_known vs c d declared value_changes tick known = grind (arith, knows_furthe
 
 -- ---- the end of an item
 
--- the reader matches a state, part by part
-pub agrees_by : (m : Reader) (c : ParseState) → m.header.items ≡ c.header → m.timescale ≡ c.timescale
+-- the parser matches a state, part by part
+pub agrees_by : (m : Parser) (c : ParseState) → m.header.items ≡ c.header → m.timescale ≡ c.timescale
     → HoldsScopes m.scopes c.scopes c.declared → m.in_body ≡ c.in_body → m.tick ≡ c.tick
-    → VariablesMatch m.variables c → (IsFalse c.in_body → c.value_changes ≡ []) → ReaderMatches m c
+    → VariablesMatch m.variables c → (IsFalse c.in_body → c.value_changes ≡ []) → ParserMatches m c
 agrees_by m c header time scopes in_body tick variables no_early_change = grind arith
 
 -- if the conditions of the open item hold, its `$end` ends it
-ends_here : (new : Reader) (c : ParseState) (begun : List PlacedWord) (line : ℕ) (i : Item) (words : List (List ℕ))
+ends_here : (new : Parser) (c : ParseState) (begun : List PlacedWord) (line : ℕ) (i : Item) (words : List (List ℕ))
     → word_texts begun ≡ words → spelling i ≡ words ++ end_word ∷ [] → Allows c i
-    → ReaderMatches new (state_after_item c i) → new.item ≡ items.Nothing
+    → ParserMatches new (state_after_item c i) → new.item ≡ items.Nothing
     → WordStep c (begun ++ word_on end_word line ∷ []) new
 ends_here new c begun line i words spelled whole allows agrees closed =
     ends_item i (whole ∙ (grind (arith, texts_more))) allows
     (agrees, subst (IsBegun new []) (sym closed) refl)
 
 -- a header entry is the last of the header
-pub closes_entry : (m new : Reader) (kind : HeaderKind) → m.item ≡ items.Entry kind
+pub closes_entry : (m new : Parser) (kind : HeaderKind) → m.item ≡ items.Entry kind
     → new.header.items ≡ m.header.items ++ record { kind = kind; words = m.words.items } ∷ []
     → new ≡ record m { header = new.header; words = new.words; item = items.Nothing }
     → (line : ℕ) (c : ParseState) (begun : List PlacedWord) → IsAtState m c begun
@@ -74,7 +81,7 @@ closes_entry m new kind is pushed others line c begun at =
     (same_known m.variables c (state_after_item c i) refl refl refl a.variables) a.no_early_change) refl)
 
 -- a timescale replaces the one before
-pub closes_timescale : (m : Reader) (found : Timescale) → m.item ≡ items.Timescale
+pub closes_timescale : (m : Parser) (found : Timescale) → m.item ≡ items.Timescale
     → timescale_of m.words.items ≡ Some found
     → (line : ℕ) (c : ParseState) (begun : List PlacedWord) → IsAtState m c begun
     → WordStep c (begun ++ word_on end_word line ∷ []) (record m { timescale = Some found; item = items.Nothing })
@@ -89,7 +96,7 @@ closes_timescale m found is some line c begun at =
     (same_known m.variables c (state_after_item c i) refl refl refl a.variables) a.no_early_change) refl
 
 -- the words spell no timescale
-pub shows_no_timescale : (m : Reader) → m.item ≡ items.Timescale → timescale_of m.words.items ≡ None
+pub shows_no_timescale : (m : Parser) → m.item ≡ items.Timescale → timescale_of m.words.items ≡ None
     → (c : ParseState) (begun : List PlacedWord) → IsAtState m c begun
     → WordFault c (word_texts begun) end_word faults.BadTimescale
 shows_no_timescale m is none c begun at =
@@ -97,7 +104,7 @@ shows_no_timescale m is none c begun at =
     among_declarations (sym at.0.in_body ∙ b.declares) (no_timescale m.words.items b.spelled refl b.no_end none refl)
 
 -- a scope is the innermost
-pub closes_scope : (m new : Reader) (s : ScopeName) → m.item ≡ items.Scope → m.words.items ≡ s.kind ∷ s.words
+pub closes_scope : (m new : Parser) (s : ScopeName) → m.item ≡ items.Scope → m.words.items ≡ s.kind ∷ s.words
     → ((c : ParseState) → HoldsScopes m.scopes c.scopes c.declared
     → HoldsScopes new.scopes (c.scopes ++ s ∷ []) c.declared)
     → new ≡ record m { scopes = new.scopes; words = new.words; item = items.Nothing }
@@ -122,7 +129,7 @@ front_removed [] ys x some front rest = absurd (omega arith)
 front_removed (x' ∷ xs) ys x some front rest = (λ i. sym front i ∷ sym rest i)
 
 -- the innermost scope is closed
-pub closes_upscope : (m new : Reader) → m.item ≡ items.Upscope
+pub closes_upscope : (m new : Parser) → m.item ≡ items.Upscope
     → ((c : ParseState) → HoldsScopes m.scopes c.scopes c.declared
     → HoldsScopes new.scopes (take (length c.scopes - 1) c.scopes) c.declared)
     → new ≡ record m { scopes = new.scopes; item = items.Nothing }
@@ -138,7 +145,7 @@ closes_upscope m new is popped others line c begun at =
     (same_known m.variables c (state_after_item c upscope) refl refl refl a.variables) a.no_early_change) refl)
 
 -- the changes begin
-pub closes_definitions : (m : Reader) → m.item ≡ items.EndDefinitions
+pub closes_definitions : (m : Parser) → m.item ≡ items.EndDefinitions
     → (line : ℕ) (c : ParseState) (begun : List PlacedWord) → IsAtState m c begun
     → WordStep c (begun ++ word_on end_word line ∷ []) (record m { in_body = true; item = items.Nothing })
 closes_definitions m is line c begun at =
@@ -153,7 +160,7 @@ closes_definitions m is line c begun at =
     (λ _. a.no_early_change (sym a.in_body ∙ b.0))) refl
 
 -- another command changes nothing
-pub closes_other : (m : Reader) → m.item ≡ items.Other
+pub closes_other : (m : Parser) → m.item ≡ items.Other
     → (line : ℕ) (c : ParseState) (begun : List PlacedWord) → IsAtState m c begun
     → WordStep c (begun ++ word_on end_word line ∷ []) (record m { item = items.Nothing })
 closes_other m is line c begun at =
@@ -166,7 +173,7 @@ closes_other m is line c begun at =
 -- ---- variables
 
 -- the variables have the declaration
-pub closes_variable : (m : Reader) (variables : Variables) (scopes : Scopes) (words : List (List ℕ))
+pub closes_variable : (m : Parser) (variables : Variables) (scopes : Scopes) (words : List (List ℕ))
     → words ≡ m.words.items → ((c : ParseState) (ws : List (List ℕ)) → HoldsScopes m.scopes c.scopes c.declared
     → length variables.kept.items ≡ length (kept_variables (state_after_item c (variable ws)).declared)
     → HoldsScopes scopes c.scopes (state_after_item c (variable ws)).declared)
@@ -187,7 +194,7 @@ closes_variable m variables scopes words spelled note declare is line c begun at
     a.in_body a.tick d.1 a.no_early_change) refl
 
 -- the fault of the variables is that of the grammar
-variable_fault : (m : Reader) (c : ParseState) (begun : List PlacedWord) (fault : Fault) → IsFalse c.in_body
+variable_fault : (m : Parser) (c : ParseState) (begun : List PlacedWord) (fault : Fault) → IsFalse c.in_body
     → Collects m begun (codes "$var") → IsTrue (has_good_size m.words.items) → VariableFault c m.words.items fault
     → WordFault c (word_texts begun) end_word fault
 variable_fault m c begun fault declares b good (VariableFault.no_variable none is) =
@@ -198,7 +205,7 @@ variable_fault m c begun fault declares b good (VariableFault.no_room d some may
     among_declarations declares (DeclarationFault.no_room m.words.items d b.spelled refl b.no_end good some may none is)
 
 -- the same, or memory runs out
-fault_shown : (m : Reader) (c : ParseState) (begun : List PlacedWord) (fault : Fault) → IsFalse c.in_body
+fault_shown : (m : Parser) (c : ParseState) (begun : List PlacedWord) (fault : Fault) → IsFalse c.in_body
     → Collects m begun (codes "$var") → IsTrue (has_good_size m.words.items)
     → (fault ≡ faults.NoMemory) ⊎ VariableFault c m.words.items fault → (fault ≡ faults.NoMemory)
     ⊎ WordFault c (word_texts begun) end_word fault
@@ -206,7 +213,7 @@ fault_shown m c begun fault declares b good (inl memory) = inl memory
 fault_shown m c begun fault declares b good (inr shown) = inr (variable_fault m c begun fault declares b good shown)
 
 -- the words declare no variable that is allowed here
-pub shows_no_variable : (m new : Reader) (result : Result (Unit {0}) Fault) (fault : Fault) (variables : Variables)
+pub shows_no_variable : (m new : Parser) (result : Result (Unit {0}) Fault) (fault : Fault) (variables : Variables)
     (words : List (List ℕ)) → words ≡ m.words.items
     → ((c : ParseState) → c.value_changes ≡ [] → VariablesMatch m.variables c → Declares c words (Err fault) variables)
     → m.item ≡ items.Variable
@@ -236,7 +243,7 @@ no_number None text Q said none = said
 no_number (Some n) text Q said none = let some : true ≡ false = none in absurd (cc)
 
 -- a size that is no number
-pub shows_no_size : (m : Reader) (text : List ℕ) → m.item ≡ items.Variable → length m.words.items ≡ 1
+pub shows_no_size : (m : Parser) (text : List ℕ) → m.item ≡ items.Variable → length m.words.items ≡ 1
     → is_number text ≡ false → (c : ParseState) (begun : List PlacedWord) → IsAtState m c begun
     → WordFault c (word_texts begun) text faults.BadVar
 shows_no_size m text is one isnt c begun at =
@@ -248,7 +255,7 @@ shows_no_size m text is one isnt c begun at =
 -- ---- a word that goes on
 
 -- a word of another command
-pub passes_over : (m : Reader) (text : List ℕ) → m.item ≡ items.Other → IsFalse (is_end_word text)
+pub passes_over : (m : Parser) (text : List ℕ) → m.item ≡ items.Other → IsFalse (is_end_word text)
     → (line : ℕ) (c : ParseState) (begun : List PlacedWord) → IsAtState m c begun
     → WordStep c (begun ++ word_on text line ∷ []) m
 passes_over m text is isnt line c begun at =

@@ -1,6 +1,7 @@
 -- Every file has a result: its words are accepted, or one shows a fault, or they end too early.
 use Rattle.std.proofs.Common.{arith}
-use Rattle.std.proofs.Common.{◌≡◌, ◌⊎◌, inl, inr, ℕ, true, List, [], ◌∷◌, ◌++◌, refl, sym, ap, subst, ◌∙◌, append_assoc}
+use Rattle.std.proofs.Common.{◌≡◌, ◌⊎◌, inl, inr, ℕ, true, List, [], ◌∷◌, ◌++◌, refl, sym, ap}
+use Rattle.std.proofs.Common.{subst, ◌∙◌, append_assoc}
 use Rattle.std.proofs.Common.{IsTrue}
 use Rattle.std.specs.List.{All}
 use Rattle.std.proofs.lemmas.List.{append-nil, map-append}
@@ -11,7 +12,8 @@ use Rattle.vcd_text.specs.declared.fault.Fault.{Fault}
 use Rattle.vcd_text.specs.declared.fault.Fault.TheVariants.{Truncated}
 use Rattle.vcd_text.specs.Words.{PlacedWord, words_of, last_line}
 use Rattle.vcd_text.specs.Items.{Item, spelling, spellings}
-use Rattle.vcd_text.specs.Grammar.{ParseState, Allows, Accepts, state_after_item, initial_state, word_texts}
+use Rattle.vcd_text.specs.Grammar.{ParseState, Allows, Accepts, state_after_item, initial_state}
+use Rattle.vcd_text.specs.Grammar.{word_texts}
 use Rattle.vcd_text.specs.Faults.{fault_line, ShowsFault}
 use Rattle.vcd_text.specs.FoundFaults.{FoundFault}
 use Rattle.vcd_text.specs.FoundFaults.{IsUnfinished, declaration_due, Stops}
@@ -21,7 +23,8 @@ use Rattle.vcd_text.specs.Meaning.{FileMeans, meaning}
 use Rattle.vcd_text.specs.inside.SkippedVariables.{skipped_count}
 use Rattle.vcd_text.proofs.ItemsInTurn.{Reaches, reaches_none, reaches_one, reaches_both}
 use Rattle.vcd_text.proofs.WordLaws.{is_run, words_are_words}
-use Rattle.vcd_text.proofs.WordOutcomes.{IsOpen, between, inside, shows_fault, ends_item, goes_on, word_outcome}
+use Rattle.vcd_text.proofs.WordOutcomes.{IsOpen, between, inside, shows_fault, ends_item, goes_on}
+use Rattle.vcd_text.proofs.WordOutcomes.{word_outcome}
 use Rattle.vcd_text.proofs.ItemsInTurn.{shown_by}
 
 -- the result of all words of a file

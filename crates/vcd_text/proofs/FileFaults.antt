@@ -8,7 +8,8 @@ use Rattle.vcd_text.specs.Words.{words_of, last_line}
 use Rattle.vcd_text.specs.Faults.{ShowsFault, FileFault, shown, none_shown}
 use Rattle.vcd_text.specs.FoundFaults.{FoundFault, word_shows, too_early}
 use Rattle.vcd_text.specs.Meaning.{FileMeans}
-use Rattle.vcd_text.specs.Laws.{EveryFileHasAtMostOneFault, NoFileHasMeaningAndFault, EveryFileHasMeaningOrFault}
+use Rattle.vcd_text.specs.Laws.{EveryFileHasAtMostOneFault, NoFileHasMeaningAndFault}
+use Rattle.vcd_text.specs.Laws.{EveryFileHasMeaningOrFault}
 use Rattle.vcd_text.specs.Laws.{EveryFaultIsFound, FrontFaultIsFileFault}
 use Rattle.vcd_text.proofs.OneAnswer.{one_found_fault, meaning-no_found_fault, stopped-not_refused}
 use Rattle.vcd_text.proofs.FileAnswers.{a_found_answer}

@@ -1,18 +1,24 @@
 -- The signals of the variables.
-use Rattle.std.proofs.Common.{◌≡◌, ℕ, zero, suc, List, [], ◌∷◌, ◌++◌, length, map, take, drop, false, None, Some, inl, inr}
+use Rattle.std.proofs.Common.{◌≡◌, ℕ, zero, suc, List, [], ◌∷◌, ◌++◌, length, map, take, drop}
+use Rattle.std.proofs.Common.{false, None, Some, inl, inr}
 use Rattle.std.proofs.Common.{sym, ap, subst, ◌∙◌, arith}
 use Rattle.std.specs.Prelude.{slice_get}
-use Rattle.std.proofs.lemmas.List.{append-nil, nil_from_length, length-map, map-append, length_push, take_more, take_all, length-take}
-use Rattle.std.proofs.lemmas.Option.{same_Some, slice_get_cases, slice_get_within, get_or_from_slice_get}
+use Rattle.std.proofs.lemmas.List.{append-nil, nil_from_length, length-map, map-append, length_push}
+use Rattle.std.proofs.lemmas.List.{take_more, take_all, length-take}
+use Rattle.std.proofs.lemmas.Option.{same_Some, slice_get_cases, slice_get_within}
+use Rattle.std.proofs.lemmas.Option.{get_or_from_slice_get}
 use Rattle.vcd_core.specs.declared.wave.Change.{Change}
 use Rattle.vcd_core.specs.declared.capture.Signal.{Signal}
 use Rattle.vcd_core.specs.Value.{all_x}
 use Rattle.vcd_core.specs.Wave.{changes_of, IsWave}
-use Rattle.vcd_core.specs.Contents.{SignalContents, signal_contents}
+use Rattle.vcd_core.specs.Contents.{SignalContents}
+use Rattle.vcd_core.specs.CaptureContents.{signal_contents}
 use Rattle.vcd_core.proofs.Waves.{wave_is}
-use Rattle.vcd_text.specs.Grammar.{VariableDeclaration, ParseState, is_skipped, variable_of, kept_variables}
+use Rattle.vcd_text.specs.Grammar.{VariableDeclaration, ParseState, is_skipped, variable_of}
+use Rattle.vcd_text.specs.Grammar.{kept_variables}
 use Rattle.vcd_text.specs.Meaning.{latest_value, declared_signal}
-use Rattle.vcd_text.specs.inside.Variables.{declaration, without_scopes, without_code, target_of, HasWave}
+use Rattle.vcd_text.specs.inside.Variables.{declaration, without_scopes, without_code, target_of}
+use Rattle.vcd_text.specs.inside.Variables.{HasWave}
 use Rattle.vcd_text.specs.inside.Variables.{VariablesMatch, Finishes}
 use Rattle.vcd_text.specs.declared.reading.code_targets.CodeTarget.TheVariants.{Position}
 use Rattle.vcd_text.specs.declared.reading.variables.Variable.{Variable}
@@ -114,7 +120,8 @@ module _ (vs : Variables) (c : ParseState) (yielded rest : List Variable) (v : V
     | inl (s, within, at, read) ↦ later_means s signal at (subst (λ o. Finishes v o signal) at finishes)
     | inr (past, at) ↦
         let own : Finishes v None signal = subst (λ o. Finishes v o signal) at finishes in
-        let within = slice_get_within (kept_variables c.declared) (length yielded) own_declaration.0 own_declaration.1 in
+        let within = slice_get_within (kept_variables c.declared) (length yielded) own_declaration.0
+        own_declaration.1 in
         let long : length signals ≡ length yielded = grind (arith, length-map, length-take) in
         let end : v.first ≡ length yielded =
         omega (arith, past, long, (k.firsts (length yielded) v stands_at).no_later) in

@@ -1,5 +1,6 @@
 -- Variables that take their changes of the log.
-use Rattle.std.proofs.Common.{◌≡◌, ℕ, suc, ◌<◌, true, false, ◌==◌, cond, List, [], ◌∷◌, ◌++◌, length, map, set}
+use Rattle.std.proofs.Common.{◌≡◌, ℕ, suc, ◌<◌, true, false, ◌==◌, cond, List, [], ◌∷◌, ◌++◌}
+use Rattle.std.proofs.Common.{length, map, set}
 use Rattle.std.proofs.Common.{All, Option, Some, inl, inr, refl, sym, ap, subst, ◌∙◌, arith}
 use Rattle.std.specs.Prelude.{slice_get}
 use Rattle.std.specs.Global.{Vec}
@@ -13,12 +14,13 @@ use Rattle.vcd_core.specs.Value.{all_x}
 use Rattle.vcd_core.specs.declared.capture.Signal.{Signal}
 use Rattle.vcd_text.specs.Grammar.{ParseState, kept_variables}
 use Rattle.vcd_text.specs.Meaning.{latest_value}
-use Rattle.vcd_text.specs.inside.ChangeLog.{GivesLoggedValues, changes_of_position, logged, AreGrouped, CanTake}
+use Rattle.vcd_text.specs.inside.ChangeLog.{GivesLoggedValues, changes_of_position, logged}
+use Rattle.vcd_text.specs.inside.ChangeLog.{AreGrouped, CanTake}
 use Rattle.vcd_text.specs.inside.ChangeLog.{AppliesLogged, CanFlush, FlushesOne, FlushesLog}
 use Rattle.vcd_text.specs.inside.ChangeLog.{counted_variable, counted}
 use Rattle.vcd_text.specs.inside.Variables.{target_of, HasWave, HasFirst, VariablesMatch}
 use Rattle.vcd_text.specs.declared.reading.code_targets.CodeTarget.TheVariants.{Position}
-use Rattle.vcd_text.specs.declared.reading.change_log.LoggedChange.{LoggedChange}
+use Rattle.vcd_text.specs.declared.reading.pending.LoggedChange.{LoggedChange}
 use Rattle.vcd_text.specs.declared.reading.variables.Variable.{Variable}
 use Rattle.vcd_text.specs.declared.reading.variables.Variables.{Variables}
 use Rattle.vcd_text.proofs.LoggedValues.{gives_narrow, gives_first, gives_flushed}
@@ -105,7 +107,7 @@ all_within kept (e ∷ es) rest has =
     (slice_get_within kept e.position here.0 here.1)
     (all_within kept es rest (λ position some. has position (more_left e es (rest position) position some)))
 
--- nothing but the hint changes
+-- nothing but the expected room changes
 hinted : (v w : Variable) (log : List LoggedChange) → w.signal ≡ v.signal → w.first ≡ v.first → FlushesOne v w log log
 hinted v w log signal first = record {
   same = record {
@@ -160,7 +162,7 @@ all_counted (e ∷ es) kept log =
     flushes_then kept (counted kept e) (fold counted (counted kept e) es) log log log (counted_next kept e log)
     (all_counted es (counted kept e) log)
 
--- ---- the variables of a reader
+-- ---- the variables of a parser
 
 pub variables_can_flush : (vs : Variables) (c : ParseState) → VariablesMatch vs c
     → CanFlush vs.kept.items (logged vs.log.items)

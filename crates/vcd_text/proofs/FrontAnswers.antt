@@ -1,5 +1,6 @@
 -- The results for a file of which a front was read.
-use Rattle.std.proofs.Common.{◌≡◌, ◌⊎◌, inl, inr, ℕ, ◌<◌, ◌≤◌, Bool, List, take, length, Option, Some, None, IsTrue}
+use Rattle.std.proofs.Common.{◌≡◌, ◌⊎◌, inl, inr, ℕ, ◌<◌, ◌≤◌, Bool, List, take, length, Option}
+use Rattle.std.proofs.Common.{Some, None, IsTrue}
 use Rattle.std.specs.Prelude.{IsFalse}
 use Rattle.std.proofs.Common.{IfSome, refl, subst}
 use Rattle.std.specs.Io.KnownBytes.{Consumes}

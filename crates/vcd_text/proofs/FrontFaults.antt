@@ -1,8 +1,10 @@
--- The complete words of a front are the first words of every file with this front, so a fault that they show is the
--- file's.
-use Rattle.std.proofs.Common.{arith, ◌≡◌, ℕ, Bool, true, false, List, [], ◌∷◌, ◌++◌, refl, ap, ◌∙◌, append_assoc}
+-- The complete words of a front are the first words of every file with this front, so a fault that
+-- they show is the file's.
+use Rattle.std.proofs.Common.{arith, ◌≡◌, ℕ, Bool, true, false, List, [], ◌∷◌, ◌++◌, refl, ap, ◌∙◌}
+use Rattle.std.proofs.Common.{append_assoc}
 use Rattle.vcd_text.specs.declared.fault.Fault.{Fault}
-use Rattle.vcd_text.specs.Words.{PlacedWord, word_on, line_after, with_longer_first, with_byte, words_from}
+use Rattle.vcd_text.specs.Words.{PlacedWord, word_on, line_after, with_longer_first, with_byte}
+use Rattle.vcd_text.specs.Words.{words_from}
 use Rattle.vcd_text.specs.Words.{words_of, complete_words}
 use Rattle.vcd_text.specs.Faults.{ShowsFault}
 use Rattle.vcd_text.specs.FoundFaults.{FoundFault, word_shows, FrontFault}

@@ -1,7 +1,8 @@
--- The front of some words: a whole item, a fault, the beginning of an item, or nothing. It is a function of the words,
--- so the grammar gives one result.
+-- The front of some words: a whole item, a fault, the beginning of an item, or nothing. It is a
+-- function of the words, so the grammar gives one result.
 use Rattle.std.proofs.Common.{◌≡◌, ℕ, suc, ◌<◌, Bool, true, false, cond, List, [], ◌∷◌, ◌++◌}
-use Rattle.std.proofs.Common.{length, Option, Some, None, IsSome, IsSomeAnd, IsTrue, nat_lt, codes, bytes_eq}
+use Rattle.std.proofs.Common.{length, Option, Some, None, IsSome, IsSomeAnd, IsTrue, nat_lt, codes}
+use Rattle.std.proofs.Common.{bytes_eq}
 use Rattle.std.proofs.Common.{refl, sym, ap, ◌∙◌, append_assoc, arith}
 use Rattle.std.proofs.lemmas.Bool.{and_parts, or_cases, not-true, cases_Bool, false≢true, eqb-true}
 use Rattle.std.proofs.lemmas.Bool.{leb-true, le-ltb, lt-ltb, cond-true, cond-false}
@@ -9,18 +10,26 @@ use Rattle.vcd_core.specs.declared.capture.HeaderKind.TheVariants.{Date, Version
 use Rattle.vcd_core.specs.declared.capture.Timescale.{Timescale}
 use Rattle.vcd_core.specs.declared.capture.ScopeName.{ScopeName}
 use Rattle.vcd_text.specs.declared.fault.Fault.{Fault}
-use Rattle.vcd_text.specs.declared.fault.Fault.TheVariants.{UnexpectedWord, BadTimescale, BadScope, UpscopeAtTop}
-use Rattle.vcd_text.specs.declared.fault.Fault.TheVariants.{BadVar, MixedCode, BadTime, TimeBackwards, BadChange}
-use Rattle.vcd_text.specs.declared.fault.Fault.TheVariants.{UnknownCode, ValueTooLong, TooManySignals}
+use Rattle.vcd_text.specs.declared.fault.Fault.TheVariants.{UnexpectedWord, BadTimescale, BadScope}
+use Rattle.vcd_text.specs.declared.fault.Fault.TheVariants.{UpscopeAtTop}
+use Rattle.vcd_text.specs.declared.fault.Fault.TheVariants.{BadVar, MixedCode, BadTime}
+use Rattle.vcd_text.specs.declared.fault.Fault.TheVariants.{TimeBackwards, BadChange}
+use Rattle.vcd_text.specs.declared.fault.Fault.TheVariants.{UnknownCode, ValueTooLong}
+use Rattle.vcd_text.specs.declared.fault.Fault.TheVariants.{TooManySignals}
 use Rattle.vcd_core.specs.Decimal.{is_number, number_of}
 use Rattle.vcd_core.specs.Word.{is_one_of}
 use Rattle.vcd_text.specs.Letters.{is_among, is_binary_digit}
-use Rattle.vcd_text.specs.Items.{Item, entry, timescale, scope, upscope, variable, end_definitions, stamp, scalar}
-use Rattle.vcd_text.specs.Items.{vector, real_or_string, dump_word, other, spelling, end_word, is_end_word}
-use Rattle.vcd_text.specs.Items.{has_no_end_word, dump_words, declaration_words, header_words, begins_declaration}
+use Rattle.vcd_text.specs.Items.{Item, entry, timescale, scope, upscope, variable, end_definitions}
+use Rattle.vcd_text.specs.Items.{stamp, scalar}
+use Rattle.vcd_text.specs.Items.{vector, real_or_string, dump_word, other, spelling, end_word}
+use Rattle.vcd_text.specs.Items.{is_end_word}
+use Rattle.vcd_text.specs.Items.{has_no_end_word, dump_words, declaration_words, header_words}
+use Rattle.vcd_text.specs.Items.{begins_declaration}
 use Rattle.vcd_text.specs.Items.{is_other, timescale_of, vector_prefixes, real_or_string_prefixes}
-use Rattle.vcd_text.specs.Grammar.{ParseState, VariableDeclaration, Allows, is_skipped, has_good_size, declaration_of}
-use Rattle.vcd_text.specs.Grammar.{variable_of, may_have_code, has_room, is_tick, is_binary_number, takes_binary_number}
+use Rattle.vcd_text.specs.Grammar.{ParseState, VariableDeclaration, Allows, is_skipped}
+use Rattle.vcd_text.specs.Grammar.{has_good_size, declaration_of}
+use Rattle.vcd_text.specs.Grammar.{variable_of, may_have_code, has_room, is_tick, is_binary_number}
+use Rattle.vcd_text.specs.Grammar.{takes_binary_number}
 use Rattle.vcd_text.specs.Faults.{ChangeFault, WordFault, pair_prefixes}
 use Rattle.vcd_text.specs.FoundFaults.{IsUnfinished}
 use Rattle.vcd_text.specs.Faults.{no_tick, tick_goes_back, missing_code}

@@ -1,17 +1,22 @@
--- The scopes of the reader, as scopes are opened and closed and variables declared.
-use Rattle.std.proofs.Common.{◌≡◌, ℕ, zero, suc, ◌+◌, ◌-◌, ◌<◌, ◌≤◌, Bool, true, false, not, cond, List, []}
-use Rattle.std.proofs.Common.{◌∷◌, ◌++◌, length, take, map, Option, None, Some, refl, sym, ap, subst, ◌∙◌, arith}
+-- The scopes of the parser, as scopes are opened and closed and variables declared.
+use Rattle.std.proofs.Common.{◌≡◌, ℕ, zero, suc, ◌+◌, ◌-◌, ◌<◌, ◌≤◌, Bool, true, false, not, cond}
+use Rattle.std.proofs.Common.{List, []}
+use Rattle.std.proofs.Common.{◌∷◌, ◌++◌, length, take, map, Option, None, Some, refl, sym, ap}
+use Rattle.std.proofs.Common.{subst, ◌∙◌, arith}
 use Rattle.std.specs.Prelude.{option_to_list}
-use Rattle.std.proofs.lemmas.List.{append-nil, map-append, length-map, length-append, length_push, take_all}
+use Rattle.std.proofs.lemmas.List.{append-nil, map-append, length-map, length-append, length_push}
+use Rattle.std.proofs.lemmas.List.{take_all}
 use Rattle.std.proofs.lemmas.List.{take-append-le, length-take-le, get_or_append_left}
 use Rattle.std.proofs.Math.Seq.{get_or-append_seam}
 use Rattle.std.proofs.lemmas.List.Elements.{filter-append}
 use Rattle.std.proofs.lemmas.Option.{same_Some}
 use Rattle.vcd_core.specs.declared.capture.ScopeName.{ScopeName}
 use Rattle.vcd_text.specs.Items.{variable}
-use Rattle.vcd_text.specs.Grammar.{VariableDeclaration, ParseState, kept_variables, declaration_of, state_after_item}
+use Rattle.vcd_text.specs.Grammar.{VariableDeclaration, ParseState, kept_variables, declaration_of}
+use Rattle.vcd_text.specs.Grammar.{state_after_item}
 use Rattle.vcd_text.specs.Grammar.{is_skipped}
-use Rattle.vcd_text.specs.inside.Scopes.{chains_of, chain_at, scopes_at, AreWithin, AreReached, HoldsScopes}
+use Rattle.vcd_text.specs.inside.Scopes.{chains_of, chain_at, scopes_at, AreWithin, AreReached}
+use Rattle.vcd_text.specs.inside.Scopes.{HoldsScopes}
 use Rattle.vcd_text.specs.declared.reading.scopes.ScopePlace.{ScopePlace}
 use Rattle.vcd_text.specs.declared.reading.scopes.Scopes.{Scopes}
 use Rattle.std.proofs.lemmas.List.{take-take}
@@ -59,7 +64,7 @@ reached_more n reach further [] p far count tt = (λ _. count, tt)
 reached_more n reach further (q ∷ ps) p far count (one, others) =
     (λ is. let low = one is in omega (arith, low, far), reached_more n reach further ps p far count others)
 
--- ---- the scopes of the reader
+-- ---- the scopes of the parser
 
 -- the chains, the reach and the places stay
 reach_kept : (old new : Scopes) → new.chains.items ≡ old.chains.items → new.reach ≡ old.reach

@@ -9,7 +9,8 @@ use Rattle.vcd_text.specs.Items.{spellings}
 use Rattle.vcd_text.specs.Grammar.{initial_state, word_texts}
 use Rattle.vcd_text.specs.Faults.{WordFault, ShowsFault, fault_line}
 
--- from the state `start` the conditions of each item hold, and the state after all of them is `state`
+-- from the state `start` the conditions of each item hold, and the state after all of them is
+-- `state`
 pub record Reaches (start : ParseState) (items : List Item) (state : ParseState) : Type 0 where
   pub allowed : AllowsAll start items
   pub state_is : state_after start items ≡ state

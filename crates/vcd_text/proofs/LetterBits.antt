@@ -1,6 +1,8 @@
 -- The letters of a word, and those that the extension restores from the next.
-use Rattle.std.proofs.Common.{◌≡◌, ℕ, zero, suc, ◌+◌, ◌-◌, ◌*◌, ◌/◌, ◌%◌, ◌^◌, ◌<◌, ◌≤◌, min, max, Bool, true, false}
-use Rattle.std.proofs.Common.{List, [], ◌∷◌, ◌++◌, length, drop, get_or, slice_range, if◌then◌else◌, pow-suc, refl, sym}
+use Rattle.std.proofs.Common.{◌≡◌, ℕ, zero, suc, ◌+◌, ◌-◌, ◌*◌, ◌/◌, ◌%◌, ◌^◌, ◌<◌, ◌≤◌, min, max}
+use Rattle.std.proofs.Common.{Bool, true, false}
+use Rattle.std.proofs.Common.{List, [], ◌∷◌, ◌++◌, length, drop, get_or, slice_range, if◌then◌else◌}
+use Rattle.std.proofs.Common.{pow-suc, refl, sym}
 use Rattle.std.proofs.Common.{ap, ◌∙◌, arith, inl, inr}
 use Rattle.std.specs.Int.{bit_at, bit_not}
 use lib.Bits.{and_le_r}
@@ -8,35 +10,39 @@ use Rattle.std.specs.Int.Bits.{bit_and, bit_or, bit_xor}
 use Rattle.std.specs.Int.Count.{count_leading_zeros}
 use Rattle.std.proofs.Math.ListN.{set}
 use Rattle.std.proofs.lemmas.Bool.{cases_eq, cases_lt, lt-ltb}
-use Rattle.std.proofs.lemmas.List.{ext_get_or, get_or-drop, get_or-map, get_or-set_other, get_or-set_same, get_or-take}
-use Rattle.std.proofs.lemmas.List.{length-drop, length-map, length-set, length-take-le, map-append, take_all}
+use Rattle.std.proofs.lemmas.List.{ext_get_or, get_or-drop, get_or-map, get_or-set_other}
+use Rattle.std.proofs.lemmas.List.{get_or-set_same, get_or-take}
+use Rattle.std.proofs.lemmas.List.{length-drop, length-map, length-set, length-take-le, map-append}
+use Rattle.std.proofs.lemmas.List.{take_all}
 use Rattle.std.proofs.lemmas.List.Folds.{drop_split}
 use Rattle.std.proofs.lemmas.Nat.{leading_length}
-use Rattle.std.proofs.lemmas.Nat.Bits.{bit_at-lt, bit_at-suc, bit_at_above, bit_at_and, bit_at_cat_high, bit_at_not}
+use Rattle.std.proofs.lemmas.Nat.Bits.{bit_at-lt, bit_at-suc, bit_at_above, bit_at_and}
+use Rattle.std.proofs.lemmas.Nat.Bits.{bit_at_cat_high, bit_at_not}
 use Rattle.std.proofs.lemmas.Nat.Bits.{bit_at_ones, bit_at_ones_above, bit_at_or, bit_at_xor}
 use Rattle.std.proofs.Common.{w64}
 use Rattle.vcd_core.specs.declared.bit.Bit.{Bit}
 use Rattle.vcd_core.specs.declared.bit.Bit.TheVariants.{Zero, X}
-use Rattle.vcd_core.specs.declared.letter_word.LetterWord.{LetterWord}
+use Rattle.vcd_core.specs.declared.letter_block.LetterBlock.{LetterBlock}
 use Rattle.vcd_core.specs.Value.{letter_at, printed_letter, same_letter}
-use Rattle.vcd_core.specs.WordRows.{letter_in, letter_of, letters_of, HoldsLetters}
-use Rattle.vcd_core.proofs.ValueLemmas.{letter_at-letters_of, length-letters_of, one_word, same_letter_at}
+use Rattle.vcd_core.specs.BlockRows.{letter_in, letter_of, letters_of, HoldsLetters}
+use Rattle.vcd_core.proofs.ValueLemmas.{letter_at-letters_of, length-letters_of, one_word}
+use Rattle.vcd_core.proofs.ValueLemmas.{same_letter_at}
 use Rattle.vcd_text.specs.Letters.{pad_letter, printed_letters}
 use Rattle.vcd_text.specs.inside.ValueFronts.{IsShortFormLen, is_redundant_above}
 
 -- ---- the letters of words
 
-pub held_letter : (v : List Bit) (from : ℕ) (word : LetterWord) (i : ℕ) → HoldsLetters Zero v from word → i < 64
+pub held_letter : (v : List Bit) (from : ℕ) (word : LetterBlock) (i : ℕ) → HoldsLetters Zero v from word → i < 64
     → from + i < length v → letter_in word i ≡ letter_at v (from + i)
 held_letter v from word i holds inside within = grind (arith, lt-ltb)
 
 -- a letter of the value of a word
-pub given_letter : (width : ℕ) (word : LetterWord) (k : ℕ) → width ≤ 64 → k < width
+pub given_letter : (width : ℕ) (word : LetterBlock) (k : ℕ) → width ≤ 64 → k < width
     → letter_at (letters_of width (word ∷ [])) k ≡ letter_in word k
 given_letter width word k narrow within = grind (arith, letter_at-letters_of, one_word)
 
 -- a word that holds a whole value gives it
-pub given_whole : (v : List Bit) (word : LetterWord) → length v ≤ 64 → HoldsLetters Zero v 0 word
+pub given_whole : (v : List Bit) (word : LetterBlock) → length v ≤ 64 → HoldsLetters Zero v 0 word
     → letters_of (length v) (word ∷ []) ≡ v
 given_whole v word narrow holds = grind (arith, length-letters_of, same_letter_at, given_letter, held_letter)
 
@@ -53,7 +59,7 @@ pub letter_at-lowest : (n : ℕ) (v : List Bit) (k : ℕ) → n ≤ length v →
 letter_at-lowest n v k within below = grind (arith, length-lowest, get_or-drop)
 
 -- the lowest letters of a word
-pub lowest_given : (width count : ℕ) (word : LetterWord) → width ≤ 64 → count ≤ width
+pub lowest_given : (width count : ℕ) (word : LetterBlock) → width ≤ 64 → count ≤ width
     → lowest count (letters_of width (word ∷ [])) ≡ letters_of count (word ∷ [])
 lowest_given width count word narrow within =
     grind (arith, length-letters_of, same_letter_at, length-lowest, letter_at-lowest, given_letter)
@@ -69,7 +75,7 @@ pair_written f row k a b long inside written upper lower i within =
     grind (arith, length-set, cases_lt, get_or-set_other, cases_eq, get_or-set_same)
 
 -- the end of a row of letters
-pub row_end : (row : List ℕ) (count : ℕ) (word : LetterWord) → length row ≡ 64 → count ≤ 64
+pub row_end : (row : List ℕ) (count : ℕ) (word : LetterBlock) → length row ≡ 64 → count ≤ 64
     → ((i : ℕ) → i < count → get_or row (63 - i) 0 ≡ printed_letter (letter_in word i))
     → slice_range row (64 - count) 64 ≡ printed_letters (letters_of count (word ∷ []))
 row_end row count word long fits written =
@@ -87,7 +93,7 @@ row_end row count word long fits written =
     ∙ sym (get_or-map printed_letter v i X 0 (omega (arith, inside, few))))
 
 -- the letters of a word of a value are before the lower ones
-pub word_and_rest : (v : List Bit) (left from : ℕ) (word : LetterWord) → from ≤ left → left ≤ from + 64
+pub word_and_rest : (v : List Bit) (left from : ℕ) (word : LetterBlock) → from ≤ left → left ≤ from + 64
     → left ≤ length v → HoldsLetters Zero v from word
     → printed_letters (lowest left v) ≡ printed_letters (letters_of (left - from) (word ∷ []))
     ++ printed_letters (lowest from v)
@@ -109,11 +115,11 @@ word_and_rest v left from word most fits within holds =
 abbrev pub is_redundant_in : List Bit → ℕ → Bool
 is_redundant_in v i = same_letter (pad_letter (letter_at v i ∷ [])) (letter_at v (i + 1))
 
-pub redundant_held : (v : List Bit) (from : ℕ) (word : LetterWord) (i : ℕ) → HoldsLetters Zero v from word → i + 1 < 64
+pub redundant_held : (v : List Bit) (from : ℕ) (word : LetterBlock) (i : ℕ) → HoldsLetters Zero v from word → i + 1 < 64
     → from + i + 1 < length v → is_redundant_above word i ≡ is_redundant_in v (from + i)
 redundant_held v from word i holds inside within = grind (arith, held_letter)
 
-pub redundant_given : (width : ℕ) (word : LetterWord) (i : ℕ) → width ≤ 64 → i + 1 < width
+pub redundant_given : (width : ℕ) (word : LetterBlock) (i : ℕ) → width ≤ 64 → i + 1 < width
     → is_redundant_above word i ≡ is_redundant_in (letters_of width (word ∷ [])) i
 redundant_given width word i narrow within = grind (arith, given_letter)
 
@@ -199,7 +205,7 @@ needed_where_one : (b : Bool) (n : ℕ) → n ≡ (if b then 0 else 1) → n ≡
 needed_where_one true n is one = absurd (omega arith)
 needed_where_one false n is one = refl
 
-pub short_form_len_is : (count : ℕ) (word : LetterWord) (marks mask : ℕ) → 1 ≤ count → count ≤ 64 → mask < 2 ^ 64
+pub short_form_len_is : (count : ℕ) (word : LetterBlock) (marks mask : ℕ) → 1 ≤ count → count ≤ 64 → mask < 2 ^ 64
     → mask ≡ 2 ^ (count - 1) - 1 → ((i : ℕ) → i < 64 → bit_at marks i ≡ (if is_redundant_above word i then 0 else 1))
     → IsShortFormLen count word (65 - count_leading_zeros 64 (bit_and marks mask))
 short_form_len_is count word marks mask least most fits is_mask marks_are =

@@ -1,8 +1,8 @@
 pub mod SoundMeaning
 pub mod FrontAnswers
 pub mod Chunks
-pub mod Taken
-pub mod Ended
+pub mod NextWords
+pub mod LastWords
 pub mod FrontItem
 pub mod OneAnswer
 pub mod OneRefusal
@@ -29,12 +29,12 @@ pub mod Written
 pub mod Scopes
 pub mod HeldScopes
 pub mod PlacedSignals
-pub mod Walks
-pub mod Near
+pub mod TransitionText
+pub mod ListedValues
 pub mod Sorting
 pub mod Counts
 pub mod Listing
-pub mod NextChanges
+pub mod Cursors
 pub mod Orders
 pub mod Texts
 pub mod WaveChanges
@@ -50,7 +50,7 @@ pub mod Declaring
 pub mod DeclaredCount
 pub mod Numbers
 pub mod LetterBits
-pub mod LetterWords
+pub mod LetterBlocks
 pub mod Changing
 pub mod CodesDiffer
 pub mod Decimals

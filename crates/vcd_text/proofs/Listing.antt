@@ -1,13 +1,16 @@
 -- The transitions of a window are listed signal by signal.
-use Rattle.std.proofs.Common.{◌≡◌, ◌<◌, ◌≤◌, ◌+◌, ℕ, List, ◌++◌, length, map, drop, get_or, refl, ap}
+use Rattle.std.proofs.Common.{◌≡◌, ◌<◌, ◌≤◌, ◌+◌, ℕ, List, ◌++◌, length, map, drop, get_or, refl}
+use Rattle.std.proofs.Common.{ap}
 use Rattle.std.proofs.Common.{append_assoc, arith}
 use Rattle.std.specs.List.{filter}
-use Rattle.std.proofs.lemmas.List.{append-nil, drop_all, drop_more, get_or-map, length-append, length-map}
+use Rattle.std.proofs.lemmas.List.{append-nil, drop_all, drop_more, get_or-map, length-append}
+use Rattle.std.proofs.lemmas.List.{length-map}
 use Rattle.vcd_core.specs.declared.capture.Signal.{Signal}
 use Rattle.vcd_core.specs.declared.wave.Change.{Change}
-use Rattle.vcd_core.specs.Contents.{signal_contents}
+use Rattle.vcd_core.specs.CaptureContents.{signal_contents}
 use Rattle.vcd_core.specs.Wave.{value_at}
-use Rattle.vcd_text.specs.inside.Transitions.{Transition, is_in_window, transition_of, transition_value}
+use Rattle.vcd_text.specs.inside.Transitions.{Transition, is_in_window, transition_of}
+use Rattle.vcd_text.specs.inside.Transitions.{transition_value}
 use Rattle.vcd_text.specs.inside.Transitions.{unsorted_window}
 use Rattle.vcd_text.specs.inside.Transitions.{window_of_signal}
 

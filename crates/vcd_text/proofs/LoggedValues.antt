@@ -1,12 +1,14 @@
 -- A wave followed by changes of the log.
-use Rattle.std.proofs.Common.{◌≡◌, ℕ, ◌<◌, ◌≤◌, if◌then◌else◌, nat_le, List, [], ◌∷◌, ◌++◌, All, refl, ap, ◌∙◌, arith}
+use Rattle.std.proofs.Common.{◌≡◌, ℕ, ◌<◌, ◌≤◌, if◌then◌else◌, nat_le, List, [], ◌∷◌, ◌++◌, All}
+use Rattle.std.proofs.Common.{refl, ap, ◌∙◌, arith}
 use Rattle.std.proofs.lemmas.List.Elements.{All-nil, All-weaker}
 use Rattle.vcd_core.specs.declared.bit.Bit.{Bit}
 use Rattle.vcd_core.specs.declared.wave.Change.{Change}
 use Rattle.vcd_core.specs.Value.{all_x}
 use Rattle.vcd_core.specs.Wave.{value_from, value_at}
-use Rattle.vcd_text.specs.inside.ChangeLog.{logged_letters, value_after_changes, RisesTo, GivesLoggedValues}
-use Rattle.vcd_text.specs.declared.reading.change_log.LoggedChange.{LoggedChange}
+use Rattle.vcd_text.specs.inside.ChangeLog.{logged_letters, value_after_changes, RisesTo}
+use Rattle.vcd_text.specs.inside.ChangeLog.{GivesLoggedValues}
+use Rattle.vcd_text.specs.declared.reading.pending.LoggedChange.{LoggedChange}
 
 value_after_changes-more : (width t : ℕ) (before : List Bit) (es : List LoggedChange) (e : LoggedChange)
     → value_after_changes width t before (es ++ e ∷ [])

@@ -1,6 +1,7 @@
 -- The order of keys is that of their transitions: by tick, then by position.
 use Rattle.std.proofs.Common.{◌≡◌, ◌==◌, ◌<◌, ◌≤◌, ◌+◌, ◌*◌, ◌/◌, ◌%◌, ℕ, suc, false}
-use Rattle.std.proofs.Common.{List, [], ◌∷◌, ◌++◌, if◌then◌else◌, length, drop, get_or, All, ap, subst, ◌∙◌}
+use Rattle.std.proofs.Common.{List, [], ◌∷◌, ◌++◌, if◌then◌else◌, length, drop, get_or, All, ap}
+use Rattle.std.proofs.Common.{subst, ◌∙◌}
 use Rattle.std.proofs.Common.{arith}
 use Rattle.std.proofs.Common.{◌-◌, append_assoc}
 use Rattle.std.specs.List.{flat_map}
@@ -14,7 +15,8 @@ use Rattle.vcd_core.specs.declared.capture.TheConstants.{END_LIMIT}
 use Rattle.vcd_core.specs.Contents.{SignalContents}
 use Rattle.vcd_core.specs.Sound.{IsSoundSignal}
 use Rattle.vcd_text.specs.declared.writing.window.TheConstants.{POSITIONS}
-use Rattle.vcd_text.specs.inside.Transitions.{Transition, last_tick, transition_items, transition_of, transition_value}
+use Rattle.vcd_text.specs.inside.Transitions.{Transition, last_tick, transition_items}
+use Rattle.vcd_text.specs.inside.Transitions.{transition_of, transition_value}
 use Rattle.vcd_text.specs.inside.Transitions.{transitions_from, unsorted_window}
 use Rattle.vcd_text.specs.inside.Windows.{IsKey, transition_of_key, transitions_of}
 use Rattle.vcd_text.specs.Text.{code_of, item_line, stamp_of, value_item}

@@ -12,7 +12,8 @@ use Rattle.vcd_core.specs.declared.wave.Change.{Change}
 use Rattle.vcd_core.specs.Value.{same_letters, printed_letter}
 use Rattle.vcd_core.specs.Wave.{value_from, value_at, AreChangesFrom, IsWave}
 use Rattle.vcd_core.specs.inside.ValueLaws.{same_letters-Decides}
-use Rattle.vcd_text.specs.Letters.{is_binary_digit, letter_of_digit, letters_of_digits, printed_letters}
+use Rattle.vcd_text.specs.Letters.{is_binary_digit, letter_of_digit, letters_of_digits}
+use Rattle.vcd_text.specs.Letters.{printed_letters}
 use Rattle.vcd_text.specs.Letters.{extension, suffixes, short_form}
 use Rattle.vcd_text.specs.Grammar.{is_binary_number}
 

@@ -1,6 +1,9 @@
--- From one path of scopes to another: the scopes past the shared front are closed, and the others opened.
-use Rattle.std.proofs.Common.{◌≡◌, ◌≤◌, ◌+◌, ◌-◌, ◌∙◌, ℕ, zero, suc, true, false, not, List, [], ◌∷◌, ◌++◌, map, length}
-use Rattle.std.proofs.Common.{take, drop, replicate, refl, sym, ap, ap₂, subst, arith, one-add, append_assoc}
+-- From one path of scopes to another: the scopes past the shared front are closed, and the others
+-- opened.
+use Rattle.std.proofs.Common.{◌≡◌, ◌≤◌, ◌+◌, ◌-◌, ◌∙◌, ℕ, zero, suc, true, false, not, List, []}
+use Rattle.std.proofs.Common.{◌∷◌, ◌++◌, map, length}
+use Rattle.std.proofs.Common.{take, drop, replicate, refl, sym, ap, ap₂, subst, arith, one-add}
+use Rattle.std.proofs.Common.{append_assoc}
 use Rattle.std.proofs.Common.{append-nil, Option}
 use Rattle.std.specs.List.{list_all, common_prefix_len}
 use Rattle.std.specs.Cmp.Lexicographic.{pointwise, pointwise_decides}
@@ -18,7 +21,8 @@ use Rattle.vcd_text.specs.Grammar.{ParseState, VariableDeclaration}
 use Rattle.vcd_text.specs.Text.{same_scope, scope_items}
 use Rattle.vcd_text.proofs.Scopes.{all_closed}
 use Rattle.vcd_text.proofs.WeakerTests.{all_weaker}
-use Rattle.vcd_text.proofs.ItemsInTurn.{Reaches, reaches_none, reaches_first, reaches_both, reaches_same}
+use Rattle.vcd_text.proofs.ItemsInTurn.{Reaches, reaches_none, reaches_first, reaches_both}
+use Rattle.vcd_text.proofs.ItemsInTurn.{reaches_same}
 use Rattle.std.proofs.lemmas.List.Folds.{list_all-append}
 
 -- the state in the middle of the declarations

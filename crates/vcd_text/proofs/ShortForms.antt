@@ -1,5 +1,6 @@
 -- The short form of a value: a letter at the front is left out if the extension restores it.
-use Rattle.std.proofs.Common.{◌≡◌, ℕ, zero, suc, ◌+◌, ◌-◌, ◌<◌, ◌≤◌, Bool, true, false, cond, ◌&&◌, List, [], ◌∷◌, ◌++◌}
+use Rattle.std.proofs.Common.{◌≡◌, ℕ, zero, suc, ◌+◌, ◌-◌, ◌<◌, ◌≤◌, Bool, true, false, cond, ◌&&◌}
+use Rattle.std.proofs.Common.{List, [], ◌∷◌, ◌++◌}
 use Rattle.std.proofs.Common.{length, drop, get_or, refl, sym, ap, ◌∙◌, arith, Some, None, ◌⊎◌}
 use Rattle.std.specs.Prelude.{find, unwrap_or}
 use Rattle.std.specs.Option.{option_or}
@@ -9,13 +10,14 @@ use Rattle.std.proofs.lemmas.List.Folds.{find-append}
 use Rattle.vcd_core.specs.declared.bit.Bit.{Bit}
 use Rattle.vcd_core.specs.declared.bit.Bit.TheVariants.{Zero, X}
 use Rattle.vcd_core.specs.Value.{letter_at, same_letter, same_letters}
-use Rattle.vcd_core.specs.declared.letter_word.LetterWord.{LetterWord}
-use Rattle.vcd_core.specs.WordRows.{letters_of, HoldsLetters}
+use Rattle.vcd_core.specs.declared.letter_block.LetterBlock.{LetterBlock}
+use Rattle.vcd_core.specs.BlockRows.{letters_of, HoldsLetters}
 use Rattle.vcd_core.specs.inside.ValueLaws.{same_letters-Decides}
 use Rattle.vcd_core.proofs.ValueLemmas.{length-letters_of}
 use Rattle.vcd_text.specs.Letters.{pad_letter, extension, suffixes, short_form}
 use Rattle.vcd_text.specs.inside.ValueFronts.{IsShortFormLen}
-use Rattle.vcd_text.proofs.LetterBits.{is_redundant_in, lowest, lowest_given, redundant_given, redundant_held}
+use Rattle.vcd_text.proofs.LetterBits.{is_redundant_in, lowest, lowest_given, redundant_given}
+use Rattle.vcd_text.proofs.LetterBits.{redundant_held}
 
 -- the letters after those at the front are left out one by one
 unfoldable pub shortened : List Bit → List Bit
@@ -46,7 +48,8 @@ no_suffix_longer : (w : List Bit) → NoLonger (length w) (suffixes w)
 no_suffix_longer [] = tt
 no_suffix_longer (b ∷ s) = grind (arith, one_more, no_suffix_longer s)
 
--- the first text that fits after one more letter: the same one if the letter is redundant, else none
+-- the first text that fits after one more letter: the same one if the letter is redundant, else
+-- none
 find_more : (a b : Bit) (s : List Bit) (ts : List (List Bit)) → NoLonger (length (b ∷ s)) ts
     → find (fits (a ∷ b ∷ s)) ts ≡ cond (same_letter (pad_letter (b ∷ [])) a) (find (fits (b ∷ s)) ts) None
 find_more a b s [] all = grind arith
@@ -133,7 +136,7 @@ pub stays : (v : List Bit) (len : ℕ) → 1 ≤ len → len ≤ length v → (1
 stays v len least within needed = grind (arith, cases_lt, kept_at, last_kept)
 
 -- the short form of a value of one word
-pub short_given : (width : ℕ) (word : LetterWord) (len : ℕ) → width ≤ 64 → IsShortFormLen width word len
+pub short_given : (width : ℕ) (word : LetterBlock) (len : ℕ) → width ≤ 64 → IsShortFormLen width word len
     → letters_of len (word ∷ []) ≡ short_form (letters_of width (word ∷ []))
 short_given width word len narrow is =
     let v = letters_of width (word ∷ []) in
@@ -147,7 +150,7 @@ short_given width word len narrow is =
     ∙ ap (λ n. shortened (drop n v)) all ∙ sym (short_is v)
 
 -- the letters of a word are left out, or stay
-pub word_left_out : (v : List Bit) (from : ℕ) (word : LetterWord) (left len : ℕ) → HoldsLetters Zero v from word
+pub word_left_out : (v : List Bit) (from : ℕ) (word : LetterBlock) (left len : ℕ) → HoldsLetters Zero v from word
     → from < left → left ≤ from + 64 → left ≤ length v
     → IsShortFormLen (left - from) word len → shortened (lowest left v) ≡ shortened (lowest (from + len) v)
 word_left_out v from word left len holds some fits within is =
@@ -158,7 +161,7 @@ word_left_out v from word left len holds some fits within is =
     ∙ sym (redundant_held v from word j holds (omega (arith, is.least)) (omega (arith, is.least)))
     ∙ is.redundant j (omega (arith, is.least)) (omega (arith, is.least)))
 
-pub word_stays : (v : List Bit) (from : ℕ) (word : LetterWord) (left len : ℕ) → HoldsLetters Zero v from word
+pub word_stays : (v : List Bit) (from : ℕ) (word : LetterBlock) (left len : ℕ) → HoldsLetters Zero v from word
     → from < left → left ≤ from + 64 → left ≤ length v → IsShortFormLen (left - from) word len
     → (from ≡ 0) ⊎ (1 < len)
     → shortened (lowest (from + len) v) ≡ lowest (from + len) v

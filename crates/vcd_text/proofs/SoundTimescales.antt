@@ -1,12 +1,14 @@
 -- The timescale of a sound capture is read back.
-use Rattle.std.proofs.Common.{◌≡◌, ◌⊎◌, ◌++◌, ◌<◌, ◌^◌, ℕ, List, true, [], ◌∷◌, Some, inl, inr, refl, sym}
+use Rattle.std.proofs.Common.{◌≡◌, ◌⊎◌, ◌++◌, ◌<◌, ◌^◌, ℕ, List, true, [], ◌∷◌, Some, inl, inr}
+use Rattle.std.proofs.Common.{refl, sym}
 use Rattle.std.proofs.Common.{subst, arith, decimal, append-nil}
 use Rattle.std.specs.Prelude.{find, bytes_eq}
 use Rattle.std.specs.Fmt.{digits}
 use Rattle.std.proofs.lemmas.Bool.{or_cases, eqb-true}
 use Rattle.vcd_core.specs.declared.capture.Timescale.{Timescale}
 use Rattle.vcd_core.specs.declared.capture.TimeUnit.{TimeUnit}
-use Rattle.vcd_core.specs.declared.capture.TimeUnit.TheVariants.{Second, Millisecond, Microsecond, Nanosecond}
+use Rattle.vcd_core.specs.declared.capture.TimeUnit.TheVariants.{Second, Millisecond, Microsecond}
+use Rattle.vcd_core.specs.declared.capture.TimeUnit.TheVariants.{Nanosecond}
 use Rattle.vcd_core.specs.declared.capture.TimeUnit.TheVariants.{Picosecond, Femtosecond}
 use Rattle.vcd_core.specs.Sound.{is_sound_timescale}
 use Rattle.vcd_core.specs.TimeUnits.{unit_text}

@@ -1,9 +1,11 @@
 -- Every word of a capture's text has a byte and no white space.
 use Rattle.std.proofs.Common.{◌≡◌, ◌<◌, ◌≤◌, ◌+◌, ◌-◌, ◌^◌, ℕ, zero, suc, Bool, true, not, List, []}
-use Rattle.std.proofs.Common.{◌∷◌, ◌++◌, map, length, drop, replicate, Option, Some, None, IfSome, IsTrue, refl, arith}
+use Rattle.std.proofs.Common.{◌∷◌, ◌++◌, map, length, drop, replicate, Option, Some, None, IfSome}
+use Rattle.std.proofs.Common.{IsTrue, refl, arith}
 use Rattle.std.proofs.Common.{decimal}
 use Rattle.std.specs.List.{list_all, AllByRecursion, common_prefix_len}
-use Rattle.std.proofs.lemmas.Bool.{and_from, and_parts, cond_both, and_right, or_from, not_from_false, lt-leb, leb-true}
+use Rattle.std.proofs.lemmas.Bool.{and_from, and_parts, cond_both, and_right, or_from}
+use Rattle.std.proofs.lemmas.Bool.{not_from_false, lt-leb, leb-true}
 use Rattle.std.proofs.lemmas.Bool.{ne_eqb}
 use Rattle.std.proofs.lemmas.List.Elements.{recursion_from_All}
 use Rattle.std.proofs.lemmas.List.Folds.{list_all-append}
@@ -14,14 +16,16 @@ use Rattle.vcd_core.specs.declared.capture.ScopeName.{ScopeName}
 use Rattle.vcd_core.specs.declared.capture.TheConstants.{END_LIMIT}
 use Rattle.vcd_core.specs.Word.{is_word, is_white_space}
 use Rattle.vcd_core.specs.Contents.{Contents, SignalContents}
-use Rattle.vcd_core.specs.Sound.{is_sound_header, is_sound_scope, is_sound_timescale, IsSoundSignal, IsSound}
+use Rattle.vcd_core.specs.Sound.{is_sound_header, is_sound_scope, is_sound_timescale, IsSoundSignal}
+use Rattle.vcd_core.specs.Sound.{IsSound}
 use Rattle.vcd_text.specs.Words.{words_of}
 use Rattle.std.specs.Char.{is_ascii_digit}
 use Rattle.vcd_text.specs.Letters.{printed_letters, short_form}
 use Rattle.vcd_text.specs.Items.{Item, entry, scope, upscope, vector, end_definitions, header_word}
 use Rattle.vcd_text.specs.Items.{end_word, spellings}
 use Rattle.vcd_text.specs.Grammar.{word_texts}
-use Rattle.vcd_text.specs.Text.{header_items, timescale_items, same_scope, scope_items, code_of, variable_item}
+use Rattle.vcd_text.specs.Text.{header_items, timescale_items, same_scope, scope_items, code_of}
+use Rattle.vcd_text.specs.Text.{variable_item}
 use Rattle.vcd_text.specs.Text.{signal_items, value_items}
 use Rattle.vcd_text.specs.Text.{with_stamp, first_items, tick_items, end_items, items_of, text}
 use Rattle.vcd_text.proofs.CodesDiffer.{code_no_space, code_not_empty}

@@ -1,5 +1,6 @@
 -- The changes of a capture's text are allowed, and these are their value changes.
-use Rattle.std.proofs.Common.{◌≡◌, ℕ, zero, suc, ◌+◌, ◌<◌, ◌≤◌, true, false, if◌then◌else◌, ◌&&◌, ◌==◌}
+use Rattle.std.proofs.Common.{◌≡◌, ℕ, zero, suc, ◌+◌, ◌<◌, ◌≤◌, true, false, if◌then◌else◌, ◌&&◌}
+use Rattle.std.proofs.Common.{◌==◌}
 use Rattle.std.proofs.Common.{nat_lt, List, [], ◌∷◌, ◌++◌, length, map, get_or, Some}
 use Rattle.std.proofs.Common.{All, refl, sym, subst, append_assoc, arith}
 use Rattle.std.specs.Prelude.{find, bytes_eq, codes}
@@ -16,12 +17,15 @@ use Rattle.vcd_core.specs.Word.{is_one_of}
 use Rattle.vcd_text.specs.Letters.{short_form}
 use Rattle.vcd_text.specs.Items.{Item, dump_word, dump_words, end_word}
 use Rattle.vcd_text.specs.Grammar.{ValueChange, ParseState, is_skipped}
-use Rattle.vcd_text.specs.Text.{all_values, code_of, differs_at, end_items, first_items, new_values, stamp_of}
+use Rattle.vcd_text.specs.Text.{all_values, code_of, differs_at, end_items, first_items, new_values}
+use Rattle.vcd_text.specs.Text.{stamp_of}
 use Rattle.vcd_text.specs.Text.{with_stamp, tick_items, value_item, value_items}
 use Rattle.vcd_text.proofs.CodesDiffer.{code_not_empty}
 use Rattle.vcd_text.proofs.Decimals.{decimal_is_number, number_of-decimal}
-use Rattle.vcd_text.proofs.DeclaredSignals.{declared_as, declared_state, declared_of, found_by_code, sound_is_kept}
-use Rattle.vcd_text.proofs.ItemsInTurn.{Reaches, reaches_both, reaches_none, reaches_one, reaches_same}
+use Rattle.vcd_text.proofs.DeclaredSignals.{declared_as, declared_state, declared_of, found_by_code}
+use Rattle.vcd_text.proofs.DeclaredSignals.{sound_is_kept}
+use Rattle.vcd_text.proofs.ItemsInTurn.{Reaches, reaches_both, reaches_none, reaches_one}
+use Rattle.vcd_text.proofs.ItemsInTurn.{reaches_same}
 use Rattle.vcd_text.proofs.ReadValues.{letter_back, letters_back, printed_is_value, short_within}
 use Rattle.vcd_text.proofs.ReadValues.{short_one, length-value_at}
 

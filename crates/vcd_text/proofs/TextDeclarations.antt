@@ -1,11 +1,14 @@
 -- The declarations of a capture's text are allowed, and declare the signals of the capture.
-use Rattle.std.proofs.Common.{◌≡◌, ◌<◌, ◌≤◌, ◌+◌, ◌^◌, ℕ, suc, true, false, not, List, [], ◌∷◌, ◌++◌}
-use Rattle.std.proofs.Common.{find, length, Option, Some, None, IsSomeAnd, IfSome, IsTrue, refl, sym, ap, subst}
+use Rattle.std.proofs.Common.{◌≡◌, ◌<◌, ◌≤◌, ◌+◌, ◌^◌, ℕ, suc, true, false, not, List, [], ◌∷◌}
+use Rattle.std.proofs.Common.{◌++◌}
+use Rattle.std.proofs.Common.{find, length, Option, Some, None, IsSomeAnd, IfSome, IsTrue, refl}
+use Rattle.std.proofs.Common.{sym, ap, subst}
 use Rattle.std.proofs.Common.{arith, append_assoc, append-nil, decimal}
 use Rattle.std.proofs.Common.{option_to_list}
 use Rattle.std.specs.List.{list_all, AllByRecursion}
 use Rattle.std.specs.Str.{bytes_eq}
-use Rattle.std.proofs.lemmas.Bool.{and_from, and_parts, false_from_ne_true, not_from_false, or_right, lt-ltb}
+use Rattle.std.proofs.lemmas.Bool.{and_from, and_parts, false_from_ne_true, not_from_false}
+use Rattle.std.proofs.lemmas.Bool.{or_right, lt-ltb}
 use Rattle.std.proofs.lemmas.List.{length-append}
 use Rattle.std.proofs.lemmas.List.Elements.{recursion_from_All}
 use Rattle.std.proofs.lemmas.List.Folds.{find-append}
@@ -21,14 +24,17 @@ use Rattle.vcd_core.specs.Sound.{is_sound_header, is_sound_timescale, IsSoundSig
 use Rattle.std.specs.Char.{is_ascii_digit}
 use Rattle.vcd_core.specs.Decimal.{number_of}
 use Rattle.vcd_text.specs.Items.{Item, entry, variable, end_definitions, is_end_word}
-use Rattle.vcd_text.specs.Grammar.{ParseState, VariableDeclaration, initial_state, declaration_of, variable_of}
+use Rattle.vcd_text.specs.Grammar.{ParseState, VariableDeclaration, initial_state, declaration_of}
+use Rattle.vcd_text.specs.Grammar.{variable_of}
 use Rattle.vcd_text.specs.Grammar.{may_have_code, has_room}
-use Rattle.vcd_text.specs.Text.{header_items, timescale_items, scope_items, code_of, variable_item, signal_items}
+use Rattle.vcd_text.specs.Text.{header_items, timescale_items, scope_items, code_of, variable_item}
+use Rattle.vcd_text.specs.Text.{signal_items}
 use Rattle.vcd_text.specs.Text.{first_items, tick_items, end_items, items_of}
 use Rattle.vcd_text.proofs.CodesDiffer.{codes_differ, code_no_end}
 use Rattle.vcd_text.proofs.Decimals.{decimal_digits, decimal_is_number, number_of-decimal}
 use Rattle.vcd_text.proofs.DeclaredSignals.{declared_as, declared_state, declared_of}
-use Rattle.vcd_text.proofs.ItemsInTurn.{Reaches, reaches_none, reaches_first, reaches_one, reaches_both, reaches_same}
+use Rattle.vcd_text.proofs.ItemsInTurn.{Reaches, reaches_none, reaches_first, reaches_one}
+use Rattle.vcd_text.proofs.ItemsInTurn.{reaches_both, reaches_same}
 use Rattle.vcd_text.proofs.SharedScopes.{declaring, words_have_no_end, scopes_lead, scopes_end}
 use Rattle.vcd_text.proofs.SoundTimescales.{sound_count, count_small, timescale_read}
 

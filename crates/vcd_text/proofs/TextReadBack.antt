@@ -12,7 +12,8 @@ use Rattle.vcd_text.proofs.TextChanges.{changes_lead, value_changes_of, state_at
 use Rattle.vcd_text.proofs.TextDeclarations.{declarations_lead, items_in_two}
 use Rattle.vcd_text.proofs.TextMeaning.{text_means, text_skips_nothing}
 
--- the items of a sound capture's text are allowed in turn, and give the value changes of its signals
+-- the items of a sound capture's text are allowed in turn, and give the value changes of its
+-- signals
 items_lead : (c : Contents) → IsSound c → Reaches initial_state (items_of c) (state_at c (value_changes_of c) c.end)
 items_lead c sound = search (arith, items_in_two, reaches_both, declarations_lead, changes_lead)
 

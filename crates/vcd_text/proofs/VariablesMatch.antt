@@ -1,5 +1,6 @@
--- The reader's variables, compared with the state of a file.
-use Rattle.std.proofs.Common.{arith, ◌≡◌, ℕ, ◌≤◌, List, sym, ap, ◌∙◌, subst, find, map, length, option_map}
+-- The parser's variables, compared with the state of a file.
+use Rattle.std.proofs.Common.{arith, ◌≡◌, ℕ, ◌≤◌, List, sym, ap, ◌∙◌, subst, find, map, length}
+use Rattle.std.proofs.Common.{option_map}
 use Rattle.std.proofs.Common.{Option, Some, None, refl}
 use Rattle.std.specs.Prelude.{count_by, bytes_eq, slice_get}
 use Rattle.std.proofs.lemmas.List.{length-map}

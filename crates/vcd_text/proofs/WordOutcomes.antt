@@ -1,33 +1,49 @@
--- The effect of a word after the words of an incomplete item: it shows a fault, ends the item, or goes on with it.
-use Rattle.std.proofs.Common.{◌≡◌, ◌⊎◌, inl, inr, ℕ, ◌<◌, true, not, ◌&&◌, ◌||◌, List, [], ◌∷◌, ◌++◌, length, Option}
-use Rattle.std.proofs.Common.{Some, None, IsSome, IsSomeAnd, IsTrue, IsFalse, codes, bytes_eq, refl, sym, subst}
+-- The effect of a word after the words of an incomplete item: it shows a fault, ends the item, or
+-- goes on with it.
+use Rattle.std.proofs.Common.{◌≡◌, ◌⊎◌, inl, inr, ℕ, ◌<◌, true, not, ◌&&◌, ◌||◌, List, [], ◌∷◌}
+use Rattle.std.proofs.Common.{◌++◌, length, Option}
+use Rattle.std.proofs.Common.{Some, None, IsSome, IsSomeAnd, IsTrue, IsFalse, codes, bytes_eq, refl}
+use Rattle.std.proofs.Common.{sym, subst}
 use Rattle.std.proofs.Common.{◌∙◌, arith}
 use Rattle.std.specs.Prelude.{nat_eq, nat_le}
 use Rattle.std.proofs.lemmas.List.Folds.{list_all-append, list_any-append}
 use Rattle.std.proofs.lemmas.Slice.Eq.{bytes_eq-Decides}
-use Rattle.std.proofs.lemmas.Bool.{cases_Bool, cases_lt, and_parts, or_cases, or_from, or_left, or_right}
+use Rattle.std.proofs.lemmas.Bool.{cases_Bool, cases_lt, and_parts, or_cases, or_from, or_left}
+use Rattle.std.proofs.lemmas.Bool.{or_right}
 use Rattle.std.proofs.lemmas.Bool.{not-true, le-leb}
 use Rattle.vcd_core.specs.declared.capture.HeaderKind.TheVariants.{Date, Version, Comment}
 use Rattle.vcd_core.specs.Word.{is_one_of}
 use Rattle.vcd_core.specs.Decimal.{is_number, number_of}
 use Rattle.vcd_text.specs.declared.fault.Fault.{Fault}
-use Rattle.vcd_text.specs.declared.fault.Fault.TheVariants.{UnexpectedWord, BadTimescale, BadScope, UpscopeAtTop}
-use Rattle.vcd_text.specs.declared.fault.Fault.TheVariants.{BadVar, MixedCode, BadTime, TimeBackwards, BadChange}
-use Rattle.vcd_text.specs.declared.fault.Fault.TheVariants.{UnknownCode, ValueTooLong, TooManySignals}
+use Rattle.vcd_text.specs.declared.fault.Fault.TheVariants.{UnexpectedWord, BadTimescale, BadScope}
+use Rattle.vcd_text.specs.declared.fault.Fault.TheVariants.{UpscopeAtTop}
+use Rattle.vcd_text.specs.declared.fault.Fault.TheVariants.{BadVar, MixedCode, BadTime}
+use Rattle.vcd_text.specs.declared.fault.Fault.TheVariants.{TimeBackwards, BadChange}
+use Rattle.vcd_text.specs.declared.fault.Fault.TheVariants.{UnknownCode, ValueTooLong}
+use Rattle.vcd_text.specs.declared.fault.Fault.TheVariants.{TooManySignals}
 use Rattle.vcd_text.specs.Letters.{is_among, is_binary_digit}
-use Rattle.vcd_text.specs.Items.{Item, entry, timescale, scope, upscope, variable, end_definitions, stamp, scalar}
-use Rattle.vcd_text.specs.Items.{vector, real_or_string, dump_word, other, spelling, end_word, is_end_word}
-use Rattle.vcd_text.specs.Items.{has_no_end_word, dump_words, declaration_words, header_words, begins_declaration}
+use Rattle.vcd_text.specs.Items.{Item, entry, timescale, scope, upscope, variable, end_definitions}
+use Rattle.vcd_text.specs.Items.{stamp, scalar}
+use Rattle.vcd_text.specs.Items.{vector, real_or_string, dump_word, other, spelling, end_word}
+use Rattle.vcd_text.specs.Items.{is_end_word}
+use Rattle.vcd_text.specs.Items.{has_no_end_word, dump_words, declaration_words, header_words}
+use Rattle.vcd_text.specs.Items.{begins_declaration}
 use Rattle.vcd_text.specs.Items.{timescale_of, vector_prefixes, real_or_string_prefixes}
-use Rattle.vcd_text.specs.Grammar.{ParseState, VariableDeclaration, Allows, is_skipped, has_good_size, declaration_of}
-use Rattle.vcd_text.specs.Grammar.{variable_of, may_have_code, has_room, is_tick, is_binary_number, takes_binary_number}
+use Rattle.vcd_text.specs.Grammar.{ParseState, VariableDeclaration, Allows, is_skipped}
+use Rattle.vcd_text.specs.Grammar.{has_good_size, declaration_of}
+use Rattle.vcd_text.specs.Grammar.{variable_of, may_have_code, has_room, is_tick, is_binary_number}
+use Rattle.vcd_text.specs.Grammar.{takes_binary_number}
 use Rattle.vcd_text.specs.Faults.{WordFault, pair_prefixes, no_declaration, no_timescale, no_kind}
 use Rattle.vcd_text.specs.FoundFaults.{IsUnfinished}
-use Rattle.vcd_text.specs.Faults.{upscope_at_top, upscope_goes_on, no_size, no_variable, code_mixed, no_room}
-use Rattle.vcd_text.specs.Faults.{definitions_go_on, no_tick, tick_goes_back, missing_code, unknown_scalar_code}
-use Rattle.vcd_text.specs.Faults.{unknown_pair_code, no_value, value_too_long, declaration_late, begins_no_change}
+use Rattle.vcd_text.specs.Faults.{upscope_at_top, upscope_goes_on, no_size, no_variable, code_mixed}
+use Rattle.vcd_text.specs.Faults.{no_room}
+use Rattle.vcd_text.specs.Faults.{definitions_go_on, no_tick, tick_goes_back, missing_code}
+use Rattle.vcd_text.specs.Faults.{unknown_scalar_code}
+use Rattle.vcd_text.specs.Faults.{unknown_pair_code, no_value, value_too_long, declaration_late}
+use Rattle.vcd_text.specs.Faults.{begins_no_change}
 use Rattle.vcd_text.specs.Faults.{among_declarations, among_changes}
-use Rattle.vcd_text.specs.FoundFaults.{declaration_due, words_due, upscope_due, variable_due, definitions_due}
+use Rattle.vcd_text.specs.FoundFaults.{declaration_due, words_due, upscope_due, variable_due}
+use Rattle.vcd_text.specs.FoundFaults.{definitions_due}
 use Rattle.vcd_text.specs.FoundFaults.{code_due, other_due}
 use Rattle.vcd_text.proofs.OneOf.{by_among, by_one_of}
 use Rattle.vcd_core.specs.declared.capture.HeaderKind.{HeaderKind}

@@ -1,21 +1,29 @@
--- The one fault of a file that is not accepted: after the whole items at its front, the fault that the earliest word
--- shows. The project's own.
-use Rattle.std.specs.Prelude.{◌≡◌, ℕ, ◌<◌, Bool, true, false, List, ◌∷◌, ◌++◌, length, Some, None, IsTrue, IsFalse}
+-- The one fault of a file that is not accepted: after the whole items at its front, the fault that
+-- the earliest word shows. The project's own.
+use Rattle.std.specs.Prelude.{◌≡◌, ℕ, ◌<◌, Bool, true, false, List, ◌∷◌, ◌++◌, length, Some, None}
+use Rattle.std.specs.Prelude.{IsTrue, IsFalse}
 use Rattle.std.specs.Prelude.{codes, []}
 use Rattle.vcd_text.specs.declared.fault.Fault.{Fault}
-use Rattle.vcd_text.specs.declared.fault.Fault.TheVariants.{Truncated, UnexpectedWord, BadTimescale, BadScope}
-use Rattle.vcd_text.specs.declared.fault.Fault.TheVariants.{UpscopeAtTop, BadVar, MixedCode, BadTime, TimeBackwards}
-use Rattle.vcd_text.specs.declared.fault.Fault.TheVariants.{BadChange, UnknownCode, ValueTooLong, TooManySignals}
+use Rattle.vcd_text.specs.declared.fault.Fault.TheVariants.{Truncated, UnexpectedWord, BadTimescale}
+use Rattle.vcd_text.specs.declared.fault.Fault.TheVariants.{BadScope}
+use Rattle.vcd_text.specs.declared.fault.Fault.TheVariants.{UpscopeAtTop, BadVar, MixedCode}
+use Rattle.vcd_text.specs.declared.fault.Fault.TheVariants.{BadTime, TimeBackwards}
+use Rattle.vcd_text.specs.declared.fault.Fault.TheVariants.{BadChange, UnknownCode, ValueTooLong}
+use Rattle.vcd_text.specs.declared.fault.Fault.TheVariants.{TooManySignals}
 use Rattle.vcd_core.specs.Contents.{Contents}
 use Rattle.vcd_text.specs.Words.{PlacedWord, words_of, last_line}
 use Rattle.vcd_text.specs.Meaning.{FileMeans}
 use Rattle.vcd_core.specs.Decimal.{is_number, number_of}
 use Rattle.vcd_core.specs.Word.{is_one_of}
 use Rattle.vcd_text.specs.Letters.{is_among, is_binary_digit}
-use Rattle.vcd_text.specs.Items.{Item, spellings, end_word, is_end_word, has_no_end_word, declaration_words}
-use Rattle.vcd_text.specs.Items.{begins_declaration, timescale_of, vector_prefixes, real_or_string_prefixes}
-use Rattle.vcd_text.specs.Grammar.{ParseState, VariableDeclaration, is_skipped, has_good_size, declaration_of}
-use Rattle.vcd_text.specs.Grammar.{variable_of, may_have_code, has_room, is_tick, is_binary_number, initial_state}
+use Rattle.vcd_text.specs.Items.{Item, spellings, end_word, is_end_word, has_no_end_word}
+use Rattle.vcd_text.specs.Items.{declaration_words}
+use Rattle.vcd_text.specs.Items.{begins_declaration, timescale_of, vector_prefixes}
+use Rattle.vcd_text.specs.Items.{real_or_string_prefixes}
+use Rattle.vcd_text.specs.Grammar.{ParseState, VariableDeclaration, is_skipped, has_good_size}
+use Rattle.vcd_text.specs.Grammar.{declaration_of}
+use Rattle.vcd_text.specs.Grammar.{variable_of, may_have_code, has_room, is_tick, is_binary_number}
+use Rattle.vcd_text.specs.Grammar.{initial_state}
 use Rattle.vcd_text.specs.Grammar.{word_texts, AllowsAll, state_after}
 
 -- ---- the rows: the words `begun` of an incomplete item show no fault, and the word after them shows this one
@@ -120,7 +128,8 @@ pub data WordFault (c : ParseState) (begun : List (List ℕ)) (word : List ℕ) 
 
 -- ---- files
 
--- the line of a fault that a word shows: its own, or among the changes that of the first word of its change
+-- the line of a fault that a word shows: its own, or among the changes that of the first word of
+-- its change
 abbrev pub fault_line : (in_body : Bool) → (begun : List PlacedWord) → PlacedWord → ℕ
 fault_line false begun word = word.line
 fault_line true [] word = word.line
@@ -139,7 +148,8 @@ pub record ShowsFault (words : List PlacedWord) (line : ℕ) (fault : Fault) : T
   pub decided : WordFault (state_after initial_state items) (word_texts begun) word.text fault
   pub at : line ≡ fault_line (state_after initial_state items).in_body begun word
 
--- the fault of a file with these words: the one that a word shows; or, if none shows one, this one at the last line
+-- the fault of a file with these words: the one that a word shows; or, if none shows one, this one
+-- at the last line
 pub data FaultOf (words : List PlacedWord) (last : ℕ) (otherwise : Fault) (line : ℕ) (fault : Fault)
     : Type 0 where
   shown : ShowsFault words line fault → FaultOf words last otherwise line fault

@@ -6,7 +6,8 @@ use Rattle.vcd_text.specs.Words.{PlacedWord, words_of, complete_words, last_line
 use Rattle.vcd_core.specs.Word.{is_one_of}
 use Rattle.vcd_text.specs.Letters.{is_among}
 use Rattle.vcd_text.specs.Items.{Item, spellings, has_no_end_word, header_words, is_other}
-use Rattle.vcd_text.specs.Grammar.{ParseState, has_good_size, initial_state, word_texts, AllowsAll, state_after}
+use Rattle.vcd_text.specs.Grammar.{ParseState, has_good_size, initial_state, word_texts, AllowsAll}
+use Rattle.vcd_text.specs.Grammar.{state_after}
 use Rattle.vcd_text.specs.Faults.{pair_prefixes, ShowsFault}
 
 -- the words `begun` of an incomplete item show no fault, and a word must follow them
@@ -15,10 +16,12 @@ pub data IsUnfinished (c : ParseState) (begun : List (List ℕ)) : Type 0 where
   declaration_due : IsFalse c.in_body → begun ≡ [] → IsUnfinished c begun
   -- words up to the `$end` of a header entry, a timescale or a scope must follow
   words_due : (word : List ℕ) (words : List (List ℕ)) → IsFalse c.in_body → begun ≡ word ∷ words
-      → IsTrue (is_one_of (codes "$timescale" ∷ codes "$scope" ∷ header_words) word) → IsTrue (has_no_end_word words)
+      → IsTrue (is_one_of (codes "$timescale" ∷ codes "$scope" ∷ header_words) word)
+      → IsTrue (has_no_end_word words)
       → IsUnfinished c begun
   -- the `$end` of `$upscope` must follow
-  upscope_due : IsFalse c.in_body → begun ≡ codes "$upscope" ∷ [] → 0 < length c.scopes → IsUnfinished c begun
+  upscope_due : IsFalse c.in_body → begun ≡ codes "$upscope" ∷ [] → 0 < length c.scopes
+      → IsUnfinished c begun
   -- words up to the `$end` of a `$var` must follow
   variable_due : (words : List (List ℕ)) → IsFalse c.in_body → begun ≡ codes "$var" ∷ words
       → IsTrue (has_no_end_word words) → IsTrue (has_good_size words) → IsUnfinished c begun
@@ -42,9 +45,11 @@ pub record Stops (words : List PlacedWord) : Type 0 where
 -- the fault of a file, at this line: a word shows it, or the words end too early
 pub data FoundFault (bytes : List ℕ) (line : ℕ) (fault : Fault) : Type 0 where
   word_shows : ShowsFault (words_of bytes) line fault → FoundFault bytes line fault
-  too_early : Stops (words_of bytes) → line ≡ last_line bytes → fault ≡ Truncated → FoundFault bytes line fault
+  too_early : Stops (words_of bytes) → line ≡ last_line bytes → fault ≡ Truncated
+      → FoundFault bytes line fault
 
--- a complete word of this front of a file shows this fault, at this line, whatever follows the front
+-- a complete word of this front of a file shows this fault, at this line, whatever follows the
+-- front
 abbrev pub FrontFault : List ℕ → ℕ → Fault → Type 0
 FrontFault bytes line fault = ShowsFault (complete_words bytes) line fault
 

@@ -1,7 +1,9 @@
--- The accepted files and their state: the conditions of each item, and its effect (IEEE 1364-2005, 18.2, in the
--- project's profile).
-use Rattle.std.specs.Prelude.{◌≡◌, ℕ, ◌-◌, ◌<◌, ◌≤◌, Bool, true, false, not, ◌&&◌, ◌||◌, ◌==◌, nat_lt, nat_le, []}
-use Rattle.std.specs.Prelude.{if◌then◌else◌, List, ◌∷◌, ◌++◌, map, length, take, filter, find, Option, Some, None}
+-- The accepted files and their state: the conditions of each item, and its effect (IEEE 1364-2005,
+-- 18.2, in the project's profile).
+use Rattle.std.specs.Prelude.{◌≡◌, ℕ, ◌-◌, ◌<◌, ◌≤◌, Bool, true, false, not, ◌&&◌, ◌||◌, ◌==◌}
+use Rattle.std.specs.Prelude.{nat_lt, nat_le, []}
+use Rattle.std.specs.Prelude.{if◌then◌else◌, List, ◌∷◌, ◌++◌, map, length, take, filter, find}
+use Rattle.std.specs.Prelude.{Option, Some, None}
 use Rattle.std.specs.Prelude.{IsSome, IsSomeAnd, IsTrue, IsFalse, option_to_list, bytes_eq}
 use Rattle.std.specs.List.{list_all}
 use Rattle.vcd_core.specs.declared.bit.Bit.{Bit}
@@ -14,8 +16,10 @@ use Rattle.vcd_core.specs.Word.{is_skipped_kind, is_one_of}
 use Rattle.vcd_text.specs.Words.{PlacedWord}
 use Rattle.vcd_core.specs.Decimal.{is_number, number_of}
 use Rattle.vcd_text.specs.Letters.{is_among, is_binary_digit, letters_of_digits}
-use Rattle.vcd_text.specs.Items.{Item, entry, timescale, scope, upscope, variable, end_definitions, stamp, scalar}
-use Rattle.vcd_text.specs.Items.{vector, real_or_string, dump_word, other, spellings, has_no_end_word, dump_words}
+use Rattle.vcd_text.specs.Items.{Item, entry, timescale, scope, upscope, variable, end_definitions}
+use Rattle.vcd_text.specs.Items.{stamp, scalar}
+use Rattle.vcd_text.specs.Items.{vector, real_or_string, dump_word, other, spellings}
+use Rattle.vcd_text.specs.Items.{has_no_end_word, dump_words}
 use Rattle.vcd_text.specs.Items.{is_other, timescale_of, vector_prefixes, real_or_string_prefixes}
 
 -- ---- the state of a file
@@ -34,8 +38,8 @@ pub record ValueChange : Type 0 where
   pub code : List ℕ
   pub letters : List Bit
 
--- the state after the items so far: the open scopes, outermost first; the last stamp, or 0; whether `$enddefinitions
--- $end` has come
+-- the state after the items so far: the open scopes, outermost first; the last stamp, or 0; whether
+-- `$enddefinitions $end` has come
 pub record ParseState : Type 0 where
   pub header : List Header
   pub timescale : Option Timescale
@@ -73,7 +77,8 @@ abbrev pub has_good_size : List (List ℕ) → Bool
 has_good_size (kind ∷ size ∷ words) = is_number size
 has_good_size words = true
 
--- the variable that the words of a `$var` declare: kind, size, code, and one or more words of the name
+-- the variable that the words of a `$var` declare: kind, size, code, and one or more words of the
+-- name
 abbrev pub declaration_of : ParseState → List (List ℕ) → Option VariableDeclaration
 declaration_of c (kind ∷ size ∷ code ∷ name ∷ names) =
     Some (record {
@@ -89,7 +94,8 @@ declaration_of c words = None
 abbrev pub variable_of : ParseState → List ℕ → Option VariableDeclaration
 variable_of c code = find (λ d. bytes_eq code d.code) c.declared
 
--- whether a variable can have the code of the variable `a`, if there is one: both are skipped, or kept with one size
+-- whether a variable can have the code of the variable `a`, if there is one: both are skipped, or
+-- kept with one size
 abbrev pub may_have_code : Option VariableDeclaration → VariableDeclaration → Bool
 may_have_code None b = true
 may_have_code (Some a) b =
@@ -110,7 +116,8 @@ is_tick digits = is_number digits && nat_le (number_of digits) END_LIMIT
 abbrev pub is_binary_number : List ℕ → Bool
 is_binary_number digits = not (length digits == 0) && list_all is_binary_digit digits
 
--- whether a variable accepts these digits: a skipped one any, a kept one a value that is not too long
+-- whether a variable accepts these digits: a skipped one any, a kept one a value that is not too
+-- long
 abbrev pub takes_binary_number : VariableDeclaration → List ℕ → Bool
 takes_binary_number d digits =
     is_skipped d || (is_binary_number digits && nat_le (length digits) d.size)
@@ -189,8 +196,8 @@ AllowsAll c (i ∷ is) = Allows c i × AllowsAll (state_after_item c i) is
 abbrev pub word_texts : List PlacedWord → List (List ℕ)
 word_texts words = map (λ word. word.text) words
 
--- the words are accepted with this state: they spell items, with `$enddefinitions $end` among them, whose conditions
--- hold
+-- the words are accepted with this state: they spell items, with `$enddefinitions $end` among them,
+-- whose conditions hold
 pub record Accepts (words : List PlacedWord) (state : ParseState) : Type 0 where
   pub items : List Item
   pub spelled : word_texts words ≡ spellings items

@@ -1,6 +1,7 @@
--- The items of a file, declarations and changes, and their spelling in words (IEEE 1364-2005, 18.2, in the project's
--- profile).
-use Rattle.std.specs.Prelude.{ℕ, Bool, false, not, ◌&&◌, ◌||◌, ◌==◌, List, ◌∷◌, ◌++◌, map, find, Option, codes, []}
+-- The items of a file, declarations and changes, and their spelling in words (IEEE 1364-2005, 18.2,
+-- in the project's profile).
+use Rattle.std.specs.Prelude.{ℕ, Bool, false, not, ◌&&◌, ◌||◌, ◌==◌, List, ◌∷◌, ◌++◌, map, find}
+use Rattle.std.specs.Prelude.{Option, codes, []}
 use Rattle.std.specs.Prelude.{decimal, bytes_eq}
 use Rattle.std.specs.List.{list_all, flat_map, concat}
 use Rattle.vcd_core.specs.Word.{is_one_of}
@@ -8,7 +9,8 @@ use Rattle.vcd_core.specs.TimeUnits.{unit_text}
 use Rattle.vcd_core.specs.declared.capture.HeaderKind.{HeaderKind}
 use Rattle.vcd_core.specs.declared.capture.HeaderKind.TheVariants.{Date, Version, Comment}
 use Rattle.vcd_core.specs.declared.capture.Timescale.{Timescale}
-use Rattle.vcd_core.specs.declared.capture.TimeUnit.TheVariants.{Second, Millisecond, Microsecond, Nanosecond}
+use Rattle.vcd_core.specs.declared.capture.TimeUnit.TheVariants.{Second, Millisecond, Microsecond}
+use Rattle.vcd_core.specs.declared.capture.TimeUnit.TheVariants.{Nanosecond}
 use Rattle.vcd_core.specs.declared.capture.TimeUnit.TheVariants.{Picosecond, Femtosecond}
 
 -- ---- keywords
@@ -54,8 +56,8 @@ is_command (b ∷ bs) = b == 36
 abbrev pub begins_declaration : List ℕ → Bool
 begins_declaration word = is_command word && not (is_one_of dump_words word)
 
--- any other command, which is passed over; among the changes also `$date`, `$version` and `$comment` (the project's
--- own)
+-- any other command, which is passed over; among the changes also `$date`, `$version` and
+-- `$comment` (the project's own)
 abbrev pub is_other : (in_body : Bool) → List ℕ → Bool
 is_other in_body word =
     begins_declaration word && not (is_one_of declaration_words word)

@@ -1,4 +1,5 @@
--- The laws of files: a file has one result, a front's fault is the file's, and the text of a capture means the capture.
+-- The laws of files: a file has one result, a front's fault is the file's, and the text of a
+-- capture means the capture.
 use Rattle.std.specs.Prelude.{◌≡◌, ℕ, ◌⊎◌, List, ◌++◌}
 use Rattle.vcd_core.specs.Contents.{Contents}
 use Rattle.vcd_core.specs.Sound.{IsSound}
@@ -12,7 +13,8 @@ use Rattle.vcd_text.specs.Text.{text}
 
 -- no file has two meanings
 abbrev pub EveryFileHasAtMostOneMeaning : Type 0
-EveryFileHasAtMostOneMeaning = (bytes : List ℕ) (c d : Contents) (m n : ℕ) → FileMeans bytes c m → FileMeans bytes d n
+EveryFileHasAtMostOneMeaning = (bytes : List ℕ) (c d : Contents) (m n : ℕ) → FileMeans bytes c m
+    → FileMeans bytes d n
     → (c ≡ d) × (m ≡ n)
 
 -- no file has two faults, nor one fault at two lines
@@ -24,7 +26,8 @@ EveryFileHasAtMostOneFault =
 
 -- no file has both a meaning and a fault
 abbrev pub NoFileHasMeaningAndFault : Type 0
-NoFileHasMeaningAndFault = (bytes : List ℕ) (c : Contents) (n line : ℕ) (fault : Fault) → FileMeans bytes c n
+NoFileHasMeaningAndFault = (bytes : List ℕ) (c : Contents) (n line : ℕ) (fault : Fault)
+    → FileMeans bytes c n
     → FileFault bytes line fault → ⊥
 
 -- every file has a meaning or a fault
@@ -49,7 +52,8 @@ EveryFrontHasAtMostOneFault =
 
 -- the fault that a front shows is the fault of every file with this front
 abbrev pub FrontFaultIsFileFault : Type 0
-FrontFaultIsFileFault = (front rest : List ℕ) (line : ℕ) (fault : Fault) → FrontFault front line fault
+FrontFaultIsFileFault = (front rest : List ℕ) (line : ℕ) (fault : Fault)
+    → FrontFault front line fault
     → FileFault (front ++ rest) line fault
 
 -- ---- written texts
@@ -60,8 +64,10 @@ TextIsReadBack = (c : Contents) → IsSound c → FileMeans (text c) c 0
 
 -- the text of a sound capture means only the capture
 abbrev pub NothingElseIsReadBack : Type 0
-NothingElseIsReadBack = (c d : Contents) (n : ℕ) → IsSound c → FileMeans (text c) d n → (d ≡ c) × (n ≡ 0)
+NothingElseIsReadBack = (c d : Contents) (n : ℕ) → IsSound c → FileMeans (text c) d n
+    → (d ≡ c) × (n ≡ 0)
 
 -- the text of a sound capture has no fault
 abbrev pub TextHasNoFault : Type 0
-TextHasNoFault = (c : Contents) (line : ℕ) (fault : Fault) → IsSound c → FileFault (text c) line fault → ⊥
+TextHasNoFault = (c : Contents) (line : ℕ) (fault : Fault) → IsSound c
+    → FileFault (text c) line fault → ⊥

@@ -1,12 +1,14 @@
 -- The meaning of a file: its signals, each with its value at every tick (IEEE 1364-2005, 18.2).
-use Rattle.std.specs.Prelude.{◌≡◌, ℕ, ◌&&◌, if◌then◌else◌, nat_le, List, ◌∷◌, map, count_by, bytes_eq, []}
+use Rattle.std.specs.Prelude.{◌≡◌, ℕ, ◌&&◌, if◌then◌else◌, nat_le, List, ◌∷◌, map, count_by}
+use Rattle.std.specs.Prelude.{bytes_eq, []}
 use Rattle.vcd_core.specs.declared.bit.Bit.{Bit}
 use Rattle.vcd_core.specs.Value.{all_x}
 use Rattle.vcd_core.specs.Wave.{changes_of}
 use Rattle.vcd_core.specs.Contents.{Contents, SignalContents}
 use Rattle.vcd_text.specs.Words.{words_of}
 use Rattle.vcd_text.specs.Letters.{extension}
-use Rattle.vcd_text.specs.Grammar.{VariableDeclaration, ValueChange, ParseState, Accepts, is_skipped, kept_variables}
+use Rattle.vcd_text.specs.Grammar.{VariableDeclaration, ValueChange, ParseState, Accepts}
+use Rattle.vcd_text.specs.Grammar.{is_skipped, kept_variables}
 
 -- the last change of the code up to tick t, extended to the width; `before` if there is none
 unfoldable pub latest_value : ℕ → List ℕ → ℕ → List Bit → List ValueChange → List Bit
@@ -25,8 +27,8 @@ declared_signal value_changes end d = record {
   changes = changes_of d.size end (λ t. latest_value d.size d.code t (all_x d.size) value_changes);
 }
 
--- the meaning of a file with this state: its kept variables are the signals, in their order; the end is the last stamp,
--- or 0
+-- the meaning of a file with this state: its kept variables are the signals, in their order; the
+-- end is the last stamp, or 0
 abbrev pub meaning : ParseState → Contents
 meaning c = record {
   header = c.header;

@@ -8,12 +8,14 @@ use Rattle.vcd_text.specs.declared.fault.ReadError.{ReadError}
 use Rattle.vcd_text.specs.Words.{complete_words, last_line}
 use Rattle.vcd_text.specs.Faults.{FileFault, FaultOf}
 
--- only this front of a file was read, for this reason: the fault of its complete words, or the reason at its last line
+-- only this front of a file was read, for this reason: the fault of its complete words, or the
+-- reason at its last line
 abbrev pub IsFrontAnswer : (front : List ℕ) → (reason : Fault) → ReadError → Type 0
 IsFrontAnswer front reason e =
     FaultOf (complete_words front) (last_line front) reason e.line e.fault
 
--- the fault of reading a file, from a reader that has failed or not, with these bytes left if it shows them
+-- the fault of reading a file, from a reader that has failed or not, with these bytes left if it
+-- shows them
 pub data IsRefusal (file : List ℕ) (failed : Bool) (left : Option (List ℕ)) (e : ReadError)
     : Type 0 where
   -- all of it was read, and it has this fault

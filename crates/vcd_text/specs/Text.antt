@@ -1,7 +1,9 @@
--- The text of a capture: its items in a fixed order, each on its own line (the format: IEEE 1364-2005, 18.2; the order
--- and the codes: the project's own).
-use Rattle.std.specs.Prelude.{ℕ, zero, suc, Bool, ◌+◌, ◌-◌, ◌/◌, ◌%◌, ◌==◌, ◌&&◌, not, if◌then◌else◌, nat_lt, List}
-use Rattle.std.specs.Prelude.{◌∷◌, ◌++◌, length, map, drop, replicate, Option, Some, None, codes, []}
+-- The text of a capture: its items in a fixed order, each on its own line (the format: IEEE
+-- 1364-2005, 18.2; the order and the codes: the project's own).
+use Rattle.std.specs.Prelude.{ℕ, zero, suc, Bool, ◌+◌, ◌-◌, ◌/◌, ◌%◌, ◌==◌, ◌&&◌, not}
+use Rattle.std.specs.Prelude.{if◌then◌else◌, nat_lt, List}
+use Rattle.std.specs.Prelude.{◌∷◌, ◌++◌, length, map, drop, replicate, Option, Some, None, codes}
+use Rattle.std.specs.Prelude.{[]}
 use Rattle.std.specs.List.{filter, flat_map, enumerate_from, join_with_byte, common_prefix_len}
 use Rattle.std.specs.Str.{bytes_eq}
 use Rattle.std.specs.Cmp.Lexicographic.{pointwise}
@@ -13,7 +15,8 @@ use Rattle.vcd_core.specs.declared.capture.ScopeName.{ScopeName}
 use Rattle.vcd_core.specs.Value.{same_letters, printed_letter}
 use Rattle.vcd_core.specs.Contents.{Contents, SignalContents, signal_value}
 use Rattle.vcd_text.specs.Letters.{printed_letters, short_form}
-use Rattle.vcd_text.specs.Items.{Item, entry, timescale, scope, upscope, variable, end_definitions, stamp, scalar}
+use Rattle.vcd_text.specs.Items.{Item, entry, timescale, scope, upscope, variable, end_definitions}
+use Rattle.vcd_text.specs.Items.{stamp, scalar}
 use Rattle.vcd_text.specs.Items.{vector, dump_word, spelling, end_word}
 use Rattle.vcd_core.specs.TimeUnits.{unit_text}
 
@@ -36,14 +39,15 @@ timescale_items (Some t) = timescale (decimal t.count ∷ unit_text t.unit ∷ [
 abbrev pub same_scope : ScopeName → ScopeName → Bool
 same_scope a b = bytes_eq a.kind b.kind && pointwise bytes_eq a.words b.words
 
--- from the open scopes to those of a signal: the open ones past the shared front are closed, then the others are opened
--- (18.2)
+-- from the open scopes to those of a signal: the open ones past the shared front are closed, then
+-- the others are opened (18.2)
 abbrev pub scope_items : List ScopeName → List ScopeName → List Item
 scope_items opened path =
     let shared : ℕ = common_prefix_len same_scope opened path in
     replicate (length opened - shared) upscope ++ map (λ s. scope s.kind s.words) (drop shared path)
 
--- n in bijective base 94, lowest digit first, with at most `most` digits; the digits 1 to 94 are the bytes 33 to 126
+-- n in bijective base 94, lowest digit first, with at most `most` digits; the digits 1 to 94 are
+-- the bytes 33 to 126
 unfoldable pub code_digits : ℕ → ℕ → List ℕ
 code_digits most zero = []
 code_digits zero (suc n) = []
@@ -57,8 +61,8 @@ code_of position = code_digits (position + 1) (position + 1)
 abbrev pub variable_item : ℕ → SignalContents → Item
 variable_item position s = variable (s.kind ∷ decimal s.width ∷ code_of position ∷ s.words)
 
--- the declarations of signals, the first at this position, while these scopes are open; at the end all open ones are
--- closed
+-- the declarations of signals, the first at this position, while these scopes are open; at the end
+-- all open ones are closed
 unfoldable pub signal_items : List ScopeName → ℕ → List SignalContents → List Item
 signal_items opened position [] = map (λ s. upscope) opened
 signal_items opened position (s ∷ ss) = scope_items opened s.scopes
@@ -113,7 +117,8 @@ end_items signals end =
 
 -- ---- files
 
--- the items of a capture: header, timescale, declarations, the values at tick 0, those that change later, and the end
+-- the items of a capture: header, timescale, declarations, the values at tick 0, those that change
+-- later, and the end
 unfoldable pub items_of : Contents → List Item
 items_of c = header_items c.header ++ timescale_items c.timescale ++ signal_items [] 0 c.signals
     ++ end_definitions ∷ first_items c.signals

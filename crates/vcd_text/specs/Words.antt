@@ -1,6 +1,8 @@
--- White space and words (IEEE 1364-2005, 18.2: the file is a list of words separated by white space).
+-- White space and words (IEEE 1364-2005, 18.2: the file is a list of words separated by white
+-- space).
 use Rattle.vcd_core.specs.Word.{is_white_space}
-use Rattle.std.specs.Prelude.{ℕ, ◌+◌, Bool, true, false, if◌then◌else◌, List, [], ◌∷◌, ◌==◌, count_by}
+use Rattle.std.specs.Prelude.{ℕ, ◌+◌, Bool, true, false, if◌then◌else◌, List, [], ◌∷◌, ◌==◌}
+use Rattle.std.specs.Prelude.{count_by}
 
 -- a word and its line
 pub record PlacedWord : Type 0 where
@@ -15,7 +17,8 @@ word_on text line = record { text = text; line = line }
 abbrev pub line_after : ℕ → ℕ → ℕ
 line_after b line = if b == 10 then line + 1 else line
 
--- whether a word ends before these bytes: before white space, or before the end of the text if that counts
+-- whether a word ends before these bytes: before white space, or before the end of the text if that
+-- counts
 abbrev pub ends_before : Bool → List ℕ → Bool
 ends_before end_counts [] = end_counts
 ends_before end_counts (b ∷ bs) = is_white_space b
@@ -25,14 +28,15 @@ abbrev pub with_longer_first : ℕ → ℕ → List PlacedWord → List PlacedWo
 with_longer_first b line [] = []
 with_longer_first b line (w ∷ ws) = word_on (b ∷ w.text) line ∷ ws
 
--- the words with byte b before them: space adds nothing, a last byte makes a word, any other lengthens the first
+-- the words with byte b before them: space adds nothing, a last byte makes a word, any other
+-- lengthens the first
 abbrev pub with_byte : (space last : Bool) → ℕ → ℕ → List PlacedWord → List PlacedWord
 with_byte true last b line ws = ws
 with_byte false true b line ws = word_on (b ∷ []) line ∷ ws
 with_byte false false b line ws = with_longer_first b line ws
 
--- the runs of bytes between white space, with the first byte on this line; if the text's end does not count, only those
--- that white space follows
+-- the runs of bytes between white space, with the first byte on this line; if the text's end does
+-- not count, only those that white space follows
 unfoldable pub words_from : Bool → ℕ → List ℕ → List PlacedWord
 words_from end_counts line [] = []
 words_from end_counts line (b ∷ bs) =

@@ -1,4 +1,5 @@
--- Definitions that only contracts of private functions and proofs cite. A reader need not believe them.
+-- Definitions that only contracts of private functions and proofs cite. A reader need not believe
+-- them.
 pub mod Spaces
 pub mod TimescaleText
 pub mod ChangeLog
@@ -12,12 +13,12 @@ pub mod Chunks
 pub mod SpacedWords
 pub mod Transitions
 pub mod ValueDigits
-pub mod LetterWords
+pub mod LetterBlocks
 pub mod WordWalk
 pub mod Written
 pub mod ValueFronts
 pub mod TextParts
-pub mod NextChanges
+pub mod Cursors
 pub mod ReadBufferView
 pub mod Windows
 pub mod SkippedVariables

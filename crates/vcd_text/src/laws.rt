@@ -1,7 +1,8 @@
 //! Laws about the definitions of a file and of a text.
 
 ghost use Rattle.vcd_text.specs.Laws.{EveryFileHasAtMostOneMeaning, EveryFileHasAtMostOneFault};
-ghost use Rattle.vcd_text.specs.Laws.{NoFileHasMeaningAndFault, EveryFileHasMeaningOrFault, EveryFaultIsFound};
+ghost use Rattle.vcd_text.specs.Laws.{NoFileHasMeaningAndFault, EveryFileHasMeaningOrFault};
+ghost use Rattle.vcd_text.specs.Laws.{EveryFaultIsFound};
 ghost use Rattle.vcd_text.specs.Laws.{EveryFrontHasAtMostOneFault, FrontFaultIsFileFault};
 ghost use Rattle.vcd_text.specs.Laws.{TextIsReadBack, NothingElseIsReadBack, TextHasNoFault};
 

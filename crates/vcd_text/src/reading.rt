@@ -1,27 +1,27 @@
 //! Reads a capture file (IEEE 1364-2005, 18.2, in the project's profile).
 //!
-//! The file comes in chunks. A `Reader` takes its words one after another. Every step follows the
-//! grammar. The reader holds the state after the whole items, and the words of the open item.
+//! The file comes in chunks. A `Parser` takes its words one after another. Every step follows the
+//! grammar. The parser holds the state after the whole items, and the words of the open item.
 
 ghost use Rattle.std.specs.Prelude.{◌≡◌, ◌≤◌, true, false, length, IfOk, IfErr, IfSome, OnOk};
 ghost use Rattle.std.specs.Io.KnownBytes.{IsAtEnd};
-ghost use Rattle.vcd_core.specs.Contents.{contents};
+ghost use Rattle.vcd_core.specs.CaptureContents.{contents};
 ghost use Rattle.vcd_core.specs.Sound.{IsSound};
 ghost use Rattle.vcd_text.specs.Meaning.{FileMeans};
 ghost use Rattle.vcd_text.specs.declared.fault.Fault.{Fault};
 ghost use Rattle.vcd_text.specs.Refusals.{IsRefusal};
 
 mod binary_number;
-mod change_log;
-mod changes;
-mod chunks;
+mod body_words;
 mod code_targets;
 mod declarations;
-mod digit_words;
+mod digit_blocks;
 mod digits;
+mod file_reader;
 mod keywords;
+mod parser;
+mod pending;
 mod read_buffer;
-mod reader;
 mod scope_paths;
 mod scopes;
 mod ticks_and_sizes;
@@ -29,7 +29,7 @@ mod timescale;
 mod variables;
 
 use crate::fault::ReadError;
-use crate::reading::chunks::Progress;
+use crate::reading::file_reader::FileReader;
 pub use binary_number::value_of_digits;
 use std::alloc::Global;
 use vcd_core::{Capture, Source};
@@ -76,7 +76,7 @@ pub fn read<R: Source>(alloc: Global, reader: &mut R) -> Result<Loaded, ReadErro
     ensures too_large { IfErr result (λ e. e.fault ≡ Fault.TooLarge →
         R.has_failed reader.new ≡ false) }
 {
-    let mut progress = Progress::new(alloc);
+    let mut progress = FileReader::new(alloc);
     while progress.take_chunk(alloc, reader)? {}
     progress.finish(alloc)
 }

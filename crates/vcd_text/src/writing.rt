@@ -2,16 +2,16 @@
 
 ghost use Rattle.std.specs.Prelude.{◌≡◌, false, true, IfErr, OnOk};
 ghost use Rattle.std.specs.Io.KnownBytes.{Appends};
-ghost use Rattle.vcd_core.specs.Contents.{contents};
+ghost use Rattle.vcd_core.specs.CaptureContents.{contents};
 ghost use Rattle.vcd_core.specs.Sound.{IsSound};
 ghost use Rattle.vcd_text.specs.Text.{text};
 ghost use Rattle.vcd_text.specs.WriteEnds.{TookBefore};
 
 mod buffer;
 mod codes;
+mod cursors;
 mod declarations;
 mod lines;
-mod next_changes;
 mod stamps;
 mod transitions;
 mod values;

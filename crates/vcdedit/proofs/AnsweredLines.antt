@@ -1,9 +1,11 @@
 -- A session does what the machine does, and its replies are the machine's answers.
-use Rattle.std.proofs.Common.{◌≡◌, ◌≢◌, ℕ, true, false, List, ◌∷◌, [], take, Option, Some, None, Result, Ok, Err}
+use Rattle.std.proofs.Common.{◌≡◌, ◌≢◌, ℕ, true, false, List, ◌∷◌, [], take, Option, Some, None}
+use Rattle.std.proofs.Common.{Result, Ok, Err}
 use Rattle.std.proofs.Common.{length, refl, sym, subst, ◌∙◌, ap}
 use Rattle.vcd_core.specs.Contents.{Contents}
 use Rattle.vcd_edit.specs.declared.edit.Edit.{Edit}
-use Rattle.vcd_edit.specs.declared.edit.Edit.TheVariants.{Rename, Remove, Invert, Shift, Cut, Deglitch, Force, Derive}
+use Rattle.vcd_edit.specs.declared.edit.Edit.TheVariants.{Rename, Remove, Invert, Shift, Cut}
+use Rattle.vcd_edit.specs.declared.edit.Edit.TheVariants.{Deglitch, Force, Derive}
 use Rattle.vcd_edit.specs.declared.fault.EditError.{EditError}
 use Rattle.vcd_edit.specs.declared.fault.EditError.TheVariants as errors
 use Rattle.vcd_edit.specs.Effect.{effect}
@@ -15,12 +17,14 @@ use Rattle.vcd_journal.specs.declared.step.StepError.TheVariants as refusals
 use Rattle.vcd_journal.specs.declared.step.Answer.{Answer}
 use Rattle.vcd_journal.specs.declared.step.Answer.TheVariants.{Done, Refused}
 use Rattle.vcd_journal.specs.StepErrorNames.{step_error_name}
-use Rattle.vcd_journal.specs.Machine.{Machine, StepOutcome, edit_outcome, step_outcome, memory_refusal, IsStep}
+use Rattle.vcd_journal.specs.Machine.{Machine, StepOutcome, edit_outcome, step_outcome}
+use Rattle.vcd_journal.specs.Machine.{memory_refusal, IsStep}
 use Rattle.vcd_journal.proofs.Steps.{outcome_of_step}
 use Rattle.vcdedit.specs.declared.script.command.Command.{Command}
 use Rattle.vcdedit.specs.declared.script.command.Command.TheVariants as commands
 use Rattle.vcdedit.specs.declared.script.line_error.LineError.{LineError}
-use Rattle.vcdedit.specs.WithoutAddress.{edit_without_address, step_without_address, command_without_address}
+use Rattle.vcdedit.specs.WithoutAddress.{edit_without_address, step_without_address}
+use Rattle.vcdedit.specs.WithoutAddress.{command_without_address}
 use Rattle.vcdedit.specs.inside.RunMachines.{answer_reply}
 use Rattle.vcdedit.specs.ScriptCommands.{command_of_line}
 use Rattle.vcdedit.specs.Reply.{LineReply, ok_reply}

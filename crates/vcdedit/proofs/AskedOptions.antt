@@ -2,7 +2,8 @@
 use Rattle.std.proofs.Common.{◌≡◌, ◌∙◌, ap, ap₂, ℕ, List, Option, refl, true, codes}
 use Rattle.std.specs.Prelude.{option_map}
 use Rattle.std.specs.Borrow.{Bor}
-use Rattle.clap.specs.Words.{Text, first_of, first_value, found_of, is_simple, is_simple_and_free, matches_of, one_of}
+use Rattle.clap.specs.Words.{Text, first_of, first_value, found_of, is_simple, is_simple_and_free}
+use Rattle.clap.specs.Words.{matches_of, one_of}
 use Rattle.clap.specs.Words.{one_text, rows_of}
 use Rattle.clap.specs.declared.parser.matches.ArgMatches.{ArgMatches}
 use Rattle.clap.proofs.WalkLemmas.{first_value-rows, one_text-rows}

@@ -1,12 +1,14 @@
 -- The signals of a command are those of the capture, and those that it decodes have one bit.
-use Rattle.std.proofs.Common.{◌≡◌, ◌<◌, ℕ, ◌==◌, Bool, true, false, cond, List, [], ◌∷◌, Option, Some, None, Result, Ok}
+use Rattle.std.proofs.Common.{◌≡◌, ◌<◌, ℕ, ◌==◌, Bool, true, false, cond, List, [], ◌∷◌, Option}
+use Rattle.std.proofs.Common.{Some, None, Result, Ok}
 use Rattle.std.proofs.Common.{Err, length, sym, subst, refl, arith}
 use Rattle.std.specs.Prelude.{IfOk, IfSome}
 use Rattle.std.specs.Option.{ok_or}
 use Rattle.std.proofs.lemmas.Bool.Decides.{nat_tests}
 use Rattle.std.proofs.lemmas.List.{length-map}
 use Rattle.vcd_core.specs.declared.capture.Capture.{Capture}
-use Rattle.vcd_core.specs.Contents.{Contents, contents, signal_at, signal_contents}
+use Rattle.vcd_core.specs.Contents.{Contents, signal_at}
+use Rattle.vcd_core.specs.CaptureContents.{contents, signal_contents}
 use Rattle.vcd_decode.specs.UartSetup.{uart_setup}
 use Rattle.vcd_decode.specs.SpiSetup.{spi_setup}
 use Rattle.vcd_journal.specs.declared.step.Step.{Step}
@@ -15,12 +17,17 @@ use Rattle.vcdedit.specs.declared.script.command.Command.TheVariants as commands
 use Rattle.vcdedit.specs.declared.script.keyword.Keyword.{Keyword}
 use Rattle.vcdedit.specs.declared.script.keyword.Keyword.TheVariants as keywords
 use Rattle.vcdedit.specs.declared.script.line_error.LineError.{LineError}
-use Rattle.vcdedit.specs.declared.script.line_error.LineError.TheVariants.{UnknownCommand, NotScalar}
-use Rattle.vcdedit.specs.ScriptWords.{signal_of_name, number_of_word, distance_of_word, value_of_word}
-use Rattle.vcdedit.specs.LineWords.{◌>>=◌, no_word, one_word, two_words, four_words, five_words, seven_words}
-use Rattle.vcdedit.specs.DecoderWords.{ratio_of_word, parity_of_word, order_of_word, signal_or_absent, one_bit_signal}
+use Rattle.vcdedit.specs.declared.script.line_error.LineError.TheVariants.{UnknownCommand}
+use Rattle.vcdedit.specs.declared.script.line_error.LineError.TheVariants.{NotScalar}
+use Rattle.vcdedit.specs.ScriptWords.{signal_of_name, number_of_word, distance_of_word}
+use Rattle.vcdedit.specs.ScriptWords.{value_of_word}
+use Rattle.vcdedit.specs.LineWords.{◌>>=◌, no_word, one_word, two_words, four_words, five_words}
+use Rattle.vcdedit.specs.LineWords.{seven_words}
+use Rattle.vcdedit.specs.DecoderWords.{ratio_of_word, parity_of_word, order_of_word}
+use Rattle.vcdedit.specs.DecoderWords.{signal_or_absent, one_bit_signal}
 use Rattle.vcdedit.specs.DecoderWords.{one_bit_signal_or_absent, faultless_uart, faultless_spi}
-use Rattle.vcdedit.specs.ScriptCommands.{is_comment, keyword_of, rule_of, derive_command, command_of}
+use Rattle.vcdedit.specs.ScriptCommands.{is_comment, keyword_of, rule_of, derive_command}
+use Rattle.vcdedit.specs.ScriptCommands.{command_of}
 use Rattle.vcdedit.specs.ScriptCommands.{command_of_words}
 use Rattle.vcdedit.specs.CommandSignals.{IsScalarAt, HasCommandSignals}
 use Rattle.vcdedit.specs.WithoutAddress.{command_without_address}

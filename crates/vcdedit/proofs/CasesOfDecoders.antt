@@ -9,7 +9,8 @@ use Rattle.vcd_decode.specs.declared.annotation.Direction.TheVariants.{Write, Re
 use Rattle.vcd_decode.specs.declared.annotation.Kind.TheVariants as kinds
 use Rattle.vcd_decode.specs.declared.annotation.LineData.TheVariants.{Absent, Unknown, Number}
 use Rattle.vcd_decode.specs.declared.setup_error.SetupError.{SetupError}
-use Rattle.vcd_decode.specs.declared.setup_error.SetupError.TheVariants.{BadRatio, BitTooShort, BadData, BadStop}
+use Rattle.vcd_decode.specs.declared.setup_error.SetupError.TheVariants.{BadRatio, BitTooShort}
+use Rattle.vcd_decode.specs.declared.setup_error.SetupError.TheVariants.{BadData, BadStop}
 use Rattle.vcd_decode.specs.declared.setup_error.SetupError.TheVariants.{BadMode, BadBits}
 use Rattle.vcd_decode.specs.declared.spi_setup.BitOrder.TheVariants.{Msb, Lsb}
 use Rattle.vcd_decode.specs.declared.uart_setup.Parity.TheVariants as parities
@@ -19,12 +20,14 @@ use Rattle.vcd_decode.specs.SpiSetup.{spi_setup}
 use Rattle.vcd_decode.specs.Spi.{spi_annotations}
 use Rattle.vcd_decode.specs.Groups.{groups_of}
 use Rattle.vcd_decode.specs.BusEvents.{bus_events}
-use Rattle.vcd_decode.specs.I2c.{nines_annotations, bits_until, has_condition, shown_address, annotations_of_events}
+use Rattle.vcd_decode.specs.I2c.{nines_annotations, bits_until, has_condition, shown_address}
+use Rattle.vcd_decode.specs.I2c.{annotations_of_events}
 use Rattle.vcd_text.specs.Words.{words_from}
 use Rattle.vcdedit.specs.declared.script.command.Command.{Command}
 use Rattle.vcdedit.specs.declared.script.command.Command.TheVariants as commands
 use Rattle.vcdedit.specs.declared.script.line_error.LineError.{LineError}
-use Rattle.vcdedit.specs.declared.script.line_error.LineError.TheVariants.{WrongCount, BadNumber, NoSuchName, BadOption}
+use Rattle.vcdedit.specs.declared.script.line_error.LineError.TheVariants.{WrongCount, BadNumber}
+use Rattle.vcdedit.specs.declared.script.line_error.LineError.TheVariants.{NoSuchName, BadOption}
 use Rattle.vcdedit.specs.declared.script.line_error.LineError.TheVariants.{NotScalar, Setup}
 use Rattle.vcdedit.specs.DecoderReply.{kind_text, uart_lines, spi_lines, i2c_lines}
 use Rattle.vcdedit.specs.ScriptCommands.{command_of_line}
@@ -95,7 +98,7 @@ kinds_as_text : (kind_text 2 (kinds.Byte 3) ≡ codes "byte 0x03")
     × (kind_text 2 (kinds.Word (Number 165) Absent) ≡ codes "word mosi 0xa5")
     × (kind_text 1 (kinds.Word Unknown (Number 13)) ≡ codes "word mosi ? miso 0xd")
     × (kind_text 1 (kinds.Word Absent Absent) ≡ codes "word")
-    × (kind_text 2 (kinds.PartialOf 12) ≡ codes "partial 12")
+    × (kind_text 2 (kinds.Unfinished 12) ≡ codes "partial 12")
     × (kind_text 2 kinds.RepeatedStart ≡ codes "repeated-start")
     × (kind_text 2 (kinds.Address 80 Write) ≡ codes "address 0x50 write")
     × (kind_text 2 (kinds.AddressHigh 2 Read) ≡ codes "address-high 0x2 read")

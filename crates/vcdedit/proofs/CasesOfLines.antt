@@ -3,7 +3,8 @@ use Rattle.std.proofs.Common.{◌≡◌, refl}
 use Rattle.std.specs.Prelude.{ℕ, pos, negsuc, List, [], ◌∷◌, Result, Ok, Err, codes}
 use Rattle.vcd_core.specs.declared.bit.Bit.TheVariants.{Zero, X}
 use Rattle.vcd_core.specs.Names.{name_in, lookup}
-use Rattle.vcd_edit.specs.declared.edit.Edit.TheVariants.{Rename, Remove, Invert, Shift, Cut, Deglitch, Force}
+use Rattle.vcd_edit.specs.declared.edit.Edit.TheVariants.{Rename, Remove, Invert, Shift, Cut}
+use Rattle.vcd_edit.specs.declared.edit.Edit.TheVariants.{Deglitch, Force}
 use Rattle.vcd_edit.specs.declared.edit.Edit.TheVariants.{Derive}
 use Rattle.vcd_edit.specs.declared.edit.Rule.{Rule}
 use Rattle.vcd_edit.specs.declared.edit.Rule.TheVariants.{Not, And, Or, Xor, BitOf}
@@ -12,8 +13,10 @@ use Rattle.vcd_text.specs.Words.{words_from}
 use Rattle.vcdedit.specs.declared.script.command.Command.{Command}
 use Rattle.vcdedit.specs.declared.script.command.Command.TheVariants as commands
 use Rattle.vcdedit.specs.declared.script.line_error.LineError.{LineError}
-use Rattle.vcdedit.specs.declared.script.line_error.LineError.TheVariants.{UnknownCommand, WrongCount, BadNumber}
-use Rattle.vcdedit.specs.declared.script.line_error.LineError.TheVariants.{NoSuchName, BadValueText, BadOption}
+use Rattle.vcdedit.specs.declared.script.line_error.LineError.TheVariants.{UnknownCommand}
+use Rattle.vcdedit.specs.declared.script.line_error.LineError.TheVariants.{WrongCount, BadNumber}
+use Rattle.vcdedit.specs.declared.script.line_error.LineError.TheVariants.{NoSuchName, BadValueText}
+use Rattle.vcdedit.specs.declared.script.line_error.LineError.TheVariants.{BadOption}
 use Rattle.vcdedit.specs.LentBytes.{lent_bytes}
 use Rattle.vcdedit.specs.ScriptCommands.{edit_command}
 use Rattle.vcdedit.specs.ScriptCommands.{command_of_line}

@@ -11,7 +11,8 @@ use Rattle.vcd_text.specs.Words.{words_from}
 use Rattle.vcd_edit.specs.Effect.{effect}
 use Rattle.vcd_edit.specs.EditFaults.{edit_fault}
 use Rattle.vcdedit.specs.declared.script.command.Command.TheVariants as commands
-use Rattle.vcdedit.specs.declared.script.line_error.LineError.TheVariants.{WrongCount, BadNumber, NoSuchName}
+use Rattle.vcdedit.specs.declared.script.line_error.LineError.TheVariants.{WrongCount, BadNumber}
+use Rattle.vcdedit.specs.declared.script.line_error.LineError.TheVariants.{NoSuchName}
 use Rattle.vcdedit.specs.Script.{script_lines}
 use Rattle.vcdedit.specs.ScriptCommands.{command_of_line}
 use Rattle.vcdedit.specs.Queries.{timescale_line, listing, change_line}

@@ -18,7 +18,8 @@ use Rattle.vcdedit.specs.Run.{RunOutcome, outcome, IsRun}
 use Rattle.vcdedit.specs.RunEnds.{DeviceEnd, RunEnds}
 use Rattle.vcdedit.specs.declared.running.run_error.RunError.TheVariants as run_errors
 use Rattle.vcdedit.proofs.RunHistories.{run_is}
-use Rattle.vcd_text.proofs.CasesOfFiles.{one_scalar as one_scalar_file, one_scalar_contents, one_scalar_means}
+use Rattle.vcd_text.proofs.CasesOfFiles.{one_scalar as one_scalar_file, one_scalar_contents}
+use Rattle.vcd_text.proofs.CasesOfFiles.{one_scalar_means}
 use Rattle.vcd_text.proofs.CasesOfText.{one_scalar_text, capture, wire, top, from}
 
 -- lines end at line feeds, and text after the last one counts if it is not empty
@@ -112,8 +113,8 @@ two_signals = capture 9
     (wire (top ∷ []) (codes "a") 1 (from 0 (codes "0") ∷ []) ∷ wire (top ∷ []) (codes "v") 4
     (from 0 (codes "0000") ∷ []) ∷ [])
 
--- empty lines and comments are numbered and have no reply; each refused line gives its first fault, and the script
--- continues
+-- empty lines and comments are numbered and have no reply; each refused line gives its first fault,
+-- and the script continues
 refused_lines : (outcome two_signals 0 100
     (script_lines (codes "\n# rename\nfrob\nrename top.a\nrename top.a b c\nundo now\nrename top.q $end\n"
     ++ codes "rename top.a $end\nrename top.a v\nundo\n \t#\n  rename\t@1\rb"))).replies

@@ -1,5 +1,6 @@
 -- The last hexadecimal digit of a number, and those before it.
-use Rattle.std.proofs.Common.{◌≡◌, ◌≢◌, ℕ, zero, suc, ◌-◌, ◌/◌, ◌%◌, ◌∷◌, ◌++◌, [], List, false, refl, sym, ◌∙◌, ap}
+use Rattle.std.proofs.Common.{◌≡◌, ◌≢◌, ℕ, zero, suc, ◌-◌, ◌/◌, ◌%◌, ◌∷◌, ◌++◌, [], List, false}
+use Rattle.std.proofs.Common.{refl, sym, ◌∙◌, ap}
 use Rattle.std.proofs.Common.{append_assoc, arith}
 use Rattle.std.specs.Fmt.{digit_glyph}
 use Rattle.vcdedit.specs.DecoderReply.{hex_digits}

@@ -1,5 +1,6 @@
 -- The lines of a script, from its front.
-use Rattle.std.proofs.Common.{◌≡◌, ◌<◌, ◌==◌, ℕ, Bool, true, false, not, cond, ◌&&◌, List, [], ◌∷◌, ◌++◌, length, refl}
+use Rattle.std.proofs.Common.{◌≡◌, ◌<◌, ◌==◌, ℕ, Bool, true, false, not, cond, ◌&&◌, List, [], ◌∷◌}
+use Rattle.std.proofs.Common.{◌++◌, length, refl}
 use Rattle.std.proofs.Common.{ap, arith}
 use Rattle.std.specs.List.{list_all, onto_first}
 use Rattle.vcdedit.specs.Script.{script_lines}

@@ -1,5 +1,6 @@
 -- A run of lines, seen from a line in it.
-use Rattle.std.proofs.Common.{◌≡◌, ℕ, ◌+◌, cond, List, [], ◌∷◌, ◌++◌, Option, length, refl, sym, subst, ◌∙◌, ap}
+use Rattle.std.proofs.Common.{◌≡◌, ℕ, ◌+◌, cond, List, [], ◌∷◌, ◌++◌, Option, length, refl, sym}
+use Rattle.std.proofs.Common.{subst, ◌∙◌, ap}
 use Rattle.std.proofs.Common.{append_assoc, arith, add_assoc}
 use Rattle.std.specs.List.{concat}
 use Rattle.std.proofs.lemmas.List.{append-nil, length-append}
@@ -7,13 +8,15 @@ use Rattle.std.proofs.lemmas.List.Folds.{concat-append}
 use Rattle.std.specs.Io.KnownBytes.{Appends}
 use Rattle.std.proofs.KnownBytes.{Appends-nil, Appends-trans}
 use Rattle.vcd_journal.specs.Machine.{Machine}
-use Rattle.vcdedit.specs.inside.RunMachines.{reply_on, is_refused_on, machine_after_line, machine_after_lines}
+use Rattle.vcdedit.specs.inside.RunMachines.{reply_on, is_refused_on, machine_after_line}
+use Rattle.vcdedit.specs.inside.RunMachines.{machine_after_lines}
 use Rattle.vcdedit.specs.inside.RunMachines.{refusal_count}
 use Rattle.vcdedit.specs.inside.RunMachines.{line_replies}
 use Rattle.vcdedit.specs.Script.{script_lines}
 use Rattle.vcdedit.specs.inside.RunLines.{RunsLine, RunsLines}
 
--- after so many lines these are left on this machine; the replies so far are written, and so many lines refused
+-- after so many lines these are left on this machine; the replies so far are written, and so many
+-- lines refused
 pub record AreLeft (skipped : ℕ) (lines : List (List ℕ)) (old : Machine) (number : ℕ) (left : List (List ℕ))
     (now : Machine) (texts : List (List ℕ)) (count : ℕ) : Type 0 where
   pub after : machine_after_lines old lines ≡ machine_after_lines now left

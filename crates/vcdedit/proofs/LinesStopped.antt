@@ -1,5 +1,6 @@
 -- A run of lines that a fault ends: what the writer of the replies has taken.
-use Rattle.std.proofs.Common.{◌≡◌, ℕ, suc, ◌+◌, ◌-◌, ◌≤◌, List, [], ◌∷◌, ◌++◌, Option, length, take, sym, subst, ◌∙◌}
+use Rattle.std.proofs.Common.{◌≡◌, ℕ, suc, ◌+◌, ◌-◌, ◌≤◌, List, [], ◌∷◌, ◌++◌, Option, length, take}
+use Rattle.std.proofs.Common.{sym, subst, ◌∙◌}
 use Rattle.std.proofs.Common.{ap, arith}
 use Rattle.std.specs.List.{concat}
 use Rattle.std.proofs.lemmas.List.{append-nil, length-append, take-append-le}
@@ -35,7 +36,8 @@ none_of_text replies texts rest text number line before between after parts coun
           (Appends-kept before between after (concat texts) took kept),
     )
 
--- the writer takes the first bytes of a text: with the texts before, these are the first bytes of all
+-- the writer takes the first bytes of a text: with the texts before, these are the first bytes of
+-- all
 front_of_text : (replies texts rest : List (List ℕ)) (text : List ℕ) (bytes count written : ℕ)
     (before between after : Option (List ℕ)) →
     replies ≡ texts ++ text ∷ rest → length (concat texts) ≡ bytes → Appends before between (concat texts)

@@ -1,5 +1,6 @@
 -- What lines write on a machine is what the equations of a run say of its history.
-use Rattle.std.proofs.Common.{◌≡◌, ◌≤◌, ◌+◌, ℕ, cond, List, [], ◌∷◌, ◌++◌, take, length, Result, Ok, Err, is_err, refl}
+use Rattle.std.proofs.Common.{◌≡◌, ◌≤◌, ◌+◌, ℕ, cond, List, [], ◌∷◌, ◌++◌, take, length, Result, Ok}
+use Rattle.std.proofs.Common.{Err, is_err, refl}
 use Rattle.std.proofs.Common.{sym, ◌∙◌, ap, subst, map, append_assoc}
 use Rattle.std.specs.Prelude.{fold, count_by}
 use Rattle.std.specs.List.{enumerate_from}
@@ -16,7 +17,8 @@ use Rattle.vcd_journal.specs.declared.step.Answer.TheVariants.{Done, Refused}
 use Rattle.vcd_journal.specs.History.{History, initial_history, replay, history_after}
 use Rattle.vcd_journal.specs.Machine.{Machine, initial_machine, step_outcome}
 use Rattle.vcd_journal.specs.HistoryMachine.{machine_of, history_after_answer}
-use Rattle.vcd_journal.proofs.Replay.{IsMachineOf, past_count, future_count, outcome_follows, first_follows}
+use Rattle.vcd_journal.proofs.Replay.{IsMachineOf, past_count, future_count, outcome_follows}
+use Rattle.vcd_journal.proofs.Replay.{first_follows}
 use Rattle.vcdedit.specs.declared.script.command.Command.{Command}
 use Rattle.vcdedit.specs.declared.script.command.Command.TheVariants as commands
 use Rattle.vcdedit.specs.declared.script.line_error.LineError.{LineError}
@@ -26,7 +28,8 @@ use Rattle.vcdedit.specs.Reply.{LineReply, line_reply, command_reply, reply_text
 use Rattle.vcdedit.specs.Run.{IsRun, history_after_command, line_answer, history_after_line}
 use Rattle.vcdedit.specs.Run.{answers, capture_at, outcome}
 use Rattle.vcdedit.specs.inside.LineAnswers.{line_answers}
-use Rattle.vcdedit.specs.inside.RunMachines.{answer_reply, machine_after_command, machine_after_line}
+use Rattle.vcdedit.specs.inside.RunMachines.{answer_reply, machine_after_command}
+use Rattle.vcdedit.specs.inside.RunMachines.{machine_after_line}
 use Rattle.vcdedit.specs.inside.RunMachines.{machine_after_lines}
 use Rattle.vcdedit.specs.inside.RunMachines.{answer_on, refusal_count, line_replies}
 use Rattle.vcdedit.proofs.Steps.{reply_is_answer}

@@ -1,6 +1,9 @@
--- The laws of a run: each capture is sound, a refused line changes nothing, and an undo or a redo restores.
-use Rattle.std.proofs.Common.{◌≡◌, ◌≤◌, ◌<◌, ◌+◌, ◌-◌, ℕ, zero, suc, Bool, true, false, cond, List, [], ◌∷◌, ◌++◌}
-use Rattle.std.proofs.Common.{take, length, Option, Some, None, Result, Ok, Err, is_err, refl, sym, ◌∙◌, ap, subst}
+-- The laws of a run: each capture is sound, a refused line changes nothing, and an undo or a redo
+-- restores.
+use Rattle.std.proofs.Common.{◌≡◌, ◌≤◌, ◌<◌, ◌+◌, ◌-◌, ℕ, zero, suc, Bool, true, false, cond, List}
+use Rattle.std.proofs.Common.{[], ◌∷◌, ◌++◌}
+use Rattle.std.proofs.Common.{take, length, Option, Some, None, Result, Ok, Err, is_err, refl, sym}
+use Rattle.std.proofs.Common.{◌∙◌, ap, subst}
 use Rattle.std.proofs.Common.{arith, get_or}
 use Rattle.std.specs.Prelude.{fold, drop, not, nat_lt}
 use Rattle.std.proofs.lemmas.Bool.Decides.{nat_tests}
@@ -30,7 +33,8 @@ use Rattle.vcdedit.specs.declared.script.command.Command.TheVariants as commands
 use Rattle.vcdedit.specs.declared.script.line_error.LineError.{LineError}
 use Rattle.vcdedit.specs.ScriptCommands.{command_of_line}
 use Rattle.vcdedit.specs.Reply.{ok_reply, line_reply, command_reply, edit_reply, history_reply}
-use Rattle.vcdedit.specs.Run.{history_after_command, line_answer, history_after_line, history_at, capture_at}
+use Rattle.vcdedit.specs.Run.{history_after_command, line_answer, history_after_line, history_at}
+use Rattle.vcdedit.specs.Run.{capture_at}
 use Rattle.vcdedit.specs.Run.{RunLaws}
 use Rattle.vcdedit.proofs.RunHistories.{lines_follow}
 
@@ -157,8 +161,8 @@ module _ (c : Contents) (skipped depth : ℕ) (lines : List (List ℕ)) where
 
   -- ---- the edits in force
 
-  -- each of these edits was made by a line after fewer than `count`, on the edits after it in the list, and gives a
-  -- sound capture
+  -- each of these edits was made by a line after fewer than `count`, on the edits after it in the
+  -- list, and gives a sound capture
   AreMade : (count : ℕ) → List Edit → Type 0
   AreMade count [] = Unit {0}
   AreMade count (e ∷ es) = ((i : ℕ) × (i < count) × IsStepAfter i (steps.Edit e)
@@ -215,8 +219,8 @@ module _ (c : Contents) (skipped depth : ℕ) (lines : List (List ℕ)) where
 
   -- ---- the undone edits
 
-  -- where `es` are in force, each of these was undone by a line after fewer than `count`: before that line it was the
-  -- last in force, on those before it in the list, which were on `es`
+  -- where `es` are in force, each of these was undone by a line after fewer than `count`: before
+  -- that line it was the last in force, on those before it in the list, which were on `es`
   AreUndone : (count : ℕ) → (es us : List Edit) → Type 0
   AreUndone count es [] = Unit {0}
   AreUndone count es (u ∷ us) = ((i : ℕ) × (i < count) × IsStepAfter i steps.Undo

@@ -1,5 +1,6 @@
 -- The parts of a run, put together.
-use Rattle.std.proofs.Common.{◌≡◌, ◌⊎◌, inl, inr, Result, Ok, Err, ℕ, zero, suc, ◌-◌, List, Option, Some, None, refl}
+use Rattle.std.proofs.Common.{◌≡◌, ◌⊎◌, inl, inr, Result, Ok, Err, ℕ, zero, suc, ◌-◌, List, Option}
+use Rattle.std.proofs.Common.{Some, None, refl}
 use Rattle.std.proofs.Common.{◌≤◌, Bool, sym, subst, ap, ◌∙◌, true, false, arith, length, take}
 use Rattle.std.specs.Prelude.{IfSome, IfErr, IsErrAnd}
 use Rattle.std.specs.List.{concat}
@@ -22,8 +23,10 @@ use Rattle.vcdedit.specs.declared.running.run_error.RunError.TheVariants as run_
 use Rattle.vcdedit.specs.declared.running.run_error.Summary.{Summary}
 use Rattle.vcdedit.specs.Script.{script_lines}
 use Rattle.vcdedit.specs.Run.{RunOutcome, IsRun, outcome}
-use Rattle.vcdedit.specs.RunEnds.{DeviceEnd, IsRead, IsAccepted, IsUntouched, HasText, IsFlushedAt, RunEnds}
-use Rattle.vcdedit.specs.inside.RunLines.{HasFailedAt, EndsAtLine, RunsLines, StopsInReplies, StopsInLines}
+use Rattle.vcdedit.specs.RunEnds.{DeviceEnd, IsRead, IsAccepted, IsUntouched, HasText, IsFlushedAt}
+use Rattle.vcdedit.specs.RunEnds.{RunEnds}
+use Rattle.vcdedit.specs.inside.RunLines.{HasFailedAt, EndsAtLine, RunsLines, StopsInReplies}
+use Rattle.vcdedit.specs.inside.RunLines.{StopsInLines}
 use Rattle.vcdedit.specs.inside.RunStages.{EndsBeforeOutput, EndsBeforeReplies, EndsAfterCapture}
 use Rattle.vcdedit.specs.inside.ScriptRuns.{ScriptGives}
 use Rattle.vcdedit.specs.inside.SentReplies.{HasSentReplies}
@@ -101,7 +104,8 @@ for_run (Some f) (Some s) script depth skipped c property means is holds = (
   subst (λ (bytes : List ℕ). property (outcome c skipped depth (script_lines bytes))) is holds,
 )
 
--- what follows from the replies, the output and the count of refused lines holds of what the run writes
+-- what follows from the replies, the output and the count of refused lines holds of what the run
+-- writes
 if_run_writes : (file script : Option (List ℕ)) (depth count : ℕ) (took_replies : List ℕ
     → Type 0) (now : Contents) (property : RunOutcome → Type 0) →
     IfSome file (λ f. IfSome script (λ s. ScriptGives f s depth count took_replies now)) →
@@ -157,9 +161,11 @@ taken_end : (capture script replies : DeviceEnd) (bytes : List ℕ) (depth skipp
     → StopsInReplies (outcome c skipped depth (script_lines bytes)).replies (Appends replies.before replies.after) e →
     EndsBeforeOutput depth capture script replies e
 unfolding RunEnds
-taken_end capture script replies bytes depth skipped c (run_errors.NoMemory zero) is_flushed accepted script_read means is failed
+taken_end capture script replies bytes depth skipped c (run_errors.NoMemory zero) is_flushed
+    accepted script_read means is failed
     stops output kept = absurd (omega (arith, stops.0))
-taken_end capture script replies bytes depth skipped c (run_errors.NoMemory (suc before)) is_flushed accepted script_read means is
+taken_end capture script replies bytes depth skipped c (run_errors.NoMemory (suc before)) is_flushed
+    accepted script_read means is
     failed stops output kept =
     let one_less : suc before - 1 ≡ before = omega arith in
     let took = subst (λ n. Appends replies.before replies.after
@@ -169,16 +175,21 @@ taken_end capture script replies bytes depth skipped c (run_errors.NoMemory (suc
       kept,
       for_run capture.before script.before bytes depth skipped c _ means is (omega (arith, stops.1), took),
     )
-taken_end capture script replies bytes depth skipped c (run_errors.ReplyFault written) is_flushed accepted script_read means is
+taken_end capture script replies bytes depth skipped c (run_errors.ReplyFault written) is_flushed
+    accepted script_read means is
     failed stops output kept =
     (accepted, script_read, failed, kept, for_run capture.before script.before bytes depth skipped c _ means is stops)
-taken_end capture script replies bytes depth skipped c (run_errors.Capture fault) is_flushed accepted script_read means is failed
+taken_end capture script replies bytes depth skipped c (run_errors.Capture fault) is_flushed
+    accepted script_read means is failed
     stops output kept = absurd stops
-taken_end capture script replies bytes depth skipped c run_errors.ScriptTooLarge is_flushed accepted script_read means is failed
+taken_end capture script replies bytes depth skipped c run_errors.ScriptTooLarge is_flushed accepted
+    script_read means is failed
     stops output kept = absurd stops
-taken_end capture script replies bytes depth skipped c run_errors.ScriptReadFault is_flushed accepted script_read means is failed
+taken_end capture script replies bytes depth skipped c run_errors.ScriptReadFault is_flushed
+    accepted script_read means is failed
     stops output kept = absurd stops
-taken_end capture script replies bytes depth skipped c (run_errors.Write fault) is_flushed accepted script_read means is failed
+taken_end capture script replies bytes depth skipped c (run_errors.Write fault) is_flushed accepted
+    script_read means is failed
     stops output kept = absurd stops
 
 -- the same by the machine's replies

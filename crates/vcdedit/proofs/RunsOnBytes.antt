@@ -1,5 +1,6 @@
 -- A run over bytes in memory: what it gives follows from how the run ended.
-use Rattle.std.proofs.Common.{◌≡◌, Ok, Err, ℕ, zero, suc, List, [], Option, Some, Bool, false, true, sym, ◌∙◌}
+use Rattle.std.proofs.Common.{◌≡◌, Ok, Err, ℕ, zero, suc, List, [], Option, Some, Bool, false, true}
+use Rattle.std.proofs.Common.{sym, ◌∙◌}
 use Rattle.std.proofs.Common.{inl, inr, length, take, refl, arith}
 use Rattle.std.proofs.Math.Seq.{take-length}
 use Rattle.std.specs.List.{concat}

@@ -1,5 +1,6 @@
 -- The reply to a step depends only on the capture and two counts, and is what the machine answers.
-use Rattle.std.proofs.Common.{◌≡◌, ℕ, Bool, true, false, cond, List, [], ◌∷◌, Option, Some, None, Err, length, refl}
+use Rattle.std.proofs.Common.{◌≡◌, ℕ, Bool, true, false, cond, List, [], ◌∷◌, Option, Some, None}
+use Rattle.std.proofs.Common.{Err, length, refl}
 use Rattle.std.specs.Prelude.{not, nat_lt}
 use Rattle.vcd_core.specs.Contents.{Contents}
 use Rattle.vcd_edit.specs.declared.edit.Edit.{Edit}
@@ -10,7 +11,8 @@ use Rattle.vcd_journal.specs.declared.step.Step.TheVariants as steps
 use Rattle.vcd_journal.specs.declared.step.StepError.TheVariants as refusals
 use Rattle.vcd_journal.specs.StepErrorNames.{step_error_name}
 use Rattle.vcd_journal.specs.History.{is_depth}
-use Rattle.vcd_journal.specs.Machine.{Machine, step_outcome, edit_outcome, undo_outcome, redo_outcome}
+use Rattle.vcd_journal.specs.Machine.{Machine, step_outcome, edit_outcome, undo_outcome}
+use Rattle.vcd_journal.specs.Machine.{redo_outcome}
 use Rattle.vcd_journal.specs.Machine.{accepted_outcome, refused_outcome, machine_after_depth}
 use Rattle.vcdedit.specs.Reply.{ok_reply, step_reply, edit_reply}
 use Rattle.vcdedit.specs.inside.RunMachines.{answer_reply}

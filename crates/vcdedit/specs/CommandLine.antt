@@ -13,7 +13,8 @@ use Rattle.vcdedit.specs.declared.shell.command_line.Options.{Options}
 -- `-i FILE` or `--input-file FILE`, where 105 is the letter `i`
 abbrev pub input_option : Rule
 input_option = record
-    (new_rule (codes "input-file")) { long = Some (codes "input-file"); short = Some 105; value_names = 1 }
+    (new_rule (codes "input-file"))
+    { long = Some (codes "input-file"); short = Some 105; value_names = 1 }
 
 -- `--script FILE`
 abbrev pub script_option : Rule
@@ -22,7 +23,8 @@ script_option = record (new_rule (codes "script")) { long = Some (codes "script"
 -- `-o FILE` or `--output-file FILE`, where 111 is the letter `o`
 abbrev pub output_option : Rule
 output_option = record
-    (new_rule (codes "output-file")) { long = Some (codes "output-file"); short = Some 111; value_names = 1 }
+    (new_rule (codes "output-file"))
+    { long = Some (codes "output-file"); short = Some 111; value_names = 1 }
 
 -- `--depth N`, a number from 1 to the limit
 abbrev pub depth_option : Rule

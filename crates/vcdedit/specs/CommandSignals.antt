@@ -13,7 +13,8 @@ abbrev pub HasCommandSignals : Contents → Command → Type 0
 HasCommandSignals c (commands.Value k tick) = k < length c.signals
 HasCommandSignals c (commands.Changes k) = k < length c.signals
 HasCommandSignals c (commands.Uart k setup) = IsScalarAt c k
-HasCommandSignals c (commands.Spi clk mosi miso cs setup) = IsScalarAt c clk × IfSome mosi (IsScalarAt c)
+HasCommandSignals c (commands.Spi clk mosi miso cs setup) = IsScalarAt c clk
+    × IfSome mosi (IsScalarAt c)
     × IfSome miso (IsScalarAt c) × IfSome cs (IsScalarAt c)
 HasCommandSignals c (commands.I2c scl sda) = IsScalarAt c scl × IsScalarAt c sda
 HasCommandSignals c command = Unit {0}

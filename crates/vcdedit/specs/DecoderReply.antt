@@ -1,5 +1,6 @@
 -- The reply to a line that decodes signals. Its form is the project's own.
-use Rattle.std.specs.Prelude.{ℕ, zero, suc, ◌+◌, ◌/◌, ◌%◌, false, List, [], ◌∷◌, ◌++◌, Option, map, codes}
+use Rattle.std.specs.Prelude.{ℕ, zero, suc, ◌+◌, ◌/◌, ◌%◌, false, List, [], ◌∷◌, ◌++◌, Option, map}
+use Rattle.std.specs.Prelude.{codes}
 use Rattle.std.specs.Fmt.{decimal, digit_glyph}
 use Rattle.std.specs.Option.{option_map}
 use Rattle.vcd_core.specs.declared.bit.Bit.{Bit}
@@ -54,10 +55,10 @@ module _ (digits : ℕ) where
   kind_text (kinds.ParityError n) = codes "parity-error " ++ hex_text digits n
   kind_text kinds.FrameError = codes "frame-error"
   kind_text kinds.Unknown = codes "unknown"
-  kind_text kinds.Partial = codes "partial"
+  kind_text kinds.CutOff = codes "partial"
   kind_text (kinds.Word mosi miso) = codes "word" ++ data_text (codes " mosi ") mosi
       ++ data_text (codes " miso ") miso
-  kind_text (kinds.PartialOf count) = codes "partial " ++ decimal count
+  kind_text (kinds.Unfinished count) = codes "partial " ++ decimal count
   kind_text kinds.Start = codes "start"
   kind_text kinds.RepeatedStart = codes "repeated-start"
   kind_text kinds.Stop = codes "stop"

@@ -1,5 +1,7 @@
--- The value or fault that `parse_line` finds in a word of a line that decodes signals: the project's own.
-use Rattle.std.specs.Prelude.{ℕ, ◌+◌, ◌==◌, if◌then◌else◌, List, take, drop, Option, Some, None, Result, Ok, Err, codes}
+-- The value or fault that `parse_line` finds in a word of a line that decodes signals: the
+-- project's own.
+use Rattle.std.specs.Prelude.{ℕ, ◌+◌, ◌==◌, if◌then◌else◌, List, take, drop, Option, Some, None}
+use Rattle.std.specs.Prelude.{Result, Ok, Err, codes}
 use Rattle.std.specs.List.{position}
 use Rattle.std.specs.Str.{bytes_eq}
 use Rattle.vcd_core.specs.Contents.{Contents, signal_at}
@@ -13,7 +15,8 @@ use Rattle.vcd_decode.specs.SetupFaults.{uart_fault}
 use Rattle.vcd_decode.specs.SpiSetup.{SpiSetup}
 use Rattle.vcd_decode.specs.SetupFaults.{spi_fault}
 use Rattle.vcdedit.specs.declared.script.line_error.LineError.{LineError}
-use Rattle.vcdedit.specs.declared.script.line_error.LineError.TheVariants.{BadOption, NotScalar, Setup}
+use Rattle.vcdedit.specs.declared.script.line_error.LineError.TheVariants.{BadOption, NotScalar}
+use Rattle.vcdedit.specs.declared.script.line_error.LineError.TheVariants.{Setup}
 use Rattle.vcdedit.specs.LineWords.{◌>>=◌}
 use Rattle.vcdedit.specs.ScriptWords.{signal_of_name, number_of_word}
 

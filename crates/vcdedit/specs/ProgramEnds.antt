@@ -1,5 +1,7 @@
--- How the program ends: the exit status, and the text on standard error. Both are the project's own.
-use Rattle.std.specs.Prelude.{◌≡◌, ◌⊎◌, ℕ, Bool, true, false, List, [], Option, is_some, Result, Ok, Err}
+-- How the program ends: the exit status, and the text on standard error. Both are the project's
+-- own.
+use Rattle.std.specs.Prelude.{◌≡◌, ◌⊎◌, ℕ, Bool, true, false, List, [], Option, is_some, Result, Ok}
+use Rattle.std.specs.Prelude.{Err}
 use Rattle.std.specs.String.{string_bytes}
 use Rattle.clap.specs.declared.error.kind.ErrorKind.{ErrorKind}
 use Rattle.clap.specs.declared.error.kind.ErrorKind.TheVariants.{DisplayHelp, DisplayVersion}
@@ -34,7 +36,8 @@ abbrev pub ending_of : Result Summary RunError → Ending
 ending_of (Ok summary) = Done summary
 ending_of (Err e) = Failed e
 
--- why a run does not begin: an input can't be opened, or there is no memory for the buffer of the replies
+-- why a run does not begin: an input can't be opened, or there is no memory for the buffer of the
+-- replies
 abbrev pub IsFaultBeforeRun : RunError → Type 0
 IsFaultBeforeRun e = (e ≡ run_errors.Capture (record { line = 1; fault = faults.ReadFault }))
     ⊎ (e ≡ run_errors.ScriptReadFault)
@@ -49,11 +52,13 @@ IsOutcomeOn path outcome depth capture script = (replies : DeviceEnd) × (output
 -- the outcome is that of a run with these options, or the run does not begin
 abbrev pub IsOutcomeOfOptions : AskedOptions → Result Summary RunError → Type 0
 IsOutcomeOfOptions options outcome = ((e : RunError) × IsFaultBeforeRun e × (outcome ≡ Err e))
-    ⊎ ((capture : DeviceEnd) × (script : DeviceEnd) × IsOutcomeOn options.output outcome options.depth capture script)
+    ⊎ ((capture : DeviceEnd) × (script : DeviceEnd)
+    × IsOutcomeOn options.output outcome options.depth capture script)
 
 -- the ending is that of accepted words
 abbrev pub IsEndingOf : (words : List (List ℕ)) → Ending → Type 0
-IsEndingOf words ending = (outcome : Result Summary RunError) × IsOutcomeOfOptions (asked_options words) outcome
+IsEndingOf words ending = (outcome : Result Summary RunError)
+    × IsOutcomeOfOptions (asked_options words) outcome
     × (ending ≡ ending_of outcome)
 
 -- the run was completed

@@ -1,4 +1,5 @@
--- What the program reports of a run that failed. The names, statuses and lines are the project's own.
+-- What the program reports of a run that failed. The names, statuses and lines are the project's
+-- own.
 use Rattle.std.specs.Prelude.{ℕ, ◌==◌, if◌then◌else◌, List, ◌++◌, codes, decimal}
 use Rattle.vcd_text.specs.FaultNames.{fault_name, write_error_name}
 use Rattle.vcd_text.specs.declared.fault.Fault.{Fault}
@@ -47,7 +48,8 @@ out_of_memory_line = codes "vcdedit: out of memory\n"
 
 -- the line for a fault at a line of the capture
 abbrev pub numbered_line : Fault → ℕ → List ℕ
-numbered_line fault line = codes "vcdedit: capture line " ++ decimal line ++ codes ": " ++ fault_name fault
+numbered_line fault line =
+    codes "vcdedit: capture line " ++ decimal line ++ codes ": " ++ fault_name fault
     ++ codes "\n"
 
 -- the line for a fault of the capture

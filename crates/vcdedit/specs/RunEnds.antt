@@ -1,6 +1,8 @@
--- How a run ends: for each ending, the state of its sources and writers. The rules are the project's own.
+-- How a run ends: for each ending, the state of its sources and writers. The rules are the
+-- project's own.
 use Rattle.std.proofs.Common.{inl, inr}
-use Rattle.std.specs.Prelude.{◌≡◌, ◌<◌, ◌≤◌, ◌⊎◌, ℕ, zero, suc, Bool, true, false, List, length, take, Option, Some}
+use Rattle.std.specs.Prelude.{◌≡◌, ◌<◌, ◌≤◌, ◌⊎◌, ℕ, zero, suc, Bool, true, false, List, length}
+use Rattle.std.specs.Prelude.{take, Option, Some}
 use Rattle.std.specs.Prelude.{◌^◌, None, Result, Ok, Err, IfSome, IsSomeAnd}
 use Rattle.std.specs.List.{concat}
 use Rattle.std.specs.Borrow.{MutBor}
@@ -13,14 +15,17 @@ use Rattle.vcd_text.specs.declared.fault.WriteError.TheVariants as write_errors
 use Rattle.vcd_text.specs.declared.reading.TheConstants.{FILE_LIMIT}
 use Rattle.vcdedit.specs.declared.running.script_input.TheConstants.{SCRIPT_LIMIT}
 use Rattle.vcdedit.specs.declared.running.run_error.RunError.{RunError}
-use Rattle.vcdedit.specs.declared.running.run_error.RunError.TheVariants.{Capture, ScriptTooLarge, ScriptReadFault}
-use Rattle.vcdedit.specs.declared.running.run_error.RunError.TheVariants.{NoMemory, ReplyFault, Write}
+use Rattle.vcdedit.specs.declared.running.run_error.RunError.TheVariants.{Capture, ScriptTooLarge}
+use Rattle.vcdedit.specs.declared.running.run_error.RunError.TheVariants.{ScriptReadFault}
+use Rattle.vcdedit.specs.declared.running.run_error.RunError.TheVariants.{NoMemory, ReplyFault}
+use Rattle.vcdedit.specs.declared.running.run_error.RunError.TheVariants.{Write}
 use Rattle.vcdedit.specs.declared.running.run_error.Summary.{Summary}
 use Rattle.vcdedit.specs.Run.{RunOutcome, IsRun}
 
 -- ---- sources and writers
 
--- a device: the bytes to come from a source, or taken by a writer, if shown, before and after; whether it failed
+-- a device: the bytes to come from a source, or taken by a writer, if shown, before and after;
+-- whether it failed
 pub record DeviceEnd : Type 0 where
   pub before : Option (List ℕ)
   pub after : Option (List ℕ)
@@ -69,8 +74,8 @@ IsOutputFlushed is_flushed None left = Unit {0}
 IsOutputFlushed is_flushed (Some out) (inr (inl left)) = is_flushed left.0.now ≡ true
 IsOutputFlushed is_flushed (Some out) left = ⊥
 
--- at this error the writer of the replies was flushed after the last byte that it took; where memory
--- ran out at a line, only if it has not failed there
+-- at this error the writer of the replies was flushed after the last byte that it took; where
+-- memory ran out at a line, only if it has not failed there
 abbrev pub IsFlushedAt : (has_failed is_flushed : Bool) → RunError → Type 0
 IsFlushedAt has_failed is_flushed (NoMemory (suc before)) = has_failed ≡ false → is_flushed ≡ true
 IsFlushedAt has_failed is_flushed (Write e) = is_flushed ≡ true
@@ -112,7 +117,8 @@ module _ (depth : ℕ) (capture script : DeviceEnd) where
     RunEnds (Err ScriptReadFault) = IsAccepted capture × (script.has_failed ≡ true) × IsUnwritten
     -- memory ran out before the first line
     RunEnds (Err (NoMemory zero)) = IsAccepted capture × IsUnwritten
-    -- memory ran out at a line, counted from 1: exactly the replies to the lines before it are written
+    -- memory ran out at a line, counted from 1: exactly the replies to the lines before it are
+    -- written
     RunEnds (Err (NoMemory (suc before))) = IsAccepted capture × IsRead SCRIPT_LIMIT script
         × IfSome output IsUntouched × ForRun (λ written.
         (before < length written.replies) × HasText replies (concat (take before written.replies)))

@@ -1,5 +1,7 @@
--- What a run over bytes in memory gives: the headline without devices. The rules are the project's own.
-use Rattle.std.specs.Prelude.{◌≡◌, ◌<◌, ◌≤◌, ◌⊎◌, ℕ, zero, suc, List, [], length, take, Result, Ok, Err}
+-- What a run over bytes in memory gives: the headline without devices. The rules are the project's
+-- own.
+use Rattle.std.specs.Prelude.{◌≡◌, ◌<◌, ◌≤◌, ◌⊎◌, ℕ, zero, suc, List, [], length, take, Result, Ok}
+use Rattle.std.specs.Prelude.{Err}
 use Rattle.std.specs.List.{concat}
 use Rattle.vcd_core.specs.Contents.{Contents}
 use Rattle.vcd_text.specs.Faults.{FileFault}
@@ -11,13 +13,16 @@ use Rattle.vcd_text.specs.declared.reading.TheConstants.{FILE_LIMIT}
 use Rattle.vcdedit.specs.declared.running.script_input.TheConstants.{SCRIPT_LIMIT}
 use Rattle.vcdedit.specs.declared.running.run_on_bytes.RunTexts.{RunTexts}
 use Rattle.vcdedit.specs.declared.running.run_on_bytes.RunRefusal.{RunRefusal}
-use Rattle.vcdedit.specs.declared.running.run_on_bytes.RunRefusal.TheVariants.{Capture, ScriptTooLarge, NoMemory}
+use Rattle.vcdedit.specs.declared.running.run_on_bytes.RunRefusal.TheVariants.{Capture}
+use Rattle.vcdedit.specs.declared.running.run_on_bytes.RunRefusal.TheVariants.{ScriptTooLarge}
+use Rattle.vcdedit.specs.declared.running.run_on_bytes.RunRefusal.TheVariants.{NoMemory}
 use Rattle.vcdedit.specs.Run.{RunOutcome, IsRun}
 
 -- why a capture file is refused: for its fault, or its length
 pub data IsRefusedFile (file : List ℕ) (e : ReadError) : Type 0 where
   has_fault : length file ≤ FILE_LIMIT → FileFault file e.line e.fault → IsRefusedFile file e
-  too_large : FILE_LIMIT < length file → IsFrontAnswer (take FILE_LIMIT file) faults.TooLarge e → IsRefusedFile file e
+  too_large : FILE_LIMIT < length file → IsFrontAnswer (take FILE_LIMIT file) faults.TooLarge e
+      → IsRefusedFile file e
 
 -- the capture file has a meaning
 abbrev pub HasMeaning : (file : List ℕ) → Type 0
@@ -31,7 +36,8 @@ IsRunWithin file script depth written =
 -- what a run over the bytes of two files gives
 abbrev pub RunGives : (file script : List ℕ) → (depth : ℕ) → Result RunTexts RunRefusal → Type 0
 -- the texts are what the run writes
-RunGives file script depth (Ok texts) = (written : RunOutcome) × IsRunWithin file script depth written
+RunGives file script depth (Ok texts) = (written : RunOutcome)
+    × IsRunWithin file script depth written
     × (texts.replies.items ≡ concat written.replies) × (texts.output.items ≡ written.output)
     × (texts.refused ≡ written.refused)
 -- the capture file is refused, for this alone
@@ -39,7 +45,8 @@ RunGives file script depth (Err (Capture e)) = IsRefusedFile file e
     × ((other : ReadError) → IsRefusedFile file other → other ≡ e)
 -- the script is above its limit
 RunGives file script depth (Err ScriptTooLarge) = HasMeaning file × (SCRIPT_LIMIT < length script)
--- memory ran out, and not at a line: the replies made before are the first bytes of those that the run writes
+-- memory ran out, and not at a line: the replies made before are the first bytes of those that the
+-- run writes
 RunGives file script depth (Err (NoMemory zero replies)) = (replies.items ≡ [])
     ⊎ ((written : RunOutcome) × IsRunWithin file script depth written
     × (count : ℕ) × (replies.items ≡ take count (concat written.replies)))

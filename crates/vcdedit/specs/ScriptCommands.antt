@@ -1,6 +1,7 @@
 -- What a line asks for, by cases on its words: the project's own. The headline and the contracts of
 -- `parse_line` and of each parser cite it.
-use Rattle.std.specs.Prelude.{ℕ, Bool, false, ◌==◌, if◌then◌else◌, List, [], ◌∷◌, Option, find, option_map, Result, Ok}
+use Rattle.std.specs.Prelude.{ℕ, Bool, false, ◌==◌, if◌then◌else◌, List, [], ◌∷◌, Option, find}
+use Rattle.std.specs.Prelude.{option_map, Result, Ok}
 use Rattle.std.specs.Prelude.{Err, codes}
 use Rattle.std.specs.Option.{ok_or}
 use Rattle.std.specs.Str.{bytes_eq}
@@ -10,7 +11,8 @@ use Rattle.vcd_text.specs.Grammar.{word_texts}
 use Rattle.vcd_decode.specs.UartSetup.{uart_setup}
 use Rattle.vcd_decode.specs.SpiSetup.{spi_setup}
 use Rattle.vcd_edit.specs.declared.edit.Edit.{Edit}
-use Rattle.vcd_edit.specs.declared.edit.Edit.TheVariants.{Rename, Remove, Invert, Shift, Cut, Deglitch, Force, Derive}
+use Rattle.vcd_edit.specs.declared.edit.Edit.TheVariants.{Rename, Remove, Invert, Shift, Cut}
+use Rattle.vcd_edit.specs.declared.edit.Edit.TheVariants.{Deglitch, Force, Derive}
 use Rattle.vcd_edit.specs.declared.edit.Rule.{Rule}
 use Rattle.vcd_edit.specs.declared.edit.Rule.TheVariants.{Not, And, Or, Xor, BitOf}
 use Rattle.vcd_journal.specs.declared.step.Step.TheVariants as steps
@@ -19,11 +21,15 @@ use Rattle.vcdedit.specs.declared.script.command.Command.TheVariants as commands
 use Rattle.vcdedit.specs.declared.script.keyword.Keyword.{Keyword}
 use Rattle.vcdedit.specs.declared.script.keyword.Keyword.TheVariants as keywords
 use Rattle.vcdedit.specs.declared.script.line_error.LineError.{LineError}
-use Rattle.vcdedit.specs.declared.script.line_error.LineError.TheVariants.{UnknownCommand, WrongCount, BadOption}
+use Rattle.vcdedit.specs.declared.script.line_error.LineError.TheVariants.{UnknownCommand}
+use Rattle.vcdedit.specs.declared.script.line_error.LineError.TheVariants.{WrongCount, BadOption}
 use Rattle.vcdedit.specs.LentBytes.{lent_bytes}
-use Rattle.vcdedit.specs.LineWords.{◌>>=◌, no_word, one_word, two_words, four_words, five_words, seven_words}
-use Rattle.vcdedit.specs.ScriptWords.{signal_of_name, number_of_word, distance_of_word, value_of_word}
-use Rattle.vcdedit.specs.DecoderWords.{ratio_of_word, parity_of_word, order_of_word, signal_or_absent, one_bit_signal}
+use Rattle.vcdedit.specs.LineWords.{◌>>=◌, no_word, one_word, two_words, four_words, five_words}
+use Rattle.vcdedit.specs.LineWords.{seven_words}
+use Rattle.vcdedit.specs.ScriptWords.{signal_of_name, number_of_word, distance_of_word}
+use Rattle.vcdedit.specs.ScriptWords.{value_of_word}
+use Rattle.vcdedit.specs.DecoderWords.{ratio_of_word, parity_of_word, order_of_word}
+use Rattle.vcdedit.specs.DecoderWords.{signal_or_absent, one_bit_signal}
 use Rattle.vcdedit.specs.DecoderWords.{one_bit_signal_or_absent, faultless_uart, faultless_spi}
 
 -- ---- the first word

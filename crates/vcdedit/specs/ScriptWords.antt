@@ -1,5 +1,6 @@
 -- The value or fault that `parse_line` finds in a word of a line: the project's own.
-use Rattle.std.specs.Prelude.{ℕ, ◌^◌, ◌==◌, ◌&&◌, nat_lt, nat_le, if◌then◌else◌, ℤ, pos, neg_ℤ, List, [], ◌∷◌, Result}
+use Rattle.std.specs.Prelude.{ℕ, ◌^◌, ◌==◌, ◌&&◌, nat_lt, nat_le, if◌then◌else◌, ℤ, pos, neg_ℤ}
+use Rattle.std.specs.Prelude.{List, [], ◌∷◌, Result}
 use Rattle.std.specs.Prelude.{Ok, Err}
 use Rattle.std.specs.Option.{ok_or}
 use Rattle.vcd_core.specs.declared.bit.Bit.{Bit}
@@ -8,7 +9,8 @@ use Rattle.vcd_core.specs.Decimal.{is_number, number_of}
 use Rattle.vcd_core.specs.Names.{lookup}
 use Rattle.vcd_text.specs.Letters.{value_of_digits}
 use Rattle.vcdedit.specs.declared.script.line_error.LineError.{LineError}
-use Rattle.vcdedit.specs.declared.script.line_error.LineError.TheVariants.{NoSuchName, BadNumber, BadValueText}
+use Rattle.vcdedit.specs.declared.script.line_error.LineError.TheVariants.{NoSuchName, BadNumber}
+use Rattle.vcdedit.specs.declared.script.line_error.LineError.TheVariants.{BadValueText}
 
 -- the position of the signal that a word names
 abbrev pub signal_of_name : Contents → List ℕ → Result ℕ LineError

@@ -1,4 +1,5 @@
--- Edits, steps and commands with their words at one address, so that equal contents are equal terms.
+-- Edits, steps and commands with their words at one address, so that equal contents are equal
+-- terms.
 use Rattle.vcd_edit.specs.declared.edit.Edit.{Edit}
 use Rattle.vcd_edit.specs.declared.edit.Edit.TheVariants.{Rename, Derive}
 use Rattle.vcd_journal.specs.declared.step.Step.{Step}

@@ -1,5 +1,5 @@
--- Intermediate definitions, cited only by proofs and by contracts of private functions. A reader need not believe
--- them.
+-- Intermediate definitions, cited only by proofs and by contracts of private functions. A reader
+-- need not believe them.
 pub mod Replies
 pub mod ScriptParts
 pub mod Commands

@@ -2,7 +2,8 @@
 
 ghost use Rattle.vcdedit.specs.FileLaws.{CutFileIsReadAgain};
 
-/// A file of which only the first ticks are cut out is, written and read again, the file's waves from there.
+/// A file of which only the first ticks are cut out is, written and read again, the file's waves
+/// from there.
 pub fn cut_file_is_read_again()
     ensures { CutFileIsReadAgain }
 {}

@@ -1,8 +1,8 @@
 //! `vcdedit`: edits four-state value change dump files (IEEE 1364-2005, 18.2) by script.
 //!
-//! It reads a capture and a script, answers with replies, and writes the edited capture. `run` does all that with
-//! devices that it is given; `status_of_program` opens those that the command line names. `script` reads what a line
-//! asks for, and `replies` makes the reply to it.
+//! It reads a capture and a script, answers with replies, and writes the edited capture. `run` does
+//! all that with devices that it is given; `status_of_program` opens those that the command line
+//! names. `script` reads what a line asks for, and `replies` makes the reply to it.
 #![tactic(auto)]
 
 mod laws;

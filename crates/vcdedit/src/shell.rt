@@ -1,4 +1,5 @@
-//! The program's shell: its command line, its files, its exit status and its text on standard error.
+//! The program's shell: its command line, its files, its exit status and its text on standard
+//! error.
 
 mod command_line;
 mod ending;

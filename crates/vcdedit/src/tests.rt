@@ -1,4 +1,5 @@
-//! What no clause states: messages, devices that fail midway, and worked cases of lines, sessions and whole runs.
+//! What no clause states: messages, devices that fail midway, and worked cases of lines, sessions
+//! and whole runs.
 
 mod devices;
 mod failures;

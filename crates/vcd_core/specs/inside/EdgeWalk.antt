@@ -1,5 +1,6 @@
 -- The walk over the edges of waves: the waves from some tick on, and the edges that are left.
-use Rattle.std.specs.Prelude.{ℕ, ◌+◌, ◌≡◌, ◌==◌, Option, Some, None, MatchOption, if◌then◌else◌, min, List, [], ◌∷◌, map}
+use Rattle.std.specs.Prelude.{ℕ, ◌+◌, ◌≡◌, ◌==◌, Option, Some, None, MatchOption, if◌then◌else◌}
+use Rattle.std.specs.Prelude.{min, List, [], ◌∷◌, map}
 use Rattle.vcd_core.specs.declared.bit.Bit.{Bit}
 use Rattle.vcd_core.specs.declared.wave.Change.{Change}
 use Rattle.vcd_core.specs.declared.edges.Edge.{Edge}
@@ -47,7 +48,8 @@ next_tick_of (l ∷ ls) = earlier_tick (next_tick l.changes) (next_tick_of ls)
 abbrev pub trace_past : ℕ → Option (List Bit) → List Change → Trace
 trace_past t before [] = record { before = before; changes = [] }
 trace_past t before (c ∷ cs) =
-    if c.tick == t then record { before = Some c.value; changes = cs } else record { before = before; changes = c ∷ cs }
+    if c.tick == t then record { before = Some c.value; changes = cs }
+    else record { before = before; changes = c ∷ cs }
 
 -- the same for a wave
 abbrev pub trace_after : ℕ → Trace → Trace

@@ -1,18 +1,22 @@
 -- The planes of the letters of a value are the value: its model needs this to restore its fields.
-use Rattle.std.proofs.Common.{◌≡◌, ℕ, zero, suc, ◌+◌, ◌-◌, ◌*◌, ◌/◌, ◌%◌, ◌^◌, ◌<◌, ◌≤◌, nat_lt, true, false}
-use Rattle.std.proofs.Common.{if◌then◌else◌, List, length, get_or, refl, sym, ap, pow-suc, ◌∙◌, arith, inl, inr}
+use Rattle.std.proofs.Common.{◌≡◌, ℕ, zero, suc, ◌+◌, ◌-◌, ◌*◌, ◌/◌, ◌%◌, ◌^◌, ◌<◌, ◌≤◌, nat_lt}
+use Rattle.std.proofs.Common.{true, false}
+use Rattle.std.proofs.Common.{if◌then◌else◌, List, length, get_or, refl, sym, ap, pow-suc, ◌∙◌}
+use Rattle.std.proofs.Common.{arith, inl, inr}
 use Rattle.std.specs.Int.{bit_at}
-use Rattle.std.proofs.lemmas.Nat.Bits.{bit_at-lt, bit_at_cat_low, bit_at_cat_high, same_from_bits_below, bit_at_lowest}
+use Rattle.std.proofs.lemmas.Nat.Bits.{bit_at-lt, bit_at_cat_low, bit_at_cat_high}
+use Rattle.std.proofs.lemmas.Nat.Bits.{same_from_bits_below, bit_at_lowest}
 use Rattle.std.proofs.lemmas.List.FromFn.{get_or-map-range_with_len, length-map-range_with_len}
 use Rattle.std.proofs.lemmas.Grind.{same_number_lists}
 use Rattle.std.proofs.lemmas.Bool.{cases_lt, lt-ltb, le-ltb}
 use Rattle.vcd_core.specs.declared.bit.Bit.{Bit}
 use Rattle.vcd_core.specs.declared.bit.Bit.TheVariants.{Zero, One, X, Z}
-use Rattle.vcd_core.specs.declared.value.TheConstants.{WORDS}
+use Rattle.vcd_core.specs.declared.value.TheConstants.{BLOCKS}
 use Rattle.vcd_core.specs.declared.value.Value.TheInside.{Inside}
 use Rattle.vcd_core.specs.Value.{letter_at}
-use Rattle.vcd_core.specs.WordRows.{letter_of, low_of, high_of}
-use Rattle.vcd_core.specs.inside.Planes.{plane_bit, letters_in, view_value, number, bit_in, bit_below, planes_of}
+use Rattle.vcd_core.specs.BlockRows.{letter_of, low_of, high_of}
+use Rattle.vcd_core.specs.inside.Planes.{plane_bit, letters_in, view_value, number, bit_in}
+use Rattle.vcd_core.specs.inside.Planes.{bit_below, planes_of}
 use Rattle.vcd_core.specs.inside.Planes.{value_of, ArePlanes, IsValue}
 
 bit_times-≤ : (b m : ℕ) → b < 2 → b * m ≤ m
@@ -23,10 +27,12 @@ bit_times-≤ (suc (suc b)) m small = absurd (omega arith)
 number-lt : (f : ℕ → ℕ) (n : ℕ) → ((i : ℕ) → f i < 2) → number f n < 2 ^ n
 unfolding number
 number-lt f zero small = omega arith
-number-lt f (suc n) small = omega (arith, pow-suc 2 n, number-lt f n small, bit_times-≤ (f n) (2 ^ n) (small n))
+number-lt f (suc n) small =
+    omega (arith, pow-suc 2 n, number-lt f n small, bit_times-≤ (f n) (2 ^ n) (small n))
 
 -- bit i of the number is f i
-pub bit_at-number : (f : ℕ → ℕ) (n i : ℕ) → ((i : ℕ) → f i < 2) → i < n → bit_at (number f n) i ≡ f i
+pub bit_at-number : (f : ℕ → ℕ) (n i : ℕ) → ((i : ℕ) → f i < 2) → i < n
+    → bit_at (number f n) i ≡ f i
 unfolding number
 bit_at-number f zero i small within = absurd (omega arith)
 bit_at-number f (suc n) i small within =
@@ -70,13 +76,17 @@ bit_in-lt zero b = low_of-lt b
 bit_in-lt (suc _) b = high_of-lt b
 
 -- the bit of a letter in its plane
-pub bit_in-letter_of : (plane low high : ℕ) → low < 2 → high < 2 → plane < 2 → (bit : ℕ) → (plane ≡ 0 → bit ≡ low)
+pub bit_in-letter_of : (plane low high : ℕ) → low < 2 → high < 2 → plane < 2 → (bit : ℕ)
+    → (plane ≡ 0 → bit ≡ low)
     → (plane ≡ 1 → bit ≡ high) → bit_in plane (letter_of low high) ≡ bit
-bit_in-letter_of zero low high small_low small_high plane bit first second = low_of-letter_of low high small_low
+bit_in-letter_of zero low high small_low small_high plane bit first second =
+    low_of-letter_of low high small_low
     ∙ sym (first refl)
-bit_in-letter_of (suc zero) low high small_low small_high plane bit first second = high_of-letter_of low high small_high
+bit_in-letter_of (suc zero) low high small_low small_high plane bit first second =
+    high_of-letter_of low high small_high
     ∙ sym (second refl)
-bit_in-letter_of (suc (suc _)) low high small_low small_high plane bit first second = absurd (omega arith)
+bit_in-letter_of (suc (suc _)) low high small_low small_high plane bit first second =
+    absurd (omega arith)
 
 pub length-letters_in : (width : ℕ) (words : List ℕ) → length (letters_in width words) ≡ width
 unfolding letters_in
@@ -91,13 +101,16 @@ letter_at-letters_in width words k within =
     ap (λ n. n - 1 - k) (length-letters_in width words) in
     let back : width - 1 - (width - 1 - k) ≡ k = omega arith in
     ap (λ i. get_or (letters_in width words) i X) place
-    ∙ get_or-map-range_with_len (λ i. letter_of (plane_bit 0 words (width - 1 - i)) (plane_bit 1 words (width - 1 - i)))
+    ∙ get_or-map-range_with_len
+    (λ i. letter_of (plane_bit 0 words (width - 1 - i)) (plane_bit 1 words (width - 1 - i)))
     0 width (width - 1 - k) (width - 1 - k) X (omega arith) (omega arith)
     ∙ ap (λ i. letter_of (plane_bit 0 words i) (plane_bit 1 words i)) back
 
 -- the planes are the bits of the letters
-planes_are : (n width : ℕ) (words : List ℕ) (v : List Bit) → ArePlanes n width words → length v ≡ width
-    → ((plane k : ℕ) → plane < 2 → k < width → bit_in plane (letter_at v k) ≡ plane_bit plane words k)
+planes_are : (n width : ℕ) (words : List ℕ) (v : List Bit) → ArePlanes n width words
+    → length v ≡ width
+    → ((plane k : ℕ) → plane < 2 → k < width
+    → bit_in plane (letter_at v k) ≡ plane_bit plane words k)
     → planes_of n v ≡ words
 unfolding planes_of bit_below plane_bit
 planes_are n width words v planes long same =
@@ -107,13 +120,15 @@ planes_are n width words v planes long same =
     same_number_lists _ _ (long_planes ∙ sym planes.sized) (λ j within.
     let below : j < 2 * n = omega arith in
     get_or-map-range_with_len (λ j. number (bit j) 64) 0 (2 * n) j j 0 below (omega arith)
-    ∙ same_from_bits_below 64 _ _ (number-lt (bit j) 64 (bits j)) (planes.small j 0 (omega (arith, planes.sized)))
+    ∙ same_from_bits_below 64 _ _ (number-lt (bit j) 64 (bits j))
+    (planes.small j 0 (omega (arith, planes.sized)))
     (λ i inside.
     let place : 2 * ((64 * (j / 2) + i) / 64) + j % 2 ≡ j = omega arith in
     let rest : (64 * (j / 2) + i) % 64 ≡ i = omega arith in
     let here : plane_bit (j % 2) words (64 * (j / 2) + i) ≡ bit_at (get_or words j 0) i =
     (λ p. bit_at (get_or words (place p) 0) (rest p)) in
-    bit_at-number (bit j) 64 i (bits j) inside ∙ at_bit (j % 2) (64 * (j / 2) + i) (omega arith) (omega arith) ∙ here))
+    bit_at-number (bit j) 64 i (bits j) inside
+    ∙ at_bit (j % 2) (64 * (j / 2) + i) (omega arith) (omega arith) ∙ here))
   where
     bit_below-lt : (plane k : ℕ) → bit_below plane v k < 2
     bit_below-lt plane k =
@@ -126,7 +141,8 @@ planes_are n width words v planes long same =
     at_bit : (plane k : ℕ) → plane < 2 → k < 64 * n → bit_below plane v k ≡ plane_bit plane words k
     at_bit plane k which inside = elim (cases_lt k (length v)) [
       | inl below ↦ rw (lt-ltb k (length v) below) (same plane k which (omega arith))
-      | inr from ↦ rw (le-ltb k (length v) from) (sym (planes.clear plane k which (omega arith) inside))
+      | inr from ↦ rw (le-ltb k (length v) from)
+          (sym (planes.clear plane k which (omega arith) inside))
     ]
 
 -- the letters of a value give the value
@@ -134,7 +150,7 @@ pub value_of-view_value : (v : Inside) → IsValue v → value_of (view_value v)
 unfolding value_of view_value plane_bit
 value_of-view_value v is =
     let long = length-letters_in v.width v.planes in
-    let planes = planes_are WORDS v.width v.planes (view_value v) is.planes long
+    let planes = planes_are BLOCKS v.width v.planes (view_value v) is.planes long
     (λ plane k which within. ap (bit_in plane) (letter_at-letters_in v.width v.planes k within)
     ∙ bit_in-letter_of plane _ _ (bit_at-lt _ _) (bit_at-lt _ _) which (plane_bit plane v.planes k)
     (ap (λ p. plane_bit p v.planes k)) (ap (λ p. plane_bit p v.planes k))) in

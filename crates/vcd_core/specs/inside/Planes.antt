@@ -1,13 +1,14 @@
 -- The two planes of bits that hold the letters of a value, in alternating words.
-use Rattle.std.specs.Prelude.{ℕ, zero, suc, ◌+◌, ◌-◌, ◌*◌, ◌/◌, ◌%◌, ◌^◌, ◌≡◌, ◌<◌, ◌≤◌, if◌then◌else◌, nat_lt, List}
+use Rattle.std.specs.Prelude.{ℕ, zero, suc, ◌+◌, ◌-◌, ◌*◌, ◌/◌, ◌%◌, ◌^◌, ◌≡◌, ◌<◌, ◌≤◌}
+use Rattle.std.specs.Prelude.{if◌then◌else◌, nat_lt, List}
 use Rattle.std.specs.Prelude.{length, map, slice_index, All}
 use Rattle.std.specs.List.{range_with_len}
 use Rattle.std.specs.Int.{bit_at}
 use Rattle.vcd_core.specs.declared.bit.Bit.{Bit}
-use Rattle.vcd_core.specs.declared.value.TheConstants.{WORDS, WIDTH_LIMIT}
+use Rattle.vcd_core.specs.declared.value.TheConstants.{BLOCKS, WIDTH_LIMIT}
 use Rattle.vcd_core.specs.declared.value.Value.TheInside.{Inside}
 use Rattle.vcd_core.specs.Value.{letter_at}
-use Rattle.vcd_core.specs.WordRows.{letter_of, low_of, high_of}
+use Rattle.vcd_core.specs.BlockRows.{letter_of, low_of, high_of}
 
 -- bit k of the low plane (0) or the high plane (1) among alternating words of the two
 unfoldable pub plane_bit : ℕ → List ℕ → ℕ → ℕ
@@ -39,11 +40,12 @@ bit_below plane v k = if nat_lt k (length v) then bit_in plane (letter_at v k) e
 
 -- the n words of each of the two planes that hold the letters, alternating
 unfoldable pub planes_of : ℕ → List Bit → List ℕ
-planes_of n v = map (λ j. number (λ i. bit_below (j % 2) v (64 * (j / 2) + i)) 64) (range_with_len 0 (2 * n))
+planes_of n v =
+    map (λ j. number (λ i. bit_below (j % 2) v (64 * (j / 2) + i)) 64) (range_with_len 0 (2 * n))
 
 -- the value with these letters
 unfoldable pub value_of : List Bit → Inside
-value_of v = record { width = length v; planes = planes_of WORDS v }
+value_of v = record { width = length v; planes = planes_of BLOCKS v }
 
 -- two planes of n words, with no bit from `width` on
 pub record ArePlanes (n width : ℕ) (words : List ℕ) : Type 0 where
@@ -55,4 +57,4 @@ pub record ArePlanes (n width : ℕ) (words : List ℕ) : Type 0 where
 pub record IsValue (v : Inside) : Type 0 where
   pub least : 1 ≤ v.width
   pub most : v.width ≤ WIDTH_LIMIT
-  pub planes : ArePlanes WORDS v.width v.planes
+  pub planes : ArePlanes BLOCKS v.width v.planes

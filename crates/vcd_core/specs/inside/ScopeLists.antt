@@ -1,8 +1,8 @@
 -- The lists of scope paths.
 use Rattle.std.specs.Prelude.{List}
 use Rattle.vcd_core.specs.declared.capture.ScopeName.{ScopeName}
-use Rattle.vcd_core.specs.declared.scope_path.ScopeList.{ScopeList}
-use Rattle.vcd_core.specs.declared.scope_path.ScopeList.TheVariants.{Own, Shared}
+use Rattle.vcd_core.specs.declared.names.scope_path.ScopeList.{ScopeList}
+use Rattle.vcd_core.specs.declared.names.scope_path.ScopeList.TheVariants.{Own, Shared}
 
 -- the scopes of a list
 abbrev pub scopes_of_list : ScopeList → List ScopeName

@@ -1,6 +1,6 @@
 -- The ends of texts: equal texts have equal ends, and so have a text and its own end.
 use Rattle.std.specs.Prelude.{ℕ, ◌+◌, ◌*◌, ◌%◌, ◌^◌, List, [], ◌∷◌}
-use Rattle.vcd_core.specs.declared.text_end.TextEnd.{TextEnd}
+use Rattle.vcd_core.specs.declared.names.text_end.TextEnd.{TextEnd}
 
 -- the end of a text with one byte more
 abbrev pub longer_end : TextEnd → ℕ → TextEnd

@@ -25,10 +25,12 @@ numbered-letter_number X = refl
 numbered-letter_number Z = refl
 
 letter_from_number : (a b : Bit) → letter_number a ≡ letter_number b → a ≡ b
-letter_from_number a b same = sym (numbered-letter_number a) ∙ ap numbered same ∙ numbered-letter_number b
+letter_from_number a b same =
+    sym (numbered-letter_number a) ∙ ap numbered same ∙ numbered-letter_number b
 
 pub same_letter-Decides : (a b : Bit) → Decides (same_letter a b) (a ≡ b)
-same_letter-Decides a b = Decides-like _ (letter_from_number a b) (ap letter_number) (Decides-eqb _ _)
+same_letter-Decides a b =
+    Decides-like _ (letter_from_number a b) (ap letter_number) (Decides-eqb _ _)
 
 -- values with the same letters are equal
 pub same_letters-Decides : (v w : List Bit) → Decides (same_letters v w) (v ≡ w)

@@ -10,4 +10,5 @@ changes_of_list l = option_map_or (λ list. list.value.items) l.shared l.own.ite
 
 -- the greater of the capacities of the wave's own list and of a shared one
 abbrev pub greatest_capacity : WaveList → ℕ
-greatest_capacity l = max (vec_capacity l.own) (option_map_or (λ list. vec_capacity list.value) l.shared 0)
+greatest_capacity l =
+    max (vec_capacity l.own) (option_map_or (λ list. vec_capacity list.value) l.shared 0)

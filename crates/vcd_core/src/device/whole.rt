@@ -1,6 +1,8 @@
 //! All bytes of a device at once.
 
-ghost use Rattle.std.specs.Prelude.{◌≡◌, ◌≢◌, ◌<◌, ◌≤◌, ◌+◌, false, true, ℕ, nat_lt, List, [], ◌++◌, length, take, vec_len, IfOk, IfErr, IfSome, OnOk, IsErrOf};
+ghost use Rattle.std.specs.Prelude.{◌≡◌, ◌≢◌, ◌<◌, ◌≤◌, ◌+◌, false, true, ℕ, nat_lt, List, []};
+ghost use Rattle.std.specs.Prelude.{◌++◌, length, take, vec_len, IfOk, IfErr, IfSome, OnOk};
+ghost use Rattle.std.specs.Prelude.{IsErrOf};
 ghost use Rattle.std.specs.Io.{StartsWith};
 ghost use Rattle.std.specs.Io.KnownBytes.{Consumes, Keeps, IsAtEnd};
 ghost use Rattle.vcd_core.specs.declared.device.whole.Incomplete.TheVariants.{ReadFault, NoMemory};

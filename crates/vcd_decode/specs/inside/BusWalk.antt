@@ -1,5 +1,6 @@
 -- The walk over the events of an I2C bus: the state between two events, and the annotations of one.
-use Rattle.std.specs.Prelude.{ℕ, ◌+◌, ◌^◌, ◌<◌, ◌≤◌, ◌==◌, nat_le, if◌then◌else◌, Option, Some, None, IfSome, List, []}
+use Rattle.std.specs.Prelude.{ℕ, ◌+◌, ◌^◌, ◌<◌, ◌≤◌, ◌==◌, nat_le, if◌then◌else◌, Option, Some}
+use Rattle.std.specs.Prelude.{None, IfSome, List, []}
 use Rattle.std.specs.Prelude.{◌∷◌, ◌++◌, fold, filter_map}
 use Rattle.std.specs.Option.{option_or}
 use Rattle.vcd_core.specs.declared.bit.Bit.{Bit}
@@ -17,7 +18,8 @@ use Rattle.vcd_decode.specs.declared.i2c_bus.bytes.PartialByte.{PartialByte}
 use Rattle.vcd_decode.specs.declared.i2c_bus.transfer.Transfer.{Transfer}
 use Rattle.vcd_decode.specs.Lines.{annotation}
 use Rattle.vcd_decode.specs.inside.LevelEvents.{bus_event}
-use Rattle.vcd_decode.specs.BusBytes.{number_with, byte_kind, role_after, acknowledge_kind, ten_bit_address}
+use Rattle.vcd_decode.specs.BusBytes.{number_with, byte_kind, role_after, acknowledge_kind}
+use Rattle.vcd_decode.specs.BusBytes.{ten_bit_address}
 
 -- ---- the bits at hand
 
@@ -67,7 +69,8 @@ bus_start_kind (Some t) = kinds.RepeatedStart
 abbrev pub transfer_rest_annotations : Option Transfer → List Annotation
 transfer_rest_annotations None = []
 transfer_rest_annotations (Some t) =
-    if nat_le 2 t.part.count then annotation t.part.first t.part.last (kinds.PartialOf t.part.count) ∷ [] else []
+    if nat_le 2 t.part.count
+    then annotation t.part.first t.part.last (kinds.Unfinished t.part.count) ∷ [] else []
 
 -- ---- one bit
 
@@ -92,14 +95,17 @@ bit_annotations t b = if t.part.count == 8 then whole_byte_annotations t b else 
 -- the transfer after a bit of it
 abbrev pub transfer_after_bit : Transfer → BusBit → Transfer
 transfer_after_bit t b =
-    if t.part.count == 8 then transfer_after_byte t else record t { part = partial_byte_with t.part b }
+    if t.part.count == 8 then transfer_after_byte t
+    else record t { part = partial_byte_with t.part b }
 
 -- ---- any event
 
 -- the annotations of an event on the bus
 abbrev pub event_annotations : Option Transfer → BusEvent → List Annotation
-event_annotations bus (events.Start t) = transfer_rest_annotations bus ++ annotation t t (bus_start_kind bus) ∷ []
-event_annotations bus (events.Stop t) = transfer_rest_annotations bus ++ annotation t t kinds.Stop ∷ []
+event_annotations bus (events.Start t) =
+    transfer_rest_annotations bus ++ annotation t t (bus_start_kind bus) ∷ []
+event_annotations bus (events.Stop t) =
+    transfer_rest_annotations bus ++ annotation t t kinds.Stop ∷ []
 event_annotations None (events.Bit b) = []
 event_annotations (Some t) (events.Bit b) = bit_annotations t b
 

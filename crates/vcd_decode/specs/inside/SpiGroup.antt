@@ -1,16 +1,17 @@
 -- The bits of an SPI word so far, and one more.
-use Rattle.std.specs.Prelude.{ℕ, ◌+◌, ◌*◌, ◌^◌, ◌==◌, ◌<◌, Bool, true, false, if◌then◌else◌, Option, Some, None, List}
+use Rattle.std.specs.Prelude.{ℕ, ◌+◌, ◌*◌, ◌^◌, ◌==◌, ◌<◌, Bool, true, false, if◌then◌else◌, Option}
+use Rattle.std.specs.Prelude.{Some, None, List}
 use Rattle.std.specs.Prelude.{slice_index_or}
 use Rattle.vcd_core.specs.declared.bit.Bit.{Bit}
 use Rattle.vcd_core.specs.declared.bit.Bit.TheVariants.{Zero, One, X, Z}
 use Rattle.vcd_core.specs.declared.bit_edges.BitEdge.{BitEdge}
 use Rattle.vcd_decode.specs.declared.annotation.Annotation.{Annotation}
-use Rattle.vcd_decode.specs.declared.annotation.Kind.TheVariants.{Word, PartialOf}
+use Rattle.vcd_decode.specs.declared.annotation.Kind.TheVariants.{Word, Unfinished}
 use Rattle.vcd_decode.specs.declared.annotation.LineData.{LineData}
 use Rattle.vcd_decode.specs.declared.annotation.LineData.TheVariants.{Absent, Unknown, Number}
 use Rattle.vcd_decode.specs.declared.spi_setup.BitOrder.{BitOrder}
 use Rattle.vcd_decode.specs.declared.spi_setup.BitOrder.TheVariants.{Msb, Lsb}
-use Rattle.vcd_decode.specs.declared.spi_group.Group.{Group}
+use Rattle.vcd_decode.specs.declared.partial_word.PartialWord.{PartialWord}
 use Rattle.vcd_decode.specs.Lines.{annotation}
 
 -- the bit of a line at an edge
@@ -61,11 +62,17 @@ DataFits count Unknown = Unit {0}
 DataFits count (Number n) = n < 2 ^ count
 
 -- the group before its first bit
-abbrev pub group_before : Group → Group
-group_before g = record { start = 0; last = 0; count = 0; mosi = data_before g.mosi; miso = data_before g.miso }
+abbrev pub group_before : PartialWord → PartialWord
+group_before g = record {
+  start = 0;
+  last = 0;
+  count = 0;
+  mosi = data_before g.mosi;
+  miso = data_before g.miso;
+}
 
 -- the group with the bits of an edge
-abbrev pub group_after : BitOrder → Group → BitEdge → Group
+abbrev pub group_after : BitOrder → PartialWord → BitEdge → PartialWord
 group_after order g e = record {
   start = if g.count == 0 then e.tick else g.start;
   last = e.tick;
@@ -75,9 +82,9 @@ group_after order g e = record {
 }
 
 -- the annotation of a whole word
-abbrev pub word_annotation : Group → Annotation
+abbrev pub word_annotation : PartialWord → Annotation
 word_annotation g = annotation g.start g.last (Word g.mosi g.miso)
 
 -- the annotation of a group that is not whole
-abbrev pub unfinished_annotation : Group → Annotation
-unfinished_annotation g = annotation g.start g.last (PartialOf g.count)
+abbrev pub unfinished_annotation : PartialWord → Annotation
+unfinished_annotation g = annotation g.start g.last (Unfinished g.count)

@@ -19,5 +19,6 @@ abbrev pub group_end : List ℕ → ℕ
 group_end ticks = slice_index ticks (length ticks - 1)
 
 -- the annotations of a segment
-abbrev pub segment_annotations : SpiSetup → (mosi miso : Option (ℕ → Bit)) → List ℕ → List Annotation
+abbrev pub segment_annotations : SpiSetup → (mosi miso : Option (ℕ → Bit)) → List ℕ
+    → List Annotation
 segment_annotations u mosi miso ticks = map (group_annotation u mosi miso) (groups_of u.bits ticks)

@@ -21,7 +21,7 @@ use vcd_core::{Bit, BitEdge, BitEdges, NoMemory, Wave};
 /// is annotated from its first to its eighth bit, and its acknowledge follows it. A line that is z
 /// is high.
 ///
-/// A byte or an acknowledge with an x is `Unknown`. Bits that a condition cuts off are `PartialOf`
+/// A byte or an acknowledge with an x is `Unknown`. Bits that a condition cuts off are `Unfinished`
 /// where there are at least two, since SCL rises once before each condition. Bits that the
 /// capture's end cuts off give no annotation.
 ///
@@ -49,9 +49,9 @@ fn annotations_of(alloc: Global, edges: BitEdges) -> Result<Vec<Annotation>, NoM
         found.items ≡ walk.walk_annotations None (walk.edge_events edges.entry)) }
 {
     let mut found = Vec::new(alloc);
-    let mut bus = None;
+    let mut transfer = None;
     for edge in edges {
-        bus = take_line_edge(&mut found, bus, edge)?;
+        transfer = take_line_edge(&mut found, transfer, edge)?;
     }
     Ok(found)
 }
@@ -59,19 +59,20 @@ fn annotations_of(alloc: Global, edges: BitEdges) -> Result<Vec<Annotation>, NoM
 /// Appends the annotations of an edge. Returns the transfer after it.
 fn take_line_edge(
     found: &mut Vec<Annotation>,
-    bus: Option<Transfer>,
+    transfer: Option<Transfer>,
     edge: BitEdge,
 ) -> Result<Option<Transfer>, NoMemory>
-    requires part { walk.IsSoundTransfer bus }
+    requires part { walk.IsSoundTransfer transfer }
     ensures annotations { IfOk result (λ next. (es : List BusEvent)
         → found.new.items ++ walk.walk_annotations next es
-        ≡ found.old.items ++ walk.walk_annotations bus (cons_option (walk.edge_event edge) es)) }
+        ≡ found.old.items ++ walk.walk_annotations transfer
+        (cons_option (walk.edge_event edge) es)) }
     ensures part { IfOk result walk.IsSoundTransfer }
 {
     let before = levels_of(edge.before);
     match bus_event(edge.tick, before, levels_of(edge.at)) {
-        Some(event) => take_event(found, bus, event),
-        None => Ok(bus),
+        Some(event) => take_event(found, transfer, event),
+        None => Ok(transfer),
     }
 }
 

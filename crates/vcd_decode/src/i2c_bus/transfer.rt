@@ -25,43 +25,43 @@ pub(super) struct Transfer {
 /// Appends the annotations of an event. Returns the transfer after it.
 pub(super) fn take_event(
     found: &mut Vec<Annotation>,
-    bus: Option<Transfer>,
+    transfer: Option<Transfer>,
     event: BusEvent,
 ) -> Result<Option<Transfer>, NoMemory>
-    requires part { walk.IsSoundTransfer bus }
+    requires part { walk.IsSoundTransfer transfer }
     ensures annotations { OnOk result
-        (found.new.items ≡ found.old.items ++ walk.event_annotations bus event) }
-    ensures bus { IfOk result (λ next. next ≡ walk.bus_after bus event) }
+        (found.new.items ≡ found.old.items ++ walk.event_annotations transfer event) }
+    ensures transfer { IfOk result (λ next. next ≡ walk.bus_after transfer event) }
     ensures part { IfOk result walk.IsSoundTransfer }
 {
     match event {
         BusEvent::Start(tick) => {
-            append_rest(found, bus)?;
-            append_annotation(found, tick, tick, bus_start_kind(bus))?;
-            Ok(Some(new_transfer(bus)))
+            append_rest(found, transfer)?;
+            append_annotation(found, tick, tick, bus_start_kind(transfer))?;
+            Ok(Some(new_transfer(transfer)))
         }
         BusEvent::Stop(tick) => {
-            append_rest(found, bus)?;
+            append_rest(found, transfer)?;
             append_annotation(found, tick, tick, Kind::Stop)?;
             Ok(None)
         }
-        BusEvent::Bit(bit) => take_bit(found, bus, bit),
+        BusEvent::Bit(bit) => take_bit(found, transfer, bit),
     }
 }
 
 /// Appends the annotations of a bit.
 fn take_bit(
     found: &mut Vec<Annotation>,
-    bus: Option<Transfer>,
+    transfer: Option<Transfer>,
     bit: BusBit,
 ) -> Result<Option<Transfer>, NoMemory>
-    requires part { walk.IsSoundTransfer bus }
+    requires part { walk.IsSoundTransfer transfer }
     ensures annotations { OnOk result
-        (found.new.items ≡ found.old.items ++ walk.event_annotations bus (BusEvent.Bit bit)) }
-    ensures bus { IfOk result (λ next. next ≡ walk.bus_after bus (BusEvent.Bit bit)) }
+        (found.new.items ≡ found.old.items ++ walk.event_annotations transfer (BusEvent.Bit bit)) }
+    ensures transfer { IfOk result (λ next. next ≡ walk.bus_after transfer (BusEvent.Bit bit)) }
     ensures part { IfOk result walk.IsSoundTransfer }
 {
-    let Some(transfer) = bus else {
+    let Some(transfer) = transfer else {
         return Ok(None);
     };
     if transfer.part.count < 8 {
@@ -92,7 +92,7 @@ fn end_byte(
 ) -> Result<Transfer, NoMemory>
     ensures annotations { OnOk result
         (found.new.items ≡ found.old.items ++ walk.whole_byte_annotations transfer bit) }
-    ensures bus { IfOk result (λ next. next ≡ walk.transfer_after_byte transfer) }
+    ensures transfer { IfOk result (λ next. next ≡ walk.transfer_after_byte transfer) }
 {
     let part = transfer.part;
     let kind = byte_kind(transfer.role, part.number);
@@ -108,17 +108,18 @@ fn end_byte(
 
 /// Appends the current bits where a condition comes. A single bit is the rise of SCL before the
 /// condition, and gives nothing.
-fn append_rest(found: &mut Vec<Annotation>, bus: Option<Transfer>) -> Result<(), NoMemory>
-    ensures { OnOk result (found.new.items ≡ found.old.items ++ walk.transfer_rest_annotations bus) }
+fn append_rest(found: &mut Vec<Annotation>, transfer: Option<Transfer>) -> Result<(), NoMemory>
+    ensures { OnOk result (found.new.items
+        ≡ found.old.items ++ walk.transfer_rest_annotations transfer) }
 {
-    let Some(transfer) = bus else {
+    let Some(transfer) = transfer else {
         return Ok(());
     };
     let part = transfer.part;
     if part.count < 2 {
         return Ok(());
     }
-    append_annotation(found, part.first, part.last, Kind::PartialOf(part.count))
+    append_annotation(found, part.first, part.last, Kind::Unfinished(part.count))
 }
 
 fn append_annotation(
@@ -134,22 +135,22 @@ fn append_annotation(
 }
 
 /// The transfer that a START begins.
-fn new_transfer(bus: Option<Transfer>) -> Transfer
-    ensures bits { result ≡ walk.new_transfer bus }
+fn new_transfer(transfer: Option<Transfer>) -> Transfer
+    ensures bits { result ≡ walk.new_transfer transfer }
     ensures part { walk.IsPartialByte result.part }
 {
     Transfer {
-        role: ByteRole::Address(bus.and_then(|transfer| transfer.address)),
+        role: ByteRole::Address(transfer.and_then(|transfer| transfer.address)),
         part: PartialByte::new(),
         address: None,
     }
 }
 
 /// The kind of a START: a repeated one where the last condition was a START.
-fn bus_start_kind(bus: Option<Transfer>) -> Kind
-    ensures { result ≡ walk.bus_start_kind bus }
+fn bus_start_kind(transfer: Option<Transfer>) -> Kind
+    ensures { result ≡ walk.bus_start_kind transfer }
 {
-    match bus {
+    match transfer {
         Some(_) => Kind::RepeatedStart,
         None => Kind::Start,
     }

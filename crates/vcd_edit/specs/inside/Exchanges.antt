@@ -1,5 +1,6 @@
 -- How a piece and a range of a wave are exchanged: what must hold before, and what holds after.
-use Rattle.std.specs.Prelude.{◌≡◌, ℕ, ◌+◌, ◌-◌, ◌^◌, ◌<◌, ◌≤◌, neg_ℤ, List, [], ◌∷◌, length, take, drop, map}
+use Rattle.std.specs.Prelude.{◌≡◌, ℕ, ◌+◌, ◌-◌, ◌^◌, ◌<◌, ◌≤◌, neg_ℤ, List, [], ◌∷◌, length, take}
+use Rattle.std.specs.Prelude.{drop, map}
 use Rattle.std.specs.Prelude.{slice_index_or, All, Option, Some, None, false, vec_len, vec_capacity}
 use Rattle.vcd_core.specs.declared.wave.Change.{Change}
 use Rattle.vcd_core.specs.declared.capture.Signal.{Signal}
@@ -10,7 +11,8 @@ use Rattle.vcd_core.specs.Wave.{IsWave}
 use Rattle.vcd_core.specs.Splice.{AllTicksFit}
 use Rattle.vcd_edit.specs.declared.record.Piece.{Piece}
 use Rattle.vcd_edit.specs.RecordView.{PieceView}
-use Rattle.vcd_edit.specs.AppliedRecords.{changes_with_piece, with_piece, with_pieces, HaveDistinctSignals}
+use Rattle.vcd_edit.specs.AppliedRecords.{changes_with_piece, with_piece, with_pieces}
+use Rattle.vcd_edit.specs.AppliedRecords.{HaveDistinctSignals}
 use Rattle.vcd_edit.specs.Records.{piece_view}
 use Rattle.vcd_edit.specs.Touched.{touched_count}
 
@@ -93,7 +95,8 @@ HaveRoom ss ps comings from to = (k : ℕ) (d : Piece) → from ≤ k → k < to
 -- ---- the exchange so far
 
 -- the first i pieces were put in and now undo that; the later ones are unchanged, and ready
-pub record ExchangedSoFar (before : Contents) (old : List Piece) (i : ℕ) (new : List Piece) (now : Contents)
+pub record ExchangedSoFar (before : Contents) (old : List Piece) (i : ℕ) (new : List Piece)
+    (now : Contents)
     (ss : List Signal) (comings : List (Option WaveView)) : Type 0 where
   pub rest : drop i new ≡ drop i old
   pub there : now ≡ with_pieces before (map piece_view (take i old))

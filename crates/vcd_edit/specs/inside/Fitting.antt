@@ -1,5 +1,6 @@
 -- The tests that show whether a record fits a capture.
-use Rattle.std.specs.Prelude.{ℕ, ◌<◌, ◌≤◌, nat_le, if◌then◌else◌, List, [], length, slice_index_or, All, Option, Some}
+use Rattle.std.specs.Prelude.{ℕ, ◌<◌, ◌≤◌, nat_le, if◌then◌else◌, List, [], length, slice_index_or}
+use Rattle.std.specs.Prelude.{All, Option, Some}
 use Rattle.std.specs.Prelude.{None, IsTrue, IfSome}
 use Rattle.std.specs.List.{list_all}
 use Rattle.vcd_core.specs.declared.wave.Change.{Change}
@@ -8,8 +9,10 @@ use Rattle.vcd_core.specs.Contents.{Contents, SignalContents, no_signal}
 use Rattle.vcd_core.specs.Wave.{IsWave}
 use Rattle.vcd_core.specs.Sound.{is_sound_header, is_sound_timescale, IsSoundSignal}
 use Rattle.vcd_edit.specs.RecordView.{PieceView, RecordView}
-use Rattle.vcd_edit.specs.AppliedRecords.{signal_with_changes, PieceFits, WordFits, MayPutInOrTakeOut, SignalFits}
-use Rattle.vcd_edit.specs.AppliedRecords.{with_pieces, with_first_word, with_signal_in_out, apply_record}
+use Rattle.vcd_edit.specs.AppliedRecords.{signal_with_changes, PieceFits, WordFits}
+use Rattle.vcd_edit.specs.AppliedRecords.{MayPutInOrTakeOut, SignalFits}
+use Rattle.vcd_edit.specs.AppliedRecords.{with_pieces, with_first_word, with_signal_in_out}
+use Rattle.vcd_edit.specs.AppliedRecords.{apply_record}
 use Rattle.vcd_edit.specs.inside.Adjacency.{IsValidPiece}
 
 -- all of a signal except its changes is sound
@@ -44,8 +47,12 @@ abbrev pub PartsFit : ℕ → RecordView → Contents → Type 0
 PartsFit end r c = All (PieceFits c) r.pieces × WordFits c r.word × SignalFits c r.signal
     × AreSoundSignals end (apply_record r c).signals
 
--- the same by the kind of the record: with a signal to put in or take out, with a word, or with pieces
-abbrev pub KindFits : ℕ → Contents → List PieceView → Option (ℕ × List ℕ) → Option (ℕ × Option SignalContents) → Type 0
-KindFits end c ps w (Some m) = MayPutInOrTakeOut c m.0 m.1 × AreSoundSignals end (with_signal_in_out (Some m) c).signals
-KindFits end c ps (Some w) None = (w.0 < length c.signals) × AreSoundSignals end (with_first_word (Some w) c).signals
+-- the same by the kind of the record: with a signal to put in or take out, with a word, or with
+-- pieces
+abbrev pub KindFits : ℕ → Contents → List PieceView → Option (ℕ × List ℕ)
+    → Option (ℕ × Option SignalContents) → Type 0
+KindFits end c ps w (Some m) = MayPutInOrTakeOut c m.0 m.1
+    × AreSoundSignals end (with_signal_in_out (Some m) c).signals
+KindFits end c ps (Some w) None = (w.0 < length c.signals)
+    × AreSoundSignals end (with_first_word (Some w) c).signals
 KindFits end c ps None None = All (PieceFits c) ps × AreSoundSignals end (with_pieces c ps).signals

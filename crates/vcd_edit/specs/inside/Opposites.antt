@@ -1,5 +1,6 @@
 -- The parts of a capture that a record replaces: they make the record for the opposite step.
-use Rattle.std.specs.Prelude.{◌≡◌, ℕ, ◌<◌, ◌≤◌, neg_ℤ, ℤ, All, length, List, [], reverse, slice_index_or, Option, Some}
+use Rattle.std.specs.Prelude.{◌≡◌, ℕ, ◌<◌, ◌≤◌, neg_ℤ, ℤ, All, length, List, [], reverse}
+use Rattle.std.specs.Prelude.{slice_index_or, Option, Some}
 use Rattle.std.specs.Prelude.{None}
 use Rattle.vcd_core.specs.Contents.{Contents, SignalContents, signal_at}
 use Rattle.vcd_edit.specs.RecordView.{PieceView, RecordView}
@@ -17,7 +18,8 @@ removed_signal k (Some s) c = None
 removed_signal k None c = Some (signal_at c k)
 
 -- the signal of a record with its position
-abbrev pub opposite_signal : Option (ℕ × Option SignalContents) → Contents → Option (ℕ × Option SignalContents)
+abbrev pub opposite_signal : Option (ℕ × Option SignalContents) → Contents
+    → Option (ℕ × Option SignalContents)
 opposite_signal None c = None
 opposite_signal (Some m) c = Some (m.0, removed_signal m.0 m.1 c)
 
@@ -44,8 +46,8 @@ abbrev pub IsNamedAt : Contents → Option (ℕ × List ℕ) → Type 0
 IsNamedAt c None = Unit {0}
 IsNamedAt c (Some w) = 0 < length (signal_at c w.0).words
 
--- the second record undoes the first one on a capture; it stores no more than that one touches, with the opposites of
--- the offsets of its pieces
+-- the second record undoes the first one on a capture; it stores no more than that one touches,
+-- with the opposites of the offsets of its pieces
 pub record IsOppositeRecord (c : Contents) (r q : RecordView) : Type 0 where
   pub fits : Fits q (apply_record r c)
   pub leads : apply_record q (apply_record r c) ≡ c

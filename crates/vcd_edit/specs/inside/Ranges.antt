@@ -18,7 +18,8 @@ abbrev pub changes_in : ℕ → (ℕ → List Bit) → ℕ → ℕ → List Chan
 changes_in width f t n = changes_from (value_just_before width f t) t n f
 
 -- a piece that changes a list into the changes of f from tick 0 to `stop`
-pub record GivesChanges (p : PieceView) (cs : List Change) (width stop : ℕ) (f : ℕ → List Bit) : Type 0 where
+pub record GivesChanges (p : PieceView) (cs : List Change) (width stop : ℕ) (f : ℕ → List Bit)
+    : Type 0 where
   pub ordered : p.from ≤ p.to
   pub within : p.to ≤ length cs
   pub ticks : AllTicksFit p.by (drop p.to cs)

@@ -1,5 +1,6 @@
 -- Changes without those that leave the value as it is.
-use Rattle.std.specs.Prelude.{ℕ, Bool, ◌==◌, ◌||◌, ◌&&◌, not, ◌-◌, ◌+◌, ◌≤◌, ◌≡◌, length, true, if◌then◌else◌, nat_le}
+use Rattle.std.specs.Prelude.{ℕ, Bool, ◌==◌, ◌||◌, ◌&&◌, not, ◌-◌, ◌+◌, ◌≤◌, ◌≡◌, length, true}
+use Rattle.std.specs.Prelude.{if◌then◌else◌, nat_le}
 use Rattle.std.specs.Prelude.{List, [], ◌∷◌}
 use Rattle.vcd_core.specs.declared.bit.Bit.{Bit}
 use Rattle.vcd_core.specs.declared.wave.Change.{Change}
@@ -9,18 +10,21 @@ use Rattle.vcd_core.specs.Wave.{change, unless_same}
 -- ticks rise strictly from a floor on, and values have one width
 abbrev pub TicksRise : ℕ → ℕ → List Change → Type 0
 TicksRise width floor [] = Unit {0}
-TicksRise width floor (c ∷ cs) = (floor ≤ c.tick) × (length c.value ≡ width) × TicksRise width (c.tick + 1) cs
+TicksRise width floor (c ∷ cs) = (floor ≤ c.tick) × (length c.value ≡ width)
+    × TicksRise width (c.tick + 1) cs
 
 -- each change whose value differs from the one before it
 unfoldable pub without_repeats : List Bit → List Change → List Change
 without_repeats before [] = []
-without_repeats before (c ∷ cs) = unless_same (same_letters c.value before) c (without_repeats c.value cs)
+without_repeats before (c ∷ cs) =
+    unless_same (same_letters c.value before) c (without_repeats c.value cs)
 
 -- a change to another value
 abbrev pub mapped_change : (List Bit → List Bit) → Change → Change
 mapped_change h c = change c.tick (h c.value)
 
--- whether the run of one value that begins with a change contains tick 0 or the end, or has enough ticks
+-- whether the run of one value that begins with a change contains tick 0 or the end, or has enough
+-- ticks
 abbrev pub begins_steady : ℕ → Change → List Change → Bool
 begins_steady ticks c [] = true
 begins_steady ticks c (next ∷ cs) = c.tick == 0 || nat_le ticks (next.tick - c.tick)
@@ -39,4 +43,5 @@ is_kept ticks before c later = begins_steady ticks c later && not (same_letters 
 unfoldable pub kept_changes : ℕ → List Bit → List Change → List Change
 kept_changes ticks before [] = []
 kept_changes ticks before (c ∷ cs) =
-    if is_kept ticks before c cs then c ∷ kept_changes ticks c.value cs else kept_changes ticks before cs
+    if is_kept ticks before c cs then c ∷ kept_changes ticks c.value cs
+    else kept_changes ticks before cs

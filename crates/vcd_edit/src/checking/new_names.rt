@@ -3,7 +3,8 @@
 ghost use Rattle.std.specs.Prelude.{◌≡◌, ◌<◌, IsTrue, map, drop, length, slice_index_or};
 ghost use Rattle.std.specs.List.{list_all, list_any, remove};
 ghost use Rattle.std.specs.Str.{bytes_eq};
-ghost use Rattle.vcd_core.specs.Contents.{contents, signal_contents, no_signal};
+ghost use Rattle.vcd_core.specs.Contents.{no_signal};
+ghost use Rattle.vcd_core.specs.CaptureContents.{contents, signal_contents};
 ghost use Rattle.vcd_core.specs.Names.{full_name, full_names};
 ghost use Rattle.vcd_edit.specs.Effect.{renamed_signal, derived_signal};
 ghost use Rattle.vcd_edit.specs.EditFaults.{is_signal, operands, edit_fault};

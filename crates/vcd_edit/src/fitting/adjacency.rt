@@ -1,10 +1,14 @@
-//! Whether a wave with a piece is still in its one form: ticks rise, and each value differs from the one before.
+//! Whether a wave with a piece is still in its one form: ticks rise, and each value differs from
+//! the one before.
 
-ghost use Rattle.std.specs.Prelude.{◌≡◌, ◌↔◌, ℕ, List, ◌+◌, ◌≤◌, nat_le, length, take, map, All, IsTrue};
+ghost use Rattle.std.specs.Prelude.{◌≡◌, ◌↔◌, ℕ, List, ◌+◌, ◌≤◌, nat_le, length, take, map, All};
+ghost use Rattle.std.specs.Prelude.{IsTrue};
 ghost use Rattle.vcd_core.specs.Splice.{moved_change, TickFits, AllTicksFit};
-ghost use Rattle.vcd_core.specs.Wave.{last_value, AreChangesFrom, AllUpTo};
+ghost use Rattle.vcd_core.specs.Wave.{AreChangesFrom, AllUpTo};
+ghost use Rattle.vcd_core.specs.WavePush.{last_value};
 ghost use Rattle.vcd_core.specs.declared.bit.Bit.{Bit as BitLetter};
-ghost use Rattle.vcd_edit.specs.inside.Adjacency.{floor_after, value_following, may_follow, may_all_follow, MovesTo, IsValidPiece};
+ghost use Rattle.vcd_edit.specs.inside.Adjacency.{floor_after, value_following, may_follow};
+ghost use Rattle.vcd_edit.specs.inside.Adjacency.{may_all_follow, MovesTo, IsValidPiece};
 ghost use Rattle.vcd_edit.specs.Records.{piece_view};
 
 use crate::record::Piece;
@@ -71,7 +75,8 @@ fn moves_to(tick: u64, by: i64, end: u64) -> bool
     }
 }
 
-/// Whether all changes may move by `by` ticks and are then at most at the end: the first and the last show it.
+/// Whether all changes may move by `by` ticks and are then at most at the end: the first and the
+/// last show it.
 fn all_move_to(changes: &[Change], by: i64, end: u64) -> bool
     requires { (floor : ℕ) × (before : List BitLetter) × AreChangesFrom floor before changes.now }
     ensures { IsTrue result ↔ All (λ c. MovesTo by end c.tick) changes.now }
@@ -97,7 +102,8 @@ fn may_come_next(before: &[Change], width: u64, later: &[Change], by: i64) -> bo
     may_follow(before, width, &moved_change(&later[0], by))
 }
 
-/// Whether the piece's range lies within the changes of the wave, and the result is a wave up to the end.
+/// Whether the piece's range lies within the changes of the wave, and the result is a wave up to
+/// the end.
 ///
 /// It looks at the piece, at the changes next to it and at the last change. It takes no memory.
 pub(crate) fn is_valid_piece(piece: &Piece, wave: &Wave, end: u64) -> bool

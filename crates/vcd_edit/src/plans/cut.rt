@@ -1,7 +1,9 @@
 //! A range of ticks cut out.
 
-ghost use Rattle.std.specs.Prelude.{◌≡◌, ◌<◌, ◌≤◌, ◌+◌, ◌-◌, ◌^◌, ℕ, None, IfOk, All, length, map, IsTrue, pos, neg_ℤ};
-ghost use Rattle.vcd_core.specs.Contents.{Contents, contents, signal_contents};
+ghost use Rattle.std.specs.Prelude.{◌≡◌, ◌<◌, ◌≤◌, ◌+◌, ◌-◌, ◌^◌, ℕ, None, IfOk, All, length, map};
+ghost use Rattle.std.specs.Prelude.{IsTrue, pos, neg_ℤ};
+ghost use Rattle.vcd_core.specs.Contents.{Contents};
+ghost use Rattle.vcd_core.specs.CaptureContents.{contents, signal_contents};
 ghost use Rattle.vcd_core.specs.Sound.{IsSound, IsSoundSignal};
 ghost use Rattle.vcd_edit.specs.Effect.{cut_value, signal_after_cut};
 ghost use Rattle.vcd_edit.specs.EditFaults.{edit_fault};
@@ -9,7 +11,7 @@ ghost use Rattle.vcd_edit.specs.Records.{piece_view};
 ghost use Rattle.vcd_edit.specs.inside.Plans.{IsPlan, GivesValues, PiecesForEach};
 ghost use Rattle.vcd_edit.specs.declared.edit.Edit.TheVariants as edits;
 
-use crate::plans::piece_builders::{negative_offset, push_if_new, value_after};
+use crate::plans::parts::{negative_offset, push_if_new, value_after};
 use crate::record::{Piece, Record};
 use std::alloc::Global;
 use vcd_core::{Capture, END_LIMIT, NoMemory, Signal, Wave, ends_by};
@@ -58,8 +60,8 @@ fn has_no_change_from(wave: &Wave, tick: u64) -> bool
     changes.is_empty() || (tick > 0 && ends_by(changes, tick - 1))
 }
 
-/// The piece that cuts the ticks `from` up to before `to` out of the signal at a position. Its changes may have ticks
-/// up to `to - from` past the new end.
+/// The piece that cuts the ticks `from` up to before `to` out of the signal at a position. Its
+/// changes may have ticks up to `to - from` past the new end.
 ///
 /// It searches the wave twice.
 pub(crate) fn cut_piece(

@@ -1,21 +1,22 @@
 //! Short runs of one value taken out.
 
 ghost use Rattle.std.specs.Prelude.{◌≡◌, ◌≤◌, ◌++◌, None, IfOk, length, take, drop};
-ghost use Rattle.vcd_core.specs.Contents.{contents};
+ghost use Rattle.vcd_core.specs.CaptureContents.{contents};
 ghost use Rattle.vcd_core.specs.Sound.{IsSound};
-ghost use Rattle.vcd_core.specs.Wave.{last_value as value_after};
+ghost use Rattle.vcd_core.specs.WavePush.{last_value as value_after};
 ghost use Rattle.vcd_edit.specs.EditFaults.{edit_fault};
-ghost use Rattle.vcd_edit.specs.inside.RemainingChanges.{begins_steady as steady_test, is_kept as kept_test, kept_changes};
+ghost use Rattle.vcd_edit.specs.inside.RemainingChanges.{begins_steady as steady_test};
+ghost use Rattle.vcd_edit.specs.inside.RemainingChanges.{is_kept as kept_test, kept_changes};
 ghost use Rattle.vcd_edit.specs.inside.Plans.{IsPlan};
 ghost use Rattle.vcd_edit.specs.declared.edit.Edit.TheVariants as edits;
 
-use crate::plans::piece_builders::{empty_record, piece_record, signal_at, x_value};
+use crate::plans::parts::{empty_record, piece_record, signal_at, x_value};
 use crate::record::{Piece, Record};
 use std::alloc::Global;
 use vcd_core::{Capture, Change, NoMemory, Value, last_value};
 
-/// The record of the changes from the first to the last one taken out. If none is, the record is empty and takes no
-/// memory.
+/// The record of the changes from the first to the last one taken out. If none is, the record is
+/// empty and takes no memory.
 pub(crate) fn plan(
     alloc: Global,
     capture: &Capture,
@@ -75,7 +76,8 @@ struct PartWithGlitches {
 fn part_with_glitches(changes: &[Change], before: &Value, ticks: u64) -> PartWithGlitches
     ensures within { result.to ≤ length changes.now }
     ensures kept { kept_changes ticks before.now changes.now
-        ≡ take result.kept (kept_changes ticks before.now changes.now) ++ drop result.to changes.now }
+        ≡ take result.kept (kept_changes ticks before.now changes.now)
+        ++ drop result.to changes.now }
 {
     let mut last = before;
     let mut part = PartWithGlitches { kept: 0, to: 0 };
@@ -126,7 +128,8 @@ fn is_kept(change: &Change, later: &[Change], before: &Value, ticks: u64) -> boo
     begins_steady(change, later, ticks) && change.value != *before
 }
 
-/// Whether the run that begins with a change stays: it contains tick 0 or the end, or has at least `ticks` ticks.
+/// Whether the run that begins with a change stays: it contains tick 0 or the end, or has at least
+/// `ticks` ticks.
 fn begins_steady(change: &Change, later: &[Change], ticks: u64) -> bool
     ensures { result ≡ steady_test ticks change.now later.now }
 {

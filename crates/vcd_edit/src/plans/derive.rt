@@ -1,8 +1,9 @@
 //! A signal computed from others.
 
-ghost use Rattle.std.specs.Prelude.{◌≡◌, ◌≤◌, ℕ, [], ◌∷◌, Some, None, IfOk, IsTrue, true, length, map};
+ghost use Rattle.std.specs.Prelude.{◌≡◌, ◌≤◌, ℕ, [], ◌∷◌, Some, None, IfOk, IsTrue, true, length};
+ghost use Rattle.std.specs.Prelude.{map};
 ghost use Rattle.std.specs.List.{list_all};
-ghost use Rattle.vcd_core.specs.Contents.{contents, signal_contents};
+ghost use Rattle.vcd_core.specs.CaptureContents.{contents, signal_contents};
 ghost use Rattle.vcd_core.specs.Sound.{IsSound};
 ghost use Rattle.vcd_core.specs.Value.{letter_at};
 ghost use Rattle.vcd_core.specs.Wave.{value_at, AllUpTo};
@@ -15,7 +16,7 @@ ghost use Rattle.vcd_edit.specs.declared.edit.Edit.TheVariants as edits;
 
 use crate::edit::{Formula, Operator, Rule};
 use crate::plans::operators::not;
-use crate::plans::piece_builders::signal_at;
+use crate::plans::parts::signal_at;
 use crate::record::Record;
 use std::alloc::Global;
 use vcd_core::{Bit, BitEdges, Capture, NameWords, NoMemory, Seq, Signal, Value, Wave, copy_word};

@@ -1,16 +1,14 @@
 //! One value at a range of ticks.
 
 ghost use Rattle.std.specs.Prelude.{◌≡◌, ◌<◌, ◌≤◌, ◌+◌, None, IfOk, length, pos};
-ghost use Rattle.vcd_core.specs.Contents.{contents, signal_contents};
+ghost use Rattle.vcd_core.specs.CaptureContents.{contents, signal_contents};
 ghost use Rattle.vcd_core.specs.Sound.{IsSound, IsSoundSignal};
 ghost use Rattle.vcd_edit.specs.Effect.{force_value};
 ghost use Rattle.vcd_edit.specs.EditFaults.{edit_fault};
 ghost use Rattle.vcd_edit.specs.inside.Plans.{IsPlan, GivesValues};
 ghost use Rattle.vcd_edit.specs.declared.edit.Edit.TheVariants as edits;
 
-use crate::plans::piece_builders::{
-    piece_between, piece_record, push_if_new, signal_at, value_just_before,
-};
+use crate::plans::parts::{piece_between, piece_record, push_if_new, signal_at, value_just_before};
 use crate::record::{Piece, Record};
 use std::alloc::Global;
 use vcd_core::{Capture, END_LIMIT, NoMemory, Signal, Value};
@@ -25,7 +23,8 @@ pub(crate) fn plan(
     value: Value,
 ) -> Result<Record, NoMemory>
     requires sound { IsSound (contents capture.now) }
-    requires allowed { edit_fault (edits.Force position from to value) (contents capture.now) ≡ None }
+    requires allowed { edit_fault (edits.Force position from to value) (contents capture.now)
+        ≡ None }
     ensures { IfOk result (IsPlan (edits.Force position from to value) (contents capture.now)) }
 {
     let old = signal_at(capture, position);
@@ -33,7 +32,8 @@ pub(crate) fn plan(
     piece_record(alloc, piece)
 }
 
-/// The piece that forces a value in the signal at a position, at the ticks `from` up to before `to`.
+/// The piece that forces a value in the signal at a position, at the ticks `from` up to before
+/// `to`.
 fn force_piece(
     alloc: Global,
     signal: &Signal,

@@ -1,7 +1,7 @@
 //! Every bit negated.
 
 ghost use Rattle.std.specs.Prelude.{◌≡◌, ◌<◌, ◌-◌, ℕ, pos, None, IfOk, length, map};
-ghost use Rattle.vcd_core.specs.Contents.{contents, signal_contents};
+ghost use Rattle.vcd_core.specs.CaptureContents.{contents, signal_contents};
 ghost use Rattle.vcd_core.specs.Sound.{IsSound, IsSoundSignal};
 ghost use Rattle.vcd_core.specs.Value.{all_x};
 ghost use Rattle.vcd_core.specs.Wave.{value_at};
@@ -10,15 +10,15 @@ ghost use Rattle.vcd_edit.specs.Effect.{inverse_value};
 ghost use Rattle.vcd_edit.specs.EditFaults.{edit_fault};
 ghost use Rattle.vcd_edit.specs.inside.RemainingChanges.{without_repeats, mapped_change};
 ghost use Rattle.std.specs.Int.{bit_at};
-ghost use Rattle.vcd_core.specs.WordRows.{letter_in};
+ghost use Rattle.vcd_core.specs.BlockRows.{letter_in};
 ghost use Rattle.vcd_edit.specs.inside.Inverse.{ShowsInverse};
 ghost use Rattle.vcd_edit.specs.inside.Plans.{IsPlan, GivesValues};
 ghost use Rattle.vcd_edit.specs.declared.edit.Edit.TheVariants as edits;
 
-use crate::plans::piece_builders::{piece_record, push_if_new, signal_at, whole_piece, x_value};
+use crate::plans::parts::{piece_record, push_if_new, signal_at, whole_piece, x_value};
 use crate::record::Record;
 use std::alloc::Global;
-use vcd_core::{Bit, Capture, Change, LetterWord, NoMemory, Value, WORDS, words_in};
+use vcd_core::{BLOCKS, Bit, Capture, Change, LetterBlock, NoMemory, Value, blocks_in};
 
 /// The record of the whole list of changes.
 pub(crate) fn plan(alloc: Global, capture: &Capture, signal: usize) -> Result<Record, NoMemory>
@@ -31,8 +31,8 @@ pub(crate) fn plan(alloc: Global, capture: &Capture, signal: usize) -> Result<Re
     piece_record(alloc, whole_piece(wave, signal, changes))
 }
 
-/// The changes to the inverse values after the value `before`, without those that change nothing. There is room for as
-/// many as there were.
+/// The changes to the inverse values after the value `before`, without those that change nothing.
+/// There is room for as many as there were.
 fn inverse_changes(
     alloc: Global,
     changes: &[Change],
@@ -56,29 +56,29 @@ fn inverse_changes(
 fn inverse_of(value: &Value) -> Value
     ensures { result ≡ map not_bit value.now }
 {
-    let mut words = [LetterWord::filled(Bit::Zero); WORDS];
-    write_inverse(value, &mut words);
-    Value::from_words(value.width(), &words)
+    let mut blocks = [LetterBlock::filled(Bit::Zero); BLOCKS];
+    write_inverse(value, &mut blocks);
+    Value::from_blocks(value.width(), &blocks)
 }
 
-/// Writes the words of the inverse.
-fn write_inverse(value: &Value, words: &mut [LetterWord])
-    requires { length words.old ≡ WORDS }
-    ensures shows { ShowsInverse (length value.now) value.now words.new }
-    ensures word_count { length words.new ≡ WORDS }
+/// Writes the blocks of the inverse.
+fn write_inverse(value: &Value, blocks: &mut [LetterBlock])
+    requires { length blocks.old ≡ BLOCKS }
+    ensures shows { ShowsInverse (length value.now) value.now blocks.new }
+    ensures word_count { length blocks.new ≡ BLOCKS }
 {
-    for j in 0..words_in(value.width()) {
-        words[j] = inverse_word(value.word(j));
+    for j in 0..blocks_in(value.width()) {
+        blocks[j] = inverse_block(value.block(j));
     }
 }
 
-/// The word with each letter negated.
-fn inverse_word(word: LetterWord) -> LetterWord
-    ensures { (i : ℕ) → i < 64 → letter_in result i ≡ not_bit (letter_in word i) }
+/// The block with each letter negated.
+fn inverse_block(block: LetterBlock) -> LetterBlock
+    ensures { (i : ℕ) → i < 64 → letter_in result i ≡ not_bit (letter_in block i) }
 {
-    LetterWord {
-        low: word.high | inverse_bits(word.low),
-        high: word.high,
+    LetterBlock {
+        low: block.high | inverse_bits(block.low),
+        high: block.high,
     }
 }
 

@@ -1,8 +1,9 @@
 //! A signal delayed or advanced.
 
-ghost use Rattle.std.specs.Prelude.{◌≡◌, ◌<◌, ◌≤◌, ◌+◌, ◌^◌, ℕ, ℤ, pos, ◌<ℤ◌, ◌≤ℤ◌, List, None, IfOk, All, length, map};
+ghost use Rattle.std.specs.Prelude.{◌≡◌, ◌<◌, ◌≤◌, ◌+◌, ◌^◌, ℕ, ℤ, pos, ◌<ℤ◌, ◌≤ℤ◌, List, None};
+ghost use Rattle.std.specs.Prelude.{IfOk, All, length, map};
 ghost use Rattle.vcd_core.specs.declared.bit.Bit.{Bit};
-ghost use Rattle.vcd_core.specs.Contents.{contents, signal_contents};
+ghost use Rattle.vcd_core.specs.CaptureContents.{contents, signal_contents};
 ghost use Rattle.vcd_core.specs.Sound.{IsSound, IsSoundSignal};
 ghost use Rattle.vcd_core.specs.Splice.{moved_change};
 ghost use Rattle.vcd_edit.specs.Effect.{shift_value};
@@ -11,7 +12,7 @@ ghost use Rattle.vcd_edit.specs.inside.Plans.{IsPlan, GivesValues};
 ghost use Rattle.vcd_edit.specs.declared.edit.Edit.TheVariants as edits;
 
 use crate::plans::cut::cut_piece;
-use crate::plans::piece_builders::{piece_record, push_if_new, signal_at};
+use crate::plans::parts::{piece_record, push_if_new, signal_at};
 use crate::record::{Piece, Record};
 use std::alloc::Global;
 use vcd_core::{Bit, Capture, Change, END_LIMIT, NoMemory, Signal, Value};

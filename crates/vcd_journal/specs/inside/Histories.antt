@@ -13,9 +13,10 @@ abbrev pub AllRecordsFit : Contents → List RecordView → Type 0
 AllRecordsFit c [] = Unit {0}
 AllRecordsFit c (r ∷ rs) = Fits r c × AllRecordsFit (apply_record r c) rs
 
--- the capture is sound and each record fits; both rings together hold at most `depth` records, and each has room for
--- `depth`
-pub record AreSessionRings (c : Contents) (past future : Buffer RecordView) (depth : ℕ) : Type 0 where
+-- the capture is sound and each record fits; both rings together hold at most `depth` records, and
+-- each has room for `depth`
+pub record AreSessionRings (c : Contents) (past future : Buffer RecordView) (depth : ℕ)
+    : Type 0 where
   pub sound : IsSound c
   pub past_fits : AllRecordsFit c past.items
   pub future_fits : AllRecordsFit c future.items
@@ -25,7 +26,8 @@ pub record AreSessionRings (c : Contents) (past future : Buffer RecordView) (dep
   pub future_room : depth ≤ future.capacity
 
 -- the first record of a ring changes c into d, and the others stay
-pub record PopsRecord (c : Contents) (before : List RecordView) (d : Contents) (after : List RecordView) : Type 0 where
+pub record PopsRecord (c : Contents) (before : List RecordView) (d : Contents)
+    (after : List RecordView) : Type 0 where
   pub captures : reached_captures c before ≡ d ∷ reached_captures d after
   pub fit : AllRecordsFit c before
   pub rest_fit : AllRecordsFit d after

@@ -1,5 +1,5 @@
-//! The fields of a session. A further one, such as another capture, does not compile here. Neither ring has more room
-//! than the greatest depth so far.
+//! The fields of a session. A further one, such as another capture, does not compile here. Neither
+//! ring has more room than the greatest depth so far.
 
 use super::Session;
 use crate::rings::Ring;

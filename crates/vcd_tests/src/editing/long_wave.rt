@@ -7,8 +7,8 @@ use std::test::Fail;
 use vcd_core::{Bit, Capture, Change, Value};
 use vcd_edit::{Edit, apply, revert};
 
-/// The result of an edit: how many changes there are, the one at a position, the end, and how many changes the record
-/// may store.
+/// The result of an edit: how many changes there are, the one at a position, the end, and how many
+/// changes the record may store.
 #[derive(Drop)]
 struct Outcome {
     count: usize,
@@ -27,7 +27,8 @@ fn check_changes(rt: &impl Abort, capture: &Capture, outcome: &Outcome) {
     assert!(rt; changes.get(outcome.at) == Some(&outcome.change));
 }
 
-/// Stops unless an edit of 10,000 changes, one at each tick before the end, has this result, and its undo restores the capture.
+/// Stops unless an edit of 10,000 changes, one at each tick before the end, has this result, and
+/// its undo restores the capture.
 fn check_edit(rt: &impl Abort, alloc: Global, edit: &Edit, outcome: &Outcome) -> Result<(), Fail> {
     let mut text = alternating_text(alloc, 1, 9998, 9999)?;
     text.extend_from_slice(b"#10000\n")?;

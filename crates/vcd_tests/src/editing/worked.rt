@@ -8,8 +8,8 @@ use std::test::Fail;
 use vcd_core::Capture;
 use vcd_edit::{Edit, Record, Rule, apply, revert};
 
-/// A row has the edit, the most changes that its record and that of its undo may store, and the capture after it as
-/// `capture_text` shows it.
+/// A row has the edit, the most changes that its record and that of its undo may store, and the
+/// capture after it as `capture_text` shows it.
 const TWO: &str = "\
 $var wire 1 ! a $end $var wire 1 \" b $end $enddefinitions $end
 #0 0! 1\" #3 1! #5 x\" #8";
@@ -68,7 +68,8 @@ deglitch 0 2:1 0:20|a 1@3 0@9 1@11
 deglitch 0 6:4 1:20|a 1@3
 deglitch 0 7:3 0:20|a 1@11";
 
-/// Forces that give as many changes as they take, more or fewer: at the front, in the middle and at the end.
+/// Forces that give as many changes as they take, more or fewer: at the front, in the middle and at
+/// the end.
 const EVEN: &str = "\
 $var wire 1 ! a $end $enddefinitions $end
 #0 0! #2 1! #4 0! #6 1! #8 0! #10";
@@ -84,7 +85,8 @@ force 0 8 11 z:1 1:10|a 0@0 1@2 0@4 1@6 z@8
 force 0 8 9 z:1 2:10|a 0@0 1@2 0@4 1@6 z@8 0@9
 force 0 8 11 1:1 0:10|a 0@0 1@2 0@4 1@6";
 
-/// Three signals, the middle one being taken out; and three that share a code, with one edited, or all.
+/// Three signals, the middle one being taken out; and three that share a code, with one edited, or
+/// all.
 const THREE: &str = "\
 $var wire 1 ! a $end $var wire 1 \" b $end $var wire 1 # c $end $enddefinitions $end
 #0 0! 1\" z# #4";
@@ -219,7 +221,8 @@ fn edits_and_the_ways_back(rt: HostRuntime) -> Result<(), Fail> {
     Ok(())
 }
 
-/// A derived signal is in the scopes of the first operand, and its record fits no capture without it.
+/// A derived signal is in the scopes of the first operand, and its record fits no capture without
+/// it.
 #[test]
 fn the_scopes_of_a_derived_signal(rt: HostRuntime) -> Result<(), Fail> {
     let without = load_file(rt.alloc(), SCOPES.as_bytes())?.capture;

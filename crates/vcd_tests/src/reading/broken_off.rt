@@ -25,7 +25,8 @@ fn first_bytes(len: usize) -> Result<&'static [u8], Fail> {
     Ok(ONE_SCALAR.as_bytes().get(..len).ok_or("past the end")?)
 }
 
-/// No complete word of the file has a fault, so the answer is the reader's own, at the line reached.
+/// No complete word of the file has a fault, so the answer is the reader's own, at the line
+/// reached.
 fn check_failure(rt: &impl Abort, alloc: Global, len: usize) -> Result<(), Fail> {
     let bytes = first_bytes(len)?;
     let line = bytes.split(|byte| *byte == b'\n').count();
@@ -41,7 +42,8 @@ fn of_a_reader_that_fails(rt: HostRuntime) -> Result<(), Fail> {
     Ok(())
 }
 
-/// Words that are complete before the reader fails are taken first, so a fault in them is the answer.
+/// Words that are complete before the reader fails are taken first, so a fault in them is the
+/// answer.
 #[test]
 fn of_a_reader_that_fails_behind_a_fault(rt: HostRuntime) -> Result<(), Fail> {
     let file = b"$var wire 1 ! a $end\n$enddefinitions $end\n#10\n#9\n";

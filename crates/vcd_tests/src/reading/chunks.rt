@@ -30,8 +30,9 @@ fn words_over_the_seams(rt: HostRuntime) -> Result<(), Fail> {
     Ok(())
 }
 
-/// How many line feeds are between `$comment` and a word, and how many bytes the word has. The word ends before the
-/// buffer's end, at it, or after it; begins at its last byte, or after it; fills it; or is longer.
+/// How many line feeds are between `$comment` and a word, and how many bytes the word has. The word
+/// ends before the buffer's end, at it, or after it; begins at its last byte, or after it; fills
+/// it; or is longer.
 const WORDS_AT_THE_END: &str = "\
 1 4086
 1 4087
@@ -81,7 +82,8 @@ fn check_end(rt: &impl Abort, alloc: Global, feeds: usize, bytes: usize) -> Resu
     check_answer(rt, alloc, file.as_slice(), false, answer.as_str())
 }
 
-/// Stops unless another word, which is not allowed on the line after the word, is refused at its line.
+/// Stops unless another word, which is not allowed on the line after the word, is refused at its
+/// line.
 fn check_next_line(rt: &impl Abort, alloc: Global, feeds: usize, bytes: usize) -> Result<(), Fail> {
     let file = file_with_word(alloc, feeds, bytes, b"\n$end #0")?;
     let answer = format!(in alloc; "{} UnexpectedWord", feeds.saturating_add(2))?;

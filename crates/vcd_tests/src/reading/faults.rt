@@ -126,7 +126,8 @@ const OF_CHANGES: &str = "\
 2 BadChange:#5 0|#4
 3 TimeBackwards:$date $end $dumpoff|#5 #4 $var";
 
-/// The line, the fault, and the bytes that a reader gives before it fails. The answer is a fault in the complete words.
+/// The line, the fault, and the bytes that a reader gives before it fails. The answer is a fault in
+/// the complete words.
 const OF_READERS_THAT_FAIL: &str = "\
 1 ReadFault:
 4 ReadFault:$var wire 1 ! a $end|$enddefinitions $end|#10|
@@ -145,7 +146,8 @@ const OF_READERS_THAT_FAIL: &str = "\
 1 BadVar:$var wire x\x0b
 4 ReadFault:||$comment|";
 
-/// Stops unless a row's file, after `front`, has the fault of the row. A row that begins with `--` is a comment.
+/// Stops unless a row's file, after `front`, has the fault of the row. A row that begins with `--`
+/// is a comment.
 fn check_row(
     rt: &impl Abort,
     alloc: Global,

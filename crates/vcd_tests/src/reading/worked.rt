@@ -6,8 +6,8 @@ use std::alloc::Global;
 use std::process::Abort;
 use std::test::Fail;
 
-/// How many variables are skipped, a file, and the text of its capture; `|` is a line feed, and a row that begins with
-/// `--` is a comment.
+/// How many variables are skipped, a file, and the text of its capture; `|` is a line feed, and a
+/// row that begins with `--` is a comment.
 const FILES: &str = "\
 -- the worked file with one scalar
 0: $timescale 1ns $end|$scope module top $end|$var wire 1 ! a $end|$upscope $end|$enddefinitions $end|#0|\
@@ -79,7 +79,8 @@ $timescale 1 us $end|$enddefinitions $end|#0|$dumpvars|$end|
 -- no signal, with the end at 0 and later
 0: $enddefinitions $end => $enddefinitions $end|#0|$dumpvars|$end|
 0: $enddefinitions $end #4 => $enddefinitions $end|#0|$dumpvars|$end|#4|
--- every part: scopes that differ in their kind are two, and each tick lists the signals that change at it
+-- every part: scopes that differ in their kind are two, and each tick lists the signals that change
+-- at it
 0: $comment $end $date May 1 $end $timescale 100 fs $end $scope module top $end $scope task s $end|\
 $var wire 4 v v $end $upscope $end $scope begin s $end $var wire 1 a a $end $upscope $end $upscope $end|\
 $var wire 1 c c $end $enddefinitions $end #2 za b1 v #6 1c bz1 v xa #7 b0 v \

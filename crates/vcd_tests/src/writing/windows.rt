@@ -1,5 +1,5 @@
-//! Captures with more changes than a window of ticks has room for, and with changes far apart. They are written as
-//! they were read.
+//! Captures with more changes than a window of ticks has room for, and with changes far apart. They
+//! are written as they were read.
 
 use crate::fake_devices::{FakeWriter, sink_of};
 use crate::fixtures::{alternating_text, load_file, text_of};
@@ -9,7 +9,8 @@ use std::test::Fail;
 use vcd_core::END_LIMIT;
 use vcd_text::write;
 
-/// Stops unless a capture of so many signals that all change at each tick is written as it was read.
+/// Stops unless a capture of so many signals that all change at each tick is written as it was
+/// read.
 fn check_alternating(
     rt: &impl Abort,
     alloc: Global,
@@ -35,7 +36,8 @@ fn writer_of_file(alloc: Global, file: &[u8]) -> Result<FakeWriter, Fail> {
     Ok(sink.into_inner())
 }
 
-/// Stops unless a writer took this text by a call for each part and one for the flush, which was the last.
+/// Stops unless a writer took this text by a call for each part and one for the flush, which was
+/// the last.
 fn check_calls(rt: &impl Abort, writer: &FakeWriter, text: &[u8]) {
     assert!(rt; writer.held.as_slice() == text);
     assert!(rt; writer.calls <= text.len() / ROOM + 2);

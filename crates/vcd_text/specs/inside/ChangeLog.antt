@@ -1,5 +1,6 @@
 -- The changes that waves do not have yet, and the waves with these changes.
-use Rattle.std.specs.Prelude.{◌≡◌, ℕ, ◌+◌, ◌%◌, ◌<◌, ◌≤◌, ◌==◌, if◌then◌else◌, nat_le, List, [], ◌∷◌, ◌++◌, length, set}
+use Rattle.std.specs.Prelude.{◌≡◌, ℕ, ◌+◌, ◌%◌, ◌<◌, ◌≤◌, ◌==◌, if◌then◌else◌, nat_le, List, []}
+use Rattle.std.specs.Prelude.{◌∷◌, ◌++◌, length, set}
 use Rattle.std.specs.Prelude.{◌-◌, ◌^◌, ◌&&◌, min, max, slice_get, All, Some, false}
 use Rattle.std.specs.List.{filter}
 use Rattle.std.specs.Option.{option_map_or}
@@ -7,10 +8,10 @@ use Rattle.std.specs.Global.{Vec}
 use Rattle.vcd_core.specs.declared.bit.Bit.{Bit}
 use Rattle.vcd_core.specs.declared.wave.Change.{Change}
 use Rattle.vcd_core.specs.Wave.{value_at}
-use Rattle.vcd_core.specs.WordRows.{letters_of}
-use Rattle.vcd_text.specs.declared.reading.change_log.LoggedChange.{LoggedChange}
-use Rattle.vcd_text.specs.declared.reading.change_log.ReserveHint.{ReserveHint}
-use Rattle.vcd_text.specs.declared.reading.change_log.TheConstants.{GROUPS}
+use Rattle.vcd_core.specs.BlockRows.{letters_of}
+use Rattle.vcd_text.specs.declared.reading.pending.LoggedChange.{LoggedChange}
+use Rattle.vcd_text.specs.declared.reading.pending.ExpectedRoom.{ExpectedRoom}
+use Rattle.vcd_text.specs.declared.reading.pending.TheConstants.{GROUPS}
 use Rattle.vcd_text.specs.declared.reading.variables.Variable.{Variable}
 
 -- ---- the values
@@ -53,7 +54,8 @@ logged (g ∷ gs) position = changes_of_position position g.items ++ logged gs p
 -- each group has changes of positions with one remainder alone
 abbrev pub AreGrouped : ℕ → List (Vec LoggedChange) → Type 0
 AreGrouped index [] = Unit {0}
-AreGrouped index (g ∷ gs) = All (λ (e : LoggedChange). e.position % GROUPS ≡ index) g.items × AreGrouped (index + 1) gs
+AreGrouped index (g ∷ gs) = All (λ (e : LoggedChange). e.position % GROUPS ≡ index) g.items
+    × AreGrouped (index + 1) gs
 
 -- ---- the changes that waves take from the log
 
@@ -77,7 +79,8 @@ pub record AppliesToVariable (e : LoggedChange) (old new : Variable) : Type 0 wh
   pub same : IsSameVariable old new
   pub last : All (λ (c : Change). c.tick ≤ e.tick) new.signal.wave.changes
   pub values : (t : ℕ) → value_at new.signal.wave.width new.signal.wave.changes t
-      ≡ (if nat_le e.tick t then logged_letters old.signal.wave.width e else value_at old.signal.wave.width
+      ≡ (if nat_le e.tick t then logged_letters old.signal.wave.width e
+      else value_at old.signal.wave.width
       old.signal.wave.changes t)
 
 -- the variables with a change of the log applied to one
@@ -90,28 +93,31 @@ pub record AppliesLogged (e : LoggedChange) (old new : List Variable) : Type 0 w
 
 -- ---- the room that waves get for the log
 
--- the hint after one more change; a repeated word is not counted
-abbrev pub hint_with : ReserveHint → LoggedChange → ReserveHint
-hint_with h e = record {
-  count = if h.last.low == e.word.low && h.last.high == e.word.high then h.count else min (h.count + 1) (2 ^ 64 - 1);
+-- the expected room after one more change; a repeated word is not counted
+abbrev pub room_with : ExpectedRoom → LoggedChange → ExpectedRoom
+room_with h e = record {
+  count = if h.last.low == e.word.low && h.last.high == e.word.high then h.count
+      else min (h.count + 1) (2 ^ 64 - 1);
   last = e.word;
 }
 
--- the variable with one more change in its hint
+-- the variable with one more change in its expected room
 abbrev pub counted_variable : Variable → LoggedChange → Variable
-counted_variable v e = record v { hint = hint_with v.hint e }
+counted_variable v e = record v { expected_room = room_with v.expected_room e }
 
--- the variables with one more change in the hint of its variable
+-- the variables with one more change in the expected room of its variable
 abbrev pub counted : List Variable → LoggedChange → List Variable
-counted vs e = option_map_or (λ (v : Variable). set vs e.position (counted_variable v e)) (slice_get vs e.position) vs
+counted vs e = option_map_or (λ (v : Variable). set vs e.position (counted_variable v e))
+    (slice_get vs e.position) vs
 
 -- a wave's own list gets just the room for as many changes as were counted, or keeps what it has
 pub record HasExactRoom (old new : Variable) : Type 0 where
-  pub exact : 1 ≤ old.hint.count → old.signal.wave.is_shared ≡ false
-      → new.signal.wave.capacity ≡ max old.signal.wave.capacity (length old.signal.wave.changes + old.hint.count)
+  pub exact : 1 ≤ old.expected_room.count → old.signal.wave.is_shared ≡ false
+      → new.signal.wave.capacity
+      ≡ max old.signal.wave.capacity (length old.signal.wave.changes + old.expected_room.count)
   pub kept : old.signal.wave.is_shared ≡ false
       → length old.signal.wave.changes + 1 ≤ old.signal.wave.capacity
-      → length old.signal.wave.changes + old.hint.count ≤ old.signal.wave.capacity
+      → length old.signal.wave.changes + old.expected_room.count ≤ old.signal.wave.capacity
       → new.signal.wave.capacity ≡ old.signal.wave.capacity
 
 -- ---- the variables with the changes of the log
@@ -126,11 +132,13 @@ CanFlush kept log =
 -- the variable is the same, and its wave with the rest of the log has the same values
 pub record FlushesOne (old new : Variable) (log rest : List LoggedChange) : Type 0 where
   pub same : IsSameVariable old new
-  pub gives : (tick : ℕ) (f : ℕ → List Bit) → GivesLoggedValues old.signal.wave.width tick f old.signal.wave.changes log
+  pub gives : (tick : ℕ) (f : ℕ → List Bit)
+      → GivesLoggedValues old.signal.wave.width tick f old.signal.wave.changes log
       → GivesLoggedValues new.signal.wave.width tick f new.signal.wave.changes rest
 
 -- the variables have taken the changes that are no longer in the log
 pub record FlushesLog (old new : List Variable) (log rest : ℕ → List LoggedChange) : Type 0 where
   pub long : length new ≡ length old
   pub each : (position : ℕ) (v : Variable) → slice_get old position ≡ Some v
-      → (w : Variable) × (slice_get new position ≡ Some w) × FlushesOne v w (log position) (rest position)
+      → (w : Variable) × (slice_get new position ≡ Some w)
+      × FlushesOne v w (log position) (rest position)

@@ -1,19 +1,22 @@
--- The progress of reading a file in chunks: the complete words have been taken, and a word that can go on is kept.
-use Rattle.std.specs.Prelude.{◌≡◌, ◌⊎◌, ℕ, ◌+◌, ◌≤◌, Bool, true, not, List, ◌++◌, length, Option, Result, Ok, Err}
+-- The progress of reading a file in chunks: the complete words have been taken, and a word that can
+-- go on is kept.
+use Rattle.std.specs.Prelude.{◌≡◌, ◌⊎◌, ℕ, ◌+◌, ◌≤◌, Bool, true, not, List, ◌++◌, length, Option}
+use Rattle.std.specs.Prelude.{Result, Ok, Err}
 use Rattle.std.specs.List.{list_all}
 use Rattle.std.specs.Io.KnownBytes.{Consumes}
 use Rattle.vcd_core.specs.Word.{is_white_space}
 use Rattle.vcd_text.specs.declared.fault.ReadError.{ReadError}
 use Rattle.vcd_text.specs.declared.reading.TheConstants.{FILE_LIMIT}
-use Rattle.vcd_text.specs.declared.reading.chunks.Progress.{Progress}
-use Rattle.vcd_text.specs.declared.reading.reader.Reader.{Reader}
+use Rattle.vcd_text.specs.declared.reading.file_reader.FileReader.{FileReader}
+use Rattle.vcd_text.specs.declared.reading.parser.Parser.{Parser}
 use Rattle.vcd_text.specs.Words.{words_from, complete_words, last_line}
 use Rattle.vcd_text.specs.FoundFaults.{FrontFault}
 use Rattle.vcd_text.specs.MemoryErrors.{memory_error}
 use Rattle.vcd_text.specs.inside.Reading.{HasTakenWords}
 
 -- the complete words of these bytes have been taken; `word` is the unfinished rest
-pub record HasTaken (m : Reader) (word : List ℕ) (line_feeds bytes_left : ℕ) (bytes : List ℕ) : Type 0 where
+pub record HasTaken (m : Parser) (word : List ℕ) (line_feeds bytes_left : ℕ) (bytes : List ℕ)
+    : Type 0 where
   pub taken_words : HasTakenWords m (complete_words bytes)
   pub words : (end_counts : Bool) (rest : List ℕ)
       → words_from end_counts 1 (bytes ++ rest)
@@ -24,24 +27,26 @@ pub record HasTaken (m : Reader) (word : List ℕ) (line_feeds bytes_left : ℕ)
   pub size : length bytes + bytes_left ≡ FILE_LIMIT
 
 -- these bytes have been read so far
-abbrev pub HasReadBytes : Progress → List ℕ → Type 0
-HasReadBytes p bytes = HasTaken p.reader p.buffer.bytes p.line_feeds p.bytes_left bytes
+abbrev pub HasReadBytes : FileReader → List ℕ → Type 0
+HasReadBytes p bytes = HasTaken p.parser p.buffer.bytes p.line_feeds p.bytes_left bytes
 
 -- the source had `coming`, now has `coming_now`; the bytes between were read
-abbrev pub ProgressMatches : Option (List ℕ) → Option (List ℕ) → Progress → Type 0
-ProgressMatches coming coming_now p = (bytes : List ℕ) × Consumes coming coming_now bytes × HasReadBytes p bytes
+abbrev pub FileReaderMatches : Option (List ℕ) → Option (List ℕ) → FileReader → Type 0
+FileReaderMatches coming coming_now p = (bytes : List ℕ) × Consumes coming coming_now bytes
+    × HasReadBytes p bytes
 
--- the buffer holds an unfinished word, then a chunk whose words are not taken; `bytes` are all bytes so far
-pub record HasUntakenChunk (p : Progress) (unfinished_len : ℕ) (bytes : List ℕ) : Type 0 where
+-- the buffer holds an unfinished word, then a chunk whose words are not taken; `bytes` are all
+-- bytes so far
+pub record HasUntakenChunk (p : FileReader) (unfinished_len : ℕ) (bytes : List ℕ) : Type 0 where
   pub before : List ℕ
   pub word : List ℕ
   pub chunk : List ℕ
-  pub taken : HasTaken p.reader word p.line_feeds (p.bytes_left + length chunk) before
+  pub taken : HasTaken p.parser word p.line_feeds (p.bytes_left + length chunk) before
   pub text : p.buffer.bytes ≡ word ++ chunk
   pub len : unfinished_len ≡ length word
   pub all : bytes ≡ before ++ chunk
 
 -- the words that are now complete have been taken, or one shows a fault, or memory has run out
-abbrev pub TakesChunk : List ℕ → Result (Unit {0}) ReadError → Progress → Type 0
+abbrev pub TakesChunk : List ℕ → Result (Unit {0}) ReadError → FileReader → Type 0
 TakesChunk bytes (Ok x) new = HasReadBytes new bytes
 TakesChunk bytes (Err e) new = (e ≡ memory_error) ⊎ FrontFault bytes e.line e.fault

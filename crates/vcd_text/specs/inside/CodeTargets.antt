@@ -1,5 +1,6 @@
 -- The targets of codes: those of few bytes by their place in a table, the others by a map.
-use Rattle.std.specs.Prelude.{ℕ, ◌+◌, ◌*◌, ◌==◌, nat_le, ◌||◌, if◌then◌else◌, List, [], ◌∷◌, slice_index_or}
+use Rattle.std.specs.Prelude.{ℕ, ◌+◌, ◌*◌, ◌==◌, nat_le, ◌||◌, if◌then◌else◌, List, [], ◌∷◌}
+use Rattle.std.specs.Prelude.{slice_index_or}
 use Rattle.std.specs.Prelude.{Option, Some, None, bytes_eq}
 use Rattle.std.specs.Global.{Vec}
 use Rattle.indexmap.specs.IndexMap.{IndexMap, get_by}
@@ -15,7 +16,8 @@ abbrev pub joined_digits : Option ℕ → Option ℕ → Option ℕ
 joined_digits (Some a) (Some rest) = Some (a + 128 * rest)
 joined_digits first others = None
 
--- the place of a code of one to three such bytes: they are its digits to the base 128, the lowest first
+-- the place of a code of one to three such bytes: they are its digits to the base 128, the lowest
+-- first
 abbrev pub place_of : List ℕ → Option ℕ
 place_of (a ∷ []) = digit_of a
 place_of (a ∷ b ∷ []) = joined_digits (digit_of a) (digit_of b)

@@ -1,7 +1,7 @@
 -- The kind of the open item: whether `$end` closes it, and the line of a fault of its words.
 use Rattle.std.specs.Prelude.{ℕ, Bool, true, false}
-use Rattle.vcd_text.specs.declared.reading.reader.OpenItem.{OpenItem}
-use Rattle.vcd_text.specs.declared.reading.reader.OpenItem.TheVariants as items
+use Rattle.vcd_text.specs.declared.reading.parser.OpenItem.{OpenItem}
+use Rattle.vcd_text.specs.declared.reading.parser.OpenItem.TheVariants as items
 
 -- whether the words of the open item go on up to `$end`
 abbrev pub is_inside : OpenItem → Bool
@@ -15,7 +15,8 @@ abbrev pub is_nothing : OpenItem → Bool
 is_nothing items.Nothing = true
 is_nothing item = false
 
--- the line of a fault that a word shows: that of the first word if a change of two words is open, else its own
+-- the line of a fault that a word shows: that of the first word if a change of two words is open,
+-- else its own
 abbrev pub item_fault_line : OpenItem → (first own : ℕ) → ℕ
 item_fault_line items.Vector first own = first
 item_fault_line items.RealOrString first own = first

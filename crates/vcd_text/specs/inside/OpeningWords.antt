@@ -1,8 +1,8 @@
 -- The item that a word opens among the declarations.
 use Rattle.std.specs.Prelude.{◌≡◌, ℕ, Bool, true, false, List, IsTrue, codes}
 use Rattle.vcd_text.specs.Items.{header_word, is_other}
-use Rattle.vcd_text.specs.declared.reading.reader.OpenItem.{OpenItem}
-use Rattle.vcd_text.specs.declared.reading.reader.OpenItem.TheVariants as items
+use Rattle.vcd_text.specs.declared.reading.parser.OpenItem.{OpenItem}
+use Rattle.vcd_text.specs.declared.reading.parser.OpenItem.TheVariants as items
 
 -- the word opens this item among the declarations
 abbrev pub Opens : OpenItem → List ℕ → Type 0

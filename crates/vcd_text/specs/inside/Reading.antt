@@ -1,5 +1,7 @@
--- The state of the reader between two words: the state after the whole items, and the words of the open item.
-use Rattle.std.specs.Prelude.{◌≡◌, ◌⊎◌, ℕ, ◌+◌, ◌<◌, ◌^◌, Bool, true, false, ◌&&◌, List, [], ◌∷◌, ◌++◌, length}
+-- The state of the parser between two words: the state after the whole items, and the words of the
+-- open item.
+use Rattle.std.specs.Prelude.{◌≡◌, ◌⊎◌, ℕ, ◌+◌, ◌<◌, ◌^◌, Bool, true, false, ◌&&◌, List, [], ◌∷◌}
+use Rattle.std.specs.Prelude.{◌++◌, length}
 use Rattle.std.specs.Prelude.{if◌then◌else◌, IsTrue, IsFalse, Result, Ok, Err, codes}
 use Rattle.vcd_text.specs.declared.fault.Fault.{Fault}
 use Rattle.vcd_text.specs.declared.fault.Fault.TheVariants.{NoMemory}
@@ -12,20 +14,21 @@ use Rattle.vcd_text.specs.inside.OpenItems.{is_nothing}
 use Rattle.vcd_text.specs.Letters.{is_among}
 use Rattle.vcd_text.specs.Items.{Item, spelling, spellings, has_no_end_word, header_word, is_other}
 use Rattle.vcd_text.specs.Items.{vector_prefixes, real_or_string_prefixes}
-use Rattle.vcd_text.specs.Grammar.{ParseState, Allows, AllowsAll, state_after, state_after_item, initial_state}
+use Rattle.vcd_text.specs.Grammar.{ParseState, Allows, AllowsAll, state_after, state_after_item}
+use Rattle.vcd_text.specs.Grammar.{initial_state}
 use Rattle.vcd_text.specs.Grammar.{word_texts, has_good_size}
 use Rattle.vcd_text.specs.Faults.{WordFault, ShowsFault}
 use Rattle.vcd_text.specs.MemoryErrors.{memory_error}
 use Rattle.vcd_text.specs.inside.Scopes.{HoldsScopes}
 use Rattle.vcd_text.specs.inside.Variables.{VariablesMatch}
-use Rattle.vcd_text.specs.declared.reading.reader.Reader.{Reader}
-use Rattle.vcd_text.specs.declared.reading.reader.OpenItem.{OpenItem}
-use Rattle.vcd_text.specs.declared.reading.reader.OpenItem.TheVariants as items
+use Rattle.vcd_text.specs.declared.reading.parser.Parser.{Parser}
+use Rattle.vcd_text.specs.declared.reading.parser.OpenItem.{OpenItem}
+use Rattle.vcd_text.specs.declared.reading.parser.OpenItem.TheVariants as items
 
 -- ---- the state
 
--- the reader has the state after the items
-pub record ReaderMatches (m : Reader) (c : ParseState) : Type 0 where
+-- the parser has the state after the items
+pub record ParserMatches (m : Parser) (c : ParseState) : Type 0 where
   pub header : m.header.items ≡ c.header
   pub timescale : m.timescale ≡ c.timescale
   pub scopes : HoldsScopes m.scopes c.scopes c.declared
@@ -34,14 +37,14 @@ pub record ReaderMatches (m : Reader) (c : ParseState) : Type 0 where
   pub variables : VariablesMatch m.variables c
   pub no_early_change : IsFalse c.in_body → c.value_changes ≡ []
 
--- a declaration is open, and the reader keeps its words after the keyword
-pub record Collects (m : Reader) (begun : List PlacedWord) (keyword : List ℕ) : Type 0 where
+-- a declaration is open, and the parser keeps its words after the keyword
+pub record Collects (m : Parser) (begun : List PlacedWord) (keyword : List ℕ) : Type 0 where
   pub declares : IsFalse m.in_body
   pub spelled : word_texts begun ≡ keyword ∷ m.words.items
   pub no_end : IsTrue (has_no_end_word m.words.items)
 
 -- another command is open
-pub record PassesOver (m : Reader) (begun : List PlacedWord) : Type 0 where
+pub record PassesOver (m : Parser) (begun : List PlacedWord) : Type 0 where
   pub keyword : List ℕ
   pub words : List (List ℕ)
   pub spelled : word_texts begun ≡ keyword ∷ words
@@ -49,7 +52,7 @@ pub record PassesOver (m : Reader) (begun : List PlacedWord) : Type 0 where
   pub no_end : IsTrue (has_no_end_word words)
 
 -- a change of two words is open, whose first word has one of these letters and then this text
-pub record AwaitsCode (m : Reader) (begun : List PlacedWord) (letters text : List ℕ) : Type 0 where
+pub record AwaitsCode (m : Parser) (begun : List PlacedWord) (letters text : List ℕ) : Type 0 where
   pub in_body : IsTrue m.in_body
   pub word : PlacedWord
   pub letter : ℕ
@@ -59,41 +62,47 @@ pub record AwaitsCode (m : Reader) (begun : List PlacedWord) (letters text : Lis
   pub line : m.line ≡ word.line
 
 -- these words of the open item have been taken
-abbrev pub IsBegun : Reader → List PlacedWord → OpenItem → Type 0
+abbrev pub IsBegun : Parser → List PlacedWord → OpenItem → Type 0
 IsBegun m begun items.Nothing = begun ≡ []
 IsBegun m begun (items.Entry kind) = Collects m begun (header_word kind)
 IsBegun m begun items.Timescale = Collects m begun (codes "$timescale")
 IsBegun m begun items.Scope = Collects m begun (codes "$scope")
-IsBegun m begun items.Upscope = IsFalse m.in_body × (word_texts begun ≡ codes "$upscope" ∷ []) × (0 < m.scopes.depth)
-IsBegun m begun items.Variable = Collects m begun (codes "$var") × IsTrue (has_good_size m.words.items)
-IsBegun m begun items.EndDefinitions = IsFalse m.in_body × (word_texts begun ≡ codes "$enddefinitions" ∷ [])
+IsBegun m begun items.Upscope = IsFalse m.in_body × (word_texts begun ≡ codes "$upscope" ∷ [])
+    × (0 < m.scopes.depth)
+IsBegun m begun items.Variable = Collects m begun (codes "$var")
+    × IsTrue (has_good_size m.words.items)
+IsBegun m begun items.EndDefinitions = IsFalse m.in_body
+    × (word_texts begun ≡ codes "$enddefinitions" ∷ [])
 IsBegun m begun items.Other = PassesOver m begun
 IsBegun m begun items.Vector = AwaitsCode m begun vector_prefixes m.digits.items
-IsBegun m begun items.RealOrString = (text : List ℕ) × AwaitsCode m begun real_or_string_prefixes text
+IsBegun m begun items.RealOrString = (text : List ℕ)
+    × AwaitsCode m begun real_or_string_prefixes text
 
 -- the whole items gave this state, and these words of an open item have been taken
-abbrev pub IsAtState : Reader → ParseState → List PlacedWord → Type 0
-IsAtState m c begun = ReaderMatches m c × IsBegun m begun m.item
+abbrev pub IsAtState : Parser → ParseState → List PlacedWord → Type 0
+IsAtState m c begun = ParserMatches m c × IsBegun m begun m.item
 
 -- ---- one word
 
 -- a word goes on with the open item, or ends it, and its conditions hold
-pub data WordStep (c : ParseState) (begun : List PlacedWord) (new : Reader) : Type 0 where
+pub data WordStep (c : ParseState) (begun : List PlacedWord) (new : Parser) : Type 0 where
   goes_on : IsAtState new c begun → WordStep c begun new
-  ends_item : (i : Item) → spelling i ≡ word_texts begun → Allows c i → IsAtState new (state_after_item c i) []
+  ends_item : (i : Item) → spelling i ≡ word_texts begun → Allows c i
+      → IsAtState new (state_after_item c i) []
       → WordStep c begun new
 
 -- the result of a word: it is taken, or shows a fault, or memory runs out
-abbrev pub WordResult : Reader → PlacedWord → Result (Unit {0}) Fault → Reader → Type 0
+abbrev pub WordResult : Parser → PlacedWord → Result (Unit {0}) Fault → Parser → Type 0
 WordResult old w (Ok x) new = (c : ParseState) (begun : List PlacedWord) → IsAtState old c begun
     → WordStep c (begun ++ w ∷ []) new
-WordResult old w (Err fault) new = (c : ParseState) (begun : List PlacedWord) → IsAtState old c begun
+WordResult old w (Err fault) new = (c : ParseState) (begun : List PlacedWord)
+    → IsAtState old c begun
     → (fault ≡ NoMemory) ⊎ WordFault c (word_texts begun) w.text fault
 
 -- ---- the words from the first
 
 -- all these words have been taken
-pub record HasTakenWords (m : Reader) (words : List PlacedWord) : Type 0 where
+pub record HasTakenWords (m : Parser) (words : List PlacedWord) : Type 0 where
   pub items : List Item
   pub whole : List PlacedWord
   pub begun : List PlacedWord
@@ -105,7 +114,7 @@ pub record HasTakenWords (m : Reader) (words : List PlacedWord) : Type 0 where
   pub at : IsAtState m state begun
 
 -- some words have been taken, fewer than 2 ^ 63
-pub record IsUnderway (m : Reader) : Type 0 where
+pub record IsUnderway (m : Parser) : Type 0 where
   pub words : List PlacedWord
   pub taken_words : HasTakenWords m words
   pub few : length words < 2 ^ 63
@@ -117,30 +126,34 @@ is_no_memory fault = false
 
 -- a fault with its line; out of memory has none
 abbrev pub error_at : ℕ → Fault → ReadError
-error_at line fault = if is_no_memory fault then memory_error else record { line = line; fault = fault }
+error_at line fault = if is_no_memory fault then memory_error
+    else record { line = line; fault = fault }
 
--- these further words have been taken, or one of them shows a fault whatever follows, or memory has run out
-abbrev pub WordsResult : Reader → List PlacedWord → Result (Unit {0}) ReadError → Reader → Type 0
+-- these further words have been taken, or one of them shows a fault whatever follows, or memory has
+-- run out
+abbrev pub WordsResult : Parser → List PlacedWord → Result (Unit {0}) ReadError → Parser → Type 0
 WordsResult old words (Ok x) new = (words_so_far : List PlacedWord) → HasTakenWords old words_so_far
     → HasTakenWords new (words_so_far ++ words)
-WordsResult old words (Err e) new = (words_so_far more : List PlacedWord) → HasTakenWords old words_so_far
+WordsResult old words (Err e) new = (words_so_far more : List PlacedWord)
+    → HasTakenWords old words_so_far
     → (e ≡ memory_error) ⊎ ShowsFault (words_so_far ++ (words ++ more)) e.line e.fault
 
 -- these words can be taken after those before
-abbrev pub WordCountFits : Reader → List PlacedWord → Type 0
+abbrev pub WordCountFits : Parser → List PlacedWord → Type 0
 WordCountFits m words = (words_so_far : List PlacedWord) × HasTakenWords m words_so_far
     × (length words_so_far + length words < 2 ^ 63)
 
 -- all words of a list have been taken after others, or one shows a fault, or memory has run out
-abbrev pub AllWordsResult : List PlacedWord → List PlacedWord → Result ℕ ReadError → Reader → Type 0
+abbrev pub AllWordsResult : List PlacedWord → List PlacedWord → Result ℕ ReadError → Parser → Type 0
 AllWordsResult words_so_far words (Ok line_feeds) new = HasTakenWords new (words_so_far ++ words)
-AllWordsResult words_so_far words (Err e) new = (e ≡ memory_error) ⊎ ShowsFault (words_so_far ++ words) e.line e.fault
+AllWordsResult words_so_far words (Err e) new = (e ≡ memory_error)
+    ⊎ ShowsFault (words_so_far ++ words) e.line e.fault
 
 -- nothing is open, and `$enddefinitions $end` has come
-abbrev pub is_complete : Reader → Bool
+abbrev pub is_complete : Parser → Bool
 is_complete m = m.in_body && is_nothing m.item
 
 -- the file whose words have been taken means these contents, with this number of skipped variables
-pub record Means (m : Reader) (contents : Contents) (skipped : ℕ) : Type 0 where
+pub record Means (m : Parser) (contents : Contents) (skipped : ℕ) : Type 0 where
   pub sound : (bytes : List ℕ) → HasTakenWords m (words_of bytes) → IsSound contents
   pub means : (bytes : List ℕ) → HasTakenWords m (words_of bytes) → FileMeans bytes contents skipped

@@ -1,5 +1,6 @@
--- The scopes of the reader, in chains: each scope is in the one before it.
-use Rattle.std.specs.Prelude.{◌≡◌, ℕ, ◌<◌, ◌≤◌, List, [], ◌∷◌, ◌++◌, length, take, map, slice_index_or, Option, Some}
+-- The scopes of the parser, in chains: each scope is in the one before it.
+use Rattle.std.specs.Prelude.{◌≡◌, ℕ, ◌<◌, ◌≤◌, List, [], ◌∷◌, ◌++◌, length, take, map}
+use Rattle.std.specs.Prelude.{slice_index_or, Option, Some}
 use Rattle.std.specs.Prelude.{None}
 use Rattle.vcd_core.specs.declared.capture.ScopeName.{ScopeName}
 use Rattle.vcd_core.specs.Contents.{SignalContents}
@@ -30,8 +31,9 @@ abbrev pub AreReached : (chain reach : ℕ) → List ScopePlace → Type 0
 AreReached chain reach [] = Unit {0}
 AreReached chain reach (p ∷ ps) = (p.chain ≡ chain → p.count ≤ reach) × AreReached chain reach ps
 
--- the reader has the open scopes, and those of each kept variable among those declared
-pub record HoldsScopes (s : Scopes) (scopes : List ScopeName) (declared : List VariableDeclaration) : Type 0 where
+-- the parser has the open scopes, and those of each kept variable among those declared
+pub record HoldsScopes (s : Scopes) (scopes : List ScopeName) (declared : List VariableDeclaration)
+    : Type 0 where
   pub within : s.depth ≤ length s.chain.items
   pub inner : take s.depth s.chain.items ≡ scopes
   pub places : AreWithin (chains_of s) s.places.items
@@ -45,7 +47,9 @@ scopes_of chains None = []
 scopes_of chains (Some p) = scopes_at chains p
 
 -- signals with the scopes of these places, in their order; none after the last place
-abbrev pub with_places : List (List ScopeName) → List SignalContents → List ScopePlace → List SignalContents
+abbrev pub with_places : List (List ScopeName) → List SignalContents → List ScopePlace
+    → List SignalContents
 with_places chains [] ps = []
 with_places chains (s ∷ ss) [] = record s { scopes = [] } ∷ with_places chains ss []
-with_places chains (s ∷ ss) (p ∷ ps) = record s { scopes = scopes_at chains p } ∷ with_places chains ss ps
+with_places chains (s ∷ ss) (p ∷ ps) = record s { scopes = scopes_at chains p }
+    ∷ with_places chains ss ps

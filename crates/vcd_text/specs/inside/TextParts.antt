@@ -6,5 +6,6 @@ use Rattle.vcd_text.specs.Text.{header_items, item_line, signal_items, timescale
 
 -- header, timescale and declarations, up to the line that ends them
 abbrev pub declarations_text : Contents → List ℕ
-declarations_text c = flat_map item_line (header_items c.header) ++ flat_map item_line (timescale_items c.timescale)
+declarations_text c =
+    flat_map item_line (header_items c.header) ++ flat_map item_line (timescale_items c.timescale)
     ++ flat_map item_line (signal_items [] 0 c.signals) ++ codes "$enddefinitions $end\n"

@@ -1,5 +1,7 @@
--- The changes in a window of ticks, in two orders: by tick, as in the text, and signal by signal, as in waves.
-use Rattle.std.specs.Prelude.{ℕ, zero, suc, ◌+◌, ◌==◌, if◌then◌else◌, List, [], ◌∷◌, ◌++◌, map, ◌&&◌, Bool, nat_le}
+-- The changes in a window of ticks, in two orders: by tick, as in the text, and signal by signal,
+-- as in waves.
+use Rattle.std.specs.Prelude.{ℕ, zero, suc, ◌+◌, ◌==◌, if◌then◌else◌, List, [], ◌∷◌, ◌++◌, map}
+use Rattle.std.specs.Prelude.{◌&&◌, Bool, nat_le}
 use Rattle.std.specs.Prelude.{nat_lt, slice_index_or}
 use Rattle.std.specs.List.{filter, enumerate_from}
 use Rattle.vcd_core.specs.declared.bit.Bit.{Bit}
@@ -24,7 +26,8 @@ transitions_at t placed = map (λ p. transition_of t p.0) (filter (λ p. differs
 -- the signals that differ, at n ticks from t on
 unfoldable pub transitions_from : List SignalContents → ℕ → ℕ → List Transition
 transitions_from signals t zero = []
-transitions_from signals t (suc n) = transitions_at t (enumerate_from 0 signals) ++ transitions_from signals (suc t) n
+transitions_from signals t (suc n) =
+    transitions_at t (enumerate_from 0 signals) ++ transitions_from signals (suc t) n
 
 -- whether a tick is in a window of ticks: from the first to before the other
 abbrev pub is_in_window : ℕ → ℕ → ℕ → Bool
@@ -50,7 +53,8 @@ unfoldable pub transition_items : List SignalContents → ℕ → List Transitio
 transition_items signals last [] = []
 transition_items signals last (m ∷ ms) =
     (if m.tick == last then [] else stamp_of m.tick ∷ [])
-    ++ value_item (code_of m.position) (transition_value signals m) ∷ transition_items signals m.tick ms
+    ++ value_item (code_of m.position) (transition_value signals m)
+    ∷ transition_items signals m.tick ms
 
 -- the tick of the last of them, or the one before them
 unfoldable pub last_tick : ℕ → List Transition → ℕ

@@ -1,24 +1,28 @@
--- The variables of the reader, compared with the state of a file.
-use Rattle.std.specs.Prelude.{◌≡◌, ◌⊎◌, ℕ, ◌<◌, ◌≤◌, if◌then◌else◌, nat_le, List, [], ◌∷◌, ◌++◌, map, length, slice_get}
-use Rattle.std.specs.Prelude.{count_by, All, Option, Some, None, IsTrue, IsFalse, IsSomeAnd, Result, Ok, Err}
+-- The variables of the parser, compared with the state of a file.
+use Rattle.std.specs.Prelude.{◌≡◌, ◌⊎◌, ℕ, ◌<◌, ◌≤◌, if◌then◌else◌, nat_le, List, [], ◌∷◌, ◌++◌}
+use Rattle.std.specs.Prelude.{map, length, slice_get}
+use Rattle.std.specs.Prelude.{count_by, All, Option, Some, None, IsTrue, IsFalse, IsSomeAnd, Result}
+use Rattle.std.specs.Prelude.{Ok, Err}
 use Rattle.vcd_core.specs.declared.capture.TheConstants.{SIGNAL_LIMIT}
 use Rattle.vcd_core.specs.declared.wave.Change.{Change}
 use Rattle.vcd_core.specs.Value.{all_x}
 use Rattle.vcd_core.specs.Wave.{value_at, IsWave}
-use Rattle.vcd_core.specs.Contents.{signal_contents}
+use Rattle.vcd_core.specs.CaptureContents.{signal_contents}
 use Rattle.vcd_core.specs.declared.capture.ScopeName.{ScopeName}
 use Rattle.vcd_core.specs.declared.capture.Signal.{Signal}
 use Rattle.vcd_text.specs.declared.fault.Fault.{Fault}
 use Rattle.vcd_text.specs.declared.fault.Fault.TheVariants as faults
 use Rattle.vcd_text.specs.Letters.{letters_of_digits, extension}
 use Rattle.vcd_text.specs.Items.{variable}
-use Rattle.vcd_text.specs.Grammar.{VariableDeclaration, ValueChange, ParseState, is_skipped, kept_variables}
-use Rattle.vcd_text.specs.Grammar.{declaration_of, variable_of, may_have_code, has_room, is_binary_number}
+use Rattle.vcd_text.specs.Grammar.{VariableDeclaration, ValueChange, ParseState, is_skipped}
+use Rattle.vcd_text.specs.Grammar.{kept_variables}
+use Rattle.vcd_text.specs.Grammar.{declaration_of, variable_of, may_have_code, has_room}
+use Rattle.vcd_text.specs.Grammar.{is_binary_number}
 use Rattle.vcd_text.specs.Grammar.{takes_binary_number, state_after_item, with_value_change}
 use Rattle.vcd_text.specs.Meaning.{latest_value}
 use Rattle.vcd_text.specs.inside.CodeTargets.{code_target}
 use Rattle.vcd_text.specs.inside.ChangeLog.{GivesLoggedValues, logged, AreGrouped}
-use Rattle.vcd_text.specs.declared.reading.change_log.LoggedChange.{LoggedChange}
+use Rattle.vcd_text.specs.declared.reading.pending.LoggedChange.{LoggedChange}
 use Rattle.vcd_text.specs.declared.reading.code_targets.CodeTarget.{CodeTarget}
 use Rattle.vcd_text.specs.declared.reading.code_targets.CodeTarget.TheVariants.{Skipped, Position}
 use Rattle.vcd_text.specs.declared.reading.variables.Variable.{Variable}
@@ -39,7 +43,7 @@ without_scopes d = record d { scopes = [] }
 abbrev pub without_code : VariableDeclaration → VariableDeclaration
 without_code d = record d { scopes = []; code = [] }
 
--- the declaration of a kept variable of the reader, without its code
+-- the declaration of a kept variable of the parser, without its code
 abbrev pub declaration : Variable → VariableDeclaration
 declaration v = declaration_in v.signal.scopes [] v.signal
 
@@ -47,8 +51,10 @@ declaration v = declaration_in v.signal.scopes [] v.signal
 abbrev pub target_of : Variables → List ℕ → Option CodeTarget
 target_of vs code = code_target vs.code_targets code
 
--- the variable at this position has the size; its wave and its log give the code's value changes up to the tick
-pub record HasWave (vs : List Variable) (log : ℕ → List LoggedChange) (position : ℕ) (code : List ℕ) (size : ℕ)
+-- the variable at this position has the size; its wave and its log give the code's value changes up
+-- to the tick
+pub record HasWave (vs : List Variable) (log : ℕ → List LoggedChange) (position : ℕ) (code : List ℕ)
+    (size : ℕ)
     (value_changes : List ValueChange) (tick : ℕ) : Type 0 where
   pub first : Variable
   pub at_position : slice_get vs position ≡ Some first
@@ -56,8 +62,10 @@ pub record HasWave (vs : List Variable) (log : ℕ → List LoggedChange) (posit
   pub gives : GivesLoggedValues size tick (λ t. latest_value size code t (all_x size) value_changes)
       first.signal.wave.changes (log position)
 
--- the target of a code agrees with the code's declaration, and its wave with the value changes if it is kept
-abbrev pub TargetMatches : List Variable → (ℕ → List LoggedChange) → List ValueChange → ℕ → List ℕ → Option CodeTarget
+-- the target of a code agrees with the code's declaration, and its wave with the value changes if
+-- it is kept
+abbrev pub TargetMatches : List Variable → (ℕ → List LoggedChange) → List ValueChange → ℕ → List ℕ
+    → Option CodeTarget
     → Option VariableDeclaration → Type 0
 TargetMatches vs log value_changes tick code None None = Unit {0}
 TargetMatches vs log value_changes tick code (Some Skipped) (Some d) = IsTrue (is_skipped d)
@@ -65,12 +73,15 @@ TargetMatches vs log value_changes tick code (Some (Position position)) (Some d)
     IsFalse (is_skipped d) × HasWave vs log position code d.size value_changes tick
 TargetMatches vs log value_changes tick code target declared = ⊥
 
--- the same for the variables of the reader and a state of the file
-abbrev pub TargetAgrees : Variables → ParseState → List ℕ → Option CodeTarget → Option VariableDeclaration → Type 0
+-- the same for the variables of the parser and a state of the file
+abbrev pub TargetAgrees : Variables → ParseState → List ℕ → Option CodeTarget
+    → Option VariableDeclaration → Type 0
 TargetAgrees vs c = TargetMatches vs.kept.items (logged vs.log.items) c.value_changes c.tick
 
--- a kept variable has the position of the first one with its code, which is no later and has the same size
-pub record HasFirst (vs : Variables) (declared : List VariableDeclaration) (position : ℕ) (v : Variable) : Type 0 where
+-- a kept variable has the position of the first one with its code, which is no later and has the
+-- same size
+pub record HasFirst (vs : Variables) (declared : List VariableDeclaration) (position : ℕ)
+    (v : Variable) : Type 0 where
   pub owned : (d : VariableDeclaration) → slice_get declared position ≡ Some d
       → target_of vs d.code ≡ Some (Position v.first)
   pub no_later : v.first ≤ position
@@ -88,12 +99,14 @@ HaveOwnCodes vs declared =
     (code : List ℕ) (position : ℕ) → target_of vs code ≡ Some (Position position)
     → (d : VariableDeclaration) × (slice_get declared position ≡ Some d) × (d.code ≡ code)
 
--- the variables match the state: declarations without their scopes, and value changes up to the tick
+-- the variables match the state: declarations without their scopes, and value changes up to the
+-- tick
 pub record VariablesMatch (vs : Variables) (c : ParseState) : Type 0 where
   pub kept : map without_code (kept_variables c.declared) ≡ map declaration vs.kept.items
   pub skipped : vs.skipped ≡ count_by is_skipped c.declared
   pub widths : vs.widths.items ≡ map (λ (v : Variable). v.signal.wave.width) vs.kept.items
-  pub targets_agree : (code : List ℕ) → TargetAgrees vs c code (target_of vs code) (variable_of c code)
+  pub targets_agree : (code : List ℕ) → TargetAgrees vs c code (target_of vs code)
+      (variable_of c code)
   pub owners : HaveOwnCodes vs (kept_variables c.declared)
   pub firsts : (position : ℕ) (v : Variable) → slice_get vs.kept.items position ≡ Some v
       → HasFirst vs (kept_variables c.declared) position v
@@ -109,13 +122,16 @@ with_declaration c d = record c { declared = c.declared ++ d ∷ [] }
 
 -- the declaration is not allowed here
 pub data CannotDeclare (c : ParseState) (d : VariableDeclaration) (fault : Fault) : Type 0 where
-  mixed : IsFalse (may_have_code (variable_of c d.code) d) → fault ≡ faults.MixedCode → CannotDeclare c d fault
+  mixed : IsFalse (may_have_code (variable_of c d.code) d) → fault ≡ faults.MixedCode
+      → CannotDeclare c d fault
   many : IsTrue (may_have_code (variable_of c d.code) d) → IsFalse (has_room c.declared d)
       → fault ≡ faults.TooManySignals → CannotDeclare c d fault
 
 -- the result of a declaration: it is added, or not allowed here, or memory runs out
-abbrev pub DeclaresAs : ParseState → VariableDeclaration → Result (Unit {0}) Fault → Variables → Type 0
-DeclaresAs c d (Ok x) new = IsTrue (may_have_code (variable_of c d.code) d) × IsTrue (has_room c.declared d)
+abbrev pub DeclaresAs : ParseState → VariableDeclaration → Result (Unit {0}) Fault → Variables
+    → Type 0
+DeclaresAs c d (Ok x) new = IsTrue (may_have_code (variable_of c d.code) d)
+    × IsTrue (has_room c.declared d)
     × VariablesMatch new (with_declaration c d)
 DeclaresAs c d (Err fault) new = (fault ≡ faults.NoMemory) ⊎ CannotDeclare c d fault
 
@@ -149,14 +165,16 @@ pub record HasValueFrom (tick : ℕ) (digits : List ℕ) (old new : Variable) : 
   pub same_first_position : new.first ≡ old.first
   pub ticks : All (λ (change : Change). change.tick ≤ tick) new.signal.wave.changes
   pub values : (t : ℕ) → value_at new.signal.wave.width new.signal.wave.changes t
-      ≡ (if nat_le tick t then extension old.signal.wave.width (letters_of_digits digits) else value_at
+      ≡ (if nat_le tick t then extension old.signal.wave.width (letters_of_digits digits)
+      else value_at
       old.signal.wave.width old.signal.wave.changes t)
 
 -- ---- the result of a change with these digits
 
 -- the code is not declared, or its variable refuses the digits
 pub data BinaryNumberFault (c : ParseState) (code digits : List ℕ) (fault : Fault) : Type 0 where
-  unknown : variable_of c code ≡ None → fault ≡ faults.UnknownCode → BinaryNumberFault c code digits fault
+  unknown : variable_of c code ≡ None → fault ≡ faults.UnknownCode
+      → BinaryNumberFault c code digits fault
   no_value : (d : VariableDeclaration) → variable_of c code ≡ Some d → IsFalse (is_skipped d)
       → IsFalse (is_binary_number digits)
       → fault ≡ faults.BadChange → BinaryNumberFault c code digits fault
@@ -165,15 +183,18 @@ pub data BinaryNumberFault (c : ParseState) (code digits : List ℕ) (fault : Fa
       → fault ≡ faults.ValueTooLong → BinaryNumberFault c code digits fault
 
 -- the result of the change: it is added, or shows a fault, or memory runs out
-abbrev pub ChangeResult : ParseState → (code digits : List ℕ) → Result (Unit {0}) Fault → Variables → Type 0
+abbrev pub ChangeResult : ParseState → (code digits : List ℕ) → Result (Unit {0}) Fault → Variables
+    → Type 0
 ChangeResult c code digits (Ok x) new =
     IsSomeAnd (variable_of c code) (λ d. IsTrue (takes_binary_number d digits))
     × VariablesMatch new (with_value_change c code (letters_of_digits digits))
-ChangeResult c code digits (Err fault) new = (fault ≡ faults.NoMemory) ⊎ BinaryNumberFault c code digits fault
+ChangeResult c code digits (Err fault) new = (fault ≡ faults.NoMemory)
+    ⊎ BinaryNumberFault c code digits fault
 
 -- ---- the signals of the variables at the end
 
--- the signal of a variable has its own wave, or that of the signal at the position of the first variable with its code
+-- the signal of a variable has its own wave, or that of the signal at the position of the first
+-- variable with its code
 abbrev pub Finishes : Variable → Option Signal → Signal → Type 0
 Finishes v None signal = (signal ≡ v.signal) × IsWave signal.wave.width signal.wave.changes
 Finishes v (Some shared) signal =

@@ -1,12 +1,12 @@
 -- A window of ticks, and the keys of the changes in it.
 use Rattle.std.specs.Prelude.{◌≡◌, ◌<◌, ◌≤◌, ◌+◌, ◌/◌, ◌%◌, ℕ, List, length, map, All, vec_capacity}
-use Rattle.vcd_core.specs.Contents.{signal_contents}
+use Rattle.vcd_core.specs.CaptureContents.{signal_contents}
 use Rattle.vcd_core.specs.Sound.{IsSoundSignal}
 use Rattle.vcd_core.specs.declared.capture.Signal.{Signal}
 use Rattle.vcd_core.specs.declared.capture.TheConstants.{END_LIMIT, SIGNAL_LIMIT}
 use Rattle.vcd_text.specs.declared.writing.window.Window.{Window}
 use Rattle.vcd_text.specs.declared.writing.window.TheConstants.{POSITIONS}
-use Rattle.vcd_text.specs.inside.NextChanges.{AreNext}
+use Rattle.vcd_text.specs.inside.Cursors.{AreNext}
 use Rattle.vcd_text.specs.inside.Transitions.{Transition, transition_of}
 
 -- the transition of a key in the window from a tick on: the ticks after it, then the position
@@ -28,5 +28,5 @@ pub record IsReady (end from : ℕ) (signals : List Signal) (window : Window) : 
   pub sound : All (IsSoundSignal end) (map signal_contents signals)
   pub some : 1 ≤ from
   pub room : length signals ≤ vec_capacity window.keys
-  pub next : AreNext from signals window.next_changes.items
-  pub search_hints : length window.search_hints.items ≡ length signals
+  pub next : AreNext from signals window.cursors.items
+  pub start_places : length window.start_places.items ≡ length signals

@@ -1,16 +1,18 @@
 //! The values that a file writes in binary digits (IEEE 1364-2005, 18.2).
 
-ghost use Rattle.std.specs.Prelude.{◌≡◌, ◌<◌, ◌≤◌, true, false, [], ◌∷◌, length, MatchOption, MatchResult};
+ghost use Rattle.std.specs.Prelude.{◌≡◌, ◌<◌, ◌≤◌, true, false, [], ◌∷◌, length, MatchOption};
+ghost use Rattle.std.specs.Prelude.{MatchResult};
 ghost use Rattle.std.specs.List.{list_all};
-ghost use Rattle.vcd_core.specs.WordRows.{letters_of};
-ghost use Rattle.vcd_text.specs.Letters.{is_binary_digit as digit_test, letters_of_digits, value_of_digits as digits_value, extension};
+ghost use Rattle.vcd_core.specs.BlockRows.{letters_of};
+ghost use Rattle.vcd_text.specs.Letters.{is_binary_digit as digit_test, letters_of_digits};
+ghost use Rattle.vcd_text.specs.Letters.{value_of_digits as digits_value, extension};
 ghost use Rattle.vcd_text.specs.inside.ValueDigits.{WritesValue, RefusesBinaryNumber};
-ghost use Rattle.vcd_text.specs.inside.LetterWords.{digits_of};
+ghost use Rattle.vcd_text.specs.inside.LetterBlocks.{digits_of};
 
 use crate::fault::Fault;
-use crate::reading::digit_words::word_of_digits;
+use crate::reading::digit_blocks::block_of_digits;
 use crate::reading::digits::{are_binary_digits, pad_of};
-use vcd_core::{Bit, LetterWord, Value, WIDTH_LIMIT, WORDS, words_in};
+use vcd_core::{BLOCKS, Bit, LetterBlock, Value, WIDTH_LIMIT, blocks_in};
 
 /// The value of `width` bits that the digits write, extended on the left. The error is `BadChange`
 /// if there is no digit or a byte is none, and `ValueTooLong` for more digits than the width.
@@ -27,13 +29,14 @@ pub fn read_value(width: u64, digits: &[u8]) -> Result<Value, Fault>
 }
 
 /// Does what [`read_value`] does, for a width of at most 64 bits.
-pub fn read_letter_word(width: u64, digits: &[u8]) -> Result<LetterWord, Fault>
+pub fn read_letter_block(width: u64, digits: &[u8]) -> Result<LetterBlock, Fault>
     requires { width ≤ 64 }
-    ensures { MatchResult result (λ word. WritesValue width digits.now (letters_of width (word ∷ [])))
+    ensures { MatchResult result (λ block. WritesValue width digits.now
+        (letters_of width (block ∷ [])))
         (λ fault. RefusesBinaryNumber width digits.now fault) }
 {
     check_count(width, digits)?;
-    extended_word(width, digits).ok_or(Fault::BadChange)
+    extended_block(width, digits).ok_or(Fault::BadChange)
 }
 
 /// The value of `width` bits that the binary digits write, extended on the left (IEEE 1364-2005,
@@ -65,18 +68,18 @@ fn check_count(width: u64, digits: &[u8]) -> Result<(), Fault>
 }
 
 /// The digits as letters, extended on the left to `width`; none if one is no binary digit.
-fn extended_word(width: u64, digits: &[u8]) -> Option<LetterWord>
+fn extended_block(width: u64, digits: &[u8]) -> Option<LetterBlock>
     requires narrow { width ≤ 64 }
     requires fits { length digits.now ≤ width }
-    ensures { MatchOption result (list_all digit_test digits.now ≡ false) (λ word.
+    ensures { MatchOption result (list_all digit_test digits.now ≡ false) (λ block.
         (list_all digit_test digits.now ≡ true) ×
-        (letters_of width (word ∷ [])
+        (letters_of width (block ∷ [])
         ≡ extension width (letters_of_digits digits.now))) }
 {
-    word_of_digits(pad_of(digits), digits)
+    block_of_digits(pad_of(digits), digits)
 }
 
-/// The digits as letters, extended on the left to `width`, a word of 64 at a time. It is none if
+/// The digits as letters, extended on the left to `width`, a block of 64 at a time. It is none if
 /// one is no binary digit.
 fn extended_value(width: u64, digits: &[u8]) -> Option<Value>
     requires least { 1 ≤ width }
@@ -87,17 +90,17 @@ fn extended_value(width: u64, digits: &[u8]) -> Option<Value>
         (value ≡ extension width (letters_of_digits digits.now))) }
 {
     let pad = pad_of(digits);
-    let mut words = [LetterWord::filled(Bit::Zero); WORDS];
-    for k in 0..words_in(width) {
-        let word = word_of_digits(pad, digits_of_word(digits, k))?;
-        words[k] = word;
+    let mut blocks = [LetterBlock::filled(Bit::Zero); BLOCKS];
+    for k in 0..blocks_in(width) {
+        let block = block_of_digits(pad, digits_of_word(digits, k))?;
+        blocks[k] = block;
     }
-    Some(Value::from_words(width, &words))
+    Some(Value::from_blocks(width, &blocks))
 }
 
 /// The digits of the 64 letters from bit `64 * k` on. There can be fewer.
 fn digits_of_word(digits: &[u8], k: usize) -> &[u8]
-    requires { k < WORDS }
+    requires { k < BLOCKS }
     ensures { result.now ≡ digits_of digits.now k }
 {
     let end = digits.len().saturating_sub(64 * k);

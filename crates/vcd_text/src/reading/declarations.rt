@@ -3,22 +3,23 @@
 ghost use Rattle.std.specs.Prelude.{◌≡◌, ◌∷◌, ◌++◌, ℕ, [], true, false, IsFalse, MatchOption, OnOk};
 ghost use Rattle.vcd_text.specs.Words.{word_on};
 ghost use Rattle.vcd_core.specs.Word.{is_one_of};
-ghost use Rattle.vcd_text.specs.Items.{end_word, is_end_word, declaration_words, header_words, begins_declaration};
+ghost use Rattle.vcd_text.specs.Items.{end_word, is_end_word, declaration_words, header_words};
+ghost use Rattle.vcd_text.specs.Items.{begins_declaration};
 ghost use Rattle.vcd_text.specs.inside.Reading.{IsUnderway, WordResult};
 ghost use Rattle.vcd_text.specs.inside.OpenItems.{is_inside};
 ghost use Rattle.vcd_text.specs.inside.OpeningWords.{Opens, keeps_words};
-ghost use Rattle.vcd_text.specs.declared.reading.reader.OpenItem.TheVariants as items;
+ghost use Rattle.vcd_text.specs.declared.reading.parser.OpenItem.TheVariants as items;
 
 use crate::fault::Fault;
 use crate::reading::keywords::{is_command, is_dump_word};
-use crate::reading::reader::{OpenItem, Reader};
+use crate::reading::parser::{OpenItem, Parser};
 use crate::reading::ticks_and_sizes::size_of;
 use crate::reading::timescale::timescale_in;
 use std::alloc::Global;
 use std::mem::replace;
 use vcd_core::{Header, HeaderKind, NoMemory, ScopeName, Seq, Word, copy_word};
 
-impl Reader {
+impl Parser {
     /// Begins a declaration, or a command that is passed over.
     ///
     /// The error is `UpscopeAtTop` for `$upscope` if no scope is open, and `UnexpectedWord` for a

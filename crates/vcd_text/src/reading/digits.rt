@@ -2,8 +2,9 @@
 
 ghost use Rattle.std.specs.Prelude.{◌≡◌, true, Some};
 ghost use Rattle.std.specs.List.{list_all};
-ghost use Rattle.vcd_text.specs.Letters.{letter_of_digit, is_binary_digit as digit_test, letters_of_digits, pad_letter};
-ghost use Rattle.vcd_text.specs.inside.LetterWords.{is_two_state};
+ghost use Rattle.vcd_text.specs.Letters.{letter_of_digit, is_binary_digit as digit_test};
+ghost use Rattle.vcd_text.specs.Letters.{letters_of_digits, pad_letter};
+ghost use Rattle.vcd_text.specs.inside.LetterBlocks.{is_two_state};
 
 use vcd_core::Bit;
 

@@ -1,7 +1,7 @@
 //! The paths of the scopes of a file's signals.
 
 ghost use Rattle.std.specs.Prelude.{◌≡◌, map, slice_get, IfOk, OnOk};
-ghost use Rattle.vcd_core.specs.Contents.{signal_contents};
+ghost use Rattle.vcd_core.specs.CaptureContents.{signal_contents};
 ghost use Rattle.vcd_text.specs.inside.Scopes.{scopes_at, scopes_of, with_places};
 
 use crate::reading::scopes::ScopePlace;

@@ -38,7 +38,7 @@ pub struct Scopes {
 
 impl Scopes {
     ghost use Rattle.std.specs.Prelude.{ℕ, List, ◌-◌, ◌++◌, ◌∷◌, [], map, take, OnOk};
-    ghost use Rattle.vcd_core.specs.Contents.{signal_contents};
+    ghost use Rattle.vcd_core.specs.CaptureContents.{signal_contents};
     ghost use Rattle.vcd_text.specs.Items.{variable};
     ghost use Rattle.vcd_text.specs.Grammar.{ParseState, kept_variables, state_after_item};
     ghost use Rattle.vcd_text.specs.Meaning.{declared_signal};
@@ -121,9 +121,11 @@ impl Scopes {
     /// Notes the place of the variable that these words have just declared, if it is kept. `kept`
     /// is the number of kept variables.
     pub fn note_place(&mut self, kept: usize) -> Result<(), NoMemory>
-        ensures { (c : ParseState) (words : List (List ℕ)) → HoldsScopes self.old c.scopes c.declared →
+        ensures { (c : ParseState) (words : List (List ℕ))
+            → HoldsScopes self.old c.scopes c.declared →
             kept ≡ length (kept_variables (state_after_item c (variable words)).declared) →
-            OnOk result (HoldsScopes self.new c.scopes (state_after_item c (variable words)).declared) }
+            OnOk result (HoldsScopes self.new c.scopes
+            (state_after_item c (variable words)).declared) }
     {
         if kept > self.places.len() {
             let chain = self.chains.len();
@@ -138,7 +140,8 @@ impl Scopes {
     pub fn place_signals(self, alloc: Global, signals: &mut [Signal]) -> Result<(), NoMemory>
         ensures { (c : ParseState) → HoldsScopes self c.scopes c.declared →
             map signal_contents signals.old ≡
-            map (declared_signal c.value_changes c.tick) (map without_scopes (kept_variables c.declared)) →
+            map (declared_signal c.value_changes c.tick)
+            (map without_scopes (kept_variables c.declared)) →
             OnOk result (map signal_contents signals.new ≡
             map (declared_signal c.value_changes c.tick) (kept_variables c.declared)) }
     {

@@ -2,15 +2,16 @@
 
 ghost use Rattle.std.specs.Prelude.{◌≡◌, ◌≤◌, ◌+◌, [], false, length, IsOk, OnOk, All};
 ghost use Rattle.vcd_text.specs.Grammar.{ParseState};
-ghost use Rattle.vcd_text.specs.inside.ChangeLog.{AppliesToVariable, HasExactRoom, counted_variable};
+ghost use Rattle.vcd_text.specs.inside.ChangeLog.{AppliesToVariable, HasExactRoom};
+ghost use Rattle.vcd_text.specs.inside.ChangeLog.{counted_variable};
 ghost use Rattle.vcd_text.specs.inside.Variables.{VariablesMatch};
 
-mod changing;
 mod declaring;
 mod finishing;
+mod set;
 
-use crate::reading::change_log::{LoggedChange, ReserveHint};
 use crate::reading::code_targets::CodeTargets;
+use crate::reading::pending::{ExpectedRoom, LoggedChange};
 use std::alloc::Global;
 use std::mem::replace;
 use vcd_core::{NoMemory, Signal};
@@ -25,7 +26,7 @@ pub struct Variable {
     /// The position of the first variable with this code.
     pub first: usize,
     /// How many changes the wave is about to get from the log, at most.
-    pub hint: ReserveHint,
+    pub expected_room: ExpectedRoom,
 }
 
 impl Variable {
@@ -33,26 +34,27 @@ impl Variable {
     pub fn count_logged(&mut self, change: LoggedChange)
         ensures { self.new ≡ counted_variable self.old change }
     {
-        self.hint = self.hint.with_change(change);
+        self.expected_room = self.expected_room.with_change(change);
     }
 
     /// Takes a change of the log. Room for the counted changes is made first, and their count
     /// becomes 0.
-    pub fn take_logged(&mut self, change: LoggedChange) -> Result<(), NoMemory>
+    pub fn apply_logged(&mut self, change: LoggedChange) -> Result<(), NoMemory>
         requires narrow { self.old.signal.wave.width ≤ 64 }
         requires none_later { All (λ c. c.tick ≤ change.tick) self.old.signal.wave.changes }
         ensures taken { OnOk result (AppliesToVariable change self.old self.new) }
         // It succeeds if the wave's own list has room for the counted changes and this one.
         ensures in_place { self.old.signal.wave.is_shared ≡ false →
             length self.old.signal.wave.changes + 1 ≤ self.old.signal.wave.capacity →
-            length self.old.signal.wave.changes + self.old.hint.count ≤ self.old.signal.wave.capacity →
+            length self.old.signal.wave.changes + self.old.expected_room.count
+            ≤ self.old.signal.wave.capacity →
             IsOk result }
         ensures exact { OnOk result (HasExactRoom self.old self.new) }
-        ensures counted { OnOk result (self.new.hint.count ≡ 0) }
+        ensures counted { OnOk result (self.new.expected_room.count ≡ 0) }
     {
-        let more = replace(&mut self.hint.count, 0);
+        let more = replace(&mut self.expected_room.count, 0);
         self.signal.wave.reserve_exact(more)?;
-        self.signal.wave.push_word(change.tick, change.word)
+        self.signal.wave.push_block(change.tick, change.word)
     }
 }
 
@@ -74,7 +76,8 @@ pub struct Variables {
 impl Variables {
     /// No variables. It takes no memory.
     pub fn new(alloc: Global) -> Variables
-        ensures { (c : ParseState) → c.declared ≡ [] → c.value_changes ≡ [] → VariablesMatch result c }
+        ensures { (c : ParseState) → c.declared ≡ [] → c.value_changes ≡ []
+            → VariablesMatch result c }
     {
         Variables {
             kept: Vec::new(alloc),

@@ -1,6 +1,8 @@
 //! A buffer before a writer: the text is written in large parts, and no memory is taken meanwhile.
 
-ghost use Rattle.std.specs.Prelude.{◌≡◌, ◌<◌, ◌≤◌, ◌+◌, ◌-◌, ◌^◌, nat_le, false, true, ℕ, List, [], ◌∷◌, Option, length, take, vec_len, vec_capacity, OnOk, IfErr, IfOk};
+ghost use Rattle.std.specs.Prelude.{◌≡◌, ◌<◌, ◌≤◌, ◌+◌, ◌-◌, ◌^◌, nat_le, false, true, ℕ, List, []};
+ghost use Rattle.std.specs.Prelude.{◌∷◌, Option, length, take, vec_len, vec_capacity, OnOk, IfErr};
+ghost use Rattle.std.specs.Prelude.{IfOk};
 ghost use Rattle.std.specs.Io.KnownBytes.{Appends};
 ghost use Rattle.vcd_text.specs.WriteEnds.{TookBefore};
 ghost use Rattle.vcd_text.specs.inside.Written.{HasEmitted, Emits};
@@ -37,7 +39,8 @@ pub fn write_bytes<W: Sink>(buffer: &mut WriteBuffer, writer: &mut W, bytes: &[u
     ensures written { Emits W.taken W.has_failed (buffer.old, writer.old) (buffer.new, writer.new)
         bytes.now }
     // if there is room, the writer is not called
-    ensures buffered { vec_len buffer.old.unsent + length bytes.now ≤ vec_capacity buffer.old.unsent →
+    ensures buffered { vec_len buffer.old.unsent + length bytes.now
+        ≤ vec_capacity buffer.old.unsent →
         writer.new ≡ writer.old }
     ensures room { vec_capacity buffer.old.unsent ≤ vec_capacity buffer.new.unsent }
 {

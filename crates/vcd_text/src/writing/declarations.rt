@@ -4,10 +4,11 @@ ghost use Rattle.std.specs.Prelude.{◌≡◌, ◌<◌, ◌≤◌, [], length, m
 ghost use Rattle.std.specs.List.{common_prefix_len, flat_map};
 ghost use Rattle.std.specs.Cmp.Lexicographic.{pointwise};
 ghost use Rattle.std.specs.Str.{bytes_eq};
-ghost use Rattle.vcd_core.specs.Contents.{contents, signal_contents};
+ghost use Rattle.vcd_core.specs.CaptureContents.{contents, signal_contents};
 ghost use Rattle.vcd_core.specs.declared.capture.TheConstants.{SIGNAL_LIMIT};
 ghost use Rattle.vcd_text.specs.Items.{entry, header_word, scope, upscope};
-ghost use Rattle.vcd_text.specs.Text.{header_items, item_line, same_scope, scope_items, signal_items, timescale_items, variable_item};
+ghost use Rattle.vcd_text.specs.Text.{header_items, item_line, same_scope, scope_items};
+ghost use Rattle.vcd_text.specs.Text.{signal_items, timescale_items, variable_item};
 ghost use Rattle.vcd_text.specs.inside.TextParts.{declarations_text};
 ghost use Rattle.vcd_text.specs.inside.Written.{Emits};
 

@@ -2,7 +2,7 @@
 
 ghost use Rattle.std.specs.Prelude.{◌≡◌, ◌≤◌, ◌++◌, length, map, All};
 ghost use Rattle.std.specs.List.{flat_map};
-ghost use Rattle.vcd_core.specs.Contents.{signal_contents};
+ghost use Rattle.vcd_core.specs.CaptureContents.{signal_contents};
 ghost use Rattle.vcd_core.specs.declared.capture.TheConstants.{END_LIMIT, SIGNAL_LIMIT};
 ghost use Rattle.vcd_text.specs.inside.Transitions.{last_tick, transition_items};
 ghost use Rattle.vcd_text.specs.inside.Windows.{IsKey, IsReady, transitions_of};
@@ -11,7 +11,7 @@ ghost use Rattle.vcd_text.specs.declared.writing.window.TheConstants.{POSITIONS}
 ghost use Rattle.vcd_text.specs.Text.{end_items, item_line, tick_items};
 
 use super::buffer::WriteBuffer;
-use super::next_changes::{NextChange, tick_at_place};
+use super::cursors::{Cursor, tick_at_place};
 use super::stamps::{write_last_stamp, write_new_stamp};
 use super::values::write_value_near;
 use super::window::{POSITIONS, Window, fill_window};
@@ -41,8 +41,8 @@ pub fn write_transitions<W: Sink>(
         }
         let count = fill_window(window, signals, from, most.min(end - from + 1), end);
         let keys = window.keys.as_slice();
-        let search_hints = window.search_hints.as_mut_slice();
-        last = write_keys(buffer, writer, signals, keys, search_hints, from, last);
+        let start_places = window.start_places.as_mut_slice();
+        last = write_keys(buffer, writer, signals, keys, start_places, from, last);
         most = next_window_ticks(count, window.keys.len(), window.keys.capacity());
         from += count;
     }
@@ -79,31 +79,31 @@ fn next_window_ticks(count: u64, used: usize, room: usize) -> u64
 }
 
 /// Writes the changes of keys, after the text up to tick `last`. Returns the last tick. At
-/// `search_hints` is the place where the next change of each signal is looked up first.
+/// `start_places` is the place where the next change of each signal is looked up first.
 fn write_keys<W: Sink>(
     buffer: &mut WriteBuffer,
     writer: &mut W,
     signals: &[Signal],
     keys: &[u64],
-    search_hints: &mut [NextChange],
+    start_places: &mut [Cursor],
     from: u64,
     last: u64,
 ) -> u64
     requires few { length signals.now ≤ SIGNAL_LIMIT }
     requires keys { All (IsKey from (length signals.now)) keys.now }
-    requires search_hints { length search_hints.old ≡ length signals.now }
+    requires start_places { length start_places.old ≡ length signals.now }
     ensures text { Emits W.taken W.has_failed (buffer.old, writer.old) (buffer.new, writer.new)
         (flat_map item_line (transition_items (map signal_contents signals.now) last
         (transitions_of from keys.now))) }
     ensures last { result ≡ last_tick last (transitions_of from keys.now) }
-    ensures search_hints { length search_hints.new ≡ length search_hints.old }
+    ensures start_places { length start_places.new ≡ length start_places.old }
 {
     let mut last = last;
     for (k, key) in keys.iter().enumerate() {
-        prefetch_changes(signals, search_hints, keys, k);
+        prefetch_changes(signals, start_places, keys, k);
         let tick = from + *key / POSITIONS;
         let position = (*key % POSITIONS) as usize;
-        let place = search_hints[position].place;
+        let place = start_places[position].place;
         write_new_stamp(buffer, writer, last, tick);
         write_value_near(
             buffer,
@@ -113,7 +113,7 @@ fn write_keys<W: Sink>(
             tick,
             place,
         );
-        search_hints[position].place = place.saturating_add(1);
+        start_places[position].place = place.saturating_add(1);
         last = tick;
     }
     last
@@ -124,26 +124,26 @@ fn write_keys<W: Sink>(
 const PREFETCH_COUNT: usize = 32;
 
 /// Reads the changes of the next `PREFETCH_COUNT` keys, if the place is a multiple of that number.
-fn prefetch_changes(signals: &[Signal], search_hints: &mut [NextChange], keys: &[u64], place: usize)
-    ensures { length search_hints.new ≡ length search_hints.old }
+fn prefetch_changes(signals: &[Signal], start_places: &mut [Cursor], keys: &[u64], place: usize)
+    ensures { length start_places.new ≡ length start_places.old }
 {
     if place % PREFETCH_COUNT != 0 {
         return;
     }
     for k in place..keys.len().min(place.saturating_add(PREFETCH_COUNT)) {
-        prefetch_change(signals, search_hints, keys[k]);
+        prefetch_change(signals, start_places, keys[k]);
     }
 }
 
 /// Looks at the change of a key, so that it is in the cache when it is written. Nothing waits for
 /// what it reads.
-fn prefetch_change(signals: &[Signal], search_hints: &mut [NextChange], key: u64)
-    ensures { length search_hints.new ≡ length search_hints.old }
+fn prefetch_change(signals: &[Signal], start_places: &mut [Cursor], key: u64)
+    ensures { length start_places.new ≡ length start_places.old }
 {
     let position = (key % POSITIONS) as usize;
-    if position >= search_hints.len() || position >= signals.len() {
+    if position >= start_places.len() || position >= signals.len() {
         return;
     }
     let changes = signals[position].wave.changes();
-    search_hints[position].tick = tick_at_place(changes, search_hints[position].place);
+    start_places[position].tick = tick_at_place(changes, start_places[position].place);
 }

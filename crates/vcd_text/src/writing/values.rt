@@ -1,19 +1,21 @@
 //! Printed values: one letter, or `b` and the short form.
 
-ghost use Rattle.std.specs.Prelude.{◌≡◌, ◌<◌, ◌≤◌, ◌+◌, ◌-◌, ◌*◌, ◌^◌, ◌∷◌, ◌++◌, [], ℕ, true, false, if◌then◌else◌, length, drop, slice_index};
+ghost use Rattle.std.specs.Prelude.{◌≡◌, ◌<◌, ◌≤◌, ◌+◌, ◌-◌, ◌*◌, ◌^◌, ◌∷◌, ◌++◌, [], ℕ, true};
+ghost use Rattle.std.specs.Prelude.{false, if◌then◌else◌, length, drop, slice_index};
 ghost use Rattle.std.specs.Int.{bit_at};
 ghost use Rattle.vcd_core.specs.Value.{printed_letter, same_letter};
 ghost use Rattle.vcd_core.specs.Wave.{value_at};
-ghost use Rattle.vcd_core.specs.WordRows.{letter_in, letters_of};
+ghost use Rattle.vcd_core.specs.BlockRows.{letter_in, letters_of};
 ghost use Rattle.vcd_core.specs.declared.capture.TheConstants.{SIGNAL_LIMIT};
 ghost use Rattle.vcd_text.specs.Letters.{pad_letter, printed_letters, short_form};
 ghost use Rattle.vcd_text.specs.Text.{code_of, item_line, value_item};
-ghost use Rattle.vcd_text.specs.inside.ValueFronts.{IsShortFormLen, is_redundant_above, value_front};
+ghost use Rattle.vcd_text.specs.inside.ValueFronts.{IsShortFormLen, is_redundant_above};
+ghost use Rattle.vcd_text.specs.inside.ValueFronts.{value_front};
 ghost use Rattle.vcd_text.specs.inside.Written.{Emits};
 
 use super::buffer::{WriteBuffer, write_byte, write_bytes};
 use super::codes::write_code;
-use vcd_core::{Bit, LetterWord, Sink, Value, Wave};
+use vcd_core::{Bit, LetterBlock, Sink, Value, Wave};
 
 /// Writes the value at `tick`. If the change at `place` has that tick, it writes its value, without
 /// a search.
@@ -48,7 +50,7 @@ fn write_value<W: Sink>(buffer: &mut WriteBuffer, writer: &mut W, position: usiz
 {
     let width = value.width();
     if width <= 64 {
-        write_word_value(buffer, writer, position, width, value.word(0));
+        write_block_value(buffer, writer, position, width, value.block(0));
         return;
     }
     write_byte(buffer, writer, b'b');
@@ -58,44 +60,49 @@ fn write_value<W: Sink>(buffer: &mut WriteBuffer, writer: &mut W, position: usiz
     write_byte(buffer, writer, b'\n');
 }
 
-/// Writes the line that gives the value of at most 64 bits, with the letters of this word, to the
+/// Writes the line that gives the value of at most 64 bits, with the letters of this block, to the
 /// signal at `position`. Letters from bit `width` on are ignored. It takes a step for each two
 /// written letters.
-fn write_word_value<W: Sink>(
+fn write_block_value<W: Sink>(
     buffer: &mut WriteBuffer,
     writer: &mut W,
     position: usize,
     width: u64,
-    word: LetterWord,
+    block: LetterBlock,
 )
     requires position { position < SIGNAL_LIMIT }
     requires least { 1 ≤ width }
     requires most { width ≤ 64 }
     ensures { Emits W.taken W.has_failed (buffer.old, writer.old) (buffer.new, writer.new)
-        (item_line (value_item (code_of position) (letters_of width (word ∷ [])))) }
+        (item_line (value_item (code_of position) (letters_of width (block ∷ [])))) }
 {
-    write_word_front(buffer, writer, width, word);
+    write_block_front(buffer, writer, width, block);
     write_code(buffer, writer, position);
     write_byte(buffer, writer, b'\n');
 }
 
 /// Writes the part before the code: one letter, or `b`, the short form and a space.
-fn write_word_front<W: Sink>(buffer: &mut WriteBuffer, writer: &mut W, width: u64, word: LetterWord)
+fn write_block_front<W: Sink>(
+    buffer: &mut WriteBuffer,
+    writer: &mut W,
+    width: u64,
+    block: LetterBlock,
+)
     requires least { 1 ≤ width }
     requires most { width ≤ 64 }
     ensures { Emits W.taken W.has_failed (buffer.old, writer.old) (buffer.new, writer.new)
-        (value_front (letters_of width (word ∷ []))) }
+        (value_front (letters_of width (block ∷ []))) }
 {
     if width == 1 {
-        write_byte(buffer, writer, letter_pair(word)[1]);
+        write_byte(buffer, writer, letter_pair(block)[1]);
         return;
     }
     write_byte(buffer, writer, b'b');
-    write_letters(buffer, writer, short_form_len_of_word(width, word), word);
+    write_letters(buffer, writer, short_form_len_of_block(width, block), block);
     write_byte(buffer, writer, b' ');
 }
 
-/// Writes the letters of a value that are below bit `count`, a word at a time.
+/// Writes the letters of a value that are below bit `count`, a block at a time.
 fn write_lowest<W: Sink>(buffer: &mut WriteBuffer, writer: &mut W, value: &Value, count: u64)
     requires { count ≤ length value.now }
     ensures { Emits W.taken W.has_failed (buffer.old, writer.old) (buffer.new, writer.new)
@@ -103,33 +110,38 @@ fn write_lowest<W: Sink>(buffer: &mut WriteBuffer, writer: &mut W, value: &Value
 {
     let mut left = count;
     while left > 0 {
-        let word = (left - 1) / 64;
-        write_letters(buffer, writer, left - 64 * word, value.word(word as usize));
-        left = 64 * word;
+        let block = (left - 1) / 64;
+        write_letters(
+            buffer,
+            writer,
+            left - 64 * block,
+            value.block(block as usize),
+        );
+        left = 64 * block;
     }
 }
 
-/// Writes the `count` lowest letters of a word.
-fn write_letters<W: Sink>(buffer: &mut WriteBuffer, writer: &mut W, count: u64, word: LetterWord)
+/// Writes the `count` lowest letters of a block.
+fn write_letters<W: Sink>(buffer: &mut WriteBuffer, writer: &mut W, count: u64, block: LetterBlock)
     requires { count ≤ 64 }
     ensures { Emits W.taken W.has_failed (buffer.old, writer.old) (buffer.new, writer.new)
-        (printed_letters (letters_of count (word ∷ []))) }
+        (printed_letters (letters_of count (block ∷ []))) }
 {
     let mut letters = [0; 64];
-    fill_letters(&mut letters, count as usize, word);
+    fill_letters(&mut letters, count as usize, block);
     write_bytes(buffer, writer, &letters[64 - count as usize..]);
 }
 
-/// Fills the end of a row with the `count` lowest letters of a word, the lowest last. They are
+/// Fills the end of a row with the `count` lowest letters of a block, the lowest last. They are
 /// written in pairs, so the letter before them can be overwritten too.
-fn fill_letters(letters: &mut [u8], count: usize, word: LetterWord)
+fn fill_letters(letters: &mut [u8], count: usize, block: LetterBlock)
     requires sized { length letters.old ≡ 64 }
     requires count { count ≤ 64 }
     ensures sized { length letters.new ≡ 64 }
     ensures letters { (i : ℕ) → i < count →
-        slice_index letters.new (63 - i) ≡ printed_letter (letter_in word i) }
+        slice_index letters.new (63 - i) ≡ printed_letter (letter_in block i) }
 {
-    let mut left = word;
+    let mut left = block;
     for k in 0..(count + 1) / 2 {
         let pair = letter_pair(left);
         letters[62 - 2 * k] = pair[0];
@@ -145,34 +157,34 @@ const LETTER_PAIRS: [[u8; 2]; 16] = [
     *b"z0", *b"z1", *b"x0", *b"x1", *b"zz", *b"zx", *b"xz", *b"xx",
 ];
 
-/// The letters of bits 1 and 0 of a word.
-fn letter_pair(word: LetterWord) -> [u8; 2]
-    ensures higher { slice_index result 0 ≡ printed_letter (letter_in word 1) }
-    ensures lower { slice_index result 1 ≡ printed_letter (letter_in word 0) }
+/// The letters of bits 1 and 0 of a block.
+fn letter_pair(block: LetterBlock) -> [u8; 2]
+    ensures higher { slice_index result 0 ≡ printed_letter (letter_in block 1) }
+    ensures lower { slice_index result 1 ≡ printed_letter (letter_in block 0) }
 {
-    LETTER_PAIRS[(word.low % 4 + 4 * (word.high % 4)) as usize]
+    LETTER_PAIRS[(block.low % 4 + 4 * (block.high % 4)) as usize]
 }
 
-/// The word without its two lowest letters.
-fn without_pair(word: LetterWord) -> LetterWord
-    ensures { (i : ℕ) → letter_in result i ≡ letter_in word (i + 2) }
+/// The block without its two lowest letters.
+fn without_pair(block: LetterBlock) -> LetterBlock
+    ensures { (i : ℕ) → letter_in result i ≡ letter_in block (i + 2) }
 {
-    LetterWord {
-        low: word.low >> 2,
-        high: word.high >> 2,
+    LetterBlock {
+        low: block.low >> 2,
+        high: block.high >> 2,
     }
 }
 
-/// How many letters the short form writes (IEEE 1364-2005, 18.2). It takes a step for each word.
+/// How many letters the short form writes (IEEE 1364-2005, 18.2). It takes a step for each block.
 fn short_form_len(value: &Value) -> u64
     ensures most { result ≤ length value.now }
     ensures rest { drop (length value.now - result) value.now ≡ short_form value.now }
 {
     let mut left = value.width();
     while left > 64 {
-        let word = (left - 1) / 64;
-        let below = 64 * word;
-        let len = short_form_len_of_word(left - below, value.word(word as usize));
+        let block = (left - 1) / 64;
+        let below = 64 * block;
+        let len = short_form_len_of_block(left - below, value.block(block as usize));
         if len > 1 {
             return below + len;
         }
@@ -181,16 +193,16 @@ fn short_form_len(value: &Value) -> u64
         }
         left = below;
     }
-    short_form_len_of_word(left, value.word(0))
+    short_form_len_of_block(left, value.block(0))
 }
 
 /// How many of the `count` lowest letters the short form writes; at least one.
-fn short_form_len_of_word(count: u64, word: LetterWord) -> u64
+fn short_form_len_of_block(count: u64, block: LetterBlock) -> u64
     requires least { 1 ≤ count }
     requires most { count ≤ 64 }
-    ensures { IsShortFormLen count word result }
+    ensures { IsShortFormLen count block result }
 {
-    let needed = needed_letters(word.low, word.high) & ones(count - 1);
+    let needed = needed_letters(block.low, block.high) & ones(count - 1);
     65 - needed.leading_zeros() as u64
 }
 
@@ -199,7 +211,8 @@ fn short_form_len_of_word(count: u64, word: LetterWord) -> u64
 /// letter, and those of x and z.
 fn needed_letters(low: u64, high: u64) -> u64
     ensures { (i : ℕ) → i < 64 →
-        bit_at result i ≡ (if is_redundant_above (record { low = low; high = high }) i then 0 else 1) }
+        bit_at result i ≡ (if is_redundant_above (record { low = low; high = high }) i then 0
+        else 1) }
 {
     let next_low = low >> 1;
     let next_high = high >> 1;

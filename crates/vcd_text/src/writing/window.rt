@@ -1,15 +1,17 @@
 //! A window of ticks: a key for each change in it, in the order of the text, in room that was made
 //! beforehand.
 
-ghost use Rattle.std.specs.Prelude.{◌≡◌, ◌⊎◌, ◌<◌, ◌≤◌, ◌+◌, ◌-◌, ◌*◌, ◌++◌, ◌∷◌, [], ℕ, true, false, length, map, All, vec_capacity, IfOk, IfSome, IfNone};
-ghost use Rattle.vcd_core.specs.Contents.{signal_contents};
+ghost use Rattle.std.specs.Prelude.{◌≡◌, ◌⊎◌, ◌<◌, ◌≤◌, ◌+◌, ◌-◌, ◌*◌, ◌++◌, ◌∷◌, [], ℕ, true};
+ghost use Rattle.std.specs.Prelude.{false, length, map, All, vec_capacity, IfOk, IfSome, IfNone};
+ghost use Rattle.vcd_core.specs.CaptureContents.{signal_contents};
 ghost use Rattle.vcd_core.specs.Sound.{IsSoundSignal};
 ghost use Rattle.vcd_core.specs.declared.capture.TheConstants.{END_LIMIT, SIGNAL_LIMIT};
-ghost use Rattle.vcd_text.specs.inside.NextChanges.{AreNext, AreChangesOfSomeWave, IsNext};
-ghost use Rattle.vcd_text.specs.inside.Transitions.{transitions_from, unsorted_window, window_of_signal};
+ghost use Rattle.vcd_text.specs.inside.Cursors.{AreNext, AreChangesOfSomeWave, IsNext};
+ghost use Rattle.vcd_text.specs.inside.Transitions.{transitions_from, unsorted_window};
+ghost use Rattle.vcd_text.specs.inside.Transitions.{window_of_signal};
 ghost use Rattle.vcd_text.specs.inside.Windows.{IsKey, IsReady, transitions_of};
 
-use super::next_changes::{NextChange, first_changes, following_change};
+use super::cursors::{Cursor, first_changes, following_change};
 use std::alloc::Global;
 use std::mem::swap;
 use vcd_core::{Change, NoMemory, Signal};
@@ -32,10 +34,10 @@ pub struct Window {
     /// position of its signal.
     pub keys: Vec<u64>,
     /// The next change of each signal after the window.
-    pub next_changes: Vec<NextChange>,
+    pub cursors: Vec<Cursor>,
     /// The next change of each signal from the window's first tick on. While the window is written:
     /// the place at which its next change is looked up first.
-    pub search_hints: Vec<NextChange>,
+    pub start_places: Vec<Cursor>,
 }
 
 impl Window {
@@ -47,12 +49,12 @@ impl Window {
         ensures { IfOk result (IsReady end 1 signals.now) }
     {
         let keys = Vec::with_capacity(alloc, signals.len().max(LEAST_KEYS))?;
-        let next_changes = first_changes(alloc, signals)?;
-        let search_hints = next_changes.clone()?;
+        let cursors = first_changes(alloc, signals)?;
+        let start_places = cursors.clone()?;
         Ok(Window {
             keys,
-            next_changes,
-            search_hints,
+            cursors,
+            start_places,
         })
     }
 }
@@ -70,13 +72,13 @@ pub fn fill_window(window: &mut Window, signals: &[Signal], from: u64, most: u64
     ensures keys { All (IsKey from (length signals.now)) window.new.keys.items }
     ensures ready { IsReady end (from + result) signals.now window.new }
 {
-    swap(&mut window.next_changes, &mut window.search_hints);
+    swap(&mut window.cursors, &mut window.start_places);
     let mut count = most;
     while !list_window(
         &mut window.keys,
         signals,
-        window.search_hints.as_slice(),
-        window.next_changes.as_mut_slice(),
+        window.start_places.as_slice(),
+        window.cursors.as_mut_slice(),
         from,
         from + count,
         end,
@@ -92,8 +94,8 @@ pub fn fill_window(window: &mut Window, signals: &[Signal], from: u64, most: u64
 fn list_window(
     keys: &mut Vec<u64>,
     signals: &[Signal],
-    start_changes: &[NextChange],
-    next_changes: &mut [NextChange],
+    start_changes: &[Cursor],
+    cursors: &mut [Cursor],
     from: u64,
     to: u64,
     end: u64,
@@ -101,15 +103,16 @@ fn list_window(
     requires few { length signals.now ≤ SIGNAL_LIMIT }
     requires sound { All (IsSoundSignal end) (map signal_contents signals.now) }
     requires start_changes { AreNext from signals.now start_changes.now }
-    requires next { length next_changes.old ≡ length signals.now }
+    requires next { length cursors.old ≡ length signals.now }
     requires order { from ≤ to }
     requires end { to ≤ END_LIMIT + 1 }
     ensures all { result ≡ true → transitions_of from keys.new.items
         ≡ unsorted_window from to 0 (map signal_contents signals.now) }
     ensures keys { All (IsKey from (length signals.now)) keys.new.items }
-    ensures next { result ≡ true → AreNext to signals.now next_changes.new }
-    ensures next_count { length next_changes.new ≡ length signals.now }
-    ensures no_room_or_too_far { result ≡ false → (from + TICKS_IN_KEY < to) ⊎ (vec_capacity keys.old
+    ensures next { result ≡ true → AreNext to signals.now cursors.new }
+    ensures next_count { length cursors.new ≡ length signals.now }
+    ensures no_room_or_too_far { result ≡ false → (from + TICKS_IN_KEY < to)
+        ⊎ (vec_capacity keys.old
         < length (unsorted_window from to 0 (map signal_contents signals.now))) }
     ensures room { vec_capacity keys.old ≤ vec_capacity keys.new }
 {
@@ -117,7 +120,7 @@ fn list_window(
     for (position, signal) in signals.iter().enumerate() {
         let changes = signal.wave.changes();
         match list_signal(keys, position, changes, start_changes[position], from, to) {
-            Some(next) => next_changes[position] = next,
+            Some(next) => cursors[position] = next,
             None => return false,
         }
     }
@@ -130,10 +133,10 @@ fn list_signal(
     keys: &mut Vec<u64>,
     position: usize,
     changes: &[Change],
-    next: NextChange,
+    next: Cursor,
     from: u64,
     to: u64,
-) -> Option<NextChange>
+) -> Option<Cursor>
     requires position { position < POSITIONS }
     requires rise { AreChangesOfSomeWave changes.now }
     requires next { IsNext from from changes.now next }

@@ -7,4 +7,5 @@ use Rattle.vcdedit.specs.DecoderReply.{annotation_line}
 
 -- a line for each annotation
 abbrev pub annotations_text : List ℕ → ℕ → List Annotation → List ℕ
-annotations_text decoder digits annotations = flat_map with_line_feed (map (annotation_line decoder digits) annotations)
+annotations_text decoder digits annotations =
+    flat_map with_line_feed (map (annotation_line decoder digits) annotations)

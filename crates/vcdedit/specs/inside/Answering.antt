@@ -18,8 +18,8 @@ is_no_memory refusals.NoMemory = true
 is_no_memory (refusals.Edit errors.NoMemory) = true
 is_no_memory refusal = false
 
--- the line of this number asks for the step; with enough memory the step changes one machine into the other and has
--- this reply
+-- the line of this number asks for the step; with enough memory the step changes one machine into
+-- the other and has this reply
 abbrev pub AnswersStep : (number : ℕ) → Step → Machine → Machine → Reply → Type 0
 AnswersStep number step old new reply =
     ((step_outcome old step).after ≡ new)
@@ -29,7 +29,8 @@ AnswersStep number step old new reply =
 abbrev pub AnswersCommand : (skipped number : ℕ) → Command → Machine → Machine → Reply → Type 0
 AnswersCommand skipped number command old new reply =
     (machine_after_command old (Ok (command_without_address command)) ≡ new)
-    × IsReplyTo number (command_reply (Ok (command_without_address command)) old.now skipped (length old.past)
+    × IsReplyTo number (command_reply (Ok (command_without_address command)) old.now skipped
+    (length old.past)
     (length old.future)) reply
 
 -- the same for the line

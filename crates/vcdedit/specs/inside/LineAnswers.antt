@@ -9,4 +9,5 @@ use Rattle.vcdedit.specs.Run.{line_answer, history_after_line}
 unfoldable pub line_answers : Contents → (skipped : ℕ) → History → List (List ℕ) → List LineReply
 line_answers c skipped h [] = []
 line_answers c skipped h (line ∷ lines) =
-    line_answer c skipped h line ∷ line_answers c skipped (history_after_line c skipped h line) lines
+    line_answer c skipped h line
+    ∷ line_answers c skipped (history_after_line c skipped h line) lines

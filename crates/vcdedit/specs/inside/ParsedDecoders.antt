@@ -23,7 +23,8 @@ checked_spi_command c lines mode bits order = do
   Ok (commands.Spi clock out_line in_line select_line setup)
 
 -- `MODE BITS ORDER` after these signals
-abbrev pub spi_with_command : Contents → SpiLines → (mode bits order : List ℕ) → Result Command LineError
+abbrev pub spi_with_command : Contents → SpiLines → (mode bits order : List ℕ)
+    → Result Command LineError
 spi_with_command c lines mode bits order = do
   number ← number_of_word mode
   word_bits ← number_of_word bits

@@ -10,4 +10,5 @@ with_line_feed bytes = bytes ++ 10 ∷ []
 
 -- this is the reply to the line of this number
 abbrev pub IsReplyTo : ℕ → LineReply → Reply → Type 0
-IsReplyTo number answer reply = (reply.text.items ≡ reply_text number answer) × (reply.is_refused ≡ is_err answer)
+IsReplyTo number answer reply = (reply.text.items ≡ reply_text number answer)
+    × (reply.is_refused ≡ is_err answer)

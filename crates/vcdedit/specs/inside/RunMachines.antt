@@ -1,5 +1,6 @@
 -- A run of lines on a machine, as the contracts of the code see a session.
-use Rattle.std.specs.Prelude.{ℕ, ◌+◌, if◌then◌else◌, Bool, List, [], ◌∷◌, length, Result, Ok, Err, is_err}
+use Rattle.std.specs.Prelude.{ℕ, ◌+◌, if◌then◌else◌, Bool, List, [], ◌∷◌, length, Result, Ok, Err}
+use Rattle.std.specs.Prelude.{is_err}
 use Rattle.vcd_journal.specs.declared.step.Answer.{Answer}
 use Rattle.vcd_journal.specs.declared.step.Answer.TheVariants.{Done, Refused}
 use Rattle.vcd_journal.specs.StepErrorNames.{step_error_name}
@@ -45,10 +46,12 @@ is_refused_on skipped line m = is_err (answer_on skipped line m)
 unfoldable pub refusal_count : (skipped : ℕ) → Machine → List (List ℕ) → ℕ
 refusal_count skipped m [] = 0
 refusal_count skipped m (line ∷ lines) =
-    (if is_refused_on skipped line m then 1 else 0) + refusal_count skipped (machine_after_line m line) lines
+    (if is_refused_on skipped line m then 1 else 0)
+    + refusal_count skipped (machine_after_line m line) lines
 
 -- the replies to lines, one text for each; the first line has this number
 unfoldable pub line_replies : (skipped number : ℕ) → Machine → List (List ℕ) → List (List ℕ)
 line_replies skipped number m [] = []
 line_replies skipped number m (line ∷ lines) =
-    reply_on skipped number line m ∷ line_replies skipped (number + 1) (machine_after_line m line) lines
+    reply_on skipped number line m
+    ∷ line_replies skipped (number + 1) (machine_after_line m line) lines

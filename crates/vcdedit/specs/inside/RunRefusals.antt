@@ -5,11 +5,15 @@ use Rattle.vcd_text.specs.inside.Reading.{is_no_memory}
 use Rattle.vcdedit.specs.declared.running.run_error.RunError.{RunError}
 use Rattle.vcdedit.specs.declared.running.run_error.RunError.TheVariants as run_errors
 use Rattle.vcdedit.specs.declared.running.run_on_bytes.RunRefusal.{RunRefusal}
-use Rattle.vcdedit.specs.declared.running.run_on_bytes.RunRefusal.TheVariants.{Capture, ScriptTooLarge, NoMemory}
+use Rattle.vcdedit.specs.declared.running.run_on_bytes.RunRefusal.TheVariants.{Capture}
+use Rattle.vcdedit.specs.declared.running.run_on_bytes.RunRefusal.TheVariants.{ScriptTooLarge}
+use Rattle.vcdedit.specs.declared.running.run_on_bytes.RunRefusal.TheVariants.{NoMemory}
 
--- the refusal for an error, with the replies that were written; a device in memory fails for memory alone
+-- the refusal for an error, with the replies that were written; a device in memory fails for memory
+-- alone
 abbrev pub run_refusal : RunError → Vec ℕ → RunRefusal
-run_refusal (run_errors.Capture e) replies = if is_no_memory e.fault then NoMemory 0 replies else Capture e
+run_refusal (run_errors.Capture e) replies = if is_no_memory e.fault then NoMemory 0 replies
+    else Capture e
 run_refusal run_errors.ScriptTooLarge replies = ScriptTooLarge
 run_refusal (run_errors.NoMemory line) replies = NoMemory line replies
 run_refusal e replies = NoMemory 0 replies

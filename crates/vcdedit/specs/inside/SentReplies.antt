@@ -13,5 +13,6 @@ abbrev pub HasSentReplies : Result Summary RunError → (depth : ℕ) → (captu
 HasSentReplies (Ok summary) depth capture script before after =
     ForRun depth capture script (λ written. Appends before after (concat written.replies))
 HasSentReplies (Err (run_errors.NoMemory (suc count))) depth capture script before after =
-    ForRun depth capture script (λ written. Appends before after (concat (take count written.replies)))
+    ForRun depth capture script
+    (λ written. Appends before after (concat (take count written.replies)))
 HasSentReplies _ depth capture script before after = Unit {0}

@@ -2,7 +2,8 @@
 
 ghost use Rattle.std.specs.Prelude.{◌≡◌, ◌<◌, ◌++◌, codes, OnOk, IfOk, false};
 ghost use Rattle.std.specs.Fmt.{decimal, digit_glyph};
-ghost use Rattle.vcdedit.specs.DecoderReply.{hex_digits, hex_text, data_text, direction_text, kind_text, annotation_line};
+ghost use Rattle.vcdedit.specs.DecoderReply.{hex_digits, hex_text, data_text, direction_text};
+ghost use Rattle.vcdedit.specs.DecoderReply.{kind_text, annotation_line};
 ghost use Rattle.vcdedit.specs.inside.Replies.{with_line_feed};
 ghost use Rattle.vcd_decode.specs.declared.annotation.Kind.TheVariants as kinds;
 ghost use Rattle.vcdedit.specs.inside.Annotations.{annotations_text};
@@ -12,15 +13,16 @@ use crate::replies::appending::{append_bytes, append_decimal, append_number};
 use std::alloc::Global;
 use vcd_decode::{Annotation, Direction, Kind, LineData};
 
-/// A line for each annotation of a decoder: its first and last tick, the decoder's name and the kind. Data of UART and
-/// SPI have `digits` hexadecimal digits.
+/// A line for each annotation of a decoder: its first and last tick, the decoder's name and the
+/// kind. Data of UART and SPI have `digits` hexadecimal digits.
 pub fn annotations_to_bytes(
     alloc: Global,
     decoder: &[u8],
     digits: u64,
     annotations: &[Annotation],
 ) -> MemoryResult<Vec<u8>>
-    ensures { IfOk result (λ text. text.items ≡ annotations_text decoder.now digits annotations.now) }
+    ensures { IfOk result (λ text. text.items
+        ≡ annotations_text decoder.now digits annotations.now) }
 {
     let mut text = Vec::new(alloc);
     for annotation in annotations {
@@ -66,9 +68,9 @@ fn append_kind(text: &mut Vec<u8>, digits: u64, kind: Kind) -> MemoryResult<()>
         Kind::ParityError(data) => append_data(text, b"parity-error ", digits, u32::from(data)),
         Kind::FrameError => append_bytes(text, b"frame-error"),
         Kind::Unknown => append_bytes(text, b"unknown"),
-        Kind::Partial => append_bytes(text, b"partial"),
+        Kind::CutOff => append_bytes(text, b"partial"),
         Kind::Word { mosi, miso } => append_line_data(text, digits, mosi, miso),
-        Kind::PartialOf(count) => append_number(text, b"partial", count),
+        Kind::Unfinished(count) => append_number(text, b"partial", count),
         Kind::Start => append_bytes(text, b"start"),
         Kind::RepeatedStart => append_bytes(text, b"repeated-start"),
         Kind::Stop => append_bytes(text, b"stop"),

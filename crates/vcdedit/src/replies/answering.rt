@@ -3,7 +3,8 @@
 ghost use Rattle.std.specs.Prelude.{◌≡◌, false, Err, IfOk, OnErr};
 ghost use Rattle.vcd_journal.specs.StepErrorNames.{step_error_name};
 ghost use Rattle.vcdedit.specs.CommandSignals.{HasCommandSignals};
-ghost use Rattle.vcdedit.specs.inside.Answering.{AnswersStep, AnswersCommand, AnswersLine, is_no_memory};
+ghost use Rattle.vcdedit.specs.inside.Answering.{AnswersStep, AnswersCommand, AnswersLine};
+ghost use Rattle.vcdedit.specs.inside.Answering.{is_no_memory};
 ghost use Rattle.vcdedit.specs.inside.Replies.{IsReplyTo};
 
 use crate::replies::decoding::{i2c_text, spi_text, uart_text};
@@ -16,10 +17,11 @@ use vcd_core::NoMemory;
 use vcd_edit::EditError;
 use vcd_journal::{Session, Step, StepError};
 
-/// Does what the line of this number asks for, on the current capture, and gives the reply. `skipped`: how many
-/// variables of the file were left out.
+/// Does what the line of this number asks for, on the current capture, and gives the reply.
+/// `skipped`: how many variables of the file were left out.
 ///
-/// The only error is that memory runs out. The session is then as before, since the reply is made before the step.
+/// The only error is that memory runs out. The session is then as before, since the reply is made
+/// before the step.
 pub fn answer_line(
     alloc: Global,
     session: &mut Session,

@@ -3,7 +3,7 @@
 ghost use Rattle.std.specs.Fmt.{decimal};
 ghost use Rattle.std.specs.Prelude.{◌≡◌, ◌++◌, codes, map, OnOk, IfOk};
 ghost use Rattle.std.specs.List.{concat, flat_map};
-ghost use Rattle.vcd_core.specs.Contents.{contents, signal_contents};
+ghost use Rattle.vcd_core.specs.CaptureContents.{contents, signal_contents};
 ghost use Rattle.vcd_core.specs.Names.{full_name};
 ghost use Rattle.vcdedit.specs.Queries.{timescale_line, signal_line, listing};
 ghost use Rattle.vcdedit.specs.inside.Listing.{number_line, signal_lines};
@@ -14,8 +14,8 @@ use crate::replies::appending::{append_bytes, append_decimal, append_number};
 use std::alloc::Global;
 use vcd_core::{Capture, Signal, Timescale, Word};
 
-/// The lines of `list` on a capture. `skipped`: how many variables of the file were left out. The cost is that of the
-/// names; no wave is read.
+/// The lines of `list` on a capture. `skipped`: how many variables of the file were left out. The
+/// cost is that of the names; no wave is read.
 pub fn listing_text(alloc: Global, capture: &Capture, skipped: u64) -> MemoryResult<Vec<u8>>
     ensures { IfOk result (λ text. text.items ≡
         flat_map with_line_feed (listing (contents capture.now) skipped)) }

@@ -2,7 +2,8 @@
 
 ghost use Rattle.std.specs.Prelude.{◌≡◌, ◌<◌, ◌++◌, length, map, OnOk, IfOk};
 ghost use Rattle.std.specs.List.{flat_map};
-ghost use Rattle.vcd_core.specs.Contents.{contents, signal_at, signal_value};
+ghost use Rattle.vcd_core.specs.Contents.{signal_at, signal_value};
+ghost use Rattle.vcd_core.specs.CaptureContents.{contents};
 ghost use Rattle.vcdedit.specs.Queries.{change_line};
 ghost use Rattle.vcd_text.specs.Letters.{printed_letters};
 ghost use Rattle.vcdedit.specs.inside.Replies.{with_line_feed};
@@ -12,8 +13,8 @@ use crate::replies::appending::{append_bytes, append_decimal, append_letters};
 use std::alloc::Global;
 use vcd_core::{Capture, Change};
 
-/// The line of `value` for the signal at a position, at a tick. The cost is the logarithm of its number of changes,
-/// and its width.
+/// The line of `value` for the signal at a position, at a tick. The cost is the logarithm of its
+/// number of changes, and its width.
 pub fn value_text(
     alloc: Global,
     capture: &Capture,

@@ -3,11 +3,13 @@
 ghost use Rattle.std.specs.Prelude.{◌≡◌, ◌≤◌, ℕ, false, true, List, OnOk, IfOk, IfErr, IfSome};
 ghost use Rattle.std.specs.Option.{ForSome};
 ghost use Rattle.std.specs.Io.KnownBytes.{Appends};
-ghost use Rattle.vcd_core.specs.Contents.{Contents, contents};
+ghost use Rattle.vcd_core.specs.Contents.{Contents};
+ghost use Rattle.vcd_core.specs.CaptureContents.{contents};
 ghost use Rattle.vcd_core.specs.Sound.{IsSound};
 ghost use Rattle.vcd_text.specs.Meaning.{FileMeans};
 ghost use Rattle.vcdedit.specs.Run.{RunLaws};
-ghost use Rattle.vcdedit.specs.RunEnds.{device_end, IsRead, IsAccepted, ForOutput, IsOutputFlushed, IsFlushedAt, RunEnds};
+ghost use Rattle.vcdedit.specs.RunEnds.{device_end, IsRead, IsAccepted, ForOutput, IsOutputFlushed};
+ghost use Rattle.vcdedit.specs.RunEnds.{IsFlushedAt, RunEnds};
 ghost use Rattle.vcd_journal.specs.Machine.{initial_machine};
 ghost use Rattle.vcdedit.specs.inside.RunStages.{EndsBeforeOutput};
 ghost use Rattle.vcdedit.specs.inside.ScriptRuns.{ScriptGives};
@@ -20,11 +22,12 @@ use vcd_core::{Capture, Sink, Source};
 use vcd_journal::{DEPTH_LIMIT, Session};
 use vcd_text::{read, write};
 
-/// Reads the capture, then the whole script, runs its lines in order and flushes the replies. Then it writes the
-/// output if there is one, also after refused lines. `depth` is how many edits can be undone.
+/// Reads the capture, then the whole script, runs its lines in order and flushes the replies. Then
+/// it writes the output if there is one, also after refused lines. `depth` is how many edits can be
+/// undone.
 ///
-/// The first error ends the run, and nothing later is begun, but that the replies are flushed where memory ran out at a
-/// line.
+/// The first error ends the run, and nothing later is begun, but that the replies are flushed where
+/// memory ran out at a line.
 pub fn run<R: Source, S: Source, P: Sink, W: Sink>(
     alloc: Global,
     capture_reader: &mut R,
@@ -45,7 +48,8 @@ pub fn run<R: Source, S: Source, P: Sink, W: Sink>(
         (device_end S.coming S.has_failed script_reader.old script_reader.new)
         (device_end P.taken P.has_failed replies.old replies.new) output result) }
     ensures replies_flushed { OnOk result (P.is_flushed replies.new ≡ true) }
-    ensures flushed_at { IfErr result (IsFlushedAt (P.has_failed replies.new) (P.is_flushed replies.new)) }
+    ensures flushed_at { IfErr result (IsFlushedAt (P.has_failed replies.new)
+        (P.is_flushed replies.new)) }
     ensures output_flushed { OnOk result (IsOutputFlushed W.is_flushed out.entry out.exit) }
     // what follows from the equations of the headline, for any lines on what a file means
     ensures laws { (file : List ℕ) (c : Contents) (skipped : ℕ) (lines : List (List ℕ)) →
@@ -63,7 +67,8 @@ pub fn run<R: Source, S: Source, P: Sink, W: Sink>(
     }
 }
 
-/// Runs everything except the output. Gives the session after the lines of the script, and how many were refused.
+/// Runs everything except the output. Gives the session after the lines of the script, and how many
+/// were refused.
 fn run_script<R: Source, S: Source, P: Sink>(
     alloc: Global,
     capture_reader: &mut R,
@@ -86,7 +91,8 @@ fn run_script<R: Source, S: Source, P: Sink>(
         (device_end S.coming S.has_failed script_reader.old script_reader.new)) }
     ensures not_failed { OnOk result (P.has_failed replies.new ≡ false) }
     ensures flushed { OnOk result (P.is_flushed replies.new ≡ true) }
-    ensures flushed_at { IfErr result (IsFlushedAt (P.has_failed replies.new) (P.is_flushed replies.new)) }
+    ensures flushed_at { IfErr result (IsFlushedAt (P.has_failed replies.new)
+        (P.is_flushed replies.new)) }
     ensures ended { IfErr result (EndsBeforeOutput depth
         (device_end R.coming R.has_failed capture_reader.old capture_reader.new)
         (device_end S.coming S.has_failed script_reader.old script_reader.new)

@@ -28,8 +28,8 @@ pub enum RunError {
     /// The script's source failed.
     #[error("ScriptReadFault")]
     ScriptReadFault,
-    /// Memory ran out at this line of the script, counted from 1, or at 0 before the first. Exactly the replies to the
-    /// lines before it were written.
+    /// Memory ran out at this line of the script, counted from 1, or at 0 before the first. Exactly
+    /// the replies to the lines before it were written.
     #[error("NoMemory")]
     NoMemory { line: u64 },
     /// The writer of the replies failed. It took exactly their first `written` bytes.

@@ -3,7 +3,8 @@
 ghost use Rattle.std.specs.Prelude.{◌≡◌, ◌≤◌, ◌<◌, ◌^◌, ℕ, false, true, length, IfOk, IfErr, OnOk};
 ghost use Rattle.std.specs.Io.KnownBytes.{Appends, Keeps};
 ghost use Rattle.vcdedit.specs.Script.{script_lines};
-ghost use Rattle.vcdedit.specs.inside.RunLines.{HasFailedAt, RunsLine, RunsLines, EndsAtLine, StopsAtReply, StopsAtLine, StopsInLines};
+ghost use Rattle.vcdedit.specs.inside.RunLines.{HasFailedAt, RunsLine, RunsLines, EndsAtLine};
+ghost use Rattle.vcdedit.specs.inside.RunLines.{StopsAtReply, StopsAtLine, StopsInLines};
 
 use crate::replies::answer_line;
 use crate::running::RunError;
@@ -12,12 +13,12 @@ use std::alloc::Global;
 use vcd_core::{Sink, write_all};
 use vcd_journal::Session;
 
-/// Runs the lines of a script, in order, each on the current capture. The reply to a line is written before the next
-/// line is read. Then the replies are flushed. Gives how many lines were refused. `skipped`: how many variables of the
-/// file were left out.
+/// Runs the lines of a script, in order, each on the current capture. The reply to a line is
+/// written before the next line is read. Then the replies are flushed. Gives how many lines were
+/// refused. `skipped`: how many variables of the file were left out.
 ///
-/// The first error ends it: memory is refused at a line, after which the replies are flushed too, or the writer of the
-/// replies fails. It holds the reply of one line at a time.
+/// The first error ends it: memory is refused at a line, after which the replies are flushed too,
+/// or the writer of the replies fails. It holds the reply of one line at a time.
 pub fn run_lines<P: Sink>(
     alloc: Global,
     session: &mut Session,
@@ -33,7 +34,8 @@ pub fn run_lines<P: Sink>(
     ensures not_failed { OnOk result (P.has_failed replies.new ≡ false) }
     ensures flushed { OnOk result (P.is_flushed replies.new ≡ true) }
     ensures fault { IfErr result EndsAtLine }
-    ensures failed { IfErr result (HasFailedAt (P.has_failed replies.new) (P.is_flushed replies.new)) }
+    ensures failed { IfErr result (HasFailedAt (P.has_failed replies.new)
+        (P.is_flushed replies.new)) }
     ensures stopped { IfErr result (StopsInLines skipped (script_lines script.now) session.old
         (P.taken replies.old) (P.taken replies.new)) }
 {
@@ -54,7 +56,8 @@ pub fn run_lines<P: Sink>(
     }
 }
 
-/// Runs the line of this number, and writes its reply after the `written_before` bytes of those before.
+/// Runs the line of this number, and writes its reply after the `written_before` bytes of those
+/// before.
 fn run_line<P: Sink>(
     alloc: Global,
     session: &mut Session,
@@ -74,7 +77,8 @@ fn run_line<P: Sink>(
     ensures short { IfOk result (λ outcome. outcome.1 < 2 ^ 64) }
     ensures not_failed { OnOk result (P.has_failed replies.new ≡ false) }
     ensures fault { IfErr result EndsAtLine }
-    ensures failed { IfErr result (HasFailedAt (P.has_failed replies.new) (P.is_flushed replies.new)) }
+    ensures failed { IfErr result (HasFailedAt (P.has_failed replies.new)
+        (P.is_flushed replies.new)) }
     ensures stopped { IfErr result (StopsAtLine skipped number line.now session.old written_before
         (P.taken replies.old) (P.taken replies.new)) }
 {
@@ -90,7 +94,8 @@ fn run_line<P: Sink>(
     }
 }
 
-/// Flushes the replies where memory ran out at a line. If that fails, the run has ended for memory all the same.
+/// Flushes the replies where memory ran out at a line. If that fails, the run has ended for memory
+/// all the same.
 fn flush_last<P: Sink>(replies: &mut P)
     requires { P.has_failed replies.old ≡ false }
     ensures bytes { Keeps (P.taken replies.old) (P.taken replies.new) }
@@ -107,7 +112,8 @@ fn write_reply<P: Sink>(text: &[u8], replies: &mut P, written_before: u128) -> R
         (Appends (P.taken replies.old) (P.taken replies.new) text.now) }
     ensures not_failed { OnOk result (P.has_failed replies.new ≡ false) }
     ensures fault { IfErr result EndsAtLine }
-    ensures failed { IfErr result (HasFailedAt (P.has_failed replies.new) (P.is_flushed replies.new)) }
+    ensures failed { IfErr result (HasFailedAt (P.has_failed replies.new)
+        (P.is_flushed replies.new)) }
     ensures stopped { IfErr result (λ e. (number : ℕ) → StopsAtReply number text.now written_before
         (P.taken replies.old) (P.taken replies.new) e) }
 {

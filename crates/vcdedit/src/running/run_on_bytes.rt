@@ -29,13 +29,13 @@ pub enum RunRefusal {
     Capture(ReadError),
     /// The script is larger than its limit.
     ScriptTooLarge,
-    /// Memory ran out: at a line of the script, counted from 1, or before the first line, for the replies or for the
-    /// output (0). These replies were made before.
+    /// Memory ran out: at a line of the script, counted from 1, or before the first line, for the
+    /// replies or for the output (0). These replies were made before.
     NoMemory { line: u64, replies: Vec<u8> },
 }
 
-/// Runs the lines of the script on the capture, and gives the texts that a run writes. `depth` is how many edits can
-/// be undone.
+/// Runs the lines of the script on the capture, and gives the texts that a run writes. `depth` is
+/// how many edits can be undone.
 ///
 /// This is [`run`] on devices in memory. So its contract speaks of bytes alone, and of no device.
 pub fn run_on_bytes(
@@ -69,7 +69,8 @@ pub fn run_on_bytes(
     }
 }
 
-/// Why a run over bytes did not reach its end, by the error of the run and the replies that were written.
+/// Why a run over bytes did not reach its end, by the error of the run and the replies that were
+/// written.
 fn refusal_of(error: RunError, replies: Vec<u8>) -> RunRefusal
     ensures { result ≡ run_refusal error replies }
 {

@@ -22,7 +22,8 @@ pub fn read_script<S: Source>(alloc: Global, source: &mut S) -> Result<Vec<u8>, 
         (device_end S.coming S.has_failed source.old source.new)) }
     ensures ended { IfErr result (EndsAfterCapture
         (device_end S.coming S.has_failed source.old source.new)) }
-    ensures before_replies { IfErr result (λ e. (has_failed is_flushed : Bool) → IsFlushedAt has_failed is_flushed e) }
+    ensures before_replies { IfErr result (λ e. (has_failed is_flushed : Bool)
+        → IsFlushedAt has_failed is_flushed e) }
 {
     let mut bytes = Vec::new(alloc);
     match read_whole(source, SCRIPT_LIMIT, &mut bytes) {

@@ -5,13 +5,14 @@ use vcd_journal::Step;
 
 /// What a line of the script asks for, on the capture on which it is read.
 ///
-/// A signal is its position in that capture, below the number of its signals; a tick may be past the end. The signals
-/// of a decoder have one bit.
+/// A signal is its position in that capture, below the number of its signals; a tick may be past
+/// the end. The signals of a decoder have one bit.
 #[derive(Clone, Copy, Debug, PartialEq)]
 pub enum Command<'a> {
     /// The line has no word, or the first begins with `#`: a comment.
     Nothing,
-    /// A step of the session: an edit, `undo`, `redo` or `depth`. A word of an edit is borrowed from the line.
+    /// A step of the session: an edit, `undo`, `redo` or `depth`. A word of an edit is borrowed
+    /// from the line.
     Step(Step<'a>),
     /// `list`: the capture's timescale, end and counts, and its signals.
     List,
@@ -29,7 +30,8 @@ pub enum Command<'a> {
         signal: usize,
         setup: Uart,
     },
-    /// `spi`: the words that the lines of a serial peripheral interface carry; only the clock is required.
+    /// `spi`: the words that the lines of a serial peripheral interface carry; only the clock is
+    /// required.
     Spi {
         clk: usize,
         mosi: Option<usize>,

@@ -1,7 +1,7 @@
 //! The words of a decoder's line, one by one.
 
 ghost use Rattle.std.specs.Prelude.{◌≡◌, ◌<◌, Some, IfSome, IfOk, length};
-ghost use Rattle.vcd_core.specs.Contents.{contents};
+ghost use Rattle.vcd_core.specs.CaptureContents.{contents};
 ghost use Rattle.vcd_decode.specs.UartSetup.{uart_setup};
 ghost use Rattle.vcd_decode.specs.SpiSetup.{spi_setup};
 ghost use Rattle.vcdedit.specs.DecoderWords as spec;

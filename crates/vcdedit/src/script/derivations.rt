@@ -4,7 +4,7 @@ ghost use Rattle.std.specs.Prelude.{◌≡◌, ℕ, if◌then◌else◌, Ok, Err
 ghost use Rattle.std.specs.Str.{bytes_eq};
 ghost use Rattle.vcd_edit.specs.declared.edit.Rule.TheVariants.{Xor};
 ghost use Rattle.vcdedit.specs.declared.script.line_error.LineError.TheVariants.{BadOption};
-ghost use Rattle.vcd_core.specs.Contents.{contents};
+ghost use Rattle.vcd_core.specs.CaptureContents.{contents};
 ghost use Rattle.vcd_text.specs.Grammar.{word_texts};
 ghost use Rattle.vcdedit.specs.ScriptCommands.{pair_rule, bit_rule, rule_of, command_of};
 ghost use Rattle.vcdedit.specs.declared.script.keyword.Keyword.TheVariants as keywords;
@@ -21,7 +21,8 @@ use vcd_text::Words;
 
 /// Reads `WORD RULE ..`.
 pub fn parse_derive<'a>(words: &mut Words<'a>, capture: &Capture) -> Parsed<'a>
-    ensures { ReadsAs (command_of (contents capture.now) keywords.Derive (word_texts words.old)) result }
+    ensures { ReadsAs (command_of (contents capture.now) keywords.Derive (word_texts words.old))
+        result }
 {
     let word = next_text(words).ok_or(LineError::WrongCount)?;
     let name = next_text(words).ok_or(LineError::WrongCount)?;
@@ -45,17 +46,19 @@ fn parse_rule(name: &[u8], words: &mut Words<'_>, capture: &Capture) -> Result<R
         let (a, b) = parse_pair(words, capture)?;
         return Ok(Rule::Or(a, b));
     }
-    parse_later_rule(name, words, capture)
+    parse_xor_or_bit(name, words, capture)
 }
 
 /// Reads the operands after a rule that comes later than `or` in the table.
-fn parse_later_rule(
+fn parse_xor_or_bit(
     name: &[u8],
     words: &mut Words<'_>,
     capture: &Capture,
 ) -> Result<Rule, LineError>
-    ensures { result ≡ (if bytes_eq name.now (codes "xor") then pair_rule (contents capture.now) Xor (word_texts words.old)
-        else (if bytes_eq name.now (codes "bit") then bit_rule (contents capture.now) (word_texts words.old)
+    ensures { result ≡ (if bytes_eq name.now (codes "xor")
+        then pair_rule (contents capture.now) Xor (word_texts words.old)
+        else (if bytes_eq name.now (codes "bit")
+        then bit_rule (contents capture.now) (word_texts words.old)
         else Err BadOption)) }
 {
     if name == b"xor".as_slice() {

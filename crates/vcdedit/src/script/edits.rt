@@ -1,7 +1,8 @@
 //! The lines that edit signals and time.
 
 ghost use Rattle.std.specs.Prelude.{◌≡◌, ◌<◌, length, IfOk};
-ghost use Rattle.vcd_core.specs.Contents.{Contents, contents, signal_at};
+ghost use Rattle.vcd_core.specs.Contents.{Contents, signal_at};
+ghost use Rattle.vcd_core.specs.CaptureContents.{contents};
 ghost use Rattle.vcd_text.specs.Grammar.{word_texts};
 ghost use Rattle.vcdedit.specs.ScriptCommands.{command_of};
 ghost use Rattle.vcdedit.specs.declared.script.keyword.Keyword.TheVariants as keywords;
@@ -18,7 +19,8 @@ use vcd_text::{Words, value_of_digits};
 
 /// Reads `NAME WORD`.
 pub fn parse_rename<'a>(words: &mut Words<'a>, capture: &Capture) -> Parsed<'a>
-    ensures { ReadsAs (command_of (contents capture.now) keywords.Rename (word_texts words.old)) result }
+    ensures { ReadsAs (command_of (contents capture.now) keywords.Rename (word_texts words.old))
+        result }
 {
     let (name, word) = take_two(words)?;
     let signal = signal_of_name(capture, name)?;
@@ -27,7 +29,8 @@ pub fn parse_rename<'a>(words: &mut Words<'a>, capture: &Capture) -> Parsed<'a>
 
 /// Reads `NAME` of a signal to remove.
 pub fn parse_remove<'a>(words: &mut Words<'a>, capture: &Capture) -> Parsed<'a>
-    ensures { ReadsAs (command_of (contents capture.now) keywords.Remove (word_texts words.old)) result }
+    ensures { ReadsAs (command_of (contents capture.now) keywords.Remove (word_texts words.old))
+        result }
 {
     let signal = signal_of_name(capture, take_one(words)?)?;
     Ok(Command::Step(Step::Edit(Edit::Remove { signal })))
@@ -35,7 +38,8 @@ pub fn parse_remove<'a>(words: &mut Words<'a>, capture: &Capture) -> Parsed<'a>
 
 /// Reads `NAME` of a signal to invert.
 pub fn parse_invert<'a>(words: &mut Words<'a>, capture: &Capture) -> Parsed<'a>
-    ensures { ReadsAs (command_of (contents capture.now) keywords.Invert (word_texts words.old)) result }
+    ensures { ReadsAs (command_of (contents capture.now) keywords.Invert (word_texts words.old))
+        result }
 {
     let signal = signal_of_name(capture, take_one(words)?)?;
     Ok(Command::Step(Step::Edit(Edit::Invert { signal })))
@@ -43,7 +47,8 @@ pub fn parse_invert<'a>(words: &mut Words<'a>, capture: &Capture) -> Parsed<'a>
 
 /// Reads `NAME BY`.
 pub fn parse_shift<'a>(words: &mut Words<'a>, capture: &Capture) -> Parsed<'a>
-    ensures { ReadsAs (command_of (contents capture.now) keywords.Shift (word_texts words.old)) result }
+    ensures { ReadsAs (command_of (contents capture.now) keywords.Shift (word_texts words.old))
+        result }
 {
     let (name, by) = take_two(words)?;
     let signal = signal_of_name(capture, name)?;
@@ -63,7 +68,8 @@ pub fn parse_cut<'a>(words: &mut Words<'a>) -> Parsed<'a>
 
 /// Reads `NAME TICKS`.
 pub fn parse_deglitch<'a>(words: &mut Words<'a>, capture: &Capture) -> Parsed<'a>
-    ensures { ReadsAs (command_of (contents capture.now) keywords.Deglitch (word_texts words.old)) result }
+    ensures { ReadsAs (command_of (contents capture.now) keywords.Deglitch (word_texts words.old))
+        result }
 {
     let (name, ticks) = take_two(words)?;
     let signal = signal_of_name(capture, name)?;
@@ -73,7 +79,8 @@ pub fn parse_deglitch<'a>(words: &mut Words<'a>, capture: &Capture) -> Parsed<'a
 
 /// Reads `NAME FROM TO VALUE`.
 pub fn parse_force<'a>(words: &mut Words<'a>, capture: &Capture) -> Parsed<'a>
-    ensures { ReadsAs (command_of (contents capture.now) keywords.Force (word_texts words.old)) result }
+    ensures { ReadsAs (command_of (contents capture.now) keywords.Force (word_texts words.old))
+        result }
 {
     let (name, from, (to, value)) = take_four(words)?;
     let signal = signal_of_name(capture, name)?;

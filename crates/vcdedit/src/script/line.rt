@@ -1,7 +1,8 @@
 //! What a line of the script asks for.
 
 ghost use Rattle.std.specs.Prelude.{◌≡◌, ◌∷◌, Ok, Err, IfOk, IfErr};
-ghost use Rattle.vcd_core.specs.Contents.{Contents, contents};
+ghost use Rattle.vcd_core.specs.Contents.{Contents};
+ghost use Rattle.vcd_core.specs.CaptureContents.{contents};
 ghost use Rattle.vcd_text.specs.Grammar.{word_texts};
 ghost use Rattle.vcdedit.specs.CommandSignals.{HasCommandSignals};
 ghost use Rattle.vcdedit.specs.WithoutAddress.{command_without_address};
@@ -26,12 +27,12 @@ use vcd_text::Words;
 
 /// Reads a line of the script, on the current capture. It takes no memory.
 ///
-/// The first fault counts. Their order is: the first word names no command; the command takes another number of words;
-/// a word, from left to right, is not what its place requires. Then a decoder's signal is wider than one bit, or its
-/// setup has a fault.
+/// The first fault counts. Their order is: the first word names no command; the command takes
+/// another number of words; a word, from left to right, is not what its place requires. Then a
+/// decoder's signal is wider than one bit, or its setup has a fault.
 ///
-/// The cost is that of the line, and for each name in it a comparison with each full name. `@` and a position needs no
-/// comparison.
+/// The cost is that of the line, and for each name in it a comparison with each full name. `@` and
+/// a position needs no comparison.
 #[tactic(auto, unfolding(crate::specs::ScriptCommands::command_of_line))]
 pub fn parse_line<'a>(line: &'a [u8], capture: &Capture) -> Result<Command<'a>, LineError>
     ensures command { IfOk result (λ command.

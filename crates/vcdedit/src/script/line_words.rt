@@ -1,8 +1,10 @@
 //! The words of a line after the first, and their number.
 
-ghost use Rattle.std.specs.Prelude.{◌≡◌, ◌∷◌, [], List, ℕ, Result, Err, IfOk, OnOk, IfErr, MatchOption};
+ghost use Rattle.std.specs.Prelude.{◌≡◌, ◌∷◌, [], List, ℕ, Result, Err, IfOk, OnOk, IfErr};
+ghost use Rattle.std.specs.Prelude.{MatchOption};
 ghost use Rattle.vcd_text.specs.Grammar.{word_texts};
-ghost use Rattle.vcdedit.specs.LineWords.{no_word, one_word, two_words, four_words, five_words, seven_words};
+ghost use Rattle.vcdedit.specs.LineWords.{no_word, one_word, two_words, four_words, five_words};
+ghost use Rattle.vcdedit.specs.LineWords.{seven_words};
 ghost use Rattle.vcd_edit.specs.declared.edit.Rule.{Rule};
 ghost use Rattle.vcdedit.specs.declared.script.command.Command.{Command};
 

@@ -1,10 +1,12 @@
 //! Numbers as words write them.
 
-ghost use Rattle.std.specs.Prelude.{◌≡◌, ◌^◌, ◌+◌, ◌-◌, ◌*◌, ◌<◌, ◌≤◌, ℕ, min, nat_lt, if◌then◌else◌, Some, None};
+ghost use Rattle.std.specs.Prelude.{◌≡◌, ◌^◌, ◌+◌, ◌-◌, ◌*◌, ◌<◌, ◌≤◌, ℕ, min, nat_lt};
+ghost use Rattle.std.specs.Prelude.{if◌then◌else◌, Some, None};
 ghost use Rattle.std.specs.Char.{is_ascii_digit};
 ghost use Rattle.std.specs.List.{list_all};
 ghost use Rattle.vcd_core.specs.Decimal.{number_of};
-ghost use Rattle.vcdedit.specs.ScriptWords.{number_of_word, distance_of_word, distance_forth, distance_back};
+ghost use Rattle.vcdedit.specs.ScriptWords.{number_of_word, distance_of_word, distance_forth};
+ghost use Rattle.vcdedit.specs.ScriptWords.{distance_back};
 
 use crate::script::LineError;
 use vcd_core::number_up_to;
@@ -24,7 +26,8 @@ pub fn number_of_word(word: &[u8]) -> Result<u64, LineError>
     with_last_digit(tens, u64::from(*last - b'0')).ok_or(LineError::BadNumber)
 }
 
-/// The number that the digits before the last write. A greater number than `u64::MAX` is given as that.
+/// The number that the digits before the last write. A greater number than `u64::MAX` is given as
+/// that.
 fn leading_number(digits: &[u8]) -> Option<u64>
     ensures { result ≡ (if list_all is_ascii_digit digits.now
         then Some (min (number_of digits.now) (2 ^ 64 - 1)) else None) }
@@ -37,12 +40,14 @@ fn leading_number(digits: &[u8]) -> Option<u64>
 
 /// The number with one more digit, if it has 64 bits.
 fn with_last_digit(tens: u64, ones: u64) -> Option<u64>
-    ensures { result ≡ (if nat_lt (tens * 10 + ones) (2 ^ 64) then Some (tens * 10 + ones) else None) }
+    ensures { result ≡ (if nat_lt (tens * 10 + ones) (2 ^ 64) then Some (tens * 10 + ones)
+        else None) }
 {
     tens.checked_mul(10)?.checked_add(ones)
 }
 
-/// The distance that a word writes: a decimal number after `-`, `+` or neither, within the range of `i64`.
+/// The distance that a word writes: a decimal number after `-`, `+` or neither, within the range of
+/// `i64`.
 pub fn distance_of_word(word: &[u8]) -> Result<i64, LineError>
     ensures { result ≡ distance_of_word word.now }
 {

@@ -1,11 +1,13 @@
 //! The lines of a script.
 
-ghost use Rattle.std.specs.Prelude.{◌≡◌, ◌≤◌, ◌<◌, ◌==◌, ◌∷◌, [], true, not, length, take, drop, MatchOption};
+ghost use Rattle.std.specs.Prelude.{◌≡◌, ◌≤◌, ◌<◌, ◌==◌, ◌∷◌, [], true, not, length, take, drop};
+ghost use Rattle.std.specs.Prelude.{MatchOption};
 ghost use Rattle.std.specs.List.{list_all};
 ghost use Rattle.vcdedit.specs.Script.{script_lines};
 ghost use Rattle.vcdedit.specs.inside.ScriptParts.{is_after_line};
 
-/// The first line of a script, without its line feed, and what follows it. An empty script has none.
+/// The first line of a script, without its line feed, and what follows it. An empty script has
+/// none.
 pub fn split_line(script: &[u8]) -> Option<(&[u8], &[u8])>
     ensures { MatchOption result (script.now ≡ []) (λ parts.
         (script_lines script.now ≡ parts.0.now ∷ script_lines parts.1.now) ×

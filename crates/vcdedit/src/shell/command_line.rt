@@ -2,8 +2,10 @@
 
 ghost use Rattle.std.specs.Prelude.{◌≡◌, ◌≤◌, ℕ, false, codes, List, Some, map, IfOk};
 ghost use Rattle.std.specs.String.{string_bytes};
-ghost use Rattle.clap.specs.Words.{FailsBy, app_of, fault_of, found_of, kind_of, matches_of, new_rule, one_text, rows_of, rule_of};
-ghost use Rattle.vcdedit.specs.CommandLine.{asked_options, depth_asked, depth_option, input_option, option_app, options_in, output_option, script_option};
+ghost use Rattle.clap.specs.Words.{FailsBy, app_of, fault_of, found_of, kind_of, matches_of};
+ghost use Rattle.clap.specs.Words.{new_rule, one_text, rows_of, rule_of};
+ghost use Rattle.vcdedit.specs.CommandLine.{asked_options, depth_asked, depth_option, input_option};
+ghost use Rattle.vcdedit.specs.CommandLine.{option_app, options_in, output_option, script_option};
 
 use clap::builder::ValueParser;
 use clap::error::ErrorKind;
@@ -182,7 +184,8 @@ fn output_option<'a>(alloc: Global) -> Arg<'a>
 
 /// An option that takes a path.
 fn file_option<'a>(alloc: Global, name: &'a str, help: &'a str) -> Arg<'a>
-    ensures rule { rule_of result ≡ record (new_rule name.now) { long = Some name.now; value_names = 1 } }
+    ensures rule { rule_of result ≡ record (new_rule name.now)
+        { long = Some name.now; value_names = 1 } }
     ensures local { result.global ≡ false }
 {
     Arg::new(alloc, name)

@@ -3,7 +3,8 @@
 ghost use Rattle.std.specs.Prelude.{◌≡◌, ◌≤◌, false, true};
 ghost use Rattle.std.specs.Io.KnownBytes.{Appends};
 ghost use Rattle.clap.specs.Words.{kind_of};
-ghost use Rattle.vcdedit.specs.ProgramEnds.{IsEndingOfKind, asks_for_text, is_done, program_status, program_text};
+ghost use Rattle.vcdedit.specs.ProgramEnds.{IsEndingOfKind, asks_for_text, is_done, program_status};
+ghost use Rattle.vcdedit.specs.ProgramEnds.{program_text};
 
 use crate::running::{RunError, Summary};
 use crate::shell::reporting::{report, report_refusal, status_when_done};
@@ -29,7 +30,8 @@ pub enum Ending {
 /// Memory ran out before the run began.
 pub const NO_MEMORY: RunError = RunError::NoMemory { line: 0 };
 
-/// Writes the text of the ending to standard error, and gives the exit status. A fault of the writer is ignored.
+/// Writes the text of the ending to standard error, and gives the exit status. A fault of the
+/// writer is ignored.
 pub fn report_ending<E: Sink>(ending: Ending, errors: &mut E) -> u8
     requires { E.has_failed errors.old ≡ false }
     ensures most { result ≤ 5 }
@@ -45,8 +47,8 @@ pub fn report_ending<E: Sink>(ending: Ending, errors: &mut E) -> u8
     }
 }
 
-/// The ending of words that ask for no run. Help and the version are shown on standard output; other words are
-/// refused, with `clap`'s text of the error.
+/// The ending of words that ask for no run. Help and the version are shown on standard output;
+/// other words are refused, with `clap`'s text of the error.
 pub fn ending_without_run<R: Runtime + AllocGlobal>(rt: &R, error: &Error) -> Ending
     ensures kind { IsEndingOfKind (kind_of error.now) result }
     ensures not_done { is_done result ≡ false }

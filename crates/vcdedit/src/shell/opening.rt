@@ -16,7 +16,7 @@ pub enum Origin<S, F> {
     Standard(S),
     File(F),
     /// These bytes: the default script.
-    Given(&'static [u8]),
+    Default(&'static [u8]),
 }
 
 impl<S: Read, F: Read> Read for Origin<S, F> {
@@ -28,7 +28,7 @@ impl<S: Read, F: Read> Read for Origin<S, F> {
         match self {
             Origin::Standard(reader) => reader.read(buf),
             Origin::File(file) => file.read(buf),
-            Origin::Given(bytes) => bytes.read(buf),
+            Origin::Default(bytes) => bytes.read(buf),
         }
     }
 }
@@ -56,11 +56,12 @@ pub fn open_script<R: Files + Input>(
 {
     match path {
         Some(path) => Ok(Origin::File(fs::open(rt, path)?)),
-        None => Ok(Origin::Given(SCRIPT_WITHOUT_FILE)),
+        None => Ok(Origin::Default(SCRIPT_WITHOUT_FILE)),
     }
 }
 
-/// A read of no byte fails if standard input is closed. Without it, the next file that is opened would take its place.
+/// A read of no byte fails if standard input is closed. Without it, the next file that is opened
+/// would take its place.
 fn open_standard<S: Read + Drop, F>(mut reader: S) -> io::Result<Origin<S, F>>
     ensures { IfOk result IsStandard }
 {

@@ -1,13 +1,16 @@
 //! The program: words in, files opened, a status out.
 
-ghost use Rattle.std.specs.Prelude.{◌≡◌, ◌≤◌, ◌⊎◌, ℕ, true, false, List, [], Option, None, is_some, Err, IsSome, map, drop, IfOk, IfErr};
-ghost use Rattle.std.specs.Io.Buffered.{writer_inner, writer_buffer, writer_capacity, writer_contents};
+ghost use Rattle.std.specs.Prelude.{◌≡◌, ◌≤◌, ◌⊎◌, ℕ, true, false, List, [], Option, None, is_some};
+ghost use Rattle.std.specs.Prelude.{Err, IsSome, map, drop, IfOk, IfErr};
+ghost use Rattle.std.specs.Io.Buffered.{writer_inner, writer_buffer, writer_capacity};
+ghost use Rattle.std.specs.Io.Buffered.{writer_contents};
 ghost use Rattle.std.specs.Io.KnownBytes.{Appends, Keeps};
 ghost use Rattle.std.specs.String.{string_bytes};
 ghost use Rattle.std.specs.Vec.Iter.{into_iter_items};
 ghost use Rattle.clap.specs.Words.{fault_of};
 ghost use Rattle.vcdedit.specs.CommandLine.{option_app, options_in};
-ghost use Rattle.vcdedit.specs.ProgramEnds.{is_done, ending_of, IsOutcomeOn, IsOutcomeOfOptions, IsEndingOf, program_status, program_text};
+ghost use Rattle.vcdedit.specs.ProgramEnds.{is_done, ending_of, IsOutcomeOn, IsOutcomeOfOptions};
+ghost use Rattle.vcdedit.specs.ProgramEnds.{IsEndingOf, program_status, program_text};
 ghost use Rattle.vcdedit.specs.RunEnds.{DeviceEnd, device_end, RunEnds};
 ghost use Rattle.vcdedit.specs.inside.SentReplies.{HasSentReplies};
 
@@ -34,13 +37,13 @@ const NOT_OPENED: RunError = RunError::Capture(ReadError {
     fault: Fault::ReadFault,
 });
 
-/// Runs the program on the words of its command line, and gives its exit status. The text on why it failed goes to
-/// `errors`.
+/// Runs the program on the words of its command line, and gives its exit status. The text on why it
+/// failed goes to `errors`.
 pub fn status_of_program<R: Runtime + AllocGlobal, E: Sink>(rt: &R, errors: &mut E) -> u8
     requires { E.has_failed errors.old ≡ false }
     ensures most { result ≤ 5 }
-    // The status and the text are those of one ending. If that is of a completed run, some words asked for that run,
-    // and it had that ending.
+    // The status and the text are those of one ending. If that is of a completed run, some words
+    // asked for that run, and it had that ending.
     ensures reported { (ending : Ending) ×
         (is_done ending ≡ true → (words : List (List ℕ)) ×
         (fault_of option_app words ≡ []) × IsEndingOf words ending) ×
@@ -140,8 +143,9 @@ fn run_inputs<R: Runtime + AllocGlobal, C: Source, S: Source>(
     outcome
 }
 
-/// Runs with a buffer for the replies. What it holds at the end is sent to the writer after it, also if memory ran
-/// out. Gives how the run ended, and that writer: if it failed, it is gone, and only an error after the run is kept.
+/// Runs with a buffer for the replies. What it holds at the end is sent to the writer after it,
+/// also if memory ran out. Gives how the run ended, and that writer: if it failed, it is gone, and
+/// only an error after the run is kept.
 #[tactic(auto, using(crate::proofs::RunParts::replies_sent))]
 fn run_with_reply_buffer<R: Runtime + AllocGlobal, C: Source, S: Source, W: Write + Drop>(
     rt: &R,
@@ -210,7 +214,8 @@ fn new_buffer<R: AllocGlobal, W: Write + Drop>(rt: &R, writer: W) -> Result<BufW
 
 /// Sends what a device holds to the writer after it, and gives that writer back.
 ///
-/// Nothing is sent if the device has failed. If the writer fails here, nothing is sent again, and its error is given.
+/// Nothing is sent if the device has failed. If the writer fails here, nothing is sent again, and
+/// its error is given.
 fn close_device<W: Write + Drop>(device: ToWrite<BufWriter<W>>) -> Result<W, Option<io::Error>>
     ensures sent { IfOk result (λ writer.
         Keeps (⟦<ToWrite<BufWriter<W>> as Sink>⟧.taken device) (W.contents writer)) }

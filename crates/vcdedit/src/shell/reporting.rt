@@ -2,15 +2,16 @@
 
 ghost use Rattle.std.specs.Prelude.{◌≡◌, ◌≤◌, false, true, OnOk, OnErr};
 ghost use Rattle.std.specs.Io.KnownBytes.{Appends};
-ghost use Rattle.vcdedit.specs.Report.{capture_line, capture_status, done_status, error_line, numbered_line, error_status};
+ghost use Rattle.vcdedit.specs.Report.{capture_line, capture_status, done_status, error_line};
+ghost use Rattle.vcdedit.specs.Report.{numbered_line, error_status};
 
 use crate::running::{RunError, Summary};
 use itoa::Buffer;
 use vcd_core::{ShortWrite, Sink, write_all};
 use vcd_text::{Fault, ReadError, WriteError};
 
-/// Writes the line on what ended a run, flushes the writer, and gives the exit status. A fault of the writer is
-/// ignored. It takes no memory.
+/// Writes the line on what ended a run, flushes the writer, and gives the exit status. A fault of
+/// the writer is ignored. It takes no memory.
 pub fn report<W: Sink>(error: &RunError, writer: &mut W) -> u8
     requires { W.has_failed writer.old ≡ false }
     ensures most { result ≤ 5 }
@@ -24,8 +25,8 @@ pub fn report<W: Sink>(error: &RunError, writer: &mut W) -> u8
     error_status(error)
 }
 
-/// Writes the text on why the words of the command line are refused, and gives the exit status. A fault of the writer
-/// is ignored. It takes no memory.
+/// Writes the text on why the words of the command line are refused, and gives the exit status. A
+/// fault of the writer is ignored. It takes no memory.
 pub fn report_refusal<W: Sink>(text: &str, writer: &mut W) -> u8
     requires { W.has_failed writer.old ≡ false }
     ensures status { result ≡ 2 }
@@ -57,7 +58,8 @@ fn error_status(error: &RunError) -> u8
     }
 }
 
-/// The exit status for a fault of the capture: 3 for its text, 4 for its source, 5 if memory ran out.
+/// The exit status for a fault of the capture: 3 for its text, 4 for its source, 5 if memory ran
+/// out.
 fn capture_status(fault: Fault) -> u8
     ensures most { result ≤ 5 }
     ensures status { result ≡ capture_status fault }

@@ -1,5 +1,6 @@
-//! The short notation of a capture. `[a:1 0@0 1@5 | v:4 z1@2; end 9]` has two wires in the one scope `module top`: `a`
-//! of one bit, which is 0 at tick 0 and 1 from tick 5 on, and `v` of four bits. It has no header and no timescale.
+//! The short notation of a capture. `[a:1 0@0 1@5 | v:4 z1@2; end 9]` has two wires in the one
+//! scope `module top`: `a` of one bit, which is 0 at tick 0 and 1 from tick 5 on, and `v` of four
+//! bits. It has no header and no timescale.
 
 use std::alloc::Global;
 use std::test::Fail;

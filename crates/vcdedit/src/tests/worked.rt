@@ -1,9 +1,11 @@
-//! Worked cases of whole runs, in memory: what `run` answers and writes, and what `report` says of a run that failed.
+//! Worked cases of whole runs, in memory: what `run` answers and writes, and what `report` says of
+//! a run that failed.
 //!
-//! A table is one text, with an empty line between two cases. A case has a line for its name and one for each part:
-//! `capture`, `script`, `depth` (by default 100), `replies`, `refused` (how many lines were refused, by default 0) and
-//! `output` (by default the capture). A run that failed has `report` in place of the last three: the exit status and
-//! the line. ` / ` separates the lines of a capture, a script or the replies. A capture may have the short notation.
+//! A table is one text, with an empty line between two cases. A case has a line for its name and
+//! one for each part: `capture`, `script`, `depth` (by default 100), `replies`, `refused` (how many
+//! lines were refused, by default 0) and `output` (by default the capture). A run that failed has
+//! `report` in place of the last three: the exit status and the line. ` / ` separates the lines of
+//! a capture, a script or the replies. A capture may have the short notation.
 
 mod codes;
 mod cuts;
@@ -67,7 +69,8 @@ fn check_done(rt: &impl Abort, run: &EndedRun, refused: u64, replies: &[u8], out
     assert!(rt; run.output.as_slice() == output);
 }
 
-/// Stops unless a run failed, wrote nothing, and has the report `expected`: its exit status and its line.
+/// Stops unless a run failed, wrote nothing, and has the report `expected`: its exit status and its
+/// line.
 ///
 /// An example of `expected` is `3 vcdedit: script: too large`.
 fn check_failed(

@@ -3,7 +3,8 @@ use Rattle.std.proofs.lemmas.List.{length-map}
 use Rattle.std.proofs.lemmas.List.Elements.{All-map}
 use Rattle.std.proofs.Math.ListN.{get_or-map}
 use Rattle.vcd_core.specs.declared.capture.Signal.{Signal}
-use Rattle.vcd_core.specs.Contents.{SignalContents, signal_contents}
+use Rattle.vcd_core.specs.Contents.{SignalContents}
+use Rattle.vcd_core.specs.CaptureContents.{signal_contents}
 use Rattle.vcd_core.specs.Sound.{IsSoundSignal}
 use Rattle.vcd_core.proofs.soundness.are_signals_sound.Goals as goal
 

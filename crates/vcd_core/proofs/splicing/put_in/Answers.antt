@@ -1,4 +1,5 @@
-use Rattle.std.proofs.Common.{rules, w64, List, ◌≡◌, ◌++◌, ◌-◌, length, take, drop, map, ap, ◌∙◌, refl, arith}
+use Rattle.std.proofs.Common.{rules, w64, List, ◌≡◌, ◌++◌, ◌-◌, length, take, drop, map, ap, ◌∙◌}
+use Rattle.std.proofs.Common.{refl, arith}
 use Rattle.std.proofs.Common.{length-drop}
 use Rattle.std.proofs.lemmas.List.{take_all}
 use Rattle.std.proofs.lemmas.Int.{to_z-of_z}

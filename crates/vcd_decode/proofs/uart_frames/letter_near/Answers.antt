@@ -6,20 +6,20 @@ use Rattle.vcd_decode.proofs.uart_frames.letter_near.Goals as goal
 
 pub bit-requires : goal.bit-requires
 bit-requires c =
-    one_letter c.args.wave.now c.changes.result.now c.count_until_near.result
-    (length (take c.count_until_near.result c.changes.result.now) - 1) c.change-item.result c.requires
+    one_letter c.args.wave.now c.changes.result.now c.count_through_near.result
+    (length (take c.count_through_near.result c.changes.result.now) - 1) c.change-item.result c.requires
     c.changes.ensures.form
     (omega (arith, length-take {A = Change})) (omega (arith, length-take {A = Change})) c.change-item.is
 
 pub returns-in-empty : goal.returns-in-empty
 returns-in-empty c =
-    no_letter_counted c.args.wave.now c.changes.result.now c.args.tick c.count_until_near.result c.requires
+    no_letter_counted c.args.wave.now c.changes.result.now c.args.tick c.count_through_near.result c.requires
     c.changes.ensures.changes c.changes.ensures.form
-    c.count_until_near.ensures c.in-empty.len_below
+    c.count_through_near.ensures c.in-empty.len_below
 
 pub returns-in-len1-up : goal.returns-in-len1-up
 returns-in-len1-up c =
     c.bit.ensures
-    ∙ letter_counted c.args.wave.now c.changes.result.now c.args.tick c.count_until_near.result c.change-item.result
+    ∙ letter_counted c.args.wave.now c.changes.result.now c.args.tick c.count_through_near.result c.change-item.result
     c.changes.ensures.changes c.changes.ensures.form
-    c.count_until_near.ensures c.in-len1-up.len_at_least c.change-item.is
+    c.count_through_near.ensures c.in-len1-up.len_at_least c.change-item.is

@@ -1,4 +1,5 @@
-use Rattle.std.proofs.Common.{◌≡◌, ◌∙◌, ◌&&◌, nat_lt, if◌then◌else◌, Option, None, sym, ap, subst, arith}
+use Rattle.std.proofs.Common.{◌≡◌, ◌∙◌, ◌&&◌, nat_lt, if◌then◌else◌, Option, None, sym, ap, subst}
+use Rattle.std.proofs.Common.{arith}
 use Rattle.vcd_core.specs.declared.bit.Bit.TheVariants.{X}
 use Rattle.vcd_core.specs.Wave.{AllUpTo}
 use Rattle.vcd_decode.specs.declared.annotation.Annotation.{Annotation}

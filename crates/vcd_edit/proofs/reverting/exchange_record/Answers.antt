@@ -1,6 +1,7 @@
 use Rattle.std.proofs.Common.{◌≡◌, ◌∙◌, ◌<◌, ◌≤◌, All, ap, sym, subst, length, map, arith}
 use Rattle.std.proofs.lemmas.List.{length-map}
-use Rattle.vcd_core.specs.Contents.{signal_contents, signal_at, contents}
+use Rattle.vcd_core.specs.Contents.{signal_at}
+use Rattle.vcd_core.specs.CaptureContents.{signal_contents, contents}
 use Rattle.vcd_edit.specs.declared.record.Piece.{Piece}
 use Rattle.vcd_edit.specs.AppliedRecords.{apply_record, with_signal_in_out, Fits}
 use Rattle.vcd_edit.specs.Records.{piece_view, record_view, signal_view}
@@ -8,7 +9,8 @@ use Rattle.vcd_edit.specs.inside.Opposites.{opposite_signal, IsOppositeRecord}
 use Rattle.vcd_edit.specs.inside.Exchanges.{PieceReadyIn}
 use Rattle.vcd_edit.proofs.OppositeRecords.{pieces_ready}
 use Rattle.vcd_edit.proofs.TouchedParts.{whole_list}
-use Rattle.vcd_edit.proofs.RecordExchanges.{fits_each, ready_then, word_fits_then, word_named_then, end_is_back}
+use Rattle.vcd_edit.proofs.RecordExchanges.{fits_each, ready_then, word_fits_then, word_named_then}
+use Rattle.vcd_edit.proofs.RecordExchanges.{end_is_back}
 use Rattle.vcd_edit.proofs.RecordExchanges.{is_record_then, leads_then}
 use Rattle.vcd_edit.proofs.reverting.exchange_record.Goals as goal
 
@@ -32,7 +34,8 @@ exchange_pieces-requires-clause-ready c =
     (omega (arith, c.as_mut_slice.ensures.len, c.reserve_all.auto.pieces)) in
     let whole = ap (map piece_view) pieces ∙ c.reserve_all.ensures.pieces
     ∙ ap (map piece_view) c.as_mut_slice.ensures.value in
-    let moved : contents c.exchange_signal.new.capture ≡ with_signal_in_out v.signal now = c.in-Ok-exchange_signal.ensures.effect
+    let moved : contents c.exchange_signal.new.capture
+    ≡ with_signal_in_out v.signal now = c.in-Ok-exchange_signal.ensures.effect
     ∙ ap (with_signal_in_out v.signal) c.reserve_all.ensures.contents in
     ready_then now v fits c.applied_record.invariant c.requires.sound _ whole
     (contents c.exchange_signal.new.capture) moved
@@ -47,7 +50,8 @@ exchange_word-word-requires-clause-fits c =
     (omega (arith, c.as_mut_slice.ensures.len, c.reserve_all.auto.pieces)) in
     let whole = ap (map piece_view) pieces ∙ c.reserve_all.ensures.pieces
     ∙ ap (map piece_view) c.as_mut_slice.ensures.value in
-    let moved : contents c.exchange_signal.new.capture ≡ with_signal_in_out v.signal now = c.in-Ok-exchange_signal.ensures.effect
+    let moved : contents c.exchange_signal.new.capture
+    ≡ with_signal_in_out v.signal now = c.in-Ok-exchange_signal.ensures.effect
     ∙ ap (with_signal_in_out v.signal) c.reserve_all.ensures.contents in
     word_fits_then now v fits c.applied_record.invariant c.requires.sound _ whole
     (contents c.exchange_signal.new.capture) moved
@@ -63,7 +67,8 @@ exchange_word-word-requires-clause-named c =
     (omega (arith, c.as_mut_slice.ensures.len, c.reserve_all.auto.pieces)) in
     let whole = ap (map piece_view) pieces ∙ c.reserve_all.ensures.pieces
     ∙ ap (map piece_view) c.as_mut_slice.ensures.value in
-    let moved : contents c.exchange_signal.new.capture ≡ with_signal_in_out v.signal now = c.in-Ok-exchange_signal.ensures.effect
+    let moved : contents c.exchange_signal.new.capture
+    ≡ with_signal_in_out v.signal now = c.in-Ok-exchange_signal.ensures.effect
     ∙ ap (with_signal_in_out v.signal) c.reserve_all.ensures.contents in
     word_named_then now v fits c.applied_record.invariant c.requires.sound _ whole
     (contents c.exchange_signal.new.capture) moved
@@ -79,9 +84,11 @@ invariant_of-result c =
     (omega (arith, c.as_mut_slice.ensures.len, c.reserve_all.auto.pieces)) in
     let whole = ap (map piece_view) pieces ∙ c.reserve_all.ensures.pieces
     ∙ ap (map piece_view) c.as_mut_slice.ensures.value in
-    let moved : contents c.exchange_signal.new.capture ≡ with_signal_in_out v.signal now = c.in-Ok-exchange_signal.ensures.effect
+    let moved : contents c.exchange_signal.new.capture
+    ≡ with_signal_in_out v.signal now = c.in-Ok-exchange_signal.ensures.effect
     ∙ ap (with_signal_in_out v.signal) c.reserve_all.ensures.contents in
-    let signal : signal_view c.in-Ok-exchange_signal.signal ≡ opposite_signal v.signal now = c.in-Ok-exchange_signal.ensures.restores
+    let signal : signal_view c.in-Ok-exchange_signal.signal
+    ≡ opposite_signal v.signal now = c.in-Ok-exchange_signal.ensures.restores
     ∙ ap (opposite_signal v.signal) c.reserve_all.ensures.contents in
     let q = record_view c.exchange_pieces.new.pieces.items c.exchange_word-word.result c.in-Ok-exchange_signal.signal
     c.exchange_end-other_end.result in
@@ -104,7 +111,8 @@ returns-in-Ok-exchange_signal-clause-effect c =
     (omega (arith, c.as_mut_slice.ensures.len, c.reserve_all.auto.pieces)) in
     let whole = ap (map piece_view) pieces ∙ c.reserve_all.ensures.pieces
     ∙ ap (map piece_view) c.as_mut_slice.ensures.value in
-    let moved : contents c.exchange_signal.new.capture ≡ with_signal_in_out v.signal now = c.in-Ok-exchange_signal.ensures.effect
+    let moved : contents c.exchange_signal.new.capture
+    ≡ with_signal_in_out v.signal now = c.in-Ok-exchange_signal.ensures.effect
     ∙ ap (with_signal_in_out v.signal) c.reserve_all.ensures.contents in
     end_is_back now v fits c.applied_record.invariant c.requires.sound _ whole
     (contents c.exchange_signal.new.capture) moved
@@ -123,9 +131,11 @@ returns-in-Ok-exchange_signal-clause-restores c =
     (omega (arith, c.as_mut_slice.ensures.len, c.reserve_all.auto.pieces)) in
     let whole = ap (map piece_view) pieces ∙ c.reserve_all.ensures.pieces
     ∙ ap (map piece_view) c.as_mut_slice.ensures.value in
-    let moved : contents c.exchange_signal.new.capture ≡ with_signal_in_out v.signal now = c.in-Ok-exchange_signal.ensures.effect
+    let moved : contents c.exchange_signal.new.capture
+    ≡ with_signal_in_out v.signal now = c.in-Ok-exchange_signal.ensures.effect
     ∙ ap (with_signal_in_out v.signal) c.reserve_all.ensures.contents in
-    let signal : signal_view c.in-Ok-exchange_signal.signal ≡ opposite_signal v.signal now = c.in-Ok-exchange_signal.ensures.restores
+    let signal : signal_view c.in-Ok-exchange_signal.signal
+    ≡ opposite_signal v.signal now = c.in-Ok-exchange_signal.ensures.restores
     ∙ ap (opposite_signal v.signal) c.reserve_all.ensures.contents in
     let q = record_view c.exchange_pieces.new.pieces.items c.exchange_word-word.result c.in-Ok-exchange_signal.signal
     c.exchange_end-other_end.result in

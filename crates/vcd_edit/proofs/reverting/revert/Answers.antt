@@ -1,5 +1,5 @@
 use Rattle.std.proofs.lemmas.Result.{IfOk-weaker}
-use Rattle.vcd_core.specs.Contents.{contents}
+use Rattle.vcd_core.specs.CaptureContents.{contents}
 use Rattle.vcd_edit.specs.Touched.{piece_advance}
 use Rattle.vcd_edit.specs.inside.Opposites.{IsOppositeRecord}
 use Rattle.vcd_edit.proofs.TouchedSums.{own_advances}

@@ -4,7 +4,8 @@ use Rattle.std.specs.Prelude.{OnOk, Option, Result, Ok, Err}
 use Rattle.std.specs.List.{flat_map}
 use Rattle.std.proofs.lemmas.Result.{IfErr-weaker}
 use Rattle.vcd_core.specs.declared.capture.Signal.{Signal}
-use Rattle.vcd_core.specs.Contents.{Contents, contents, signal_contents}
+use Rattle.vcd_core.specs.Contents.{Contents}
+use Rattle.vcd_core.specs.CaptureContents.{contents, signal_contents}
 use Rattle.vcd_text.specs.declared.writing.buffer.WriteBuffer.{WriteBuffer}
 use Rattle.vcd_text.specs.Text.{end_items, first_items, item_line, text, tick_items}
 use Rattle.vcd_text.specs.inside.TextParts.{declarations_text}

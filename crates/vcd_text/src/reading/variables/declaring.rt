@@ -1,19 +1,24 @@
 //! Declaring a variable.
 
-ghost use Rattle.std.specs.Prelude.{◌≡◌, ◌⊎◌, ◌<◌, ◌≤◌, ◌+◌, ◌++◌, ◌^◌, ◌==◌, ◌||◌, nat_lt, ℕ, List, [], ◌∷◌, length, slice_get, false, Some, IsTrue, IsFalse, IfOk, IfErr, OnOk, if◌then◌else◌, bytes_eq};
+ghost use Rattle.std.specs.Prelude.{◌≡◌, ◌⊎◌, ◌<◌, ◌≤◌, ◌+◌, ◌++◌, ◌^◌, ◌==◌, ◌||◌, nat_lt, ℕ};
+ghost use Rattle.std.specs.Prelude.{List, [], ◌∷◌, length, slice_get, false, Some, IsTrue, IsFalse};
+ghost use Rattle.std.specs.Prelude.{IfOk, IfErr, OnOk, if◌then◌else◌, bytes_eq};
 ghost use Rattle.std.specs.Option.{option_map_or};
 ghost use Rattle.vcd_core.specs.declared.capture.ScopeName.{ScopeName};
 ghost use Rattle.vcd_core.specs.declared.value.TheConstants.{WIDTH_LIMIT};
-ghost use Rattle.vcd_text.specs.declared.reading.change_log.TheConstants.{NO_HINT};
+ghost use Rattle.vcd_text.specs.declared.reading.pending.TheConstants.{NO_ROOM};
 ghost use Rattle.vcd_core.specs.Word.{is_skipped_kind as skips_kind};
-ghost use Rattle.vcd_text.specs.Grammar.{ParseState, VariableDeclaration, has_good_size, is_skipped};
-ghost use Rattle.vcd_text.specs.inside.Variables.{target_of, declaration_in, VariablesMatch, Declares, DeclaresAs};
-ghost use Rattle.vcd_text.specs.declared.fault.Fault.TheVariants.{NoMemory as NoMemoryFault, TooManySignals};
+ghost use Rattle.vcd_text.specs.Grammar.{ParseState, VariableDeclaration, has_good_size};
+ghost use Rattle.vcd_text.specs.Grammar.{is_skipped};
+ghost use Rattle.vcd_text.specs.inside.Variables.{target_of, declaration_in, VariablesMatch};
+ghost use Rattle.vcd_text.specs.inside.Variables.{Declares, DeclaresAs};
+ghost use Rattle.vcd_text.specs.declared.fault.Fault.TheVariants.{NoMemory as NoMemoryFault};
+ghost use Rattle.vcd_text.specs.declared.fault.Fault.TheVariants.{TooManySignals};
 ghost use Rattle.vcd_text.specs.declared.reading.code_targets.CodeTarget.TheVariants.{Position as PositionAt};
 
 use crate::fault::Fault;
-use crate::reading::change_log::NO_HINT;
 use crate::reading::code_targets::CodeTarget;
+use crate::reading::pending::NO_ROOM;
 use crate::reading::ticks_and_sizes::size_of;
 use crate::reading::variables::{Variable, Variables};
 use std::alloc::Global;
@@ -48,14 +53,15 @@ impl Variables {
         if is_skipped(kind.as_slice(), size) {
             return self.skip(alloc, code.as_slice());
         }
-        let signal = silent_signal(alloc, kind, size, name)?;
+        let signal = signal_without_changes(alloc, kind, size, name)?;
         self.keep(alloc, code.as_slice(), signal)
     }
 
     /// Declares a skipped variable.
     fn skip(&mut self, alloc: Global, code: &[u8]) -> Result<(), Fault>
         requires few { self.old.skipped + 1 < 2 ^ 64 }
-        ensures { (c : ParseState) (d : VariableDeclaration) → VariablesMatch self.old c → d.code ≡ code.now →
+        ensures { (c : ParseState) (d : VariableDeclaration) → VariablesMatch self.old c
+            → d.code ≡ code.now →
             IsTrue (is_skipped d) → DeclaresAs c d result self.new }
     {
         match self.code_targets.get(code) {
@@ -83,7 +89,7 @@ impl Variables {
                 if !self.has_width(first, signal.wave.width()) {
                     return Err(Fault::MixedCode);
                 }
-                self.push(signal, first)
+                self.add_kept(signal, first)
             }
             Some(CodeTarget::Skipped) => Err(Fault::MixedCode),
         }
@@ -93,7 +99,8 @@ impl Variables {
     fn keep_first(&mut self, alloc: Global, code: &[u8], signal: Signal) -> Result<(), Fault>
         ensures few { OnOk result (length self.old.kept.items < SIGNAL_LIMIT) }
         ensures kept { OnOk result (self.new.kept.items ≡ self.old.kept.items ++
-            record { signal = signal; first = length self.old.kept.items; hint = NO_HINT } ∷ []) }
+            record { signal = signal; first = length self.old.kept.items; expected_room = NO_ROOM }
+            ∷ []) }
         ensures widths { OnOk result (self.new.widths.items ≡
             self.old.widths.items ++ signal.wave.width ∷ []) }
         ensures code_targets { OnOk result ((key : List ℕ) → target_of self.new key ≡
@@ -105,17 +112,17 @@ impl Variables {
             ((fault ≡ TooManySignals) × (SIGNAL_LIMIT ≤ length self.old.kept.items))) }
     {
         let first = self.kept.len();
-        self.push(signal, first)?;
+        self.add_kept(signal, first)?;
         self.code_targets
             .insert(alloc, code, CodeTarget::Position(first as u32))?;
         Ok(())
     }
 
     /// Keeps a variable; the first one of its code is at `first`.
-    fn push(&mut self, signal: Signal, first: usize) -> Result<(), Fault>
+    fn add_kept(&mut self, signal: Signal, first: usize) -> Result<(), Fault>
         ensures few { OnOk result (length self.old.kept.items < SIGNAL_LIMIT) }
         ensures kept { OnOk result (self.new.kept.items ≡ self.old.kept.items ++
-            record { signal = signal; first = first; hint = NO_HINT } ∷ []) }
+            record { signal = signal; first = first; expected_room = NO_ROOM } ∷ []) }
         ensures widths { OnOk result (self.new.widths.items ≡
             self.old.widths.items ++ signal.wave.width ∷ []) }
         ensures code_targets { self.new.code_targets ≡ self.old.code_targets }
@@ -128,11 +135,11 @@ impl Variables {
             return Err(Fault::TooManySignals);
         }
         self.widths.push(signal.wave.width())?;
-        let hint = NO_HINT;
+        let expected_room = NO_ROOM;
         self.kept.push(Variable {
             signal,
             first,
-            hint,
+            expected_room,
         })?;
         Ok(())
     }
@@ -157,7 +164,12 @@ fn is_skipped(kind: &[u8], size: u64) -> bool
 }
 
 /// A signal of these words, in no scope, that is x throughout.
-fn silent_signal(alloc: Global, kind: &Word, width: u64, name: &[Word]) -> Result<Signal, NoMemory>
+fn signal_without_changes(
+    alloc: Global,
+    kind: &Word,
+    width: u64,
+    name: &[Word],
+) -> Result<Signal, NoMemory>
     requires least { 1 ≤ width }
     requires most { width ≤ WIDTH_LIMIT }
     ensures bare { IfOk result (λ signal. signal.scopes ≡ []) }

@@ -2,12 +2,12 @@
 //! the first signal with its code.
 
 ghost use Rattle.std.specs.Prelude.{◌≡◌, ◌++◌, ◌∷◌, [], map, slice_get, IfOk, OnOk};
-ghost use Rattle.vcd_core.specs.Contents.{signal_contents};
+ghost use Rattle.vcd_core.specs.CaptureContents.{signal_contents};
 ghost use Rattle.vcd_text.specs.Grammar.{ParseState, kept_variables};
 ghost use Rattle.vcd_text.specs.Meaning.{declared_signal};
 ghost use Rattle.vcd_text.specs.inside.Variables.{without_scopes, VariablesMatch, Finishes};
 
-use crate::reading::change_log::flush_log;
+use crate::reading::pending::move_log_to_waves;
 use crate::reading::variables::{Variable, Variables};
 use std::alloc::Global;
 use std::mem::replace;
@@ -22,7 +22,8 @@ impl Variables {
         requires { (c : ParseState) × VariablesMatch self c }
         ensures { IfOk result (λ signals. (c : ParseState) → VariablesMatch self c →
             map signal_contents signals.items ≡
-            map (declared_signal c.value_changes c.tick) (map without_scopes (kept_variables c.declared))) }
+            map (declared_signal c.value_changes c.tick)
+            (map without_scopes (kept_variables c.declared))) }
     {
         let mut variables = self;
         variables.empty_log(alloc)?;
@@ -32,18 +33,20 @@ impl Variables {
     /// Gives the waves their changes of the log, which is then empty.
     fn empty_log(&mut self, alloc: Global) -> Result<(), NoMemory>
         requires { (c : ParseState) × VariablesMatch self.old c }
-        ensures same { OnOk result ((c : ParseState) → VariablesMatch self.old c → VariablesMatch self.new c) }
+        ensures same { OnOk result ((c : ParseState) → VariablesMatch self.old c
+            → VariablesMatch self.new c) }
         ensures empty { OnOk result (self.new.log.items ≡ []) }
     {
         let groups = replace(&mut self.log, Vec::new(alloc));
-        flush_log(&mut self.kept, groups)
+        move_log_to_waves(&mut self.kept, groups)
     }
 
     /// The signals of the kept variables, if the log is empty.
     fn flushed_signals(self, alloc: Global) -> Result<Vec<Signal>, NoMemory>
         ensures { IfOk result (λ signals. self.log.items ≡ [] → (c : ParseState) →
             VariablesMatch self c → map signal_contents signals.items ≡
-            map (declared_signal c.value_changes c.tick) (map without_scopes (kept_variables c.declared))) }
+            map (declared_signal c.value_changes c.tick)
+            (map without_scopes (kept_variables c.declared))) }
     {
         let Variables { kept, .. } = self;
         let mut signals = Vec::with_capacity(alloc, kept.len())?;

@@ -19,7 +19,8 @@ $end
 #9
 ";
 
-/// Ranges of lengths at which the cut file is refused, each with its fault. Other lengths are accepted.
+/// Ranges of lengths at which the cut file is refused, each with its fault. Other lengths are
+/// accepted.
 const REFUSED: &str = "\
 0 19 line 1: Truncated
 20 42 line 2: Truncated

@@ -1,4 +1,5 @@
--- `read_whole` ends, since each turn brings some bytes closer to the limit; `bytes` has all that came.
+-- `read_whole` ends, since each turn brings some bytes closer to the limit; `bytes` has all that
+-- came.
 use Rattle.std.proofs.Common.{◌≡◌, ◌-◌, ◌≤◌, false, vec_len}
 use Rattle.std.specs.Io.KnownBytes.{Consumes}
 use Rattle.vcd_core.proofs.device.whole.read_whole.Given as goal

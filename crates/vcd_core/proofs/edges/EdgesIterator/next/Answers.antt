@@ -5,21 +5,25 @@ use Rattle.vcd_core.proofs.edges.EdgesIterator.next.Goals as goal
 
 pub returns-in_err-tick-clause-steps : goal.returns-in_err-tick-clause-steps
 returns-in_err-tick-clause-steps c =
-    let over = sym c.self.view_is ∙ walk_over (traces_left c.self.inside.walk) c.self.invariant (sym c.in_err-tick.ensures) in
+    let over = sym c.self.view_is
+    ∙ walk_over (traces_left c.self.inside.walk) c.self.invariant (sym c.in_err-tick.ensures) in
     rw c.from_residual.ensures (over, over)
 
 pub invariant_of-self : goal.invariant_of-self
-invariant_of-self c = walk_kept (traces_left c.self.inside.walk) _ _ c.self.invariant (sym c.in_ok-tick.ensures) c.after-self-inside.ensures
+invariant_of-self c = walk_kept (traces_left c.self.inside.walk) _ _ c.self.invariant
+    (sym c.in_ok-tick.ensures) c.after-self-inside.ensures
 
 pub returns-clause-steps : goal.returns-clause-steps
 returns-clause-steps c =
     sym c.self.view_is
-    ∙ walk_next (traces_left c.self.inside.walk) _ _ _ _ c.self.invariant (sym c.in_ok-tick.ensures) c.after-self-inside.ensures
+    ∙ walk_next (traces_left c.self.inside.walk) _ _ _ _ c.self.invariant (sym c.in_ok-tick.ensures)
+    c.after-self-inside.ensures
     c.values-before.ensures c.values-at.ensures
 
 pub returns-clause-goes : goal.returns-clause-goes
 returns-clause-goes c =
-    let first = walk_next (traces_left c.self.inside.walk) _ _ _ _ c.self.invariant (sym c.in_ok-tick.ensures) c.after-self-inside.ensures
+    let first = walk_next (traces_left c.self.inside.walk) _ _ _ _ c.self.invariant
+    (sym c.in_ok-tick.ensures) c.after-self-inside.ensures
     c.values-before.ensures c.values-at.ensures in
     let shorter = ap length (sym c.self.view_is ∙ first) in
     record { on = λ finite. (tt, finite, omega arith); keeps = tt; rests = λ _. tt }

@@ -1,5 +1,5 @@
 use Rattle.std.proofs.Common.{sym, ◌∙◌, arith}
-use Rattle.vcd_core.specs.WordRows.{letter_of}
+use Rattle.vcd_core.specs.BlockRows.{letter_of}
 use Rattle.vcd_core.proofs.ValueLemmas.{letter_at-shown, in_planes}
 use Rattle.vcd_core.proofs.value.Value.bit.Goals as goal
 

@@ -1,5 +1,6 @@
 use Rattle.std.proofs.Common.{sym, ◌∙◌, ap, ◌≡◌, ◌≤◌, ◌*◌, ℕ, List, take}
-use Rattle.std.proofs.lemmas.Bool.Decides.{same_from_decides, Decides-like, Decides-and, Decides-eqb}
+use Rattle.std.proofs.lemmas.Bool.Decides.{same_from_decides, Decides-like, Decides-and}
+use Rattle.std.proofs.lemmas.Bool.Decides.{Decides-eqb}
 use Rattle.std.proofs.lemmas.Slice.Eq.{slice_eq-Decides}
 use Rattle.vcd_core.specs.declared.bit.Bit.{Bit}
 use Rattle.vcd_core.specs.declared.value.Value.TheInside.{Inside}
@@ -28,11 +29,11 @@ returns c =
     let fields = λ (e : c.args.self.now ≡ c.args.other.now). same_planes _ _ _ _ c.self.invariant c.other.invariant
     c.self.view_is c.other.view_is e in
     same_from_decides _ _
-    (Decides-like _ (λ (width, same). same_view _ _ _ _ c.words_in-used.result c.self.view_is c.other.view_is
-    c.words_in-used.ensures.fits width same)
+    (Decides-like _ (λ (width, same). same_view _ _ _ _ c.blocks_in-used.result c.self.view_is c.other.view_is
+    c.blocks_in-used.ensures.fits width same)
     (λ e. (
       ap (λ (v : Inside). v.width) (fields e),
-      ap (λ (v : Inside). take (2 * c.words_in-used.result) v.planes) (fields e),
+      ap (λ (v : Inside). take (2 * c.blocks_in-used.result) v.planes) (fields e),
     ))
     (Decides-and _ _ (Decides-eqb _ _) (slice_eq-Decides Decides-eqb _ _ _ c.eq-same.ensures)))
     (same_letters-Decides _ _)

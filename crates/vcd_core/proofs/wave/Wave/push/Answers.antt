@@ -1,10 +1,13 @@
-use Rattle.std.proofs.Common.{◌∙◌, ◌≡◌, ◌≢◌, ◌≤◌, if◌then◌else◌, nat_le, sym, ap, subst, All, Any, inl, inr}
+use Rattle.std.proofs.Common.{◌∙◌, ◌≡◌, ◌≢◌, ◌≤◌, if◌then◌else◌, nat_le, sym, ap, subst, All, Any}
+use Rattle.std.proofs.Common.{inl, inr}
 use Rattle.std.proofs.lemmas.List.{length-replicate}
 use Rattle.vcd_core.specs.declared.wave.Change.{Change}
 use Rattle.vcd_core.specs.Value.{all_x}
-use Rattle.vcd_core.specs.Wave.{value_at, IsWave, changes_before, changes_after_push, last_value}
+use Rattle.vcd_core.specs.Wave.{value_at, IsWave}
+use Rattle.vcd_core.specs.WavePush.{changes_before, changes_after_push, last_value}
 use Rattle.vcd_core.specs.WaveView.{WaveView}
-use Rattle.vcd_core.proofs.Pushes.{pushed_wave, pushed_upto, value_at-pushed, all_from_upto, upto_from_all, last_before}
+use Rattle.vcd_core.proofs.Pushes.{pushed_wave, pushed_upto, value_at-pushed, all_from_upto}
+use Rattle.vcd_core.proofs.Pushes.{upto_from_all, last_before}
 use Rattle.vcd_core.proofs.Pushes.{one_at_tick, own_changes}
 use Rattle.vcd_core.proofs.wave.Wave.push.Goals as goal
 

@@ -9,5 +9,5 @@ returns-in-Some-clause-annotations c =
     let before = sym c.levels_of-before.ensures in
     let at = sym c.levels_of.ensures in
     let seen = (λ i. bus_event c.args.edge.tick (before i) (at i)) ∙ sym c.bus_event.ensures ∙ c.in-Some.is in
-    event_taken c.take_event.result c.args.found.now.items c.take_event.new.found.items c.args.bus
-    (edge_event c.args.edge) c.in-Some.event seen c.take_event.ensures.annotations c.take_event.ensures.bus
+    event_taken c.take_event.result c.args.found.now.items c.take_event.new.found.items c.args.transfer
+    (edge_event c.args.edge) c.in-Some.event seen c.take_event.ensures.annotations c.take_event.ensures.transfer

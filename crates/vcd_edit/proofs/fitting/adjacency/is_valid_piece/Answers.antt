@@ -1,16 +1,20 @@
-use Rattle.std.proofs.Common.{◌≡◌, ◌↔◌, ◌∙◌, ◌≤◌, ℕ, ℤ, List, All, IsTrue, w64, FitsSigned, to_z, of_z, subst, sym, ap}
+use Rattle.std.proofs.Common.{◌≡◌, ◌↔◌, ◌∙◌, ◌≤◌, ℕ, ℤ, List, All, IsTrue, w64, FitsSigned, to_z}
+use Rattle.std.proofs.Common.{of_z, subst, sym, ap}
 use Rattle.std.proofs.Common.{length, map, ◌-◌, take, drop, arith, rules}
 use Rattle.std.proofs.lemmas.Int.{to_z-of_z}
 use Rattle.std.proofs.lemmas.List.{take_rest, take_all}
 use Rattle.vcd_core.specs.declared.bit.Bit.{Bit}
 use Rattle.vcd_core.specs.declared.wave.Change.{Change}
 use Rattle.vcd_core.specs.Value.{all_x}
-use Rattle.vcd_core.specs.Wave.{IsWave, AreChangesFrom, AllUpTo, last_value}
+use Rattle.vcd_core.specs.Wave.{IsWave, AreChangesFrom, AllUpTo}
+use Rattle.vcd_core.specs.WavePush.{last_value}
 use Rattle.vcd_core.specs.Splice.{moved_change, AllTicksFit}
 use Rattle.vcd_edit.specs.Records.{piece_view}
 use Rattle.vcd_edit.specs.inside.Adjacency.{floor_after, value_following, may_all_follow, MovesTo}
-use Rattle.vcd_edit.proofs.AdjacencyTests.{front_rises, later_rises, follow_rise, moves_fit, stands_by_tests}
-use Rattle.vcd_edit.proofs.AdjacencyTests.{front_ends, piece_ends, later_move, at_both_seams, refused}
+use Rattle.vcd_edit.proofs.AdjacencyTests.{front_rises, later_rises, follow_rise, moves_fit}
+use Rattle.vcd_edit.proofs.AdjacencyTests.{stands_by_tests}
+use Rattle.vcd_edit.proofs.AdjacencyTests.{front_ends, piece_ends, later_move, at_both_seams}
+use Rattle.vcd_edit.proofs.AdjacencyTests.{refused}
 use Rattle.vcd_edit.proofs.fitting.adjacency.is_valid_piece.Goals as goal
 
 pub all_move_to-requires : goal.all_move_to-requires

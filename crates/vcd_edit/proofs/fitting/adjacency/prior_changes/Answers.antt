@@ -1,5 +1,5 @@
 use Rattle.std.proofs.Common.{[], sym, ap, take, arith}
-use Rattle.vcd_core.specs.Wave.{last_value}
+use Rattle.vcd_core.specs.WavePush.{last_value}
 use Rattle.vcd_edit.specs.inside.Adjacency.{floor_after, value_following}
 use Rattle.vcd_edit.proofs.AdjacencyTests.{after_some}
 use Rattle.vcd_edit.proofs.fitting.adjacency.prior_changes.Goals as goal

@@ -1,6 +1,7 @@
 use Rattle.std.proofs.Common.{◌≡◌, ◌-◌, ◌≤◌, pos, map}
 use Rattle.std.specs.Prelude.{neg_ℤ}
-use Rattle.vcd_core.specs.Contents.{Contents, signal_contents}
+use Rattle.vcd_core.specs.Contents.{Contents}
+use Rattle.vcd_core.specs.CaptureContents.{signal_contents}
 use Rattle.vcd_core.specs.Sound.{IsSound}
 use Rattle.vcd_edit.specs.Effect.{signal_after_cut}
 use Rattle.vcd_edit.specs.Records.{piece_view}

@@ -1,5 +1,5 @@
 use Rattle.std.proofs.Common.{refl, sym, ◌∙◌}
-use Rattle.vcd_core.specs.Wave.{last_value}
+use Rattle.vcd_core.specs.WavePush.{last_value}
 use Rattle.vcd_edit.proofs.KeptChanges.{kept_in_front, last_so_far, rest_is}
 use Rattle.vcd_edit.proofs.plans.deglitch.count_kept_in_front.Goals as goal
 

@@ -1,5 +1,5 @@
 use Rattle.std.proofs.Common.{◌≡◌, ◌++◌, take, drop}
-use Rattle.vcd_core.specs.Wave.{last_value}
+use Rattle.vcd_core.specs.WavePush.{last_value}
 use Rattle.vcd_edit.specs.inside.RemainingChanges.{kept_changes}
 use Rattle.vcd_edit.proofs.plans.deglitch.count_kept_in_front.Given as goal
 

@@ -1,6 +1,7 @@
 use Rattle.std.proofs.Common.{IfOk, sym, subst}
 use Rattle.vcd_core.specs.Value.{letter_at}
-use Rattle.vcd_core.specs.Contents.{Contents, SignalContents, contents, signal_value}
+use Rattle.vcd_core.specs.Contents.{Contents, SignalContents, signal_value}
+use Rattle.vcd_core.specs.CaptureContents.{contents}
 use Rattle.vcd_edit.specs.declared.edit.Formula.{Formula}
 use Rattle.vcd_edit.specs.Operators.{not_bit, operator_bit}
 use Rattle.vcd_edit.specs.Effect.{formula_bit}

@@ -1,6 +1,7 @@
 use Rattle.std.proofs.Common.{◌<◌, length, ap, sym, subst, ◌∙◌}
 use Rattle.std.proofs.lemmas.Bool.{lt-ltb}
-use Rattle.vcd_core.specs.Contents.{Contents, SignalContents, contents, signal_at}
+use Rattle.vcd_core.specs.Contents.{Contents, SignalContents, signal_at}
+use Rattle.vcd_core.specs.CaptureContents.{contents}
 use Rattle.vcd_edit.specs.declared.edit.Formula.{Formula}
 use Rattle.vcd_edit.specs.Effect.{first_operand}
 use Rattle.vcd_edit.specs.inside.Derived.{HasOperands}

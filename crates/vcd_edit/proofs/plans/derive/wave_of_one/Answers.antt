@@ -1,9 +1,11 @@
-use Rattle.std.proofs.Common.{◌≡◌, ◌+◌, ◌<◌, ◌≤◌, [], ◌∷◌, List, length, get_or, map, drop, ap, subst, ◌∙◌}
+use Rattle.std.proofs.Common.{◌≡◌, ◌+◌, ◌<◌, ◌≤◌, [], ◌∷◌, List, length, get_or, map, drop, ap}
+use Rattle.std.proofs.Common.{subst, ◌∙◌}
 use Rattle.vcd_core.specs.declared.bit.Bit.{Bit}
 use Rattle.vcd_core.specs.declared.wave.Change.{Change}
 use Rattle.vcd_core.specs.Wave.{change, IsWave}
 use Rattle.vcd_edit.specs.inside.Derived.{selected_change}
-use Rattle.vcd_edit.proofs.DerivedWaves.{no_change_made, change_next, one_made, late_enough, selected_is}
+use Rattle.vcd_edit.proofs.DerivedWaves.{no_change_made, change_next, one_made, late_enough}
+use Rattle.vcd_edit.proofs.DerivedWaves.{selected_is}
 use Rattle.vcd_edit.proofs.plans.derive.wave_of_one.Goals as goal
 
 pub loop-change-init : goal.loop-change-init

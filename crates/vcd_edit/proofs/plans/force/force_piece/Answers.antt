@@ -1,5 +1,6 @@
 use Rattle.std.proofs.Common.{ap, arith}
-use Rattle.vcd_core.specs.Contents.{SignalContents, signal_contents}
+use Rattle.vcd_core.specs.Contents.{SignalContents}
+use Rattle.vcd_core.specs.CaptureContents.{signal_contents}
 use Rattle.vcd_edit.specs.RecordView.{PieceView}
 use Rattle.vcd_edit.specs.Records.{piece_view}
 use Rattle.vcd_edit.proofs.Forces.{force_to_end, force_before_end}

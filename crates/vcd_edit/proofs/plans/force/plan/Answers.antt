@@ -1,5 +1,5 @@
 use Rattle.std.proofs.Common.{refl, pos}
-use Rattle.vcd_core.specs.Contents.{contents, signal_contents}
+use Rattle.vcd_core.specs.CaptureContents.{contents, signal_contents}
 use Rattle.vcd_edit.specs.declared.edit.Edit.TheVariants.{Force}
 use Rattle.vcd_edit.specs.Effect.{force_value}
 use Rattle.vcd_edit.proofs.Faults.{no_fault}

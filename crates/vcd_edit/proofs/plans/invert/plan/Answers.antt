@@ -1,5 +1,6 @@
 use Rattle.std.proofs.Common.{map, refl, pos, ◌∙◌}
-use Rattle.vcd_core.specs.Contents.{SignalContents, contents, signal_contents}
+use Rattle.vcd_core.specs.Contents.{SignalContents}
+use Rattle.vcd_core.specs.CaptureContents.{contents, signal_contents}
 use Rattle.vcd_edit.specs.declared.edit.Edit.TheVariants.{Invert}
 use Rattle.vcd_edit.specs.Operators.{not_bit}
 use Rattle.vcd_edit.specs.Effect.{inverse_value}

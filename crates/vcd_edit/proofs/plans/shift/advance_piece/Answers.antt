@@ -2,7 +2,8 @@ use Rattle.std.proofs.Common.{◌≡◌, ◌-◌, ℤ, refl, pos, sym, ap, ◌�
 use Rattle.std.specs.Prelude.{neg_ℤ}
 use Rattle.std.specs.Int.{w64}
 use Rattle.std.proofs.lemmas.Int.{ints, to_z-of_z}
-use Rattle.vcd_core.specs.Contents.{SignalContents, signal_contents}
+use Rattle.vcd_core.specs.Contents.{SignalContents}
+use Rattle.vcd_core.specs.CaptureContents.{signal_contents}
 use Rattle.vcd_edit.specs.Effect.{shift_value}
 use Rattle.vcd_edit.proofs.Shifts.{shift_to_last, shift_as_cut, gives_same}
 use Rattle.vcd_edit.proofs.plans.shift.advance_piece.Goals as goal

@@ -1,4 +1,5 @@
-use Rattle.std.proofs.Common.{◌≡◌, ◌<◌, ◌≤◌, ◌+◌, ◌^◌, ℤ, pos, List, length, take, map, All, ap, subst, refl, sym, ◌∙◌}
+use Rattle.std.proofs.Common.{◌≡◌, ◌<◌, ◌≤◌, ◌+◌, ◌^◌, ℤ, pos, List, length, take, map, All, ap}
+use Rattle.std.proofs.Common.{subst, refl, sym, ◌∙◌}
 use Rattle.std.proofs.Common.{arith}
 use Rattle.std.specs.Int.{w64}
 use Rattle.std.proofs.lemmas.Int.{ints, to_z-of_z}
@@ -6,10 +7,12 @@ use Rattle.std.proofs.lemmas.List.Elements.{All-take}
 use Rattle.vcd_core.specs.declared.wave.Change.{Change}
 use Rattle.vcd_core.specs.Value.{all_x}
 use Rattle.vcd_core.specs.Splice.{moved_change}
-use Rattle.vcd_core.specs.Contents.{SignalContents, signal_contents}
+use Rattle.vcd_core.specs.Contents.{SignalContents}
+use Rattle.vcd_core.specs.CaptureContents.{signal_contents}
 use Rattle.vcd_core.proofs.Pushes.{all_from_upto}
 use Rattle.vcd_edit.specs.Effect.{shift_value}
-use Rattle.vcd_edit.proofs.Shifts.{leads_same, gives_same, shift_before, later_all_stay, later_some_stay}
+use Rattle.vcd_edit.proofs.Shifts.{leads_same, gives_same, shift_before, later_all_stay}
+use Rattle.vcd_edit.proofs.Shifts.{later_some_stay}
 use Rattle.vcd_edit.proofs.plans.shift.delay_piece.Goals as goal
 
 pub returns-then-ticks-end : goal.returns-then-ticks-end

@@ -1,7 +1,7 @@
 use Rattle.std.proofs.Common.{refl}
 use Rattle.std.specs.Int.{w64}
 use Rattle.std.proofs.lemmas.Int.{to_z-of_z}
-use Rattle.vcd_core.specs.Contents.{contents, signal_contents}
+use Rattle.vcd_core.specs.CaptureContents.{contents, signal_contents}
 use Rattle.vcd_edit.specs.declared.edit.Edit.TheVariants.{Shift}
 use Rattle.vcd_edit.specs.Effect.{shift_value}
 use Rattle.vcd_edit.proofs.Faults.{no_fault}

@@ -1,6 +1,6 @@
 use Rattle.std.proofs.Common.{◌≡◌, ◌∙◌, ◌↔◌, IsTrue, List, map, subst, sym, ap}
 use Rattle.std.specs.Option.{unwrap_or}
-use Rattle.vcd_core.specs.Contents.{contents, signal_contents}
+use Rattle.vcd_core.specs.CaptureContents.{contents, signal_contents}
 use Rattle.vcd_edit.specs.declared.record.Piece.{Piece}
 use Rattle.vcd_edit.specs.AppliedRecords.{Fits}
 use Rattle.vcd_edit.specs.Records.{record_view}

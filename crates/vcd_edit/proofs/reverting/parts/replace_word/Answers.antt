@@ -1,5 +1,6 @@
 use Rattle.std.proofs.Common.{List, ◌∷◌, drop, ap, ◌∙◌}
-use Rattle.vcd_core.specs.Contents.{Contents, SignalContents, contents}
+use Rattle.vcd_core.specs.Contents.{Contents, SignalContents}
+use Rattle.vcd_core.specs.CaptureContents.{contents}
 use Rattle.vcd_edit.proofs.ContentsAfterExchange.{word_written}
 use Rattle.vcd_edit.proofs.reverting.parts.replace_word.Goals as goal
 

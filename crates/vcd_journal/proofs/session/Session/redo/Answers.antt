@@ -2,7 +2,7 @@ use Rattle.std.proofs.Common.{◌<◌, ap, length, arith}
 use Rattle.std.proofs.lemmas.Bool.Decides.{nat_tests}
 use Rattle.std.proofs.lemmas.Result.{err_from_is_err_and}
 use Rattle.circular_buffer.specs.Buffer.{Buffer}
-use Rattle.vcd_core.specs.Contents.{contents}
+use Rattle.vcd_core.specs.CaptureContents.{contents}
 use Rattle.vcd_edit.specs.RecordView.{RecordView}
 use Rattle.vcd_journal.proofs.Steps.{redo_no_memory}
 use Rattle.vcd_journal.proofs.Histories.{some_captures, same_machine, redo_needs}

@@ -2,7 +2,7 @@ use Rattle.std.proofs.Common.{◌≡◌, ◌-◌, [], ℕ, List, length, drop, a
 use Rattle.std.specs.List.{list_all}
 use Rattle.std.proofs.lemmas.List.{length-set, length-map, drop_all}
 use Rattle.vcd_text.specs.Letters.{is_binary_digit}
-use Rattle.vcd_text.proofs.LetterWords.{row_more, letters_more, no_letter, row_is_extension}
+use Rattle.vcd_text.proofs.LetterBlocks.{row_more, letters_more, no_letter, row_is_extension}
 use Rattle.vcd_text.proofs.reading.binary_number.extended_value.Goals as goal
 
 -- after the last digit there is none
@@ -19,5 +19,5 @@ loop-k-preserved c = grind (arith, row_more, letters_more, length-set)
 pub returns : goal.returns
 returns c = grind (arith, length-map, row_is_extension)
 
-pub returns-in_err-word : goal.returns-in_err-word
-returns-in_err-word c = grind (arith, no_letter)
+pub returns-in_err-block : goal.returns-in_err-block
+returns-in_err-block c = grind (arith, no_letter)

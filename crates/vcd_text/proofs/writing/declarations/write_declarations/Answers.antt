@@ -3,7 +3,7 @@ use Rattle.std.proofs.Common.{[], List, map, ap}
 use Rattle.std.specs.List.{flat_map}
 use Rattle.vcd_core.specs.declared.capture.Header.{Header}
 use Rattle.vcd_core.specs.declared.capture.Signal.{Signal}
-use Rattle.vcd_core.specs.Contents.{signal_contents}
+use Rattle.vcd_core.specs.CaptureContents.{signal_contents}
 use Rattle.vcd_text.specs.Text.{header_items, item_line, signal_items, timescale_items}
 use Rattle.vcd_text.proofs.Written.{writes_as, writes_both}
 use Rattle.vcd_text.proofs.writing.declarations.write_declarations.Goals as goal

@@ -1,7 +1,7 @@
 -- The declarations of the signals passed are written.
 use Rattle.std.proofs.Common.{[], drop, map}
 use Rattle.std.specs.List.{flat_map}
-use Rattle.vcd_core.specs.Contents.{signal_contents}
+use Rattle.vcd_core.specs.CaptureContents.{signal_contents}
 use Rattle.vcd_text.specs.Text.{item_line, signal_items}
 use Rattle.vcd_text.proofs.Written.{WritesFront}
 use Rattle.vcd_text.proofs.writing.declarations.write_signals.Given as goal

@@ -1,7 +1,7 @@
 -- The values of the signals passed are written.
 use Rattle.std.proofs.Common.{drop, map}
 use Rattle.std.specs.List.{enumerate_from, flat_map}
-use Rattle.vcd_core.specs.Contents.{signal_contents}
+use Rattle.vcd_core.specs.CaptureContents.{signal_contents}
 use Rattle.vcd_text.specs.Text.{all_values, item_line, value_items}
 use Rattle.vcd_text.proofs.Written.{WritesFront}
 use Rattle.vcd_text.proofs.writing.stamps.write_all_values.Given as goal

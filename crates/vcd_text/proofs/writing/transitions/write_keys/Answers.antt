@@ -1,7 +1,7 @@
 -- Each turn writes the change of one key.
 use Rattle.std.proofs.Common.{◌<◌, ◌+◌, ◌/◌, ◌%◌, length, map, get_or, sym, ap, refl, ◌∙◌, arith}
 use Rattle.std.proofs.lemmas.List.{get_or_default, length-set}
-use Rattle.vcd_core.specs.Contents.{signal_contents}
+use Rattle.vcd_core.specs.CaptureContents.{signal_contents}
 use Rattle.vcd_text.specs.Text.{code_of, item_line, value_item}
 use Rattle.vcd_text.specs.declared.writing.window.TheConstants.{POSITIONS}
 use Rattle.vcd_text.proofs.Listing.{value_there}
@@ -10,13 +10,13 @@ use Rattle.vcd_text.proofs.Written.{front_begun, front_grows, front_whole, write
 use Rattle.vcd_text.proofs.writing.transitions.write_keys.Goals as goal
 
 pub loop-k-init : goal.loop-k-init
-loop-k-init g c = record { text = front_begun refl; last = refl; search_hints = refl }
+loop-k-init g c = record { text = front_begun refl; last = refl; start_places = refl }
 
 pub overflow_add-tick : goal.overflow_add-tick
 overflow_add-tick g c = omega (arith, (c.requires.keys c.loop-k.k 0 (omega arith)).tick)
 
-pub bounds-search_hints-position : goal.bounds-search_hints-position
-bounds-search_hints-position g c = grind arith
+pub bounds-start_places-position : goal.bounds-start_places-position
+bounds-start_places-position g c = grind arith
 
 pub bounds-signals-position : goal.bounds-signals-position
 bounds-signals-position g c = omega (arith, (c.requires.keys c.loop-k.k 0 (omega arith)).position)
@@ -42,8 +42,8 @@ loop-k-preserved g c =
           c.write_value_near.ensures))
           (one_written (map signal_contents signals) c.args.from c.loop-k.last k keys inside);
       last = one_later c.args.from c.loop-k.last k _ keys inside kept.last;
-      search_hints = length-set c.prefetch_changes.new.search_hints (key % POSITIONS) _ ∙ c.prefetch_changes.ensures
-          ∙ kept.search_hints;
+      start_places = length-set c.prefetch_changes.new.start_places (key % POSITIONS) _ ∙ c.prefetch_changes.ensures
+          ∙ kept.start_places;
     }
 
 pub returns-clause-text : goal.returns-clause-text

@@ -1,7 +1,7 @@
 -- The transitions of the keys passed are written; the last tick stays.
 use Rattle.std.proofs.Common.{◌≡◌, length, drop, map}
 use Rattle.std.specs.List.{flat_map}
-use Rattle.vcd_core.specs.Contents.{signal_contents}
+use Rattle.vcd_core.specs.CaptureContents.{signal_contents}
 use Rattle.vcd_text.specs.Text.{item_line}
 use Rattle.vcd_text.specs.inside.Transitions.{last_tick, transition_items}
 use Rattle.vcd_text.specs.inside.Windows.{transitions_of}
@@ -18,5 +18,5 @@ invariant-loop-k g l =
           (transitions_of l.from l.keys)));
       last : last_tick l.last (transitions_of l.from (drop l.k l.keys))
           ≡ last_tick l.initial.last (transitions_of l.from l.keys);
-      search_hints : length l.search_hints ≡ length l.initial.search_hints;
+      start_places : length l.start_places ≡ length l.initial.start_places;
     }

@@ -1,9 +1,9 @@
 -- Each turn writes the transitions of one window.
 use Rattle.std.proofs.Common.{◌≤◌, ◌+◌, map, refl, arith}
-use Rattle.vcd_core.specs.Contents.{signal_contents}
+use Rattle.vcd_core.specs.CaptureContents.{signal_contents}
 use Rattle.vcd_text.specs.inside.Windows.{transitions_of}
 use Rattle.std.proofs.Common.{ap, ◌∙◌}
-use Rattle.vcd_text.proofs.Walks.{end_walked, whole_walk, window_walked}
+use Rattle.vcd_text.proofs.TransitionText.{end_walked, whole_walk, window_walked}
 use Rattle.vcd_text.proofs.Written.{front_begun, front_grows, front_whole}
 use Rattle.std.proofs.lemmas.List.{with_items_is}
 use Rattle.vcd_text.proofs.writing.transitions.write_transitions.Goals as goal
@@ -31,7 +31,7 @@ loop-from-preserved g c =
         some = ready.some;
         room = ready.room;
         next = ready.next;
-        search_hints = grind (arith, with_items_is);
+        start_places = grind (arith, with_items_is);
       };
       within = following;
       some = c.next_window_ticks-most.ensures;

@@ -1,11 +1,11 @@
 -- The ticks before a window are written; the ticks after it are left.
 use Rattle.std.proofs.Common.{◌≤◌, ◌+◌, ◌-◌, ◌++◌, map}
 use Rattle.std.specs.List.{flat_map}
-use Rattle.vcd_core.specs.Contents.{signal_contents}
+use Rattle.vcd_core.specs.CaptureContents.{signal_contents}
 use Rattle.vcd_text.specs.Text.{end_items, item_line, tick_items}
 use Rattle.vcd_text.specs.inside.Transitions.{transitions_from}
 use Rattle.vcd_text.specs.inside.Windows.{IsReady}
-use Rattle.vcd_text.proofs.Walks.{walk}
+use Rattle.vcd_text.proofs.TransitionText.{walk}
 use Rattle.vcd_text.proofs.Written.{WritesFront}
 use Rattle.vcd_text.proofs.writing.transitions.write_transitions.Given as goal
 

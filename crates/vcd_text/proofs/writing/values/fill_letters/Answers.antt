@@ -2,7 +2,7 @@
 use Rattle.std.proofs.Common.{◌≡◌, ◌+◌, ◌*◌, ℕ, ap, ◌∙◌, arith}
 use Rattle.std.proofs.lemmas.List.{length-set}
 use Rattle.vcd_core.specs.Value.{printed_letter}
-use Rattle.vcd_core.specs.WordRows.{letter_in}
+use Rattle.vcd_core.specs.BlockRows.{letter_in}
 use Rattle.vcd_text.proofs.LetterBits.{pair_written}
 use Rattle.vcd_text.proofs.writing.values.fill_letters.Goals as goal
 
@@ -13,9 +13,9 @@ loop-k-preserved c =
     let place : (i : ℕ) → 2 * k + (i + 2) ≡ 2 * (k + 1) + i = λ i. omega arith in
     record {
       sized = length-set _ _ _ ∙ length-set _ _ _ ∙ c.loop-k.invariant.sized;
-      written = pair_written (λ i. printed_letter (letter_in c.args.word i)) c.loop-k.letters k _ _
+      written = pair_written (λ i. printed_letter (letter_in c.args.block i)) c.loop-k.letters k _ _
           c.loop-k.invariant.sized (omega arith) c.loop-k.invariant.written
           (c.letter_pair-pair.ensures.higher ∙ at 1) (c.letter_pair-pair.ensures.lower ∙ at 0);
       left = λ i. c.without_pair-left.ensures i ∙ c.loop-k.invariant.left (i + 2)
-          ∙ ap (letter_in c.args.word) (place i);
+          ∙ ap (letter_in c.args.block) (place i);
     }

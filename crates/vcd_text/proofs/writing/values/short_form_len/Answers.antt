@@ -1,8 +1,10 @@
 -- A letter that is not redundant begins the short form; so does the last.
-use Rattle.std.proofs.Common.{◌≡◌, ◌+◌, ◌-◌, ◌*◌, ◌/◌, ◌≤◌, ℕ, length, drop, refl, sym, ap, subst, ◌∙◌, arith, inl, inr}
+use Rattle.std.proofs.Common.{◌≡◌, ◌+◌, ◌-◌, ◌*◌, ◌/◌, ◌≤◌, ℕ, length, drop, refl, sym, ap, subst}
+use Rattle.std.proofs.Common.{◌∙◌, arith, inl, inr}
 use Rattle.vcd_text.specs.inside.ValueFronts.{IsShortFormLen}
 use Rattle.vcd_text.proofs.LetterBits.{is_redundant_in}
-use Rattle.vcd_text.proofs.ShortForms.{left_out, short_is, shortened, stays, state_at, word_left_out, word_stays}
+use Rattle.vcd_text.proofs.ShortForms.{left_out, short_is, shortened, stays, state_at}
+use Rattle.vcd_text.proofs.ShortForms.{word_left_out, word_stays}
 use Rattle.vcd_text.proofs.writing.values.short_form_len.Goals as goal
 
 pub returns-then-len-gt1-clause-rest : goal.returns-then-len-gt1-clause-rest
@@ -10,9 +12,9 @@ returns-then-len-gt1-clause-rest c =
     let v = c.args.value.now in
     let left = c.loop-left.left in
     let below : ℕ = 64 * ((left - 1) / 64) in
-    let len = c.short_form_len_of_word-len.result in
-    let holds = c.word.ensures in
-    let is = c.short_form_len_of_word-len.ensures in
+    let len = c.short_form_len_of_block-len.result in
+    let holds = c.block.ensures in
+    let is = c.short_form_len_of_block-len.ensures in
     sym (word_stays v below _ left len holds (omega arith) (omega arith) c.loop-left.invariant.within is
     (inr c.if-len-gt1.true))
     ∙ sym (word_left_out v below _ left len holds (omega arith) (omega arith) c.loop-left.invariant.within is)
@@ -23,9 +25,9 @@ returns-then-not-is_redundant-clause-rest c =
     let v = c.args.value.now in
     let left = c.loop-left.left in
     let below : ℕ = 64 * ((left - 1) / 64) in
-    let len = c.short_form_len_of_word-len.result in
-    let holds = c.word.ensures in
-    let is = c.short_form_len_of_word-len.ensures in
+    let len = c.short_form_len_of_block-len.result in
+    let holds = c.block.ensures in
+    let is = c.short_form_len_of_block-len.ensures in
     let one : below + len ≡ below + 1 = omega (arith, is.least, c.if-len-gt1.false) in
     let place : below + 1 - 2 ≡ below - 1 = omega arith in
     sym (stays v (below + 1) (omega arith) (omega (arith, c.loop-left.invariant.within)) (λ more.
@@ -41,9 +43,9 @@ loop-left-preserved c =
     let v = c.args.value.now in
     let left = c.loop-left.left in
     let below : ℕ = 64 * ((left - 1) / 64) in
-    let len = c.short_form_len_of_word-len.result in
-    let holds = c.word.ensures in
-    let is = c.short_form_len_of_word-len.ensures in
+    let len = c.short_form_len_of_block-len.result in
+    let holds = c.block.ensures in
+    let is = c.short_form_len_of_block-len.ensures in
     let one : below + len ≡ below + 1 = omega (arith, is.least, c.if-len-gt1.false) in
     let some : 1 ≤ below = omega (arith, c.loop-left-test.true) in
     record {
@@ -65,12 +67,12 @@ pub returns-clause-rest : goal.returns-clause-rest
 returns-clause-rest c =
     let v = c.args.value.now in
     let left = c.loop-left.left in
-    let len = c.short_form_len_of_word.result in
-    let holds = c.word-2.ensures in
+    let len = c.short_form_len_of_block.result in
+    let holds = c.block-2.ensures in
     let none : left - 0 ≡ left = omega arith in
     let all : 0 + len ≡ len = omega arith in
-    let is : IsShortFormLen (left - 0) c.word-2.result len =
-    subst (λ n. IsShortFormLen n c.word-2.result len) (sym none) c.short_form_len_of_word.ensures in
+    let is : IsShortFormLen (left - 0) c.block-2.result len =
+    subst (λ n. IsShortFormLen n c.block-2.result len) (sym none) c.short_form_len_of_block.ensures in
     ap (λ n. drop (length v - n) v) (sym all)
     ∙ sym (word_stays v 0 _ left len holds c.loop-left.invariant.least (omega (arith, c.loop-left-test.false))
     c.loop-left.invariant.within is (inl refl))

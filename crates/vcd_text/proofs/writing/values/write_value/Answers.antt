@@ -1,4 +1,5 @@
--- The words of a short value are its letters; a longer one has the short form between `b` and a space.
+-- The words of a short value are its letters; a longer one has the short form between `b` and a
+-- space.
 use Rattle.std.proofs.Common.{◌≢◌, ◌++◌, ◌∷◌, [], length, sym, ap, ◌∙◌, arith}
 use Rattle.vcd_text.specs.Letters.{printed_letters}
 use Rattle.vcd_text.specs.Text.{code_of}

@@ -1,9 +1,9 @@
--- The sorted keys list the transitions of all signals by tick. A window of one tick has room, so more than one was
--- tried.
+-- The sorted keys list the transitions of all signals by tick. A window of one tick has room, so
+-- more than one was tried.
 use Rattle.std.proofs.Common.{◌≢◌, ◌<◌, ◌+◌, inl, inr, length, map, subst, arith, vec_capacity}
 use Rattle.std.proofs.lemmas.List.{length-map, with_items_is}
 use Rattle.std.proofs.lemmas.List.Sorted.{All-permutation}
-use Rattle.vcd_core.specs.Contents.{signal_contents}
+use Rattle.vcd_core.specs.CaptureContents.{signal_contents}
 use Rattle.vcd_text.specs.inside.Transitions.{unsorted_window}
 use Rattle.vcd_text.specs.inside.Windows.{IsKey}
 use Rattle.vcd_text.proofs.Counts.{one_tick_within}

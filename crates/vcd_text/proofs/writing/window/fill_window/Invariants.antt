@@ -5,8 +5,8 @@ use Rattle.vcd_text.proofs.writing.window.fill_window.Given as goal
 abbrev pub invariant-loop-count : goal.invariant-loop-count
 invariant-loop-count l =
     record {
-      next : length l.window.next_changes.items ≡ length l.signals;
-      tried : l.window.search_hints ≡ l.initial.window.search_hints;
+      next : length l.window.cursors.items ≡ length l.signals;
+      tried : l.window.start_places ≡ l.initial.window.start_places;
       some : 1 ≤ l.count;
       most : l.count ≤ l.most;
       room : vec_capacity l.initial.window.keys ≤ vec_capacity l.window.keys;

@@ -1,9 +1,9 @@
 -- The keys of the signals passed are listed.
 use Rattle.std.proofs.Common.{◌≡◌, ◌<◌, ◌≤◌, ◌++◌, ℕ, length, drop, map, get_or, All, vec_capacity}
 use Rattle.vcd_core.specs.declared.capture.Signal.{Signal}
-use Rattle.vcd_core.specs.Contents.{signal_contents}
-use Rattle.vcd_text.specs.declared.writing.next_changes.NextChange.{NextChange}
-use Rattle.vcd_text.specs.inside.NextChanges.{IsNext}
+use Rattle.vcd_core.specs.CaptureContents.{signal_contents}
+use Rattle.vcd_text.specs.declared.writing.cursors.Cursor.{Cursor}
+use Rattle.vcd_text.specs.inside.Cursors.{IsNext}
 use Rattle.vcd_text.specs.inside.Transitions.{unsorted_window}
 use Rattle.vcd_text.specs.inside.Windows.{IsKey, transitions_of}
 use Rattle.vcd_text.proofs.writing.window.list_window.Given as goal
@@ -15,8 +15,8 @@ invariant-loop-position l =
           ++ unsorted_window l.from l.to l.position (map signal_contents (drop l.position l.signals))
           ≡ unsorted_window l.from l.to 0 (map signal_contents l.signals);
       keys : All (IsKey l.from (length l.signals)) l.keys.items;
-      next_count : length l.next_changes ≡ length l.signals;
-      passed : (k : ℕ) (s : Signal) (n : NextChange) → k < l.position
-          → IsNext l.to l.to (get_or l.signals k s).wave.changes (get_or l.next_changes k n);
+      next_count : length l.cursors ≡ length l.signals;
+      passed : (k : ℕ) (s : Signal) (n : Cursor) → k < l.position
+          → IsNext l.to l.to (get_or l.signals k s).wave.changes (get_or l.cursors k n);
       room : vec_capacity l.fn.keys ≤ vec_capacity l.keys;
     }

@@ -1,7 +1,7 @@
 -- The text so far and the lines of the signals left make the whole text.
 use Rattle.std.proofs.Common.{◌≡◌, ◌++◌, drop, map}
 use Rattle.std.specs.List.{flat_map}
-use Rattle.vcd_core.specs.Contents.{signal_contents}
+use Rattle.vcd_core.specs.CaptureContents.{signal_contents}
 use Rattle.vcdedit.specs.inside.Listing.{signal_lines}
 use Rattle.vcdedit.specs.inside.Replies.{with_line_feed}
 use Rattle.vcdedit.proofs.replies.listing.append_signal_lines.Given as goal

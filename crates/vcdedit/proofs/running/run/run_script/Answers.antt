@@ -1,14 +1,16 @@
 use Rattle.std.proofs.Common.{refl}
-use Rattle.vcd_core.specs.Contents.{contents}
+use Rattle.vcd_core.specs.CaptureContents.{contents}
 use Rattle.vcdedit.specs.declared.running.run_error.RunError.TheVariants as run_errors
-use Rattle.vcdedit.proofs.RunParts.{script_gives_where_known, capture_ends, script_ends, lines_end, at_error}
+use Rattle.vcdedit.proofs.RunParts.{script_gives_where_known, capture_ends, script_ends, lines_end}
+use Rattle.vcdedit.proofs.RunParts.{at_error}
 use Rattle.vcdedit.proofs.RunParts.{file_means, is_accepted, session_ends, flushed_at_line}
 use Rattle.vcdedit.proofs.running.run.run_script.Goals as goal
 
 pub returns-in_err-loaded-clause-ended : goal.returns-in_err-loaded-clause-ended
 returns-in_err-loaded-clause-ended g c =
     at_error c.from_residual.result (run_errors.Capture c.in_err-loaded.field-0.0) _ c.from_residual.ensures.1
-    (capture_ends _ _ c.in_err-loaded.field-0.0 c.in_err-loaded.ensures.refused c.in_err-loaded.ensures.failed c.in_err-loaded.ensures.too_large (
+    (capture_ends _ _ c.in_err-loaded.field-0.0 c.in_err-loaded.ensures.refused
+    c.in_err-loaded.ensures.failed c.in_err-loaded.ensures.too_large (
       refl,
       c.requires.script_ready,
     ) c.args.depth _ (refl, c.requires.replies_ready))

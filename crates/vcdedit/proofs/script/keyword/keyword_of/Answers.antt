@@ -1,5 +1,6 @@
 -- A chain of tests, one for each row of the tables, finds what a look-up in the tables finds.
-use Rattle.std.proofs.Common.{◌≡◌, ◌∙◌, ap₂, refl, ℕ, Bool, true, false, cond, List, [], ◌∷◌, Option, Some, None}
+use Rattle.std.proofs.Common.{◌≡◌, ◌∙◌, ap₂, refl, ℕ, Bool, true, false, cond, List, [], ◌∷◌}
+use Rattle.std.proofs.Common.{Option, Some, None}
 use Rattle.std.specs.Prelude.{find, option_map}
 use Rattle.std.specs.Option.{option_or}
 use Rattle.std.specs.Str.{bytes_eq}

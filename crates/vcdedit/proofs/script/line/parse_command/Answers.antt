@@ -1,6 +1,6 @@
 -- `cut` and `depth` name no signal, so their parsers take no capture.
 use Rattle.std.proofs.Common.{sym, subst}
-use Rattle.vcd_core.specs.Contents.{contents}
+use Rattle.vcd_core.specs.CaptureContents.{contents}
 use Rattle.vcd_text.specs.Grammar.{word_texts}
 use Rattle.vcdedit.specs.declared.script.keyword.Keyword.{Keyword}
 use Rattle.vcdedit.specs.ScriptCommands.{command_of}

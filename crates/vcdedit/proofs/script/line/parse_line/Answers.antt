@@ -1,6 +1,6 @@
 use Rattle.std.proofs.Common.{◌≡◌, ◌∷◌, Result, Ok, Err, sym, ap, subst, ◌∙◌}
 use Rattle.std.specs.Prelude.{IfOk, IfErr}
-use Rattle.vcd_core.specs.Contents.{contents}
+use Rattle.vcd_core.specs.CaptureContents.{contents}
 use Rattle.vcd_text.specs.Grammar.{word_texts}
 use Rattle.vcd_text.specs.Words.{words_of}
 use Rattle.vcdedit.specs.declared.script.command.Command.{Command}

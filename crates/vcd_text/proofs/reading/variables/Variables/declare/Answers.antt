@@ -1,4 +1,5 @@
-use Rattle.std.proofs.Common.{◌+◌, ◌≡◌, ◌∙◌, ◌<◌, min, ◌||◌, ◌==◌, nat_lt, true, false, length, drop, List, ℕ, ap, sym}
+use Rattle.std.proofs.Common.{◌+◌, ◌≡◌, ◌∙◌, ◌<◌, min, ◌||◌, ◌==◌, nat_lt, true, false, length}
+use Rattle.std.proofs.Common.{drop, List, ℕ, ap, sym}
 use Rattle.std.proofs.Common.{subst, arith}
 use Rattle.std.proofs.lemmas.Bool.{eqb-false}
 use Rattle.std.proofs.lemmas.List.{take_rest}
@@ -7,7 +8,8 @@ use Rattle.vcd_core.specs.Decimal.{number_of}
 use Rattle.vcd_core.specs.Word.{is_skipped_kind}
 use Rattle.vcd_text.specs.Grammar.{VariableDeclaration, is_skipped}
 use Rattle.vcd_text.specs.inside.Variables.{declaration_in, DeclaresAs}
-use Rattle.vcd_text.proofs.DeclaredVariables.{worded_declaration, declares_words, words_in_front, left_out, kept_size}
+use Rattle.vcd_text.proofs.DeclaredVariables.{worded_declaration, declares_words, words_in_front}
+use Rattle.vcd_text.proofs.DeclaredVariables.{left_out, kept_size}
 use Rattle.vcd_text.proofs.reading.variables.Variables.declare.Goals as goal
 
 pub returns-then-is_skipped : goal.returns-then-is_skipped

@@ -1,5 +1,5 @@
 use Rattle.std.proofs.Common.{◌≡◌, [], ◌++◌, map, length}
-use Rattle.vcd_core.specs.Contents.{signal_contents}
+use Rattle.vcd_core.specs.CaptureContents.{signal_contents}
 use Rattle.vcd_text.specs.Grammar.{ParseState}
 use Rattle.vcd_text.specs.inside.Variables.{VariablesMatch}
 use Rattle.vcd_text.proofs.FinishedVariables.{declared_signals}

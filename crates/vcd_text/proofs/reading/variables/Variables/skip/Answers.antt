@@ -1,4 +1,5 @@
-use Rattle.std.proofs.Common.{◌∙◌, ◌+◌, ap, sym, subst, refl, inl, inr, if◌then◌else◌, Ok, Some, List, ℕ}
+use Rattle.std.proofs.Common.{◌∙◌, ◌+◌, ap, sym, subst, refl, inl, inr, if◌then◌else◌, Ok, Some}
+use Rattle.std.proofs.Common.{List, ℕ}
 use Rattle.std.specs.Prelude.{bytes_eq}
 use Rattle.vcd_text.specs.inside.Variables.{target_of, DeclaresAs}
 use Rattle.vcd_text.specs.declared.reading.code_targets.CodeTarget.TheVariants.{Skipped}

@@ -1,7 +1,7 @@
 use Rattle.std.proofs.Common.{◌∙◌, map, set, sym, ap, arith}
 use Rattle.std.proofs.lemmas.List.{map-set, get_or-map, set-get_or}
 use Rattle.std.proofs.lemmas.Option.{slice_get_cases}
-use Rattle.vcd_core.specs.Contents.{signal_contents}
+use Rattle.vcd_core.specs.CaptureContents.{signal_contents}
 use Rattle.vcd_text.proofs.reading.variables.finishing.finished_signal.Goals as goal
 
 pub returns-then-first-before-clause-contents : goal.returns-then-first-before-clause-contents

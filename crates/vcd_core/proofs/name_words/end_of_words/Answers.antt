@@ -1,7 +1,0 @@
-use Rattle.std.proofs.Common.{[], ◌∷◌, ap, ◌∙◌}
-use Rattle.vcd_core.specs.inside.TextEnds.{text_end}
-use Rattle.vcd_core.proofs.FullNames.{name_in-none}
-use Rattle.vcd_core.proofs.name_words.end_of_words.Goals as goal
-
-pub returns : goal.returns
-returns c = c.end.ensures ∙ ap text_end (c.new.ensures ∙ name_in-none ([] ∷ c.args.words.now))

@@ -1,6 +1,0 @@
-use Rattle.std.proofs.Common.{sym}
-use Rattle.vcd_core.proofs.TextEnds.{end_nil}
-use Rattle.vcd_core.proofs.text_end.TextEnd.new.Goals as goal
-
-pub returns : goal.returns
-returns c = sym (end_nil (record { bytes = 0; mask = 0 }))

@@ -1,0 +1,12 @@
+use Rattle.std.proofs.Common.{◌∙◌, ap}
+use Rattle.vcd_core.specs.Value.{same_letters}
+use Rattle.vcd_core.proofs.Pushes.{last_value-split, last_value-none}
+use Rattle.vcd_core.proofs.wave_push.has_last_value.Goals as goal
+
+pub returns-in-Some : goal.returns-in-Some
+returns-in-Some c = c.eq.ensures
+    ∙ ap (same_letters c.args.value.now) (last_value-split _ _ _ _ (c.in-Some.ensures.cases.0))
+
+pub returns-in-None : goal.returns-in-None
+returns-in-None c = c.is_all_x.ensures
+    ∙ ap (same_letters c.args.value.now) (last_value-none _ _ c.in-None.ensures.cases)

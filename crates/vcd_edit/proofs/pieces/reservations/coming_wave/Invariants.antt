@@ -1,4 +1,0 @@
-use Rattle.vcd_edit.proofs.pieces.reservations.coming_wave.Given as goal
-
-abbrev pub invariant-loop-place : goal.invariant-loop-place
-invariant-loop-place l = Unit {0}

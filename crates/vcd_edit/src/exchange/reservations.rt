@@ -1,0 +1,149 @@
+//! What pieces and waves need for their exchange: room, or waves that come in the place of those
+//! that share lists.
+
+ghost use Rattle.std.specs.Prelude.{◌≡◌, ℕ, ◌+◌, ◌-◌, ◌<◌, ◌≤◌, [], ◌∷◌, ◌++◌, All, IsOk, IfOk};
+ghost use Rattle.std.specs.Prelude.{OnOk, IsTrue, map, max, length, false, vec_len, vec_capacity};
+ghost use Rattle.vcd_core.specs.CaptureContents.{contents};
+ghost use Rattle.vcd_core.specs.WaveView.{WaveView};
+ghost use Rattle.vcd_edit.specs.Records.{piece_view};
+ghost use Rattle.vcd_edit.specs.inside.Exchanges.{PieceReadyIn, wave_at, HasNoLessRoom};
+ghost use Rattle.vcd_edit.specs.inside.Exchanges.{HasRoomInWave, IsComing, HaveRoom};
+
+use crate::record::Piece;
+use std::alloc::Global;
+use vcd_core::{Capture, NoMemory, Wave};
+
+/// A piece is compared with so many before it, whose waves may share the list of its own.
+const LOOK_BACK: usize = 1024;
+
+/// Makes room for the exchange of one piece: in the piece for just the changes that it gets, and in
+/// its wave for the growth, unless the wave shares its list. Answers whether it does. The contents
+/// of both stay the same, also if the memory is refused.
+fn reserve_piece(capture: &mut Capture, piece: &mut Piece) -> Result<bool, NoMemory>
+    requires signal { piece.old.signal < length capture.old.signals }
+    ensures contents { contents capture.new ≡ contents capture.old }
+    ensures piece { piece_view piece.new ≡ piece_view piece.old }
+    ensures room { OnOk result (piece.new.to - piece.new.from ≤ vec_capacity piece.new.changes) }
+    ensures own { IfOk result (λ is_shared. is_shared ≡ false
+        → HasRoomInWave (wave_at capture.new.signals piece.old.signal) piece.new) }
+    ensures exact { vec_capacity piece.new.changes
+        ≤ max (vec_capacity piece.old.changes) (piece.old.to - piece.old.from) }
+    ensures never_less { (k : ℕ) →
+        HasNoLessRoom (wave_at capture.old.signals k) (wave_at capture.new.signals k) }
+{
+    let len = piece.changes.as_slice().len();
+    let range_len = piece.to.saturating_sub(piece.from);
+    piece.changes.reserve_exact(range_len.saturating_sub(len))?;
+    let wave = &mut capture.signals.item_mut(piece.signal).wave;
+    if wave.is_shared() {
+        return Ok(true);
+    }
+    wave.reserve(len.saturating_sub(range_len))?;
+    Ok(false)
+}
+
+/// Whether two pieces have the same range and offset.
+fn have_same_range(piece: &Piece, other: &Piece) -> bool
+    ensures from { IsTrue result → piece.now.from ≡ other.now.from }
+    ensures to { IsTrue result → piece.now.to ≡ other.now.to }
+    ensures by { IsTrue result → piece.now.by ≡ other.now.by }
+{
+    if piece.from != other.from {
+        return false;
+    }
+    if piece.to != other.to {
+        return false;
+    }
+    piece.by == other.by
+}
+
+/// Whether two pieces are for waves that share one list, and make the same of it.
+fn have_same_result(capture: &Capture, piece: &Piece, other: &Piece) -> bool
+    requires signal { piece.now.signal < length capture.now.signals }
+    requires other_signal { other.now.signal < length capture.now.signals }
+    ensures { IsTrue result → (w : WaveView)
+        → IsComing (wave_at capture.now.signals other.now.signal) other.now w
+        → IsComing (wave_at capture.now.signals piece.now.signal) piece.now w }
+{
+    if !have_same_range(piece, other) {
+        return false;
+    }
+    let wave = &capture.signals()[piece.signal].wave;
+    let other_wave = &capture.signals()[other.signal].wave;
+    piece.changes.as_slice() == other.changes.as_slice() && wave.shares_list_with(other_wave)
+}
+
+/// The wave that comes in the place of the piece's, which shares its list. It shares the list of
+/// one that comes for an earlier piece, if their waves share one now and get the same splice.
+fn coming_wave(
+    capture: &Capture,
+    pieces: &[Piece],
+    comings: &[Option<Wave>],
+    piece: &Piece,
+) -> Result<Wave, NoMemory>
+    requires within { length comings.now ≤ length pieces.now }
+    requires ready { All (PieceReadyIn (contents capture.now)) (map piece_view pieces.now) }
+    requires piece_ready { PieceReadyIn (contents capture.now) (piece_view piece.now) }
+    requires room { HaveRoom capture.now.signals pieces.now comings.now 0 (length comings.now) }
+    ensures { IfOk result (IsComing (wave_at capture.now.signals piece.now.signal) piece.now) }
+{
+    let count = comings.len();
+    for place in count.saturating_sub(LOOK_BACK)..count {
+        if let Some(wave) = &comings[place] {
+            if have_same_result(capture, piece, &pieces[place]) {
+                let coming = wave.copy()?;
+                return Ok(coming);
+            }
+        }
+    }
+    let wave = &capture.signals()[piece.signal].wave;
+    let coming = wave.spliced(piece.from, piece.to, piece.changes.as_slice(), piece.by)?;
+    Ok(coming)
+}
+
+/// Makes what the next piece needs: room, or the wave that comes in the place of one that shares
+/// its list.
+fn reserve_next(
+    capture: &mut Capture,
+    pieces: &mut [Piece],
+    comings: &[Option<Wave>],
+) -> Result<Option<Wave>, NoMemory>
+    requires within { length comings.now < length pieces.old }
+    requires ready { All (PieceReadyIn (contents capture.old)) (map piece_view pieces.old) }
+    requires room { HaveRoom capture.old.signals pieces.old comings.now 0 (length comings.now) }
+    ensures contents { contents capture.new ≡ contents capture.old }
+    ensures pieces { map piece_view pieces.new ≡ map piece_view pieces.old }
+    ensures room { IfOk result (λ coming. HaveRoom capture.new.signals pieces.new
+        (comings.now ++ coming ∷ []) 0 (length comings.now + 1)) }
+{
+    let next = comings.len();
+    if reserve_piece(capture, &mut pieces[next])? {
+        let pieces = &pieces[..];
+        let coming = coming_wave(capture, pieces, comings, &pieces[next])?;
+        return Ok(Some(coming));
+    }
+    Ok(None)
+}
+
+/// Makes what each piece needs, in order. The contents of the capture and the pieces stay the same,
+/// also if the memory is refused.
+pub(crate) fn reserve_all(
+    alloc: Global,
+    capture: &mut Capture,
+    pieces: &mut [Piece],
+) -> Result<Vec<Option<Wave>>, NoMemory>
+    requires ready { All (PieceReadyIn (contents capture.old)) (map piece_view pieces.old) }
+    ensures contents { contents capture.new ≡ contents capture.old }
+    ensures pieces { map piece_view pieces.new ≡ map piece_view pieces.old }
+    ensures count { IfOk result (λ comings. vec_len comings ≡ length pieces.new) }
+    ensures room { IfOk result (λ comings. HaveRoom capture.new.signals pieces.new comings.items 0
+        (length pieces.new)) }
+    ensures never_refused { pieces.old ≡ [] → IsOk result }
+{
+    let mut comings = Vec::new(alloc);
+    for _place in 0..pieces.len() {
+        let coming = reserve_next(capture, pieces, comings.as_slice())?;
+        comings.push(coming)?;
+    }
+    Ok(comings)
+}

@@ -1,0 +1,142 @@
+-- The next change of a wave from a tick on.
+use Rattle.std.proofs.Common.{◌≡◌, ◌<◌, ◌≤◌, ◌+◌, ◌-◌, ◌^◌, inl, inr, ℕ, zero, suc, cond, List, []}
+use Rattle.std.proofs.Common.{◌∷◌}
+use Rattle.std.proofs.Common.{length, map, take, drop, get_or, All, refl, sym, ap, subst, ◌∙◌}
+use Rattle.std.proofs.Common.{arith}
+use Rattle.std.specs.List.{filter}
+use Rattle.std.proofs.Math.ListN.{set}
+use Rattle.std.proofs.lemmas.Bool.{cases_eq, cases_lt}
+use Rattle.std.proofs.lemmas.List.{drop_more, get_or_default, get_or_past, get_or-map}
+use Rattle.std.proofs.lemmas.List.{get_or-set_other}
+use Rattle.std.proofs.lemmas.List.{get_or-set_same, length-map, take_more}
+use Rattle.std.proofs.lemmas.List.Elements.{All-append, All-cons, All-head, All-tail}
+use Rattle.vcd_core.specs.declared.bit.Bit.{Bit}
+use Rattle.vcd_core.specs.declared.capture.Signal.{Signal}
+use Rattle.vcd_core.specs.declared.capture.TheConstants.{END_LIMIT}
+use Rattle.vcd_core.specs.declared.wave.Change.{Change}
+use Rattle.vcd_core.specs.Value.{all_x}
+use Rattle.vcd_core.specs.Wave.{AreChangesFrom, change}
+use Rattle.vcd_text.specs.declared.writing.cursors.Cursor.{Cursor}
+use Rattle.vcd_text.specs.inside.Cursors.{AreChangesOfSomeWave, IsNext, tick_at}
+use Rattle.vcd_text.specs.inside.Transitions.{is_in_window, transition_of, window_of_signal}
+use Rattle.vcd_text.proofs.Counts.{after_window, before_window, in_window}
+
+-- a tick before all ticks is that of a change
+pub tick_inside : (cs : List Change) (k : ℕ) → tick_at cs k < 2 ^ 64 - 1 → k < length cs
+tick_inside cs k early = grind (arith, cases_lt, get_or_past, length-map)
+
+tick_is : (cs : List Change) (k : ℕ) (d : Change) → k < length cs → tick_at cs k ≡ (get_or cs k d).tick
+tick_is cs k d inside = get_or-map (λ (c : Change). c.tick) cs k d (2 ^ 64 - 1) inside
+
+later_tick : (floor : ℕ) (before : List Bit) (cs : List Change) (k : ℕ) → AreChangesFrom floor before cs
+    → tick_at cs k < 2 ^ 64 - 1 → tick_at cs k < tick_at cs (k + 1)
+later_tick floor before [] k rise early = absurd (omega (arith, early))
+later_tick floor before (c ∷ cs) (suc k) (from, other, wide, rest) early =
+    grind (arith, later_tick (c.tick + 1) c.value cs k rest early)
+later_tick floor before (c ∷ []) zero rise early = early
+later_tick floor before (c ∷ d ∷ cs) zero (from, other, wide, rest) early = omega (arith, rest.0)
+
+-- the tick after it is later
+pub rising : (cs : List Change) (k : ℕ) → AreChangesOfSomeWave cs → tick_at cs k < 2 ^ 64 - 1
+    → tick_at cs k < tick_at cs (k + 1)
+rising cs k rise early = later_tick 0 (all_x rise.width) cs k rise.form.rise early
+
+-- one change further on
+pub goes_on : (from to : ℕ) (cs : List Change) (n m : Cursor) → AreChangesOfSomeWave cs → IsNext from to cs n
+    → n.tick < to
+    → to ≤ END_LIMIT + 1 → m.place ≡ n.place + 1 → m.tick ≡ n.following_tick
+    → m.following_tick ≡ tick_at cs (n.place + 2)
+    → IsNext from to cs m
+goes_on from to cs n m rise is early end place tick following_tick =
+    let d = change 0 [] in
+    let known : tick_at cs n.place < 2 ^ 64 - 1 = omega (arith, is.tick, early, end) in
+    let inside = tick_inside cs n.place known in
+    let here : (get_or cs n.place d).tick < to = omega (arith, is.tick, tick_is cs n.place d inside, early) in
+    let sum : n.place + 2 ≡ m.place + 1 = omega (arith, place) in
+    record {
+      passed =
+          subst (λ k. All (λ (c : Change). c.tick < to) (take k cs)) (sym place)
+          (subst (All (λ (c : Change). c.tick < to)) (sym (take_more cs n.place d inside))
+          (All-append (λ (c : Change). c.tick < to) (take n.place cs) (get_or cs n.place d ∷ []) is.passed
+          (All-cons (λ (c : Change). c.tick < to) (get_or cs n.place d) [] here (λ i e none. absurd (omega arith)))));
+      not_earlier = omega (
+        arith,
+        is.not_earlier,
+        is.tick,
+        is.following_tick,
+        tick,
+        rising cs n.place rise known,
+      );
+      tick = tick ∙ is.following_tick ∙ ap (tick_at cs) (sym place);
+      following_tick = following_tick ∙ ap (tick_at cs) sum;
+    }
+
+-- before a later tick
+pub goes_to : (from to : ℕ) (cs : List Change) (n : Cursor) → from ≤ to → IsNext from from cs n
+    → IsNext from to cs n
+goes_to from to cs n up is = grind arith
+
+-- ---- a window of one wave
+
+-- the changes before the next one are not in it
+pub begins : (from to position : ℕ) (cs : List Change) (place : ℕ) → All (λ c. c.tick < from) (take place cs)
+    → window_of_signal from to position cs ≡ window_of_signal from to position (drop place cs)
+begins from to position cs zero passed = refl
+begins from to position [] (suc place) passed = refl
+begins from to position (c ∷ cs) (suc place) passed =
+    let early = All-head (λ (x : Change). x.tick < from) c (take place cs) passed in
+    let all = filter (λ (x : Change). is_in_window from to x.tick) cs in
+    ap (λ b. map (λ (x : Change). transition_of x.tick position) (cond b (c ∷ all) all))
+    (before_window from to c.tick early)
+    ∙ begins from to position cs place (All-tail (λ (x : Change). x.tick < from) c (take place cs) passed)
+
+-- the next change is in it
+pub steps : (from to position : ℕ) (cs : List Change) (n : Cursor) → IsNext from to cs n → n.tick < to
+    → to ≤ END_LIMIT + 1 → window_of_signal from to position (drop n.place cs)
+    ≡ transition_of n.tick position ∷ window_of_signal from to position (drop (n.place + 1) cs)
+steps from to position cs n is early end =
+    let d = change 0 [] in
+    let c = get_or cs n.place d in
+    let rest = drop (n.place + 1) cs in
+    let all = filter (λ (x : Change). is_in_window from to x.tick) rest in
+    let inside = tick_inside cs n.place (omega (arith, is.tick, early, end)) in
+    let at : c.tick ≡ n.tick = sym (tick_is cs n.place d inside) ∙ sym is.tick in
+    ap (λ l. window_of_signal from to position l) (drop_more cs n.place d inside)
+    ∙ ap (λ b. map (λ (x : Change). transition_of x.tick position) (cond b (c ∷ all) all))
+    (in_window from to c.tick (omega (arith, at, is.not_earlier)) (omega (arith, at, early)))
+    ∙ ap (λ t. transition_of t position ∷ window_of_signal from to position rest) at
+
+none_in : (from to position floor : ℕ) (before : List Bit) (cs : List Change) → AreChangesFrom floor before cs
+    → to ≤ floor → window_of_signal from to position cs ≡ []
+none_in from to position floor before [] rise late = refl
+none_in from to position floor before (c ∷ cs) (low, other, wide, rest) late =
+    grind (arith, after_window, none_in from to position (c.tick + 1) c.value cs rest (omega arith))
+
+-- from a late change on none is
+ends : (from to position floor : ℕ) (before : List Bit) (cs : List Change) (k : ℕ) → AreChangesFrom floor before cs
+    → to ≤ tick_at cs k → window_of_signal from to position (drop k cs) ≡ []
+ends from to position floor before [] zero rise late = refl
+ends from to position floor before [] (suc k) rise late = refl
+ends from to position floor before (c ∷ cs) zero (low, other, wide, rest) late = grind (arith, none_in)
+ends from to position floor before (c ∷ cs) (suc k) (low, other, wide, rest) late =
+    ends from to position (c.tick + 1) c.value cs k rest late
+
+pub stops : (from to position : ℕ) (cs : List Change) (n : Cursor) → AreChangesOfSomeWave cs → IsNext from to cs n
+    → to ≤ n.tick → window_of_signal from to position (drop n.place cs) ≡ []
+stops from to position cs n rise is late = grind (arith, ends)
+
+-- ---- signal by signal
+
+-- the signals before a place, and one more
+pub passed_next : (from p : ℕ) (signals : List Signal) (cursors : List Cursor) (there : Signal)
+    (next : Cursor) → p < length signals → length cursors ≡ length signals → there ≡ get_or signals p there
+    → IsNext from from there.wave.changes next → ((k : ℕ) (s : Signal) (n : Cursor) → k < p
+    → IsNext from from (get_or signals k s).wave.changes (get_or cursors k n))
+    → (k : ℕ) (s : Signal) (n : Cursor) → k < p + 1
+    → IsNext from from (get_or signals k s).wave.changes (get_or (set cursors p next) k n)
+passed_next from p signals cursors there next inside all is holds before k s n less =
+    elim (cases_eq k p) [
+      | inl at ↦ (grind (arith, get_or_default, get_or-set_same))
+      | inr apart ↦ subst (λ (x : Cursor). IsNext from from (get_or signals k s).wave.changes x)
+          (sym (get_or-set_other cursors p k next n apart)) (before k s n (omega arith))
+    ]

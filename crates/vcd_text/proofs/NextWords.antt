@@ -1,0 +1,93 @@
+-- One more word, from the first word of the file on.
+use Rattle.std.proofs.Common.{arith}
+use Rattle.std.specs.Prelude.{IsFalse}
+use Rattle.std.proofs.Common.{◌≡◌, ◌⊎◌, inl, inr, List, [], ◌∷◌, ◌++◌, refl, sym, ap}
+use Rattle.std.proofs.Common.{◌∙◌, append_assoc}
+use Rattle.std.proofs.lemmas.List.{append-nil, map-append}
+use Rattle.std.proofs.lemmas.Bool.{and_parts, eqb-true}
+use Rattle.std.specs.Prelude.{ℕ}
+use Rattle.vcd_text.specs.declared.fault.Fault.{Fault}
+use Rattle.vcd_text.specs.declared.fault.ReadError.{ReadError}
+use Rattle.vcd_text.specs.Words.{PlacedWord}
+use Rattle.vcd_text.specs.Grammar.{ParseState, state_after_item}
+use Rattle.vcd_text.specs.Grammar.{initial_state, word_texts}
+use Rattle.vcd_text.specs.Faults.{WordFault, among_declarations, among_changes}
+use Rattle.vcd_text.specs.Faults.{ShowsFault, fault_line}
+use Rattle.vcd_text.specs.inside.OpenItems.{item_fault_line}
+use Rattle.vcd_text.specs.inside.Reading.{HasTakenWords, WordStep, goes_on, ends_item}
+use Rattle.vcd_text.specs.inside.Reading.{ParserMatches, IsBegun}
+use Rattle.vcd_text.specs.inside.Reading.{error_at}
+use Rattle.vcd_text.specs.MemoryErrors.{memory_error}
+use Rattle.vcd_text.specs.declared.fault.Fault.TheVariants.{NoMemory}
+use Rattle.vcd_text.specs.declared.reading.parser.OpenItem.{OpenItem}
+use Rattle.vcd_text.specs.declared.reading.parser.OpenItem.TheVariants as items
+use Rattle.vcd_text.specs.declared.reading.parser.Parser.{Parser}
+use Rattle.vcd_text.proofs.ItemsInTurn.{reaches_both, reaches_one, shown_by}
+use Rattle.vcd_text.proofs.FileAnswers.{spelled_more}
+
+-- words that go on with the open item, or end it
+pub words_taken : (old new : Parser) (words_so_far words : List PlacedWord) (r : HasTakenWords old words_so_far)
+    → WordStep r.state (r.begun ++ words) new → HasTakenWords new (words_so_far ++ words)
+words_taken old new words_so_far words r (goes_on at) = grind (arith, append_assoc)
+words_taken old new words_so_far words r (ends_item i spelled allows at) =
+    let leads = reaches_both initial_state r.state (state_after_item r.state i) r.items (i ∷ [])
+    (record { allowed = r.allowed; state_is = r.state_is })
+    (reaches_one r.state (state_after_item r.state i) i allows refl) in
+    record {
+      items = r.items ++ i ∷ [];
+      whole = words_so_far ++ words;
+      begun = [];
+      state = state_after_item r.state i;
+      parts = sym (append-nil (words_so_far ++ words));
+      spelled = grind (arith, append_assoc, map-append, spelled_more);
+      allowed = leads.allowed;
+      state_is = leads.state_is;
+      at = at;
+    }
+
+-- a fault with its line is shown; out of memory has none
+error_shown : (words : List PlacedWord) (line : ℕ) (fault : Fault) → (fault ≡ NoMemory) ⊎ ShowsFault words line fault
+    → (error_at line fault ≡ memory_error) ⊎ ShowsFault words (error_at line fault).line (error_at line fault).fault
+error_shown words line fault (inl none) = inl (ap (error_at line) none)
+error_shown words line fault (inr shows) = grind arith
+
+-- ---- lines
+
+declaring : (m : Parser) (c : ParseState) (begun : List PlacedWord) (w : PlacedWord) → ParserMatches m c
+    → IsFalse m.in_body → w.line ≡ fault_line c.in_body begun w
+declaring m c begun w agrees none = sym (ap (λ b. fault_line b begun w) (sym agrees.in_body ∙ none))
+
+-- the line that is shown is that of the definition
+pub line_shown : (m : Parser) (c : ParseState) (begun : List PlacedWord) (w : PlacedWord) (fault : Fault)
+    (item : OpenItem) → ParserMatches m c → IsBegun m begun item → WordFault c (word_texts begun) w.text fault
+    → item_fault_line item m.line w.line ≡ fault_line c.in_body begun w
+line_shown m c begun w fault items.Nothing agrees none decided = grind arith
+line_shown m c begun w fault (items.Entry kind) agrees is decided = declaring m c begun w agrees is.declares
+line_shown m c begun w fault items.Timescale agrees is decided = declaring m c begun w agrees is.declares
+line_shown m c begun w fault items.Scope agrees is decided = declaring m c begun w agrees is.declares
+line_shown m c begun w fault items.Upscope agrees is decided = declaring m c begun w agrees is.0
+line_shown m c begun w fault items.Variable agrees is decided = declaring m c begun w agrees is.0.declares
+line_shown m c begun w fault items.EndDefinitions agrees is decided = declaring m c begun w agrees is.0
+line_shown m c begun w fault items.Other agrees is (among_declarations none shows) = grind arith
+line_shown m c begun w fault items.Other agrees is (among_changes all shows) =
+    absurd (grind (arith, and_parts, eqb-true))
+line_shown m c begun w fault items.Vector agrees is decided = grind arith
+line_shown m c begun w fault items.RealOrString agrees (text, is) decided = grind arith
+
+-- the fault of a word is that of the definition, with its line, whatever follows
+pub one_shown : (old : Parser) (words_so_far more : List PlacedWord) (w : PlacedWord)
+    (r : HasTakenWords old words_so_far) (fault : Fault)
+    → (fault ≡ NoMemory) ⊎ WordFault r.state (word_texts r.begun) w.text fault
+    → (let e : ReadError = error_at (item_fault_line old.item old.line w.line) fault in
+    (e ≡ memory_error) ⊎ ShowsFault (words_so_far ++ w ∷ more) e.line e.fault)
+one_shown old words_so_far more w r fault refused =
+    let line = item_fault_line old.item old.line w.line in
+    let words : List PlacedWord = words_so_far ++ w ∷ more in
+    let parts : words ≡ r.whole ++ (r.begun ++ w ∷ more) = ap (λ ws. ws ++ w ∷ more) r.parts
+    ∙ append_assoc r.whole r.begun (w ∷ more) in
+    error_shown words line fault (elim refused [
+      | inl memory ↦ inl memory
+      | inr row ↦ inr (shown_by words r.whole r.begun more w r.items r.state line fault
+          (record { allowed = r.allowed; state_is = r.state_is }) parts r.spelled row
+          (line_shown old r.state r.begun w fault old.item r.at.0 r.at.1 row))
+    ])

@@ -1,0 +1,6 @@
+use Rattle.std.proofs.Common.{arith}
+use Rattle.vcd_text.proofs.LetterBlocks.{adds_one}
+use Rattle.vcd_text.proofs.reading.digit_blocks.with_two_state_digit.Goals as goal
+
+pub returns : goal.returns
+returns c = grind (arith, adds_one)

@@ -1,0 +1,46 @@
+use Rattle.std.proofs.Common.{not, Err, take, drop, sym, ap, subst, ◌∙◌, arith}
+use Rattle.std.specs.List.{list_all}
+use Rattle.std.proofs.lemmas.Result.{err_from_is_err_and}
+use Rattle.std.proofs.lemmas.List.{length-take, length-append}
+use Rattle.vcd_core.specs.Word.{is_white_space}
+use Rattle.vcd_text.specs.Words.{complete_words}
+use Rattle.vcd_text.specs.inside.Spaces.{has_complete_words}
+use Rattle.vcd_text.specs.inside.Chunks.{TakesChunk, HasTaken}
+use Rattle.vcd_text.proofs.Chunks.{now_taken, now_shown, word_is_first}
+use Rattle.vcd_text.proofs.WordLaws.{words_are_few}
+use Rattle.vcd_text.proofs.reading.file_reader.FileReader.take_words.Goals as goal
+
+pub read_words-requires-clause-word_count : goal.read_words-requires-clause-word_count
+read_words-requires-clause-word_count c = grind (arith, word_is_first, length-append, length-take, words_are_few)
+
+pub returns-in_err-self-clause-taken : goal.returns-in_err-self-clause-taken
+returns-in_err-self-clause-taken c = λ bytes come.
+    let p = c.args.self.now in
+    let len = c.complete_words_len-len.result in
+    let value = c.as_slice.ensures in
+    let front = c.as_slice-2.ensures in
+    let refused = err_from_is_err_and c.from_residual.result c.from_residual.ensures.1 in
+    subst (λ r. TakesChunk bytes r (record p { parser = c.read_words.new.parser })) (sym (refused.1 ∙ ap Err refused.2))
+    (now_shown p c.args.from len bytes (take len c.as_slice-2.result.now) come
+    (ap (λ l. has_complete_words (take len l)) (sym value) ∙ c.complete_words_len-len.ensures.complete)
+    (ap (λ l. list_all (λ b. not (is_white_space b)) (drop len l)) (sym value)
+    ∙ c.complete_words_len-len.ensures.no_space)
+    (ap (take len) front) c.in_err-self.field-0.0
+    (c.in_err-self.ensures.words (complete_words come.before) come.taken.taken_words))
+
+pub returns-clause-taken : goal.returns-clause-taken
+returns-clause-taken c = λ bytes come.
+    let p = c.args.self.now in
+    let len = c.complete_words_len-len.result in
+    let value = c.as_slice.ensures in
+    let front = c.as_slice-2.ensures in
+    let taken = now_taken p c.args.from len bytes (take len c.as_slice-2.result.now) come
+    (ap (λ l. has_complete_words (take len l)) (sym value) ∙ c.complete_words_len-len.ensures.complete)
+    (ap (λ l. list_all (λ b. not (is_white_space b)) (drop len l)) (sym value)
+    ∙ c.complete_words_len-len.ensures.no_space)
+    (ap (take len) front) c.read_words.new.parser
+    (c.in_ok-self.ensures.words (complete_words come.before) come.taken.taken_words) in
+    subst (λ word. HasTaken c.read_words.new.parser word c.in_ok-self.field-0 p.bytes_left bytes)
+    (sym c.drop_front.ensures)
+    (subst (λ n. HasTaken c.read_words.new.parser (drop len p.buffer.bytes) n p.bytes_left bytes)
+    (sym c.in_ok-self.ensures.line_feeds) taken)

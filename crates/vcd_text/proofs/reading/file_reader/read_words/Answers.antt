@@ -1,0 +1,74 @@
+use Rattle.std.proofs.Common.{◌≡◌, ◌⊎◌, Err, List, [], ◌∷◌, ◌++◌, length, sym, ap, subst, ◌∙◌}
+use Rattle.std.proofs.Common.{arith, append_assoc}
+use Rattle.std.proofs.Common.{append-nil, length-append, refl}
+use Rattle.std.proofs.lemmas.Result.{err_from_is_err_and}
+use Rattle.vcd_text.specs.declared.fault.ReadError.{ReadError}
+use Rattle.vcd_text.specs.Words.{PlacedWord}
+use Rattle.vcd_text.specs.LentWords.{word_contents}
+use Rattle.vcd_text.specs.Faults.{ShowsFault}
+use Rattle.vcd_text.specs.MemoryErrors.{memory_error}
+use Rattle.vcd_text.specs.inside.Reading.{HasTakenWords, AllWordsResult}
+use Rattle.vcd_text.specs.inside.WordWalk.{words_left}
+use Rattle.vcd_text.proofs.reading.file_reader.read_words.Goals as goal
+
+-- the words so far, this word, and the words left
+in_turn : (all came words left : List PlacedWord) (word : PlacedWord) → all ≡ came ++ words → words ≡ word ∷ left
+    → all ≡ (came ++ word ∷ []) ++ left
+in_turn all came words left word parts next = grind (arith, append_assoc)
+
+pub loop-word-init : goal.loop-word-init
+loop-word-init c = (
+  ([], refl, λ words_so_far reads. subst (HasTakenWords c.args.parser.now) (sym (append-nil words_so_far)) reads),
+  c.requires.lines,
+  refl,
+)
+
+pub take_word-requires-clause-reading : goal.take_word-requires-clause-reading
+take_word-requires-clause-reading c =
+    let came = c.loop-word.invariant.0.0 in
+    let (words_so_far, reads, few) = c.requires.word_count in
+    record {
+      words = words_so_far ++ came;
+      taken_words = c.loop-word.invariant.0.2 words_so_far reads;
+      few = omega (
+        arith,
+        few,
+        length-append words_so_far came,
+        length-append came (words_left c.loop-word.left),
+        ap (length {A = PlacedWord}) c.loop-word.invariant.0.1,
+      );
+    }
+
+pub loop-word-smaller : goal.loop-word-smaller
+loop-word-smaller c = grind (arith, length-append)
+
+pub loop-word-preserved : goal.loop-word-preserved
+loop-word-preserved c =
+    let came = c.loop-word.invariant.0.0 in
+    let word = word_contents c.in-Some.word in (
+      (
+        came ++ word ∷ [],
+        in_turn (words_left c.args.words) came (words_left c.loop-word.left) (words_left c.next_word.new.self) word
+            c.loop-word.invariant.0.1 c.in-Some.ensures.words,
+        λ words_so_far reads. subst (HasTakenWords c.take_word.new.self) (append_assoc words_so_far came (word ∷ []))
+            (c.in_ok-take_word.ensures (words_so_far ++ came) (c.loop-word.invariant.0.2 words_so_far reads)),
+      ),
+      c.in-Some.ensures.lines,
+      c.in-Some.ensures.line_feeds ∙ c.loop-word.invariant.2,
+    )
+
+pub returns-in_err-take_word-clause-words : goal.returns-in_err-take_word-clause-words
+returns-in_err-take_word-clause-words c = λ words_so_far reads.
+    let came = c.loop-word.invariant.0.0 in
+    let refused = err_from_is_err_and c.from_residual.result c.from_residual.ensures.1 in
+    let word = word_contents c.in-Some.word in
+    let more = words_left c.next_word.new.self in
+    let all : (words_so_far ++ came) ++ word ∷ more ≡ words_so_far ++ (words_left c.args.words) =
+    append_assoc words_so_far came _ ∙ ap (λ words. words_so_far ++ words)
+    (sym (append_assoc came (word ∷ []) more) ∙ sym (in_turn (words_left c.args.words) came
+    (words_left c.loop-word.left) more word c.loop-word.invariant.0.1 c.in-Some.ensures.words)) in
+    let e : ReadError = c.in_err-take_word.field-0.0 in
+    subst (λ r. AllWordsResult words_so_far (words_left c.args.words) r c.take_word.new.self)
+    (sym (refused.1 ∙ ap Err refused.2))
+    (subst (λ words. (e ≡ memory_error) ⊎ ShowsFault words e.line e.fault) all
+    (c.in_err-take_word.ensures (words_so_far ++ came) more (c.loop-word.invariant.0.2 words_so_far reads)))

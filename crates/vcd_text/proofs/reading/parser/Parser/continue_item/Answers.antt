@@ -1,0 +1,5 @@
+use Rattle.vcd_text.proofs.Declaring.{passes_over}
+use Rattle.vcd_text.proofs.reading.parser.Parser.continue_item.Goals as goal
+
+pub returns-in-Other : goal.returns-in-Other
+returns-in-Other c = passes_over c.args.self.now c.args.text.now c.in-Other.is c.requires.word

@@ -1,5 +1,0 @@
-use Rattle.vcd_text.proofs.Declaring.{closes_definitions}
-use Rattle.vcd_text.proofs.reading.reader.Reader.close_definitions.Goals as goal
-
-pub returns : goal.returns
-returns c = closes_definitions c.args.self.now c.requires

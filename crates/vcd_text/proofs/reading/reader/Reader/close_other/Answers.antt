@@ -1,5 +1,0 @@
-use Rattle.vcd_text.proofs.Declaring.{closes_other}
-use Rattle.vcd_text.proofs.reading.reader.Reader.close_other.Goals as goal
-
-pub returns : goal.returns
-returns c = closes_other c.args.self.now c.requires

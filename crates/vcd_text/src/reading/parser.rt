@@ -1,0 +1,144 @@
+//! The parser, which takes one word after another.
+
+ghost use Rattle.std.specs.Prelude.{◌≡◌, ◌<◌, ◌∷◌, [], true, length, IfOk};
+ghost use Rattle.vcd_text.specs.Grammar.{ParseState};
+ghost use Rattle.vcd_text.specs.inside.Variables.{VariablesMatch};
+ghost use Rattle.vcd_core.specs.CaptureContents.{contents};
+ghost use Rattle.vcd_text.specs.Words.{word_on};
+ghost use Rattle.vcd_text.specs.inside.OpenItems.{item_fault_line};
+ghost use Rattle.vcd_text.specs.inside.Reading.{HasTakenWords, IsUnderway, WordResult, WordsResult};
+ghost use Rattle.vcd_text.specs.inside.Reading.{is_complete, Means};
+
+use crate::fault::{Fault, ReadError};
+use crate::reading::Loaded;
+use crate::reading::scopes::Scopes;
+use crate::reading::variables::Variables;
+use std::alloc::Global;
+use vcd_core::{Capture, Header, HeaderKind, NoMemory, Timescale, Word};
+
+/// The open item, whose words are not all there yet.
+#[derive(Clone, Copy, Debug, PartialEq, Eq)]
+pub enum OpenItem {
+    /// No item: the next word begins one.
+    Nothing,
+    /// `$date`, `$version` or `$comment` among the declarations.
+    Entry(HeaderKind),
+    Timescale,
+    Scope,
+    Upscope,
+    Variable,
+    EndDefinitions,
+    /// A command that is passed over.
+    Other,
+    /// A change by a binary number, whose code is next.
+    Vector,
+    /// A change of a real number or a string, whose code is next.
+    RealOrString,
+}
+
+/// The state of a parser after the words so far.
+#[derive(Drop)]
+pub struct Parser {
+    pub header: Vec<Header>,
+    pub timescale: Option<Timescale>,
+    pub scopes: Scopes,
+    pub variables: Variables,
+    /// Whether `$enddefinitions $end` has come.
+    pub in_body: bool,
+    /// The last time stamp, or 0.
+    pub tick: u64,
+    pub item: OpenItem,
+    /// The words of the open declaration, after its keyword.
+    pub words: Vec<Word>,
+    /// The digits of the open change by a binary number.
+    pub digits: Vec<u8>,
+    /// The line of the open change.
+    pub line: u64,
+}
+
+impl Parser {
+    /// A parser before the first word. It takes no memory.
+    pub fn new(alloc: Global) -> Parser
+        ensures { HasTakenWords result [] }
+    {
+        Parser {
+            header: Vec::new(alloc),
+            timescale: None,
+            scopes: Scopes::new(alloc),
+            variables: Variables::new(alloc),
+            in_body: false,
+            tick: 0,
+            item: OpenItem::Nothing,
+            words: Vec::new(alloc),
+            digits: Vec::new(alloc),
+            line: 0,
+        }
+    }
+
+    /// Takes the next word of the file, which is on this line.
+    pub fn take_word(&mut self, alloc: Global, text: &[u8], line: u64) -> Result<(), ReadError>
+        requires reading { IsUnderway self.old }
+        requires word { 0 < length text.now }
+        ensures { WordsResult self.old (word_on text.now line ∷ []) result self.new }
+    {
+        let shown = self.item_fault_line(line);
+        match self.take(alloc, text, line) {
+            Ok(()) => Ok(()),
+            Err(fault) => Err(ReadError::at(shown, fault)),
+        }
+    }
+
+    /// The line of a fault of the next word, which is on this line.
+    fn item_fault_line(&self, line: u64) -> u64
+        ensures { result ≡ item_fault_line self.now.item self.now.line line }
+    {
+        match self.item {
+            OpenItem::Vector | OpenItem::RealOrString => self.line,
+            _ => line,
+        }
+    }
+
+    /// Takes the next word.
+    fn take(&mut self, alloc: Global, text: &[u8], line: u64) -> Result<(), Fault>
+        requires reading { IsUnderway self.old }
+        requires word { 0 < length text.now }
+        ensures { WordResult self.old (word_on text.now line) result self.new }
+    {
+        match self.item {
+            OpenItem::Nothing if self.in_body => self.begin_change(alloc, text, line),
+            OpenItem::Nothing => self.begin_declaration(text),
+            OpenItem::Vector => self.end_vector(alloc, text),
+            OpenItem::RealOrString => self.end_real_or_string(text),
+            _ if text == b"$end".as_slice() => self.close(alloc),
+            _ => self.continue_item(alloc, text),
+        }
+    }
+
+    /// Whether the words so far are a whole file.
+    pub fn is_complete(&self) -> bool
+        ensures { result ≡ is_complete self.now }
+    {
+        self.in_body && self.item == OpenItem::Nothing
+    }
+
+    /// The capture that the file means, once its last word has been taken.
+    pub fn into_loaded(self, alloc: Global) -> Result<Loaded, NoMemory>
+        requires complete { is_complete self ≡ true }
+        requires known { (c : ParseState) × VariablesMatch self.variables c }
+        ensures { IfOk result (λ loaded. Means self (contents loaded.capture) loaded.skipped) }
+    {
+        let Parser {
+            header,
+            timescale,
+            scopes,
+            variables,
+            tick,
+            ..
+        } = self;
+        let skipped = variables.skipped;
+        let mut signals = variables.into_signals(alloc)?;
+        scopes.place_signals(alloc, &mut signals)?;
+        let capture = Capture::new(header, timescale, tick, signals);
+        Ok(Loaded { capture, skipped })
+    }
+}
