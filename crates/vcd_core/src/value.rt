@@ -117,13 +117,14 @@ impl Value {
         letter(plane_bit(&self.planes, 0, k), plane_bit(&self.planes, 1, k))
     }
 
-    /// Bit 0.
-    pub(crate) fn lowest_bit(self) -> Bit
-        ensures { result ≡ letter_at self 0 }
+    /// Bit 0. It reads two words, and copies no value.
+    #[inline(always)]
+    pub(crate) fn lowest_bit(&self) -> Bit
+        ensures { result ≡ letter_at self.now 0 }
     {
         // The clause of `width` says that there is one.
         let _width = self.width();
-        self.bit(0)
+        letter(plane_bit(&self.planes, 0, 0), plane_bit(&self.planes, 1, 0))
     }
 
     /// The value with bit `k` changed to `bit`.
