@@ -104,7 +104,8 @@ def history(program, folder, module):
     yield "with a depth of 1 %d" % one_held, one_held < 4 * held
     cut = store(folder, "cut", text="cut %d %d\n" % (edges // 2, edges))
     cut_held = peak(program, path, "--script", cut) - least
-    yield "a cut of shared changes takes %d bytes" % cut_held, is_near(cut_held, variables * held, 0.2)
+    # what is left is shared; of each variable the half that was cut out is held
+    yield "a cut of shared changes takes %d bytes" % cut_held, is_near(cut_held, variables * held / 2, 0.2)
 
 
 def check(program, folder):
