@@ -7,6 +7,9 @@ Words, names and codes are bytes, as they stand in the file; `shown` makes text 
 import collections
 import fnmatch
 import fractions
+import heapq
+import itertools
+import mmap
 import os
 import re
 import subprocess
@@ -23,6 +26,10 @@ SKIPPED_KINDS = {b"real", b"realtime", b"real_parameter", b"shortreal", b"event"
 DUMP_WORDS = {b"$dumpvars", b"$dumpall", b"$dumpon", b"$dumpoff", b"$end"}
 UNITS = {"s": 0, "ms": 3, "us": 6, "ns": 9, "ps": 12, "fs": 15}
 CHUNK = 65536
+# The words that begin with one of these letters, and the words after them: to look for one letter is much faster than for
+# five. And the first letters of words that a code follows.
+MARKED = [re.compile(re.escape(letter) + rb"(?<!\S.)\S*(?=\s*(\S*))", re.S) for letter in (b"$", b"r", b"R", b"s", b"S")]
+BEFORE_CODES = (b"b", b"B", b"r", b"R", b"s", b"S")
 
 # What the first bytes of a file show that is no plain VCD: the bytes, what the file is, and what to do.
 OTHER_FILES = [
@@ -131,6 +138,35 @@ def want_one_size(variable, sizes, line):
     size = variable.size if is_kept(variable) else None
     if sizes.setdefault(variable.code, size) != size:
         raise Fault("MixedCode", line)
+
+
+def real_and_string_changes(file, variables):
+    """How many real and string changes the kept ones of these variables have in a file: (first variable of a code, count)."""
+    first = {one.code: one for one in reversed(variables) if is_kept(one)}
+    if not first:
+        return []
+    text = mmap.mmap(file.fileno(), 0, access=mmap.ACCESS_READ)
+    counts, is_passed_over = collections.Counter(), False
+    for found in heapq.merge(*[words.finditer(text) for words in MARKED], key=re.Match.start):
+        word, code = found.group(), found.group(1)
+        if is_passed_over:
+            is_passed_over = word != b"$end"
+        elif word.startswith(b"$"):
+            is_passed_over = word not in DUMP_WORDS and begins_item(found)
+        elif code in first and begins_item(found):
+            counts[code] += 1
+    return [(first[code], count) for code, count in counts.items()]
+
+
+def begins_item(found):
+    """Whether an item begins at a word. In the row of words before it that a code may follow, each second one is a code."""
+    place, reach = found.start(), 64
+    while True:
+        before = found.string[max(0, place - reach) : place].split()[reach < place :]
+        row = list(itertools.takewhile(lambda word: word.startswith(BEFORE_CODES), reversed(before)))
+        if len(row) < len(before) or reach >= place:
+            return len(row) % 2 == 0
+        reach *= 4
 
 
 def words_up_to_end(stream, command):

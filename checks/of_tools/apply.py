@@ -21,6 +21,9 @@ $upscope $end $enddefinitions $end
 #0 1! b0 " #5 0! #6 1! #20 b101 " #30
 """
 LOSSY = LINE.replace("$upscope", '$var real 64 # volts $end $var wire 2000 $ wide $end $upscope')
+# Real and string changes of kept variables, and what only looks like them: in a comment, and a code before a word like one.
+DROPPED = LINE + '$comment see ! $end #31 r1.5 ! b1 " sHigh ! S "\n'
+LIKE_DROPPED = LINE.replace('$upscope', '$var wire 1 #5 five $end $upscope').replace(' "', " s") + "$comment see ! $end\n"
 WRITTEN = "deglitch tb.rx 3\n"
 HALF = """#!/bin/sh
 while [ $# -gt 0 ]; do [ "$1" = -o ] && out=$2; shift; done
@@ -70,7 +73,11 @@ PLANTED = [
     (TOOL, "                if unfinished:\n", "                if False:\n"),
     (TOOL, "status == 1 and not self.options.keep_going", "False"),
     (TOOL, "        if status > 1 or status < 0:\n", "        if status > 1:\n"),
-    (TOOL, "if lost and not self.options.drop_skipped:", "if False:"),
+    (TOOL, "        if rows:\n", "        if False:\n"),
+    (TOOL, "if self.options.drop_skipped:", "if False:"),
+    ("tools/vcd_files.py", "    if not first:\n", "    if first:\n"),
+    ("tools/vcd_files.py", "code in first and begins_item(found)", "code in first"),
+    ("tools/vcd_files.py", "            is_passed_over = word not in DUMP_WORDS", "            is_passed_over = False"),
     (TOOL, "        if os.path.lexists(real + options.backup):", "        if False:"),
     (TOOL, "        keep_old(real, backup)\n", "        pass\n"),
     (TOOL, " & 0o222:", " & 0:"),
@@ -161,7 +168,8 @@ def writes(program, folder):
 
 
 def stays(program, folder):
-    place = Folder(program, folder + "/stays", A=LINE, lossy=LOSSY, fixed=LINE)
+    place = Folder(program, folder + "/stays", A=LINE, lossy=LOSSY, fixed=LINE, dropped=DROPPED, like=LIKE_DROPPED)
+    place.store("both", LOSSY + DROPPED[len(LINE) :])
     os.mkdir(place.folder + "/sub")
     os.mkfifo(place.folder + "/pipe")
     os.chmod(place.folder + "/fixed", 0o444)
@@ -172,13 +180,18 @@ def stays(program, folder):
         ("lost", 4, "there is no such file"),
         ("pipe", 4, "is no regular file"),
         ("fixed", 4, "is write-protected: chmod u+w, or --to FOLDER"),
+        ("dropped", 1, "3 real or string changes would be lost"),
+        ("both", 1, "2 variables and 3 real or string changes would be lost"),
         ("lossy", 1, "2 variables would be lost"),
     ):
         found = place.run("script", name)
         yield name + " stays", found[:2] == (status, ["%s: as it was: %s" % (name, reason)])
     yield "what would be lost is named", "real tb.volts" in found[2] and "wire of 2000 bits tb.wide" in found[2]
-    yield "none has changed", (place.load("fixed"), place.load("lossy")) == (LINE, LOSSY)
-    yield "a loss that is asked for", place.run("script", "lossy", "--drop-skipped")[0] == 0
+    told = place.run("script", "dropped")[2]
+    yield "whose changes would be lost", "    2 of tb.rx\n    1 of tb.q[3:0]\n" in told
+    yield "none has changed", [place.load(name) for name in ("fixed", "lossy", "dropped")] == [LINE, LOSSY, DROPPED]
+    yield "a loss that is asked for", [place.run("script", name, "--drop-skipped")[0] for name in ("both", "dropped")] == [0, 0]
+    yield "what looks like a lost change", place.run("script", "like")[:2] == (0, ["like: written: 1 ok"])
     for line, told in REFUSED:
         place.store("lines", line + "\n")
         status, _, errors = place.run("lines", "A")
