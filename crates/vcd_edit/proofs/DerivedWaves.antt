@@ -263,6 +263,14 @@ selected_rise k negated width floor [] rise = tt
 selected_rise k negated width floor (c ∷ cs) (from, wide, rest) =
     (from, refl, selected_rise k negated width (c.tick + 1) cs rest)
 
+-- each value of a wave has its width
+pub width_at : (width floor : ℕ) (cs : List Change) (i : ℕ) (c : Change) → TicksRise width floor cs → i < length cs
+    → c ≡ get_or cs i c → length c.value ≡ width
+width_at width floor [] i c rise within at = absurd (omega (arith, within))
+width_at width floor (d ∷ cs) zero c (from, wide, rest) within at = ap (λ (e : Change). length e.value) at ∙ wide
+width_at width floor (d ∷ cs) (suc i) c (from, wide, rest) within at =
+    width_at width (d.tick + 1) cs i c rest (omega (arith, within)) at
+
 -- nothing is made of the changes
 pub no_change_made : (k : ℕ) (negated : Bool) (a w : WaveView) → IsWave a.width a.changes → w.width ≡ 1
     → w.changes ≡ []

@@ -73,7 +73,7 @@ operands_there c (Not a) all wide = only_there c a all
 operands_there c (And a b) all wide = both_there c a b all wide
 operands_there c (Or a b) all wide = both_there c a b all wide
 operands_there c (Xor a b) all wide = both_there c a b all wide
-operands_there c (BitOf a k) all wide = only_there c a all
+operands_there c (BitOf a k) all wide = (only_there c a all, grind (arith, nat_tests))
 
 pub first_operand_there : (c : Contents) (rule : Rule) → IsTrue (list_all (is_signal c) (operands rule))
     → first_operand (formula rule) < length c.signals

@@ -36,13 +36,13 @@ edge_bit operator bits = X
 abbrev pub edge_change : Operator → BitEdge → Change
 edge_change operator e = change e.tick (edge_bit operator e.at ∷ [])
 
--- the operands exist, and those of an operator have one bit
+-- the operands exist, those of an operator have one bit, and a chosen bit is below the width
 abbrev pub HasOperands : Contents → Formula → Type 0
 HasOperands c (Negation a) = a < length c.signals
 HasOperands c (Pair operator a b) =
     (a < length c.signals) × (b < length c.signals)
     × ((signal_at c a).width ≡ 1) × ((signal_at c b).width ≡ 1)
-HasOperands c (BitSelect a k) = a < length c.signals
+HasOperands c (BitSelect a k) = (a < length c.signals) × (k < (signal_at c a).width)
 
 -- a wave has the bits of a function at all ticks up to the end
 abbrev pub HasBitsUpTo : ℕ → (ℕ → Bit) → WaveView → Type 0

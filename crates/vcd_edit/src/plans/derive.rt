@@ -1,6 +1,6 @@
 //! A signal computed from others.
 
-ghost use Rattle.std.specs.Prelude.{◌≡◌, ◌≤◌, ℕ, [], ◌∷◌, Some, None, IfOk, IsTrue, true, length};
+ghost use Rattle.std.specs.Prelude.{◌≡◌, ◌<◌, ℕ, [], ◌∷◌, Some, None, IfOk, IsTrue, true, length};
 ghost use Rattle.std.specs.Prelude.{map};
 ghost use Rattle.std.specs.List.{list_all};
 ghost use Rattle.vcd_core.specs.CaptureContents.{contents, signal_contents};
@@ -86,6 +86,7 @@ fn derived_wave(alloc: Global, capture: &Capture, formula: Formula) -> Result<Wa
 
 /// The wave of bit `k` of another wave, negated or as it is.
 fn wave_of_one(alloc: Global, operand: &Wave, k: u64, is_negated: bool) -> Result<Wave, NoMemory>
+    requires { k < operand.now.width }
     ensures { (end : ℕ) → AllUpTo end operand.now.changes → IfOk result (HasBitsUpTo end
         (λ t. selected_bit k is_negated (value_at operand.now.width operand.now.changes t))) }
 {
@@ -127,16 +128,9 @@ fn wave_of_two<'a>(
 
 /// Bit `k` of a value, negated or as it is.
 fn selected_bit(value: &Value, k: u64, is_negated: bool) -> Bit
+    requires { k < length value.now }
     ensures { result ≡ selected_bit k is_negated value.now }
 {
-    let bit = value_bit(value, k);
+    let bit = value.bit(k);
     if is_negated { not(bit) } else { bit }
-}
-
-/// Bit `k`, or the last bit if there are fewer.
-fn value_bit(value: &Value, k: u64) -> Bit
-    ensures { result ≡ letter_at value.now k }
-{
-    let most = value.width() - 1;
-    value.bit(k.min(most))
 }

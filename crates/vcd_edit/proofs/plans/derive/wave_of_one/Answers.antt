@@ -1,11 +1,15 @@
 use Rattle.std.proofs.Common.{◌≡◌, ◌+◌, ◌<◌, ◌≤◌, [], ◌∷◌, List, length, get_or, map, drop, ap}
-use Rattle.std.proofs.Common.{subst, ◌∙◌}
+use Rattle.std.proofs.Common.{subst, ◌∙◌, arith}
+use Rattle.std.proofs.lemmas.List.{length-replicate}
 use Rattle.vcd_core.specs.declared.bit.Bit.{Bit}
+use Rattle.vcd_core.specs.declared.bit.Bit.TheVariants.{X}
+use Rattle.vcd_core.specs.Value.{all_x}
 use Rattle.vcd_core.specs.declared.wave.Change.{Change}
 use Rattle.vcd_core.specs.Wave.{change, IsWave}
 use Rattle.vcd_edit.specs.inside.Derived.{selected_change}
 use Rattle.vcd_edit.proofs.DerivedWaves.{no_change_made, change_next, one_made, late_enough}
-use Rattle.vcd_edit.proofs.DerivedWaves.{selected_is}
+use Rattle.vcd_edit.proofs.DerivedWaves.{selected_is, width_at}
+use Rattle.vcd_edit.proofs.WithoutRepeats.{wave_rises}
 use Rattle.vcd_edit.proofs.plans.derive.wave_of_one.Goals as goal
 
 pub loop-change-init : goal.loop-change-init
@@ -13,6 +17,18 @@ loop-change-init c =
     no_change_made c.args.k c.args.is_negated c.args.operand.now c.new-wave.result
     (subst (IsWave c.args.operand.now.width) c.changes-change-items.ensures.changes c.changes-change-items.ensures.form)
     c.new-wave.ensures.width c.new-wave.ensures.changes
+
+pub selected_bit-bit-requires : goal.selected_bit-bit-requires
+selected_bit-bit-requires c =
+    let wave = c.args.operand.now in
+    let is = c.changes-change-items.ensures.changes in
+    let form = subst (IsWave wave.width) is c.changes-change-items.ensures.form in
+    let wide = width_at wave.width 0 wave.changes c.loop-change.change-index c.change-item.result
+    (wave_rises wave.width 0 (all_x wave.width) wave.changes (length-replicate wave.width X) form.rise)
+    (subst (λ (ds : List Change). c.loop-change.change-index < length ds) is c.loop-change-test.true)
+    (subst (λ (ds : List Change). c.change-item.result ≡ get_or ds c.loop-change.change-index c.change-item.result) is
+    c.change-item.is) in
+    omega (arith, wide, c.requires)
 
 pub push-requires-clause-none_later : goal.push-requires-clause-none_later
 push-requires-clause-none_later c =
