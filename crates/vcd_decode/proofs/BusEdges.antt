@@ -1,16 +1,19 @@
 -- The events at the edges of two lines are those at all ticks.
-use Rattle.std.proofs.Common.{◌≡◌, ℕ, suc, Option, Some, None, List, [], ◌∷◌, ◌++◌, refl, sym, ap}
-use Rattle.std.proofs.Common.{◌∙◌, option_to_list}
-use Rattle.std.specs.List.{filter_map, flat_map, cons_option, range_with_len}
+use Rattle.std.proofs.Common.{◌≡◌, ℕ, zero, suc, Option, Some, None, List, [], ◌∷◌, ◌++◌, refl, sym, ap}
+use Rattle.std.proofs.Common.{◌∙◌, option_to_list, map, All}
+use Rattle.std.specs.Prelude.{filter}
+use Rattle.std.specs.List.{filter_map, flat_map, cons_option, range_with_len, list_any}
+use Rattle.std.proofs.lemmas.List.Elements.{All-nil, All-cons}
 use Rattle.vcd_core.specs.declared.bit.Bit.{Bit}
 use Rattle.vcd_core.specs.declared.bit.Bit.TheVariants.{Zero, One, X, Z}
-use Rattle.vcd_core.specs.BitEdges.{bit_edges_of}
+use Rattle.vcd_core.specs.Edges.{trace_of, changes_at, edge_on, edges_on}
+use Rattle.vcd_core.specs.BitEdges.{bit_edge, bit_edges_of}
 use Rattle.vcd_core.specs.WaveView.{WaveView}
 use Rattle.vcd_decode.specs.Lines.{letter_before}
 use Rattle.vcd_decode.specs.WaveLines.{line_of}
 use Rattle.vcd_decode.specs.BusEvents.{bus_event_at, bus_events}
 use Rattle.vcd_decode.specs.inside.LevelEvents.{bus_event}
-use Rattle.vcd_decode.specs.inside.BusWalk.{levels_of, edge_event, edge_events}
+use Rattle.vcd_decode.specs.inside.BusWalk.{levels_of, IsBusEdge, edge_event, edge_events}
 use Rattle.vcd_decode.specs.inside.LineEdges.{lines_of, line_edge}
 use Rattle.vcd_decode.proofs.EdgeTicks.{over_edges}
 
@@ -46,6 +49,21 @@ as_lists f (x ∷ xs) = choose (f x) (as_lists f xs)
 module _ (scl sda : WaveView) where
   abbrev pub bus_waves : List (Option WaveView)
   bus_waves = Some scl ∷ Some sda ∷ None ∷ None ∷ []
+
+  -- each edge has both lines
+  pub each_is_bus_edge : (end : ℕ) → All IsBusEdge (bit_edges_of bus_waves end)
+  unfolding edges_on
+  each_is_bus_edge end =
+      of_each (filter (λ t. list_any (changes_at t) (map trace_of bus_waves)) (range_with_len 0 (suc end)))
+    where
+      of_each : (ticks : List ℕ) → All IsBusEdge (map bit_edge (map (edge_on (map trace_of bus_waves)) ticks))
+      of_each [] = All-nil IsBusEdge
+      of_each (t ∷ ticks) = All-cons IsBusEdge (bit_edge (edge_on (map trace_of bus_waves) t))
+          (map bit_edge (map (edge_on (map trace_of bus_waves)) ticks)) (has_both t) (of_each ticks)
+        where
+          has_both : (t : ℕ) → IsBusEdge (bit_edge (edge_on (map trace_of bus_waves) t))
+          has_both zero = ((_, _, refl), (_, _, refl))
+          has_both (suc t) = ((_, _, refl), (_, _, refl))
 
   still : (t : ℕ) → (line_edge (lines_of bus_waves) t).at ≡ (line_edge (lines_of bus_waves) t).before
       → option_to_list (edge_event (line_edge (lines_of bus_waves) t)) ≡ []

@@ -1,5 +1,5 @@
 -- The walk over the events of an I2C bus: the state between two events, and the annotations of one.
-use Rattle.std.specs.Prelude.{ℕ, ◌+◌, ◌^◌, ◌<◌, ◌≤◌, ◌==◌, nat_le, if◌then◌else◌, Option, Some}
+use Rattle.std.specs.Prelude.{◌≡◌, ℕ, ◌+◌, ◌^◌, ◌<◌, ◌≤◌, ◌==◌, nat_le, if◌then◌else◌, Option, Some}
 use Rattle.std.specs.Prelude.{None, IfSome, List, []}
 use Rattle.std.specs.Prelude.{◌∷◌, ◌++◌, fold, filter_map}
 use Rattle.std.specs.Option.{option_or}
@@ -127,6 +127,14 @@ walk_annotations bus (e ∷ es) = event_annotations bus e ++ walk_annotations (b
 abbrev pub levels_of : List (Option Bit) → BusLevels
 levels_of (Some scl ∷ Some sda ∷ others) = record { scl = scl; sda = sda }
 levels_of others = record { scl = X; sda = X }
+
+-- both lines of a bus have a bit
+abbrev pub HasBothLines : List (Option Bit) → Type 0
+HasBothLines bits = (scl sda : Bit) × (bits ≡ Some scl ∷ Some sda ∷ None ∷ None ∷ [])
+
+-- both have one just before an edge and at it
+abbrev pub IsBusEdge : BitEdge → Type 0
+IsBusEdge e = HasBothLines e.before × HasBothLines e.at
 
 -- the event at an edge
 abbrev pub edge_event : BitEdge → Option BusEvent

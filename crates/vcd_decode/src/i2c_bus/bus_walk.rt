@@ -1,6 +1,6 @@
 //! The walk over the two lines of a bus.
 
-ghost use Rattle.std.specs.Prelude.{◌≡◌, ◌++◌, None, List, IfOk};
+ghost use Rattle.std.specs.Prelude.{◌≡◌, ◌++◌, None, List, All, IfOk};
 ghost use Rattle.std.specs.List.{cons_option};
 ghost use Rattle.vcd_core.specs.Wave.{AllUpTo};
 ghost use Rattle.vcd_decode.specs.WaveLines.{line_of};
@@ -45,6 +45,7 @@ pub fn i2c<'a>(
 
 /// The annotations of the edges of SCL and SDA.
 fn annotations_of(alloc: Global, edges: BitEdges) -> Result<Vec<Annotation>, NoMemory>
+    requires { All walk.IsBusEdge edges }
     ensures { IfOk result (λ found.
         found.items ≡ walk.walk_annotations None (walk.edge_events edges.entry)) }
 {
@@ -63,6 +64,7 @@ fn take_line_edge(
     edge: BitEdge,
 ) -> Result<Option<Transfer>, NoMemory>
     requires part { walk.IsSoundTransfer transfer }
+    requires lines { walk.IsBusEdge edge }
     ensures annotations { IfOk result (λ next. (es : List BusEvent)
         → found.new.items ++ walk.walk_annotations next es
         ≡ found.old.items ++ walk.walk_annotations transfer
@@ -76,15 +78,13 @@ fn take_line_edge(
     }
 }
 
-/// The levels of the first two lines of an edge.
+/// The levels of the two lines.
 fn levels_of(bits: [Option<Bit>; 4]) -> BusLevels
+    requires { walk.HasBothLines bits }
     ensures { result ≡ walk.levels_of bits }
 {
-    match bits {
-        [Some(scl), Some(sda), _, _] => BusLevels { scl, sda },
-        _ => BusLevels {
-            scl: Bit::X,
-            sda: Bit::X,
-        },
+    BusLevels {
+        scl: bits[0].unwrap(),
+        sda: bits[1].unwrap(),
     }
 }

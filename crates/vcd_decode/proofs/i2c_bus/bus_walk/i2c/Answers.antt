@@ -1,11 +1,16 @@
-use Rattle.std.proofs.Common.{◌≡◌, ap, subst, ◌∙◌, None, IfOk, List}
+use Rattle.std.proofs.Common.{◌≡◌, ap, sym, subst, ◌∙◌, None, IfOk, List, All}
 use Rattle.vcd_decode.specs.declared.annotation.Annotation.{Annotation}
 use Rattle.vcd_decode.specs.WaveLines.{line_of}
 use Rattle.vcd_decode.specs.BusEvents.{bus_events}
-use Rattle.vcd_decode.specs.inside.BusWalk.{walk_annotations, edge_events}
-use Rattle.vcd_decode.proofs.BusEdges.{events_are}
+use Rattle.vcd_decode.specs.inside.BusWalk.{walk_annotations, edge_events, IsBusEdge}
+use Rattle.vcd_decode.proofs.BusEdges.{events_are, each_is_bus_edge}
 use Rattle.vcd_decode.proofs.BusWalks.{walk_is}
 use Rattle.vcd_decode.proofs.i2c_bus.bus_walk.i2c.Goals as goal
+
+pub annotations_of-requires : goal.annotations_of-requires
+annotations_of-requires c = subst (All IsBusEdge)
+    (sym (c.new.ensures.edges c.args.end (c.requires.scl_ends, (c.requires.sda_ends, (tt, (tt, tt))))))
+    (each_is_bus_edge c.args.scl.now c.args.sda.now c.args.end)
 
 pub returns : goal.returns
 returns c =
