@@ -1,6 +1,6 @@
 //! The targets of a file's codes: a table of the short codes, and a map of the others.
 
-ghost use Rattle.std.specs.Prelude.{◌≡◌, ◌+◌, ◌<◌, ◌≤◌, ◌^◌, ◌==◌, ℕ, List, length, if◌then◌else◌};
+ghost use Rattle.std.specs.Prelude.{◌≡◌, ◌+◌, ◌<◌, ◌≤◌, ◌^◌, ◌==◌, ℕ, List, length, max, if◌then◌else◌};
 ghost use Rattle.std.specs.Prelude.{slice_index_or, Some, None, IfSome, OnOk, bytes_eq};
 ghost use Rattle.vcd_text.specs.inside.CodeTargets.{digit_of, place_of, code_target, in_map};
 
@@ -81,8 +81,10 @@ fn put_at(
     target: CodeTarget,
 ) -> Result<(), NoMemory>
     requires { place < 2 ^ 32 }
-    ensures { OnOk result ((i : ℕ) → slice_index_or table.new.items i None ≡
+    ensures target { OnOk result ((i : ℕ) → slice_index_or table.new.items i None ≡
         (if i == place then Some target else slice_index_or table.old.items i None)) }
+    ensures exact { OnOk result
+        (length table.new.items ≡ max (length table.old.items) (place + 1)) }
 {
     lengthen(table, place + 1)?;
     table[place] = Some(target);
@@ -91,7 +93,7 @@ fn put_at(
 
 /// Appends places without a target to a table that is shorter.
 fn lengthen(table: &mut Vec<Option<CodeTarget>>, len: usize) -> Result<(), NoMemory>
-    ensures long { OnOk result (len ≤ length table.new.items) }
+    ensures exact { OnOk result (length table.new.items ≡ max (length table.old.items) len) }
     ensures same { OnOk result ((i : ℕ) →
         slice_index_or table.new.items i None ≡ slice_index_or table.old.items i None) }
 {

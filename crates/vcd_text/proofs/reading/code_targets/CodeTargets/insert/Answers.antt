@@ -7,4 +7,4 @@ pub returns-in-Some : goal.returns-in-Some
 returns-in-Some c =
     on_ok_weaker c.put_at.result
     (short_put c.args.self.now c.put_at.new.table c.args.code.now c.in-Some.place c.args.target
-    (sym c.in-Some.ensures.place)) c.put_at.ensures
+    (sym c.in-Some.ensures.place)) c.put_at.ensures.target
