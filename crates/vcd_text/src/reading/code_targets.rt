@@ -1,7 +1,7 @@
 //! The targets of a file's codes: a table of the short codes, and a map of the others.
 
-ghost use Rattle.std.specs.Prelude.{◌≡◌, ◌+◌, ◌<◌, ◌≤◌, ◌^◌, ◌==◌, ℕ, List, length, max, if◌then◌else◌};
-ghost use Rattle.std.specs.Prelude.{slice_index_or, Some, None, IfSome, OnOk, bytes_eq};
+ghost use Rattle.std.specs.Prelude.{◌≡◌, ◌+◌, ◌<◌, ◌≤◌, ◌^◌, ◌==◌, ℕ, List, length, if◌then◌else◌};
+ghost use Rattle.std.specs.Prelude.{slice_index_or, Some, None, IfSome, OnOk, bytes_eq, max};
 ghost use Rattle.vcd_text.specs.inside.CodeTargets.{digit_of, place_of, code_target, in_map};
 
 use indexmap::IndexMap;
