@@ -7,18 +7,8 @@ use Rattle.vcdedit.specs.declared.shell.ending.Ending.{Ending}
 use Rattle.vcdedit.specs.CommandLine.{option_app}
 use Rattle.vcdedit.specs.ProgramEnds.{is_done, IsEndingOf}
 
--- words with a completed run have no fault, and the ending is theirs
-pub words_asked : (ending : Ending) (words : List (List ℕ)) → (is_done ending ≡ true → fault_of option_app words ≡ [])
-    → (fault_of option_app words ≡ [] → IsEndingOf words ending) →
-    is_done ending ≡ true → (words : List (List ℕ)) × (fault_of option_app words ≡ []) × IsEndingOf words ending
-words_asked ending words taken asked done = (words, taken done, asked (taken done))
-
 -- for words without a fault, an error means that memory ran out
 pub failed_for_memory : (kinds : Kinds) (e : Error) → kinds ≡ [] → HasKind kinds e
     → kind_of e ≡ kinds_of_clap.OutOfMemory
 failed_for_memory kinds e none (inl memory) = memory
 failed_for_memory kinds e none (inr among) = absurd (subst (IsAmong (kind_of e)) none among)
-
--- no test is both
-pub not_both : (test : Bool) → test ≡ false → test ≡ true → ⊥
-not_both test is_false is_true = absurd (cc)

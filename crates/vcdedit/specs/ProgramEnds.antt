@@ -3,6 +3,7 @@
 use Rattle.std.specs.Prelude.{◌≡◌, ◌⊎◌, ℕ, Bool, true, false, List, [], Option, is_some, Result, Ok}
 use Rattle.std.specs.Prelude.{Err}
 use Rattle.std.specs.String.{string_bytes}
+use Rattle.clap.specs.Words.{fault_of}
 use Rattle.clap.specs.declared.error.kind.ErrorKind.{ErrorKind}
 use Rattle.clap.specs.declared.error.kind.ErrorKind.TheVariants.{DisplayHelp, DisplayVersion}
 use Rattle.vcdedit.specs.declared.shell.ending.Ending.{Ending}
@@ -11,7 +12,7 @@ use Rattle.vcd_text.specs.declared.fault.Fault.TheVariants as faults
 use Rattle.vcdedit.specs.declared.running.run_error.RunError.{RunError}
 use Rattle.vcdedit.specs.declared.running.run_error.RunError.TheVariants as run_errors
 use Rattle.vcdedit.specs.declared.running.run_error.Summary.{Summary}
-use Rattle.vcdedit.specs.CommandLine.{AskedOptions, asked_options}
+use Rattle.vcdedit.specs.CommandLine.{AskedOptions, asked_options, option_app}
 use Rattle.vcdedit.specs.RunEnds.{DeviceEnd, RunEnds}
 use Rattle.vcdedit.specs.Report.{done_status, error_status, error_line}
 
@@ -65,6 +66,11 @@ IsEndingOf words ending = (outcome : Result Summary RunError)
 abbrev pub is_done : Ending → Bool
 is_done (Done summary) = true
 is_done _ = false
+
+-- words have this ending: that of a run, if they have no fault; else no run was completed
+abbrev pub HasEnding : (words : List (List ℕ)) → Ending → Type 0
+HasEnding words ending = (fault_of option_app words ≡ [] → IsEndingOf words ending)
+    × (is_done ending ≡ true → fault_of option_app words ≡ [])
 
 -- the words ask for help or the version, by the kind of `clap`'s answer
 abbrev pub asks_for_text : ErrorKind → Bool

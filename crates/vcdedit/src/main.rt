@@ -17,9 +17,11 @@ pub use laws::cut_file_is_read_again;
 pub use running::{RunError, RunRefusal, RunTexts, SCRIPT_LIMIT, Summary, run, run_on_bytes};
 pub use script::{Command, LineError, parse_line};
 pub use shell::{LateFile, report, status_of_program};
+use std::env;
 use std::process::ExitCode;
 use vcd_core::ToWrite;
 
 fn main(rt: HostRuntime) -> ExitCode {
-    ExitCode::from(status_of_program(&rt, &mut ToWrite::new(rt.stderr())))
+    let words = env::args(&rt);
+    ExitCode::from(status_of_program(&rt, words, &mut ToWrite::new(rt.stderr())))
 }

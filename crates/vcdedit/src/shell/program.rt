@@ -1,6 +1,6 @@
 //! The program: words in, files opened, a status out.
 
-ghost use Rattle.std.specs.Prelude.{◌≡◌, ◌≤◌, ◌⊎◌, ℕ, true, false, List, [], Option, None, is_some};
+ghost use Rattle.std.specs.Prelude.{◌≡◌, ◌≤◌, ◌⊎◌, true, false, [], Option, None, is_some};
 ghost use Rattle.std.specs.Prelude.{Err, IsSome, map, drop, IfOk, IfErr};
 ghost use Rattle.std.specs.Io.Buffered.{writer_inner, writer_buffer, writer_capacity};
 ghost use Rattle.std.specs.Io.Buffered.{writer_contents};
@@ -10,7 +10,7 @@ ghost use Rattle.std.specs.Vec.Iter.{into_iter_items};
 ghost use Rattle.clap.specs.Words.{fault_of};
 ghost use Rattle.vcdedit.specs.CommandLine.{option_app, options_in};
 ghost use Rattle.vcdedit.specs.ProgramEnds.{is_done, ending_of, IsOutcomeOn, IsOutcomeOfOptions};
-ghost use Rattle.vcdedit.specs.ProgramEnds.{IsEndingOf, program_status, program_text};
+ghost use Rattle.vcdedit.specs.ProgramEnds.{HasEnding, IsEndingOf, program_status, program_text};
 ghost use Rattle.vcdedit.specs.RunEnds.{DeviceEnd, device_end, RunEnds};
 ghost use Rattle.vcdedit.specs.inside.SentReplies.{HasSentReplies};
 
@@ -21,9 +21,9 @@ use crate::shell::late_file::LateFile;
 use crate::shell::opening::{open_capture, open_script};
 use std::alloc::{AllocError, Global};
 use std::env::Args;
+use std::io;
 use std::io::{BufWriter, ErrorKind, Write};
 use std::rt::Runtime;
-use std::{env, io};
 use vcd_core::{FromRead, Sink, Source, ToWrite};
 use vcd_journal::DEPTH_LIMIT;
 use vcd_text::{Fault, ReadError};
@@ -39,19 +39,24 @@ const NOT_OPENED: RunError = RunError::Capture(ReadError {
 
 /// Runs the program on the words of its command line, and gives its exit status. The text on why it
 /// failed goes to `errors`.
-pub fn status_of_program<R: Runtime + AllocGlobal, E: Sink>(rt: &R, errors: &mut E) -> u8
+///
+/// The words are those of `std::env::args`, if they are had: the first is the program's name.
+pub fn status_of_program<R: Runtime + AllocGlobal, E: Sink>(
+    rt: &R,
+    words: io::Result<Args>,
+    errors: &mut E,
+) -> u8
     requires { E.has_failed errors.old ≡ false }
     ensures most { result ≤ 5 }
-    // The status and the text are those of one ending. If that is of a completed run, some words
-    // asked for that run, and it had that ending.
+    // the status and the text are those of one ending, which is that of the words
     ensures reported { (ending : Ending) ×
-        (is_done ending ≡ true → (words : List (List ℕ)) ×
-        (fault_of option_app words ≡ []) × IsEndingOf words ending) ×
+        IfOk words (λ args. HasEnding (map string_bytes (drop 1 (into_iter_items args))) ending) ×
+        IfErr words (λ _. is_done ending ≡ false) ×
         (result ≡ program_status ending) ×
         (E.has_failed errors.new ≡ false →
         Appends (E.taken errors.old) (E.taken errors.new) (program_text ending)) }
 {
-    match env::args(rt) {
+    match words {
         Ok(words) => report_ending(ending_of_words(rt, words), errors),
         Err(error) => report_ending(ending_without_words(rt, &error), errors),
     }
