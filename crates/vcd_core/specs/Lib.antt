@@ -10,6 +10,7 @@ pub mod Contents
 pub mod CaptureContents
 pub mod TimeUnits
 pub mod Word
+pub mod Tests
 pub mod Decimal
 pub mod BoundedNumber
 pub mod Sound

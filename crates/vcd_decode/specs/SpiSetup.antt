@@ -2,7 +2,7 @@
 use Rattle.std.specs.Prelude.{ℕ}
 use Rattle.vcd_decode.specs.declared.spi_setup.BitOrder.{BitOrder}
 
--- a setup as contracts see it: `bits` in a word
+-- a setup as contracts see it; a word has `bits` bits
 pub record SpiSetup : Type 0 where
   pub mode : ℕ
   pub bits : ℕ

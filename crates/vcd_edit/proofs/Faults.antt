@@ -13,14 +13,15 @@ use Rattle.vcd_edit.specs.declared.edit.Rule.TheVariants.{Not, And, Or, Xor, Bit
 use Rattle.vcd_edit.specs.declared.fault.EditError.{EditError}
 use Rattle.vcd_edit.specs.Effect.{formula, first_operand}
 use Rattle.vcd_edit.specs.inside.Derived.{HasOperands}
-use Rattle.vcd_edit.specs.EditFaults.{Test, first_fault, is_signal, is_scalar, operands, width_test}
+use Rattle.vcd_core.specs.Tests.{Test, first_fault}
+use Rattle.vcd_edit.specs.EditFaults.{is_signal, is_scalar, operands, width_test}
 use Rattle.vcd_edit.specs.EditFaults.{edit_tests}
 use Rattle.vcd_edit.specs.EditFaults.{edit_fault}
 
 -- each test holds
-abbrev pub AllHold : List Test → Type 0
+abbrev pub AllHold : List (Test EditError) → Type 0
 AllHold [] = Unit {0}
-AllHold (test ∷ tests) = IsTrue test.1 × AllHold tests
+AllHold (test ∷ tests) = IsTrue test.holds × AllHold tests
 
 -- a test that fails would be the first
 holds_first : (b : Bool) (fault : EditError) (rest : Option EditError) → (if b then rest else Some fault) ≡ None
@@ -28,10 +29,10 @@ holds_first : (b : Bool) (fault : EditError) (rest : Option EditError) → (if b
 holds_first true fault rest none = (refl, none)
 holds_first false fault rest none = absurd (cc)
 
-all_hold : (tests : List Test) → first_fault tests ≡ None → AllHold tests
+all_hold : (tests : List (Test EditError)) → first_fault tests ≡ None → AllHold tests
 all_hold [] none = tt
 all_hold (test ∷ tests) none =
-    let first = holds_first test.1 test.0 (first_fault tests) none in (first.0, all_hold tests first.1)
+    let first = holds_first test.holds test.fault (first_fault tests) none in (first.0, all_hold tests first.1)
 
 pub no_fault : (e : Edit) (c : Contents) → edit_fault e c ≡ None → AllHold (edit_tests e c)
 unfolding edit_fault
@@ -68,7 +69,7 @@ both_there c a b all scalars =
 
 -- the operands of a rule that passes the tests
 pub operands_there : (c : Contents) (rule : Rule) → IsTrue (list_all (is_signal c) (operands rule))
-    → IsTrue (width_test rule c).1 → HasOperands c (formula rule)
+    → IsTrue (width_test rule c).holds → HasOperands c (formula rule)
 operands_there c (Not a) all wide = only_there c a all
 operands_there c (And a b) all wide = both_there c a b all wide
 operands_there c (Or a b) all wide = both_there c a b all wide

@@ -16,7 +16,8 @@ use Rattle.vcd_core.proofs.Waves.{value_at-changes_of, changes_of-value_at, chan
 use Rattle.vcd_edit.specs.declared.edit.Edit.TheVariants.{Deglitch}
 use Rattle.vcd_edit.specs.Effect.{run_start, run_end, is_steady, steady_value, with_values, effect}
 use Rattle.vcd_edit.specs.EditFaults.{edit_fault}
-use Rattle.vcd_edit.specs.Laws.{values_at, IsRunOfOneValue, HasNoShortRun, DeglitchLeavesNoShortRun}
+use Rattle.vcd_edit.specs.EffectLaws.{value_of}
+use Rattle.vcd_edit.specs.Laws.{IsRunOfOneValue, HasNoShortRun, DeglitchLeavesNoShortRun}
 use Rattle.vcd_edit.specs.Laws.{DeglitchKeepsLongRuns}
 use Rattle.vcd_edit.specs.Laws.{DeglitchWithoutShortRuns, DeglitchTwice}
 use Rattle.vcd_edit.proofs.Faults.{no_fault, position_below}
@@ -189,12 +190,12 @@ all_stay n end f none (suc t) upto =
 
 -- the values after a deglitch
 values_after : (k n : ℕ) (c : Contents) → edit_fault (Deglitch k n) c ≡ None → (t : ℕ) → t ≤ c.end
-    → values_at (effect (Deglitch k n) c) k t ≡ steady_value n c.end (values_at c k) t
+    → value_of (effect (Deglitch k n) c) k t ≡ steady_value n c.end (value_of c k) t
 values_after k n c none t upto =
     let within = position_below c k (no_fault (Deglitch k n) c none).0 in
     let s : SignalContents = signal_at c k in
-    let f : ℕ → List Bit = steady_value n c.end (values_at c k) in
-    ap (λ (d : Contents). values_at d k t) (deglitch_is_wave k n c)
+    let f : ℕ → List Bit = steady_value n c.end (value_of c k) in
+    ap (λ (d : Contents). value_of d k t) (deglitch_is_wave k n c)
     ∙ ap (λ (u : SignalContents). signal_value u t)
     (get_or-set_same c.signals k (with_values c.end f s) no_signal within)
     ∙ value_at-changes_of s.width c.end t f upto
@@ -214,15 +215,15 @@ end_stays k n c = ap (λ (d : Contents). d.end) (deglitch_is_wave k n c)
 
 pub leaves_none : DeglitchLeavesNoShortRun
 leaves_none k n c sound none first last late early run =
-    no_short_run n c.end (values_at c k) first last late (omega (arith, end_stays k n c))
-    (same_run (values_at (effect (Deglitch k n) c) k) (steady_value n c.end (values_at c k)) c.end first last late
+    no_short_run n c.end (value_of c k) first last late (omega (arith, end_stays k n c))
+    (same_run (value_of (effect (Deglitch k n) c) k) (steady_value n c.end (value_of c k)) c.end first last late
     (omega (arith, end_stays k n c)) (values_after k n c none) run)
 
 pub keeps_long : DeglitchKeepsLongRuns
 keeps_long k n c sound none first last t early (ordered, one, before, after) long from to =
     values_after k n c none t (omega arith)
-    ∙ run_stays n c.end (values_at c k) first last ordered (omega arith) one
-    (λ p is equal. before (ap (values_at c k) (omega arith) ∙ sym equal)) (λ less. after)
+    ∙ run_stays n c.end (value_of c k) first last ordered (omega arith) one
+    (λ p is equal. before (ap (value_of c k) (omega arith) ∙ sym equal)) (λ less. after)
     (steady_by n c.end first last (λ _ _. long) (omega arith)) t from to
 
 pub without_short_runs : DeglitchWithoutShortRuns
@@ -230,9 +231,9 @@ without_short_runs k n c sound none long =
     let within = position_below c k (no_fault (Deglitch k n) c none).0 in
     let s : SignalContents = signal_at c k in
     let is = sound_at c k within sound in
-    let changes : changes_of s.width c.end (steady_value n c.end (values_at c k)) ≡ s.changes =
-    changes_same s.width c.end (steady_value n c.end (values_at c k)) (values_at c k)
-    (all_stay n c.end (values_at c k) long)
+    let changes : changes_of s.width c.end (steady_value n c.end (value_of c k)) ≡ s.changes =
+    changes_same s.width c.end (steady_value n c.end (value_of c k)) (value_of c k)
+    (all_stay n c.end (value_of c k) long)
     ∙ changes_of-value_at s.width c.end s.changes is.wave is.ticks in
     deglitch_is_wave k n c
     ∙ ap (λ cs. with_signal c k (record s { changes = cs })) changes
@@ -248,7 +249,7 @@ same_fault k n c d size = rw size refl
 still_accepted : (k n : ℕ) (c : Contents) → edit_fault (Deglitch k n) c ≡ None
     → edit_fault (Deglitch k n) (effect (Deglitch k n) c) ≡ None
 still_accepted k n c none =
-    let s : SignalContents = with_values c.end (steady_value n c.end (values_at c k)) (signal_at c k) in
+    let s : SignalContents = with_values c.end (steady_value n c.end (value_of c k)) (signal_at c k) in
     same_fault k n (effect (Deglitch k n) c) c
     (ap (λ (d : Contents). length d.signals) (deglitch_is_wave k n c) ∙ length-set c.signals k s)
     ∙ none

@@ -6,7 +6,7 @@ use Rattle.vcd_edit.specs.declared.fault.EditError.TheVariants.{BadRange, BadCou
 use Rattle.vcd_edit.specs.declared.fault.EditError.TheVariants.{BadValue, BadWord, NameTaken}
 use Rattle.vcd_edit.specs.declared.fault.EditError.TheVariants.{TooManySignals, NoMemory}
 
--- the name that is printed for a refused edit
+-- the name that is printed for a refused edit; NoMemory is no reply, as a run ends there
 abbrev pub edit_error_name : EditError → List ℕ
 edit_error_name NoSuchSignal = codes "NoSuchSignal"
 edit_error_name NotScalar = codes "NotScalar"

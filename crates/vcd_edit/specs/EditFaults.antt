@@ -1,11 +1,11 @@
 -- When an edit is refused: its tests on a capture, in the order of the faults. The project's own.
-use Rattle.std.specs.Prelude.{ℕ, ◌+◌, ◌==◌, ◌&&◌, nat_lt, nat_le, Bool, not, if◌then◌else◌, List}
-use Rattle.std.specs.Prelude.{[], ◌∷◌}
-use Rattle.std.specs.Prelude.{◌++◌, length, Option, Some, None}
+use Rattle.std.specs.Prelude.{ℕ, ◌+◌, ◌==◌, ◌&&◌, nat_lt, nat_le, Bool, not, List, [], ◌∷◌, ◌++◌}
+use Rattle.std.specs.Prelude.{length, Option}
 use Rattle.std.specs.List.{list_all, list_any, remove}
 use Rattle.std.specs.Str.{bytes_eq}
 use Rattle.vcd_core.specs.Contents.{Contents, SignalContents, signal_at}
 use Rattle.vcd_core.specs.Word.{is_word}
+use Rattle.vcd_core.specs.Tests.{Test, ◌unless◌, first_fault}
 use Rattle.vcd_core.specs.Names.{full_name, full_names}
 use Rattle.vcd_core.specs.declared.capture.TheConstants.{SIGNAL_LIMIT}
 use Rattle.vcd_edit.specs.declared.edit.Edit.{Edit}
@@ -19,22 +19,6 @@ use Rattle.vcd_edit.specs.declared.fault.EditError.TheVariants.{BadRange, BadCou
 use Rattle.vcd_edit.specs.declared.fault.EditError.TheVariants.{BadValue, BadWord, NameTaken}
 use Rattle.vcd_edit.specs.declared.fault.EditError.TheVariants.{TooManySignals}
 use Rattle.vcd_edit.specs.Effect.{renamed_signal, derived_signal}
-
--- ---- tests
-
--- a test, with the fault of an edit that fails it
-abbrev pub Test : Type 0
-Test = EditError × Bool
-
--- an edit has this fault, unless the test holds
-infix 5 ◌unless◌
-abbrev pub ◌unless◌ : EditError → Bool → Test
-fault unless holds = (fault, holds)
-
--- the fault of the first test that fails
-abbrev pub first_fault : List Test → Option EditError
-first_fault [] = None
-first_fault (test ∷ tests) = if test.1 then first_fault tests else Some test.0
 
 -- ---- what is tested
 
@@ -59,19 +43,21 @@ operands (Xor a b) = a ∷ b ∷ []
 operands (BitOf a k) = a ∷ []
 
 -- the test of their widths: an operator's have one bit each, a chosen bit is below the width
-abbrev pub width_test : Rule → Contents → Test
+abbrev pub width_test : Rule → Contents → Test EditError
 width_test (BitOf a k) c = BadBit unless nat_lt k (signal_at c a).width
 width_test rule c = NotScalar unless list_all (is_scalar c) (operands rule)
 
 -- the tests of a rule
-abbrev pub rule_tests : Rule → Contents → List Test
+abbrev pub rule_tests : Rule → Contents → List (Test EditError)
 rule_tests rule c =
     (NoSuchSignal unless list_all (is_signal c) (operands rule)) ∷ width_test rule c ∷ []
 
 -- ---- the tests of an edit
 
--- the tests of an edit, in the order of the faults; the end itself may be forced, but not cut out
-abbrev pub edit_tests : Edit → Contents → List Test
+-- the tests of an edit, in the order of the faults; the end itself may be forced, but not cut out.
+-- An edit of a script has a signal and a value of its width, so NoSuchSignal and BadValue are for
+-- other callers
+abbrev pub edit_tests : Edit → Contents → List (Test EditError)
 edit_tests (Rename k word) c =
     (NoSuchSignal unless is_signal c k)
     ∷ (BadWord unless is_word word.now)

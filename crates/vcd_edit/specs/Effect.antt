@@ -45,11 +45,11 @@ value_at_any_tick end s (pos u) = if nat_lt end u then signal_value s end else s
 abbrev pub shift_value : ℕ → ℤ → SignalContents → ℕ → List Bit
 shift_value end by s t = value_at_any_tick end s (pos t -ℤ by)
 
--- the value after the ticks `from` up to before `to` are cut out
+-- the value at a tick where those from `from` to before `to` are cut out: later ones come earlier
 abbrev pub cut_value : ℕ → ℕ → SignalContents → ℕ → List Bit
 cut_value from to s t = if nat_lt t from then signal_value s t else signal_value s (t + (to - from))
 
--- the value after one value is forced at the ticks `from` up to before `to`
+-- the value at a tick where one is forced at the ticks from `from` to before `to`
 abbrev pub force_value : ℕ → ℕ → List Bit → SignalContents → ℕ → List Bit
 force_value from to value s t = if nat_le from t && nat_lt t to then value else signal_value s t
 
@@ -117,15 +117,15 @@ derived_signal word rule c = record {
 
 -- ---- all edits
 
--- a signal after a range of ticks is cut out, up to an end
+-- a signal after a range of ticks is cut out, up to the end that is left
 abbrev pub signal_after_cut : ℕ → ℕ → ℕ → SignalContents → SignalContents
-signal_after_cut end from to s = with_values end (cut_value from to s) s
+signal_after_cut new_end from to s = with_values new_end (cut_value from to s) s
 
 -- the capture after a range of ticks is cut out of every signal
 abbrev pub cut_contents : ℕ → ℕ → Contents → Contents
 cut_contents from to c =
-    let end = c.end - (to - from) in
-    record c { end = end; signals = map (signal_after_cut end from to) c.signals }
+    let new_end = c.end - (to - from) in
+    record c { end = new_end; signals = map (signal_after_cut new_end from to) c.signals }
 
 -- the capture after an edit
 unfoldable pub effect : Edit → Contents → Contents

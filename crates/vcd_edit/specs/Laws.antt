@@ -1,20 +1,17 @@
 -- The laws of edits: each is the contract of a function of `laws`.
 use Rattle.std.specs.Prelude.{ℕ, suc, ◌+◌, ◌-◌, ◌≡◌, ◌≢◌, ◌<◌, ◌≤◌, None, List}
 use Rattle.vcd_core.specs.declared.bit.Bit.{Bit}
-use Rattle.vcd_core.specs.Contents.{Contents, signal_at, signal_value}
+use Rattle.vcd_core.specs.Contents.{Contents}
 use Rattle.vcd_core.specs.Sound.{IsSound}
 use Rattle.vcd_edit.specs.declared.edit.Edit.{Edit}
 use Rattle.vcd_edit.specs.declared.edit.Edit.TheVariants.{Deglitch}
 use Rattle.vcd_edit.specs.Effect.{effect}
 use Rattle.vcd_edit.specs.EditFaults.{edit_fault}
+use Rattle.vcd_edit.specs.EffectLaws.{value_of}
 
 -- an edit with no fault keeps a sound capture sound
 abbrev pub EffectIsSound : Type 0
 EffectIsSound = (e : Edit) (c : Contents) → IsSound c → edit_fault e c ≡ None → IsSound (effect e c)
-
--- the values of the signal at a position
-abbrev pub values_at : Contents → ℕ → ℕ → List Bit
-values_at c k = signal_value (signal_at c k)
 
 -- ---- deglitch
 
@@ -36,22 +33,22 @@ abbrev pub DeglitchLeavesNoShortRun : Type 0
 DeglitchLeavesNoShortRun =
     (k ticks : ℕ) (c : Contents) → IsSound c → edit_fault (Deglitch k ticks) c ≡ None
     → HasNoShortRun ticks (effect (Deglitch k ticks) c).end
-    (values_at (effect (Deglitch k ticks) c) k)
+    (value_of (effect (Deglitch k ticks) c) k)
 
 -- a run that is long enough keeps its value
 abbrev pub DeglitchKeepsLongRuns : Type 0
 DeglitchKeepsLongRuns =
     (k ticks : ℕ) (c : Contents) → IsSound c → edit_fault (Deglitch k ticks) c ≡ None
     → (first last t : ℕ)
-    → last < c.end → IsRunOfOneValue (values_at c k) first last → ticks ≤ last - first + 1
+    → last < c.end → IsRunOfOneValue (value_of c k) first last → ticks ≤ last - first + 1
     → first ≤ t → t ≤ last
-    → values_at (effect (Deglitch k ticks) c) k t ≡ values_at c k t
+    → value_of (effect (Deglitch k ticks) c) k t ≡ value_of c k t
 
 -- a capture whose signal has no short run is unchanged
 abbrev pub DeglitchWithoutShortRuns : Type 0
 DeglitchWithoutShortRuns =
     (k ticks : ℕ) (c : Contents) → IsSound c → edit_fault (Deglitch k ticks) c ≡ None
-    → HasNoShortRun ticks c.end (values_at c k) → effect (Deglitch k ticks) c ≡ c
+    → HasNoShortRun ticks c.end (value_of c k) → effect (Deglitch k ticks) c ≡ c
 
 -- twice is once
 abbrev pub DeglitchTwice : Type 0

@@ -2,7 +2,8 @@
 
 ghost use Rattle.std.specs.Prelude.{◌∷◌, []};
 ghost use Rattle.vcd_core.specs.CaptureContents.{contents};
-ghost use Rattle.vcd_edit.specs.EditFaults.{◌unless◌, is_signal, first_fault, edit_fault};
+ghost use Rattle.vcd_core.specs.Tests.{◌unless◌, first_fault};
+ghost use Rattle.vcd_edit.specs.EditFaults.{is_signal, edit_fault};
 ghost use Rattle.vcd_edit.specs.EditAnswers.{FaultIs};
 ghost use Rattle.vcd_edit.specs.declared.edit.Edit.TheVariants as edits;
 ghost use Rattle.vcd_edit.specs.declared.fault.EditError.TheVariants as errors;

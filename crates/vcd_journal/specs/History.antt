@@ -9,7 +9,7 @@ use Rattle.vcd_journal.specs.declared.step.TheConstants.{DEPTH_LIMIT}
 use Rattle.vcd_journal.specs.declared.step.Step.{Step}
 use Rattle.vcd_journal.specs.declared.step.Step.TheVariants as steps
 
--- the edits in force and those undone; how many can be undone, and how many be held
+-- the edits in force and those undone; how many of the first can be undone, and the depth
 pub record History : Type 0 where
   -- in force, the last one made first
   pub edits : List Edit
@@ -17,7 +17,7 @@ pub record History : Type 0 where
   pub undone : List Edit
   -- how many of those in force can be undone
   pub undoable : ℕ
-  -- how many can be undone or made again, at most
+  -- how many edits can be undone and made again at most, together
   pub depth : ℕ
 
 -- no edit was made

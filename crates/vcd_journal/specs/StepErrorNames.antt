@@ -6,7 +6,7 @@ use Rattle.vcd_journal.specs.declared.step.StepError.TheVariants.{Edit, NothingT
 use Rattle.vcd_journal.specs.declared.step.StepError.TheVariants.{NothingToRedo, BadDepth}
 use Rattle.vcd_journal.specs.declared.step.StepError.TheVariants.{DepthTooSmall, NoMemory}
 
--- the name that is printed for a refused step; a refused edit has the name of its fault
+-- the name that is printed for a refused step; NoMemory is no reply, as a run ends there
 abbrev pub step_error_name : StepError → List ℕ
 step_error_name (Edit fault) = edit_error_name fault
 step_error_name NothingToUndo = codes "NothingToUndo"

@@ -25,8 +25,8 @@ use Rattle.vcd_text.specs.Grammar.{ParseState}
 use Rattle.vcd_text.specs.Faults.{FileFault, ShowsFault, shown, none_shown}
 use Rattle.vcd_text.specs.FoundFaults.{FoundFault}
 use Rattle.vcd_text.specs.FoundFaults.{FrontFault}
-use Rattle.vcd_text.specs.Faults.{ChangeFault}
-use Rattle.vcd_text.specs.Refusals.{IsRefusal, has_fault, too_large, no_memory, IsFrontAnswer}
+use Rattle.vcd_text.specs.Faults.{ChangeFault, IsFrontAnswer}
+use Rattle.vcd_text.specs.Refusals.{IsRefusal, has_fault, too_large, no_memory}
 use Rattle.vcd_text.specs.MemoryErrors.{memory_error}
 use Rattle.vcd_text.specs.inside.Spaces.{has_complete_words}
 use Rattle.vcd_text.specs.inside.Reading.{HasTakenWords}

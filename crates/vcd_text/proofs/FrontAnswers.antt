@@ -7,7 +7,8 @@ use Rattle.std.specs.Io.KnownBytes.{Consumes}
 use Rattle.vcd_text.specs.declared.reading.TheConstants.{FILE_LIMIT}
 use Rattle.vcd_text.specs.declared.fault.Fault.TheVariants as faults
 use Rattle.vcd_text.specs.declared.fault.ReadError.{ReadError}
-use Rattle.vcd_text.specs.Refusals.{IsRefusal, IsFrontAnswer, too_large, reader_failed, no_memory}
+use Rattle.vcd_text.specs.Faults.{IsFrontAnswer}
+use Rattle.vcd_text.specs.Refusals.{IsRefusal, too_large, reader_failed, no_memory}
 use Rattle.vcd_text.specs.MemoryErrors.{memory_error}
 
 -- the file has more bytes than the limit

@@ -9,7 +9,8 @@ use Rattle.vcd_text.specs.declared.fault.ReadError.{ReadError}
 use Rattle.vcd_text.specs.declared.reading.TheConstants.{FILE_LIMIT}
 use Rattle.vcd_text.specs.Words.{PlacedWord}
 use Rattle.vcd_text.specs.Faults.{FileFault, FaultOf, shown, none_shown}
-use Rattle.vcd_text.specs.Refusals.{IsFrontAnswer, IsRefusal, IsOnlyRefusal}
+use Rattle.vcd_text.specs.Refusals.{IsRefusal, IsOnlyRefusal}
+use Rattle.vcd_text.specs.Faults.{IsFrontAnswer}
 use Rattle.vcd_text.specs.Refusals.{has_fault, too_large, reader_failed, no_memory}
 use Rattle.vcd_text.proofs.OneAnswer.{one_fault}
 use Rattle.vcd_text.proofs.FileFaults.{one_file_fault}

@@ -1,5 +1,5 @@
--- The one fault of a file that is not accepted: after the whole items at its front, the fault that
--- the earliest word shows. The project's own.
+-- The one fault of a file that is not accepted: what is wrong with the word after its whole items
+-- and an unfinished one. The project's own. No second word can show a fault (law `has_one_answer`).
 use Rattle.std.specs.Prelude.{◌≡◌, ℕ, ◌<◌, Bool, true, false, List, ◌∷◌, ◌++◌, length, Some, None}
 use Rattle.std.specs.Prelude.{IsTrue, IsFalse}
 use Rattle.std.specs.Prelude.{codes, []}
@@ -10,8 +10,9 @@ use Rattle.vcd_text.specs.declared.fault.Fault.TheVariants.{UpscopeAtTop, BadVar
 use Rattle.vcd_text.specs.declared.fault.Fault.TheVariants.{BadTime, TimeBackwards}
 use Rattle.vcd_text.specs.declared.fault.Fault.TheVariants.{BadChange, UnknownCode, ValueTooLong}
 use Rattle.vcd_text.specs.declared.fault.Fault.TheVariants.{TooManySignals}
+use Rattle.vcd_text.specs.declared.fault.ReadError.{ReadError}
 use Rattle.vcd_core.specs.Contents.{Contents}
-use Rattle.vcd_text.specs.Words.{PlacedWord, words_of, last_line}
+use Rattle.vcd_text.specs.Words.{PlacedWord, words_of, complete_words, last_line}
 use Rattle.vcd_text.specs.Meaning.{FileMeans}
 use Rattle.vcd_core.specs.Decimal.{is_number, number_of}
 use Rattle.vcd_core.specs.Word.{is_one_of}
@@ -26,7 +27,7 @@ use Rattle.vcd_text.specs.Grammar.{variable_of, may_have_code, has_room, is_tick
 use Rattle.vcd_text.specs.Grammar.{initial_state}
 use Rattle.vcd_text.specs.Grammar.{word_texts, AllowsAll, state_after}
 
--- ---- the rows: the words `begun` of an incomplete item show no fault, and the word after them shows this one
+-- ---- the faults that a word shows, where the words `begun` of an unfinished item are before it
 
 -- among the declarations
 pub data DeclarationFault (c : ParseState) (begun : List (List ℕ)) (word : List ℕ) (fault : Fault)
@@ -148,14 +149,20 @@ pub record ShowsFault (words : List PlacedWord) (line : ℕ) (fault : Fault) : T
   pub decided : WordFault (state_after initial_state items) (word_texts begun) word.text fault
   pub at : line ≡ fault_line (state_after initial_state items).in_body begun word
 
--- the fault of a file with these words: the one that a word shows; or, if none shows one, this one
--- at the last line
+-- the fault of a file with these words: the one that a word shows; if none shows one, `otherwise`
+-- at the last line (where the file only ends too early: law `has_an_answer`)
 pub data FaultOf (words : List PlacedWord) (last : ℕ) (otherwise : Fault) (line : ℕ) (fault : Fault)
     : Type 0 where
   shown : ShowsFault words line fault → FaultOf words last otherwise line fault
   none_shown : ((at : ℕ) (other : Fault) → ShowsFault words at other → ⊥) → line ≡ last
       → fault ≡ otherwise
       → FaultOf words last otherwise line fault
+
+-- only this front of a file was read, for this reason: the fault of its complete words, or the
+-- reason at its last line
+abbrev pub IsFrontAnswer : (front : List ℕ) → (reason : Fault) → ReadError → Type 0
+IsFrontAnswer front reason e =
+    FaultOf (complete_words front) (last_line front) reason e.line e.fault
 
 -- the file has no meaning, and this fault, at this line
 abbrev pub FileFault : List ℕ → ℕ → Fault → Type 0

@@ -1,18 +1,10 @@
--- The faults of reading a file, for all bytes of the file: the project's own.
+-- The faults of reading a file from a source, for all bytes of the file: the project's own.
 use Rattle.std.specs.Prelude.{◌≡◌, ◌⊎◌, ℕ, ◌<◌, ◌≤◌, List, ◌++◌, take, length, Option, Some}
 use Rattle.std.specs.Prelude.{IsTrue, IsFalse, Bool}
 use Rattle.vcd_text.specs.declared.reading.TheConstants.{FILE_LIMIT}
-use Rattle.vcd_text.specs.declared.fault.Fault.{Fault}
 use Rattle.vcd_text.specs.declared.fault.Fault.TheVariants as faults
 use Rattle.vcd_text.specs.declared.fault.ReadError.{ReadError}
-use Rattle.vcd_text.specs.Words.{complete_words, last_line}
-use Rattle.vcd_text.specs.Faults.{FileFault, FaultOf}
-
--- only this front of a file was read, for this reason: the fault of its complete words, or the
--- reason at its last line
-abbrev pub IsFrontAnswer : (front : List ℕ) → (reason : Fault) → ReadError → Type 0
-IsFrontAnswer front reason e =
-    FaultOf (complete_words front) (last_line front) reason e.line e.fault
+use Rattle.vcd_text.specs.Faults.{FileFault, IsFrontAnswer}
 
 -- the fault of reading a file, from a reader that has failed or not, with these bytes left if it
 -- shows them

@@ -87,7 +87,8 @@ refusal_of_run file script depth capture lines replies output made (run_errors.C
     refused_file file script depth capture.has_failed capture.after e made ready
     (none_taken made.items replies was_empty made_is ends.4.0.0) (rw is_file at ends.0).0 _ refl
 refusal_of_run file script depth capture lines replies output made run_errors.ScriptTooLarge is_file ready is_script
-    lines_ready was_empty made_is ends = (rw is_file at ends.0.1, rw is_script at ends.1)
+    lines_ready was_empty made_is ends =
+    (rw is_file at ends.0.0.2, rw is_file at ends.0.1, rw is_script at ends.1)
 refusal_of_run file script depth capture lines replies output made run_errors.ScriptReadFault is_file ready is_script
     lines_ready was_empty made_is ends = let no : false ≡ true = sym lines_ready ∙ ends.1 in absurd (cc)
 refusal_of_run file script depth capture lines replies output made (run_errors.NoMemory zero) is_file ready is_script

@@ -3,9 +3,8 @@ use Rattle.std.specs.Prelude.{ℕ, zero, suc, ◌+◌, ◌/◌, ◌%◌, false, 
 use Rattle.std.specs.Prelude.{codes}
 use Rattle.std.specs.Fmt.{decimal, digit_glyph}
 use Rattle.std.specs.Option.{option_map}
-use Rattle.vcd_core.specs.declared.bit.Bit.{Bit}
-use Rattle.vcd_core.specs.Contents.{Contents, signal_at, signal_value}
-use Rattle.vcd_core.specs.Value.{letter_at}
+use Rattle.vcd_core.specs.Contents.{Contents}
+use Rattle.vcd_edit.specs.Effect.{signal_bit}
 use Rattle.vcd_decode.specs.declared.annotation.Annotation.{Annotation}
 use Rattle.vcd_decode.specs.declared.annotation.Direction.{Direction}
 use Rattle.vcd_decode.specs.declared.annotation.Direction.TheVariants.{Write, Read}
@@ -82,22 +81,18 @@ annotation_line decoder digits a =
 
 -- the reply on a capture
 module _ (c : Contents) where
-  -- the letter of a signal of one bit at each tick
-  abbrev pub letters_at : ℕ → ℕ → Bit
-  letters_at k t = letter_at (signal_value (signal_at c k) t) 0
-
   -- the lines of the frames on a UART line
   abbrev pub uart_lines : ℕ → UartSetup → List (List ℕ)
   uart_lines k u = map (annotation_line (codes "uart") (nibbles u.data_bits))
-      (uart_annotations (letters_at k) c.end u)
+      (uart_annotations (signal_bit c k 0) c.end u)
 
   -- the lines of the words on a serial peripheral interface
   abbrev pub spi_lines : (clk : ℕ) → (mosi miso cs : Option ℕ) → SpiSetup → List (List ℕ)
   spi_lines clk mosi miso cs u = map (annotation_line (codes "spi") (nibbles u.bits))
-      (spi_annotations u (letters_at clk) (option_map letters_at mosi)
-      (option_map letters_at miso) (option_map letters_at cs) c.end)
+      (spi_annotations u (signal_bit c clk 0) (option_map (λ k. signal_bit c k 0) mosi)
+      (option_map (λ k. signal_bit c k 0) miso) (option_map (λ k. signal_bit c k 0) cs) c.end)
 
   -- the lines of the events on an I2C bus
   abbrev pub i2c_lines : (scl sda : ℕ) → List (List ℕ)
   i2c_lines scl sda = map (annotation_line (codes "i2c") 2)
-      (i2c_annotations (letters_at scl) (letters_at sda) c.end)
+      (i2c_annotations (signal_bit c scl 0) (signal_bit c sda 0) c.end)

@@ -1,19 +1,18 @@
--- The value or fault that `parse_line` finds in a word of a line that decodes signals: the
--- project's own.
+-- What a word of a line that decodes signals says, or the fault of the line: the project's own.
 use Rattle.std.specs.Prelude.{ℕ, ◌+◌, ◌==◌, if◌then◌else◌, List, take, drop, Option, Some, None}
 use Rattle.std.specs.Prelude.{Result, Ok, Err, codes}
 use Rattle.std.specs.List.{position}
 use Rattle.std.specs.Str.{bytes_eq}
-use Rattle.vcd_core.specs.Contents.{Contents, signal_at}
+use Rattle.vcd_core.specs.Contents.{Contents}
 use Rattle.vcd_decode.specs.declared.setup_error.SetupError.{SetupError}
 use Rattle.vcd_decode.specs.declared.spi_setup.BitOrder.{BitOrder}
 use Rattle.vcd_decode.specs.declared.spi_setup.BitOrder.TheVariants.{Msb, Lsb}
 use Rattle.vcd_decode.specs.declared.uart_setup.Parity.{Parity}
 use Rattle.vcd_decode.specs.declared.uart_setup.Parity.TheVariants as parities
 use Rattle.vcd_decode.specs.UartSetup.{UartSetup}
-use Rattle.vcd_decode.specs.SetupFaults.{uart_fault}
 use Rattle.vcd_decode.specs.SpiSetup.{SpiSetup}
-use Rattle.vcd_decode.specs.SetupFaults.{spi_fault}
+use Rattle.vcd_decode.specs.SetupFaults.{uart_fault, spi_fault}
+use Rattle.vcd_edit.specs.EditFaults.{is_scalar}
 use Rattle.vcdedit.specs.declared.script.line_error.LineError.{LineError}
 use Rattle.vcdedit.specs.declared.script.line_error.LineError.TheVariants.{BadOption, NotScalar}
 use Rattle.vcdedit.specs.declared.script.line_error.LineError.TheVariants.{Setup}
@@ -67,7 +66,7 @@ signal_or_absent c word =
 
 -- a decoder's signal, which must have one bit
 abbrev pub one_bit_signal : Contents → ℕ → Result ℕ LineError
-one_bit_signal c k = if (signal_at c k).width == 1 then Ok k else Err NotScalar
+one_bit_signal c k = if is_scalar c k then Ok k else Err NotScalar
 
 -- the same for a line that may be absent
 abbrev pub one_bit_signal_or_absent : Contents → Option ℕ → Result (Option ℕ) LineError

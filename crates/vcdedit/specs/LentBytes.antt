@@ -1,4 +1,5 @@
--- Words of edits are borrowed bytes. Their address has no meaning.
+-- The words of an edit are borrowed bytes, as `Edit` is a type of the code. Their address has no
+-- meaning.
 use Rattle.std.specs.Prelude.{ℕ, List}
 use Rattle.std.specs.Borrow.{Bor}
 

@@ -22,7 +22,7 @@ signal_line position s =
     codes "@" ++ decimal position ++ codes " " ++ decimal s.width
     ++ codes " " ++ s.kind ++ codes " " ++ full_name s
 
--- the lines of `list`; edits do not change how many declarations of the file were skipped
+-- the lines of `list`; edits do not change how many variables of the file were skipped
 abbrev pub listing : Contents → (skipped : ℕ) → List (List ℕ)
 listing c skipped = timescale_line c.timescale ∷ (codes "end " ++ decimal c.end)
     ∷ (codes "signals " ++ decimal (length c.signals)) ∷ (codes "skipped " ++ decimal skipped)

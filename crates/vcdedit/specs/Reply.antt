@@ -14,7 +14,6 @@ use Rattle.vcd_journal.specs.declared.step.StepError.TheVariants as refusals
 use Rattle.vcdedit.specs.declared.script.command.Command.{Command}
 use Rattle.vcdedit.specs.declared.script.command.Command.TheVariants as commands
 use Rattle.vcdedit.specs.declared.script.line_error.LineError.{LineError}
-use Rattle.vcd_edit.specs.EditErrorNames.{edit_error_name}
 use Rattle.vcd_journal.specs.StepErrorNames.{step_error_name}
 use Rattle.vcd_journal.specs.History.{is_depth}
 use Rattle.vcdedit.specs.LineErrorNames.{line_error_name}
@@ -31,30 +30,27 @@ LineReply = Result (List (List ℕ)) (List ℕ)
 abbrev pub ok_reply : LineReply
 ok_reply = Ok (codes "ok" ∷ [])
 
--- an edit with this fault, or with none
+-- the reply to an edit that has this fault, or none
 abbrev pub edit_reply : Option EditError → LineReply
 edit_reply None = ok_reply
-edit_reply (Some found) = Err (edit_error_name found)
+edit_reply (Some found) = Err (step_error_name (refusals.Edit found))
 
--- an undo or a redo, for which so many captures are held; it is refused where there are none
+-- the reply to an undo or a redo, where so many edits can be undone or redone: with none a refusal
 abbrev pub history_reply : ℕ → StepError → LineReply
 history_reply zero refusal = Err (step_error_name refusal)
-history_reply (suc held) refusal = ok_reply
+history_reply (suc others) refusal = ok_reply
 
--- another depth of the history, where so many edits can be redone
-abbrev pub depth_reply : (depth redoable : ℕ) → LineReply
-depth_reply depth redoable = if not (is_depth depth) then Err (step_error_name refusals.BadDepth)
-    else (if nat_lt depth redoable then Err (step_error_name refusals.DepthTooSmall)
-    else ok_reply)
-
--- a step on a capture, where so many edits can be undone and so many redone
+-- the reply to a step on a capture, where so many edits can be undone and so many redone
 abbrev pub step_reply : Step → Contents → (undoable redoable : ℕ) → LineReply
 step_reply (steps.Edit e) c undoable redoable = edit_reply (edit_fault e c)
 step_reply steps.Undo c undoable redoable = history_reply undoable refusals.NothingToUndo
 step_reply steps.Redo c undoable redoable = history_reply redoable refusals.NothingToRedo
-step_reply (steps.Depth depth) c undoable redoable = depth_reply depth redoable
+step_reply (steps.Depth depth) c undoable redoable =
+    if not (is_depth depth) then Err (step_error_name refusals.BadDepth)
+    else (if nat_lt depth redoable then Err (step_error_name refusals.DepthTooSmall)
+    else ok_reply)
 
--- a line that asks for this, or is no command
+-- the reply to a line, by what it asks for, or why it is no command
 abbrev pub command_reply : Result Command LineError → Contents → (skipped undoable redoable : ℕ)
     → LineReply
 command_reply (Err found) c skipped undoable redoable = Err (line_error_name found)
@@ -71,7 +67,7 @@ command_reply (Ok (commands.Spi clk mosi miso cs setup)) c skipped undoable redo
     Ok (spi_lines c clk mosi miso cs setup)
 command_reply (Ok (commands.I2c scl sda)) c skipped undoable redoable = Ok (i2c_lines c scl sda)
 
--- what is said to a line on a capture, of whose file so many declarations were skipped
+-- the reply to a line on a capture; `skipped` variables of its file were skipped
 unfoldable pub line_reply : List ℕ → Contents → (skipped undoable redoable : ℕ) → LineReply
 line_reply line c skipped undoable redoable =
     command_reply (command_of_line c line) c skipped undoable redoable

@@ -29,7 +29,7 @@ abbrev pub history_after_command : History → Result Command LineError → Hist
 history_after_command h (Ok (commands.Step s)) = history_after h s
 history_after_command h parsed = h
 
--- lines on a capture, so many variables of whose file were skipped
+-- lines on a capture, of whose file this number of variables were skipped
 module _ (c : Contents) (skipped : ℕ) where
   -- the reply to a line, which is read on the replay of the edits in force
   abbrev pub line_answer : History → List ℕ → LineReply
@@ -40,7 +40,7 @@ module _ (c : Contents) (skipped : ℕ) where
   history_after_line h line = if is_err (line_answer h line) then h
       else history_after_command h (command_of_line (replay c h.edits) line)
 
--- the same lines, with a history of at most `depth`
+-- these lines, from an empty history on, whose depth is `depth` until a line changes it
 module _ (c : Contents) (skipped depth : ℕ) (lines : List (List ℕ)) where
   -- the history after the first `count` of them
   abbrev pub history_at : ℕ → History

@@ -4,9 +4,8 @@ use Rattle.std.specs.Prelude.{◌≡◌, ◌<◌, ◌≤◌, ◌⊎◌, ℕ, zer
 use Rattle.std.specs.Prelude.{Err}
 use Rattle.std.specs.List.{concat}
 use Rattle.vcd_core.specs.Contents.{Contents}
-use Rattle.vcd_text.specs.Faults.{FileFault}
+use Rattle.vcd_text.specs.Faults.{FileFault, IsFrontAnswer}
 use Rattle.vcd_text.specs.Meaning.{FileMeans}
-use Rattle.vcd_text.specs.Refusals.{IsFrontAnswer}
 use Rattle.vcd_text.specs.declared.fault.Fault.TheVariants as faults
 use Rattle.vcd_text.specs.declared.fault.ReadError.{ReadError}
 use Rattle.vcd_text.specs.declared.reading.TheConstants.{FILE_LIMIT}
@@ -44,9 +43,10 @@ RunGives file script depth (Ok texts) = (written : RunOutcome)
 RunGives file script depth (Err (Capture e)) = IsRefusedFile file e
     × ((other : ReadError) → IsRefusedFile file other → other ≡ e)
 -- the script is above its limit
-RunGives file script depth (Err ScriptTooLarge) = HasMeaning file × (SCRIPT_LIMIT < length script)
--- memory ran out, and not at a line: the replies made before are the first bytes of those that the
--- run writes
+RunGives file script depth (Err ScriptTooLarge) =
+    (length file ≤ FILE_LIMIT) × HasMeaning file × (SCRIPT_LIMIT < length script)
+-- memory ran out before the first line, for what the replies or the output are written to: the
+-- replies are the first bytes of those that the run writes, or none
 RunGives file script depth (Err (NoMemory zero replies)) = (replies.items ≡ [])
     ⊎ ((written : RunOutcome) × IsRunWithin file script depth written
     × (count : ℕ) × (replies.items ≡ take count (concat written.replies)))

@@ -1,5 +1,4 @@
--- What a line asks for, by cases on its words: the project's own. The headline and the contracts of
--- `parse_line` and of each parser cite it.
+-- What a line asks for, by cases on its words: the project's own.
 use Rattle.std.specs.Prelude.{ℕ, Bool, false, ◌==◌, if◌then◌else◌, List, [], ◌∷◌, Option, find}
 use Rattle.std.specs.Prelude.{option_map, Result, Ok}
 use Rattle.std.specs.Prelude.{Err, codes}
@@ -153,25 +152,25 @@ command_of c keywords.Uart words = five_words words (λ name bit count parity st
   setup ← faultless_uart (uart_setup ratio.0 ratio.1 data_bits parity_bit stop_bits)
   Ok (commands.Uart line setup))
 command_of c keywords.Spi words = seven_words words (λ clk mosi miso cs mode bits order. do
-  k ← signal_of_name c clk
-  out ← signal_or_absent c mosi
-  input ← signal_or_absent c miso
-  select ← signal_or_absent c cs
+  clk_named ← signal_of_name c clk
+  mosi_named ← signal_or_absent c mosi
+  miso_named ← signal_or_absent c miso
+  cs_named ← signal_or_absent c cs
   number ← number_of_word mode
   word_bits ← number_of_word bits
   bit_order ← order_of_word order
-  clock ← one_bit_signal c k
-  out_line ← one_bit_signal_or_absent c out
-  in_line ← one_bit_signal_or_absent c input
-  select_line ← one_bit_signal_or_absent c select
+  clk_line ← one_bit_signal c clk_named
+  mosi_line ← one_bit_signal_or_absent c mosi_named
+  miso_line ← one_bit_signal_or_absent c miso_named
+  cs_line ← one_bit_signal_or_absent c cs_named
   setup ← faultless_spi (spi_setup number word_bits bit_order)
-  Ok (commands.Spi clock out_line in_line select_line setup))
+  Ok (commands.Spi clk_line mosi_line miso_line cs_line setup))
 command_of c keywords.I2c words = two_words words (λ scl sda. do
-  j ← signal_of_name c scl
-  k ← signal_of_name c sda
-  clock ← one_bit_signal c j
-  line ← one_bit_signal c k
-  Ok (commands.I2c clock line))
+  scl_named ← signal_of_name c scl
+  sda_named ← signal_of_name c sda
+  scl_line ← one_bit_signal c scl_named
+  sda_line ← one_bit_signal c sda_named
+  Ok (commands.I2c scl_line sda_line))
 
 -- what the words of a line ask for on a capture, or why they are no command
 abbrev pub command_of_words : Contents → List (List ℕ) → Result Command LineError

@@ -1,4 +1,4 @@
--- The value or fault that `parse_line` finds in a word of a line: the project's own.
+-- What a word of a line says, or the fault of the line: the project's own.
 use Rattle.std.specs.Prelude.{ℕ, ◌^◌, ◌==◌, ◌&&◌, nat_lt, nat_le, if◌then◌else◌, ℤ, pos, neg_ℤ}
 use Rattle.std.specs.Prelude.{List, [], ◌∷◌, Result}
 use Rattle.std.specs.Prelude.{Ok, Err}

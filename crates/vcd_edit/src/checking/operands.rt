@@ -1,7 +1,8 @@
 //! The faults of the operands of a rule.
 
 ghost use Rattle.vcd_core.specs.CaptureContents.{contents};
-ghost use Rattle.vcd_edit.specs.EditFaults.{rule_tests, first_fault};
+ghost use Rattle.vcd_core.specs.Tests.{first_fault};
+ghost use Rattle.vcd_edit.specs.EditFaults.{rule_tests};
 ghost use Rattle.vcd_edit.specs.EditAnswers.{FaultIs};
 ghost use Rattle.vcd_edit.specs.declared.edit.Rule.TheVariants as rules;
 

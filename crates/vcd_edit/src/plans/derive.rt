@@ -45,7 +45,7 @@ pub(crate) fn plan(
 fn new_signal(alloc: Global, capture: &Capture, word: &[u8], rule: Rule) -> Result<Signal, NoMemory>
     requires sound { IsSound (contents capture.now) }
     requires operands_exist { IsTrue (list_all (is_signal (contents capture.now)) (operands rule)) }
-    requires operand_widths { IsTrue (width_test rule (contents capture.now)).1 }
+    requires operand_widths { IsTrue (width_test rule (contents capture.now)).holds }
     ensures { IfOk result (λ s. signal_contents s
         ≡ derived_signal word.now rule (contents capture.now)) }
 {

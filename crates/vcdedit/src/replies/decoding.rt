@@ -8,6 +8,7 @@ ghost use Rattle.vcd_core.specs.CaptureContents.{contents};
 ghost use Rattle.vcd_core.specs.Sound.{IsSound};
 ghost use Rattle.vcd_core.specs.Wave.{AllUpTo};
 ghost use Rattle.vcd_decode.specs.WaveLines.{line_of};
+ghost use Rattle.vcd_edit.specs.Effect.{signal_bit};
 ghost use Rattle.vcdedit.specs.DecoderReply as spec;
 ghost use Rattle.vcdedit.specs.CommandSignals.{IsScalarAt};
 ghost use Rattle.vcdedit.specs.inside.Replies.{with_line_feed};
@@ -93,7 +94,7 @@ fn scalar_wave(capture: &Capture, signal: usize) -> &Wave
     requires one_bit_signal { IsScalarAt (contents capture.now) signal }
     ensures one_bit { result.now.width ≡ 1 }
     ensures within { AllUpTo capture.now.end result.now.changes }
-    ensures letters { line_of result.now ≡ spec.letters_at (contents capture.now) signal }
+    ensures letters { line_of result.now ≡ signal_bit (contents capture.now) signal 0 }
 {
     &capture.signals()[signal].wave
 }
@@ -105,7 +106,7 @@ fn wave_or_absent(capture: &Capture, line: Option<usize>) -> Option<&Wave>
     ensures one_bit { IsOneBit (option_copied result) }
     ensures within { IfSome (option_copied result) (λ w. AllUpTo capture.now.end w.changes) }
     ensures letters { option_map line_of (option_copied result)
-        ≡ option_map (spec.letters_at (contents capture.now)) line }
+        ≡ option_map (λ k. signal_bit (contents capture.now) k 0) line }
 {
     match line {
         Some(signal) => Some(scalar_wave(capture, signal)),

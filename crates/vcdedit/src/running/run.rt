@@ -1,13 +1,10 @@
 //! The run: a capture and a script in, replies and a capture out.
 
-ghost use Rattle.std.specs.Prelude.{◌≡◌, ◌≤◌, ℕ, false, true, List, OnOk, IfOk, IfErr, IfSome};
+ghost use Rattle.std.specs.Prelude.{◌≡◌, ◌≤◌, false, true, OnOk, IfOk, IfErr, IfSome};
 ghost use Rattle.std.specs.Option.{ForSome};
 ghost use Rattle.std.specs.Io.KnownBytes.{Appends};
-ghost use Rattle.vcd_core.specs.Contents.{Contents};
 ghost use Rattle.vcd_core.specs.CaptureContents.{contents};
 ghost use Rattle.vcd_core.specs.Sound.{IsSound};
-ghost use Rattle.vcd_text.specs.Meaning.{FileMeans};
-ghost use Rattle.vcdedit.specs.Run.{RunLaws};
 ghost use Rattle.vcdedit.specs.RunEnds.{device_end, IsRead, IsAccepted, ForOutput, IsOutputFlushed};
 ghost use Rattle.vcdedit.specs.RunEnds.{IsFlushedAt, RunEnds};
 ghost use Rattle.vcd_journal.specs.Machine.{initial_machine};
@@ -43,7 +40,7 @@ pub fn run<R: Source, S: Source, P: Sink, W: Sink>(
     requires depth_least { 1 ≤ depth }
     requires depth_most { depth ≤ DEPTH_LIMIT }
 
-    ensures headline { ForOutput W.taken W.has_failed out.entry out.exit (λ output. RunEnds depth
+    ensures ends { ForOutput W.taken W.has_failed out.entry out.exit (λ output. RunEnds depth
         (device_end R.coming R.has_failed capture_reader.old capture_reader.new)
         (device_end S.coming S.has_failed script_reader.old script_reader.new)
         (device_end P.taken P.has_failed replies.old replies.new) output result) }
@@ -51,9 +48,6 @@ pub fn run<R: Source, S: Source, P: Sink, W: Sink>(
     ensures flushed_at { IfErr result (IsFlushedAt (P.has_failed replies.new)
         (P.is_flushed replies.new)) }
     ensures output_flushed { OnOk result (IsOutputFlushed W.is_flushed out.entry out.exit) }
-    // what follows from the equations of the headline, for any lines on what a file means
-    ensures laws { (file : List ℕ) (c : Contents) (skipped : ℕ) (lines : List (List ℕ)) →
-        FileMeans file c skipped → RunLaws c skipped depth lines }
 {
     let (session, refused) = run_script(alloc, capture_reader, script_reader, replies, depth)?;
     let summary = Summary { refused };

@@ -1,6 +1,9 @@
 //! The run over bytes in memory: what it gives is said of bytes alone.
 
-ghost use Rattle.std.specs.Prelude.{◌≡◌, ◌≤◌};
+ghost use Rattle.std.specs.Prelude.{◌≡◌, ◌≤◌, ℕ, List};
+ghost use Rattle.vcd_core.specs.Contents.{Contents};
+ghost use Rattle.vcd_text.specs.Meaning.{FileMeans};
+ghost use Rattle.vcdedit.specs.Run.{RunLaws};
 ghost use Rattle.vcdedit.specs.RunOnBytes.{RunGives};
 ghost use Rattle.vcdedit.specs.inside.RunRefusals.{run_refusal};
 ghost use Rattle.vcdedit.specs.declared.running.run_error.RunError.TheVariants as run_errors;
@@ -46,7 +49,10 @@ pub fn run_on_bytes(
 ) -> Result<RunTexts, RunRefusal>
     requires depth_least { 1 ≤ depth }
     requires depth_most { depth ≤ DEPTH_LIMIT }
-    ensures { RunGives capture.now script.now depth result }
+    ensures headline { RunGives capture.now script.now depth result }
+    // what follows from the equations of the headline, for any lines on what a file means
+    ensures laws { (file : List ℕ) (c : Contents) (skipped : ℕ) (lines : List (List ℕ)) →
+        FileMeans file c skipped → RunLaws c skipped depth lines }
 {
     let mut replies = ToBytes::new(alloc);
     let mut output = ToBytes::new(alloc);

@@ -1,12 +1,11 @@
 use Rattle.std.proofs.Common.{None, inl, inr, refl}
-use Rattle.vcdedit.proofs.RunLaws.{run_laws}
 use Rattle.vcdedit.proofs.RunParts.{run_reaches_end, run_reaches_end_with, run_stops_at_output}
 use Rattle.vcdedit.proofs.RunParts.{given_or_none}
 use Rattle.vcdedit.proofs.RunParts.{ends_with, ends_with_writer}
 use Rattle.vcdedit.proofs.running.run.run.Goals as goal
 
-pub returns-in_err-session-clause-headline : goal.returns-in_err-session-clause-headline
-returns-in_err-session-clause-headline g c =
+pub returns-in_err-session-clause-ends : goal.returns-in_err-session-clause-ends
+returns-in_err-session-clause-ends g c =
     elim (given_or_none c.args.out) [
       | inl none ↦ rw none (ends_with c.from_residual.result c.in_err-session.field-0.0 c.args.depth _ _ _ _
           c.from_residual.ensures.1 (c.in_err-session.ensures.ended _ tt))
@@ -14,22 +13,22 @@ returns-in_err-session-clause-headline g c =
           c.from_residual.ensures.1 c.in_err-session.ensures.ended (refl, c.requires.out_ready some.0 some.1))
     ]
 
-pub returns-in-Some-clause-headline : goal.returns-in-Some-clause-headline
-returns-in-Some-clause-headline g c =
+pub returns-in-Some-clause-ends : goal.returns-in-Some-clause-ends
+returns-in-Some-clause-ends g c =
     let wrote = rw (c.capture.ensures.now) at c.in_ok-write-in-Some.ensures.written in
     rw (c.in-Some.is) (run_reaches_end_with _ _ _ _ c.args.depth _ c.in_ok-session.session.now
     c.in_ok-session.ensures.accepted c.in_ok-session.ensures.script_read
     c.in_ok-session.ensures.not_failed c.in_ok-session.ensures.gives
     c.in_ok-write-in-Some.ensures.not_failed wrote)
 
-pub returns-clause-headline : goal.returns-clause-headline
-returns-clause-headline g c =
+pub returns-clause-ends : goal.returns-clause-ends
+returns-clause-ends g c =
     rw (c.in-None.is) (run_reaches_end _ _ _ None c.args.depth _ c.in_ok-session.session.now
     c.in_ok-session.ensures.accepted c.in_ok-session.ensures.script_read
     c.in_ok-session.ensures.not_failed c.in_ok-session.ensures.gives tt)
 
-pub returns-in_err-write-in-Some-clause-headline : goal.returns-in_err-write-in-Some-clause-headline
-returns-in_err-write-in-Some-clause-headline g c =
+pub returns-in_err-write-in-Some-clause-ends : goal.returns-in_err-write-in-Some-clause-ends
+returns-in_err-write-in-Some-clause-ends g c =
     let stopped = rw (c.capture.ensures.now) at c.in_err-write-in-Some.ensures.failed in
     rw (c.in-Some.is) (ends_with c.from_residual-in_err-write-in-Some.result _ c.args.depth _ _ _ _
     (c.from_residual-in_err-write-in-Some.ensures.1)
@@ -38,18 +37,6 @@ returns-in_err-write-in-Some-clause-headline g c =
     c.in_ok-session.ensures.accepted
     c.in_ok-session.ensures.script_read c.in_ok-session.ensures.not_failed c.in_ok-session.ensures.gives
     stopped))
-
-pub returns-in_err-session-clause-laws : goal.returns-in_err-session-clause-laws
-returns-in_err-session-clause-laws g c = run_laws c.args.depth
-
-pub returns-in-Some-clause-laws : goal.returns-in-Some-clause-laws
-returns-in-Some-clause-laws g c = run_laws c.args.depth
-
-pub returns-clause-laws : goal.returns-clause-laws
-returns-clause-laws g c = run_laws c.args.depth
-
-pub returns-in_err-write-in-Some-clause-laws : goal.returns-in_err-write-in-Some-clause-laws
-returns-in_err-write-in-Some-clause-laws g c = run_laws c.args.depth
 
 pub returns-in-Some-clause-output_flushed : goal.returns-in-Some-clause-output_flushed
 returns-in-Some-clause-output_flushed g c = rw (c.in-Some.is) (c.in_ok-write-in-Some.ensures.flushed)
