@@ -16,7 +16,7 @@ use vcd_journal::DEPTH_LIMIT;
 /// How many edits are held for undo and redo by default.
 pub const DEFAULT_DEPTH: u64 = 100;
 
-const VERSION: &str = "0.1.0";
+const VERSION: &str = "1.0.0";
 
 const ABOUT: &str =
     "Edits four-state waveform captures (VCD, IEEE 1364-2005, 18.2) by script, with undo and redo.\n\nThe capture is read whole, each line of the script is carried out and answered on standard output,\nand the edited capture is written. A file with a fault is refused, and nothing is written.";
