@@ -22,3 +22,4 @@ pub mod AskedDepths
 pub mod AskedOptions
 pub mod CasesOfCommandLine
 pub mod CutFiles
+pub mod OneResult

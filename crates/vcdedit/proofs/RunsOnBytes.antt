@@ -1,8 +1,7 @@
 -- A run over bytes in memory: what it gives follows from how the run ended.
 use Rattle.std.proofs.Common.{◌≡◌, Ok, Err, ℕ, zero, suc, List, [], Option, Some, Bool, false, true}
 use Rattle.std.proofs.Common.{sym, ◌∙◌}
-use Rattle.std.proofs.Common.{inl, inr, length, take, refl, arith}
-use Rattle.std.proofs.Math.Seq.{take-length}
+use Rattle.std.proofs.Common.{inl, inr, take, refl, arith}
 use Rattle.std.specs.List.{concat}
 use Rattle.std.specs.Global.{Vec}
 use Rattle.vcd_text.specs.Refusals as refusals
@@ -32,19 +31,19 @@ one_refused_file file e other (too_large long answer) (too_large also answer_too
 
 -- a refused file of which the source has not failed, by whether memory was refused
 refused_file : (file script : List ℕ) (depth : ℕ) (has_failed : Bool) (left : Option (List ℕ)) (e : ReadError)
-    (replies : Vec ℕ) → has_failed ≡ false → replies.items ≡ []
+    (made none : Vec ℕ) → has_failed ≡ false → none.items ≡ []
     → refusals.IsRefusal file has_failed left e
     → (out_of_memory : Bool) → is_no_memory e.fault ≡ out_of_memory
-    → RunGives file script depth (Err (run_refusal (run_errors.Capture e) replies))
-refused_file file script depth has_failed left e replies ready empty refused true is = rw is (inl empty)
-refused_file file script depth has_failed left e replies ready empty (refusals.has_fault whole short fault) false is =
+    → RunGives file script depth (Err (run_refusal (run_errors.Capture e) made none))
+refused_file file script depth has_failed left e made none ready empty refused true is = rw is (inl empty)
+refused_file file script depth has_failed left e made none ready empty (refusals.has_fault whole short fault) false is =
     rw is (has_fault short fault, λ other. one_refused_file file e other (has_fault short fault))
-refused_file file script depth has_failed left e replies ready empty (refusals.too_large whole long answer) false is =
+refused_file file script depth has_failed left e made none ready empty (refusals.too_large whole long answer) false is =
     rw is (too_large long answer, λ other. one_refused_file file e other (too_large long answer))
-refused_file file script depth has_failed left e replies ready empty
+refused_file file script depth has_failed left e made none ready empty
     (refusals.reader_failed front rest failed is_left is_front short answer) false is =
     let no : false ≡ true = sym ready ∙ failed in absurd (cc)
-refused_file file script depth has_failed left e replies ready empty (refusals.no_memory e_is) false is =
+refused_file file script depth has_failed left e made none ready empty (refusals.no_memory e_is) false is =
     let no : true ≡ false = rw e_is at is in absurd (cc)
 
 -- both sources were read to their ends within the limits
@@ -76,52 +75,39 @@ none_taken text replies was_empty text_is unchanged =
     let same : Some text ≡ Some [] = text_is ∙ unchanged ∙ was_empty in cc
 
 -- and one that ended before its end
-pub refusal_of_run : (file script : List ℕ) (depth : ℕ) (capture lines replies output : DeviceEnd) (made : Vec ℕ)
-    (e : RunError) →
-    capture.before ≡ Some file → capture.has_failed ≡ false → lines.before ≡ Some script → lines.has_failed ≡ false
+pub refusal_of_run : (file script : List ℕ) (depth : ℕ) (capture lines replies output : DeviceEnd) (made none : Vec ℕ)
+    (e : RunError) → none.items ≡ []
+    → capture.before ≡ Some file → capture.has_failed ≡ false → lines.before ≡ Some script → lines.has_failed ≡ false
     → replies.before ≡ Some [] → Some made.items ≡ replies.after
-    → RunEnds depth capture lines replies (Some output) (Err e) → RunGives file script depth (Err (run_refusal e made))
+    → RunEnds depth capture lines replies (Some output) (Err e)
+    → RunGives file script depth (Err (run_refusal e made none))
 unfolding RunEnds
-refusal_of_run file script depth capture lines replies output made (run_errors.Capture e) is_file ready is_script
-    lines_ready was_empty made_is ends =
-    refused_file file script depth capture.has_failed capture.after e made ready
-    (none_taken made.items replies was_empty made_is ends.4.0.0) (rw is_file at ends.0).0 _ refl
-refusal_of_run file script depth capture lines replies output made run_errors.ScriptTooLarge is_file ready is_script
-    lines_ready was_empty made_is ends =
-    (rw is_file at ends.0.0.2, rw is_file at ends.0.1, rw is_script at ends.1)
-refusal_of_run file script depth capture lines replies output made run_errors.ScriptReadFault is_file ready is_script
-    lines_ready was_empty made_is ends = let no : false ≡ true = sym lines_ready ∙ ends.1 in absurd (cc)
-refusal_of_run file script depth capture lines replies output made (run_errors.NoMemory zero) is_file ready is_script
-    lines_ready was_empty made_is ends = inl (none_taken made.items replies was_empty made_is ends.1.0.0)
-refusal_of_run file script depth capture lines replies output made (run_errors.NoMemory (suc before)) is_file ready
+refusal_of_run file script depth capture lines replies output made none (run_errors.Capture e) empty is_file ready
     is_script lines_ready was_empty made_is ends =
+    refused_file file script depth capture.has_failed capture.after e made none ready empty
+    (rw is_file at ends.0).0 _ refl
+refusal_of_run file script depth capture lines replies output made none run_errors.ScriptTooLarge empty is_file ready
+    is_script lines_ready was_empty made_is ends =
+    (rw is_file at ends.0.0.2, rw is_file at ends.0.1, rw is_script at ends.1)
+refusal_of_run file script depth capture lines replies output made none run_errors.ScriptReadFault empty is_file ready
+    is_script lines_ready was_empty made_is ends = let no : false ≡ true = sym lines_ready ∙ ends.1 in absurd (cc)
+refusal_of_run file script depth capture lines replies output made none (run_errors.NoMemory zero) empty is_file ready
+    is_script lines_ready was_empty made_is ends = inl (none_taken made.items replies was_empty made_is ends.1.0.0)
+refusal_of_run file script depth capture lines replies output made none (run_errors.NoMemory (suc before)) empty is_file
+    ready is_script lines_ready was_empty made_is ends =
     let gives = rw (is_file, is_script, was_empty, sym made_is) at ends.3 in
     let within = within_limits file script depth _ _ gives.0 is_file is_script ends.0.0 ends.1 gives.1 in
     (gives.0, within, gives.2.0, gives.2.1)
-refusal_of_run file script depth capture lines replies output made (run_errors.ReplyFault count) is_file ready
-    is_script lines_ready was_empty made_is ends =
-    let gives = rw (is_file, is_script, was_empty, sym made_is) at ends.4 in
-    inr (
-      gives.0,
-      within_limits file script depth _ _ gives.0 is_file is_script ends.0.0 ends.1 gives.1,
-      count,
-      gives.2.1,
-    )
-refusal_of_run file script depth capture lines replies output made (run_errors.Write write_errors.NoMemory) is_file
-    ready is_script lines_ready was_empty made_is ends =
-    let gives = rw (is_file, is_script, was_empty, sym made_is) at ends.4 in
-    inr (
-      gives.0,
-      within_limits file script depth _ _ gives.0 is_file is_script ends.0.0 ends.1 gives.1,
-      length (concat gives.0.replies),
-      gives.2 ∙ sym (take-length (concat gives.0.replies)),
-    )
-refusal_of_run file script depth capture lines replies output made (run_errors.Write (write_errors.WriteFault count))
+refusal_of_run file script depth capture lines replies output made none (run_errors.ReplyFault count) empty is_file
+    ready is_script lines_ready was_empty made_is ends = inl empty
+refusal_of_run file script depth capture lines replies output made none (run_errors.Write write_errors.NoMemory) empty
     is_file ready is_script lines_ready was_empty made_is ends =
+    let gives = rw (is_file, is_script, was_empty, sym made_is) at ends.4 in
+    let within = within_limits file script depth _ _ gives.0 is_file is_script ends.0.0 ends.1 gives.1 in
+    inr (gives.0, within, gives.2)
+refusal_of_run file script depth capture lines replies output made none
+    (run_errors.Write (write_errors.WriteFault count)) empty is_file ready is_script lines_ready was_empty made_is
+    ends =
     let gives = rw (is_file, is_script, was_empty, sym made_is) at ends.3.1 in
-    inr (
-      gives.0,
-      within_limits file script depth _ _ gives.0 is_file is_script ends.0.0 ends.1 gives.1,
-      length (concat gives.0.replies),
-      gives.2.0 ∙ sym (take-length (concat gives.0.replies)),
-    )
+    let within = within_limits file script depth _ _ gives.0 is_file is_script ends.0.0 ends.1 gives.1 in
+    inr (gives.0, within, gives.2.0)

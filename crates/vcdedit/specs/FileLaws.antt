@@ -1,11 +1,17 @@
--- What an edit of a file is for, said of the files: the contract of a function of `laws`.
-use Rattle.std.specs.Prelude.{◌≡◌, ℕ, ◌-◌, ◌<◌, ◌≤◌, List, length}
+-- Laws of runs, said of the files' bytes: the contracts of the functions of `laws`.
+use Rattle.std.specs.Prelude.{◌≡◌, ℕ, ◌-◌, ◌<◌, ◌≤◌, List, length, Result, Ok, Err}
 use Rattle.vcd_core.specs.Contents.{Contents}
 use Rattle.vcd_text.specs.Meaning.{FileMeans}
 use Rattle.vcd_text.specs.Text.{text}
 use Rattle.vcd_edit.specs.declared.edit.Edit.TheVariants.{Cut}
 use Rattle.vcd_edit.specs.Effect.{effect}
 use Rattle.vcd_edit.specs.EffectLaws.{value_of}
+use Rattle.vcdedit.specs.declared.running.run_on_bytes.RunTexts.{RunTexts}
+use Rattle.vcdedit.specs.declared.running.run_on_bytes.RunRefusal.{RunRefusal}
+use Rattle.vcdedit.specs.declared.running.run_on_bytes.RunRefusal.TheVariants.{Capture}
+use Rattle.vcdedit.specs.declared.running.run_on_bytes.RunRefusal.TheVariants.{ScriptTooLarge}
+use Rattle.vcdedit.specs.declared.running.run_on_bytes.RunRefusal.TheVariants.{NoMemory}
+use Rattle.vcdedit.specs.RunOnBytes.{RunGives}
 
 -- a file of which only the first ticks are cut out is, read again, the file's waves from there
 abbrev pub CutFileIsReadAgain : Type 0
@@ -15,3 +21,20 @@ CutFileIsReadAgain =
     → FileMeans (text (effect (Cut 0 from) c)) d left_out
     → k < length c.signals → from ≤ t → t ≤ c.end
     → value_of d k (t - from) ≡ value_of c k t
+
+-- two results are the same, or memory ran out in one of them; the room of texts is not compared
+abbrev pub AreSameButForMemory : (one other : Result RunTexts RunRefusal) → Type 0
+AreSameButForMemory (Err (NoMemory line replies)) other = Unit {0}
+AreSameButForMemory one (Err (NoMemory line replies)) = Unit {0}
+AreSameButForMemory (Ok one) (Ok other) = (one.replies.items ≡ other.replies.items)
+    × (one.output.items ≡ other.output.items) × (one.refused ≡ other.refused)
+AreSameButForMemory (Err (Capture e)) (Err (Capture other)) = e ≡ other
+AreSameButForMemory (Err ScriptTooLarge) (Err ScriptTooLarge) = Unit {0}
+AreSameButForMemory one other = ⊥
+
+-- but for memory, the bytes of two files and the depth have one result
+abbrev pub SameBytesSameResult : Type 0
+SameBytesSameResult =
+    (file script : List ℕ) (depth : ℕ) (one other : Result RunTexts RunRefusal)
+    → RunGives file script depth one → RunGives file script depth other
+    → AreSameButForMemory one other

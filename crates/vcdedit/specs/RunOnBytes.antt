@@ -42,14 +42,14 @@ RunGives file script depth (Ok texts) = (written : RunOutcome)
 -- the capture file is refused, for this alone
 RunGives file script depth (Err (Capture e)) = IsRefusedFile file e
     × ((other : ReadError) → IsRefusedFile file other → other ≡ e)
--- the script is above its limit
-RunGives file script depth (Err ScriptTooLarge) =
-    (length file ≤ FILE_LIMIT) × HasMeaning file × (SCRIPT_LIMIT < length script)
--- memory ran out before the first line, for what the replies or the output are written to: the
--- replies are the first bytes of those that the run writes, or none
+-- the capture file is within its limit and has a meaning, and the script is above its limit
+RunGives file script depth (Err ScriptTooLarge) = (length file ≤ FILE_LIMIT) × HasMeaning file
+    × (SCRIPT_LIMIT < length script)
+-- memory ran out, and not at a line: there are no replies, and nothing is said of the files; or all
+-- replies were made, and it ran out for the output
 RunGives file script depth (Err (NoMemory zero replies)) = (replies.items ≡ [])
     ⊎ ((written : RunOutcome) × IsRunWithin file script depth written
-    × (count : ℕ) × (replies.items ≡ take count (concat written.replies)))
+    × (replies.items ≡ concat written.replies))
 -- memory ran out at a line, counted from 1: the replies are those to the lines before it
 RunGives file script depth (Err (NoMemory (suc before) replies)) = (written : RunOutcome)
     × IsRunWithin file script depth written × (before < length written.replies)

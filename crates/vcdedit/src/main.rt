@@ -13,7 +13,7 @@ mod shell;
 #[cfg(test)]
 mod tests;
 
-pub use laws::cut_file_is_read_again;
+pub use laws::{cut_file_is_read_again, same_bytes_same_result};
 pub use running::{RunError, RunRefusal, RunTexts, SCRIPT_LIMIT, Summary, run, run_on_bytes};
 pub use script::{Command, LineError, parse_line};
 pub use shell::{LateFile, report, status_of_program};

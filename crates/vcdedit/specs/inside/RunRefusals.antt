@@ -9,11 +9,12 @@ use Rattle.vcdedit.specs.declared.running.run_on_bytes.RunRefusal.TheVariants.{C
 use Rattle.vcdedit.specs.declared.running.run_on_bytes.RunRefusal.TheVariants.{ScriptTooLarge}
 use Rattle.vcdedit.specs.declared.running.run_on_bytes.RunRefusal.TheVariants.{NoMemory}
 
--- the refusal for an error, with the replies that were written; a device in memory fails for memory
--- alone
-abbrev pub run_refusal : RunError → Vec ℕ → RunRefusal
-run_refusal (run_errors.Capture e) replies = if is_no_memory e.fault then NoMemory 0 replies
+-- the refusal for an error, with the replies that were written, or none where they may be cut
+-- anywhere; a device in memory fails for memory alone
+abbrev pub run_refusal : RunError → (replies none : Vec ℕ) → RunRefusal
+run_refusal (run_errors.Capture e) replies none = if is_no_memory e.fault then NoMemory 0 none
     else Capture e
-run_refusal run_errors.ScriptTooLarge replies = ScriptTooLarge
-run_refusal (run_errors.NoMemory line) replies = NoMemory line replies
-run_refusal e replies = NoMemory 0 replies
+run_refusal run_errors.ScriptTooLarge replies none = ScriptTooLarge
+run_refusal (run_errors.NoMemory line) replies none = NoMemory line replies
+run_refusal (run_errors.Write e) replies none = NoMemory 0 replies
+run_refusal e replies none = NoMemory 0 none

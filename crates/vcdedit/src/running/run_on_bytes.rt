@@ -32,8 +32,8 @@ pub enum RunRefusal {
     Capture(ReadError),
     /// The script is larger than its limit.
     ScriptTooLarge,
-    /// Memory ran out: at a line of the script, counted from 1, or before the first line, for the
-    /// replies or for the output (0). These replies were made before.
+    /// Memory ran out. At a line of the script, counted from 1, the replies are those to the lines
+    /// before it. At no line (0) they are all replies if it ran out for the output, else none.
     NoMemory { line: u64, replies: Vec<u8> },
 }
 
@@ -71,26 +71,30 @@ pub fn run_on_bytes(
             output: output.into_bytes(),
             refused: summary.refused,
         }),
-        Err(error) => Err(refusal_of(error, replies)),
+        Err(error) => Err(refusal_of(error, replies, Vec::new(alloc))),
     }
 }
 
 /// Why a run over bytes did not reach its end, by the error of the run and the replies that were
-/// written.
-fn refusal_of(error: RunError, replies: Vec<u8>) -> RunRefusal
-    ensures { result ≡ run_refusal error replies }
+/// written. `none` is for replies that may be cut anywhere.
+fn refusal_of(error: RunError, replies: Vec<u8>, none: Vec<u8>) -> RunRefusal
+    ensures { result ≡ run_refusal error replies none }
 {
     match error {
-        RunError::Capture(refused) => refused_capture(refused, replies),
+        RunError::Capture(refused) => refused_capture(refused, none),
         RunError::ScriptTooLarge => RunRefusal::ScriptTooLarge,
         RunError::NoMemory { line } => RunRefusal::NoMemory { line, replies },
-        _ => RunRefusal::NoMemory { line: 0, replies },
+        RunError::Write(_) => RunRefusal::NoMemory { line: 0, replies },
+        _ => RunRefusal::NoMemory {
+            line: 0,
+            replies: none,
+        },
     }
 }
 
 /// The same for a capture that is refused.
 fn refused_capture(refused: ReadError, replies: Vec<u8>) -> RunRefusal
-    ensures { result ≡ run_refusal (run_errors.Capture refused) replies }
+    ensures { result ≡ run_refusal (run_errors.Capture refused) replies replies }
 {
     if refused.fault == Fault::NoMemory {
         RunRefusal::NoMemory { line: 0, replies }

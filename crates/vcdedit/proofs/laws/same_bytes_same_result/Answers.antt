@@ -1,0 +1,5 @@
+use Rattle.vcdedit.proofs.OneResult.{same_bytes_same_result}
+use Rattle.vcdedit.proofs.laws.same_bytes_same_result.Goals as goal
+
+pub returns : goal.returns
+returns c = same_bytes_same_result
