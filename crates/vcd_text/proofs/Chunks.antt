@@ -28,10 +28,9 @@ use Rattle.vcd_text.specs.FoundFaults.{FrontFault}
 use Rattle.vcd_text.specs.Faults.{ChangeFault, IsFrontAnswer}
 use Rattle.vcd_text.specs.Refusals.{IsRefusal, has_fault, too_large, no_memory}
 use Rattle.vcd_text.specs.MemoryErrors.{memory_error}
-use Rattle.vcd_text.specs.inside.Spaces.{has_complete_words}
+use Rattle.vcd_text.specs.inside.Spaces.{line_feeds_in, has_complete_words}
 use Rattle.vcd_text.specs.inside.Reading.{HasTakenWords}
 use Rattle.vcd_text.specs.inside.Chunks.{HasTaken, HasUntakenChunk, HasReadBytes}
-use Rattle.vcd_text.specs.inside.WordWalk.{line_feeds_in}
 use Rattle.vcd_text.proofs.LastWords.{no_fault as shows_none}
 use Rattle.vcd_text.proofs.FrontAnswers.{larger, failing}
 use Rattle.vcd_text.proofs.FrontFaults.{longer_front_fault}

@@ -10,8 +10,7 @@ use Rattle.std.proofs.lemmas.Bool.Decides.{Decides-eqb}
 use Rattle.std.proofs.lemmas.Bool.{ne_eqb}
 use Rattle.vcd_core.specs.Word.{is_word, is_white_space}
 use Rattle.vcd_text.specs.Items.{is_end_word}
-use Rattle.vcd_text.specs.inside.WordWalk.{line_feeds_in}
-use Rattle.vcd_text.specs.inside.Spaces.{begins_with_space}
+use Rattle.vcd_text.specs.inside.Spaces.{line_feeds_in, begins_with_space}
 use Rattle.vcd_text.specs.Words.{line_after, ends_before, with_longer_first, with_byte, PlacedWord}
 use Rattle.vcd_text.specs.Words.{word_on, words_from}
 use Rattle.std.proofs.lemmas.Bool.{and_parts, not-true}

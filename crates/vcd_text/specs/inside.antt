@@ -14,7 +14,6 @@ pub mod SpacedWords
 pub mod Transitions
 pub mod ValueDigits
 pub mod LetterBlocks
-pub mod WordWalk
 pub mod Written
 pub mod ValueFronts
 pub mod TextParts

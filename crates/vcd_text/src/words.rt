@@ -5,12 +5,8 @@ ghost use Rattle.std.specs.Prelude.{length, take, drop, MatchOption, IfSome, IfN
 ghost use Rattle.std.specs.List.{list_all};
 ghost use Rattle.vcd_core.specs.Word.{is_white_space as white};
 ghost use Rattle.vcd_text.specs.Words.{ends_before as ends_word, words_from, words_of};
-ghost use Rattle.vcd_text.specs.LentWords.{word_contents};
-ghost use Rattle.vcd_text.specs.inside.Spaces.{begins_with_space};
-ghost use Rattle.vcd_text.specs.inside.WordWalk.{line_feeds_in, words_left, line_feeds_at_end};
-ghost use Rattle.vcd_text.specs.inside.WordWalk.{LinesFit};
+ghost use Rattle.vcd_text.specs.inside.Spaces.{begins_with_space, line_feeds_in};
 
-use std::marker::Model;
 use vcd_core::is_white_space;
 
 /// A word, borrowed from its text, and its line, counted from 1.
@@ -20,89 +16,45 @@ pub struct PlacedWord<'a> {
     pub line: u64,
 }
 
-/// The words of a text that are still to come. Contracts see their list. Each word takes a step for
-/// each byte, and no memory.
+/// The words of a text that are still to come. Each takes a step for each byte, and no memory.
 #[derive(Drop)]
 pub struct Words<'a> {
-    walk: WordWalk<'a>,
-}
-
-impl<'a> Model for Words<'a> {
-    ghost use Rattle.std.specs.Prelude.{List};
-    ghost use Rattle.vcd_text.specs.Words.{PlacedWord};
-
-    ghost Value = { List PlacedWord };
-
-    ghost use Rattle.vcd_text.specs.inside.WordWalk.{words_left, LinesFit};
-
-    ghost view = { λ words. words_left words.walk };
-
-    ghost invariant = { λ words. LinesFit words.walk };
+    /// The rest of the text.
+    pub rest: &'a [u8],
+    /// The number of line feeds before it.
+    pub line_feeds: u64,
+    ghost lines_fit: { line_feeds + length rest.now < 2 ^ 64 },
 }
 
 impl<'a> Words<'a> {
+    ghost use Rattle.vcd_text.specs.LentWords.{word_contents, words_left};
+
     /// All words of a text.
     #[tactic(auto, using(crate::proofs::WordLaws::words_are_few))]
     pub fn new(text: &'a [u8]) -> Words<'a>
-        ensures words { result ≡ words_of text.now }
-        ensures few { length result < 2 ^ 63 }
+        ensures words { words_left result ≡ words_of text.now }
+        ensures few { length (words_left result) < 2 ^ 63 }
     {
         Words {
-            walk: WordWalk {
-                rest: text,
-                line_feeds: 0,
-            },
+            rest: text,
+            line_feeds: 0,
         }
     }
 
-    /// The next word, if there is one.
+    /// The next word; none at the end. It moves past the word, or to the end.
     pub fn next_word(&mut self) -> Option<PlacedWord<'a>>
-        ensures words { MatchOption result (self.old ≡ []) (λ word.
-            self.old ≡ word_contents word ∷ self.new) }
-        ensures some { IfSome result (λ word. 0 < length word.text.now) }
-        ensures none_left { IfNone result (self.new ≡ []) }
-    {
-        self.walk.next_word()
-    }
-}
-
-impl<'a> Iterator for Words<'a> {
-    ghost use Rattle.std.specs.Iterator.{YieldsFirstBy, item_count};
-
-    type Item = PlacedWord<'a>;
-
-    ghost next_gives = { YieldsFirstBy word_contents (λ left. left) };
-
-    ghost remaining = { item_count (λ left. left) };
-
-    fn next(&mut self) -> Option<PlacedWord<'a>> {
-        self.next_word()
-    }
-}
-
-/// The rest of a text, after this number of line feeds.
-#[derive(Drop)]
-pub struct WordWalk<'a> {
-    pub rest: &'a [u8],
-    pub line_feeds: u64,
-}
-
-impl<'a> WordWalk<'a> {
-    /// Moves past the next word, or to the end if there is none.
-    pub fn next_word(&mut self) -> Option<PlacedWord<'a>>
-        requires lines { LinesFit self.old }
         ensures words { MatchOption result (words_left self.old ≡ []) (λ word.
             words_left self.old ≡ word_contents word ∷ words_left self.new) }
         ensures some { IfSome result (λ word. 0 < length word.text.now) }
         ensures none_left { IfNone result (words_left self.new ≡ []) }
         ensures end { IfNone result (self.new.rest.now ≡ []) }
-        ensures lines { LinesFit self.new }
-        ensures line_feeds { line_feeds_at_end self.new ≡ line_feeds_at_end self.old }
+        ensures line_feeds { self.new.line_feeds + line_feeds_in self.new.rest.now
+            ≡ self.old.line_feeds + line_feeds_in self.old.rest.now }
     {
         let (rest, line_feeds) = after_space(self.rest, self.line_feeds);
         let (text, following) = rest.split_at(word_len(rest));
-        self.line_feeds = line_feeds;
         self.rest = following;
+        self.line_feeds = line_feeds;
         if text.is_empty() {
             return None;
         }
@@ -110,6 +62,21 @@ impl<'a> WordWalk<'a> {
             text,
             line: line_feeds + 1,
         })
+    }
+}
+
+impl<'a> Iterator for Words<'a> {
+    ghost use Rattle.std.specs.Iterator.{YieldsFirstBy, item_count};
+    ghost use Rattle.vcd_text.specs.LentWords.{word_contents, words_left};
+
+    type Item = PlacedWord<'a>;
+
+    ghost next_gives = { YieldsFirstBy word_contents words_left };
+
+    ghost remaining = { item_count words_left };
+
+    fn next(&mut self) -> Option<PlacedWord<'a>> {
+        self.next_word()
     }
 }
 

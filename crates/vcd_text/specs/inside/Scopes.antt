@@ -1,7 +1,6 @@
 -- The scopes of the parser, in chains: each scope is in the one before it.
 use Rattle.std.specs.Prelude.{◌≡◌, ℕ, ◌<◌, ◌≤◌, List, [], ◌∷◌, ◌++◌, length, take, map}
-use Rattle.std.specs.Prelude.{slice_index_or, Option, Some}
-use Rattle.std.specs.Prelude.{None}
+use Rattle.std.specs.Prelude.{slice_index_or}
 use Rattle.vcd_core.specs.declared.capture.ScopeName.{ScopeName}
 use Rattle.vcd_core.specs.Contents.{SignalContents}
 use Rattle.vcd_text.specs.Grammar.{VariableDeclaration, kept_variables}
@@ -41,15 +40,9 @@ pub record HoldsScopes (s : Scopes) (scopes : List ScopeName) (declared : List V
   pub paths : map (scopes_at (chains_of s)) s.places.items
       ≡ map (λ (d : VariableDeclaration). d.scopes) (kept_variables declared)
 
--- the scopes of a place; none if there is no place
-abbrev pub scopes_of : List (List ScopeName) → Option ScopePlace → List ScopeName
-scopes_of chains None = []
-scopes_of chains (Some p) = scopes_at chains p
-
--- signals with the scopes of these places, in their order; none after the last place
+-- signals with the scopes of these places, in their order
 abbrev pub with_places : List (List ScopeName) → List SignalContents → List ScopePlace
     → List SignalContents
-with_places chains [] ps = []
-with_places chains (s ∷ ss) [] = record s { scopes = [] } ∷ with_places chains ss []
 with_places chains (s ∷ ss) (p ∷ ps) = record s { scopes = scopes_at chains p }
     ∷ with_places chains ss ps
+with_places chains ss ps = []

@@ -8,14 +8,14 @@ ghost use Rattle.vcd_core.specs.Word.{is_white_space as white};
 ghost use Rattle.vcd_core.specs.CaptureContents.{contents};
 ghost use Rattle.vcd_core.specs.Sound.{IsSound};
 ghost use Rattle.vcd_text.specs.Words.{words_from, PlacedWord as WordInFile};
+ghost use Rattle.vcd_text.specs.LentWords.{words_left};
 ghost use Rattle.vcd_text.specs.Meaning.{FileMeans};
 ghost use Rattle.vcd_text.specs.FoundFaults.{FoundFault};
 ghost use Rattle.vcd_text.specs.Refusals.{IsRefusal};
 ghost use Rattle.vcd_text.specs.MemoryErrors.{memory_error};
-ghost use Rattle.vcd_text.specs.inside.Spaces.{has_complete_words};
+ghost use Rattle.vcd_text.specs.inside.Spaces.{has_complete_words, line_feeds_in};
 ghost use Rattle.vcd_text.specs.inside.Reading.{HasTakenWords, WordCountFits, AllWordsResult};
 ghost use Rattle.vcd_text.specs.inside.Reading.{is_complete};
-ghost use Rattle.vcd_text.specs.inside.WordWalk.{words_left, line_feeds_at_end, LinesFit};
 ghost use Rattle.vcd_text.specs.inside.Chunks.{HasReadBytes, FileReaderMatches, HasUntakenChunk};
 ghost use Rattle.vcd_text.specs.inside.Chunks.{TakesChunk};
 
@@ -23,7 +23,7 @@ use crate::fault::{Fault, ReadError};
 use crate::reading::parser::Parser;
 use crate::reading::read_buffer::ReadBuffer;
 use crate::reading::{FILE_LIMIT, Loaded};
-use crate::words::WordWalk;
+use crate::words::Words;
 use std::alloc::Global;
 use vcd_core::{Source, is_white_space};
 
@@ -98,7 +98,7 @@ impl FileReader {
         ensures bytes_left { self.new.bytes_left ≡ self.old.bytes_left }
     {
         let len = complete_words_len(self.buffer.as_slice(), from);
-        let complete = WordWalk {
+        let complete = Words {
             rest: &self.buffer.as_slice()[..len],
             line_feeds: self.line_feeds,
         };
@@ -123,7 +123,7 @@ impl FileReader {
             line_feeds,
             ..
         } = self;
-        let word = WordWalk {
+        let word = Words {
             rest: buffer.as_slice(),
             line_feeds,
         };
@@ -165,12 +165,12 @@ fn complete_words_len(bytes: &[u8], from: usize) -> usize
 
 /// Takes words one after another, up to the first that shows a fault. Returns the number of line
 /// feeds before the end of their text.
-fn read_words(parser: &mut Parser, alloc: Global, words: WordWalk) -> Result<u64, ReadError>
-    requires word_count { WordCountFits parser.old (words_left words) }
-    requires lines { LinesFit words }
+fn read_words(parser: &mut Parser, alloc: Global, words: Words) -> Result<u64, ReadError>
+    requires { WordCountFits parser.old (words_left words) }
     ensures words { (words_so_far : List WordInFile) → HasTakenWords parser.old words_so_far →
         AllWordsResult words_so_far (words_left words.entry) result parser.new }
-    ensures line_feeds { IfOk result (λ line_feeds. line_feeds ≡ line_feeds_at_end words.entry) }
+    ensures line_feeds { IfOk result (λ line_feeds.
+        line_feeds ≡ words.entry.line_feeds + line_feeds_in words.entry.rest.now) }
 {
     let mut left = words;
     while let Some(word) = left.next_word() {

@@ -3,6 +3,7 @@
 ghost use Rattle.std.specs.Prelude.{◌≡◌, ◌<◌, ◌∷◌, [], true, length, IfOk};
 ghost use Rattle.vcd_text.specs.Grammar.{ParseState};
 ghost use Rattle.vcd_text.specs.inside.Variables.{VariablesMatch};
+ghost use Rattle.vcd_text.specs.inside.Scopes.{HoldsScopes};
 ghost use Rattle.vcd_core.specs.CaptureContents.{contents};
 ghost use Rattle.vcd_text.specs.Words.{word_on};
 ghost use Rattle.vcd_text.specs.inside.OpenItems.{item_fault_line};
@@ -124,7 +125,8 @@ impl Parser {
     /// The capture that the file means, once its last word has been taken.
     pub fn into_loaded(self, alloc: Global) -> Result<Loaded, NoMemory>
         requires complete { is_complete self ≡ true }
-        requires known { (c : ParseState) × VariablesMatch self.variables c }
+        requires known { (c : ParseState) × VariablesMatch self.variables c
+            × HoldsScopes self.scopes c.scopes c.declared }
         ensures { IfOk result (λ loaded. Means self (contents loaded.capture) loaded.skipped) }
     {
         let Parser {

@@ -138,6 +138,8 @@ impl Scopes {
 
     /// Gives the signals of the kept variables their scopes. The paths in one chain share its list.
     pub fn place_signals(self, alloc: Global, signals: &mut [Signal]) -> Result<(), NoMemory>
+        requires { (c : ParseState) × HoldsScopes self c.scopes c.declared
+            × (length signals.old ≡ length (kept_variables c.declared)) }
         ensures { (c : ParseState) → HoldsScopes self c.scopes c.declared →
             map signal_contents signals.old ≡
             map (declared_signal c.value_changes c.tick)

@@ -2,7 +2,7 @@
 
 ghost use Rattle.std.specs.Prelude.{◌<◌, length, IfSome};
 ghost use Rattle.vcd_core.specs.CaptureContents.{contents};
-ghost use Rattle.vcd_text.specs.Grammar.{word_texts};
+ghost use Rattle.vcd_text.specs.LentWords.{texts_left};
 ghost use Rattle.vcdedit.specs.ScriptCommands.{command_of};
 ghost use Rattle.vcdedit.specs.declared.script.keyword.Keyword.TheVariants as keywords;
 ghost use Rattle.vcdedit.specs.inside.ParsedDecoders.{spi_with_command, checked_spi_command};
@@ -22,7 +22,7 @@ use vcd_text::Words;
 
 /// Reads `NAME BIT DATA PARITY STOP`.
 pub fn parse_uart<'a>(words: &mut Words<'a>, capture: &Capture) -> Parsed<'a>
-    ensures { ReadsAs (command_of (contents capture.now) keywords.Uart (word_texts words.old))
+    ensures { ReadsAs (command_of (contents capture.now) keywords.Uart (texts_left words.old))
         result }
 {
     let (name, (bit, data_bits, (parity, stop_bits))) = take_five(words)?;
@@ -38,7 +38,7 @@ pub fn parse_uart<'a>(words: &mut Words<'a>, capture: &Capture) -> Parsed<'a>
 
 /// Reads `CLK MOSI MISO CS MODE BITS ORDER`.
 pub fn parse_spi<'a>(words: &mut Words<'a>, capture: &Capture) -> Parsed<'a>
-    ensures { ReadsAs (command_of (contents capture.now) keywords.Spi (word_texts words.old))
+    ensures { ReadsAs (command_of (contents capture.now) keywords.Spi (texts_left words.old))
         result }
 {
     let (clk, mosi, (miso, (cs, mode, (bits, order)))) = take_seven(words)?;
@@ -115,7 +115,7 @@ fn checked_spi<'a>(
 
 /// Reads `SCL SDA`.
 pub fn parse_i2c<'a>(words: &mut Words<'a>, capture: &Capture) -> Parsed<'a>
-    ensures { ReadsAs (command_of (contents capture.now) keywords.I2c (word_texts words.old))
+    ensures { ReadsAs (command_of (contents capture.now) keywords.I2c (texts_left words.old))
         result }
 {
     let (scl, sda) = take_two(words)?;

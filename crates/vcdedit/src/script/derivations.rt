@@ -5,7 +5,7 @@ ghost use Rattle.std.specs.Str.{bytes_eq};
 ghost use Rattle.vcd_edit.specs.declared.edit.Rule.TheVariants.{Xor};
 ghost use Rattle.vcdedit.specs.declared.script.line_error.LineError.TheVariants.{BadOption};
 ghost use Rattle.vcd_core.specs.CaptureContents.{contents};
-ghost use Rattle.vcd_text.specs.Grammar.{word_texts};
+ghost use Rattle.vcd_text.specs.LentWords.{texts_left};
 ghost use Rattle.vcdedit.specs.ScriptCommands.{pair_rule, bit_rule, rule_of, command_of};
 ghost use Rattle.vcdedit.specs.declared.script.keyword.Keyword.TheVariants as keywords;
 ghost use Rattle.vcdedit.specs.inside.Commands.{ReadsAs};
@@ -21,7 +21,7 @@ use vcd_text::Words;
 
 /// Reads `WORD RULE ..`.
 pub fn parse_derive<'a>(words: &mut Words<'a>, capture: &Capture) -> Parsed<'a>
-    ensures { ReadsAs (command_of (contents capture.now) keywords.Derive (word_texts words.old))
+    ensures { ReadsAs (command_of (contents capture.now) keywords.Derive (texts_left words.old))
         result }
 {
     let word = next_text(words).ok_or(LineError::WrongCount)?;
@@ -32,7 +32,7 @@ pub fn parse_derive<'a>(words: &mut Words<'a>, capture: &Capture) -> Parsed<'a>
 
 /// Reads the operands after the rule.
 fn parse_rule(name: &[u8], words: &mut Words<'_>, capture: &Capture) -> Result<Rule, LineError>
-    ensures { result ≡ rule_of (contents capture.now) name.now (word_texts words.old) }
+    ensures { result ≡ rule_of (contents capture.now) name.now (texts_left words.old) }
 {
     if name == b"not".as_slice() {
         let operand = signal_of_name(capture, take_one(words)?)?;
@@ -56,9 +56,9 @@ fn parse_xor_or_bit(
     capture: &Capture,
 ) -> Result<Rule, LineError>
     ensures { result ≡ (if bytes_eq name.now (codes "xor")
-        then pair_rule (contents capture.now) Xor (word_texts words.old)
+        then pair_rule (contents capture.now) Xor (texts_left words.old)
         else (if bytes_eq name.now (codes "bit")
-        then bit_rule (contents capture.now) (word_texts words.old)
+        then bit_rule (contents capture.now) (texts_left words.old)
         else Err BadOption)) }
 {
     if name == b"xor".as_slice() {
@@ -76,9 +76,9 @@ fn parse_xor_or_bit(
 /// Reads `A B`.
 fn parse_pair(words: &mut Words<'_>, capture: &Capture) -> Result<(usize, usize), LineError>
     ensures both { IfOk result (λ k. (rule : ℕ → ℕ → Rule) →
-        pair_rule (contents capture.now) rule (word_texts words.old) ≡ Ok (rule k.0 k.1)) }
+        pair_rule (contents capture.now) rule (texts_left words.old) ≡ Ok (rule k.0 k.1)) }
     ensures fault { IfErr result (λ e. (rule : ℕ → ℕ → Rule) →
-        pair_rule (contents capture.now) rule (word_texts words.old) ≡ Err e) }
+        pair_rule (contents capture.now) rule (texts_left words.old) ≡ Err e) }
 {
     let (a, b) = take_two(words)?;
     let first = signal_of_name(capture, a)?;

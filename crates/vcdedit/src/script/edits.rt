@@ -3,7 +3,7 @@
 ghost use Rattle.std.specs.Prelude.{◌≡◌, ◌<◌, length, IfOk};
 ghost use Rattle.vcd_core.specs.Contents.{Contents, signal_at};
 ghost use Rattle.vcd_core.specs.CaptureContents.{contents};
-ghost use Rattle.vcd_text.specs.Grammar.{word_texts};
+ghost use Rattle.vcd_text.specs.LentWords.{texts_left};
 ghost use Rattle.vcdedit.specs.ScriptCommands.{command_of};
 ghost use Rattle.vcdedit.specs.declared.script.keyword.Keyword.TheVariants as keywords;
 ghost use Rattle.vcdedit.specs.ScriptWords.{signal_of_name, value_of_word};
@@ -19,7 +19,7 @@ use vcd_text::{Words, value_of_digits};
 
 /// Reads `NAME WORD`.
 pub fn parse_rename<'a>(words: &mut Words<'a>, capture: &Capture) -> Parsed<'a>
-    ensures { ReadsAs (command_of (contents capture.now) keywords.Rename (word_texts words.old))
+    ensures { ReadsAs (command_of (contents capture.now) keywords.Rename (texts_left words.old))
         result }
 {
     let (name, word) = take_two(words)?;
@@ -29,7 +29,7 @@ pub fn parse_rename<'a>(words: &mut Words<'a>, capture: &Capture) -> Parsed<'a>
 
 /// Reads `NAME` of a signal to remove.
 pub fn parse_remove<'a>(words: &mut Words<'a>, capture: &Capture) -> Parsed<'a>
-    ensures { ReadsAs (command_of (contents capture.now) keywords.Remove (word_texts words.old))
+    ensures { ReadsAs (command_of (contents capture.now) keywords.Remove (texts_left words.old))
         result }
 {
     let signal = signal_of_name(capture, take_one(words)?)?;
@@ -38,7 +38,7 @@ pub fn parse_remove<'a>(words: &mut Words<'a>, capture: &Capture) -> Parsed<'a>
 
 /// Reads `NAME` of a signal to invert.
 pub fn parse_invert<'a>(words: &mut Words<'a>, capture: &Capture) -> Parsed<'a>
-    ensures { ReadsAs (command_of (contents capture.now) keywords.Invert (word_texts words.old))
+    ensures { ReadsAs (command_of (contents capture.now) keywords.Invert (texts_left words.old))
         result }
 {
     let signal = signal_of_name(capture, take_one(words)?)?;
@@ -47,7 +47,7 @@ pub fn parse_invert<'a>(words: &mut Words<'a>, capture: &Capture) -> Parsed<'a>
 
 /// Reads `NAME BY`.
 pub fn parse_shift<'a>(words: &mut Words<'a>, capture: &Capture) -> Parsed<'a>
-    ensures { ReadsAs (command_of (contents capture.now) keywords.Shift (word_texts words.old))
+    ensures { ReadsAs (command_of (contents capture.now) keywords.Shift (texts_left words.old))
         result }
 {
     let (name, by) = take_two(words)?;
@@ -58,7 +58,7 @@ pub fn parse_shift<'a>(words: &mut Words<'a>, capture: &Capture) -> Parsed<'a>
 
 /// Reads `FROM TO`.
 pub fn parse_cut<'a>(words: &mut Words<'a>) -> Parsed<'a>
-    ensures { (c : Contents) → ReadsAs (command_of c keywords.Cut (word_texts words.old)) result }
+    ensures { (c : Contents) → ReadsAs (command_of c keywords.Cut (texts_left words.old)) result }
 {
     let (from, to) = take_two(words)?;
     let from = number_of_word(from)?;
@@ -68,7 +68,7 @@ pub fn parse_cut<'a>(words: &mut Words<'a>) -> Parsed<'a>
 
 /// Reads `NAME TICKS`.
 pub fn parse_deglitch<'a>(words: &mut Words<'a>, capture: &Capture) -> Parsed<'a>
-    ensures { ReadsAs (command_of (contents capture.now) keywords.Deglitch (word_texts words.old))
+    ensures { ReadsAs (command_of (contents capture.now) keywords.Deglitch (texts_left words.old))
         result }
 {
     let (name, ticks) = take_two(words)?;
@@ -79,7 +79,7 @@ pub fn parse_deglitch<'a>(words: &mut Words<'a>, capture: &Capture) -> Parsed<'a
 
 /// Reads `NAME FROM TO VALUE`.
 pub fn parse_force<'a>(words: &mut Words<'a>, capture: &Capture) -> Parsed<'a>
-    ensures { ReadsAs (command_of (contents capture.now) keywords.Force (word_texts words.old))
+    ensures { ReadsAs (command_of (contents capture.now) keywords.Force (texts_left words.old))
         result }
 {
     let (name, from, (to, value)) = take_four(words)?;

@@ -3,7 +3,7 @@
 ghost use Rattle.std.specs.Prelude.{◌≡◌, ◌∷◌, Ok, Err, IfOk, IfErr};
 ghost use Rattle.vcd_core.specs.Contents.{Contents};
 ghost use Rattle.vcd_core.specs.CaptureContents.{contents};
-ghost use Rattle.vcd_text.specs.Grammar.{word_texts};
+ghost use Rattle.vcd_text.specs.LentWords.{texts_left};
 ghost use Rattle.vcdedit.specs.CommandSignals.{HasCommandSignals};
 ghost use Rattle.vcdedit.specs.WithoutAddress.{command_without_address};
 ghost use Rattle.vcdedit.specs.ScriptCommands.{command_of_line};
@@ -51,7 +51,7 @@ pub fn parse_line<'a>(line: &'a [u8], capture: &Capture) -> Result<Command<'a>, 
 /// Reads the first word, and then those after it.
 fn parse_first_word<'a>(first: &[u8], words: &mut Words<'a>, capture: &Capture) -> Parsed<'a>
     ensures { ReadsAs
-        (command_of_words (contents capture.now) (first.now ∷ word_texts words.old)) result }
+        (command_of_words (contents capture.now) (first.now ∷ texts_left words.old)) result }
 {
     if is_comment(first) {
         return Ok(Command::Nothing);
@@ -62,7 +62,7 @@ fn parse_first_word<'a>(first: &[u8], words: &mut Words<'a>, capture: &Capture) 
 
 /// Reads the words after a keyword.
 fn parse_command<'a>(keyword: Keyword, words: &mut Words<'a>, capture: &Capture) -> Parsed<'a>
-    ensures { ReadsAs (command_of (contents capture.now) keyword (word_texts words.old)) result }
+    ensures { ReadsAs (command_of (contents capture.now) keyword (texts_left words.old)) result }
 {
     match keyword {
         Keyword::Rename => parse_rename(words, capture),
@@ -96,7 +96,7 @@ fn parse_command<'a>(keyword: Keyword, words: &mut Words<'a>, capture: &Capture)
 
 /// Reads `N`, the new depth of the history.
 fn parse_depth<'a>(words: &mut Words<'a>) -> Parsed<'a>
-    ensures { (c : Contents) → ReadsAs (command_of c keywords.Depth (word_texts words.old)) result }
+    ensures { (c : Contents) → ReadsAs (command_of c keywords.Depth (texts_left words.old)) result }
 {
     let depth = number_of_word(take_one(words)?)?;
     Ok(Command::Step(Step::Depth(depth)))

@@ -2,7 +2,7 @@
 
 ghost use Rattle.std.specs.Prelude.{◌≡◌, ◌∷◌, [], List, ℕ, Result, Err, IfOk, OnOk, IfErr};
 ghost use Rattle.std.specs.Prelude.{MatchOption};
-ghost use Rattle.vcd_text.specs.Grammar.{word_texts};
+ghost use Rattle.vcd_text.specs.LentWords.{texts_left};
 ghost use Rattle.vcdedit.specs.LineWords.{no_word, one_word, two_words, four_words, five_words};
 ghost use Rattle.vcdedit.specs.LineWords.{seven_words};
 ghost use Rattle.vcd_edit.specs.declared.edit.Rule.{Rule};
@@ -13,8 +13,8 @@ use vcd_text::Words;
 
 /// The next word.
 pub fn next_text<'a>(words: &mut Words<'a>) -> Option<&'a [u8]>
-    ensures { MatchOption result (word_texts words.old ≡ [])
-        (λ text. word_texts words.old ≡ text.now ∷ word_texts words.new) }
+    ensures { MatchOption result (texts_left words.old ≡ [])
+        (λ text. texts_left words.old ≡ text.now ∷ texts_left words.new) }
 {
     match words.next_word() {
         Some(word) => Some(word.text),
@@ -24,11 +24,11 @@ pub fn next_text<'a>(words: &mut Words<'a>) -> Option<&'a [u8]>
 
 /// Checks that no word is left.
 pub fn take_none<'a>(words: &mut Words<'a>) -> Result<(), LineError>
-    ensures none { OnOk result (word_texts words.old ≡ []) }
+    ensures none { OnOk result (texts_left words.old ≡ []) }
     ensures others { IfErr result (λ e. (parsed : Result Command LineError) →
-        no_word (word_texts words.old) parsed ≡ Err e) }
+        no_word (texts_left words.old) parsed ≡ Err e) }
     ensures rules { IfErr result (λ e. (parsed : Result Rule LineError) →
-        no_word (word_texts words.old) parsed ≡ Err e) }
+        no_word (texts_left words.old) parsed ≡ Err e) }
 {
     match next_text(words) {
         Some(_) => Err(LineError::WrongCount),
@@ -38,11 +38,11 @@ pub fn take_none<'a>(words: &mut Words<'a>) -> Result<(), LineError>
 
 /// The one word that is left.
 pub fn take_one<'a>(words: &mut Words<'a>) -> Result<&'a [u8], LineError>
-    ensures one { IfOk result (λ first. word_texts words.old ≡ first.now ∷ []) }
+    ensures one { IfOk result (λ first. texts_left words.old ≡ first.now ∷ []) }
     ensures others { IfErr result (λ e. (parse : List ℕ → Result Command LineError) →
-        one_word (word_texts words.old) parse ≡ Err e) }
+        one_word (texts_left words.old) parse ≡ Err e) }
     ensures rules { IfErr result (λ e. (parse : List ℕ → Result Rule LineError) →
-        one_word (word_texts words.old) parse ≡ Err e) }
+        one_word (texts_left words.old) parse ≡ Err e) }
 {
     let first = next_text(words).ok_or(LineError::WrongCount)?;
     take_none(words)?;
@@ -52,11 +52,11 @@ pub fn take_one<'a>(words: &mut Words<'a>) -> Result<&'a [u8], LineError>
 /// The two words that are left.
 pub fn take_two<'a>(words: &mut Words<'a>) -> Result<(&'a [u8], &'a [u8]), LineError>
     ensures two { IfOk result (λ both.
-        word_texts words.old ≡ both.0.now ∷ both.1.now ∷ []) }
+        texts_left words.old ≡ both.0.now ∷ both.1.now ∷ []) }
     ensures others { IfErr result (λ e. (parse : List ℕ → List ℕ → Result Command LineError) →
-        two_words (word_texts words.old) parse ≡ Err e) }
+        two_words (texts_left words.old) parse ≡ Err e) }
     ensures rules { IfErr result (λ e. (parse : List ℕ → List ℕ → Result Rule LineError) →
-        two_words (word_texts words.old) parse ≡ Err e) }
+        two_words (texts_left words.old) parse ≡ Err e) }
 {
     let first = next_text(words).ok_or(LineError::WrongCount)?;
     let second = take_one(words)?;
@@ -67,11 +67,11 @@ type FourWords<'a> = (&'a [u8], &'a [u8], (&'a [u8], &'a [u8]));
 
 /// The four words that are left.
 pub fn take_four<'a>(words: &mut Words<'a>) -> Result<FourWords<'a>, LineError>
-    ensures four { IfOk result (λ all. word_texts words.old ≡
+    ensures four { IfOk result (λ all. texts_left words.old ≡
         all.0.now ∷ all.1.now ∷ all.2.0.now ∷ all.2.1.now ∷ []) }
     ensures others { IfErr result (λ e.
         (parse : List ℕ → List ℕ → List ℕ → List ℕ → Result Command LineError) →
-        four_words (word_texts words.old) parse ≡ Err e) }
+        four_words (texts_left words.old) parse ≡ Err e) }
 {
     let first = next_text(words).ok_or(LineError::WrongCount)?;
     let second = next_text(words).ok_or(LineError::WrongCount)?;
@@ -82,10 +82,10 @@ type FiveWords<'a> = (&'a [u8], FourWords<'a>);
 
 /// The five words that are left.
 pub fn take_five<'a>(words: &mut Words<'a>) -> Result<FiveWords<'a>, LineError>
-    ensures five { IfOk result (λ all. word_texts words.old ≡ all.0.now ∷ all.1.0.now
+    ensures five { IfOk result (λ all. texts_left words.old ≡ all.0.now ∷ all.1.0.now
         ∷ all.1.1.now ∷ all.1.2.0.now ∷ all.1.2.1.now ∷ []) }
     ensures others { IfErr result (λ e. (parse : List ℕ → List ℕ → List ℕ → List ℕ → List ℕ
-        → Result Command LineError) → five_words (word_texts words.old) parse ≡ Err e) }
+        → Result Command LineError) → five_words (texts_left words.old) parse ≡ Err e) }
 {
     let first = next_text(words).ok_or(LineError::WrongCount)?;
     Ok((first, take_four(words)?))
@@ -95,11 +95,11 @@ type SevenWords<'a> = (&'a [u8], &'a [u8], FiveWords<'a>);
 
 /// The seven words that are left.
 pub fn take_seven<'a>(words: &mut Words<'a>) -> Result<SevenWords<'a>, LineError>
-    ensures seven { IfOk result (λ all. word_texts words.old ≡ all.0.now ∷ all.1.now
+    ensures seven { IfOk result (λ all. texts_left words.old ≡ all.0.now ∷ all.1.now
         ∷ all.2.0.now ∷ all.2.1.0.now ∷ all.2.1.1.now ∷ all.2.1.2.0.now ∷ all.2.1.2.1.now ∷ []) }
     ensures others { IfErr result (λ e. (parse : List ℕ → List ℕ → List ℕ → List ℕ → List ℕ
         → List ℕ → List ℕ → Result Command LineError)
-        → seven_words (word_texts words.old) parse ≡ Err e) }
+        → seven_words (texts_left words.old) parse ≡ Err e) }
 {
     let first = next_text(words).ok_or(LineError::WrongCount)?;
     let second = next_text(words).ok_or(LineError::WrongCount)?;

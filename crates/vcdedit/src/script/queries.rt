@@ -1,7 +1,7 @@
 //! The lines that ask about a capture and leave it as it is.
 
 ghost use Rattle.vcd_core.specs.CaptureContents.{contents};
-ghost use Rattle.vcd_text.specs.Grammar.{word_texts};
+ghost use Rattle.vcd_text.specs.LentWords.{texts_left};
 ghost use Rattle.vcdedit.specs.ScriptCommands.{command_of};
 ghost use Rattle.vcdedit.specs.declared.script.keyword.Keyword.TheVariants as keywords;
 ghost use Rattle.vcdedit.specs.inside.Commands.{ReadsAs};
@@ -15,7 +15,7 @@ use vcd_text::Words;
 
 /// Reads `NAME TICK`.
 pub fn parse_value<'a>(words: &mut Words<'a>, capture: &Capture) -> Parsed<'a>
-    ensures { ReadsAs (command_of (contents capture.now) keywords.Value (word_texts words.old))
+    ensures { ReadsAs (command_of (contents capture.now) keywords.Value (texts_left words.old))
         result }
 {
     let (name, tick) = take_two(words)?;
@@ -26,7 +26,7 @@ pub fn parse_value<'a>(words: &mut Words<'a>, capture: &Capture) -> Parsed<'a>
 
 /// Reads `NAME` of a signal whose changes are asked for.
 pub fn parse_changes<'a>(words: &mut Words<'a>, capture: &Capture) -> Parsed<'a>
-    ensures { ReadsAs (command_of (contents capture.now) keywords.Changes (word_texts words.old))
+    ensures { ReadsAs (command_of (contents capture.now) keywords.Changes (texts_left words.old))
         result }
 {
     let signal = signal_of_name(capture, take_one(words)?)?;

@@ -4,11 +4,10 @@ use Rattle.std.proofs.Common.{append-nil, length-append, refl}
 use Rattle.std.proofs.lemmas.Result.{err_from_is_err_and}
 use Rattle.vcd_text.specs.declared.fault.ReadError.{ReadError}
 use Rattle.vcd_text.specs.Words.{PlacedWord}
-use Rattle.vcd_text.specs.LentWords.{word_contents}
+use Rattle.vcd_text.specs.LentWords.{word_contents, words_left}
 use Rattle.vcd_text.specs.Faults.{ShowsFault}
 use Rattle.vcd_text.specs.MemoryErrors.{memory_error}
 use Rattle.vcd_text.specs.inside.Reading.{HasTakenWords, AllWordsResult}
-use Rattle.vcd_text.specs.inside.WordWalk.{words_left}
 use Rattle.vcd_text.proofs.reading.file_reader.read_words.Goals as goal
 
 -- the words so far, this word, and the words left
@@ -19,14 +18,13 @@ in_turn all came words left word parts next = grind (arith, append_assoc)
 pub loop-word-init : goal.loop-word-init
 loop-word-init c = (
   ([], refl, λ words_so_far reads. subst (HasTakenWords c.args.parser.now) (sym (append-nil words_so_far)) reads),
-  c.requires.lines,
   refl,
 )
 
 pub take_word-requires-clause-reading : goal.take_word-requires-clause-reading
 take_word-requires-clause-reading c =
     let came = c.loop-word.invariant.0.0 in
-    let (words_so_far, reads, few) = c.requires.word_count in
+    let (words_so_far, reads, few) = c.requires in
     record {
       words = words_so_far ++ came;
       taken_words = c.loop-word.invariant.0.2 words_so_far reads;
@@ -53,8 +51,7 @@ loop-word-preserved c =
         λ words_so_far reads. subst (HasTakenWords c.take_word.new.self) (append_assoc words_so_far came (word ∷ []))
             (c.in_ok-take_word.ensures (words_so_far ++ came) (c.loop-word.invariant.0.2 words_so_far reads)),
       ),
-      c.in-Some.ensures.lines,
-      c.in-Some.ensures.line_feeds ∙ c.loop-word.invariant.2,
+      c.in-Some.ensures.line_feeds ∙ c.loop-word.invariant.1,
     )
 
 pub returns-in_err-take_word-clause-words : goal.returns-in_err-take_word-clause-words

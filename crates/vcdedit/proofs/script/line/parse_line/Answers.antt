@@ -2,6 +2,7 @@ use Rattle.std.proofs.Common.{◌≡◌, ◌∷◌, Result, Ok, Err, sym, ap, su
 use Rattle.std.specs.Prelude.{IfOk, IfErr}
 use Rattle.vcd_core.specs.CaptureContents.{contents}
 use Rattle.vcd_text.specs.Grammar.{word_texts}
+use Rattle.vcd_text.specs.LentWords.{texts_left}
 use Rattle.vcd_text.specs.Words.{words_of}
 use Rattle.vcdedit.specs.declared.script.command.Command.{Command}
 use Rattle.vcdedit.specs.declared.script.line_error.LineError.{LineError}
@@ -26,7 +27,7 @@ read_fault wanted (Err fault) reads = reads
 pub returns-in-Some-clause-command : goal.returns-in-Some-clause-command
 unfolding command_of_line
 returns-in-Some-clause-command c =
-    let texts : word_texts (words_of c.args.line.now) ≡ c.in-Some.first.now ∷ word_texts c.next_text.new.words =
+    let texts : word_texts (words_of c.args.line.now) ≡ c.in-Some.first.now ∷ texts_left c.next_text.new.words =
     ap word_texts (sym c.new-words.ensures.words) ∙ c.in-Some.ensures in
     read_command (command_of_words (contents c.args.capture.now) (word_texts (words_of c.args.line.now)))
     c.parse_first_word.result
@@ -37,7 +38,7 @@ returns-in-Some-clause-command c =
 pub returns-in-Some-clause-fault : goal.returns-in-Some-clause-fault
 unfolding command_of_line
 returns-in-Some-clause-fault c =
-    let texts : word_texts (words_of c.args.line.now) ≡ c.in-Some.first.now ∷ word_texts c.next_text.new.words =
+    let texts : word_texts (words_of c.args.line.now) ≡ c.in-Some.first.now ∷ texts_left c.next_text.new.words =
     ap word_texts (sym c.new-words.ensures.words) ∙ c.in-Some.ensures in
     read_fault (command_of_words (contents c.args.capture.now) (word_texts (words_of c.args.line.now)))
     c.parse_first_word.result

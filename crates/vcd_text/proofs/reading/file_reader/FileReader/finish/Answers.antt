@@ -10,8 +10,8 @@ use Rattle.vcd_text.proofs.LastWords.{stops}
 use Rattle.vcd_text.proofs.WordLaws.{words_are_few}
 use Rattle.vcd_text.proofs.reading.file_reader.FileReader.finish.Goals as goal
 
-pub read_words-requires-clause-word_count : goal.read_words-requires-clause-word_count
-read_words-requires-clause-word_count c = grind (arith, words_are_few)
+pub read_words-requires : goal.read_words-requires
+read_words-requires c = grind (arith, words_are_few)
 
 pub returns-in_err-read_words-clause-fault : goal.returns-in_err-read_words-clause-fault
 returns-in_err-read_words-clause-fault c =
@@ -42,7 +42,7 @@ into_loaded-requires-clause-known c =
     let (bytes, taken) = c.requires in
     let reads = last_taken c.args.self c.read_words.new.parser c.as_slice.result.now bytes taken c.as_slice.ensures
     (c.in_ok-read_words.ensures.words (complete_words bytes) taken.taken_words) in
-    (reads.state, reads.at.0.variables)
+    (reads.state, reads.at.0.variables, reads.at.0.scopes)
 
 pub returns-clause-means : goal.returns-clause-means
 returns-clause-means c = λ bytes taken.

@@ -10,8 +10,8 @@ use Rattle.vcd_text.proofs.Chunks.{now_taken, now_shown, word_is_first}
 use Rattle.vcd_text.proofs.WordLaws.{words_are_few}
 use Rattle.vcd_text.proofs.reading.file_reader.FileReader.take_words.Goals as goal
 
-pub read_words-requires-clause-word_count : goal.read_words-requires-clause-word_count
-read_words-requires-clause-word_count c = grind (arith, word_is_first, length-append, length-take, words_are_few)
+pub read_words-requires : goal.read_words-requires
+read_words-requires c = grind (arith, word_is_first, length-append, length-take, words_are_few)
 
 pub returns-in_err-self-clause-taken : goal.returns-in_err-self-clause-taken
 returns-in_err-self-clause-taken c = λ bytes come.

@@ -2,13 +2,24 @@ use Rattle.std.proofs.Common.{◌≡◌, ℕ, List, map, length, sym, ap, subst,
 use Rattle.vcd_core.specs.CaptureContents.{contents, signal_contents}
 use Rattle.vcd_core.specs.Sound.{IsSound}
 use Rattle.vcd_text.specs.Words.{words_of}
-use Rattle.vcd_text.specs.Meaning.{meaning}
+use Rattle.vcd_text.specs.Meaning.{meaning, declared_signal}
+use Rattle.vcd_text.specs.Grammar.{kept_variables}
 use Rattle.vcd_text.specs.inside.Reading.{HasTakenWords}
 use Rattle.vcd_text.proofs.LastWords.{accepts}
 use Rattle.vcd_core.specs.declared.capture.Signal.{Signal}
-use Rattle.vcd_text.proofs.PlacedSignals.{all_signals}
+use Rattle.vcd_text.proofs.PlacedSignals.{all_signals, declared_long}
 use Rattle.vcd_text.proofs.SoundMeaning.{meaning_is_sound}
 use Rattle.vcd_text.proofs.reading.parser.Parser.into_loaded.Goals as goal
+
+pub place_signals-requires : goal.place_signals-requires
+place_signals-requires c =
+    let (state, known, holds) = c.requires.known in (
+      state,
+      holds,
+      declared_long c.deref_mut.result.now (kept_variables state.declared)
+          (declared_signal state.value_changes state.tick)
+          (ap (map signal_contents) c.deref_mut.ensures.value ∙ c.in_ok-signals.ensures state known),
+    )
 
 pub returns : goal.returns
 returns c =
