@@ -31,16 +31,10 @@ pub fn copy_scopes(alloc: Global, scopes: &[ScopeName]) -> Result<Vec<ScopeName>
 {
     let mut copies = Vec::new(alloc);
     for scope in scopes {
-        copies.push(copy_scope(alloc, scope)?)?;
+        copies.push(ScopeName {
+            kind: copy_word(alloc, scope.kind.as_slice())?,
+            words: copy_words(alloc, scope.words.as_slice())?,
+        })?;
     }
     Ok(copies)
-}
-
-fn copy_scope(alloc: Global, scope: &ScopeName) -> Result<ScopeName, NoMemory>
-    ensures { IfOk result (λ copy. copy ≡ scope.now) }
-{
-    Ok(ScopeName {
-        kind: copy_word(alloc, scope.kind.as_slice())?,
-        words: copy_words(alloc, scope.words.as_slice())?,
-    })
 }

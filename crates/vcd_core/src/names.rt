@@ -46,18 +46,10 @@ fn position_in(name: &[u8], count: usize) -> Option<usize>
         then Some (number_in name.now) else None) }
 {
     match name {
-        [b'@', digits @ ..] => number_below(digits, count),
-        _ => None,
-    }
-}
-
-/// The decimal number that a text is, if it is below `limit`.
-fn number_below(text: &[u8], limit: usize) -> Option<usize>
-    ensures { result ≡ (if is_number text.now && nat_lt (number_of text.now) limit
-        then Some (number_of text.now) else None) }
-{
-    match number_up_to(text, limit as u64) {
-        Some(number) if number < limit as u64 => Some(number as usize),
+        [b'@', digits @ ..] => match number_up_to(digits, count as u64) {
+            Some(number) if number < count as u64 => Some(number as usize),
+            _ => None,
+        },
         _ => None,
     }
 }

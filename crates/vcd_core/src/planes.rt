@@ -65,27 +65,6 @@ pub(crate) fn words_fit(words: &[u64])
     ensures { All (λ w. w < 2 ^ 64) words.now }
 {}
 
-/// Writes the letters of a row of blocks that are below bit `width` into planes of zeros, a block
-/// at a time.
-fn write_blocks(planes: &mut [u64], width: u64, blocks: &[LetterBlock])
-    requires sized { length planes.old ≡ 2 * BLOCKS }
-    requires zeros { planes.old ≡ replicate (2 * BLOCKS) 0 }
-    requires most { width ≤ 64 * BLOCKS }
-    requires blocks { width ≤ 64 * length blocks.now }
-    ensures letters { letters_in width planes.new ≡ letters_of width blocks.now }
-    ensures planes { ArePlanes BLOCKS width planes.new }
-{
-    let mut left = width;
-    for j in 0..blocks_in(width) {
-        let mask = ones(left);
-        planes[2 * j] = blocks[j].low & mask;
-        planes[2 * j + 1] = blocks[j].high & mask;
-        left = left.saturating_sub(64);
-    }
-    // Its clause bounds each word after the loop.
-    words_fit(planes);
-}
-
 /// The planes of the letters of a row of blocks that are below bit `width`. Only the blocks in use
 /// are computed.
 pub(crate) fn planes_of_blocks(width: u64, blocks: &[LetterBlock]) -> [u64; 2 * BLOCKS]
@@ -95,7 +74,15 @@ pub(crate) fn planes_of_blocks(width: u64, blocks: &[LetterBlock]) -> [u64; 2 * 
     ensures planes { ArePlanes BLOCKS width result }
 {
     let mut planes = [0; 2 * BLOCKS];
-    write_blocks(&mut planes, width, blocks);
+    let mut left = width;
+    for j in 0..blocks_in(width) {
+        let mask = ones(left);
+        planes[2 * j] = blocks[j].low & mask;
+        planes[2 * j + 1] = blocks[j].high & mask;
+        left = left.saturating_sub(64);
+    }
+    // Its clause bounds each word after the loop.
+    words_fit(&planes);
     planes
 }
 

@@ -8,18 +8,6 @@ use crate::memory::NoMemory;
 use crate::wave::Change;
 use std::alloc::Global;
 
-/// Swaps the changes of `list` from `at` on with those of `other`, one for one.
-fn swap_part(list: &mut [Change], at: usize, other: &mut [Change])
-    requires { at + length other.old ≤ length list.old }
-    ensures list { list.new ≡ take at list.old ++ other.old
-        ++ drop (at + length other.old) list.old }
-    ensures other { other.new ≡ take (length other.old) (drop at list.old) }
-{
-    let (_, rest) = list.split_at_mut(at);
-    let (part, _) = rest.split_at_mut(other.len());
-    part.swap_with_slice(other);
-}
-
 /// The change `by` ticks later, or earlier if `by` is negative.
 pub fn moved_change(change: &Change, by: i64) -> Change
     requires { TickFits by change.now }
@@ -46,7 +34,9 @@ fn swap_fronts(changes: &mut Vec<Change>, at: usize, piece: &mut Vec<Change>, co
     ensures piece_capacity { vec_capacity piece.new ≡ vec_capacity piece.old }
 {
     let (front, _) = piece.as_mut_slice().split_at_mut(count);
-    swap_part(changes.as_mut_slice(), at, front);
+    let (_, rest) = changes.as_mut_slice().split_at_mut(at);
+    let (part, _) = rest.split_at_mut(count);
+    part.swap_with_slice(front);
 }
 
 /// Moves the changes from `to` on to `from`, and each by `by` ticks. The old changes at the
@@ -174,18 +164,6 @@ pub(crate) fn splice_changes(
     }
 }
 
-/// Appends changes to a list that has room for them, each moved by `by` ticks.
-fn append_moved(list: &mut Vec<Change>, changes: &[Change], by: i64)
-    requires room { vec_len list.old + length changes.now ≤ vec_capacity list.old }
-    requires ticks { AllTicksFit by changes.now }
-    ensures items { list.new.items ≡ list.old.items ++ map (moved_change by) changes.now }
-    ensures capacity { vec_capacity list.old ≤ vec_capacity list.new }
-{
-    for change in changes {
-        list.push(moved_change(change, by)).unwrap();
-    }
-}
-
 /// Puts the result of a splice of `list` into `copy`, which has the room.
 ///
 /// Each change that is kept is copied once.
@@ -207,7 +185,9 @@ fn fill_spliced(
     copy.truncate(0);
     copy.extend_from_slice(&list[..from]).unwrap();
     copy.extend_from_slice(piece).unwrap();
-    append_moved(copy, &list[to..], by);
+    for change in &list[to..] {
+        copy.push(moved_change(change, by)).unwrap();
+    }
 }
 
 /// The result of a splice of `list`, in a list of its own without room for more.

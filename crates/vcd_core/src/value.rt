@@ -153,13 +153,6 @@ impl Value {
             high: plane_word(&self.planes, 1, k),
         }
     }
-
-    /// Whether each bit is x.
-    pub(crate) fn is_all_x(&self) -> bool
-        ensures { result ≡ same_letters self.now (all_x (length self.now)) }
-    {
-        *self == Value::filled(self.width, Bit::X)
-    }
 }
 
 impl PartialEq for Value {

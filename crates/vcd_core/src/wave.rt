@@ -19,6 +19,7 @@ use crate::wave_list::WaveList;
 use crate::wave_push::{last_value, push_block_change, push_change};
 use std::alloc::Global;
 use std::marker::Model;
+use std::rc::Rc;
 
 /// From `tick` on, a signal has `value`.
 #[derive(Clone, Copy, Debug, PartialEq)]
@@ -302,12 +303,20 @@ impl Wave {
     }
 
     /// Whether both waves share one list. Their changes are compared then, at the cost of reading
-    /// them; waves that share no list are told apart at once.
+    /// them, since no contract says that a list is the same as itself. Waves that share no list are
+    /// told apart at once.
     pub fn shares_list_with(&self, other: &Wave) -> bool
         ensures width { IsTrue result → self.now.width ≡ other.now.width }
         ensures changes { IsTrue result → self.now.changes ≡ other.now.changes }
     {
-        self.width == other.width && self.list.is_same_shared(&other.list)
+        match (&self.list.shared, &other.list.shared) {
+            (Some(list), Some(others)) => {
+                self.width == other.width
+                    && Rc::ptr_eq(list, others)
+                    && list.as_slice() == others.as_slice()
+            }
+            _ => false,
+        }
     }
 
     /// The wave that [`Wave::splice`] would make of this one, beside it. [`Wave::copy`] shares its

@@ -81,19 +81,6 @@ impl WaveList {
         }
     }
 
-    /// Whether both are one list that waves share. Then their changes are compared too, since no
-    /// contract says that a list is the same as itself.
-    pub fn is_same_shared(&self, other: &WaveList) -> bool
-        ensures { IsTrue result → changes_of_list self.now ≡ changes_of_list other.now }
-    {
-        match (&self.shared, &other.shared) {
-            (Some(list), Some(other)) => {
-                Rc::ptr_eq(list, other) && list.as_slice() == other.as_slice()
-            }
-            _ => false,
-        }
-    }
-
     /// Takes a shared list back if no other wave has it any more.
     pub fn take_back(&mut self)
         ensures changes { changes_of_list self.new ≡ changes_of_list self.old }

@@ -61,7 +61,7 @@ fn has_last_value(changes: &[Change], value: &Value) -> bool
 {
     match changes.split_last() {
         Some((last, _)) => *value == last.value,
-        None => value.is_all_x(),
+        None => *value == Value::filled(value.width(), Bit::X),
     }
 }
 
