@@ -1,11 +1,8 @@
 -- The ending of the program is that of its words.
-use Rattle.std.proofs.Common.{◌≡◌, inl, inr, ℕ, List, [], Bool, true, false, subst}
-use Rattle.clap.specs.Words.{fault_of, kind_of, HasKind, IsAmong, Kinds}
+use Rattle.std.proofs.Common.{◌≡◌, inl, inr, [], subst}
+use Rattle.clap.specs.Words.{kind_of, HasKind, IsAmong, Kinds}
 use Rattle.clap.specs.declared.error.Error.{Error}
 use Rattle.clap.specs.declared.error.kind.ErrorKind.TheVariants as kinds_of_clap
-use Rattle.vcdedit.specs.declared.shell.ending.Ending.{Ending}
-use Rattle.vcdedit.specs.CommandLine.{option_app}
-use Rattle.vcdedit.specs.ProgramEnds.{is_done, IsEndingOf}
 
 -- for words without a fault, an error means that memory ran out
 pub failed_for_memory : (kinds : Kinds) (e : Error) → kinds ≡ [] → HasKind kinds e

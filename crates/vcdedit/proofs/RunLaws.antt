@@ -406,7 +406,7 @@ module _ (c : Contents) (skipped depth : ℕ) (lines : List (List ℕ)) where
               ap (replay c) again,
             );
         read_again = read_back last (all_sound (length lines));
-        only = λ d count means.
+        nothing_else = λ d count means.
             one_meaning (text last) d last count 0 means (read_back last (all_sound (length lines)));
       }
 

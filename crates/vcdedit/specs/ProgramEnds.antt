@@ -3,9 +3,10 @@
 use Rattle.std.specs.Prelude.{◌≡◌, ◌⊎◌, ℕ, Bool, true, false, List, [], Option, is_some, Result, Ok}
 use Rattle.std.specs.Prelude.{Err}
 use Rattle.std.specs.String.{string_bytes}
-use Rattle.clap.specs.Words.{fault_of}
+use Rattle.clap.specs.Words.{Kinds, IsAmong, fault_of}
 use Rattle.clap.specs.declared.error.kind.ErrorKind.{ErrorKind}
 use Rattle.clap.specs.declared.error.kind.ErrorKind.TheVariants.{DisplayHelp, DisplayVersion}
+use Rattle.clap.specs.declared.error.kind.ErrorKind.TheVariants.{OutOfMemory}
 use Rattle.vcdedit.specs.declared.shell.ending.Ending.{Ending}
 use Rattle.vcdedit.specs.declared.shell.ending.Ending.TheVariants.{Done, Failed, Shown, Refused}
 use Rattle.vcd_text.specs.declared.fault.Fault.TheVariants as faults
@@ -62,16 +63,6 @@ IsEndingOf words ending = (outcome : Result Summary RunError)
     × IsOutcomeOfOptions (asked_options words) outcome
     × (ending ≡ ending_of outcome)
 
--- the run was completed
-abbrev pub is_done : Ending → Bool
-is_done (Done summary) = true
-is_done _ = false
-
--- words have this ending: that of a run, if they have no fault; else no run was completed
-abbrev pub HasEnding : (words : List (List ℕ)) → Ending → Type 0
-HasEnding words ending = (fault_of option_app words ≡ [] → IsEndingOf words ending)
-    × (is_done ending ≡ true → fault_of option_app words ≡ [])
-
 -- the words ask for help or the version, by the kind of `clap`'s answer
 abbrev pub asks_for_text : ErrorKind → Bool
 asks_for_text DisplayHelp = true
@@ -84,3 +75,14 @@ IsEndingOfKind kind (Done summary) = ⊥
 IsEndingOfKind kind (Failed e) = Unit {0}
 IsEndingOfKind kind Shown = asks_for_text kind ≡ true
 IsEndingOfKind kind (Refused text) = asks_for_text kind ≡ false
+
+-- words with these faults, among which is to ask for help or the version, have this ending
+abbrev pub IsEndingWithoutRun : Kinds → Ending → Type 0
+IsEndingWithoutRun kinds ending = (kind : ErrorKind)
+    × ((kind ≡ OutOfMemory) ⊎ IsAmong kind kinds) × IsEndingOfKind kind ending
+
+-- words have this ending: that of a run, or one without a run where they have a fault
+abbrev pub HasEnding : (words : List (List ℕ)) → Ending → Type 0
+HasEnding words ending = (fault_of option_app words ≡ [] → IsEndingOf words ending)
+    × ((fault_of option_app words ≡ [] → ⊥)
+    → IsEndingWithoutRun (fault_of option_app words) ending)

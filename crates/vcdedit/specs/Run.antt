@@ -104,7 +104,7 @@ module _ (c : Contents) (skipped depth : ℕ) (lines : List (List ℕ)) where
     -- the output, read again, means the last capture, with nothing left out
     pub read_again : FileMeans outcome.output (capture_at (length lines)) 0
     -- and it means nothing else
-    pub only : (d : Contents) (count : ℕ) → FileMeans outcome.output d count
+    pub nothing_else : (d : Contents) (count : ℕ) → FileMeans outcome.output d count
         → (d ≡ capture_at (length lines)) × (count ≡ 0)
 
 -- what is written where the lines of a script are run on what a capture file means

@@ -53,6 +53,10 @@ HasText w text = Appends w.before w.after text
 abbrev pub HasFront : DeviceEnd → (count : ℕ) → List ℕ → Type 0
 HasFront w count text = (count ≤ length text) × HasText w (take count text)
 
+-- an `Option<&mut D>` as a call gives it back: none, one, or (never) a third variant
+abbrev pub Returned : Type 0 → Type 0
+Returned D = Unit {0} ⊎ (MutBor D × Unit {0}) ⊎ ⊥
+
 -- of devices, by what they show, and whether they have failed
 module _ {D : Type 0} (shown : D → Option (List ℕ)) (has_failed : D → Bool) where
   -- the end of a device
@@ -61,15 +65,13 @@ module _ {D : Type 0} (shown : D → Option (List ℕ)) (has_failed : D → Bool
 
   -- holds of the end of the writer of the output, or of none: `out` is the `Option<&mut D>` as it
   -- was passed, `left` as it was returned; they are the same variant
-  abbrev pub ForOutput : Option (MutBor D) → Unit {0} ⊎ (MutBor D × Unit {0}) ⊎ ⊥
-      → (Option DeviceEnd → Type 0) → Type 0
+  abbrev pub ForOutput : Option (MutBor D) → Returned D → (Option DeviceEnd → Type 0) → Type 0
   ForOutput None left property = property None
   ForOutput (Some out) (inr (inl left)) property = property (Some (device_end out.now left.0.now))
   ForOutput (Some out) left property = ⊥
 
 -- the writer of the output, if there is one, was flushed after the last byte that it took
-abbrev pub IsOutputFlushed : {D : Type 0} → (D → Bool) → Option (MutBor D)
-    → Unit {0} ⊎ (MutBor D × Unit {0}) ⊎ ⊥ → Type 0
+abbrev pub IsOutputFlushed : {D : Type 0} → (D → Bool) → Option (MutBor D) → Returned D → Type 0
 IsOutputFlushed is_flushed None left = Unit {0}
 IsOutputFlushed is_flushed (Some out) (inr (inl left)) = is_flushed left.0.now ≡ true
 IsOutputFlushed is_flushed (Some out) left = ⊥

@@ -3,7 +3,7 @@
 ghost use Rattle.std.specs.Prelude.{◌≡◌, ◌≤◌, false, true};
 ghost use Rattle.std.specs.Io.KnownBytes.{Appends};
 ghost use Rattle.clap.specs.Words.{kind_of};
-ghost use Rattle.vcdedit.specs.ProgramEnds.{IsEndingOfKind, asks_for_text, is_done, program_status};
+ghost use Rattle.vcdedit.specs.ProgramEnds.{IsEndingOfKind, asks_for_text, program_status};
 ghost use Rattle.vcdedit.specs.ProgramEnds.{program_text};
 
 use crate::running::{RunError, Summary};
@@ -51,7 +51,6 @@ pub fn report_ending<E: Sink>(ending: Ending, errors: &mut E) -> u8
 /// other words are refused, with `clap`'s text of the error.
 pub fn ending_without_run<R: Runtime + AllocGlobal>(rt: &R, error: &Error) -> Ending
     ensures kind { IsEndingOfKind (kind_of error.now) result }
-    ensures not_done { is_done result ≡ false }
     ensures no_memory { kind_of error.now ≡ ErrorKind.OutOfMemory →
         result ≡ Ending.Failed NO_MEMORY }
 {
@@ -76,8 +75,7 @@ fn asks_for_text(kind: ErrorKind) -> bool
 
 /// Writes a text to standard output, where the replies go too.
 fn show_text<R: Runtime>(rt: &R, text: &str) -> Ending
-    ensures kind { (kind : ErrorKind) → asks_for_text kind ≡ true → IsEndingOfKind kind result }
-    ensures not_done { is_done result ≡ false }
+    ensures { (kind : ErrorKind) → asks_for_text kind ≡ true → IsEndingOfKind kind result }
 {
     match write_and_flush(&mut ToWrite::new(io::writer(rt)), text.as_bytes()) {
         Ok(()) => Ending::Shown,

@@ -9,8 +9,10 @@ ghost use Rattle.std.specs.String.{string_bytes};
 ghost use Rattle.std.specs.Vec.Iter.{into_iter_items};
 ghost use Rattle.clap.specs.Words.{fault_of};
 ghost use Rattle.vcdedit.specs.CommandLine.{option_app, options_in};
-ghost use Rattle.vcdedit.specs.ProgramEnds.{is_done, ending_of, IsOutcomeOn, IsOutcomeOfOptions};
-ghost use Rattle.vcdedit.specs.ProgramEnds.{HasEnding, IsEndingOf, program_status, program_text};
+ghost use Rattle.clap.specs.declared.error.kind.ErrorKind.TheVariants.{ValueValidation};
+ghost use Rattle.vcdedit.specs.ProgramEnds.{HasEnding, IsEndingOf, IsEndingOfKind, ending_of};
+ghost use Rattle.vcdedit.specs.ProgramEnds.{IsEndingWithoutRun, IsOutcomeOn, IsOutcomeOfOptions};
+ghost use Rattle.vcdedit.specs.ProgramEnds.{program_status, program_text};
 ghost use Rattle.vcdedit.specs.RunEnds.{DeviceEnd, device_end, RunEnds};
 ghost use Rattle.vcdedit.specs.inside.SentReplies.{HasSentReplies};
 
@@ -51,7 +53,7 @@ pub fn status_of_program<R: Runtime + AllocGlobal, E: Sink>(
     // the status and the text are those of one ending, which is that of the words
     ensures reported { (ending : Ending) ×
         IfOk words (λ args. HasEnding (map string_bytes (drop 1 (into_iter_items args))) ending) ×
-        IfErr words (λ _. is_done ending ≡ false) ×
+        IfErr words (λ _. IsEndingOfKind ValueValidation ending) ×
         (result ≡ program_status ending) ×
         (E.has_failed errors.new ≡ false →
         Appends (E.taken errors.old) (E.taken errors.new) (program_text ending)) }
@@ -64,7 +66,7 @@ pub fn status_of_program<R: Runtime + AllocGlobal, E: Sink>(
 
 /// The ending where the words are not had: memory ran out, or one of them is no text.
 fn ending_without_words<R: Runtime + AllocGlobal>(rt: &R, error: &io::Error) -> Ending
-    ensures { is_done result ≡ false }
+    ensures { IsEndingOfKind ValueValidation result }
 {
     if error.kind() == ErrorKind::OutOfMemory {
         return Ending::Failed(NO_MEMORY);
@@ -80,9 +82,10 @@ fn ending_of_words<R: Runtime + AllocGlobal>(rt: &R, words: Args) -> Ending
     // words without a fault are run
     ensures of_run { fault_of option_app (map string_bytes (drop 1 (into_iter_items words))) ≡ [] →
         IsEndingOf (map string_bytes (drop 1 (into_iter_items words))) result }
-    // and only such words are run
-    ensures done { is_done result ≡ true →
-        fault_of option_app (map string_bytes (drop 1 (into_iter_items words))) ≡ [] }
+    // and others are not
+    ensures without_run { (fault_of option_app (map string_bytes (drop 1 (into_iter_items words))) ≡ [] → ⊥) →
+        IsEndingWithoutRun (fault_of option_app (map string_bytes (drop 1 (into_iter_items words))))
+        result }
 {
     let Ok(words) = words_after_name(rt.alloc(), words) else {
         return Ending::Failed(NO_MEMORY);

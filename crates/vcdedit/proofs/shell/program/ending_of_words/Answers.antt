@@ -1,7 +1,8 @@
 -- Words without a fault that are not accepted ran out of memory, and so the run was not begun.
-use Rattle.std.proofs.Common.{Err, inl, inr, refl, ap, subst, map, ◌∙◌}
+use Rattle.std.proofs.Common.{Err, inl, inr, refl, sym, ap, subst, map, ◌∙◌}
 use Rattle.std.specs.String.{string_bytes}
-use Rattle.clap.specs.Words.{fault_of}
+use Rattle.clap.specs.Words.{fault_of, kind_of, HasKind, Kinds}
+use Rattle.clap.specs.declared.error.kind.ErrorKind.TheVariants as kinds_of_clap
 use Rattle.vcdedit.specs.CommandLine.{asked_options, option_app}
 use Rattle.vcdedit.specs.ProgramEnds.{IsOutcomeOfOptions}
 use Rattle.vcdedit.specs.declared.running.run_error.RunError.TheVariants as run_errors
@@ -33,4 +34,22 @@ returns-clause-of_run g c none =
       inl (run_errors.NoMemory 0, inr (inr refl), refl),
       c.ending_without_run.ensures.no_memory
           (failed_for_memory _ c.in-Err.error (all ∙ none) c.in-Err.ensures.faults),
+    )
+
+pub returns-in_default-clause-without_run : goal.returns-in_default-clause-without_run
+returns-in_default-clause-without_run g c some = (kinds_of_clap.OutOfMemory, inl refl, tt)
+
+pub returns-in-Ok-parse_words-clause-without_run : goal.returns-in-Ok-parse_words-clause-without_run
+returns-in-Ok-parse_words-clause-without_run g c some =
+    let all =
+    ap (λ words. fault_of option_app (map string_bytes words)) (c.as_slice.ensures.value ∙ c.in-Ok.ensures) in
+    absurd (some (sym all ∙ c.in-Ok-parse_words.ensures.faults))
+
+pub returns-clause-without_run : goal.returns-clause-without_run
+returns-clause-without_run g c some =
+    let all =
+    ap (λ words. fault_of option_app (map string_bytes words)) (c.as_slice.ensures.value ∙ c.in-Ok.ensures) in (
+      kind_of c.in-Err.error,
+      subst (λ (kinds : Kinds). HasKind kinds c.in-Err.error) all c.in-Err.ensures.faults,
+      c.ending_without_run.ensures.kind,
     )

@@ -4,7 +4,7 @@ use Rattle.vcdedit.proofs.shell.program.status_of_program.Goals as goal
 pub returns-in-Ok-clause-reported : goal.returns-in-Ok-clause-reported
 returns-in-Ok-clause-reported g c = (
   c.ending_of_words.result,
-  rw (c.in-Ok.is) (c.ending_of_words.ensures.of_run, c.ending_of_words.ensures.done),
+  rw (c.in-Ok.is) (c.ending_of_words.ensures.of_run, c.ending_of_words.ensures.without_run),
   rw (c.in-Ok.is) tt,
   c.report_ending.ensures.status,
   c.report_ending.ensures.text,
