@@ -1,7 +1,7 @@
 -- What a capture holds after a piece was put into one of its waves.
-use Rattle.std.proofs.Common.{◌≡◌, ◌≢◌, refl, suc, ℕ, ◌<◌, ◌≤◌, List, ◌∷◌, ◌++◌, length, take, drop}
+use Rattle.std.proofs.Common.{◌≡◌, ◌≢◌, refl, suc, ℕ, ◌<◌, List, ◌∷◌, ◌++◌, length, take, drop}
 use Rattle.std.proofs.Common.{map, get_or, set}
-use Rattle.std.proofs.Common.{slice_index_or, sym, ap, subst, ◌∙◌, inl, inr, false, arith}
+use Rattle.std.proofs.Common.{slice_index_or, sym, ap, subst, ◌∙◌, inl, inr, arith}
 use Rattle.std.specs.List.{insert, remove}
 use Rattle.std.proofs.lemmas.Bool.{cases_eq}
 use Rattle.std.proofs.lemmas.List.{map-set, get_or-map, get_or-set_same, get_or-set_other}
@@ -9,11 +9,13 @@ use Rattle.std.proofs.lemmas.List.{set-get_or, length-map}
 use Rattle.std.proofs.lemmas.List.{map-append, take-map, drop-map}
 use Rattle.vcd_core.specs.declared.wave.Change.{Change}
 use Rattle.vcd_core.specs.declared.capture.Signal.{Signal}
+use Rattle.vcd_core.specs.declared.capture.Capture.{Capture}
 use Rattle.vcd_core.specs.WaveView.{WaveView}
 use Rattle.vcd_core.specs.Contents.{SignalContents, no_signal}
-use Rattle.vcd_core.specs.CaptureContents.{signal_contents}
+use Rattle.vcd_core.specs.CaptureContents.{signal_contents, contents}
+use Rattle.vcd_edit.specs.RecordView.{PieceView}
 use Rattle.vcd_edit.specs.Effect.{renamed_signal}
-use Rattle.vcd_edit.specs.AppliedRecords.{signal_with_changes}
+use Rattle.vcd_edit.specs.AppliedRecords.{signal_with_changes, changes_with_piece, with_piece}
 use Rattle.vcd_edit.specs.inside.Exchanges.{no_wave, wave_at, HasNoLessRoom}
 
 -- the contents of the signal at a position
@@ -46,17 +48,28 @@ other_waves signals k j s other =
     ap (λ l. get_or l j no_wave) (map-set (λ (t : Signal). t.wave) signals k s)
     ∙ get_or-set_other (map (λ (t : Signal). t.wave) signals) k j s.wave no_wave other
 
--- if only room changes, the contents of the signals stay
-pub contents_kept : (signals : List Signal) (k : ℕ) (s : Signal) (w : WaveView) → k < length signals
-    → s ≡ get_or signals k s → w.width ≡ s.wave.width → w.changes ≡ s.wave.changes
-    → map signal_contents (set signals k (record s { wave = w })) ≡ map signal_contents signals
-contents_kept signals k s w within is width changes =
-    let at = contents_at signals k s within is in
-    changes_written signals k s w s.wave.changes within is width changes
-    ∙ ap (λ cs. set (map signal_contents signals) k
-    (signal_with_changes (slice_index_or (map signal_contents signals) k no_signal) cs))
+-- a piece is put into the wave of its signal
+pub piece_put : (c : Capture) (s : Signal) (w : WaveView) (p : PieceView) → p.signal < length c.signals
+    → s ≡ get_or c.signals p.signal s → w.width ≡ s.wave.width → w.changes ≡ changes_with_piece p s.wave.changes
+    → contents (record c { signals = set c.signals p.signal (record s { wave = w }) }) ≡ with_piece (contents c) p
+piece_put c s w p within is width changes =
+    ap (λ ss. record (contents c) { signals = ss })
+    (changes_written c.signals p.signal s w _ within is width
+    (changes ∙ ap (λ (t : SignalContents). changes_with_piece p t.changes)
+    (sym (contents_at c.signals p.signal s within is))))
+
+-- if only room changes, the contents stay
+pub contents_kept : (c : Capture) (k : ℕ) (s : Signal) (w : WaveView) → k < length c.signals
+    → s ≡ get_or c.signals k s → HasNoLessRoom s.wave w
+    → contents (record c { signals = set c.signals k (record s { wave = w }) }) ≡ contents c
+contents_kept c k s w within is kept =
+    let at = contents_at c.signals k s within is in
+    ap (λ ss. record (contents c) { signals = ss })
+    (changes_written c.signals k s w s.wave.changes within is kept.width kept.changes
+    ∙ ap (λ cs. set (map signal_contents c.signals) k
+    (signal_with_changes (slice_index_or (map signal_contents c.signals) k no_signal) cs))
     (ap (λ (t : SignalContents). t.changes) (sym at))
-    ∙ set-get_or (map signal_contents signals) k no_signal
+    ∙ set-get_or (map signal_contents c.signals) k no_signal)
 
 pub wave_there : (signals : List Signal) (k : ℕ) (s : Signal) (w : WaveView) → k < length signals
     → wave_at (set signals k (record s { wave = w })) k ≡ w
@@ -71,31 +84,6 @@ pub wave_is_there : (signals : List Signal) (k : ℕ) (s : Signal) → k < lengt
 wave_is_there signals k s within is = get_or-map (λ (t : Signal). t.wave) signals k s no_wave within
     ∙ ap (λ (t : Signal). t.wave) (sym is)
 
--- a wave that stays, if it has its own list, has no less room
-pub room_kept : (old new : WaveView) → new.width ≡ old.width → new.changes ≡ old.changes
-    → (old.is_shared ≡ false → new ≡ old) → HasNoLessRoom old new
-room_kept old new width changes stays =
-    record {
-      width = width;
-      changes = changes;
-      own = λ own. (
-        ap (λ (w : WaveView). w.is_shared) (stays own) ∙ own,
-        omega (arith, ap (λ (w : WaveView). w.capacity) (stays own)),
-      );
-    }
-
-pub room_then : (old between new : WaveView) → HasNoLessRoom old between → HasNoLessRoom between new
-    → HasNoLessRoom old new
-room_then old between new first second =
-    record {
-      width = second.width ∙ first.width;
-      changes = second.changes ∙ first.changes;
-      own = λ own. (
-        (second.own (first.own own).0).0,
-        omega (arith, (first.own own).1, (second.own (first.own own).0).1),
-      );
-    }
-
 -- if one wave has no less room, none has
 pub rooms_grow : (signals : List Signal) (k : ℕ) (s : Signal) (w : WaveView) → k < length signals
     → s ≡ get_or signals k s → HasNoLessRoom s.wave w
@@ -109,7 +97,7 @@ rooms_grow signals k s w within is more j =
           (subst (HasNoLessRoom s.wave) (sym (wave_there signals k s w within)) more))
       | inr other ↦ subst (HasNoLessRoom (wave_at signals j))
           (sym (other_waves signals k j (record s { wave = w }) other))
-          (room_kept (wave_at signals j) (wave_at signals j) refl refl (λ own. refl))
+          (record { width = refl; changes = refl; own = λ own. (own, omega arith) })
     ]
 
 -- ---- a word, and a signal put in or taken out

@@ -1,16 +1,20 @@
 -- A record was exchanged with a capture, part by part.
-use Rattle.std.proofs.Common.{◌≡◌, List, map, reverse, All, arith, sym, ap, subst, ◌∙◌}
+use Rattle.std.proofs.Common.{◌≡◌, ◌≢◌, ℕ, Option, Some, None, refl, List, map, reverse, All, arith, sym}
+use Rattle.std.proofs.Common.{ap, subst, ◌∙◌}
+use Rattle.std.proofs.lemmas.Option.{none-some}
 use Rattle.std.proofs.lemmas.List.{get_or-map, length-map}
 use Rattle.vcd_core.specs.Contents.{Contents}
 use Rattle.vcd_core.specs.Sound.{IsSound}
+use Rattle.vcd_core.specs.WaveView.{WaveView}
+use Rattle.vcd_core.specs.declared.capture.Signal.{Signal}
 use Rattle.vcd_edit.specs.RecordView.{PieceView, RecordView}
 use Rattle.vcd_edit.specs.AppliedRecords.{with_pieces, with_first_word, with_signal_in_out}
 use Rattle.vcd_edit.specs.AppliedRecords.{with_end, apply_record}
 use Rattle.vcd_edit.specs.AppliedRecords.{PieceFits, WordFits, Fits, HaveDistinctSignals}
 use Rattle.vcd_edit.specs.AppliedRecords.{HasOneKindOfPart}
 use Rattle.vcd_edit.specs.declared.record.Piece.{Piece}
-use Rattle.vcd_edit.specs.Records.{piece_view}
-use Rattle.vcd_edit.specs.inside.Exchanges.{PieceReadyIn, AreOppositePieces}
+use Rattle.vcd_edit.specs.Records.{piece_view, signal_view}
+use Rattle.vcd_edit.specs.inside.Exchanges.{PieceReadyIn, AreOppositePieces, HaveRoom}
 use Rattle.vcd_edit.specs.inside.Opposites.{opposite_word, opposite_signal, opposite_end}
 use Rattle.vcd_edit.specs.inside.Opposites.{opposite_record, IsNamedAt}
 use Rattle.vcd_edit.specs.inside.Opposites.{IsOppositeRecord}
@@ -23,6 +27,14 @@ pub fits_each : (c : Contents) (l : List Piece) → All (PieceFits c) (map piece
     → All (λ p. PieceFits c (piece_view p)) l
 fits_each c l all = λ k d less. subst (PieceFits c) (get_or-map piece_view l k d (piece_view d) less)
     (all k (piece_view d) (omega (arith, less, length-map l piece_view)))
+
+-- a record that puts a signal in or takes one out has no pieces
+pub room_then : (signal : Option (ℕ × Option Signal)) (n : ℕ) (ss tt' : List Signal) (l : List Piece)
+    (comings : List (Option WaveView)) → (signal_view signal ≢ None → n ≡ 0) → (signal ≡ None → tt' ≡ ss)
+    → HaveRoom ss l comings 0 n → HaveRoom tt' l comings 0 n
+room_then None n ss tt' l comings none same room = subst (λ xs. HaveRoom xs l comings 0 n) (sym (same refl)) room
+room_then (Some x) n ss tt' l comings none same room = λ k d from to.
+    absurd (omega (arith, to, none (λ some. none-some _ (sym some))))
 
 module _ (c : Contents) (r : RecordView) (fits : Fits r c) (one : HasOneKindOfPart r) (sound : IsSound c)
     (l : List PieceView)

@@ -81,34 +81,15 @@ fn exchange_with_wave(piece: &mut Piece, wave: &mut Wave, coming: Option<Wave>)
     piece.by = back;
 }
 
-/// Swaps a range of the piece's signal with the piece. The piece then undoes this.
-fn exchange_in_signal(capture: &mut Capture, piece: &mut Piece, coming: Option<Wave>)
-    requires ready { PieceReadyIn (contents capture.old) (piece_view piece.old) }
-    requires room { HasRoomForPiece capture.old.signals piece.old coming }
-    ensures effect { contents capture.new
-        ≡ with_piece (contents capture.old) (piece_view piece.old) }
-    ensures restores { IsOppositePiece (signal_at (contents capture.old) piece.old.signal).changes
-        (piece_view piece.old) (piece_view piece.new) }
-    ensures others { (k : ℕ) → k ≢ piece.old.signal
-        → wave_at capture.new.signals k ≡ wave_at capture.old.signals k }
-{
-    exchange_with_wave(
-        piece,
-        &mut capture.signals.item_mut(piece.signal).wave,
-        coming,
-    );
-}
-
 /// Swaps all pieces with their ranges of the capture, then reverses their list, so that the last is
 /// undone first. A piece with a wave that comes puts that in the place of its own.
 pub(crate) fn exchange_pieces(
     capture: &mut Capture,
     pieces: &mut Vec<Piece>,
-    mut comings: Vec<Option<Wave>>,
+    comings: Vec<Option<Wave>>,
 )
     requires ready { All (PieceReadyIn (contents capture.old)) (map piece_view pieces.old.items) }
     requires apart { HaveDistinctSignals (map piece_view pieces.old.items) }
-    requires count { vec_len comings ≡ vec_len pieces.old }
     requires room { HaveRoom capture.old.signals pieces.old.items comings.items 0
         (vec_len pieces.old) }
     ensures effect { contents capture.new
@@ -116,8 +97,10 @@ pub(crate) fn exchange_pieces(
     ensures restores { (qs : List PieceView) × (map piece_view pieces.new.items ≡ reverse qs)
         × AreOppositePieces (contents capture.old) (map piece_view pieces.old.items) qs }
 {
-    for (place, piece) in pieces.as_mut_slice().iter_mut().enumerate() {
-        exchange_in_signal(capture, piece, comings[place].take());
+    let mut comings = comings.into_iter();
+    for piece in pieces.as_mut_slice().iter_mut() {
+        let wave = &mut capture.signals.item_mut(piece.signal).wave;
+        exchange_with_wave(piece, wave, comings.next().unwrap_or(None));
     }
     pieces.reverse();
 }

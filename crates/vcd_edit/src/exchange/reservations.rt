@@ -1,8 +1,9 @@
 //! What pieces and waves need for their exchange: room, or waves that come in the place of those
 //! that share lists.
 
-ghost use Rattle.std.specs.Prelude.{◌≡◌, ℕ, ◌+◌, ◌-◌, ◌<◌, ◌≤◌, [], ◌∷◌, ◌++◌, All, IsOk, IfOk};
-ghost use Rattle.std.specs.Prelude.{OnOk, IsTrue, map, max, length, false, vec_len, vec_capacity};
+ghost use Rattle.std.specs.Prelude.{◌≡◌, ◌≢◌, ℕ, ◌+◌, ◌-◌, ◌<◌, ◌≤◌, [], All, IsOk, IfOk, OnOk};
+ghost use Rattle.std.specs.Prelude.{IsTrue, Some, None, map, max, length, slice_index_or, false};
+ghost use Rattle.std.specs.Prelude.{vec_len, vec_capacity};
 ghost use Rattle.vcd_core.specs.CaptureContents.{contents};
 ghost use Rattle.vcd_core.specs.WaveView.{WaveView};
 ghost use Rattle.vcd_edit.specs.Records.{piece_view};
@@ -15,6 +16,20 @@ use vcd_core::{Capture, NoMemory, Wave};
 
 /// A piece is compared with so many before it, whose waves may share the list of its own.
 const LOOK_BACK: usize = 1024;
+
+/// Makes room in a wave for `more` changes, unless it shares its list. Answers whether it does. The
+/// changes stay the same, also if the memory is refused.
+fn reserve_in_own_list(wave: &mut Wave, more: usize) -> Result<bool, NoMemory>
+    ensures never_less { HasNoLessRoom wave.old wave.new }
+    ensures room { IfOk result (λ is_shared. is_shared ≡ false → (wave.new.is_shared ≡ false)
+        × (length wave.old.changes + more ≤ wave.new.capacity)) }
+{
+    if wave.is_shared() {
+        return Ok(true);
+    }
+    wave.reserve(more)?;
+    Ok(false)
+}
 
 /// Makes room for the exchange of one piece: in the piece for just the changes that it gets, and in
 /// its wave for the growth, unless the wave shares its list. Answers whether it does. The contents
@@ -35,26 +50,7 @@ fn reserve_piece(capture: &mut Capture, piece: &mut Piece) -> Result<bool, NoMem
     let range_len = piece.to.saturating_sub(piece.from);
     piece.changes.reserve_exact(range_len.saturating_sub(len))?;
     let wave = &mut capture.signals.item_mut(piece.signal).wave;
-    if wave.is_shared() {
-        return Ok(true);
-    }
-    wave.reserve(len.saturating_sub(range_len))?;
-    Ok(false)
-}
-
-/// Whether two pieces have the same range and offset.
-fn have_same_range(piece: &Piece, other: &Piece) -> bool
-    ensures from { IsTrue result → piece.now.from ≡ other.now.from }
-    ensures to { IsTrue result → piece.now.to ≡ other.now.to }
-    ensures by { IsTrue result → piece.now.by ≡ other.now.by }
-{
-    if piece.from != other.from {
-        return false;
-    }
-    if piece.to != other.to {
-        return false;
-    }
-    piece.by == other.by
+    reserve_in_own_list(wave, len.saturating_sub(range_len))
 }
 
 /// Whether two pieces are for waves that share one list, and make the same of it.
@@ -65,7 +61,13 @@ fn have_same_result(capture: &Capture, piece: &Piece, other: &Piece) -> bool
         → IsComing (wave_at capture.now.signals other.now.signal) other.now w
         → IsComing (wave_at capture.now.signals piece.now.signal) piece.now w }
 {
-    if !have_same_range(piece, other) {
+    if piece.from != other.from {
+        return false;
+    }
+    if piece.to != other.to {
+        return false;
+    }
+    if piece.by != other.by {
         return false;
     }
     let wave = &capture.signals()[piece.signal].wave;
@@ -101,32 +103,52 @@ fn coming_wave(
     Ok(coming)
 }
 
-/// Makes what the next piece needs: room, or the wave that comes in the place of one that shares
-/// its list.
+/// Keeps the wave that comes for the piece at a place. Each piece before it has none, or has one
+/// already.
+fn put_coming(comings: &mut Vec<Option<Wave>>, place: usize, coming: Wave) -> Result<(), NoMemory>
+    requires { vec_len comings.old ≤ place }
+    ensures count { OnOk result (vec_len comings.new ≡ place + 1) }
+    ensures coming { OnOk result (slice_index_or comings.new.items place None ≡ Some coming) }
+    ensures others { OnOk result ((k : ℕ) → k ≢ place → slice_index_or comings.new.items k None
+        ≡ slice_index_or comings.old.items k None) }
+{
+    for _place in comings.len()..place {
+        comings.push(None)?;
+    }
+    comings.push(Some(coming))?;
+    Ok(())
+}
+
+/// Makes what the piece at a place needs: room, or the wave that comes in the place of one that
+/// shares its list.
+#[tactic(auto, using(crate::proofs::PieceLoops::views_kept))]
 fn reserve_next(
     capture: &mut Capture,
     pieces: &mut [Piece],
-    comings: &[Option<Wave>],
-) -> Result<Option<Wave>, NoMemory>
-    requires within { length comings.now < length pieces.old }
+    place: usize,
+    comings: &mut Vec<Option<Wave>>,
+) -> Result<(), NoMemory>
+    requires within { place < length pieces.old }
+    requires count { vec_len comings.old ≤ place }
     requires ready { All (PieceReadyIn (contents capture.old)) (map piece_view pieces.old) }
-    requires room { HaveRoom capture.old.signals pieces.old comings.now 0 (length comings.now) }
+    requires room { HaveRoom capture.old.signals pieces.old comings.old.items 0 place }
     ensures contents { contents capture.new ≡ contents capture.old }
     ensures pieces { map piece_view pieces.new ≡ map piece_view pieces.old }
-    ensures room { IfOk result (λ coming. HaveRoom capture.new.signals pieces.new
-        (comings.now ++ coming ∷ []) 0 (length comings.now + 1)) }
+    ensures count { OnOk result (vec_len comings.new ≤ place + 1) }
+    ensures room { OnOk result (HaveRoom capture.new.signals pieces.new comings.new.items 0
+        (place + 1)) }
 {
-    let next = comings.len();
-    if reserve_piece(capture, &mut pieces[next])? {
+    if reserve_piece(capture, &mut pieces[place])? {
         let pieces = &pieces[..];
-        let coming = coming_wave(capture, pieces, comings, &pieces[next])?;
-        return Ok(Some(coming));
+        let coming = coming_wave(capture, pieces, comings.as_slice(), &pieces[place])?;
+        put_coming(comings, place, coming)?;
     }
-    Ok(None)
+    Ok(())
 }
 
-/// Makes what each piece needs, in order. The contents of the capture and the pieces stay the same,
-/// also if the memory is refused.
+/// Makes what each piece needs, in order, and gives the waves that come, up to the last. While no
+/// wave shares its list, that takes no memory. The contents of the capture and the pieces stay the
+/// same, also if the memory is refused.
 pub(crate) fn reserve_all(
     alloc: Global,
     capture: &mut Capture,
@@ -135,15 +157,13 @@ pub(crate) fn reserve_all(
     requires ready { All (PieceReadyIn (contents capture.old)) (map piece_view pieces.old) }
     ensures contents { contents capture.new ≡ contents capture.old }
     ensures pieces { map piece_view pieces.new ≡ map piece_view pieces.old }
-    ensures count { IfOk result (λ comings. vec_len comings ≡ length pieces.new) }
     ensures room { IfOk result (λ comings. HaveRoom capture.new.signals pieces.new comings.items 0
         (length pieces.new)) }
     ensures never_refused { pieces.old ≡ [] → IsOk result }
 {
     let mut comings = Vec::new(alloc);
-    for _place in 0..pieces.len() {
-        let coming = reserve_next(capture, pieces, comings.as_slice())?;
-        comings.push(coming)?;
+    for place in 0..pieces.len() {
+        reserve_next(capture, pieces, place, &mut comings)?;
     }
     Ok(comings)
 }

@@ -1,16 +1,15 @@
-use Rattle.std.proofs.Common.{◌≡◌, ◌∙◌, ◌<◌, ◌≤◌, All, ap, sym, subst, length, map, arith}
+use Rattle.std.proofs.Common.{◌≡◌, ◌∙◌, All, ap, sym, subst, length, map, arith}
 use Rattle.std.proofs.lemmas.List.{length-map}
-use Rattle.vcd_core.specs.Contents.{signal_at}
-use Rattle.vcd_core.specs.CaptureContents.{signal_contents, contents}
-use Rattle.vcd_edit.specs.declared.record.Piece.{Piece}
+use Rattle.vcd_core.specs.CaptureContents.{contents}
 use Rattle.vcd_edit.specs.AppliedRecords.{apply_record, with_signal_in_out, Fits}
 use Rattle.vcd_edit.specs.Records.{piece_view, record_view, signal_view}
 use Rattle.vcd_edit.specs.inside.Opposites.{opposite_signal, IsOppositeRecord}
-use Rattle.vcd_edit.specs.inside.Exchanges.{PieceReadyIn}
+use Rattle.vcd_edit.specs.inside.Exchanges.{PieceReadyIn, HaveRoom}
+use Rattle.vcd_core.specs.declared.capture.Capture.{Capture}
 use Rattle.vcd_edit.proofs.OppositeRecords.{pieces_ready}
 use Rattle.vcd_edit.proofs.TouchedParts.{whole_list}
-use Rattle.vcd_edit.proofs.RecordExchanges.{fits_each, ready_then, word_fits_then, word_named_then}
-use Rattle.vcd_edit.proofs.RecordExchanges.{end_is_back}
+use Rattle.vcd_edit.proofs.RecordExchanges.{ready_then, word_fits_then, word_named_then}
+use Rattle.vcd_edit.proofs.RecordExchanges.{end_is_back, room_then}
 use Rattle.vcd_edit.proofs.RecordExchanges.{is_record_then, leads_then}
 use Rattle.vcd_edit.proofs.reverting.exchange_record.Goals as goal
 
@@ -39,6 +38,18 @@ exchange_pieces-requires-clause-ready c =
     ∙ ap (with_signal_in_out v.signal) c.reserve_all.ensures.contents in
     ready_then now v fits c.applied_record.invariant c.requires.sound _ whole
     (contents c.exchange_signal.new.capture) moved
+
+pub exchange_pieces-requires-clause-room : goal.exchange_pieces-requires-clause-room
+exchange_pieces-requires-clause-room c =
+    let p = c.applied_record.inside.pieces in
+    let new = c.reserve_all.new.pieces in
+    let lent = c.as_mut_slice.ensures.len in
+    room_then c.applied_record.inside.signal p.len c.reserve_all.new.capture.signals _ _ c.in-Ok.comings.items
+    (λ some. omega (arith, ap length (c.applied_record.invariant.signal_alone some).0, length-map p.items piece_view))
+    (λ none. ap (λ (x : Capture). x.signals) (c.exchange_signal.ensures.unchanged_without_signal none))
+    (subst (λ ps. HaveRoom c.reserve_all.new.capture.signals ps c.in-Ok.comings.items 0 p.len)
+    (sym (whole_list p.len new p.items (omega (arith, lent, c.reserve_all.auto.pieces))))
+    (λ k d from to. c.in-Ok.ensures.room k d from (omega (arith, to, lent, c.reserve_all.auto.pieces))))
 
 pub exchange_word-word-requires-clause-fits : goal.exchange_word-word-requires-clause-fits
 exchange_word-word-requires-clause-fits c =

@@ -1,11 +1,12 @@
--- The first pieces were put in, and there is a place for each wave that comes.
-use Rattle.std.proofs.Common.{◌≡◌, vec_len}
+-- The first pieces were put in, and the waves that come for the others are left.
+use Rattle.std.proofs.Common.{◌≡◌, drop}
+use Rattle.std.specs.Vec.Iter.{into_iter_items}
 use Rattle.vcd_core.specs.CaptureContents.{contents}
 use Rattle.vcd_edit.specs.inside.Exchanges.{ExchangedSoFar}
 use Rattle.vcd_edit.proofs.exchange.exchanges.exchange_pieces.Given as goal
 
-abbrev pub invariant-loop-place : goal.invariant-loop-place
-invariant-loop-place l =
-    ExchangedSoFar (contents l.fn.capture) l.initial.piece-items l.place l.piece-items (contents l.capture)
-    l.capture.signals l.comings.items
-    × (vec_len l.comings ≡ vec_len l.fn.comings)
+abbrev pub invariant-loop-piece : goal.invariant-loop-piece
+invariant-loop-piece l =
+    ExchangedSoFar (contents l.fn.capture) l.initial.piece-items l.piece-index l.piece-items (contents l.capture)
+    l.capture.signals l.fn.comings.items
+    × (into_iter_items l.comings ≡ drop l.piece-index l.fn.comings.items)

@@ -1,4 +1,4 @@
-use Rattle.std.proofs.Common.{◌≡◌, ◌∙◌, ◌+◌, ap, sym, refl, subst, pos, ◌+ℤ◌, w64, FitsSigned, ℤ, ℕ}
+use Rattle.std.proofs.Common.{◌≡◌, ◌∙◌, ◌+◌, ap, sym, subst, pos, ◌+ℤ◌, w64, FitsSigned, ℤ, ℕ}
 use Rattle.std.proofs.Common.{◌≤◌, to_z, of_z}
 use Rattle.std.proofs.Common.{length, rules}
 use Rattle.std.specs.Int.{FitsUnsigned}

@@ -1,4 +1,4 @@
-use Rattle.std.proofs.Common.{◌≡◌, map, vec_len}
+use Rattle.std.proofs.Common.{◌≡◌, ◌≤◌, map, vec_len}
 use Rattle.vcd_core.specs.CaptureContents.{contents}
 use Rattle.vcd_edit.specs.Records.{piece_view}
 use Rattle.vcd_edit.specs.inside.Exchanges.{HaveRoom}
@@ -7,5 +7,5 @@ use Rattle.vcd_edit.proofs.exchange.reservations.reserve_all.Given as goal
 -- the first pieces have what they need
 abbrev pub invariant-loop-place : goal.invariant-loop-place
 invariant-loop-place l = (contents l.capture ≡ contents l.fn.capture)
-    × (map piece_view l.pieces ≡ map piece_view l.fn.pieces) × (vec_len l.comings ≡ l._place)
-    × HaveRoom l.capture.signals l.pieces l.comings.items 0 (vec_len l.comings)
+    × (map piece_view l.pieces ≡ map piece_view l.fn.pieces) × (vec_len l.comings ≤ l.place)
+    × HaveRoom l.capture.signals l.pieces l.comings.items 0 l.place
