@@ -26,18 +26,22 @@ pub struct BitEdge {
 #[derive(Drop)]
 pub struct BitEdges<'a> {
     walk: EdgeWalk<'a>,
+    /// The bits just before the walk.
+    bits: [Option<Bit>; 4],
 }
 
 impl<'a> Model for BitEdges<'a> {
-    ghost use Rattle.std.specs.Prelude.{List};
+    ghost use Rattle.std.specs.Prelude.{List, ◌≡◌, map};
     ghost use Rattle.vcd_core.specs.declared.bit_edges.BitEdge.{BitEdge};
+    ghost use Rattle.vcd_core.specs.BitEdges.{lowest_bit};
     ghost use Rattle.vcd_core.specs.inside.EdgeWalk.{traces_left, bit_edges_left, EachRises};
 
     ghost Value = { List BitEdge };
 
     ghost view = { λ e. bit_edges_left (traces_left e.walk) };
 
-    ghost invariant = { λ e. EachRises 0 (traces_left e.walk) };
+    ghost invariant = { λ e. EachRises 0 (traces_left e.walk)
+        × (e.bits ≡ map (λ trace. lowest_bit trace.before) (traces_left e.walk)) };
 }
 
 impl<'a> BitEdges<'a> {
@@ -57,9 +61,9 @@ impl<'a> BitEdges<'a> {
             ∷ option_copied c.entry ∷ option_copied d.entry ∷ [] in
             (end : ℕ) → EachUpTo end waves → result ≡ bit_edges_of waves end }
     {
-        BitEdges {
-            walk: EdgeWalk::new(a, b, c, d),
-        }
+        let walk = EdgeWalk::new(a, b, c, d);
+        let bits = walk.bits();
+        BitEdges { walk, bits }
     }
 }
 
@@ -74,9 +78,10 @@ impl<'a> Iterator for BitEdges<'a> {
 
     fn next(&mut self) -> Option<BitEdge> {
         let tick = self.walk.next_tick()?;
-        let before = self.walk.bits();
+        let before = self.bits;
         self.walk = self.walk.after(tick);
         let at = self.walk.bits();
+        self.bits = at;
         Some(BitEdge { tick, before, at })
     }
 }

@@ -8,5 +8,5 @@ pub returns : goal.returns
 returns c = record {
   edges = λ end upto. ap (map bit_edge)
       (walk_from _ (option_copied c.args.a ∷ option_copied c.args.b ∷ option_copied c.args.c
-      ∷ option_copied c.args.d ∷ []) end c.new.ensures.traces upto);
+      ∷ option_copied c.args.d ∷ []) end c.new-walk.ensures.traces upto);
 }

@@ -7,24 +7,27 @@ use Rattle.vcd_core.proofs.bit_edges.BitEdgesIterator.next.Goals as goal
 pub returns-in_err-tick-clause-steps : goal.returns-in_err-tick-clause-steps
 returns-in_err-tick-clause-steps c =
     let over = sym c.self.view_is ∙ ap (map bit_edge)
-    (walk_over (traces_left c.self.inside.walk) c.self.invariant (sym c.in_err-tick.ensures)) in
+    (walk_over (traces_left c.self.inside.walk) c.self.invariant.0 (sym c.in_err-tick.ensures)) in
     rw c.from_residual.ensures (over, over)
 
 pub invariant_of-self : goal.invariant_of-self
-invariant_of-self c = walk_kept (traces_left c.self.inside.walk) _ _ c.self.invariant
-    (sym c.in_ok-tick.ensures) c.after-self-inside.ensures
+invariant_of-self c = (
+  walk_kept (traces_left c.self.inside.walk) _ _ c.self.invariant.0
+      (sym c.in_ok-tick.ensures) c.after-self-inside.ensures,
+  c.bits-at.ensures,
+)
 
 pub returns-clause-steps : goal.returns-clause-steps
 returns-clause-steps c =
     sym c.self.view_is
-    ∙ bit_walk_next (traces_left c.self.inside.walk) _ _ _ _ c.self.invariant
+    ∙ bit_walk_next (traces_left c.self.inside.walk) _ _ _ _ c.self.invariant.0
     (sym c.in_ok-tick.ensures) c.after-self-inside.ensures
-    c.bits-before.ensures c.bits-at.ensures
+    c.self.invariant.1 c.bits-at.ensures
 
 pub returns-clause-goes : goal.returns-clause-goes
 returns-clause-goes c =
-    let first = bit_walk_next (traces_left c.self.inside.walk) _ _ _ _ c.self.invariant
+    let first = bit_walk_next (traces_left c.self.inside.walk) _ _ _ _ c.self.invariant.0
     (sym c.in_ok-tick.ensures) c.after-self-inside.ensures
-    c.bits-before.ensures c.bits-at.ensures in
+    c.self.invariant.1 c.bits-at.ensures in
     let shorter = ap length (sym c.self.view_is ∙ first) in
     record { on = λ finite. (tt, finite, omega arith); keeps = tt; rests = λ _. tt }
