@@ -4,7 +4,6 @@ ghost use Rattle.std.specs.Prelude.{IfOk};
 ghost use Rattle.vcd_core.specs.CaptureContents.{contents};
 ghost use Rattle.vcd_core.specs.Sound.{IsSound};
 
-use crate::TEXT_LIMIT;
 use crate::calls::Call;
 use crate::counting::CountingSink;
 use crate::printing::{DONE, Failure, allow, print_capture, refuse};
@@ -12,11 +11,14 @@ use std::alloc::Global;
 use std::io;
 use std::io::Write;
 use std::rt::Runtime;
-use vcd_core::{Capture, FromRead, Sink, Source, ToWrite, read_whole};
+use vcd_core::{Capture, FromRead, Sink, Source, ToWrite};
 use vcd_text::{read, write};
 
 /// How many bytes a sink into memory takes without more memory.
 const ROOM: usize = 1_000_000;
+
+/// The most bytes that are read one by one.
+const TEXT_LIMIT: usize = 32_000_000;
 
 /// The capture that a text means.
 pub fn capture_of_text(alloc: Global, text: &[u8]) -> Result<Capture, Failure>
@@ -40,23 +42,6 @@ pub fn call_read<R: Runtime + AllocGlobal>(rt: &R, call: &Call) -> Result<(), Fa
                 allow(rt, error.name())?;
                 println!(rt; "line {}", error.line)?;
             }
-        }
-    }
-    let has_failed = source.failed();
-    let is_rest = call.text.ends_with(source.into_inner());
-    println!(rt; "failed {has_failed}, rest of the text {is_rest}")?;
-    Ok(())
-}
-
-/// `read_whole`. Prints whether the source has failed, and whether the rest ends the text.
-pub fn call_read_whole<R: Runtime + AllocGlobal>(rt: &R, call: &Call) -> Result<(), Failure> {
-    let mut source = FromRead::new(call.text);
-    let mut bytes = Vec::new(rt.alloc());
-    if call.makes {
-        refuse(rt)?;
-        match read_whole(&mut source, TEXT_LIMIT, &mut bytes) {
-            Ok(()) => allow(rt, DONE)?,
-            Err(fault) => allow(rt, fault.name())?,
         }
     }
     let has_failed = source.failed();

@@ -10,7 +10,7 @@
 //! | `push`, `push_block`, `share`, `copy`, `reserve`, `reserve_exact` | `shared`, or nothing | |
 //! | `copy_word`, `copy_words`, `copy_scopes`: of the first signal | | |
 //! | `share_path`, `front`: of a path that has its scopes alone; `share_scopes`: `ScopePath::shared` | | |
-//! | `read_whole`, `read`, `write`, `uart`, `spi`, `i2c`, `Session::new` | | |
+//! | `read`, `write`, `uart`, `spi`, `i2c`, `Session::new` | | |
 //! | `apply`, `revert` | an edit | |
 //! | `held`: lets the record of an edit go | an edit | `undo`, or nothing |
 //! | `step` | a step | the steps made before it |
@@ -36,13 +36,10 @@ mod words;
 
 use calls::{Call, make_call};
 use printing::Failure;
+use std::io::Read;
 use std::process::ExitCode;
 use std::rt::Runtime;
 use std::{env, io};
-use vcd_core::{FromRead, read_whole};
-
-/// The most bytes of a capture.
-pub const TEXT_LIMIT: usize = 32_000_000;
 
 fn main(rt: HostRuntime) -> ExitCode {
     match answer_words(&rt) {
@@ -55,10 +52,7 @@ fn main(rt: HostRuntime) -> ExitCode {
 fn answer_words<R: Runtime + AllocGlobal>(rt: &R) -> Result<(), Failure> {
     let words: Vec<String> = env::args(rt)?.skip(1).collect(rt.alloc())?;
     let mut text = Vec::new(rt.alloc());
-    let mut source = FromRead::new(rt.reader());
-    if read_whole(&mut source, TEXT_LIMIT, &mut text).is_err() {
-        return Err(Failure);
-    }
+    rt.reader().read_to_end(&mut text)?;
     let call = call_of(words.as_slice(), text.as_slice())?;
     make_call(rt, &call)
 }

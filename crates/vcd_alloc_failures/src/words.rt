@@ -37,16 +37,16 @@ fn copy_named(
         "copy_word" => drop_copy(copy_word(alloc, signal.kind.as_slice())),
         "copy_words" => drop_copy(copy_words(alloc, signal.words.as_slice())),
         "copy_scopes" => drop_copy(copy_scopes(alloc, signal.scopes.as_slice())),
-        "share_path" => drop_copy(ScopePath::from_vec(scopes).share(alloc)),
-        "front" => drop_copy(front_of(alloc, scopes)),
+        "share_path" => drop_copy(ScopePath::from_vec(scopes).share()),
+        "front" => drop_copy(front_of(scopes)),
         _ => drop_copy(ScopePath::shared(scopes)),
     }
 }
 
 /// The path of the first of some scopes; all of them, if there is none.
-fn front_of(alloc: Global, scopes: Vec<ScopeName>) -> Result<ScopePath, NoMemory> {
+fn front_of(scopes: Vec<ScopeName>) -> Result<ScopePath, NoMemory> {
     let count = scopes.len().min(1);
-    ScopePath::from_vec(scopes).front(alloc, count)
+    ScopePath::from_vec(scopes).front(count)
 }
 
 /// Drops what a call gave.

@@ -18,7 +18,6 @@ pub mod Laws
 pub mod Names
 pub mod FullName
 pub mod Device
-pub mod IncompleteNames
 pub mod Edges
 pub mod BitEdges
 pub mod inside

@@ -7,12 +7,10 @@ ghost use Rattle.vcd_core.specs.Device.{FailureMatches};
 
 mod bytes;
 mod output;
-mod whole;
 
 pub use bytes::{FromBytes, ToBytes};
 pub use output::{ShortWrite, write_all, write_and_flush};
 use std::io::{Read, Write};
-pub use whole::{Incomplete, read_whole};
 
 /// A device has failed.
 #[derive(Clone, Copy, Debug, PartialEq, Eq)]

@@ -37,8 +37,8 @@ pub use capture::{
 pub use copies::{copy_scopes, copy_word, copy_words};
 pub use decimal::number_up_to;
 pub use device::{
-    DeviceFault, FromBytes, FromRead, Incomplete, ShortWrite, Sink, Source, ToBytes, ToWrite,
-    read_whole, write_all, write_and_flush,
+    DeviceFault, FromBytes, FromRead, ShortWrite, Sink, Source, ToBytes, ToWrite, write_all,
+    write_and_flush,
 };
 pub use edges::{Edge, Edges};
 pub use laws::{

@@ -7,8 +7,7 @@ use crate::fake_devices::{FakeReader, FakeWriter, NEVER, sink_of, source_of};
 use std::alloc::Global;
 use std::process::Abort;
 use vcd_core::{
-    DeviceFault, FromRead, Incomplete, Sink, Source, ToWrite, read_whole, write_all,
-    write_and_flush,
+    DeviceFault, FromBytes, FromRead, Sink, Source, ToBytes, ToWrite, write_all, write_and_flush,
 };
 
 /// A source over memory shows the bytes to come.
@@ -46,14 +45,19 @@ fn check_failed_read(rt: &impl Abort, source: &mut impl Source) {
     assert!(rt; source.failed());
 }
 
+/// Stops unless a source over memory gives these six bytes and ends.
+fn check_memory(rt: &impl Abort, source: &mut impl Source) {
+    check_read(rt, source, b"#10 ");
+    assert!(rt; source.read(&mut []) == Ok(0));
+    check_read(rt, source, b"1!");
+    check_read(rt, source, b"");
+    assert!(rt; !source.failed());
+}
+
 #[test]
 fn memory_gives_its_bytes_and_ends(rt: HostRuntime) {
-    let mut source = from_memory(b"#10 1!");
-    check_read(&rt, &mut source, b"#10 ");
-    assert!(rt; source.read(&mut []) == Ok(0));
-    check_read(&rt, &mut source, b"1!");
-    check_read(&rt, &mut source, b"");
-    assert!(rt; !source.failed());
+    check_memory(&rt, &mut from_memory(b"#10 1!"));
+    check_memory(&rt, &mut FromBytes::new(b"#10 1!"));
 }
 
 /// That an end is no fault is the adapter's own word, in no clause: also where one byte has room.
@@ -96,14 +100,22 @@ fn check_failed_flush(rt: &impl Abort, sink: &mut impl Sink) {
     assert!(rt; sink.failed());
 }
 
+/// Writes two pieces and nothing to a sink into memory, and flushes it.
+fn check_line(rt: &impl Abort, sink: &mut impl Sink) {
+    check_write(rt, sink, b"#10", Ok(3));
+    check_write(rt, sink, b"", Ok(0));
+    check_write(rt, sink, b"\n", Ok(1));
+    assert!(rt; sink.flush() == Ok(()));
+}
+
 #[test]
 fn memory_keeps_what_it_takes(rt: HostRuntime) {
     let mut sink = to_memory(Vec::new(rt.alloc()));
-    check_write(&rt, &mut sink, b"#10", Ok(3));
-    check_write(&rt, &mut sink, b"", Ok(0));
-    check_write(&rt, &mut sink, b"\n", Ok(1));
-    assert!(rt; sink.flush() == Ok(()));
+    check_line(&rt, &mut sink);
     assert!(rt; sink.into_inner().as_slice() == b"#10\n".as_slice());
+    let mut sink = ToBytes::new(rt.alloc());
+    check_line(&rt, &mut sink);
+    assert!(rt; sink.into_bytes().as_slice() == b"#10\n".as_slice());
 }
 
 /// A sink into a writer that takes so many bytes a call, one of its calls being interrupted.
@@ -141,43 +153,6 @@ fn an_interrupted_flush_is_a_failure(rt: HostRuntime) {
     check_failed_flush(&rt, &mut sink);
     let writer = sink.into_inner();
     assert!(rt; writer.flushes == 1, "no flush after the failure");
-}
-
-/// Nine bytes, read three at a time.
-const BYTES: &[u8] = b"#10 1! 0\"";
-
-/// Stops unless a reader's bytes, at most `limit`, end so and are these.
-fn check_read_whole(
-    rt: &impl Abort,
-    alloc: Global,
-    reader: FakeReader,
-    limit: usize,
-    wanted: Result<(), Incomplete>,
-    count: usize,
-) {
-    let mut source = source_of(reader);
-    let mut bytes = Vec::new(alloc);
-    let ended = read_whole(&mut source, limit, &mut bytes);
-    assert!(rt; ended == wanted);
-    assert!(rt; BYTES.get(..count) == Some(bytes.as_slice()));
-}
-
-#[test]
-fn all_bytes_are_read(rt: HostRuntime) {
-    check_read_whole(&rt, rt.alloc(), FakeReader::new(BYTES, 3), 9, Ok(()), 9);
-}
-
-#[test]
-fn more_bytes_than_the_limit(rt: HostRuntime) {
-    let reader = FakeReader::new(BYTES, 3);
-    check_read_whole(&rt, rt.alloc(), reader, 8, Err(Incomplete::TooLarge), 8);
-}
-
-#[test]
-fn a_reader_that_fails_gives_what_came_before(rt: HostRuntime) {
-    let mut reader = FakeReader::new(BYTES, 3);
-    reader.fault_at = 2;
-    check_read_whole(&rt, rt.alloc(), reader, 9, Err(Incomplete::ReadFault), 6);
 }
 
 const TEXT: &[u8] = b"#0\n$dumpvars\n0!\n$end\n";

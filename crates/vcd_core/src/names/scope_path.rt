@@ -5,7 +5,6 @@ ghost use Rattle.std.specs.Prelude.{◌≡◌, ◌≤◌, IfOk, MatchResult, len
 use crate::capture::ScopeName;
 use crate::copies::copy_scopes;
 use crate::memory::NoMemory;
-use std::alloc::Global;
 use std::marker::Model;
 use std::rc::RcSlice;
 
@@ -66,20 +65,21 @@ impl ScopePath {
 
     /// The same path. It takes no memory if the list can be shared; otherwise it copies each
     /// scope.
-    pub fn share(&self, alloc: Global) -> Result<ScopePath, NoMemory>
+    pub fn share(&self) -> Result<ScopePath, NoMemory>
         ensures { IfOk result (λ path. path ≡ self.now) }
     {
-        self.front(alloc, self.count)
+        self.front(self.count)
     }
 
     /// The path of the first `count` scopes. It takes no memory if the list can be shared;
     /// otherwise it copies each of these scopes.
-    pub fn front(&self, alloc: Global, count: usize) -> Result<ScopePath, NoMemory>
+    pub fn front(&self, count: usize) -> Result<ScopePath, NoMemory>
         requires { count ≤ length self.now }
         ensures { IfOk result (λ path. path ≡ take count self.now) }
     {
         match &self.list {
             ScopeList::Own(scopes) => {
+                let alloc = *scopes.allocator();
                 Ok(ScopePath::from_vec(copy_scopes(alloc, &scopes[..count])?))
             }
             ScopeList::Shared(scopes) => Ok(ScopePath {

@@ -52,7 +52,7 @@ fn new_signal(alloc: Global, capture: &Capture, word: &[u8], rule: Rule) -> Resu
     let formula = rule.formula();
     let first = signal_at(capture, formula.first_operand());
     Ok(Signal {
-        scopes: first.scopes.share(alloc)?,
+        scopes: first.scopes.share()?,
         kind: copy_word(alloc, b"wire")?,
         words: name_of_one_word(alloc, word)?,
         wave: derived_wave(alloc, capture, formula)?,

@@ -139,7 +139,7 @@ impl Parser {
         } = self;
         let skipped = variables.skipped;
         let mut signals = variables.into_signals(alloc)?;
-        scopes.place_signals(alloc, &mut signals)?;
+        scopes.place_signals(&mut signals)?;
         let capture = Capture::new(header, timescale, tick, signals);
         Ok(Loaded { capture, skipped })
     }

@@ -137,7 +137,7 @@ impl Scopes {
     }
 
     /// Gives the signals of the kept variables their scopes. The paths in one chain share its list.
-    pub fn place_signals(self, alloc: Global, signals: &mut [Signal]) -> Result<(), NoMemory>
+    pub fn place_signals(self, signals: &mut [Signal]) -> Result<(), NoMemory>
         requires { (c : ParseState) × HoldsScopes self c.scopes c.declared
             × (length signals.old ≡ length (kept_variables c.declared)) }
         ensures { (c : ParseState) → HoldsScopes self c.scopes c.declared →
@@ -155,6 +155,6 @@ impl Scopes {
         } = self;
         let mut chains = chains;
         chains.push(ScopePath::shared(chain)?)?;
-        give_paths(alloc, signals, &chains, &places)
+        give_paths(signals, &chains, &places)
     }
 }
