@@ -1,5 +1,5 @@
 -- A change of a kept variable.
-use Rattle.std.proofs.Common.{◌≡◌, ◌≢◌, ◌⊎◌, ℕ, zero, suc, ◌<◌, ◌≤◌, ◌==◌, All, option_map, true}
+use Rattle.std.proofs.Common.{◌≡◌, ◌≢◌, ◌⊎◌, ℕ, zero, suc, ◌<◌, ◌≤◌, ◌==◌, All, true}
 use Rattle.std.proofs.Common.{false, ◌&&◌}
 use Rattle.std.proofs.Common.{if◌then◌else◌, nat_le, List, [], ◌∷◌, ◌++◌, length, map, set, get_or}
 use Rattle.std.proofs.Common.{None, Some, Result}
@@ -7,7 +7,7 @@ use Rattle.std.proofs.Common.{Ok, Err, OnOk, IfErr, inl, inr, refl, sym, ap, sub
 use Rattle.std.specs.Prelude.{bytes_eq, slice_get, IsSomeAnd, IsTrue}
 use Rattle.std.specs.Global.{Vec}
 use Rattle.std.proofs.lemmas.Bool.{cases_Bool, cases_eq, le-leb}
-use Rattle.std.proofs.lemmas.Option.{same_Some, get_or_from_slice_get, slice_get-map}
+use Rattle.std.proofs.lemmas.Option.{same_Some, get_or_from_slice_get}
 use Rattle.vcd_core.specs.declared.wave.Change.{Change}
 use Rattle.vcd_core.specs.declared.bit.Bit.{Bit}
 use Rattle.vcd_core.specs.Value.{all_x}
@@ -28,7 +28,7 @@ use Rattle.vcd_text.specs.inside.Variables.{HasOnlyFirstVariables, VariablesMatc
 use Rattle.vcd_text.specs.inside.Variables.{BinaryNumberFault}
 use Rattle.vcd_text.specs.inside.Variables.{no_value, too_long, ChangeResult}
 use Rattle.vcd_text.specs.declared.reading.pending.LoggedChange.{LoggedChange}
-use Rattle.vcd_text.specs.declared.reading.code_targets.CodeTarget.TheVariants.{Position}
+use Rattle.vcd_text.specs.declared.reading.code_targets.CodeTarget.TheVariants.{Kept}
 use Rattle.vcd_text.specs.declared.reading.variables.Variable.{Variable}
 use Rattle.vcd_text.specs.declared.reading.variables.Variables.{Variables}
 use Rattle.vcd_text.proofs.LoggedValues.{gives_late, gives_as, gives_appended, gives_pushed}
@@ -82,42 +82,32 @@ abbrev pub with_changes : Variables → Vec Variable → Vec (Vec LoggedChange) 
 with_changes vs list log = record vs { kept = list; log = log }
 
 -- the variable of a code
-module _ (old : Variables) (c : ParseState) (code digits : List ℕ) (first : ℕ) (k : VariablesMatch old c)
-    (had : target_of old code ≡ Some (Position first)) where
+module _ (old : Variables) (c : ParseState) (code digits : List ℕ) (width first : ℕ) (k : VariablesMatch old c)
+    (had : target_of old code ≡ Kept width first) where
   pub own_wave : (d : VariableDeclaration) × (variable_of c code ≡ Some d) × (is_skipped d ≡ false)
-      × HasWave old.kept.items (logged old.log.items) first code d.size c.value_changes c.tick
+      × (d.size ≡ width) × HasWave old.kept.items (logged old.log.items) first code width c.value_changes c.tick
   own_wave = grind (arith, stands_kept)
 
-  -- its width is in the list of the widths
-  pub width_is : (width : ℕ) → width ≡ get_or old.widths.items first width → own_wave.3.first.signal.wave.width ≡ width
-  width_is width read =
-      sym (read ∙ ap (λ ws. get_or ws first width) k.widths
-      ∙ get_or_from_slice_get (map (λ (v : Variable). v.signal.wave.width) old.kept.items) first
-      own_wave.3.first.signal.wave.width width
-      (slice_get-map (λ (v : Variable). v.signal.wave.width) old.kept.items first
-      ∙ ap (option_map (λ (v : Variable). v.signal.wave.width)) own_wave.3.at_position))
-
-  pub read_is : (v : Variable) → v ≡ get_or old.kept.items first v → v ≡ own_wave.3.first
-  read_is v read = read ∙ get_or_from_slice_get old.kept.items first own_wave.3.first v own_wave.3.at_position
+  pub read_is : (v : Variable) → v ≡ get_or old.kept.items first v → v ≡ own_wave.4.first
+  read_is v read = read ∙ get_or_from_slice_get old.kept.items first own_wave.4.first v own_wave.4.at_position
 
   -- no change of its wave is past the tick
-  pub wave_late : All (λ (change : Change). change.tick ≤ c.tick) own_wave.3.first.signal.wave.changes
-  wave_late = gives_late own_wave.0.size c.tick
-      (λ t. latest_value own_wave.0.size code t (all_x own_wave.0.size) c.value_changes)
-      own_wave.3.first.signal.wave.changes
-      (logged old.log.items first) own_wave.3.gives
+  pub wave_late : All (λ (change : Change). change.tick ≤ c.tick) own_wave.4.first.signal.wave.changes
+  wave_late = gives_late width c.tick (λ t. latest_value width code t (all_x width) c.value_changes)
+      own_wave.4.first.signal.wave.changes
+      (logged old.log.items first) own_wave.4.gives
 
   -- digits that it refuses are a fault
-  pub refused : (width : ℕ) (fault : Fault) → own_wave.3.first.signal.wave.width ≡ width
-      → RefusesBinaryNumber width digits fault → BinaryNumberFault c code digits fault
-  refused width fault wide (inl (bad, is)) = no_value own_wave.0 own_wave.1 own_wave.2 bad is
-  refused width fault wide (inr (good, long, is)) =
-      too_long own_wave.0 own_wave.1 own_wave.2 good (omega (arith, long, own_wave.3.sized, wide)) is
+  pub refused : (fault : Fault) → RefusesBinaryNumber width digits fault → BinaryNumberFault c code digits fault
+  refused fault (inl (bad, is)) = no_value own_wave.0 own_wave.1 own_wave.2 bad is
+  refused fault (inr (good, long, is)) =
+      too_long own_wave.0 own_wave.1 own_wave.2 good (omega (arith, long, own_wave.3)) is
 
 module _ (old : Variables) (list : Vec Variable) (log : Vec (Vec LoggedChange)) (c : ParseState)
-    (code digits : List ℕ) (first : ℕ)
+    (code digits : List ℕ) (width first : ℕ)
     (v w : Variable) (k : VariablesMatch old c)
-    (had : target_of old code ≡ Some (Position first)) (is_first : v ≡ (own_wave old c code digits first k had).3.first)
+    (had : target_of old code ≡ Kept width first)
+    (is_first : v ≡ (own_wave old c code digits width first k had).4.first)
     (items : list.items ≡ set old.kept.items first w) (same : declaration w ≡ declaration v)
     (same_first : w.first ≡ v.first)
     (value : IsTrue (is_binary_number digits)) (short : length digits ≤ v.signal.wave.width)
@@ -130,10 +120,11 @@ module _ (old : Variables) (list : Vec Variable) (log : Vec (Vec LoggedChange)) 
     (others : (position : ℕ) → first ≢ position
     → logged log.items position ≡ logged old.log.items position) where
   stood : slice_get old.kept.items first ≡ Some v
-  stood = (own_wave old c code digits first k had).3.at_position ∙ ap Some (sym is_first)
+  stood = (own_wave old c code digits width first k had).4.at_position ∙ ap Some (sym is_first)
 
-  sized : v.signal.wave.width ≡ (own_wave old c code digits first k had).0.size
-  sized = ap (λ (u : Variable). u.signal.wave.width) is_first ∙ (own_wave old c code digits first k had).3.sized
+  sized : v.signal.wave.width ≡ (own_wave old c code digits width first k had).0.size
+  sized = ap (λ (u : Variable). u.signal.wave.width) is_first ∙ (own_wave old c code digits width first k had).4.sized
+      ∙ sym (own_wave old c code digits width first k had).3
 
   same_width : w.signal.wave.width ≡ v.signal.wave.width
   same_width = ap (λ (d : VariableDeclaration). d.size) same
@@ -149,12 +140,12 @@ module _ (old : Variables) (list : Vec Variable) (log : Vec (Vec LoggedChange)) 
   new_value_change = record { tick = c.tick; code = code; letters = letters_of_digits digits }
 
   -- the wave of the code takes the value
-  wave_changed : (key : List ℕ) (position size : ℕ) → code ≡ key → target_of old key ≡ Some (Position position)
+  wave_changed : (key : List ℕ) (size position : ℕ) → code ≡ key → target_of old key ≡ Kept size position
       → HasWave old.kept.items (logged old.log.items) position key size c.value_changes c.tick
       → HasWave list.items (logged log.items) position key size (c.value_changes ++ new_value_change ∷ []) c.tick
   unfolding new_value_change
-  wave_changed key position size equal owned wave =
-      let at : first ≡ position = grind (arith, same_Some) in
+  wave_changed key size position equal owned wave =
+      let at : first ≡ position = grind arith in
       let is : v ≡ wave.first = same_Some v wave.first (sym stood ∙ ap (slice_get old.kept.items) at
       ∙ wave.at_position) in
       let old_size : v.signal.wave.width ≡ size = ap (λ (u : Variable). u.signal.wave.width) is ∙ wave.sized in
@@ -172,16 +163,15 @@ module _ (old : Variables) (list : Vec Variable) (log : Vec (Vec LoggedChange)) 
       }
 
   -- the wave of another code stays
-  wave_kept : (key : List ℕ) (position size : ℕ) → bytes_eq code key ≡ false
-      → target_of old key ≡ Some (Position position)
+  wave_kept : (key : List ℕ) (size position : ℕ) → bytes_eq code key ≡ false → target_of old key ≡ Kept size position
       → HasWave old.kept.items (logged old.log.items) position key size c.value_changes c.tick
       → HasWave list.items (logged log.items) position key size (c.value_changes ++ new_value_change ∷ []) c.tick
   unfolding new_value_change
-  wave_kept key position size other owned wave =
+  wave_kept key size position other owned wave =
       let apart : first ≢ position = λ same.
       let both : true ≡ false = sym (own_code code)
-      ∙ ap (bytes_eq code) (one_owner old (kept_variables c.declared) k.owners code key position
-      (had ∙ ap (λ n. Some (Position n)) same) owned) ∙ other in absurd (cc) in
+      ∙ ap (bytes_eq code) (one_owner old (kept_variables c.declared) k.owners code key width size position
+      (had ∙ ap (Kept width) same) owned) ∙ other in absurd (cc) in
       grind (arith, set_there, gives_as, value_with)
 
   changed_firsts : (position : ℕ) (u : Variable) → slice_get list.items position ≡ Some u
@@ -192,7 +182,6 @@ module _ (old : Variables) (list : Vec Variable) (log : Vec (Vec LoggedChange)) 
       record {
         owned = grind arith;
         no_later = omega (arith, t.3, before.no_later);
-        same_size = grind (arith, following);
       }
 
   changed_stands : (key : List ℕ)
@@ -201,9 +190,9 @@ module _ (old : Variables) (list : Vec Variable) (log : Vec (Vec LoggedChange)) 
   changed_stands key =
       stands_moved old.kept.items list.items (logged old.log.items) (logged log.items) c.value_changes
       (c.value_changes ++ new_value_change ∷ []) c.tick c.tick key (target_of old key) (variable_of c key)
-      (λ position size owned wave. elim (cases_Bool (bytes_eq code key)) [
-        | inl equal ↦ wave_changed key position size (same_code code key equal) owned wave
-        | inr other ↦ wave_kept key position size other owned wave
+      (λ size position owned wave. elim (cases_Bool (bytes_eq code key)) [
+        | inl equal ↦ wave_changed key size position (same_code code key equal) owned wave
+        | inr other ↦ wave_kept key size position other owned wave
       ]) (k.targets_agree key)
 
   told_are : value_changes_after c code (letters_of_digits digits) (variable_of c code) ≡ new_value_change ∷ []
@@ -219,7 +208,6 @@ module _ (old : Variables) (list : Vec Variable) (log : Vec (Vec LoggedChange)) 
   changed_knows = record {
     kept = k.kept ∙ sym (ap (map declaration) items ∙ same_map declaration old.kept.items first v w stood same);
     skipped = k.skipped;
-    widths = grind (arith, same_map, stood, same_width);
     targets_agree = λ key. subst (λ rs. TargetMatches list.items (logged log.items) (c.value_changes ++ rs) c.tick key
         (target_of old key) (variable_of c key)) (sym told_are) (changed_stands key);
     owners = k.owners;
@@ -237,17 +225,16 @@ module _ (old : Variables) (list : Vec Variable) (log : Vec (Vec LoggedChange)) 
   changed x = (changed_takes, changed_knows)
 
 -- the result of a change of a wide variable
-pub wide_changes : (old : Variables) (list : Vec Variable) (c : ParseState) (code digits : List ℕ) (first width : ℕ)
+pub wide_changes : (old : Variables) (list : Vec Variable) (c : ParseState) (code digits : List ℕ) (width first : ℕ)
     (v w : Variable) (result : Result (Unit {0}) Fault) (k : VariablesMatch old c)
-    (had : target_of old code ≡ Some (Position first)) → v ≡ get_or old.kept.items first v
-    → width ≡ get_or old.widths.items first width → 64 < width
+    (had : target_of old code ≡ Kept width first) → v ≡ get_or old.kept.items first v → 64 < width
     → list.items ≡ set old.kept.items first w → OnOk result (HasValueFrom c.tick digits v w)
     → IfErr result (λ fault. (fault ≡ faults.NoMemory) ⊎ RefusesBinaryNumber v.signal.wave.width digits fault)
     → ChangeResult c code digits result (with_changes old list old.log)
-wide_changes old list c code digits first width v w (Ok x) k had read row wide items sets refuses =
-    let is = read_is old c code digits first k had v read in
-    let size = ap (λ (u : Variable). u.signal.wave.width) is ∙ width_is old c code digits first k had width row in
-    changed old list old.log c code digits first v w k had is items sets.same sets.same_first_position sets.value
+wide_changes old list c code digits width first v w (Ok x) k had read wide items sets refuses =
+    let is = read_is old c code digits width first k had v read in
+    let size = ap (λ (u : Variable). u.signal.wave.width) is ∙ (own_wave old c code digits width first k had).4.sized in
+    changed old list old.log c code digits width first v w k had is items sets.same sets.same_first_position sets.value
     sets.fits
     k.grouped
     (λ f g. gives_pushed v.signal.wave.width c.tick f v.signal.wave.changes
@@ -257,25 +244,26 @@ wide_changes old list c code digits first width v w (Ok x) k had read row wide i
     (λ t. ap (λ n. value_at n w.signal.wave.changes t) (sym (ap (λ (d : VariableDeclaration). d.size) sets.same))
     ∙ sets.values t) g)
     (λ position _. refl) x
-wide_changes old list c code digits first width v w (Err fault) k had read row wide items sets (inl none) = inl none
-wide_changes old list c code digits first width v w (Err fault) k had read row wide items sets (inr refuses) =
-    inr (refused old c code digits first k had v.signal.wave.width fault
-    (ap (λ (u : Variable). u.signal.wave.width) (sym (read_is old c code digits first k had v read))) refuses)
+wide_changes old list c code digits width first v w (Err fault) k had read wide items sets (inl none) = inl none
+wide_changes old list c code digits width first v w (Err fault) k had read wide items sets (inr refuses) =
+    inr (refused old c code digits width first k had fault (subst (λ n. RefusesBinaryNumber n digits fault)
+    (ap (λ (u : Variable). u.signal.wave.width) (read_is old c code digits width first k had v read)
+    ∙ (own_wave old c code digits width first k had).4.sized) refuses))
 
 -- the result of a change of another variable, which goes to the log
 pub narrow_changes : (old : Variables) (log : Vec (Vec LoggedChange)) (c : ParseState) (code digits : List ℕ)
-    (first width : ℕ) (e : LoggedChange) (k : VariablesMatch old c)
-    (had : target_of old code ≡ Some (Position first)) → width ≡ get_or old.widths.items first width → width ≤ 64
+    (width first : ℕ) (e : LoggedChange) (k : VariablesMatch old c)
+    (had : target_of old code ≡ Kept width first) → width ≤ 64
     → e.tick ≡ c.tick → e.position ≡ first → WritesValue width digits (logged_letters width e) → AreGrouped 0 log.items
     → ((position : ℕ) → logged log.items position ≡ (if e.position == position then logged old.log.items position
     ++ e ∷ [] else logged old.log.items position))
     → (x : Unit {0}) → ChangeResult c code digits (Ok x) (with_changes old old.kept log)
-narrow_changes old log c code digits first width e k had row narrow at_tick at writes grouped more x =
-    let v : Variable = (own_wave old c code digits first k had).3.first in
-    let size : v.signal.wave.width ≡ width = width_is old c code digits first k had width row in
+narrow_changes old log c code digits width first e k had narrow at_tick at writes grouped more x =
+    let v : Variable = (own_wave old c code digits width first k had).4.first in
+    let size : v.signal.wave.width ≡ width = (own_wave old c code digits width first k had).4.sized in
     let here : (e.position == first) ≡ true = eq-eqb e.position first at in
-    changed old old.kept log c code digits first v v k had refl
-    (same_set old.kept.items first v (own_wave old c code digits first k had).3.at_position) refl refl
+    changed old old.kept log c code digits width first v v k had refl
+    (same_set old.kept.items first v (own_wave old c code digits width first k had).4.at_position) refl refl
     writes.0 (omega (arith, writes.1, size)) grouped
     (λ f g.
     subst (GivesLoggedValues v.signal.wave.width c.tick

@@ -2,20 +2,21 @@
 use Rattle.std.proofs.Common.{arith}
 use Rattle.std.proofs.Common.{◌≡◌, ℕ, Bool, true, false, if◌then◌else◌, List, [], ◌∷◌, ◌++◌, find}
 use Rattle.std.proofs.Common.{Option, None, Some}
-use Rattle.std.proofs.Common.{refl, sym, subst}
-use Rattle.std.specs.Prelude.{bytes_eq}
+use Rattle.std.proofs.Common.{refl, ap, ◌∙◌}
+use Rattle.std.specs.Prelude.{bytes_eq, unwrap_or}
 use Rattle.std.specs.Option.{option_or}
 use Rattle.std.specs.Global.{Vec}
 use Rattle.std.specs.Map.{KeepsOthers}
 use Rattle.std.proofs.lemmas.Cmp.{nat_list_eq_equiv}
 use Rattle.std.proofs.lemmas.Slice.Eq.{bytes_eq-Decides}
 use Rattle.std.proofs.lemmas.List.Folds.{find-append}
-use Rattle.indexmap.specs.IndexMap.{IndexMap, Updates, get_by}
+use Rattle.indexmap.specs.IndexMap.{IndexMap, Updates}
 use Rattle.vcd_text.specs.Grammar.{VariableDeclaration, ValueChange, is_skipped}
 use Rattle.vcd_text.specs.inside.Variables.{HasWave, TargetMatches}
 use Rattle.vcd_text.specs.declared.reading.pending.LoggedChange.{LoggedChange}
 use Rattle.vcd_text.specs.declared.reading.code_targets.CodeTarget.{CodeTarget}
-use Rattle.vcd_text.specs.declared.reading.code_targets.CodeTarget.TheVariants.{Position}
+use Rattle.vcd_text.specs.declared.reading.code_targets.CodeTarget.TheVariants.{Undeclared, Kept}
+use Rattle.vcd_text.specs.inside.CodeTargets.{in_map}
 use Rattle.vcd_text.specs.declared.reading.variables.Variable.{Variable}
 
 -- ---- codes
@@ -35,36 +36,33 @@ by_code P a b same other = grind (arith, same_code)
 
 module _ {S : Type 0} (old new : IndexMap (Vec ℕ) CodeTarget S) (k : Vec ℕ) (w : CodeTarget)
     (puts : Updates (λ (x : Vec ℕ) (y : Vec ℕ). bytes_eq x.items y.items) old new k (Some w)) where
-  put_elsewhere : (key : List ℕ) → bytes_eq key k.items ≡ false
-      → get_by (λ v. bytes_eq key v.items) new ≡ get_by (λ v. bytes_eq key v.items) old
+  put_elsewhere : (key : List ℕ) → bytes_eq key k.items ≡ false → in_map new key ≡ in_map old key
   unfolding KeepsOthers
   put_elsewhere key apart = grind (arith, nat_list_eq_equiv)
 
   -- then it has its new target, and the others keep theirs
-  pub target_put : (key : List ℕ) → get_by (λ v. bytes_eq key v.items) new
-      ≡ (if bytes_eq key k.items then Some w else get_by (λ v. bytes_eq key v.items) old)
+  pub target_put : (key : List ℕ) → in_map new key ≡ (if bytes_eq key k.items then w else in_map old key)
   target_put key =
-      by_code (λ b. get_by (λ v. bytes_eq key v.items) new
-      ≡ (if b then Some w else get_by (λ v. bytes_eq key v.items) old)) key k.items
-      (λ same. subst (λ code. get_by (λ v. bytes_eq code v.items) new ≡ Some w) (sym same) puts.1) (put_elsewhere key)
+      by_code (λ b. in_map new key ≡ (if b then w else in_map old key)) key k.items
+      (λ same. ap (in_map new) same ∙ ap (λ o. unwrap_or o Undeclared) puts.1) (put_elsewhere key)
 
 -- ---- a code against the variables that were declared
 
 module _ (vs : List Variable) (log : ℕ → List LoggedChange) (value_changes : List ValueChange) (tick : ℕ)
     (code : List ℕ) where
   -- the target of a kept variable has its wave
-  pub stands_kept : (declared : Option VariableDeclaration) (position : ℕ)
-      → TargetMatches vs log value_changes tick code (Some (Position position)) declared
-      → (d : VariableDeclaration) × (declared ≡ Some d) × (is_skipped d ≡ false)
-      × HasWave vs log position code d.size value_changes tick
-  stands_kept None position s = absurd s
-  stands_kept (Some d) position s = (d, refl, s.0, s.1)
+  pub stands_kept : (declared : Option VariableDeclaration) (width position : ℕ)
+      → TargetMatches vs log value_changes tick code (Kept width position) declared
+      → (d : VariableDeclaration) × (declared ≡ Some d) × (is_skipped d ≡ false) × (d.size ≡ width)
+      × HasWave vs log position code width value_changes tick
+  stands_kept None width position s = absurd s
+  stands_kept (Some d) width position s = (d, refl, s.0, s.1, s.2)
 
 -- a fact about the waves in one list is one about another
 pub stands_moved : (vs ws : List Variable) (log rest : ℕ → List LoggedChange) (rs ss : List ValueChange)
-    (early late : ℕ) (code : List ℕ) (target : Option CodeTarget) (declared : Option VariableDeclaration)
-    → ((position size : ℕ) → target ≡ Some (Position position) → HasWave vs log position code size rs early
-    → HasWave ws rest position code size ss late)
+    (early late : ℕ) (code : List ℕ) (target : CodeTarget) (declared : Option VariableDeclaration)
+    → ((width position : ℕ) → target ≡ Kept width position → HasWave vs log position code width rs early
+    → HasWave ws rest position code width ss late)
     → TargetMatches vs log rs early code target declared → TargetMatches ws rest ss late code target declared
 stands_moved vs ws log rest rs ss early late code target declared h11 h12 = grind arith
 

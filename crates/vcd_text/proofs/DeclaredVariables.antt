@@ -7,10 +7,10 @@ use Rattle.std.proofs.Common.{Some, Result, Ok, Err, OnOk, IfErr, inl, inr, refl
 use Rattle.std.proofs.Common.{◌∙◌, arith}
 use Rattle.std.specs.Prelude.{bytes_eq, slice_get, count_by}
 use Rattle.std.specs.Global.{Vec}
-use Rattle.std.specs.Option.{option_or, option_map_or}
+use Rattle.std.specs.Option.{option_or}
 use Rattle.std.proofs.lemmas.List.{append-nil, nil_from_length, map-append, length_push}
 use Rattle.std.proofs.lemmas.List.Elements.{filter-append}
-use Rattle.std.proofs.lemmas.Bool.{lt-ltb, le-ltb, ltb-false, eqb-true, cases_lt}
+use Rattle.std.proofs.lemmas.Bool.{lt-ltb, le-ltb, ltb-false, cases_lt}
 use Rattle.vcd_core.specs.declared.capture.TheConstants.{SIGNAL_LIMIT}
 use Rattle.std.proofs.lemmas.List.Sums.{sum_by-append, sum_by-cons}
 use Rattle.std.proofs.lemmas.Option.{slice_get_within, same_Some}
@@ -37,7 +37,7 @@ use Rattle.vcd_text.specs.inside.Variables.{with_declaration, mixed, many, Decla
 use Rattle.vcd_text.specs.inside.Variables.{no_room, Declares}
 use Rattle.vcd_text.specs.declared.reading.code_targets.CodeTargets.{CodeTargets}
 use Rattle.vcd_text.specs.declared.reading.code_targets.CodeTarget.{CodeTarget}
-use Rattle.vcd_text.specs.declared.reading.code_targets.CodeTarget.TheVariants.{Skipped, Position}
+use Rattle.vcd_text.specs.declared.reading.code_targets.CodeTarget.TheVariants.{Undeclared, Skipped, Kept}
 use Rattle.vcd_text.specs.declared.reading.variables.Variable.{Variable}
 use Rattle.vcd_text.specs.declared.reading.variables.Variables.{Variables}
 use Rattle.vcd_text.proofs.CodeTargets.{own_code, by_code, stands_kept, stands_moved, found_with}
@@ -76,32 +76,32 @@ middle_of (u ∷ vs) rest w = middle_of vs rest w
 
 module _ (log : ℕ → List LoggedChange) (value_changes : List ValueChange) (tick : ℕ) where
   -- a variable after the others does not change the target of a code
-  stands_longer : (vs more : List Variable) (code : List ℕ) (target : Option CodeTarget)
+  stands_longer : (vs more : List Variable) (code : List ℕ) (target : CodeTarget)
       (declared : Option VariableDeclaration) → TargetMatches vs log value_changes tick code target declared
       → TargetMatches (vs ++ more) log value_changes tick code target declared
   stands_longer vs more code target declared s = grind (arith, stands_moved, stays)
 
   -- a later declaration of another code does not change the target of a code
-  stands_still : (vs : List Variable) (code : List ℕ) (target : Option CodeTarget)
+  stands_still : (vs : List Variable) (code : List ℕ) (target : CodeTarget)
       (declared : Option VariableDeclaration) → TargetMatches vs log value_changes tick code target declared
       → TargetMatches vs log value_changes tick code target (option_or declared None)
   stands_still vs code target None s = s
   stands_still vs code target (Some d) s = s
 
-one_position : (i j : ℕ) → Some (Position i) ≡ Some (Position j) → i ≡ j
-one_position i j same = grind arith
+one_position : (v w i j : ℕ) → Kept v i ≡ Kept w j → i ≡ j
+one_position v w i j same = grind arith
 
 -- the code of a declaration has this target from now on, and the others keep theirs
 abbrev pub Puts : (old new : Variables) → List ℕ → CodeTarget → Type 0
 Puts old new code target = (key : List ℕ)
-    → target_of new key ≡ (if bytes_eq key code then Some target else target_of old key)
+    → target_of new key ≡ (if bytes_eq key code then target else target_of old key)
 
 -- so it is if the code has this target already
 pub puts_same : (old new : Variables) (code : List ℕ) (target : CodeTarget) → new.code_targets ≡ old.code_targets
-    → target_of old code ≡ Some target → Puts old new code target
+    → target_of old code ≡ target → Puts old new code target
 puts_same old new code target same had = λ key.
     let here : target_of new key ≡ target_of old key = grind arith in
-    by_code (λ b. target_of new key ≡ (if b then Some target else target_of old key)) key code
+    by_code (λ b. target_of new key ≡ (if b then target else target_of old key)) key code
     (λ is. here ∙ ap (target_of old) is ∙ had) (λ _. here)
 
 -- ---- a variable that is skipped
@@ -112,11 +112,11 @@ with_skipped vs targets = record vs { code_targets = targets; skipped = vs.skipp
 
 module _ (old : Variables) (targets : CodeTargets) (c : ParseState) (d : VariableDeclaration)
     (k : VariablesMatch old c) (skipped : is_skipped d ≡ true)
-    (free : (target_of old d.code ≡ None) ⊎ (target_of old d.code ≡ Some Skipped))
+    (free : (target_of old d.code ≡ Undeclared) ⊎ (target_of old d.code ≡ Skipped))
     (puts : Puts old (with_skipped old targets) d.code Skipped)
   where
     skip_here : (v : Option VariableDeclaration) → TargetAgrees old c d.code (target_of old d.code) v
-        → TargetAgrees old c d.code (Some Skipped) (option_or v (Some d))
+        → TargetAgrees old c d.code Skipped (option_or v (Some d))
     skip_here None s = skipped
     skip_here (Some e) s = grind arith
 
@@ -124,11 +124,11 @@ module _ (old : Variables) (targets : CodeTargets) (c : ParseState) (d : Variabl
         → TargetAgrees old c key (target_of (with_skipped old targets) key) (variable_of (with_declaration c d) key)
     skip_stands key =
         subst (λ o. TargetAgrees old c key o (variable_of (with_declaration c d) key)) (sym (puts key))
-        (subst (TargetAgrees old c key (if bytes_eq key d.code then Some Skipped else target_of old key))
+        (subst (TargetAgrees old c key (if bytes_eq key d.code then Skipped else target_of old key))
         (sym (found_with key c.declared d))
-        (by_code (λ b. TargetAgrees old c key (if b then Some Skipped else target_of old key)
+        (by_code (λ b. TargetAgrees old c key (if b then Skipped else target_of old key)
         (option_or (variable_of c key) (if b then Some d else None))) key d.code
-        (λ is. subst (λ code. TargetAgrees old c code (Some Skipped) (option_or (variable_of c code) (Some d))) (sym is)
+        (λ is. subst (λ code. TargetAgrees old c code Skipped (option_or (variable_of c code) (Some d))) (sym is)
         (skip_here (variable_of c d.code) (k.targets_agree d.code)))
         (λ _. stands_still (logged old.log.items) c.value_changes c.tick old.kept.items key (target_of old key)
         (variable_of c key) (k.targets_agree key))))
@@ -137,21 +137,19 @@ module _ (old : Variables) (targets : CodeTargets) (c : ParseState) (d : Variabl
     skip_kept = grind (arith, filter-append, append-nil)
 
     -- no code got a position, or lost one
-    skip_positions : (key : List ℕ) (position : ℕ)
-        → (target_of (with_skipped old targets) key ≡ Some (Position position)
-        → target_of old key ≡ Some (Position position))
-        × (target_of old key ≡ Some (Position position)
-        → target_of (with_skipped old targets) key ≡ Some (Position position))
-    skip_positions key position = (
-      λ is. by_code (λ b. (if b then Some Skipped else target_of old key) ≡ Some (Position position)
-          → target_of old key ≡ Some (Position position)) key d.code
-          (λ same none. let never : Some Skipped ≡ Some (Position position) = none in absurd (cc))
+    skip_positions : (key : List ℕ) (width position : ℕ)
+        → (target_of (with_skipped old targets) key ≡ Kept width position → target_of old key ≡ Kept width position)
+        × (target_of old key ≡ Kept width position → target_of (with_skipped old targets) key ≡ Kept width position)
+    skip_positions key width position = (
+      λ is. by_code (λ b. (if b then Skipped else target_of old key) ≡ Kept width position
+          → target_of old key ≡ Kept width position) key d.code
+          (λ same none. let never : Skipped ≡ Kept width position = none in absurd (cc))
           (λ _ had. had) (sym (puts key) ∙ is),
-      λ had. puts key ∙ by_code (λ b. (if b then Some Skipped else target_of old key) ≡ Some (Position position))
+      λ had. puts key ∙ by_code (λ b. (if b then Skipped else target_of old key) ≡ Kept width position)
           key d.code (λ same. elim free [
-            | inl none ↦ let never : None ≡ Some (Position position) = sym none ∙ ap (target_of old) (sym same)
+            | inl none ↦ let never : Undeclared ≡ Kept width position = sym none ∙ ap (target_of old) (sym same)
                 ∙ had in absurd (cc)
-            | inr left ↦ let never : Some Skipped ≡ Some (Position position) = sym left ∙ ap (target_of old) (sym same)
+            | inr left ↦ let never : Skipped ≡ Kept width position = sym left ∙ ap (target_of old) (sym same)
                 ∙ had in absurd (cc)
           ]) (λ _. had),
     )
@@ -161,10 +159,9 @@ module _ (old : Variables) (targets : CodeTargets) (c : ParseState) (d : Variabl
     skip_firsts position v at =
         let before = k.firsts position v at in
         record {
-          owned = λ e declared. (skip_positions e.code v.first).1 (before.owned e
+          owned = λ e declared. (skip_positions e.code v.signal.wave.width v.first).1 (before.owned e
               (ap (λ ds. slice_get ds position) (sym skip_kept) ∙ declared));
           no_later = before.no_later;
-          same_size = before.same_size;
         }
 
     skip_may : (v : Option VariableDeclaration) → TargetAgrees old c d.code (target_of old d.code) v
@@ -180,10 +177,9 @@ module _ (old : Variables) (targets : CodeTargets) (c : ParseState) (d : Variabl
       record {
         kept = ap (map without_code) skip_kept ∙ k.kept;
         skipped = ap (λ n. n + 1) k.skipped ∙ sym (count_with c.declared d true skipped);
-        widths = k.widths;
         targets_agree = skip_stands;
         owners = subst (HaveOwnCodes (with_skipped old targets)) (sym skip_kept)
-            (λ code position is. k.owners code position ((skip_positions code position).0 is));
+            (λ code width position is. k.owners code width position ((skip_positions code width position).0 is));
         firsts = skip_firsts;
         few = k.few;
         grouped = k.grouped;
@@ -199,10 +195,8 @@ variable_at s first = record { signal = s; first = first; expected_room = NO_ROO
 
 -- the code is new, or is that of a variable of the same size
 abbrev pub IsFree : Variables → (code : List ℕ) → Signal → (first : ℕ) → Type 0
-IsFree old code s first =
-    ((target_of old code ≡ None) × (first ≡ length old.kept.items))
-    ⊎ ((target_of old code ≡ Some (Position first))
-    × ((w : Variable) → slice_get old.kept.items first ≡ Some w → w.signal.wave.width ≡ s.wave.width))
+IsFree old code s first = ((target_of old code ≡ Undeclared) × (first ≡ length old.kept.items))
+    ⊎ (target_of old code ≡ Kept s.wave.width first)
 
 module _ (old : Variables) (c : ParseState) (scopes : List ScopeName) (code : List ℕ) (s : Signal) (first : ℕ)
     (k : VariablesMatch old c)
@@ -226,9 +220,8 @@ module _ (old new : Variables) (c : ParseState) (scopes : List ScopeName) (code 
     (bare : s.scopes ≡ [])
     (keeps : is_skipped (declaration_in scopes code s) ≡ false) (items : new.kept.items ≡ old.kept.items
     ++ variable_at s first ∷ [])
-    (widths : new.widths.items ≡ old.widths.items ++ s.wave.width ∷ []) (log : new.log ≡ old.log)
-    (free : IsFree old code s first)
-    (puts : Puts old new code (Position first)) where
+    (log : new.log ≡ old.log) (free : IsFree old code s first)
+    (puts : Puts old new code (Kept s.wave.width first)) where
   silent_wave : HasWave (old.kept.items ++ variable_at s first ∷ []) (logged old.log.items)
       (length old.kept.items) code s.wave.width c.value_changes c.tick
   unfolding latest_value value_from
@@ -246,10 +239,10 @@ module _ (old new : Variables) (c : ParseState) (scopes : List ScopeName) (code 
       let d = declaration_in scopes code s in
       let both =
       by_code (λ b. TargetMatches all (logged old.log.items) c.value_changes c.tick key
-      (if b then Some (Position first) else target_of old key)
+      (if b then Kept s.wave.width first else target_of old key)
       (option_or (variable_of c key) (if b then Some d else None))) key code
       (λ is. subst (λ name. TargetMatches all (logged old.log.items) c.value_changes c.tick name
-      (Some (Position first)) (option_or (variable_of c name) (Some d))) (sym is)
+      (Kept s.wave.width first) (option_or (variable_of c name) (Some d))) (sym is)
       (grind (arith, silent_wave, stands_longer)))
       (λ _. stands_still (logged old.log.items) c.value_changes c.tick all key (target_of old key)
       (variable_of c key)
@@ -262,7 +255,7 @@ module _ (old new : Variables) (c : ParseState) (scopes : List ScopeName) (code 
       (subst (λ o. TargetMatches all (logged old.log.items) c.value_changes c.tick key o
       (variable_of (with_declaration c d) key)) (sym (puts key))
       (subst (TargetMatches all (logged old.log.items) c.value_changes c.tick key
-      (if bytes_eq key code then Some (Position first) else target_of old key))
+      (if bytes_eq key code then Kept s.wave.width first else target_of old key))
       (sym (found_with key c.declared d)) both)))
 
   kept_more : kept_variables (c.declared ++ declaration_in scopes code s ∷ [])
@@ -270,14 +263,14 @@ module _ (old new : Variables) (c : ParseState) (scopes : List ScopeName) (code 
   kept_more = kept_kept c.declared (declaration_in scopes code s) keeps
 
   -- a code with a position keeps it
-  still_owned : (key : List ℕ) (position : ℕ) → target_of old key ≡ Some (Position position)
-      → target_of new key ≡ Some (Position position)
-  still_owned key position had =
-      puts key ∙ by_code (λ b. (if b then Some (Position first) else target_of old key) ≡ Some (Position position))
+  still_owned : (key : List ℕ) (width position : ℕ) → target_of old key ≡ Kept width position
+      → target_of new key ≡ Kept width position
+  still_owned key width position had =
+      puts key ∙ by_code (λ b. (if b then Kept s.wave.width first else target_of old key) ≡ Kept width position)
       key code (λ same. elim free [
-        | inl (none, end) ↦ let never : None ≡ Some (Position position) = sym none ∙ ap (target_of old) (sym same)
+        | inl (none, end) ↦ let never : Undeclared ≡ Kept width position = sym none ∙ ap (target_of old) (sym same)
             ∙ had in absurd (cc)
-        | inr (has, width) ↦ sym has ∙ ap (target_of old) (sym same) ∙ had
+        | inr has ↦ sym has ∙ ap (target_of old) (sym same) ∙ had
       ]) (λ _. had)
 
   -- the variables before it have the positions of their first ones
@@ -289,30 +282,30 @@ module _ (old new : Variables) (c : ParseState) (scopes : List ScopeName) (code 
       record {
         owned = λ e declared.
             elim (either_of (kept_variables c.declared) (declaration_in scopes code s) position e declared) [
-              | inl stood ↦ still_owned e.code v.first (before.owned e stood)
+              | inl stood ↦ still_owned e.code v.signal.wave.width v.first (before.owned e stood)
               | inr (end, is) ↦ absurd (omega (arith, within, end, kept_long old c k))
             ];
         no_later = before.no_later;
-        same_size = grind (arith, either_of);
       }
 
   keep_owners : HaveOwnCodes new (kept_variables c.declared ++ declaration_in scopes code s ∷ [])
-  keep_owners key position is =
+  keep_owners key width position is =
       let d = declaration_in scopes code s in
       let ds = kept_variables c.declared in
-      let stayed : target_of old key ≡ Some (Position position)
+      let stayed : target_of old key ≡ Kept width position
       → (e : VariableDeclaration) × (slice_get (ds ++ d ∷ []) position ≡ Some e) × (e.code ≡ key) =
-      λ had. let e = k.owners key position had in (e.0, stays ds (d ∷ []) position e.0 e.1, e.2) in
-      by_code (λ b. (if b then Some (Position first) else target_of old key) ≡ Some (Position position)
+      λ had. let e = k.owners key width position had in (e.0, stays ds (d ∷ []) position e.0 e.1, e.2) in
+      by_code (λ b. (if b then Kept s.wave.width first else target_of old key) ≡ Kept width position
       → (e : VariableDeclaration) × (slice_get (ds ++ d ∷ []) position ≡ Some e) × (e.code ≡ key)) key code
       (λ same here. elim free [
         | inl (none, end) ↦ (
           d,
-          ap (slice_get (ds ++ d ∷ [])) (one_position position first (sym here) ∙ end ∙ sym (kept_long old c k))
+          ap (slice_get (ds ++ d ∷ [])) (one_position width s.wave.width position first (sym here) ∙ end
+              ∙ sym (kept_long old c k))
               ∙ middle_of ds [] d,
           sym same,
         )
-        | inr (had, width) ↦ stayed (ap (target_of old) same ∙ had ∙ here)
+        | inr had ↦ stayed (ap (target_of old) same ∙ had ∙ here)
       ]) (λ _ had. stayed had) (sym (puts key) ∙ is)
 
   first_within : first ≤ length old.kept.items
@@ -335,10 +328,9 @@ module _ (old new : Variables) (c : ParseState) (scopes : List ScopeName) (code 
                       slice_get_within (kept_variables c.declared) position e stood,
                     ))
                     | inr (last, same) ↦ ap (λ (x : VariableDeclaration). target_of new x.code) (sym same) ∙ puts code
-                        ∙ ap (λ b. if b then Some (Position first) else target_of old code) (own_code code)
+                        ∙ ap (λ b. if b then Kept s.wave.width first else target_of old code) (own_code code)
                   ];
               no_later = omega (arith, end, first_within);
-              same_size = λ w there. (grind (arith, either_of, slice_get_within));
             })
       ]
 
@@ -352,7 +344,6 @@ module _ (old new : Variables) (c : ParseState) (scopes : List ScopeName) (code 
         record {
           kept = grind (arith, kept_more, map-append);
           skipped = same ∙ k.skipped ∙ omega arith ∙ sym (count_with c.declared d false keeps);
-          widths = grind (arith, map-append);
           targets_agree = keep_stands;
           owners = subst (HaveOwnCodes new) (sym kept_more) keep_owners;
           firsts = subst (λ ds. (position : ℕ) (v : Variable) → slice_get new.kept.items position ≡ Some v
@@ -371,16 +362,16 @@ pub push_declares : (old new : Variables) (c : ParseState) (scopes : List ScopeN
     → is_skipped (declaration_in scopes code s) ≡ false → IsFree old code s first
     → OnOk result (length old.kept.items < SIGNAL_LIMIT)
     → OnOk result (new.kept.items ≡ old.kept.items ++ variable_at s first ∷ [])
-    → OnOk result (new.widths.items ≡ old.widths.items ++ s.wave.width ∷ []) → new.log ≡ old.log
-    → OnOk result (Puts old new code (Position first)) → new.skipped ≡ old.skipped
+    → new.log ≡ old.log
+    → OnOk result (Puts old new code (Kept s.wave.width first)) → new.skipped ≡ old.skipped
     → IfErr result (λ fault. (fault ≡ faults.NoMemory)
     ⊎ ((fault ≡ faults.TooManySignals) × (SIGNAL_LIMIT ≤ length old.kept.items)))
     → DeclaresAs c (declaration_in scopes code s) result new
-push_declares old new c scopes code s first (Ok x) k value_changes silent bare keeps free room items widths log puts
-    same refuses =
-    keep_declares old new c scopes code s first k value_changes silent bare keeps items widths log free puts room same x
-push_declares old new c scopes code s first (Err fault) k value_changes silent bare keeps free room items widths log
-    puts same refuses = elim refuses [
+push_declares old new c scopes code s first (Ok x) k value_changes silent bare keeps free room items log puts same
+    refuses =
+    keep_declares old new c scopes code s first k value_changes silent bare keeps items log free puts room same x
+push_declares old new c scopes code s first (Err fault) k value_changes silent bare keeps free room items log puts same
+    refuses = elim refuses [
       | inl none ↦ inl none
       | inr (why, full) ↦ subst (λ f. DeclaresAs c (declaration_in scopes code s) (Err f) new) (sym why)
           (keep_full old c scopes code s first k keeps free new full)
@@ -389,15 +380,6 @@ push_declares old new c scopes code s first (Err fault) k value_changes silent b
 pub when_ok : (result : Result (Unit {0}) Fault) (P : Type 0) → P → OnOk result P
 when_ok (Ok x) P p = p
 when_ok (Err fault) P p = tt
-
--- ---- a code that may not be shared
-
--- the result of a test of a variable's width
-pub same_width : (o : Option Variable) (width : ℕ)
-    → option_map_or (λ (v : Variable). v.signal.wave.width == width) o false ≡ true
-    → (w : Variable) → o ≡ Some w → w.signal.wave.width ≡ width
-same_width None width test w is = let never : None ≡ Some w = is in absurd (cc)
-same_width (Some v) width test w is = grind (arith, same_Some, eqb-true)
 
 -- ---- the words of a declaration
 

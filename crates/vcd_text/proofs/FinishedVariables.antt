@@ -20,7 +20,7 @@ use Rattle.vcd_text.specs.Meaning.{latest_value, declared_signal}
 use Rattle.vcd_text.specs.inside.Variables.{declaration, without_scopes, without_code, target_of}
 use Rattle.vcd_text.specs.inside.Variables.{HasWave}
 use Rattle.vcd_text.specs.inside.Variables.{VariablesMatch, Finishes}
-use Rattle.vcd_text.specs.declared.reading.code_targets.CodeTarget.TheVariants.{Position}
+use Rattle.vcd_text.specs.declared.reading.code_targets.CodeTarget.TheVariants.{Kept}
 use Rattle.vcd_text.specs.declared.reading.variables.Variable.{Variable}
 use Rattle.vcd_text.specs.declared.reading.variables.Variables.{Variables}
 use Rattle.vcd_text.specs.inside.ChangeLog.{logged}
@@ -60,11 +60,13 @@ module _ (vs : Variables) (c : ParseState) (yielded rest : List Variable) (v : V
       × (without_code d ≡ declaration v)
   own_declaration = declared_at vs c k (length yielded) v stands_at
 
-  owned : target_of vs own_declaration.0.code ≡ Some (Position v.first)
+  owned : target_of vs own_declaration.0.code ≡ Kept v.signal.wave.width v.first
   owned = (k.firsts (length yielded) v stands_at).owned own_declaration.0 own_declaration.1
 
   own_wave : (e : VariableDeclaration) × (variable_of c own_declaration.0.code ≡ Some e) × (is_skipped e ≡ false)
-      × HasWave vs.kept.items (logged vs.log.items) v.first own_declaration.0.code e.size c.value_changes c.tick
+      × (e.size ≡ v.signal.wave.width)
+      × HasWave vs.kept.items (logged vs.log.items) v.first own_declaration.0.code v.signal.wave.width c.value_changes
+      c.tick
   own_wave = grind (arith, stands_kept, owned)
 
   -- the changes of a variable of this size and code
@@ -89,16 +91,15 @@ module _ (vs : Variables) (c : ParseState) (yielded rest : List Variable) (v : V
   later_means s signal at takes =
       let d = declaration_after (declared_signal c.value_changes c.tick) (kept_variables c.declared) (length yielded)
       signals v.first s equal at in
-      let o = k.owners own_declaration.0.code v.first owned in
+      let o = k.owners own_declaration.0.code v.signal.wave.width v.first owned in
       let own = own_declaration in
       let code : d.0.code ≡ own.0.code =
       ap (λ (e : VariableDeclaration). e.code) (same_Some d.0 o.0 (sym d.1 ∙ o.1)) ∙ o.2 in
-      let w = own_wave.3.first in
-      let e = declared_at vs c k v.first w own_wave.3.at_position in
+      let w = own_wave.4.first in
+      let e = declared_at vs c k v.first w own_wave.4.at_position in
       let size : d.0.size ≡ own.0.size =
       ap (λ (x : VariableDeclaration). x.size) (same_Some d.0 e.0 (sym d.1 ∙ e.1))
-      ∙ ap (λ (x : VariableDeclaration). x.size) e.2
-      ∙ (k.firsts (length yielded) v stands_at).same_size w own_wave.3.at_position
+      ∙ ap (λ (x : VariableDeclaration). x.size) e.2 ∙ own_wave.4.sized
       ∙ sym (ap (λ (x : VariableDeclaration). x.size) own.2) in
       let scopes = ap (λ (x : VariableDeclaration). x.scopes) own.2 in
       let kind = ap (λ (x : VariableDeclaration). x.kind) own.2 in

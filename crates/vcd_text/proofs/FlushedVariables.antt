@@ -19,7 +19,7 @@ use Rattle.vcd_text.specs.inside.ChangeLog.{AreGrouped, CanTake}
 use Rattle.vcd_text.specs.inside.ChangeLog.{AppliesLogged, CanFlush, FlushesOne, FlushesLog}
 use Rattle.vcd_text.specs.inside.ChangeLog.{counted_variable, counted}
 use Rattle.vcd_text.specs.inside.Variables.{target_of, HasWave, HasFirst, VariablesMatch}
-use Rattle.vcd_text.specs.declared.reading.code_targets.CodeTarget.TheVariants.{Position}
+use Rattle.vcd_text.specs.declared.reading.code_targets.CodeTarget.TheVariants.{Kept}
 use Rattle.vcd_text.specs.declared.reading.pending.LoggedChange.{LoggedChange}
 use Rattle.vcd_text.specs.declared.reading.variables.Variable.{Variable}
 use Rattle.vcd_text.specs.declared.reading.variables.Variables.{Variables}
@@ -169,11 +169,11 @@ pub variables_can_flush : (vs : Variables) (c : ParseState) → VariablesMatch v
 variables_can_flush vs c k = λ position some.
     let u = k.logs position some in
     let d = declared_at vs c k position u.0 u.1 in
-    let had : target_of vs d.0.code ≡ Some (Position position) =
-    (k.firsts position u.0 u.1).owned d.0 d.1 ∙ ap (λ n. Some (Position n)) u.2 in
-    let own = own_wave vs c d.0.code [] position k had in
-    let f : ℕ → List Bit = λ t. latest_value own.0.size d.0.code t (all_x own.0.size) c.value_changes in
-    let wave = own.3 in (
+    let width = u.0.signal.wave.width in
+    let had : target_of vs d.0.code ≡ Kept width position =
+    (k.firsts position u.0 u.1).owned d.0 d.1 ∙ ap (Kept width) u.2 in
+    let f : ℕ → List Bit = λ t. latest_value width d.0.code t (all_x width) c.value_changes in
+    let wave = (own_wave vs c d.0.code [] width position k had).4 in (
       wave.first,
       wave.at_position,
       c.tick,
@@ -223,9 +223,9 @@ module _ (old : Variables) (list : Vec Variable) (log : Vec (Vec LoggedChange)) 
       let v = stood position w at in
       let before = k.firsts position v.0 v.1 in
       record {
-        owned = λ d declared. before.owned d declared ∙ ap (λ n. Some (Position n)) (sym v.2.same.first);
+        owned = λ d declared. before.owned d declared
+            ∙ (λ i. Kept (sym v.2.same.width i) (sym v.2.same.first i));
         no_later = omega (arith, v.2.same.first, before.no_later);
-        same_size = grind (arith, stood);
       }
 
   -- the waves have the changes of the log
@@ -233,7 +233,6 @@ module _ (old : Variables) (list : Vec Variable) (log : Vec (Vec LoggedChange)) 
   flushed_match = record {
     kept = grind (arith, same_all);
     skipped = k.skipped;
-    widths = grind (arith, same_all);
     targets_agree = grind (arith, stands_moved, flushed_wave);
     owners = k.owners;
     firsts = flushed_firsts;

@@ -6,6 +6,7 @@ use Rattle.std.specs.Global.{Vec}
 use Rattle.std.proofs.lemmas.Bool.{cases_eq, eq-eqb, ne_eqb}
 use Rattle.vcd_text.specs.inside.CodeTargets.{place_of, code_target, target_at_place}
 use Rattle.vcd_text.specs.declared.reading.code_targets.CodeTarget.{CodeTarget}
+use Rattle.vcd_text.specs.declared.reading.code_targets.CodeTarget.TheVariants.{Undeclared}
 use Rattle.vcd_text.specs.declared.reading.code_targets.CodeTargets.{CodeTargets}
 use Rattle.vcd_text.proofs.CodeTargets.{by_code, own_code}
 
@@ -38,13 +39,13 @@ one_code a b place here there = one_spelled a b place (spelled a place here) (sp
 
 -- ---- a code that is put into the table
 
-module _ (old : CodeTargets) (table : Vec (Option CodeTarget)) (code : List ℕ) (place : ℕ) (target : CodeTarget)
+module _ (old : CodeTargets) (table : Vec CodeTarget) (code : List ℕ) (place : ℕ) (target : CodeTarget)
     (has : place_of code ≡ Some place)
-    (puts : (i : ℕ) → slice_index_or table.items i None
-    ≡ (if i == place then Some target else slice_index_or old.short.items i None)) where
-  put_here : code_target (record old { short = table }) code ≡ Some target
+    (puts : (i : ℕ) → slice_index_or table.items i Undeclared
+    ≡ (if i == place then target else slice_index_or old.short.items i Undeclared)) where
+  put_here : code_target (record old { short = table }) code ≡ target
   put_here = ap (target_at_place (record old { short = table }) code) has ∙ puts place
-      ∙ ap (λ b. if b then Some target else slice_index_or old.short.items place None) (eq-eqb place place refl)
+      ∙ ap (λ b. if b then target else slice_index_or old.short.items place Undeclared) (eq-eqb place place refl)
 
   put_elsewhere : (key : List ℕ) → bytes_eq key code ≡ false → (o : Option ℕ) → place_of key ≡ o
       → target_at_place (record old { short = table }) key o ≡ target_at_place old key o
@@ -53,16 +54,16 @@ module _ (old : CodeTargets) (table : Vec (Option CodeTarget)) (code : List ℕ)
     | inl same ↦
         let is : key ≡ code = one_code key code place (at ∙ ap (λ n. Some n) same) has in
         let both : true ≡ false = sym (own_code code) ∙ ap (λ k. bytes_eq k code) (sym is) ∙ other in absurd (cc)
-    | inr apart ↦ puts i ∙ ap (λ b. if b then Some target else slice_index_or old.short.items i None)
+    | inr apart ↦ puts i ∙ ap (λ b. if b then target else slice_index_or old.short.items i Undeclared)
         (ne_eqb i place apart)
   ]
 
   -- then it has its new target, and the others keep theirs
   pub short_put : (key : List ℕ) → code_target (record old { short = table }) key
-      ≡ (if bytes_eq key code then Some target else code_target old key)
+      ≡ (if bytes_eq key code then target else code_target old key)
   short_put key =
       by_code (λ b. code_target (record old { short = table }) key
-      ≡ (if b then Some target else code_target old key)) key code
+      ≡ (if b then target else code_target old key)) key code
       (λ same. ap (code_target (record old { short = table })) same ∙ put_here)
       (λ other. put_elsewhere key other (place_of key) refl)
 

@@ -12,7 +12,7 @@ use Rattle.vcd_text.specs.inside.Variables.{TargetAgrees, declaration, without_c
 use Rattle.vcd_text.specs.inside.Variables.{TargetMatches, HaveOwnCodes, HasFirst, VariablesMatch}
 use Rattle.vcd_text.specs.declared.reading.variables.Variable.{Variable}
 use Rattle.vcd_text.specs.declared.reading.variables.Variables.{Variables}
-use Rattle.vcd_text.specs.declared.reading.code_targets.CodeTarget.TheVariants.{Position}
+use Rattle.vcd_text.specs.declared.reading.code_targets.CodeTarget.TheVariants.{Kept}
 use Rattle.vcd_text.proofs.CodeTargets.{stands_moved}
 
 -- as many variables are kept as were declared as kept
@@ -38,11 +38,11 @@ declared_at vs c k position v at =
 
 -- a position is the target of one code alone
 pub one_owner : (vs : Variables) (declared : List VariableDeclaration) → HaveOwnCodes vs declared
-    → (a b : List ℕ) (position : ℕ) → target_of vs a ≡ Some (Position position)
-    → target_of vs b ≡ Some (Position position) → a ≡ b
-one_owner vs declared owners a b position had has =
-    let x = owners a position had in
-    let y = owners b position has in
+    → (a b : List ℕ) (wide width position : ℕ) → target_of vs a ≡ Kept wide position
+    → target_of vs b ≡ Kept width position → a ≡ b
+one_owner vs declared owners a b wide width position had has =
+    let x = owners a wide position had in
+    let y = owners b width position has in
     sym x.2 ∙ ap (λ (d : VariableDeclaration). d.code) (same_Some x.0 y.0 (sym x.1 ∙ y.1)) ∙ y.2
 
 -- variables that match a state match it at a later tick too
@@ -51,11 +51,10 @@ pub knows_further : (vs : Variables) (c d : ParseState) → c.declared ≡ d.dec
 knows_further vs c d declared value_changes later k = record {
   kept = subst (λ ds. map without_code (kept_variables ds) ≡ map declaration vs.kept.items) declared k.kept;
   skipped = subst (λ ds. vs.skipped ≡ count_by is_skipped ds) declared k.skipped;
-  widths = k.widths;
   targets_agree = λ code.
       stands_moved vs.kept.items vs.kept.items (logged vs.log.items) (logged vs.log.items) d.value_changes
       d.value_changes c.tick d.tick code (target_of vs code) (find (λ e. bytes_eq code e.code) d.declared)
-      (λ position size _ wave. (grind (arith, gives_further)))
+      (λ width position _ wave. (grind (arith, gives_further)))
       (subst (λ rs. TargetMatches vs.kept.items (logged vs.log.items) rs c.tick code (target_of vs code)
       (find (λ e. bytes_eq code e.code) d.declared)) value_changes
       (subst (λ ds. TargetAgrees vs c code

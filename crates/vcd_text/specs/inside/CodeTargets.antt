@@ -1,10 +1,11 @@
 -- The targets of codes: those of few bytes by their place in a table, the others by a map.
 use Rattle.std.specs.Prelude.{ℕ, ◌+◌, ◌*◌, ◌==◌, nat_le, ◌||◌, if◌then◌else◌, List, [], ◌∷◌}
-use Rattle.std.specs.Prelude.{slice_index_or}
+use Rattle.std.specs.Prelude.{slice_index_or, unwrap_or}
 use Rattle.std.specs.Prelude.{Option, Some, None, bytes_eq}
 use Rattle.std.specs.Global.{Vec}
 use Rattle.indexmap.specs.IndexMap.{IndexMap, get_by}
 use Rattle.vcd_text.specs.declared.reading.code_targets.CodeTarget.{CodeTarget}
+use Rattle.vcd_text.specs.declared.reading.code_targets.CodeTarget.TheVariants.{Undeclared}
 use Rattle.vcd_text.specs.declared.reading.code_targets.CodeTargets.{CodeTargets}
 
 -- a byte from 1 to 127 as a digit
@@ -25,14 +26,14 @@ place_of (a ∷ b ∷ c ∷ []) = joined_digits (digit_of a) (joined_digits (dig
 place_of code = None
 
 -- the target of a code in a map
-abbrev pub in_map : {S : Type 0} → IndexMap (Vec ℕ) CodeTarget S → List ℕ → Option CodeTarget
-in_map codes code = get_by (λ key. bytes_eq code key.items) codes
+abbrev pub in_map : {S : Type 0} → IndexMap (Vec ℕ) CodeTarget S → List ℕ → CodeTarget
+in_map codes code = unwrap_or (get_by (λ key. bytes_eq code key.items) codes) Undeclared
 
 -- the target of a code at this place
-abbrev pub target_at_place : CodeTargets → List ℕ → Option ℕ → Option CodeTarget
+abbrev pub target_at_place : CodeTargets → List ℕ → Option ℕ → CodeTarget
 target_at_place t code None = in_map t.others code
-target_at_place t code (Some place) = slice_index_or t.short.items place None
+target_at_place t code (Some place) = slice_index_or t.short.items place Undeclared
 
--- the target of a code; none if it has none
-abbrev pub code_target : CodeTargets → List ℕ → Option CodeTarget
+-- the target of a code
+abbrev pub code_target : CodeTargets → List ℕ → CodeTarget
 code_target t code = target_at_place t code (place_of code)

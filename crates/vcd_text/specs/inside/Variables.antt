@@ -24,7 +24,7 @@ use Rattle.vcd_text.specs.inside.CodeTargets.{code_target}
 use Rattle.vcd_text.specs.inside.ChangeLog.{GivesLoggedValues, logged, AreGrouped}
 use Rattle.vcd_text.specs.declared.reading.pending.LoggedChange.{LoggedChange}
 use Rattle.vcd_text.specs.declared.reading.code_targets.CodeTarget.{CodeTarget}
-use Rattle.vcd_text.specs.declared.reading.code_targets.CodeTarget.TheVariants.{Skipped, Position}
+use Rattle.vcd_text.specs.declared.reading.code_targets.CodeTarget.TheVariants.{Undeclared, Skipped, Kept}
 use Rattle.vcd_text.specs.declared.reading.variables.Variable.{Variable}
 use Rattle.vcd_text.specs.declared.reading.variables.Variables.{Variables}
 
@@ -48,7 +48,7 @@ abbrev pub declaration : Variable → VariableDeclaration
 declaration v = declaration_in v.signal.scopes [] v.signal
 
 -- the target of a code
-abbrev pub target_of : Variables → List ℕ → Option CodeTarget
+abbrev pub target_of : Variables → List ℕ → CodeTarget
 target_of vs code = code_target vs.code_targets code
 
 -- the variable at this position has the size; its wave and its log give the code's value changes up
@@ -62,31 +62,29 @@ pub record HasWave (vs : List Variable) (log : ℕ → List LoggedChange) (posit
   pub gives : GivesLoggedValues size tick (λ t. latest_value size code t (all_x size) value_changes)
       first.signal.wave.changes (log position)
 
--- the target of a code agrees with the code's declaration, and its wave with the value changes if
--- it is kept
+-- the target of a code agrees with the code's declaration, and its width and its wave with the
+-- value changes if it is kept
 abbrev pub TargetMatches : List Variable → (ℕ → List LoggedChange) → List ValueChange → ℕ → List ℕ
-    → Option CodeTarget
-    → Option VariableDeclaration → Type 0
-TargetMatches vs log value_changes tick code None None = Unit {0}
-TargetMatches vs log value_changes tick code (Some Skipped) (Some d) = IsTrue (is_skipped d)
-TargetMatches vs log value_changes tick code (Some (Position position)) (Some d) =
-    IsFalse (is_skipped d) × HasWave vs log position code d.size value_changes tick
+    → CodeTarget → Option VariableDeclaration → Type 0
+TargetMatches vs log value_changes tick code Undeclared None = Unit {0}
+TargetMatches vs log value_changes tick code Skipped (Some d) = IsTrue (is_skipped d)
+TargetMatches vs log value_changes tick code (Kept width position) (Some d) =
+    IsFalse (is_skipped d) × (d.size ≡ width)
+    × HasWave vs log position code width value_changes tick
 TargetMatches vs log value_changes tick code target declared = ⊥
 
 -- the same for the variables of the parser and a state of the file
-abbrev pub TargetAgrees : Variables → ParseState → List ℕ → Option CodeTarget
+abbrev pub TargetAgrees : Variables → ParseState → List ℕ → CodeTarget
     → Option VariableDeclaration → Type 0
 TargetAgrees vs c = TargetMatches vs.kept.items (logged vs.log.items) c.value_changes c.tick
 
--- a kept variable has the position of the first one with its code, which is no later and has the
--- same size
+-- a kept variable has the width of its code, and the position of the first one with it, which is no
+-- later
 pub record HasFirst (vs : Variables) (declared : List VariableDeclaration) (position : ℕ)
     (v : Variable) : Type 0 where
   pub owned : (d : VariableDeclaration) → slice_get declared position ≡ Some d
-      → target_of vs d.code ≡ Some (Position v.first)
+      → target_of vs d.code ≡ Kept v.signal.wave.width v.first
   pub no_later : v.first ≤ position
-  pub same_size : (w : Variable) → slice_get vs.kept.items v.first ≡ Some w
-      → w.signal.wave.width ≡ v.signal.wave.width
 
 -- the log has changes only of variables that are the first of their code
 abbrev pub HasOnlyFirstVariables : List Variable → (ℕ → List LoggedChange) → Type 0
@@ -96,7 +94,7 @@ HasOnlyFirstVariables vs log = (position : ℕ) → 0 < length (log position)
 -- the variable at the target of a code was declared with the code
 abbrev pub HaveOwnCodes : Variables → List VariableDeclaration → Type 0
 HaveOwnCodes vs declared =
-    (code : List ℕ) (position : ℕ) → target_of vs code ≡ Some (Position position)
+    (code : List ℕ) (width position : ℕ) → target_of vs code ≡ Kept width position
     → (d : VariableDeclaration) × (slice_get declared position ≡ Some d) × (d.code ≡ code)
 
 -- the variables match the state: declarations without their scopes, and value changes up to the
@@ -104,7 +102,6 @@ HaveOwnCodes vs declared =
 pub record VariablesMatch (vs : Variables) (c : ParseState) : Type 0 where
   pub kept : map without_code (kept_variables c.declared) ≡ map declaration vs.kept.items
   pub skipped : vs.skipped ≡ count_by is_skipped c.declared
-  pub widths : vs.widths.items ≡ map (λ (v : Variable). v.signal.wave.width) vs.kept.items
   pub targets_agree : (code : List ℕ) → TargetAgrees vs c code (target_of vs code)
       (variable_of c code)
   pub owners : HaveOwnCodes vs (kept_variables c.declared)

@@ -1,8 +1,9 @@
 //! The targets of a file's codes: a table of the short codes, and a map of the others.
 
 ghost use Rattle.std.specs.Prelude.{◌≡◌, ◌+◌, ◌<◌, ◌≤◌, ◌^◌, ◌==◌, ℕ, List, length, if◌then◌else◌};
-ghost use Rattle.std.specs.Prelude.{slice_index_or, Some, None, IfSome, OnOk, bytes_eq, max};
+ghost use Rattle.std.specs.Prelude.{slice_index_or, IfSome, OnOk, bytes_eq, max};
 ghost use Rattle.vcd_text.specs.inside.CodeTargets.{digit_of, place_of, code_target, in_map};
+ghost use Rattle.vcd_text.specs.declared.reading.code_targets.CodeTarget.TheVariants as targets;
 
 use indexmap::IndexMap;
 use std::alloc::Global;
@@ -11,17 +12,19 @@ use vcd_core::{NoMemory, copy_word};
 /// The target of a code.
 #[derive(Clone, Copy, Debug, PartialEq, Eq)]
 pub enum CodeTarget {
+    /// No variable.
+    Undeclared,
     /// A skipped variable.
     Skipped,
-    /// The position of the first kept variable with the code.
-    Position(u32),
+    /// The first kept variable with the code: its width and its position.
+    Kept(u16, u32),
 }
 
 /// The targets of the codes.
 #[derive(Drop)]
 pub struct CodeTargets {
     /// The target of each short code, at the place of the code.
-    pub short: Vec<Option<CodeTarget>>,
+    pub short: Vec<CodeTarget>,
     /// The other codes, each with its target.
     pub others: IndexMap<Vec<u8>, CodeTarget>,
 }
@@ -29,7 +32,7 @@ pub struct CodeTargets {
 impl CodeTargets {
     /// No codes. It takes no memory.
     pub fn new(alloc: Global) -> CodeTargets
-        ensures { (code : List ℕ) → code_target result code ≡ None }
+        ensures { (code : List ℕ) → code_target result code ≡ targets.Undeclared }
     {
         CodeTargets {
             short: Vec::new(alloc),
@@ -37,8 +40,8 @@ impl CodeTargets {
         }
     }
 
-    /// The target of a code; none if it has none.
-    pub fn get(&self, code: &[u8]) -> Option<CodeTarget>
+    /// The target of a code.
+    pub fn get(&self, code: &[u8]) -> CodeTarget
         ensures { result ≡ code_target self.now code.now }
     {
         match short_place(code) {
@@ -51,7 +54,7 @@ impl CodeTargets {
     /// a copy of the code.
     pub fn insert(&mut self, alloc: Global, code: &[u8], target: CodeTarget) -> Result<(), NoMemory>
         ensures { OnOk result ((key : List ℕ) → code_target self.new key ≡
-            (if bytes_eq key code.now then Some target else code_target self.old key)) }
+            (if bytes_eq key code.now then target else code_target self.old key)) }
     {
         match short_place(code) {
             Some(place) => put_at(&mut self.short, place, target),
@@ -60,45 +63,42 @@ impl CodeTargets {
     }
 }
 
-/// The target at a place; none past the end of the table.
-fn target_at(table: &[Option<CodeTarget>], place: usize) -> Option<CodeTarget>
-    ensures { result ≡ slice_index_or table.now place None }
+/// The target at a place. Past the end of the table no code is declared.
+fn target_at(table: &[CodeTarget], place: usize) -> CodeTarget
+    ensures { result ≡ slice_index_or table.now place targets.Undeclared }
 {
-    *table.get(place)?
+    table.get(place).copied().unwrap_or(CodeTarget::Undeclared)
 }
 
 /// The target of a code in the map.
-fn target_in(codes: &IndexMap<Vec<u8>, CodeTarget>, code: &[u8]) -> Option<CodeTarget>
+fn target_in(codes: &IndexMap<Vec<u8>, CodeTarget>, code: &[u8]) -> CodeTarget
     ensures { result ≡ in_map codes.now code.now }
 {
-    codes.get(code).copied()
+    codes.get(code).copied().unwrap_or(CodeTarget::Undeclared)
 }
 
-/// Gives a place this target. If the table ends before it, the places between have none.
-fn put_at(
-    table: &mut Vec<Option<CodeTarget>>,
-    place: usize,
-    target: CodeTarget,
-) -> Result<(), NoMemory>
+/// Gives a place this target. If the table ends before it, the codes between are undeclared.
+fn put_at(table: &mut Vec<CodeTarget>, place: usize, target: CodeTarget) -> Result<(), NoMemory>
     requires { place < 2 ^ 32 }
-    ensures target { OnOk result ((i : ℕ) → slice_index_or table.new.items i None ≡
-        (if i == place then Some target else slice_index_or table.old.items i None)) }
+    ensures target { OnOk result ((i : ℕ) → slice_index_or table.new.items i targets.Undeclared ≡
+        (if i == place then target else slice_index_or table.old.items i targets.Undeclared)) }
     ensures exact { OnOk result
         (length table.new.items ≡ max (length table.old.items) (place + 1)) }
 {
     lengthen(table, place + 1)?;
-    table[place] = Some(target);
+    table[place] = target;
     Ok(())
 }
 
-/// Appends places without a target to a table that is shorter.
-fn lengthen(table: &mut Vec<Option<CodeTarget>>, len: usize) -> Result<(), NoMemory>
+/// Appends undeclared codes to a table that is shorter.
+fn lengthen(table: &mut Vec<CodeTarget>, len: usize) -> Result<(), NoMemory>
     ensures exact { OnOk result (length table.new.items ≡ max (length table.old.items) len) }
     ensures same { OnOk result ((i : ℕ) →
-        slice_index_or table.new.items i None ≡ slice_index_or table.old.items i None) }
+        slice_index_or table.new.items i targets.Undeclared ≡
+        slice_index_or table.old.items i targets.Undeclared) }
 {
     if table.len() < len {
-        table.resize(len, None)?;
+        table.resize(len, CodeTarget::Undeclared)?;
     }
     Ok(())
 }
@@ -111,7 +111,7 @@ fn put_in(
     target: CodeTarget,
 ) -> Result<(), NoMemory>
     ensures { OnOk result ((key : List ℕ) → in_map codes.new key ≡
-        (if bytes_eq key code.now then Some target else in_map codes.old key)) }
+        (if bytes_eq key code.now then target else in_map codes.old key)) }
 {
     let key = copy_word(alloc, code)?.into_vec();
     codes.insert(key, target)?;

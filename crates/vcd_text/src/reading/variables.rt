@@ -63,8 +63,6 @@ impl Variable {
 pub struct Variables {
     /// The kept variables, in the order of the file.
     pub kept: Vec<Variable>,
-    /// Their widths, in a list of their own, so that a change needs no access to a variable.
-    pub widths: Vec<u64>,
     /// The target of each code.
     pub code_targets: CodeTargets,
     /// The number of skipped variables.
@@ -81,7 +79,6 @@ impl Variables {
     {
         Variables {
             kept: Vec::new(alloc),
-            widths: Vec::new(alloc),
             code_targets: CodeTargets::new(alloc),
             skipped: 0,
             log: Vec::new(alloc),

@@ -1,9 +1,8 @@
 //! Declaring a variable.
 
 ghost use Rattle.std.specs.Prelude.{◌≡◌, ◌⊎◌, ◌<◌, ◌≤◌, ◌+◌, ◌++◌, ◌^◌, ◌==◌, ◌||◌, nat_lt, ℕ};
-ghost use Rattle.std.specs.Prelude.{List, [], ◌∷◌, length, slice_get, false, Some, IsTrue, IsFalse};
+ghost use Rattle.std.specs.Prelude.{List, [], ◌∷◌, length, IsTrue, IsFalse};
 ghost use Rattle.std.specs.Prelude.{IfOk, IfErr, OnOk, if◌then◌else◌, bytes_eq};
-ghost use Rattle.std.specs.Option.{option_map_or};
 ghost use Rattle.vcd_core.specs.declared.capture.ScopeName.{ScopeName};
 ghost use Rattle.vcd_core.specs.declared.value.TheConstants.{WIDTH_LIMIT};
 ghost use Rattle.vcd_text.specs.declared.reading.pending.TheConstants.{NO_ROOM};
@@ -14,7 +13,7 @@ ghost use Rattle.vcd_text.specs.inside.Variables.{target_of, declaration_in, Var
 ghost use Rattle.vcd_text.specs.inside.Variables.{Declares, DeclaresAs};
 ghost use Rattle.vcd_text.specs.declared.fault.Fault.TheVariants.{NoMemory as NoMemoryFault};
 ghost use Rattle.vcd_text.specs.declared.fault.Fault.TheVariants.{TooManySignals};
-ghost use Rattle.vcd_text.specs.declared.reading.code_targets.CodeTarget.TheVariants.{Position as PositionAt};
+ghost use Rattle.vcd_text.specs.declared.reading.code_targets.CodeTarget.TheVariants.{Kept};
 
 use crate::fault::Fault;
 use crate::reading::code_targets::CodeTarget;
@@ -65,9 +64,9 @@ impl Variables {
             IsTrue (is_skipped d) → DeclaresAs c d result self.new }
     {
         match self.code_targets.get(code) {
-            None => self.code_targets.insert(alloc, code, CodeTarget::Skipped)?,
-            Some(CodeTarget::Skipped) => {}
-            Some(CodeTarget::Position(_)) => return Err(Fault::MixedCode),
+            CodeTarget::Undeclared => self.code_targets.insert(alloc, code, CodeTarget::Skipped)?,
+            CodeTarget::Skipped => {}
+            CodeTarget::Kept(_, _) => return Err(Fault::MixedCode),
         }
         self.skipped += 1;
         Ok(())
@@ -83,15 +82,14 @@ impl Variables {
             DeclaresAs c d result self.new }
     {
         match self.code_targets.get(code) {
-            None => self.keep_first(alloc, code, signal),
-            Some(CodeTarget::Position(first)) => {
-                let first = first as usize;
-                if !self.has_width(first, signal.wave.width()) {
+            CodeTarget::Undeclared => self.keep_first(alloc, code, signal),
+            CodeTarget::Kept(width, first) => {
+                if u64::from(width) != signal.wave.width() {
                     return Err(Fault::MixedCode);
                 }
-                self.add_kept(signal, first)
+                self.add_kept(signal, first as usize)
             }
-            Some(CodeTarget::Skipped) => Err(Fault::MixedCode),
+            CodeTarget::Skipped => Err(Fault::MixedCode),
         }
     }
 
@@ -101,20 +99,19 @@ impl Variables {
         ensures kept { OnOk result (self.new.kept.items ≡ self.old.kept.items ++
             record { signal = signal; first = length self.old.kept.items; expected_room = NO_ROOM }
             ∷ []) }
-        ensures widths { OnOk result (self.new.widths.items ≡
-            self.old.widths.items ++ signal.wave.width ∷ []) }
         ensures code_targets { OnOk result ((key : List ℕ) → target_of self.new key ≡
-            (if bytes_eq key code.now then Some (PositionAt (length self.old.kept.items))
-            else target_of self.old key)) }
+            (if bytes_eq key code.now
+            then Kept signal.wave.width (length self.old.kept.items) else target_of self.old key)) }
         ensures skipped { self.new.skipped ≡ self.old.skipped }
         ensures log { self.new.log ≡ self.old.log }
         ensures refuses { IfErr result (λ fault. (fault ≡ NoMemoryFault) ⊎
             ((fault ≡ TooManySignals) × (SIGNAL_LIMIT ≤ length self.old.kept.items))) }
     {
         let first = self.kept.len();
+        let width = signal.wave.width() as u16;
         self.add_kept(signal, first)?;
         self.code_targets
-            .insert(alloc, code, CodeTarget::Position(first as u32))?;
+            .insert(alloc, code, CodeTarget::Kept(width, first as u32))?;
         Ok(())
     }
 
@@ -123,8 +120,6 @@ impl Variables {
         ensures few { OnOk result (length self.old.kept.items < SIGNAL_LIMIT) }
         ensures kept { OnOk result (self.new.kept.items ≡ self.old.kept.items ++
             record { signal = signal; first = first; expected_room = NO_ROOM } ∷ []) }
-        ensures widths { OnOk result (self.new.widths.items ≡
-            self.old.widths.items ++ signal.wave.width ∷ []) }
         ensures code_targets { self.new.code_targets ≡ self.old.code_targets }
         ensures skipped { self.new.skipped ≡ self.old.skipped }
         ensures log { self.new.log ≡ self.old.log }
@@ -134,7 +129,6 @@ impl Variables {
         if self.kept.len() >= SIGNAL_LIMIT {
             return Err(Fault::TooManySignals);
         }
-        self.widths.push(signal.wave.width())?;
         let expected_room = NO_ROOM;
         self.kept.push(Variable {
             signal,
@@ -142,17 +136,6 @@ impl Variables {
             expected_room,
         })?;
         Ok(())
-    }
-
-    /// Whether there is a variable of this width at this position.
-    fn has_width(&self, position: usize, width: u64) -> bool
-        ensures { result ≡ option_map_or (λ v. v.signal.wave.width == width)
-            (slice_get self.now.kept.items position) false }
-    {
-        match self.kept.get(position) {
-            Some(variable) => variable.signal.wave.width() == width,
-            None => false,
-        }
     }
 }
 

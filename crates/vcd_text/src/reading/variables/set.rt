@@ -1,12 +1,12 @@
 //! Changing the value of a code.
 
-ghost use Rattle.std.specs.Prelude.{◌≡◌, ◌⊎◌, ◌≤◌, ℕ, List, is_some, Some, IfErr, OnOk, All};
+ghost use Rattle.std.specs.Prelude.{◌≡◌, ◌⊎◌, ◌≤◌, ℕ, List, is_some, IfErr, OnOk, All};
 ghost use Rattle.vcd_text.specs.Grammar.{ParseState, variable_of};
 ghost use Rattle.vcd_text.specs.inside.Variables.{target_of, VariablesMatch, ChangeResult};
 ghost use Rattle.vcd_text.specs.inside.Variables.{HasValueFrom};
 ghost use Rattle.vcd_text.specs.inside.ValueDigits.{RefusesBinaryNumber};
 ghost use Rattle.vcd_text.specs.declared.fault.Fault.TheVariants.{NoMemory as NoMemoryFault};
-ghost use Rattle.vcd_text.specs.declared.reading.code_targets.CodeTarget.TheVariants.{Position as PositionAt};
+ghost use Rattle.vcd_text.specs.declared.reading.code_targets.CodeTarget.TheVariants.{Kept};
 
 use crate::fault::Fault;
 use crate::reading::binary_number::{read_letter_block, read_value};
@@ -44,34 +44,31 @@ impl Variables {
             ChangeResult c code.now digits.now result self.new }
     {
         match self.code_targets.get(code) {
-            None => Err(Fault::UnknownCode),
-            Some(CodeTarget::Skipped) => Ok(()),
-            Some(CodeTarget::Position(first)) => self.change_at(
-                alloc,
-                first as usize,
-                tick,
-                digits,
-            ),
+            CodeTarget::Undeclared => Err(Fault::UnknownCode),
+            CodeTarget::Skipped => Ok(()),
+            CodeTarget::Kept(width, first) => {
+                self.change_at(alloc, u64::from(width), first as usize, tick, digits)
+            }
         }
     }
 
-    /// Appends a change of the variable at a position, the first of its code. One of at most 64
-    /// bits gets it in the log, a wider one in its wave.
+    /// Appends a change of the variable of this width at a position, the first of its code. One of
+    /// at most 64 bits gets it in the log, a wider one in its wave.
     fn change_at(
         &mut self,
         alloc: Global,
+        width: u64,
         first: usize,
         tick: u64,
         digits: &[u8],
     ) -> Result<(), Fault>
         requires known { (c : ParseState) × (code : List ℕ) × VariablesMatch self.old c
             × (c.tick ≤ tick)
-            × (target_of self.old code ≡ Some (PositionAt first)) }
+            × (target_of self.old code ≡ Kept width first) }
         ensures { (c : ParseState) (code : List ℕ) → c.tick ≡ tick → VariablesMatch self.old c →
-            target_of self.old code ≡ Some (PositionAt first) →
+            target_of self.old code ≡ Kept width first →
             ChangeResult c code digits.now result self.new }
     {
-        let width = self.widths[first];
         if width > 64 {
             return self.kept[first].change_wave(tick, digits);
         }
@@ -90,6 +87,9 @@ impl Variables {
         ensures { (c : ParseState) → VariablesMatch self.now c
             → result ≡ is_some (variable_of c code.now) }
     {
-        self.code_targets.get(code).is_some()
+        match self.code_targets.get(code) {
+            CodeTarget::Undeclared => false,
+            CodeTarget::Skipped | CodeTarget::Kept(_, _) => true,
+        }
     }
 }

@@ -6,7 +6,7 @@ use Rattle.vcd_core.specs.declared.wave.Change.{Change}
 use Rattle.vcd_text.specs.inside.Variables.{HasValueFrom, ChangeResult}
 use Rattle.vcd_text.specs.declared.reading.pending.LoggedChange.{LoggedChange}
 use Rattle.vcd_text.specs.declared.reading.variables.Variable.{Variable}
-use Rattle.vcd_text.proofs.ChangedVariables.{own_wave, read_is, width_is, wave_late, refused}
+use Rattle.vcd_text.proofs.ChangedVariables.{own_wave, read_is, wave_late, refused}
 use Rattle.vcd_text.proofs.ChangedVariables.{wide_changes, narrow_changes}
 use Rattle.vcd_text.proofs.reading.variables.Variables.change_at.Goals as goal
 
@@ -16,12 +16,12 @@ change_wave-requires c =
     let (state, code, k, later, had) = c.requires.known in
     let digits = c.args.digits.now in
     let v = c.index_mut.result.now in
-    let wave = (own_wave old state code digits c.args.first k had).3.first.signal.wave.changes in
+    let wave = (own_wave old state code digits c.args.width c.args.first k had).4.first.signal.wave.changes in
     record {
       none_later = subst (λ (u : Variable). All (λ (e : Change). e.tick ≤ c.args.tick) u.signal.wave.changes)
-          (sym (read_is old state code digits c.args.first k had v c.index_mut.ensures.value))
+          (sym (read_is old state code digits c.args.width c.args.first k had v c.index_mut.ensures.value))
           (All-weaker (λ (e : Change). e.tick ≤ state.tick) (λ (e : Change). e.tick ≤ c.args.tick)
-          (λ e le. omega (arith, le, later)) wave (wave_late old state code digits c.args.first k had));
+          (λ e le. omega (arith, le, later)) wave (wave_late old state code digits c.args.width c.args.first k had));
     }
 
 pub returns-then-width-gt64 : goal.returns-then-width-gt64
@@ -30,8 +30,8 @@ returns-then-width-gt64 c = λ state code tick k had.
     let digits = c.args.digits.now in
     let v = c.index_mut.result.now in
     wide_changes old (with_item old.kept c.args.first c.change_wave.new.self) state code digits
-    c.args.first c.index-width.result.now v c.change_wave.new.self c.change_wave.result k had
-    c.index_mut.ensures.value c.index-width.ensures c.if-width-gt64.true refl
+    c.args.width c.args.first v c.change_wave.new.self c.change_wave.result k had
+    c.index_mut.ensures.value c.if-width-gt64.true refl
     (subst (λ t. OnOk c.change_wave.result (HasValueFrom t digits v c.change_wave.new.self)) (sym tick)
     c.change_wave.ensures.values)
     c.change_wave.ensures.refuses
@@ -40,17 +40,15 @@ pub returns-in_err-word : goal.returns-in_err-word
 returns-in_err-word c = λ state code tick k had.
     let old = c.args.self.now in
     let digits = c.args.digits.now in
-    let width = c.index-width.result.now in
     let failed = err_from_is_err_and c.from_residual.result c.from_residual.ensures.1 in
     subst (λ r. ChangeResult state code digits r old) (sym (failed.1 ∙ ap Err failed.2))
-    (inr (refused old state code digits c.args.first k had width c.in_err-word.field-0.0
-    (width_is old state code digits c.args.first k had width c.index-width.ensures) c.in_err-word.ensures))
+    (inr (refused old state code digits c.args.width c.args.first k had c.in_err-word.field-0.0 c.in_err-word.ensures))
 
 pub returns : goal.returns
 returns c = λ state code tick k had.
     let e : LoggedChange =
     record { tick = c.args.tick; position = c.args.first; word = c.in_ok-word.word } in
-    narrow_changes c.args.self.now c.append.new.groups state code c.args.digits.now c.args.first
-    c.index-width.result.now e k had c.index-width.ensures
+    narrow_changes c.args.self.now c.append.new.groups state code c.args.digits.now c.args.width c.args.first
+    e k had
     (omega (arith, c.if-width-gt64.false)) (sym tick) refl c.in_ok-word.ensures c.in_ok-append.ensures.grouped
     c.in_ok-append.ensures.appended tt
