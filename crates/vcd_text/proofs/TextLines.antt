@@ -5,7 +5,8 @@ use Rattle.std.specs.Prelude.{Option}
 use Rattle.std.specs.List.{join_with_byte}
 use Rattle.std.proofs.lemmas.Grind.{flat_map-append}
 use Rattle.std.proofs.lemmas.List.{append-nil}
-use Rattle.vcd_text.specs.declared.writing.buffer.WriteBuffer.{WriteBuffer}
+use Rattle.vcd_core.specs.declared.device.Sink as sinks
+use Rattle.vcd_text.specs.declared.writing.output.Output.{Output}
 use Rattle.vcd_text.specs.Items.{end_word}
 use Rattle.vcd_text.specs.inside.SpacedWords.{spaced_words}
 use Rattle.vcd_text.specs.inside.Written.{Emits}
@@ -16,14 +17,14 @@ joined w [] = sym (append-nil w)
 joined w (v ∷ ws) = ap (λ l. w ++ (32 ∷ l)) (joined v ws)
 
 -- words and further ones
-pub writes_words : {W : Type 0} {t : W → Option (List ℕ)} {f : W → Bool} {s0 s1 s2 : WriteBuffer × W}
-    (front back : List (List ℕ)) → Emits t f s0 s1 (spaced_words front) → Emits t f s1 s2 (spaced_words back)
-    → Emits t f s0 s2 (spaced_words (front ++ back))
+pub writes_words : {W : Type 0} {sink : sinks.Ghosts W} {o0 o1 o2 : Output W}
+    (front back : List (List ℕ)) → Emits sink o0 o1 (spaced_words front) → Emits sink o1 o2 (spaced_words back)
+    → Emits sink o0 o2 (spaced_words (front ++ back))
 writes_words front back first second =
     writes_as (sym (flat_map-append (λ w. 32 ∷ w) front back)) (writes_both first second)
 
-pub writes_line : {W : Type 0} {t : W → Option (List ℕ)} {f : W → Bool} {s0 s1 s2 s3 : WriteBuffer × W} (w : List ℕ)
-    (ws : List (List ℕ)) → Emits t f s0 s1 w → Emits t f s1 s2 (spaced_words ws) → Emits t f s2 s3 (codes " $end\n")
-    → Emits t f s0 s3 (join_with_byte 32 (w ∷ (ws ++ end_word ∷ [])) ++ 10 ∷ [])
+pub writes_line : {W : Type 0} {sink : sinks.Ghosts W} {o0 o1 o2 o3 : Output W} (w : List ℕ)
+    (ws : List (List ℕ)) → Emits sink o0 o1 w → Emits sink o1 o2 (spaced_words ws) → Emits sink o2 o3 (codes " $end\n")
+    → Emits sink o0 o3 (join_with_byte 32 (w ∷ (ws ++ end_word ∷ [])) ++ 10 ∷ [])
 writes_line w ws first middle last =
     writes_as (grind (arith, append_assoc, joined, flat_map-append)) (writes_both (writes_both first middle) last)

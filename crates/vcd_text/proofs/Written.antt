@@ -1,15 +1,18 @@
 -- Pieces that are written one after another, through a buffer.
 use Rattle.std.proofs.Common.{◌≡◌, ◌<◌, ◌≤◌, ◌+◌, ◌-◌, ◌^◌, ℕ, Bool, true, false, List, [], ◌++◌}
-use Rattle.std.proofs.Common.{length, take, drop}
-use Rattle.std.proofs.Common.{min, refl, sym, ap, subst, ◌∙◌, arith, append_assoc, ◌∷◌, get_or}
-use Rattle.std.specs.Prelude.{Option, Some, None}
+use Rattle.std.proofs.Common.{length, take, drop, min, refl, sym, ap, subst, ◌∙◌, arith, append_assoc, ◌∷◌, get_or}
+use Rattle.std.specs.Prelude.{Option, Some, None, Result, Ok, Err, OnOk, OnErr, IfErr}
 use Rattle.std.specs.Io.KnownBytes.{Appends, Keeps}
 use Rattle.std.proofs.KnownBytes.{Appends-trans}
 use Rattle.std.proofs.Math.Seq.{take-add}
 use Rattle.std.proofs.lemmas.List.{append-nil, length-append, length-drop, take-append-le}
-use Rattle.std.proofs.lemmas.List.{drop-append-le, drop_all}
+use Rattle.std.proofs.lemmas.List.{drop_all}
 use Rattle.std.proofs.lemmas.List.{drop_more, take_all}
-use Rattle.vcd_text.specs.declared.writing.buffer.WriteBuffer.{WriteBuffer}
+use Rattle.vcd_core.specs.declared.device.Sink as sinks
+use Rattle.vcd_text.specs.declared.fault.WriteError.{WriteError}
+use Rattle.vcd_text.specs.declared.fault.WriteError.TheVariants.{WriteFault}
+use Rattle.vcd_text.specs.declared.writing.output.Output.{Output}
+use Rattle.vcd_text.specs.WriteEnds.{TookBefore}
 use Rattle.vcd_text.specs.inside.Written.{HasEmitted, Emits}
 
 -- a part from the front of the rest is written
@@ -18,52 +21,52 @@ carried : (out part rest left whole : List ℕ) → left ≡ part ++ rest → ou
 carried out part rest left whole split is = append_assoc out part rest ∙ ap (λ l. out ++ l) (sym split) ∙ is
 
 -- two parts
-pub writes_both : {W : Type 0} {t : W → Option (List ℕ)} {f : W → Bool} {s0 s1 s2 : WriteBuffer × W} {a b : List ℕ}
-    → Emits t f s0 s1 a → Emits t f s1 s2 b → Emits t f s0 s2 (a ++ b)
-writes_both {t = t} {f = f} {s2 = s2} {a = a} {b = b} first second = grind (arith, append_assoc)
+pub writes_both : {W : Type 0} {sink : sinks.Ghosts W} {o0 o1 o2 : Output W} {a b : List ℕ}
+    → Emits sink o0 o1 a → Emits sink o1 o2 b → Emits sink o0 o2 (a ++ b)
+writes_both {sink = sink} {o2 = o2} {a = a} {b = b} first second = grind (arith, append_assoc)
 
 -- nothing
-pub writes_none : {W : Type 0} {t : W → Option (List ℕ)} {f : W → Bool} {s : WriteBuffer × W} → Emits t f s s []
-writes_none {t = t} {f = f} {s = s} = grind (arith, append-nil)
+pub writes_none : {W : Type 0} {sink : sinks.Ghosts W} {o : Output W} → Emits sink o o []
+writes_none {sink = sink} {o = o} = grind (arith, append-nil)
 
 -- the same part by another name
-pub writes_as : {W : Type 0} {t : W → Option (List ℕ)} {f : W → Bool} {s0 s1 : WriteBuffer × W} {a b : List ℕ} → a ≡ b
-    → Emits t f s0 s1 a → Emits t f s0 s1 b
-writes_as {t = t} {f = f} {s0 = s0} {s1 = s1} same writes = grind arith
+pub writes_as : {W : Type 0} {sink : sinks.Ghosts W} {o0 o1 : Output W} {a b : List ℕ} → a ≡ b
+    → Emits sink o0 o1 a → Emits sink o0 o1 b
+writes_as {sink = sink} {o0 = o0} {o1 = o1} same writes = grind arith
 
 -- ---- loops
 
 -- a front of a whole is written, and the rest is left
-pub record WritesFront {W : Type 0} (t : W → Option (List ℕ)) (f : W → Bool) (s0 s1 : WriteBuffer × W)
-    (left whole : List ℕ) : Type 0 where
+pub record WritesFront {W : Type 0} (sink : sinks.Ghosts W) (old new : Output W) (left whole : List ℕ) : Type 0 where
   pub done : List ℕ
-  pub writes : Emits t f s0 s1 done
+  pub writes : Emits sink old new done
   pub split : done ++ left ≡ whole
 
-pub front_begun : {W : Type 0} {t : W → Option (List ℕ)} {f : W → Bool} {s : WriteBuffer × W} {left whole : List ℕ}
-    → left ≡ whole → WritesFront t f s s left whole
+pub front_begun : {W : Type 0} {sink : sinks.Ghosts W} {o : Output W} {left whole : List ℕ} → left ≡ whole
+    → WritesFront sink o o left whole
 front_begun same = record { done = []; writes = writes_none; split = same }
 
-pub front_grows : {W : Type 0} {t : W → Option (List ℕ)} {f : W → Bool} {s0 s1 s2 : WriteBuffer × W}
-    {part left whole : List ℕ} (rest : List ℕ)
-    → WritesFront t f s0 s1 left whole → Emits t f s1 s2 part → left ≡ part ++ rest → WritesFront t f s0 s2 rest whole
+pub front_grows : {W : Type 0} {sink : sinks.Ghosts W} {o0 o1 o2 : Output W} {part left whole : List ℕ}
+    (rest : List ℕ) → WritesFront sink o0 o1 left whole → Emits sink o1 o2 part → left ≡ part ++ rest
+    → WritesFront sink o0 o2 rest whole
 front_grows {part = part} {left = left} {whole = whole} rest front more is = record {
   done = front.done ++ part;
   writes = writes_both front.writes more;
   split = carried front.done part rest left whole is front.split;
 }
 
-pub front_whole : {W : Type 0} {t : W → Option (List ℕ)} {f : W → Bool} {s0 s1 : WriteBuffer × W} {left whole : List ℕ}
-    → WritesFront t f s0 s1 left whole → left ≡ [] → Emits t f s0 s1 whole
+pub front_whole : {W : Type 0} {sink : sinks.Ghosts W} {o0 o1 : Output W} {left whole : List ℕ}
+    → WritesFront sink o0 o1 left whole → left ≡ [] → Emits sink o0 o1 whole
 front_whole {left = left} {whole = whole} front none = search (arith, writes_as, append-nil)
 
 -- the items before one of a list are written, and then that item
-pub front_item : {W : Type 0} {t : W → Option (List ℕ)} {f : W → Bool} {s0 s1 s2 : WriteBuffer × W} {X : Type 0}
+pub front_item : {W : Type 0} {sink : sinks.Ghosts W} {o0 o1 o2 : Output W} {X : Type 0}
     (F : List X → List ℕ) (xs : List X) (k : ℕ) (x : X) {part whole : List ℕ}
-    → WritesFront t f s0 s1 (F (drop k xs)) whole → Emits t f s1 s2 part → k < length xs
+    → WritesFront sink o0 o1 (F (drop k xs)) whole → Emits sink o1 o2 part → k < length xs
     → x ≡ get_or xs k x → F (x ∷ drop (k + 1) xs) ≡ part ++ F (drop (k + 1) xs)
-    → WritesFront t f s0 s2 (F (drop (k + 1) xs)) whole
-front_item F xs k x front more within is split = grind (arith, front_grows, drop_more)
+    → WritesFront sink o0 o2 (F (drop (k + 1) xs)) whole
+front_item F xs k x front more within is split =
+    front_grows _ front more (ap F (drop_more xs k x within ∙ ap (λ y. y ∷ drop (k + 1) xs) (sym is)) ∙ split)
 
 -- ---- the buffer
 
@@ -88,37 +91,31 @@ none_left true f1 n k whole bytes is stays all ready = absurd (cc (stays refl, r
 none_left false f1 n k whole bytes is stays all ready = grind (arith, drop_all, length-drop)
 
 -- bytes are sent that are the rest of the text with the part
-pub bytes_sent : {W : Type 0} (t : W → Option (List ℕ)) (f : W → Bool) (s0 s1 : WriteBuffer × W) (k : ℕ)
-    (part bytes : List ℕ)
-    → ((n : ℕ) (text : List ℕ) → n ≤ length text → drop n text ≡ s0.0.unsent.items → drop n (text ++ part) ≡ bytes)
-    → Appends (t s0.1) (t s1.1) (take k bytes) → k ≤ length bytes → (f s1.1 ≡ false → k ≡ length bytes)
-    → (f s0.1 ≡ true → k ≡ 0) → (f s0.1 ≡ true → f s1.1 ≡ true)
-    → s1.0.start ≡ min (s0.0.start + k) (2 ^ 128 - 1) → s1.0.unsent.items ≡ [] → Emits t f s0 s1 part
-bytes_sent t f s0 s1 k part bytes left more few all none stays counted empty = record {
+pub bytes_sent : {W : Type 0} (sink : sinks.Ghosts W) (old new : Output W) (k : ℕ) (part bytes : List ℕ)
+    → new.writer.ghost_name ≡ old.writer.ghost_name
+    → ((n : ℕ) (text : List ℕ) → n ≤ length text → drop n text ≡ old.unsent.items → drop n (text ++ part) ≡ bytes)
+    → Appends (sink.taken old.writer.now) (sink.taken new.writer.now) (take k bytes) → k ≤ length bytes
+    → (sink.has_failed new.writer.now ≡ false → k ≡ length bytes) → (sink.has_failed old.writer.now ≡ true → k ≡ 0)
+    → (sink.has_failed old.writer.now ≡ true → sink.has_failed new.writer.now ≡ true)
+    → new.start ≡ min (old.start + k) (2 ^ 128 - 1) → new.unsent.items ≡ [] → Emits sink old new part
+bytes_sent sink old new k part bytes same left more few all none stays counted empty = record {
+  same_writer = same;
   appends = λ before text stands.
       let n = stands.sent in
-      let is : f s0.1 ≡ false → drop n (text ++ part) ≡ bytes =
+      let failed = sink.has_failed old.writer.now in
+      let is : failed ≡ false → drop n (text ++ part) ≡ bytes =
       λ ready. left n text stands.within (stands.rest ready) in
-      let held : Appends before (t s0.1) (take n (text ++ part)) =
-      subst (Appends before (t s0.1)) (sym (take-append-le n text part stands.within)) stands.front in
+      let held : Appends before (sink.taken old.writer.now) (take n (text ++ part)) =
+      subst (Appends before (sink.taken old.writer.now)) (sym (take-append-le n text part stands.within))
+      stands.front in
       record {
         sent = n + k;
-        within = within_whole (f s0.1) n k text part bytes stands.within is none few;
+        within = within_whole failed n k text part bytes stands.within is none few;
         counted = omega (arith, counted, stands.counted);
-        front = sent_bytes before (t s0.1) (t s1.1) (f s0.1) n k (text ++ part) bytes is none held more;
-        rest = λ ready. none_left (f s0.1) (f s1.1) n k (text ++ part) bytes is stays all ready ∙ sym empty;
+        front = sent_bytes before _ _ failed n k (text ++ part) bytes is none held more;
+        rest = λ ready. none_left failed _ n k (text ++ part) bytes is stays all ready ∙ sym empty;
       };
 }
-
--- the unsent bytes are the rest
-pub unsent_left : (o : WriteBuffer) (n : ℕ) (text : List ℕ) → drop n text ≡ o.unsent.items
-    → drop n (text ++ []) ≡ o.unsent.items
-unsent_left o n text is = ap (drop n) (append-nil text) ∙ is
-
--- if nothing waits, a part is the rest
-pub part_left : (o : WriteBuffer) (part : List ℕ) (n : ℕ) (text : List ℕ) → o.unsent.items ≡ [] → n ≤ length text
-    → drop n text ≡ o.unsent.items → drop n (text ++ part) ≡ part
-part_left o part n text none within is = drop-append-le n text part within ∙ ap (λ l. l ++ part) (is ∙ none)
 
 -- ---- the whole
 
@@ -128,38 +125,40 @@ nothing_taken None = tt
 nothing_taken (Some xs) = sym (append-nil xs)
 
 -- the text since the buffer was empty
-pub whole_written : {W : Type 0} {t : W → Option (List ℕ)} {f : W → Bool} {s0 s1 : WriteBuffer × W} {whole : List ℕ}
-    → s0.0.unsent.items ≡ [] → s0.0.start ≡ 0 → Emits t f s0 s1 whole
-    → HasEmitted (t s0.1) (t s1.1) (f s1.1) s1.0 whole
-whole_written {t = t} {f = f} {s0 = s0} empty none writes =
-    writes.appends (t s0.1) [] (record {
+pub whole_written : {W : Type 0} {sink : sinks.Ghosts W} {old new : Output W} {whole : List ℕ}
+    → old.unsent.items ≡ [] → old.start ≡ 0 → Emits sink old new whole
+    → HasEmitted sink (sink.taken old.writer.now) new whole
+whole_written {sink = sink} {old = old} empty none writes =
+    writes.appends (sink.taken old.writer.now) [] (record {
       sent = 0;
       within = omega arith;
       counted = none;
-      front = nothing_taken (t s0.1);
+      front = nothing_taken (sink.taken old.writer.now);
       rest = λ _. sym empty;
     })
 
 -- ---- the end
 
 -- all is sent to a writer that has not failed
-pub all_taken : (before after : Option (List ℕ)) (failed : Bool) (o : WriteBuffer) (text : List ℕ) → failed ≡ false
-    → o.unsent.items ≡ [] → HasEmitted before after failed o text → Appends before after text
-all_taken before after failed o text ready empty stands =
-    subst (Appends before after) (take_all stands.sent text (omega (
+pub all_taken : {W : Type 0} {sink : sinks.Ghosts W} {before : Option (List ℕ)} {output : Output W}
+    {text : List ℕ} → sink.has_failed output.writer.now ≡ false → output.unsent.items ≡ []
+    → HasEmitted sink before output text → Appends before (sink.taken output.writer.now) text
+all_taken {sink = sink} {before = before} {output = output} {text = text} ready empty stands =
+    subst (Appends before (sink.taken output.writer.now)) (take_all stands.sent text (omega (
       arith,
-      ap (length {A = ℕ}) (stands.rest ready
-          ∙ empty),
+      ap (length {A = ℕ}) (stands.rest ready ∙ empty),
       length-drop stands.sent text,
     ))) stands.front
 
 -- the count is that of the bytes sent, if the text can be counted
-pub counted_front : (before after : Option (List ℕ)) (failed : Bool) (o : WriteBuffer) (text : List ℕ)
-    → HasEmitted before after failed o text → length text < 2 ^ 128
-    → Appends before after (take o.start text) × (o.start ≤ length text)
-counted_front before after failed o text stands small =
-    let exact : stands.sent ≡ o.start = omega (arith, stands.counted, stands.within, small) in
-    (subst (λ n. Appends before after (take n text)) exact stands.front, omega (arith, exact, stands.within))
+pub counted_front : {W : Type 0} {sink : sinks.Ghosts W} {before : Option (List ℕ)} {output : Output W}
+    {text : List ℕ} → HasEmitted sink before output text → length text < 2 ^ 128
+    → Appends before (sink.taken output.writer.now) (take output.start text) × (output.start ≤ length text)
+counted_front {sink = sink} {before = before} {output = output} {text = text} stands small =
+    let exact : stands.sent ≡ output.start = omega (arith, stands.counted, stands.within, small) in (
+      subst (λ n. Appends before (sink.taken output.writer.now) (take n text)) exact stands.front,
+      omega (arith, exact, stands.within),
+    )
 
 -- a flush takes no byte
 pub appends_kept : (before after later : Option (List ℕ)) (text : List ℕ) → Appends before after text
@@ -170,8 +169,31 @@ appends_kept (Some xs) (Some ys) None text took kept = absurd kept
 appends_kept (Some xs) (Some ys) (Some zs) text took kept = kept ∙ took
 
 -- the text is the same after the buffer was sent
-pub nothing_more : {W : Type 0} {t : W → Option (List ℕ)} {f : W → Bool} {s0 s1 : WriteBuffer × W}
-    (before : Option (List ℕ)) (text : List ℕ) → Emits t f s0 s1 []
-    → HasEmitted before (t s0.1) (f s0.1) s0.0 text → HasEmitted before (t s1.1) (f s1.1) s1.0 text
-nothing_more {t = t} {f = f} {s1 = s1} before text writes stands =
-    subst (HasEmitted before (t s1.1) (f s1.1) s1.0) (append-nil text) (writes.appends before text stands)
+pub nothing_more : {W : Type 0} {sink : sinks.Ghosts W} {old new : Output W} (before : Option (List ℕ))
+    (text : List ℕ) → Emits sink old new [] → HasEmitted sink before old text → HasEmitted sink before new text
+nothing_more {sink = sink} {new = new} before text writes stands =
+    subst (HasEmitted sink before new) (append-nil text) (writes.appends before text stands)
+
+-- after the buffer was sent and the writer flushed, the writer took the whole text
+pub flushed_whole : {W T : Type 0} {sink : sinks.Ghosts W} {before : Option (List ℕ)} {output : Output W}
+    {text : List ℕ} (later : W) (r : Result T WriteError) → HasEmitted sink before output text
+    → output.unsent.items ≡ [] → Keeps (sink.taken output.writer.now) (sink.taken later)
+    → OnOk r (sink.has_failed output.writer.now ≡ false) → OnOk r (Appends before (sink.taken later) text)
+flushed_whole {before = before} {text = text} later (Ok x) stands empty kept ready =
+    appends_kept before _ _ text (all_taken ready empty stands) kept
+flushed_whole later (Err e) stands empty kept ready = tt
+
+-- or a counted front of it
+pub failed_front : {W T : Type 0} {sink : sinks.Ghosts W} {before : Option (List ℕ)} {output : Output W}
+    {text : List ℕ} (later : W) (r : Result T WriteError) → HasEmitted sink before output text
+    → Keeps (sink.taken output.writer.now) (sink.taken later) → IfErr r (λ e. e ≡ WriteFault output.start)
+    → OnErr r (sink.has_failed later ≡ true)
+    → IfErr r (TookBefore text before (sink.taken later) (sink.has_failed later))
+failed_front later (Ok x) stands kept is failed = tt
+failed_front {sink = sink} {before = before} {text = text} later (Err e) stands kept is failed =
+    subst (TookBefore text before (sink.taken later) (sink.has_failed later)) (sym is) (
+      λ small.
+          let front = counted_front stands small in
+          (appends_kept before _ _ _ front.0 kept, front.1),
+      failed,
+    )

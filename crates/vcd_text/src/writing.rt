@@ -7,19 +7,19 @@ ghost use Rattle.vcd_core.specs.Sound.{IsSound};
 ghost use Rattle.vcd_text.specs.Text.{text};
 ghost use Rattle.vcd_text.specs.WriteEnds.{TookBefore};
 
-mod buffer;
 mod codes;
 mod cursors;
 mod declarations;
 mod lines;
+mod output;
 mod stamps;
 mod transitions;
 mod values;
 mod window;
 
 use crate::fault::WriteError;
-use buffer::{WriteBuffer, send_and_flush};
 use declarations::write_declarations;
+use output::{Output, empty_buffer, flush, send_buffer};
 use stamps::write_first_values;
 use std::alloc::Global;
 use transitions::write_transitions;
@@ -49,9 +49,21 @@ pub fn write<W: Sink>(alloc: Global, capture: &Capture, writer: &mut W) -> Resul
     let signals = capture.signals();
     let end = capture.end();
     let mut window = Window::new(alloc, signals, end)?;
-    let mut buffer = WriteBuffer::new(alloc)?;
-    write_declarations(&mut buffer, writer, capture);
-    write_first_values(&mut buffer, writer, signals);
-    write_transitions(&mut buffer, writer, signals, &mut window, end);
-    send_and_flush(buffer, writer)
+    let unsent = empty_buffer(alloc)?;
+    let mut output = Output {
+        unsent,
+        start: 0,
+        writer,
+    };
+    write_declarations(&mut output, capture);
+    write_first_values(&mut output, signals);
+    write_transitions(&mut output, signals, &mut window, end);
+    send_buffer(&mut output);
+    let Output {
+        unsent,
+        start,
+        writer,
+    } = output;
+    drop(unsent);
+    flush(writer, start)
 }

@@ -5,7 +5,7 @@ ghost use Rattle.vcd_core.specs.declared.capture.TheConstants.{SIGNAL_LIMIT};
 ghost use Rattle.vcd_text.specs.Text.{code_of};
 ghost use Rattle.vcd_text.specs.inside.Written.{Emits};
 
-use super::buffer::{WriteBuffer, write_byte};
+use super::output::{Output, write_byte};
 use vcd_core::Sink;
 
 /// The first of the bytes of codes (IEEE 1364-2005, 18.2).
@@ -16,15 +16,14 @@ const COUNT: usize = 94;
 
 /// Writes the code of the signal at `position`: the position counted from 1, in bijective base 94,
 /// lowest digit first. It takes one step for each byte.
-pub fn write_code<W: Sink>(buffer: &mut WriteBuffer, writer: &mut W, position: usize)
+pub fn write_code<W: Sink>(output: &mut Output<W>, position: usize)
     requires { position < SIGNAL_LIMIT }
-    ensures { Emits W.taken W.has_failed (buffer.old, writer.old) (buffer.new, writer.new)
-        (code_of position) }
+    ensures { Emits W.Sink output.old output.new (code_of position) }
 {
     let mut left = position + 1;
     while left > 0 {
         let digit = left - 1;
-        write_byte(buffer, writer, FIRST + (digit % COUNT) as u8);
+        write_byte(output, FIRST + (digit % COUNT) as u8);
         left = digit / COUNT;
     }
 }

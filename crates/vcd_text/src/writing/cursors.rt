@@ -8,7 +8,7 @@ use std::alloc::Global;
 use vcd_core::{Change, NoMemory, Signal, Wave};
 
 /// The next change of a signal: its place in the wave, its tick, and the tick of the change after
-/// it. A tick is past all ticks if there is no such change. It has 24 bytes.
+/// it. A tick is past all ticks if there is no such change. It has 24 bytes; with `Option`s, 40.
 #[derive(Clone, Copy)]
 pub struct Cursor {
     pub place: usize,

@@ -12,43 +12,41 @@ ghost use Rattle.vcd_text.specs.Text.{signal_items, timescale_items, variable_it
 ghost use Rattle.vcd_text.specs.inside.TextParts.{declarations_text};
 ghost use Rattle.vcd_text.specs.inside.Written.{Emits};
 
-use super::buffer::{WriteBuffer, write_byte, write_bytes};
 use super::codes::write_code;
 use super::lines::{write_end, write_word, write_words};
+use super::output::{Output, write_byte, write_bytes};
 use itoa::Buffer;
 use vcd_core::{Capture, Header, HeaderKind, ScopeName, Signal, Sink, Timescale, Word};
 
 /// Writes the declarations: the header and the timescale first, and the end of the declarations
 /// last.
-pub fn write_declarations<W: Sink>(buffer: &mut WriteBuffer, writer: &mut W, capture: &Capture)
+pub fn write_declarations<W: Sink>(output: &mut Output<W>, capture: &Capture)
     requires { length capture.now.signals ≤ SIGNAL_LIMIT }
-    ensures { Emits W.taken W.has_failed (buffer.old, writer.old) (buffer.new, writer.new)
-        (declarations_text (contents capture.now)) }
+    ensures { Emits W.Sink output.old output.new (declarations_text (contents capture.now)) }
 {
-    write_header(buffer, writer, capture.header());
-    write_timescale(buffer, writer, capture.timescale());
-    write_signals(buffer, writer, capture.signals());
-    write_bytes(buffer, writer, b"$enddefinitions $end\n");
+    write_header(output, capture.header());
+    write_timescale(output, capture.timescale());
+    write_signals(output, capture.signals());
+    write_bytes(output, b"$enddefinitions $end\n");
 }
 
 /// Writes a line for each header entry.
-fn write_header<W: Sink>(buffer: &mut WriteBuffer, writer: &mut W, header: &[Header])
-    ensures { Emits W.taken W.has_failed (buffer.old, writer.old) (buffer.new, writer.new)
-        (flat_map item_line (header_items header.now)) }
+fn write_header<W: Sink>(output: &mut Output<W>, header: &[Header])
+    ensures { Emits W.Sink output.old output.new (flat_map item_line (header_items header.now)) }
 {
     for one in header {
-        write_entry(buffer, writer, one);
+        write_entry(output, one);
     }
 }
 
 /// Writes the line of a header entry.
-fn write_entry<W: Sink>(buffer: &mut WriteBuffer, writer: &mut W, header: &Header)
-    ensures { Emits W.taken W.has_failed (buffer.old, writer.old) (buffer.new, writer.new)
+fn write_entry<W: Sink>(output: &mut Output<W>, header: &Header)
+    ensures { Emits W.Sink output.old output.new
         (item_line (entry header.now.kind header.now.words)) }
 {
-    write_bytes(buffer, writer, header_keyword(header.kind).as_bytes());
-    write_words(buffer, writer, header.words.as_slice());
-    write_end(buffer, writer);
+    write_bytes(output, header_keyword(header.kind).as_bytes());
+    write_words(output, header.words.as_slice());
+    write_end(output);
 }
 
 /// The keyword of a header entry.
@@ -63,107 +61,86 @@ fn header_keyword(kind: HeaderKind) -> &'static str
 }
 
 /// Writes the line of the timescale, if there is one.
-fn write_timescale<W: Sink>(buffer: &mut WriteBuffer, writer: &mut W, timescale: Option<Timescale>)
-    ensures { Emits W.taken W.has_failed (buffer.old, writer.old) (buffer.new, writer.new)
-        (flat_map item_line (timescale_items timescale)) }
+fn write_timescale<W: Sink>(output: &mut Output<W>, timescale: Option<Timescale>)
+    ensures { Emits W.Sink output.old output.new (flat_map item_line (timescale_items timescale)) }
 {
     if let Some(timescale) = timescale {
-        write_bytes(buffer, writer, b"$timescale");
-        write_word(
-            buffer,
-            writer,
-            Buffer::new().format(timescale.count).as_bytes(),
-        );
-        write_word(buffer, writer, timescale.unit.symbol().as_bytes());
-        write_end(buffer, writer);
+        write_bytes(output, b"$timescale");
+        write_word(output, Buffer::new().format(timescale.count).as_bytes());
+        write_word(output, timescale.unit.symbol().as_bytes());
+        write_end(output);
     }
 }
 
 /// Writes the declarations of all signals, and opens and closes scopes between them. The time grows
 /// with the scopes of all signals. Shared scopes count for each signal.
-fn write_signals<W: Sink>(buffer: &mut WriteBuffer, writer: &mut W, signals: &[Signal])
+fn write_signals<W: Sink>(output: &mut Output<W>, signals: &[Signal])
     requires { length signals.now ≤ SIGNAL_LIMIT }
-    ensures { Emits W.taken W.has_failed (buffer.old, writer.old) (buffer.new, writer.new)
+    ensures { Emits W.Sink output.old output.new
         (flat_map item_line (signal_items [] 0 (map signal_contents signals.now))) }
 {
     let mut opened: &[ScopeName] = &[];
     for (position, signal) in signals.iter().enumerate() {
         let path = signal.scopes.as_slice();
-        write_scope_changes(buffer, writer, opened, path);
-        write_variable(buffer, writer, position, signal);
+        write_scope_changes(output, opened, path);
+        write_variable(output, position, signal);
         opened = path;
     }
-    write_upscopes(buffer, writer, opened.len());
+    write_upscopes(output, opened.len());
 }
 
 /// Writes the declaration of the signal at `position`.
-fn write_variable<W: Sink>(
-    buffer: &mut WriteBuffer,
-    writer: &mut W,
-    position: usize,
-    signal: &Signal,
-)
+fn write_variable<W: Sink>(output: &mut Output<W>, position: usize, signal: &Signal)
     requires { position < SIGNAL_LIMIT }
-    ensures { Emits W.taken W.has_failed (buffer.old, writer.old) (buffer.new, writer.new)
+    ensures { Emits W.Sink output.old output.new
         (item_line (variable_item position (signal_contents signal.now))) }
 {
-    write_bytes(buffer, writer, b"$var");
-    write_word(buffer, writer, signal.kind.as_slice());
-    write_word(
-        buffer,
-        writer,
-        Buffer::new().format(signal.wave.width()).as_bytes(),
-    );
-    write_byte(buffer, writer, b' ');
-    write_code(buffer, writer, position);
-    write_words(buffer, writer, signal.words.as_slice());
-    write_end(buffer, writer);
+    write_bytes(output, b"$var");
+    write_word(output, signal.kind.as_slice());
+    write_word(output, Buffer::new().format(signal.wave.width()).as_bytes());
+    write_byte(output, b' ');
+    write_code(output, position);
+    write_words(output, signal.words.as_slice());
+    write_end(output);
 }
 
 /// Closes the open scopes that the path does not share, and opens the other scopes of the path.
-fn write_scope_changes<W: Sink>(
-    buffer: &mut WriteBuffer,
-    writer: &mut W,
-    opened: &[ScopeName],
-    path: &[ScopeName],
-)
-    ensures { Emits W.taken W.has_failed (buffer.old, writer.old) (buffer.new, writer.new)
+fn write_scope_changes<W: Sink>(output: &mut Output<W>, opened: &[ScopeName], path: &[ScopeName])
+    ensures { Emits W.Sink output.old output.new
         (flat_map item_line (scope_items opened.now path.now)) }
 {
     let shared = shared_len(opened, path);
-    write_upscopes(buffer, writer, opened.len() - shared);
-    write_scopes(buffer, writer, &path[shared..]);
+    write_upscopes(output, opened.len() - shared);
+    write_scopes(output, &path[shared..]);
 }
 
 /// Closes `count` scopes.
-fn write_upscopes<W: Sink>(buffer: &mut WriteBuffer, writer: &mut W, count: usize)
-    ensures { Emits W.taken W.has_failed (buffer.old, writer.old) (buffer.new, writer.new)
-        (flat_map item_line (replicate count upscope)) }
+fn write_upscopes<W: Sink>(output: &mut Output<W>, count: usize)
+    ensures { Emits W.Sink output.old output.new (flat_map item_line (replicate count upscope)) }
 {
     for _closed in 0..count {
-        write_bytes(buffer, writer, b"$upscope $end\n");
+        write_bytes(output, b"$upscope $end\n");
     }
 }
 
 /// Opens scopes, the outermost first.
-fn write_scopes<W: Sink>(buffer: &mut WriteBuffer, writer: &mut W, scopes: &[ScopeName])
-    ensures { Emits W.taken W.has_failed (buffer.old, writer.old) (buffer.new, writer.new)
+fn write_scopes<W: Sink>(output: &mut Output<W>, scopes: &[ScopeName])
+    ensures { Emits W.Sink output.old output.new
         (flat_map item_line (map (λ s. scope s.kind s.words) scopes.now)) }
 {
     for name in scopes {
-        write_scope(buffer, writer, name);
+        write_scope(output, name);
     }
 }
 
 /// Opens a scope.
-fn write_scope<W: Sink>(buffer: &mut WriteBuffer, writer: &mut W, name: &ScopeName)
-    ensures { Emits W.taken W.has_failed (buffer.old, writer.old) (buffer.new, writer.new)
-        (item_line (scope name.now.kind name.now.words)) }
+fn write_scope<W: Sink>(output: &mut Output<W>, name: &ScopeName)
+    ensures { Emits W.Sink output.old output.new (item_line (scope name.now.kind name.now.words)) }
 {
-    write_bytes(buffer, writer, b"$scope");
-    write_word(buffer, writer, name.kind.as_slice());
-    write_words(buffer, writer, name.words.as_slice());
-    write_end(buffer, writer);
+    write_bytes(output, b"$scope");
+    write_word(output, name.kind.as_slice());
+    write_words(output, name.words.as_slice());
+    write_end(output);
 }
 
 /// The number of scopes that two paths share at the front. The time grows with their words.

@@ -4,32 +4,29 @@ ghost use Rattle.std.specs.Prelude.{◌≡◌, ◌∷◌, [], codes};
 ghost use Rattle.vcd_text.specs.inside.SpacedWords.{spaced_words};
 ghost use Rattle.vcd_text.specs.inside.Written.{Emits};
 
-use super::buffer::{WriteBuffer, write_byte, write_bytes};
+use super::output::{Output, write_byte, write_bytes};
 use vcd_core::{Sink, Word};
 
 /// Writes a space and a word.
-pub fn write_word<W: Sink>(buffer: &mut WriteBuffer, writer: &mut W, word: &[u8])
-    ensures { Emits W.taken W.has_failed (buffer.old, writer.old) (buffer.new, writer.new)
-        (spaced_words (word.now ∷ [])) }
+pub fn write_word<W: Sink>(output: &mut Output<W>, word: &[u8])
+    ensures { Emits W.Sink output.old output.new (spaced_words (word.now ∷ [])) }
 {
-    write_byte(buffer, writer, b' ');
-    write_bytes(buffer, writer, word);
+    write_byte(output, b' ');
+    write_bytes(output, word);
 }
 
 /// Writes words, each after a space.
-pub fn write_words<W: Sink>(buffer: &mut WriteBuffer, writer: &mut W, words: &[Word])
-    ensures { Emits W.taken W.has_failed (buffer.old, writer.old) (buffer.new, writer.new)
-        (spaced_words words.now) }
+pub fn write_words<W: Sink>(output: &mut Output<W>, words: &[Word])
+    ensures { Emits W.Sink output.old output.new (spaced_words words.now) }
 {
     for word in words {
-        write_word(buffer, writer, word.as_slice());
+        write_word(output, word.as_slice());
     }
 }
 
 /// Ends the line of a declaration.
-pub fn write_end<W: Sink>(buffer: &mut WriteBuffer, writer: &mut W)
-    ensures { Emits W.taken W.has_failed (buffer.old, writer.old) (buffer.new, writer.new)
-        (codes " $end\n") }
+pub fn write_end<W: Sink>(output: &mut Output<W>)
+    ensures { Emits W.Sink output.old output.new (codes " $end\n") }
 {
-    write_bytes(buffer, writer, b" $end\n");
+    write_bytes(output, b" $end\n");
 }

@@ -10,8 +10,8 @@ ghost use Rattle.vcd_text.specs.inside.Written.{Emits};
 ghost use Rattle.vcd_text.specs.declared.writing.window.TheConstants.{POSITIONS};
 ghost use Rattle.vcd_text.specs.Text.{end_items, item_line, tick_items};
 
-use super::buffer::WriteBuffer;
 use super::cursors::{Cursor, tick_at_place};
+use super::output::Output;
 use super::stamps::{write_last_stamp, write_new_stamp};
 use super::values::write_value_near;
 use super::window::{POSITIONS, Window, fill_window};
@@ -20,15 +20,14 @@ use vcd_core::{Signal, Sink};
 /// Writes the changes after tick 0, and the end, window by window. Ticks without a change are not
 /// read. It stops early if the writer has failed.
 pub fn write_transitions<W: Sink>(
-    buffer: &mut WriteBuffer,
-    writer: &mut W,
+    output: &mut Output<W>,
     signals: &[Signal],
     window: &mut Window,
     end: u64,
 )
     requires ready { IsReady end 1 signals.now window.old }
     requires end { end ≤ END_LIMIT }
-    ensures { Emits W.taken W.has_failed (buffer.old, writer.old) (buffer.new, writer.new)
+    ensures { Emits W.Sink output.old output.new
         (flat_map item_line (tick_items (map signal_contents signals.now) 1 end
         ++ end_items (map signal_contents signals.now) end)) }
 {
@@ -36,17 +35,17 @@ pub fn write_transitions<W: Sink>(
     let mut from = 1;
     let mut most = first_window_ticks(signals, window.keys.capacity(), end);
     while from <= end {
-        if writer.failed() {
+        if output.writer.failed() {
             return;
         }
         let count = fill_window(window, signals, from, most.min(end - from + 1), end);
         let keys = window.keys.as_slice();
         let start_places = window.start_places.as_mut_slice();
-        last = write_keys(buffer, writer, signals, keys, start_places, from, last);
+        last = write_keys(output, signals, keys, start_places, from, last);
         most = next_window_ticks(count, window.keys.len(), window.keys.capacity());
         from += count;
     }
-    write_last_stamp(buffer, writer, last, end);
+    write_last_stamp(output, last, end);
 }
 
 /// How many ticks the first window tries, so that even changes fill seven eighths.
@@ -81,8 +80,7 @@ fn next_window_ticks(count: u64, used: usize, room: usize) -> u64
 /// Writes the changes of keys, after the text up to tick `last`. Returns the last tick. At
 /// `start_places` is the place where the next change of each signal is looked up first.
 fn write_keys<W: Sink>(
-    buffer: &mut WriteBuffer,
-    writer: &mut W,
+    output: &mut Output<W>,
     signals: &[Signal],
     keys: &[u64],
     start_places: &mut [Cursor],
@@ -92,7 +90,7 @@ fn write_keys<W: Sink>(
     requires few { length signals.now ≤ SIGNAL_LIMIT }
     requires keys { All (IsKey from (length signals.now)) keys.now }
     requires start_places { length start_places.old ≡ length signals.now }
-    ensures text { Emits W.taken W.has_failed (buffer.old, writer.old) (buffer.new, writer.new)
+    ensures text { Emits W.Sink output.old output.new
         (flat_map item_line (transition_items (map signal_contents signals.now) last
         (transitions_of from keys.now))) }
     ensures last { result ≡ last_tick last (transitions_of from keys.now) }
@@ -104,15 +102,8 @@ fn write_keys<W: Sink>(
         let tick = from + *key / POSITIONS;
         let position = (*key % POSITIONS) as usize;
         let place = start_places[position].place;
-        write_new_stamp(buffer, writer, last, tick);
-        write_value_near(
-            buffer,
-            writer,
-            position,
-            &signals[position].wave,
-            tick,
-            place,
-        );
+        write_new_stamp(output, last, tick);
+        write_value_near(output, position, &signals[position].wave, tick, place);
         start_places[position].place = place.saturating_add(1);
         last = tick;
     }

@@ -13,59 +13,56 @@ ghost use Rattle.vcd_text.specs.inside.ValueFronts.{IsShortFormLen, is_redundant
 ghost use Rattle.vcd_text.specs.inside.ValueFronts.{value_front};
 ghost use Rattle.vcd_text.specs.inside.Written.{Emits};
 
-use super::buffer::{WriteBuffer, write_byte, write_bytes};
 use super::codes::write_code;
+use super::output::{Output, write_byte, write_bytes};
 use vcd_core::{Bit, LetterBlock, Sink, Value, Wave};
 
 /// Writes the value at `tick`. If the change at `place` has that tick, it writes its value, without
 /// a search.
 pub fn write_value_near<W: Sink>(
-    buffer: &mut WriteBuffer,
-    writer: &mut W,
+    output: &mut Output<W>,
     position: usize,
     wave: &Wave,
     tick: u64,
     place: usize,
 )
     requires { position < SIGNAL_LIMIT }
-    ensures { Emits W.taken W.has_failed (buffer.old, writer.old) (buffer.new, writer.new)
-        (item_line (value_item (code_of position)
+    ensures { Emits W.Sink output.old output.new (item_line (value_item (code_of position)
         (value_at wave.now.width wave.now.changes tick))) }
 {
     if let Some(change) = wave.changes().get(place) {
         if change.tick == tick {
-            write_value(buffer, writer, position, &change.value);
+            write_value(output, position, &change.value);
             return;
         }
     }
-    write_value(buffer, writer, position, &wave.at(tick));
+    write_value(output, position, &wave.at(tick));
 }
 
 /// Writes the line that gives a value to the signal at `position`. It takes a step for each two
 /// written letters, and for each word of 64 letters that is left out.
-fn write_value<W: Sink>(buffer: &mut WriteBuffer, writer: &mut W, position: usize, value: &Value)
+fn write_value<W: Sink>(output: &mut Output<W>, position: usize, value: &Value)
     requires { position < SIGNAL_LIMIT }
-    ensures { Emits W.taken W.has_failed (buffer.old, writer.old) (buffer.new, writer.new)
+    ensures { Emits W.Sink output.old output.new
         (item_line (value_item (code_of position) value.now)) }
 {
     let width = value.width();
     if width <= 64 {
-        write_block_value(buffer, writer, position, width, value.block(0));
+        write_block_value(output, position, width, value.block(0));
         return;
     }
-    write_byte(buffer, writer, b'b');
-    write_lowest(buffer, writer, value, short_form_len(value));
-    write_byte(buffer, writer, b' ');
-    write_code(buffer, writer, position);
-    write_byte(buffer, writer, b'\n');
+    write_byte(output, b'b');
+    write_lowest(output, value, short_form_len(value));
+    write_byte(output, b' ');
+    write_code(output, position);
+    write_byte(output, b'\n');
 }
 
 /// Writes the line that gives the value of at most 64 bits, with the letters of this block, to the
 /// signal at `position`. Letters from bit `width` on are ignored. It takes a step for each two
 /// written letters.
 fn write_block_value<W: Sink>(
-    buffer: &mut WriteBuffer,
-    writer: &mut W,
+    output: &mut Output<W>,
     position: usize,
     width: u64,
     block: LetterBlock,
@@ -73,63 +70,51 @@ fn write_block_value<W: Sink>(
     requires position { position < SIGNAL_LIMIT }
     requires least { 1 ≤ width }
     requires most { width ≤ 64 }
-    ensures { Emits W.taken W.has_failed (buffer.old, writer.old) (buffer.new, writer.new)
+    ensures { Emits W.Sink output.old output.new
         (item_line (value_item (code_of position) (letters_of width (block ∷ [])))) }
 {
-    write_block_front(buffer, writer, width, block);
-    write_code(buffer, writer, position);
-    write_byte(buffer, writer, b'\n');
+    write_block_front(output, width, block);
+    write_code(output, position);
+    write_byte(output, b'\n');
 }
 
 /// Writes the part before the code: one letter, or `b`, the short form and a space.
-fn write_block_front<W: Sink>(
-    buffer: &mut WriteBuffer,
-    writer: &mut W,
-    width: u64,
-    block: LetterBlock,
-)
+fn write_block_front<W: Sink>(output: &mut Output<W>, width: u64, block: LetterBlock)
     requires least { 1 ≤ width }
     requires most { width ≤ 64 }
-    ensures { Emits W.taken W.has_failed (buffer.old, writer.old) (buffer.new, writer.new)
-        (value_front (letters_of width (block ∷ []))) }
+    ensures { Emits W.Sink output.old output.new (value_front (letters_of width (block ∷ []))) }
 {
     if width == 1 {
-        write_byte(buffer, writer, letter_pair(block)[1]);
+        write_byte(output, letter_pair(block)[1]);
         return;
     }
-    write_byte(buffer, writer, b'b');
-    write_letters(buffer, writer, short_form_len_of_block(width, block), block);
-    write_byte(buffer, writer, b' ');
+    write_byte(output, b'b');
+    write_letters(output, short_form_len_of_block(width, block), block);
+    write_byte(output, b' ');
 }
 
 /// Writes the letters of a value that are below bit `count`, a block at a time.
-fn write_lowest<W: Sink>(buffer: &mut WriteBuffer, writer: &mut W, value: &Value, count: u64)
+fn write_lowest<W: Sink>(output: &mut Output<W>, value: &Value, count: u64)
     requires { count ≤ length value.now }
-    ensures { Emits W.taken W.has_failed (buffer.old, writer.old) (buffer.new, writer.new)
+    ensures { Emits W.Sink output.old output.new
         (printed_letters (drop (length value.now - count) value.now)) }
 {
     let mut left = count;
     while left > 0 {
         let block = (left - 1) / 64;
-        write_letters(
-            buffer,
-            writer,
-            left - 64 * block,
-            value.block(block as usize),
-        );
+        write_letters(output, left - 64 * block, value.block(block as usize));
         left = 64 * block;
     }
 }
 
 /// Writes the `count` lowest letters of a block.
-fn write_letters<W: Sink>(buffer: &mut WriteBuffer, writer: &mut W, count: u64, block: LetterBlock)
+fn write_letters<W: Sink>(output: &mut Output<W>, count: u64, block: LetterBlock)
     requires { count ≤ 64 }
-    ensures { Emits W.taken W.has_failed (buffer.old, writer.old) (buffer.new, writer.new)
-        (printed_letters (letters_of count (block ∷ []))) }
+    ensures { Emits W.Sink output.old output.new (printed_letters (letters_of count (block ∷ []))) }
 {
     let mut letters = [0; 64];
     fill_letters(&mut letters, count as usize, block);
-    write_bytes(buffer, writer, &letters[64 - count as usize..]);
+    write_bytes(output, &letters[64 - count as usize..]);
 }
 
 /// Fills the end of a row with the `count` lowest letters of a block, the lowest last. They are

@@ -1,30 +1,28 @@
 -- The parts in a row are the text.
-use Rattle.std.proofs.Common.{◌≡◌, ◌++◌, ℕ, Bool, List, [], map, ap, ◌∙◌}
-use Rattle.std.specs.Prelude.{OnOk, Option, Result, Ok, Err}
+use Rattle.std.proofs.Common.{◌≡◌, ◌++◌, ℕ, List, [], map, ap, refl, subst, ◌∙◌, rules}
+use Rattle.std.specs.Prelude.{OnOk, IfErr}
+use Rattle.std.specs.Io.KnownBytes.{Appends}
+use Rattle.vcd_text.specs.WriteEnds.{TookBefore}
 use Rattle.std.specs.List.{flat_map}
-use Rattle.std.proofs.lemmas.Result.{IfErr-weaker}
 use Rattle.vcd_core.specs.declared.capture.Signal.{Signal}
 use Rattle.vcd_core.specs.Contents.{Contents}
 use Rattle.vcd_core.specs.CaptureContents.{contents, signal_contents}
-use Rattle.vcd_text.specs.declared.writing.buffer.WriteBuffer.{WriteBuffer}
+use Rattle.vcd_core.specs.declared.device.Sink as sinks
+use Rattle.vcd_text.specs.declared.writing.output.Output.{Output}
 use Rattle.vcd_text.specs.Text.{end_items, first_items, item_line, text, tick_items}
 use Rattle.vcd_text.specs.inside.TextParts.{declarations_text}
 use Rattle.vcd_text.specs.inside.Written.{HasEmitted, Emits}
 use Rattle.vcd_text.proofs.Texts.{whole_text}
-use Rattle.vcd_text.proofs.Written.{whole_written, writes_as, writes_both}
+use Rattle.vcd_text.proofs.Written.{failed_front, flushed_whole, nothing_more, whole_written, writes_as, writes_both}
 use Rattle.vcd_text.proofs.writing.write.Goals as goal
 
-on_ok : {T E P Q : Type 0} (r : Result T E) → (P → Q) → OnOk r P → OnOk r Q
-on_ok (Ok x) f p = f p
-on_ok (Err e) f p = tt
-
 -- the whole text is written
-all_written : {W : Type 0} {t : W → Option (List ℕ)} {f : W → Bool} {s0 s1 s2 s3 : WriteBuffer × W} (c : Contents)
-    (signals : List Signal) (end : ℕ) → map signal_contents signals ≡ c.signals → end ≡ c.end
-    → s0.0.unsent.items ≡ [] → s0.0.start ≡ 0 → Emits t f s0 s1 (declarations_text c)
-    → Emits t f s1 s2 (flat_map item_line (first_items (map signal_contents signals)))
-    → Emits t f s2 s3 (flat_map item_line (tick_items (map signal_contents signals) 1 end
-    ++ end_items (map signal_contents signals) end)) → HasEmitted (t s0.1) (t s3.1) (f s3.1) s3.0 (text c)
+all_written : {W : Type 0} {sink : sinks.Ghosts W} {o0 o1 o2 o3 : Output W} (c : Contents) (signals : List Signal)
+    (end : ℕ) → map signal_contents signals ≡ c.signals → end ≡ c.end → o0.unsent.items ≡ [] → o0.start ≡ 0
+    → Emits sink o0 o1 (declarations_text c)
+    → Emits sink o1 o2 (flat_map item_line (first_items (map signal_contents signals)))
+    → Emits sink o2 o3 (flat_map item_line (tick_items (map signal_contents signals) 1 end
+    ++ end_items (map signal_contents signals) end)) → HasEmitted sink (sink.taken o0.writer.now) o3 (text c)
 all_written c signals end same at empty none declarations first later =
     whole_written empty none
     (writes_as (ap (λ ss. declarations_text c ++ (flat_map item_line (first_items ss)
@@ -36,22 +34,24 @@ all_written c signals end same at empty none declarations first later =
 
 pub returns-clause-written : goal.returns-clause-written
 returns-clause-written g c =
-    let whole = contents c.args.capture.now in
-    on_ok c.send_and_flush.result
-    (λ ends. ends (g.W.Sink.taken c.args.writer.now) (text whole)
-    (all_written whole c.signals-signals.result.now c.end-end.result
-    (ap (map signal_contents) c.signals-signals.ensures) c.end-end.ensures c.in_ok-buffer.ensures.unsent
-    c.in_ok-buffer.ensures.start c.write_declarations.ensures c.write_first_values.ensures
+    let same : c.flush.new.writer ≡ c.writer-1.given.0 = search rules in
+    subst (λ w. OnOk c.flush.result (Appends (g.W.Sink.taken c.args.writer.now) (g.W.Sink.taken w)
+    (text (contents c.args.capture.now)))) same
+    (flushed_whole c.flush.new.writer c.flush.result
+    (nothing_more _ _ c.send_buffer.ensures.written (all_written (contents c.args.capture.now)
+    c.signals-signals.result.now c.end-end.result (ap (map signal_contents) c.signals-signals.ensures) c.end-end.ensures
+    c.in_ok-unsent.ensures.empty refl c.write_declarations.ensures c.write_first_values.ensures
     c.write_transitions.ensures))
-    c.send_and_flush.ensures.written
+    c.send_buffer.ensures.empty c.flush.ensures.kept c.flush.ensures.was_ready)
 
 pub returns-clause-failed : goal.returns-clause-failed
 returns-clause-failed g c =
-    let whole = contents c.args.capture.now in
-    IfErr-weaker c.send_and_flush.result _ _
-    (λ e ends. ends (g.W.Sink.taken c.args.writer.now) (text whole)
-    (all_written whole c.signals-signals.result.now c.end-end.result
-    (ap (map signal_contents) c.signals-signals.ensures) c.end-end.ensures c.in_ok-buffer.ensures.unsent
-    c.in_ok-buffer.ensures.start c.write_declarations.ensures c.write_first_values.ensures
+    let same : c.flush.new.writer ≡ c.writer-1.given.0 = search rules in
+    subst (λ w. IfErr c.flush.result (TookBefore (text (contents c.args.capture.now)) (g.W.Sink.taken c.args.writer.now)
+    (g.W.Sink.taken w) (g.W.Sink.has_failed w))) same
+    (failed_front c.flush.new.writer c.flush.result
+    (nothing_more _ _ c.send_buffer.ensures.written (all_written (contents c.args.capture.now)
+    c.signals-signals.result.now c.end-end.result (ap (map signal_contents) c.signals-signals.ensures) c.end-end.ensures
+    c.in_ok-unsent.ensures.empty refl c.write_declarations.ensures c.write_first_values.ensures
     c.write_transitions.ensures))
-    c.send_and_flush.ensures.failed
+    c.flush.ensures.kept c.flush.ensures.fault c.flush.ensures.failed)

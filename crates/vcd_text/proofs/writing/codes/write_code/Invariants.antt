@@ -5,8 +5,7 @@ use Rattle.vcd_text.proofs.writing.codes.write_code.Given as goal
 
 abbrev pub invariant-loop-left : goal.invariant-loop-left
 invariant-loop-left g l =
-    WritesFront g.W.Sink.taken g.W.Sink.has_failed (l.initial.buffer, l.initial.writer) (l.buffer, l.writer)
-    (code_digits l.left l.left) (code_of l.position)
+    WritesFront g.W.Sink l.initial.output l.output (code_digits l.left l.left) (code_of l.position)
 
 abbrev pub decreases-loop-left : goal.decreases-loop-left
 decreases-loop-left g l = l.left

@@ -7,5 +7,5 @@ use Rattle.vcd_text.proofs.writing.declarations.write_header.Given as goal
 
 abbrev pub invariant-loop-one : goal.invariant-loop-one
 invariant-loop-one g l =
-    WritesFront g.W.Sink.taken g.W.Sink.has_failed (l.initial.buffer, l.initial.writer) (l.buffer, l.writer)
+    WritesFront g.W.Sink l.initial.output l.output
     (flat_map item_line (header_items (drop l.one-index l.header))) (flat_map item_line (header_items l.header))

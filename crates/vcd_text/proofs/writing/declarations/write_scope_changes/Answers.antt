@@ -6,4 +6,6 @@ use Rattle.vcd_text.proofs.Written.{writes_as, writes_both}
 use Rattle.vcd_text.proofs.writing.declarations.write_scope_changes.Goals as goal
 
 pub returns : goal.returns
-returns g c = grind (arith, take_all, length-drop, writes_as, flat_map-append, writes_both)
+returns g c =
+    writes_as (grind (arith, take_all, length-drop, flat_map-append))
+    (writes_both c.write_upscopes.ensures c.write_scopes.ensures)

@@ -8,6 +8,6 @@ use Rattle.vcd_text.proofs.writing.declarations.write_scopes.Given as goal
 
 abbrev pub invariant-loop-name : goal.invariant-loop-name
 invariant-loop-name g l =
-    WritesFront g.W.Sink.taken g.W.Sink.has_failed (l.initial.buffer, l.initial.writer) (l.buffer, l.writer)
+    WritesFront g.W.Sink l.initial.output l.output
     (flat_map item_line (map (λ s. scope s.kind s.words) (drop l.name-index l.scopes)))
     (flat_map item_line (map (λ s. scope s.kind s.words) l.scopes))

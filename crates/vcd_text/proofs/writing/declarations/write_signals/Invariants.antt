@@ -8,6 +8,6 @@ use Rattle.vcd_text.proofs.writing.declarations.write_signals.Given as goal
 
 abbrev pub invariant-loop-position : goal.invariant-loop-position
 invariant-loop-position g l =
-    WritesFront g.W.Sink.taken g.W.Sink.has_failed (l.initial.buffer, l.initial.writer) (l.buffer, l.writer)
+    WritesFront g.W.Sink l.initial.output l.output
     (flat_map item_line (signal_items l.opened l.position (map signal_contents (drop l.position l.signals))))
     (flat_map item_line (signal_items [] 0 (map signal_contents l.signals)))

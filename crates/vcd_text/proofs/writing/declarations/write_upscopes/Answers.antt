@@ -12,7 +12,9 @@ loop-closed-init g c = let all : c.args.count - 0 ≡ c.args.count = omega arith
     front_begun (ap (λ (n : ℕ). flat_map item_line (replicate n upscope)) all)
 
 pub loop-closed-preserved : goal.loop-closed-preserved
-loop-closed-preserved g c = grind (arith, front_grows, one_closed)
+loop-closed-preserved g c =
+    front_grows _ c.loop-closed.invariant c.write_bytes.ensures.written
+    (one_closed c.args.count c.loop-closed._closed (omega arith))
 
 pub returns : goal.returns
-returns g c = grind (arith, front_whole)
+returns g c = front_whole c.loop-closed.invariant (grind arith)

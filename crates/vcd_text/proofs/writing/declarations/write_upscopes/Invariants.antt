@@ -8,5 +8,5 @@ use Rattle.vcd_text.proofs.writing.declarations.write_upscopes.Given as goal
 
 abbrev pub invariant-loop-closed : goal.invariant-loop-closed
 invariant-loop-closed g l =
-    WritesFront g.W.Sink.taken g.W.Sink.has_failed (l.initial.buffer, l.initial.writer) (l.buffer, l.writer)
+    WritesFront g.W.Sink l.initial.output l.output
     (flat_map item_line (replicate (l.count - l._closed) upscope)) (flat_map item_line (replicate l.count upscope))

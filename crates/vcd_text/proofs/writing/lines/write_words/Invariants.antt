@@ -6,5 +6,4 @@ use Rattle.vcd_text.proofs.writing.lines.write_words.Given as goal
 
 abbrev pub invariant-loop-word : goal.invariant-loop-word
 invariant-loop-word g l =
-    WritesFront g.W.Sink.taken g.W.Sink.has_failed (l.initial.buffer, l.initial.writer) (l.buffer, l.writer)
-    (spaced_words (drop l.word-index l.words)) (spaced_words l.words)
+    WritesFront g.W.Sink l.initial.output l.output (spaced_words (drop l.word-index l.words)) (spaced_words l.words)

@@ -8,6 +8,6 @@ use Rattle.vcd_text.proofs.writing.stamps.write_all_values.Given as goal
 
 abbrev pub invariant-loop-position : goal.invariant-loop-position
 invariant-loop-position g l =
-    WritesFront g.W.Sink.taken g.W.Sink.has_failed (l.initial.buffer, l.initial.writer) (l.buffer, l.writer)
+    WritesFront g.W.Sink l.initial.output l.output
     (flat_map item_line (value_items 0 (enumerate_from l.position (map signal_contents (drop l.position l.signals)))))
     (flat_map item_line (all_values (map signal_contents l.signals) 0))

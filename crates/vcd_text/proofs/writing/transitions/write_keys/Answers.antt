@@ -47,7 +47,10 @@ loop-k-preserved g c =
     }
 
 pub returns-clause-text : goal.returns-clause-text
-returns-clause-text g c = grind (arith, front_whole, none_written)
+returns-clause-text g c =
+    front_whole c.loop-k.invariant.text
+    (none_written (map signal_contents c.args.signals.now) c.args.from c.loop-k.last c.loop-k.k c.args.keys.now
+    (omega arith))
 
 pub returns-clause-last : goal.returns-clause-last
 returns-clause-last g c = grind (arith, last_written)

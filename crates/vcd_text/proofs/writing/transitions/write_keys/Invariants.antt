@@ -11,7 +11,7 @@ use Rattle.vcd_text.proofs.writing.transitions.write_keys.Given as goal
 abbrev pub invariant-loop-k : goal.invariant-loop-k
 invariant-loop-k g l =
     record {
-      text : WritesFront g.W.Sink.taken g.W.Sink.has_failed (l.initial.buffer, l.initial.writer) (l.buffer, l.writer)
+      text : WritesFront g.W.Sink l.initial.output l.output
           (flat_map item_line (transition_items (map signal_contents l.signals) l.last
           (transitions_of l.from (drop l.k l.keys))))
           (flat_map item_line (transition_items (map signal_contents l.signals) l.initial.last

@@ -12,7 +12,7 @@ use Rattle.vcd_text.proofs.writing.transitions.write_transitions.Given as goal
 abbrev pub invariant-loop-from : goal.invariant-loop-from
 invariant-loop-from g l =
     record {
-      text : WritesFront g.W.Sink.taken g.W.Sink.has_failed (l.initial.buffer, l.initial.writer) (l.buffer, l.writer)
+      text : WritesFront g.W.Sink l.initial.output l.output
           (flat_map item_line (walk (map signal_contents l.signals) l.end l.last
           (transitions_from (map signal_contents l.signals) l.from (l.end + 1 - l.from))))
           (flat_map item_line (tick_items (map signal_contents l.signals) 1 l.end

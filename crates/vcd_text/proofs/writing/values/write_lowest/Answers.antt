@@ -1,6 +1,7 @@
 -- Each turn writes one more word.
-use Rattle.std.proofs.Common.{refl, arith}
+use Rattle.std.proofs.Common.{◌-◌, ◌*◌, ◌/◌, ℕ, refl, arith}
 use Rattle.std.proofs.lemmas.List.{drop_all}
+use Rattle.vcd_text.specs.Letters.{printed_letters}
 use Rattle.vcd_text.proofs.LetterBits.{lowest, word_and_rest}
 use Rattle.vcd_text.proofs.Written.{front_begun, front_grows, front_whole}
 use Rattle.vcd_text.proofs.writing.values.write_lowest.Goals as goal
@@ -9,7 +10,16 @@ pub loop-left-init : goal.loop-left-init
 loop-left-init g c = record { front = front_begun refl; within = c.requires }
 
 pub loop-left-preserved : goal.loop-left-preserved
-loop-left-preserved g c = grind (arith, front_grows, lowest, word_and_rest)
+loop-left-preserved g c =
+    let v = c.args.value.now in
+    let left = c.loop-left.left in
+    let below : ℕ = 64 * ((left - 1) / 64) in
+    record {
+      front = front_grows (printed_letters (lowest below v)) c.loop-left.invariant.front c.write_letters.ensures
+          (word_and_rest v left below c.block.result (omega arith) (omega (arith, c.loop-left-test.true))
+          c.loop-left.invariant.within c.block.ensures);
+      within = omega (arith, c.loop-left.invariant.within);
+    }
 
 pub returns : goal.returns
-returns g c = grind (arith, front_whole, drop_all)
+returns g c = front_whole c.loop-left.invariant.front (grind (arith, drop_all))

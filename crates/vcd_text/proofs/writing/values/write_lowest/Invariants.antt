@@ -7,7 +7,7 @@ use Rattle.vcd_text.proofs.writing.values.write_lowest.Given as goal
 
 abbrev pub invariant-loop-left : goal.invariant-loop-left
 invariant-loop-left g l = record {
-  front : WritesFront g.W.Sink.taken g.W.Sink.has_failed (l.initial.buffer, l.initial.writer) (l.buffer, l.writer)
+  front : WritesFront g.W.Sink l.initial.output l.output
       (printed_letters (lowest l.left l.value)) (printed_letters (lowest l.count l.value));
   within : l.left ≤ length l.value;
 }
