@@ -42,7 +42,10 @@ fn rule_of(words: &[&str]) -> Option<Rule> {
     if name == "xor" {
         return Some(Rule::Xor(a, position(words, 4)?));
     }
-    Some(Rule::BitOf(a, number(words, 4)?))
+    if name == "bit" {
+        return Some(Rule::BitOf(a, number(words, 4)?));
+    }
+    None
 }
 
 /// The edit that words ask for, as `force 0 2 9 z`, with a value of one bit.
