@@ -29,7 +29,7 @@ as top.cpu.clk or top.cpu.data[7:0], or @ and its position; times are in ticks o
   invert NAME               every bit is negated at every tick
   shift NAME BY             the signal comes BY ticks later, or earlier where BY is negative
   cut FROM TO               the ticks FROM up to before TO are cut out of every signal
-  deglitch NAME TICKS       runs of fewer than TICKS ticks take the value of the last longer run
+  deglitch NAME TICKS       removes pulses shorter than TICKS ticks
   force NAME FROM TO VALUE  the signal has VALUE at the ticks FROM up to before TO
   derive WORD not A         a new signal WORD; also: and A B, or A B, xor A B, bit A K
   undo                      the last edit is taken back
