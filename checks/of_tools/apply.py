@@ -256,13 +256,20 @@ def end_of(tool):
         return []
 
 
+def default_signals():
+    """The tool gets them, even if this check was started with them ignored, as `nohup` does."""
+    for number in (signal.SIGINT, signal.SIGTERM, signal.SIGHUP):
+        signal.signal(number, signal.SIG_DFL)
+
+
 def interrupted(folder):
     """A run that lasts is interrupted when it has written a part."""
     waits = "echo $$ > ../number.new; mv ../number.new ../number; exec sleep 60"
     program = store_program(folder, "lasting", text=HALF % waits)
     for number in (signal.SIGINT, signal.SIGTERM, signal.SIGHUP, signal.SIGKILL):
         place = Folder(program, "%s/%d/captures" % (folder, number), A=LINE, B=LINE)
-        tool = subprocess.Popen([APPLY, "script", "A", "B"], cwd=place.folder, env=place.environment, stdout=subprocess.PIPE, text=True)
+        how = {"cwd": place.folder, "env": place.environment, "preexec_fn": default_signals}
+        tool = subprocess.Popen([APPLY, "script", "A", "B"], stdout=subprocess.PIPE, text=True, **how)
         path = os.path.join(place.folder, "../number")
         began = wait_for(lambda: os.path.exists(path))
         tool.send_signal(number)
