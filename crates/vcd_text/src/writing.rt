@@ -59,6 +59,7 @@ pub fn write<W: Sink>(alloc: Global, capture: &Capture, writer: &mut W) -> Resul
     write_first_values(&mut output, signals);
     write_transitions(&mut output, signals, &mut window, end);
     send_buffer(&mut output);
+    // Taken apart with each field named, as only so the prover knows what the writer is at the end.
     let Output {
         unsent,
         start,
