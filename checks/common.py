@@ -10,8 +10,17 @@ CHECKS = os.path.dirname(os.path.abspath(__file__))
 TOP = os.path.dirname(CHECKS)
 CASES = os.path.join(TOP, "cases")
 EXAMPLES = os.path.join(TOP, "examples")
-# The edits of a script, of which `vcd_alloc_failures` has a call each.
-EDITS = ["rename", "remove", "invert", "shift", "cut", "deglitch", "force", "derive"]
+# The edits of a script, each with a line that makes it. `vcd_alloc_failures` has a call for each name.
+EDITS = {
+    "rename": "rename @0 c",
+    "remove": "remove @0",
+    "invert": "invert @0",
+    "shift": "shift @0 2",
+    "cut": "cut 2 5",
+    "deglitch": "deglitch @0 2",
+    "force": "force @0 4 6 z",
+    "derive": "derive d not @0",
+}
 SECONDS = 120
 
 
