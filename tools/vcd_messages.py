@@ -21,7 +21,7 @@ FAULTS = {
     "BadScope": "a scope needs a kind, then a name: $scope module top $end",
     "UpscopeAtTop": "more scopes are closed than were opened: delete the line, or find the $scope that was lost",
     "BadVar": "a declaration needs kind, size, code and name: $var wire 8 ! data [7:0] $end",
-    "MixedCode": "one code is declared with two sizes: give the second variable another code, and its changes too",
+    "MixedCode": "one code is declared with two sizes, or for a kept and a skipped variable: give the second variable another code, and its changes too",
     "BadTime": "a stamp is # and decimal digits, at most 2^63 - 1; a bare # at the end shows that the file was cut off",
     "TimeBackwards": "at the last line the file was cut off; else sort or shift the second part",
     "BadChange": "this is no change of a value: leave analog channels out when you record",
