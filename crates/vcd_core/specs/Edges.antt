@@ -21,11 +21,11 @@ abbrev pub trace_of : Option WaveView → Trace
 trace_of None = record { before = None; changes = [] }
 trace_of (Some w) = record { before = Some (all_x w.width); changes = w.changes }
 
--- its value at a tick
+-- the value of a trace at a tick
 abbrev pub value_on : Trace → ℕ → Option (List Bit)
 value_on l t = option_map (λ v. value_from v l.changes t) l.before
 
--- its value just before a tick
+-- the value of a trace just before a tick
 abbrev pub value_before : Trace → ℕ → Option (List Bit)
 value_before l zero = l.before
 value_before l (suc t) = value_on l t
@@ -37,7 +37,7 @@ same_value None (Some w) = false
 same_value (Some v) None = false
 same_value (Some v) (Some w) = same_letters v w
 
--- whether its value at a tick differs from that just before
+-- whether the value of a trace at a tick differs from that just before it
 abbrev pub changes_at : ℕ → Trace → Bool
 changes_at t l = not (same_value (value_on l t) (value_before l t))
 

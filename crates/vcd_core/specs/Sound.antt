@@ -19,7 +19,7 @@ is_sound_header h = list_all is_word h.words
 abbrev pub is_sound_scope : ScopeName → Bool
 is_sound_scope s = is_word s.kind && list_all is_word s.words
 
--- a tick is 1, 10 or 100 of the unit (IEEE 1364-2005, 18.2)
+-- a timescale that a file can represent: a tick is 1, 10 or 100 of the unit (IEEE 1364-2005, 18.2)
 abbrev pub is_sound_timescale : Timescale → Bool
 is_sound_timescale t = t.count == 1 || t.count == 10 || t.count == 100
 

@@ -8,11 +8,11 @@ use Rattle.vcd_core.specs.Wave.{change}
 unfoldable pub moved_change : ℤ → Change → Change
 moved_change by c = change (unsigned_abs (pos c.tick +ℤ by)) c.value
 
--- whether its new tick is from 0 to 2^64 - 1
+-- the new tick of a change is from 0 to 2^64 - 1
 unfoldable pub TickFits : ℤ → Change → Type 0
 TickFits by c = FitsUnsigned w64 (pos c.tick +ℤ by)
 
--- whether every new tick is
+-- the new tick of each change is from 0 to 2^64 - 1
 abbrev pub AllTicksFit : ℤ → List Change → Type 0
 AllTicksFit by changes = All (TickFits by) changes
 

@@ -6,7 +6,7 @@ pub record Test (E : Type 0) : Type 0 where
   pub fault : E
   pub holds : Bool
 
--- this is the fault, unless that holds
+-- a test: the first operand is its fault, unless the second holds
 infix 5 ◌unless◌
 abbrev pub ◌unless◌ : {E : Type 0} → E → Bool → Test E
 fault unless holds = record { fault = fault; holds = holds }

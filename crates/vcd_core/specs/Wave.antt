@@ -6,7 +6,7 @@ use Rattle.vcd_core.specs.declared.bit.Bit.{Bit}
 use Rattle.vcd_core.specs.declared.wave.Change.{Change}
 use Rattle.vcd_core.specs.Value.{all_x, same_letters}
 
--- from this tick on, this value
+-- a change: from this tick on, a signal has this value
 abbrev pub change : ℕ → List Bit → Change
 change tick value = record { tick = tick; value = value }
 
@@ -19,7 +19,7 @@ value_from before (c ∷ cs) t = value_from (if nat_le c.tick t then c.value els
 abbrev pub value_at : ℕ → List Change → ℕ → List Bit
 value_at width changes t = value_from (all_x width) changes t
 
--- a change is listed where the value differs from the one before
+-- a change put before others, unless its value is the same as the one before it
 abbrev pub unless_same : Bool → Change → List Change → List Change
 unless_same true c cs = cs
 unless_same false c cs = c ∷ cs

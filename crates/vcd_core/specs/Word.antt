@@ -3,11 +3,11 @@ use Rattle.std.specs.Prelude.{ℕ, Bool, not, ◌&&◌, ◌||◌, ◌==◌, nat_
 use Rattle.std.specs.List.{list_all, list_any}
 use Rattle.std.specs.Str.{bytes_eq}
 
--- white space: a tab, a line feed, a vertical tab, a form feed, a carriage return, a space
+-- whether a byte is white space: tab, line feed, vertical tab, form feed, carriage return or space
 abbrev pub is_white_space : ℕ → Bool
 is_white_space byte = nat_le 9 byte && nat_le byte 13 || byte == 32
 
--- at least one byte, none of them white space, and not `$end`
+-- whether bytes are a word: at least one byte, none of them white space, and not `$end`
 abbrev pub is_word : List ℕ → Bool
 is_word bytes = not (length bytes == 0) && list_all (λ b. not (is_white_space b)) bytes
     && not (bytes_eq bytes (codes "$end"))

@@ -33,7 +33,7 @@ pub struct Header {
     pub words: Seq<Word>,
 }
 
-/// The unit of a timescale, from a second down to a femtosecond.
+/// The unit of a timescale, from a second down to a femtosecond (IEEE 1364-2005, 18.2).
 #[derive(Clone, Copy, Debug, PartialEq, Eq)]
 pub enum TimeUnit {
     Second,

@@ -6,11 +6,10 @@ ghost use Rattle.std.specs.Char.{is_ascii_digit};
 ghost use Rattle.vcd_core.specs.Decimal.{is_number, number_of};
 ghost use Rattle.vcd_core.specs.BoundedNumber.{number_up_to};
 
-/// The number that `text` writes in decimal digits; `most` stands for every greater one. The result
-/// is none if `text` is no decimal number. There may be any number of digits and of leading
-/// zeros.
+/// The number that `text` writes in decimal digits, or `most` if it is greater. The result is none
+/// if `text` is no decimal number. There may be any number of digits and of leading zeros.
 ///
-/// The time grows with the digits. It takes no memory.
+/// The time grows with the number of digits. It takes no memory.
 pub fn number_up_to(text: &[u8], most: u64) -> Option<u64>
     ensures { result ≡ number_up_to text.now most }
 {
@@ -35,7 +34,7 @@ fn are_digits(text: &[u8]) -> bool
     text.iter().all(|byte| byte.is_ascii_digit())
 }
 
-/// The number that decimal digits write; `u64::MAX` stands for every greater one.
+/// The number that decimal digits write, or `u64::MAX` if it is greater.
 fn number_or_greatest(digits: &[u8]) -> u64
     requires { IsTrue (list_all is_ascii_digit digits.now) }
     ensures { result ≡ min (number_of digits.now) (2 ^ 64 - 1) }

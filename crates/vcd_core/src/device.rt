@@ -87,7 +87,7 @@ pub trait Sink {
         ensures { result ≡ has_failed self.now };
 }
 
-/// A source over a reader. Every error is a failure, also an interrupted read: nothing is tried
+/// A source over a reader. Every error is a failure, even an interrupted read: nothing is tried
 /// again.
 #[derive(Drop)]
 pub struct FromRead<R> {
@@ -141,7 +141,7 @@ impl<R: Read> Source for FromRead<R> {
     }
 }
 
-/// A sink over a writer. Every error is a failure, also an interrupted write: nothing is tried
+/// A sink over a writer. Every error is a failure, even an interrupted write: nothing is tried
 /// again. A write of some bytes that takes none is a failure too.
 #[derive(Drop)]
 pub struct ToWrite<W> {

@@ -39,7 +39,7 @@ pub struct LetterBlock {
 }
 
 impl LetterBlock {
-    /// The word that has this letter at each of the 64 places.
+    /// The block that has this letter 64 times.
     pub fn filled(letter: Bit) -> LetterBlock
         ensures { (i : ℕ) → i < 64 → letter_in result i ≡ letter }
     {
@@ -49,7 +49,7 @@ impl LetterBlock {
         }
     }
 
-    /// The word with one more letter at its low end. The highest letter is lost.
+    /// The block with one more letter at its low end. The highest letter is lost.
     pub fn with_letter(self, letter: Bit) -> LetterBlock
         ensures lowest { letter_in result 0 ≡ letter }
         ensures rest { (i : ℕ) → i + 1 < 64 → letter_in result (i + 1) ≡ letter_in self i }

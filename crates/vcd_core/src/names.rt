@@ -27,8 +27,8 @@ impl Capture {
         FullName::of_text(name).has_same_bytes(FullName::of(signal))
     }
 
-    /// The position of the signal that `name` names. `@` and the position of a signal name that
-    /// signal; any other name is the first signal with that full name.
+    /// The position of the signal that `name` names. `@` and a decimal number name the signal at
+    /// that position, if there is one. Any other name means the first signal with that full name.
     pub fn find(&self, name: &[u8]) -> Option<usize>
         ensures { result ≡ lookup (contents self.now).signals name.now }
     {

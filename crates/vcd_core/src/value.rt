@@ -90,7 +90,7 @@ impl Value {
         }
     }
 
-    /// Whether the value, of at most 64 bits, has the letters of this block. It equals
+    /// Whether the value, of at most 64 bits, has the letters of this block. It then equals
     /// [`Value::from_block`] of its width, which is not built.
     pub(crate) fn has_block(&self, block: LetterBlock) -> bool
         requires { length self.now ≤ 64 }

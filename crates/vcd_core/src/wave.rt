@@ -102,7 +102,7 @@ impl Wave {
     /// The value at `tick`: that of the last change at or before it, or all x. A tick past the last
     /// change has the last value.
     ///
-    /// A binary search: the logarithm of the number of changes.
+    /// It is a binary search: its time grows with the logarithm of the number of changes.
     pub fn at(&self, tick: u64) -> Value
         ensures { result ≡ value_at self.now.width self.now.changes tick }
     {
@@ -123,8 +123,8 @@ impl Wave {
     /// The number of changes at or before `tick`, whatever `near` is. `near` is a number that the
     /// result is expected to be near, such as the result of an earlier search.
     ///
-    /// The search goes from there by steps that double, then by halves: the logarithm of the
-    /// distance.
+    /// The search goes from there by steps that double, then by halves. Its time grows with the
+    /// logarithm of the distance.
     pub fn count_through_near(&self, near: usize, tick: u64) -> usize
         ensures { result ≡ count_by (λ c. nat_le c.tick tick) self.now.changes }
     {
@@ -135,7 +135,7 @@ impl Wave {
     /// nothing. A change at an equal tick is replaced, and removed if it then equals the one
     /// before it.
     ///
-    /// It looks at the end of the list alone. It may run out of memory.
+    /// It looks only at the end of the list. It may run out of memory.
     pub fn push(&mut self, tick: u64, value: Value) -> Result<(), NoMemory>
         requires width { length value ≡ self.old.width }
         requires none_later { All (λ c. c.tick ≤ tick) self.old.changes }
@@ -242,7 +242,7 @@ impl Wave {
     }
 
     /// Gives the wave its own list with room for `more` changes. The changes of the wave stay the
-    /// same, also if the memory is refused.
+    /// same, even if memory is refused.
     ///
     /// It takes no memory if the room is there already. Else the list is at least doubled, so that
     /// a list that grows change by change is seldom moved. A shared list that no other wave has any
@@ -290,7 +290,7 @@ impl Wave {
         Ok(())
     }
 
-    /// Whether other waves have the list of this one, too. A list that no other wave has any more
+    /// Whether other waves share the list of this one. A list that no other wave has any more
     /// becomes the wave's own.
     pub fn is_shared(&mut self) -> bool
         ensures told { result ≡ self.new.is_shared }
@@ -349,8 +349,8 @@ impl Wave {
         })
     }
 
-    /// Swaps the changes at places `from` to before `to` with the contents of `piece`, and moves
-    /// the later changes by `by` ticks.
+    /// Swaps the changes of the range `from..to` with the contents of `piece`, and moves the later
+    /// changes by `by` ticks.
     ///
     /// It takes no memory: each list has the room for what it gets. The cost is that of the piece
     /// and the range; if `by` is not 0, or their lengths differ, each later change is copied once.

@@ -14,7 +14,7 @@ use crate::memory::NoMemory;
 use crate::value::{Value, WIDTH_LIMIT};
 use crate::wave::Change;
 
-/// A list that is full gets room for at least so many changes more.
+/// The least number of further changes for which a full list gets room.
 pub(crate) const LEAST_ROOM: usize = 4;
 
 /// The value after all changes: all x if there are none.

@@ -64,12 +64,12 @@ abbrev pub EachRises : ℕ → List Trace → Type 0
 EachRises floor [] = Unit {0}
 EachRises floor (l ∷ ls) = Rises floor l × EachRises floor ls
 
--- a tick that no change is past
+-- a tick at or after all changes
 abbrev pub ticks_sum : List Change → ℕ
 ticks_sum [] = 0
 ticks_sum (c ∷ cs) = c.tick + ticks_sum cs
 
--- a tick that no change of any wave is past
+-- a tick at or after all changes of all waves
 abbrev pub reach : List Trace → ℕ
 reach [] = 0
 reach (l ∷ ls) = ticks_sum l.changes + reach ls

@@ -2,7 +2,7 @@
 use Rattle.std.specs.Prelude.{ℕ, ◌+◌, ◌*◌, ◌%◌, ◌^◌, List, [], ◌∷◌}
 use Rattle.vcd_core.specs.declared.names.text_end.TextEnd.{TextEnd}
 
--- the end of a text with one byte more
+-- the end of a text with one more byte
 abbrev pub longer_end : TextEnd → ℕ → TextEnd
 longer_end end byte = record {
   bytes = (end.bytes * 256 % 2 ^ 128 + byte) % 2 ^ 128;

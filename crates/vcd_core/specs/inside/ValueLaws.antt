@@ -36,6 +36,6 @@ same_letter-Decides a b =
 pub same_letters-Decides : (v w : List Bit) → Decides (same_letters v w) (v ≡ w)
 same_letters-Decides = pointwise_decides same_letter-Decides
 
--- and the comparison is symmetric and transitive
+-- the comparison is symmetric and transitive
 pub same_letters-equiv : IsPartialEquivalence same_letters
 same_letters-equiv = partial_equiv_from_equiv (lists_equiv (on_equiv letter_number nat_eq_equiv))

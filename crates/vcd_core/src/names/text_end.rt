@@ -13,14 +13,14 @@ pub(crate) struct TextEnd {
 }
 
 impl TextEnd {
-    /// That of the empty text.
+    /// The end of the empty text.
     pub(crate) fn new() -> TextEnd
         ensures { result ≡ text_end [] }
     {
         TextEnd { bytes: 0, mask: 0 }
     }
 
-    /// That of the text with one byte more.
+    /// The end of the text with one more byte.
     pub(crate) fn with_byte(self, byte: u8) -> TextEnd
         ensures { result ≡ longer_end self byte }
     {
@@ -31,7 +31,7 @@ impl TextEnd {
     }
 
     /// Whether a text with this end may end with one that has the other end. It is never false if
-    /// the text does; who asks compares the bytes then.
+    /// the text does. If it is true, the caller compares the bytes.
     #[inline(always)]
     pub(crate) fn may_end_with(self, other: TextEnd) -> bool
         ensures { (text front end : List ℕ) → self ≡ text_end text → other ≡ text_end end
