@@ -29,7 +29,7 @@ number_of_bits bits = fold number_with (Some 0) bits
 
 -- ---- the byte after a START
 
--- the direction in its last bit: 1 the target sends, 0 the controller
+-- the direction that the last bit of a byte gives: at 1 the target sends, at 0 the controller
 abbrev pub direction_of : ℕ → Direction
 direction_of n = if n % 2 == 1 then Read else Write
 
@@ -37,7 +37,7 @@ direction_of n = if n % 2 == 1 then Read else Write
 abbrev pub is_ten_bit : ℕ → Bool
 is_ten_bit n = n / 8 == 30
 
--- the two high bits of that address
+-- the two high bits of an address of ten bits
 abbrev pub high_bits : ℕ → ℕ
 high_bits n = n / 2 % 4
 

@@ -31,13 +31,13 @@ abbrev pub bits_annotation : List BusBit → Kind → Annotation
 bits_annotation bits kind = annotation (slice_index (ticks_of bits) 0)
     (slice_index (ticks_of bits) (length bits - 1)) kind
 
--- a byte of nine bits and its acknowledge
+-- the annotations of nine bits: a byte and its acknowledge
 abbrev pub byte_annotations : ByteRole → List BusBit → List Annotation
 byte_annotations role nine =
     bits_annotation (take 8 nine) (byte_kind role (number_of_bits (take 8 nine)))
     ∷ bits_annotation (drop 8 nine) (acknowledge_kind (number_of_bits (drop 8 nine))) ∷ []
 
--- a rest: at least two bits that a condition ends, including the rise of SCL before that condition
+-- the annotation of a rest: at least two bits that a condition ends, with the rise of SCL before it
 abbrev pub rest_annotations : Bool → List BusBit → List Annotation
 rest_annotations ended rest = if ended && nat_le 2 (length rest)
     then bits_annotation rest (kinds.Unfinished (length rest)) ∷ [] else []

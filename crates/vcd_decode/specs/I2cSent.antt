@@ -29,7 +29,7 @@ pub data Transfer : Type 0 where
   ten_bit_write : (address : ℕ) → (high_taken low_taken : Bool) → List DataByte → Transfer
   ten_bit_read : (address : ℕ) → (taken : Bool) → List DataByte → Transfer
 
--- whether all are bytes
+-- each is a byte, below 256
 unfoldable pub AreBytes : List DataByte → Type 0
 AreBytes [] = ⊤
 AreBytes (b ∷ bs) = (b.byte < 256) × AreBytes bs
@@ -63,7 +63,7 @@ pub record SentByte : Type 0 where
   pub taken : Bool
   pub kind : Kind
 
--- a byte with these
+-- a byte of these parts
 abbrev pub sent_byte : ℕ → Bool → Kind → SentByte
 sent_byte byte taken kind = record { byte = byte; taken = taken; kind = kind }
 

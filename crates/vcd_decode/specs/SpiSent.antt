@@ -69,7 +69,7 @@ SendsData u half word_of f (w ∷ ws) =
     → f t ≡ get_or (ordered_levels u.order u.bits (word_of w)) k X)
     × SendsData u half word_of f ws
 
--- the same of a line that may be absent
+-- the same for a line that may be absent
 abbrev pub MaySendData : SpiSetup → ℕ → (SpiWord → ℕ) → Option (ℕ → Bit) → List SpiWord → Type 0
 MaySendData u half word_of None ws = ⊤
 MaySendData u half word_of (Some f) ws = SendsData u half word_of f ws
@@ -95,7 +95,7 @@ sent_word_annotation u half mosi miso w =
     annotation (bit_middle half w 0) (bit_middle half w (u.bits - 1))
     (Word (sent_line_data mosi w.out) (sent_line_data miso w.back))
 
--- that of the first bits of a word
+-- the annotation of the first bits of a word
 abbrev pub sent_part_annotation : ℕ → SpiWord → ℕ → Annotation
 sent_part_annotation half w count =
     annotation (bit_middle half w 0) (bit_middle half w (count - 1)) (Unfinished count)

@@ -38,11 +38,11 @@ pub enum Kind {
     AddressHigh { bits: u8, direction: Direction },
     /// An address of ten bits (UM10204, 3.1.11).
     TenBitAddress { address: u16, direction: Direction },
-    /// A byte after an address.
+    /// A byte after an address (UM10204, 3.1.5).
     Data(u8),
-    /// An acknowledge: the line is low.
+    /// An acknowledge: the line is low (UM10204, 3.1.6).
     Ack,
-    /// No acknowledge: the line is high.
+    /// No acknowledge: the line is high (UM10204, 3.1.6).
     Nack,
 }
 
@@ -57,7 +57,7 @@ pub enum LineData {
     Number(u32),
 }
 
-/// Whether the controller of an I2C bus writes or reads.
+/// Whether the controller of an I2C bus writes or reads (UM10204, 3.1.10).
 #[derive(Clone, Copy, Debug, PartialEq, Eq)]
 pub enum Direction {
     Write,

@@ -3,10 +3,10 @@
 ghost use Rattle.vcd_decode.specs.Laws.{UartFramesAreFound, SpiWordsAreFound, SpiPartIsFound};
 ghost use Rattle.vcd_decode.specs.Laws.{I2cMessagesAreFound};
 
-/// The line that idles at 1 and sends frames decodes to one annotation for each frame, from its
-/// start to the sample of its last bit. It is a `byte` with the word that was sent, a
-/// `parity-error` if the parity bit is wrong, a `frame-error` if a stop bit is 0. That is so for
-/// every setup and any idle time between frames, or none.
+/// A line that idles at 1 and sends frames decodes to one annotation for each frame, from its start
+/// to the sample of its last bit. It is a `byte` with the word that was sent, a `parity-error` if
+/// the parity bit is wrong, a `frame-error` if a stop bit is 0. This holds for every setup and any
+/// idle time between frames, or none.
 pub fn uart_frames_are_found()
     ensures { UartFramesAreFound }
 {}
@@ -22,7 +22,7 @@ pub fn spi_words_are_found()
 
 /// The lines of an I2C bus that carry a message decode to this message: START, repeated START and
 /// STOP, each address with its direction, each data byte, and each acknowledge. Addresses have
-/// seven bits or ten. That is so at any tick distances that keep SDA still while SCL is high.
+/// seven bits or ten. This holds at any tick distances that keep SDA still while SCL is high.
 pub fn i2c_messages_are_found()
     ensures { I2cMessagesAreFound }
 {}

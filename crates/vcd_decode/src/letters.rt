@@ -26,7 +26,7 @@ pub fn is_one(bit: Bit) -> bool
     }
 }
 
-/// Whether a letter is neither.
+/// Whether a letter is neither 0 nor 1.
 pub fn is_unclear(bit: Bit) -> bool
     ensures { result ≡ unclear_test bit }
 {

@@ -57,10 +57,10 @@ impl Spi {
     ghost use Rattle.vcd_decode.specs.inside.SpiParts.{samples_rising_edge};
     ghost use Rattle.vcd_decode.specs.inside.SpiClock.{samples_at};
 
-    /// A setup of a mode, the number of bits in a word and their order.
+    /// The setup with this mode, this number of bits in a word and this order of bits.
     ///
-    /// The error is `BadMode` above 3, or else `BadBits` where the bits are not 1 to 32. It takes
-    /// no memory.
+    /// The error is `BadMode` if the mode is above 3, else `BadBits` if the number of bits is not 1
+    /// to 32. It takes no memory.
     pub fn new(mode: u64, bits: u64, order: BitOrder) -> Result<Spi, SetupError>
         ensures setup { IfOk result (λ s. s ≡ spi_setup mode bits order) }
         ensures fault { SetupFaultIs result (spi_fault (spi_setup mode bits order)) }

@@ -24,8 +24,8 @@ pub enum Parity {
     Odd,
 }
 
-/// The frames of an asynchronous serial line: a start bit, 5 to 9 data bits, perhaps a parity bit,
-/// and 1 or 2 stop bits. Each bit lasts `numerator / denominator` ticks, at least two.
+/// The frames of an asynchronous serial line (ISO 1177): a start bit, 5 to 9 data bits, perhaps a
+/// parity bit, and 1 or 2 stop bits. Each bit lasts `numerator / denominator` ticks, at least two.
 ///
 /// Contracts see these numbers.
 #[derive(Clone, Copy, Debug, PartialEq, Eq)]
@@ -65,7 +65,7 @@ impl Model for Uart {
 impl Uart {
     ghost use Rattle.vcd_decode.specs.Uart.{checked_bits, last_bit, sample_offset, is_parity_wrong};
 
-    /// A setup of bits of `numerator / denominator` ticks, with this number of data bits, this
+    /// The setup with bits of `numerator / denominator` ticks, this number of data bits, this
     /// parity bit and this number of stop bits.
     ///
     /// The error is the first of these faults. `BadRatio`: a number of the ratio is outside 1 to

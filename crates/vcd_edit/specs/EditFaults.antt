@@ -42,7 +42,8 @@ operands (Or a b) = a ∷ b ∷ []
 operands (Xor a b) = a ∷ b ∷ []
 operands (BitOf a k) = a ∷ []
 
--- the test of their widths: an operator's have one bit each, a chosen bit is below the width
+-- the test of the operands' widths: those of an operator have one bit each, a chosen bit is below
+-- the width
 abbrev pub width_test : Rule → Contents → Test EditError
 width_test (BitOf a k) c = BadBit unless nat_lt k (signal_at c a).width
 width_test rule c = NotScalar unless list_all (is_scalar c) (operands rule)

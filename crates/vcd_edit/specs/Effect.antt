@@ -32,7 +32,7 @@ with_wave c k f = with_signal c k (with_values c.end f (signal_at c k))
 abbrev pub renamed_signal : List ℕ → SignalContents → SignalContents
 renamed_signal word s = record s { words = word ∷ drop 1 s.words }
 
--- the value with `~` applied to each bit
+-- the value of a signal at a tick, with `~` applied to each bit
 abbrev pub inverse_value : SignalContents → ℕ → List Bit
 inverse_value s t = map not_bit (signal_value s t)
 
@@ -41,15 +41,16 @@ abbrev pub value_at_any_tick : ℕ → SignalContents → ℤ → List Bit
 value_at_any_tick end s (negsuc n) = all_x s.width
 value_at_any_tick end s (pos u) = if nat_lt end u then signal_value s end else signal_value s u
 
--- the value `by` ticks before
+-- the value of a signal `by` ticks before a tick
 abbrev pub shift_value : ℕ → ℤ → SignalContents → ℕ → List Bit
 shift_value end by s t = value_at_any_tick end s (pos t -ℤ by)
 
--- the value at a tick where those from `from` to before `to` are cut out: later ones come earlier
+-- the value at a tick if the ticks from `from` to before `to` are cut out: later values come
+-- earlier
 abbrev pub cut_value : ℕ → ℕ → SignalContents → ℕ → List Bit
 cut_value from to s t = if nat_lt t from then signal_value s t else signal_value s (t + (to - from))
 
--- the value at a tick where one is forced at the ticks from `from` to before `to`
+-- the value at a tick if `value` is forced at the ticks from `from` to before `to`
 abbrev pub force_value : ℕ → ℕ → List Bit → SignalContents → ℕ → List Bit
 force_value from to value s t = if nat_le from t && nat_lt t to then value else signal_value s t
 
@@ -65,7 +66,7 @@ unfoldable pub run_end : (ℕ → List Bit) → ℕ → ℕ → ℕ
 run_end f t zero = t
 run_end f t (suc n) = if same_letters (f (suc t)) (f t) then run_end f (suc t) n else t
 
--- whether the run that contains a tick contains tick 0 or the end, or has at least so many ticks
+-- whether the run that contains a tick contains tick 0 or the end, or has at least `ticks` ticks
 abbrev pub is_steady : ℕ → ℕ → (ℕ → List Bit) → ℕ → Bool
 is_steady ticks end f t =
     let first = run_start f t in

@@ -42,7 +42,8 @@ InvertTwiceWithoutZ =
 
 -- ---- cut
 
--- the ticks before a cut keep their values, and those from its end on have theirs so much earlier
+-- the ticks before a cut keep their values; the values from its end on come earlier by the ticks
+-- cut out
 abbrev pub CutKeepsOtherTicks : Type 0
 CutKeepsOtherTicks =
     (c : Contents) (from to k t : ℕ) → from ≤ to → to ≤ c.end → k < length c.signals
@@ -50,7 +51,8 @@ CutKeepsOtherTicks =
     × (to ≤ t → t ≤ c.end → value_of (effect (Cut from to) c) k (t - (to - from)) ≡ value_of c k t)
     × ((effect (Cut from to) c).end + (to - from) ≡ c.end)
 
--- of two cuts that share no tick either may come first; the later ticks are then so much earlier
+-- of two cuts that share no tick either may come first; the first cut then moves the ticks of the
+-- other
 abbrev pub CutsCommute : Type 0
 CutsCommute =
     (c : Contents) (from to later last : ℕ) → from ≤ to → to ≤ later → later ≤ last → last ≤ c.end
@@ -147,7 +149,7 @@ BitOfOneBit =
 
 -- ---- names and order
 
--- a signal that is renamed and named back is as it was
+-- a signal that is renamed, and then gets its old name, is as it was
 abbrev pub RenameAndBack : Type 0
 RenameAndBack =
     (c : Contents) (k : ℕ) (old new : Bor (List ℕ)) (others : List (List ℕ))

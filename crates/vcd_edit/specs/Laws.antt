@@ -22,7 +22,7 @@ IsRunOfOneValue f first last =
     (first ≤ last) × ((t : ℕ) → first ≤ t → t ≤ last → f t ≡ f first) × (f (first - 1) ≢ f first)
     × (f (suc last) ≢ f last)
 
--- each run that holds neither tick 0 nor the end has at least so many ticks
+-- each run that holds neither tick 0 nor the end has at least `ticks` ticks
 abbrev pub HasNoShortRun : ℕ → ℕ → (ℕ → List Bit) → Type 0
 HasNoShortRun ticks end f =
     (first last : ℕ) → 0 < first → last < end → IsRunOfOneValue f first last
@@ -50,7 +50,7 @@ DeglitchWithoutShortRuns =
     (k ticks : ℕ) (c : Contents) → IsSound c → edit_fault (Deglitch k ticks) c ≡ None
     → HasNoShortRun ticks c.end (value_of c k) → effect (Deglitch k ticks) c ≡ c
 
--- twice is once
+-- a second deglitch changes nothing
 abbrev pub DeglitchTwice : Type 0
 DeglitchTwice =
     (k ticks : ℕ) (c : Contents) → IsSound c → edit_fault (Deglitch k ticks) c ≡ None

@@ -3,7 +3,7 @@ use Rattle.std.specs.Prelude.{ℕ, ℤ, List, Option}
 use Rattle.vcd_core.specs.declared.wave.Change.{Change}
 use Rattle.vcd_core.specs.Contents.{SignalContents}
 
--- the changes at places `from` up to before `to` become `changes`, and the later ones move by `by`
+-- the changes of the range `from` to before `to` become `changes`, and the later ones move by `by`
 -- ticks
 pub record PieceView : Type 0 where
   pub signal : ℕ

@@ -30,7 +30,7 @@ use vcd_core::Capture;
 /// invert, a deglitch, and a shift that pushes changes past the end cost one pass over the wave and
 /// a new list of its changes. A derive costs one merged pass over its operands. Variables of one
 /// code share their list of changes. A signal that shares its list gets another: a copy of each
-/// change that it keeps. Those that shared one list, and get the same splice, share that.
+/// change that it keeps. Signals that shared one list, and get the same splice, share the new list.
 pub fn apply(alloc: Global, capture: &mut Capture, edit: &Edit) -> Result<Record, EditError>
     requires { IsSound (contents capture.old) }
     ensures allowed { OnOk result (edit_fault edit.now (contents capture.old) ≡ None) }

@@ -17,7 +17,7 @@ pub(crate) use new_names::after_first;
 use new_names::{check_derive, check_rename};
 use vcd_core::{Capture, Value};
 
-/// The fault of an edit on a capture: the first that holds, in the order of [`EditError`].
+/// The fault of an edit on a capture: the first that applies, in the order of [`EditError`].
 ///
 /// It takes no memory. Its time grows with the signals and their names if the edit gives a name;
 /// otherwise it is bounded.

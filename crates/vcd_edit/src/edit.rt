@@ -36,8 +36,8 @@ pub enum Edit<'a> {
         from: u64,
         to: u64,
     },
-    /// Runs of one value of fewer than `ticks` ticks take the value of the last longer run before
-    /// them. Runs that contain tick 0 or the end count as longer ones.
+    /// A run of one value with fewer than `ticks` ticks takes the value of the last run before it
+    /// that stays. The runs that contain tick 0 or the end stay.
     Deglitch {
         signal: usize,
         ticks: u64,

@@ -15,8 +15,8 @@ pub fn effect_is_sound()
 {}
 
 /// A deglitch takes out the short runs of one value, and nothing else. Afterwards each run that
-/// holds neither tick 0 nor the end has at least so many ticks. A long run keeps its value, a wave
-/// without short runs is unchanged, and twice is once.
+/// holds neither tick 0 nor the end has at least as many ticks as asked for. A long run keeps its
+/// value, and a wave without short runs is unchanged. A second deglitch changes nothing.
 pub fn deglitch_takes_short_runs_out()
     ensures none_left { DeglitchLeavesNoShortRun }
     ensures long_stay { DeglitchKeepsLongRuns }
@@ -67,7 +67,7 @@ pub fn bit_of_one_bit()
     ensures { BitOfOneBit }
 {}
 
-/// A signal that gets another name, and then its own, is as it was.
+/// A signal that gets another name, and then its old one, is as it was.
 pub fn rename_and_back()
     ensures { RenameAndBack }
 {}

@@ -8,8 +8,8 @@ ghost use Rattle.vcd_edit.specs.Records.{signal_view};
 use std::marker::Model;
 use vcd_core::{Change, Signal};
 
-/// A replacement for a range of a signal's changes. Those at places `from` up to before `to` become
-/// `changes`, and the later ones move by `by` ticks.
+/// A replacement for a range of a signal's changes. Those of the range `from..to` become `changes`,
+/// and the later ones move by `by` ticks.
 #[derive(Drop)]
 pub struct Piece {
     pub(crate) signal: usize,

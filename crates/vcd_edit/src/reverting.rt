@@ -17,7 +17,7 @@ use parts::{exchange_end, exchange_signal, exchange_word};
 use std::alloc::Global;
 use vcd_core::Capture;
 
-/// A record that was not applied because memory ran out, as it was.
+/// A record that was not applied because memory ran out. It is as it was.
 #[derive(Drop)]
 pub struct Kept {
     pub held: Record,
@@ -82,7 +82,7 @@ pub(crate) fn exchange_record(
     }
 }
 
-/// Applies the record to the capture, and gives the record that undoes this.
+/// Applies the record to the capture, and returns the record that undoes this.
 ///
 /// That record fits, restores the capture, and stores touched changes only. In a signal with a
 /// piece, these are the changes that the step takes away or moves by another number of ticks than

@@ -20,11 +20,11 @@ pub record History : Type 0 where
   -- how many edits can be undone and made again at most, together
   pub depth : ℕ
 
--- no edit was made
+-- the history before the first edit
 abbrev pub initial_history : ℕ → History
 initial_history depth = record { edits = []; undone = []; undoable = 0; depth = depth }
 
--- edits made one after another, the last of them being the first of the list
+-- the capture after edits are made one after another; the last one made is the first of the list
 unfoldable pub replay : Contents → List Edit → Contents
 replay c [] = c
 replay c (e ∷ es) = effect e (replay c es)

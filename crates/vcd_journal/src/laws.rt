@@ -5,15 +5,14 @@ ghost use Rattle.vcd_journal.specs.Laws.{HistoryIsBounded, SessionIsReplay};
 /// After any steps, accepted or refused, the capture is what the edits in force make of the first
 /// capture.
 ///
-/// Each past capture that is held is the same without the last edit in force, without the last two,
-/// and so on. The captures of the future are the same with the undone edits made again, one after
+/// The captures that undo reaches are the same without the last edit in force, without the last
+/// two, and so on. Those that redo reaches are the same with the undone edits made again, one after
 /// another.
 pub fn session_is_replay()
     ensures { SessionIsReplay }
 {}
 
-/// After any steps, past and future together hold at most as many captures as the depth then
-/// allows.
+/// After any steps, undo and redo together reach at most as many captures as the depth then allows.
 pub fn history_is_bounded()
     ensures { HistoryIsBounded }
 {}

@@ -180,7 +180,7 @@ impl Session {
         &self.capture
     }
 
-    /// Gives the current capture, and drops the history. It takes no memory.
+    /// Returns the current capture, and drops the history. It takes no memory.
     pub fn into_capture(self) -> Capture
         ensures now { contents result ≡ self.now }
         ensures sound { IsSound (contents result) }

@@ -38,7 +38,7 @@ pub enum StepError {
     /// The depth is not from 1 to [`DEPTH_LIMIT`].
     #[error("BadDepth")]
     BadDepth,
-    /// More edits than that could be redone.
+    /// More edits than the new depth could be redone.
     #[error("DepthTooSmall")]
     DepthTooSmall,
     /// Memory was refused for an undo, a redo or a greater depth.
@@ -47,7 +47,7 @@ pub enum StepError {
 }
 
 impl StepError {
-    /// The name that the tool prints. It takes no memory.
+    /// The refusal's name, as it is printed. It takes no memory.
     pub fn name(&self) -> &'static str
         ensures { result.now ≡ step_error_name self.now }
     {

@@ -17,9 +17,9 @@ use vcd_core::{Bit, BitEdge, BitEdges, NoMemory, Wave};
 /// The annotations of an I2C bus with the lines `scl` and `sda`, up to the tick `end` (UM10204,
 /// 3.1).
 ///
-/// START and STOP conditions are at their ticks. Each byte is seven or ten address bits or data. It
-/// is annotated from its first to its eighth bit, and its acknowledge follows it. A line that is z
-/// is high.
+/// A START or STOP condition is annotated at its tick. A byte is an address of seven bits, a part
+/// of an address of ten bits, or data. It is annotated from its first to its eighth bit, and its
+/// acknowledge follows it. A line that is z is high.
 ///
 /// A byte or an acknowledge with an x is `Unknown`. Bits that a condition cuts off are `Unfinished`
 /// where there are at least two, since SCL rises once before each condition. Bits that the

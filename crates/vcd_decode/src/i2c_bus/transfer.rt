@@ -11,7 +11,7 @@ use crate::i2c_bus::bytes::{
 use crate::i2c_bus::events::{BusBit, BusEvent};
 use vcd_core::NoMemory;
 
-/// The state since the last START, where no STOP came after it.
+/// The state since the last START, if no STOP came after it.
 #[derive(Clone, Copy)]
 pub(super) struct Transfer {
     /// The role of the current byte.

@@ -33,7 +33,7 @@ pub record IsValidIn (end : ℕ) (ss : List SignalContents) (p : PieceView) : Ty
   pub valid : IsValidPiece (slice_index_or ss p.signal no_signal).width end
       (slice_index_or ss p.signal no_signal).changes p
 
--- a capture may have so many signals, and each is sound up to an end
+-- a capture may have this number of signals, and each is sound up to an end
 abbrev pub AreSoundSignals : ℕ → List SignalContents → Type 0
 AreSoundSignals end ss = (length ss ≤ SIGNAL_LIMIT) × All (IsSoundSignal end) ss
 
