@@ -29,7 +29,7 @@ number_of_bits bits = fold number_with (Some 0) bits
 
 -- ---- the byte after a START
 
--- the direction that the last bit of a byte gives: at 1 the target sends, at 0 the controller
+-- the direction by its last bit: at 1 the target sends, at 0 the controller
 abbrev pub direction_of : ℕ → Direction
 direction_of n = if n % 2 == 1 then Read else Write
 
