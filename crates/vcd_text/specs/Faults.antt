@@ -29,13 +29,13 @@ use Rattle.vcd_text.specs.Grammar.{word_texts, AllowsAll, state_after}
 
 -- ---- the faults that a word shows, where the words `begun` of an unfinished item are before it
 
--- among the declarations
+-- the fault of a word among the declarations
 pub data DeclarationFault (c : ParseState) (begun : List (List ℕ)) (word : List ℕ) (fault : Fault)
     : Type 0 where
   -- a word that begins no declaration
   no_declaration : begun ≡ [] → IsFalse (begins_declaration word) → fault ≡ UnexpectedWord
       → DeclarationFault c begun word fault
-  -- at its `$end`: a `$timescale` that spells none
+  -- a `$timescale` that spells no timescale, at its `$end`
   no_timescale : (words : List (List ℕ)) → begun ≡ codes "$timescale" ∷ words → word ≡ end_word
       → IsTrue (has_no_end_word words) → timescale_of words ≡ None → fault ≡ BadTimescale
       → DeclarationFault c begun word fault
@@ -57,13 +57,13 @@ pub data DeclarationFault (c : ParseState) (begun : List (List ℕ)) (word : Lis
       → IsTrue (has_no_end_word words) → IsTrue (has_good_size words)
       → declaration_of c words ≡ None → fault ≡ BadVar
       → DeclarationFault c begun word fault
-  -- at its `$end`: a variable that does not agree with the one of its code
+  -- a variable that does not agree with the first one of its code, at its `$end`
   code_mixed : (words : List (List ℕ)) (d : VariableDeclaration)
       → begun ≡ codes "$var" ∷ words → word ≡ end_word → IsTrue (has_no_end_word words)
       → IsTrue (has_good_size words) → declaration_of c words ≡ Some d
       → IsFalse (may_have_code (variable_of c d.code) d) → fault ≡ MixedCode
       → DeclarationFault c begun word fault
-  -- at its `$end`: one signal too many
+  -- one signal too many, at the `$end` of its variable
   no_room : (words : List (List ℕ)) (d : VariableDeclaration)
       → begun ≡ codes "$var" ∷ words → word ≡ end_word → IsTrue (has_no_end_word words)
       → IsTrue (has_good_size words) → declaration_of c words ≡ Some d
@@ -79,7 +79,7 @@ pub data DeclarationFault (c : ParseState) (begun : List (List ℕ)) (word : Lis
 abbrev pub pair_prefixes : List ℕ
 pair_prefixes = vector_prefixes ++ real_or_string_prefixes
 
--- among the changes
+-- the fault of a word among the changes
 pub data ChangeFault (c : ParseState) (begun : List (List ℕ)) (word : List ℕ) (fault : Fault)
     : Type 0 where
   -- a stamp that is no tick
@@ -120,7 +120,7 @@ pub data ChangeFault (c : ParseState) (begun : List (List ℕ)) (word : List ℕ
       → IsFalse (is_binary_digit first) → IsFalse (is_among (codes "#$" ++ pair_prefixes) first)
       → fault ≡ BadChange → ChangeFault c begun word fault
 
--- among the declarations or the changes, by the state
+-- the fault of a word, among the declarations or the changes by the state
 pub data WordFault (c : ParseState) (begun : List (List ℕ)) (word : List ℕ) (fault : Fault)
     : Type 0 where
   among_declarations : IsFalse c.in_body → DeclarationFault c begun word fault

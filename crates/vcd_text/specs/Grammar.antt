@@ -64,7 +64,8 @@ initial_state =
 
 -- ---- variables
 
--- whether a variable is skipped: for its kind, or as it has no bit or too many (the project's own)
+-- whether a variable is skipped: for its kind, or because it has no bit or too many (the project's
+-- own)
 abbrev pub is_skipped : VariableDeclaration → Bool
 is_skipped d = is_skipped_kind d.kind || (d.size == 0 || nat_lt WIDTH_LIMIT d.size)
 
@@ -149,7 +150,7 @@ Allows c (other word words) = IsTrue (is_other c.in_body word) × IsTrue (has_no
 
 -- ---- the effect of an item
 
--- a value change to these letters at the tick, for a kept variable
+-- the value changes that a change to these letters adds: one at the tick, if the variable is kept
 abbrev pub value_changes_after : ParseState → List ℕ → List Bit → Option VariableDeclaration
     → List ValueChange
 value_changes_after c code letters None = []

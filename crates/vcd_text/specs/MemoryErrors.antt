@@ -2,6 +2,6 @@
 use Rattle.vcd_text.specs.declared.fault.ReadError.{ReadError}
 use Rattle.vcd_text.specs.declared.fault.Fault.TheVariants.{NoMemory}
 
--- it has no line
+-- the error, which has no line
 abbrev pub memory_error : ReadError
 memory_error = record { line = 0; fault = NoMemory }

@@ -10,7 +10,7 @@ use Rattle.vcd_text.specs.Faults.{FileFault, IsFrontAnswer}
 -- shows them
 pub data IsRefusal (file : List ℕ) (failed : Bool) (left : Option (List ℕ)) (e : ReadError)
     : Type 0 where
-  -- all of it was read, and it has this fault
+  -- the whole file was read, and has this fault
   has_fault : IsFalse failed → length file ≤ FILE_LIMIT → FileFault file e.line e.fault
       → IsRefusal file failed left e
   -- the file has more bytes than the limit
@@ -24,7 +24,7 @@ pub data IsRefusal (file : List ℕ) (failed : Bool) (left : Option (List ℕ)) 
   -- memory ran out: no line
   no_memory : e ≡ record { line = 0; fault = faults.NoMemory } → IsRefusal file failed left e
 
--- it is refused for this alone: no other fault is possible, but that memory ran out
+-- the file is refused for this alone: no other fault is possible, except that memory ran out
 abbrev pub IsOnlyRefusal : (file : List ℕ) → (failed : Bool) → (left : Option (List ℕ)) → ReadError
     → Type 0
 IsOnlyRefusal file failed left e = (other : ReadError) → IsRefusal file failed left other

@@ -55,7 +55,7 @@ pub struct Loaded {
 /// one or two look-ups, and a copy of its name. A scope after a closed one, with a variable in it,
 /// takes a copy of the open scopes. The variables of one code share one list of changes.
 ///
-/// One read asks for at most 4,096 bytes, and none is made after a sure fault.
+/// One read asks for at most 4,096 bytes, and none is made once a fault is certain.
 ///
 /// Memory: those bytes, the longest word, the log and the capture. The log has 32 bytes for each
 /// change; its 128 groups are freed one by one as their waves are made. In the capture each change

@@ -20,16 +20,16 @@ use Rattle.vcd_decode.specs.I2c.{i2c_annotations}
 
 -- ---- numbers
 
--- the last so many hexadecimal digits of a number, in lower case
+-- the last hexadecimal digits of a number, as many as `count`, in lower case
 abbrev pub hex_digits : ℕ → ℕ → List ℕ
 hex_digits zero n = []
 hex_digits (suc count) n = hex_digits count (n / 16) ++ digit_glyph false (n % 16) ∷ []
 
--- a number of so many hexadecimal digits
+-- a number in `count` hexadecimal digits
 abbrev pub hex_text : ℕ → ℕ → List ℕ
 hex_text count n = codes "0x" ++ hex_digits count n
 
--- how many hexadecimal digits so many bits have
+-- how many hexadecimal digits this many bits have
 abbrev pub nibbles : ℕ → ℕ
 nibbles bits = (bits + 3) / 4
 
@@ -40,7 +40,7 @@ abbrev pub direction_text : Direction → List ℕ
 direction_text Write = codes " write"
 direction_text Read = codes " read"
 
--- of UART and SPI, whose data have so many hexadecimal digits, and of I2C
+-- of UART and SPI, whose data have `digits` hexadecimal digits, and of I2C
 module _ (digits : ℕ) where
   -- the name of an SPI data line and what the line shows of a word; nothing where it is absent
   abbrev pub data_text : List ℕ → LineData → List ℕ

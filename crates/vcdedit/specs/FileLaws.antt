@@ -13,7 +13,7 @@ use Rattle.vcdedit.specs.declared.running.run_on_bytes.RunRefusal.TheVariants.{S
 use Rattle.vcdedit.specs.declared.running.run_on_bytes.RunRefusal.TheVariants.{NoMemory}
 use Rattle.vcdedit.specs.RunOnBytes.{RunGives}
 
--- a file of which only the first ticks are cut out is, read again, the file's waves from there
+-- if only the first ticks are cut out, the written file, read again, has the waves from there on
 abbrev pub CutFileIsReadAgain : Type 0
 CutFileIsReadAgain =
     (file : List ℕ) (c d : Contents) (skipped left_out from k t : ℕ)
@@ -32,7 +32,7 @@ AreSameButForMemory (Err (Capture e)) (Err (Capture other)) = e ≡ other
 AreSameButForMemory (Err ScriptTooLarge) (Err ScriptTooLarge) = Unit {0}
 AreSameButForMemory one other = ⊥
 
--- but for memory, the bytes of two files and the depth have one result
+-- apart from memory, the bytes of two files and the depth have one result
 abbrev pub SameBytesSameResult : Type 0
 SameBytesSameResult =
     (file script : List ℕ) (depth : ℕ) (one other : Result RunTexts RunRefusal)

@@ -24,7 +24,7 @@ program_status (Failed e) = error_status e
 program_status Shown = 0
 program_status (Refused text) = 2
 
--- its text on standard error: none if it did what the words ask for
+-- the program's text on standard error: none if it did what the words ask for
 abbrev pub program_text : Ending → List ℕ
 program_text (Done summary) = []
 program_text (Failed e) = error_line e
@@ -76,7 +76,7 @@ IsEndingOfKind kind (Failed e) = Unit {0}
 IsEndingOfKind kind Shown = asks_for_text kind ≡ true
 IsEndingOfKind kind (Refused text) = asks_for_text kind ≡ false
 
--- words with these faults, among which is to ask for help or the version, have this ending
+-- words with these faults have this ending; asking for help or the version is one of them
 abbrev pub IsEndingWithoutRun : Kinds → Ending → Type 0
 IsEndingWithoutRun kinds ending = (kind : ErrorKind)
     × ((kind ≡ OutOfMemory) ⊎ IsAmong kind kinds) × IsEndingOfKind kind ending

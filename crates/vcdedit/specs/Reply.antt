@@ -35,12 +35,12 @@ abbrev pub edit_reply : Option EditError → LineReply
 edit_reply None = ok_reply
 edit_reply (Some found) = Err (step_error_name (refusals.Edit found))
 
--- the reply to an undo or a redo, where so many edits can be undone or redone: with none a refusal
+-- the reply to an undo or a redo, given how many edits it can take: if none, a refusal
 abbrev pub history_reply : ℕ → StepError → LineReply
 history_reply zero refusal = Err (step_error_name refusal)
 history_reply (suc others) refusal = ok_reply
 
--- the reply to a step on a capture, where so many edits can be undone and so many redone
+-- the reply to a step on a capture, given how many edits can be undone and redone
 abbrev pub step_reply : Step → Contents → (undoable redoable : ℕ) → LineReply
 step_reply (steps.Edit e) c undoable redoable = edit_reply (edit_fault e c)
 step_reply steps.Undo c undoable redoable = history_reply undoable refusals.NothingToUndo

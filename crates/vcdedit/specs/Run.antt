@@ -42,19 +42,19 @@ module _ (c : Contents) (skipped : ℕ) where
 
 -- these lines, from an empty history on, whose depth is `depth` until a line changes it
 module _ (c : Contents) (skipped depth : ℕ) (lines : List (List ℕ)) where
-  -- the history after the first `count` of them
+  -- the history after the first `count` lines
   abbrev pub history_at : ℕ → History
   history_at count = fold (history_after_line c skipped) (initial_history depth) (take count lines)
 
-  -- the capture after them is the replay of the edits then in force
+  -- the capture after the first `count` lines: the replay of the edits then in force
   abbrev pub capture_at : ℕ → Contents
   capture_at count = replay c (history_at count).edits
 
-  -- what is said to each, on the capture after the lines before it
+  -- the answer to each line, on the capture after the lines before it
   abbrev pub answers : List LineReply
   answers = map (λ p. line_answer c skipped (history_at p.0) p.1) (enumerate_from 0 lines)
 
-  -- what is written where they are run: the answers, each with the number of its line, from 1 on;
+  -- what is written if the lines are run: the answers, each with the number of its line, from 1 on;
   -- the text of the last capture; and how many answers are refusals
   abbrev pub outcome : RunOutcome
   outcome = record {
@@ -69,13 +69,13 @@ module _ (c : Contents) (skipped depth : ℕ) (lines : List (List ℕ)) where
   abbrev pub line_at : ℕ → List ℕ
   line_at number = get_or lines (number - 1) []
 
-  -- it asks for this step and is not refused
+  -- the line of this number asks for this step and is not refused
   abbrev pub IsStepAt : ℕ → Step → Type 0
   IsStepAt number s =
       (command_of_line (capture_at (number - 1)) (line_at number) ≡ Ok (commands.Step s))
       × (is_err (line_answer c skipped (history_at (number - 1)) (line_at number)) ≡ false)
 
-  -- laws of every run: none is asked for by `IsRun`, all are proved
+  -- laws of every run: `IsRun` asks for none of them, and all are proved
   pub record RunLaws : Type 0 where
     -- after each line the capture is one that a file can describe
     pub sound : (count : ℕ) → IsSound (capture_at count)
@@ -103,16 +103,16 @@ module _ (c : Contents) (skipped depth : ℕ) (lines : List (List ℕ)) where
         × (capture_at number ≡ capture_at (i - 1))
     -- the output, read again, means the last capture, with nothing left out
     pub read_again : FileMeans outcome.output (capture_at (length lines)) 0
-    -- and it means nothing else
+    -- the output means nothing else
     pub nothing_else : (d : Contents) (count : ℕ) → FileMeans outcome.output d count
         → (d ≡ capture_at (length lines)) × (count ≡ 0)
 
--- what is written where the lines of a script are run on what a capture file means
+-- what is written if the lines of a script are run on what a capture file means
 pub record IsRun (file script : List ℕ) (depth : ℕ) (written : RunOutcome) : Type 0 where
   pub contents : Contents
   pub skipped : ℕ
   pub means : FileMeans file contents skipped
-  -- and nothing else
+  -- the file means nothing else
   pub only : (d : Contents) (count : ℕ) → FileMeans file d count
       → (d ≡ contents) × (count ≡ skipped)
   pub run : written ≡ outcome contents skipped depth (script_lines script)

@@ -24,18 +24,18 @@ use Rattle.vcdedit.specs.Run.{RunOutcome, IsRun}
 
 -- ---- sources and writers
 
--- a device: the bytes to come from a source, or taken by a writer, if shown, before and after;
+-- a device before and after: the bytes to come from a source, or taken by a writer, if shown;
 -- whether it failed
 pub record DeviceEnd : Type 0 where
   pub before : Option (List ℕ)
   pub after : Option (List ℕ)
   pub has_failed : Bool
 
--- it is unchanged: the bytes that it shows are as before, and it has not failed
+-- a device is unchanged: it shows the same bytes as before, and has not failed
 abbrev pub IsUntouched : DeviceEnd → Type 0
 IsUntouched d = (d.after ≡ d.before) × (d.has_failed ≡ false)
 
--- a source did not fail: it was read to its end, and had at most so many bytes
+-- a source did not fail: it was read to its end, and had at most `limit` bytes
 abbrev pub IsRead : (limit : ℕ) → DeviceEnd → Type 0
 IsRead limit r = (r.has_failed ≡ false) × IsAtEnd r.after
     × IfSome r.before (λ bytes. length bytes ≤ limit)
@@ -49,7 +49,7 @@ IsAccepted r = IsRead FILE_LIMIT r
 abbrev pub HasText : DeviceEnd → List ℕ → Type 0
 HasText w text = Appends w.before w.after text
 
--- it took the first bytes of a text, as many as this
+-- a writer took the first `count` bytes of a text
 abbrev pub HasFront : DeviceEnd → (count : ℕ) → List ℕ → Type 0
 HasFront w count text = (count ≤ length text) × HasText w (take count text)
 
@@ -124,7 +124,7 @@ module _ (depth : ℕ) (capture script : DeviceEnd) where
     RunEnds (Err (NoMemory (suc before))) = IsAccepted capture × IsRead SCRIPT_LIMIT script
         × IfSome output IsUntouched × ForRun (λ written.
         (before < length written.replies) × HasText replies (concat (take before written.replies)))
-    -- the writer of the replies failed: it took exactly so many bytes of them
+    -- the writer of the replies failed: it took exactly `count` bytes of them
     RunEnds (Err (ReplyFault count)) = IsAccepted capture × IsRead SCRIPT_LIMIT script
         × (replies.has_failed ≡ true) × IfSome output IsUntouched
         × ForRun (λ written. HasFront replies count (concat written.replies))
@@ -133,8 +133,8 @@ module _ (depth : ℕ) (capture script : DeviceEnd) where
         × (replies.has_failed ≡ false)
         × IsSomeAnd output (λ out. Keeps out.before out.after × (out.has_failed ≡ false))
         × ForRun (λ written. HasText replies (concat written.replies))
-    -- the writer of the output failed: it took exactly so many bytes of the output, if a `u128`
-    -- counts these, and all replies are written
+    -- the writer of the output failed: it took exactly `count` bytes of the output, if a `u128` can
+    -- count these; all replies are written
     RunEnds (Err (Write (write_errors.WriteFault count))) = IsAccepted capture
         × IsRead SCRIPT_LIMIT script × (replies.has_failed ≡ false)
         × IsSomeAnd output (λ out. (out.has_failed ≡ true)

@@ -40,6 +40,6 @@ distance_of_word (c ∷ digits) =
     if c == 45 then distance_back digits
     else (if c == 43 then distance_forth digits else distance_forth (c ∷ digits))
 
--- the value of this width that a word writes: 1 to so many binary digits, extended on the left
+-- the value of `width` bits that a word writes: 1 to `width` binary digits, extended on the left
 abbrev pub value_of_word : ℕ → List ℕ → Result (List Bit) LineError
 value_of_word width word = ok_or (value_of_digits width word) BadValueText

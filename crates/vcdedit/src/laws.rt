@@ -8,8 +8,8 @@ pub fn same_bytes_same_result()
     ensures { SameBytesSameResult }
 {}
 
-/// A file of which only the first ticks are cut out is, written and read again, the file's waves
-/// from there.
+/// If only the first ticks of a file are cut out, the written file, read again, has the file's
+/// waves from there on.
 pub fn cut_file_is_read_again()
     ensures { CutFileIsReadAgain }
 {}

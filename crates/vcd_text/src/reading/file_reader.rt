@@ -145,7 +145,7 @@ fn check_complete(parser: &Parser, line: u64) -> Result<(), ReadError>
     Ok(())
 }
 
-/// The number of bytes up to and with the last white space. The first `from` bytes have none.
+/// The number of bytes up to and including the last white space. The first `from` bytes have none.
 fn complete_words_len(bytes: &[u8], from: usize) -> usize
     requires within { from ≤ length bytes.now }
     requires no_space { list_all (λ b. not (white b)) (take from bytes.now) ≡ true }

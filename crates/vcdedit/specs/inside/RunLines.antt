@@ -11,8 +11,8 @@ use Rattle.vcdedit.specs.inside.RunMachines.{machine_after_lines}
 use Rattle.vcdedit.specs.inside.RunMachines.{refusal_count}
 use Rattle.vcdedit.specs.inside.RunMachines.{line_replies}
 
--- the line of this number changes one machine into the other; its reply of so many bytes is
--- written, and so many lines are refused
+-- the line of this number changes one machine into the other; its reply of `written` bytes is
+-- written, and `refused` lines are refused
 abbrev pub RunsLine : (skipped number : ℕ) → List ℕ → Machine → Machine → (refused written : ℕ)
     → (before after : Option (List ℕ)) → Type 0
 RunsLine skipped number line old new refused written before after =
@@ -21,7 +21,7 @@ RunsLine skipped number line old new refused written before after =
     × Appends before after (reply_on skipped number line old)
     × (written ≡ length (reply_on skipped number line old))
 
--- the lines change one machine into the other; these are their replies, and so many are refused
+-- the lines change one machine into the other; these are their replies, and `count` are refused
 pub record LinesGive (skipped : ℕ) (lines : List (List ℕ)) (old new : Machine)
     (texts : List (List ℕ)) (count : ℕ)
     : Type 0 where

@@ -7,7 +7,7 @@ use Rattle.vcd_text.specs.Text.{text}
 use Rattle.vcdedit.specs.Script.{script_lines}
 use Rattle.vcdedit.specs.Run.{outcome}
 
--- the script on the capture file gives replies of which `took` holds, so many refused lines, and
+-- the script on the capture file gives replies of which `took` holds, `count` refused lines, and
 -- this capture
 pub record ScriptGives (file script : List ℕ) (depth count : ℕ) (took : List ℕ → Type 0)
     (now : Contents) : Type 0 where

@@ -18,7 +18,7 @@ use vcd_edit::EditError;
 use vcd_journal::{Session, Step, StepError};
 
 /// Does what the line of this number asks for, on the current capture, and gives the reply.
-/// `skipped`: how many variables of the file were left out.
+/// `skipped` is how many variables of the file were left out.
 ///
 /// The only error is that memory runs out. The session is then as before, since the reply is made
 /// before the step.

@@ -80,7 +80,7 @@ pub fn i2c_text(alloc: Global, capture: &Capture, scl: usize, sda: usize) -> Mem
     annotations_to_bytes(alloc, b"i2c", 2, annotations.as_slice())
 }
 
-/// How many hexadecimal digits so many bits have.
+/// How many hexadecimal digits this many bits have.
 fn nibbles(bits: u64) -> u64
     requires { bits ≤ 64 }
     ensures { result ≡ spec.nibbles bits }

@@ -14,7 +14,7 @@ use crate::replies::appending::{append_bytes, append_decimal, append_number};
 use std::alloc::Global;
 use vcd_core::{Capture, Signal, Timescale, Word};
 
-/// The lines of `list` on a capture. `skipped`: how many variables of the file were left out. The
+/// The lines of `list` on a capture. `skipped` is how many variables of the file were left out. The
 /// cost is that of the names; no wave is read.
 pub fn listing_text(alloc: Global, capture: &Capture, skipped: u64) -> MemoryResult<Vec<u8>>
     ensures { IfOk result (λ text. text.items ≡

@@ -20,10 +20,10 @@ use vcd_journal::{DEPTH_LIMIT, Session};
 use vcd_text::{read, write};
 
 /// Reads the capture, then the whole script, runs its lines in order and flushes the replies. Then
-/// it writes the output if there is one, also after refused lines. `depth` is how many edits can be
+/// it writes the output if there is one, even after refused lines. `depth` is how many edits can be
 /// undone.
 ///
-/// The first error ends the run, and nothing later is begun, but that the replies are flushed where
+/// The first error ends the run, and nothing later is begun, except that the replies are flushed if
 /// memory ran out at a line.
 pub fn run<R: Source, S: Source, P: Sink, W: Sink>(
     alloc: Global,
@@ -61,8 +61,8 @@ pub fn run<R: Source, S: Source, P: Sink, W: Sink>(
     }
 }
 
-/// Runs everything except the output. Gives the session after the lines of the script, and how many
-/// were refused.
+/// Runs everything except the output. Returns the session after the lines of the script, and how
+/// many were refused.
 fn run_script<R: Source, S: Source, P: Sink>(
     alloc: Global,
     capture_reader: &mut R,

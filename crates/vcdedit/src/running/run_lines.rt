@@ -14,8 +14,8 @@ use vcd_core::{Sink, write_all};
 use vcd_journal::Session;
 
 /// Runs the lines of a script, in order, each on the current capture. The reply to a line is
-/// written before the next line is read. Then the replies are flushed. Gives how many lines were
-/// refused. `skipped`: how many variables of the file were left out.
+/// written before the next line is read. Then the replies are flushed. Returns how many lines were
+/// refused. `skipped` is how many variables of the file were left out.
 ///
 /// The first error ends it: memory is refused at a line, after which the replies are flushed too,
 /// or the writer of the replies fails. It holds the reply of one line at a time.
@@ -94,8 +94,8 @@ fn run_line<P: Sink>(
     }
 }
 
-/// Flushes the replies where memory ran out at a line. If that fails, the run has ended for memory
-/// all the same.
+/// Flushes the replies after memory ran out at a line. If that fails, the run still ends as out of
+/// memory.
 fn flush_last<P: Sink>(replies: &mut P)
     requires { P.has_failed replies.old ≡ false }
     ensures bytes { Keeps (P.taken replies.old) (P.taken replies.new) }

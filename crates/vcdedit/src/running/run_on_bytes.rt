@@ -25,7 +25,7 @@ pub struct RunTexts {
     pub refused: u64,
 }
 
-/// Why a run over bytes did not reach its end. Its devices can fail for memory alone.
+/// Why a run over bytes did not reach its end. Its devices fail only if memory runs out.
 #[derive(Drop)]
 pub enum RunRefusal {
     /// The capture has this fault, at its line, or is larger than its limit.
@@ -33,7 +33,7 @@ pub enum RunRefusal {
     /// The script is larger than its limit.
     ScriptTooLarge,
     /// Memory ran out. At a line of the script, counted from 1, the replies are those to the lines
-    /// before it. At no line (0) they are all replies if it ran out for the output, else none.
+    /// before it. At line 0 they are all replies if memory ran out for the output, else none.
     NoMemory { line: u64, replies: Vec<u8> },
 }
 

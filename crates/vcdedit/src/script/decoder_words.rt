@@ -12,7 +12,7 @@ use crate::script::numbers::number_of_word;
 use vcd_core::Capture;
 use vcd_decode::{BitOrder, Parity, Spi, Uart};
 
-/// The two numbers of the ratio that a word writes: `N/D`, or `N`. The second is then 1.
+/// The two numbers of the ratio that a word writes: `N/D`, or `N` with 1 as the second.
 pub fn ratio_of_word(word: &[u8]) -> Result<(u64, u64), LineError>
     ensures { result ≡ spec.ratio_of_word word.now }
 {

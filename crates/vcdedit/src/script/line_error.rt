@@ -36,7 +36,7 @@ pub enum LineError {
 }
 
 impl LineError {
-    /// The name that the tool prints. A fault of a setup has its own name.
+    /// The fault's name, as it is printed. A fault of a setup has its own name.
     pub fn name(&self) -> &'static str
         ensures { result.now ≡ line_error_name self.now }
     {

@@ -30,7 +30,7 @@ pub enum Ending {
 /// Memory ran out before the run began.
 pub const NO_MEMORY: RunError = RunError::NoMemory { line: 0 };
 
-/// Writes the text of the ending to standard error, and gives the exit status. A fault of the
+/// Writes the text of the ending to standard error, and returns the exit status. A fault of the
 /// writer is ignored.
 pub fn report_ending<E: Sink>(ending: Ending, errors: &mut E) -> u8
     requires { E.has_failed errors.old ≡ false }

@@ -60,8 +60,8 @@ pub fn open_script<R: Files + Input>(
     }
 }
 
-/// A read of no byte fails if standard input is closed. Without it, the next file that is opened
-/// would take its place.
+/// Opens standard input by a read of no byte, which fails if it is closed. Else the next file that
+/// is opened would take its place.
 fn open_standard<S: Read + Drop, F>(mut reader: S) -> io::Result<Origin<S, F>>
     ensures { IfOk result IsStandard }
 {

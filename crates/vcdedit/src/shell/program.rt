@@ -39,10 +39,10 @@ const NOT_OPENED: RunError = RunError::Capture(ReadError {
     fault: Fault::ReadFault,
 });
 
-/// Runs the program on the words of its command line, and gives its exit status. The text on why it
-/// failed goes to `errors`.
+/// Runs the program on the words of its command line, and gives its exit status. If it fails, the
+/// text that says why goes to `errors`.
 ///
-/// The words are those of `std::env::args`, if they are had: the first is the program's name.
+/// The words are the result of `std::env::args`: the first is the program's name.
 pub fn status_of_program<R: Runtime + AllocGlobal, E: Sink>(
     rt: &R,
     words: io::Result<Args>,
@@ -64,7 +64,7 @@ pub fn status_of_program<R: Runtime + AllocGlobal, E: Sink>(
     }
 }
 
-/// The ending where the words are not had: memory ran out, or one of them is no text.
+/// The ending if the words could not be read: memory ran out, or one of them is no text.
 fn ending_without_words<R: Runtime + AllocGlobal>(rt: &R, error: &io::Error) -> Ending
     ensures { IsEndingOfKind ValueValidation result }
 {
@@ -152,8 +152,8 @@ fn run_inputs<R: Runtime + AllocGlobal, C: Source, S: Source>(
 }
 
 /// Runs with a buffer for the replies. What it holds at the end is sent to the writer after it,
-/// also if memory ran out. Gives how the run ended, and that writer: if it failed, it is gone, and
-/// only an error after the run is kept.
+/// even if memory ran out. Returns how the run ended, and that writer: if it failed, it is gone,
+/// and only an error after the run is kept.
 #[tactic(auto, using(crate::proofs::RunParts::replies_sent))]
 fn run_with_reply_buffer<R: Runtime + AllocGlobal, C: Source, S: Source, W: Write + Drop>(
     rt: &R,

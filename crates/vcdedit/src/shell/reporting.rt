@@ -10,8 +10,8 @@ use itoa::Buffer;
 use vcd_core::{ShortWrite, Sink, write_all};
 use vcd_text::{Fault, ReadError, WriteError};
 
-/// Writes the line on what ended a run, flushes the writer, and gives the exit status. A fault of
-/// the writer is ignored. It takes no memory.
+/// Writes the line that says what ended a run, flushes the writer, and returns the exit status. A
+/// fault of the writer is ignored. It takes no memory.
 pub fn report<W: Sink>(error: &RunError, writer: &mut W) -> u8
     requires { W.has_failed writer.old ≡ false }
     ensures most { result ≤ 5 }
@@ -25,8 +25,8 @@ pub fn report<W: Sink>(error: &RunError, writer: &mut W) -> u8
     error_status(error)
 }
 
-/// Writes the text on why the words of the command line are refused, and gives the exit status. A
-/// fault of the writer is ignored. It takes no memory.
+/// Writes the text that says why the words of the command line are refused, and returns the exit
+/// status. A fault of the writer is ignored. It takes no memory.
 pub fn report_refusal<W: Sink>(text: &str, writer: &mut W) -> u8
     requires { W.has_failed writer.old ≡ false }
     ensures status { result ≡ 2 }
