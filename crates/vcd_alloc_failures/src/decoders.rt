@@ -17,7 +17,7 @@ impl From<SetupError> for Failure {
     }
 }
 
-/// `uart`, `spi` and `i2c`, by their names.
+/// Makes the call `uart`, `spi` or `i2c`, by its name.
 pub fn call_decoder<R: Runtime + AllocGlobal>(rt: &R, call: &Call) -> Result<(), Failure> {
     let capture = capture_of_text(rt.alloc(), call.text)?;
     if call.makes {
@@ -73,7 +73,7 @@ fn scalar_wave(capture: &Capture, signal: usize) -> Result<&Wave, Failure>
     Ok(wave)
 }
 
-/// The outcome of the call, and the annotations if there was memory for them.
+/// Prints the outcome of the call, and the annotations if there was memory for them.
 fn print_found<R: Runtime>(
     rt: &R,
     found: Result<Vec<Annotation>, NoMemory>,
@@ -87,7 +87,7 @@ fn print_found<R: Runtime>(
     }
 }
 
-/// Each annotation on a line of its own.
+/// Prints each annotation on a line of its own.
 fn print_annotations<R: Runtime>(rt: &R, annotations: &[Annotation]) -> Result<(), Failure> {
     for annotation in annotations {
         println!(rt; "{annotation:?}")?;

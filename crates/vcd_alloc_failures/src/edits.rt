@@ -39,7 +39,7 @@ pub fn edit_named<'a>(name: &'a str) -> Option<Edit<'a>> {
     }
 }
 
-/// `apply`.
+/// Makes the call `apply`.
 pub fn call_apply<R: Runtime + AllocGlobal>(rt: &R, call: &Call) -> Result<(), Failure> {
     let Some(edit) = edit_named(call.argument) else {
         return Err(Failure);
@@ -72,8 +72,9 @@ fn make_edit<R: Runtime + AllocGlobal>(
     }
 }
 
-/// `revert` of the edit's record, on a capture like the edited one that was read again. Its waves
-/// have only the room that reading gives; those of the edited one have the room that they need.
+/// Makes the call `revert` of the edit's record, on a capture like the edited one that was read
+/// again. Its waves have only the room that reading gives; those of the edited one have the room
+/// that they need.
 pub fn call_revert<R: Runtime + AllocGlobal>(rt: &R, call: &Call) -> Result<(), Failure> {
     let Some(edit) = edit_named(call.argument) else {
         return Err(Failure);
@@ -126,8 +127,8 @@ fn make_revert<R: Runtime + AllocGlobal>(
     }
 }
 
-/// `apply`, and `revert` if `undo` is asked for. The last record is then dropped between the two
-/// lines, so that what it holds can be counted.
+/// Makes the call `apply`, and `revert` if `undo` is asked for. The last record is then dropped
+/// between the two lines, so that what it holds can be counted.
 pub fn call_held<R: Runtime + AllocGlobal>(rt: &R, call: &Call) -> Result<(), Failure> {
     let Some(edit) = edit_named(call.argument) else {
         return Err(Failure);
@@ -153,7 +154,7 @@ fn drop_record<R: Runtime>(rt: &R, record: Record) -> Result<(), Failure> {
     allow(rt, DONE)
 }
 
-/// A capture, how many changes a record on it stores, and the capture after the record.
+/// Prints a capture, how many changes a record on it stores, and the capture after the record.
 fn print_record<R: Runtime + AllocGlobal>(
     rt: &R,
     capture: &mut Capture,

@@ -30,8 +30,8 @@ pub fn capture_of_text(alloc: Global, text: &[u8]) -> Result<Capture, Failure>
     }
 }
 
-/// `read`, and the line of a fault. Prints whether the source has failed, and whether the rest ends
-/// the text.
+/// Makes the call `read`. Prints the line of a fault, whether the source has failed, and whether
+/// the rest ends the text.
 pub fn call_read<R: Runtime + AllocGlobal>(rt: &R, call: &Call) -> Result<(), Failure> {
     let mut source = FromRead::new(call.text);
     if call.makes {
@@ -50,7 +50,7 @@ pub fn call_read<R: Runtime + AllocGlobal>(rt: &R, call: &Call) -> Result<(), Fa
     Ok(())
 }
 
-/// `write`, into memory that was taken before.
+/// Makes the call `write`, into memory that was taken before.
 pub fn call_write<R: Runtime + AllocGlobal>(rt: &R, call: &Call) -> Result<(), Failure> {
     let capture = capture_of_text(rt.alloc(), call.text)?;
     let mut sink = ToWrite::new(Vec::with_capacity(rt.alloc(), ROOM)?);
@@ -66,7 +66,7 @@ pub fn call_write<R: Runtime + AllocGlobal>(rt: &R, call: &Call) -> Result<(), F
     print_capture(rt, &capture)
 }
 
-/// `write` to a sink that counts its calls. No memory is refused.
+/// Makes the call `write` to a sink that counts its calls. No memory is refused.
 pub fn count_write<R: Runtime + AllocGlobal>(rt: &R, call: &Call) -> Result<(), Failure> {
     let capture = capture_of_text(rt.alloc(), call.text)?;
     let mut sink = CountingSink::new();
@@ -81,8 +81,8 @@ pub fn count_write<R: Runtime + AllocGlobal>(rt: &R, call: &Call) -> Result<(), 
     Ok(())
 }
 
-/// A capture's text read by reads of one byte: how many gave a byte, and whether the source has
-/// failed.
+/// Reads a capture's text by reads of one byte. Prints how many gave a byte, and whether the source
+/// has failed.
 pub fn read_bytes<R: Runtime>(rt: &R, call: &Call) -> Result<(), Failure> {
     let mut source = FromRead::new(call.text);
     let count = count_bytes(&mut source);

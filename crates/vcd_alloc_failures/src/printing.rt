@@ -40,7 +40,7 @@ impl From<NoMemory> for Failure {
     }
 }
 
-/// Memory may be refused from here on.
+/// Prints that memory may be refused from here on.
 pub fn refuse<R: Runtime>(rt: &R) -> Result<(), Failure> {
     io::writer(rt).write_all(b"refuse\n")?;
     Ok(())
@@ -49,14 +49,15 @@ pub fn refuse<R: Runtime>(rt: &R) -> Result<(), Failure> {
 /// The outcome of a call that was not refused.
 pub const DONE: &str = "done";
 
-/// Memory is refused no more; the call had this outcome: `DONE`, or the name of a fault.
+/// Prints that memory is refused no more, and the outcome of the call: `DONE`, or the name of a
+/// fault.
 pub fn allow<R: Runtime>(rt: &R, outcome: &str) -> Result<(), Failure> {
     io::writer(rt).write_all(b"allow\n")?;
     println!(rt; "{outcome}")?;
     Ok(())
 }
 
-/// Each change of a wave.
+/// Prints each change of a wave.
 pub fn print_wave<R: Runtime>(rt: &R, wave: &Wave) -> Result<(), Failure> {
     for change in wave.changes() {
         println!(rt; "{} {:?}", change.tick, change.value)?;
@@ -64,7 +65,7 @@ pub fn print_wave<R: Runtime>(rt: &R, wave: &Wave) -> Result<(), Failure> {
     Ok(())
 }
 
-/// The whole capture as text.
+/// Prints the whole capture as text.
 pub fn print_capture<R: Runtime + AllocGlobal>(rt: &R, capture: &Capture) -> Result<(), Failure>
     requires { IsSound (contents capture.now) }
 {
@@ -74,7 +75,7 @@ pub fn print_capture<R: Runtime + AllocGlobal>(rt: &R, capture: &Capture) -> Res
     }
 }
 
-/// The whole session: the current capture, those that undo and redo reach, and the depth.
+/// Prints the whole session: the current capture, those that undo and redo reach, and the depth.
 pub fn print_session<R: Runtime + AllocGlobal>(
     rt: &R,
     session: &mut Session,
@@ -85,13 +86,13 @@ pub fn print_session<R: Runtime + AllocGlobal>(
     print_depth(rt, session)
 }
 
-/// How many steps can be undone and redone, and the current capture.
+/// Prints how many steps can be undone and redone, and the current capture.
 fn print_state<R: Runtime + AllocGlobal>(rt: &R, session: &Session) -> Result<(), Failure> {
     println!(rt; "{} back, {} forth", session.undoable(), session.redoable())?;
     print_capture(rt, session.capture())
 }
 
-/// The captures after each of several steps, up to the first refusal.
+/// Prints the capture after each of several steps, up to the first refusal.
 fn print_reached<R: Runtime + AllocGlobal>(
     rt: &R,
     session: &mut Session,
@@ -106,7 +107,7 @@ fn print_reached<R: Runtime + AllocGlobal>(
     Ok(())
 }
 
-/// The depth, counted with many steps.
+/// Prints the depth, counted with many steps.
 fn print_depth<R: Runtime>(rt: &R, session: &mut Session) -> Result<(), Failure> {
     for _ in 0..=DEPTH_LIMIT {
         if session.apply(&Edit::Invert { signal: 0 }).is_err() {

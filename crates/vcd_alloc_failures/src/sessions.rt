@@ -15,7 +15,7 @@ use vcd_journal::{Answer, DEPTH_LIMIT, Session, Step, run};
 /// How many steps a session holds unless another depth is asked for.
 const DEPTH: u64 = 5;
 
-/// `Session::new`.
+/// Makes the call `Session::new`.
 pub fn call_new<R: Runtime + AllocGlobal>(rt: &R, call: &Call) -> Result<(), Failure> {
     let capture = capture_of_text(rt.alloc(), call.text)?;
     if !call.makes {
@@ -34,8 +34,8 @@ pub fn call_new<R: Runtime + AllocGlobal>(rt: &R, call: &Call) -> Result<(), Fai
     }
 }
 
-/// A step by its name, after the steps that `before` names: `Session::apply`, `undo`, `redo`, and
-/// `set_depth`, which begins at a depth of 1.
+/// Makes a step by its name, after the steps that `before` names: `Session::apply`, `undo`, `redo`,
+/// and `set_depth`, which begins at a depth of 1.
 pub fn call_step<R: Runtime + AllocGlobal>(rt: &R, call: &Call) -> Result<(), Failure> {
     let depth = if call.argument == "depth" { 1 } else { DEPTH };
     let mut session = new_session(rt.alloc(), call.text, depth)?;
@@ -91,8 +91,8 @@ fn new_session(alloc: Global, text: &[u8], depth: u64) -> Result<Session, Failur
     }
 }
 
-/// `run` of steps that do not depend on those before them. If the call is omitted, only the step at
-/// the position in `argument` is.
+/// Makes the call `run` of steps that do not depend on those before them. If the call is omitted,
+/// only the step at the position in `argument` is left out.
 pub fn call_run<R: Runtime + AllocGlobal>(rt: &R, call: &Call) -> Result<(), Failure> {
     let steps = [
         Step::Edit(Edit::Rename {
@@ -142,7 +142,7 @@ fn run_without(
     Ok(())
 }
 
-/// The outcome of each step, on a line of its own: `DONE`, or the name of a fault.
+/// Prints the outcome of each step, on a line of its own: `DONE`, or the name of a fault.
 fn print_answers<R: Runtime>(rt: &R, answers: &[Answer]) -> Result<(), Failure> {
     for answer in answers {
         let outcome = match answer {

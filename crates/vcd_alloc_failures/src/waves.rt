@@ -8,7 +8,7 @@ use std::alloc::Global;
 use std::rt::Runtime;
 use vcd_core::{Bit, LetterBlock, NoMemory, Value, Wave};
 
-/// For how many changes room is made.
+/// How many changes room is made for.
 const MORE: usize = 9;
 
 /// A wave of one change, at tick 0, without room for another.
@@ -22,8 +22,8 @@ fn full_wave(alloc: Global) -> Result<Wave, NoMemory>
     Ok(wave)
 }
 
-/// `Wave::push`, `push_block`, `share`, `copy`, `reserve` and `reserve_exact`, by their names. With
-/// the word `shared` another wave shares the list, and is printed, too.
+/// Makes the call `Wave::push`, `push_block`, `share`, `copy`, `reserve` or `reserve_exact`, by its
+/// name. With the word `shared` another wave shares the list, and is printed, too.
 pub fn call_on_wave<R: Runtime + AllocGlobal>(rt: &R, call: &Call) -> Result<(), Failure> {
     let mut wave = full_wave(rt.alloc())?;
     if call.argument == "shared" {
@@ -53,7 +53,8 @@ fn make_growth<R: Runtime + AllocGlobal>(
     print_wave(rt, wave)
 }
 
-/// The call of a name: `push`, `push_block`, `share`, `copy`, `reserve`, else `reserve_exact`.
+/// Makes the call of a name: `push`, `push_block`, `share`, `copy`, `reserve`, else
+/// `reserve_exact`.
 fn grow(wave: &mut Wave, name: &str) -> Result<(), NoMemory>
     requires width { wave.old.width ≡ 1 }
     requires early { All (λ c. c.tick ≤ 0) wave.old.changes }
@@ -68,13 +69,13 @@ fn grow(wave: &mut Wave, name: &str) -> Result<(), NoMemory>
     }
 }
 
-/// `Wave::copy`; the copy is dropped at once.
+/// Makes the call `Wave::copy`; the copy is dropped at once.
 fn copy_and_drop(wave: &Wave) -> Result<(), NoMemory> {
     wave.copy()?;
     Ok(())
 }
 
-/// `Wave::share`; the other wave is dropped at once.
+/// Makes the call `Wave::share`; the other wave is dropped at once.
 fn share_and_drop(wave: &mut Wave) -> Result<(), NoMemory> {
     wave.share()?;
     Ok(())

@@ -7,8 +7,8 @@ use std::alloc::Global;
 use std::rt::Runtime;
 use vcd_core::{NoMemory, ScopeName, ScopePath, Signal, copy_scopes, copy_word, copy_words};
 
-/// `copy_word`, `copy_words`, `copy_scopes`, and `ScopePath::share`, `front` and `shared`, of the
-/// first signal of the capture, which is printed after it.
+/// Makes the call `copy_word`, `copy_words`, `copy_scopes`, or `ScopePath::share`, `front` or
+/// `shared`, of the first signal of the capture, which is printed after it.
 pub fn call_on_words<R: Runtime + AllocGlobal>(rt: &R, call: &Call) -> Result<(), Failure> {
     let capture = capture_of_text(rt.alloc(), call.text)?;
     let Some(signal) = capture.signals().first() else {
@@ -25,8 +25,8 @@ pub fn call_on_words<R: Runtime + AllocGlobal>(rt: &R, call: &Call) -> Result<()
     print_capture(rt, &capture)
 }
 
-/// The call of a name; what it gives is dropped. `scopes` are those of the signal, in a list of
-/// their own.
+/// Makes the call of a name; what it gives is dropped. `scopes` are those of the signal, in a list
+/// of their own.
 fn copy_named(
     alloc: Global,
     signal: &Signal,

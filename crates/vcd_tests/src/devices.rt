@@ -60,7 +60,8 @@ fn memory_gives_its_bytes_and_ends(rt: HostRuntime) {
     check_memory(&rt, &mut FromBytes::new(b"#10 1!"));
 }
 
-/// That an end is no fault is the adapter's own word, in no clause: also where one byte has room.
+/// No clause says that an end is no fault. The adapter says so itself, even where one byte has
+/// room.
 #[test]
 fn the_end_where_one_byte_has_room(rt: HostRuntime) {
     let mut source = source_of(FakeReader::new(b"1", 4));
@@ -83,7 +84,7 @@ fn an_interrupted_read_is_the_end(rt: HostRuntime) {
     assert!(rt; reader.calls == 3, "no read after the failure");
 }
 
-/// Stops unless a write takes so many bytes, or fails.
+/// Stops unless the result of a write is `wanted`.
 fn check_write(
     rt: &impl Abort,
     sink: &mut impl Sink,
@@ -118,7 +119,7 @@ fn memory_keeps_what_it_takes(rt: HostRuntime) {
     assert!(rt; sink.into_bytes().as_slice() == b"#10\n".as_slice());
 }
 
-/// A sink into a writer that takes so many bytes a call, one of its calls being interrupted.
+/// A sink into a writer that takes `piece` bytes a call. One of its calls is interrupted.
 fn sink_with_interruption(alloc: Global, piece: usize, fault_at: usize) -> ToWrite<FakeWriter> {
     let mut writer = FakeWriter::new(alloc, piece);
     writer.fault_at = fault_at;

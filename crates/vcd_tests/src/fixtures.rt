@@ -71,7 +71,7 @@ pub fn file_of(alloc: Global, row: &str) -> Result<Vec<u8>, Fail> {
     Ok(file)
 }
 
-/// Appends a text so many times.
+/// Appends a text `count` times.
 pub fn append_copies(file: &mut Vec<u8>, text: &[u8], count: usize) -> Result<(), Fail> {
     for _ in 0..count {
         file.extend_from_slice(text)?;
@@ -151,7 +151,7 @@ fn append_tick(alloc: Global, text: &mut Vec<u8>, tick: u64, signals: u8) -> Res
     append_values(text, signals, letter)
 }
 
-/// Appends the declarations of so many signals, fewer than there are codes of one byte.
+/// Appends the declarations of this many signals, fewer than there are codes of one byte.
 fn append_declarations(text: &mut Vec<u8>, signals: u8) -> Result<(), Fail> {
     for k in 0..signals {
         text.extend_from_slice(b"$var wire 1 ")?;

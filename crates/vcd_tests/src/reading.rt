@@ -63,7 +63,7 @@ fn skipped_and_text(alloc: Global, reader: FakeReader) -> Result<(u64, Vec<u8>),
     Ok((loaded.skipped, text_of(alloc, &loaded.capture)?))
 }
 
-/// Stops unless a file that is read in such pieces, and written, is `text`, and so many variables
+/// Stops unless a file that is read in such pieces, and written, is `text`, and `skipped` variables
 /// are skipped.
 fn check_rewritten(
     rt: &impl Abort,

@@ -41,7 +41,7 @@ fn check_written(
     Ok(())
 }
 
-/// Stops unless a writer holds so many bytes of the text, and was asked to flush so often.
+/// Stops unless a writer holds `count` bytes of the text, and was asked to flush `flushes` times.
 fn check_writer(rt: &impl Abort, writer: &FakeWriter, count: usize, flushes: usize) {
     assert!(rt; TEXT.as_bytes().get(..count) == Some(writer.held.as_slice()));
     assert!(rt; writer.flushes == flushes);
@@ -54,7 +54,7 @@ fn flushed_once(rt: HostRuntime) -> Result<(), Fail> {
     check_written(&rt, rt.alloc(), writer, Ok(()), 130, 1)
 }
 
-/// Stops unless a writer with room for so many bytes takes just these, and the fault has their
+/// Stops unless a writer with room for `room` bytes takes just these, and the fault has their
 /// count.
 fn check_room(rt: &impl Abort, alloc: Global, piece: usize, room: usize) -> Result<(), Fail> {
     let writer = FakeWriter::with_room(alloc, piece, room, false);

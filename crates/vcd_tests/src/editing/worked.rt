@@ -159,7 +159,7 @@ fn outcome_of<'a>(numbers: &str, capture: &'a str) -> Result<Outcome<'a>, Fail> 
     })
 }
 
-/// Stops unless a record fits a capture and stores at most so many changes.
+/// Stops unless a record fits a capture and stores at most `most` changes.
 fn check_record(rt: &impl Abort, capture: &Capture, record: &Record, most: u64) {
     assert!(rt; record.fits(capture));
     assert!(rt; record.stored() <= most as u128);

@@ -51,7 +51,7 @@ const WORDS_AT_THE_END: &str = "\
 4088 12288
 3 20000";
 
-/// A comment with a word of so many bytes after so many line feeds, and what follows the word.
+/// A comment with a word of `bytes` bytes after `feeds` line feeds, and what follows the word.
 fn file_with_word(
     alloc: Global,
     feeds: usize,

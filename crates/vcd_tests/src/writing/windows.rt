@@ -9,7 +9,7 @@ use std::test::Fail;
 use vcd_core::END_LIMIT;
 use vcd_text::write;
 
-/// Stops unless a capture of so many signals that all change at each tick is written as it was
+/// Stops unless a capture of `signals` signals that all change at each tick is written as it was
 /// read.
 fn check_alternating(
     rt: &impl Abort,
