@@ -18,8 +18,8 @@ pub struct BitEdge {
     pub at: [Option<Bit>; 4],
 }
 
-/// The ticks at which at least one of up to four waves of one bit changes, in rising order, each
-/// with the bits just before it and at it.
+/// The ticks at which at least one of up to four waves of one bit changes, in rising order. Each
+/// has the bits just before it and at it.
 ///
 /// It is [`Edges`](crate::Edges) with a letter in place of a whole value. Contracts see the list of
 /// the edges to come. Each edge takes a constant number of steps and no memory.

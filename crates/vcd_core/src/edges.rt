@@ -18,7 +18,7 @@ pub struct Edge {
     pub at: [Option<Value>; 4],
 }
 
-/// The ticks at which at least one of up to four waves changes, in rising order, each with the
+/// The ticks at which at least one of up to four waves changes, in rising order. Each has the
 /// values just before it and at it.
 ///
 /// Contracts see the list of the edges to come. Each edge takes a constant number of steps and no

@@ -3,18 +3,18 @@
 ghost use Rattle.vcd_decode.specs.Laws.{UartFramesAreFound, SpiWordsAreFound, SpiPartIsFound};
 ghost use Rattle.vcd_decode.specs.Laws.{I2cMessagesAreFound};
 
-/// A line that idles at 1 and sends frames decodes to one annotation for each frame, from its start
-/// to the sample of its last bit. It is a `byte` with the word that was sent, a `parity-error` if
-/// the parity bit is wrong, a `frame-error` if a stop bit is 0. This holds for every setup and any
-/// idle time between frames, or none.
+/// A line that idles at 1 and sends frames decodes to one annotation for each frame. It goes from
+/// the frame's start to the sample of its last bit. Its kind is `byte` with the word that was sent,
+/// `parity-error` if the parity bit is wrong, or `frame-error` if a stop bit is 0. This holds for
+/// every setup and any idle time between frames, or none.
 pub fn uart_frames_are_found()
     ensures { UartFramesAreFound }
 {}
 
 /// The lines of a serial peripheral interface that send words while the chip is selected decode to
-/// these words, from the middle of the first bit to that of the last, in each mode, order and
-/// number of bits. If the chip is released within a word, that word is `partial`, with the count of
-/// its bits.
+/// these words. Each goes from the middle of its first bit to that of its last. This holds in each
+/// mode, order and number of bits. If the chip is released within a word, that word is `partial`,
+/// with the count of its bits.
 pub fn spi_words_are_found()
     ensures words { SpiWordsAreFound }
     ensures part { SpiPartIsFound }

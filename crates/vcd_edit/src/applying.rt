@@ -27,10 +27,11 @@ use vcd_core::Capture;
 ///
 /// A force and a shift cost a binary search, the changes that they put in and take out, and one
 /// move of the later ones. A cut costs as much for each signal that changes at or after `from`. An
-/// invert, a deglitch, and a shift that pushes changes past the end cost one pass over the wave and
-/// a new list of its changes. A derive costs one merged pass over its operands. Variables of one
-/// code share their list of changes. A signal that shares its list gets another: a copy of each
-/// change that it keeps. Signals that shared one list, and get the same splice, share the new list.
+/// invert, a deglitch, and a shift that pushes changes past the end cost one pass over the wave.
+/// They also make a new list of its changes. A derive costs one merged pass over its operands.
+/// Variables of one code share their list of changes. A signal that shares its list gets another: a
+/// copy of each change that it keeps. Signals that shared one list, and get the same splice, share
+/// the new list.
 pub fn apply(alloc: Global, capture: &mut Capture, edit: &Edit) -> Result<Record, EditError>
     requires { IsSound (contents capture.old) }
     ensures allowed { OnOk result (edit_fault edit.now (contents capture.old) ≡ None) }

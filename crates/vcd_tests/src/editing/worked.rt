@@ -8,8 +8,8 @@ use std::test::Fail;
 use vcd_core::Capture;
 use vcd_edit::{Edit, Record, Rule, apply, revert};
 
-/// A row has the edit, the most changes that its record and that of its undo may store, and the
-/// capture after it as `capture_text` shows it.
+/// A row has the edit, and the most changes that its record and that of its undo may store. Then it
+/// has the capture after the edit, as `capture_text` shows it.
 const TWO: &str = "\
 $var wire 1 ! a $end $var wire 1 \" b $end $enddefinitions $end
 #0 0! 1\" #3 1! #5 x\" #8";

@@ -192,8 +192,8 @@ fn short_form_len_of_block(count: u64, block: LetterBlock) -> u64
 }
 
 /// A word whose bit `i` is set if the extension does not restore the letter of bit `i + 1` from
-/// that of bit `i`. These are the pairs that mix x or z with 0 or 1, those with 1 as the higher
-/// letter, and those of x and z.
+/// that of bit `i`. These are pairs of x or z with 0 or 1, pairs with 1 as the higher letter, and
+/// pairs of x and z.
 fn needed_letters(low: u64, high: u64) -> u64
     ensures { (i : ℕ) → i < 64 →
         bit_at result i ≡ (if is_redundant_above (record { low = low; high = high }) i then 0
