@@ -20,7 +20,7 @@ bit_edge e = record { tick = e.tick; before = map lowest_bit e.before; at = map 
 abbrev pub bit_edges_of : List (Option WaveView) → ℕ → List BitEdge
 bit_edges_of waves end = map bit_edge (edges_of waves end)
 
--- a wave of one bit, where it is present
+-- a wave of one bit, if it is present
 abbrev pub IsOneBit : Option WaveView → Type 0
 IsOneBit wave = IfSome wave (λ w. w.width ≡ 1)
 

@@ -22,7 +22,7 @@ pub record Contents : Type 0 where
   pub end : ℕ
   pub signals : List SignalContents
 
--- the default where there is no signal
+-- the default if there is no signal
 abbrev pub no_signal : SignalContents
 no_signal = record { scopes = []; kind = []; words = []; width = 1; changes = [] }
 

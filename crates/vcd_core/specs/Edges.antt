@@ -11,7 +11,7 @@ use Rattle.vcd_core.specs.Value.{all_x, same_letters}
 use Rattle.vcd_core.specs.Wave.{value_from, AllUpTo}
 use Rattle.vcd_core.specs.WaveView.{WaveView}
 
--- a wave by its value before tick 0, none where it is absent, and its changes
+-- a wave by its value before tick 0, none if it is absent, and its changes
 pub record Trace : Type 0 where
   pub before : Option (List Bit)
   pub changes : List Change

@@ -24,7 +24,7 @@ abbrev pub ValuesOfChanges : Type 0
 ValuesOfChanges =
     (width end t : ℕ) (f : ℕ → List Bit) → t ≤ end → value_at width (changes_of width end f) t ≡ f t
 
--- the changes of f are a wave up to the end, where its values have the width
+-- the changes of f are a wave up to the end, if its values have the width
 abbrev pub ChangesAreWave : Type 0
 ChangesAreWave =
     (width end : ℕ) (f : ℕ → List Bit) → ((t : ℕ) → length (f t) ≡ width)

@@ -8,7 +8,7 @@ use Rattle.vcd_core.specs.declared.capture.ScopeName.{ScopeName}
 use Rattle.vcd_core.specs.Contents.{SignalContents}
 use Rattle.vcd_core.specs.Decimal.{is_number, number_of}
 
--- the name of a scope, its words run together; empty where it has no words
+-- the name of a scope, its words run together; empty if it has no words
 abbrev pub scope_text : ScopeName → List ℕ
 scope_text scope = concat scope.words
 
@@ -34,7 +34,7 @@ is_numbered (c ∷ digits) = c == 64 && is_number digits
 abbrev pub number_in : List ℕ → ℕ
 number_in name = number_of (drop 1 name)
 
--- the position that a name names: k for `@k` where there is a signal k, or the first with that full
+-- the position that a name names: k for `@k` if there is a signal k, or the first with that full
 -- name
 unfoldable pub lookup : List SignalContents → List ℕ → Option ℕ
 lookup signals name =

@@ -4,7 +4,7 @@ use Rattle.std.specs.Int.{w64, FitsUnsigned}
 use Rattle.vcd_core.specs.declared.wave.Change.{Change}
 use Rattle.vcd_core.specs.Wave.{change}
 
--- a change `by` ticks later, or earlier where `by` is negative
+-- a change `by` ticks later, or earlier if `by` is negative
 unfoldable pub moved_change : ℤ → Change → Change
 moved_change by c = change (unsigned_abs (pos c.tick +ℤ by)) c.value
 

@@ -1,7 +1,7 @@
 -- Tests one after another, and the fault of the first that fails: the project's own.
 use Rattle.std.specs.Prelude.{Bool, if◌then◌else◌, List, [], ◌∷◌, Option, Some, None}
 
--- a test: whether it holds, and the fault where it does not
+-- a test: whether it holds, and the fault if it does not
 pub record Test (E : Type 0) : Type 0 where
   pub fault : E
   pub holds : Bool

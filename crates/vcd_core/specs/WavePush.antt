@@ -15,7 +15,7 @@ last_value before (c ∷ cs) = last_value c.value cs
 abbrev pub changes_before : ℕ → List Change → List Change
 changes_before tick changes = take_while (λ c. nat_lt c.tick tick) changes
 
--- the list after a push at its end: the value is added where it differs from the one before it
+-- the list after a push at its end: the value is added if it differs from the one before it
 unfoldable pub changes_after_push : ℕ → List Change → ℕ → List Bit → List Change
 changes_after_push width changes tick value =
     let kept = changes_before tick changes in

@@ -17,7 +17,7 @@ use Rattle.vcd_decode.specs.Lines.{is_zero}
 use Rattle.vcd_decode.specs.BusEvents.{is_line_high}
 use Rattle.std.specs.Prelude.{if◌then◌else◌}
 
--- a number with one more bit after it; none where the bit is neither high nor low
+-- a number with one more bit after it; none if the bit is neither high nor low
 abbrev pub number_with : Option ℕ → BusBit → Option ℕ
 number_with None b = None
 number_with (Some n) b = if is_line_high b.level
@@ -62,7 +62,7 @@ byte_kind (roles.Address given) (Some n) = address_kind given n
 byte_kind (roles.AddressLow high) (Some n) = TenBitAddress (256 * high + n) Write
 byte_kind roles.Data (Some n) = kinds.Data n
 
--- the role of the byte after an address: its second byte where ten bits are written, or data
+-- the role of the byte after an address: its second byte if ten bits are written, or data
 abbrev pub role_after_address : ℕ → Direction → ByteRole
 role_after_address n Write = if is_ten_bit n then roles.AddressLow (high_bits n) else roles.Data
 role_after_address n Read = roles.Data

@@ -69,7 +69,7 @@ unfoldable pub shown_address : List Annotation → Option ℕ
 shown_address [] = None
 shown_address (a ∷ others) = option_or (ten_bit_address a.kind) (shown_address others)
 
--- the kind of a START: a repeated one where the last condition was a START
+-- the kind of a START: a repeated one if the last condition was a START
 abbrev pub start_kind : Option (Option ℕ) → Kind
 start_kind None = kinds.Start
 start_kind (Some given) = kinds.RepeatedStart

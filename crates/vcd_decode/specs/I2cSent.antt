@@ -67,7 +67,7 @@ pub record SentByte : Type 0 where
 abbrev pub sent_byte : ℕ → Bool → Kind → SentByte
 sent_byte byte taken kind = record { byte = byte; taken = taken; kind = kind }
 
--- the last bit of an address: 0 where the controller writes, 1 where it reads
+-- the last bit of an address: 0 if the controller writes, 1 if it reads
 abbrev pub direction_bit : Direction → ℕ
 direction_bit Write = 0
 direction_bit Read = 1

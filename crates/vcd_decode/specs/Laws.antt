@@ -37,8 +37,8 @@ SpiWordsAreFound =
     → MaySendData u half (λ w. w.out) mosi ws → MaySendData u half (λ w. w.back) miso ws
     → spi_annotations u clk mosi miso cs end ≡ map (sent_word_annotation u half mosi miso) ws
 
--- where the chip is released within a word, once `count` of its bits have been sampled, that word
--- is partial
+-- if the chip is released within a word, once `count` of its bits have been sampled, that word is
+-- partial
 abbrev pub SpiPartIsFound : Type 0
 SpiPartIsFound =
     (u : SpiSetup) (half select release end : ℕ) (ws : List SpiWord) (w : SpiWord) (count : ℕ)

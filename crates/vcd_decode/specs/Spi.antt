@@ -26,7 +26,7 @@ has_sampling_edge mode clk t =
     if mode == 0 || mode == 3 then is_zero (letter_before clk t) && is_one (clk t)
     else is_one (letter_before clk t) && is_zero (clk t)
 
--- whether the chip is selected at a tick: always where there is no such line
+-- whether the chip is selected at a tick: always if there is no such line
 abbrev pub is_selected : Option (ℕ → Bit) → ℕ → Bool
 is_selected None t = true
 is_selected (Some cs) t = is_zero (cs t)
@@ -43,7 +43,7 @@ abbrev pub ordered_number : BitOrder → List Bit → ℕ
 ordered_number Msb letters = number_from_letters (reverse letters)
 ordered_number Lsb letters = number_from_letters letters
 
--- the data of these letters: unknown where one is neither 0 nor 1
+-- the data of these letters: unknown if one is neither 0 nor 1
 abbrev pub data_of_letters : BitOrder → List Bit → LineData
 data_of_letters order letters =
     if list_any is_unclear letters then Unknown else Number (ordered_number order letters)

@@ -78,7 +78,7 @@ sent_line u (w ∷ ws) t =
 
 -- ---- what can be sent
 
--- a parity bit can be wrong where there is one, and a stop bit 0 where there is one
+-- a parity bit can be wrong if there is one, and a stop bit can be 0 if there is one
 abbrev pub CanHaveFlaw : UartSetup → Flaw → Type 0
 CanHaveFlaw u flawless = ⊤
 CanHaveFlaw u wrong_parity = parity_bits u.parity ≡ 1

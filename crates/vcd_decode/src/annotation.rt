@@ -28,7 +28,7 @@ pub enum Kind {
     Unfinished(u64),
     /// A START condition (UM10204, 3.1.4).
     Start,
-    /// A START condition where the condition before it was a START.
+    /// A START condition, if the condition before it was a START.
     RepeatedStart,
     /// A STOP condition (UM10204, 3.1.4).
     Stop,

@@ -23,8 +23,8 @@ use vcd_core::{Bit, BitEdge, BitEdges, NoMemory, Wave};
 ///
 /// A bit is read at each edge of the clock at which the mode reads, while the chip is selected. A
 /// chip without a `cs` line is always selected. Bits before and after a tick at which the chip is
-/// not selected belong to different words. A data line is unknown in a word where one of its bits
-/// is x or z.
+/// not selected belong to different words. A data line is unknown in a word if one of its bits is x
+/// or z.
 ///
 /// It is one walk over the changes of the four waves, with a constant number of steps and at most
 /// one annotation for each. It may run out of memory.

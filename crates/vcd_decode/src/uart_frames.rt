@@ -22,9 +22,9 @@ use vcd_core::{Bit, NoMemory, Wave};
 /// The frames of a line of one bit in a capture that ends at the tick `end`, in rising order. Each
 /// extends from the tick at which it begins to the one at which its last bit is sampled.
 ///
-/// A frame begins where the line falls from 1 to 0 after the frame before. There is no frame where
-/// the line is not 0 in the middle of the start bit. A frame whose last bit is sampled after the
-/// end is `CutOff`, up to the end.
+/// A frame begins where the line falls from 1 to 0 after the frame before. There is no frame if the
+/// line is not 0 in the middle of the start bit. A frame whose last bit is sampled after the end is
+/// `CutOff`, up to the end.
 ///
 /// It takes a step for each change, and for each sample a binary search among the changes of its
 /// frame. The memory is that of the annotations; it may run out of memory.
@@ -51,7 +51,7 @@ pub fn uart(alloc: Global, wave: &Wave, end: u64, setup: &Uart) -> Result<Vec<An
     Ok(found)
 }
 
-/// Appends a frame where there is one. Returns the last tick of the frames so far.
+/// Appends a frame if there is one. Returns the last tick of the frames so far.
 fn push_frame(
     found: &mut Vec<Annotation>,
     frame: Option<Annotation>,

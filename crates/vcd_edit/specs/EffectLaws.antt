@@ -33,7 +33,7 @@ InvertTwice =
     (c : Contents) (k t : ℕ) → k < length c.signals → t ≤ c.end
     → value_of (effect (Invert k) (effect (Invert k) c)) k t ≡ map x_for_z (value_of c k t)
 
--- where it has no z, the capture is as it was
+-- if it has no z, the capture is as it was
 abbrev pub InvertTwiceWithoutZ : Type 0
 InvertTwiceWithoutZ =
     (c : Contents) (k : ℕ) → IsSound c → k < length c.signals

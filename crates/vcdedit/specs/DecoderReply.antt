@@ -42,7 +42,7 @@ direction_text Read = codes " read"
 
 -- of UART and SPI, whose data have `digits` hexadecimal digits, and of I2C
 module _ (digits : ℕ) where
-  -- the name of an SPI data line and what the line shows of a word; nothing where it is absent
+  -- the name of an SPI data line and what the line shows of a word; nothing if it is absent
   abbrev pub data_text : List ℕ → LineData → List ℕ
   data_text name Absent = []
   data_text name Unknown = name ++ codes "?"

@@ -81,7 +81,7 @@ abbrev pub IsEndingWithoutRun : Kinds → Ending → Type 0
 IsEndingWithoutRun kinds ending = (kind : ErrorKind)
     × ((kind ≡ OutOfMemory) ⊎ IsAmong kind kinds) × IsEndingOfKind kind ending
 
--- words have this ending: that of a run, or one without a run where they have a fault
+-- words have this ending: that of a run, or one without a run if they have a fault
 abbrev pub HasEnding : (words : List (List ℕ)) → Ending → Type 0
 HasEnding words ending = (fault_of option_app words ≡ [] → IsEndingOf words ending)
     × ((fault_of option_app words ≡ [] → ⊥)

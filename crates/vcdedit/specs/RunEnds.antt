@@ -76,8 +76,8 @@ IsOutputFlushed is_flushed None left = Unit {0}
 IsOutputFlushed is_flushed (Some out) (inr (inl left)) = is_flushed left.0.now ≡ true
 IsOutputFlushed is_flushed (Some out) left = ⊥
 
--- at this error the writer of the replies was flushed after the last byte that it took; where
--- memory ran out at a line, only if it has not failed there
+-- at this error the writer of the replies was flushed after the last byte that it took; if memory
+-- ran out at a line, only if it has not failed there
 abbrev pub IsFlushedAt : (has_failed is_flushed : Bool) → RunError → Type 0
 IsFlushedAt has_failed is_flushed (NoMemory (suc before)) = has_failed ≡ false → is_flushed ≡ true
 IsFlushedAt has_failed is_flushed (Write e) = is_flushed ≡ true

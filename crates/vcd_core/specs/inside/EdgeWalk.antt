@@ -44,7 +44,7 @@ abbrev pub next_tick_of : List Trace → Option ℕ
 next_tick_of [] = None
 next_tick_of (l ∷ ls) = earlier_tick (next_tick l.changes) (next_tick_of ls)
 
--- a wave after its next change, where that is at the tick
+-- a wave after its next change, if that is at the tick
 abbrev pub trace_past : ℕ → Option (List Bit) → List Change → Trace
 trace_past t before [] = record { before = before; changes = [] }
 trace_past t before (c ∷ cs) =

@@ -65,7 +65,7 @@ abbrev pub bus_start_kind : Option Transfer → Kind
 bus_start_kind None = kinds.Start
 bus_start_kind (Some t) = kinds.RepeatedStart
 
--- the annotations of the current bits where a condition comes
+-- the annotations of the current bits when a condition comes
 abbrev pub transfer_rest_annotations : Option Transfer → List Annotation
 transfer_rest_annotations None = []
 transfer_rest_annotations (Some t) =

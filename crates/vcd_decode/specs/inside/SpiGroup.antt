@@ -37,7 +37,7 @@ abbrev pub number_after : BitOrder → ℕ → ℕ → Option ℕ → LineData
 number_after order count number None = Unknown
 number_after order count number (Some digit) = Number (longer_number order count number digit)
 
--- the data of a line after one more bit; none where it is absent
+-- the data of a line after one more bit; none if it is absent
 abbrev pub data_after : BitOrder → ℕ → LineData → Option Bit → LineData
 data_after order count Absent bit = Absent
 data_after order count Unknown bit = Unknown

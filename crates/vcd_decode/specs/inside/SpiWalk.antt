@@ -45,7 +45,7 @@ pub record HasRoomForBit (u : SpiSetup) (g : PartialWord) : Type 0 where
 abbrev pub annotations_of_unfinished : PartialWord → List Annotation
 annotations_of_unfinished g = if g.count == 0 then [] else unfinished_annotation g ∷ []
 
--- the annotations of an edge where the chip's selection does not change
+-- the annotations of an edge at which the chip's selection does not change
 abbrev pub annotations_at_bit : SpiSetup → PartialWord → BitEdge → List Annotation
 annotations_at_bit u g e =
     if not (is_sampling u e) then []
@@ -80,7 +80,7 @@ tick_group u mosi miso ticks = record {
   miso = line_data u.order miso ticks;
 }
 
--- the mark of an edge: a sampling tick, or none where the chip is deselected
+-- the mark of an edge: a sampling tick, or none if the chip is deselected
 unfoldable pub edge_marks : SpiSetup → BitEdge → List (Option ℕ)
 edge_marks u e = if deselects_chip e then None ∷ []
     else (if is_sampling u e then Some e.tick ∷ [] else [])

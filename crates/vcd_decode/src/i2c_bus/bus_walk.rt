@@ -22,8 +22,8 @@ use vcd_core::{Bit, BitEdge, BitEdges, NoMemory, Wave};
 /// acknowledge follows it. A line that is z is high.
 ///
 /// A byte or an acknowledge with an x is `Unknown`. Bits that a condition cuts off are `Unfinished`
-/// where there are at least two, since SCL rises once before each condition. Bits that the
-/// capture's end cuts off give no annotation.
+/// if there are at least two, since SCL rises once before each condition. Bits that the capture's
+/// end cuts off give no annotation.
 ///
 /// It is one walk over the changes of both lines, with a constant number of steps and at most two
 /// annotations for each. The memory is that of the annotations; it may run out of memory.

@@ -21,7 +21,7 @@ pub(super) enum ByteRole {
 }
 
 /// The bits of the current byte: how many, the ticks of the first and the last, and the number that
-/// they give, most significant bit first. The value is none where a bit is neither high nor low.
+/// they give, most significant bit first. The value is none if a bit is neither high nor low.
 #[derive(Clone, Copy)]
 pub(super) struct PartialByte {
     pub(super) count: u64,
@@ -79,7 +79,7 @@ pub(super) fn number_with(number: Option<u8>, bit: BusBit) -> Option<u8>
     None
 }
 
-/// The kind of a byte. The byte is none where one of its bits is neither high nor low.
+/// The kind of a byte. The byte is none if one of its bits is neither high nor low.
 pub(super) fn byte_kind(role: ByteRole, byte: Option<u8>) -> Kind
     ensures { result ≡ spec.byte_kind role byte }
 {

@@ -29,7 +29,7 @@ pub(super) enum BusEvent {
     Bit(BusBit),
 }
 
-/// Whether a level is high: 1, or z, where a resistor pulls the line up. It is low where it is 0.
+/// Whether a level is high: 1, or z, where a resistor pulls the line up. It is low if it is 0.
 pub(super) fn is_line_high(level: Bit) -> bool
     ensures { result ≡ high_test level }
 {

@@ -106,7 +106,7 @@ fn end_byte(
     })
 }
 
-/// Appends the current bits where a condition comes. A single bit is the rise of SCL before the
+/// Appends the current bits when a condition comes. A single bit is the rise of SCL before the
 /// condition, and gives nothing.
 fn append_rest(found: &mut Vec<Annotation>, transfer: Option<Transfer>) -> Result<(), NoMemory>
     ensures { OnOk result (found.new.items
@@ -146,7 +146,7 @@ fn new_transfer(transfer: Option<Transfer>) -> Transfer
     }
 }
 
-/// The kind of a START: a repeated one where the last condition was a START.
+/// The kind of a START: a repeated one if the last condition was a START.
 fn bus_start_kind(transfer: Option<Transfer>) -> Kind
     ensures { result ≡ walk.bus_start_kind transfer }
 {

@@ -39,7 +39,7 @@ pub(crate) fn value_just_before(wave: &Wave, tick: u64) -> Value
     wave.at(tick - 1)
 }
 
-/// The value after the first `count` changes: all x where there are none.
+/// The value after the first `count` changes: all x if there are none.
 pub(crate) fn value_after(wave: &Wave, count: usize) -> Value
     requires { count ≤ length wave.now.changes }
     ensures { result ≡ last_value (all_x wave.now.width) (take count wave.now.changes) }

@@ -9,7 +9,7 @@ use Rattle.vcdedit.specs.declared.running.run_on_bytes.RunRefusal.TheVariants.{C
 use Rattle.vcdedit.specs.declared.running.run_on_bytes.RunRefusal.TheVariants.{ScriptTooLarge}
 use Rattle.vcdedit.specs.declared.running.run_on_bytes.RunRefusal.TheVariants.{NoMemory}
 
--- the refusal for an error, with the replies that were written, or none where they may be cut
+-- the refusal for an error, with the replies that were written, or none if they may be cut
 -- anywhere; a device in memory fails for memory alone
 abbrev pub run_refusal : RunError → (replies none : Vec ℕ) → RunRefusal
 run_refusal (run_errors.Capture e) replies none = if is_no_memory e.fault then NoMemory 0 none
