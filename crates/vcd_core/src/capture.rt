@@ -86,7 +86,7 @@ pub struct Signal {
     pub wave: Wave,
 }
 
-/// A capture: the contents of a value change dump up to the tick `end`.
+/// A capture: the contents of a value change dump (IEEE 1364-2005, 18.2) up to the tick `end`.
 #[derive(Drop)]
 pub struct Capture {
     pub header: Seq<Header>,

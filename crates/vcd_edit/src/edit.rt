@@ -20,7 +20,7 @@ pub enum Edit<'a> {
     Remove {
         signal: usize,
     },
-    /// Every bit of the signal is negated (`~`) at every tick.
+    /// Every bit of the signal is negated at every tick, by `~` of IEEE 1364-2005, 5.1.10.
     Invert {
         signal: usize,
     },

@@ -44,8 +44,8 @@ pub struct Loaded {
     pub skipped: u64,
 }
 
-/// Reads a capture file to its end. The result is the capture that it means, or its first fault
-/// with the line.
+/// Reads a capture file (IEEE 1364-2005, 18.2) to its end. The result is the capture that it means,
+/// or its first fault with the line.
 ///
 /// The source may fail or exceed 4 GiB. The words that white space follows are then taken, and
 /// their first fault is the result. `ReadFault` means that the source has failed.

@@ -26,8 +26,8 @@ use transitions::write_transitions;
 use vcd_core::{Capture, Sink};
 use window::Window;
 
-/// Writes the text of a capture, and flushes the writer once after its last byte. All memory is
-/// taken before the first byte is written.
+/// Writes the text of a capture (IEEE 1364-2005, 18.2), and flushes the writer once after its last
+/// byte. All memory is taken before the first byte is written.
 ///
 /// At `NoMemory` the writer took nothing and has not failed. At `WriteFault` it has failed, and
 /// took exactly the first `written` bytes of the text: all of them if the flush failed.
