@@ -8,7 +8,7 @@ ghost use Rattle.vcd_core.specs.Word.{is_skipped_kind as skipped};
 use crate::capture::Word;
 
 /// Whether a byte is white space: a tab, a line feed, a vertical tab, a form feed, a carriage
-/// return or a space (IEEE 1364-2005, 18.2).
+/// return or a space.
 pub fn is_white_space(byte: u8) -> bool
     ensures { result ≡ white byte }
 {
