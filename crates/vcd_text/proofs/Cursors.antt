@@ -15,9 +15,9 @@ use Rattle.vcd_core.specs.declared.capture.Signal.{Signal}
 use Rattle.vcd_core.specs.declared.capture.TheConstants.{END_LIMIT}
 use Rattle.vcd_core.specs.declared.wave.Change.{Change}
 use Rattle.vcd_core.specs.Value.{all_x}
-use Rattle.vcd_core.specs.Wave.{AreChangesFrom, change}
+use Rattle.vcd_core.specs.Wave.{AreChangesFrom, IsWave, change}
 use Rattle.vcd_text.specs.declared.writing.cursors.Cursor.{Cursor}
-use Rattle.vcd_text.specs.inside.Cursors.{AreChangesOfSomeWave, IsNext, tick_at}
+use Rattle.vcd_text.specs.inside.Cursors.{IsNext, tick_at}
 use Rattle.vcd_text.specs.inside.Transitions.{is_in_window, transition_of, window_of_signal}
 use Rattle.vcd_text.proofs.Counts.{after_window, before_window, in_window}
 
@@ -37,17 +37,16 @@ later_tick floor before (c ∷ []) zero rise early = early
 later_tick floor before (c ∷ d ∷ cs) zero (from, other, wide, rest) early = omega (arith, rest.0)
 
 -- the tick after it is later
-pub rising : (cs : List Change) (k : ℕ) → AreChangesOfSomeWave cs → tick_at cs k < 2 ^ 64 - 1
+pub rising : (width : ℕ) (cs : List Change) (k : ℕ) → IsWave width cs → tick_at cs k < 2 ^ 64 - 1
     → tick_at cs k < tick_at cs (k + 1)
-rising cs k rise early = later_tick 0 (all_x rise.width) cs k rise.form.rise early
+rising width cs k is early = later_tick 0 (all_x width) cs k is.rise early
 
 -- one change further on
-pub goes_on : (from to : ℕ) (cs : List Change) (n m : Cursor) → AreChangesOfSomeWave cs → IsNext from to cs n
-    → n.tick < to
-    → to ≤ END_LIMIT + 1 → m.place ≡ n.place + 1 → m.tick ≡ n.following_tick
+pub goes_on : (width from to : ℕ) (cs : List Change) (n m : Cursor) → IsWave width cs → IsNext from to cs n
+    → n.tick < to → to ≤ END_LIMIT + 1 → m.place ≡ n.place + 1 → m.tick ≡ n.following_tick
     → m.following_tick ≡ tick_at cs (n.place + 2)
     → IsNext from to cs m
-goes_on from to cs n m rise is early end place tick following_tick =
+goes_on width from to cs n m rise is early end place tick following_tick =
     let d = change 0 [] in
     let known : tick_at cs n.place < 2 ^ 64 - 1 = omega (arith, is.tick, early, end) in
     let inside = tick_inside cs n.place known in
@@ -65,7 +64,7 @@ goes_on from to cs n m rise is early end place tick following_tick =
         is.tick,
         is.following_tick,
         tick,
-        rising cs n.place rise known,
+        rising width cs n.place rise known,
       );
       tick = tick ∙ is.following_tick ∙ ap (tick_at cs) (sym place);
       following_tick = following_tick ∙ ap (tick_at cs) sum;
@@ -121,9 +120,9 @@ ends from to position floor before (c ∷ cs) zero (low, other, wide, rest) late
 ends from to position floor before (c ∷ cs) (suc k) (low, other, wide, rest) late =
     ends from to position (c.tick + 1) c.value cs k rest late
 
-pub stops : (from to position : ℕ) (cs : List Change) (n : Cursor) → AreChangesOfSomeWave cs → IsNext from to cs n
+pub stops : (width from to position : ℕ) (cs : List Change) (n : Cursor) → IsWave width cs → IsNext from to cs n
     → to ≤ n.tick → window_of_signal from to position (drop n.place cs) ≡ []
-stops from to position cs n rise is late = grind (arith, ends)
+stops width from to position cs n rise is late = grind (arith, ends)
 
 -- ---- signal by signal
 

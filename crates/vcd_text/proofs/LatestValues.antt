@@ -14,10 +14,10 @@ use Rattle.vcd_core.specs.Contents.{SignalContents, signal_value}
 use Rattle.vcd_text.specs.Letters.{extension, short_form}
 use Rattle.vcd_text.specs.Grammar.{ValueChange}
 use Rattle.vcd_text.specs.Meaning.{latest_value}
-use Rattle.vcd_text.specs.Text.{code_of, differs_at}
+use Rattle.vcd_text.specs.Text.{code_of, differing, differs_at}
 use Rattle.vcd_text.proofs.DeclaredSignals.{other_code}
 use Rattle.vcd_text.proofs.ReadValues.{ext-short}
-use Rattle.vcd_text.proofs.TextChanges.{differing, value_change_of, tick_value_changes}
+use Rattle.vcd_text.proofs.TextChanges.{value_change_of, tick_value_changes}
 use Rattle.std.proofs.lemmas.Slice.Eq.{bytes_eq-Decides}
 
 latest_value-append : (width : ℕ) (code : List ℕ) (t : ℕ) (before : List Bit) (rs qs : List ValueChange)

@@ -41,28 +41,11 @@ pub given_letter : (width : ℕ) (word : LetterBlock) (k : ℕ) → width ≤ 64
     → letter_at (letters_of width (word ∷ [])) k ≡ letter_in word k
 given_letter width word k narrow within = grind (arith, letter_at-letters_of, one_word)
 
--- a word that holds a whole value gives it
-pub given_whole : (v : List Bit) (word : LetterBlock) → length v ≤ 64 → HoldsLetters Zero v 0 word
-    → letters_of (length v) (word ∷ []) ≡ v
-given_whole v word narrow holds = grind (arith, length-letters_of, same_letter_at, given_letter, held_letter)
-
 -- ---- the lowest letters
 
 -- the lowest letters of a value
 abbrev pub lowest : ℕ → List Bit → List Bit
 lowest n v = drop (length v - n) v
-
-pub length-lowest : (n : ℕ) (v : List Bit) → n ≤ length v → length (lowest n v) ≡ n
-length-lowest n v within = length-drop (length v - n) v ∙ omega arith
-
-pub letter_at-lowest : (n : ℕ) (v : List Bit) (k : ℕ) → n ≤ length v → k < n → letter_at (lowest n v) k ≡ letter_at v k
-letter_at-lowest n v k within below = grind (arith, length-lowest, get_or-drop)
-
--- the lowest letters of a word
-pub lowest_given : (width count : ℕ) (word : LetterBlock) → width ≤ 64 → count ≤ width
-    → lowest count (letters_of width (word ∷ [])) ≡ letters_of count (word ∷ [])
-lowest_given width count word narrow within =
-    grind (arith, length-letters_of, same_letter_at, length-lowest, letter_at-lowest, given_letter)
 
 -- ---- letters in a row
 
@@ -118,10 +101,6 @@ is_redundant_in v i = same_letter (pad_letter (letter_at v i ∷ [])) (letter_at
 pub redundant_held : (v : List Bit) (from : ℕ) (word : LetterBlock) (i : ℕ) → HoldsLetters Zero v from word → i + 1 < 64
     → from + i + 1 < length v → is_redundant_above word i ≡ is_redundant_in v (from + i)
 redundant_held v from word i holds inside within = grind (arith, held_letter)
-
-pub redundant_given : (width : ℕ) (word : LetterBlock) (i : ℕ) → width ≤ 64 → i + 1 < width
-    → is_redundant_above word i ≡ is_redundant_in (letters_of width (word ∷ [])) i
-redundant_given width word i narrow within = grind (arith, given_letter)
 
 -- the bits that are set, by those of a letter and of the next
 abbrev mark : ℕ → ℕ → ℕ → ℕ → ℕ

@@ -1,6 +1,6 @@
 -- The order of keys is that of their transitions: by tick, then by position.
-use Rattle.std.proofs.Common.{◌≡◌, ◌==◌, ◌<◌, ◌≤◌, ◌+◌, ◌*◌, ◌/◌, ◌%◌, ℕ, suc, false}
-use Rattle.std.proofs.Common.{List, [], ◌∷◌, ◌++◌, if◌then◌else◌, length, drop, get_or, All, ap}
+use Rattle.std.proofs.Common.{◌≡◌, ◌<◌, ◌≤◌, ◌+◌, ◌*◌, ◌/◌, ◌%◌, ℕ, suc, false}
+use Rattle.std.proofs.Common.{List, [], ◌∷◌, ◌++◌, length, drop, get_or, All, ap}
 use Rattle.std.proofs.Common.{subst, ◌∙◌}
 use Rattle.std.proofs.Common.{arith}
 use Rattle.std.proofs.Common.{◌-◌, append_assoc}
@@ -15,11 +15,11 @@ use Rattle.vcd_core.specs.declared.capture.TheConstants.{END_LIMIT}
 use Rattle.vcd_core.specs.Contents.{SignalContents}
 use Rattle.vcd_core.specs.Sound.{IsSoundSignal}
 use Rattle.vcd_text.specs.declared.writing.window.TheConstants.{POSITIONS}
-use Rattle.vcd_text.specs.inside.Transitions.{Transition, last_tick, transition_items}
+use Rattle.vcd_text.specs.inside.Transitions.{Transition, last_tick, new_stamp, transition_items}
 use Rattle.vcd_text.specs.inside.Transitions.{transition_of, transition_value}
 use Rattle.vcd_text.specs.inside.Transitions.{transitions_from, unsorted_window}
 use Rattle.vcd_text.specs.inside.Windows.{IsKey, transition_of_key, transitions_of}
-use Rattle.vcd_text.specs.Text.{code_of, item_line, stamp_of, value_item}
+use Rattle.vcd_text.specs.Text.{code_of, item_line, value_item}
 use Rattle.vcd_text.proofs.Counts.{rises_from, same_times}
 use Rattle.vcd_text.proofs.Sorting.{AtLeast, RisesFrom, same_transitions, times, times_permuted}
 use Rattle.std.proofs.lemmas.Grind.{common_steps}
@@ -49,13 +49,13 @@ keys_rise from (key ∷ keys) up = grind (arith, cases_lt, rises_after)
 -- sorted keys list the transitions of the window by tick
 pub ordered_are : (end from n : ℕ) (ss : List SignalContents) (keys sorted : List ℕ) → 1 ≤ from
     → transitions_of from keys ≡ unsorted_window from (from + n) 0 ss → IsPermutation keys sorted
-    → IsSorted nat_cmp sorted → All (IsSoundSignal end) ss → transitions_of from sorted ≡ transitions_from ss from n
+    → IsSorted nat_cmp sorted → All (IsSoundSignal end) ss → transitions_of from sorted ≡ transitions_from 0 ss from n
 ordered_are end from n ss keys sorted some listed moved up sound =
-    same_transitions (transitions_of from sorted) (transitions_from ss from n) 0 0 from 0
-    (keys_rise from sorted up) (rises_from ss from n)
+    same_transitions (transitions_of from sorted) (transitions_from 0 ss from n) 0 0 from 0
+    (keys_rise from sorted up) (rises_from 0 ss from n)
     (λ t k. times_permuted t k (transitions_of from keys) (transitions_of from sorted)
     (IsPermutation-map (transition_of_key from) keys sorted moved) ∙ ap (times t k) listed
-    ∙ same_times end from n ss some sound t k)
+    ∙ same_times end from n 0 ss some sound t k)
 
 -- ---- one key
 
@@ -74,7 +74,7 @@ key_holds from tick position count key keys new small inside late end is grown a
 pub one_written : (signals : List SignalContents) (from last k : ℕ) (keys : List ℕ) → k < length keys
     → let m : Transition = transition_of_key from (get_or keys k 0) in
     flat_map item_line (transition_items signals last (transitions_of from (drop k keys)))
-    ≡ (flat_map item_line (if m.tick == last then [] else stamp_of m.tick ∷ [])
+    ≡ (flat_map item_line (new_stamp last m.tick)
     ++ item_line (value_item (code_of m.position) (transition_value signals m)))
     ++ flat_map item_line (transition_items signals m.tick (transitions_of from (drop (k + 1) keys)))
 unfolding transition_items

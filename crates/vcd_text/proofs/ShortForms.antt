@@ -1,23 +1,21 @@
 -- The short form of a value: a letter at the front is left out if the extension restores it.
 use Rattle.std.proofs.Common.{◌≡◌, ℕ, zero, suc, ◌+◌, ◌-◌, ◌<◌, ◌≤◌, Bool, true, false, cond, ◌&&◌}
 use Rattle.std.proofs.Common.{List, [], ◌∷◌, ◌++◌}
-use Rattle.std.proofs.Common.{length, drop, get_or, refl, sym, ap, ◌∙◌, arith, Some, None, ◌⊎◌}
+use Rattle.std.proofs.Common.{length, drop, get_or, refl, sym, ap, ◌∙◌, arith, Some, None, inl, inr}
 use Rattle.std.specs.Prelude.{find, unwrap_or}
 use Rattle.std.specs.Option.{option_or}
 use Rattle.std.proofs.lemmas.Bool.{cases_lt}
-use Rattle.std.proofs.lemmas.List.{drop_more}
+use Rattle.std.proofs.lemmas.List.{drop_all, drop_more}
 use Rattle.std.proofs.lemmas.List.Folds.{find-append}
 use Rattle.vcd_core.specs.declared.bit.Bit.{Bit}
 use Rattle.vcd_core.specs.declared.bit.Bit.TheVariants.{Zero, X}
 use Rattle.vcd_core.specs.Value.{letter_at, same_letter, same_letters}
 use Rattle.vcd_core.specs.declared.letter_block.LetterBlock.{LetterBlock}
-use Rattle.vcd_core.specs.BlockRows.{letters_of, HoldsLetters}
+use Rattle.vcd_core.specs.BlockRows.{HoldsLetters}
 use Rattle.vcd_core.specs.inside.ValueLaws.{same_letters-Decides}
-use Rattle.vcd_core.proofs.ValueLemmas.{length-letters_of}
 use Rattle.vcd_text.specs.Letters.{pad_letter, extension, suffixes, short_form}
 use Rattle.vcd_text.specs.inside.ValueFronts.{IsShortFormLen}
-use Rattle.vcd_text.proofs.LetterBits.{is_redundant_in, lowest, lowest_given, redundant_given}
-use Rattle.vcd_text.proofs.LetterBits.{redundant_held}
+use Rattle.vcd_text.proofs.LetterBits.{is_redundant_in, lowest, redundant_held}
 
 -- the letters after those at the front are left out one by one
 unfoldable pub shortened : List Bit → List Bit
@@ -99,73 +97,65 @@ kept_at v k within len = grind (arith, drop_more)
 last_kept : (v : List Bit) (k : ℕ) → k + 1 ≡ length v → shortened (drop k v) ≡ drop k v
 unfolding shortened
 last_kept v k last =
-    let one : drop k v ≡ get_or v k X ∷ [] = drop_more v k X (omega arith)
-    ∙ ap (λ l. get_or v k X ∷ l) (none v (k + 1) (omega arith)) in
+    let one = drop_more v k X (omega arith) ∙ ap (λ l. get_or v k X ∷ l) (drop_all (k + 1) v (omega arith)) in
     ap shortened one ∙ sym one
-  where
-    none : (xs : List Bit) (n : ℕ) → length xs ≤ n → drop n xs ≡ []
-    none [] zero le = refl
-    none [] (suc n) le = refl
-    none (x ∷ xs) zero le = absurd (omega arith)
-    none (x ∷ xs) (suc n) le = none xs n (omega arith)
 
 -- ---- letters counted from the other end
 
--- letters that are redundant, from that below bit `left` on
-pub left_out : (v : List Bit) (left len : ℕ) → 1 ≤ len → len ≤ left → left ≤ length v
+-- redundant letters between two bits are left out
+left_out : (v : List Bit) (len more left : ℕ) → 1 ≤ len → left ≡ len + more → left ≤ length v
     → ((i : ℕ) → len ≤ i + 1 → i + 1 < left → is_redundant_in v i ≡ true)
     → shortened (lowest left v) ≡ shortened (lowest len v)
-left_out v left len least most within redundant = by (left - len) left (omega arith) within redundant
-  where
-    by : (more left : ℕ) → left ≡ len + more → left ≤ length v
-        → ((i : ℕ) → len ≤ i + 1 → i + 1 < left → is_redundant_in v i ≡ true)
-        → shortened (lowest left v) ≡ shortened (lowest len v)
-    by zero left is within redundant = ap (λ n. shortened (lowest n v)) (let e : left ≡ len = omega arith in e)
-    by (suc more) left is within redundant =
-        let k : ℕ = length v - left in
-        let here : length v - 1 - (left - 2 + 1) ≡ k = omega arith in
-        let there : length v - 1 - (left - 2) ≡ k + 1 = omega arith in
-        let further : k + 1 ≡ length v - (left - 1) = omega arith in
-        let told : same_letter (pad_letter (get_or v (k + 1) X ∷ [])) (get_or v k X) ≡ true = grind arith in
-        redundant_at v k (omega arith) told ∙ ap (λ n. shortened (drop n v)) further
-        ∙ by more (left - 1) (omega arith) (omega arith) (λ i past below. redundant i past (omega arith))
+left_out v len zero left least is within redundant =
+    ap (λ n. shortened (lowest n v)) (let e : left ≡ len = omega arith in e)
+left_out v len (suc more) left least is within redundant =
+    let k : ℕ = length v - left in
+    let here : length v - 1 - (left - 2 + 1) ≡ k = omega arith in
+    let there : length v - 1 - (left - 2) ≡ k + 1 = omega arith in
+    let further : k + 1 ≡ length v - (left - 1) = omega arith in
+    let told : same_letter (pad_letter (get_or v (k + 1) X ∷ [])) (get_or v k X) ≡ true = grind arith in
+    redundant_at v k (omega arith) told ∙ ap (λ n. shortened (drop n v)) further
+    ∙ left_out v len more (left - 1) least (omega arith) (omega arith) (λ i past below. redundant i past (omega arith))
 
 -- the letter below bit `len` stays: it is the last, or not redundant
-pub stays : (v : List Bit) (len : ℕ) → 1 ≤ len → len ≤ length v → (1 < len → is_redundant_in v (len - 2) ≡ false)
+stays : (v : List Bit) (len : ℕ) → 1 ≤ len → len ≤ length v → (1 < len → is_redundant_in v (len - 2) ≡ false)
     → shortened (lowest len v) ≡ lowest len v
 stays v len least within needed = grind (arith, cases_lt, kept_at, last_kept)
 
--- the short form of a value of one word
-pub short_given : (width : ℕ) (word : LetterBlock) (len : ℕ) → width ≤ 64 → IsShortFormLen width word len
-    → letters_of len (word ∷ []) ≡ short_form (letters_of width (word ∷ []))
-short_given width word len narrow is =
-    let v = letters_of width (word ∷ []) in
-    let long : length v ≡ width = length-letters_of width (word ∷ []) in
-    let all : length v - width ≡ 0 = omega (arith, long) in
-    sym (lowest_given width len word narrow is.most)
-    ∙ sym (stays v len is.least (omega (arith, is.most, long))
-    (λ more. sym (redundant_given width word (len - 2) narrow (omega (arith, is.most))) ∙ is.needed more))
-    ∙ sym (left_out v width len is.least is.most (omega (arith, long))
-    (λ i past below. sym (redundant_given width word i narrow below) ∙ is.redundant i past below))
+-- the short form: the letters before it are redundant, and its first is not, or is the last
+pub short_rest : (v : List Bit) (len : ℕ) → 1 ≤ len → len ≤ length v
+    → ((i : ℕ) → len ≤ i + 1 → i + 1 < length v → is_redundant_in v i ≡ true)
+    → (1 < len → is_redundant_in v (len - 2) ≡ false) → lowest len v ≡ short_form v
+short_rest v len least within redundant needed =
+    let all : length v - length v ≡ 0 = omega arith in
+    sym (stays v len least within needed)
+    ∙ sym (left_out v len (length v - len) (length v) least (omega arith) (omega arith) redundant)
     ∙ ap (λ n. shortened (drop n v)) all ∙ sym (short_is v)
 
--- the letters of a word are left out, or stay
-pub word_left_out : (v : List Bit) (from : ℕ) (word : LetterBlock) (left len : ℕ) → HoldsLetters Zero v from word
-    → from < left → left ≤ from + 64 → left ≤ length v
-    → IsShortFormLen (left - from) word len → shortened (lowest left v) ≡ shortened (lowest (from + len) v)
-word_left_out v from word left len holds some fits within is =
-    left_out v left (from + len) (omega (arith, is.least)) (omega (arith, is.most)) within (λ i past below.
-    let j : ℕ = i - from in
-    let place : from + j ≡ i = omega (arith, is.least) in
-    ap (is_redundant_in v) (sym place)
-    ∙ sym (redundant_held v from word j holds (omega (arith, is.least)) (omega (arith, is.least)))
-    ∙ is.redundant j (omega (arith, is.least)) (omega (arith, is.least)))
+-- the letters of a word that are left out, after those above them
+pub more_redundant : (v : List Bit) (from : ℕ) (word : LetterBlock) (left len rest : ℕ) → HoldsLetters Zero v from word
+    → from < left → left ≤ from + 64 → IsShortFormLen (left - from) word len → rest ≡ from + len
+    → ((i : ℕ) → left ≤ i + 1 → i + 1 < length v → is_redundant_in v i ≡ true)
+    → (i : ℕ) → rest ≤ i + 1 → i + 1 < length v → is_redundant_in v i ≡ true
+more_redundant v from word left len rest holds some near is at above i past within =
+    elim (cases_lt (i + 1) left) [
+      | inl inside ↦
+          let j : ℕ = i - from in
+          let place : from + j ≡ i = omega (arith, is.least) in
+          ap (is_redundant_in v) (sym place) ∙ sym (redundant_held v from word j holds (omega (arith, is.least))
+          (omega (arith, is.least))) ∙ is.redundant j (omega (arith, is.least)) (omega (arith, is.least))
+      | inr outside ↦ above i outside within
+    ]
 
-pub word_stays : (v : List Bit) (from : ℕ) (word : LetterBlock) (left len : ℕ) → HoldsLetters Zero v from word
-    → from < left → left ≤ from + 64 → left ≤ length v → IsShortFormLen (left - from) word len
-    → (from ≡ 0) ⊎ (1 < len)
-    → shortened (lowest (from + len) v) ≡ lowest (from + len) v
-word_stays v from word left len holds some fits within is last = grind (arith, stays, redundant_held)
+-- the first of its letters that stays
+pub first_needed : (v : List Bit) (from : ℕ) (word : LetterBlock) (count len rest : ℕ) → HoldsLetters Zero v from word
+    → count ≤ 64 → from + count ≤ length v → IsShortFormLen count word len → rest ≡ from + len → 1 < len
+    → is_redundant_in v (rest - 2) ≡ false
+first_needed v from word count len rest holds near within is at more =
+    let place : from + (len - 2) ≡ rest - 2 = omega (arith, more) in
+    ap (is_redundant_in v) (sym place)
+    ∙ sym (redundant_held v from word (len - 2) holds (omega (arith, is.most)) (omega (arith, is.most)))
+    ∙ is.needed more
 
 -- the state after a test of two letters
 pub state_at : (v : List Bit) (k : ℕ) (letter next : Bit) (r b : Bool) → 1 ≤ k → letter ≡ letter_at v k

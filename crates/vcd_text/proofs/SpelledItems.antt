@@ -4,7 +4,7 @@ use Rattle.std.proofs.Common.{◌∷◌, ◌++◌, map, length, drop, replicate,
 use Rattle.std.proofs.Common.{IsTrue, refl, arith}
 use Rattle.std.proofs.Common.{decimal}
 use Rattle.std.specs.List.{list_all, AllByRecursion, common_prefix_len}
-use Rattle.std.proofs.lemmas.Bool.{and_from, and_parts, cond_both, and_right, or_from}
+use Rattle.std.proofs.lemmas.Bool.{and_from, and_parts, and_right, or_from}
 use Rattle.std.proofs.lemmas.Bool.{not_from_false, lt-leb, leb-true}
 use Rattle.std.proofs.lemmas.Bool.{ne_eqb}
 use Rattle.std.proofs.lemmas.List.Elements.{recursion_from_All}
@@ -27,7 +27,7 @@ use Rattle.vcd_text.specs.Grammar.{word_texts}
 use Rattle.vcd_text.specs.Text.{header_items, timescale_items, same_scope, scope_items, code_of}
 use Rattle.vcd_text.specs.Text.{variable_item}
 use Rattle.vcd_text.specs.Text.{signal_items, value_items}
-use Rattle.vcd_text.specs.Text.{with_stamp, first_items, tick_items, end_items, items_of, text}
+use Rattle.vcd_text.specs.Text.{with_stamp, first_items, tick_items, items_of, text}
 use Rattle.vcd_text.proofs.CodesDiffer.{code_no_space, code_not_empty}
 use Rattle.vcd_text.proofs.Decimals.{decimal_digits, decimal_not_empty}
 use Rattle.vcd_text.proofs.SoundTimescales.{sound_count, count_small}
@@ -97,17 +97,17 @@ values_spelled t [] = refl
 values_spelled t (p ∷ ps) =
     grind (arith, and_from, vector_spelled, one_word, longer_unbroken, code_no_space, values_spelled t ps)
 
-stamped_spelled : (t : ℕ) (items : List Item) → t < 2 ^ 64 → list_all is_spelled items ≡ true
-    → list_all is_spelled (with_stamp t items) ≡ true
-stamped_spelled t [] small spelled = refl
-stamped_spelled t (v ∷ vs) small spelled = grind (arith, and_from, one_word, longer_unbroken, decimal_no_space)
+stamped_spelled : (is_end : Bool) (t : ℕ) (items : List Item) → t < 2 ^ 64 → list_all is_spelled items ≡ true
+    → list_all is_spelled (with_stamp is_end t items) ≡ true
+stamped_spelled is_end t items small spelled =
+    grind (arith, and_from, one_word, longer_unbroken, decimal_no_space)
 
-ticks_spelled : (signals : List SignalContents) (t n : ℕ) → t + n ≤ 2 ^ 64
-    → list_all is_spelled (tick_items signals t n) ≡ true
+ticks_spelled : (signals : List SignalContents) (end t n : ℕ) → t + n ≤ 2 ^ 64
+    → list_all is_spelled (tick_items signals end t n) ≡ true
 unfolding tick_items
-ticks_spelled signals t zero small = refl
-ticks_spelled signals t (suc n) small =
-    grind (arith, both_spelled, stamped_spelled, values_spelled, ticks_spelled signals (suc t) n (omega arith))
+ticks_spelled signals end t zero small = refl
+ticks_spelled signals end t (suc n) small =
+    grind (arith, both_spelled, stamped_spelled, values_spelled, ticks_spelled signals end (suc t) n (omega arith))
 
 header_spelled : (header : List Header) → list_all is_sound_header header ≡ true
     → list_all is_spelled (header_items header) ≡ true
@@ -159,9 +159,7 @@ items_spelled c sound =
     let end : c.end ≤ END_LIMIT = sound.end in
     let front : List Item = header_items c.header ++ timescale_items c.timescale in
     let declared : List Item = front ++ signal_items [] 0 c.signals in
-    let first : List Item = declared ++ end_definitions ∷ first_items c.signals in
-    both_spelled (first ++ tick_items c.signals 1 c.end) (end_items c.signals c.end)
-    (both_spelled first (tick_items c.signals 1 c.end)
+    both_spelled (declared ++ end_definitions ∷ first_items c.signals) (tick_items c.signals c.end 1 c.end)
     (both_spelled declared (end_definitions ∷ first_items c.signals)
     (both_spelled front (signal_items [] 0 c.signals)
     (both_spelled (header_items c.header) (timescale_items c.timescale) (header_spelled c.header sound.header)
@@ -169,8 +167,7 @@ items_spelled c sound =
     (signals_spelled c.end [] 0 c.signals (recursion_from_All (IsSoundSignal c.end) c.signals sound.signals)))
     (and_from (is_spelled end_definitions) (list_all is_spelled (first_items c.signals)) refl
     (grind (arith, both_spelled, and_from, one_word, longer_unbroken, decimal_no_space, values_spelled))))
-    (ticks_spelled c.signals 1 c.end (omega arith)))
-    (grind (arith, cond_both, and_from, one_word, longer_unbroken, decimal_no_space))
+    (ticks_spelled c.signals c.end 1 c.end (omega arith))
 
 -- the words of a sound capture's text
 pub words_of_text : (c : Contents) → IsSound c → word_texts (words_of (text c)) ≡ spellings (items_of c)

@@ -1,11 +1,11 @@
 -- The changes of a capture's text are allowed, and these are their value changes.
-use Rattle.std.proofs.Common.{◌≡◌, ℕ, zero, suc, ◌+◌, ◌<◌, ◌≤◌, true, false, if◌then◌else◌, ◌&&◌}
+use Rattle.std.proofs.Common.{◌≡◌, ℕ, zero, suc, ◌+◌, ◌<◌, ◌≤◌, true, false}
 use Rattle.std.proofs.Common.{◌==◌}
-use Rattle.std.proofs.Common.{nat_lt, List, [], ◌∷◌, ◌++◌, length, map, get_or, Some}
-use Rattle.std.proofs.Common.{All, refl, sym, subst, append_assoc, arith}
+use Rattle.std.proofs.Common.{List, [], ◌∷◌, ◌++◌, length, map, get_or, Some, Bool, ◌∙◌}
+use Rattle.std.proofs.Common.{All, refl, sym, ap, subst, append_assoc, arith}
 use Rattle.std.specs.Prelude.{find, bytes_eq, codes}
-use Rattle.std.specs.List.{filter, enumerate_from}
-use Rattle.std.proofs.lemmas.Bool.{le-leb, lt-ltb, ne_eqb}
+use Rattle.std.specs.List.{enumerate_from}
+use Rattle.std.proofs.lemmas.Bool.{eq-eqb, le-leb}
 use Rattle.std.proofs.lemmas.List.{append-nil, length-map}
 use Rattle.std.proofs.lemmas.List.Elements.{All-head, All-tail, All-filter}
 use Rattle.std.proofs.lemmas.List.FromFn.{get_or-enumerate_from, length-enumerate_from}
@@ -17,7 +17,7 @@ use Rattle.vcd_core.specs.Word.{is_one_of}
 use Rattle.vcd_text.specs.Letters.{short_form}
 use Rattle.vcd_text.specs.Items.{Item, dump_word, dump_words, end_word}
 use Rattle.vcd_text.specs.Grammar.{ValueChange, ParseState, is_skipped}
-use Rattle.vcd_text.specs.Text.{all_values, code_of, differs_at, end_items, first_items, new_values}
+use Rattle.vcd_text.specs.Text.{code_of, differing, differs_at, first_items}
 use Rattle.vcd_text.specs.Text.{stamp_of}
 use Rattle.vcd_text.specs.Text.{with_stamp, tick_items, value_item, value_items}
 use Rattle.vcd_text.proofs.CodesDiffer.{code_not_empty}
@@ -91,21 +91,15 @@ first_leads : (c : Contents) → All (IsPlaced c) (enumerate_from 0 c.signals)
     → Reaches (declared_state c) (first_items c.signals)
     (state_at c (map (value_change_of 0) (enumerate_from 0 c.signals)) 0)
 first_leads c all =
-    let value_changes = map (value_change_of 0) (enumerate_from 0 c.signals) in
-    reaches_both (state_at c [] 0) (state_at c [] 0) (state_at c value_changes 0)
-    (stamp_of 0 ∷ dump_word (codes "$dumpvars") ∷ []) (all_values c.signals 0 ++ dump_word end_word ∷ [])
-    (reaches_both (state_at c [] 0) (state_at c [] 0) (state_at c [] 0) (stamp_of 0 ∷ [])
-    (dump_word (codes "$dumpvars") ∷ [])
+    let placed = enumerate_from 0 c.signals in
+    reaches_both _ _ _ (stamp_of 0 ∷ dump_word (codes "$dumpvars") ∷ [])
+    (value_items 0 placed ++ dump_word end_word ∷ [])
+    (reaches_both _ _ _ (stamp_of 0 ∷ []) (dump_word (codes "$dumpvars") ∷ [])
     (stamp_leads c [] 0 0 (omega arith) (omega arith)) (dump_word_leads c [] 0 (codes "$dumpvars") refl))
-    (reaches_both (state_at c [] 0) (state_at c value_changes 0) (state_at c value_changes 0) (all_values c.signals 0)
-    (dump_word end_word ∷ [])
-    (values_lead c (enumerate_from 0 c.signals) [] 0 all) (dump_word_leads c value_changes 0 end_word refl))
+    (reaches_both _ _ _ (value_items 0 placed) (dump_word end_word ∷ []) (values_lead c placed [] 0 all)
+    (dump_word_leads c (map (value_change_of 0) placed) 0 end_word refl))
 
 -- ---- ticks
-
--- the signals that differ at a tick, each with its position
-abbrev pub differing : List SignalContents → ℕ → List (ℕ × SignalContents)
-differing signals t = filter (λ p. differs_at t p.1) (enumerate_from 0 signals)
 
 -- the value changes of n ticks, from t on
 unfoldable pub tick_value_changes : List SignalContents → ℕ → ℕ → List ValueChange
@@ -113,92 +107,44 @@ tick_value_changes signals t zero = []
 tick_value_changes signals t (suc n) =
     map (value_change_of t) (differing signals t) ++ tick_value_changes signals (suc t) n
 
--- the stamp of a tick and its values, if there is at least one
-stamped_lead : (c : Contents) (value_changes : List ValueChange) (u t : ℕ) (p : ℕ × SignalContents)
-    (ps : List (ℕ × SignalContents)) → u ≤ t → t ≤ END_LIMIT → All (IsPlaced c) (p ∷ ps)
-    → Reaches (state_at c value_changes u) (with_stamp t (value_items t (p ∷ ps)))
-    (state_at c (value_changes ++ map (value_change_of t) (p ∷ ps)) t)
-stamped_lead c value_changes u t p ps later within all =
-    reaches_both (state_at c value_changes u) (state_at c value_changes t)
-    (state_at c (value_changes ++ map (value_change_of t) (p ∷ ps)) t) (stamp_of t ∷ []) (value_items t (p ∷ ps))
-    (stamp_leads c value_changes u t later within) (values_lead c (p ∷ ps) value_changes t all)
+-- the stamp of a tick, its values and the rest
+stamped_lead : (c : Contents) (e : ParseState) (value_changes : List ValueChange) (u t : ℕ)
+    (placed : List (ℕ × SignalContents)) (rest : List Item) → u ≤ t → t ≤ END_LIMIT → All (IsPlaced c) placed
+    → Reaches (state_at c (value_changes ++ map (value_change_of t) placed) t) rest e
+    → Reaches (state_at c value_changes u) ((stamp_of t ∷ value_items t placed) ++ rest) e
+stamped_lead c e value_changes u t placed rest later within all go =
+    reaches_both _ (state_at c value_changes t) e (stamp_of t ∷ []) (value_items t placed ++ rest)
+    (stamp_leads c value_changes u t later within)
+    (reaches_both _ _ e (value_items t placed) rest (values_lead c placed value_changes t all) go)
 
 -- one tick, after which the rest goes on from a tick that is no later
-one_tick : (c : Contents) (e : ParseState) (value_changes : List ValueChange) (u t : ℕ)
+one_tick : (c : Contents) (e : ParseState) (value_changes : List ValueChange) (u t : ℕ) (is_end : Bool)
     (placed : List (ℕ × SignalContents)) (rest : List Item) → u ≤ t → t ≤ END_LIMIT → All (IsPlaced c) placed
-    → ((v : ℕ) → v ≤ t → Reaches (state_at c (value_changes ++ map (value_change_of t) placed) v) rest e)
-    → Reaches (state_at c value_changes u) (with_stamp t (value_items t placed) ++ rest) e
-one_tick c e value_changes u t [] rest later within all go =
-    subst (λ rs. Reaches (state_at c rs u) rest e) (append-nil value_changes) (go u later)
-one_tick c e value_changes u t (p ∷ ps) rest later within all go =
-    reaches_both (state_at c value_changes u) (state_at c (value_changes ++ map (value_change_of t) (p ∷ ps)) t) e
-    (with_stamp t (value_items t (p ∷ ps))) rest
-    (stamped_lead c value_changes u t p ps later within all) (go t (omega arith))
+    → ((v : ℕ) → v ≤ t → (is_end ≡ true → v ≡ t)
+    → Reaches (state_at c (value_changes ++ map (value_change_of t) placed) v) rest e)
+    → Reaches (state_at c value_changes u) (with_stamp is_end t (value_items t placed) ++ rest) e
+one_tick c e value_changes u t false [] rest later within all go =
+    subst (λ rs. Reaches (state_at c rs u) rest e) (append-nil value_changes) (go u later (λ ends. absurd (cc)))
+one_tick c e value_changes u t true placed rest later within all go =
+    stamped_lead c e value_changes u t placed rest later within all (go t (omega arith) (λ _. refl))
+one_tick c e value_changes u t false (p ∷ ps) rest later within all go =
+    stamped_lead c e value_changes u t (p ∷ ps) rest later within all (go t (omega arith) (λ _. refl))
 
--- the last tick, and the stamp of the end if nothing differs at it
-value_changes_at_last_tick : (c : Contents) (value_changes : List ValueChange) (u t : ℕ)
-    (placed : List (ℕ × SignalContents)) → u < t → t ≤ END_LIMIT → All (IsPlaced c) placed
-    → Reaches (state_at c value_changes u) (with_stamp t (value_items t placed)
-    ++ (if nat_lt 0 t && (length (value_items t placed) == 0) then stamp_of t ∷ [] else []))
-    (state_at c (value_changes ++ map (value_change_of t) placed) t)
-value_changes_at_last_tick c value_changes u t [] later within all =
-    subst (λ b. Reaches (state_at c value_changes u) (if b && true then stamp_of t ∷ [] else [])
-    (state_at c (value_changes ++ []) t)) (sym (lt-ltb 0 t (omega arith)))
-    (subst (λ rs. Reaches (state_at c value_changes u) (stamp_of t ∷ []) (state_at c rs t))
-    (sym (append-nil value_changes)) (stamp_leads c value_changes u t (omega arith) within))
-value_changes_at_last_tick c value_changes u t (p ∷ ps) later within all =
-    let more : (suc (length (value_items t ps)) == 0) ≡ false =
-    ne_eqb (suc (length (value_items t ps))) 0 (omega arith) in
-    let above : nat_lt 0 t ≡ true = lt-ltb 0 t (omega arith) in
-    let none : (with_stamp t (value_items t (p ∷ ps))
-    ++ (if nat_lt 0 t && (suc (length (value_items t ps)) == 0) then stamp_of t ∷ [] else []))
-    ≡ with_stamp t (value_items t (p ∷ ps)) = grind (arith, append-nil) in
-    subst (λ is. Reaches (state_at c value_changes u) is
-    (state_at c (value_changes ++ map (value_change_of t) (p ∷ ps)) t)) (sym none)
-    (stamped_lead c value_changes u t p ps (omega arith) within all)
-
--- the ticks from t to the end, and the stamp of the end
-ticks_lead : (c : Contents) (n : ℕ) (value_changes : List ValueChange) (u t : ℕ) → u < t → t + n ≡ c.end
-    → c.end ≤ END_LIMIT → All (IsPlaced c) (enumerate_from 0 c.signals)
-    → Reaches (state_at c value_changes u) (tick_items c.signals t (suc n) ++ end_items c.signals c.end)
-    (state_at c (value_changes ++ tick_value_changes c.signals t (suc n)) c.end)
+-- the ticks from t on, up to the end
+ticks_lead : (c : Contents) (n : ℕ) (value_changes : List ValueChange) (u t : ℕ) → u < t → t + n ≡ suc c.end
+    → (n ≡ 0 → u ≡ c.end) → c.end ≤ END_LIMIT → All (IsPlaced c) (enumerate_from 0 c.signals)
+    → Reaches (state_at c value_changes u) (tick_items c.signals c.end t n)
+    (state_at c (value_changes ++ tick_value_changes c.signals t n) c.end)
 unfolding tick_items tick_value_changes
-ticks_lead c zero value_changes u t later at within all =
-    let end : t ≡ c.end = omega arith in
-    let here = value_changes_at_last_tick c value_changes u t (differing c.signals t) later (omega arith)
-    (All-filter (λ p. differs_at t p.1) (IsPlaced c) (enumerate_from 0 c.signals) all) in
-    subst (λ e. Reaches (state_at c value_changes u) (tick_items c.signals t 1 ++ end_items c.signals e)
-    (state_at c (value_changes ++ tick_value_changes c.signals t 1) e)) end
-    (subst (λ is. Reaches (state_at c value_changes u) (is ++ end_items c.signals t)
-    (state_at c (value_changes ++ tick_value_changes c.signals t 1) t))
-    (sym (append-nil (with_stamp t (new_values c.signals t))))
-    (subst (λ rs. Reaches (state_at c value_changes u) (with_stamp t (new_values c.signals t) ++ end_items c.signals t)
-    (state_at c (value_changes ++ rs) t)) (sym (append-nil (map (value_change_of t) (differing c.signals t)))) here))
-ticks_lead c (suc n) value_changes u t later at within all =
+ticks_lead c zero value_changes u t later at last within all = grind (arith, reaches_same, reaches_none, append-nil)
+ticks_lead c (suc n) value_changes u t later at last within all =
     let here = map (value_change_of t) (differing c.signals t) in
-    subst (λ is. Reaches (state_at c value_changes u) is
-    (state_at c (value_changes ++ (here ++ tick_value_changes c.signals (suc t) (suc n))) c.end))
-    (sym (append_assoc (with_stamp t (new_values c.signals t)) (tick_items c.signals (suc t) (suc n))
-    (end_items c.signals c.end)))
-    (one_tick c (state_at c (value_changes ++ (here ++ tick_value_changes c.signals (suc t) (suc n))) c.end)
-    value_changes u t (differing c.signals t) (tick_items c.signals (suc t) (suc n) ++ end_items c.signals c.end)
+    one_tick c _ value_changes u t (t == c.end) (differing c.signals t) (tick_items c.signals c.end (suc t) n)
     (omega arith) (omega arith) (All-filter (λ p. differs_at t p.1) (IsPlaced c) (enumerate_from 0 c.signals) all)
-    (λ v le. subst (λ rs. Reaches (state_at c (value_changes ++ here) v) (tick_items c.signals (suc t) (suc n)
-    ++ end_items c.signals c.end) (state_at c rs c.end))
-    (append_assoc value_changes here (tick_value_changes c.signals (suc t) (suc n)))
-    (ticks_lead c n (value_changes ++ here) v (suc t) (omega arith) (omega arith) within all)))
-
--- the ticks from 1 on; there may be none
-ticks_from_one : (c : Contents) (end : ℕ) (value_changes : List ValueChange) → end ≡ c.end → c.end ≤ END_LIMIT
-    → All (IsPlaced c) (enumerate_from 0 c.signals)
-    → Reaches (state_at c value_changes 0) (tick_items c.signals 1 end ++ end_items c.signals end)
-    (state_at c (value_changes ++ tick_value_changes c.signals 1 end) end)
-unfolding tick_items tick_value_changes
-ticks_from_one c zero value_changes at within all = grind (arith, reaches_same, reaches_none, append-nil)
-ticks_from_one c (suc n) value_changes at within all =
-    subst (λ e. Reaches (state_at c value_changes 0) (tick_items c.signals 1 (suc n) ++ end_items c.signals e)
-    (state_at c (value_changes ++ tick_value_changes c.signals 1 (suc n)) e)) (sym at)
-    (ticks_lead c n value_changes 0 1 (omega arith) (omega arith) within all)
+    (λ v le ends. reaches_same _ _ _ _
+    (ticks_lead c n (value_changes ++ here) v (suc t) (omega arith) (omega arith)
+    (λ none. let end : t ≡ c.end = omega arith in ends (eq-eqb t c.end end) ∙ end) within all)
+    (ap (λ rs. state_at c rs c.end) (append_assoc value_changes here (tick_value_changes c.signals (suc t) n))))
 
 -- ---- the changes
 
@@ -222,13 +168,10 @@ all_placed c sound k d within =
 
 -- the changes are allowed after the declarations, and give these value changes up to the end
 pub changes_lead : (c : Contents) → IsSound c
-    → Reaches (declared_state c) (first_items c.signals ++ tick_items c.signals 1 c.end ++ end_items c.signals c.end)
+    → Reaches (declared_state c) (first_items c.signals ++ tick_items c.signals c.end 1 c.end)
     (state_at c (value_changes_of c) c.end)
 changes_lead c sound =
-    let first = map (value_change_of 0) (enumerate_from 0 c.signals) in
-    subst (λ items. Reaches (declared_state c) items (state_at c (value_changes_of c) c.end))
-    (sym (append_assoc (first_items c.signals) (tick_items c.signals 1 c.end) (end_items c.signals c.end)))
-    (reaches_both (declared_state c) (state_at c first 0) (state_at c (value_changes_of c) c.end)
-    (first_items c.signals)
-    (tick_items c.signals 1 c.end ++ end_items c.signals c.end)
-    (first_leads c (all_placed c sound)) (ticks_from_one c c.end first refl sound.end (all_placed c sound)))
+    let placed = all_placed c sound in
+    reaches_both _ _ _ (first_items c.signals) (tick_items c.signals c.end 1 c.end) (first_leads c placed)
+    (ticks_lead c c.end (map (value_change_of 0) (enumerate_from 0 c.signals)) 0 1 (omega arith) (omega arith)
+    (λ none. sym none) sound.end placed)

@@ -29,7 +29,7 @@ use Rattle.vcd_text.specs.Grammar.{variable_of}
 use Rattle.vcd_text.specs.Grammar.{may_have_code, has_room}
 use Rattle.vcd_text.specs.Text.{header_items, timescale_items, scope_items, code_of, variable_item}
 use Rattle.vcd_text.specs.Text.{signal_items}
-use Rattle.vcd_text.specs.Text.{first_items, tick_items, end_items, items_of}
+use Rattle.vcd_text.specs.Text.{first_items, tick_items, items_of}
 use Rattle.vcd_text.proofs.CodesDiffer.{codes_differ, code_no_end}
 use Rattle.vcd_text.proofs.Decimals.{decimal_digits, decimal_is_number, number_of-decimal}
 use Rattle.vcd_text.proofs.DeclaredSignals.{declared_as, declared_state, declared_of}
@@ -149,6 +149,6 @@ declarations_lead c sound =
 
 -- the declarations, and the items after them
 pub items_in_two : (c : Contents) → items_of c ≡ declaration_items c
-    ++ (first_items c.signals ++ tick_items c.signals 1 c.end ++ end_items c.signals c.end)
+    ++ (first_items c.signals ++ tick_items c.signals c.end 1 c.end)
 unfolding items_of
 items_in_two c = grind (arith, append_assoc)

@@ -1,139 +1,144 @@
--- A walk over the changes in order of ticks writes the text of all ticks.
-use Rattle.std.proofs.Common.{◌≡◌, ◌<◌, ◌≤◌, ◌+◌, ◌-◌, ℕ, zero, suc, ◌&&◌, ◌==◌, if◌then◌else◌}
-use Rattle.std.proofs.Common.{nat_lt, List, [], ◌∷◌, ◌++◌, length, map, drop, get_or, refl, sym, ap}
-use Rattle.std.proofs.Common.{◌∙◌, arith}
-use Rattle.std.proofs.Common.{append_assoc, eq-eqb}
-use Rattle.std.specs.List.{filter, flat_map, enumerate_from}
-use Rattle.std.proofs.lemmas.Bool.{lt-ltb, le-ltb, ne_eqb}
+-- The transitions of ticks are written as the items of these ticks.
+use Rattle.std.proofs.Common.{◌≡◌, ◌<◌, ◌≤◌, ◌+◌, ◌-◌, ℕ, zero, suc, true, false}
+use Rattle.std.proofs.Common.{List, [], ◌∷◌, ◌++◌, length, map, get_or, refl, sym, ap}
+use Rattle.std.proofs.Common.{subst, ◌∙◌, arith, All, append_assoc, eq-eqb}
+use Rattle.std.specs.List.{flat_map, enumerate_from}
+use Rattle.std.proofs.lemmas.Bool.{ne_eqb}
 use Rattle.std.proofs.lemmas.Grind.{flat_map-append}
-use Rattle.std.proofs.lemmas.List.{append-nil, get_or-drop, drop-drop}
-use Rattle.vcd_core.specs.Contents.{SignalContents, no_signal, signal_value}
-use Rattle.vcd_text.proofs.Counts.{transitions_split}
+use Rattle.std.proofs.lemmas.List.{append-nil, get_or_default}
+use Rattle.std.proofs.lemmas.List.Elements.{All-filter, All-head, All-tail}
+use Rattle.std.proofs.lemmas.List.FromFn.{get_or-enumerate_from, length-enumerate_from}
+use Rattle.vcd_core.specs.Contents.{SignalContents, no_signal}
 use Rattle.vcd_text.specs.Items.{Item}
-use Rattle.vcd_text.specs.inside.Transitions.{Transition, transition_of, transitions_from}
-use Rattle.vcd_text.specs.inside.Transitions.{last_tick}
-use Rattle.vcd_text.specs.inside.Transitions.{transition_items}
-use Rattle.vcd_text.specs.Text.{code_of, differs_at, end_items, item_line, stamp_of, with_stamp}
-use Rattle.vcd_text.specs.Text.{tick_items}
-use Rattle.vcd_text.specs.Text.{value_item, value_items}
-use Rattle.std.proofs.lemmas.Grind.{common_steps}
+use Rattle.vcd_text.specs.inside.Transitions.{Transition, transition_of}
+use Rattle.vcd_text.specs.inside.Transitions.{last_tick, new_stamp, transition_items, transitions_from}
+use Rattle.vcd_text.specs.Text.{differing, differs_at, item_line, with_stamp, tick_items}
+use Rattle.vcd_text.specs.Text.{value_items}
 
--- the text of transitions, if the last stamp was that of a tick
-unfoldable pub walk : List SignalContents → ℕ → ℕ → List Transition → List Item
-walk signals end last [] = if nat_lt last end then stamp_of end ∷ [] else []
-walk signals end last (m ∷ ms) =
-    (if m.tick == last then [] else stamp_of m.tick ∷ [])
-    ++ value_item (code_of m.position) (signal_value (get_or signals m.position no_signal) m.tick)
-    ∷ walk signals end m.tick ms
+-- the items of transitions after the stamp of a tick, and the stamp of the end
+abbrev pub items_left : List SignalContents → ℕ → ℕ → List Transition → List Item
+items_left signals end last ms =
+    transition_items signals last ms ++ new_stamp (last_tick last ms) end
 
--- each signal is at its position
-abbrev AllPlaced : List SignalContents → List (ℕ × SignalContents) → Type 0
-AllPlaced signals [] = Unit {0}
-AllPlaced signals (p ∷ ps) = (get_or signals p.0 no_signal ≡ p.1) × AllPlaced signals ps
+-- ---- one tick
 
 -- the transitions of a list of signals at a tick
 abbrev at_tick : ℕ → List (ℕ × SignalContents) → List Transition
 at_tick t placed = map (λ p. transition_of t p.0) placed
 
+-- a signal is at its position
+abbrev IsAtPosition : List SignalContents → ℕ × SignalContents → Type 0
+IsAtPosition signals p = get_or signals p.0 no_signal ≡ p.1
+
+all_at_positions : (signals : List SignalContents) → All (IsAtPosition signals) (enumerate_from 0 signals)
+all_at_positions signals k d within =
+    let inside : k < length signals = omega (arith, length-enumerate_from 0 signals) in
+    let here : 0 + k ≡ k = omega arith in
+    subst (IsAtPosition signals) (sym (get_or-enumerate_from 0 signals k d inside))
+    (ap (λ i. get_or signals i no_signal) here ∙ get_or_default signals k no_signal d.1 inside)
+
+all_differing : (signals : List SignalContents) (t : ℕ) → All (IsAtPosition signals) (differing signals t)
+all_differing signals t =
+    All-filter (λ p. differs_at t p.1) (IsAtPosition signals) (enumerate_from 0 signals) (all_at_positions signals)
+
 -- transitions at the tick of the last stamp
 same_tick : (signals : List SignalContents) (end t : ℕ) (placed : List (ℕ × SignalContents)) (ms : List Transition)
-    → AllPlaced signals placed
-    → walk signals end t (at_tick t placed ++ ms) ≡ value_items t placed ++ walk signals end t ms
-unfolding walk
+    → All (IsAtPosition signals) placed
+    → items_left signals end t (at_tick t placed ++ ms) ≡ value_items t placed ++ items_left signals end t ms
+unfolding transition_items last_tick
 same_tick signals end t [] ms all = refl
-same_tick signals end t (p ∷ ps) ms (at, rest) = grind (arith, eq-eqb, same_tick signals end t ps ms rest)
+same_tick signals end t (p ∷ ps) ms all =
+    let here = All-head (IsAtPosition signals) p ps all in
+    let rest = same_tick signals end t ps ms (All-tail (IsAtPosition signals) p ps all) in
+    grind (arith, eq-eqb, here, rest)
 
--- transitions at a later tick, if there is at least one
-later_tick : (signals : List SignalContents) (end last t : ℕ) (p : ℕ × SignalContents) (ps : List (ℕ × SignalContents))
-    (ms : List Transition) → last < t → AllPlaced signals (p ∷ ps)
-    → walk signals end last (at_tick t (p ∷ ps) ++ ms) ≡ with_stamp t (value_items t (p ∷ ps)) ++ walk signals end t ms
-unfolding walk
-later_tick signals end last t p ps ms later (at, rest) = grind (arith, ne_eqb, same_tick)
+-- those at a later tick, before the end
+inner_tick : (signals : List SignalContents) (end last t : ℕ) (placed : List (ℕ × SignalContents))
+    (ms : List Transition) (rest : List Item) → last < t → All (IsAtPosition signals) placed
+    → items_left signals end last ms ≡ rest → items_left signals end t ms ≡ rest
+    → items_left signals end last (at_tick t placed ++ ms) ≡ with_stamp false t (value_items t placed) ++ rest
+unfolding transition_items last_tick
+inner_tick signals end last t [] ms rest later all still now = still
+inner_tick signals end last t (p ∷ ps) ms rest later all still now =
+    let here = All-head (IsAtPosition signals) p ps all in
+    let more = same_tick signals end t ps ms (All-tail (IsAtPosition signals) p ps all) in
+    grind (arith, ne_eqb, here, more)
 
--- a tick before the end
-one_tick : (signals : List SignalContents) (end last t : ℕ) (placed : List (ℕ × SignalContents)) (ms : List Transition)
-    (rest : List Item) → last < t → AllPlaced signals placed
-    → walk signals end last ms ≡ rest → walk signals end t ms ≡ rest
-    → walk signals end last (at_tick t placed ++ ms) ≡ with_stamp t (value_items t placed) ++ rest
-one_tick signals end last t [] ms rest later all still now = still
-one_tick signals end last t (p ∷ ps) ms rest later all still now = grind (arith, later_tick)
+-- and at the end
+end_tick : (signals : List SignalContents) (last t : ℕ) (placed : List (ℕ × SignalContents)) → last < t
+    → All (IsAtPosition signals) placed
+    → items_left signals t last (at_tick t placed ++ []) ≡ with_stamp true t (value_items t placed) ++ []
+unfolding transition_items last_tick
+end_tick signals last t [] later all = grind (arith, ne_eqb)
+end_tick signals last t (p ∷ ps) later all =
+    let here = All-head (IsAtPosition signals) p ps all in
+    let more = same_tick signals t t ps [] (All-tail (IsAtPosition signals) p ps all) in
+    grind (arith, ne_eqb, eq-eqb, here, more)
 
--- the last tick, and the stamp of the end if nothing changes at it
-tick_at_end : (signals : List SignalContents) (last t : ℕ) (placed : List (ℕ × SignalContents)) → last < t
-    → AllPlaced signals placed
-    → walk signals t last (at_tick t placed ++ []) ≡ (with_stamp t (value_items t placed) ++ [])
-    ++ (if nat_lt 0 t && (length (value_items t placed) == 0) then stamp_of t ∷ [] else [])
-unfolding walk
-tick_at_end signals last t [] later all = grind (arith, lt-ltb)
-tick_at_end signals last t (p ∷ ps) later all = grind (arith, ne_eqb, later_tick, le-ltb, append-nil, lt-ltb)
+-- ---- all ticks
 
-placed_filter : (signals : List SignalContents) (t : ℕ) (placed : List (ℕ × SignalContents)) → AllPlaced signals placed
-    → AllPlaced signals (filter (λ p. differs_at t p.1) placed)
-placed_filter signals t [] all = tt
-placed_filter signals t (p ∷ ps) (at, rest) = grind (arith, placed_filter signals t ps rest)
-
-placed_enumerated : (signals : List SignalContents) (k : ℕ) (ss : List SignalContents) → drop k signals ≡ ss
-    → AllPlaced signals (enumerate_from k ss)
-placed_enumerated signals k [] is = tt
-placed_enumerated signals k (s ∷ ss) is =
-    let later = placed_enumerated signals (k + 1) ss (sym (drop-drop 1 k signals) ∙ ap (drop 1) is) in
-    grind (arith, common_steps, later, get_or-drop, drop-drop)
-
-all_placed : (signals : List SignalContents) (t : ℕ)
-    → AllPlaced signals (filter (λ p. differs_at t p.1) (enumerate_from 0 signals))
-all_placed signals t = placed_filter signals t (enumerate_from 0 signals) (placed_enumerated signals 0 signals refl)
-
-walk_ticks : (signals : List SignalContents) (n end last t : ℕ) → last < t → t + n ≡ end
-    → walk signals end last (transitions_from signals t (suc n)) ≡ tick_items signals t (suc n) ++ end_items signals end
+ticks_left : (signals : List SignalContents) (n end last t : ℕ) → last < t → t + n ≡ end
+    → items_left signals end last (transitions_from 0 signals t (suc n)) ≡ tick_items signals end t (suc n)
 unfolding transitions_from tick_items
-walk_ticks signals zero end last t later all = grind (arith, tick_at_end, all_placed)
-walk_ticks signals (suc n) end last t later all =
-    let still = walk_ticks signals n end last (suc t) (omega arith) (omega arith) in
-    let now = walk_ticks signals n end t (suc t) (omega arith) (omega arith) in
-    grind (arith, still, now, one_tick, all_placed, append_assoc)
+ticks_left signals zero end last t later at =
+    let here : t ≡ end = omega arith in
+    let stamp = eq-eqb t end here in
+    grind (arith, here, stamp, end_tick, all_differing)
+ticks_left signals (suc n) end last t later at =
+    let stamp = ne_eqb t end (omega arith) in
+    inner_tick signals end last t (differing signals t) (transitions_from 0 signals (suc t) (suc n)) _ later
+    (all_differing signals t) (ticks_left signals n end last (suc t) (omega arith) (omega arith))
+    (ticks_left signals n end t (suc t) (omega arith) (omega arith))
+    ∙ ap (λ b. with_stamp b t (value_items t (differing signals t)) ++ tick_items signals end (suc t) (suc n))
+    (sym stamp)
 
--- the walk over the transitions of all ticks
-pub walk_is : (signals : List SignalContents) (end : ℕ)
-    → walk signals end 0 (transitions_from signals 1 end) ≡ tick_items signals 1 end ++ end_items signals end
-unfolding walk transitions_from tick_items
-walk_is signals zero = refl
-walk_is signals (suc n) = walk_ticks signals n (suc n) 0 1 (omega arith) (omega arith)
-
--- a part of the transitions, and the walk over the later ones
-pub walk_parts : (signals : List SignalContents) (end last : ℕ) (ms later : List Transition)
-    → walk signals end last (ms ++ later) ≡ transition_items signals last ms
-    ++ walk signals end (last_tick last ms) later
-unfolding walk transition_items last_tick
-walk_parts signals end last [] later = refl
-walk_parts signals end last (m ∷ ms) later = grind (arith, append_assoc, walk_parts signals end m.tick ms later)
+ticks_from_one : (signals : List SignalContents) (end : ℕ)
+    → items_left signals end 0 (transitions_from 0 signals 1 end) ≡ tick_items signals end 1 end
+unfolding transitions_from tick_items transition_items last_tick
+ticks_from_one signals zero = refl
+ticks_from_one signals (suc n) = ticks_left signals n (suc n) 0 1 (omega arith) (omega arith)
 
 -- the lines of all ticks past 0
-pub whole_walk : (signals : List SignalContents) (end : ℕ)
-    → flat_map item_line (walk signals end 0 (transitions_from signals 1 (end + 1 - 1)))
-    ≡ flat_map item_line (tick_items signals 1 end ++ end_items signals end)
-whole_walk signals end = grind (arith, walk_is)
+pub all_left : (signals : List SignalContents) (end : ℕ)
+    → flat_map item_line (items_left signals end 0 (transitions_from 0 signals 1 (end + 1 - 1)))
+    ≡ flat_map item_line (tick_items signals end 1 end)
+all_left signals end = grind (arith, ticks_from_one)
+
+-- ---- windows one after another
+
+transitions_split : (j : ℕ) (signals : List SignalContents) (t n m : ℕ)
+    → transitions_from j signals t (n + m) ≡ transitions_from j signals t n ++ transitions_from j signals (t + n) m
+unfolding transitions_from
+transitions_split j signals t zero m = grind arith
+transitions_split j signals t (suc n) m =
+    let there : suc t + n ≡ t + suc n = omega arith in
+    let sum : suc n + m ≡ suc (n + m) = omega arith in
+    let rest = transitions_split j signals (suc t) n m in
+    grind (arith, there, sum, rest, append_assoc)
+
+items_split : (signals : List SignalContents) (end last : ℕ) (ms later : List Transition)
+    → items_left signals end last (ms ++ later) ≡ transition_items signals last ms
+    ++ items_left signals end (last_tick last ms) later
+unfolding transition_items last_tick
+items_split signals end last [] later = refl
+items_split signals end last (m ∷ ms) later = grind (arith, append_assoc, items_split signals end m.tick ms later)
 
 -- the lines of a window, and those of the ticks after it
-pub window_walked : (signals : List SignalContents) (end last next from count : ℕ) (ms : List Transition)
-    → ms ≡ transitions_from signals from count → next ≡ last_tick last ms → from + count ≤ end + 1
-    → flat_map item_line (walk signals end last (transitions_from signals from (end + 1 - from)))
+pub window_written : (signals : List SignalContents) (end last next from count : ℕ) (ms : List Transition)
+    → ms ≡ transitions_from 0 signals from count → next ≡ last_tick last ms → from + count ≤ end + 1
+    → flat_map item_line (items_left signals end last (transitions_from 0 signals from (end + 1 - from)))
     ≡ flat_map item_line (transition_items signals last ms) ++ flat_map item_line
-    (walk signals end next (transitions_from signals (from + count) (end + 1 - (from + count))))
-window_walked signals end last next from count ms all at within =
-    let left = end + 1 - (from + count) in
+    (items_left signals end next (transitions_from 0 signals (from + count) (end + 1 - (from + count))))
+window_written signals end last next from count ms all at within =
+    let left : ℕ = end + 1 - (from + count) in
     let sum : end + 1 - from ≡ count + left = omega arith in
-    let later = transitions_from signals (from + count) left in
-    ap (λ n. flat_map item_line (walk signals end last (transitions_from signals from n))) sum
-    ∙ ap (λ l. flat_map item_line (walk signals end last l)) (transitions_split signals from count left
-    ∙ ap (λ l. l ++ later) (sym all))
-    ∙ ap (flat_map item_line) (walk_parts signals end last ms later)
-    ∙ flat_map-append item_line (transition_items signals last ms) (walk signals end (last_tick last ms) later)
-    ∙ ap (λ t. flat_map item_line (transition_items signals last ms) ++ flat_map item_line (walk signals end t later))
-    (sym at)
+    let parts = transitions_split 0 signals from count left in
+    let items = items_split signals end last ms (transitions_from 0 signals (from + count) left) in
+    grind (arith, sum, parts, items, flat_map-append)
 
 -- only the end is left
-pub end_walked : (signals : List SignalContents) (end last from : ℕ) → end < from
-    → flat_map item_line (walk signals end last (transitions_from signals from (end + 1 - from)))
-    ≡ flat_map item_line (if nat_lt last end then stamp_of end ∷ [] else []) ++ []
-unfolding walk transitions_from
-end_walked signals end last from past = grind (arith, append-nil)
+pub end_left : (signals : List SignalContents) (end last from : ℕ) → end < from
+    → flat_map item_line (items_left signals end last (transitions_from 0 signals from (end + 1 - from)))
+    ≡ flat_map item_line (new_stamp last end) ++ []
+unfolding transition_items transitions_from last_tick
+end_left signals end last from past = grind (arith, append-nil)

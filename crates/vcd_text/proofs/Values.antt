@@ -1,8 +1,7 @@
 -- The part of a value's line before the code, for one bit and for more.
-use Rattle.std.proofs.Common.{◌≡◌, ◌≢◌, ℕ, List, [], ◌∷◌, ◌++◌, length, get_or, append_assoc, arith}
+use Rattle.std.proofs.Common.{◌≡◌, ◌≢◌, ℕ, List, [], ◌∷◌, ◌++◌, length, append_assoc, arith}
 use Rattle.vcd_core.specs.declared.bit.Bit.{Bit}
-use Rattle.vcd_core.specs.declared.bit.Bit.TheVariants.{X}
-use Rattle.vcd_core.specs.Value.{printed_letter}
+use Rattle.vcd_core.specs.Value.{letter_at, printed_letter}
 use Rattle.vcd_text.specs.Letters.{printed_letters, short_form}
 use Rattle.vcd_text.specs.Text.{item_line, value_item}
 use Rattle.vcd_text.specs.inside.ValueFronts.{value_front}
@@ -12,7 +11,7 @@ many : (digits code : List ℕ) → ((98 ∷ []) ++ (digits ++ 32 ∷ [])) ++ (c
     ++ 10 ∷ []
 many digits code = grind (arith, append_assoc)
 
-pub front_of_bit : (v : List Bit) → length v ≡ 1 → value_front v ≡ printed_letter (get_or v 0 X) ∷ []
+pub front_of_bit : (v : List Bit) → length v ≡ 1 → value_front v ≡ printed_letter (letter_at v 0) ∷ []
 front_of_bit v h1 = grind arith
 
 pub front_of_bits : (v : List Bit) → length v ≢ 1

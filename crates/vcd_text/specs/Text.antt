@@ -1,7 +1,7 @@
 -- The text of a capture: its items in a fixed order, each on its own line (the format: IEEE
 -- 1364-2005, 18.2; the order and the codes: the project's own).
 use Rattle.std.specs.Prelude.{ℕ, zero, suc, Bool, ◌+◌, ◌-◌, ◌/◌, ◌%◌, ◌==◌, ◌&&◌, not}
-use Rattle.std.specs.Prelude.{if◌then◌else◌, nat_lt, List}
+use Rattle.std.specs.Prelude.{false, List}
 use Rattle.std.specs.Prelude.{◌∷◌, ◌++◌, length, map, drop, replicate, Option, Some, None, codes}
 use Rattle.std.specs.Prelude.{[]}
 use Rattle.std.specs.List.{filter, flat_map, enumerate_from, join_with_byte, common_prefix_len}
@@ -83,46 +83,38 @@ differs_at t s = not (same_letters (signal_value s t) (signal_value s (t - 1)))
 abbrev pub value_items : ℕ → List (ℕ × SignalContents) → List Item
 value_items t placed = map (λ p. value_item (code_of p.0) (signal_value p.1 t)) placed
 
--- the values at a tick of all signals, in order
-abbrev pub all_values : List SignalContents → ℕ → List Item
-all_values signals t = value_items t (enumerate_from 0 signals)
-
--- the values at a tick of the signals that differ at it, in order
-abbrev pub new_values : List SignalContents → ℕ → List Item
-new_values signals t = value_items t (filter (λ p. differs_at t p.1) (enumerate_from 0 signals))
+-- the signals that differ at a tick, in order, each with its position
+abbrev pub differing : List SignalContents → ℕ → List (ℕ × SignalContents)
+differing signals t = filter (λ p. differs_at t p.1) (enumerate_from 0 signals)
 
 -- the stamp of a tick (18.2)
 abbrev pub stamp_of : ℕ → Item
 stamp_of t = stamp (decimal t)
 
--- the stamp of a tick before its values, if there are any
-abbrev pub with_stamp : ℕ → List Item → List Item
-with_stamp t [] = []
-with_stamp t (v ∷ vs) = stamp_of t ∷ v ∷ vs
+-- the stamp of a tick before its values; without values the end alone has a stamp
+abbrev pub with_stamp : (is_end : Bool) → ℕ → List Item → List Item
+with_stamp false t [] = []
+with_stamp is_end t values = stamp_of t ∷ values
 
 -- the values at tick 0, between `$dumpvars` and `$end` (18.2)
 abbrev pub first_items : List SignalContents → List Item
 first_items signals = stamp_of 0 ∷ dump_word (codes "$dumpvars")
-    ∷ (all_values signals 0 ++ dump_word end_word ∷ [])
+    ∷ (value_items 0 (enumerate_from 0 signals) ++ dump_word end_word ∷ [])
 
 -- the values that differ at each of n ticks, from t on
-unfoldable pub tick_items : List SignalContents → ℕ → ℕ → List Item
-tick_items signals t zero = []
-tick_items signals t (suc n) = with_stamp t (new_values signals t) ++ tick_items signals (suc t) n
-
--- the stamp of the end, if it is above 0 and nothing differs at it
-abbrev pub end_items : List SignalContents → ℕ → List Item
-end_items signals end =
-    if nat_lt 0 end && (length (new_values signals end) == 0) then stamp_of end ∷ [] else []
+unfoldable pub tick_items : List SignalContents → (end : ℕ) → ℕ → ℕ → List Item
+tick_items signals end t zero = []
+tick_items signals end t (suc n) =
+    with_stamp (t == end) t (value_items t (differing signals t))
+    ++ tick_items signals end (suc t) n
 
 -- ---- files
 
--- the items of a capture: header, timescale, declarations, the values at tick 0, those that change
--- later, and the end
+-- the items of a capture: header, timescale, declarations, the values at tick 0, and those that
+-- change later, up to the end
 unfoldable pub items_of : Contents → List Item
 items_of c = header_items c.header ++ timescale_items c.timescale ++ signal_items [] 0 c.signals
-    ++ end_definitions ∷ first_items c.signals
-    ++ tick_items c.signals 1 c.end ++ end_items c.signals c.end
+    ++ end_definitions ∷ first_items c.signals ++ tick_items c.signals c.end 1 c.end
 
 -- the text of a capture, byte for byte
 unfoldable pub text : Contents → List ℕ

@@ -1,15 +1,9 @@
 -- The next change of each signal from a tick on.
 use Rattle.std.specs.Prelude.{◌≡◌, ◌<◌, ◌≤◌, ◌+◌, ◌-◌, ◌^◌, ℕ, List, length, map, take}
 use Rattle.std.specs.Prelude.{slice_index_or, All}
-use Rattle.vcd_core.specs.Wave.{IsWave}
 use Rattle.vcd_core.specs.declared.capture.Signal.{Signal}
 use Rattle.vcd_core.specs.declared.wave.Change.{Change}
 use Rattle.vcd_text.specs.declared.writing.cursors.Cursor.{Cursor}
-
--- the changes of some wave, whatever its width
-pub record AreChangesOfSomeWave (changes : List Change) : Type 0 where
-  pub width : ℕ
-  pub form : IsWave width changes
 
 -- the tick of the change at a place, past all ticks if there is none
 abbrev pub tick_at : List Change → ℕ → ℕ

@@ -23,11 +23,12 @@ transition_of tick position = record { tick = tick; position = position }
 abbrev pub transitions_at : ℕ → List (ℕ × SignalContents) → List Transition
 transitions_at t placed = map (λ p. transition_of t p.0) (filter (λ p. differs_at t p.1) placed)
 
--- the signals that differ, at n ticks from t on
-unfoldable pub transitions_from : List SignalContents → ℕ → ℕ → List Transition
-transitions_from signals t zero = []
-transitions_from signals t (suc n) =
-    transitions_at t (enumerate_from 0 signals) ++ transitions_from signals (suc t) n
+-- the signals that differ, the first at this position, at n ticks from t on
+unfoldable pub transitions_from : ℕ → List SignalContents → ℕ → ℕ → List Transition
+transitions_from position signals t zero = []
+transitions_from position signals t (suc n) =
+    transitions_at t (enumerate_from position signals)
+    ++ transitions_from position signals (suc t) n
 
 -- whether a tick is in a window of ticks: from the first to before the other
 abbrev pub is_in_window : ℕ → ℕ → ℕ → Bool
@@ -48,11 +49,15 @@ unsorted_window from to position (s ∷ ss) =
 abbrev pub transition_value : List SignalContents → Transition → List Bit
 transition_value signals m = signal_value (slice_index_or signals m.position no_signal) m.tick
 
--- transitions with their values, and a stamp if the tick differs from the one before
+-- the stamp of a tick, if it differs from the one before
+abbrev pub new_stamp : ℕ → ℕ → List Item
+new_stamp last tick = if tick == last then [] else stamp_of tick ∷ []
+
+-- transitions with their values and new stamps
 unfoldable pub transition_items : List SignalContents → ℕ → List Transition → List Item
 transition_items signals last [] = []
 transition_items signals last (m ∷ ms) =
-    (if m.tick == last then [] else stamp_of m.tick ∷ [])
+    new_stamp last m.tick
     ++ value_item (code_of m.position) (transition_value signals m)
     ∷ transition_items signals m.tick ms
 

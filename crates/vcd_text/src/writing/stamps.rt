@@ -1,10 +1,11 @@
 //! The values at tick 0, and the stamps of ticks (IEEE 1364-2005, 18.2).
 
-ghost use Rattle.std.specs.Prelude.{◌≡◌, ◌==◌, ◌≤◌, ◌∷◌, [], if◌then◌else◌, nat_lt, length, map};
-ghost use Rattle.std.specs.List.{flat_map};
+ghost use Rattle.std.specs.Prelude.{◌≡◌, ◌≤◌, ◌∷◌, [], length, map};
+ghost use Rattle.std.specs.List.{enumerate_from, flat_map};
 ghost use Rattle.vcd_core.specs.CaptureContents.{signal_contents};
 ghost use Rattle.vcd_core.specs.declared.capture.TheConstants.{SIGNAL_LIMIT};
-ghost use Rattle.vcd_text.specs.Text.{all_values, first_items, item_line, stamp_of};
+ghost use Rattle.vcd_text.specs.Text.{first_items, item_line, stamp_of, value_items};
+ghost use Rattle.vcd_text.specs.inside.Transitions.{new_stamp};
 ghost use Rattle.vcd_text.specs.inside.Written.{Emits};
 
 use super::output::{Output, write_byte, write_bytes};
@@ -28,7 +29,7 @@ pub fn write_first_values<W: Sink>(output: &mut Output<W>, signals: &[Signal])
 fn write_all_values<W: Sink>(output: &mut Output<W>, signals: &[Signal])
     requires { length signals.now ≤ SIGNAL_LIMIT }
     ensures { Emits W.Sink output.old output.new
-        (flat_map item_line (all_values (map signal_contents signals.now) 0)) }
+        (flat_map item_line (value_items 0 (enumerate_from 0 (map signal_contents signals.now)))) }
 {
     for (position, signal) in signals.iter().enumerate() {
         write_value_near(output, position, &signal.wave, 0, 0);
@@ -37,24 +38,12 @@ fn write_all_values<W: Sink>(output: &mut Output<W>, signals: &[Signal])
 
 /// Writes the stamp of `tick`, unless it is that of the tick before, `last`.
 pub fn write_new_stamp<W: Sink>(output: &mut Output<W>, last: u64, tick: u64)
-    ensures { Emits W.Sink output.old output.new
-        (flat_map item_line (if tick == last then [] else stamp_of tick ∷ [])) }
+    ensures { Emits W.Sink output.old output.new (flat_map item_line (new_stamp last tick)) }
 {
     if tick == last {
         return;
     }
     write_stamp(output, tick);
-}
-
-/// Writes the stamp of the end, if it is above the last tick.
-pub fn write_last_stamp<W: Sink>(output: &mut Output<W>, last: u64, end: u64)
-    ensures { Emits W.Sink output.old output.new
-        (flat_map item_line (if nat_lt last end then stamp_of end ∷ [] else [])) }
-{
-    if last >= end {
-        return;
-    }
-    write_stamp(output, end);
 }
 
 /// Writes the line of a stamp.

@@ -1,6 +1,6 @@
 //! The changes after tick 0, window by window (IEEE 1364-2005, 18.2).
 
-ghost use Rattle.std.specs.Prelude.{◌≡◌, ◌≤◌, ◌++◌, length, map, All};
+ghost use Rattle.std.specs.Prelude.{◌≡◌, ◌≤◌, length, map, All};
 ghost use Rattle.std.specs.List.{flat_map};
 ghost use Rattle.vcd_core.specs.CaptureContents.{signal_contents};
 ghost use Rattle.vcd_core.specs.declared.capture.TheConstants.{END_LIMIT, SIGNAL_LIMIT};
@@ -8,11 +8,11 @@ ghost use Rattle.vcd_text.specs.inside.Transitions.{last_tick, transition_items}
 ghost use Rattle.vcd_text.specs.inside.Windows.{IsKey, IsReady, transitions_of};
 ghost use Rattle.vcd_text.specs.inside.Written.{Emits};
 ghost use Rattle.vcd_text.specs.declared.writing.window.TheConstants.{POSITIONS};
-ghost use Rattle.vcd_text.specs.Text.{end_items, item_line, tick_items};
+ghost use Rattle.vcd_text.specs.Text.{item_line, tick_items};
 
 use super::cursors::{Cursor, tick_at_place};
 use super::output::Output;
-use super::stamps::{write_last_stamp, write_new_stamp};
+use super::stamps::write_new_stamp;
 use super::values::write_value_near;
 use super::window::{POSITIONS, Window, fill_window};
 use vcd_core::{Signal, Sink};
@@ -28,8 +28,7 @@ pub fn write_transitions<W: Sink>(
     requires ready { IsReady end 1 signals.now window.old }
     requires end { end ≤ END_LIMIT }
     ensures { Emits W.Sink output.old output.new
-        (flat_map item_line (tick_items (map signal_contents signals.now) 1 end
-        ++ end_items (map signal_contents signals.now) end)) }
+        (flat_map item_line (tick_items (map signal_contents signals.now) end 1 end)) }
 {
     let mut last = 0;
     let mut from = 1;
@@ -45,7 +44,7 @@ pub fn write_transitions<W: Sink>(
         most = next_window_ticks(count, window.keys.len(), window.keys.capacity());
         from += count;
     }
-    write_last_stamp(output, last, end);
+    write_new_stamp(output, last, end);
 }
 
 /// How many ticks the first window tries, so that even changes fill seven eighths.

@@ -46,50 +46,21 @@ fn write_value<W: Sink>(output: &mut Output<W>, position: usize, value: &Value)
     ensures { Emits W.Sink output.old output.new
         (item_line (value_item (code_of position) value.now)) }
 {
-    let width = value.width();
-    if width <= 64 {
-        write_block_value(output, position, width, value.block(0));
-        return;
-    }
-    write_byte(output, b'b');
-    write_lowest(output, value, short_form_len(value));
-    write_byte(output, b' ');
-    write_code(output, position);
-    write_byte(output, b'\n');
-}
-
-/// Writes the line that gives the value of at most 64 bits, with the letters of this block, to the
-/// signal at `position`. Letters from bit `width` on are ignored. It takes a step for each two
-/// written letters.
-fn write_block_value<W: Sink>(
-    output: &mut Output<W>,
-    position: usize,
-    width: u64,
-    block: LetterBlock,
-)
-    requires position { position < SIGNAL_LIMIT }
-    requires least { 1 ≤ width }
-    requires most { width ≤ 64 }
-    ensures { Emits W.Sink output.old output.new
-        (item_line (value_item (code_of position) (letters_of width (block ∷ [])))) }
-{
-    write_block_front(output, width, block);
+    write_value_front(output, value);
     write_code(output, position);
     write_byte(output, b'\n');
 }
 
 /// Writes the part before the code: one letter, or `b`, the short form and a space.
-fn write_block_front<W: Sink>(output: &mut Output<W>, width: u64, block: LetterBlock)
-    requires least { 1 ≤ width }
-    requires most { width ≤ 64 }
-    ensures { Emits W.Sink output.old output.new (value_front (letters_of width (block ∷ []))) }
+fn write_value_front<W: Sink>(output: &mut Output<W>, value: &Value)
+    ensures { Emits W.Sink output.old output.new (value_front value.now) }
 {
-    if width == 1 {
-        write_byte(output, letter_pair(block)[1]);
+    if value.width() == 1 {
+        write_byte(output, letter_pair(value.block(0))[1]);
         return;
     }
     write_byte(output, b'b');
-    write_letters(output, short_form_len_of_block(width, block), block);
+    write_lowest(output, value, short_form_len(value));
     write_byte(output, b' ');
 }
 

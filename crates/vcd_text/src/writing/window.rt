@@ -6,7 +6,7 @@ ghost use Rattle.std.specs.Prelude.{false, length, map, All, vec_capacity, IfOk,
 ghost use Rattle.vcd_core.specs.CaptureContents.{signal_contents};
 ghost use Rattle.vcd_core.specs.Sound.{IsSoundSignal};
 ghost use Rattle.vcd_core.specs.declared.capture.TheConstants.{END_LIMIT, SIGNAL_LIMIT};
-ghost use Rattle.vcd_text.specs.inside.Cursors.{AreNext, AreChangesOfSomeWave, IsNext};
+ghost use Rattle.vcd_text.specs.inside.Cursors.{AreNext, IsNext};
 ghost use Rattle.vcd_text.specs.inside.Transitions.{transitions_from, unsorted_window};
 ghost use Rattle.vcd_text.specs.inside.Transitions.{window_of_signal};
 ghost use Rattle.vcd_text.specs.inside.Windows.{IsKey, IsReady, transitions_of};
@@ -14,7 +14,7 @@ ghost use Rattle.vcd_text.specs.inside.Windows.{IsKey, IsReady, transitions_of};
 use super::cursors::{Cursor, first_changes, following_change};
 use std::alloc::Global;
 use std::mem::swap;
-use vcd_core::{Change, NoMemory, Signal};
+use vcd_core::{NoMemory, Signal, Wave};
 
 /// The limit of the positions in a key, which is `SIGNAL_LIMIT`. Positions and ticks fit together
 /// in 64 bits.
@@ -68,7 +68,7 @@ pub fn fill_window(window: &mut Window, signals: &[Signal], from: u64, most: u64
     ensures some { 1 ≤ result }
     ensures most { result ≤ most }
     ensures all { transitions_of from window.new.keys.items
-        ≡ transitions_from (map signal_contents signals.now) from result }
+        ≡ transitions_from 0 (map signal_contents signals.now) from result }
     ensures keys { All (IsKey from (length signals.now)) window.new.keys.items }
     ensures ready { IsReady end (from + result) signals.now window.new }
 {
@@ -118,8 +118,14 @@ fn list_window(
 {
     keys.clear();
     for (position, signal) in signals.iter().enumerate() {
-        let changes = signal.wave.changes();
-        match list_signal(keys, position, changes, start_changes[position], from, to) {
+        match list_signal(
+            keys,
+            position,
+            &signal.wave,
+            start_changes[position],
+            from,
+            to,
+        ) {
             Some(next) => cursors[position] = next,
             None => return false,
         }
@@ -132,25 +138,26 @@ fn list_window(
 fn list_signal(
     keys: &mut Vec<u64>,
     position: usize,
-    changes: &[Change],
+    wave: &Wave,
     next: Cursor,
     from: u64,
     to: u64,
 ) -> Option<Cursor>
     requires position { position < POSITIONS }
-    requires rise { AreChangesOfSomeWave changes.now }
-    requires next { IsNext from from changes.now next }
+    requires next { IsNext from from wave.now.changes next }
     requires order { from ≤ to }
     requires end { to ≤ END_LIMIT + 1 }
     ensures all { IfSome result (λ _. transitions_of from keys.new.items
-        ≡ transitions_of from keys.old.items ++ window_of_signal from to position changes.now) }
+        ≡ transitions_of from keys.old.items
+        ++ window_of_signal from to position wave.now.changes) }
     ensures keys { (count : ℕ) → position < count →
         All (IsKey from count) keys.old.items → All (IsKey from count) keys.new.items }
-    ensures next { IfSome result (λ later. IsNext to to changes.now later) }
+    ensures next { IfSome result (λ later. IsNext to to wave.now.changes later) }
     ensures no_room_or_too_far { IfNone result ((from + TICKS_IN_KEY < to) ⊎ (vec_capacity keys.old
-        < length keys.old.items + length (window_of_signal from to position changes.now))) }
+        < length keys.old.items + length (window_of_signal from to position wave.now.changes))) }
     ensures room { vec_capacity keys.old ≤ vec_capacity keys.new }
 {
+    let changes = wave.changes();
     let mut next = next;
     while next.tick < to {
         if keys.len() >= keys.capacity() {

@@ -9,7 +9,7 @@ use Rattle.vcd_core.specs.Contents.{Contents}
 use Rattle.vcd_core.specs.CaptureContents.{contents, signal_contents}
 use Rattle.vcd_core.specs.declared.device.Sink as sinks
 use Rattle.vcd_text.specs.declared.writing.output.Output.{Output}
-use Rattle.vcd_text.specs.Text.{end_items, first_items, item_line, text, tick_items}
+use Rattle.vcd_text.specs.Text.{first_items, item_line, text, tick_items}
 use Rattle.vcd_text.specs.inside.TextParts.{declarations_text}
 use Rattle.vcd_text.specs.inside.Written.{HasEmitted, Emits}
 use Rattle.vcd_text.proofs.Texts.{whole_text}
@@ -21,14 +21,14 @@ all_written : {W : Type 0} {sink : sinks.Ghosts W} {o0 o1 o2 o3 : Output W} (c :
     (end : ℕ) → map signal_contents signals ≡ c.signals → end ≡ c.end → o0.unsent.items ≡ [] → o0.start ≡ 0
     → Emits sink o0 o1 (declarations_text c)
     → Emits sink o1 o2 (flat_map item_line (first_items (map signal_contents signals)))
-    → Emits sink o2 o3 (flat_map item_line (tick_items (map signal_contents signals) 1 end
-    ++ end_items (map signal_contents signals) end)) → HasEmitted sink (sink.taken o0.writer.now) o3 (text c)
+    → Emits sink o2 o3 (flat_map item_line (tick_items (map signal_contents signals) end 1 end))
+    → HasEmitted sink (sink.taken o0.writer.now) o3 (text c)
 all_written c signals end same at empty none declarations first later =
     whole_written empty none
     (writes_as (ap (λ ss. declarations_text c ++ (flat_map item_line (first_items ss)
-    ++ flat_map item_line (tick_items ss 1 end ++ end_items ss end))) same
+    ++ flat_map item_line (tick_items ss end 1 end))) same
     ∙ ap (λ e. declarations_text c ++ (flat_map item_line (first_items c.signals)
-    ++ flat_map item_line (tick_items c.signals 1 e ++ end_items c.signals e))) at
+    ++ flat_map item_line (tick_items c.signals e 1 e))) at
     ∙ whole_text c)
     (writes_both declarations (writes_both first later)))
 

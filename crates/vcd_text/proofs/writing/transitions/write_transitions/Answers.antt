@@ -3,13 +3,13 @@ use Rattle.std.proofs.Common.{◌≤◌, ◌+◌, map, refl, arith}
 use Rattle.vcd_core.specs.CaptureContents.{signal_contents}
 use Rattle.vcd_text.specs.inside.Windows.{transitions_of}
 use Rattle.std.proofs.Common.{ap, ◌∙◌}
-use Rattle.vcd_text.proofs.TransitionText.{end_walked, whole_walk, window_walked}
+use Rattle.vcd_text.proofs.TransitionText.{all_left, end_left, window_written}
 use Rattle.vcd_text.proofs.Written.{front_begun, front_grows, front_whole}
 use Rattle.std.proofs.lemmas.List.{with_items_is}
 use Rattle.vcd_text.proofs.writing.transitions.write_transitions.Goals as goal
 
 pub loop-from-init : goal.loop-from-init
-loop-from-init g c = grind (arith, front_begun, whole_walk)
+loop-from-init g c = grind (arith, front_begun, all_left)
 
 pub loop-from-preserved : goal.loop-from-preserved
 loop-from-preserved g c =
@@ -23,7 +23,7 @@ loop-from-preserved g c =
     record {
       text =
           front_grows _ c.loop-from.invariant.text written.ensures.text
-          (window_walked signals c.args.end c.loop-from.last written.result c.loop-from.from filled.result _ all
+          (window_written signals c.args.end c.loop-from.last written.result c.loop-from.from filled.result _ all
           written.ensures.last following);
       ready = record {
         few = ready.few;
@@ -39,6 +39,6 @@ loop-from-preserved g c =
 
 pub returns : goal.returns
 returns g c =
-    front_whole (front_grows _ c.loop-from.invariant.text c.write_last_stamp.ensures
-    (end_walked (map signal_contents c.args.signals.now) c.args.end c.loop-from.last c.loop-from.from
+    front_whole (front_grows _ c.loop-from.invariant.text c.write_new_stamp.ensures
+    (end_left (map signal_contents c.args.signals.now) c.args.end c.loop-from.last c.loop-from.from
     (omega arith))) refl

@@ -1,11 +1,11 @@
 -- The ticks before a window are written; the ticks after it are left.
-use Rattle.std.proofs.Common.{◌≤◌, ◌+◌, ◌-◌, ◌++◌, map}
+use Rattle.std.proofs.Common.{◌≤◌, ◌+◌, ◌-◌, map}
 use Rattle.std.specs.List.{flat_map}
 use Rattle.vcd_core.specs.CaptureContents.{signal_contents}
-use Rattle.vcd_text.specs.Text.{end_items, item_line, tick_items}
+use Rattle.vcd_text.specs.Text.{item_line, tick_items}
 use Rattle.vcd_text.specs.inside.Transitions.{transitions_from}
 use Rattle.vcd_text.specs.inside.Windows.{IsReady}
-use Rattle.vcd_text.proofs.TransitionText.{walk}
+use Rattle.vcd_text.proofs.TransitionText.{items_left}
 use Rattle.vcd_text.proofs.Written.{WritesFront}
 use Rattle.vcd_text.proofs.writing.transitions.write_transitions.Given as goal
 
@@ -13,10 +13,9 @@ abbrev pub invariant-loop-from : goal.invariant-loop-from
 invariant-loop-from g l =
     record {
       text : WritesFront g.W.Sink l.initial.output l.output
-          (flat_map item_line (walk (map signal_contents l.signals) l.end l.last
-          (transitions_from (map signal_contents l.signals) l.from (l.end + 1 - l.from))))
-          (flat_map item_line (tick_items (map signal_contents l.signals) 1 l.end
-          ++ end_items (map signal_contents l.signals) l.end));
+          (flat_map item_line (items_left (map signal_contents l.signals) l.end l.last
+          (transitions_from 0 (map signal_contents l.signals) l.from (l.end + 1 - l.from))))
+          (flat_map item_line (tick_items (map signal_contents l.signals) l.end 1 l.end));
       ready : IsReady l.end l.from l.signals l.window;
       within : l.from ≤ l.end + 1;
       some : 1 ≤ l.most;

@@ -1,6 +1,8 @@
 -- Each turn lists the key of the next change, which is in the window.
-use Rattle.std.proofs.Common.{◌<◌, ◌++◌, inr, length, drop, sym, ap, ◌∙◌, arith}
+use Rattle.std.proofs.Common.{◌<◌, ◌+◌, ◌++◌, inr, length, drop, sym, ap, subst, ◌∙◌, arith}
 use Rattle.std.proofs.lemmas.List.{append-nil, length-append, length-map}
+use Rattle.vcd_core.specs.Wave.{IsWave}
+use Rattle.vcd_text.specs.inside.Cursors.{tick_at}
 use Rattle.vcd_text.specs.inside.Transitions.{Transition, window_of_signal}
 use Rattle.vcd_text.specs.inside.Windows.{transition_of_key, transitions_of}
 use Rattle.vcd_text.proofs.Cursors.{begins, goes_on, goes_to, steps, stops, tick_inside}
@@ -22,12 +24,14 @@ loop-next-preserved c =
     let next = c.loop-next.next in
     let keys = c.loop-next.keys.items in
     let new = c.push_in_room.new.keys.items in
-    let cs = c.args.changes.now in
+    let cs = c.args.wave.now.changes in
     let more = c.following_change-next.ensures in
     let early : next.tick < c.args.to = omega arith in
     record {
-      next = goes_on c.args.from c.args.to cs next c.following_change-next.result c.requires.rise kept.next early
-          c.requires.end more.place more.tick more.following_tick;
+      next = goes_on _ c.args.from c.args.to cs next c.following_change-next.result
+          (subst (IsWave _) c.changes-changes.ensures.changes c.changes-changes.ensures.form) kept.next early
+          c.requires.end more.place more.tick
+          (more.following_tick ∙ ap (λ l. tick_at l (next.place + 2)) c.changes-changes.ensures.changes);
       all =
           ap (λ k. transitions_of c.args.from new ++ window_of_signal c.args.from c.args.to c.args.position (drop k cs))
           more.place
@@ -45,7 +49,7 @@ pub returns-then-len-capacity-clause-no_room_or_too_far : goal.returns-then-len-
 returns-then-len-capacity-clause-no_room_or_too_far c = inr (
     let kept = c.loop-next.invariant in
     let next = c.loop-next.next in
-    let cs = c.args.changes.now in
+    let cs = c.args.wave.now.changes in
     let keys = c.loop-next.keys.items in
     let old = c.args.keys.now.items in
     let window = window_of_signal c.args.from c.args.to c.args.position in

@@ -8,13 +8,14 @@ use Rattle.vcd_text.proofs.writing.window.list_signal.Given as goal
 abbrev pub invariant-loop-next : goal.invariant-loop-next
 invariant-loop-next l =
     record {
-      next : IsNext l.from l.to l.changes l.next;
-      all : transitions_of l.from l.keys.items ++ window_of_signal l.from l.to l.position (drop l.next.place l.changes)
-          ≡ transitions_of l.from l.initial.keys.items ++ window_of_signal l.from l.to l.position l.changes;
+      next : IsNext l.from l.to l.wave.changes l.next;
+      all : transitions_of l.from l.keys.items
+          ++ window_of_signal l.from l.to l.position (drop l.next.place l.wave.changes)
+          ≡ transitions_of l.from l.initial.keys.items ++ window_of_signal l.from l.to l.position l.wave.changes;
       keys : (count : ℕ) → l.position < count → All (IsKey l.from count) l.initial.keys.items
           → All (IsKey l.from count) l.keys.items;
       room : vec_capacity l.initial.keys ≤ vec_capacity l.keys;
     }
 
 abbrev pub decreases-loop-next : goal.decreases-loop-next
-decreases-loop-next l = length l.changes - l.next.place
+decreases-loop-next l = length l.wave.changes - l.next.place

@@ -1,27 +1,21 @@
 -- Each turn lists the keys of one signal.
-use Rattle.std.proofs.Common.{◌<◌, ◌++◌, List, length, get_or, sym, ap, ◌∙◌, subst, arith}
+use Rattle.std.proofs.Common.{◌<◌, List, length, get_or, sym, ap, ◌∙◌, subst, arith}
 use Rattle.std.proofs.lemmas.List.{length-map, length-set}
 use Rattle.vcd_core.specs.declared.capture.Signal.{Signal}
 use Rattle.vcd_core.specs.declared.wave.Change.{Change}
 use Rattle.vcd_text.specs.declared.writing.cursors.Cursor.{Cursor}
 use Rattle.vcd_text.specs.inside.Cursors.{IsNext}
-use Rattle.vcd_text.specs.inside.Transitions.{window_of_signal}
-use Rattle.vcd_text.specs.inside.Windows.{transitions_of}
 use Rattle.vcd_text.proofs.Listing.{one_listed, all_listed, longer_than}
 use Rattle.vcd_text.proofs.Cursors.{passed_next}
 use Rattle.vcd_text.proofs.writing.window.list_window.Goals as goal
 
-pub list_signal-requires-clause-rise : goal.list_signal-requires-clause-rise
-list_signal-requires-clause-rise c = grind arith
-
 pub list_signal-requires-clause-next : goal.list_signal-requires-clause-next
 list_signal-requires-clause-next c =
     let k = c.loop-position.position in
-    let s = c.index-signals-position.result in
     let none : Cursor = record { place = 0; tick = 0; following_tick = 0 } in
     subst (λ (l : List Change). IsNext c.args.from c.args.from l (get_or c.args.start_changes.now k none))
-    (ap (λ (x : Signal). x.wave.changes) (sym c.index-signals-position.is) ∙ sym c.changes-changes.ensures.changes)
-    (c.requires.start_changes.each k s none (omega arith))
+    (ap (λ (x : Signal). x.wave.changes) (sym c.index-signals-position.is))
+    (c.requires.start_changes.each k c.index-signals-position.result none (omega arith))
 
 pub returns-in-None-clause-keys : goal.returns-in-None-clause-keys
 returns-in-None-clause-keys c =
@@ -50,14 +44,10 @@ loop-position-preserved c =
     let inside : k < length signals = omega arith in
     record {
       all = one_listed c.args.from c.args.to k signals s _ _ _ inside c.index-signals-position.is
-          (c.in-Some.ensures.all
-          ∙ ap (λ (l : List Change). transitions_of c.args.from c.loop-position.keys.items
-          ++ window_of_signal c.args.from c.args.to k l) c.changes-changes.ensures.changes) kept.all;
+          c.in-Some.ensures.all kept.all;
       keys = c.list_signal.ensures.keys (length signals) inside kept.keys;
       next_count = length-set c.loop-position.cursors k c.in-Some.next ∙ kept.next_count;
       passed = passed_next c.args.to k signals c.loop-position.cursors s c.in-Some.next inside kept.next_count
-          c.index-signals-position.is
-          (subst (λ (l : List Change). IsNext c.args.to c.args.to l c.in-Some.next) c.changes-changes.ensures.changes
-          c.in-Some.ensures.next) kept.passed;
+          c.index-signals-position.is c.in-Some.ensures.next kept.passed;
       room = omega (arith, kept.room, c.list_signal.ensures.room);
     }
