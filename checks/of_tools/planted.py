@@ -21,17 +21,19 @@ CASES = [
     ("rename", "files/more", None, "sleep 0; exit 1"),
     ("refused-edits", "status", "1", "0"),
     ("refused-command-lines", "stderr-starts", "error: ", "fault: "),
+    ("refused-depths", "command-lines", "--depth=\n--depth\n", "--depth=\n"),
     ("rename", "memory", None, "1000000\n"),
     ("replies-to-a-full-standard-output", "streams", "stdout full", "stderr full"),
     ("capture-cut-anywhere", "cuts", None, "39 3 Truncated 12\n"),
     ("capture-cut-anywhere", "cuts", None, "39 4 Truncated 2\n"),
     ("capture-cut-anywhere", "cuts", None, "39 3 BadTime 2\n"),
     ("capture-cut-anywhere", "cuts", None, "99 0 - 7\n"),
+    ("capture-cut-anywhere", "cuts", None, "999 0 - -\n"),
     ("paths-with-blanks-at-their-ends", "words", " \n", "\n"),
 ]
 # A check, a file, what stands in it and what is put there, and what the check then tells.
 FILES = [
-    ("checks/messages", "docs/FORMATS.md", "| `BadVar` |", "| `BadVars` |", "BadVar: no row"),
+    ("checks/messages", "docs/FORMATS.md", "| `BadTime` |", "| `BadTimes` |", "BadTime: no row"),
     ("checks/messages", "docs/FORMATS.md", "### BadTime\n", "### Times\n", "BadTime: no section"),
     ("checks/messages", "docs/SCRIPT.md", "| `BadWord`", "| `BadWords`", "BadWord: no row"),
     ("checks/messages", "docs/SCRIPT.md", "refused: BadBits\n", "refused: BadRange\n", "BadBits: no example"),
