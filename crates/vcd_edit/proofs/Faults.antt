@@ -8,10 +8,10 @@ use Rattle.std.proofs.lemmas.Bool.{and_parts}
 use Rattle.std.proofs.lemmas.Bool.Decides.{nat_tests}
 use Rattle.vcd_core.specs.Contents.{Contents, signal_at}
 use Rattle.vcd_edit.specs.declared.edit.Edit.{Edit}
-use Rattle.vcd_edit.specs.declared.edit.Rule.{Rule}
-use Rattle.vcd_edit.specs.declared.edit.Rule.TheVariants.{Not, And, Or, Xor, BitOf}
+use Rattle.vcd_edit.specs.declared.edit.Formula.{Formula}
+use Rattle.vcd_edit.specs.declared.edit.Formula.TheVariants.{Negation, Pair, BitSelect}
 use Rattle.vcd_edit.specs.declared.fault.EditError.{EditError}
-use Rattle.vcd_edit.specs.Effect.{formula, first_operand}
+use Rattle.vcd_edit.specs.Effect.{first_operand}
 use Rattle.vcd_edit.specs.inside.Derived.{HasOperands}
 use Rattle.vcd_core.specs.Tests.{Test, first_fault}
 use Rattle.vcd_edit.specs.EditFaults.{is_signal, is_scalar, operands, width_test}
@@ -67,19 +67,15 @@ both_there c a b all scalars =
     let narrow = pair_holds (is_scalar c) a b scalars in
     (position_below c a there.0, position_below c b there.1, one_bit c a narrow.0, one_bit c b narrow.1)
 
--- the operands of a rule that passes the tests
-pub operands_there : (c : Contents) (rule : Rule) → IsTrue (list_all (is_signal c) (operands rule))
-    → IsTrue (width_test rule c).holds → HasOperands c (formula rule)
-operands_there c (Not a) all wide = only_there c a all
-operands_there c (And a b) all wide = both_there c a b all wide
-operands_there c (Or a b) all wide = both_there c a b all wide
-operands_there c (Xor a b) all wide = both_there c a b all wide
-operands_there c (BitOf a k) all wide = (only_there c a all, grind (arith, nat_tests))
+-- the operands of a formula that passes the tests
+pub operands_there : (c : Contents) (f : Formula) → IsTrue (list_all (is_signal c) (operands f))
+    → IsTrue (width_test f c).holds → HasOperands c f
+operands_there c (Negation a) all wide = only_there c a all
+operands_there c (Pair operator a b) all wide = both_there c a b all wide
+operands_there c (BitSelect a k) all wide = (only_there c a all, grind (arith, nat_tests))
 
-pub first_operand_there : (c : Contents) (rule : Rule) → IsTrue (list_all (is_signal c) (operands rule))
-    → first_operand (formula rule) < length c.signals
-first_operand_there c (Not a) all = only_there c a all
-first_operand_there c (And a b) all = position_below c a (pair_holds (is_signal c) a b all).0
-first_operand_there c (Or a b) all = position_below c a (pair_holds (is_signal c) a b all).0
-first_operand_there c (Xor a b) all = position_below c a (pair_holds (is_signal c) a b all).0
-first_operand_there c (BitOf a k) all = only_there c a all
+pub first_operand_there : (c : Contents) (f : Formula) → IsTrue (list_all (is_signal c) (operands f))
+    → first_operand f < length c.signals
+first_operand_there c (Negation a) all = only_there c a all
+first_operand_there c (Pair operator a b) all = position_below c a (pair_holds (is_signal c) a b all).0
+first_operand_there c (BitSelect a k) all = only_there c a all

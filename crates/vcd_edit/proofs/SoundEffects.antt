@@ -243,4 +243,4 @@ effect_is_sound (Derive word rule) c sound none =
     let free = no_fault (Derive word rule) c none in
     sound_pushed c (derived_signal word.now rule c) (room_for c free.1.1.1.1.0) sound
     (sound_derived c word.now rule free.1.1.0
-    (sound_at c (first_operand (formula rule)) (first_operand_there c rule free.0) sound))
+    (sound_at c (first_operand (formula rule)) (first_operand_there c (formula rule) free.0) sound))

@@ -11,14 +11,14 @@ use Rattle.vcd_core.specs.declared.capture.TheConstants.{SIGNAL_LIMIT}
 use Rattle.vcd_edit.specs.declared.edit.Edit.{Edit}
 use Rattle.vcd_edit.specs.declared.edit.Edit.TheVariants.{Rename, Remove, Invert, Shift, Cut}
 use Rattle.vcd_edit.specs.declared.edit.Edit.TheVariants.{Deglitch, Force, Derive}
-use Rattle.vcd_edit.specs.declared.edit.Rule.{Rule}
-use Rattle.vcd_edit.specs.declared.edit.Rule.TheVariants.{Not, And, Or, Xor, BitOf}
+use Rattle.vcd_edit.specs.declared.edit.Formula.{Formula}
+use Rattle.vcd_edit.specs.declared.edit.Formula.TheVariants.{Negation, Pair, BitSelect}
 use Rattle.vcd_edit.specs.declared.fault.EditError.{EditError}
 use Rattle.vcd_edit.specs.declared.fault.EditError.TheVariants.{NoSuchSignal, NotScalar, BadBit}
 use Rattle.vcd_edit.specs.declared.fault.EditError.TheVariants.{BadRange, BadCount}
 use Rattle.vcd_edit.specs.declared.fault.EditError.TheVariants.{BadValue, BadWord, NameTaken}
 use Rattle.vcd_edit.specs.declared.fault.EditError.TheVariants.{TooManySignals}
-use Rattle.vcd_edit.specs.Effect.{renamed_signal, derived_signal}
+use Rattle.vcd_edit.specs.Effect.{renamed_signal, derived_signal, formula}
 
 -- ---- what is tested
 
@@ -34,24 +34,21 @@ is_scalar c k = (signal_at c k).width == 1
 abbrev pub is_name_free : SignalContents → List SignalContents → Bool
 is_name_free s others = not (list_any (bytes_eq (full_name s)) (full_names others))
 
--- the positions of a rule's operands
-abbrev pub operands : Rule → List ℕ
-operands (Not a) = a ∷ []
-operands (And a b) = a ∷ b ∷ []
-operands (Or a b) = a ∷ b ∷ []
-operands (Xor a b) = a ∷ b ∷ []
-operands (BitOf a k) = a ∷ []
+-- the positions of a formula's operands
+abbrev pub operands : Formula → List ℕ
+operands (Negation a) = a ∷ []
+operands (Pair operator a b) = a ∷ b ∷ []
+operands (BitSelect a k) = a ∷ []
 
 -- the test of the operands' widths: those of an operator have one bit each, a chosen bit is below
 -- the width
-abbrev pub width_test : Rule → Contents → Test EditError
-width_test (BitOf a k) c = BadBit unless nat_lt k (signal_at c a).width
-width_test rule c = NotScalar unless list_all (is_scalar c) (operands rule)
+abbrev pub width_test : Formula → Contents → Test EditError
+width_test (BitSelect a k) c = BadBit unless nat_lt k (signal_at c a).width
+width_test f c = NotScalar unless list_all (is_scalar c) (operands f)
 
--- the tests of a rule
-abbrev pub rule_tests : Rule → Contents → List (Test EditError)
-rule_tests rule c =
-    (NoSuchSignal unless list_all (is_signal c) (operands rule)) ∷ width_test rule c ∷ []
+-- the tests of a formula's operands
+abbrev pub operand_tests : Formula → Contents → List (Test EditError)
+operand_tests f c = (NoSuchSignal unless list_all (is_signal c) (operands f)) ∷ width_test f c ∷ []
 
 -- ---- the tests of an edit
 
@@ -78,7 +75,7 @@ edit_tests (Force k from to value) c =
     ∷ (BadValue unless (length value == (signal_at c k).width))
     ∷ []
 edit_tests (Derive word rule) c =
-    rule_tests rule c
+    operand_tests (formula rule) c
     ++ (BadWord unless is_word word.now)
     ∷ (NameTaken unless is_name_free (derived_signal word.now rule c) c.signals)
     ∷ (TooManySignals unless nat_lt (length c.signals) SIGNAL_LIMIT)

@@ -6,7 +6,7 @@ ghost use Rattle.std.specs.Str.{bytes_eq};
 ghost use Rattle.vcd_core.specs.Contents.{no_signal};
 ghost use Rattle.vcd_core.specs.CaptureContents.{contents, signal_contents};
 ghost use Rattle.vcd_core.specs.Names.{full_name, full_names};
-ghost use Rattle.vcd_edit.specs.Effect.{renamed_signal, derived_signal};
+ghost use Rattle.vcd_edit.specs.Effect.{renamed_signal, derived_signal, formula};
 ghost use Rattle.vcd_edit.specs.EditFaults.{is_signal, operands, edit_fault};
 ghost use Rattle.vcd_edit.specs.EditAnswers.{FaultIs};
 ghost use Rattle.vcd_edit.specs.declared.edit.Edit.TheVariants as edits;
@@ -64,7 +64,7 @@ pub(crate) fn after_first(words: &[Word]) -> &[Word]
 pub(crate) fn check_derive(capture: &Capture, word: &[u8], rule: Rule) -> Result<(), EditError>
     ensures { FaultIs result (edit_fault (edits.Derive word.entry rule) (contents capture.now)) }
 {
-    check_operands(capture, rule)?;
+    check_operands(capture, rule.formula())?;
     if !is_word(word) {
         return Err(EditError::BadWord);
     }
@@ -79,7 +79,7 @@ pub(crate) fn check_derive(capture: &Capture, word: &[u8], rule: Rule) -> Result
 
 /// Whether a signal already has the full name of the derived one.
 fn is_derived_name_taken(capture: &Capture, word: &[u8], rule: Rule) -> bool
-    requires { IsTrue (list_all (is_signal (contents capture.now)) (operands rule)) }
+    requires { IsTrue (list_all (is_signal (contents capture.now)) (operands (formula rule))) }
     ensures { result ≡ list_any
         (bytes_eq (full_name (derived_signal word.now rule (contents capture.now))))
         (full_names (contents capture.now).signals) }

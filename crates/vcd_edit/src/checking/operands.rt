@@ -1,28 +1,29 @@
-//! The faults of the operands of a rule.
+//! The faults of the operands of a formula.
 
 ghost use Rattle.vcd_core.specs.CaptureContents.{contents};
 ghost use Rattle.vcd_core.specs.Tests.{first_fault};
-ghost use Rattle.vcd_edit.specs.EditFaults.{rule_tests};
+ghost use Rattle.vcd_edit.specs.EditFaults.{operand_tests};
 ghost use Rattle.vcd_edit.specs.EditAnswers.{FaultIs};
-ghost use Rattle.vcd_edit.specs.declared.edit.Rule.TheVariants as rules;
+ghost use Rattle.vcd_edit.specs.declared.edit.Formula.TheVariants.{Negation, Pair, BitSelect};
+ghost use Rattle.vcd_edit.specs.declared.edit.Operator.TheVariants.{And};
 
-use crate::edit::Rule;
+use crate::edit::Formula;
 use crate::fault::EditError;
 use vcd_core::Capture;
 
-/// Whether the operands exist, an operator's operands have one bit, and the bit of `BitOf` exists.
-pub(crate) fn check_operands(capture: &Capture, rule: Rule) -> Result<(), EditError>
-    ensures { FaultIs result (first_fault (rule_tests rule (contents capture.now))) }
+/// Whether the operands exist, an operator's operands have one bit, and the chosen bit exists.
+pub(crate) fn check_operands(capture: &Capture, formula: Formula) -> Result<(), EditError>
+    ensures { FaultIs result (first_fault (operand_tests formula (contents capture.now))) }
 {
-    match rule {
-        Rule::Not(a) => check_scalar(capture, a),
-        Rule::And(a, b) | Rule::Or(a, b) | Rule::Xor(a, b) => check_scalar_pair(capture, a, b),
-        Rule::BitOf(a, k) => check_bit(capture, a, k),
+    match formula {
+        Formula::Negation(a) => check_scalar(capture, a),
+        Formula::Pair(_, a, b) => check_scalar_pair(capture, a, b),
+        Formula::BitSelect(a, k) => check_bit(capture, a, k),
     }
 }
 
 fn check_scalar(capture: &Capture, a: usize) -> Result<(), EditError>
-    ensures { FaultIs result (first_fault (rule_tests (rules.Not a) (contents capture.now))) }
+    ensures { FaultIs result (first_fault (operand_tests (Negation a) (contents capture.now))) }
 {
     let signals = capture.signals();
     if a >= signals.len() {
@@ -34,8 +35,9 @@ fn check_scalar(capture: &Capture, a: usize) -> Result<(), EditError>
     Ok(())
 }
 
+/// The tests are the same for each operator.
 fn check_scalar_pair(capture: &Capture, a: usize, b: usize) -> Result<(), EditError>
-    ensures { FaultIs result (first_fault (rule_tests (rules.And a b) (contents capture.now))) }
+    ensures { FaultIs result (first_fault (operand_tests (Pair And a b) (contents capture.now))) }
 {
     let signals = capture.signals();
     if a >= signals.len() || b >= signals.len() {
@@ -48,7 +50,7 @@ fn check_scalar_pair(capture: &Capture, a: usize, b: usize) -> Result<(), EditEr
 }
 
 fn check_bit(capture: &Capture, a: usize, k: u64) -> Result<(), EditError>
-    ensures { FaultIs result (first_fault (rule_tests (rules.BitOf a k) (contents capture.now))) }
+    ensures { FaultIs result (first_fault (operand_tests (BitSelect a k) (contents capture.now))) }
 {
     let signals = capture.signals();
     if a >= signals.len() {

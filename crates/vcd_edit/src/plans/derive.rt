@@ -8,7 +8,7 @@ ghost use Rattle.vcd_core.specs.Sound.{IsSound};
 ghost use Rattle.vcd_core.specs.Value.{letter_at};
 ghost use Rattle.vcd_core.specs.Wave.{value_at, AllUpTo};
 ghost use Rattle.vcd_edit.specs.Operators.{operator_bit};
-ghost use Rattle.vcd_edit.specs.Effect.{derived_signal, formula_bit};
+ghost use Rattle.vcd_edit.specs.Effect.{derived_signal, formula, formula_bit};
 ghost use Rattle.vcd_edit.specs.EditFaults.{is_signal, operands, width_test, edit_fault};
 ghost use Rattle.vcd_edit.specs.inside.Derived.{selected_bit, HasOperands, HasBitsUpTo};
 ghost use Rattle.vcd_edit.specs.inside.Plans.{IsPlan};
@@ -44,8 +44,9 @@ pub(crate) fn plan(
 /// The new signal.
 fn new_signal(alloc: Global, capture: &Capture, word: &[u8], rule: Rule) -> Result<Signal, NoMemory>
     requires sound { IsSound (contents capture.now) }
-    requires operands_exist { IsTrue (list_all (is_signal (contents capture.now)) (operands rule)) }
-    requires operand_widths { IsTrue (width_test rule (contents capture.now)).holds }
+    requires operands_exist { IsTrue (list_all (is_signal (contents capture.now))
+        (operands (formula rule))) }
+    requires operand_widths { IsTrue (width_test (formula rule) (contents capture.now)).holds }
     ensures { IfOk result (λ s. signal_contents s
         ≡ derived_signal word.now rule (contents capture.now)) }
 {

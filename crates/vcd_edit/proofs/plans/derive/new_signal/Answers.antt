@@ -3,7 +3,7 @@ use Rattle.std.proofs.lemmas.Bool.{lt-ltb}
 use Rattle.vcd_core.specs.Contents.{Contents, SignalContents, signal_at}
 use Rattle.vcd_core.specs.CaptureContents.{contents}
 use Rattle.vcd_edit.specs.declared.edit.Formula.{Formula}
-use Rattle.vcd_edit.specs.Effect.{first_operand}
+use Rattle.vcd_edit.specs.Effect.{first_operand, formula}
 use Rattle.vcd_edit.specs.inside.Derived.{HasOperands}
 use Rattle.vcd_edit.proofs.Faults.{first_operand_there, operands_there}
 use Rattle.vcd_edit.proofs.DerivedSignals.{derived_parts}
@@ -15,14 +15,14 @@ signal_at-first-requires-clause-position_exists c =
     let below =
     subst (λ k. k < length d.signals)
     (sym (c.first_operand.ensures ∙ ap (λ (f : Formula). first_operand f) c.formula-formula.ensures))
-    (first_operand_there d c.args.rule c.requires.operands_exist) in
+    (first_operand_there d (formula c.args.rule) c.requires.operands_exist) in
     lt-ltb c.first_operand.result (length d.signals) below
 
 pub derived_wave-requires-clause-operands : goal.derived_wave-requires-clause-operands
 derived_wave-requires-clause-operands c =
     let d : Contents = contents c.args.capture.now in
     subst (HasOperands d) (sym c.formula-formula.ensures)
-    (operands_there d c.args.rule c.requires.operands_exist c.requires.operand_widths)
+    (operands_there d (formula c.args.rule) c.requires.operands_exist c.requires.operand_widths)
 
 pub returns : goal.returns
 returns c =
