@@ -20,7 +20,7 @@ use Rattle.vcd_text.specs.Grammar.{variable_of, kept_variables}
 use Rattle.vcd_text.specs.Grammar.{is_binary_number, takes_binary_number, value_changes_after}
 use Rattle.vcd_text.specs.Grammar.{with_value_change}
 use Rattle.vcd_text.specs.Meaning.{latest_value}
-use Rattle.vcd_text.specs.inside.ChangeLog.{logged_letters, GivesLoggedValues, logged, AreGrouped}
+use Rattle.vcd_text.specs.inside.ChangeLog.{logged_letters, GivesLoggedValues, logged, AreGrouped, IsSameVariable}
 use Rattle.vcd_text.specs.inside.ValueDigits.{WritesValue, RefusesBinaryNumber}
 use Rattle.vcd_text.specs.inside.Variables.{declaration, target_of, HasWave, TargetMatches}
 use Rattle.vcd_text.specs.inside.Variables.{HasFirst}
@@ -64,6 +64,19 @@ same_set [] i v at = refl
 same_set (u ∷ vs) zero v at = ap (λ x. x ∷ vs) (same_Some u v at)
 same_set (u ∷ vs) (suc i) v at = ap (λ xs. u ∷ xs) (same_set vs i v at)
 
+-- a variable is the same as itself
+pub same_itself : (v : Variable) → IsSameVariable v v
+same_itself v = record { place = refl; kind = refl; words = refl; width = refl; first = refl }
+
+pub same_declaration : (v w : Variable) → IsSameVariable v w → declaration w ≡ declaration v
+same_declaration v w same = λ i. record {
+  scopes = [];
+  kind = same.kind i;
+  size = same.width i;
+  code = [];
+  words = same.words i;
+}
+
 -- ---- a value change more
 
 value_with : (width : ℕ) (code : List ℕ) (t : ℕ) (before : List Bit) (rs : List ValueChange) (r : ValueChange)
@@ -92,9 +105,9 @@ module _ (old : Variables) (c : ParseState) (code digits : List ℕ) (width firs
   read_is v read = read ∙ get_or_from_slice_get old.kept.items first own_wave.4.first v own_wave.4.at_position
 
   -- no change of its wave is past the tick
-  pub wave_late : All (λ (change : Change). change.tick ≤ c.tick) own_wave.4.first.signal.wave.changes
+  pub wave_late : All (λ (change : Change). change.tick ≤ c.tick) own_wave.4.first.wave.changes
   wave_late = gives_late width c.tick (λ t. latest_value width code t (all_x width) c.value_changes)
-      own_wave.4.first.signal.wave.changes
+      own_wave.4.first.wave.changes
       (logged old.log.items first) own_wave.4.gives
 
   -- digits that it refuses are a fault
@@ -108,32 +121,27 @@ module _ (old : Variables) (list : Vec Variable) (log : Vec (Vec LoggedChange)) 
     (v w : Variable) (k : VariablesMatch old c)
     (had : target_of old code ≡ Kept width first)
     (is_first : v ≡ (own_wave old c code digits width first k had).4.first)
-    (items : list.items ≡ set old.kept.items first w) (same : declaration w ≡ declaration v)
-    (same_first : w.first ≡ v.first)
-    (value : IsTrue (is_binary_number digits)) (short : length digits ≤ v.signal.wave.width)
+    (items : list.items ≡ set old.kept.items first w) (same : IsSameVariable v w)
+    (value : IsTrue (is_binary_number digits)) (short : length digits ≤ v.wave.width)
     (grouped : AreGrouped 0 log.items)
     (takes : (f : ℕ → List Bit)
-    → GivesLoggedValues v.signal.wave.width c.tick f v.signal.wave.changes (logged old.log.items first)
-    → GivesLoggedValues v.signal.wave.width c.tick
-    (λ t. if nat_le c.tick t then extension v.signal.wave.width (letters_of_digits digits) else f t)
-    w.signal.wave.changes (logged log.items first))
+    → GivesLoggedValues v.wave.width c.tick f v.wave.changes (logged old.log.items first)
+    → GivesLoggedValues v.wave.width c.tick
+    (λ t. if nat_le c.tick t then extension v.wave.width (letters_of_digits digits) else f t)
+    w.wave.changes (logged log.items first))
     (others : (position : ℕ) → first ≢ position
     → logged log.items position ≡ logged old.log.items position) where
   stood : slice_get old.kept.items first ≡ Some v
   stood = (own_wave old c code digits width first k had).4.at_position ∙ ap Some (sym is_first)
 
-  sized : v.signal.wave.width ≡ (own_wave old c code digits width first k had).0.size
-  sized = ap (λ (u : Variable). u.signal.wave.width) is_first ∙ (own_wave old c code digits width first k had).4.sized
+  sized : v.wave.width ≡ (own_wave old c code digits width first k had).0.size
+  sized = ap (λ (u : Variable). u.wave.width) is_first ∙ (own_wave old c code digits width first k had).4.sized
       ∙ sym (own_wave old c code digits width first k had).3
-
-  same_width : w.signal.wave.width ≡ v.signal.wave.width
-  same_width = ap (λ (d : VariableDeclaration). d.size) same
 
   -- the variables of the new list are those of the old one, but for the wave
   following : (position : ℕ) (u : Variable) → slice_get list.items position ≡ Some u
-      → (t : Variable) × (slice_get old.kept.items position ≡ Some t) × (declaration u ≡ declaration t)
-      × (u.first ≡ t.first)
-  following position u at = grind (arith, cases_eq, same_Some, set_here, stood, set_there)
+      → (t : Variable) × (slice_get old.kept.items position ≡ Some t) × IsSameVariable t u
+  following position u at = grind (arith, cases_eq, same_Some, set_here, stood, set_there, same_itself)
 
   -- the value change
   new_value_change : ValueChange
@@ -148,17 +156,17 @@ module _ (old : Variables) (list : Vec Variable) (log : Vec (Vec LoggedChange)) 
       let at : first ≡ position = grind arith in
       let is : v ≡ wave.first = same_Some v wave.first (sym stood ∙ ap (slice_get old.kept.items) at
       ∙ wave.at_position) in
-      let old_size : v.signal.wave.width ≡ size = ap (λ (u : Variable). u.signal.wave.width) is ∙ wave.sized in
+      let old_size : v.wave.width ≡ size = ap (λ (u : Variable). u.wave.width) is ∙ wave.sized in
       let before : ℕ → List Bit = λ t. latest_value size key t (all_x size) c.value_changes in
-      let had_values : GivesLoggedValues v.signal.wave.width c.tick before v.signal.wave.changes
+      let had_values : GivesLoggedValues v.wave.width c.tick before v.wave.changes
       (logged old.log.items first) = grind arith in
       let has_values : GivesLoggedValues size c.tick
-      (λ t. if nat_le c.tick t then extension size (letters_of_digits digits) else before t) w.signal.wave.changes
+      (λ t. if nat_le c.tick t then extension size (letters_of_digits digits) else before t) w.wave.changes
       (logged log.items position) = grind arith in
       record {
         first = w;
         at_position = grind (arith, set_here, stood);
-        sized = same_width ∙ old_size;
+        sized = same.width ∙ old_size;
         gives = grind (arith, gives_as, own_code, value_with);
       }
 
@@ -181,7 +189,8 @@ module _ (old : Variables) (list : Vec Variable) (log : Vec (Vec LoggedChange)) 
       let before = k.firsts position t.0 t.1 in
       record {
         owned = grind arith;
-        no_later = omega (arith, t.3, before.no_later);
+        placed = grind arith;
+        no_later = omega (arith, t.2.first, before.no_later);
       }
 
   changed_stands : (key : List ℕ)
@@ -206,7 +215,9 @@ module _ (old : Variables) (list : Vec Variable) (log : Vec (Vec LoggedChange)) 
   -- the variables have the value change
   changed_knows : VariablesMatch (with_changes old list log) (with_value_change c code (letters_of_digits digits))
   changed_knows = record {
-    kept = k.kept ∙ sym (ap (map declaration) items ∙ same_map declaration old.kept.items first v w stood same);
+    opened = k.opened;
+    kept = k.kept ∙ sym (ap (map declaration) items
+        ∙ same_map declaration old.kept.items first v w stood (same_declaration v w same));
     skipped = k.skipped;
     targets_agree = λ key. subst (λ rs. TargetMatches list.items (logged log.items) (c.value_changes ++ rs) c.tick key
         (target_of old key) (variable_of c key)) (sym told_are) (changed_stands key);
@@ -229,25 +240,23 @@ pub wide_changes : (old : Variables) (list : Vec Variable) (c : ParseState) (cod
     (v w : Variable) (result : Result (Unit {0}) Fault) (k : VariablesMatch old c)
     (had : target_of old code ≡ Kept width first) → v ≡ get_or old.kept.items first v → 64 < width
     → list.items ≡ set old.kept.items first w → OnOk result (HasValueFrom c.tick digits v w)
-    → IfErr result (λ fault. (fault ≡ faults.NoMemory) ⊎ RefusesBinaryNumber v.signal.wave.width digits fault)
+    → IfErr result (λ fault. (fault ≡ faults.NoMemory) ⊎ RefusesBinaryNumber v.wave.width digits fault)
     → ChangeResult c code digits result (with_changes old list old.log)
 wide_changes old list c code digits width first v w (Ok x) k had read wide items sets refuses =
     let is = read_is old c code digits width first k had v read in
-    let size = ap (λ (u : Variable). u.signal.wave.width) is ∙ (own_wave old c code digits width first k had).4.sized in
-    changed old list old.log c code digits width first v w k had is items sets.same sets.same_first_position sets.value
-    sets.fits
-    k.grouped
-    (λ f g. gives_pushed v.signal.wave.width c.tick f v.signal.wave.changes
-    (extension v.signal.wave.width (letters_of_digits digits)) w.signal.wave.changes
+    let size = ap (λ (u : Variable). u.wave.width) is ∙ (own_wave old c code digits width first k had).4.sized in
+    changed old list old.log c code digits width first v w k had is items sets.same sets.value sets.fits k.grouped
+    (λ f g. gives_pushed v.wave.width c.tick f v.wave.changes
+    (extension v.wave.width (letters_of_digits digits)) w.wave.changes
     (logged old.log.items first)
     (omega (arith, wide, size)) sets.ticks
-    (λ t. ap (λ n. value_at n w.signal.wave.changes t) (sym (ap (λ (d : VariableDeclaration). d.size) sets.same))
+    (λ t. ap (λ n. value_at n w.wave.changes t) (sym sets.same.width)
     ∙ sets.values t) g)
     (λ position _. refl) x
 wide_changes old list c code digits width first v w (Err fault) k had read wide items sets (inl none) = inl none
 wide_changes old list c code digits width first v w (Err fault) k had read wide items sets (inr refuses) =
     inr (refused old c code digits width first k had fault (subst (λ n. RefusesBinaryNumber n digits fault)
-    (ap (λ (u : Variable). u.signal.wave.width) (read_is old c code digits width first k had v read)
+    (ap (λ (u : Variable). u.wave.width) (read_is old c code digits width first k had v read)
     ∙ (own_wave old c code digits width first k had).4.sized) refuses))
 
 -- the result of a change of another variable, which goes to the log
@@ -260,19 +269,19 @@ pub narrow_changes : (old : Variables) (log : Vec (Vec LoggedChange)) (c : Parse
     → (x : Unit {0}) → ChangeResult c code digits (Ok x) (with_changes old old.kept log)
 narrow_changes old log c code digits width first e k had narrow at_tick at writes grouped more x =
     let v : Variable = (own_wave old c code digits width first k had).4.first in
-    let size : v.signal.wave.width ≡ width = (own_wave old c code digits width first k had).4.sized in
+    let size : v.wave.width ≡ width = (own_wave old c code digits width first k had).4.sized in
     let here : (e.position == first) ≡ true = eq-eqb e.position first at in
     changed old old.kept log c code digits width first v v k had refl
-    (same_set old.kept.items first v (own_wave old c code digits width first k had).4.at_position) refl refl
+    (same_set old.kept.items first v (own_wave old c code digits width first k had).4.at_position) (same_itself v)
     writes.0 (omega (arith, writes.1, size)) grouped
     (λ f g.
-    subst (GivesLoggedValues v.signal.wave.width c.tick
-    (λ t. if nat_le c.tick t then extension v.signal.wave.width (letters_of_digits digits) else f t)
-    v.signal.wave.changes)
+    subst (GivesLoggedValues v.wave.width c.tick
+    (λ t. if nat_le c.tick t then extension v.wave.width (letters_of_digits digits) else f t)
+    v.wave.changes)
     (sym (more first ∙ ap (λ b. if b then logged old.log.items first
     ++ e ∷ [] else logged old.log.items first) here))
-    (gives_appended v.signal.wave.width c.tick f v.signal.wave.changes
-    (extension v.signal.wave.width (letters_of_digits digits)) (logged old.log.items first) e at_tick
+    (gives_appended v.wave.width c.tick f v.wave.changes
+    (extension v.wave.width (letters_of_digits digits)) (logged old.log.items first) e at_tick
     (omega (arith, narrow, size))
     (subst (λ n. logged_letters n e ≡ extension n (letters_of_digits digits)) (sym size) writes.2) g))
     (λ position apart.

@@ -109,8 +109,8 @@ takes_stamp m digits line tick between in_body is number later =
     (λ c agrees.
     let after : c.tick ≤ number_of digits = omega (arith, agrees.tick) in (
       (sym agrees.in_body ∙ in_body, is, after),
-      agrees_by _ _ agrees.header agrees.timescale agrees.scopes agrees.in_body number
-          (knows_further m.variables c (record c { tick = number_of digits }) refl refl after agrees.variables)
+      agrees_by _ _ agrees.header agrees.timescale agrees.in_body number
+          (knows_further m.variables c c.header c.timescale c.in_body (number_of digits) after agrees.variables)
           agrees.no_early_change,
     ))
 

@@ -1,13 +1,15 @@
 -- A variable that is declared, skipped or kept.
 use Rattle.std.proofs.Common.{◌≡◌, ◌⊎◌, ℕ, zero, suc, ◌+◌, ◌<◌, ◌≤◌, min, Bool, true, false, ◌||◌}
 use Rattle.std.proofs.Common.{◌==◌}
-use Rattle.std.proofs.Common.{cond, if◌then◌else◌, nat_lt, List, [], ◌∷◌, ◌++◌, length, map, get_or}
-use Rattle.std.proofs.Common.{drop, Option, None}
-use Rattle.std.proofs.Common.{Some, Result, Ok, Err, OnOk, IfErr, inl, inr, refl, sym, ap, subst}
+use Rattle.std.proofs.Common.{cond, if◌then◌else◌, nat_lt, List, [], ◌∷◌, ◌++◌, length, map}
+use Rattle.std.proofs.Common.{Option, None}
+use Rattle.std.proofs.Common.{Some, Result, Ok, Err, inl, inr, refl, sym, ap, subst}
 use Rattle.std.proofs.Common.{◌∙◌, arith}
 use Rattle.std.specs.Prelude.{bytes_eq, slice_get, count_by}
 use Rattle.std.specs.Global.{Vec}
 use Rattle.std.specs.Option.{option_or}
+use Rattle.std.specs.List.{remove}
+use Rattle.std.proofs.Common.{slice_index_or}
 use Rattle.std.proofs.lemmas.List.{append-nil, nil_from_length, map-append, length_push}
 use Rattle.std.proofs.lemmas.List.Elements.{filter-append}
 use Rattle.std.proofs.lemmas.Bool.{lt-ltb, le-ltb, ltb-false, cases_lt}
@@ -15,8 +17,6 @@ use Rattle.vcd_core.specs.declared.capture.TheConstants.{SIGNAL_LIMIT}
 use Rattle.std.proofs.lemmas.List.Sums.{sum_by-append, sum_by-cons}
 use Rattle.std.proofs.lemmas.Option.{slice_get_within, same_Some}
 use Rattle.vcd_core.specs.Wave.{value_from}
-use Rattle.vcd_core.specs.declared.capture.ScopeName.{ScopeName}
-use Rattle.vcd_core.specs.declared.capture.Signal.{Signal}
 use Rattle.vcd_text.specs.declared.fault.Fault.{Fault}
 use Rattle.vcd_text.specs.declared.fault.Fault.TheVariants as faults
 use Rattle.vcd_core.specs.declared.value.TheConstants.{WIDTH_LIMIT}
@@ -26,13 +26,13 @@ use Rattle.vcd_text.specs.Grammar.{VariableDeclaration, ValueChange, ParseState,
 use Rattle.vcd_text.specs.Grammar.{kept_variables}
 use Rattle.vcd_text.specs.Grammar.{variable_of, may_have_code, has_room}
 use Rattle.vcd_text.specs.Meaning.{latest_value}
-use Rattle.vcd_text.specs.inside.ChangeLog.{logged, AreGrouped}
+use Rattle.vcd_text.specs.inside.ChangeLog.{logged}
 use Rattle.vcd_text.specs.declared.reading.pending.LoggedChange.{LoggedChange}
-use Rattle.vcd_text.specs.declared.reading.pending.TheConstants.{NO_ROOM}
 use Rattle.vcd_text.proofs.LoggedValues.{gives_as, gives_nothing}
 use Rattle.vcd_text.specs.inside.Variables.{TargetAgrees, declaration_in, without_code, target_of}
 use Rattle.vcd_text.specs.inside.Variables.{HasWave, TargetMatches, HasFirst, HaveOwnCodes}
-use Rattle.vcd_text.specs.inside.Variables.{VariablesMatch}
+use Rattle.vcd_text.specs.inside.Variables.{VariablesMatch, IsFree, declaration_of_parts}
+use Rattle.vcd_text.specs.inside.Scopes.{open_scopes, IsPlaced}
 use Rattle.vcd_text.specs.inside.Variables.{with_declaration, mixed, many, DeclaresAs, code_mixed}
 use Rattle.vcd_text.specs.inside.Variables.{no_room, Declares}
 use Rattle.vcd_text.specs.declared.reading.code_targets.CodeTargets.{CodeTargets}
@@ -159,8 +159,9 @@ module _ (old : Variables) (targets : CodeTargets) (c : ParseState) (d : Variabl
     skip_firsts position v at =
         let before = k.firsts position v at in
         record {
-          owned = λ e declared. (skip_positions e.code v.signal.wave.width v.first).1 (before.owned e
+          owned = λ e declared. (skip_positions e.code v.wave.width v.first).1 (before.owned e
               (ap (λ ds. slice_get ds position) (sym skip_kept) ∙ declared));
+          placed = λ e declared. before.placed e (ap (λ ds. slice_get ds position) (sym skip_kept) ∙ declared);
           no_later = before.no_later;
         }
 
@@ -175,6 +176,7 @@ module _ (old : Variables) (targets : CodeTargets) (c : ParseState) (d : Variabl
       skip_may (variable_of c d.code) (k.targets_agree d.code),
       (λ i. skipped i || nat_lt (length (kept_variables c.declared)) SIGNAL_LIMIT),
       record {
+        opened = k.opened;
         kept = ap (map without_code) skip_kept ∙ k.kept;
         skipped = ap (λ n. n + 1) k.skipped ∙ sym (count_with c.declared d true skipped);
         targets_agree = skip_stands;
@@ -189,232 +191,229 @@ module _ (old : Variables) (targets : CodeTargets) (c : ParseState) (d : Variabl
 
 -- ---- a variable that is kept
 
--- the variable of a signal and the position of the first one with its code
-abbrev pub variable_at : Signal → (first : ℕ) → Variable
-variable_at s first = record { signal = s; first = first; expected_room = NO_ROOM }
+-- the variables with another list and other targets
+abbrev pub with_kept : Variables → Vec Variable → CodeTargets → Variables
+with_kept vs list targets = record vs { kept = list; code_targets = targets }
 
--- the code is new, or is that of a variable of the same size
-abbrev pub IsFree : Variables → (code : List ℕ) → Signal → (first : ℕ) → Type 0
-IsFree old code s first = ((target_of old code ≡ Undeclared) × (first ≡ length old.kept.items))
-    ⊎ (target_of old code ≡ Kept s.wave.width first)
-
-module _ (old : Variables) (c : ParseState) (scopes : List ScopeName) (code : List ℕ) (s : Signal) (first : ℕ)
-    (k : VariablesMatch old c)
-    (keeps : is_skipped (declaration_in scopes code s) ≡ false) (free : IsFree old code s first) where
-  keep_may : (v : Option VariableDeclaration) → TargetAgrees old c code (target_of old code) v
-      → may_have_code v (declaration_in scopes code s) ≡ true
+module _ (old : Variables) (c : ParseState) (code : List ℕ) (v : Variable) (k : VariablesMatch old c)
+    (keeps : is_skipped (declaration_in c.scopes code v) ≡ false) (free : IsFree old code v.wave.width v.first) where
+  keep_may : (o : Option VariableDeclaration) → TargetAgrees old c code (target_of old code) o
+      → may_have_code o (declaration_in c.scopes code v) ≡ true
   keep_may None stands = refl
   keep_may (Some e) stands = grind arith
 
   has_room_is : (b : Bool) → nat_lt (length old.kept.items) SIGNAL_LIMIT ≡ b
-      → has_room c.declared (declaration_in scopes code s) ≡ b
+      → has_room c.declared (declaration_in c.scopes code v) ≡ b
   has_room_is b test = grind (arith, kept_long)
 
   -- it is not allowed if there are too many
-  keep_full : (new : Variables) → SIGNAL_LIMIT ≤ length old.kept.items
-      → DeclaresAs c (declaration_in scopes code s) (Err faults.TooManySignals) new
+  pub keep_full : (new : Variables) → SIGNAL_LIMIT ≤ length old.kept.items
+      → DeclaresAs c (declaration_in c.scopes code v) (Err faults.TooManySignals) new
   keep_full new full = grind (arith, keep_may, has_room_is, le-ltb)
 
-module _ (old new : Variables) (c : ParseState) (scopes : List ScopeName) (code : List ℕ) (s : Signal) (first : ℕ)
-    (k : VariablesMatch old c) (value_changes : c.value_changes ≡ []) (silent : s.wave.changes ≡ [])
-    (bare : s.scopes ≡ [])
-    (keeps : is_skipped (declaration_in scopes code s) ≡ false) (items : new.kept.items ≡ old.kept.items
-    ++ variable_at s first ∷ [])
-    (log : new.log ≡ old.log) (free : IsFree old code s first)
-    (puts : Puts old new code (Kept s.wave.width first)) where
-  silent_wave : HasWave (old.kept.items ++ variable_at s first ∷ []) (logged old.log.items)
-      (length old.kept.items) code s.wave.width c.value_changes c.tick
-  unfolding latest_value value_from
-  silent_wave = record {
-    first = variable_at s first;
-    at_position = middle_of old.kept.items [] (variable_at s first);
-    sized = refl;
-    gives = grind (arith, cases_lt, slice_get_within, nil_from_length, gives_as, gives_nothing);
-  }
-
-  keep_stands : (key : List ℕ) → TargetAgrees new c key (target_of new key)
-      (variable_of (with_declaration c (declaration_in scopes code s)) key)
-  keep_stands key =
-      let all = old.kept.items ++ variable_at s first ∷ [] in
-      let d = declaration_in scopes code s in
-      let both =
-      by_code (λ b. TargetMatches all (logged old.log.items) c.value_changes c.tick key
-      (if b then Kept s.wave.width first else target_of old key)
-      (option_or (variable_of c key) (if b then Some d else None))) key code
-      (λ is. subst (λ name. TargetMatches all (logged old.log.items) c.value_changes c.tick name
-      (Kept s.wave.width first) (option_or (variable_of c name) (Some d))) (sym is)
-      (grind (arith, silent_wave, stands_longer)))
-      (λ _. stands_still (logged old.log.items) c.value_changes c.tick all key (target_of old key)
-      (variable_of c key)
-      (stands_longer (logged old.log.items) c.value_changes c.tick old.kept.items (variable_at s first ∷ [])
-      key (target_of old key) (variable_of c key) (k.targets_agree key))) in
-      subst (λ (l : Vec (Vec LoggedChange)). TargetMatches new.kept.items (logged l.items) c.value_changes c.tick key
-      (target_of new key) (variable_of (with_declaration c d) key)) (sym log)
-      (subst (λ (vs : List Variable). TargetMatches vs (logged old.log.items) c.value_changes c.tick key
-      (target_of new key) (variable_of (with_declaration c d) key)) (sym items)
-      (subst (λ o. TargetMatches all (logged old.log.items) c.value_changes c.tick key o
-      (variable_of (with_declaration c d) key)) (sym (puts key))
-      (subst (TargetMatches all (logged old.log.items) c.value_changes c.tick key
-      (if bytes_eq key code then Kept s.wave.width first else target_of old key))
-      (sym (found_with key c.declared d)) both)))
-
-  kept_more : kept_variables (c.declared ++ declaration_in scopes code s ∷ [])
-      ≡ kept_variables c.declared ++ declaration_in scopes code s ∷ []
-  kept_more = kept_kept c.declared (declaration_in scopes code s) keeps
-
-  -- a code with a position keeps it
-  still_owned : (key : List ℕ) (width position : ℕ) → target_of old key ≡ Kept width position
-      → target_of new key ≡ Kept width position
-  still_owned key width position had =
-      puts key ∙ by_code (λ b. (if b then Kept s.wave.width first else target_of old key) ≡ Kept width position)
-      key code (λ same. elim free [
-        | inl (none, end) ↦ let never : Undeclared ≡ Kept width position = sym none ∙ ap (target_of old) (sym same)
-            ∙ had in absurd (cc)
-        | inr has ↦ sym has ∙ ap (target_of old) (sym same) ∙ had
-      ]) (λ _. had)
-
-  -- the variables before it have the positions of their first ones
-  keep_earlier : (position : ℕ) (v : Variable) → slice_get old.kept.items position ≡ Some v
-      → HasFirst new (kept_variables c.declared ++ declaration_in scopes code s ∷ []) position v
-  keep_earlier position v at =
-      let before = k.firsts position v at in
-      let within : position < length old.kept.items = slice_get_within old.kept.items position v at in
-      record {
-        owned = λ e declared.
-            elim (either_of (kept_variables c.declared) (declaration_in scopes code s) position e declared) [
-              | inl stood ↦ still_owned e.code v.signal.wave.width v.first (before.owned e stood)
-              | inr (end, is) ↦ absurd (omega (arith, within, end, kept_long old c k))
-            ];
-        no_later = before.no_later;
-      }
-
-  keep_owners : HaveOwnCodes new (kept_variables c.declared ++ declaration_in scopes code s ∷ [])
-  keep_owners key width position is =
-      let d = declaration_in scopes code s in
-      let ds = kept_variables c.declared in
-      let stayed : target_of old key ≡ Kept width position
-      → (e : VariableDeclaration) × (slice_get (ds ++ d ∷ []) position ≡ Some e) × (e.code ≡ key) =
-      λ had. let e = k.owners key width position had in (e.0, stays ds (d ∷ []) position e.0 e.1, e.2) in
-      by_code (λ b. (if b then Kept s.wave.width first else target_of old key) ≡ Kept width position
-      → (e : VariableDeclaration) × (slice_get (ds ++ d ∷ []) position ≡ Some e) × (e.code ≡ key)) key code
-      (λ same here. elim free [
-        | inl (none, end) ↦ (
-          d,
-          ap (slice_get (ds ++ d ∷ [])) (one_position width s.wave.width position first (sym here) ∙ end
-              ∙ sym (kept_long old c k))
-              ∙ middle_of ds [] d,
-          sym same,
-        )
-        | inr had ↦ stayed (ap (target_of old) same ∙ had ∙ here)
-      ]) (λ _ had. stayed had) (sym (puts key) ∙ is)
-
-  first_within : first ≤ length old.kept.items
+  first_within : v.first ≤ length old.kept.items
   first_within = grind (arith, stands_kept, slice_get_within)
 
-  keep_firsts : (position : ℕ) (v : Variable) → slice_get new.kept.items position ≡ Some v
-      → HasFirst new (kept_variables c.declared ++ declaration_in scopes code s ∷ []) position v
-  keep_firsts position v at =
-      elim (either_of old.kept.items (variable_at s first) position v
-      (subst (λ vs. slice_get vs position ≡ Some v) items at)) [
-        | inl stood ↦ keep_earlier position v stood
-        | inr (end, is) ↦ subst (HasFirst new (kept_variables c.declared
-            ++ declaration_in scopes code s ∷ []) position) is (record {
-              owned = λ e declared.
-                  elim (either_of (kept_variables c.declared) (declaration_in scopes code s) position e declared) [
-                    | inl stood ↦ absurd (omega (
-                      arith,
-                      end,
-                      kept_long old c k,
-                      slice_get_within (kept_variables c.declared) position e stood,
-                    ))
-                    | inr (last, same) ↦ ap (λ (x : VariableDeclaration). target_of new x.code) (sym same) ∙ puts code
-                        ∙ ap (λ b. if b then Kept s.wave.width first else target_of old code) (own_code code)
-                  ];
-              no_later = omega (arith, end, first_within);
-            })
-      ]
+  module _ (list : Vec Variable) (targets : CodeTargets) (value_changes : c.value_changes ≡ [])
+      (silent : v.wave.changes ≡ []) (placed : IsPlaced old.scopes v.place (open_scopes old.scopes))
+      (items : list.items ≡ old.kept.items ++ v ∷ [])
+      (puts : Puts old (with_kept old list targets) code (Kept v.wave.width v.first)) where
+    silent_wave : HasWave (old.kept.items ++ v ∷ []) (logged old.log.items) (length old.kept.items) code v.wave.width
+        c.value_changes c.tick
+    unfolding latest_value value_from
+    silent_wave = record {
+      first = v;
+      at_position = middle_of old.kept.items [] v;
+      sized = refl;
+      gives = grind (arith, cases_lt, slice_get_within, nil_from_length, gives_as, gives_nothing);
+    }
 
-  -- it is declared
-  pub keep_declares : length old.kept.items < SIGNAL_LIMIT → new.skipped ≡ old.skipped → (x : Unit {0})
-      → DeclaresAs c (declaration_in scopes code s) (Ok x) new
-  keep_declares room same x =
-      let d = declaration_in scopes code s in (
-        keep_may old c scopes code s first k keeps free (variable_of c code) (k.targets_agree code),
-        has_room_is old c scopes code s first k keeps free true (lt-ltb (length old.kept.items) SIGNAL_LIMIT room),
+    keep_stands : (key : List ℕ) → TargetAgrees (with_kept old list targets) c key
+        (target_of (with_kept old list targets) key)
+        (variable_of (with_declaration c (declaration_in c.scopes code v)) key)
+    keep_stands key =
+        let all = old.kept.items ++ v ∷ [] in
+        let d = declaration_in c.scopes code v in
+        let both =
+        by_code (λ b. TargetMatches all (logged old.log.items) c.value_changes c.tick key
+        (if b then Kept v.wave.width v.first else target_of old key)
+        (option_or (variable_of c key) (if b then Some d else None))) key code
+        (λ is. subst (λ name. TargetMatches all (logged old.log.items) c.value_changes c.tick name
+        (Kept v.wave.width v.first) (option_or (variable_of c name) (Some d))) (sym is)
+        (grind (arith, silent_wave, stands_longer)))
+        (λ _. stands_still (logged old.log.items) c.value_changes c.tick all key (target_of old key)
+        (variable_of c key)
+        (stands_longer (logged old.log.items) c.value_changes c.tick old.kept.items (v ∷ [])
+        key (target_of old key) (variable_of c key) (k.targets_agree key))) in
+        subst (λ (vs : List Variable). TargetMatches vs (logged old.log.items) c.value_changes c.tick key
+        (target_of (with_kept old list targets) key) (variable_of (with_declaration c d) key)) (sym items)
+        (subst (λ o. TargetMatches all (logged old.log.items) c.value_changes c.tick key o
+        (variable_of (with_declaration c d) key)) (sym (puts key))
+        (subst (TargetMatches all (logged old.log.items) c.value_changes c.tick key
+        (if bytes_eq key code then Kept v.wave.width v.first else target_of old key))
+        (sym (found_with key c.declared d)) both))
+
+    kept_more : kept_variables (c.declared ++ declaration_in c.scopes code v ∷ [])
+        ≡ kept_variables c.declared ++ declaration_in c.scopes code v ∷ []
+    kept_more = kept_kept c.declared (declaration_in c.scopes code v) keeps
+
+    -- a code with a position keeps it
+    still_owned : (key : List ℕ) (width position : ℕ) → target_of old key ≡ Kept width position
+        → target_of (with_kept old list targets) key ≡ Kept width position
+    still_owned key width position had =
+        puts key ∙ by_code (λ b. (if b then Kept v.wave.width v.first else target_of old key) ≡ Kept width position)
+        key code (λ same. elim free [
+          | inl (none, end) ↦ let never : Undeclared ≡ Kept width position = sym none ∙ ap (target_of old) (sym same)
+              ∙ had in absurd (cc)
+          | inr has ↦ sym has ∙ ap (target_of old) (sym same) ∙ had
+        ]) (λ _. had)
+
+    -- the variables before it have the positions of their first ones
+    keep_earlier : (position : ℕ) (u : Variable) → slice_get old.kept.items position ≡ Some u
+        → HasFirst (with_kept old list targets) (kept_variables c.declared ++ declaration_in c.scopes code v ∷ [])
+        position u
+    keep_earlier position u at =
+        let before = k.firsts position u at in
+        let within : position < length old.kept.items = slice_get_within old.kept.items position u at in
+        let stood : (e : VariableDeclaration)
+        → slice_get (kept_variables c.declared ++ declaration_in c.scopes code v ∷ []) position ≡ Some e
+        → slice_get (kept_variables c.declared) position ≡ Some e =
+        λ e declared.
+        elim (either_of (kept_variables c.declared) (declaration_in c.scopes code v) position e declared) [
+          | inl there ↦ there
+          | inr (end, is) ↦ absurd (omega (arith, within, end, kept_long old c k))
+        ] in
         record {
-          kept = grind (arith, kept_more, map-append);
-          skipped = same ∙ k.skipped ∙ omega arith ∙ sym (count_with c.declared d false keeps);
-          targets_agree = keep_stands;
-          owners = subst (HaveOwnCodes new) (sym kept_more) keep_owners;
-          firsts = subst (λ ds. (position : ℕ) (v : Variable) → slice_get new.kept.items position ≡ Some v
-              → HasFirst new ds position v) (sym kept_more) keep_firsts;
-          few = subst (λ vs. length vs ≤ SIGNAL_LIMIT) (sym items)
-              (omega (arith, room, length_push old.kept.items (variable_at s first)));
-          grouped = subst (λ (l : Vec (Vec LoggedChange)). AreGrouped 0 l.items) (sym log) k.grouped;
-          logs = grind (arith, stays);
-        },
-      )
+          owned = λ e declared. still_owned e.code u.wave.width u.first (before.owned e (stood e declared));
+          placed = λ e declared. before.placed e (stood e declared);
+          no_later = before.no_later;
+        }
 
--- the result of a variable that is appended
-pub push_declares : (old new : Variables) (c : ParseState) (scopes : List ScopeName) (code : List ℕ) (s : Signal)
-    (first : ℕ) (result : Result (Unit {0}) Fault)
-    → VariablesMatch old c → c.value_changes ≡ [] → s.wave.changes ≡ [] → s.scopes ≡ []
-    → is_skipped (declaration_in scopes code s) ≡ false → IsFree old code s first
-    → OnOk result (length old.kept.items < SIGNAL_LIMIT)
-    → OnOk result (new.kept.items ≡ old.kept.items ++ variable_at s first ∷ [])
-    → new.log ≡ old.log
-    → OnOk result (Puts old new code (Kept s.wave.width first)) → new.skipped ≡ old.skipped
-    → IfErr result (λ fault. (fault ≡ faults.NoMemory)
-    ⊎ ((fault ≡ faults.TooManySignals) × (SIGNAL_LIMIT ≤ length old.kept.items)))
-    → DeclaresAs c (declaration_in scopes code s) result new
-push_declares old new c scopes code s first (Ok x) k value_changes silent bare keeps free room items log puts same
-    refuses =
-    keep_declares old new c scopes code s first k value_changes silent bare keeps items log free puts room same x
-push_declares old new c scopes code s first (Err fault) k value_changes silent bare keeps free room items log puts same
-    refuses = elim refuses [
-      | inl none ↦ inl none
-      | inr (why, full) ↦ subst (λ f. DeclaresAs c (declaration_in scopes code s) (Err f) new) (sym why)
-          (keep_full old c scopes code s first k keeps free new full)
-    ]
+    keep_owners : HaveOwnCodes (with_kept old list targets)
+        (kept_variables c.declared ++ declaration_in c.scopes code v ∷ [])
+    keep_owners key width position is =
+        let d = declaration_in c.scopes code v in
+        let ds = kept_variables c.declared in
+        let stayed : target_of old key ≡ Kept width position
+        → (e : VariableDeclaration) × (slice_get (ds ++ d ∷ []) position ≡ Some e) × (e.code ≡ key) =
+        λ had. let e = k.owners key width position had in (e.0, stays ds (d ∷ []) position e.0 e.1, e.2) in
+        by_code (λ b. (if b then Kept v.wave.width v.first else target_of old key) ≡ Kept width position
+        → (e : VariableDeclaration) × (slice_get (ds ++ d ∷ []) position ≡ Some e) × (e.code ≡ key)) key code
+        (λ same here. elim free [
+          | inl (none, end) ↦ (
+            d,
+            ap (slice_get (ds ++ d ∷ [])) (one_position width v.wave.width position v.first (sym here) ∙ end
+                ∙ sym (kept_long old c k))
+                ∙ middle_of ds [] d,
+            sym same,
+          )
+          | inr had ↦ stayed (ap (target_of old) same ∙ had ∙ here)
+        ]) (λ _ had. stayed had) (sym (puts key) ∙ is)
 
-pub when_ok : (result : Result (Unit {0}) Fault) (P : Type 0) → P → OnOk result P
-when_ok (Ok x) P p = p
-when_ok (Err fault) P p = tt
+    -- and so has the variable itself
+    keep_last : HasFirst (with_kept old list targets)
+        (kept_variables c.declared ++ declaration_in c.scopes code v ∷ []) (length old.kept.items) v
+    keep_last =
+        let is : (e : VariableDeclaration)
+        → slice_get (kept_variables c.declared ++ declaration_in c.scopes code v ∷ []) (length old.kept.items) ≡ Some e
+        → declaration_in c.scopes code v ≡ e =
+        λ e declared.
+        elim (either_of (kept_variables c.declared) (declaration_in c.scopes code v) (length old.kept.items) e
+        declared) [
+          | inl stood ↦ absurd (omega (
+            arith,
+            kept_long old c k,
+            slice_get_within (kept_variables c.declared) (length old.kept.items) e stood,
+          ))
+          | inr (last, same) ↦ same
+        ] in
+        record {
+          owned = λ e declared. ap (λ (x : VariableDeclaration). target_of (with_kept old list targets) x.code)
+              (sym (is e declared)) ∙ puts code
+              ∙ ap (λ b. if b then Kept v.wave.width v.first else target_of old code) (own_code code);
+          placed = λ e declared. subst (IsPlaced old.scopes v.place)
+              (k.opened ∙ ap (λ (x : VariableDeclaration). x.scopes) (is e declared)) placed;
+          no_later = first_within;
+        }
+
+    keep_firsts : (position : ℕ) (u : Variable) → slice_get list.items position ≡ Some u
+        → HasFirst (with_kept old list targets) (kept_variables c.declared ++ declaration_in c.scopes code v ∷ [])
+        position u
+    keep_firsts position u at =
+        elim (either_of old.kept.items v position u (subst (λ vs. slice_get vs position ≡ Some u) items at)) [
+          | inl stood ↦ keep_earlier position u stood
+          | inr (end, is) ↦ subst (λ n. HasFirst (with_kept old list targets)
+              (kept_variables c.declared ++ declaration_in c.scopes code v ∷ []) n u) (sym end)
+              (subst (HasFirst (with_kept old list targets)
+              (kept_variables c.declared ++ declaration_in c.scopes code v ∷ []) (length old.kept.items)) is keep_last)
+        ]
+
+    -- it is declared
+    pub keep_declares : length old.kept.items < SIGNAL_LIMIT → (x : Unit {0})
+        → DeclaresAs c (declaration_in c.scopes code v) (Ok x) (with_kept old list targets)
+    keep_declares room x =
+        let d = declaration_in c.scopes code v in (
+          keep_may (variable_of c code) (k.targets_agree code),
+          has_room_is true (lt-ltb (length old.kept.items) SIGNAL_LIMIT room),
+          record {
+            opened = k.opened;
+            kept = grind (arith, kept_more, map-append);
+            skipped = k.skipped ∙ omega arith ∙ sym (count_with c.declared d false keeps);
+            targets_agree = keep_stands;
+            owners = subst (HaveOwnCodes (with_kept old list targets)) (sym kept_more) keep_owners;
+            firsts = subst (λ ds. (position : ℕ) (u : Variable) → slice_get list.items position ≡ Some u
+                → HasFirst (with_kept old list targets) ds position u) (sym kept_more) keep_firsts;
+            few = subst (λ vs. length vs ≤ SIGNAL_LIMIT) (sym items)
+                (omega (arith, room, length_push old.kept.items v));
+            grouped = k.grouped;
+            logs = grind (arith, stays);
+          },
+        )
 
 -- ---- the words of a declaration
 
--- the declaration of the words of a `$var`
-abbrev pub worded_declaration : ParseState → (kind size code : List ℕ) → (names : List (List ℕ)) → VariableDeclaration
-worded_declaration c kind size code names =
-    record { scopes = c.scopes; kind = kind; size = number_of size; code = code; words = names }
-
 declares_names : (c : ParseState) (kind size code : List ℕ) (names : List (List ℕ)) (result : Result (Unit {0}) Fault)
-    (new : Variables) → 0 < length names → DeclaresAs c (worded_declaration c kind size code names) result new
+    (new : Variables) → 0 < length names
+    → DeclaresAs c (declaration_of_parts c kind (number_of size) code names) result new
     → Declares c (kind ∷ size ∷ code ∷ names) result new
 declares_names c kind size code [] result new some as_one = absurd (omega (arith, some))
 declares_names c kind size code (name ∷ names) (Ok x) new some (may, room, knows) = ((may, room), knows)
 declares_names c kind size code (name ∷ names) (Err fault) new some as_one = elim as_one [
   | inl none ↦ inl none
-  | inr (mixed may is) ↦ inr (code_mixed (worded_declaration c kind size code (name ∷ names)) refl may is)
-  | inr (many may room is) ↦ inr (no_room (worded_declaration c kind size code (name ∷ names)) refl may room is)
+  | inr (mixed may is) ↦ inr (code_mixed _ refl may is)
+  | inr (many may room is) ↦ inr (no_room _ refl may room is)
 ]
 
--- so the result of the words is that of their declaration
-pub declares_words : (c : ParseState) (words : List (List ℕ)) (kind size code : List ℕ) (names : List (List ℕ))
-    (result : Result (Unit {0}) Fault) (new : Variables) → words ≡ kind ∷ size ∷ code ∷ names → 0 < length names
-    → DeclaresAs c (worded_declaration c kind size code names) result new → Declares c words result new
-declares_words c words kind size code names result new are some as_one = grind (arith, declares_names)
+-- the front of a list, and the rest
+pub front_removed : (xs ys : List (List ℕ)) (x : List ℕ) → 0 < length xs → x ≡ slice_index_or xs 0 x → ys ≡ remove xs 0
+    → xs ≡ x ∷ ys
+front_removed [] ys x some front rest = absurd (omega arith)
+front_removed (x' ∷ xs) ys x some front rest = (λ i. sym front i ∷ sym rest i)
 
--- three words, and those after them
-pub words_in_front : (words : List (List ℕ)) (kind size code : List ℕ) → 3 ≤ length words → kind ≡ get_or words 0 kind
-    → size ≡ get_or words 1 size → code ≡ get_or words 2 code → words ≡ kind ∷ size ∷ code ∷ drop 3 words
-words_in_front words kind size code h4 h5 h6 h7 = grind arith
+-- so the result of the words is that of their parts, which are removed from their front
+pub declares_parts : (c : ParseState) (words rest more names : List (List ℕ)) (kind size code : List ℕ)
+    (result : Result (Unit {0}) Fault) (new : Variables) → 4 ≤ length words
+    → kind ≡ slice_index_or words 0 kind → rest ≡ remove words 0
+    → size ≡ slice_index_or rest 0 size → more ≡ remove rest 0
+    → code ≡ slice_index_or more 0 code → names ≡ remove more 0
+    → DeclaresAs c (declaration_of_parts c kind (number_of size) code names) result new → Declares c words result new
+declares_parts c words rest more names kind size code result new long is_kind left is_size left_more is_code left_names
+    as_one =
+    let first = front_removed words rest kind (omega (arith, long)) is_kind left in
+    let second = front_removed rest more size (omega (arith, long, ap (length {A = List ℕ}) first)) is_size left_more in
+    let third = front_removed more names code
+    (omega (arith, long, ap (length {A = List ℕ}) first, ap (length {A = List ℕ}) second)) is_code left_names in
+    let whole : words ≡ kind ∷ size ∷ code ∷ names =
+    first ∙ ap (λ ws. kind ∷ ws) (second ∙ ap (λ ws. size ∷ ws) third) in
+    subst (λ ws. Declares c ws result new) (sym whole)
+    (declares_names c kind size code names result new (omega (arith, long, ap (length {A = List ℕ}) whole)) as_one)
 
 -- ---- sizes that are read up to a bound
 
 -- a variable is skipped for its kind, or for the size that is read
 pub left_out : (c : ParseState) (kind word code : List ℕ) (names : List (List ℕ)) (size : ℕ)
-    → size ≡ min (number_of word) (WIDTH_LIMIT + 1) → is_skipped (worded_declaration c kind word code names)
+    → size ≡ min (number_of word) (WIDTH_LIMIT + 1)
+    → is_skipped (declaration_of_parts c kind (number_of word) code names)
     ≡ (is_skipped_kind kind || (size == 0 || nat_lt WIDTH_LIMIT size))
 left_out c kind word code names size is = grind (arith, cases_lt, lt-ltb)
 

@@ -1,11 +1,13 @@
 -- A declaration after the next of its words.
-use Rattle.std.proofs.Common.{◌≡◌, ℕ, ◌-◌, ◌<◌, true, false, List, [], ◌∷◌, ◌++◌, length, take}
+use Rattle.std.proofs.Common.{◌≡◌, ℕ, ◌-◌, ◌<◌, Bool, true, false, List, [], ◌∷◌, ◌++◌, length, take}
 use Rattle.std.proofs.Common.{Option}
 use Rattle.std.proofs.Common.{Some, None, IsSome, IsTrue, IsFalse, Result, Ok, Err, IsErrAnd}
-use Rattle.std.proofs.Common.{slice_index_or, is_some}
+use Rattle.std.proofs.Common.{is_some}
 use Rattle.std.proofs.Common.{MatchOption, ◌⊎◌, codes, refl, sym, ap, subst, ◌∙◌, arith, inl, inr}
-use Rattle.std.specs.List.{remove}
 use Rattle.std.proofs.lemmas.Bool.{and_parts}
+use Rattle.std.proofs.lemmas.List.{length-take-le}
+use Rattle.std.specs.Global.{Vec}
+use Rattle.vcd_core.specs.declared.capture.Header.{Header}
 use Rattle.vcd_core.specs.declared.capture.HeaderKind.{HeaderKind}
 use Rattle.vcd_core.specs.declared.capture.Timescale.{Timescale}
 use Rattle.vcd_core.specs.declared.capture.ScopeName.{ScopeName}
@@ -17,11 +19,11 @@ use Rattle.vcd_text.specs.Items.{Item, entry, timescale, scope, upscope, variabl
 use Rattle.vcd_text.specs.Items.{other, spelling}
 use Rattle.vcd_text.specs.Items.{end_word, is_end_word, has_no_end_word, header_word, is_other}
 use Rattle.vcd_text.specs.Items.{timescale_of}
-use Rattle.vcd_text.specs.Grammar.{ParseState, Allows, state_after_item, kept_variables, word_texts}
+use Rattle.vcd_text.specs.Grammar.{ParseState, Allows, state_after_item, word_texts}
 use Rattle.vcd_text.specs.Grammar.{has_good_size}
 use Rattle.vcd_text.specs.Faults.{WordFault, DeclarationFault, no_timescale, no_size}
 use Rattle.vcd_text.specs.Faults.{among_declarations}
-use Rattle.vcd_text.specs.inside.Scopes.{HoldsScopes}
+use Rattle.vcd_text.specs.inside.Scopes.{open_scopes, KeepsPlaces}
 use Rattle.vcd_text.specs.inside.Variables.{VariablesMatch, Declares, VariableFault}
 use Rattle.vcd_text.specs.inside.Reading.{ParserMatches, Collects, PassesOver, IsBegun, IsAtState}
 use Rattle.vcd_text.specs.inside.Reading.{WordStep, goes_on}
@@ -30,28 +32,24 @@ use Rattle.vcd_text.specs.declared.reading.parser.Parser.{Parser}
 use Rattle.vcd_text.specs.declared.reading.parser.OpenItem.TheVariants as items
 use Rattle.vcd_text.specs.declared.reading.scopes.Scopes.{Scopes}
 use Rattle.vcd_text.specs.declared.reading.variables.Variables.{Variables}
-use Rattle.vcd_text.proofs.VariablesMatch.{knows_further}
-use Rattle.vcd_text.proofs.VariablesMatch.{kept_long}
-use Rattle.vcd_text.proofs.HeldScopes.{so_deep}
+use Rattle.vcd_text.proofs.VariablesMatch.{knows_further, scopes_moved}
 use Rattle.vcd_text.proofs.FileAnswers.{texts_more}
 use Rattle.vcd_text.proofs.WordOutcomes.{no_end_more}
-
--- ---- words
 
 -- ---- the state stays the same
 
 -- the variables match a state that differs only in other fields
-same_known : (vs : Variables) (c d : ParseState) → c.declared ≡ d.declared → c.value_changes ≡ d.value_changes
-    → c.tick ≡ d.tick → VariablesMatch vs c → VariablesMatch vs d
-same_known vs c d declared value_changes tick known = grind (arith, knows_further)
+still_known : (vs : Variables) (c : ParseState) (header : List Header) (unit : Option Timescale) (in_body : Bool)
+    → VariablesMatch vs c → VariablesMatch vs (record c { header = header; timescale = unit; in_body = in_body })
+still_known vs c header unit in_body k = knows_further vs c header unit in_body c.tick (omega arith) k
 
 -- ---- the end of an item
 
 -- the parser matches a state, part by part
 pub agrees_by : (m : Parser) (c : ParseState) → m.header.items ≡ c.header → m.timescale ≡ c.timescale
-    → HoldsScopes m.scopes c.scopes c.declared → m.in_body ≡ c.in_body → m.tick ≡ c.tick
+    → m.in_body ≡ c.in_body → m.tick ≡ c.tick
     → VariablesMatch m.variables c → (IsFalse c.in_body → c.value_changes ≡ []) → ParserMatches m c
-agrees_by m c header time scopes in_body tick variables no_early_change = grind arith
+agrees_by m c header time in_body tick variables no_early_change = grind arith
 
 -- if the conditions of the open item hold, its `$end` ends it
 ends_here : (new : Parser) (c : ParseState) (begun : List PlacedWord) (line : ℕ) (i : Item) (words : List (List ℕ))
@@ -77,8 +75,8 @@ closes_entry m new kind is pushed others line c begun at =
     (header_word kind ∷ m.words.items)
     b.spelled refl (sym a.in_body ∙ b.declares, b.no_end)
     (agrees_by _ _ (pushed ∙ ap (λ h. h ++ record { kind = kind; words = m.words.items } ∷ []) a.header)
-    a.timescale a.scopes a.in_body a.tick
-    (same_known m.variables c (state_after_item c i) refl refl refl a.variables) a.no_early_change) refl)
+    a.timescale a.in_body a.tick
+    (still_known m.variables c (state_after_item c i).header c.timescale c.in_body a.variables) a.no_early_change) refl)
 
 -- a timescale replaces the one before
 pub closes_timescale : (m : Parser) (found : Timescale) → m.item ≡ items.Timescale
@@ -92,8 +90,8 @@ closes_timescale m found is some line c begun at =
     ends_here (record m { timescale = Some found; item = items.Nothing }) c begun line i
     (codes "$timescale" ∷ m.words.items)
     b.spelled refl (sym a.in_body ∙ b.declares, b.no_end, subst IsSome (sym some) refl)
-    (agrees_by _ _ a.header (sym some) a.scopes a.in_body a.tick
-    (same_known m.variables c (state_after_item c i) refl refl refl a.variables) a.no_early_change) refl
+    (agrees_by _ _ a.header (sym some) a.in_body a.tick
+    (still_known m.variables c c.header (timescale_of m.words.items) c.in_body a.variables) a.no_early_change) refl
 
 -- the words spell no timescale
 pub shows_no_timescale : (m : Parser) → m.item ≡ items.Timescale → timescale_of m.words.items ≡ None
@@ -104,45 +102,44 @@ shows_no_timescale m is none c begun at =
     among_declarations (sym at.0.in_body ∙ b.declares) (no_timescale m.words.items b.spelled refl b.no_end none refl)
 
 -- a scope is the innermost
-pub closes_scope : (m new : Parser) (s : ScopeName) → m.item ≡ items.Scope → m.words.items ≡ s.kind ∷ s.words
-    → ((c : ParseState) → HoldsScopes m.scopes c.scopes c.declared
-    → HoldsScopes new.scopes (c.scopes ++ s ∷ []) c.declared)
-    → new ≡ record m { scopes = new.scopes; words = new.words; item = items.Nothing }
+pub closes_scope : (m : Parser) (scopes : Scopes) (rest : Vec (List ℕ)) (s : ScopeName) → m.item ≡ items.Scope
+    → m.words.items ≡ s.kind ∷ s.words → open_scopes scopes ≡ open_scopes m.variables.scopes ++ s ∷ []
+    → KeepsPlaces m.variables.scopes scopes
     → (line : ℕ) (c : ParseState) (begun : List PlacedWord) → IsAtState m c begun
-    → WordStep c (begun ++ word_on end_word line ∷ []) new
-closes_scope m new s is words pushed others line c begun at =
+    → WordStep c (begun ++ word_on end_word line ∷ [])
+    (record m { variables = record m.variables { scopes = scopes }; words = rest; item = items.Nothing })
+closes_scope m scopes rest s is words pushed keeps line c begun at =
     let a = at.0 in
     let b : Collects m begun (codes "$scope") = subst (IsBegun m begun) is at.1 in
-    let i : Item = scope s.kind s.words in
-    subst (WordStep c (begun ++ word_on end_word line ∷ [])) (sym others)
-    (ends_here (record m { scopes = new.scopes; words = new.words; item = items.Nothing }) c begun line i
-    (codes "$scope" ∷ s.kind ∷ s.words)
+    ends_here _ c begun line (scope s.kind s.words) (codes "$scope" ∷ s.kind ∷ s.words)
     (b.spelled ∙ ap (λ ws. codes "$scope" ∷ ws) words) refl
     (sym a.in_body ∙ b.declares, ap has_no_end_word (sym words) ∙ b.no_end)
-    (agrees_by _ _ a.header a.timescale (pushed c a.scopes) a.in_body a.tick
-    (same_known m.variables c (state_after_item c i) refl refl refl a.variables) a.no_early_change) refl)
+    (agrees_by _ _ a.header a.timescale a.in_body a.tick
+    (scopes_moved m.variables scopes c (c.scopes ++ s ∷ [])
+    (pushed ∙ ap (λ ss. ss ++ s ∷ []) a.variables.opened) keeps a.variables) a.no_early_change) refl
 
--- the front of a list, and the rest
-pub front_removed : (xs ys : List (List ℕ)) (x : List ℕ) → 0 < length xs → x ≡ slice_index_or xs 0 x → ys ≡ remove xs 0
-    → xs ≡ x ∷ ys
-front_removed [] ys x some front rest = absurd (omega arith)
-front_removed (x' ∷ xs) ys x some front rest = (λ i. sym front i ∷ sym rest i)
+-- as many scopes are open as in the state
+pub so_deep : (vs : Variables) (c : ParseState) → VariablesMatch vs c → length c.scopes ≡ vs.scopes.depth
+so_deep vs c k = ap (length {A = ScopeName}) (sym k.opened)
+    ∙ length-take-le vs.scopes.depth vs.scopes.chain.items vs.scopes.within
 
 -- the innermost scope is closed
-pub closes_upscope : (m new : Parser) → m.item ≡ items.Upscope
-    → ((c : ParseState) → HoldsScopes m.scopes c.scopes c.declared
-    → HoldsScopes new.scopes (take (length c.scopes - 1) c.scopes) c.declared)
-    → new ≡ record m { scopes = new.scopes; item = items.Nothing }
+pub closes_upscope : (m : Parser) (scopes : Scopes) → m.item ≡ items.Upscope
+    → open_scopes scopes ≡ take (length (open_scopes m.variables.scopes) - 1) (open_scopes m.variables.scopes)
+    → KeepsPlaces m.variables.scopes scopes
     → (line : ℕ) (c : ParseState) (begun : List PlacedWord) → IsAtState m c begun
-    → WordStep c (begun ++ word_on end_word line ∷ []) new
-closes_upscope m new is popped others line c begun at =
+    → WordStep c (begun ++ word_on end_word line ∷ [])
+    (record m { variables = record m.variables { scopes = scopes }; item = items.Nothing })
+closes_upscope m scopes is popped keeps line c begun at =
     let a = at.0 in
-    let b : IsFalse m.in_body × (word_texts begun ≡ codes "$upscope" ∷ []) × (0 < m.scopes.depth) = grind arith in
-    subst (WordStep c (begun ++ word_on end_word line ∷ [])) (sym others)
-    (ends_here (record m { scopes = new.scopes; item = items.Nothing }) c begun line upscope (codes "$upscope" ∷ [])
-    b.1 refl (sym a.in_body ∙ b.0, omega (arith, so_deep m.scopes c a.scopes, b.2))
-    (agrees_by _ _ a.header a.timescale (popped c a.scopes) a.in_body a.tick
-    (same_known m.variables c (state_after_item c upscope) refl refl refl a.variables) a.no_early_change) refl)
+    let b : IsFalse m.in_body × (word_texts begun ≡ codes "$upscope" ∷ []) × (0 < m.variables.scopes.depth) =
+    grind arith in
+    ends_here _ c begun line upscope (codes "$upscope" ∷ [])
+    b.1 refl (sym a.in_body ∙ b.0, omega (arith, so_deep m.variables c a.variables, b.2))
+    (agrees_by _ _ a.header a.timescale a.in_body a.tick
+    (scopes_moved m.variables scopes c (take (length c.scopes - 1) c.scopes)
+    (popped ∙ ap (λ (ss : List ScopeName). take (length ss - 1) ss) a.variables.opened) keeps a.variables)
+    a.no_early_change) refl
 
 -- the changes begin
 pub closes_definitions : (m : Parser) → m.item ≡ items.EndDefinitions
@@ -155,8 +152,8 @@ closes_definitions m is line c begun at =
     ends_here (record m { in_body = true; item = items.Nothing }) c begun line end_definitions
     (codes "$enddefinitions" ∷ [])
     b.1 refl (sym a.in_body ∙ b.0)
-    (agrees_by _ _ a.header a.timescale a.scopes refl a.tick
-    (same_known m.variables c (state_after_item c end_definitions) refl refl refl a.variables)
+    (agrees_by _ _ a.header a.timescale refl a.tick
+    (still_known m.variables c c.header c.timescale true a.variables)
     (λ _. a.no_early_change (sym a.in_body ∙ b.0))) refl
 
 -- another command changes nothing
@@ -168,30 +165,25 @@ closes_other m is line c begun at =
     let b : PassesOver m begun = subst (IsBegun m begun) is at.1 in
     ends_here (record m { item = items.Nothing }) c begun line (other b.keyword b.words) (b.keyword ∷ b.words)
     b.spelled refl (ap (λ in_body. is_other in_body b.keyword) (sym a.in_body) ∙ b.other, b.no_end)
-    (agrees_by _ _ a.header a.timescale a.scopes a.in_body a.tick a.variables a.no_early_change) refl
+    (agrees_by _ _ a.header a.timescale a.in_body a.tick a.variables a.no_early_change) refl
 
 -- ---- variables
 
 -- the variables have the declaration
-pub closes_variable : (m : Parser) (variables : Variables) (scopes : Scopes) (words : List (List ℕ))
-    → words ≡ m.words.items → ((c : ParseState) (ws : List (List ℕ)) → HoldsScopes m.scopes c.scopes c.declared
-    → length variables.kept.items ≡ length (kept_variables (state_after_item c (variable ws)).declared)
-    → HoldsScopes scopes c.scopes (state_after_item c (variable ws)).declared)
+pub closes_variable : (m : Parser) (variables : Variables) (words : List (List ℕ)) (rest : Vec (List ℕ))
+    → words ≡ m.words.items
     → ((c : ParseState) → c.value_changes ≡ [] → VariablesMatch m.variables c → Declares c words (Ok tt) variables)
     → m.item ≡ items.Variable → (line : ℕ) (c : ParseState) (begun : List PlacedWord) → IsAtState m c begun
     → WordStep c (begun ++ word_on end_word line ∷ [])
-    (record m { scopes = scopes; variables = variables; item = items.Nothing })
-closes_variable m variables scopes words spelled note declare is line c begun at =
+    (record m { variables = variables; words = rest; item = items.Nothing })
+closes_variable m variables words rest spelled declare is line c begun at =
     let a = at.0 in
     let b : Collects m begun (codes "$var") × IsTrue (has_good_size m.words.items) = subst (IsBegun m begun) is at.1 in
     let declares : IsFalse c.in_body = sym a.in_body ∙ b.0.declares in
     let d : Declares c m.words.items (Ok tt) variables = grind arith in
-    ends_here (record m { scopes = scopes; variables = variables; item = items.Nothing }) c begun line
-    (variable m.words.items) (codes "$var" ∷ m.words.items)
+    ends_here _ c begun line (variable m.words.items) (codes "$var" ∷ m.words.items)
     b.0.spelled refl (declares, b.0.no_end, b.1, d.0)
-    (agrees_by _ _ a.header a.timescale (note c m.words.items a.scopes
-    (sym (kept_long variables (state_after_item c (variable m.words.items)) d.1)))
-    a.in_body a.tick d.1 a.no_early_change) refl
+    (agrees_by _ _ a.header a.timescale a.in_body a.tick d.1 a.no_early_change) refl
 
 -- the fault of the variables is that of the grammar
 variable_fault : (m : Parser) (c : ParseState) (begun : List PlacedWord) (fault : Fault) → IsFalse c.in_body

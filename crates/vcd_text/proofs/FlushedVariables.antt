@@ -11,13 +11,12 @@ use Rattle.std.proofs.lemmas.List.Elements.{All-nil, All-cons}
 use Rattle.std.proofs.lemmas.Option.{same_Some, slice_get_within, slice_get_cases}
 use Rattle.vcd_core.specs.declared.bit.Bit.{Bit}
 use Rattle.vcd_core.specs.Value.{all_x}
-use Rattle.vcd_core.specs.declared.capture.Signal.{Signal}
 use Rattle.vcd_text.specs.Grammar.{ParseState, kept_variables}
 use Rattle.vcd_text.specs.Meaning.{latest_value}
 use Rattle.vcd_text.specs.inside.ChangeLog.{GivesLoggedValues, changes_of_position, logged}
 use Rattle.vcd_text.specs.inside.ChangeLog.{AreGrouped, CanTake}
 use Rattle.vcd_text.specs.inside.ChangeLog.{AppliesLogged, CanFlush, FlushesOne, FlushesLog}
-use Rattle.vcd_text.specs.inside.ChangeLog.{counted_variable, counted}
+use Rattle.vcd_text.specs.inside.ChangeLog.{counted_variable, counted, room_with}
 use Rattle.vcd_text.specs.inside.Variables.{target_of, HasWave, HasFirst, VariablesMatch}
 use Rattle.vcd_text.specs.declared.reading.code_targets.CodeTarget.TheVariants.{Kept}
 use Rattle.vcd_text.specs.declared.reading.pending.LoggedChange.{LoggedChange}
@@ -25,6 +24,9 @@ use Rattle.vcd_text.specs.declared.reading.variables.Variable.{Variable}
 use Rattle.vcd_text.specs.declared.reading.variables.Variables.{Variables}
 use Rattle.vcd_text.proofs.LoggedValues.{gives_narrow, gives_first, gives_flushed}
 use Rattle.vcd_text.proofs.ChangedVariables.{set_here, set_there, own_wave, with_changes}
+use Rattle.vcd_text.proofs.ChangedVariables.{same_declaration}
+use Rattle.vcd_text.specs.inside.Scopes.{IsPlaced}
+use Rattle.vcd_text.specs.declared.reading.pending.ExpectedRoom.{ExpectedRoom}
 use Rattle.vcd_text.proofs.CodeTargets.{stands_moved}
 use Rattle.vcd_text.proofs.VariablesMatch.{declared_at}
 use Rattle.std.proofs.lemmas.List.{length-set}
@@ -108,23 +110,17 @@ all_within kept (e ∷ es) rest has =
     (all_within kept es rest (λ position some. has position (more_left e es (rest position) position some)))
 
 -- nothing but the expected room changes
-hinted : (v w : Variable) (log : List LoggedChange) → w.signal ≡ v.signal → w.first ≡ v.first → FlushesOne v w log log
-hinted v w log signal first = record {
-  same = record {
-    scopes = ap (λ (s : Signal). s.scopes) signal;
-    kind = ap (λ (s : Signal). s.kind) signal;
-    words = ap (λ (s : Signal). s.words) signal;
-    width = ap (λ (s : Signal). s.wave.width) signal;
-    first = first;
-  };
-  gives = λ tick f gives. subst (λ (s : Signal). GivesLoggedValues s.wave.width tick f s.wave.changes log) (sym signal)
-      gives;
+hinted : (v : Variable) (room : ExpectedRoom) (log : List LoggedChange)
+    → FlushesOne v (record v { expected_room = room }) log log
+hinted v room log = record {
+  same = record { place = refl; kind = refl; words = refl; width = refl; first = refl };
+  gives = λ tick f gives. gives;
 }
 
 none_taken : (kept : List Variable) (log : ℕ → List LoggedChange) → FlushesLog kept kept log log
 none_taken kept log = record {
   long = refl;
-  each = λ position v at. (v, at, hinted v v (log position) refl refl);
+  each = λ position v at. (v, at, hinted v v.expected_room (log position));
 }
 
 counted_next : (kept : List Variable) (e : LoggedChange) (log : ℕ → List LoggedChange)
@@ -143,12 +139,12 @@ counted_next kept e log =
                     ap (slice_get (set kept e.position (counted_variable v e))) (sym same)
                         ∙ set_here kept e.position v (counted_variable v e) at,
                     subst (λ x. FlushesOne x (counted_variable v e) (log position) (log position)) is
-                        (hinted v (counted_variable v e) (log position) refl refl),
+                        (hinted v (room_with v.expected_room e) (log position)),
                   )
               | inr other ↦ (
                 u,
                 set_there kept e.position position (counted_variable v e) other ∙ there,
-                hinted u u (log position) refl refl,
+                hinted u u.expected_room (log position),
               )
             ];
           })
@@ -169,7 +165,7 @@ pub variables_can_flush : (vs : Variables) (c : ParseState) → VariablesMatch v
 variables_can_flush vs c k = λ position some.
     let u = k.logs position some in
     let d = declared_at vs c k position u.0 u.1 in
-    let width = u.0.signal.wave.width in
+    let width = u.0.wave.width in
     let had : target_of vs d.0.code ≡ Kept width position =
     (k.firsts position u.0 u.1).owned d.0 d.1 ∙ ap (Kept width) u.2 in
     let f : ℕ → List Bit = λ t. latest_value width d.0.code t (all_x width) c.value_changes in
@@ -178,7 +174,7 @@ variables_can_flush vs c k = λ position some.
       wave.at_position,
       c.tick,
       f,
-      subst (λ n. GivesLoggedValues n c.tick f wave.first.signal.wave.changes (logged vs.log.items position))
+      subst (λ n. GivesLoggedValues n c.tick f wave.first.wave.changes (logged vs.log.items position))
           (sym wave.sized) wave.gives,
     )
 
@@ -225,13 +221,16 @@ module _ (old : Variables) (list : Vec Variable) (log : Vec (Vec LoggedChange)) 
       record {
         owned = λ d declared. before.owned d declared
             ∙ (λ i. Kept (sym v.2.same.width i) (sym v.2.same.first i));
+        placed = λ d declared. subst (λ p. IsPlaced old.scopes p d.scopes) (sym v.2.same.place)
+            (before.placed d declared);
         no_later = omega (arith, v.2.same.first, before.no_later);
       }
 
   -- the waves have the changes of the log
   pub flushed_match : VariablesMatch (with_changes old list log) c
   flushed_match = record {
-    kept = grind (arith, same_all);
+    opened = k.opened;
+    kept = grind (arith, same_all, same_declaration);
     skipped = k.skipped;
     targets_agree = grind (arith, stands_moved, flushed_wave);
     owners = k.owners;

@@ -22,7 +22,7 @@ use Rattle.vcd_text.specs.inside.Reading.{AwaitsCode, is_complete}
 use Rattle.vcd_text.specs.declared.reading.parser.Parser.{Parser}
 use Rattle.vcd_text.specs.declared.reading.parser.OpenItem.{OpenItem}
 use Rattle.vcd_text.specs.declared.reading.parser.OpenItem.TheVariants as items
-use Rattle.vcd_text.proofs.HeldScopes.{so_deep}
+use Rattle.vcd_text.proofs.Declaring.{so_deep}
 use Rattle.vcd_text.proofs.OneAnswer.{accepted-not_refused, stopped-not_refused}
 use Rattle.vcd_text.proofs.Changing.{among_first, among_last}
 

@@ -28,7 +28,6 @@ pub mod Values
 pub mod Written
 pub mod Scopes
 pub mod HeldScopes
-pub mod PlacedSignals
 pub mod TransitionText
 pub mod ListedValues
 pub mod Sorting

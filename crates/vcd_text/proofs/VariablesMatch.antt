@@ -1,15 +1,19 @@
 -- The parser's variables, compared with the state of a file.
-use Rattle.std.proofs.Common.{arith, ◌≡◌, ℕ, ◌≤◌, List, sym, ap, ◌∙◌, subst, find, map, length}
-use Rattle.std.proofs.Common.{option_map}
+use Rattle.std.proofs.Common.{arith, ◌≡◌, ℕ, ◌≤◌, Bool, List, sym, ap, ◌∙◌, length, option_map}
 use Rattle.std.proofs.Common.{Option, Some, None, refl}
-use Rattle.std.specs.Prelude.{count_by, bytes_eq, slice_get}
+use Rattle.std.specs.Prelude.{slice_get}
 use Rattle.std.proofs.lemmas.List.{length-map}
 use Rattle.std.proofs.lemmas.Option.{same_Some, slice_get-map}
-use Rattle.vcd_text.specs.Grammar.{VariableDeclaration, ParseState, is_skipped, kept_variables}
+use Rattle.vcd_core.specs.declared.capture.Header.{Header}
+use Rattle.vcd_core.specs.declared.capture.Timescale.{Timescale}
+use Rattle.vcd_core.specs.declared.capture.ScopeName.{ScopeName}
+use Rattle.vcd_text.specs.Grammar.{VariableDeclaration, ParseState, kept_variables, variable_of}
 use Rattle.vcd_text.specs.inside.ChangeLog.{logged}
 use Rattle.vcd_text.proofs.LoggedValues.{gives_further}
-use Rattle.vcd_text.specs.inside.Variables.{TargetAgrees, declaration, without_code, target_of}
-use Rattle.vcd_text.specs.inside.Variables.{TargetMatches, HaveOwnCodes, HasFirst, VariablesMatch}
+use Rattle.vcd_text.specs.inside.Scopes.{open_scopes, KeepsPlaces}
+use Rattle.vcd_text.specs.inside.Variables.{declaration, without_code, target_of, HaveOwnCodes}
+use Rattle.vcd_text.specs.inside.Variables.{VariablesMatch}
+use Rattle.vcd_text.specs.declared.reading.scopes.Scopes.{Scopes}
 use Rattle.vcd_text.specs.declared.reading.variables.Variable.{Variable}
 use Rattle.vcd_text.specs.declared.reading.variables.Variables.{Variables}
 use Rattle.vcd_text.specs.declared.reading.code_targets.CodeTarget.TheVariants.{Kept}
@@ -46,22 +50,39 @@ one_owner vs declared owners a b wide width position had has =
     sym x.2 ∙ ap (λ (d : VariableDeclaration). d.code) (same_Some x.0 y.0 (sym x.1 ∙ y.1)) ∙ y.2
 
 -- variables that match a state match it at a later tick too
-pub knows_further : (vs : Variables) (c d : ParseState) → c.declared ≡ d.declared → c.value_changes ≡ d.value_changes
-    → c.tick ≤ d.tick → VariablesMatch vs c → VariablesMatch vs d
-knows_further vs c d declared value_changes later k = record {
-  kept = subst (λ ds. map without_code (kept_variables ds) ≡ map declaration vs.kept.items) declared k.kept;
-  skipped = subst (λ ds. vs.skipped ≡ count_by is_skipped ds) declared k.skipped;
+pub knows_further : (vs : Variables) (c : ParseState) (header : List Header) (timescale : Option Timescale)
+    (in_body : Bool) (tick : ℕ) → c.tick ≤ tick → VariablesMatch vs c
+    → VariablesMatch vs (record c { header = header; timescale = timescale; in_body = in_body; tick = tick })
+knows_further vs c header timescale in_body tick later k = record {
+  opened = k.opened;
+  kept = k.kept;
+  skipped = k.skipped;
   targets_agree = λ code.
-      stands_moved vs.kept.items vs.kept.items (logged vs.log.items) (logged vs.log.items) d.value_changes
-      d.value_changes c.tick d.tick code (target_of vs code) (find (λ e. bytes_eq code e.code) d.declared)
-      (λ width position _ wave. (grind (arith, gives_further)))
-      (subst (λ rs. TargetMatches vs.kept.items (logged vs.log.items) rs c.tick code (target_of vs code)
-      (find (λ e. bytes_eq code e.code) d.declared)) value_changes
-      (subst (λ ds. TargetAgrees vs c code
-      (target_of vs code) (find (λ e. bytes_eq code e.code) ds)) declared (k.targets_agree code)));
-  owners = subst (λ ds. HaveOwnCodes vs (kept_variables ds)) declared k.owners;
-  firsts = subst (λ ds. (position : ℕ) (v : Variable) → slice_get vs.kept.items position ≡ Some v
-      → HasFirst vs (kept_variables ds) position v) declared k.firsts;
+      stands_moved vs.kept.items vs.kept.items (logged vs.log.items) (logged vs.log.items) c.value_changes
+      c.value_changes c.tick tick code (target_of vs code) (variable_of c code)
+      (λ width position _ wave. (grind (arith, gives_further))) (k.targets_agree code);
+  owners = k.owners;
+  firsts = k.firsts;
+  few = k.few;
+  grouped = k.grouped;
+  logs = k.logs;
+}
+
+-- variables match a state with other open scopes, if each place keeps its scopes
+pub scopes_moved : (vs : Variables) (scopes : Scopes) (c : ParseState) (opened : List ScopeName)
+    → open_scopes scopes ≡ opened → KeepsPlaces vs.scopes scopes → VariablesMatch vs c
+    → VariablesMatch (record vs { scopes = scopes }) (record c { scopes = opened })
+scopes_moved vs scopes c opened are keeps k = record {
+  opened = are;
+  kept = k.kept;
+  skipped = k.skipped;
+  targets_agree = k.targets_agree;
+  owners = k.owners;
+  firsts = λ position v at. let first = k.firsts position v at in record {
+    owned = first.owned;
+    placed = λ d declared. keeps v.place d.scopes (first.placed d declared);
+    no_later = first.no_later;
+  };
   few = k.few;
   grouped = k.grouped;
   logs = k.logs;

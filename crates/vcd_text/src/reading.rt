@@ -22,7 +22,6 @@ mod keywords;
 mod parser;
 mod pending;
 mod read_buffer;
-mod scope_paths;
 mod scopes;
 mod ticks_and_sizes;
 mod timescale;

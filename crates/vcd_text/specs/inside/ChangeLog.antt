@@ -63,25 +63,25 @@ AreGrouped index (g ∷ gs) = All (λ (e : LoggedChange). e.position % GROUPS �
 pub record CanTake (kept : List Variable) (e : LoggedChange) : Type 0 where
   pub before : Variable
   pub at_position : slice_get kept e.position ≡ Some before
-  pub narrow : before.signal.wave.width ≤ 64
-  pub none_later : All (λ (c : Change). c.tick ≤ e.tick) before.signal.wave.changes
+  pub narrow : before.wave.width ≤ 64
+  pub none_later : All (λ (c : Change). c.tick ≤ e.tick) before.wave.changes
 
 -- two variables are the same but for the changes of their waves
 pub record IsSameVariable (old new : Variable) : Type 0 where
-  pub scopes : new.signal.scopes ≡ old.signal.scopes
-  pub kind : new.signal.kind ≡ old.signal.kind
-  pub words : new.signal.words ≡ old.signal.words
-  pub width : new.signal.wave.width ≡ old.signal.wave.width
+  pub place : new.place ≡ old.place
+  pub kind : new.kind ≡ old.kind
+  pub words : new.words ≡ old.words
+  pub width : new.wave.width ≡ old.wave.width
   pub first : new.first ≡ old.first
 
 -- the variable with a change of the log applied
 pub record AppliesToVariable (e : LoggedChange) (old new : Variable) : Type 0 where
   pub same : IsSameVariable old new
-  pub last : All (λ (c : Change). c.tick ≤ e.tick) new.signal.wave.changes
-  pub values : (t : ℕ) → value_at new.signal.wave.width new.signal.wave.changes t
-      ≡ (if nat_le e.tick t then logged_letters old.signal.wave.width e
-      else value_at old.signal.wave.width
-      old.signal.wave.changes t)
+  pub last : All (λ (c : Change). c.tick ≤ e.tick) new.wave.changes
+  pub values : (t : ℕ) → value_at new.wave.width new.wave.changes t
+      ≡ (if nat_le e.tick t then logged_letters old.wave.width e
+      else value_at old.wave.width
+      old.wave.changes t)
 
 -- the variables with a change of the log applied to one
 pub record AppliesLogged (e : LoggedChange) (old new : List Variable) : Type 0 where
@@ -112,13 +112,13 @@ counted vs e = option_map_or (λ (v : Variable). set vs e.position (counted_vari
 
 -- a wave's own list gets just the room for as many changes as were counted, or keeps what it has
 pub record HasExactRoom (old new : Variable) : Type 0 where
-  pub exact : 1 ≤ old.expected_room.count → old.signal.wave.is_shared ≡ false
-      → new.signal.wave.capacity
-      ≡ max old.signal.wave.capacity (length old.signal.wave.changes + old.expected_room.count)
-  pub kept : old.signal.wave.is_shared ≡ false
-      → length old.signal.wave.changes + 1 ≤ old.signal.wave.capacity
-      → length old.signal.wave.changes + old.expected_room.count ≤ old.signal.wave.capacity
-      → new.signal.wave.capacity ≡ old.signal.wave.capacity
+  pub exact : 1 ≤ old.expected_room.count → old.wave.is_shared ≡ false
+      → new.wave.capacity
+      ≡ max old.wave.capacity (length old.wave.changes + old.expected_room.count)
+  pub kept : old.wave.is_shared ≡ false
+      → length old.wave.changes + 1 ≤ old.wave.capacity
+      → length old.wave.changes + old.expected_room.count ≤ old.wave.capacity
+      → new.wave.capacity ≡ old.wave.capacity
 
 -- ---- the variables with the changes of the log
 
@@ -127,14 +127,14 @@ abbrev pub CanFlush : List Variable → (ℕ → List LoggedChange) → Type 0
 CanFlush kept log =
     (position : ℕ) → 0 < length (log position)
     → (v : Variable) × (slice_get kept position ≡ Some v) × (tick : ℕ) × (f : ℕ → List Bit)
-    × GivesLoggedValues v.signal.wave.width tick f v.signal.wave.changes (log position)
+    × GivesLoggedValues v.wave.width tick f v.wave.changes (log position)
 
 -- the variable is the same, and its wave with the rest of the log has the same values
 pub record FlushesOne (old new : Variable) (log rest : List LoggedChange) : Type 0 where
   pub same : IsSameVariable old new
   pub gives : (tick : ℕ) (f : ℕ → List Bit)
-      → GivesLoggedValues old.signal.wave.width tick f old.signal.wave.changes log
-      → GivesLoggedValues new.signal.wave.width tick f new.signal.wave.changes rest
+      → GivesLoggedValues old.wave.width tick f old.wave.changes log
+      → GivesLoggedValues new.wave.width tick f new.wave.changes rest
 
 -- the variables have taken the changes that are no longer in the log
 pub record FlushesLog (old new : List Variable) (log rest : ℕ → List LoggedChange) : Type 0 where

@@ -19,7 +19,6 @@ use Rattle.vcd_text.specs.Grammar.{initial_state}
 use Rattle.vcd_text.specs.Grammar.{word_texts, has_good_size}
 use Rattle.vcd_text.specs.Faults.{WordFault, ShowsFault}
 use Rattle.vcd_text.specs.MemoryErrors.{memory_error}
-use Rattle.vcd_text.specs.inside.Scopes.{HoldsScopes}
 use Rattle.vcd_text.specs.inside.Variables.{VariablesMatch}
 use Rattle.vcd_text.specs.declared.reading.parser.Parser.{Parser}
 use Rattle.vcd_text.specs.declared.reading.parser.OpenItem.{OpenItem}
@@ -31,7 +30,6 @@ use Rattle.vcd_text.specs.declared.reading.parser.OpenItem.TheVariants as items
 pub record ParserMatches (m : Parser) (c : ParseState) : Type 0 where
   pub header : m.header.items ≡ c.header
   pub timescale : m.timescale ≡ c.timescale
-  pub scopes : HoldsScopes m.scopes c.scopes c.declared
   pub in_body : m.in_body ≡ c.in_body
   pub tick : m.tick ≡ c.tick
   pub variables : VariablesMatch m.variables c
@@ -68,7 +66,7 @@ IsBegun m begun (items.Entry kind) = Collects m begun (header_word kind)
 IsBegun m begun items.Timescale = Collects m begun (codes "$timescale")
 IsBegun m begun items.Scope = Collects m begun (codes "$scope")
 IsBegun m begun items.Upscope = IsFalse m.in_body × (word_texts begun ≡ codes "$upscope" ∷ [])
-    × (0 < m.scopes.depth)
+    × (0 < m.variables.scopes.depth)
 IsBegun m begun items.Variable = Collects m begun (codes "$var")
     × IsTrue (has_good_size m.words.items)
 IsBegun m begun items.EndDefinitions = IsFalse m.in_body

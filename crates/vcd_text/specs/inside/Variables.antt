@@ -1,13 +1,13 @@
 -- The variables of the parser, compared with the state of a file.
 use Rattle.std.specs.Prelude.{◌≡◌, ◌⊎◌, ℕ, ◌<◌, ◌≤◌, if◌then◌else◌, nat_le, List, [], ◌∷◌, ◌++◌}
-use Rattle.std.specs.Prelude.{map, length, slice_get}
+use Rattle.std.specs.Prelude.{map, length, slice_get, take}
 use Rattle.std.specs.Prelude.{count_by, All, Option, Some, None, IsTrue, IsFalse, IsSomeAnd, Result}
 use Rattle.std.specs.Prelude.{Ok, Err}
 use Rattle.vcd_core.specs.declared.capture.TheConstants.{SIGNAL_LIMIT}
 use Rattle.vcd_core.specs.declared.wave.Change.{Change}
 use Rattle.vcd_core.specs.Value.{all_x}
 use Rattle.vcd_core.specs.Wave.{value_at, IsWave}
-use Rattle.vcd_core.specs.CaptureContents.{signal_contents}
+use Rattle.vcd_core.specs.WaveView.{WaveView}
 use Rattle.vcd_core.specs.declared.capture.ScopeName.{ScopeName}
 use Rattle.vcd_core.specs.declared.capture.Signal.{Signal}
 use Rattle.vcd_text.specs.declared.fault.Fault.{Fault}
@@ -21,7 +21,8 @@ use Rattle.vcd_text.specs.Grammar.{is_binary_number}
 use Rattle.vcd_text.specs.Grammar.{takes_binary_number, state_after_item, with_value_change}
 use Rattle.vcd_text.specs.Meaning.{latest_value}
 use Rattle.vcd_text.specs.inside.CodeTargets.{code_target}
-use Rattle.vcd_text.specs.inside.ChangeLog.{GivesLoggedValues, logged, AreGrouped}
+use Rattle.vcd_text.specs.inside.ChangeLog.{GivesLoggedValues, logged, AreGrouped, IsSameVariable}
+use Rattle.vcd_text.specs.inside.Scopes.{chain_at, open_scopes, IsPlaced}
 use Rattle.vcd_text.specs.declared.reading.pending.LoggedChange.{LoggedChange}
 use Rattle.vcd_text.specs.declared.reading.code_targets.CodeTarget.{CodeTarget}
 use Rattle.vcd_text.specs.declared.reading.code_targets.CodeTarget.TheVariants.{Undeclared, Skipped, Kept}
@@ -30,22 +31,24 @@ use Rattle.vcd_text.specs.declared.reading.variables.Variables.{Variables}
 
 -- ---- the contents of the variables
 
--- the declaration in these scopes
-abbrev pub declaration_in : List ScopeName → (code : List ℕ) → Signal → VariableDeclaration
-declaration_in scopes code s =
-    record { scopes = scopes; kind = s.kind; size = s.wave.width; code = code; words = s.words }
+-- the declaration of a kept variable of the parser, in these scopes and with this code
+abbrev pub declaration_in : List ScopeName → (code : List ℕ) → Variable → VariableDeclaration
+declaration_in scopes code v =
+    record { scopes = scopes; kind = v.kind; size = v.wave.width; code = code; words = v.words }
 
--- a declaration without its scopes
-abbrev pub without_scopes : VariableDeclaration → VariableDeclaration
-without_scopes d = record d { scopes = [] }
+-- the declaration of these parts in the open scopes of a state
+abbrev pub declaration_of_parts : ParseState → (kind : List ℕ) → (size : ℕ) → (code : List ℕ)
+    → (words : List (List ℕ)) → VariableDeclaration
+declaration_of_parts c kind size code words =
+    record { scopes = c.scopes; kind = kind; size = size; code = code; words = words }
 
 -- a declaration without its scopes and its code
 abbrev pub without_code : VariableDeclaration → VariableDeclaration
 without_code d = record d { scopes = []; code = [] }
 
--- the declaration of a kept variable of the parser, without its code
+-- the same of a kept variable
 abbrev pub declaration : Variable → VariableDeclaration
-declaration v = declaration_in v.signal.scopes [] v.signal
+declaration v = declaration_in [] [] v
 
 -- the target of a code
 abbrev pub target_of : Variables → List ℕ → CodeTarget
@@ -58,9 +61,9 @@ pub record HasWave (vs : List Variable) (log : ℕ → List LoggedChange) (posit
     (value_changes : List ValueChange) (tick : ℕ) : Type 0 where
   pub first : Variable
   pub at_position : slice_get vs position ≡ Some first
-  pub sized : first.signal.wave.width ≡ size
+  pub sized : first.wave.width ≡ size
   pub gives : GivesLoggedValues size tick (λ t. latest_value size code t (all_x size) value_changes)
-      first.signal.wave.changes (log position)
+      first.wave.changes (log position)
 
 -- the target of a code agrees with the code's declaration, and its width and its wave with the
 -- value changes if it is kept
@@ -78,12 +81,14 @@ abbrev pub TargetAgrees : Variables → ParseState → List ℕ → CodeTarget
     → Option VariableDeclaration → Type 0
 TargetAgrees vs c = TargetMatches vs.kept.items (logged vs.log.items) c.value_changes c.tick
 
--- a kept variable has the width of its code, and the position of the first one with it, which is no
--- later
+-- a kept variable has the scopes of its declaration, the width of its code, and the position of the
+-- first one with it, which is no later
 pub record HasFirst (vs : Variables) (declared : List VariableDeclaration) (position : ℕ)
     (v : Variable) : Type 0 where
   pub owned : (d : VariableDeclaration) → slice_get declared position ≡ Some d
-      → target_of vs d.code ≡ Kept v.signal.wave.width v.first
+      → target_of vs d.code ≡ Kept v.wave.width v.first
+  pub placed : (d : VariableDeclaration) → slice_get declared position ≡ Some d
+      → IsPlaced vs.scopes v.place d.scopes
   pub no_later : v.first ≤ position
 
 -- the log has changes only of variables that are the first of their code
@@ -97,9 +102,9 @@ HaveOwnCodes vs declared =
     (code : List ℕ) (width position : ℕ) → target_of vs code ≡ Kept width position
     → (d : VariableDeclaration) × (slice_get declared position ≡ Some d) × (d.code ≡ code)
 
--- the variables match the state: declarations without their scopes, and value changes up to the
--- tick
+-- the variables match the state: open scopes, declarations, and value changes up to the tick
 pub record VariablesMatch (vs : Variables) (c : ParseState) : Type 0 where
+  pub opened : open_scopes vs.scopes ≡ c.scopes
   pub kept : map without_code (kept_variables c.declared) ≡ map declaration vs.kept.items
   pub skipped : vs.skipped ≡ count_by is_skipped c.declared
   pub targets_agree : (code : List ℕ) → TargetAgrees vs c code (target_of vs code)
@@ -112,6 +117,13 @@ pub record VariablesMatch (vs : Variables) (c : ParseState) : Type 0 where
   pub logs : HasOnlyFirstVariables vs.kept.items (logged vs.log.items)
 
 -- ---- the result of a declaration
+
+-- the first variable of the code is at this position, with this width, or the code is free and the
+-- position the next one
+abbrev pub IsFree : Variables → (code : List ℕ) → (width first : ℕ) → Type 0
+IsFree vs code width first =
+    ((target_of vs code ≡ Undeclared) × (first ≡ length vs.kept.items))
+    ⊎ (target_of vs code ≡ Kept width first)
 
 -- the state with this declaration added last
 abbrev pub with_declaration : ParseState → VariableDeclaration → ParseState
@@ -157,14 +169,12 @@ Declares c words (Err fault) new = (fault ≡ faults.NoMemory) ⊎ VariableFault
 -- from the tick on, the variable has the value of the digits
 pub record HasValueFrom (tick : ℕ) (digits : List ℕ) (old new : Variable) : Type 0 where
   pub value : IsTrue (is_binary_number digits)
-  pub fits : length digits ≤ old.signal.wave.width
-  pub same : declaration new ≡ declaration old
-  pub same_first_position : new.first ≡ old.first
-  pub ticks : All (λ (change : Change). change.tick ≤ tick) new.signal.wave.changes
-  pub values : (t : ℕ) → value_at new.signal.wave.width new.signal.wave.changes t
-      ≡ (if nat_le tick t then extension old.signal.wave.width (letters_of_digits digits)
-      else value_at
-      old.signal.wave.width old.signal.wave.changes t)
+  pub fits : length digits ≤ old.wave.width
+  pub same : IsSameVariable old new
+  pub ticks : All (λ (change : Change). change.tick ≤ tick) new.wave.changes
+  pub values : (t : ℕ) → value_at new.wave.width new.wave.changes t
+      ≡ (if nat_le tick t then extension old.wave.width (letters_of_digits digits)
+      else value_at old.wave.width old.wave.changes t)
 
 -- ---- the result of a change with these digits
 
@@ -190,16 +200,16 @@ ChangeResult c code digits (Err fault) new = (fault ≡ faults.NoMemory)
 
 -- ---- the signals of the variables at the end
 
--- the signal of a variable has its own wave, or that of the signal at the position of the first
--- variable with its code
-abbrev pub Finishes : Variable → Option Signal → Signal → Type 0
-Finishes v None signal = (signal ≡ v.signal) × IsWave signal.wave.width signal.wave.changes
-Finishes v (Some shared) signal =
-    signal_contents signal
-    ≡ record {
-      scopes = v.signal.scopes;
-      kind = v.signal.kind;
-      words = v.signal.words;
-      width = shared.wave.width;
-      changes = shared.wave.changes;
-    }
+-- a variable gets its own wave, or that of the signal of the first one with its code
+abbrev pub FinishesWave : WaveView → Option Signal → WaveView → Type 0
+FinishesWave own None wave = (wave ≡ own) × IsWave wave.width wave.changes
+FinishesWave own (Some shared) wave = (wave.width ≡ shared.wave.width)
+    × (wave.changes ≡ shared.wave.changes)
+
+-- the signal of a variable, in the scopes of its place, with such a wave
+pub record Finishes (chains : List (List ScopeName)) (v : Variable) (shared : Option Signal)
+    (signal : Signal) : Type 0 where
+  pub scopes : signal.scopes ≡ take v.place.count (chain_at chains v.place.chain)
+  pub kind : signal.kind ≡ v.kind
+  pub words : signal.words ≡ v.words
+  pub wave : FinishesWave v.wave shared signal.wave

@@ -32,7 +32,7 @@ impl Parser {
         let Some(item) = opened_item(text) else {
             return Err(Fault::UnexpectedWord);
         };
-        if item == OpenItem::Upscope && self.scopes.depth == 0 {
+        if item == OpenItem::Upscope && self.variables.scopes.depth == 0 {
             return Err(Fault::UpscopeAtTop);
         }
         self.item = item;
@@ -80,8 +80,7 @@ impl Parser {
         Ok(())
     }
 
-    /// Takes the `$end` of the open item. The words of a header entry and of a scope are moved,
-    /// those of a variable are copied.
+    /// Takes the `$end` of the open item. Its words are moved.
     ///
     /// The error is `BadTimescale` for words that spell no timescale, `BadScope` for a scope
     /// without a kind, and for a variable that of `Variables::declare`.
@@ -137,7 +136,9 @@ impl Parser {
         }
         let kind = self.words.remove(0);
         let words = words_out_of(alloc, &mut self.words);
-        self.scopes.enter(alloc, ScopeName { kind, words })?;
+        self.variables
+            .scopes
+            .enter(alloc, ScopeName { kind, words })?;
         self.item = OpenItem::Nothing;
         Ok(())
     }
@@ -147,7 +148,7 @@ impl Parser {
         requires { self.old.item ≡ items.Upscope }
         ensures { (line : ℕ) → WordResult self.old (word_on end_word line) result self.new }
     {
-        self.scopes.leave();
+        self.variables.scopes.leave();
         self.item = OpenItem::Nothing;
         Ok(())
     }
@@ -158,8 +159,8 @@ impl Parser {
         requires reading { IsUnderway self.old }
         ensures { (line : ℕ) → WordResult self.old (word_on end_word line) result self.new }
     {
-        self.variables.declare(alloc, &self.words)?;
-        self.scopes.note_place(self.variables.kept.len())?;
+        let words = replace(&mut self.words, Vec::new(alloc));
+        self.variables.declare(alloc, words)?;
         self.item = OpenItem::Nothing;
         Ok(())
     }

@@ -3,7 +3,6 @@
 ghost use Rattle.std.specs.Prelude.{◌≡◌, ◌<◌, ◌∷◌, [], true, length, IfOk};
 ghost use Rattle.vcd_text.specs.Grammar.{ParseState};
 ghost use Rattle.vcd_text.specs.inside.Variables.{VariablesMatch};
-ghost use Rattle.vcd_text.specs.inside.Scopes.{HoldsScopes};
 ghost use Rattle.vcd_core.specs.CaptureContents.{contents};
 ghost use Rattle.vcd_text.specs.Words.{word_on};
 ghost use Rattle.vcd_text.specs.inside.OpenItems.{item_fault_line};
@@ -12,7 +11,6 @@ ghost use Rattle.vcd_text.specs.inside.Reading.{is_complete, Means};
 
 use crate::fault::{Fault, ReadError};
 use crate::reading::Loaded;
-use crate::reading::scopes::Scopes;
 use crate::reading::variables::Variables;
 use std::alloc::Global;
 use vcd_core::{Capture, Header, HeaderKind, NoMemory, Timescale, Word};
@@ -42,7 +40,6 @@ pub enum OpenItem {
 pub struct Parser {
     pub header: Vec<Header>,
     pub timescale: Option<Timescale>,
-    pub scopes: Scopes,
     pub variables: Variables,
     /// Whether `$enddefinitions $end` has come.
     pub in_body: bool,
@@ -65,7 +62,6 @@ impl Parser {
         Parser {
             header: Vec::new(alloc),
             timescale: None,
-            scopes: Scopes::new(alloc),
             variables: Variables::new(alloc),
             in_body: false,
             tick: 0,
@@ -125,21 +121,18 @@ impl Parser {
     /// The capture that the file means, once its last word has been taken.
     pub fn into_loaded(self, alloc: Global) -> Result<Loaded, NoMemory>
         requires complete { is_complete self ≡ true }
-        requires known { (c : ParseState) × VariablesMatch self.variables c
-            × HoldsScopes self.scopes c.scopes c.declared }
+        requires known { (c : ParseState) × VariablesMatch self.variables c }
         ensures { IfOk result (λ loaded. Means self (contents loaded.capture) loaded.skipped) }
     {
         let Parser {
             header,
             timescale,
-            scopes,
             variables,
             tick,
             ..
         } = self;
         let skipped = variables.skipped;
-        let mut signals = variables.into_signals(alloc)?;
-        scopes.place_signals(&mut signals)?;
+        let signals = variables.into_signals(alloc)?;
         let capture = Capture::new(header, timescale, tick, signals);
         Ok(Loaded { capture, skipped })
     }

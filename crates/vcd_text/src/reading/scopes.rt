@@ -1,11 +1,10 @@
-//! The scopes that a file declares, and the places of the variables in them.
+//! The scopes that a file declares, and the places of variables in them.
 
 ghost use Rattle.std.specs.Prelude.{◌≡◌, ◌≤◌, length};
 
-use crate::reading::scope_paths::give_paths;
 use std::alloc::Global;
 use std::mem::replace;
-use vcd_core::{NoMemory, ScopeName, ScopePath, Signal, copy_scopes};
+use vcd_core::{NoMemory, ScopeName, ScopePath, copy_scopes};
 
 /// The scopes of a variable: the first ones of a chain.
 #[derive(Clone, Copy, Debug, PartialEq, Eq)]
@@ -15,7 +14,7 @@ pub struct ScopePlace {
     pub count: usize,
 }
 
-/// The declared scopes: those that are open, and those of each kept variable.
+/// The declared scopes: those that are open, and those of each place.
 ///
 /// They are kept in chains, where each scope is in the one before it, so nested scopes of any depth
 /// are stored once. A scope that follows a closed one replaces it in the chain if no variable is in
@@ -31,38 +30,30 @@ pub struct Scopes {
     pub depth: usize,
     /// The greatest number of its scopes that a variable is in.
     pub reach: usize,
-    /// The place of each kept variable.
-    pub places: Vec<ScopePlace>,
     ghost within: { depth ≤ length chain.items },
 }
 
 impl Scopes {
-    ghost use Rattle.std.specs.Prelude.{ℕ, List, ◌-◌, ◌++◌, ◌∷◌, [], map, take, OnOk};
-    ghost use Rattle.vcd_core.specs.CaptureContents.{signal_contents};
-    ghost use Rattle.vcd_text.specs.Items.{variable};
-    ghost use Rattle.vcd_text.specs.Grammar.{ParseState, kept_variables, state_after_item};
-    ghost use Rattle.vcd_text.specs.Meaning.{declared_signal};
-    ghost use Rattle.vcd_text.specs.inside.Variables.{without_scopes};
-    ghost use Rattle.vcd_text.specs.inside.Scopes.{HoldsScopes};
+    ghost use Rattle.std.specs.Prelude.{◌-◌, ◌++◌, ◌∷◌, [], take, IfOk, OnOk};
+    ghost use Rattle.vcd_text.specs.inside.Scopes.{chains_of, open_scopes, IsPlaced, KeepsPlaces};
 
     /// No scopes. It takes no memory.
     pub fn new(alloc: Global) -> Scopes
-        ensures { HoldsScopes result [] [] }
+        ensures { open_scopes result ≡ [] }
     {
         Scopes {
             chains: Vec::new(alloc),
             chain: Vec::new(alloc),
             depth: 0,
             reach: 0,
-            places: Vec::new(alloc),
         }
     }
 
     /// Opens a scope in the innermost one. After a closed scope with a variable in it, it copies
     /// the open scopes.
     pub fn enter(&mut self, alloc: Global, scope: ScopeName) -> Result<(), NoMemory>
-        ensures { (c : ParseState) → HoldsScopes self.old c.scopes c.declared →
-            OnOk result (HoldsScopes self.new (c.scopes ++ scope ∷ []) c.declared) }
+        ensures opened { OnOk result (open_scopes self.new ≡ open_scopes self.old ++ scope ∷ []) }
+        ensures places { OnOk result (KeepsPlaces self.old self.new) }
     {
         self.go_to_end(alloc)?;
         self.chain.push(scope)?;
@@ -72,36 +63,26 @@ impl Scopes {
 
     /// Cuts the chain back to the open scopes if no variable is in the others, or begins another.
     fn go_to_end(&mut self, alloc: Global) -> Result<(), NoMemory>
-        ensures same { (c : ParseState) → HoldsScopes self.old c.scopes c.declared →
-            OnOk result (HoldsScopes self.new c.scopes c.declared) }
-        ensures end { OnOk result (self.new.depth ≡ length self.new.chain.items) }
+        ensures opened { OnOk result (self.new.chain.items ≡ open_scopes self.old) }
+        ensures depth { OnOk result (self.new.depth ≡ length self.new.chain.items) }
+        ensures places { OnOk result (KeepsPlaces self.old self.new) }
     {
         if self.depth == self.chain.len() {
             return Ok(());
         }
         if self.reach <= self.depth {
-            self.cut_chain();
+            self.chain.truncate(self.depth);
             return Ok(());
         }
         self.begin_chain(alloc)?;
         Ok(())
     }
 
-    /// Removes the closed scopes from the chain.
-    fn cut_chain(&mut self)
-        requires reached { self.old.reach ≤ self.old.depth }
-        ensures same { (c : ParseState) → HoldsScopes self.old c.scopes c.declared →
-            HoldsScopes self.new c.scopes c.declared }
-        ensures end { self.new.depth ≡ length self.new.chain.items }
-    {
-        self.chain.truncate(self.depth);
-    }
-
     /// Begins another chain, with a copy of the open scopes.
     fn begin_chain(&mut self, alloc: Global) -> Result<(), NoMemory>
-        ensures same { (c : ParseState) → HoldsScopes self.old c.scopes c.declared →
-            OnOk result (HoldsScopes self.new c.scopes c.declared) }
-        ensures end { OnOk result (self.new.depth ≡ length self.new.chain.items) }
+        ensures opened { OnOk result (self.new.chain.items ≡ open_scopes self.old) }
+        ensures depth { OnOk result (self.new.depth ≡ length self.new.chain.items) }
+        ensures places { OnOk result (KeepsPlaces self.old self.new) }
     {
         let outer = copy_scopes(alloc, &self.chain[..self.depth])?;
         let chain = replace(&mut self.chain, outer);
@@ -112,49 +93,33 @@ impl Scopes {
 
     /// Closes the innermost scope, if one is open.
     pub fn leave(&mut self)
-        ensures { (c : ParseState) → HoldsScopes self.old c.scopes c.declared →
-            HoldsScopes self.new (take (length c.scopes - 1) c.scopes) c.declared }
+        ensures opened { open_scopes self.new
+            ≡ take (length (open_scopes self.old) - 1) (open_scopes self.old) }
+        ensures places { KeepsPlaces self.old self.new }
     {
         self.depth = self.depth.saturating_sub(1);
     }
 
-    /// Notes the place of the variable that these words have just declared, if it is kept. `kept`
-    /// is the number of kept variables.
-    pub fn note_place(&mut self, kept: usize) -> Result<(), NoMemory>
-        ensures { (c : ParseState) (words : List (List ℕ))
-            → HoldsScopes self.old c.scopes c.declared →
-            kept ≡ length (kept_variables (state_after_item c (variable words)).declared) →
-            OnOk result (HoldsScopes self.new c.scopes
-            (state_after_item c (variable words)).declared) }
+    /// The place of a variable in the open scopes.
+    pub fn place(&mut self) -> ScopePlace
+        ensures opened { open_scopes self.new ≡ open_scopes self.old }
+        ensures places { KeepsPlaces self.old self.new }
+        ensures placed { IsPlaced self.new result (open_scopes self.new) }
     {
-        if kept > self.places.len() {
-            let chain = self.chains.len();
-            let count = self.depth;
-            self.places.push(ScopePlace { chain, count })?;
-            self.reach = self.reach.max(count);
+        self.reach = self.reach.max(self.depth);
+        ScopePlace {
+            chain: self.chains.len(),
+            count: self.depth,
         }
-        Ok(())
     }
 
-    /// Gives the signals of the kept variables their scopes. The paths in one chain share its list.
-    pub fn place_signals(self, signals: &mut [Signal]) -> Result<(), NoMemory>
-        requires { (c : ParseState) × HoldsScopes self c.scopes c.declared
-            × (length signals.old ≡ length (kept_variables c.declared)) }
-        ensures { (c : ParseState) → HoldsScopes self c.scopes c.declared →
-            map signal_contents signals.old ≡
-            map (declared_signal c.value_changes c.tick)
-            (map without_scopes (kept_variables c.declared)) →
-            OnOk result (map signal_contents signals.new ≡
-            map (declared_signal c.value_changes c.tick) (kept_variables c.declared)) }
+    /// The paths of all chains, each of which can be shared.
+    pub fn into_chains(self) -> Result<Vec<ScopePath>, NoMemory>
+        ensures { IfOk result (λ paths. paths.items ≡ chains_of self) }
     {
-        let Scopes {
-            chains,
-            chain,
-            places,
-            ..
-        } = self;
-        let mut chains = chains;
-        chains.push(ScopePath::shared(chain)?)?;
-        give_paths(signals, &chains, &places)
+        let Scopes { chains, chain, .. } = self;
+        let mut paths = chains;
+        paths.push(ScopePath::shared(chain)?)?;
+        Ok(paths)
     }
 }

@@ -1,7 +1,7 @@
 //! The variables that a file declares, with their waves so far.
 
-ghost use Rattle.std.specs.Prelude.{◌≡◌, ◌≤◌, ◌+◌, [], false, length, IsOk, OnOk, All};
-ghost use Rattle.vcd_text.specs.Grammar.{ParseState};
+ghost use Rattle.std.specs.Prelude.{◌≡◌, ◌≤◌, ◌+◌, false, length, IsOk, OnOk, All};
+ghost use Rattle.vcd_text.specs.Grammar.{initial_state};
 ghost use Rattle.vcd_text.specs.inside.ChangeLog.{AppliesToVariable, HasExactRoom};
 ghost use Rattle.vcd_text.specs.inside.ChangeLog.{counted_variable};
 ghost use Rattle.vcd_text.specs.inside.Variables.{VariablesMatch};
@@ -12,17 +12,21 @@ mod set;
 
 use crate::reading::code_targets::CodeTargets;
 use crate::reading::pending::{ExpectedRoom, LoggedChange};
+use crate::reading::scopes::{ScopePlace, Scopes};
 use std::alloc::Global;
 use std::mem::replace;
-use vcd_core::{NoMemory, Signal};
+use vcd_core::{NameWords, NoMemory, Wave, Word};
 
-/// A kept variable: its signal.
+/// A kept variable: its signal, with a place for its scopes.
 ///
 /// The first variable of a code has the wave so far, without the changes in the log. The others
 /// share its list at the end.
 #[derive(Drop)]
 pub struct Variable {
-    pub signal: Signal,
+    pub place: ScopePlace,
+    pub kind: Word,
+    pub words: NameWords,
+    pub wave: Wave,
     /// The position of the first variable with this code.
     pub first: usize,
     /// How many changes the wave is about to get from the log, at most.
@@ -40,27 +44,28 @@ impl Variable {
     /// Takes a change of the log. Room for the counted changes is made first, and their count
     /// becomes 0.
     pub fn apply_logged(&mut self, change: LoggedChange) -> Result<(), NoMemory>
-        requires narrow { self.old.signal.wave.width ≤ 64 }
-        requires none_later { All (λ c. c.tick ≤ change.tick) self.old.signal.wave.changes }
+        requires narrow { self.old.wave.width ≤ 64 }
+        requires none_later { All (λ c. c.tick ≤ change.tick) self.old.wave.changes }
         ensures taken { OnOk result (AppliesToVariable change self.old self.new) }
         // It succeeds if the wave's own list has room for the counted changes and this one.
-        ensures in_place { self.old.signal.wave.is_shared ≡ false →
-            length self.old.signal.wave.changes + 1 ≤ self.old.signal.wave.capacity →
-            length self.old.signal.wave.changes + self.old.expected_room.count
-            ≤ self.old.signal.wave.capacity →
+        ensures in_place { self.old.wave.is_shared ≡ false →
+            length self.old.wave.changes + 1 ≤ self.old.wave.capacity →
+            length self.old.wave.changes + self.old.expected_room.count
+            ≤ self.old.wave.capacity →
             IsOk result }
         ensures exact { OnOk result (HasExactRoom self.old self.new) }
         ensures counted { OnOk result (self.new.expected_room.count ≡ 0) }
     {
         let more = replace(&mut self.expected_room.count, 0);
-        self.signal.wave.reserve_exact(more)?;
-        self.signal.wave.push_block(change.tick, change.word)
+        self.wave.reserve_exact(more)?;
+        self.wave.push_block(change.tick, change.word)
     }
 }
 
-/// The declared variables.
+/// The declared variables, and their scopes.
 #[derive(Drop)]
 pub struct Variables {
+    pub scopes: Scopes,
     /// The kept variables, in the order of the file.
     pub kept: Vec<Variable>,
     /// The target of each code.
@@ -74,10 +79,10 @@ pub struct Variables {
 impl Variables {
     /// No variables. It takes no memory.
     pub fn new(alloc: Global) -> Variables
-        ensures { (c : ParseState) → c.declared ≡ [] → c.value_changes ≡ []
-            → VariablesMatch result c }
+        ensures { VariablesMatch result initial_state }
     {
         Variables {
+            scopes: Scopes::new(alloc),
             kept: Vec::new(alloc),
             code_targets: CodeTargets::new(alloc),
             skipped: 0,

@@ -18,13 +18,13 @@ use std::alloc::Global;
 impl Variable {
     /// Appends a change to the wave: from `tick` on it has the value of these digits.
     fn change_wave(&mut self, tick: u64, digits: &[u8]) -> Result<(), Fault>
-        requires none_later { All (λ change. change.tick ≤ tick) self.old.signal.wave.changes }
+        requires none_later { All (λ change. change.tick ≤ tick) self.old.wave.changes }
         ensures values { OnOk result (HasValueFrom tick digits.now self.old self.new) }
         ensures refuses { IfErr result (λ fault. (fault ≡ NoMemoryFault) ⊎
-            RefusesBinaryNumber self.old.signal.wave.width digits.now fault) }
+            RefusesBinaryNumber self.old.wave.width digits.now fault) }
     {
-        let value = read_value(self.signal.wave.width(), digits)?;
-        self.signal.wave.push(tick, value)?;
+        let value = read_value(self.wave.width(), digits)?;
+        self.wave.push(tick, value)?;
         Ok(())
     }
 }

@@ -42,7 +42,7 @@ into_loaded-requires-clause-known c =
     let (bytes, taken) = c.requires in
     let reads = last_taken c.args.self c.read_words.new.parser c.as_slice.result.now bytes taken c.as_slice.ensures
     (c.in_ok-read_words.ensures.words (complete_words bytes) taken.taken_words) in
-    (reads.state, reads.at.0.variables, reads.at.0.scopes)
+    (reads.state, reads.at.0.variables)
 
 pub returns-clause-means : goal.returns-clause-means
 returns-clause-means c = λ bytes taken.

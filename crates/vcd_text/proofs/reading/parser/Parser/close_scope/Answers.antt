@@ -1,7 +1,7 @@
-use Rattle.std.proofs.Common.{◌≡◌, ◌<◌, ◌∷◌, length, refl, sym, ◌∙◌, arith}
+use Rattle.std.proofs.Common.{◌≡◌, ◌<◌, ◌∷◌, length, sym, ◌∙◌, arith}
 use Rattle.std.proofs.lemmas.Bool.{eqb-false}
-use Rattle.vcd_text.specs.declared.reading.parser.OpenItem.TheVariants as items
-use Rattle.vcd_text.proofs.Declaring.{closes_scope, front_removed}
+use Rattle.vcd_text.proofs.Declaring.{closes_scope}
+use Rattle.vcd_text.proofs.DeclaredVariables.{front_removed}
 use Rattle.vcd_text.proofs.reading.parser.Parser.close_scope.Goals as goal
 
 pub returns : goal.returns
@@ -12,10 +12,6 @@ returns c =
     let front : m.words.items ≡ c.remove-kind.result ∷ c.words_out_of-words.result =
     front_removed m.words.items c.words_out_of-words.result c.remove-kind.result some c.remove-kind.ensures.value
     (c.words_out_of-words.ensures ∙ c.remove-kind.ensures.items) in
-    closes_scope m (record m {
-      scopes = c.enter.new.self;
-      words = c.words_out_of-words.new.words;
-      item = items.Nothing;
-    })
-    (record { kind = c.remove-kind.result; words = c.words_out_of-words.result }) c.requires front c.in_ok-enter.ensures
-    refl
+    closes_scope m c.enter.new.self c.words_out_of-words.new.words
+    (record { kind = c.remove-kind.result; words = c.words_out_of-words.result }) c.requires front
+    c.in_ok-enter.ensures.opened c.in_ok-enter.ensures.places

@@ -1,37 +1,17 @@
-use Rattle.std.proofs.Common.{◌≡◌, ℕ, List, map, length, sym, ap, subst, ◌∙◌, arith}
+use Rattle.std.proofs.Common.{◌≡◌, ℕ, List, map, sym, ap, subst, ◌∙◌}
 use Rattle.vcd_core.specs.CaptureContents.{contents, signal_contents}
 use Rattle.vcd_core.specs.Sound.{IsSound}
 use Rattle.vcd_text.specs.Words.{words_of}
-use Rattle.vcd_text.specs.Meaning.{meaning, declared_signal}
-use Rattle.vcd_text.specs.Grammar.{kept_variables}
+use Rattle.vcd_text.specs.Meaning.{meaning}
 use Rattle.vcd_text.specs.inside.Reading.{HasTakenWords}
 use Rattle.vcd_text.proofs.LastWords.{accepts}
-use Rattle.vcd_core.specs.declared.capture.Signal.{Signal}
-use Rattle.vcd_text.proofs.PlacedSignals.{all_signals, declared_long}
 use Rattle.vcd_text.proofs.SoundMeaning.{meaning_is_sound}
 use Rattle.vcd_text.proofs.reading.parser.Parser.into_loaded.Goals as goal
-
-pub place_signals-requires : goal.place_signals-requires
-place_signals-requires c =
-    let (state, known, holds) = c.requires.known in (
-      state,
-      holds,
-      declared_long c.deref_mut.result.now (kept_variables state.declared)
-          (declared_signal state.value_changes state.tick)
-          (ap (map signal_contents) c.deref_mut.ensures.value ∙ c.in_ok-signals.ensures state known),
-    )
 
 pub returns : goal.returns
 returns c =
     let capture = c.new-capture.result in
     let parts = c.new-capture.ensures in
-    let whole = all_signals c.in_ok-signals.signals.len c.place_signals.new.signals c.in_ok-signals.signals.items
-    (omega (
-      arith,
-      c.in_ok-signals.signals.ok.0,
-      c.place_signals.auto.signals,
-      ap (length {A = Signal}) c.deref_mut.ensures.value,
-    )) in
     let same : (bytes : List ℕ) (r : HasTakenWords c.args.self (words_of bytes)) → contents capture ≡ meaning r.state =
     λ bytes r.
     let at = r.at.0 in
@@ -39,9 +19,7 @@ returns c =
       header = (parts.header ∙ at.header) i;
       timescale = (parts.timescale ∙ at.timescale) i;
       end = (parts.end ∙ at.tick) i;
-      signals = (ap (map signal_contents) (parts.signals ∙ whole)
-          ∙ c.in_ok-place_signals.ensures r.state at.scopes (ap (map signal_contents) c.deref_mut.ensures.value
-          ∙ c.in_ok-signals.ensures r.state at.variables)) i;
+      signals = (ap (map signal_contents) parts.signals ∙ c.in_ok-signals.ensures r.state at.variables) i;
     } in
     record {
       sound = λ bytes r. subst IsSound (sym (same bytes r))

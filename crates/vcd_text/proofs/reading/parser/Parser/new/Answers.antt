@@ -16,10 +16,9 @@ returns c = record {
     record {
       header = c.new.ensures.items;
       timescale = refl;
-      scopes = c.new-2.ensures;
       in_body = refl;
       tick = refl;
-      variables = c.new-3.ensures initial_state refl refl;
+      variables = c.new-2.ensures;
       no_early_change = λ _. refl;
     },
     refl,

@@ -16,9 +16,9 @@ change_wave-requires c =
     let (state, code, k, later, had) = c.requires.known in
     let digits = c.args.digits.now in
     let v = c.index_mut.result.now in
-    let wave = (own_wave old state code digits c.args.width c.args.first k had).4.first.signal.wave.changes in
+    let wave = (own_wave old state code digits c.args.width c.args.first k had).4.first.wave.changes in
     record {
-      none_later = subst (λ (u : Variable). All (λ (e : Change). e.tick ≤ c.args.tick) u.signal.wave.changes)
+      none_later = subst (λ (u : Variable). All (λ (e : Change). e.tick ≤ c.args.tick) u.wave.changes)
           (sym (read_is old state code digits c.args.width c.args.first k had v c.index_mut.ensures.value))
           (All-weaker (λ (e : Change). e.tick ≤ state.tick) (λ (e : Change). e.tick ≤ c.args.tick)
           (λ e le. omega (arith, le, later)) wave (wave_late old state code digits c.args.width c.args.first k had));

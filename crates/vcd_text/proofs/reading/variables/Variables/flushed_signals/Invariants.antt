@@ -1,4 +1,4 @@
-use Rattle.std.proofs.Common.{◌≡◌, [], ◌++◌, map, length}
+use Rattle.std.proofs.Common.{◌≡◌, ◌++◌, map, length}
 use Rattle.vcd_core.specs.CaptureContents.{signal_contents}
 use Rattle.vcd_text.specs.Grammar.{ParseState}
 use Rattle.vcd_text.specs.inside.Variables.{VariablesMatch}
@@ -8,5 +8,5 @@ use Rattle.vcd_text.proofs.reading.variables.Variables.flushed_signals.Given as 
 abbrev pub invariant-loop-variable : goal.invariant-loop-variable
 invariant-loop-variable l =
     (l.fn.self.kept.items ≡ l.yielded ++ l.variable-iterator.rest.items)
-    × (l.fn.self.log.items ≡ [] → (c : ParseState) → VariablesMatch l.fn.self c
+    × ((c : ParseState) → VariablesMatch l.fn.self c
     → map signal_contents l.signals.items ≡ declared_signals c (length l.yielded))

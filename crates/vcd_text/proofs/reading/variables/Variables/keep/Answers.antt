@@ -1,26 +1,34 @@
-use Rattle.std.proofs.Common.{arith, ◌≡◌, ◌++◌, ◌∷◌, [], inr, OnOk}
-use Rattle.vcd_text.specs.declared.reading.code_targets.CodeTarget.TheVariants.{Kept}
-use Rattle.vcd_text.specs.inside.Variables.{target_of}
-use Rattle.vcd_text.proofs.DeclaredVariables.{Puts, puts_same, push_declares}
-use Rattle.vcd_text.proofs.DeclaredVariables.{variable_at, when_ok}
+use Rattle.std.proofs.Common.{◌≡◌, ◌∙◌, Err, inr, refl, sym, ap, subst}
+use Rattle.std.proofs.lemmas.Result.{err_from_is_err_and}
+use Rattle.vcd_text.specs.Grammar.{VariableDeclaration, is_skipped}
+use Rattle.vcd_text.specs.inside.Variables.{declaration_of_parts, declaration_in, DeclaresAs}
+use Rattle.vcd_text.specs.declared.reading.pending.TheConstants.{NO_ROOM}
+use Rattle.vcd_text.specs.declared.reading.variables.Variable.{Variable}
+use Rattle.vcd_text.proofs.VariablesMatch.{scopes_moved}
 use Rattle.vcd_text.proofs.reading.variables.Variables.keep.Goals as goal
 
-pub returns-in-Undeclared : goal.returns-in-Undeclared
-returns-in-Undeclared c = grind (arith, push_declares)
+pub returns-in_err-first : goal.returns-in_err-first
+returns-in_err-first c = λ state k value_changes keeps.
+    let d = declaration_of_parts state c.args.kind c.args.width c.args.code.now c.args.name.items in
+    let failed = err_from_is_err_and c.from_residual.result c.from_residual.ensures.1 in
+    subst (λ r. DeclaresAs state d r c.args.self.now) (sym (failed.1 ∙ ap Err failed.2))
+    (inr (c.in_err-first.ensures.mixed state d k refl refl keeps))
 
-pub returns-else-from-width : goal.returns-else-from-width
-returns-else-from-width c = λ state scopes k value_changes keeps.
-    let old = c.args.self.now in
-    let first = c.in-Kept.first in
-    let e = c.add_kept.ensures in
-    let had : target_of old c.args.code.now ≡ Kept c.args.signal.wave.width first = search arith in
-    let kept : OnOk c.add_kept.result
-    (c.add_kept.new.self.kept.items ≡ old.kept.items ++ variable_at c.args.signal first ∷ []) =
-    grind arith in
-    push_declares old c.add_kept.new.self state scopes c.args.code.now c.args.signal first
-    c.add_kept.result k value_changes
-    c.requires.silent c.requires.bare keeps
-    (inr had) e.few kept e.log
-    (when_ok c.add_kept.result (Puts old c.add_kept.new.self c.args.code.now (Kept c.args.signal.wave.width first))
-    (puts_same old c.add_kept.new.self c.args.code.now (Kept c.args.signal.wave.width first) e.code_targets had))
-    e.skipped e.refuses
+pub returns : goal.returns
+returns c = λ state k value_changes keeps.
+    let d = declaration_of_parts state c.args.kind c.args.width c.args.code.now c.args.name.items in
+    let v : Variable = record {
+      place = c.place.result;
+      kind = c.args.kind;
+      words = c.new.result;
+      wave = c.new-2.result;
+      first = c.in_ok-first.first;
+      expected_room = NO_ROOM;
+    } in
+    let same : declaration_in state.scopes c.args.code.now v ≡ d =
+    λ i. declaration_of_parts state c.args.kind (c.new-2.ensures.width i) c.args.code.now
+    ((c.new.ensures ∙ c.from_vec.ensures) i) in
+    subst (λ (e : VariableDeclaration). DeclaresAs state e c.add.result c.add.new.self) same
+    (c.add.ensures state
+    (scopes_moved c.args.self.now c.place.new.self state state.scopes (c.place.ensures.opened ∙ k.opened)
+    c.place.ensures.places k) value_changes (ap is_skipped same ∙ keeps))
