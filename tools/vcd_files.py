@@ -1,5 +1,5 @@
 """What the tools around vcdedit share: the program, the declarations of a capture, names, times, and files that are no
-plain VCD. docs/FORMATS.md has the rules; `checks/tools` compares the limits with those of the program.
+plain VCD. docs/FORMATS.md has the rules; `checks/tools` compares limits and words with those of the program.
 
 Words, names and codes are bytes, as they stand in the file; `shown` makes text of them.
 """

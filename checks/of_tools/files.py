@@ -18,15 +18,20 @@ LIMITS = [
     (vcd_files.SCRIPT_LIMIT, "vcdedit/src/running/script_input.rt", "SCRIPT_LIMIT"),
     (vcd_files.RATIO_LIMIT, "vcd_decode/src/uart_setup.rt", "RATIO_LIMIT"),
 ]
+# Each set of words, the file of the code that compares a word with them, and the function that does.
+WORDS = [
+    (vcd_files.SKIPPED_KINDS, "vcd_core/src/word.rt", "is_skipped_kind"),
+    (vcd_files.DUMP_WORDS, "vcd_text/src/reading/keywords.rt", "is_dump_word"),
+]
 # A text, a timescale, and the tick, or None where it is refused.
 TIMES = [
     ("9223372036854775807", None, 9223372036854775807),
     ("9223372036854775808", None, None),
     ("1us", None, None),
-    ("1.5us", "1 ns", 1500),
+    ("1.5us", "1 ps", 1500000),
     ("1.0001 us", "1 ns", None),
     ("922337203685.4775807s", "100 ns", 9223372036854775807),
-    ("20ns", "10 ns", 2),
+    ("2ms", "10 us", 200),
     ("25ns", "10 ns", None),
     ("-1", "1 ns", None),
     ("1e3", "1 ns", None),
@@ -50,6 +55,12 @@ MATCHES = [
     ("q", True, b"tb.q", True),
     (r"^tb\.(q|r)\[", True, b"tb.q[7:0]", True),
     (r"^q", True, b"tb.q", False),
+]
+PLANTED = [
+    ("tools/vcd_files.py", 'b"$dumpall", ', ""),
+    ("tools/vcd_files.py", 'b"shortreal", ', ""),
+    ("tools/vcd_files.py", '"ms": 3', '"ms": 4'),
+    ("tools/vcd_files.py", "SIGNAL_LIMIT = 65536", "SIGNAL_LIMIT = 65535"),
 ]
 DECLARED = b"$var wire 1 ! a $end $enddefinitions $end #0 1! #5\n"
 # A file, and a word of what it is said to be.
@@ -103,6 +114,9 @@ def check(program, folder):
     for limit, path, name in LIMITS:
         said = re.search(r"const %s: \w+ = ([0-9_]+);" % name, text_at("crates/" + path)).group(1)
         yield "limit " + name, limit == int(said.replace("_", ""))
+    for words, path, name in WORDS:
+        body = re.search(r"fn %s\(.*?^}" % name, text_at("crates/" + path), flags=re.M | re.S).group()
+        yield "the words of " + name, words == {word.encode() for word in re.findall(r'b"(\S+)"', body)}
     for text, timescale, tick in TIMES:
         yield "the time %s at %s" % (text, timescale), refused(vcd_files.ticks_of, text, timescale) == tick
     for pattern, extended, name, meant in MATCHES:
