@@ -23,11 +23,11 @@ const ABOUT: &str =
 
 const AFTER_HELP: &str =
     "Lines of a script. NAME is a signal's full name as `list` shows it, with its scopes and its range,
-as top.cpu.clk or top.cpu.data[7:0], or @ and its position; times are in ticks of the timescale:
+such as top.cpu.clk or top.cpu.data[7:0], or @ and its position; times are in ticks of the timescale:
   rename NAME WORD          the first word of the signal's name becomes WORD
   remove NAME               the signal is taken out; later ones get the position before theirs
   invert NAME               every bit is negated at every tick
-  shift NAME BY             the signal comes BY ticks later, or earlier where BY is negative
+  shift NAME BY             the signal comes BY ticks later, or earlier if BY is negative
   cut FROM TO               the ticks FROM up to before TO are cut out of every signal
   deglitch NAME TICKS       removes pulses shorter than TICKS ticks
   force NAME FROM TO VALUE  the signal has VALUE at the ticks FROM up to before TO
@@ -43,7 +43,7 @@ as top.cpu.clk or top.cpu.data[7:0], or @ and its position; times are in ticks o
   spi CLK MOSI MISO CS MODE BITS ORDER   words; - for an absent MOSI, MISO or CS; ORDER msb or lsb
   i2c SCL SDA                            conditions, addresses, bytes
   # ..                      nothing, as an empty line; a comment stands on a line of its own
-An edit is answered by `ok`, a refused line by `line N: refused: FAULT`; the script goes on after it.
+An edit is answered by `ok`, a refused line by `line N: refused: REASON`; the script goes on after it.
 
 Examples:
   vcdedit -i capture.vcd                                 shows what it holds
@@ -56,7 +56,7 @@ Examples:
 Take care:
   -o onto the capture itself leaves nothing to go back to at a refused line or a full disc.
   A capture that was cut short may still be accepted: look at `end` in the listing.
-  Variables of one code, as a clock in many scopes, are edited one by one.
+  Variables of one code, such as a clock in many scopes, are edited one by one.
   Files with a byte order mark, in UTF-16 or packed by gzip are refused at line 1.
 
 Exit status:
@@ -65,7 +65,7 @@ Exit status:
   2  the words of the command line are refused
   3  the capture has a fault, which is shown with its line, or the script is too large
   4  a file can't be opened, read or written, or standard output can't be written
-  5  memory ran out
+  5  out of memory
 
 `man vcdedit` explains every refusal and fault, and says what to do; share/doc/vcdedit has recipes.";
 
