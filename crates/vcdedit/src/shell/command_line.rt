@@ -23,7 +23,7 @@ const ABOUT: &str =
 
 const AFTER_HELP: &str =
     "Lines of a script. NAME is a signal's full name as `list` shows it, with its scopes and its range,
-such as top.cpu.clk or top.cpu.data[7:0], or @ and its position; times are in ticks of the timescale:
+such as top.cpu.clk or top.cpu.data[7:0], or @ and its position; times are ticks of the timescale:
   rename NAME WORD          the first word of the signal's name becomes WORD
   remove NAME               the signal is taken out; later ones get the position before theirs
   invert NAME               every bit is negated at every tick
@@ -43,7 +43,7 @@ such as top.cpu.clk or top.cpu.data[7:0], or @ and its position; times are in ti
   spi CLK MOSI MISO CS MODE BITS ORDER   words; - for an absent MOSI, MISO or CS; ORDER msb or lsb
   i2c SCL SDA                            conditions, addresses, bytes
   # ..                      nothing, as an empty line; a comment stands on a line of its own
-An edit is answered by `ok`, a refused line by `line N: refused: REASON`; the script goes on after it.
+An edit is answered by `ok`, a refused line by `line N: refused: REASON`; the script goes on.
 
 Examples:
   vcdedit -i capture.vcd                                 shows what it holds
