@@ -24,7 +24,7 @@ use Rattle.vcd_core.specs.Decimal.{number_of}
 use Rattle.vcd_core.specs.Word.{is_skipped_kind}
 use Rattle.vcd_text.specs.Grammar.{VariableDeclaration, ValueChange, ParseState, is_skipped}
 use Rattle.vcd_text.specs.Grammar.{kept_variables}
-use Rattle.vcd_text.specs.Grammar.{variable_of, may_have_code, has_room}
+use Rattle.vcd_text.specs.Grammar.{variable_of, may_have_code, has_room, declaration_of}
 use Rattle.vcd_text.specs.Meaning.{latest_value}
 use Rattle.vcd_text.specs.inside.ChangeLog.{logged}
 use Rattle.vcd_text.specs.declared.reading.pending.LoggedChange.{LoggedChange}
@@ -33,8 +33,8 @@ use Rattle.vcd_text.specs.inside.Variables.{TargetAgrees, declaration_in, withou
 use Rattle.vcd_text.specs.inside.Variables.{HasWave, TargetMatches, HasFirst, HaveOwnCodes}
 use Rattle.vcd_text.specs.inside.Variables.{VariablesMatch, IsFree, declaration_of_parts}
 use Rattle.vcd_text.specs.inside.Scopes.{open_scopes, IsPlaced}
-use Rattle.vcd_text.specs.inside.Variables.{with_declaration, mixed, many, DeclaresAs, code_mixed}
-use Rattle.vcd_text.specs.inside.Variables.{no_room, Declares}
+use Rattle.vcd_text.specs.inside.Variables.{with_declaration, mixed, many, DeclaresAs, Declares}
+use Rattle.vcd_text.specs.Faults.{code_mixed, no_room}
 use Rattle.vcd_text.specs.declared.reading.code_targets.CodeTargets.{CodeTargets}
 use Rattle.vcd_text.specs.declared.reading.code_targets.CodeTarget.{CodeTarget}
 use Rattle.vcd_text.specs.declared.reading.code_targets.CodeTarget.TheVariants.{Undeclared, Skipped, Kept}
@@ -378,10 +378,10 @@ declares_names : (c : ParseState) (kind size code : List ℕ) (names : List (Lis
     → Declares c (kind ∷ size ∷ code ∷ names) result new
 declares_names c kind size code [] result new some as_one = absurd (omega (arith, some))
 declares_names c kind size code (name ∷ names) (Ok x) new some (may, room, knows) = ((may, room), knows)
-declares_names c kind size code (name ∷ names) (Err fault) new some as_one = elim as_one [
+declares_names c kind size code (name ∷ names) (Err fault) new some as_one = λ no_end good. elim as_one [
   | inl none ↦ inl none
-  | inr (mixed may is) ↦ inr (code_mixed _ refl may is)
-  | inr (many may room is) ↦ inr (no_room _ refl may room is)
+  | inr (mixed may is) ↦ inr (code_mixed _ _ refl refl no_end good refl may is)
+  | inr (many may room is) ↦ inr (no_room _ _ refl refl no_end good refl may room is)
 ]
 
 -- the front of a list, and the rest
@@ -390,23 +390,33 @@ pub front_removed : (xs ys : List (List ℕ)) (x : List ℕ) → 0 < length xs �
 front_removed [] ys x some front rest = absurd (omega arith)
 front_removed (x' ∷ xs) ys x some front rest = (λ i. sym front i ∷ sym rest i)
 
+-- too few words for a variable
+pub too_few : (c : ParseState) (kind size : List ℕ) (words : List (List ℕ)) → length words < 2
+    → declaration_of c (kind ∷ size ∷ words) ≡ None
+too_few c kind size [] few = refl
+too_few c kind size (code ∷ []) few = refl
+too_few c kind size (code ∷ name ∷ names) few = absurd (omega (arith, few))
+
+-- words with the size of a variable after the first
+abbrev with_size : List ℕ → List (List ℕ) → List (List ℕ)
+with_size size [] = []
+with_size size (kind ∷ words) = kind ∷ size ∷ words
+
 -- so the result of the words is that of their parts, which are removed from their front
-pub declares_parts : (c : ParseState) (words rest more names : List (List ℕ)) (kind size code : List ℕ)
-    (result : Result (Unit {0}) Fault) (new : Variables) → 4 ≤ length words
+pub declares_parts : (c : ParseState) (words rest names following : List (List ℕ)) (kind code first word : List ℕ)
+    (result : Result (Unit {0}) Fault) (new : Variables) → 3 ≤ length words
     → kind ≡ slice_index_or words 0 kind → rest ≡ remove words 0
-    → size ≡ slice_index_or rest 0 size → more ≡ remove rest 0
-    → code ≡ slice_index_or more 0 code → names ≡ remove more 0
-    → DeclaresAs c (declaration_of_parts c kind (number_of size) code names) result new → Declares c words result new
-declares_parts c words rest more names kind size code result new long is_kind left is_size left_more is_code left_names
+    → code ≡ slice_index_or rest 0 code → names ≡ remove rest 0 → words ≡ first ∷ following
+    → DeclaresAs c (declaration_of_parts c kind (number_of word) code names) result new
+    → Declares c (first ∷ word ∷ following) result new
+declares_parts c words rest names following kind code first word result new long is_kind left is_code left_names are
     as_one =
-    let first = front_removed words rest kind (omega (arith, long)) is_kind left in
-    let second = front_removed rest more size (omega (arith, long, ap (length {A = List ℕ}) first)) is_size left_more in
-    let third = front_removed more names code
-    (omega (arith, long, ap (length {A = List ℕ}) first, ap (length {A = List ℕ}) second)) is_code left_names in
-    let whole : words ≡ kind ∷ size ∷ code ∷ names =
-    first ∙ ap (λ ws. kind ∷ ws) (second ∙ ap (λ ws. size ∷ ws) third) in
-    subst (λ ws. Declares c ws result new) (sym whole)
-    (declares_names c kind size code names result new (omega (arith, long, ap (length {A = List ℕ}) whole)) as_one)
+    let head = front_removed words rest kind (omega (arith, long)) is_kind left in
+    let second = front_removed rest names code (omega (arith, long, ap (length {A = List ℕ}) head)) is_code
+    left_names in
+    let whole : words ≡ kind ∷ code ∷ names = head ∙ ap (λ ws. kind ∷ ws) second in
+    subst (λ ws. Declares c (with_size word ws) result new) (sym whole ∙ are)
+    (declares_names c kind word code names result new (omega (arith, long, ap (length {A = List ℕ}) whole)) as_one)
 
 -- ---- sizes that are read up to a bound
 

@@ -1,9 +1,8 @@
 -- A declaration after the next of its words.
-use Rattle.std.proofs.Common.{◌≡◌, ℕ, ◌-◌, ◌<◌, Bool, true, false, List, [], ◌∷◌, ◌++◌, length, take}
-use Rattle.std.proofs.Common.{Option}
-use Rattle.std.proofs.Common.{Some, None, IsSome, IsTrue, IsFalse, Result, Ok, Err, IsErrAnd}
-use Rattle.std.proofs.Common.{is_some}
-use Rattle.std.proofs.Common.{MatchOption, ◌⊎◌, codes, refl, sym, ap, subst, ◌∙◌, arith, inl, inr}
+use Rattle.std.proofs.Common.{◌≡◌, ℕ, ◌-◌, ◌<◌, ◌≤◌, ◌+◌, ◌&&◌, not, min, Bool, true, false, List, [], ◌∷◌, ◌++◌}
+use Rattle.std.proofs.Common.{length, take}
+use Rattle.std.proofs.Common.{Option, Some, None, IsSome, IsTrue, IsFalse, Result, Ok, Err, IsErrAnd}
+use Rattle.std.proofs.Common.{◌⊎◌, codes, refl, sym, ap, subst, ◌∙◌, arith, inl, inr}
 use Rattle.std.proofs.lemmas.Bool.{and_parts}
 use Rattle.std.proofs.lemmas.List.{length-take-le}
 use Rattle.std.specs.Global.{Vec}
@@ -14,18 +13,20 @@ use Rattle.vcd_core.specs.declared.capture.ScopeName.{ScopeName}
 use Rattle.vcd_text.specs.declared.fault.Fault.{Fault}
 use Rattle.vcd_text.specs.declared.fault.Fault.TheVariants as faults
 use Rattle.vcd_text.specs.Words.{PlacedWord, word_on}
-use Rattle.vcd_core.specs.Decimal.{is_number}
+use Rattle.vcd_core.specs.Decimal.{is_number, number_of}
+use Rattle.vcd_core.specs.declared.value.TheConstants.{WIDTH_LIMIT}
 use Rattle.vcd_text.specs.Items.{Item, entry, timescale, scope, upscope, variable, end_definitions}
 use Rattle.vcd_text.specs.Items.{other, spelling}
 use Rattle.vcd_text.specs.Items.{end_word, is_end_word, has_no_end_word, header_word, is_other}
 use Rattle.vcd_text.specs.Items.{timescale_of}
 use Rattle.vcd_text.specs.Grammar.{ParseState, Allows, state_after_item, word_texts}
-use Rattle.vcd_text.specs.Grammar.{has_good_size}
-use Rattle.vcd_text.specs.Faults.{WordFault, DeclarationFault, no_timescale, no_size}
+use Rattle.vcd_text.specs.Grammar.{has_good_size, declaration_of}
+use Rattle.vcd_text.specs.Faults.{WordFault, DeclarationFault, no_timescale, no_size, no_variable}
 use Rattle.vcd_text.specs.Faults.{among_declarations}
 use Rattle.vcd_text.specs.inside.Scopes.{open_scopes, KeepsPlaces}
-use Rattle.vcd_text.specs.inside.Variables.{VariablesMatch, Declares, VariableFault}
-use Rattle.vcd_text.specs.inside.Reading.{ParserMatches, Collects, PassesOver, IsBegun, IsAtState}
+use Rattle.vcd_text.specs.inside.Variables.{VariablesMatch, Declares, DeclaresWords}
+use Rattle.vcd_text.specs.inside.Reading.{ParserMatches, Collects, CollectsVariable, PassesOver, IsBegun}
+use Rattle.vcd_text.specs.inside.Reading.{IsAtState}
 use Rattle.vcd_text.specs.inside.Reading.{WordStep, goes_on}
 use Rattle.vcd_text.specs.inside.Reading.{ends_item, WordResult}
 use Rattle.vcd_text.specs.declared.reading.parser.Parser.{Parser}
@@ -169,57 +170,58 @@ closes_other m is line c begun at =
 
 -- ---- variables
 
+-- one word at most is no variable yet
+pub short_words : (c : ParseState) (words : List (List ℕ)) → length words ≤ 1
+    → IsTrue (has_good_size words) × (declaration_of c words ≡ None)
+short_words c [] short = (refl, refl)
+short_words c (kind ∷ []) short = (refl, refl)
+short_words c (kind ∷ size ∷ words) short = absurd (omega (arith, short))
+
+-- a variable that ends before its size
+pub ends_early : (m new : Parser) → m.item ≡ items.Variable → (line : ℕ)
+    → WordResult m (word_on end_word line) (Err faults.BadVar) new
+ends_early m new is line c begun at =
+    let b : Collects m begun (codes "$var") × (length m.words.items ≤ 1) = subst (IsBegun m begun) is at.1 in
+    let short = short_words c m.words.items b.1 in
+    inr (among_declarations (sym at.0.in_body ∙ b.0.declares)
+    (no_variable m.words.items b.0.spelled refl b.0.no_end short.0 short.1 refl))
+
 -- the variables have the declaration
 pub closes_variable : (m : Parser) (variables : Variables) (words : List (List ℕ)) (rest : Vec (List ℕ))
-    → words ≡ m.words.items
-    → ((c : ParseState) → c.value_changes ≡ [] → VariablesMatch m.variables c → Declares c words (Ok tt) variables)
-    → m.item ≡ items.Variable → (line : ℕ) (c : ParseState) (begun : List PlacedWord) → IsAtState m c begun
+    → words ≡ m.words.items → DeclaresWords words m.size m.variables (Ok tt) variables
+    → m.item ≡ items.SizedVariable → (line : ℕ) (c : ParseState) (begun : List PlacedWord) → IsAtState m c begun
     → WordStep c (begun ++ word_on end_word line ∷ [])
     (record m { variables = variables; words = rest; item = items.Nothing })
 closes_variable m variables words rest spelled declare is line c begun at =
     let a = at.0 in
-    let b : Collects m begun (codes "$var") × IsTrue (has_good_size m.words.items) = subst (IsBegun m begun) is at.1 in
-    let declares : IsFalse c.in_body = sym a.in_body ∙ b.0.declares in
-    let d : Declares c m.words.items (Ok tt) variables = grind arith in
-    ends_here _ c begun line (variable m.words.items) (codes "$var" ∷ m.words.items)
-    b.0.spelled refl (declares, b.0.no_end, b.1, d.0)
+    let b : CollectsVariable m begun = subst (IsBegun m begun) is at.1 in
+    let declares : IsFalse c.in_body = sym a.in_body ∙ b.declares in
+    let all : List (List ℕ) = b.kind ∷ b.word ∷ b.following in
+    let d : Declares c all (Ok tt) variables =
+    declare c b.kind b.word b.following (spelled ∙ b.words) b.size (a.no_early_change declares) a.variables in
+    ends_here _ c begun line (variable all) (codes "$var" ∷ all)
+    b.spelled refl (declares, b.no_end, b.number, d.0)
     (agrees_by _ _ a.header a.timescale a.in_body a.tick d.1 a.no_early_change) refl
-
--- the fault of the variables is that of the grammar
-variable_fault : (m : Parser) (c : ParseState) (begun : List PlacedWord) (fault : Fault) → IsFalse c.in_body
-    → Collects m begun (codes "$var") → IsTrue (has_good_size m.words.items) → VariableFault c m.words.items fault
-    → WordFault c (word_texts begun) end_word fault
-variable_fault m c begun fault declares b good (VariableFault.no_variable none is) =
-    among_declarations declares (DeclarationFault.no_variable m.words.items b.spelled refl b.no_end good none is)
-variable_fault m c begun fault declares b good (VariableFault.code_mixed d some mixed is) =
-    among_declarations declares (DeclarationFault.code_mixed m.words.items d b.spelled refl b.no_end good some mixed is)
-variable_fault m c begun fault declares b good (VariableFault.no_room d some may none is) =
-    among_declarations declares (DeclarationFault.no_room m.words.items d b.spelled refl b.no_end good some may none is)
-
--- the same, or memory runs out
-fault_shown : (m : Parser) (c : ParseState) (begun : List PlacedWord) (fault : Fault) → IsFalse c.in_body
-    → Collects m begun (codes "$var") → IsTrue (has_good_size m.words.items)
-    → (fault ≡ faults.NoMemory) ⊎ VariableFault c m.words.items fault → (fault ≡ faults.NoMemory)
-    ⊎ WordFault c (word_texts begun) end_word fault
-fault_shown m c begun fault declares b good (inl memory) = inl memory
-fault_shown m c begun fault declares b good (inr shown) = inr (variable_fault m c begun fault declares b good shown)
 
 -- the words declare no variable that is allowed here
 pub shows_no_variable : (m new : Parser) (result : Result (Unit {0}) Fault) (fault : Fault) (variables : Variables)
-    (words : List (List ℕ)) → words ≡ m.words.items
-    → ((c : ParseState) → c.value_changes ≡ [] → VariablesMatch m.variables c → Declares c words (Err fault) variables)
-    → m.item ≡ items.Variable
+    (words : List (List ℕ)) → words ≡ m.words.items → DeclaresWords words m.size m.variables (Err fault) variables
+    → m.item ≡ items.SizedVariable
     → IsErrAnd result (λ e. e ≡ fault) → (line : ℕ) → WordResult m (word_on end_word line) result new
 shows_no_variable m new (Ok x) fault variables words spelled declare is failed line = absurd failed
 shows_no_variable m new (Err e) fault variables words spelled declare is failed line =
     λ c begun at.
     let a = at.0 in
-    let b : Collects m begun (codes "$var") × IsTrue (has_good_size m.words.items) = subst (IsBegun m begun) is at.1 in
-    let declares : IsFalse c.in_body = sym a.in_body ∙ b.0.declares in
-    let d : Declares c m.words.items (Err fault) variables =
-    subst (λ ws. Declares c ws (Err fault) variables) spelled (declare c (a.no_early_change declares) a.variables) in
+    let b : CollectsVariable m begun = subst (IsBegun m begun) is at.1 in
+    let declares : IsFalse c.in_body = sym a.in_body ∙ b.declares in
+    let d : Declares c (b.kind ∷ b.word ∷ b.following) (Err fault) variables =
+    declare c b.kind b.word b.following (spelled ∙ b.words) b.size (a.no_early_change declares) a.variables in
     subst (λ f. (f ≡ faults.NoMemory) ⊎ WordFault c (word_texts begun) end_word f) (sym failed)
-    (fault_shown m c begun fault declares b.0 b.1 d)
+    (elim (d b.no_end b.number) [
+      | inl memory ↦ inl memory
+      | inr shown ↦ inr (among_declarations declares
+          (subst (λ texts. DeclarationFault c texts end_word fault) (sym b.spelled) shown))
+    ])
 
 -- the kind of a variable, if it is the only word
 one_word : (words : List (List ℕ)) → length words ≡ 1 → IsTrue (has_no_end_word words)
@@ -228,23 +230,65 @@ one_word [] one none = absurd (omega arith)
 one_word (kind ∷ []) one none = grind (arith, and_parts)
 one_word (kind ∷ size ∷ words) one none = absurd (omega arith)
 
--- each decimal number is a size
-pub no_number : (size : Option ℕ) (text : List ℕ) (Q : ℕ → Type 0) → MatchOption size (is_number text ≡ false) Q
-    → is_some size ≡ false → is_number text ≡ false
-no_number None text Q said none = said
-no_number (Some n) text Q said none = let some : true ≡ false = none in absurd (cc)
-
 -- a size that is no number
-pub shows_no_size : (m : Parser) (text : List ℕ) → m.item ≡ items.Variable → length m.words.items ≡ 1
+pub shows_no_size : (m : Parser) (text : List ℕ) → m.item ≡ items.Variable → 0 < length m.words.items
     → is_number text ≡ false → (c : ParseState) (begun : List PlacedWord) → IsAtState m c begun
     → WordFault c (word_texts begun) text faults.BadVar
-shows_no_size m text is one isnt c begun at =
-    let b : Collects m begun (codes "$var") × IsTrue (has_good_size m.words.items) = subst (IsBegun m begun) is at.1 in
-    let k = one_word m.words.items one b.0.no_end in
+shows_no_size m text is some isnt c begun at =
+    let b : Collects m begun (codes "$var") × (length m.words.items ≤ 1) = subst (IsBegun m begun) is at.1 in
+    let k = one_word m.words.items (omega (arith, some, b.1)) b.0.no_end in
     among_declarations (sym at.0.in_body
     ∙ b.0.declares) (no_size k.0 (b.0.spelled ∙ ap (λ ws. codes "$var" ∷ ws) k.1) k.2 isnt refl)
 
 -- ---- a word that goes on
+
+-- the size of a variable
+pub takes_size : (m : Parser) (text : List ℕ) (size : ℕ) → m.item ≡ items.Variable → 0 < length m.words.items
+    → is_number text ≡ true → size ≡ min (number_of text) (WIDTH_LIMIT + 1) → IsFalse (is_end_word text)
+    → (line : ℕ) (c : ParseState) (begun : List PlacedWord) → IsAtState m c begun
+    → WordStep c (begun ++ word_on text line ∷ []) (record m { size = size; item = items.SizedVariable })
+takes_size m text size is some number read isnt line c begun at =
+    let a = at.0 in
+    let b : Collects m begun (codes "$var") × (length m.words.items ≤ 1) = subst (IsBegun m begun) is at.1 in
+    let k = one_word m.words.items (omega (arith, some, b.1)) b.0.no_end in
+    goes_on (
+      agrees_by _ _ a.header a.timescale a.in_body a.tick a.variables a.no_early_change,
+      record {
+        kind = k.0;
+        word = text;
+        following = [];
+        declares = b.0.declares;
+        spelled = texts_more begun (word_on text line)
+            ∙ ap (λ ts. ts ++ text ∷ []) (b.0.spelled ∙ ap (λ ws. codes "$var" ∷ ws) k.1);
+        no_end = λ i. not (k.2 i) && (not (isnt i) && true);
+        words = k.1;
+        number = number;
+        size = read;
+      },
+    )
+
+-- a word of a variable after its size
+pub continues_variable : (m : Parser) (words : Vec (List ℕ)) (text : List ℕ) → m.item ≡ items.SizedVariable
+    → words.items ≡ m.words.items ++ text ∷ [] → IsFalse (is_end_word text)
+    → (line : ℕ) (c : ParseState) (begun : List PlacedWord) → IsAtState m c begun
+    → WordStep c (begun ++ word_on text line ∷ []) (record m { words = words })
+continues_variable m words text is pushed isnt line c begun at =
+    let a = at.0 in
+    let b : CollectsVariable m begun = subst (IsBegun m begun) is at.1 in
+    goes_on (
+      agrees_by _ _ a.header a.timescale a.in_body a.tick a.variables a.no_early_change,
+      subst (IsBegun (record m { words = words }) (begun ++ word_on text line ∷ [])) (sym is) (record {
+        kind = b.kind;
+        word = b.word;
+        following = b.following ++ text ∷ [];
+        declares = b.declares;
+        spelled = texts_more begun (word_on text line) ∙ ap (λ ts. ts ++ text ∷ []) b.spelled;
+        no_end = no_end_more (b.kind ∷ b.word ∷ b.following) text b.no_end isnt;
+        words = pushed ∙ ap (λ ws. ws ++ text ∷ []) b.words;
+        number = b.number;
+        size = b.size;
+      }),
+    )
 
 -- a word of another command
 pub passes_over : (m : Parser) (text : List ℕ) → m.item ≡ items.Other → IsFalse (is_end_word text)

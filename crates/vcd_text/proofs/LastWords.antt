@@ -22,7 +22,7 @@ use Rattle.vcd_text.specs.inside.Reading.{AwaitsCode, is_complete}
 use Rattle.vcd_text.specs.declared.reading.parser.Parser.{Parser}
 use Rattle.vcd_text.specs.declared.reading.parser.OpenItem.{OpenItem}
 use Rattle.vcd_text.specs.declared.reading.parser.OpenItem.TheVariants as items
-use Rattle.vcd_text.proofs.Declaring.{so_deep}
+use Rattle.vcd_text.proofs.Declaring.{so_deep, short_words}
 use Rattle.vcd_text.proofs.OneAnswer.{accepted-not_refused, stopped-not_refused}
 use Rattle.vcd_text.proofs.Changing.{among_first, among_last}
 
@@ -49,7 +49,10 @@ unfinished m c begun items.Timescale agrees is no_end = collecting m c begun (co
 unfinished m c begun items.Scope agrees is no_end = collecting m c begun (codes "$scope") agrees is refl
 unfinished m c begun items.Upscope agrees is no_end = grind (arith, so_deep)
 unfinished m c begun items.Variable agrees is no_end =
-    variable_due m.words.items (sym agrees.in_body ∙ is.0.declares) is.0.spelled is.0.no_end is.1
+    variable_due m.words.items (sym agrees.in_body ∙ is.0.declares) is.0.spelled is.0.no_end
+    (short_words c m.words.items is.1).0
+unfinished m c begun items.SizedVariable agrees is no_end =
+    variable_due (is.kind ∷ is.word ∷ is.following) (sym agrees.in_body ∙ is.declares) is.spelled is.no_end is.number
 unfinished m c begun items.EndDefinitions agrees is no_end = definitions_due (sym agrees.in_body ∙ is.0) is.1
 unfinished m c begun items.Other agrees is no_end =
     other_due is.keyword is.words is.spelled (subst (λ b. IsTrue (is_other b is.keyword)) agrees.in_body is.other)

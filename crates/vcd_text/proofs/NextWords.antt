@@ -67,6 +67,7 @@ line_shown m c begun w fault items.Timescale agrees is decided = declaring m c b
 line_shown m c begun w fault items.Scope agrees is decided = declaring m c begun w agrees is.declares
 line_shown m c begun w fault items.Upscope agrees is decided = declaring m c begun w agrees is.0
 line_shown m c begun w fault items.Variable agrees is decided = declaring m c begun w agrees is.0.declares
+line_shown m c begun w fault items.SizedVariable agrees is decided = declaring m c begun w agrees is.declares
 line_shown m c begun w fault items.EndDefinitions agrees is decided = declaring m c begun w agrees is.0
 line_shown m c begun w fault items.Other agrees is (among_declarations none shows) = grind arith
 line_shown m c begun w fault items.Other agrees is (among_changes all shows) =

@@ -1,7 +1,7 @@
 -- The state of the parser between two words: the state after the whole items, and the words of the
 -- open item.
 use Rattle.std.specs.Prelude.{◌≡◌, ◌⊎◌, ℕ, ◌+◌, ◌<◌, ◌^◌, Bool, true, false, ◌&&◌, List, [], ◌∷◌}
-use Rattle.std.specs.Prelude.{◌++◌, length}
+use Rattle.std.specs.Prelude.{◌++◌, length, ◌≤◌, min}
 use Rattle.std.specs.Prelude.{if◌then◌else◌, IsTrue, IsFalse, Result, Ok, Err, codes}
 use Rattle.vcd_text.specs.declared.fault.Fault.{Fault}
 use Rattle.vcd_text.specs.declared.fault.Fault.TheVariants.{NoMemory}
@@ -16,7 +16,9 @@ use Rattle.vcd_text.specs.Items.{Item, spelling, spellings, has_no_end_word, hea
 use Rattle.vcd_text.specs.Items.{vector_prefixes, real_or_string_prefixes}
 use Rattle.vcd_text.specs.Grammar.{ParseState, Allows, AllowsAll, state_after, state_after_item}
 use Rattle.vcd_text.specs.Grammar.{initial_state}
-use Rattle.vcd_text.specs.Grammar.{word_texts, has_good_size}
+use Rattle.vcd_text.specs.Grammar.{word_texts}
+use Rattle.vcd_core.specs.declared.value.TheConstants.{WIDTH_LIMIT}
+use Rattle.vcd_core.specs.Decimal.{is_number, number_of}
 use Rattle.vcd_text.specs.Faults.{WordFault, ShowsFault}
 use Rattle.vcd_text.specs.MemoryErrors.{memory_error}
 use Rattle.vcd_text.specs.inside.Variables.{VariablesMatch}
@@ -40,6 +42,18 @@ pub record Collects (m : Parser) (begun : List PlacedWord) (keyword : List ℕ) 
   pub declares : IsFalse m.in_body
   pub spelled : word_texts begun ≡ keyword ∷ m.words.items
   pub no_end : IsTrue (has_no_end_word m.words.items)
+
+-- a variable is open whose size has come; the parser keeps its other words
+pub record CollectsVariable (m : Parser) (begun : List PlacedWord) : Type 0 where
+  pub kind : List ℕ
+  pub word : List ℕ
+  pub following : List (List ℕ)
+  pub declares : IsFalse m.in_body
+  pub spelled : word_texts begun ≡ codes "$var" ∷ kind ∷ word ∷ following
+  pub no_end : IsTrue (has_no_end_word (kind ∷ word ∷ following))
+  pub words : m.words.items ≡ kind ∷ following
+  pub number : IsTrue (is_number word)
+  pub size : m.size ≡ min (number_of word) (WIDTH_LIMIT + 1)
 
 -- another command is open
 pub record PassesOver (m : Parser) (begun : List PlacedWord) : Type 0 where
@@ -67,8 +81,8 @@ IsBegun m begun items.Timescale = Collects m begun (codes "$timescale")
 IsBegun m begun items.Scope = Collects m begun (codes "$scope")
 IsBegun m begun items.Upscope = IsFalse m.in_body × (word_texts begun ≡ codes "$upscope" ∷ [])
     × (0 < m.variables.scopes.depth)
-IsBegun m begun items.Variable = Collects m begun (codes "$var")
-    × IsTrue (has_good_size m.words.items)
+IsBegun m begun items.Variable = Collects m begun (codes "$var") × (length m.words.items ≤ 1)
+IsBegun m begun items.SizedVariable = CollectsVariable m begun
 IsBegun m begun items.EndDefinitions = IsFalse m.in_body
     × (word_texts begun ≡ codes "$enddefinitions" ∷ [])
 IsBegun m begun items.Other = PassesOver m begun

@@ -1,9 +1,11 @@
 -- The variables of the parser, compared with the state of a file.
 use Rattle.std.specs.Prelude.{◌≡◌, ◌⊎◌, ℕ, ◌<◌, ◌≤◌, if◌then◌else◌, nat_le, List, [], ◌∷◌, ◌++◌}
-use Rattle.std.specs.Prelude.{map, length, slice_get, take}
+use Rattle.std.specs.Prelude.{map, length, slice_get, take, ◌+◌, min}
 use Rattle.std.specs.Prelude.{count_by, All, Option, Some, None, IsTrue, IsFalse, IsSomeAnd, Result}
-use Rattle.std.specs.Prelude.{Ok, Err}
+use Rattle.std.specs.Prelude.{Ok, Err, codes}
 use Rattle.vcd_core.specs.declared.capture.TheConstants.{SIGNAL_LIMIT}
+use Rattle.vcd_core.specs.declared.value.TheConstants.{WIDTH_LIMIT}
+use Rattle.vcd_core.specs.Decimal.{number_of}
 use Rattle.vcd_core.specs.declared.wave.Change.{Change}
 use Rattle.vcd_core.specs.Value.{all_x}
 use Rattle.vcd_core.specs.Wave.{value_at, IsWave}
@@ -13,11 +15,12 @@ use Rattle.vcd_core.specs.declared.capture.Signal.{Signal}
 use Rattle.vcd_text.specs.declared.fault.Fault.{Fault}
 use Rattle.vcd_text.specs.declared.fault.Fault.TheVariants as faults
 use Rattle.vcd_text.specs.Letters.{letters_of_digits, extension}
-use Rattle.vcd_text.specs.Items.{variable}
+use Rattle.vcd_text.specs.Items.{variable, end_word, has_no_end_word}
+use Rattle.vcd_text.specs.Faults.{DeclarationFault}
 use Rattle.vcd_text.specs.Grammar.{VariableDeclaration, ValueChange, ParseState, is_skipped}
 use Rattle.vcd_text.specs.Grammar.{kept_variables}
 use Rattle.vcd_text.specs.Grammar.{declaration_of, variable_of, may_have_code, has_room}
-use Rattle.vcd_text.specs.Grammar.{is_binary_number}
+use Rattle.vcd_text.specs.Grammar.{is_binary_number, has_good_size}
 use Rattle.vcd_text.specs.Grammar.{takes_binary_number, state_after_item, with_value_change}
 use Rattle.vcd_text.specs.Meaning.{latest_value}
 use Rattle.vcd_text.specs.inside.CodeTargets.{code_target}
@@ -146,23 +149,21 @@ DeclaresAs c d (Err fault) new = (fault ≡ faults.NoMemory) ⊎ CannotDeclare c
 
 -- ---- the result of a `$var`, at its `$end`
 
--- the words declare no variable that is allowed here
-pub data VariableFault (c : ParseState) (words : List (List ℕ)) (fault : Fault) : Type 0 where
-  no_variable : declaration_of c words ≡ None → fault ≡ faults.BadVar → VariableFault c words fault
-  code_mixed : (d : VariableDeclaration) → declaration_of c words ≡ Some d
-      → IsFalse (may_have_code (variable_of c d.code) d)
-      → fault ≡ faults.MixedCode → VariableFault c words fault
-  no_room : (d : VariableDeclaration) → declaration_of c words ≡ Some d
-      → IsTrue (may_have_code (variable_of c d.code) d) → IsFalse (has_room c.declared d)
-      → fault ≡ faults.TooManySignals → VariableFault c words fault
-
 -- the result of the words: their variable is added, or they show a fault, or memory runs out
 abbrev pub Declares : ParseState → List (List ℕ) → Result (Unit {0}) Fault → Variables → Type 0
 Declares c words (Ok x) new =
     IsSomeAnd (declaration_of c words) (λ d. IsTrue (may_have_code (variable_of c d.code) d)
     × IsTrue (has_room c.declared d))
     × VariablesMatch new (state_after_item c (variable words))
-Declares c words (Err fault) new = (fault ≡ faults.NoMemory) ⊎ VariableFault c words fault
+Declares c words (Err fault) new = IsTrue (has_no_end_word words) → IsTrue (has_good_size words)
+    → (fault ≡ faults.NoMemory) ⊎ DeclarationFault c (codes "$var" ∷ words) end_word fault
+
+-- the same of words without a size, and of the size that has been read
+abbrev pub DeclaresWords : List (List ℕ) → ℕ → Variables → Result (Unit {0}) Fault → Variables → Type 0
+DeclaresWords words size old result new = (c : ParseState) (kind word : List ℕ)
+    (following : List (List ℕ)) → words ≡ kind ∷ following
+    → size ≡ min (number_of word) (WIDTH_LIMIT + 1) → c.value_changes ≡ [] → VariablesMatch old c
+    → Declares c (kind ∷ word ∷ following) result new
 
 -- ---- the result of digits
 

@@ -52,7 +52,8 @@ impl Parser {
         match self.item {
             OpenItem::Upscope | OpenItem::EndDefinitions => Err(Fault::UnexpectedWord),
             OpenItem::Other => Ok(()),
-            OpenItem::Variable => self.continue_variable(alloc, text),
+            OpenItem::Variable => self.begin_variable(alloc, text),
+            OpenItem::SizedVariable => self.continue_variable(alloc, text),
             _ => self.keep_word(alloc, text),
         }
     }
@@ -67,15 +68,30 @@ impl Parser {
         Ok(())
     }
 
-    /// Keeps a word of a variable. The second is its size.
-    fn continue_variable(&mut self, alloc: Global, text: &[u8]) -> Result<(), Fault>
+    /// Keeps the first word of a variable, or reads its size.
+    fn begin_variable(&mut self, alloc: Global, text: &[u8]) -> Result<(), Fault>
         requires item { self.old.item ≡ items.Variable }
         requires word { is_end_word text.now ≡ false }
         ensures { (line : ℕ) → WordResult self.old (word_on text.now line) result self.new }
     {
-        if self.words.len() == 1 && size_of(text).is_none() {
-            return Err(Fault::BadVar);
+        if self.words.is_empty() {
+            push_copy(alloc, &mut self.words, text)?;
+            return Ok(());
         }
+        let Some(size) = size_of(text) else {
+            return Err(Fault::BadVar);
+        };
+        self.size = size;
+        self.item = OpenItem::SizedVariable;
+        Ok(())
+    }
+
+    /// Keeps a word of a variable after its size.
+    fn continue_variable(&mut self, alloc: Global, text: &[u8]) -> Result<(), Fault>
+        requires item { self.old.item ≡ items.SizedVariable }
+        requires word { is_end_word text.now ≡ false }
+        ensures { (line : ℕ) → WordResult self.old (word_on text.now line) result self.new }
+    {
         push_copy(alloc, &mut self.words, text)?;
         Ok(())
     }
@@ -94,7 +110,8 @@ impl Parser {
             OpenItem::Timescale => self.close_timescale(alloc),
             OpenItem::Scope => self.close_scope(alloc),
             OpenItem::Upscope => self.close_upscope(),
-            OpenItem::Variable => self.close_variable(alloc),
+            OpenItem::Variable => Err(Fault::BadVar),
+            OpenItem::SizedVariable => self.close_variable(alloc),
             OpenItem::EndDefinitions => self.close_definitions(),
             _ => self.close_other(),
         }
@@ -155,12 +172,12 @@ impl Parser {
 
     /// Declares the variable that the words describe.
     fn close_variable(&mut self, alloc: Global) -> Result<(), Fault>
-        requires item { self.old.item ≡ items.Variable }
+        requires item { self.old.item ≡ items.SizedVariable }
         requires reading { IsUnderway self.old }
         ensures { (line : ℕ) → WordResult self.old (word_on end_word line) result self.new }
     {
         let words = replace(&mut self.words, Vec::new(alloc));
-        self.variables.declare(alloc, words)?;
+        self.variables.declare(alloc, words, self.size)?;
         self.item = OpenItem::Nothing;
         Ok(())
     }

@@ -25,7 +25,10 @@ pub enum OpenItem {
     Timescale,
     Scope,
     Upscope,
+    /// A variable whose size has not come.
     Variable,
+    /// A variable whose size has come.
+    SizedVariable,
     EndDefinitions,
     /// A command that is passed over.
     Other,
@@ -46,8 +49,10 @@ pub struct Parser {
     /// The last time stamp, or 0.
     pub tick: u64,
     pub item: OpenItem,
-    /// The words of the open declaration, after its keyword.
+    /// The words of the open declaration, after its keyword. The size of a variable is not there.
     pub words: Vec<Word>,
+    /// The size of the open variable, in bits. It is one past the greatest width for each larger.
+    pub size: u64,
     /// The digits of the open change by a binary number.
     pub digits: Vec<u8>,
     /// The line of the open change.
@@ -67,6 +72,7 @@ impl Parser {
             tick: 0,
             item: OpenItem::Nothing,
             words: Vec::new(alloc),
+            size: 0,
             digits: Vec::new(alloc),
             line: 0,
         }

@@ -4,45 +4,38 @@ ghost use Rattle.std.specs.Prelude.{◌≡◌, ◌≤◌, ◌<◌, ◌+◌, ◌^
 ghost use Rattle.std.specs.Prelude.{IsTrue, IsFalse, IfOk, IfErr};
 ghost use Rattle.vcd_core.specs.declared.value.TheConstants.{WIDTH_LIMIT};
 ghost use Rattle.vcd_core.specs.Word.{is_skipped_kind as skips_kind};
-ghost use Rattle.vcd_text.specs.Grammar.{ParseState, VariableDeclaration, has_good_size};
-ghost use Rattle.vcd_text.specs.Grammar.{is_skipped};
+ghost use Rattle.vcd_text.specs.Grammar.{ParseState, VariableDeclaration, is_skipped};
 ghost use Rattle.vcd_text.specs.inside.Scopes.{open_scopes, IsPlaced};
 ghost use Rattle.vcd_text.specs.inside.Variables.{declaration_of_parts, declaration_in};
 ghost use Rattle.vcd_text.specs.inside.Variables.{VariablesMatch, IsFree};
-ghost use Rattle.vcd_text.specs.inside.Variables.{CannotDeclare, Declares, DeclaresAs};
+ghost use Rattle.vcd_text.specs.inside.Variables.{CannotDeclare, DeclaresWords, DeclaresAs};
 
 use crate::fault::Fault;
 use crate::reading::code_targets::CodeTarget;
 use crate::reading::pending::NO_ROOM;
-use crate::reading::ticks_and_sizes::size_of;
 use crate::reading::variables::{Variable, Variables};
 use std::alloc::Global;
 use vcd_core::{NameWords, SIGNAL_LIMIT, Seq, WIDTH_LIMIT, Wave, Word, is_skipped_kind};
 
 impl Variables {
-    /// Declares a variable in the open scopes, from the words of a `$var` after the keyword.
+    /// Declares a variable in the open scopes, from its size and the other words of a `$var` after
+    /// the keyword. A size past the greatest width is given as one more than that.
     ///
     /// It looks up the code at most twice. A kept variable keeps its words. The first variable of
     /// its code enters the code.
     ///
     /// The error is `BadVar` if a part is missing, `TooManySignals`, or `NoMemory`. It is
     /// `MixedCode` if the code has another size, or is skipped for one variable alone.
-    pub fn declare(&mut self, alloc: Global, words: Vec<Word>) -> Result<(), Fault>
-        requires size { IsTrue (has_good_size words.items) }
+    pub fn declare(&mut self, alloc: Global, words: Vec<Word>, size: u64) -> Result<(), Fault>
         requires few { self.old.skipped + 1 < 2 ^ 64 }
-        ensures { (c : ParseState) → c.value_changes ≡ [] → VariablesMatch self.old c →
-            Declares c words.items result self.new }
+        ensures { DeclaresWords words.items size self.old result self.new }
     {
-        if words.len() < 4 {
+        if words.len() < 3 {
             return Err(Fault::BadVar);
         }
         let mut name = words;
         let kind = name.remove(0);
-        let size = name.remove(0);
         let code = name.remove(0);
-        let Some(size) = size_of(size.as_slice()) else {
-            return Err(Fault::BadVar);
-        };
         if is_skipped(kind.as_slice(), size) {
             return self.skip(alloc, code.as_slice());
         }

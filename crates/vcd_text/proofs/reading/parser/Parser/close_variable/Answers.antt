@@ -4,8 +4,8 @@ use Rattle.vcd_text.proofs.DeclaredCount.{few_declared}
 use Rattle.vcd_text.proofs.Declaring.{closes_variable, shows_no_variable}
 use Rattle.vcd_text.proofs.reading.parser.Parser.close_variable.Goals as goal
 
-pub declare-requires-clause-few : goal.declare-requires-clause-few
-declare-requires-clause-few c = few_declared c.args.self.now c.requires.reading
+pub declare-requires : goal.declare-requires
+declare-requires c = record { few = few_declared c.args.self.now c.requires.reading }
 
 pub returns-in_err-declare : goal.returns-in_err-declare
 returns-in_err-declare c =
