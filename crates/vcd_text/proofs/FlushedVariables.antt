@@ -219,10 +219,8 @@ module _ (old : Variables) (list : Vec Variable) (log : Vec (Vec LoggedChange)) 
       let v = stood position w at in
       let before = k.firsts position v.0 v.1 in
       record {
-        owned = λ d declared. before.owned d declared
-            ∙ (λ i. Kept (sym v.2.same.width i) (sym v.2.same.first i));
-        placed = λ d declared. subst (λ p. IsPlaced old.scopes p d.scopes) (sym v.2.same.place)
-            (before.placed d declared);
+        owned = grind arith;
+        placed = grind arith;
         no_later = omega (arith, v.2.same.first, before.no_later);
       }
 

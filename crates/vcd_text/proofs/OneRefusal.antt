@@ -1,5 +1,5 @@
 -- A file is refused for one fault, unless memory ran out.
-use Rattle.std.proofs.Common.{◌≡◌, ◌⊎◌, inl, inr, ℕ, List, ◌++◌, take, Bool, Option, Some, sym, ◌∙◌}
+use Rattle.std.proofs.Common.{◌≡◌, inl, inr, ℕ, List, ◌++◌, take, Bool, Option, Some, sym, ◌∙◌}
 use Rattle.std.proofs.Common.{ap, ap₂, arith}
 use Rattle.std.proofs.Common.{subst}
 use Rattle.std.proofs.lemmas.List.{append_cancel_right}
