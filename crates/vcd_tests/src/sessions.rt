@@ -175,8 +175,8 @@ fn depth_makes_room_for_what_can_be_made_again(rt: HostRuntime) -> Result<(), Fa
         Step::Undo,
         Step::Depth(DEPTH_LIMIT + 1),
     ];
-    let text =
-        "ok ok ok ok ok DepthTooSmall ok NothingToUndo ok ok ok ok NothingToUndo BadDepth 9|c 0@0 1@5 0 1";
+    let text = "ok ok ok ok ok DepthTooSmall ok NothingToUndo ok ok ok ok NothingToUndo BadDepth 9|\
+c 0@0 1@5 0 1";
     check_answers_of(&rt, rt.alloc(), 3, &steps, text)
 }
 

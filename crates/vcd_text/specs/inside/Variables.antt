@@ -28,7 +28,8 @@ use Rattle.vcd_text.specs.inside.ChangeLog.{GivesLoggedValues, logged, AreGroupe
 use Rattle.vcd_text.specs.inside.Scopes.{chain_at, open_scopes, IsPlaced}
 use Rattle.vcd_text.specs.declared.reading.pending.LoggedChange.{LoggedChange}
 use Rattle.vcd_text.specs.declared.reading.code_targets.CodeTarget.{CodeTarget}
-use Rattle.vcd_text.specs.declared.reading.code_targets.CodeTarget.TheVariants.{Undeclared, Skipped, Kept}
+use Rattle.vcd_text.specs.declared.reading.code_targets.CodeTarget.TheVariants.{Undeclared, Skipped}
+use Rattle.vcd_text.specs.declared.reading.code_targets.CodeTarget.TheVariants.{Kept}
 use Rattle.vcd_text.specs.declared.reading.variables.Variable.{Variable}
 use Rattle.vcd_text.specs.declared.reading.variables.Variables.{Variables}
 
@@ -159,7 +160,8 @@ Declares c words (Err fault) new = IsTrue (has_no_end_word words) → IsTrue (ha
     → (fault ≡ faults.NoMemory) ⊎ DeclarationFault c (codes "$var" ∷ words) end_word fault
 
 -- the same of words without a size, and of the size that has been read
-abbrev pub DeclaresWords : List (List ℕ) → ℕ → Variables → Result (Unit {0}) Fault → Variables → Type 0
+abbrev pub DeclaresWords : List (List ℕ) → ℕ → Variables → Result (Unit {0}) Fault → Variables
+    → Type 0
 DeclaresWords words size old result new = (c : ParseState) (kind word : List ℕ)
     (following : List (List ℕ)) → words ≡ kind ∷ following
     → size ≡ min (number_of word) (WIDTH_LIMIT + 1) → c.value_changes ≡ [] → VariablesMatch old c

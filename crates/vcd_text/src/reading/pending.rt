@@ -7,7 +7,7 @@ ghost use Rattle.std.specs.Prelude.{◌≡◌, ◌<◌, ◌++◌, ◌==◌, ◌�
 ghost use Rattle.std.specs.Prelude.{Some, if◌then◌else◌, OnOk, All};
 ghost use Rattle.std.specs.List.{fold};
 ghost use Rattle.vcd_text.specs.declared.reading.variables.Variable.{Variable as DeclaredVariable};
-ghost use Rattle.vcd_text.specs.declared.reading.pending.LoggedChange.{LoggedChange as DeclaredChange};
+ghost use Rattle.vcd_text.specs.declared.reading.pending.LoggedChange.{LoggedChange as LogEntry};
 ghost use Rattle.vcd_text.specs.inside.ChangeLog.{logged, changes_of_position, room_with, counted};
 ghost use Rattle.vcd_text.specs.inside.ChangeLog.{AreGrouped, CanTake, AppliesLogged, HasExactRoom};
 ghost use Rattle.vcd_text.specs.inside.ChangeLog.{CanFlush, FlushesLog};
@@ -104,7 +104,7 @@ pub fn move_log_to_waves(
 
 /// Counts the changes of each variable of a group.
 fn count_changes(kept: &mut Vec<Variable>, group: &[LoggedChange])
-    requires { All (λ (e : DeclaredChange). e.position < length kept.old.items) group.now }
+    requires { All (λ (e : LogEntry). e.position < length kept.old.items) group.now }
     ensures { kept.new.items ≡ fold counted kept.old.items group.now }
 {
     for change in group {

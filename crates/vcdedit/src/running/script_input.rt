@@ -54,8 +54,9 @@ fn read_block<S: Source>(
     ensures at_end { IfOk result (λ more. more ≡ false → IsAtEnd (S.coming source.new)) }
     ensures ready { OnOk result (S.has_failed source.new ≡ false) }
     ensures ended { (all : Option (List ℕ))
-        → Consumes all (S.coming source.old) script.old.items → IfErr result (EndsAfterCapture
-        (record { before = all; after = S.coming source.new; has_failed = S.has_failed source.new })) }
+        → Consumes all (S.coming source.old) script.old.items → let now = source.new in
+        IfErr result (EndsAfterCapture
+        (record { before = all; after = S.coming now; has_failed = S.has_failed now })) }
     ensures before_replies { IfErr result (λ e. (has_failed is_flushed : Bool)
         → IsFlushedAt has_failed is_flushed e) }
 {

@@ -18,11 +18,13 @@ pub const DEFAULT_DEPTH: u64 = 100;
 
 const VERSION: &str = "1.0.0";
 
-const ABOUT: &str =
-    "Edits four-state waveform captures (VCD, IEEE 1364-2005, 18.2) by script, with undo and redo.\n\nThe capture is read whole, each line of the script is carried out and answered on standard output,\nand the edited capture is written. A file with a fault is refused, and nothing is written.";
+const ABOUT: &str = "\
+Edits four-state waveform captures (VCD, IEEE 1364-2005, 18.2) by script, with undo and redo.\n\n\
+The capture is read whole, each line of the script is carried out and answered on standard output,
+and the edited capture is written. A file with a fault is refused, and nothing is written.";
 
-const AFTER_HELP: &str =
-    "Lines of a script. NAME is a signal's full name as `list` shows it, with its scopes and its range,
+const AFTER_HELP: &str = "\
+Lines of a script. NAME is a signal's full name as `list` shows it, with its scopes and its range,
 such as top.cpu.clk or top.cpu.data[7:0], or @ and its position; times are ticks of the timescale:
   rename NAME WORD          the first word of the signal's name becomes WORD
   remove NAME               the signal is taken out; later ones get the position before theirs
@@ -67,7 +69,8 @@ Exit status:
   4  a file can't be opened, read or written, or standard output can't be written
   5  out of memory
 
-`man vcdedit` explains every refusal and fault, and says what to do; share/doc/vcdedit has recipes.";
+`man vcdedit` explains every refusal and fault, and says what to do; share/doc/vcdedit has recipes.\
+";
 
 /// What the words of the command line ask for.
 #[derive(Clone, Copy)]

@@ -83,7 +83,8 @@ fn ending_of_words<R: Runtime + AllocGlobal>(rt: &R, words: Args) -> Ending
     ensures of_run { fault_of option_app (map string_bytes (drop 1 (into_iter_items words))) ≡ [] →
         IsEndingOf (map string_bytes (drop 1 (into_iter_items words))) result }
     // and others are not
-    ensures without_run { (fault_of option_app (map string_bytes (drop 1 (into_iter_items words))) ≡ [] → ⊥) →
+    ensures without_run { (fault_of option_app (map string_bytes (drop 1 (into_iter_items words)))
+        ≡ [] → ⊥) →
         IsEndingWithoutRun (fault_of option_app (map string_bytes (drop 1 (into_iter_items words))))
         result }
 {

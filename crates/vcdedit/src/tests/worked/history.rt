@@ -8,8 +8,8 @@ a full history drops the oldest step
 capture: [a:1 0@0; end 0]
 depth: 2
 script: rename top.a b / rename top.b c / rename top.c d / undo / undo / undo / list
-replies: ok / ok / ok / ok / ok / line 6: refused: NothingToUndo / timescale none / end 0 / signals 1 / \
-skipped 0 / @0 1 wire top.b
+replies: ok / ok / ok / ok / ok / line 6: refused: NothingToUndo / timescale none / end 0 / \
+signals 1 / skipped 0 / @0 1 wire top.b
 refused: 1
 output: [b:1 0@0; end 0]
 
@@ -23,11 +23,12 @@ output: [b:1 0@0 1@5; end 9]
 a depth that is lowered
 capture: [a:1 0@0; end 0]
 depth: 3
-script: rename top.a b / rename top.b c / rename top.c d / undo / undo / depth 1 / depth 2 / undo / redo / \
-redo / depth 1 / undo / undo / depth 1001 / depth x / list
-replies: ok / ok / ok / ok / ok / line 6: refused: DepthTooSmall / ok / line 8: refused: NothingToUndo / ok / \
-ok / ok / ok / line 13: refused: NothingToUndo / line 14: refused: BadDepth / line 15: refused: BadNumber / \
-timescale none / end 0 / signals 1 / skipped 0 / @0 1 wire top.c
+script: rename top.a b / rename top.b c / rename top.c d / undo / undo / depth 1 / depth 2 / \
+undo / redo / redo / depth 1 / undo / undo / depth 1001 / depth x / list
+replies: ok / ok / ok / ok / ok / line 6: refused: DepthTooSmall / ok / \
+line 8: refused: NothingToUndo / ok / ok / ok / ok / line 13: refused: NothingToUndo / \
+line 14: refused: BadDepth / line 15: refused: BadNumber / timescale none / end 0 / signals 1 / \
+skipped 0 / @0 1 wire top.c
 refused: 5
 output: [c:1 0@0; end 0]
 
