@@ -1,6 +1,6 @@
 -- Codes of two positions differ, and a code is a word of at most three bytes.
 use Rattle.std.proofs.Common.{◌≡◌, ◌<◌, ◌≤◌, ◌+◌, ◌/◌, ◌&&◌, ℕ, zero, suc, Bool, true, false, not}
-use Rattle.std.proofs.Common.{length, refl, arith, nat_le, ◌*◌, add-one}
+use Rattle.std.proofs.Common.{length, refl, ap, arith, nat_le, ◌*◌, add-one}
 use Rattle.std.specs.List.{list_all}
 use Rattle.std.proofs.lemmas.Bool.{and_from, and_parts, and_right, or_from, not_from_false}
 use Rattle.std.proofs.lemmas.Bool.{false_from_ne_true, le-leb}
@@ -54,17 +54,14 @@ pub code_not_empty : (k : ℕ) → 0 < length (code_of k)
 unfolding code_digits
 code_not_empty k = let from_one : k + 1 ≡ suc k = add-one k in rw from_one (omega arith)
 
--- one digit more than the number without its lowest digit
-one_more_digit : (n l : ℕ) → length (code_digits (n / 94) (n / 94)) ≤ l → length (code_digits (suc n) (suc n)) ≤ suc l
-one_more_digit n l short = grind (arith, next_digit)
-
 -- the greatest number of digits of a number
 digits_few : (l n : ℕ) → n ≤ greatest l → length (code_digits n n) ≤ l
 unfolding code_digits
 digits_few zero zero small = omega arith
 digits_few zero (suc n) small = absurd (omega arith)
 digits_few (suc l) zero small = omega arith
-digits_few (suc l) (suc n) small = one_more_digit n l (digits_few l (n / 94) (omega arith))
+digits_few (suc l) (suc n) small =
+    omega (arith, ap (length {A = ℕ}) (next_digit n), digits_few l (n / 94) (omega arith))
 
 pub code_short : (k : ℕ) → k < SIGNAL_LIMIT → length (code_of k) ≤ 3
 code_short k few = digits_few 3 (k + 1) (omega arith)

@@ -11,10 +11,10 @@ use Rattle.std.proofs.lemmas.List.Elements.{All-head, All-tail}
 use Rattle.vcd_core.specs.declared.bit.Bit.{Bit}
 use Rattle.vcd_core.specs.declared.wave.Change.{Change}
 use Rattle.vcd_core.specs.Value.{all_x}
-use Rattle.vcd_core.specs.Wave.{AllUpTo, change, changes_from}
+use Rattle.vcd_core.specs.Wave.{AllUpTo, changes_from}
 use Rattle.vcd_core.specs.Contents.{SignalContents, signal_value}
 use Rattle.vcd_core.specs.Sound.{IsSoundSignal}
-use Rattle.vcd_core.proofs.Waves.{changes_of-value_at, put_cases}
+use Rattle.vcd_core.proofs.Waves.{changes_of-value_at}
 use Rattle.vcd_text.specs.inside.Transitions.{Transition, transition_of, transitions_at}
 use Rattle.vcd_text.specs.inside.Transitions.{transitions_from, is_in_window}
 use Rattle.vcd_text.specs.inside.Transitions.{window_of_signal, unsorted_window}
@@ -60,8 +60,7 @@ unfolding changes_from
 none_late from to j t zero before f late = refl
 none_late from to j t (suc m) before f late =
     let rest = none_late from to j (suc t) m (f t) f (omega arith) in
-    put_cases (λ l. window_of_signal from to j l ≡ []) (f t) before (change t (f t)) (changes_from (f t) (suc t) m f)
-    (λ _. rest) (λ _. grind (arith, after_window, rest))
+    grind (arith, after_window, rest)
 
 -- the changes of a signal's values are the ticks at which it differs, from the first of the window
 -- on
@@ -83,10 +82,7 @@ passed_over : (from to j t m : ℕ) (before : List Bit) (f : ℕ → List Bit) �
     → window_of_signal from to j (changes_from before t (suc m) f)
     ≡ window_of_signal from to j (changes_from (f t) (suc t) m f)
 unfolding changes_from
-passed_over from to j t m before f early =
-    let rest = changes_from (f t) (suc t) m f in
-    put_cases (λ l. window_of_signal from to j l ≡ window_of_signal from to j rest) (f t) before (change t (f t)) rest
-    (λ _. refl) (λ _. grind (arith, before_window))
+passed_over from to j t m before f early = grind (arith, before_window)
 
 window_all : (s : SignalContents) (from to j n d t m : ℕ) (before : List Bit) → suc t + d ≡ from → from + n ≡ to
     → d + n ≤ m

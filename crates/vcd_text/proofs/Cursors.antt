@@ -1,15 +1,14 @@
 -- The next change of a wave from a tick on.
-use Rattle.std.proofs.Common.{◌≡◌, ◌<◌, ◌≤◌, ◌+◌, ◌-◌, ◌^◌, inl, inr, ℕ, zero, suc, cond, List, []}
+use Rattle.std.proofs.Common.{◌≡◌, ◌<◌, ◌≤◌, ◌+◌, ◌-◌, ◌^◌, inl, inr, ℕ, zero, suc, List, []}
 use Rattle.std.proofs.Common.{◌∷◌}
-use Rattle.std.proofs.Common.{length, map, take, drop, get_or, All, refl, sym, ap, subst, ◌∙◌}
+use Rattle.std.proofs.Common.{length, take, drop, get_or, All, refl, sym, ap, subst, ◌∙◌}
 use Rattle.std.proofs.Common.{arith}
-use Rattle.std.specs.List.{filter}
 use Rattle.std.proofs.Math.ListN.{set}
 use Rattle.std.proofs.lemmas.Bool.{cases_eq, cases_lt}
 use Rattle.std.proofs.lemmas.List.{drop_more, get_or_default, get_or_past, get_or-map}
 use Rattle.std.proofs.lemmas.List.{get_or-set_other}
 use Rattle.std.proofs.lemmas.List.{get_or-set_same, length-map, take_more}
-use Rattle.std.proofs.lemmas.List.Elements.{All-append, All-cons, All-head, All-tail}
+use Rattle.std.proofs.lemmas.List.Elements.{All-push, All-head, All-tail}
 use Rattle.vcd_core.specs.declared.bit.Bit.{Bit}
 use Rattle.vcd_core.specs.declared.capture.Signal.{Signal}
 use Rattle.vcd_core.specs.declared.capture.TheConstants.{END_LIMIT}
@@ -18,7 +17,7 @@ use Rattle.vcd_core.specs.Value.{all_x}
 use Rattle.vcd_core.specs.Wave.{AreChangesFrom, IsWave, change}
 use Rattle.vcd_text.specs.declared.writing.cursors.Cursor.{Cursor}
 use Rattle.vcd_text.specs.inside.Cursors.{IsNext, tick_at}
-use Rattle.vcd_text.specs.inside.Transitions.{is_in_window, transition_of, window_of_signal}
+use Rattle.vcd_text.specs.inside.Transitions.{transition_of, window_of_signal}
 use Rattle.vcd_text.proofs.Counts.{after_window, before_window, in_window}
 
 -- a tick before all ticks is that of a change
@@ -56,8 +55,7 @@ goes_on width from to cs n m rise is early end place tick following_tick =
       passed =
           subst (λ k. All (λ (c : Change). c.tick < to) (take k cs)) (sym place)
           (subst (All (λ (c : Change). c.tick < to)) (sym (take_more cs n.place d inside))
-          (All-append (λ (c : Change). c.tick < to) (take n.place cs) (get_or cs n.place d ∷ []) is.passed
-          (All-cons (λ (c : Change). c.tick < to) (get_or cs n.place d) [] here (λ i e none. absurd (omega arith)))));
+          (All-push (λ (c : Change). c.tick < to) (take n.place cs) (get_or cs n.place d) is.passed here));
       not_earlier = omega (
         arith,
         is.not_earlier,
@@ -84,10 +82,8 @@ begins from to position cs zero passed = refl
 begins from to position [] (suc place) passed = refl
 begins from to position (c ∷ cs) (suc place) passed =
     let early = All-head (λ (x : Change). x.tick < from) c (take place cs) passed in
-    let all = filter (λ (x : Change). is_in_window from to x.tick) cs in
-    ap (λ b. map (λ (x : Change). transition_of x.tick position) (cond b (c ∷ all) all))
-    (before_window from to c.tick early)
-    ∙ begins from to position cs place (All-tail (λ (x : Change). x.tick < from) c (take place cs) passed)
+    let rest = begins from to position cs place (All-tail (λ (x : Change). x.tick < from) c (take place cs) passed) in
+    grind (arith, before_window, early, rest)
 
 -- the next change is in it
 pub steps : (from to position : ℕ) (cs : List Change) (n : Cursor) → IsNext from to cs n → n.tick < to
@@ -95,15 +91,11 @@ pub steps : (from to position : ℕ) (cs : List Change) (n : Cursor) → IsNext 
     ≡ transition_of n.tick position ∷ window_of_signal from to position (drop (n.place + 1) cs)
 steps from to position cs n is early end =
     let d = change 0 [] in
-    let c = get_or cs n.place d in
-    let rest = drop (n.place + 1) cs in
-    let all = filter (λ (x : Change). is_in_window from to x.tick) rest in
     let inside = tick_inside cs n.place (omega (arith, is.tick, early, end)) in
-    let at : c.tick ≡ n.tick = sym (tick_is cs n.place d inside) ∙ sym is.tick in
-    ap (λ l. window_of_signal from to position l) (drop_more cs n.place d inside)
-    ∙ ap (λ b. map (λ (x : Change). transition_of x.tick position) (cond b (c ∷ all) all))
-    (in_window from to c.tick (omega (arith, at, is.not_earlier)) (omega (arith, at, early)))
-    ∙ ap (λ t. transition_of t position ∷ window_of_signal from to position rest) at
+    let at : (get_or cs n.place d).tick ≡ n.tick = sym (tick_is cs n.place d inside) ∙ sym is.tick in
+    let split = drop_more cs n.place d inside in
+    let here = in_window from to n.tick is.not_earlier early in
+    grind (arith, at, split, here)
 
 none_in : (from to position floor : ℕ) (before : List Bit) (cs : List Change) → AreChangesFrom floor before cs
     → to ≤ floor → window_of_signal from to position cs ≡ []

@@ -1,14 +1,14 @@
 -- The value changes of a capture's text give each signal its value at every tick.
-use Rattle.std.proofs.Common.{◌≡◌, ℕ, zero, suc, ◌+◌, ◌-◌, ◌<◌, ◌≤◌, Bool, true, false, not}
+use Rattle.std.proofs.Common.{◌≡◌, ℕ, zero, suc, ◌+◌, ◌-◌, ◌<◌, ◌≤◌, Bool, true}
 use Rattle.std.proofs.Common.{if◌then◌else◌}
-use Rattle.std.proofs.Common.{◌&&◌, nat_le, List, [], ◌∷◌, ◌++◌, length, map, get_or, refl, sym, ap}
+use Rattle.std.proofs.Common.{◌&&◌, nat_le, List, [], ◌∷◌, ◌++◌, length, map, get_or, refl, ap}
 use Rattle.std.proofs.Common.{◌∙◌, inl}
 use Rattle.std.proofs.Common.{inr, arith}
 use Rattle.std.specs.Prelude.{bytes_eq}
 use Rattle.std.specs.List.{filter, enumerate_from}
 use Rattle.std.proofs.lemmas.Bool.{and_right, cases_lt, le-leb, lt-leb}
 use Rattle.vcd_core.specs.declared.bit.Bit.{Bit}
-use Rattle.vcd_core.specs.Value.{all_x, same_letters}
+use Rattle.vcd_core.specs.Value.{all_x}
 use Rattle.vcd_core.specs.inside.ValueLaws.{same_letters-Decides}
 use Rattle.vcd_core.specs.Contents.{SignalContents, signal_value}
 use Rattle.vcd_text.specs.Letters.{extension, short_form}
@@ -88,15 +88,9 @@ module _ (signals : List SignalContents) (k t : ℕ) (d : SignalContents) (insid
   at_tick : (u : ℕ) → u ≤ t → latest_value signal.width (code_of k) t (signal_value signal (u - 1))
       (map (value_change_of u) (differing signals u)) ≡ signal_value signal u
   at_tick u come =
-      own_value_change signal.width k t u (λ p. differs_at u p.1) signals k 0 d (signal_value signal (u - 1))
-      (omega arith) inside come
-      ∙ choose (same_letters (signal_value signal u) (signal_value signal (u - 1))) refl
-    where
-      choose : (b : Bool) → same_letters (signal_value signal u) (signal_value signal (u - 1)) ≡ b
-          → (if not b then extension signal.width (short_form (signal_value signal u)) else signal_value signal (u - 1))
-          ≡ signal_value signal u
-      choose true same = sym ((same_letters-Decides (signal_value signal u) (signal_value signal (u - 1))).0 same)
-      choose false other = whole u
+      let here = own_value_change signal.width k t u (λ p. differs_at u p.1) signals k 0 d (signal_value signal (u - 1))
+      (omega arith) inside come in
+      grind (arith, here, same_letters-Decides, whole)
 
   -- the ticks from u on, if the value at the tick before is given
   from_tick : (u n : ℕ) → u ≤ t + 1 → t < u + n
@@ -111,24 +105,19 @@ module _ (signals : List SignalContents) (k t : ℕ) (d : SignalContents) (insid
             past_ticks signal.width k t signals u (suc n) (signal_value signal (u - 1)) past
             ∙ ap (signal_value signal) same
         | inr come ↦
-            latest_value-append signal.width (code_of k) t (signal_value signal (u - 1))
-            (map (value_change_of u) (differing signals u)) (tick_value_changes signals (suc u) n)
-            ∙ ap (λ v. latest_value signal.width (code_of k) t v (tick_value_changes signals (suc u) n))
-            (at_tick u come)
-            ∙ ap (λ v. latest_value signal.width (code_of k) t (signal_value signal v)
-            (tick_value_changes signals (suc u) n)) (let same : u ≡ suc u - 1 = omega arith in same)
-            ∙ from_tick (suc u) n (omega arith) (omega arith)
+            let same : suc u - 1 ≡ u = omega arith in
+            let rest = from_tick (suc u) n (omega arith) (omega arith) in
+            let here = at_tick u come in
+            grind (arith, same, here, rest, latest_value-append)
       ]
 
   -- the values at tick 0
   at_start : latest_value signal.width (code_of k) t (all_x signal.width)
       (map (value_change_of 0) (enumerate_from 0 signals)) ≡ signal_value signal 0
   at_start =
-      ap (λ l. latest_value signal.width (code_of k) t (all_x signal.width) (map (value_change_of 0) l))
-      (sym (filter_all (enumerate_from 0 signals)))
-      ∙ own_value_change signal.width k t 0 (λ p. true) signals k 0 d (all_x signal.width) (omega arith) inside
-      (omega arith)
-      ∙ whole 0
+      let here = own_value_change signal.width k t 0 (λ p. true) signals k 0 d (all_x signal.width) (omega arith) inside
+      (omega arith) in
+      grind (arith, here, filter_all, whole)
 
   -- at each tick up to the end the value changes give the value
   pub latest_is : (end : ℕ) → t ≤ end

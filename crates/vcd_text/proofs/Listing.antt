@@ -1,6 +1,5 @@
 -- The transitions of a window are listed signal by signal.
 use Rattle.std.proofs.Common.{◌≡◌, ◌<◌, ◌≤◌, ◌+◌, ℕ, List, ◌++◌, length, map, drop, get_or, refl}
-use Rattle.std.proofs.Common.{ap}
 use Rattle.std.proofs.Common.{append_assoc, arith}
 use Rattle.std.specs.List.{filter}
 use Rattle.std.proofs.lemmas.List.{append-nil, drop_all, drop_more, get_or-map, length-append}
@@ -32,17 +31,9 @@ pub longer_than : (from to k : ℕ) (signals : List Signal) (s : Signal) (out wh
     → out ++ unsorted_window from to k (map signal_contents (drop k signals)) ≡ whole
     → length out + length (filter (λ (c : Change). is_in_window from to c.tick) s.wave.changes) ≤ length whole
 longer_than from to k signals s out whole within at all =
-    let rest = unsorted_window from to (k + 1) (map signal_contents (drop (k + 1) signals)) in
     let grown = one_listed from to k signals s out (out ++ window_of_signal from to k s.wave.changes) whole within at
     refl all in
-    omega (
-      arith,
-      ap (length {A = Transition}) grown,
-      length-append (out ++ window_of_signal from to k s.wave.changes) rest,
-      length-append out (window_of_signal from to k s.wave.changes),
-      length-map (filter (λ (c : Change). is_in_window from to c.tick) s.wave.changes)
-          (λ (c : Change). transition_of c.tick k),
-    )
+    grind (arith, grown, length-append, length-map)
 
 -- the value of a transition is that in the wave of its signal
 pub value_there : (signals : List Signal) (s : Signal) (k t : ℕ) → k < length signals → s ≡ get_or signals k s

@@ -1,9 +1,8 @@
 -- The short form of a value: a letter at the front is left out if the extension restores it.
 use Rattle.std.proofs.Common.{◌≡◌, ℕ, zero, suc, ◌+◌, ◌-◌, ◌<◌, ◌≤◌, Bool, true, false, cond, ◌&&◌}
 use Rattle.std.proofs.Common.{List, [], ◌∷◌, ◌++◌}
-use Rattle.std.proofs.Common.{length, drop, get_or, refl, sym, ap, ◌∙◌, arith, Some, None, inl, inr}
+use Rattle.std.proofs.Common.{length, drop, get_or, refl, sym, ap, ◌∙◌, arith, Some, None}
 use Rattle.std.specs.Prelude.{find, unwrap_or}
-use Rattle.std.specs.Option.{option_or}
 use Rattle.std.proofs.lemmas.Bool.{cases_lt}
 use Rattle.std.proofs.lemmas.List.{drop_all, drop_more}
 use Rattle.std.proofs.lemmas.List.Folds.{find-append}
@@ -61,18 +60,10 @@ found : (b : Bit) (s : List Bit) → find (fits (b ∷ s)) (suffixes (b ∷ s)) 
 unfolding shortened
 found b [] = ap (λ r. cond r (Some (b ∷ [])) None) (fits_itself b [])
 found a (b ∷ s) =
-    find-append (fits (a ∷ b ∷ s)) (suffixes (b ∷ s)) ((a ∷ b ∷ s) ∷ [])
-    ∙ ap (λ o. option_or o (cond (fits (a ∷ b ∷ s) (a ∷ b ∷ s)) (Some (a ∷ b ∷ s)) None))
-    (find_more a b s (suffixes (b ∷ s)) (no_suffix_longer (b ∷ s))
-    ∙ ap (λ o. cond (same_letter (pad_letter (b ∷ [])) a) o None) (found b s))
-    ∙ ap (λ r. option_or (cond (same_letter (pad_letter (b ∷ [])) a) (Some (shortened (b ∷ s))) None)
-    (cond r (Some (a ∷ b ∷ s)) None)) (fits_itself a (b ∷ s))
-    ∙ by (same_letter (pad_letter (b ∷ [])) a)
-  where
-    by : (r : Bool) → option_or (cond r (Some (shortened (b ∷ s))) None) (Some (a ∷ b ∷ s))
-        ≡ Some (cond r (shortened (b ∷ s)) (a ∷ b ∷ s))
-    by true = refl
-    by false = refl
+    let more = find_more a b s (suffixes (b ∷ s)) (no_suffix_longer (b ∷ s)) in
+    let rest = found b s in
+    let itself = fits_itself a (b ∷ s) in
+    grind (arith, find-append, more, rest, itself)
 
 -- the short form leaves out the redundant letters at the front, and no more
 pub short_is : (v : List Bit) → short_form v ≡ shortened v
@@ -138,14 +129,8 @@ pub more_redundant : (v : List Bit) (from : ℕ) (word : LetterBlock) (left len 
     → ((i : ℕ) → left ≤ i + 1 → i + 1 < length v → is_redundant_in v i ≡ true)
     → (i : ℕ) → rest ≤ i + 1 → i + 1 < length v → is_redundant_in v i ≡ true
 more_redundant v from word left len rest holds some near is at above i past within =
-    elim (cases_lt (i + 1) left) [
-      | inl inside ↦
-          let j : ℕ = i - from in
-          let place : from + j ≡ i = omega (arith, is.least) in
-          ap (is_redundant_in v) (sym place) ∙ sym (redundant_held v from word j holds (omega (arith, is.least))
-          (omega (arith, is.least))) ∙ is.redundant j (omega (arith, is.least)) (omega (arith, is.least))
-      | inr outside ↦ above i outside within
-    ]
+    let place : from + (i - from) ≡ i = omega (arith, is.least) in
+    grind (arith, place, cases_lt, redundant_held)
 
 -- the first of its letters that stays
 pub first_needed : (v : List Bit) (from : ℕ) (word : LetterBlock) (count len rest : ℕ) → HoldsLetters Zero v from word
@@ -153,9 +138,7 @@ pub first_needed : (v : List Bit) (from : ℕ) (word : LetterBlock) (count len r
     → is_redundant_in v (rest - 2) ≡ false
 first_needed v from word count len rest holds near within is at more =
     let place : from + (len - 2) ≡ rest - 2 = omega (arith, more) in
-    ap (is_redundant_in v) (sym place)
-    ∙ sym (redundant_held v from word (len - 2) holds (omega (arith, is.most)) (omega (arith, is.most)))
-    ∙ is.needed more
+    grind (arith, place, redundant_held)
 
 -- the state after a test of two letters
 pub state_at : (v : List Bit) (k : ℕ) (letter next : Bit) (r b : Bool) → 1 ≤ k → letter ≡ letter_at v k

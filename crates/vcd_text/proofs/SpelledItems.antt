@@ -21,7 +21,7 @@ use Rattle.vcd_core.specs.Sound.{IsSound}
 use Rattle.vcd_text.specs.Words.{words_of}
 use Rattle.std.specs.Char.{is_ascii_digit}
 use Rattle.vcd_text.specs.Letters.{printed_letters, short_form}
-use Rattle.vcd_text.specs.Items.{Item, entry, scope, upscope, vector, end_definitions, header_word}
+use Rattle.vcd_text.specs.Items.{Item, scope, upscope, vector, end_definitions}
 use Rattle.vcd_text.specs.Items.{end_word, spellings}
 use Rattle.vcd_text.specs.Grammar.{word_texts}
 use Rattle.vcd_text.specs.Text.{header_items, timescale_items, same_scope, scope_items, code_of}
@@ -113,11 +113,9 @@ header_spelled : (header : List Header) → list_all is_sound_header header ≡ 
     → list_all is_spelled (header_items header) ≡ true
 header_spelled [] sound = refl
 header_spelled (h ∷ hs) sound =
-    let parts : (is_sound_header h ≡ true) × (list_all is_sound_header hs ≡ true) = grind (arith, and_parts) in
-    and_from (is_spelled (entry h.kind h.words)) (list_all is_spelled (header_items hs))
-    (and_from (is_unbroken (header_word h.kind)) (list_all is_unbroken (h.words ++ end_word ∷ []))
-    (grind arith) (with_end_unbroken h.words (words_are_unbroken h.words parts.0)))
-    (header_spelled hs parts.1)
+    let parts = and_parts (is_sound_header h) (list_all is_sound_header hs) sound in
+    let rest = header_spelled hs parts.1 in
+    grind (arith, parts, rest, and_from, with_end_unbroken, words_are_unbroken)
 
 timescale_is_spelled : (t : Option Timescale) → IfSome t (λ t. IsTrue (is_sound_timescale t))
     → list_all is_spelled (timescale_items t) ≡ true
@@ -132,11 +130,9 @@ scopes_spelled : (path : List ScopeName) → list_all is_sound_scope path ≡ tr
     → list_all is_spelled (map (λ s. scope s.kind s.words) path) ≡ true
 scopes_spelled [] sound = refl
 scopes_spelled (s ∷ path) sound =
-    let parts : (is_sound_scope s ≡ true) × (list_all is_sound_scope path ≡ true) = grind (arith, and_parts) in
-    let words : (is_word s.kind ≡ true) × (list_all is_word s.words ≡ true) = grind (arith, and_parts) in
-    and_from (is_spelled (scope s.kind s.words)) (list_all is_spelled (map (λ s. scope s.kind s.words) path))
-    (and_from (is_unbroken s.kind) (list_all is_unbroken (s.words ++ end_word ∷ [])) (word_is_unbroken s.kind words.0)
-    (with_end_unbroken s.words (words_are_unbroken s.words words.1))) (scopes_spelled path parts.1)
+    let parts = and_parts (is_sound_scope s) (list_all is_sound_scope path) sound in
+    let rest = scopes_spelled path parts.1 in
+    grind (arith, parts, rest, and_parts, and_from, word_is_unbroken, with_end_unbroken, words_are_unbroken)
 
 signals_spelled : (end : ℕ) (opened : List ScopeName) (k : ℕ) (signals : List SignalContents)
     → AllByRecursion (IsSoundSignal end) signals → list_all is_spelled (signal_items opened k signals) ≡ true

@@ -68,8 +68,7 @@ values_lead c [] value_changes t all = grind (arith, reaches_same, reaches_none,
 values_lead c (p ∷ ps) value_changes t all =
     subst (λ rs. Reaches (state_at c value_changes t) (value_items t (p ∷ ps)) (state_at c rs t))
     (append_assoc value_changes (value_change_of t p ∷ []) (map (value_change_of t) ps))
-    (reaches_both (state_at c value_changes t) (state_at c (value_changes ++ value_change_of t p ∷ []) t) _
-    (value_item (code_of p.0) (signal_value p.1 t) ∷ []) (value_items t ps)
+    (reaches_both _ _ _ (value_item (code_of p.0) (signal_value p.1 t) ∷ []) (value_items t ps)
     (value_leads c p (All-head (IsPlaced c) p ps all) value_changes t)
     (values_lead c ps (value_changes ++ value_change_of t p ∷ []) t (All-tail (IsPlaced c) p ps all)))
 

@@ -112,13 +112,9 @@ signals_lead h t opened ds end k [] sound few at below = search (arith, reaches_
 signals_lead h t opened ds end k (s ∷ ss) sound few at below =
     let more : List VariableDeclaration = ds ++ declared_as k s ∷ [] in
     let one_more : length more ≡ length ds + 1 = length-append ds (declared_as k s ∷ []) in
-    reaches_both (declaring h t opened ds) (declaring h t s.scopes ds)
-    (declaring h t [] (ds ++ (declared_as k s ∷ declared_of (suc k) ss)))
-    (scope_items opened s.scopes) (variable_item k s ∷ signal_items s.scopes (suc k) ss)
+    reaches_both _ _ _ (scope_items opened s.scopes) (variable_item k s ∷ signal_items s.scopes (suc k) ss)
     (scopes_lead h t opened s.scopes ds sound.0.scopes)
-    (reaches_both (declaring h t s.scopes ds) (declaring h t s.scopes more)
-    (declaring h t [] (ds ++ (declared_as k s ∷ declared_of (suc k) ss)))
-    (variable_item k s ∷ []) (signal_items s.scopes (suc k) ss)
+    (reaches_both _ _ _ (variable_item k s ∷ []) (signal_items s.scopes (suc k) ss)
     (variable_leads h t ds end k s sound.0 (omega arith) at below)
     (reaches_same _ _ _ _ (signals_lead h t s.scopes more end (suc k) ss sound.1 (omega arith) (omega arith)
     (codes_below_more k ds (declared_as k s) below refl))
@@ -133,19 +129,15 @@ declaration_items c = header_items c.header ++ timescale_items c.timescale ++ si
 
 pub declarations_lead : (c : Contents) → IsSound c → Reaches initial_state (declaration_items c) (declared_state c)
 declarations_lead c sound =
-    let header : ParseState = declaring c.header None [] [] in
-    let timed : ParseState = declaring c.header c.timescale [] [] in
-    let declared : ParseState = declaring c.header c.timescale [] (declared_of 0 c.signals) in
     let few : length c.signals ≤ SIGNAL_LIMIT = sound.few in
-    reaches_both initial_state declared (declared_state c) (header_items c.header ++ timescale_items c.timescale
-    ++ signal_items [] 0 c.signals) (end_definitions ∷ [])
-    (reaches_both initial_state timed declared (header_items c.header ++ timescale_items c.timescale)
-    (signal_items [] 0 c.signals)
-    (reaches_both initial_state header timed (header_items c.header) (timescale_items c.timescale)
+    let front : List Item = header_items c.header ++ timescale_items c.timescale in
+    reaches_both _ _ _ (front ++ signal_items [] 0 c.signals) (end_definitions ∷ [])
+    (reaches_both _ _ _ front (signal_items [] 0 c.signals)
+    (reaches_both _ _ _ (header_items c.header) (timescale_items c.timescale)
     (header_leads [] c.header sound.header) (timescale_leads c.header c.timescale sound.timescale))
     (signals_lead c.header c.timescale [] [] c.end 0 c.signals
     (recursion_from_All (IsSoundSignal c.end) c.signals sound.signals) (omega arith) refl (λ j from. refl)))
-    (reaches_one declared (declared_state c) end_definitions refl refl)
+    (reaches_one _ (declared_state c) end_definitions refl refl)
 
 -- the declarations, and the items after them
 pub items_in_two : (c : Contents) → items_of c ≡ declaration_items c

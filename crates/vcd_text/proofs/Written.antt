@@ -168,12 +168,6 @@ appends_kept (Some xs) None later text took kept = absurd took
 appends_kept (Some xs) (Some ys) None text took kept = absurd kept
 appends_kept (Some xs) (Some ys) (Some zs) text took kept = kept ∙ took
 
--- the text is the same after the buffer was sent
-pub nothing_more : {W : Type 0} {sink : sinks.Ghosts W} {old new : Output W} (before : Option (List ℕ))
-    (text : List ℕ) → Emits sink old new [] → HasEmitted sink before old text → HasEmitted sink before new text
-nothing_more {sink = sink} {new = new} before text writes stands =
-    subst (HasEmitted sink before new) (append-nil text) (writes.appends before text stands)
-
 -- after the buffer was sent and the writer flushed, the writer took the whole text
 pub flushed_whole : {W T : Type 0} {sink : sinks.Ghosts W} {before : Option (List ℕ)} {output : Output W}
     {text : List ℕ} (later : W) (r : Result T WriteError) → HasEmitted sink before output text

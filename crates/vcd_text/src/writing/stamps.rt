@@ -1,6 +1,6 @@
 //! The values at tick 0, and the stamps of ticks (IEEE 1364-2005, 18.2).
 
-ghost use Rattle.std.specs.Prelude.{◌≡◌, ◌≤◌, ◌∷◌, [], length, map};
+ghost use Rattle.std.specs.Prelude.{◌≡◌, ◌≤◌, length, map};
 ghost use Rattle.std.specs.List.{enumerate_from, flat_map};
 ghost use Rattle.vcd_core.specs.CaptureContents.{signal_contents};
 ghost use Rattle.vcd_core.specs.declared.capture.TheConstants.{SIGNAL_LIMIT};
@@ -48,7 +48,7 @@ pub fn write_new_stamp<W: Sink>(output: &mut Output<W>, last: u64, tick: u64)
 
 /// Writes the line of a stamp.
 fn write_stamp<W: Sink>(output: &mut Output<W>, tick: u64)
-    ensures { Emits W.Sink output.old output.new (flat_map item_line (stamp_of tick ∷ [])) }
+    ensures { Emits W.Sink output.old output.new (item_line (stamp_of tick)) }
 {
     write_byte(output, b'#');
     write_bytes(output, Buffer::new().format(tick).as_bytes());

@@ -1,6 +1,6 @@
 //! The changes after tick 0, window by window (IEEE 1364-2005, 18.2).
 
-ghost use Rattle.std.specs.Prelude.{◌≡◌, ◌≤◌, length, map, All};
+ghost use Rattle.std.specs.Prelude.{◌≡◌, ◌<◌, ◌≤◌, ◌%◌, length, map, All};
 ghost use Rattle.std.specs.List.{flat_map};
 ghost use Rattle.vcd_core.specs.CaptureContents.{signal_contents};
 ghost use Rattle.vcd_core.specs.declared.capture.TheConstants.{END_LIMIT, SIGNAL_LIMIT};
@@ -113,27 +113,19 @@ fn write_keys<W: Sink>(
 /// to overlap.
 const PREFETCH_COUNT: usize = 32;
 
-/// Reads the changes of the next `PREFETCH_COUNT` keys, if the place is a multiple of that number.
+/// Reads the changes of the next `PREFETCH_COUNT` keys, if the place is a multiple of that number,
+/// so that they are in the cache when they are written. Nothing waits for what it reads.
 fn prefetch_changes(signals: &[Signal], start_places: &mut [Cursor], keys: &[u64], place: usize)
+    requires keys { All (λ key. key % POSITIONS < length signals.now) keys.now }
+    requires start_places { length start_places.old ≡ length signals.now }
     ensures { length start_places.new ≡ length start_places.old }
 {
     if place % PREFETCH_COUNT != 0 {
         return;
     }
     for k in place..keys.len().min(place.saturating_add(PREFETCH_COUNT)) {
-        prefetch_change(signals, start_places, keys[k]);
+        let position = (keys[k] % POSITIONS) as usize;
+        let changes = signals[position].wave.changes();
+        start_places[position].tick = tick_at_place(changes, start_places[position].place);
     }
-}
-
-/// Looks at the change of a key, so that it is in the cache when it is written. Nothing waits for
-/// what it reads.
-fn prefetch_change(signals: &[Signal], start_places: &mut [Cursor], key: u64)
-    ensures { length start_places.new ≡ length start_places.old }
-{
-    let position = (key % POSITIONS) as usize;
-    if position >= start_places.len() || position >= signals.len() {
-        return;
-    }
-    let changes = signals[position].wave.changes();
-    start_places[position].tick = tick_at_place(changes, start_places[position].place);
 }

@@ -4,6 +4,7 @@ use Rattle.std.specs.Prelude.{OnOk, IfErr}
 use Rattle.std.specs.Io.KnownBytes.{Appends}
 use Rattle.vcd_text.specs.WriteEnds.{TookBefore}
 use Rattle.std.specs.List.{flat_map}
+use Rattle.std.proofs.lemmas.List.{append-nil}
 use Rattle.vcd_core.specs.declared.capture.Signal.{Signal}
 use Rattle.vcd_core.specs.Contents.{Contents}
 use Rattle.vcd_core.specs.CaptureContents.{contents, signal_contents}
@@ -13,24 +14,24 @@ use Rattle.vcd_text.specs.Text.{first_items, item_line, text, tick_items}
 use Rattle.vcd_text.specs.inside.TextParts.{declarations_text}
 use Rattle.vcd_text.specs.inside.Written.{HasEmitted, Emits}
 use Rattle.vcd_text.proofs.Texts.{whole_text}
-use Rattle.vcd_text.proofs.Written.{failed_front, flushed_whole, nothing_more, whole_written, writes_as, writes_both}
+use Rattle.vcd_text.proofs.Written.{failed_front, flushed_whole, whole_written, writes_as, writes_both}
 use Rattle.vcd_text.proofs.writing.write.Goals as goal
 
 -- the whole text is written
-all_written : {W : Type 0} {sink : sinks.Ghosts W} {o0 o1 o2 o3 : Output W} (c : Contents) (signals : List Signal)
+all_written : {W : Type 0} {sink : sinks.Ghosts W} {o0 o1 o2 o3 o4 : Output W} (c : Contents) (signals : List Signal)
     (end : ℕ) → map signal_contents signals ≡ c.signals → end ≡ c.end → o0.unsent.items ≡ [] → o0.start ≡ 0
     → Emits sink o0 o1 (declarations_text c)
     → Emits sink o1 o2 (flat_map item_line (first_items (map signal_contents signals)))
     → Emits sink o2 o3 (flat_map item_line (tick_items (map signal_contents signals) end 1 end))
-    → HasEmitted sink (sink.taken o0.writer.now) o3 (text c)
-all_written c signals end same at empty none declarations first later =
+    → Emits sink o3 o4 [] → HasEmitted sink (sink.taken o0.writer.now) o4 (text c)
+all_written c signals end same at empty none declarations first later sent =
     whole_written empty none
-    (writes_as (ap (λ ss. declarations_text c ++ (flat_map item_line (first_items ss)
+    (writes_as (append-nil _ ∙ ap (λ ss. declarations_text c ++ (flat_map item_line (first_items ss)
     ++ flat_map item_line (tick_items ss end 1 end))) same
     ∙ ap (λ e. declarations_text c ++ (flat_map item_line (first_items c.signals)
     ++ flat_map item_line (tick_items c.signals e 1 e))) at
     ∙ whole_text c)
-    (writes_both declarations (writes_both first later)))
+    (writes_both (writes_both declarations (writes_both first later)) sent))
 
 pub returns-clause-written : goal.returns-clause-written
 returns-clause-written g c =
@@ -38,10 +39,10 @@ returns-clause-written g c =
     subst (λ w. OnOk c.flush.result (Appends (g.W.Sink.taken c.args.writer.now) (g.W.Sink.taken w)
     (text (contents c.args.capture.now)))) same
     (flushed_whole c.flush.new.writer c.flush.result
-    (nothing_more _ _ c.send_buffer.ensures.written (all_written (contents c.args.capture.now)
+    (all_written (contents c.args.capture.now)
     c.signals-signals.result.now c.end-end.result (ap (map signal_contents) c.signals-signals.ensures) c.end-end.ensures
     c.in_ok-unsent.ensures.empty refl c.write_declarations.ensures c.write_first_values.ensures
-    c.write_transitions.ensures))
+    c.write_transitions.ensures c.send_buffer.ensures.written)
     c.send_buffer.ensures.empty c.flush.ensures.kept c.flush.ensures.was_ready)
 
 pub returns-clause-failed : goal.returns-clause-failed
@@ -50,8 +51,8 @@ returns-clause-failed g c =
     subst (λ w. IfErr c.flush.result (TookBefore (text (contents c.args.capture.now)) (g.W.Sink.taken c.args.writer.now)
     (g.W.Sink.taken w) (g.W.Sink.has_failed w))) same
     (failed_front c.flush.new.writer c.flush.result
-    (nothing_more _ _ c.send_buffer.ensures.written (all_written (contents c.args.capture.now)
+    (all_written (contents c.args.capture.now)
     c.signals-signals.result.now c.end-end.result (ap (map signal_contents) c.signals-signals.ensures) c.end-end.ensures
     c.in_ok-unsent.ensures.empty refl c.write_declarations.ensures c.write_first_values.ensures
-    c.write_transitions.ensures))
+    c.write_transitions.ensures c.send_buffer.ensures.written)
     c.flush.ensures.kept c.flush.ensures.fault c.flush.ensures.failed)

@@ -17,12 +17,7 @@ one_more : (p : ℕ) (signals : List Signal) (cursors : List Cursor) (there : Si
     → IsNext 1 1 (get_or signals k s).wave.changes (get_or (cursors ++ next ∷ []) k n)
 one_more p signals cursors there next inside all is holds before k s n less =
     elim (cases_eq k p) [
-      | inl at ↦
-          let signal : there ≡ get_or signals k s = is ∙ get_or_default signals p there s inside
-          ∙ ap (λ i. get_or signals i s) (sym at) in
-          subst (λ (x : Cursor). IsNext 1 1 (get_or signals k s).wave.changes x)
-          (sym (get_or_push cursors next n k (all ∙ sym at)))
-          (subst (λ (x : Signal). IsNext 1 1 x.wave.changes next) signal holds)
+      | inl at ↦ (grind (arith, get_or_default, get_or_push))
       | inr apart ↦
           subst (λ (x : Cursor). IsNext 1 1 (get_or signals k s).wave.changes x)
           (sym (get_or_append_left cursors (next ∷ []) n k (omega (arith, all)))) (before k s n (omega arith))

@@ -12,6 +12,9 @@ use Rattle.vcd_text.proofs.writing.transitions.write_keys.Goals as goal
 pub loop-k-init : goal.loop-k-init
 loop-k-init g c = record { text = front_begun refl; last = refl; start_places = refl }
 
+pub prefetch_changes-requires-clause-keys : goal.prefetch_changes-requires-clause-keys
+prefetch_changes-requires-clause-keys g c = λ k d inside. (c.requires.keys k d inside).position
+
 pub overflow_add-tick : goal.overflow_add-tick
 overflow_add-tick g c = omega (arith, (c.requires.keys c.loop-k.k 0 (omega arith)).tick)
 
