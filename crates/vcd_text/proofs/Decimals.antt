@@ -8,13 +8,13 @@ use Rattle.std.specs.Char.{is_ascii_digit}
 use Rattle.vcd_core.specs.Decimal.{is_number, number_of}
 use Rattle.std.proofs.lemmas.Bool.{and_parts}
 
-abbrev AreDigits : List ℕ → Type 0
+abbrev pub AreDigits : List ℕ → Type 0
 AreDigits text = list_all is_ascii_digit text ≡ true
 
 tells_digits : IsDigitsTest AreDigits
 tells_digits = grind (arith, and_parts, leb-true, le-leb)
 
-reads_decimals : IsNumeralModel AreDigits number_of
+pub reads_decimals : IsNumeralModel AreDigits number_of
 reads_decimals = numerals_by_value AreDigits tells_digits
 
 pub decimal_not_empty : (n : ℕ) → n < 2 ^ 64 → 0 < length (decimal n)
