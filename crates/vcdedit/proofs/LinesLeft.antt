@@ -1,5 +1,5 @@
 -- A run of lines, seen from a line in it.
-use Rattle.std.proofs.Common.{◌≡◌, ℕ, ◌+◌, cond, List, [], ◌∷◌, ◌++◌, Option, length, refl, sym}
+use Rattle.std.proofs.Common.{◌≡◌, ℕ, ◌+◌, Bool, cond, List, [], ◌∷◌, ◌++◌, Option, length, refl, sym}
 use Rattle.std.proofs.Common.{subst, ◌∙◌, ap}
 use Rattle.std.proofs.Common.{append_assoc, arith, add_assoc}
 use Rattle.std.specs.List.{concat}
@@ -13,7 +13,9 @@ use Rattle.vcdedit.specs.inside.RunMachines.{machine_after_lines}
 use Rattle.vcdedit.specs.inside.RunMachines.{refusal_count}
 use Rattle.vcdedit.specs.inside.RunMachines.{line_replies}
 use Rattle.vcdedit.specs.Script.{script_lines}
-use Rattle.vcdedit.specs.inside.RunLines.{RunsLine, RunsLines}
+use Rattle.vcdedit.specs.declared.replies.reply.Reply.{Reply}
+use Rattle.vcdedit.specs.inside.Answering.{AnswersLine}
+use Rattle.vcdedit.specs.inside.RunLines.{RunsLines}
 
 -- after so many lines these are left on this machine; the replies so far are written, and so many
 -- lines refused
@@ -73,14 +75,17 @@ concat_more : (texts : List (List ℕ)) (text : List ℕ) → concat (texts ++ t
 concat_more texts text = concat-append texts (text ∷ []) ∙ ap (λ l. concat texts ++ l) (append-nil text)
 
 pub reply_more : (skipped : ℕ) (lines : List (List ℕ)) (old : Machine) (number : ℕ) (line : List ℕ)
-    (all left : List (List ℕ)) (now new : Machine) (refused more bytes written : ℕ)
+    (all left : List (List ℕ)) (now new : Machine) (reply : Reply) (refused more bytes written : ℕ)
     (before between after : Option (List ℕ)) →
     all ≡ line ∷ left → RepliesSoFar skipped lines old number all now refused bytes before between
-    → RunsLine skipped (number + 1) line now new more written between after →
+    → AnswersLine skipped (number + 1) line now new reply → Appends between after reply.text.items
+    → more ≡ cond reply.is_refused 1 0 → written ≡ length reply.text.items →
     RepliesSoFar skipped lines old (number + 1) left new (refused + more) (bytes + written) before after
-reply_more skipped lines old number line all left now new refused more bytes written before between after parts so
-    tells =
+reply_more skipped lines old number line all left now new reply refused more bytes written before between after parts so
+    answers took counted len_is =
     let text : List ℕ = replied_to skipped (number + 1) line now in
+    let is : reply.text.items ≡ text = answers.1.0 in
+    let one : more ≡ refused_at skipped line now = counted ∙ ap (λ (b : Bool). cond b 1 0) answers.1.1 in
     let joined : concat (so.texts ++ text ∷ []) ≡ concat so.texts ++ text = concat_more so.texts text in
     let len : length (concat (so.texts ++ text ∷ [])) ≡ length (concat so.texts) + length text = ap length joined
     ∙ length-append (concat so.texts) text in
@@ -88,11 +93,11 @@ reply_more skipped lines old number line all left now new refused more bytes wri
     record {
       texts = so.texts ++ text ∷ [];
       one_each = one_more ∙ ap (λ n. n + 1) so.one_each;
-      counted = omega (arith, len, so.counted, tells.3);
+      counted = omega (arith, len, so.counted, len_is, ap (λ (l : List ℕ). length l) is);
       took = subst (Appends before after) (sym joined)
-          (Appends-trans before between after (concat so.texts) text so.took tells.2);
-      are_left = rw (tells.1)
-          (line_more skipped lines old number line left now new so.texts refused (rw parts at so.are_left) tells.0);
+          (Appends-trans before between after (concat so.texts) text so.took (subst (Appends between after) is took));
+      are_left = rw one
+          (line_more skipped lines old number line left now new so.texts refused (rw parts at so.are_left) answers.0);
     }
 
 -- no line is left

@@ -1,25 +1,15 @@
 -- The effect of a run of lines on a history and on the writer of the replies.
-use Rattle.std.specs.Prelude.{◌≡◌, ◌≤◌, ℕ, ◌+◌, ◌-◌, if◌then◌else◌, Bool, true, false, List, length}
+use Rattle.std.specs.Prelude.{◌≡◌, ◌≤◌, ℕ, ◌+◌, ◌-◌, Bool, true, false, List, length}
 use Rattle.std.specs.Prelude.{take, Option}
 use Rattle.std.specs.List.{concat}
 use Rattle.std.specs.Io.KnownBytes.{Appends, Keeps}
 use Rattle.vcd_journal.specs.Machine.{Machine}
 use Rattle.vcdedit.specs.declared.running.run_error.RunError.{RunError}
 use Rattle.vcdedit.specs.declared.running.run_error.RunError.TheVariants as run_errors
-use Rattle.vcdedit.specs.inside.RunMachines.{reply_on, is_refused_on, machine_after_line}
+use Rattle.vcdedit.specs.inside.RunMachines.{reply_on}
 use Rattle.vcdedit.specs.inside.RunMachines.{machine_after_lines}
 use Rattle.vcdedit.specs.inside.RunMachines.{refusal_count}
 use Rattle.vcdedit.specs.inside.RunMachines.{line_replies}
-
--- the line of this number changes one machine into the other; its reply of `written` bytes is
--- written, and `refused` lines are refused
-abbrev pub RunsLine : (skipped number : ℕ) → List ℕ → Machine → Machine → (refused written : ℕ)
-    → (before after : Option (List ℕ)) → Type 0
-RunsLine skipped number line old new refused written before after =
-    (machine_after_line old line ≡ new)
-    × (refused ≡ (if is_refused_on skipped line old then 1 else 0))
-    × Appends before after (reply_on skipped number line old)
-    × (written ≡ length (reply_on skipped number line old))
 
 -- the lines change one machine into the other; these are their replies, and `count` are refused
 pub record LinesGive (skipped : ℕ) (lines : List (List ℕ)) (old new : Machine)

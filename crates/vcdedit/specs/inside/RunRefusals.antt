@@ -9,12 +9,12 @@ use Rattle.vcdedit.specs.declared.running.run_on_bytes.RunRefusal.TheVariants.{C
 use Rattle.vcdedit.specs.declared.running.run_on_bytes.RunRefusal.TheVariants.{ScriptTooLarge}
 use Rattle.vcdedit.specs.declared.running.run_on_bytes.RunRefusal.TheVariants.{NoMemory}
 
--- the refusal for an error, with the replies that were written, or none if they may be cut
+-- the refusal for an error, with the replies that were written, or `empty` if they may be cut
 -- anywhere; a device in memory fails for memory alone
-abbrev pub run_refusal : RunError → (replies none : Vec ℕ) → RunRefusal
-run_refusal (run_errors.Capture e) replies none = if is_no_memory e.fault then NoMemory 0 none
+abbrev pub run_refusal : RunError → (replies empty : Vec ℕ) → RunRefusal
+run_refusal (run_errors.Capture e) replies empty = if is_no_memory e.fault then NoMemory 0 empty
     else Capture e
-run_refusal run_errors.ScriptTooLarge replies none = ScriptTooLarge
-run_refusal (run_errors.NoMemory line) replies none = NoMemory line replies
-run_refusal (run_errors.Write e) replies none = NoMemory 0 replies
-run_refusal e replies none = NoMemory 0 none
+run_refusal run_errors.ScriptTooLarge replies empty = ScriptTooLarge
+run_refusal (run_errors.NoMemory line) replies empty = NoMemory line replies
+run_refusal (run_errors.Write e) replies empty = NoMemory 0 replies
+run_refusal e replies empty = NoMemory 0 empty

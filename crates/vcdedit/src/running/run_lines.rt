@@ -3,10 +3,11 @@
 ghost use Rattle.std.specs.Prelude.{◌≡◌, ◌≤◌, ◌<◌, ◌^◌, ℕ, false, true, length, IfOk, IfErr, OnOk};
 ghost use Rattle.std.specs.Io.KnownBytes.{Appends, Keeps};
 ghost use Rattle.vcdedit.specs.Script.{script_lines};
-ghost use Rattle.vcdedit.specs.inside.RunLines.{HasFailedAt, RunsLine, RunsLines, EndsAtLine};
+ghost use Rattle.vcdedit.specs.inside.Answering.{AnswersLine};
+ghost use Rattle.vcdedit.specs.inside.RunLines.{HasFailedAt, RunsLines, EndsAtLine};
 ghost use Rattle.vcdedit.specs.inside.RunLines.{StopsAtReply, StopsAtLine, StopsInLines};
 
-use crate::replies::answer_line;
+use crate::replies::{Reply, answer_line};
 use crate::running::RunError;
 use crate::script::split_line;
 use std::alloc::Global;
@@ -45,9 +46,9 @@ pub fn run_lines<P: Sink>(
     let mut written = 0u128;
     while let Some((line, following)) = split_line(rest) {
         number += 1;
-        let (refusals, len) = run_line(alloc, session, skipped, number, line, replies, written)?;
-        refused += refusals;
-        written += len as u128;
+        let reply = run_line(alloc, session, skipped, number, line, replies, written)?;
+        refused += u64::from(reply.is_refused);
+        written += reply.text.len() as u128;
         rest = following;
     }
     match replies.flush() {
@@ -57,7 +58,7 @@ pub fn run_lines<P: Sink>(
 }
 
 /// Runs the line of this number, and writes its reply after the `written_before` bytes of those
-/// before.
+/// before. Gives the reply.
 fn run_line<P: Sink>(
     alloc: Global,
     session: &mut Session,
@@ -66,15 +67,14 @@ fn run_line<P: Sink>(
     line: &[u8],
     replies: &mut P,
     written_before: u128,
-) -> Result<(u64, usize), RunError>
+) -> Result<Reply, RunError>
     requires ready { P.has_failed replies.old ≡ false }
     requires counted { 1 ≤ number }
     requires count_fits { written_before < 2 ^ 127 }
-    ensures ran { IfOk result (λ outcome.
-        RunsLine skipped number line.now session.old session.new outcome.0 outcome.1
-        (P.taken replies.old) (P.taken replies.new)) }
-    ensures at_most_one { IfOk result (λ outcome. outcome.0 ≤ 1) }
-    ensures short { IfOk result (λ outcome. outcome.1 < 2 ^ 64) }
+    ensures answers { IfOk result (λ reply.
+        AnswersLine skipped number line.now session.old session.new reply) }
+    ensures written { IfOk result (λ reply.
+        Appends (P.taken replies.old) (P.taken replies.new) reply.text.items) }
     ensures not_failed { OnOk result (P.has_failed replies.new ≡ false) }
     ensures fault { IfErr result EndsAtLine }
     ensures failed { IfErr result (HasFailedAt (P.has_failed replies.new)
@@ -85,7 +85,7 @@ fn run_line<P: Sink>(
     match answer_line(alloc, session, skipped, number, line) {
         Ok(reply) => {
             write_reply(reply.text.as_slice(), replies, written_before)?;
-            Ok((u64::from(reply.is_refused), reply.text.len()))
+            Ok(reply)
         }
         Err(_) => {
             flush_last(replies);

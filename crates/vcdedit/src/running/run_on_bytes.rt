@@ -76,18 +76,18 @@ pub fn run_on_bytes(
 }
 
 /// Why a run over bytes did not reach its end, by the error of the run and the replies that were
-/// written. `none` is for replies that may be cut anywhere.
-fn refusal_of(error: RunError, replies: Vec<u8>, none: Vec<u8>) -> RunRefusal
-    ensures { result ≡ run_refusal error replies none }
+/// written. `empty` is for replies that may be cut anywhere.
+fn refusal_of(error: RunError, replies: Vec<u8>, empty: Vec<u8>) -> RunRefusal
+    ensures { result ≡ run_refusal error replies empty }
 {
     match error {
-        RunError::Capture(refused) => refused_capture(refused, none),
+        RunError::Capture(refused) => refused_capture(refused, empty),
         RunError::ScriptTooLarge => RunRefusal::ScriptTooLarge,
         RunError::NoMemory { line } => RunRefusal::NoMemory { line, replies },
         RunError::Write(_) => RunRefusal::NoMemory { line: 0, replies },
         _ => RunRefusal::NoMemory {
             line: 0,
-            replies: none,
+            replies: empty,
         },
     }
 }

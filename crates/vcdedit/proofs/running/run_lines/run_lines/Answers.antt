@@ -1,4 +1,4 @@
-use Rattle.std.proofs.Common.{arith}
+use Rattle.std.proofs.Common.{arith, rules}
 use Rattle.std.proofs.KnownBytes.{Appends-kept}
 use Rattle.vcdedit.proofs.RunParts.{at_error}
 use Rattle.vcdedit.specs.Script.{script_lines}
@@ -10,22 +10,23 @@ pub loop-line-preserved : goal.loop-line-preserved
 loop-line-preserved g c = record {
   replied = reply_more c.args.skipped (script_lines c.args.script.now) c.args.session.now c.loop-line.number
       c.in-Some.line.now (script_lines c.loop-line.rest.now) (script_lines c.in-Some.following.now)
-      c.loop-line.session c.run_line.new.session c.loop-line.refused c.in_ok-refusals.refusals c.loop-line.written
-      c.in_ok-refusals.len _ _ _
-      c.in-Some.ensures.0 c.loop-line.invariant.replied c.in_ok-refusals.ensures.ran;
-  ready = c.in_ok-refusals.ensures.not_failed;
+      c.loop-line.session c.run_line.new.session c.in_ok-reply.reply c.loop-line.refused c.from-refused.result
+      c.loop-line.written c.len.result _ _ _
+      c.in-Some.ensures.0 c.loop-line.invariant.replied c.in_ok-reply.ensures.answers c.in_ok-reply.ensures.written
+      (search rules) (search rules);
+  ready = c.in_ok-reply.ensures.not_failed;
   number = omega (arith, c.in-Some.ensures.1);
-  refused = omega (arith, c.in_ok-refusals.ensures.at_most_one);
-  written = omega (arith, c.in_ok-refusals.ensures.short);
+  refused = search rules;
+  written = search rules;
 }
 
-pub returns-in_err-refusals-clause-stopped : goal.returns-in_err-refusals-clause-stopped
-returns-in_err-refusals-clause-stopped g c =
-    at_error c.from_residual.result c.in_err-refusals.field-0.0 _ c.from_residual.ensures.1
+pub returns-in_err-reply-clause-stopped : goal.returns-in_err-reply-clause-stopped
+returns-in_err-reply-clause-stopped g c =
+    at_error c.from_residual.result c.in_err-reply.field-0.0 _ c.from_residual.ensures.1
     (line_stops c.args.skipped (script_lines c.args.script.now) c.args.session.now c.loop-line.number c.in-Some.line.now
     (script_lines c.loop-line.rest.now) (script_lines c.in-Some.following.now)
-    c.loop-line.session c.loop-line.refused c.loop-line.written _ _ _ c.in_err-refusals.field-0.0 c.in-Some.ensures.0
-    c.loop-line.invariant.replied c.in_err-refusals.ensures.stopped)
+    c.loop-line.session c.loop-line.refused c.loop-line.written _ _ _ c.in_err-reply.field-0.0 c.in-Some.ensures.0
+    c.loop-line.invariant.replied c.in_err-reply.ensures.stopped)
 
 pub returns-in-Ok-clause-ran : goal.returns-in-Ok-clause-ran
 returns-in-Ok-clause-ran g c =
