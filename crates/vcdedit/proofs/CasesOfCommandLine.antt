@@ -3,11 +3,10 @@ use Rattle.std.proofs.Common.{◌≡◌, List, [], ◌∷◌, Some, None, refl, 
 use Rattle.clap.specs.Words.{Text, fault_of, takes}
 use Rattle.clap.specs.declared.error.kind.ErrorKind.TheVariants as kinds
 use Rattle.clap.proofs.OnLiterals.{clap_on_literals}
-use Rattle.vcdedit.specs.declared.shell.command_line.TheConstants.{DEFAULT_DEPTH}
 use Rattle.vcdedit.specs.CommandLine.{asked_options, option_app}
 
 -- no words: standard input, no output, and the default depth
-nothing_named : asked_options [] ≡ record { input = None; script = None; output = None; depth = DEFAULT_DEPTH }
+nothing_named : asked_options [] ≡ record { input = None; script = None; output = None; depth = 100 }
 unfolding clap_on_literals
 nothing_named = refl
 
@@ -20,7 +19,7 @@ each_path : asked_options files ≡ record {
   script = Some (codes "edits");
   output =
       Some (codes "b.vcd");
-  depth = DEFAULT_DEPTH;
+  depth = 100;
 }
 unfolding clap_on_literals
 each_path = refl
@@ -39,7 +38,7 @@ dash : asked_options (codes "-i" ∷ codes "-" ∷ []) ≡ record {
   input = Some (codes "-");
   script = None;
   output = None;
-  depth = DEFAULT_DEPTH;
+  depth = 100;
 }
 unfolding clap_on_literals
 dash = refl

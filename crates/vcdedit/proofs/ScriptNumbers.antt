@@ -109,7 +109,8 @@ parsed_distance {E} (c ∷ digits) p r read is = go (c == 45) refl (c == 43) ref
     forth ds given = by_test (is_number ds && ltb (number_of ds) (2 ^ 63)) _ (pos (number_of ds)) p r given
         (to_number ds _ _ (ltb-true _ _)) (from_number ds _ _ (lt-ltb _ _)) is
 
-    back : (ds : List ℕ) → OkIff p (AreDigits ds × (0 < length ds) × (number_of ds ≤ 2 ^ 63)) (neg_ℤ (pos (number_of ds)))
+    back : (ds : List ℕ)
+        → OkIff p (AreDigits ds × (0 < length ds) × (number_of ds ≤ 2 ^ 63)) (neg_ℤ (pos (number_of ds)))
         → r ≡ distance_back ds
     back ds given = by_test (is_number ds && leb (number_of ds) (2 ^ 63)) _ (neg_ℤ (pos (number_of ds))) p r given
         (to_number ds _ _ (leb-true _ _)) (from_number ds _ _ (le-leb _ _)) is
@@ -118,7 +119,8 @@ parsed_distance {E} (c ∷ digits) p r read is = go (c == 45) refl (c == 43) ref
     go true minus plus is_plus =
         rw minus (back digits (parse_signed_minus reads_decimals w64 (c ∷ digits) p read (eqb-true c 45 minus)))
     go false minus true is_plus =
-        rw (minus, is_plus) (forth digits (parse_signed_plus reads_decimals w64 (c ∷ digits) p read (eqb-true c 43 is_plus)))
+        rw (minus, is_plus) (forth digits
+        (parse_signed_plus reads_decimals w64 (c ∷ digits) p read (eqb-true c 43 is_plus)))
     go false minus false is_plus =
         rw (minus, is_plus) (forth (c ∷ digits) (parse_signed_plain reads_decimals w64 (c ∷ digits) p read
         (not_equal c 43 is_plus) (not_equal c 45 minus)))

@@ -1,13 +1,12 @@
 -- The options of the command line, and what its words ask for. They are the project's own.
-use Rattle.std.specs.Prelude.{ℕ, List, [], ◌∷◌, codes, true, if◌then◌else◌, Option, Some, None}
+use Rattle.std.specs.Prelude.{ℕ, List, [], ◌∷◌, codes, true, Option, Some, unwrap_or}
 use Rattle.std.specs.Option.{option_copied}
 use Rattle.std.specs.Str.Parse.{digits_value, without_leading_plus}
 use Rattle.clap.specs.Words.{App, Rule, Text, first_of, matches_of, new_app, new_rule, one_of}
 use Rattle.clap.specs.Simple.{new_shape}
-use Rattle.clap.specs.ValueTests.{is_unsigned_in}
+use Rattle.clap.specs.declared.builder.action.ArgAction.TheVariants.{Set}
 use Rattle.clap.specs.declared.builder.value_parser.ValueParser.TheVariants as parsers
 use Rattle.vcd_journal.specs.declared.step.TheConstants.{DEPTH_LIMIT}
-use Rattle.vcdedit.specs.declared.shell.command_line.TheConstants.{DEFAULT_DEPTH}
 use Rattle.vcdedit.specs.declared.shell.command_line.Options.{Options}
 
 -- `-i FILE` or `--input-file FILE`, where 105 is the letter `i`
@@ -26,12 +25,14 @@ output_option = record
     (new_rule (codes "output-file"))
     { long = Some (codes "output-file"); short = Some 111; value_names = 1 }
 
--- `--depth N`, a number from 1 to the limit
+-- `--depth N`, a number from 1 to the limit, by default 100
 abbrev pub depth_option : Rule
 depth_option = record
     (new_rule (codes "depth")) {
       long = Some (codes "depth");
+      action = Some Set;
       value_names = 1;
+      defaults = codes "100" ∷ [];
       parser = Some (parsers.Unsigned 1 DEPTH_LIMIT);
     }
 
@@ -45,11 +46,9 @@ option_app = record (new_app (codes "vcdedit")) {
   };
 }
 
--- the depth of a text: its number if that is from 1 to the limit, else the default
+-- the number of the depth's text; accepted words have one, if only the default
 abbrev pub depth_asked : Option Text → ℕ
-depth_asked None = DEFAULT_DEPTH
-depth_asked (Some text) = if is_unsigned_in 1 DEPTH_LIMIT text
-    then digits_value 10 (without_leading_plus text) else DEFAULT_DEPTH
+depth_asked text = digits_value 10 (without_leading_plus (unwrap_or text []))
 
 -- the path of each given option, and the depth
 pub record AskedOptions : Type 0 where

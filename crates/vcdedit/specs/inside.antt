@@ -14,3 +14,4 @@ pub mod RunStages
 pub mod SentReplies
 pub mod ParsedDecoders
 pub mod LineAnswers
+pub mod Matches

@@ -1,20 +1,18 @@
 //! The words of the command line, as `clap` reads them.
 
-ghost use Rattle.std.specs.Prelude.{◌≡◌, ◌≤◌, ℕ, false, codes, List, Some, map, IfOk};
+ghost use Rattle.std.specs.Prelude.{◌≡◌, ◌≤◌, ℕ, false, List, Some, map, IfOk};
 ghost use Rattle.std.specs.String.{string_bytes};
 ghost use Rattle.clap.specs.Words.{FailsBy, app_of, fault_of, found_of, kind_of, matches_of};
-ghost use Rattle.clap.specs.Words.{new_rule, one_text, rows_of, rule_of};
-ghost use Rattle.vcdedit.specs.CommandLine.{asked_options, depth_asked, depth_option, input_option};
-ghost use Rattle.vcdedit.specs.CommandLine.{option_app, options_in, output_option, script_option};
+ghost use Rattle.clap.specs.Words.{new_rule, rows_of, rule_of};
+ghost use Rattle.vcdedit.specs.CommandLine.{asked_options, depth_option, input_option, option_app};
+ghost use Rattle.vcdedit.specs.CommandLine.{options_in, output_option, script_option};
+ghost use Rattle.vcdedit.specs.inside.Matches.{HasDepth};
 
 use clap::builder::ValueParser;
 use clap::error::ErrorKind;
-use clap::{Arg, ArgMatches, Command, Error};
+use clap::{Arg, ArgAction, ArgMatches, Command, Error};
 use std::alloc::{AllocError, Global};
 use vcd_journal::DEPTH_LIMIT;
-
-/// How many edits are held for undo and redo by default.
-pub const DEFAULT_DEPTH: u64 = 100;
 
 const VERSION: &str = "1.0.0";
 
@@ -100,8 +98,9 @@ pub fn parse_words<'a>(alloc: Global, words: &'a [String]) -> Result<Options<'a>
     Ok(options_of(&matches))
 }
 
-/// The options of accepted words.
+/// The options of accepted words, which have a depth in its range.
 fn options_of<'a>(matches: &ArgMatches<'a>) -> Options<'a>
+    requires { HasDepth (found_of matches.now) }
     ensures asked { (words : List (List ℕ)) →
         rows_of (found_of matches.now) ≡ matches_of option_app words →
         options_in result ≡ asked_options words }
@@ -112,7 +111,7 @@ fn options_of<'a>(matches: &ArgMatches<'a>) -> Options<'a>
         input: matches.get_str("input-file"),
         script: matches.get_str("script"),
         output: matches.get_str("output-file"),
-        depth: depth_of(matches),
+        depth: matches.get_one("depth").unwrap(),
     }
 }
 
@@ -124,18 +123,6 @@ pub fn not_text_error(alloc: Global) -> Result<Error, AllocError>
         ErrorKind::ValueValidation,
         "a word of the command line is no UTF-8 text",
     )
-}
-
-/// The depth that was asked for, or the default.
-fn depth_of(matches: &ArgMatches<'_>) -> u64
-    ensures depth { result ≡ depth_asked (one_text (found_of matches.now) (codes "depth")) }
-    ensures least { 1 ≤ result }
-    ensures most { result ≤ DEPTH_LIMIT }
-{
-    match matches.get_one::<u64>("depth") {
-        Some(depth) if 1 <= depth && depth <= DEPTH_LIMIT => depth,
-        _ => DEFAULT_DEPTH,
-    }
 }
 
 /// The program and its options.
@@ -197,7 +184,7 @@ fn file_option<'a>(alloc: Global, name: &'a str, help: &'a str) -> Arg<'a>
         .help(help)
 }
 
-/// `--depth N`, a number from 1 to the limit.
+/// `--depth N`, a number from 1 to the limit. Without it the depth is 100.
 fn depth_option<'a>(alloc: Global) -> Arg<'a>
     ensures rule { rule_of result ≡ depth_option }
     ensures local { result.global ≡ false }
@@ -205,6 +192,8 @@ fn depth_option<'a>(alloc: Global) -> Arg<'a>
     Arg::new(alloc, "depth")
         .long("depth")
         .value_name("N")
+        .action(ArgAction::Set)
         .value_parser(ValueParser::unsigned(1, DEPTH_LIMIT))
-        .help("How many edits undo and redo can take, from 1 to 1000 [default: 100]")
+        .default_value("100")
+        .help("How many edits undo and redo can take, from 1 to 1000")
 }
