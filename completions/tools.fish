@@ -20,7 +20,7 @@ complete -c vcdedit-select -l keep-times -d 'Times stay: signals are x before th
 complete -c vcdedit-select -l keep -x -d 'Keep these signals alone'
 complete -c vcdedit-select -l remove -x -d 'Remove these signals'
 complete -c vcdedit-select -s E -l expressions -d 'Patterns are expressions'
-complete -c vcdedit-select -l prefix -x -d 'A front for the own name of each signal'
+complete -c vcdedit-select -l prefix -x -d 'A prefix for the own name of each signal'
 complete -c vcdedit-select -l rename -x -d 'Another own name for a signal'
 complete -c vcdedit-select -l baud -x -a '9600 115200 921600' -d 'Show BIT of this baud rate'
 complete -c vcdedit-select -l timescale -x -a '1us 1ns 1ps' -d 'With --baud: the timescale'

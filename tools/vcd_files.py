@@ -84,16 +84,16 @@ def is_kept(variable):
 
 def words(file):
     """(line, word) for each word of a file that is open for bytes; at the end (line, None)."""
-    line, front = 1, b""
+    line, prefix = 1, b""
     for piece in iter(lambda: file.readline(CHUNK), b""):
-        piece = front + piece
+        piece = prefix + piece
         found = piece.split()
-        front = b"" if piece[-1:].isspace() else found.pop()
+        prefix = b"" if piece[-1:].isspace() else found.pop()
         for word in found:
             yield line, word
         line += piece.endswith(b"\n")
-    if front:
-        yield line, front
+    if prefix:
+        yield line, prefix
     yield line, None
 
 
@@ -250,14 +250,14 @@ def expression_of(pattern):
     return fnmatch.translate(with_ranges.decode("latin-1")).encode("latin-1")
 
 
-def what_else(front):
+def what_else(prefix):
     """(what a file is, what to do) where its first bytes show that it is no plain VCD; else None."""
-    if not front:
+    if not prefix:
         return "is empty", "look whether the tool that wrote it ended well"
     for beginning, what, remedy in OTHER_FILES:
-        if re.match(beginning, front):
+        if re.match(beginning, prefix):
             return what, remedy
-    return IS_EXTENDED if EXTENDED.search(front) else None
+    return IS_EXTENDED if EXTENDED.search(prefix) else None
 
 
 def program():

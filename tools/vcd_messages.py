@@ -90,14 +90,14 @@ def told_fault(file, name, line):
 def line_of(file, number):
     """The beginning of a line of a file."""
     file.seek(0)
-    now, front = 1, b""
+    now, prefix = 1, b""
     for piece in iter(lambda: file.readline(vcd_files.CHUNK), b""):
-        if now == number and not front:
-            front = piece
+        if now == number and not prefix:
+            prefix = piece
         now += piece.endswith(b"\n")
         if now > number:
             break
-    return front
+    return prefix
 
 
 def usages():

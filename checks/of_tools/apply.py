@@ -98,7 +98,7 @@ PLANTED = [
     (MESSAGES, 'name.startswith(small + b"[")', "False"),
     (MESSAGES, "if name == \"WrongCount\" and command in rows", "if False"),
     (MESSAGES, "    if other and (line", "    if False and (line"),
-    (MESSAGES, "if now == number and not front", "if now > number and not front"),
+    (MESSAGES, "if now == number and not prefix", "if now > number and not prefix"),
     (MESSAGES, "had = [", "had = [] and ["),
 ]
 

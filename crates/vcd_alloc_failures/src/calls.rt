@@ -29,7 +29,7 @@ pub fn make_call<R: Runtime + AllocGlobal>(rt: &R, call: &Call) -> Result<(), Fa
         "push" | "push_block" | "share" | "copy" | "reserve" | "reserve_exact" => {
             call_on_wave(rt, call)
         }
-        "copy_word" | "copy_words" | "copy_scopes" | "share_path" | "front" | "share_scopes" => {
+        "copy_word" | "copy_words" | "copy_scopes" | "share_path" | "prefix" | "share_scopes" => {
             call_on_words(rt, call)
         }
         "read" => call_read(rt, call),

@@ -9,7 +9,7 @@
 //! |---|---|---|
 //! | `push`, `push_block`, `share`, `copy`, `reserve`, `reserve_exact` | `shared`, or nothing | |
 //! | `copy_word`, `copy_words`, `copy_scopes`: of the first signal | | |
-//! | `share_path`, `front`: of a path of its own; `share_scopes`: `ScopePath::shared` | | |
+//! | `share_path`, `prefix`: of a path of its own; `share_scopes`: `ScopePath::shared` | | |
 //! | `read`, `write`, `uart`, `spi`, `i2c`, `Session::new` | | |
 //! | `apply`, `revert` | an edit | |
 //! | `held`: lets the record of an edit go | an edit | `undo`, or nothing |

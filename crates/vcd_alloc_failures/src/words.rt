@@ -7,7 +7,7 @@ use std::alloc::Global;
 use std::rt::Runtime;
 use vcd_core::{NoMemory, ScopeName, ScopePath, Signal, copy_scopes, copy_word, copy_words};
 
-/// Makes the call `copy_word`, `copy_words`, `copy_scopes`, or `ScopePath::share`, `front` or
+/// Makes the call `copy_word`, `copy_words`, `copy_scopes`, or `ScopePath::share`, `prefix` or
 /// `shared`, of the first signal of the capture, which is printed after it.
 pub fn call_on_words<R: Runtime + AllocGlobal>(rt: &R, call: &Call) -> Result<(), Failure> {
     let capture = capture_of_text(rt.alloc(), call.text)?;
@@ -38,15 +38,15 @@ fn copy_named(
         "copy_words" => drop_copy(copy_words(alloc, signal.words.as_slice())),
         "copy_scopes" => drop_copy(copy_scopes(alloc, signal.scopes.as_slice())),
         "share_path" => drop_copy(ScopePath::from_vec(scopes).share()),
-        "front" => drop_copy(front_of(scopes)),
+        "prefix" => drop_copy(prefix_of(scopes)),
         _ => drop_copy(ScopePath::shared(scopes)),
     }
 }
 
 /// The path of the first of some scopes; all of them, if there is none.
-fn front_of(scopes: Vec<ScopeName>) -> Result<ScopePath, NoMemory> {
+fn prefix_of(scopes: Vec<ScopeName>) -> Result<ScopePath, NoMemory> {
     let count = scopes.len().min(1);
-    ScopePath::from_vec(scopes).front(count)
+    ScopePath::from_vec(scopes).prefix(count)
 }
 
 /// Drops what a call gave.

@@ -75,7 +75,7 @@ is_one_of_names name signals = list_any-map full_name (bytes_eq name) (map signa
 
 -- a name in scopes ends with its words
 pub name_in_ends : (scopes : List ScopeName) (words : List (List ℕ))
-    → (front : List ℕ) × (name_in scopes words ≡ front ++ concat words)
+    → (prefix : List ℕ) × (name_in scopes words ≡ prefix ++ concat words)
 name_in_ends [] words = ([], name_in-none words)
 name_in_ends (scope ∷ scopes) words =
     let rest = name_in_ends scopes words in (

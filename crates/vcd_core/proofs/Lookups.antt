@@ -25,7 +25,7 @@ pub not_numbered : (test : Bool) (n : ℕ) (other : Option ℕ) → None ≡ (if
 not_numbered true n other given = cc
 not_numbered false n other given = refl
 
--- the place of the first item that passes, by a test of its image
+-- the index of the first item that passes, by a test of its image
 pub position_or_len-map : {X Y : Type 0} (p : Y → Bool) (f : X → Y) (xs : List X)
     → position_or_len p (map f xs) ≡ position_or_len (λ x. p (f x)) xs
 position_or_len-map p f [] = refl

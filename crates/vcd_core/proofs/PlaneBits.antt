@@ -38,9 +38,9 @@ plane_bit-write words plane k x within others i apart =
       | inl here ↦
           let low : i % 64 < 64 = omega arith in
           let differs : i % 64 ≢ k % 64 = omega arith in
-          let place : 2 * (i / 64) + plane ≡ 2 * (k / 64) + plane = omega arith in
-          plane_bit-set_same words plane (2 * (k / 64) + plane) x i within place ∙ others (i % 64) low differs
-          ∙ ap (λ j. bit_at (get_or words j 0) (i % 64)) (sym place)
+          let index : 2 * (i / 64) + plane ≡ 2 * (k / 64) + plane = omega arith in
+          plane_bit-set_same words plane (2 * (k / 64) + plane) x i within index ∙ others (i % 64) low differs
+          ∙ ap (λ j. bit_at (get_or words j 0) (i % 64)) (sym index)
       | inr elsewhere ↦ let differs : 2 * (i / 64) + plane ≢ 2 * (k / 64) + plane = omega arith in
           plane_bit-set_other words plane (2 * (k / 64) + plane) x i differs
     ]
@@ -89,29 +89,29 @@ module _ (words : List ℕ) (j low high : ℕ) (within : 2 * j + 1 < length word
       plane_bit-set_other (set words (2 * j) low) plane (2 * j + 1) high k first
       ∙ plane_bit-set_other words plane (2 * j) low k second
 
--- the first words of both planes hold the letters of a row of words that are below the width
-pub record HoldsWords (n width j : ℕ) (planes : List ℕ) (words : List LetterBlock) : Type 0 where
-  pub low : (k : ℕ) → k < 64 * j → k < width → plane_bit 0 planes k ≡ bit_at (block_at words (k / 64)).low (k % 64)
-  pub high : (k : ℕ) → k < 64 * j → k < width → plane_bit 1 planes k ≡ bit_at (block_at words (k / 64)).high (k % 64)
+-- the first words of both planes hold the letters of a row of blocks that are below the width
+pub record HoldsBlocks (n width j : ℕ) (planes : List ℕ) (blocks : List LetterBlock) : Type 0 where
+  pub low : (k : ℕ) → k < 64 * j → k < width → plane_bit 0 planes k ≡ bit_at (block_at blocks (k / 64)).low (k % 64)
+  pub high : (k : ℕ) → k < 64 * j → k < width → plane_bit 1 planes k ≡ bit_at (block_at blocks (k / 64)).high (k % 64)
   pub clear : (plane k : ℕ) → plane < 2 → width ≤ k → k < 64 * n → plane_bit plane planes k ≡ 0
 
--- one more word
-pub one_more : (n width j left : ℕ) (planes : List ℕ) (words : List LetterBlock) → length planes ≡ 2 * n → j < n
-    → left ≡ width - 64 * j → HoldsWords n width j planes words
-    → HoldsWords n width (j + 1)
-    (both_set planes j (bit_and (block_at words j).low (2 ^ min left 64 - 1))
-    (bit_and (block_at words j).high (2 ^ min left 64 - 1))) words
-one_more n width j left planes words sized within is holds =
+-- one more block
+pub one_more : (n width j left : ℕ) (planes : List ℕ) (blocks : List LetterBlock) → length planes ≡ 2 * n → j < n
+    → left ≡ width - 64 * j → HoldsBlocks n width j planes blocks
+    → HoldsBlocks n width (j + 1)
+    (both_set planes j (bit_and (block_at blocks j).low (2 ^ min left 64 - 1))
+    (bit_and (block_at blocks j).high (2 ^ min left 64 - 1))) blocks
+one_more n width j left planes blocks sized within is holds =
     record {
       low = λ k below in_width. elim (cases_eq (k / 64) j) [
-        | inl here ↦ low_set planes j a b inside k here ∙ masked word.low left (k % 64) (omega arith) (omega arith)
-            ∙ ap (λ i. bit_at (block_at words i).low (k % 64)) (sym here)
+        | inl here ↦ low_set planes j a b inside k here ∙ masked block.low left (k % 64) (omega arith) (omega arith)
+            ∙ ap (λ i. bit_at (block_at blocks i).low (k % 64)) (sym here)
         | inr elsewhere ↦ others_kept planes j a b inside 0 k (omega arith) elsewhere
             ∙ holds.low k (omega arith) in_width
       ];
       high = λ k below in_width. elim (cases_eq (k / 64) j) [
-        | inl here ↦ high_set planes j a b inside k here ∙ masked word.high left (k % 64) (omega arith) (omega arith)
-            ∙ ap (λ i. bit_at (block_at words i).high (k % 64)) (sym here)
+        | inl here ↦ high_set planes j a b inside k here ∙ masked block.high left (k % 64) (omega arith) (omega arith)
+            ∙ ap (λ i. bit_at (block_at blocks i).high (k % 64)) (sym here)
         | inr elsewhere ↦ others_kept planes j a b inside 1 k (omega arith) elsewhere
             ∙ holds.high k (omega arith) in_width
       ];
@@ -121,29 +121,29 @@ one_more n width j left planes words sized within is holds =
       ];
     }
   where
-    word : LetterBlock
-    word = block_at words j
+    block : LetterBlock
+    block = block_at blocks j
 
     a : ℕ
-    a = bit_and word.low (2 ^ min left 64 - 1)
+    a = bit_and block.low (2 ^ min left 64 - 1)
 
     b : ℕ
-    b = bit_and word.high (2 ^ min left 64 - 1)
+    b = bit_and block.high (2 ^ min left 64 - 1)
 
     inside : 2 * j + 1 < length planes
     inside = omega arith
 
     cleared : (plane k : ℕ) → plane < 2 → k / 64 ≡ j → width ≤ k → plane_bit plane (both_set planes j a b) k ≡ 0
     cleared zero k which here out = low_set planes j a b inside k here
-        ∙ masked_above word.low left (k % 64) (omega arith) (omega arith)
+        ∙ masked_above block.low left (k % 64) (omega arith) (omega arith)
     cleared (suc zero) k which here out = high_set planes j a b inside k here
-        ∙ masked_above word.high left (k % 64) (omega arith) (omega arith)
+        ∙ masked_above block.high left (k % 64) (omega arith) (omega arith)
     cleared (suc (suc _)) k which here out = absurd (omega arith)
 
 -- planes of zeros hold no letters
-pub none_held : (n width : ℕ) (words : List LetterBlock) → HoldsWords n width 0 (replicate (2 * n) 0) words
+pub none_held : (n width : ℕ) (blocks : List LetterBlock) → HoldsBlocks n width 0 (replicate (2 * n) 0) blocks
 unfolding plane_bit
-none_held n width words = record {
+none_held n width blocks = record {
   low = λ k below _. absurd (omega arith);
   high = λ k below _. absurd (omega arith);
   clear = λ plane k which _ below. ap (λ w. bit_at w (k % 64))
@@ -151,9 +151,9 @@ none_held n width words = record {
 }
 
 -- a word of each plane, the others zero
-pub word_held : (n width mask : ℕ) (word : LetterBlock) → 0 < n → mask ≡ 2 ^ min width 64 - 1
-    → HoldsWords n width 1 (both_set (replicate (2 * n) 0) 0 (bit_and word.low mask) (bit_and word.high mask))
-    (word ∷ [])
-word_held n width mask word some is =
-    rw is (one_more n width 0 width (replicate (2 * n) 0) (word ∷ []) (length-replicate (2 * n) 0) some (omega arith)
-    (none_held n width (word ∷ [])))
+pub block_held : (n width mask : ℕ) (block : LetterBlock) → 0 < n → mask ≡ 2 ^ min width 64 - 1
+    → HoldsBlocks n width 1 (both_set (replicate (2 * n) 0) 0 (bit_and block.low mask) (bit_and block.high mask))
+    (block ∷ [])
+block_held n width mask block some is =
+    rw is (one_more n width 0 width (replicate (2 * n) 0) (block ∷ []) (length-replicate (2 * n) 0) some (omega arith)
+    (none_held n width (block ∷ [])))

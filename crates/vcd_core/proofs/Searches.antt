@@ -1,4 +1,4 @@
--- A place among rising ticks shows which changes are at most a tick, and which are later.
+-- An index among rising ticks shows which changes are at most a tick, and which are later.
 use Rattle.std.proofs.Common.{◌≡◌, ℕ, ◌+◌, ◌-◌, ◌<◌, ◌≤◌, Bool, true, false, nat_le, List, length}
 use Rattle.std.proofs.Common.{take, drop, get_or}
 use Rattle.std.proofs.Common.{All, slice_range, sym, ap, ◌∙◌, arith, inl, inr}
@@ -12,29 +12,29 @@ use Rattle.vcd_core.proofs.Pushes.{ticks_do_not_fall, count_is, no_change}
 
 module _ (width : ℕ) (cs : List Change) (is : IsWave width cs) (tick : ℕ) where
   -- where a change is at most a tick, so are those before it
-  pub early_before : (place : ℕ) (last : Change) → 0 < place → place ≤ length cs
-      → (get_or cs (place - 1) last).tick ≤ tick → All (λ c. c.tick ≤ tick) (take place cs)
-  early_before place last some within early k d inside =
-      let below : k < place = omega (arith, length-take-le place cs within) in
-      let read : (get_or (take place cs) k d).tick ≡ (get_or cs k d).tick =
-      ap (λ (c : Change). c.tick) (get_or-take place cs k d below) in
-      let rise : (get_or cs k d).tick ≤ (get_or cs (place - 1) d).tick =
-      ticks_do_not_fall width cs is k (place - 1) d (omega arith) (omega arith) in
-      let here : (get_or cs (place - 1) d).tick ≡ (get_or cs (place - 1) last).tick =
-      ap (λ (c : Change). c.tick) (get_or_default cs (place - 1) d last (omega arith)) in
+  pub early_before : (index : ℕ) (last : Change) → 0 < index → index ≤ length cs
+      → (get_or cs (index - 1) last).tick ≤ tick → All (λ c. c.tick ≤ tick) (take index cs)
+  early_before index last some within early k d inside =
+      let below : k < index = omega (arith, length-take-le index cs within) in
+      let read : (get_or (take index cs) k d).tick ≡ (get_or cs k d).tick =
+      ap (λ (c : Change). c.tick) (get_or-take index cs k d below) in
+      let rise : (get_or cs k d).tick ≤ (get_or cs (index - 1) d).tick =
+      ticks_do_not_fall width cs is k (index - 1) d (omega arith) (omega arith) in
+      let here : (get_or cs (index - 1) d).tick ≡ (get_or cs (index - 1) last).tick =
+      ap (λ (c : Change). c.tick) (get_or_default cs (index - 1) d last (omega arith)) in
       omega (arith, read, rise, here, early)
 
   -- where a change is later than a tick, so are those after it
-  pub late_from : (place : ℕ) (first : Change) → place < length cs → tick < (get_or cs place first).tick
-      → All (λ c. tick < c.tick) (drop place cs)
-  late_from place first within late k d inside =
-      let place_of : place + k < length cs = omega (arith, length-drop place cs) in
-      let read : (get_or (drop place cs) k d).tick ≡ (get_or cs (place + k) d).tick =
-      ap (λ (c : Change). c.tick) (get_or-drop place cs k d) in
-      let rise : (get_or cs place d).tick ≤ (get_or cs (place + k) d).tick =
-      ticks_do_not_fall width cs is place (place + k) d (omega arith) place_of in
-      let here : (get_or cs place d).tick ≡ (get_or cs place first).tick =
-      ap (λ (c : Change). c.tick) (get_or_default cs place d first within) in
+  pub late_from : (index : ℕ) (first : Change) → index < length cs → tick < (get_or cs index first).tick
+      → All (λ c. tick < c.tick) (drop index cs)
+  late_from index first within late k d inside =
+      let inside_list : index + k < length cs = omega (arith, length-drop index cs) in
+      let read : (get_or (drop index cs) k d).tick ≡ (get_or cs (index + k) d).tick =
+      ap (λ (c : Change). c.tick) (get_or-drop index cs k d) in
+      let rise : (get_or cs index d).tick ≤ (get_or cs (index + k) d).tick =
+      ticks_do_not_fall width cs is index (index + k) d (omega arith) inside_list in
+      let here : (get_or cs index d).tick ≡ (get_or cs index first).tick =
+      ap (λ (c : Change). c.tick) (get_or_default cs index d first within) in
       omega (arith, read, rise, here, late)
 
   -- the ticks of a part do not fall
@@ -79,19 +79,19 @@ module _ (width : ℕ) (cs : List Change) (is : IsWave width cs) (tick : ℕ) wh
         | inl before ↦ ap test (sym (get_or-take from cs k no_change before))
             ∙ le-leb _ _ (early k no_change (omega (arith, length-take-le from cs (omega arith))))
         | inr inside ↦
-            let place : from + (k - from) ≡ k = omega arith in
-            ap (λ i. test (get_or cs i no_change)) (sym place) ∙ ap test (sym (at (k - from) (omega (arith, long))))
+            let index : from + (k - from) ≡ k = omega arith in
+            ap (λ i. test (get_or cs i no_change)) (sym index) ∙ ap test (sym (at (k - from) (omega (arith, long))))
             ∙ passes (k - from) (omega arith)
       ]
 
       fail : (k : ℕ) → from + n ≤ k → k < length cs → test (get_or cs k no_change) ≡ false
       fail k from_on below = elim (cases_lt k to) [
         | inl inside ↦
-            let place : from + (k - from) ≡ k = omega arith in
-            ap (λ i. test (get_or cs i no_change)) (sym place) ∙ ap test (sym (at (k - from) (omega arith)))
+            let index : from + (k - from) ≡ k = omega arith in
+            ap (λ i. test (get_or cs i no_change)) (sym index) ∙ ap test (sym (at (k - from) (omega arith)))
             ∙ fails (k - from) (omega arith) (omega (arith, long))
         | inr following ↦
-            let place : to + (k - to) ≡ k = omega arith in
-            ap (λ i. test (get_or cs i no_change)) (sym place) ∙ ap test (sym (get_or-drop to cs (k - to) no_change))
+            let index : to + (k - to) ≡ k = omega arith in
+            ap (λ i. test (get_or cs i no_change)) (sym index) ∙ ap test (sym (get_or-drop to cs (k - to) no_change))
             ∙ lt-leb _ _ (late (k - to) no_change (omega (arith, length-drop to cs)))
       ]

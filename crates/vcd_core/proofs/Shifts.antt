@@ -26,8 +26,8 @@ module _ (f : Change → Change) (xs : List Change) (from to : ℕ) (ordered : f
       let none : from + 0 ≡ from = omega arith in
       sym ((λ p. append-nil (take from xs) p ++ drop (none p) xs) ∙ take-append-drop from xs)
 
-  front_long : (k : ℕ) → to + k ≤ length xs → length (take from xs ++ map f (take k (drop to xs))) ≡ from + k
-  front_long k within =
+  prefix_long : (k : ℕ) → to + k ≤ length xs → length (take from xs ++ map f (take k (drop to xs))) ≡ from + k
+  prefix_long k within =
       omega (
         arith,
         length-append (take from xs) (map f (take k (drop to xs))),
@@ -40,10 +40,10 @@ module _ (f : Change → Change) (xs : List Change) (from to : ℕ) (ordered : f
   pub all_pulled : (ys : List Change) (k n : ℕ) → to + k ≡ length xs → n ≡ from + k → ys ≡ pulled f xs from to k
       → take n ys ≡ take from xs ++ map f (drop to xs)
   all_pulled ys k n all count is =
-      let front = take from xs ++ map f (take k (drop to xs)) in
-      let long = front_long k (omega arith) in
-      ap (take n) is ∙ take-append-le n front (drop (from + k) xs) (omega (arith, long))
-      ∙ take_all n front (omega (arith, long))
+      let prefix = take from xs ++ map f (take k (drop to xs)) in
+      let long = prefix_long k (omega arith) in
+      ap (take n) is ∙ take-append-le n prefix (drop (from + k) xs) (omega (arith, long))
+      ∙ take_all n prefix (omega (arith, long))
       ∙ ap (λ l. take from xs ++ map f l) (take_all k (drop to xs) (omega (arith, length-drop to xs)))
 
   -- the next one is still the old one
@@ -53,15 +53,15 @@ module _ (f : Change → Change) (xs : List Change) (from to : ℕ) (ordered : f
       let back : from + k + (i - (from + k)) ≡ i = omega arith in
       ap (λ l. get_or l i d) is
       ∙ get_or-append_right (take from xs ++ map f (take k (drop to xs))) (drop (from + k) xs) (from + k) i d
-      (front_long k (omega arith)) (omega arith)
+      (prefix_long k (omega arith)) (omega arith)
       ∙ get_or-drop (from + k) xs (i - (from + k)) d ∙ ap (λ n. get_or xs n d) back
 
   pub one_pulled : (ys : List Change) (k i j : ℕ) (x : Change) → i ≡ to + k → j ≡ from + k → to + k < length xs
       → ys ≡ pulled f xs from to k → x ≡ get_or xs i x
       → set ys j (f x) ≡ pulled f xs from to (k + 1)
-  one_pulled ys k i j x at place within is read =
-      let front = take from xs ++ map f (take k (drop to xs)) in
-      let long = front_long k (omega arith) in
+  one_pulled ys k i j x at index within is read =
+      let prefix = take from xs ++ map f (take k (drop to xs)) in
+      let long = prefix_long k (omega arith) in
       let here : drop (from + k) xs ≡ get_or xs (from + k) x ∷ drop (from + k + 1) xs =
       drop_more xs (from + k) x (omega arith) in
       let next : get_or (drop to xs) k x ≡ x = get_or-drop to xs k x ∙ ap (λ n. get_or xs n x) (sym at) ∙ sym read in
@@ -69,9 +69,9 @@ module _ (f : Change → Change) (xs : List Change) (from to : ℕ) (ordered : f
       sym (ap (map f) (take_more (drop to xs) k x (omega (arith, length-drop to xs))
       ∙ ap (λ c. take k (drop to xs) ++ c ∷ []) next) ∙ map-append f (take k (drop to xs)) (x ∷ [])) in
       let following : from + k + 1 ≡ from + (k + 1) = omega arith in
-      (λ p. set ((is ∙ ap (λ l. front ++ l) here) p) ((place ∙ sym long) p) (f x))
-      ∙ set-append_seam front (get_or xs (from + k) x) (drop (from + k + 1) xs) (f x)
-      ∙ sym (append_assoc front (f x ∷ []) (drop (from + k + 1) xs))
+      (λ p. set ((is ∙ ap (λ l. prefix ++ l) here) p) ((index ∙ sym long) p) (f x))
+      ∙ set-append_seam prefix (get_or xs (from + k) x) (drop (from + k + 1) xs) (f x)
+      ∙ sym (append_assoc prefix (f x ∷ []) (drop (from + k + 1) xs))
       ∙ (λ p. (append_assoc (take from xs) (map f (take k (drop to xs))) (f x ∷ []) ∙ ap (λ l. take from xs ++ l) more)
       p ++ drop (following p) xs)
 
@@ -98,19 +98,19 @@ module _ (f : Change → Change) (xs : List Change) (n gap : ℕ) (all : n + gap
       → ys ≡ lifted f xs n gap left → x ≡ get_or xs before x
       → set ys (before + gap) (f x) ≡ lifted f xs n gap before
   one_lifted ys left before x one within is read =
-      let front = take (before + gap) xs in
-      let long : length front ≡ before + gap = length-take-le (before + gap) xs (omega arith) in
+      let prefix = take (before + gap) xs in
+      let long : length prefix ≡ before + gap = length-take-le (before + gap) xs (omega arith) in
       let count : left + gap ≡ before + gap + 1 = omega arith in
-      let split : take (left + gap) xs ≡ front ++ get_or xs (before + gap) x ∷ [] = ap (λ k. take k xs) count
+      let split : take (left + gap) xs ≡ prefix ++ get_or xs (before + gap) x ∷ [] = ap (λ k. take k xs) count
       ∙ take_more xs (before + gap) x (omega arith) in
       let next : get_or (take n xs) before x ≡ x = get_or-take n xs before x (omega arith) ∙ sym read in
       let rest : drop before (take n xs) ≡ x ∷ drop left (take n xs) =
       drop_more (take n xs) before x (omega (arith, length-take-le n xs (omega arith)))
       ∙ (λ p. next p ∷ drop (one p) (take n xs)) in
       (λ p. set ((is ∙ ap (λ l. l ++ map f (drop left (take n xs))) split
-      ∙ append_assoc front (get_or xs (before + gap) x ∷ []) (map f (drop left (take n xs)))) p) (sym long p) (f x))
-      ∙ set-append_seam front (get_or xs (before + gap) x) (map f (drop left (take n xs))) (f x)
-      ∙ ap (λ l. front ++ map f l) (sym rest)
+      ∙ append_assoc prefix (get_or xs (before + gap) x ∷ []) (map f (drop left (take n xs)))) p) (sym long p) (f x))
+      ∙ set-append_seam prefix (get_or xs (before + gap) x) (map f (drop left (take n xs))) (f x)
+      ∙ ap (λ l. prefix ++ map f l) (sym rest)
 
 -- ---- the steps of the loops
 
@@ -122,15 +122,15 @@ module _ (at : ℤ) (xs ys : List Change) (from to i : ℕ) (d : Change) (ordere
 
   pub pulled_fits : (by : ℤ) → at ≡ by → AllTicksFit by (drop to xs) → TickFits at (get_or ys i d)
   pulled_fits by same fits =
-      let place : to + (i - to) ≡ i = omega arith in
+      let index : to + (i - to) ≡ i = omega arith in
       let read : get_or (drop to xs) (i - to) d ≡ get_or ys i d = get_or-drop to xs (i - to) d
-      ∙ ap (λ n. get_or xs n d) place ∙ sym same_change in
+      ∙ ap (λ n. get_or xs n d) index ∙ sym same_change in
       subst (λ z. TickFits z (get_or ys i d)) (sym same)
       (subst (TickFits by) read (fits (i - to) d (omega (arith, length-drop to xs))))
 
   pub pulled_more : (j : ℕ) (next : Change) → j ≡ i - (to - from) → next ≡ moved_change at (get_or ys i d)
       → set ys j next ≡ pulled (moved_change at) xs from to (i + 1 - to)
-  pulled_more j next place told =
+  pulled_more j next index told =
       let x : Change = get_or ys i d in
       let read : x ≡ get_or xs i x = same_change ∙ get_or_default xs i d x within in
       let count : i - to + 1 ≡ i + 1 - to = omega arith in
@@ -148,9 +148,9 @@ module _ (at : ℤ) (xs ys : List Change) (n gap left : ℕ) (d : Change) (all :
       → TickFits at (get_or ys (left - 1) d)
   lifted_fits from by same below fits =
       let k : ℕ = left - 1 - from in
-      let place : from + k ≡ left - 1 = omega arith in
+      let index : from + k ≡ left - 1 = omega arith in
       let read : get_or (drop from (take n xs)) k d ≡ get_or ys (left - 1) d =
-      get_or-drop from (take n xs) k d ∙ ap (λ i. get_or (take n xs) i d) place
+      get_or-drop from (take n xs) k d ∙ ap (λ i. get_or (take n xs) i d) index
       ∙ get_or-take n xs (left - 1) d (omega arith) ∙ sym same_below in
       subst (λ z. TickFits z (get_or ys (left - 1) d)) (sym same)
       (subst (TickFits by) read
@@ -170,19 +170,19 @@ pub put_into_gap : (f : Change → Change) (xs piece whole lifts list new : List
     → lifts ≡ take (from + gap) whole ++ map f (drop from (take (length whole - gap) whole)) → list ≡ lifts
     → new ≡ take from list ++ piece ++ drop (from + gap) list → new ≡ take from xs ++ piece ++ map f (drop from xs)
 put_into_gap f xs piece whole lifts list new from gap count within both up same is =
-    let front = take (from + gap) (xs ++ piece) in
+    let prefix = take (from + gap) (xs ++ piece) in
     let tail = map f (drop from xs) in
-    let long : length front ≡ from + gap =
+    let long : length prefix ≡ from + gap =
     length-take-le (from + gap) (xs ++ piece) (omega (arith, length-append xs piece)) in
     let old : length (xs ++ piece) - gap ≡ length xs = omega (arith, length-append xs piece) in
     let own : take (length (xs ++ piece) - gap) (xs ++ piece) ≡ xs = ap (λ n. take n (xs ++ piece)) old
     ∙ take-append_seam xs piece in
-    let made : list ≡ front ++ tail = same ∙ up
+    let made : list ≡ prefix ++ tail = same ∙ up
     ∙ (λ p. take (from + gap) (both p) ++ map f (drop from (take (length (both p) - gap) (both p))))
-    ∙ ap (λ l. front ++ map f (drop from l)) own in
-    let first : take from (front ++ tail) ≡ take from xs =
-    take-append-le from front tail (omega (arith, long)) ∙ take-take from (from + gap) (xs ++ piece) (omega arith)
+    ∙ ap (λ l. prefix ++ map f (drop from l)) own in
+    let first : take from (prefix ++ tail) ≡ take from xs =
+    take-append-le from prefix tail (omega (arith, long)) ∙ take-take from (from + gap) (xs ++ piece) (omega arith)
     ∙ take-append-le from xs piece within in
-    let following : drop (from + gap) (front ++ tail) ≡ tail = ap (λ n. drop n (front ++ tail)) (sym long)
-    ∙ drop-append_seam front tail in
+    let following : drop (from + gap) (prefix ++ tail) ≡ tail = ap (λ n. drop n (prefix ++ tail)) (sym long)
+    ∙ drop-append_seam prefix tail in
     is ∙ (λ p. take from (made p) ++ piece ++ drop (from + gap) (made p)) ∙ (λ p. first p ++ piece ++ following p)

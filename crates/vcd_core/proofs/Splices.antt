@@ -22,22 +22,22 @@ use Rattle.vcd_core.specs.Splice.{moved_change, TickFits, AllTicksFit, spliced_c
 -- the list and the piece after the swap
 module _ (xs piece list : List Change) (from to n : ℕ) (some : n ≤ length piece) (ordered : from + n ≤ to)
     (within : to ≤ length xs) (is : list ≡ take from xs ++ take n piece ++ drop (from + n) xs) where
-  front_long : length (take from xs ++ take n piece) ≡ from + n
-  front_long = omega (
+  prefix_long : length (take from xs ++ take n piece) ≡ from + n
+  prefix_long = omega (
     arith,
     length-append (take from xs) (take n piece),
     length-take-le from xs (omega arith),
     length-take-le n piece (omega arith),
   )
 
-  front_is_swapped : take (from + n) list ≡ take from xs ++ take n piece
-  front_is_swapped =
-      let front = take from xs ++ take n piece in
-      ap (take (from + n)) is ∙ take-append-le (from + n) front (drop (from + n) xs) (omega (arith, front_long))
-      ∙ take_all (from + n) front (omega (arith, front_long))
+  prefix_is_swapped : take (from + n) list ≡ take from xs ++ take n piece
+  prefix_is_swapped =
+      let prefix = take from xs ++ take n piece in
+      ap (take (from + n)) is ∙ take-append-le (from + n) prefix (drop (from + n) xs) (omega (arith, prefix_long))
+      ∙ take_all (from + n) prefix (omega (arith, prefix_long))
 
   later_stay : drop to list ≡ drop to xs
-  later_stay = ap (drop to) is ∙ drop-append-drop (from + n) xs (take from xs ++ take n piece) to ordered front_long
+  later_stay = ap (drop to) is ∙ drop-append-drop (from + n) xs (take from xs ++ take n piece) to ordered prefix_long
 
   pub later_fit : (by at : ℤ) → at ≡ by → AllTicksFit by (drop to xs) → AllTicksFit at (drop to list)
   later_fit by at same fits =
@@ -49,7 +49,7 @@ module _ (xs piece list : List Change) (from to n : ℕ) (some : n ≤ length pi
         → new ≡ take (from + n) list ++ map (moved_change at) (drop to list) → new ≡ spliced_changes xs from to piece by
     unfolding spliced_changes
     spliced_without_rest by at new same moves =
-        moves ∙ (λ i. front_is_swapped i ++ map (moved_change (same i)) (later_stay i))
+        moves ∙ (λ i. prefix_is_swapped i ++ map (moved_change (same i)) (later_stay i))
         ∙ ap (λ l. take from xs ++ l ++ map (moved_change by) (drop to xs)) (take_all n piece (omega arith))
 
     pub piece_with_rest : take n (drop from xs) ++ drop n piece ++ slice_range list (from + n) to
@@ -59,13 +59,13 @@ module _ (xs piece list : List Change) (from to n : ℕ) (some : n ≤ length pi
         ap (λ l. take n (drop from xs) ++ l) (drop_all n piece (omega arith)) ∙ append-nil (take n (drop from xs)) in
         let later : drop (from + n) list ≡ drop n (drop from xs) =
         ap (drop (from + n)) is
-        ∙ drop-append-drop (from + n) xs (take from xs ++ take n piece) (from + n) (omega arith) front_long
+        ∙ drop-append-drop (from + n) xs (take from xs ++ take n piece) (from + n) (omega arith) prefix_long
         ∙ sym (drop-drop n from xs) in
         (λ i. none i ++ take (to - (from + n)) (later i))
         ∙ sym (take-add n (to - (from + n)) (drop from xs))
         ∙ ap (λ k. take k (drop from xs)) {x = n + (to - (from + n))} {y = to - from} (omega arith)
 
-  -- the range is shorter: the rest of the piece follows its front
+  -- the range is shorter: the rest of the piece follows its prefix
   pub spliced_with_rest : (by at : ℤ) (new held : List Change) → from + n ≡ to → at ≡ by
       → held ≡ take n (drop from xs) ++ drop n piece
       → new ≡ take to list ++ drop n held ++ map (moved_change at) (drop to list)
@@ -73,7 +73,7 @@ module _ (xs piece list : List Change) (from to n : ℕ) (some : n ≤ length pi
   unfolding spliced_changes
   spliced_with_rest by at new held all same holds moves =
       let later = map (moved_change by) (drop to xs) in
-      let first : take to list ≡ take from xs ++ take n piece = ap (λ k. take k list) (sym all) ∙ front_is_swapped in
+      let first : take to list ≡ take from xs ++ take n piece = ap (λ k. take k list) (sym all) ∙ prefix_is_swapped in
       let part : length (take n (drop from xs)) ≡ n =
       length-take-le n (drop from xs) (omega (arith, length-drop from xs)) in
       let rest : drop n held ≡ drop n piece =
@@ -149,11 +149,11 @@ moved_fit by back cs small opposite fit =
     (λ k d within. tick_fits_back by back _ (small k d within) opposite (fit k d within))
 
 module _ (cs piece : List Change) (from to : ℕ) (by back : ℤ) (ordered : from ≤ to) (within : to ≤ length cs) where
-  front_is : length (take from cs) ≡ from
-  front_is = length-take-le from cs (omega arith)
+  prefix_is : length (take from cs) ≡ from
+  prefix_is = length-take-le from cs (omega arith)
 
   both_are : length (take from cs ++ piece) ≡ from + length piece
-  both_are = omega (arith, length-append (take from cs) piece, front_is)
+  both_are = omega (arith, length-append (take from cs) piece, prefix_is)
 
   -- the later changes of a splice
   pub later_of-spliced : drop (from + length piece) (spliced_changes cs from to piece by)
@@ -170,8 +170,8 @@ module _ (cs piece : List Change) (from to : ℕ) (by back : ℤ) (ordered : fro
   unfolding spliced_changes
   first_of-spliced =
       take-append-le from (take from cs ++ piece) (map (moved_change by) (drop to cs)) (omega (arith, both_are))
-      ∙ take-append-le from (take from cs) piece (omega (arith, front_is))
-      ∙ take_all from (take from cs) (omega (arith, front_is))
+      ∙ take-append-le from (take from cs) piece (omega (arith, prefix_is))
+      ∙ take_all from (take from cs) (omega (arith, prefix_is))
 
   -- the piece within a splice
   pub piece_of-spliced : slice_range (spliced_changes cs from to piece by) from (from + length piece) ≡ piece
@@ -180,8 +180,8 @@ module _ (cs piece : List Change) (from to : ℕ) (by back : ℤ) (ordered : fro
       let rest = map (moved_change by) (drop to cs) in
       let tail : drop from (take from cs ++ piece ++ rest) ≡ piece ++ rest =
       ap (drop from) (append_assoc (take from cs) piece rest)
-      ∙ drop-append-le from (take from cs) (piece ++ rest) (omega (arith, front_is))
-      ∙ ap (λ l. l ++ (piece ++ rest)) (drop_all from (take from cs) (omega (arith, front_is))) in
+      ∙ drop-append-le from (take from cs) (piece ++ rest) (omega (arith, prefix_is))
+      ∙ ap (λ l. l ++ (piece ++ rest)) (drop_all from (take from cs) (omega (arith, prefix_is))) in
       ap (take (from + length piece - from)) tail
       ∙ ap (λ k. take k (piece ++ rest)) {x = from + length piece - from} {y = length piece} (omega arith)
       ∙ take-append_seam piece rest

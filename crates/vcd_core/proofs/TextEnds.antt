@@ -84,18 +84,18 @@ after_agree s t (byte ∷ text) agree =
     after_agree (longer_end s byte) (longer_end t byte) text (longer_agree s t byte agree)
 
 -- the end of a text in two parts
-end_of_both : (end : TextEnd) (front text : List ℕ)
-    → end_after end (front ++ text) ≡ end_after (end_after end front) text
+end_of_both : (end : TextEnd) (prefix text : List ℕ)
+    → end_after end (prefix ++ text) ≡ end_after (end_after end prefix) text
 unfolding end_after
 end_of_both end [] text = refl
-end_of_both end (byte ∷ front) text = end_of_both (longer_end end byte) front text
+end_of_both end (byte ∷ prefix) text = end_of_both (longer_end end byte) prefix text
 
 -- a text that ends with another passes the test
-pub passes_test : (s t : TextEnd) (text front end : List ℕ) → s ≡ text_end text → t ≡ text_end end → text ≡ front ++ end
-    → IsTrue (bit_and s.bytes t.mask == bit_and t.bytes t.mask)
-passes_test s t text front end is other ends =
+pub passes_test : (s t : TextEnd) (text prefix end : List ℕ) → s ≡ text_end text → t ≡ text_end end → text ≡ prefix
+    ++ end → IsTrue (bit_and s.bytes t.mask == bit_and t.bytes t.mask)
+passes_test s t text prefix end is other ends =
     let start : TextEnd = record { bytes = 0; mask = 0 } in
-    let first : TextEnd = end_after start front in
+    let first : TextEnd = end_after start prefix in
     let agree : Agree (end_after first end) (end_after start end) = after_agree first start end (record {
       count = 0;
       few = omega arith;
@@ -103,7 +103,7 @@ passes_test s t text front end is other ends =
       bytes = omega arith;
     }) in
     let agreed : Agree s t = subst (λ (both : TextEnd × TextEnd). Agree both.0 both.1)
-    (λ i. (sym (is ∙ ap text_end ends ∙ end_of_both start front end) i, sym other i)) agree in
+    (λ i. (sym (is ∙ ap text_end ends ∙ end_of_both start prefix end) i, sym other i)) agree in
     same (bit_and s.bytes t.mask) (bit_and t.bytes t.mask) (
     ap (bit_and s.bytes) agreed.mask ∙ and_mask s.bytes (8 * agreed.count) ∙ agreed.bytes
     ∙ sym (ap (bit_and t.bytes) agreed.mask ∙ and_mask t.bytes (8 * agreed.count)))

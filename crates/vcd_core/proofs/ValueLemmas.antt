@@ -25,7 +25,7 @@ use Rattle.vcd_core.specs.inside.Planes.{plane_bit, letters_in, view_value, bit_
 use Rattle.vcd_core.specs.inside.PlaneLaws.{letter_at-letters_in, length-letters_in}
 use Rattle.vcd_core.specs.inside.PlaneLaws.{bit_in-letter_of, low_of-letter_of}
 use Rattle.vcd_core.specs.inside.PlaneLaws.{high_of-letter_of}
-use Rattle.vcd_core.proofs.PlaneBits.{masked, masked_above, HoldsWords}
+use Rattle.vcd_core.proofs.PlaneBits.{masked, masked_above, HoldsBlocks}
 
 pub letter_of-letter : (b : Bit) → letter_of (low_of b) (high_of b) ≡ b
 letter_of-letter Zero = refl
@@ -52,47 +52,47 @@ letters_in-shown v width words long lows highs = same_letter_at _ v (length-lett
     letter_at-letters_in width words k inside ∙ (λ p. letter_of (lows k inside p) (highs k inside p))
     ∙ letter_of-letter (letter_at v k))
 
-pub length-letters_of : (width : ℕ) (words : List LetterBlock) → length (letters_of width words) ≡ width
+pub length-letters_of : (width : ℕ) (blocks : List LetterBlock) → length (letters_of width blocks) ≡ width
 unfolding letters_of
-length-letters_of width words = length-map-range_with_len _ 0 width
+length-letters_of width blocks = length-map-range_with_len _ 0 width
 
--- the letter at bit k is that of the word
-pub letter_at-letters_of : (width : ℕ) (words : List LetterBlock) (k : ℕ) → k < width
-    → letter_at (letters_of width words) k ≡ letter_in (block_at words (k / 64)) (k % 64)
+-- the letter at bit k is that of the block
+pub letter_at-letters_of : (width : ℕ) (blocks : List LetterBlock) (k : ℕ) → k < width
+    → letter_at (letters_of width blocks) k ≡ letter_in (block_at blocks (k / 64)) (k % 64)
 unfolding letters_of
-letter_at-letters_of width words k within =
-    let at : ℕ → Bit = λ i. letter_in (block_at words (i / 64)) (i % 64) in
-    let place : length (letters_of width words) - 1 - k ≡ width - 1 - k =
-    ap (λ n. n - 1 - k) (length-letters_of width words) in
+letter_at-letters_of width blocks k within =
+    let at : ℕ → Bit = λ i. letter_in (block_at blocks (i / 64)) (i % 64) in
+    let index : length (letters_of width blocks) - 1 - k ≡ width - 1 - k =
+    ap (λ n. n - 1 - k) (length-letters_of width blocks) in
     let back : width - 1 - (width - 1 - k) ≡ k = omega arith in
-    ap (λ i. get_or (letters_of width words) i X) place
+    ap (λ i. get_or (letters_of width blocks) i X) index
     ∙ get_or-map-range_with_len (λ i. at (width - 1 - i)) 0 width (width - 1 - k) (width - 1 - k) X (omega arith)
     (omega arith)
     ∙ ap at back
 
--- planes that hold the words show their letters
-pub letters_in-words : (n width j : ℕ) (planes : List ℕ) (words : List LetterBlock) → HoldsWords n width j planes words
-    → width ≤ 64 * j → letters_in width planes ≡ letters_of width words
-letters_in-words n width j planes words holds all =
-    same_letter_at _ _ (length-letters_in width planes ∙ sym (length-letters_of width words)) (λ k within.
+-- planes that hold the blocks show their letters
+pub letters_in-blocks : (n width j : ℕ) (planes : List ℕ) (blocks : List LetterBlock)
+    → HoldsBlocks n width j planes blocks → width ≤ 64 * j → letters_in width planes ≡ letters_of width blocks
+letters_in-blocks n width j planes blocks holds all =
+    same_letter_at _ _ (length-letters_in width planes ∙ sym (length-letters_of width blocks)) (λ k within.
     let inside : k < width = omega (arith, length-letters_in width planes) in
     letter_at-letters_in width planes k inside
     ∙ (λ p. letter_of (holds.low k (omega arith) inside p) (holds.high k (omega arith) inside p))
-    ∙ sym (letter_at-letters_of width words k inside))
+    ∙ sym (letter_at-letters_of width blocks k inside))
 
 pub letter_at-replicate : (n k : ℕ) (b : Bit) → k < n → letter_at (replicate n b) k ≡ b
 letter_at-replicate n k b within = get_or-replicate n _ b X (omega (arith, length-replicate n b))
 
--- the letters of a row that repeats a word of one letter
-pub letters_of-replicate : (width n : ℕ) (word : LetterBlock) (b : Bit) → width ≤ 64 * n
-    → ((i : ℕ) → i < 64 → letter_in word i ≡ b)
-    → letters_of width (replicate n word) ≡ replicate width b
-letters_of-replicate width n word b within holds =
-    same_letter_at _ _ (length-letters_of width (replicate n word) ∙ sym (length-replicate width b)) (λ k below.
-    let inside : k < width = omega (arith, length-letters_of width (replicate n word)) in
+-- the letters of a row that repeats a block of one letter
+pub letters_of-replicate : (width n : ℕ) (block : LetterBlock) (b : Bit) → width ≤ 64 * n
+    → ((i : ℕ) → i < 64 → letter_in block i ≡ b)
+    → letters_of width (replicate n block) ≡ replicate width b
+letters_of-replicate width n block b within holds =
+    same_letter_at _ _ (length-letters_of width (replicate n block) ∙ sym (length-replicate width b)) (λ k below.
+    let inside : k < width = omega (arith, length-letters_of width (replicate n block)) in
     letter_at-letters_of width _ k inside
     ∙ ap (λ (w : LetterBlock). letter_in w (k % 64))
-    (get_or-replicate n (k / 64) word (record { low = 0; high = 0 }) (omega arith))
+    (get_or-replicate n (k / 64) block (record { low = 0; high = 0 }) (omega arith))
     ∙ holds (k % 64) (omega arith) ∙ sym (letter_at-replicate width k b inside))
 
 -- the letter that was written, and the others
@@ -126,13 +126,13 @@ same_words width m xs ys fits same =
         ap (λ w. bit_at w (k % 64)) (sym (get_or-take (2 * m) xs i 0 within) ∙ ap (λ l. get_or l i 0) same
         ∙ get_or-take (2 * m) ys i 0 within)
 
--- a letter of a row of one word
-pub one_word : (word : LetterBlock) (k : ℕ) → k < 64
-    → letter_in (block_at (word ∷ []) (k / 64)) (k % 64) ≡ letter_in word k
-one_word word k below =
+-- a letter of a row of one block
+pub one_block : (block : LetterBlock) (k : ℕ) → k < 64
+    → letter_in (block_at (block ∷ []) (k / 64)) (k % 64) ≡ letter_in block k
+one_block block k below =
     let none : k / 64 ≡ 0 = omega arith in
     let rest : k % 64 ≡ k = omega arith in
-    (λ p. letter_in (block_at (word ∷ []) (none p)) (rest p))
+    (λ p. letter_in (block_at (block ∷ []) (none p)) (rest p))
 
 -- the letters of a value, from its planes
 module _ (v : List Bit) (inside : Inside) (is : IsValue inside) (shows : view_value inside ≡ v) where
@@ -167,10 +167,10 @@ module _ (v : List Bit) (inside : Inside) (is : IsValue inside) (shows : view_va
       ≡ (if nat_lt (64 * k + i) (length v) then bit_in plane (letter_at v (64 * k + i)) else 0)
   unfolding plane_bit
   word-shown plane k i which within below =
-      let place : 2 * ((64 * k + i) / 64) + plane ≡ 2 * k + plane = omega arith in
+      let index : 2 * ((64 * k + i) / 64) + plane ≡ 2 * k + plane = omega arith in
       let rest : (64 * k + i) % 64 ≡ i = omega arith in
       let here : plane_bit plane inside.planes (64 * k + i) ≡ bit_at (get_or inside.planes (2 * k + plane) 0) i =
-      (λ p. bit_at (get_or inside.planes (place p) 0) (rest p)) in
+      (λ p. bit_at (get_or inside.planes (index p) 0) (rest p)) in
       sym here ∙ elim (cases_lt (64 * k + i) (length v)) [
         | inl in_value ↦ rw (lt-ltb (64 * k + i) (length v) in_value) (bit-shown plane (64 * k + i) which in_value)
         | inr past ↦ rw (le-ltb (64 * k + i) (length v) past)
@@ -178,7 +178,7 @@ module _ (v : List Bit) (inside : Inside) (is : IsValue inside) (shows : view_va
             (omega (arith, length-shown, is.most)))
       ]
 
-  -- the letters of a word are those of the value, and 0 past it
+  -- the letters of a block are those of the value, and 0 past it
   pub letter_in-shown : (k i : ℕ) → 64 * k < length v → i < 64
       → letter_of (bit_at (get_or inside.planes (2 * k + 0) 0) i) (bit_at (get_or inside.planes (2 * k + 1) 0) i)
       ≡ letter_or Zero v (64 * k + i)
@@ -192,7 +192,7 @@ module _ (v : List Bit) (inside : Inside) (is : IsValue inside) (shows : view_va
         | false ↦ refl
       ]
 
-  -- the first words of a narrow value are those of a word that has its letters, cut at its width
+  -- the first words of a narrow value are those of a block that has its letters, cut at its width
   pub first_word : (plane w mask : ℕ) → plane < 2 → 1 ≤ length v → length v ≤ 64 → mask ≡ 2 ^ min inside.width 64 - 1
       → ((k : ℕ) → k < length v → bit_in plane (letter_at v k) ≡ bit_at w k)
       → get_or inside.planes plane 0 ≡ bit_and w mask
@@ -200,9 +200,9 @@ module _ (v : List Bit) (inside : Inside) (is : IsValue inside) (shows : view_va
       same_from_bits_below 64 _ _
       (is.planes.small plane 0 (omega (arith, is.planes.sized, word_within plane 0 which (omega arith)))) small
       (λ i below.
-      let place : plane ≡ 2 * 0 + plane = omega arith in
+      let index : plane ≡ 2 * 0 + plane = omega arith in
       let bit : 64 * 0 + i ≡ i = omega arith in
-      ap (λ j. bit_at (get_or inside.planes j 0) i) place ∙ word-shown plane 0 i which (omega arith) below
+      ap (λ j. bit_at (get_or inside.planes j 0) i) index ∙ word-shown plane 0 i which (omega arith) below
       ∙ ap (λ k. if nat_lt k (length v) then bit_in plane (letter_at v k) else 0) bit ∙ elim (cases_lt i (length v)) [
         | inl in_value ↦ rw (lt-ltb i (length v) in_value) (same i in_value
             ∙ sym (masked w inside.width i (omega (arith, length-shown)) below))
@@ -214,40 +214,40 @@ module _ (v : List Bit) (inside : Inside) (is : IsValue inside) (shows : view_va
       small = omega (arith, mask_lt w (min inside.width 64), pow_mono {i = min inside.width 64} {j = 64} (omega arith))
 
   -- such words give the letters
-  pub letters_by_first_words : (word : LetterBlock) (mask : ℕ) → length v ≤ 64 → mask ≡ 2 ^ min inside.width 64 - 1
-      → get_or inside.planes 0 0 ≡ bit_and word.low mask → get_or inside.planes 1 0 ≡ bit_and word.high mask
-      → letters_of (length v) (word ∷ []) ≡ v
+  pub letters_by_first_words : (block : LetterBlock) (mask : ℕ) → length v ≤ 64 → mask ≡ 2 ^ min inside.width 64 - 1
+      → get_or inside.planes 0 0 ≡ bit_and block.low mask → get_or inside.planes 1 0 ≡ bit_and block.high mask
+      → letters_of (length v) (block ∷ []) ≡ v
   unfolding plane_bit
-  letters_by_first_words word mask narrow is_mask first second =
-      same_letter_at _ v (length-letters_of (length v) (word ∷ [])) (λ k below.
-      let within : k < length v = omega (arith, length-letters_of (length v) (word ∷ [])) in
-      letter_at-letters_of (length v) (word ∷ []) k within ∙ one_word word k (omega arith)
-      ∙ (λ p. letter_of (bit 0 word.low k within first p) (bit 1 word.high k within second p))
+  letters_by_first_words block mask narrow is_mask first second =
+      same_letter_at _ v (length-letters_of (length v) (block ∷ [])) (λ k below.
+      let within : k < length v = omega (arith, length-letters_of (length v) (block ∷ [])) in
+      letter_at-letters_of (length v) (block ∷ []) k within ∙ one_block block k (omega arith)
+      ∙ (λ p. letter_of (bit 0 block.low k within first p) (bit 1 block.high k within second p))
       ∙ sym (letter_at-shown k within))
     where
       bit : (plane w k : ℕ) → k < length v → get_or inside.planes plane 0 ≡ bit_and w mask
           → bit_at w k ≡ plane_bit plane inside.planes k
-      bit plane w k below word =
+      bit plane w k below block =
           let none : 2 * (k / 64) + plane ≡ plane = omega arith in
           let rest : k % 64 ≡ k = omega arith in
           sym ((λ p. bit_at (get_or inside.planes (none p) 0) (rest p))
-          ∙ ap (λ x. bit_at x k) (word ∙ ap (bit_and w) is_mask)
+          ∙ ap (λ x. bit_at x k) (block ∙ ap (bit_and w) is_mask)
           ∙ masked w inside.width k (omega (arith, length-shown)) (omega arith))
 
   -- so the comparison of the words decides whether the letters are the same
-  pub first_words-Decides : (word : LetterBlock) (mask : ℕ) → length v ≤ 64 → mask ≡ 2 ^ min inside.width 64 - 1
-      → (get_or inside.planes 0 0 ≡ bit_and word.low mask)
-      × (get_or inside.planes 1 0 ≡ bit_and word.high mask) ↔ (letters_of (length v) (word ∷ []) ≡ v)
-  first_words-Decides word mask narrow is_mask = (
-    (λ (first, second). letters_by_first_words word mask narrow is_mask first second),
+  pub first_words-Decides : (block : LetterBlock) (mask : ℕ) → length v ≤ 64 → mask ≡ 2 ^ min inside.width 64 - 1
+      → (get_or inside.planes 0 0 ≡ bit_and block.low mask)
+      × (get_or inside.planes 1 0 ≡ bit_and block.high mask) ↔ (letters_of (length v) (block ∷ []) ≡ v)
+  first_words-Decides block mask narrow is_mask = (
+    (λ (first, second). letters_by_first_words block mask narrow is_mask first second),
     (λ same.
         let some : 1 ≤ length v = omega (arith, length-shown, is.least) in
-        let letter : (k : ℕ) → k < length v → letter_at v k ≡ letter_in word k =
+        let letter : (k : ℕ) → k < length v → letter_at v k ≡ letter_in block k =
         λ k within. ap (λ l. letter_at l k) (sym same)
-        ∙ letter_at-letters_of (length v) (word ∷ []) k within ∙ one_word word k (omega arith) in (
-          first_word 0 word.low mask (omega arith) some narrow is_mask (λ k within. ap low_of (letter k within)
+        ∙ letter_at-letters_of (length v) (block ∷ []) k within ∙ one_block block k (omega arith) in (
+          first_word 0 block.low mask (omega arith) some narrow is_mask (λ k within. ap low_of (letter k within)
               ∙ low_of-letter_of _ _ (bit_at-lt _ _)),
-          first_word 1 word.high mask (omega arith) some narrow is_mask (λ k within. ap high_of (letter k within)
+          first_word 1 block.high mask (omega arith) some narrow is_mask (λ k within. ap high_of (letter k within)
               ∙ high_of-letter_of _ _ (bit_at-lt _ _)),
         )),
   )

@@ -34,7 +34,7 @@ high_of Z = 1
 abbrev pub letter_in : LetterBlock → ℕ → Bit
 letter_in block i = letter_of (bit_at block.low i) (bit_at block.high i)
 
--- the block at this place of a row
+-- the block at this index of a row
 abbrev pub block_at : List LetterBlock → ℕ → LetterBlock
 block_at blocks j = slice_index_or blocks j (record { low = 0; high = 0 })
 

@@ -14,7 +14,7 @@ pub enum Bit {
 
 impl Bit {
     /// The letter that is printed, an ASCII byte: `0`, `1`, `x` or `z`.
-    pub fn letter(self) -> u8
+    pub fn printed_letter(self) -> u8
         ensures { result ≡ printed_letter self }
     {
         match self {

@@ -1,4 +1,4 @@
-//! Up to 64 letters in two words of bits.
+//! A block of 64 letters, as two words of bits.
 
 ghost use Rattle.std.specs.Prelude.{◌≡◌, ◌+◌, ◌<◌, ℕ, if◌then◌else◌};
 ghost use Rattle.std.specs.Int.{bit_at};

@@ -1,4 +1,4 @@
-//! A search for a tick among changes that starts near an expected place.
+//! A search for a tick among changes that starts near an expected index.
 
 ghost use Rattle.std.specs.Prelude.{◌≡◌, ℕ, ◌<◌, ◌≤◌, nat_le, length, take, drop, count_by, All};
 ghost use Rattle.vcd_core.specs.Wave.{IsWave};
@@ -11,31 +11,31 @@ pub(crate) fn count_through_near(changes: &[Change], near: usize, tick: u64) -> 
     ensures { result ≡ count_by (λ c. nat_le c.tick tick) changes.now }
 {
     let near = near.min(changes.len());
-    let from = place_before(changes, near, tick);
-    let to = place_after(changes, near, tick);
+    let from = search_start(changes, near, tick);
+    let to = search_end(changes, near, tick);
     from + changes[from..to].partition_point(|change| change.tick <= tick)
 }
 
-/// A place before which no change is later than `tick`: `near`, or one before it, found by steps
+/// An index before which no change is later than `tick`: `near`, or one before it, found by steps
 /// that double.
-fn place_before(changes: &[Change], near: usize, tick: u64) -> usize
+fn search_start(changes: &[Change], near: usize, tick: u64) -> usize
     requires form { (width : ℕ) × IsWave width changes.now }
     requires within { near ≤ length changes.now }
     ensures within { result ≤ near }
     ensures earlier { All (λ c. c.tick ≤ tick) (take result changes.now) }
 {
-    let mut place = near;
+    let mut index = near;
     let mut step = 1usize;
-    while place > 0 && changes[place - 1].tick > tick {
-        place = place.saturating_sub(step);
+    while index > 0 && changes[index - 1].tick > tick {
+        index = index.saturating_sub(step);
         step = step.saturating_mul(2);
     }
-    place
+    index
 }
 
-/// A place from which on each change is later than `tick`: `near`, or one after it, found by steps
+/// An index from which on each change is later than `tick`: `near`, or one after it, found by steps
 /// that double.
-fn place_after(changes: &[Change], near: usize, tick: u64) -> usize
+fn search_end(changes: &[Change], near: usize, tick: u64) -> usize
     requires form { (width : ℕ) × IsWave width changes.now }
     requires within { near ≤ length changes.now }
     ensures from { near ≤ result }
@@ -43,11 +43,11 @@ fn place_after(changes: &[Change], near: usize, tick: u64) -> usize
     ensures later { All (λ c. tick < c.tick) (drop result changes.now) }
 {
     let count = changes.len();
-    let mut place = near;
+    let mut index = near;
     let mut step = 1usize;
-    while place < count && changes[place].tick <= tick {
-        place = place.saturating_add(step).min(count);
+    while index < count && changes[index].tick <= tick {
+        index = index.saturating_add(step).min(count);
         step = step.saturating_mul(2);
     }
-    place
+    index
 }

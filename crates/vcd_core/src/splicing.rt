@@ -21,9 +21,9 @@ pub fn moved_change(change: &Change, by: i64) -> Change
 }
 
 /// Swaps the first `count` changes of the piece with as many of the list from `at` on.
-fn swap_fronts(changes: &mut Vec<Change>, at: usize, piece: &mut Vec<Change>, count: usize)
+fn swap_prefix(changes: &mut Vec<Change>, at: usize, piece: &mut Vec<Change>, count: usize)
     requires within { at + count ≤ vec_len changes.old }
-    requires front { count ≤ vec_len piece.old }
+    requires prefix { count ≤ vec_len piece.old }
     ensures changes { changes.new.items ≡ take at changes.old.items ++ take count piece.old.items
         ++ drop (at + count) changes.old.items }
     ensures piece { piece.new.items ≡ take count (drop at changes.old.items)
@@ -33,10 +33,10 @@ fn swap_fronts(changes: &mut Vec<Change>, at: usize, piece: &mut Vec<Change>, co
     ensures piece_len { vec_len piece.new ≡ vec_len piece.old }
     ensures piece_capacity { vec_capacity piece.new ≡ vec_capacity piece.old }
 {
-    let (front, _) = piece.as_mut_slice().split_at_mut(count);
+    let (prefix, _) = piece.as_mut_slice().split_at_mut(count);
     let (_, rest) = changes.as_mut_slice().split_at_mut(at);
     let (part, _) = rest.split_at_mut(count);
-    part.swap_with_slice(front);
+    part.swap_with_slice(prefix);
 }
 
 /// Moves the changes from `to` on to `from`, and each by `by` ticks. The old changes at the
@@ -45,7 +45,7 @@ fn move_to_front(changes: &mut [Change], from: usize, to: usize, by: i64)
     requires ordered { from ≤ to }
     requires within { to ≤ length changes.old }
     requires ticks { AllTicksFit by (drop to changes.old) }
-    ensures front { take (length changes.old - (to - from)) changes.new
+    ensures prefix { take (length changes.old - (to - from)) changes.new
         ≡ take from changes.old ++ map (moved_change by) (drop to changes.old) }
     ensures len { length changes.new ≡ length changes.old }
 {
@@ -85,7 +85,7 @@ fn write_at(changes: &mut Vec<Change>, at: usize, others: &[Change])
     part.copy_from_slice(others);
 }
 
-/// Moves the changes at places `from` to before `to` to the end of the piece, which has room for
+/// Moves the changes at indexes `from` to before `to` to the end of the piece, which has room for
 /// them. The later ones move to the front and get their new ticks.
 ///
 /// If none goes out and `by` is 0, it looks at no later change.
@@ -113,7 +113,7 @@ fn take_out(changes: &mut Vec<Change>, from: usize, to: usize, piece: &mut Vec<C
 /// The later ones move to the end and get their new ticks.
 fn put_in(changes: &mut Vec<Change>, at: usize, piece: &mut Vec<Change>, kept: usize, by: i64)
     requires within { at ≤ vec_len changes.old }
-    requires front { kept ≤ vec_len piece.old }
+    requires prefix { kept ≤ vec_len piece.old }
     requires room { vec_len changes.old + (vec_len piece.old - kept) ≤ vec_capacity changes.old }
     requires ticks { AllTicksFit by (drop at changes.old.items) }
     ensures changes { changes.new.items ≡ take at changes.old.items ++ drop kept piece.old.items
@@ -156,10 +156,10 @@ pub(crate) fn splice_changes(
     let range_len = to - from;
     let piece_len = piece.len();
     if piece_len <= range_len {
-        swap_fronts(changes, from, piece, piece_len);
+        swap_prefix(changes, from, piece, piece_len);
         take_out(changes, from + piece_len, to, piece, by);
     } else {
-        swap_fronts(changes, from, piece, range_len);
+        swap_prefix(changes, from, piece, range_len);
         put_in(changes, to, piece, range_len, by);
     }
 }

@@ -175,7 +175,7 @@ impl PartialEq for Value {
 impl fmt::Debug for Value {
     fn fmt<W: fmt::Write>(&self, f: &mut fmt::Formatter<W>) -> fmt::Result {
         for k in (0..self.width()).rev() {
-            f.write_char(char::from(self.bit(k).letter()))?;
+            f.write_char(char::from(self.bit(k).printed_letter()))?;
         }
         Ok(())
     }

@@ -84,12 +84,12 @@ whole_is : (role : ByteRole) (g : List BusBit) (given : Option ℕ) (b : BusBit)
     → byte_annotations role (g ++ b ∷ []) ≡ whole_byte_annotations (transfer_of role (partial_byte_of g) given) b
 whole_is role [] given b eight = absurd (omega arith)
 whole_is role (a ∷ g) given b eight =
-    let front = take_at (a ∷ g) (b ∷ []) 8 eight in
+    let prefix = take_at (a ∷ g) (b ∷ []) 8 eight in
     let ninth = drop_at (a ∷ g) (b ∷ []) 8 eight in
     let first = part_first a g in
     let last = part_last a g in
     let number = part_number (a ∷ g) in
-    (λ i. bits_annotation (front i) (byte_kind role (number_of_bits (front i)))
+    (λ i. bits_annotation (prefix i) (byte_kind role (number_of_bits (prefix i)))
     ∷ bits_annotation (ninth i) (acknowledge_kind (number_of_bits (ninth i))) ∷ [])
     ∙ sym (λ i. annotation (first i) (last i) (byte_kind role (number i))
     ∷ annotation b.tick b.tick (acknowledge_kind (number_with (Some 0) b)) ∷ [])
@@ -131,8 +131,8 @@ unfolding nines_annotations
 stretch_past es role g given b eight =
     let nine : length (g ++ b ∷ []) ≡ 9 = length_push g b ∙ omega arith in
     let full : (length (g ++ b ∷ []) == 9) ≡ true = (Decides-eqb (length (g ++ b ∷ [])) 9).1 nine in
-    let front = take_at g (b ∷ []) 8 eight in
-    let number : number_of_bits (take 8 (g ++ b ∷ [])) ≡ (partial_byte_of g).number = ap number_of_bits front
+    let prefix = take_at g (b ∷ []) 8 eight in
+    let number : number_of_bits (take 8 (g ++ b ∷ [])) ≡ (partial_byte_of g).number = ap number_of_bits prefix
     ∙ sym (part_number g) in
     let annotations = whole_is role g given b eight in
     ap (λ (bs : List BusBit). nines_annotations (has_condition es) role (groups_of 9 bs))

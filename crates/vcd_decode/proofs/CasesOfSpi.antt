@@ -47,10 +47,10 @@ sent = (0, One) ∷ (15, Zero) ∷ (25, One) ∷ (35, Zero) ∷ (55, One) ∷ (6
 selected : List (ℕ × Bit)
 selected = (0, Zero) ∷ (120, One) ∷ []
 
-word_and_rest : found (spi_setup 0 8 Msb) (clock 11) (Some sent) None (Some selected) 120
+block_and_rest : found (spi_setup 0 8 Msb) (clock 11) (Some sent) None (Some selected) 120
     ≡ annotation 10 80 (Word (Number 165) Absent) ∷ annotation 90 110 (Unfinished 3) ∷ []
 unfolding found line clock sent selected spi_annotations groups_of value_from
-word_and_rest = refl
+block_and_rest = refl
 
 -- x at one sampling tick makes the word unknown
 unclear_bit : found (spi_setup 0 8 Msb) (clock 11)

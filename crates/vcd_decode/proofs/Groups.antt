@@ -61,16 +61,16 @@ map_shifted : {X : Type 0} (f g : ℕ → X) (a n : ℕ) → ((i : ℕ) → f (i
 map_shifted f g a zero same = refl
 map_shifted f g a (suc n) same = λ i. same a i ∷ map_shifted f g (a + 1) n same i
 
-take_front : {X : Type 0} (n : ℕ) (c xs : List X) → length c ≡ n → take n (c ++ xs) ≡ c
-take_front zero [] xs whole = refl
-take_front (suc n) [] xs whole = absurd (omega arith)
-take_front zero (x ∷ c) xs whole = absurd (omega arith)
-take_front (suc n) (x ∷ c) xs whole = ap (λ ys. x ∷ ys) (take_front n c xs (omega arith))
+take_prefix : {X : Type 0} (n : ℕ) (c xs : List X) → length c ≡ n → take n (c ++ xs) ≡ c
+take_prefix zero [] xs whole = refl
+take_prefix (suc n) [] xs whole = absurd (omega arith)
+take_prefix zero (x ∷ c) xs whole = absurd (omega arith)
+take_prefix (suc n) (x ∷ c) xs whole = ap (λ ys. x ∷ ys) (take_prefix n c xs (omega arith))
 
-drop_front : {X : Type 0} (k : ℕ) (c xs : List X) → drop (length c + k) (c ++ xs) ≡ drop k xs
-drop_front k [] xs = ap (λ n. drop n xs) {x = 0 + k} {y = k} (omega arith)
-drop_front k (x ∷ c) xs = ap (λ n. drop n (x ∷ c ++ xs)) {x = length (x ∷ c) + k} {y = suc (length c + k)} (omega arith)
-    ∙ drop_front k c xs
+remove_prefix : {X : Type 0} (k : ℕ) (c xs : List X) → drop (length c + k) (c ++ xs) ≡ drop k xs
+remove_prefix k [] xs = ap (λ n. drop n xs) {x = 0 + k} {y = k} (omega arith)
+remove_prefix k (x ∷ c) xs = ap (λ n. drop n (x ∷ c ++ xs)) {x = length (x ∷ c) + k} {y = suc (length c + k)}
+    (omega arith) ∙ remove_prefix k c xs
 
 -- a whole group in front of those of the rest
 pub groups_whole : {X : Type 0} (n : ℕ) (c xs : List X) → 0 < n → length c ≡ n
@@ -83,10 +83,10 @@ groups_whole n c xs some whole =
     ∙ (λ i. first i ∷ later i)
   where
     first : take n (drop (0 * n) (c ++ xs)) ≡ c
-    first = ap (λ k. take n (drop k (c ++ xs))) {x = 0 * n} {y = 0} (omega arith) ∙ take_front n c xs whole
+    first = ap (λ k. take n (drop k (c ++ xs))) {x = 0 * n} {y = 0} (omega arith) ∙ take_prefix n c xs whole
 
     later : map (slice_chunk (c ++ xs) n) (range_with_len 1 (chunk_count (length xs) n))
         ≡ map (slice_chunk xs n) (range_with_len 0 (chunk_count (length xs) n))
     later = map_shifted (slice_chunk (c ++ xs) n) (slice_chunk xs n) 0 (chunk_count (length xs) n) (λ i.
         ap (λ k. take n (drop k (c ++ xs))) {x = (i + 1) * n} {y = length c + i * n} (omega (arith, whole))
-        ∙ ap (take n) (drop_front (i * n) c xs))
+        ∙ ap (take n) (remove_prefix (i * n) c xs))

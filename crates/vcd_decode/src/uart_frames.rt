@@ -38,10 +38,10 @@ pub fn uart(alloc: Global, wave: &Wave, end: u64, setup: &Uart) -> Result<Vec<An
     let mut before = Bit::X;
     let mut taken = 0;
     let changes = wave.changes();
-    for (place, change) in changes.iter().enumerate() {
+    for (index, change) in changes.iter().enumerate() {
         let letter = change.value.bit(0);
         let frame = if begins_frame(before, letter, taken, change.tick) {
-            begun_frame(wave, place, end, setup, change.tick)
+            begun_frame(wave, index, end, setup, change.tick)
         } else {
             None
         };

@@ -297,8 +297,8 @@ none_follows floor before h (c ∷ cs) none = absurd (omega arith)
 
 -- parts of a wave rise
 module _ (width from to : ℕ) (cs : List Change) (is : IsWave width cs) where
-  pub front_rises : AreChangesFrom 0 (all_x width) (take from cs)
-  front_rises = (rise_split 0 (all_x width) (take from cs) (drop from cs)
+  pub prefix_rises : AreChangesFrom 0 (all_x width) (take from cs)
+  prefix_rises = (rise_split 0 (all_x width) (take from cs) (drop from cs)
       (subst (AreChangesFrom 0 (all_x width)) (sym (take-append-drop from cs)) is.rise)).0
 
   pub later_rises : (floor : ℕ) × (before : List Bit) × AreChangesFrom floor before (drop to cs)
@@ -310,8 +310,8 @@ module _ (width from to : ℕ) (cs : List Change) (is : IsWave width cs) where
 -- the changes of a wave in three parts; the middle one is replaced
 module _ (width from to : ℕ) (cs piece : List Change) (by : ℤ) (is : IsWave width cs) (ordered : from ≤ to)
     (within : to ≤ length cs) (fit : AllTicksFit by (drop to cs)) where
-  abbrev front : List Change
-  front = take from cs
+  abbrev prefix : List Change
+  prefix = take from cs
 
   abbrev later : List Change
   later = map (moved_change by) (drop to cs)
@@ -342,34 +342,34 @@ module _ (width from to : ℕ) (cs piece : List Change) (by : ℤ) (is : IsWave 
       rise_follow floor before (moved_change by c ∷ []) (from', other, wide, tt)
 
   abbrev piece_test : Bool
-  piece_test = may_all_follow (floor_after 0 front) (last_value (all_x width) front) piece
+  piece_test = may_all_follow (floor_after 0 prefix) (last_value (all_x width) prefix) piece
 
   abbrev later_test : Bool
-  later_test = may_all_follow (floor_after (floor_after 0 front) piece)
-      (last_value (last_value (all_x width) front) piece) (map (moved_change by) (take 1 (drop to cs)))
+  later_test = may_all_follow (floor_after (floor_after 0 prefix) piece)
+      (last_value (last_value (all_x width) prefix) piece) (map (moved_change by) (take 1 (drop to cs)))
 
   -- the tests at the two ends show whether the splice is a wave
   pub seams_tell : (piece_test ≡ true) → (later_test ≡ true) → IsWave width (spliced_changes cs from to piece by)
   unfolding spliced_changes
   seams_tell at_piece at_later =
-      let tail = whole_follows (floor_after (floor_after 0 front) piece)
-      (last_value (last_value (all_x width) front) piece) (later_rises width from to cs is).0
+      let tail = whole_follows (floor_after (floor_after 0 prefix) piece)
+      (last_value (last_value (all_x width) prefix) piece) (later_rises width from to cs is).0
       (later_rises width from to cs is).1 (drop to cs) (later_rises width from to cs is).2 fit at_later in
-      let rest = rise_join (floor_after 0 front) (last_value (all_x width) front) piece later
-      (follow_rise (floor_after 0 front) (last_value (all_x width) front) piece at_piece) tail in
+      let rest = rise_join (floor_after 0 prefix) (last_value (all_x width) prefix) piece later
+      (follow_rise (floor_after 0 prefix) (last_value (all_x width) prefix) piece at_piece) tail in
       record {
-        rise = subst (AreChangesFrom 0 (all_x width)) (sym (append_assoc front piece later))
-            (rise_join 0 (all_x width) front (piece ++ later) (front_rises width from to cs is) rest);
+        rise = subst (AreChangesFrom 0 (all_x width)) (sym (append_assoc prefix piece later))
+            (rise_join 0 (all_x width) prefix (piece ++ later) (prefix_rises width from to cs is) rest);
       }
 
   pub wave_tells : IsWave width (spliced_changes cs from to piece by) → (piece_test ≡ true) × (later_test ≡ true)
   unfolding spliced_changes
   wave_tells wave =
-      let parts = rise_split 0 (all_x width) front (piece ++ later)
-      (subst (AreChangesFrom 0 (all_x width)) (append_assoc front piece later) wave.rise) in
-      let more = rise_split (floor_after 0 front) (last_value (all_x width) front) piece later parts.1 in (
-        rise_follow (floor_after 0 front) (last_value (all_x width) front) piece more.0,
-        first_of (floor_after (floor_after 0 front) piece) (last_value (last_value (all_x width) front) piece)
+      let parts = rise_split 0 (all_x width) prefix (piece ++ later)
+      (subst (AreChangesFrom 0 (all_x width)) (append_assoc prefix piece later) wave.rise) in
+      let more = rise_split (floor_after 0 prefix) (last_value (all_x width) prefix) piece later parts.1 in (
+        rise_follow (floor_after 0 prefix) (last_value (all_x width) prefix) piece more.0,
+        first_of (floor_after (floor_after 0 prefix) piece) (last_value (last_value (all_x width) prefix) piece)
             (drop to cs) more.1,
       )
 
@@ -406,7 +406,7 @@ module _ (width end : ℕ) (cs : List Change) (p : PieceView) (is : IsWave width
   pub stands_by_tests : All (λ c. MovesTo p.by end c.tick) (drop p.to cs) → fits_between ≡ true → comes_next ≡ true
       → AllUpTo end before → AllUpTo end p.changes → IsValidPiece width end cs p
   unfolding spliced_changes
-  stands_by_tests move at_piece at_later upto_front upto_piece =
+  stands_by_tests move at_piece at_later upto_prefix upto_piece =
       let parts = moves_fit p.by end (drop p.to cs) move in
       record {
         ordered = ordered;
@@ -414,7 +414,7 @@ module _ (width end : ℕ) (cs : List Change) (p : PieceView) (is : IsWave width
         ticks = parts.0;
         form = seams_tell width p.from p.to cs p.changes p.by is ordered within parts.0 at_piece at_later;
         upto = upto_join end (before ++ p.changes) (map (moved_change p.by) (drop p.to cs))
-            (upto_join end before p.changes upto_front upto_piece) parts.1;
+            (upto_join end before p.changes upto_prefix upto_piece) parts.1;
       }
 
   -- and one by one, if the piece is valid
@@ -426,8 +426,8 @@ module _ (width end : ℕ) (cs : List Change) (p : PieceView) (is : IsWave width
         let first = upto_split end before p.changes last.0 in
         (first, last.1)
 
-    pub front_ends : AllUpTo end before
-    front_ends = three.0.0
+    pub prefix_ends : AllUpTo end before
+    prefix_ends = three.0.0
 
     pub piece_ends : AllUpTo end p.changes
     piece_ends = three.0.1

@@ -5,10 +5,10 @@ use Rattle.std.specs.List.{insert, remove}
 use Rattle.std.proofs.lemmas.List.Elements.{All-nil, All-cons, All-head, All-tail, All-append}
 
 module _ {X : Type 0} (P : X → Type 0) where
-  front_of : (xs ys : List X) → All P (xs ++ ys) → All P xs
-  front_of [] ys all = All-nil P
-  front_of (x ∷ xs) ys all =
-      All-cons P x xs (All-head P x (xs ++ ys) all) (front_of xs ys (All-tail P x (xs ++ ys) all))
+  prefix_of : (xs ys : List X) → All P (xs ++ ys) → All P xs
+  prefix_of [] ys all = All-nil P
+  prefix_of (x ∷ xs) ys all =
+      All-cons P x xs (All-head P x (xs ++ ys) all) (prefix_of xs ys (All-tail P x (xs ++ ys) all))
 
   back_of : (xs ys : List X) → All P (xs ++ ys) → All P ys
   back_of [] ys all = all
@@ -16,12 +16,12 @@ module _ {X : Type 0} (P : X → Type 0) where
 
   -- without the element at a position
   pub of_others : (xs : List X) (k : ℕ) → All P (take k xs) → All P (drop (k + 1) xs) → All P (remove xs k)
-  of_others xs k front back =
-      All-append P (take k xs) (drop (suc k) xs) front
+  of_others xs k prefix back =
+      All-append P (take k xs) (drop (suc k) xs) prefix
       (subst (λ n. All P (drop n xs)) {x = k + 1} {y = suc k} (omega arith) back)
 
-  pub others_front : (xs : List X) (k : ℕ) → All P (remove xs k) → All P (take k xs)
-  others_front xs k all = front_of (take k xs) (drop (suc k) xs) all
+  pub others_prefix : (xs : List X) (k : ℕ) → All P (remove xs k) → All P (take k xs)
+  others_prefix xs k all = prefix_of (take k xs) (drop (suc k) xs) all
 
   pub others_back : (xs : List X) (k : ℕ) → All P (remove xs k) → All P (drop (k + 1) xs)
   others_back xs k all =

@@ -42,11 +42,11 @@ kept_of_signal n end s sound = kept_are n (all_x s.width) s.changes ∙ steady_a
 
 module _ (n : ℕ) (s : SignalContents) (cs : List Change) (x : List Bit) (same : cs ≡ s.changes)
     (all : x ≡ all_x s.width) (from : ℕ) (within : from ≤ length cs)
-    (front : kept_changes n x cs ≡ take from cs ++ kept_changes n (last_value x (take from cs)) (drop from cs)) where
+    (prefix : kept_changes n x cs ≡ take from cs ++ kept_changes n (last_value x (take from cs)) (drop from cs)) where
   -- none is taken out
   pub none_left_out : from ≡ length cs → kept_changes n (all_x s.width) s.changes ≡ s.changes
   none_left_out end =
-      (λ i. kept_changes n (sym all i) (sym same i)) ∙ front
+      (λ i. kept_changes n (sym all i) (sym same i)) ∙ prefix
       ∙ ap (λ l. take from cs ++ l)
       (kept_of_none n (last_value x (take from cs)) (drop from cs)
       (omega (arith, ap length (drop_all from cs (omega (arith, end))))))
@@ -60,11 +60,11 @@ module _ (n : ℕ) (s : SignalContents) (cs : List Change) (x : List Bit) (same 
     parts_left : take from cs ++ list ++ drop (from + to) cs ≡ kept_changes n (all_x s.width) s.changes
     parts_left =
         let following : drop (from + to) cs ≡ drop to later = sym (drop-drop to from cs) ∙ ap (drop to) (sym rest) in
-        let place : kept_changes n before later ≡ kept_changes n (last_value x (take from cs)) (drop from cs) =
+        let index : kept_changes n before later ≡ kept_changes n (last_value x (take from cs)) (drop from cs) =
         (λ i. kept_changes n (value i) (rest i))
         ∙ ap (λ v. kept_changes n (last_value v (take from cs)) (drop from cs)) (sym all) in
         append_assoc (take from cs) list (drop (from + to) cs)
-        ∙ (λ i. take from cs ++ (listed i ++ following i)) ∙ ap (λ l. take from cs ++ l) (sym told ∙ place) ∙ sym front
+        ∙ (λ i. take from cs ++ (listed i ++ following i)) ∙ ap (λ l. take from cs ++ l) (sym told ∙ index) ∙ sym prefix
         ∙ (λ i. kept_changes n (all i) (same i))
 
     pub deglitch_gives : (k end : ℕ) (p : Piece) → IsSoundSignal end s → end ≤ END_LIMIT → to ≤ length later

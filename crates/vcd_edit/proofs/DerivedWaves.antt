@@ -168,10 +168,10 @@ map-map f g [] = refl
 map-map f g (x ∷ xs) = ap (λ ys. f (g x) ∷ ys) (map-map f g xs)
 
 -- x gives x
-x_pair : (operator : Operator) → operator_bit operator X X ≡ X
-x_pair And = refl
-x_pair Or = refl
-x_pair Xor = refl
+two_x_give_x : (operator : Operator) → operator_bit operator X X ≡ X
+two_x_give_x And = refl
+two_x_give_x Or = refl
+two_x_give_x Xor = refl
 
 -- the operator's bit at an edge, from the bits of both
 pub edge_bit_is : (operator : Operator) (e : BitEdge) (u v : Bit) → HasBits e → get_or e.at 0 None ≡ Some u
@@ -203,7 +203,7 @@ module _ (operator : Operator) (a b : WaveView) where
           → pair_value u ≡ value_just_before 1 pair_value u
       from_both zero one two = (λ i. operator_bit operator ((ap (λ v. letter_at v 0) one ∙ x_letter_at a.width 0) i)
           ((ap (λ v. letter_at v 0) two ∙ x_letter_at b.width 0) i) ∷ [])
-          ∙ ap (λ (x : Bit). x ∷ []) (x_pair operator)
+          ∙ ap (λ (x : Bit). x ∷ []) (two_x_give_x operator)
       from_both (suc u) one two =
           λ i. operator_bit operator (letter_at (one i) 0) (letter_at (two i) 0) ∷ []
 

@@ -1,4 +1,4 @@
--- The words of the inverse of a value, and the letters that they show.
+-- The blocks of the inverse of a value, and the letters that they show.
 use Rattle.std.proofs.Common.{◌≡◌, ℕ, zero, suc, ◌<◌, ◌≤◌, ◌+◌, ◌-◌, ◌*◌, ◌/◌, ◌%◌, max, List}
 use Rattle.std.proofs.Common.{length, map, get_or}
 use Rattle.std.proofs.Common.{refl, sym, ap, ◌∙◌, arith, inl, inr, if◌then◌else◌}
@@ -15,36 +15,37 @@ use Rattle.vcd_core.proofs.ValueLemmas.{same_letter_at, length-letters_of, lette
 use Rattle.vcd_edit.specs.Operators.{not_bit}
 use Rattle.vcd_edit.specs.inside.Inverse.{ShowsInverse}
 
-pub shows_none : (value : List Bit) (words : List LetterBlock) → ShowsInverse 0 value words
+pub shows_none : (value : List Bit) (blocks : List LetterBlock) → ShowsInverse 0 value blocks
 unfolding ShowsInverse
-shows_none value words = λ k below within. absurd (omega arith)
+shows_none value blocks = λ k below within. absurd (omega arith)
 
--- one word more
-pub shows_more : (value : List Bit) (words : List LetterBlock) (j : ℕ) (word inverse : LetterBlock) → j < length words
-    → HoldsLetters Zero value (64 * j) word → ((i : ℕ) → i < 64 → letter_in inverse i ≡ not_bit (letter_in word i))
-    → ShowsInverse (64 * j) value words → ShowsInverse (64 * (j + 1)) value (set words j inverse)
+-- one block more
+pub shows_more : (value : List Bit) (blocks : List LetterBlock) (j : ℕ) (block inverse : LetterBlock)
+    → j < length blocks
+    → HoldsLetters Zero value (64 * j) block → ((i : ℕ) → i < 64 → letter_in inverse i ≡ not_bit (letter_in block i))
+    → ShowsInverse (64 * j) value blocks → ShowsInverse (64 * (j + 1)) value (set blocks j inverse)
 unfolding ShowsInverse
-shows_more value words j word inverse there holds negated shown = λ k below within.
+shows_more value blocks j block inverse there holds negated shown = λ k below within.
     elim (cases_eq (k / 64) j) [
       | inl here ↦
-          let place : 64 * j + k % 64 ≡ k = omega arith in
-          ap (λ i. letter_in (block_at (set words j inverse) i) (k % 64)) here
+          let index : 64 * j + k % 64 ≡ k = omega arith in
+          ap (λ i. letter_in (block_at (set blocks j inverse) i) (k % 64)) here
           ∙ ap (λ (w : LetterBlock). letter_in w (k % 64))
-          (get_or-set_same words j inverse (record { low = 0; high = 0 }) there)
+          (get_or-set_same blocks j inverse (record { low = 0; high = 0 }) there)
           ∙ negated (k % 64) (omega arith)
-          ∙ ap not_bit (holds.each (k % 64) (omega arith) ∙ ap (letter_or Zero value) place
+          ∙ ap not_bit (holds.each (k % 64) (omega arith) ∙ ap (letter_or Zero value) index
           ∙ ap (λ b. if b then letter_at value k else Zero) (lt-ltb k (length value) within))
       | inr elsewhere ↦
           ap (λ (w : LetterBlock). letter_in w (k % 64))
-          (get_or-set_other words j (k / 64) inverse (record { low = 0; high = 0 }) elsewhere)
+          (get_or-set_other blocks j (k / 64) inverse (record { low = 0; high = 0 }) elsewhere)
           ∙ shown k (omega arith) within
     ]
 
--- all words
-pub shows_all : (value : List Bit) (words : List LetterBlock) (limit : ℕ) → length value ≤ limit
-    → ShowsInverse limit value words → ShowsInverse (length value) value words
+-- all blocks
+pub shows_all : (value : List Bit) (blocks : List LetterBlock) (limit : ℕ) → length value ≤ limit
+    → ShowsInverse limit value blocks → ShowsInverse (length value) value blocks
 unfolding ShowsInverse
-shows_all value words limit most shown = λ k below within. shown k (omega arith) within
+shows_all value blocks limit most shown = λ k below within. shown k (omega arith) within
 
 -- ---- the letters
 
@@ -65,11 +66,11 @@ letter_at-map value k within =
     ap (λ n. get_or (map not_bit value) (n - 1 - k) X) (length-map value not_bit)
     ∙ get_or-map not_bit value (length value - 1 - k) X X (omega arith)
 
--- a row of words that shows the inverse has its letters
-pub inverse_letters : (value : List Bit) (words : List LetterBlock) → ShowsInverse (length value) value words
-    → letters_of (length value) words ≡ map not_bit value
+-- a row of blocks that shows the inverse has its letters
+pub inverse_letters : (value : List Bit) (blocks : List LetterBlock) → ShowsInverse (length value) value blocks
+    → letters_of (length value) blocks ≡ map not_bit value
 unfolding ShowsInverse
-inverse_letters value words shows =
-    same_letter_at _ _ (length-letters_of (length value) words ∙ sym (length-map value not_bit)) (λ k below.
-    let within : k < length value = omega (arith, length-letters_of (length value) words) in
-    letter_at-letters_of (length value) words k within ∙ shows k within within ∙ sym (letter_at-map value k within))
+inverse_letters value blocks shows =
+    same_letter_at _ _ (length-letters_of (length value) blocks ∙ sym (length-map value not_bit)) (λ k below.
+    let within : k < length value = omega (arith, length-letters_of (length value) blocks) in
+    letter_at-letters_of (length value) blocks k within ∙ shows k within within ∙ sym (letter_at-map value k within))

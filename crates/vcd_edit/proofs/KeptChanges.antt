@@ -87,29 +87,29 @@ module _ (n : ℕ) (last : List Bit) (cs : List Change) (i : ℕ) (c : Change) (
         ∙ kept_first n last c (drop (i + 1) cs) (ap (is_kept n last c) (sym rest) ∙ kept)
 
     -- and so are those before it
-    pub kept_in_front : (before : List Bit) (all : List Change) → all ≡ take i cs ++ kept_changes n last (drop i cs)
+    pub kept_prefix : (before : List Bit) (all : List Change) → all ≡ take i cs ++ kept_changes n last (drop i cs)
         → all ≡ take (i + 1) cs ++ kept_changes n c.value (drop (i + 1) cs)
-    kept_in_front before all is =
+    kept_prefix before all is =
         is ∙ ap (λ l. take i cs ++ l) one_kept
         ∙ sym (append_assoc (take i cs) (c ∷ []) (kept_changes n c.value (drop (i + 1) cs)))
         ∙ ap (λ l. l ++ kept_changes n c.value (drop (i + 1) cs)) (sym up_to_here)
 
     -- or those from a position on
-    pub kept_after : (front all : List Change) (to : ℕ) → to ≤ i
-        → all ≡ front ++ take (i - to) (drop to cs) ++ kept_changes n last (drop i cs)
-        → all ≡ front ++ take (i + 1 - to) (drop to cs) ++ kept_changes n c.value (drop (i + 1) cs)
-    kept_after front all to le is =
+    pub kept_after : (prefix all : List Change) (to : ℕ) → to ≤ i
+        → all ≡ prefix ++ take (i - to) (drop to cs) ++ kept_changes n last (drop i cs)
+        → all ≡ prefix ++ take (i + 1 - to) (drop to cs) ++ kept_changes n c.value (drop (i + 1) cs)
+    kept_after prefix all to le is =
         let part = take (i - to) (drop to cs) in
         let following = kept_changes n c.value (drop (i + 1) cs) in
-        let place : to + (i - to) ≡ i = omega arith in
-        let read : get_or (drop to cs) (i - to) c ≡ c = get_or-drop to cs (i - to) c ∙ ap (λ k. get_or cs k c) place
+        let index : to + (i - to) ≡ i = omega arith in
+        let read : get_or (drop to cs) (i - to) c ≡ c = get_or-drop to cs (i - to) c ∙ ap (λ k. get_or cs k c) index
         ∙ sym at in
         let count : i + 1 - to ≡ i - to + 1 = omega arith in
         let more : take (i + 1 - to) (drop to cs) ≡ part ++ c ∷ [] =
         ap (λ k. take k (drop to cs)) count ∙ take_more (drop to cs) (i - to) c (omega (arith, length-drop to cs))
         ∙ ap (λ d. part ++ d ∷ []) read in
-        is ∙ ap (λ l. front ++ part ++ l) one_kept ∙ sym (append_assoc (front ++ part) (c ∷ []) following)
-        ∙ ap (λ l. l ++ following) (append_assoc front part (c ∷ []) ∙ ap (λ l. front ++ l) (sym more))
+        is ∙ ap (λ l. prefix ++ part ++ l) one_kept ∙ sym (append_assoc (prefix ++ part) (c ∷ []) following)
+        ∙ ap (λ l. l ++ following) (append_assoc prefix part (c ∷ []) ∙ ap (λ l. prefix ++ l) (sym more))
 
     pub kept_listed : (out more all : List Change) → all ≡ out ++ kept_changes n last (drop i cs) → more ≡ out ++ c ∷ []
         → all ≡ more ++ kept_changes n c.value (drop (i + 1) cs)
@@ -123,16 +123,16 @@ module _ (n : ℕ) (last : List Bit) (cs : List Change) (i : ℕ) (c : Change) (
     one_left_out = ap (kept_changes n last) here
         ∙ left_out_first n last c (drop (i + 1) cs) (ap (is_kept n last c) (sym rest) ∙ out)
 
-    pub left_out_after : (front all : List Change) (to : ℕ)
-        → all ≡ front ++ take (i - to) (drop to cs) ++ kept_changes n last (drop i cs)
-        → all ≡ (front ++ take (i - to) (drop to cs)) ++ take (i + 1 - (i + 1)) (drop (i + 1) cs)
+    pub left_out_after : (prefix all : List Change) (to : ℕ)
+        → all ≡ prefix ++ take (i - to) (drop to cs) ++ kept_changes n last (drop i cs)
+        → all ≡ (prefix ++ take (i - to) (drop to cs)) ++ take (i + 1 - (i + 1)) (drop (i + 1) cs)
         ++ kept_changes n last (drop (i + 1) cs)
-    left_out_after front all to is =
+    left_out_after prefix all to is =
         let none : i + 1 - (i + 1) ≡ 0 = omega arith in
-        is ∙ ap (λ l. front ++ take (i - to) (drop to cs) ++ l) one_left_out
+        is ∙ ap (λ l. prefix ++ take (i - to) (drop to cs) ++ l) one_left_out
         ∙ ap (λ l. l ++ kept_changes n last (drop (i + 1) cs))
-        (sym (append-nil (front ++ take (i - to) (drop to cs)) ∙ refl))
-        ∙ ap (λ k. (front ++ take (i - to) (drop to cs)) ++ take k (drop (i + 1) cs)
+        (sym (append-nil (prefix ++ take (i - to) (drop to cs)) ∙ refl))
+        ∙ ap (λ k. (prefix ++ take (i - to) (drop to cs)) ++ take k (drop (i + 1) cs)
         ++ kept_changes n last (drop (i + 1) cs)) (sym none)
 
 -- the value of the last change so far
@@ -143,27 +143,28 @@ last_so_far before cs i c within at =
     ∙ last_of_more before (take i cs) c)
 
 -- the length of the passed part
-pub part_long : (front cs : List Change) (kept to i : ℕ) → length front ≡ kept → to ≤ i → i ≤ length cs
-    → length (front ++ take (i - to) (drop to cs)) ≡ kept + (i - to)
-part_long front cs kept to i long le within =
+pub part_long : (prefix cs : List Change) (kept to i : ℕ) → length prefix ≡ kept → to ≤ i → i ≤ length cs
+    → length (prefix ++ take (i - to) (drop to cs)) ≡ kept + (i - to)
+part_long prefix cs kept to i long le within =
     omega (
       arith,
-      length-append front (take (i - to) (drop to cs)),
+      length-append prefix (take (i - to) (drop to cs)),
       length-take-le (i - to) (drop to cs) (omega (arith, length-drop to cs)),
     )
 
 -- all were passed
-pub part_done : (n : ℕ) (last : List Bit) (cs front all : List Change) (kept to i : ℕ) → i ≡ length cs → to ≤ i
-    → length front ≡ kept
-    → all ≡ front ++ take (i - to) (drop to cs) ++ kept_changes n last (drop i cs) → all ≡ take kept all ++ drop to cs
-part_done n last cs front all kept to i done le long is =
+pub part_done : (n : ℕ) (last : List Bit) (cs prefix all : List Change) (kept to i : ℕ) → i ≡ length cs → to ≤ i
+    → length prefix ≡ kept
+    → all ≡ prefix ++ take (i - to) (drop to cs) ++ kept_changes n last (drop i cs) → all ≡ take kept all ++ drop to cs
+part_done n last cs prefix all kept to i done le long is =
     let whole : take (i - to) (drop to cs) ≡ drop to cs =
     take_all (i - to) (drop to cs) (omega (arith, length-drop to cs)) in
     let none : kept_changes n last (drop i cs) ≡ [] =
     kept_of_none n last (drop i cs) (omega (arith, length-drop i cs)) in
-    let told : all ≡ front ++ drop to cs = is ∙ (λ p. front ++ whole p ++ none p) ∙ append-nil (front ++ drop to cs) in
-    let first : take kept all ≡ front = ap (take kept) told ∙ take-append-le kept front (drop to cs) (omega arith)
-    ∙ take_all kept front (omega arith) in
+    let told : all ≡ prefix ++ drop to cs = is ∙ (λ p. prefix ++ whole p ++ none p)
+    ∙ append-nil (prefix ++ drop to cs) in
+    let first : take kept all ≡ prefix = ap (take kept) told ∙ take-append-le kept prefix (drop to cs) (omega arith)
+    ∙ take_all kept prefix (omega arith) in
     told ∙ ap (λ l. l ++ drop to cs) (sym first)
 
 -- as many as are asked for are listed, or there are no more

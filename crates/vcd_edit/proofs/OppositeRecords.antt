@@ -377,17 +377,17 @@ piece_among : (P : Change → Type 0) (p : PieceView) (cs : List Change) → All
     → All P p.changes
 unfolding spliced_changes
 piece_among P p cs all =
-    let front = take p.from cs in
+    let prefix = take p.from cs in
     let rest = map (moved_change p.by) (drop p.to cs) in
     λ k d less.
-    let here : get_or (front ++ p.changes ++ rest) (length front + k) d ≡ get_or p.changes k d =
-    ap (λ l. get_or l (length front + k) d) (append_assoc front p.changes rest)
-    ∙ get_or-append-add front (p.changes ++ rest) k d ∙ get_or_append_left p.changes rest d k less in
-    subst P here (all (length front + k) d (omega (
+    let here : get_or (prefix ++ p.changes ++ rest) (length prefix + k) d ≡ get_or p.changes k d =
+    ap (λ l. get_or l (length prefix + k) d) (append_assoc prefix p.changes rest)
+    ∙ get_or-append-add prefix (p.changes ++ rest) k d ∙ get_or_append_left p.changes rest d k less in
+    subst P here (all (length prefix + k) d (omega (
       arith,
       less,
-      length-append (front ++ p.changes) rest,
-      length-append front p.changes,
+      length-append (prefix ++ p.changes) rest,
+      length-append prefix p.changes,
     )))
 
 pub pieces_ready : (c : Contents) (r : RecordView) → Fits r c → HasOneKindOfPart r → IsSound c

@@ -125,10 +125,10 @@ module _ (d end : ℕ) (s : SignalContents) where
       there t u is = omega (arith, ints, is)
 
   -- none of the first ticks has a change
-  front_empty : (m : ℕ) → m ≤ d → changes_in s.width (shift_value end (pos d) s) 0 m ≡ []
+  prefix_empty : (m : ℕ) → m ≤ d → changes_in s.width (shift_value end (pos d) s) 0 m ≡ []
   unfolding changes_from
-  front_empty zero le = refl
-  front_empty (suc m) le =
+  prefix_empty zero le = refl
+  prefix_empty (suc m) le =
       changes_in-constant s.width (shift_value end (pos d) s) (all_x s.width) 0 (suc m) (omega arith)
       (λ i less. shift_before (0 + i) (omega arith))
       ∙ of_true (same_letters (all_x s.width) (all_x s.width)) (change 0 (all_x s.width))
@@ -157,7 +157,7 @@ module _ (d end : ℕ) (s : SignalContents) where
         (λ i less. shift_after (0 + d + i) (0 + i) (omega arith) (omega arith))
         (λ less. ap (value_just_before s.width (shift_value end (pos d) s)) {x = 0 + d} {y = d} (omega arith)
         ∙ x_before d refl)
-        (empty ∙ sym (front_empty d (omega arith)))
+        (empty ∙ sym (prefix_empty d (omega arith)))
       where
         none_counted : (cs : List Change) → count_by (λ c. nat_lt c.tick 0) cs ≡ 0
         none_counted [] = refl
@@ -175,7 +175,7 @@ module _ (d end : ℕ) (s : SignalContents) where
         (omega (arith, ints)) (λ less. x_before d refl)
         (λ i less. shift_after (d + i) (0 + i) (omega arith) (omega arith))
         ∙ sym (ap (λ l. l ++ changes_in s.width (shift_value end (pos d) s) d (end - d + 1))
-        (front_empty d (omega arith)))
+        (prefix_empty d (omega arith)))
         ∙ ap (λ t. changes_in s.width (shift_value end (pos d) s) 0 d
         ++ changes_in s.width (shift_value end (pos d) s) t (end - d + 1)) {x = d} {y = 0 + d} (omega arith)
         ∙ sym (changes_in-split s.width (shift_value end (pos d) s) 0 d (end - d + 1))

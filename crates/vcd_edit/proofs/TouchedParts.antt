@@ -198,9 +198,9 @@ touched_least : (o : ℤ) (old new : List Change) → length old ≤ touched_cou
 unfolding touched_count
 touched_least o old new =
     let n = common_prefix_len same_change old new in
-    let front = common_prefix_len-le same_change old new in
+    let prefix = common_prefix_len-le same_change old new in
     let end = suffix_le o (drop n old) (drop n new) in
-    omega (arith, front.0, front.1, end.0, end.1, length-drop n old, length-drop n new)
+    omega (arith, prefix.0, prefix.1, end.0, end.1, length-drop n old, length-drop n new)
 
 module _ (by o : ℤ) (before ms ns cs : List Change) (opposite : o ≡ neg_ℤ by) (fit : AllTicksFit by cs) where
   abbrev old : List Change
@@ -209,11 +209,11 @@ module _ (by o : ℤ) (before ms ns cs : List Change) (opposite : o ≡ neg_ℤ 
   abbrev new : List Change
   new = before ++ ns ++ map (moved_change by) cs
 
-  abbrev front : ℕ
-  front = common_prefix_len same_change ms ns
+  abbrev prefix : ℕ
+  prefix = common_prefix_len same_change ms ns
 
-  front_is : front < length ms → front < length ns → common_prefix_len same_change old new ≡ length before + front
-  front_is in_ms in_ns =
+  prefix_is : prefix < length ms → prefix < length ns → common_prefix_len same_change old new ≡ length before + prefix
+  prefix_is in_ms in_ns =
       (λ i. common_prefix_len same_change (append_assoc before ms cs i)
       (append_assoc before ns (map (moved_change by) cs) i))
       ∙ ap (λ l. common_prefix_len same_change (before ++ (ms ++ cs)) (l ++ (ns ++ map (moved_change by) cs)))
@@ -222,11 +222,11 @@ module _ (by o : ℤ) (before ms ns cs : List Change) (opposite : o ≡ neg_ℤ 
       (λ k d within. same_change_self (get_or before k d))
       ∙ ap (λ n. length before + n) (prefix_differs same_change ms cs ns (map (moved_change by) cs) in_ms in_ns)
 
-  rest_is : (xs ds : List Change) → front ≤ length xs
-      → drop (length before + front) (before ++ xs ++ ds) ≡ drop front xs ++ ds
+  rest_is : (xs ds : List Change) → prefix ≤ length xs
+      → drop (length before + prefix) (before ++ xs ++ ds) ≡ drop prefix xs ++ ds
   rest_is xs ds le =
-      ap (drop (length before + front)) (append_assoc before xs ds) ∙ drop_after before (xs ++ ds) front
-      ∙ drop-append-le front xs ds le
+      ap (drop (length before + prefix)) (append_assoc before xs ds) ∙ drop_after before (xs ++ ds) prefix
+      ∙ drop-append-le prefix xs ds le
     where
       drop_after : (us xs : List Change) (n : ℕ) → drop (length us + n) (us ++ xs) ≡ drop n xs
       drop_after [] xs n = ap (λ k. drop k xs) {x = 0 + n} {y = n} (omega arith)
@@ -239,9 +239,9 @@ module _ (by o : ℤ) (before ms ns cs : List Change) (opposite : o ≡ neg_ℤ 
   unfolding touched_count
   touched_middle =
       let both = common_prefix_len-le same_change ms ns in
-      elim (cases_lt front (length ms)) [
+      elim (cases_lt prefix (length ms)) [
         | inr up ↦ omega arith
-        | inl in_ms ↦ elim (cases_lt front (length ns)) [
+        | inl in_ms ↦ elim (cases_lt prefix (length ns)) [
           | inr all ↦
               let least = touched_least o old new in
               let lengths : length old + length ns ≡ length new + length ms =
@@ -255,14 +255,14 @@ module _ (by o : ℤ) (before ms ns cs : List Change) (opposite : o ≡ neg_ℤ 
               ) in
               omega (arith, least, lengths, both.0, both.1)
           | inl in_ns ↦
-              let same = front_is in_ms in_ns in
+              let same = prefix_is in_ms in_ns in
               let ends : common_moved_suffix o (drop (common_prefix_len same_change old new) old)
               (drop (common_prefix_len same_change old new) new)
-              ≡ length cs + common_moved_suffix o (drop front ms) (drop front ns) =
+              ≡ length cs + common_moved_suffix o (drop prefix ms) (drop prefix ns) =
               (λ i. common_moved_suffix o (drop (same i) old) (drop (same i) new))
               ∙ (λ i. common_moved_suffix o (rest_is ms cs (omega arith) i)
               (rest_is ns (map (moved_change by) cs) (omega arith) i))
-              ∙ suffix_end by o (drop front ms) (drop front ns) cs opposite fit in
+              ∙ suffix_end by o (drop prefix ms) (drop prefix ns) cs opposite fit in
               omega (arith, same, ends, length-append (before ++ ms) cs, length-append before ms)
         ]
       ]

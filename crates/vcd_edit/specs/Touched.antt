@@ -30,8 +30,8 @@ common_moved_suffix advance old new =
 -- how many old changes are in neither the common prefix nor the common suffix
 unfoldable pub touched_count : ℤ → List Change → List Change → ℕ
 touched_count advance old new =
-    let front = common_prefix_len same_change old new in
-    length old - front - common_moved_suffix advance (drop front old) (drop front new)
+    let prefix = common_prefix_len same_change old new in
+    length old - prefix - common_moved_suffix advance (drop prefix old) (drop prefix new)
 
 -- ---- each signal of a capture compared with what it is after a step
 

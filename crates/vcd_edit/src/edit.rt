@@ -74,7 +74,7 @@ pub enum Rule {
     BitOf(usize, u64),
 }
 
-/// An operator on two bits, by the tables of IEEE 1364-2005, 5.1.10.
+/// The operator of a rule with two operands, by the tables of IEEE 1364-2005, 5.1.10.
 #[derive(Clone, Copy)]
 pub(crate) enum Operator {
     /// `&`.
@@ -85,7 +85,7 @@ pub(crate) enum Operator {
     Xor,
 }
 
-/// What a rule computes. All rules with two operands have one form.
+/// A rule taken apart: in plans and proofs, all rules with two operands are one case.
 #[derive(Clone, Copy)]
 pub(crate) enum Formula {
     /// `~` of a signal of one bit.
@@ -97,7 +97,7 @@ pub(crate) enum Formula {
 }
 
 impl Rule {
-    /// What the rule computes.
+    /// The rule taken apart.
     pub(crate) fn formula(self) -> Formula
         ensures { result ≡ formula self }
     {

@@ -17,11 +17,11 @@ const EDGES: &str = "\
 /// The letters of values of one bit, `-` for an absent one.
 fn letters(values: [Option<Value>; 4]) -> [u8; 4] {
     let mut letters = [b'-'; 4];
-    for (place, value) in letters.iter_mut().zip(values) {
+    for (letter, value) in letters.iter_mut().zip(values) {
         if let Some(value) = value
             && value.width() == 1
         {
-            *place = value.bit(0).letter();
+            *letter = value.bit(0).printed_letter();
         }
     }
     letters

@@ -8,7 +8,7 @@ use crate::fixtures::bit_of_letter;
 use vcd_core::Value;
 use vcd_edit::{Edit, Rule};
 
-/// The word at a place, if there is one.
+/// The word at an index, if there is one.
 fn word_at<'a>(words: &[&'a str], k: usize) -> Option<&'a str> {
     match words.get(k) {
         Some(word) => Some(*word),
@@ -16,12 +16,12 @@ fn word_at<'a>(words: &[&'a str], k: usize) -> Option<&'a str> {
     }
 }
 
-/// The position that the word at a place gives.
+/// The position that the word at an index gives.
 fn position(words: &[&str], k: usize) -> Option<usize> {
     word_at(words, k)?.parse::<usize>().ok()
 }
 
-/// The number that the word at a place gives.
+/// The number that the word at an index gives.
 fn number(words: &[&str], k: usize) -> Option<u64> {
     word_at(words, k)?.parse::<u64>().ok()
 }

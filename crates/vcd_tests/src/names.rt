@@ -55,7 +55,7 @@ fn a_path_gives_its_own_scopes_back(rt: HostRuntime) -> Result<(), Fail> {
     let shared = capture.signals()[1].scopes.share()?;
     let own = ScopePath::from_vec(copy_scopes(rt.alloc(), shared.as_slice())?);
     assert!(rt; own.as_slice().len() == 2);
-    assert!(rt; count_given_back(own.front(1)?) == Some(1));
+    assert!(rt; count_given_back(own.prefix(1)?) == Some(1));
     assert!(rt; count_given_back(own.share()?) == Some(2));
     assert!(rt; count_given_back(own) == Some(2));
     assert!(rt; count_given_back(shared) == None);

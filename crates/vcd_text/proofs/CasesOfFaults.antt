@@ -10,18 +10,18 @@ use Rattle.vcd_text.specs.declared.fault.Fault.TheVariants.{BadScope, UpscopeAtT
 use Rattle.vcd_text.specs.declared.fault.Fault.TheVariants.{MixedCode, BadTime}
 use Rattle.vcd_text.specs.declared.fault.Fault.TheVariants.{TimeBackwards, UnknownCode}
 use Rattle.vcd_text.specs.declared.fault.Fault.TheVariants.{ValueTooLong}
-use Rattle.vcd_text.specs.Words.{PlacedWord, word_on, words_from, words_of, complete_words}
+use Rattle.vcd_text.specs.Words.{WordOnLine, word_on, words_from, words_of, complete_words}
 use Rattle.vcd_text.specs.Grammar.{initial_state, state_after, word_texts, AllowsAll}
 use Rattle.vcd_text.proofs.OneAnswer.{accepted-not_refused}
 use Rattle.vcd_text.specs.Items.{Item, spellings, scope, upscope, variable, end_definitions, stamp}
 use Rattle.vcd_text.specs.Items.{vector, dump_word}
-use Rattle.vcd_text.specs.Faults.{WordFault, fault_line}
-use Rattle.vcd_text.specs.FoundFaults.{FoundFault, word_shows}
-use Rattle.vcd_text.specs.FoundFaults.{FrontFault, HasNoFrontFault, too_early}
+use Rattle.vcd_text.specs.Faults.{WordShows, fault_line}
+use Rattle.vcd_text.specs.FoundFaults.{IsFoundFault, word_shows}
+use Rattle.vcd_text.specs.FoundFaults.{PrefixShows, PrefixShowsNone, too_early}
 use Rattle.vcd_text.specs.Faults.{among_declarations, among_changes, upscope_at_top}
 use Rattle.vcd_text.specs.FoundFaults.{declaration_due, code_due}
-use Rattle.vcd_text.specs.Faults.{no_timescale, no_kind, no_variable, no_size, code_mixed}
-use Rattle.vcd_text.specs.Faults.{no_declaration}
+use Rattle.vcd_text.specs.Faults.{no_timescale, missing_kind, missing_part, no_size, code_mixed}
+use Rattle.vcd_text.specs.Faults.{begins_no_declaration}
 use Rattle.vcd_text.specs.Faults.{definitions_go_on, declaration_late, missing_code, no_value}
 use Rattle.vcd_text.specs.Faults.{begins_no_change}
 use Rattle.vcd_text.specs.Faults.{no_tick, tick_goes_back, unknown_scalar_code, unknown_pair_code}
@@ -33,12 +33,12 @@ abbrev one_variable : List Item
 one_variable = variable (codes "wire" ∷ codes "1" ∷ codes "!" ∷ codes "a" ∷ []) ∷ end_definitions ∷ []
 
 -- a word of a file shows a fault, after these whole items and the words of another
-shows : (bytes : List ℕ) (line : ℕ) (fault : Fault) (items : List Item) (whole begun : List PlacedWord)
-    (word : PlacedWord) (more : List PlacedWord)
+shows : (bytes : List ℕ) (line : ℕ) (fault : Fault) (items : List Item) (whole begun : List WordOnLine)
+    (word : WordOnLine) (more : List WordOnLine)
     → words_of bytes ≡ whole ++ (begun ++ word ∷ more) → word_texts whole ≡ spellings items
     → AllowsAll initial_state items
-    → WordFault (state_after initial_state items) (word_texts begun) word.text fault
-    → line ≡ fault_line (state_after initial_state items).in_body begun word → FoundFault bytes line fault
+    → WordShows (state_after initial_state items) (word_texts begun) word.text fault
+    → line ≡ fault_line (state_after initial_state items).in_body begun word → IsFoundFault bytes line fault
 shows bytes line fault items whole begun word more parts spelled allowed decided at =
     word_shows (shown_by (words_of bytes) whole begun more word items (state_after initial_state items) line fault
     (record { allowed = allowed; state_is = refl }) parts spelled decided at)
@@ -47,9 +47,9 @@ shows bytes line fault items whole begun word more parts spelled allowed decided
 abbrev time_back : List ℕ
 time_back = codes "$var wire 1 ! a $end\n$enddefinitions $end\n#10\n#9\n"
 
-time_goes_back_in_front : FrontFault time_back 4 TimeBackwards
+time_goes_back_in_prefix : PrefixShows time_back 4 TimeBackwards
 unfolding words_from
-time_goes_back_in_front = record {
+time_goes_back_in_prefix = record {
   items = one_variable ++ stamp (codes "10") ∷ [];
   whole = take 9 (words_of time_back);
   begun = [];
@@ -62,15 +62,15 @@ time_goes_back_in_front = record {
   at = refl;
 }
 
-time_goes_back : FoundFault time_back 4 TimeBackwards
+time_goes_back : IsFoundFault time_back 4 TimeBackwards
 unfolding words_from
-time_goes_back = word_shows time_goes_back_in_front
+time_goes_back = word_shows time_goes_back_in_prefix
 
 -- the file ends before a code
 abbrev no_code : List ℕ
 no_code = codes "$var wire 1 ! a $end\n$enddefinitions $end\n#0\nb101"
 
-ends_before_code : FoundFault no_code 4 Truncated
+ends_before_code : IsFoundFault no_code 4 Truncated
 unfolding words_from
 ends_before_code = too_early (record {
   items = one_variable ++ stamp (codes "0") ∷ [];
@@ -81,7 +81,7 @@ ends_before_code = too_early (record {
 }) refl refl
 
 -- the empty file
-nothing : FoundFault [] 1 Truncated
+nothing : IsFoundFault [] 1 Truncated
 unfolding words_from
 nothing = too_early (record {
   items = [];
@@ -98,7 +98,7 @@ past_greatest = decimal (END_LIMIT + 1)
 abbrev late_tick : List ℕ
 late_tick = codes "$var wire 1 ! a $end\n$enddefinitions $end\n#" ++ past_greatest ++ codes "\n#9\n"
 
-tick_too_great : FoundFault late_tick 3 BadTime
+tick_too_great : IsFoundFault late_tick 3 BadTime
 unfolding words_from digits
 tick_too_great =
     shows _ _ _ one_variable (take 8 (words_of late_tick)) [] (word_on (codes "#" ++ past_greatest) 3)
@@ -106,37 +106,37 @@ tick_too_great =
     (among_changes refl (no_tick past_greatest refl refl refl refl)) refl
 
 -- files of one line
-two_nanoseconds : FoundFault (codes "$timescale 2 ns $end\n") 1 BadTimescale
+two_nanoseconds : IsFoundFault (codes "$timescale 2 ns $end\n") 1 BadTimescale
 unfolding words_from digits
 two_nanoseconds =
     shows _ _ _ [] [] (word_on (codes "$timescale") 1 ∷ word_on (codes "2") 1 ∷ word_on (codes "ns") 1 ∷ [])
     (word_on (codes "$end") 1) [] refl refl tt
     (among_declarations refl (no_timescale (codes "2" ∷ codes "ns" ∷ []) refl refl refl refl refl)) refl
 
-scope_without_kind : FoundFault (codes "$scope $end\n") 1 BadScope
+scope_without_kind : IsFoundFault (codes "$scope $end\n") 1 BadScope
 unfolding words_from
 scope_without_kind =
     shows _ _ _ [] [] (word_on (codes "$scope") 1 ∷ []) (word_on (codes "$end") 1) [] refl refl tt
-    (among_declarations refl (no_kind refl refl refl)) refl
+    (among_declarations refl (missing_kind refl refl refl)) refl
 
-variable_without_name : FoundFault (codes "$var wire 1 ! $end\n") 1 BadVar
+variable_without_name : IsFoundFault (codes "$var wire 1 ! $end\n") 1 BadVar
 unfolding words_from
 variable_without_name =
     shows _ _ _ [] [] (word_on (codes "$var") 1 ∷ word_on (codes "wire") 1 ∷ word_on (codes "1") 1
     ∷ word_on (codes "!") 1 ∷ []) (word_on (codes "$end") 1) [] refl refl tt
-    (among_declarations refl (no_variable (codes "wire" ∷ codes "1" ∷ codes "!" ∷ []) refl refl refl refl refl refl))
+    (among_declarations refl (missing_part (codes "wire" ∷ codes "1" ∷ codes "!" ∷ []) refl refl refl refl refl refl))
     refl
 
 -- a size that is no number is a fault at its word, also for a skipped kind, though the file ends
 -- there
-real_without_size : FoundFault (codes "$var real x") 1 BadVar
+real_without_size : IsFoundFault (codes "$var real x") 1 BadVar
 unfolding words_from
 real_without_size =
     shows _ _ _ [] [] (word_on (codes "$var") 1 ∷ word_on (codes "real") 1 ∷ []) (word_on (codes "x") 1) [] refl refl tt
     (among_declarations refl (no_size (codes "real") refl refl refl refl)) refl
 
 -- `$upscope` with no scope open is a fault at this word, whatever follows
-upscope_alone : FoundFault (codes "\n$upscope") 2 UpscopeAtTop
+upscope_alone : IsFoundFault (codes "\n$upscope") 2 UpscopeAtTop
 unfolding words_from
 upscope_alone =
     shows _ _ _ [] [] [] (word_on (codes "$upscope") 2) [] refl refl tt
@@ -145,7 +145,7 @@ upscope_alone =
 abbrev two_sizes : List ℕ
 two_sizes = codes "$var wire 1 ! a $end $var wire 2 ! b $end\n"
 
-code_of_two_sizes : FoundFault two_sizes 1 MixedCode
+code_of_two_sizes : IsFoundFault two_sizes 1 MixedCode
 unfolding words_from
 code_of_two_sizes =
     shows _ _ _ (variable (codes "wire" ∷ codes "1" ∷ codes "!" ∷ codes "a" ∷ []) ∷ []) (take 6 (words_of two_sizes))
@@ -153,7 +153,7 @@ code_of_two_sizes =
     (among_declarations refl
     (code_mixed (codes "wire" ∷ codes "2" ∷ codes "!" ∷ codes "b" ∷ []) _ refl refl refl refl refl refl refl)) refl
 
-unknown_code : FoundFault (codes "$enddefinitions $end 1\"\n") 1 UnknownCode
+unknown_code : IsFoundFault (codes "$enddefinitions $end 1\"\n") 1 UnknownCode
 unfolding words_from
 unknown_code =
     shows _ _ _ (end_definitions ∷ []) (word_on (codes "$enddefinitions") 1 ∷ word_on (codes "$end") 1 ∷ []) []
@@ -161,7 +161,7 @@ unknown_code =
     (among_changes refl (unknown_scalar_code 49 (codes "\"") refl refl refl (omega arith) refl refl)) refl
 
 -- a change of two words has the line of its first, also if `$end` is in the place of the code
-unknown_code_of_vector : FoundFault (codes "$enddefinitions $end\nb1\n$end\n") 2 UnknownCode
+unknown_code_of_vector : IsFoundFault (codes "$enddefinitions $end\nb1\n$end\n") 2 UnknownCode
 unfolding words_from
 unknown_code_of_vector =
     shows _ _ _ (end_definitions ∷ []) (word_on (codes "$enddefinitions") 1 ∷ word_on (codes "$end") 1 ∷ [])
@@ -173,7 +173,7 @@ abbrev long_value : List ℕ
 long_value = codes "$scope module top $end\n$var wire 4 ! v $end\n$upscope $end\n$enddefinitions $end\n#0\n"
     ++ codes "$dumpvars\nbx !\n$end\n#1\nb00001 !\n#2\nbz1 !\n#3\nb0 !\n"
 
-value_of_five_digits : FoundFault long_value 10 ValueTooLong
+value_of_five_digits : IsFoundFault long_value 10 ValueTooLong
 unfolding words_from
 value_of_five_digits =
     shows _ _ _ (scope (codes "module") (codes "top" ∷ [])
@@ -184,21 +184,21 @@ value_of_five_digits =
     (among_changes refl (value_too_long 98 (codes "00001") _ refl refl refl refl refl (omega arith) refl)) refl
 
 -- the words of a dump begin no declaration
-dump_among_declarations : FoundFault (codes "$dumpvars") 1 UnexpectedWord
+dump_among_declarations : IsFoundFault (codes "$dumpvars") 1 UnexpectedWord
 unfolding words_from
 dump_among_declarations =
     shows _ _ _ [] [] [] (word_on (codes "$dumpvars") 1) [] refl refl tt
-    (among_declarations refl (no_declaration refl refl refl)) refl
+    (among_declarations refl (begins_no_declaration refl refl refl)) refl
 
 -- a word other than `$end` after `$enddefinitions` is a fault at that word
-definitions_open : FoundFault (codes "$enddefinitions\n#0") 2 UnexpectedWord
+definitions_open : IsFoundFault (codes "$enddefinitions\n#0") 2 UnexpectedWord
 unfolding words_from
 definitions_open =
     shows _ _ _ [] [] (word_on (codes "$enddefinitions") 1 ∷ []) (word_on (codes "#0") 2) [] refl refl tt
     (among_declarations refl (definitions_go_on refl refl refl)) refl
 
 -- a declaration among the changes
-scope_among_changes : FoundFault (codes "$enddefinitions $end\n$scope module top $end\n") 2 UnexpectedWord
+scope_among_changes : IsFoundFault (codes "$enddefinitions $end\n$scope module top $end\n") 2 UnexpectedWord
 unfolding words_from
 scope_among_changes =
     shows _ _ _ (end_definitions ∷ []) (word_on (codes "$enddefinitions") 1 ∷ word_on (codes "$end") 1 ∷ []) []
@@ -210,21 +210,21 @@ scope_among_changes =
 abbrev bad_changes : (change : List ℕ) → List ℕ
 bad_changes change = codes "$var wire 1 ! a $end $enddefinitions $end\n" ++ change
 
-lone_letter : FoundFault (bad_changes (codes "1 !")) 2 BadChange
+lone_letter : IsFoundFault (bad_changes (codes "1 !")) 2 BadChange
 unfolding words_from
 lone_letter =
     shows _ _ _ one_variable (take 8 (words_of (bad_changes []))) [] (word_on (codes "1") 2)
     (word_on (codes "!") 2 ∷ []) refl refl (search arith)
     (among_changes refl (missing_code 49 refl refl refl refl)) refl
 
-no_digit : FoundFault (bad_changes (codes "b !")) 2 BadChange
+no_digit : IsFoundFault (bad_changes (codes "b !")) 2 BadChange
 unfolding words_from
 no_digit =
     shows _ _ _ one_variable (take 8 (words_of (bad_changes []))) (word_on (codes "b") 2 ∷ []) (word_on (codes "!") 2)
     [] refl refl (search arith)
     (among_changes refl (no_value 98 [] _ refl refl refl refl refl refl)) refl
 
-no_change_at_all : FoundFault (bad_changes (codes "q!")) 2 BadChange
+no_change_at_all : IsFoundFault (bad_changes (codes "q!")) 2 BadChange
 unfolding words_from
 no_change_at_all =
     shows _ _ _ one_variable (take 8 (words_of (bad_changes []))) [] (word_on (codes "q!") 2) [] refl refl
@@ -232,9 +232,9 @@ no_change_at_all =
     (among_changes refl (begins_no_change 113 (codes "!") refl refl refl refl refl)) refl
 
 -- the file without its last line shows no fault: if the reader fails there, its fault is the result
-front_without_fault : HasNoFrontFault (codes "$var wire 1 ! a $end\n$enddefinitions $end\n#10\n")
+prefix_without_fault : PrefixShowsNone (codes "$var wire 1 ! a $end\n$enddefinitions $end\n#10\n")
 unfolding words_from
-front_without_fault line fault =
+prefix_without_fault line fault =
     accepted-not_refused (complete_words (codes "$var wire 1 ! a $end\n$enddefinitions $end\n#10\n"))
     (state_after initial_state (one_variable ++ stamp (codes "10") ∷ [])) line fault (record {
       items = one_variable ++ stamp (codes "10") ∷ [];

@@ -22,10 +22,10 @@ use Rattle.vcd_text.specs.Grammar.{with_value_change}
 use Rattle.vcd_text.specs.Meaning.{latest_value}
 use Rattle.vcd_text.specs.inside.ChangeLog.{logged_letters, GivesLoggedValues, logged, AreGrouped, IsSameVariable}
 use Rattle.vcd_text.specs.inside.ValueDigits.{WritesValue, RefusesBinaryNumber}
-use Rattle.vcd_text.specs.inside.Variables.{declaration, target_of, HasWave, TargetMatches}
+use Rattle.vcd_text.specs.inside.Variables.{declaration, target_of, HasValueChanges, TargetMatches}
 use Rattle.vcd_text.specs.inside.Variables.{HasFirst}
 use Rattle.vcd_text.specs.inside.Variables.{HasOnlyFirstVariables, VariablesMatch, HasValueFrom}
-use Rattle.vcd_text.specs.inside.Variables.{BinaryNumberFault}
+use Rattle.vcd_text.specs.inside.Variables.{RefusesChange}
 use Rattle.vcd_text.specs.inside.Variables.{no_value, too_long, ChangeResult}
 use Rattle.vcd_text.specs.declared.reading.pending.LoggedChange.{LoggedChange}
 use Rattle.vcd_text.specs.declared.reading.code_targets.CodeTarget.TheVariants.{Kept}
@@ -98,7 +98,7 @@ with_changes vs list log = record vs { kept = list; log = log }
 module _ (old : Variables) (c : ParseState) (code digits : List ℕ) (width first : ℕ) (k : VariablesMatch old c)
     (had : target_of old code ≡ Kept width first) where
   pub own_wave : (d : VariableDeclaration) × (variable_of c code ≡ Some d) × (is_skipped d ≡ false)
-      × (d.size ≡ width) × HasWave old.kept.items (logged old.log.items) first code width c.value_changes c.tick
+      × (d.size ≡ width) × HasValueChanges old.kept.items (logged old.log.items) first code width c.value_changes c.tick
   own_wave = grind (arith, stands_kept)
 
   pub read_is : (v : Variable) → v ≡ get_or old.kept.items first v → v ≡ own_wave.4.first
@@ -111,7 +111,7 @@ module _ (old : Variables) (c : ParseState) (code digits : List ℕ) (width firs
       (logged old.log.items first) own_wave.4.gives
 
   -- digits that it refuses are a fault
-  pub refused : (fault : Fault) → RefusesBinaryNumber width digits fault → BinaryNumberFault c code digits fault
+  pub refused : (fault : Fault) → RefusesBinaryNumber width digits fault → RefusesChange c code digits fault
   refused fault (inl (bad, is)) = no_value own_wave.0 own_wave.1 own_wave.2 bad is
   refused fault (inr (good, long, is)) =
       too_long own_wave.0 own_wave.1 own_wave.2 good (omega (arith, long, own_wave.3)) is
@@ -149,8 +149,9 @@ module _ (old : Variables) (list : Vec Variable) (log : Vec (Vec LoggedChange)) 
 
   -- the wave of the code takes the value
   wave_changed : (key : List ℕ) (size position : ℕ) → code ≡ key → target_of old key ≡ Kept size position
-      → HasWave old.kept.items (logged old.log.items) position key size c.value_changes c.tick
-      → HasWave list.items (logged log.items) position key size (c.value_changes ++ new_value_change ∷ []) c.tick
+      → HasValueChanges old.kept.items (logged old.log.items) position key size c.value_changes c.tick
+      → HasValueChanges list.items (logged log.items) position key size (c.value_changes ++ new_value_change ∷ [])
+      c.tick
   unfolding new_value_change
   wave_changed key size position equal owned wave =
       let at : first ≡ position = grind arith in
@@ -172,8 +173,9 @@ module _ (old : Variables) (list : Vec Variable) (log : Vec (Vec LoggedChange)) 
 
   -- the wave of another code stays
   wave_kept : (key : List ℕ) (size position : ℕ) → bytes_eq code key ≡ false → target_of old key ≡ Kept size position
-      → HasWave old.kept.items (logged old.log.items) position key size c.value_changes c.tick
-      → HasWave list.items (logged log.items) position key size (c.value_changes ++ new_value_change ∷ []) c.tick
+      → HasValueChanges old.kept.items (logged old.log.items) position key size c.value_changes c.tick
+      → HasValueChanges list.items (logged log.items) position key size (c.value_changes ++ new_value_change ∷ [])
+      c.tick
   unfolding new_value_change
   wave_kept key size position other owned wave =
       let apart : first ≢ position = λ same.

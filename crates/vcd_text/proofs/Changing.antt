@@ -11,7 +11,7 @@ use Rattle.vcd_text.specs.declared.fault.Fault.{Fault}
 use Rattle.vcd_text.specs.declared.fault.Fault.TheVariants.{NoMemory, BadTime, TimeBackwards}
 use Rattle.vcd_text.specs.declared.fault.Fault.TheVariants.{BadChange}
 use Rattle.vcd_text.specs.declared.fault.Fault.TheVariants.{UnknownCode, UnexpectedWord}
-use Rattle.vcd_text.specs.Words.{PlacedWord, word_on}
+use Rattle.vcd_text.specs.Words.{WordOnLine, word_on}
 use Rattle.vcd_core.specs.Decimal.{number_of}
 use Rattle.vcd_core.specs.Word.{is_one_of}
 use Rattle.vcd_text.specs.Letters.{is_among, is_binary_digit}
@@ -22,12 +22,12 @@ use Rattle.vcd_text.specs.Items.{real_or_string_prefixes}
 use Rattle.vcd_text.specs.Grammar.{ParseState, VariableDeclaration, ValueChange, Allows}
 use Rattle.vcd_text.specs.Grammar.{state_after_item, word_texts}
 use Rattle.vcd_text.specs.Grammar.{is_tick, is_binary_number, takes_binary_number, variable_of}
-use Rattle.vcd_text.specs.Faults.{ChangeFault, no_tick, tick_goes_back, missing_code}
+use Rattle.vcd_text.specs.Faults.{ChangeShows, no_tick, tick_goes_back, missing_code}
 use Rattle.vcd_text.specs.Faults.{unknown_scalar_code}
 use Rattle.vcd_text.specs.Faults.{unknown_pair_code, no_value, value_too_long, begins_no_change}
 use Rattle.vcd_text.specs.Faults.{among_changes}
-use Rattle.vcd_text.specs.Faults.{WordFault, pair_prefixes}
-use Rattle.vcd_text.specs.inside.Variables.{VariablesMatch, BinaryNumberFault, ChangeResult}
+use Rattle.vcd_text.specs.Faults.{WordShows, pair_prefixes}
+use Rattle.vcd_text.specs.inside.Variables.{VariablesMatch, RefusesChange, ChangeResult}
 use Rattle.vcd_text.specs.inside.Variables as variables
 use Rattle.vcd_text.specs.inside.Reading.{ParserMatches, AwaitsCode, IsBegun, IsAtState, WordStep}
 use Rattle.vcd_text.specs.inside.Reading.{goes_on}
@@ -47,11 +47,11 @@ not_both : {A : Type 0} {b : Bool} → b ≡ true → b ≡ false → A
 not_both is isnt = let both : true ≡ false = sym is ∙ isnt in absurd (cc)
 
 -- no word has been taken of an item that is not open
-pub none_begun : (m : Parser) (begun : List PlacedWord) → m.item ≡ items.Nothing → IsBegun m begun m.item → begun ≡ []
+pub none_begun : (m : Parser) (begun : List WordOnLine) → m.item ≡ items.Nothing → IsBegun m begun m.item → begun ≡ []
 none_begun m begun between taken = subst (IsBegun m begun) between taken
 
 -- a word that is a whole item
-whole_item : (old new : Parser) (w : PlacedWord) (i : Item) → old.item ≡ items.Nothing → new.item ≡ items.Nothing
+whole_item : (old new : Parser) (w : WordOnLine) (i : Item) → old.item ≡ items.Nothing → new.item ≡ items.Nothing
     → spelling i ≡ w.text ∷ []
     → ((c : ParseState) → ParserMatches old c → Allows c i × ParserMatches new (state_after_item c i))
     → WordResult old w (Ok tt) new
@@ -63,16 +63,16 @@ whole_item old new w i between closed spelled item c begun (agrees, taken) =
     )
 
 -- a first word that shows a fault
-shown_at : (m : Parser) (c : ParseState) (begun : List PlacedWord) (w : PlacedWord) (fault : Fault)
+shown_at : (m : Parser) (c : ParseState) (begun : List WordOnLine) (w : WordOnLine) (fault : Fault)
     → m.item ≡ items.Nothing → m.in_body ≡ true → IsAtState m c begun
-    → ChangeFault c [] w.text fault → (fault ≡ NoMemory) ⊎ WordFault c (word_texts begun) w.text fault
+    → ChangeShows c [] w.text fault → (fault ≡ NoMemory) ⊎ WordShows c (word_texts begun) w.text fault
 shown_at m c begun w fault between in_body (agrees, taken) row =
     inr (among_changes (sym agrees.in_body
     ∙ in_body)
-    (subst (λ bs. ChangeFault c (word_texts bs) w.text fault) (sym (none_begun m begun between taken)) row))
+    (subst (λ bs. ChangeShows c (word_texts bs) w.text fault) (sym (none_begun m begun between taken)) row))
 
-shows : (old new : Parser) (w : PlacedWord) (fault : Fault) → old.item ≡ items.Nothing → old.in_body ≡ true
-    → ((c : ParseState) → ParserMatches old c → ChangeFault c [] w.text fault) → WordResult old w (Err fault) new
+shows : (old new : Parser) (w : WordOnLine) (fault : Fault) → old.item ≡ items.Nothing → old.in_body ≡ true
+    → ((c : ParseState) → ParserMatches old c → ChangeShows c [] w.text fault) → WordResult old w (Err fault) new
 shows old new w fault between in_body row c begun at =
     shown_at old c begun w fault between in_body at (row c at.0)
 
@@ -170,7 +170,7 @@ one_letter : (letter : ℕ) → is_binary_digit letter ≡ true → is_binary_nu
 one_letter letter is = λ i. is i && true
 
 bit_shows : (c : ParseState) (letter : ℕ) (code : List ℕ) (fault : Fault) → is_binary_digit letter ≡ true
-    → 0 < length code → BinaryNumberFault c code (letter ∷ []) fault → ChangeFault c [] (letter ∷ code) fault
+    → 0 < length code → RefusesChange c code (letter ∷ []) fault → ChangeShows c [] (letter ∷ code) fault
 bit_shows c letter code fault is some (variables.unknown none which) =
     unknown_scalar_code letter code refl refl is some none which
 bit_shows c letter code fault is some (variables.no_value d found keeps isnt which) =
@@ -221,11 +221,11 @@ begins_real_or_string m first text line between in_body is c begun (agrees, take
     )
 
 -- the words of a change of two words, of which the first has been taken
-texts_begun : (m : Parser) (begun : List PlacedWord) (letters text : List ℕ) (b : AwaitsCode m begun letters text)
+texts_begun : (m : Parser) (begun : List WordOnLine) (letters text : List ℕ) (b : AwaitsCode m begun letters text)
     → word_texts begun ≡ (b.letter ∷ text) ∷ []
 texts_begun m begun letters text b = ap word_texts b.is ∙ ap (λ t. t ∷ []) b.spelled
 
-texts_whole : (m : Parser) (begun : List PlacedWord) (letters text code : List ℕ) (line : ℕ)
+texts_whole : (m : Parser) (begun : List WordOnLine) (letters text code : List ℕ) (line : ℕ)
     (b : AwaitsCode m begun letters text) → (b.letter ∷ text) ∷ code ∷ [] ≡ word_texts (begun ++ word_on code line ∷ [])
 texts_whole m begun letters text code line b = grind arith
 
@@ -237,7 +237,7 @@ among_last xs ys b h = list_any-append (nat_eq b) xs ys ∙ or_right _ _ h
 
 vector_shows : (c : ParseState) (first : ℕ) (digits code : List ℕ) (fault : Fault)
     → is_among vector_prefixes first ≡ true
-    → BinaryNumberFault c code digits fault → ChangeFault c ((first ∷ digits) ∷ []) code fault
+    → RefusesChange c code digits fault → ChangeShows c ((first ∷ digits) ∷ []) code fault
 vector_shows c first digits code fault is (variables.unknown none which) =
     unknown_pair_code first digits refl (among_first vector_prefixes real_or_string_prefixes first is) none which
 vector_shows c first digits code fault is (variables.no_value d found keeps isnt which) =
@@ -246,7 +246,7 @@ vector_shows c first digits code fault is (variables.too_long d found keeps valu
     value_too_long first digits d refl is found keeps value long which
 
 -- all words of a change by a binary number have been taken
-pub whole_vector : (m : Parser) (c : ParseState) (vs : Variables) (item : OpenItem) (words : List PlacedWord)
+pub whole_vector : (m : Parser) (c : ParseState) (vs : Variables) (item : OpenItem) (words : List WordOnLine)
     (letter : ℕ) (digits code : List ℕ) → ParserMatches m c → m.in_body ≡ true
     → item ≡ items.Nothing → is_among vector_prefixes letter ≡ true → (letter ∷ digits) ∷ code ∷ [] ≡ word_texts words
     → ChangeResult c code digits (Ok tt) vs → WordStep c words (record m { variables = vs; item = item })
@@ -258,8 +258,8 @@ whole_vector m c vs item words letter digits code agrees in_body closed is spell
 
 -- the code of a change by a binary number shows a fault
 pub vector_shown : (m : Parser) (c : ParseState) (letter : ℕ) (digits code : List ℕ) (fault : Fault) → ParserMatches m c
-    → m.in_body ≡ true → is_among vector_prefixes letter ≡ true → BinaryNumberFault c code digits fault
-    → WordFault c ((letter ∷ digits) ∷ []) code fault
+    → m.in_body ≡ true → is_among vector_prefixes letter ≡ true → RefusesChange c code digits fault
+    → WordShows c ((letter ∷ digits) ∷ []) code fault
 vector_shown m c letter digits code fault agrees in_body is row =
     among_changes (sym agrees.in_body ∙ in_body) (vector_shows c letter digits code fault is row)
 
@@ -277,7 +277,7 @@ ends_vector m vs code line (Err fault) item takes = λ c begun (agrees, taken).
     let b : AwaitsCode m begun vector_prefixes m.digits.items = subst (IsBegun m begun) item taken in
     elim (takes c (sym agrees.tick) agrees.variables) [
       | inl memory ↦ inl memory
-      | inr row ↦ inr (subst (λ ts. WordFault c ts code fault)
+      | inr row ↦ inr (subst (λ ts. WordShows c ts code fault)
           (sym (texts_begun m begun vector_prefixes m.digits.items b))
           (vector_shown m c b.letter m.digits.items code fault agrees b.in_body b.among row))
     ]
@@ -307,7 +307,7 @@ unknown_real_or_string m new code line item unknown c begun (agrees, taken) =
     let text = at.0 in
     let b = at.1 in
     inr (among_changes (sym agrees.in_body
-    ∙ b.in_body) (subst (λ ts. ChangeFault c ts code UnknownCode)
+    ∙ b.in_body) (subst (λ ts. ChangeShows c ts code UnknownCode)
     (sym (texts_begun m begun real_or_string_prefixes text b))
     (unknown_pair_code b.letter text refl (among_last vector_prefixes real_or_string_prefixes b.letter b.among)
     (none_is (variable_of c code) (unknown c agrees.variables)) refl)))

@@ -19,22 +19,22 @@ use Rattle.vcd_text.specs.declared.fault.Fault.TheVariants as faults
 use Rattle.vcd_text.specs.declared.fault.ReadError.{ReadError}
 use Rattle.vcd_text.specs.declared.reading.file_reader.FileReader.{FileReader}
 use Rattle.vcd_text.specs.declared.reading.parser.Parser.{Parser}
-use Rattle.vcd_text.specs.Words.{PlacedWord, line_after, with_longer_first, with_byte, words_from}
+use Rattle.vcd_text.specs.Words.{WordOnLine, line_after, with_longer_first, with_byte, words_from}
 use Rattle.vcd_text.specs.Words.{words_of, complete_words}
 use Rattle.vcd_text.specs.Grammar.{ParseState}
-use Rattle.vcd_text.specs.Faults.{FileFault, ShowsFault, shown, none_shown}
-use Rattle.vcd_text.specs.FoundFaults.{FoundFault}
-use Rattle.vcd_text.specs.FoundFaults.{FrontFault}
-use Rattle.vcd_text.specs.Faults.{ChangeFault, IsFrontAnswer}
+use Rattle.vcd_text.specs.Faults.{IsFileFault, ShowsFault, shown, none_shown}
+use Rattle.vcd_text.specs.FoundFaults.{IsFoundFault}
+use Rattle.vcd_text.specs.FoundFaults.{PrefixShows}
+use Rattle.vcd_text.specs.Faults.{ChangeShows, IsPrefixAnswer}
 use Rattle.vcd_text.specs.Refusals.{IsRefusal, has_fault, too_large, no_memory}
 use Rattle.vcd_text.specs.MemoryErrors.{memory_error}
 use Rattle.vcd_text.specs.inside.Spaces.{line_feeds_in, has_complete_words}
 use Rattle.vcd_text.specs.inside.Reading.{HasTakenWords}
 use Rattle.vcd_text.specs.inside.Chunks.{HasTaken, HasUntakenChunk, HasReadBytes}
 use Rattle.vcd_text.proofs.LastWords.{no_fault as shows_none}
-use Rattle.vcd_text.proofs.FrontAnswers.{larger, failing}
-use Rattle.vcd_text.proofs.FrontFaults.{longer_front_fault}
-use Rattle.vcd_text.proofs.FileFaults.{file_fault, front_fault_stays}
+use Rattle.vcd_text.proofs.PrefixAnswers.{larger, failing}
+use Rattle.vcd_text.proofs.PrefixFaults.{longer_prefix_fault}
+use Rattle.vcd_text.proofs.FileFaults.{file_fault, prefix_fault_stays}
 use Rattle.vcd_text.proofs.WordLaws.{line_feeds_of_both, no_line_feeds, word_part}
 use Rattle.vcd_text.specs.inside.ReadBufferView.{ReadBufferView}
 use Rattle.std.proofs.lemmas.Grind.{common_steps}
@@ -69,7 +69,7 @@ some_word line b (c ∷ bs) complete no_space =
     subst (λ s. 0 < length (with_byte s (is_white_space c) b line (words_from true (line_after b line) (c ∷ bs))))
     (sym no_space) (by_test (is_white_space c) refl (λ e. some_word (line_after b line) c bs complete e))
   where
-    longer : (ws : List PlacedWord) → 0 < length ws → 0 < length (with_longer_first b line ws)
+    longer : (ws : List WordOnLine) → 0 < length ws → 0 < length (with_longer_first b line ws)
     longer [] some = absurd (omega arith)
     longer (w ∷ ws) some = omega arith
 
@@ -80,7 +80,7 @@ some_word line b (c ∷ bs) complete no_space =
     by_test false e some = longer (words_from true (line_after b line) (c ∷ bs)) (some e)
 
 -- a byte before words and others
-byte_first : (space last : Bool) (b line : ℕ) (ws more : List PlacedWord)
+byte_first : (space last : Bool) (b line : ℕ) (ws more : List WordOnLine)
     → (space ≡ false → last ≡ false → 0 < length ws)
     → with_byte space last b line (ws ++ more) ≡ with_byte space last b line ws ++ more
 byte_first space last b line ws more h6 = grind arith
@@ -107,17 +107,17 @@ words_complete end_counts line (b ∷ c ∷ text) rest complete =
 module _ (p : FileReader) (from len : ℕ) (bytes complete_text : List ℕ) (come : HasUntakenChunk p from bytes)
     (ends : has_complete_words (take len p.buffer.bytes) ≡ true)
     (no_space : list_all (λ b. not (is_white_space b)) (drop len p.buffer.bytes) ≡ true)
-    (front : complete_text ≡ take len p.buffer.bytes) where
+    (prefix : complete_text ≡ take len p.buffer.bytes) where
   -- the bytes after the complete words
   abbrev back : List ℕ
   back = drop len p.buffer.bytes
 
   -- the complete words
-  abbrev complete : List PlacedWord
+  abbrev complete : List WordOnLine
   complete = words_from true (p.line_feeds + 1) complete_text
 
   in_two : come.word ++ come.chunk ≡ complete_text ++ back
-  in_two = sym come.text ∙ sym (take-append-drop len p.buffer.bytes) ∙ ap (λ text. text ++ back) (sym front)
+  in_two = sym come.text ∙ sym (take-append-drop len p.buffer.bytes) ∙ ap (λ text. text ++ back) (sym prefix)
 
   -- the words of all bytes so far, and of those that follow
   words_now : (end_counts : Bool) (rest : List ℕ) → words_from end_counts 1 (bytes ++ rest)
@@ -154,7 +154,7 @@ module _ (p : FileReader) (from len : ℕ) (bytes complete_text : List ℕ) (com
   -- or one of them shows a fault
   pub now_shown : (e : ReadError)
       → (e ≡ memory_error) ⊎ ShowsFault (complete_words come.before ++ complete) e.line e.fault
-      → (e ≡ memory_error) ⊎ FrontFault bytes e.line e.fault
+      → (e ≡ memory_error) ⊎ PrefixShows bytes e.line e.fault
   now_shown e (inl none) = inl none
   now_shown e (inr shows) = inr (subst (λ words. ShowsFault words e.line e.fault) (sym closed_now) shows)
 
@@ -179,35 +179,35 @@ last_taken p new text bytes taken is reads = subst (HasTakenWords new) (all_word
 
 pub last_shown : (p : FileReader) (text bytes : List ℕ) (e : ReadError) → HasReadBytes p bytes → text ≡ p.buffer.bytes
     → (e ≡ memory_error) ⊎ ShowsFault (complete_words bytes ++ words_from true (p.line_feeds + 1) text) e.line e.fault
-    → (e ≡ memory_error) ⊎ FoundFault bytes e.line e.fault
+    → (e ≡ memory_error) ⊎ IsFoundFault bytes e.line e.fault
 last_shown p text bytes e h4 h5 h6 = grind (arith, all_words)
 
 -- ---- results for a file of which these bytes have come
 
--- the front of a text whose first bytes are these
-front_of : (n : ℕ) (xs ys : List ℕ) → length xs ≤ n → take n (xs ++ ys) ≡ xs ++ take (n - length xs) ys
-front_of n xs ys fits = let parts : n ≡ length xs + (n - length xs) = omega arith in
+-- the prefix of a text whose first bytes are these
+prefix_of : (n : ℕ) (xs ys : List ℕ) → length xs ≤ n → take n (xs ++ ys) ≡ xs ++ take (n - length xs) ys
+prefix_of n xs ys fits = let parts : n ≡ length xs + (n - length xs) = omega arith in
     ap (λ k. take k (xs ++ ys)) parts ∙ take-append-add xs ys (n - length xs)
 
-all_front : (n : ℕ) (xs ys : List ℕ) → length xs ≡ n → take n (xs ++ ys) ≡ xs
-all_front n xs ys is = ap (λ k. take k (xs ++ ys)) (sym is) ∙ take-append_seam xs ys
+all_prefix : (n : ℕ) (xs ys : List ℕ) → length xs ≡ n → take n (xs ++ ys) ≡ xs
+all_prefix n xs ys is = ap (λ k. take k (xs ++ ys)) (sym is) ∙ take-append_seam xs ys
 
 -- a complete word shows a fault
 pub shown_early : (coming left : Option (List ℕ)) (failed : Bool) (bytes : List ℕ) (e : ReadError) → IsFalse failed
     → Consumes coming left bytes → length bytes ≤ FILE_LIMIT
-    → (e ≡ memory_error) ⊎ FrontFault bytes e.line e.fault → IfSome coming (λ file. IsRefusal file failed left e)
+    → (e ≡ memory_error) ⊎ PrefixShows bytes e.line e.fault → IfSome coming (λ file. IsRefusal file failed left e)
 shown_early None left failed bytes e ready consumes within answer = tt
 shown_early (Some xs) None failed bytes e ready consumes within answer = absurd consumes
 shown_early (Some xs) (Some ys) failed bytes e ready consumes within (inl none) = no_memory none
 shown_early (Some xs) (Some ys) failed bytes e ready consumes within (inr shows) =
     elim (cases_lt FILE_LIMIT (length xs)) [
       | inl long ↦ too_large ready long
-          (subst (λ front. IsFrontAnswer front faults.TooLarge e)
-          (sym (ap (take FILE_LIMIT) consumes ∙ front_of FILE_LIMIT bytes ys within))
-          (shown (longer_front_fault bytes (take (FILE_LIMIT - length bytes) ys) e.line e.fault shows)))
+          (subst (λ prefix. IsPrefixAnswer prefix faults.TooLarge e)
+          (sym (ap (take FILE_LIMIT) consumes ∙ prefix_of FILE_LIMIT bytes ys within))
+          (shown (longer_prefix_fault bytes (take (FILE_LIMIT - length bytes) ys) e.line e.fault shows)))
       | inr short ↦ has_fault ready short
-          (subst (λ file. FileFault file e.line e.fault) (sym consumes)
-          (front_fault_stays bytes ys e.line e.fault shows))
+          (subst (λ file. IsFileFault file e.line e.fault) (sym consumes)
+          (prefix_fault_stays bytes ys e.line e.fault shows))
     ]
 
 -- the file has more bytes than the limit
@@ -238,7 +238,7 @@ full coming middle left failed p bytes chunk e ready first second some none take
         some,
       ),
       sym (ap (take FILE_LIMIT) (consumes ∙ append_assoc bytes chunk ys)
-          ∙ all_front FILE_LIMIT bytes (chunk ++ ys) (omega (arith, taken.size, none))),
+          ∙ all_prefix FILE_LIMIT bytes (chunk ++ ys) (omega (arith, taken.size, none))),
     )
 
 -- the reader failed
@@ -255,14 +255,14 @@ broken coming middle left failed p bytes e has consumes keeps taken is =
 -- the whole file came
 pub at_end : (coming left : Option (List ℕ)) (failed : Bool) (bytes : List ℕ) (e : ReadError) → IsFalse failed
     → Consumes coming left bytes → IsAtEnd left → length bytes ≤ FILE_LIMIT
-    → (e ≡ memory_error) ⊎ FoundFault bytes e.line e.fault → IfSome coming (λ file. IsRefusal file failed left e)
+    → (e ≡ memory_error) ⊎ IsFoundFault bytes e.line e.fault → IfSome coming (λ file. IsRefusal file failed left e)
 at_end None left failed bytes e ready consumes ends within answer = tt
 at_end (Some xs) None failed bytes e ready consumes ends within answer = absurd consumes
 at_end (Some xs) (Some ys) failed bytes e ready consumes ends within (inl none) = no_memory none
 at_end (Some xs) (Some ys) failed bytes e ready consumes ends within (inr fault) =
     let all : bytes ≡ xs = sym (consumes ∙ ap (λ ys. bytes ++ ys) ends ∙ append-nil bytes) in
     has_fault ready (omega (arith, within, ap (length {A = ℕ}) all))
-    (file_fault xs e.line e.fault (subst (λ file. FoundFault file e.line e.fault) all fault))
+    (file_fault xs e.line e.fault (subst (λ file. IsFoundFault file e.line e.fault) all fault))
 
 -- a fact about the bytes is one about the file
 pub of_all : (coming left : Option (List ℕ)) (bytes : List ℕ) (P : List ℕ → Type 0) → Consumes coming left bytes
@@ -270,15 +270,15 @@ pub of_all : (coming left : Option (List ℕ)) (bytes : List ℕ) (P : List ℕ 
 of_all coming left bytes P h4 h5 h6 = grind (arith, append-nil)
 
 by_change : (c : ParseState) (begun : List (List ℕ)) (word : List ℕ) (fault : Fault) → fault ≡ faults.ReadFault
-    → ChangeFault c begun word fault → ⊥
+    → ChangeShows c begun word fault → ⊥
 by_change c begun word fault h4 h5 = grind arith
 
-pub is_no_failure : (bytes : List ℕ) (e : ReadError) → (e ≡ memory_error) ⊎ FrontFault bytes e.line e.fault
+pub is_no_failure : (bytes : List ℕ) (e : ReadError) → (e ≡ memory_error) ⊎ PrefixShows bytes e.line e.fault
     → e.fault ≡ faults.ReadFault → ⊥
 is_no_failure bytes e (inl none) is = grind arith
 is_no_failure bytes e (inr shows) is = grind (arith, by_change)
 
-pub is_no_file_failure : (bytes : List ℕ) (e : ReadError) → (e ≡ memory_error) ⊎ FoundFault bytes e.line e.fault
+pub is_no_file_failure : (bytes : List ℕ) (e : ReadError) → (e ≡ memory_error) ⊎ IsFoundFault bytes e.line e.fault
     → e.fault ≡ faults.ReadFault → ⊥
 is_no_file_failure bytes e h2 h3 = grind (arith, by_change)
 

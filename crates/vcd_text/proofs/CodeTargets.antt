@@ -12,7 +12,7 @@ use Rattle.std.proofs.lemmas.Slice.Eq.{bytes_eq-Decides}
 use Rattle.std.proofs.lemmas.List.Folds.{find-append}
 use Rattle.indexmap.specs.IndexMap.{IndexMap, Updates}
 use Rattle.vcd_text.specs.Grammar.{VariableDeclaration, ValueChange, is_skipped}
-use Rattle.vcd_text.specs.inside.Variables.{HasWave, TargetMatches}
+use Rattle.vcd_text.specs.inside.Variables.{HasValueChanges, TargetMatches}
 use Rattle.vcd_text.specs.declared.reading.pending.LoggedChange.{LoggedChange}
 use Rattle.vcd_text.specs.declared.reading.code_targets.CodeTarget.{CodeTarget}
 use Rattle.vcd_text.specs.declared.reading.code_targets.CodeTarget.TheVariants.{Undeclared, Kept}
@@ -54,15 +54,15 @@ module _ (vs : List Variable) (log : ℕ → List LoggedChange) (value_changes :
   pub stands_kept : (declared : Option VariableDeclaration) (width position : ℕ)
       → TargetMatches vs log value_changes tick code (Kept width position) declared
       → (d : VariableDeclaration) × (declared ≡ Some d) × (is_skipped d ≡ false) × (d.size ≡ width)
-      × HasWave vs log position code width value_changes tick
+      × HasValueChanges vs log position code width value_changes tick
   stands_kept None width position s = absurd s
   stands_kept (Some d) width position s = (d, refl, s.0, s.1, s.2)
 
 -- a fact about the waves in one list is one about another
 pub stands_moved : (vs ws : List Variable) (log rest : ℕ → List LoggedChange) (rs ss : List ValueChange)
     (early late : ℕ) (code : List ℕ) (target : CodeTarget) (declared : Option VariableDeclaration)
-    → ((width position : ℕ) → target ≡ Kept width position → HasWave vs log position code width rs early
-    → HasWave ws rest position code width ss late)
+    → ((width position : ℕ) → target ≡ Kept width position → HasValueChanges vs log position code width rs early
+    → HasValueChanges ws rest position code width ss late)
     → TargetMatches vs log rs early code target declared → TargetMatches ws rest ss late code target declared
 stands_moved vs ws log rest rs ss early late code target declared h11 h12 = grind arith
 

@@ -42,29 +42,29 @@ rising width cs k is early = later_tick 0 (all_x width) cs k is.rise early
 
 -- one change further on
 pub goes_on : (width from to : ℕ) (cs : List Change) (n m : Cursor) → IsWave width cs → IsNext from to cs n
-    → n.tick < to → to ≤ END_LIMIT + 1 → m.place ≡ n.place + 1 → m.tick ≡ n.following_tick
-    → m.following_tick ≡ tick_at cs (n.place + 2)
+    → n.tick < to → to ≤ END_LIMIT + 1 → m.index ≡ n.index + 1 → m.tick ≡ n.following_tick
+    → m.following_tick ≡ tick_at cs (n.index + 2)
     → IsNext from to cs m
-goes_on width from to cs n m rise is early end place tick following_tick =
+goes_on width from to cs n m rise is early end index tick following_tick =
     let d = change 0 [] in
-    let known : tick_at cs n.place < 2 ^ 64 - 1 = omega (arith, is.tick, early, end) in
-    let inside = tick_inside cs n.place known in
-    let here : (get_or cs n.place d).tick < to = omega (arith, is.tick, tick_is cs n.place d inside, early) in
-    let sum : n.place + 2 ≡ m.place + 1 = omega (arith, place) in
+    let known : tick_at cs n.index < 2 ^ 64 - 1 = omega (arith, is.tick, early, end) in
+    let inside = tick_inside cs n.index known in
+    let here : (get_or cs n.index d).tick < to = omega (arith, is.tick, tick_is cs n.index d inside, early) in
+    let sum : n.index + 2 ≡ m.index + 1 = omega (arith, index) in
     record {
       passed =
-          subst (λ k. All (λ (c : Change). c.tick < to) (take k cs)) (sym place)
-          (subst (All (λ (c : Change). c.tick < to)) (sym (take_more cs n.place d inside))
-          (All-push (λ (c : Change). c.tick < to) (take n.place cs) (get_or cs n.place d) is.passed here));
+          subst (λ k. All (λ (c : Change). c.tick < to) (take k cs)) (sym index)
+          (subst (All (λ (c : Change). c.tick < to)) (sym (take_more cs n.index d inside))
+          (All-push (λ (c : Change). c.tick < to) (take n.index cs) (get_or cs n.index d) is.passed here));
       not_earlier = omega (
         arith,
         is.not_earlier,
         is.tick,
         is.following_tick,
         tick,
-        rising width cs n.place rise known,
+        rising width cs n.index rise known,
       );
-      tick = tick ∙ is.following_tick ∙ ap (tick_at cs) (sym place);
+      tick = tick ∙ is.following_tick ∙ ap (tick_at cs) (sym index);
       following_tick = following_tick ∙ ap (tick_at cs) sum;
     }
 
@@ -76,24 +76,24 @@ goes_to from to cs n up is = grind arith
 -- ---- a window of one wave
 
 -- the changes before the next one are not in it
-pub begins : (from to position : ℕ) (cs : List Change) (place : ℕ) → All (λ c. c.tick < from) (take place cs)
-    → window_of_signal from to position cs ≡ window_of_signal from to position (drop place cs)
+pub begins : (from to position : ℕ) (cs : List Change) (index : ℕ) → All (λ c. c.tick < from) (take index cs)
+    → window_of_signal from to position cs ≡ window_of_signal from to position (drop index cs)
 begins from to position cs zero passed = refl
-begins from to position [] (suc place) passed = refl
-begins from to position (c ∷ cs) (suc place) passed =
-    let early = All-head (λ (x : Change). x.tick < from) c (take place cs) passed in
-    let rest = begins from to position cs place (All-tail (λ (x : Change). x.tick < from) c (take place cs) passed) in
+begins from to position [] (suc index) passed = refl
+begins from to position (c ∷ cs) (suc index) passed =
+    let early = All-head (λ (x : Change). x.tick < from) c (take index cs) passed in
+    let rest = begins from to position cs index (All-tail (λ (x : Change). x.tick < from) c (take index cs) passed) in
     grind (arith, before_window, early, rest)
 
 -- the next change is in it
 pub steps : (from to position : ℕ) (cs : List Change) (n : Cursor) → IsNext from to cs n → n.tick < to
-    → to ≤ END_LIMIT + 1 → window_of_signal from to position (drop n.place cs)
-    ≡ transition_of n.tick position ∷ window_of_signal from to position (drop (n.place + 1) cs)
+    → to ≤ END_LIMIT + 1 → window_of_signal from to position (drop n.index cs)
+    ≡ transition_of n.tick position ∷ window_of_signal from to position (drop (n.index + 1) cs)
 steps from to position cs n is early end =
     let d = change 0 [] in
-    let inside = tick_inside cs n.place (omega (arith, is.tick, early, end)) in
-    let at : (get_or cs n.place d).tick ≡ n.tick = sym (tick_is cs n.place d inside) ∙ sym is.tick in
-    let split = drop_more cs n.place d inside in
+    let inside = tick_inside cs n.index (omega (arith, is.tick, early, end)) in
+    let at : (get_or cs n.index d).tick ≡ n.tick = sym (tick_is cs n.index d inside) ∙ sym is.tick in
+    let split = drop_more cs n.index d inside in
     let here = in_window from to n.tick is.not_earlier early in
     grind (arith, at, split, here)
 
@@ -113,12 +113,12 @@ ends from to position floor before (c ∷ cs) (suc k) (low, other, wide, rest) l
     ends from to position (c.tick + 1) c.value cs k rest late
 
 pub stops : (width from to position : ℕ) (cs : List Change) (n : Cursor) → IsWave width cs → IsNext from to cs n
-    → to ≤ n.tick → window_of_signal from to position (drop n.place cs) ≡ []
+    → to ≤ n.tick → window_of_signal from to position (drop n.index cs) ≡ []
 stops width from to position cs n rise is late = grind (arith, ends)
 
 -- ---- signal by signal
 
--- the signals before a place, and one more
+-- the signals before a position, and one more
 pub passed_next : (from p : ℕ) (signals : List Signal) (cursors : List Cursor) (there : Signal)
     (next : Cursor) → p < length signals → length cursors ≡ length signals → there ≡ get_or signals p there
     → IsNext from from there.wave.changes next → ((k : ℕ) (s : Signal) (n : Cursor) → k < p

@@ -24,17 +24,17 @@ use Rattle.vcd_core.specs.Decimal.{number_of}
 use Rattle.vcd_core.specs.Word.{is_skipped_kind}
 use Rattle.vcd_text.specs.Grammar.{VariableDeclaration, ValueChange, ParseState, is_skipped}
 use Rattle.vcd_text.specs.Grammar.{kept_variables}
-use Rattle.vcd_text.specs.Grammar.{variable_of, may_have_code, has_room, declaration_of}
+use Rattle.vcd_text.specs.Grammar.{variable_of, may_have_code, is_within_limit, declaration_of}
 use Rattle.vcd_text.specs.Meaning.{latest_value}
 use Rattle.vcd_text.specs.inside.ChangeLog.{logged}
 use Rattle.vcd_text.specs.declared.reading.pending.LoggedChange.{LoggedChange}
 use Rattle.vcd_text.proofs.LoggedValues.{gives_as, gives_nothing}
 use Rattle.vcd_text.specs.inside.Variables.{TargetAgrees, declaration_in, without_code, target_of}
-use Rattle.vcd_text.specs.inside.Variables.{HasWave, TargetMatches, HasFirst, HaveOwnCodes}
+use Rattle.vcd_text.specs.inside.Variables.{HasValueChanges, TargetMatches, HasFirst, HaveOwnCodes}
 use Rattle.vcd_text.specs.inside.Variables.{VariablesMatch, IsFree, declaration_of_parts}
 use Rattle.vcd_text.specs.inside.Scopes.{open_scopes, IsPlaced}
 use Rattle.vcd_text.specs.inside.Variables.{with_declaration, mixed, many, DeclaresAs, Declares}
-use Rattle.vcd_text.specs.Faults.{code_mixed, no_room}
+use Rattle.vcd_text.specs.Faults.{code_mixed, one_too_many}
 use Rattle.vcd_text.specs.declared.reading.code_targets.CodeTargets.{CodeTargets}
 use Rattle.vcd_text.specs.declared.reading.code_targets.CodeTarget.{CodeTarget}
 use Rattle.vcd_text.specs.declared.reading.code_targets.CodeTarget.TheVariants.{Undeclared, Skipped, Kept}
@@ -203,7 +203,7 @@ module _ (old : Variables) (c : ParseState) (code : List ℕ) (v : Variable) (k 
   keep_may (Some e) stands = grind arith
 
   has_room_is : (b : Bool) → nat_lt (length old.kept.items) SIGNAL_LIMIT ≡ b
-      → has_room c.declared (declaration_in c.scopes code v) ≡ b
+      → is_within_limit c.declared (declaration_in c.scopes code v) ≡ b
   has_room_is b test = grind (arith, kept_long)
 
   -- it is not allowed if there are too many
@@ -218,7 +218,8 @@ module _ (old : Variables) (c : ParseState) (code : List ℕ) (v : Variable) (k 
       (silent : v.wave.changes ≡ []) (placed : IsPlaced old.scopes v.place (open_scopes old.scopes))
       (items : list.items ≡ old.kept.items ++ v ∷ [])
       (puts : Puts old (with_kept old list targets) code (Kept v.wave.width v.first)) where
-    silent_wave : HasWave (old.kept.items ++ v ∷ []) (logged old.log.items) (length old.kept.items) code v.wave.width
+    silent_wave : HasValueChanges (old.kept.items ++ v ∷ []) (logged old.log.items) (length old.kept.items) code
+        v.wave.width
         c.value_changes c.tick
     unfolding latest_value value_from
     silent_wave = record {
@@ -381,14 +382,14 @@ declares_names c kind size code (name ∷ names) (Ok x) new some (may, room, kno
 declares_names c kind size code (name ∷ names) (Err fault) new some as_one = λ no_end good. elim as_one [
   | inl none ↦ inl none
   | inr (mixed may is) ↦ inr (code_mixed _ _ refl refl no_end good refl may is)
-  | inr (many may room is) ↦ inr (no_room _ _ refl refl no_end good refl may room is)
+  | inr (many may room is) ↦ inr (one_too_many _ _ refl refl no_end good refl may room is)
 ]
 
--- the front of a list, and the rest
-pub front_removed : (xs ys : List (List ℕ)) (x : List ℕ) → 0 < length xs → x ≡ slice_index_or xs 0 x → ys ≡ remove xs 0
+-- the prefix of a list, and the rest
+pub prefix_removed : (xs ys : List (List ℕ)) (x : List ℕ) → 0 < length xs → x ≡ slice_index_or xs 0 x → ys ≡ remove xs 0
     → xs ≡ x ∷ ys
-front_removed [] ys x some front rest = absurd (omega arith)
-front_removed (x' ∷ xs) ys x some front rest = (λ i. sym front i ∷ sym rest i)
+prefix_removed [] ys x some prefix rest = absurd (omega arith)
+prefix_removed (x' ∷ xs) ys x some prefix rest = (λ i. sym prefix i ∷ sym rest i)
 
 -- too few words for a variable
 pub too_few : (c : ParseState) (kind size : List ℕ) (words : List (List ℕ)) → length words < 2
@@ -411,8 +412,8 @@ pub declares_parts : (c : ParseState) (words rest names following : List (List �
     → Declares c (first ∷ word ∷ following) result new
 declares_parts c words rest names following kind code first word result new long is_kind left is_code left_names are
     as_one =
-    let head = front_removed words rest kind (omega (arith, long)) is_kind left in
-    let second = front_removed rest names code (omega (arith, long, ap (length {A = List ℕ}) head)) is_code
+    let head = prefix_removed words rest kind (omega (arith, long)) is_kind left in
+    let second = prefix_removed rest names code (omega (arith, long, ap (length {A = List ℕ}) head)) is_code
     left_names in
     let whole : words ≡ kind ∷ code ∷ names = head ∙ ap (λ ws. kind ∷ ws) second in
     subst (λ ws. Declares c (with_size word ws) result new) (sym whole ∙ are)

@@ -12,7 +12,7 @@ use Rattle.vcd_core.specs.declared.capture.Timescale.{Timescale}
 use Rattle.vcd_core.specs.declared.capture.ScopeName.{ScopeName}
 use Rattle.vcd_text.specs.declared.fault.Fault.{Fault}
 use Rattle.vcd_text.specs.declared.fault.Fault.TheVariants as faults
-use Rattle.vcd_text.specs.Words.{PlacedWord, word_on}
+use Rattle.vcd_text.specs.Words.{WordOnLine, word_on}
 use Rattle.vcd_core.specs.Decimal.{is_number, number_of}
 use Rattle.vcd_core.specs.declared.value.TheConstants.{WIDTH_LIMIT}
 use Rattle.vcd_text.specs.Items.{Item, entry, timescale, scope, upscope, variable, end_definitions}
@@ -21,7 +21,7 @@ use Rattle.vcd_text.specs.Items.{end_word, is_end_word, has_no_end_word, header_
 use Rattle.vcd_text.specs.Items.{timescale_of}
 use Rattle.vcd_text.specs.Grammar.{ParseState, Allows, state_after_item, word_texts}
 use Rattle.vcd_text.specs.Grammar.{has_good_size, declaration_of}
-use Rattle.vcd_text.specs.Faults.{WordFault, DeclarationFault, no_timescale, no_size, no_variable}
+use Rattle.vcd_text.specs.Faults.{WordShows, DeclarationShows, no_timescale, no_size, missing_part}
 use Rattle.vcd_text.specs.Faults.{among_declarations}
 use Rattle.vcd_text.specs.inside.Scopes.{open_scopes, KeepsPlaces}
 use Rattle.vcd_text.specs.inside.Variables.{VariablesMatch, Declares, DeclaresWords}
@@ -53,7 +53,7 @@ pub agrees_by : (m : Parser) (c : ParseState) → m.header.items ≡ c.header �
 agrees_by m c header time in_body tick variables no_early_change = grind arith
 
 -- if the conditions of the open item hold, its `$end` ends it
-ends_here : (new : Parser) (c : ParseState) (begun : List PlacedWord) (line : ℕ) (i : Item) (words : List (List ℕ))
+ends_here : (new : Parser) (c : ParseState) (begun : List WordOnLine) (line : ℕ) (i : Item) (words : List (List ℕ))
     → word_texts begun ≡ words → spelling i ≡ words ++ end_word ∷ [] → Allows c i
     → ParserMatches new (state_after_item c i) → new.item ≡ items.Nothing
     → WordStep c (begun ++ word_on end_word line ∷ []) new
@@ -65,7 +65,7 @@ ends_here new c begun line i words spelled whole allows agrees closed =
 pub closes_entry : (m new : Parser) (kind : HeaderKind) → m.item ≡ items.Entry kind
     → new.header.items ≡ m.header.items ++ record { kind = kind; words = m.words.items } ∷ []
     → new ≡ record m { header = new.header; words = new.words; item = items.Nothing }
-    → (line : ℕ) (c : ParseState) (begun : List PlacedWord) → IsAtState m c begun
+    → (line : ℕ) (c : ParseState) (begun : List WordOnLine) → IsAtState m c begun
     → WordStep c (begun ++ word_on end_word line ∷ []) new
 closes_entry m new kind is pushed others line c begun at =
     let a = at.0 in
@@ -82,7 +82,7 @@ closes_entry m new kind is pushed others line c begun at =
 -- a timescale replaces the one before
 pub closes_timescale : (m : Parser) (found : Timescale) → m.item ≡ items.Timescale
     → timescale_of m.words.items ≡ Some found
-    → (line : ℕ) (c : ParseState) (begun : List PlacedWord) → IsAtState m c begun
+    → (line : ℕ) (c : ParseState) (begun : List WordOnLine) → IsAtState m c begun
     → WordStep c (begun ++ word_on end_word line ∷ []) (record m { timescale = Some found; item = items.Nothing })
 closes_timescale m found is some line c begun at =
     let a = at.0 in
@@ -96,8 +96,8 @@ closes_timescale m found is some line c begun at =
 
 -- the words spell no timescale
 pub shows_no_timescale : (m : Parser) → m.item ≡ items.Timescale → timescale_of m.words.items ≡ None
-    → (c : ParseState) (begun : List PlacedWord) → IsAtState m c begun
-    → WordFault c (word_texts begun) end_word faults.BadTimescale
+    → (c : ParseState) (begun : List WordOnLine) → IsAtState m c begun
+    → WordShows c (word_texts begun) end_word faults.BadTimescale
 shows_no_timescale m is none c begun at =
     let b : Collects m begun (codes "$timescale") = subst (IsBegun m begun) is at.1 in
     among_declarations (sym at.0.in_body ∙ b.declares) (no_timescale m.words.items b.spelled refl b.no_end none refl)
@@ -106,7 +106,7 @@ shows_no_timescale m is none c begun at =
 pub closes_scope : (m : Parser) (scopes : Scopes) (rest : Vec (List ℕ)) (s : ScopeName) → m.item ≡ items.Scope
     → m.words.items ≡ s.kind ∷ s.words → open_scopes scopes ≡ open_scopes m.variables.scopes ++ s ∷ []
     → KeepsPlaces m.variables.scopes scopes
-    → (line : ℕ) (c : ParseState) (begun : List PlacedWord) → IsAtState m c begun
+    → (line : ℕ) (c : ParseState) (begun : List WordOnLine) → IsAtState m c begun
     → WordStep c (begun ++ word_on end_word line ∷ [])
     (record m { variables = record m.variables { scopes = scopes }; words = rest; item = items.Nothing })
 closes_scope m scopes rest s is words pushed keeps line c begun at =
@@ -128,7 +128,7 @@ so_deep vs c k = ap (length {A = ScopeName}) (sym k.opened)
 pub closes_upscope : (m : Parser) (scopes : Scopes) → m.item ≡ items.Upscope
     → open_scopes scopes ≡ take (length (open_scopes m.variables.scopes) - 1) (open_scopes m.variables.scopes)
     → KeepsPlaces m.variables.scopes scopes
-    → (line : ℕ) (c : ParseState) (begun : List PlacedWord) → IsAtState m c begun
+    → (line : ℕ) (c : ParseState) (begun : List WordOnLine) → IsAtState m c begun
     → WordStep c (begun ++ word_on end_word line ∷ [])
     (record m { variables = record m.variables { scopes = scopes }; item = items.Nothing })
 closes_upscope m scopes is popped keeps line c begun at =
@@ -144,7 +144,7 @@ closes_upscope m scopes is popped keeps line c begun at =
 
 -- the changes begin
 pub closes_definitions : (m : Parser) → m.item ≡ items.EndDefinitions
-    → (line : ℕ) (c : ParseState) (begun : List PlacedWord) → IsAtState m c begun
+    → (line : ℕ) (c : ParseState) (begun : List WordOnLine) → IsAtState m c begun
     → WordStep c (begun ++ word_on end_word line ∷ []) (record m { in_body = true; item = items.Nothing })
 closes_definitions m is line c begun at =
     let a = at.0 in
@@ -159,7 +159,7 @@ closes_definitions m is line c begun at =
 
 -- another command changes nothing
 pub closes_other : (m : Parser) → m.item ≡ items.Other
-    → (line : ℕ) (c : ParseState) (begun : List PlacedWord) → IsAtState m c begun
+    → (line : ℕ) (c : ParseState) (begun : List WordOnLine) → IsAtState m c begun
     → WordStep c (begun ++ word_on end_word line ∷ []) (record m { item = items.Nothing })
 closes_other m is line c begun at =
     let a = at.0 in
@@ -184,12 +184,12 @@ ends_early m new is line c begun at =
     let b : Collects m begun (codes "$var") × (length m.words.items ≤ 1) = subst (IsBegun m begun) is at.1 in
     let short = short_words c m.words.items b.1 in
     inr (among_declarations (sym at.0.in_body ∙ b.0.declares)
-    (no_variable m.words.items b.0.spelled refl b.0.no_end short.0 short.1 refl))
+    (missing_part m.words.items b.0.spelled refl b.0.no_end short.0 short.1 refl))
 
 -- the variables have the declaration
 pub closes_variable : (m : Parser) (variables : Variables) (words : List (List ℕ)) (rest : Vec (List ℕ))
     → words ≡ m.words.items → DeclaresWords words m.size m.variables (Ok tt) variables
-    → m.item ≡ items.SizedVariable → (line : ℕ) (c : ParseState) (begun : List PlacedWord) → IsAtState m c begun
+    → m.item ≡ items.SizedVariable → (line : ℕ) (c : ParseState) (begun : List WordOnLine) → IsAtState m c begun
     → WordStep c (begun ++ word_on end_word line ∷ [])
     (record m { variables = variables; words = rest; item = items.Nothing })
 closes_variable m variables words rest spelled declare is line c begun at =
@@ -216,11 +216,11 @@ shows_no_variable m new (Err e) fault variables words spelled declare is failed 
     let declares : IsFalse c.in_body = sym a.in_body ∙ b.declares in
     let d : Declares c (b.kind ∷ b.word ∷ b.following) (Err fault) variables =
     declare c b.kind b.word b.following (spelled ∙ b.words) b.size (a.no_early_change declares) a.variables in
-    subst (λ f. (f ≡ faults.NoMemory) ⊎ WordFault c (word_texts begun) end_word f) (sym failed)
+    subst (λ f. (f ≡ faults.NoMemory) ⊎ WordShows c (word_texts begun) end_word f) (sym failed)
     (elim (d b.no_end b.number) [
       | inl memory ↦ inl memory
       | inr shown ↦ inr (among_declarations declares
-          (subst (λ texts. DeclarationFault c texts end_word fault) (sym b.spelled) shown))
+          (subst (λ texts. DeclarationShows c texts end_word fault) (sym b.spelled) shown))
     ])
 
 -- the kind of a variable, if it is the only word
@@ -232,8 +232,8 @@ one_word (kind ∷ size ∷ words) one none = absurd (omega arith)
 
 -- a size that is no number
 pub shows_no_size : (m : Parser) (text : List ℕ) → m.item ≡ items.Variable → 0 < length m.words.items
-    → is_number text ≡ false → (c : ParseState) (begun : List PlacedWord) → IsAtState m c begun
-    → WordFault c (word_texts begun) text faults.BadVar
+    → is_number text ≡ false → (c : ParseState) (begun : List WordOnLine) → IsAtState m c begun
+    → WordShows c (word_texts begun) text faults.BadVar
 shows_no_size m text is some isnt c begun at =
     let b : Collects m begun (codes "$var") × (length m.words.items ≤ 1) = subst (IsBegun m begun) is at.1 in
     let k = one_word m.words.items (omega (arith, some, b.1)) b.0.no_end in
@@ -245,7 +245,7 @@ shows_no_size m text is some isnt c begun at =
 -- the size of a variable
 pub takes_size : (m : Parser) (text : List ℕ) (size : ℕ) → m.item ≡ items.Variable → 0 < length m.words.items
     → is_number text ≡ true → size ≡ min (number_of text) (WIDTH_LIMIT + 1) → IsFalse (is_end_word text)
-    → (line : ℕ) (c : ParseState) (begun : List PlacedWord) → IsAtState m c begun
+    → (line : ℕ) (c : ParseState) (begun : List WordOnLine) → IsAtState m c begun
     → WordStep c (begun ++ word_on text line ∷ []) (record m { size = size; item = items.SizedVariable })
 takes_size m text size is some number read isnt line c begun at =
     let a = at.0 in
@@ -270,7 +270,7 @@ takes_size m text size is some number read isnt line c begun at =
 -- a word of a variable after its size
 pub continues_variable : (m : Parser) (words : Vec (List ℕ)) (text : List ℕ) → m.item ≡ items.SizedVariable
     → words.items ≡ m.words.items ++ text ∷ [] → IsFalse (is_end_word text)
-    → (line : ℕ) (c : ParseState) (begun : List PlacedWord) → IsAtState m c begun
+    → (line : ℕ) (c : ParseState) (begun : List WordOnLine) → IsAtState m c begun
     → WordStep c (begun ++ word_on text line ∷ []) (record m { words = words })
 continues_variable m words text is pushed isnt line c begun at =
     let a = at.0 in
@@ -292,7 +292,7 @@ continues_variable m words text is pushed isnt line c begun at =
 
 -- a word of another command
 pub passes_over : (m : Parser) (text : List ℕ) → m.item ≡ items.Other → IsFalse (is_end_word text)
-    → (line : ℕ) (c : ParseState) (begun : List PlacedWord) → IsAtState m c begun
+    → (line : ℕ) (c : ParseState) (begun : List WordOnLine) → IsAtState m c begun
     → WordStep c (begun ++ word_on text line ∷ []) m
 passes_over m text is isnt line c begun at =
     let b : PassesOver m begun = subst (IsBegun m begun) is at.1 in

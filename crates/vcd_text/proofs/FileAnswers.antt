@@ -10,12 +10,12 @@ use Rattle.std.proofs.lemmas.Bool.{cases_Bool}
 use Rattle.vcd_core.specs.Contents.{Contents}
 use Rattle.vcd_text.specs.declared.fault.Fault.{Fault}
 use Rattle.vcd_text.specs.declared.fault.Fault.TheVariants.{Truncated}
-use Rattle.vcd_text.specs.Words.{PlacedWord, words_of, last_line}
+use Rattle.vcd_text.specs.Words.{WordOnLine, words_of, last_line}
 use Rattle.vcd_text.specs.Items.{Item, spelling, spellings}
 use Rattle.vcd_text.specs.Grammar.{ParseState, Allows, Accepts, state_after_item, initial_state}
 use Rattle.vcd_text.specs.Grammar.{word_texts}
 use Rattle.vcd_text.specs.Faults.{fault_line, ShowsFault}
-use Rattle.vcd_text.specs.FoundFaults.{FoundFault}
+use Rattle.vcd_text.specs.FoundFaults.{IsFoundFault}
 use Rattle.vcd_text.specs.FoundFaults.{IsUnfinished, declaration_due, Stops}
 use Rattle.vcd_text.specs.FoundFaults.{word_shows}
 use Rattle.vcd_text.specs.FoundFaults.{too_early}
@@ -28,16 +28,16 @@ use Rattle.vcd_text.proofs.WordOutcomes.{word_outcome}
 use Rattle.vcd_text.proofs.ItemsInTurn.{shown_by}
 
 -- the result of all words of a file
-data AnswerTo (words : List PlacedWord) : Type 0 where
+data AnswerTo (words : List WordOnLine) : Type 0 where
   is_accepted : (state : ParseState) → Accepts words state → AnswerTo words
   stops_early : Stops words → AnswerTo words
   is_refused : (line : ℕ) (fault : Fault) → ShowsFault words line fault → AnswerTo words
 
 -- the words are those of whole items, those of the open item, and those to come
-record WordsSoFar (words rest : List PlacedWord) : Type 0 where
+record WordsSoFar (words rest : List WordOnLine) : Type 0 where
   items : List Item
-  whole : List PlacedWord
-  begun : List PlacedWord
+  whole : List WordOnLine
+  begun : List WordOnLine
   state : ParseState
   parts : words ≡ whole ++ (begun ++ rest)
   spelled : word_texts whole ≡ spellings items
@@ -47,19 +47,19 @@ record WordsSoFar (words rest : List PlacedWord) : Type 0 where
 -- ---- one word
 
 -- the first of the words to come is the last of the open ones
-word_after : (begun rest : List PlacedWord) (w : PlacedWord) → begun ++ w ∷ rest ≡ (begun ++ w ∷ []) ++ rest
+word_after : (begun rest : List WordOnLine) (w : WordOnLine) → begun ++ w ∷ rest ≡ (begun ++ w ∷ []) ++ rest
 word_after begun rest w = sym (append_assoc begun (w ∷ []) rest)
 
-pub texts_more : (begun : List PlacedWord) (w : PlacedWord)
+pub texts_more : (begun : List WordOnLine) (w : WordOnLine)
     → word_texts (begun ++ w ∷ []) ≡ word_texts begun ++ w.text ∷ []
-texts_more begun w = map-append (λ (v : PlacedWord). v.text) begun (w ∷ [])
+texts_more begun w = map-append (λ (v : WordOnLine). v.text) begun (w ∷ [])
 
 pub spelled_more : (items : List Item) (i : Item) → spellings (items ++ i ∷ []) ≡ spellings items ++ spelling i
 spelled_more [] i = append-nil (spelling i)
 spelled_more (j ∷ items) i = grind (arith, append_assoc, spelled_more items i)
 
 -- the word goes on with the open item
-with_word : (words rest : List PlacedWord) (w : PlacedWord) (u : WordsSoFar words (w ∷ rest))
+with_word : (words rest : List WordOnLine) (w : WordOnLine) (u : WordsSoFar words (w ∷ rest))
     → IsUnfinished u.state (word_texts u.begun ++ w.text ∷ []) → WordsSoFar words rest
 with_word words rest w u due = record {
   items = u.items;
@@ -73,7 +73,7 @@ with_word words rest w u due = record {
 }
 
 -- the word ends the item
-with_item : (words rest : List PlacedWord) (w : PlacedWord) (u : WordsSoFar words (w ∷ rest)) (i : Item)
+with_item : (words rest : List WordOnLine) (w : WordOnLine) (u : WordsSoFar words (w ∷ rest)) (i : Item)
     → spelling i ≡ word_texts u.begun ++ w.text ∷ [] → Allows u.state i → WordsSoFar words rest
 with_item words rest w u i spelled allows = record {
   items = u.items ++ i ∷ [];
@@ -83,7 +83,7 @@ with_item words rest w u i spelled allows = record {
   parts = u.parts ∙ ap (λ ws. u.whole ++ ws) (word_after u.begun rest w)
       ∙ sym (append_assoc u.whole (u.begun ++ w ∷ []) rest);
   spelled =
-      map-append (λ (v : PlacedWord). v.text) u.whole (u.begun ++ w ∷ [])
+      map-append (λ (v : WordOnLine). v.text) u.whole (u.begun ++ w ∷ [])
       ∙ ap (λ ws. ws ++ word_texts (u.begun ++ w ∷ [])) u.spelled
       ∙ ap (λ ws. spellings u.items ++ ws) (texts_more u.begun w ∙ sym spelled) ∙ sym (spelled_more u.items i);
   leads = reaches_both initial_state u.state (state_after_item u.state i) u.items (i ∷ []) u.leads
@@ -94,12 +94,12 @@ with_item words rest w u i spelled allows = record {
 -- ---- the end
 
 -- the texts of all words, if none is to come
-texts_are : (words : List PlacedWord) (u : WordsSoFar words [])
+texts_are : (words : List WordOnLine) (u : WordsSoFar words [])
     → word_texts words ≡ spellings u.items ++ word_texts u.begun
 texts_are words u = grind (arith, append-nil, map-append)
 
 -- a word must follow the last one
-stops_here : (words : List PlacedWord) (u : WordsSoFar words []) → IsUnfinished u.state (word_texts u.begun)
+stops_here : (words : List WordOnLine) (u : WordsSoFar words []) → IsUnfinished u.state (word_texts u.begun)
     → AnswerTo words
 stops_here words u due = stops_early (record {
   items = u.items;
@@ -110,7 +110,7 @@ stops_here words u due = stops_early (record {
 })
 
 -- nothing is open after the last word, and `$enddefinitions $end` has come
-accepts_here : (words : List PlacedWord) (u : WordsSoFar words []) → word_texts u.begun ≡ [] → IsTrue u.state.in_body
+accepts_here : (words : List WordOnLine) (u : WordsSoFar words []) → word_texts u.begun ≡ [] → IsTrue u.state.in_body
     → AnswerTo words
 accepts_here words u none in_body = is_accepted u.state (record {
   items = u.items;
@@ -120,7 +120,7 @@ accepts_here words u none in_body = is_accepted u.state (record {
   definitions_ended = in_body;
 })
 
-at_end : (words : List PlacedWord) (u : WordsSoFar words []) → IsOpen u.state (word_texts u.begun) → AnswerTo words
+at_end : (words : List WordOnLine) (u : WordsSoFar words []) → IsOpen u.state (word_texts u.begun) → AnswerTo words
 at_end words u (inside due) = stops_here words u due
 at_end words u (between none) =
     elim (cases_Bool u.state.in_body) [
@@ -130,24 +130,24 @@ at_end words u (between none) =
 
 -- ---- all words
 
-answer_after : (words rest : List PlacedWord) → All (λ (w : PlacedWord). is_run w.text) rest → WordsSoFar words rest
+answer_after : (words rest : List WordOnLine) → All (λ (w : WordOnLine). is_run w.text) rest → WordsSoFar words rest
     → AnswerTo words
 answer_after words [] runs u = at_end words u u.open_item
 answer_after words (w ∷ rest) runs u =
-    elim (word_outcome u.state (word_texts u.begun) w.text (All-head (λ (v : PlacedWord). is_run v.text) w rest runs).0
+    elim (word_outcome u.state (word_texts u.begun) w.text (All-head (λ (v : WordOnLine). is_run v.text) w rest runs).0
     u.open_item) [
       | shows_fault fault decided ↦
           is_refused (fault_line u.state.in_body u.begun w) fault
           (shown_by words u.whole u.begun rest w u.items u.state _ fault u.leads u.parts u.spelled decided refl)
       | ends_item i spelled allows ↦
-          answer_after words rest (All-tail (λ (v : PlacedWord). is_run v.text) w rest runs)
+          answer_after words rest (All-tail (λ (v : WordOnLine). is_run v.text) w rest runs)
           (with_item words rest w u i spelled allows)
-      | goes_on due ↦ answer_after words rest (All-tail (λ (v : PlacedWord). is_run v.text) w rest runs)
+      | goes_on due ↦ answer_after words rest (All-tail (λ (v : WordOnLine). is_run v.text) w rest runs)
           (with_word words rest w u due)
     ]
 
 -- before the first word
-nothing_taken : (words : List PlacedWord) → WordsSoFar words words
+nothing_taken : (words : List WordOnLine) → WordsSoFar words words
 nothing_taken words = record {
   items = [];
   whole = [];
@@ -160,7 +160,7 @@ nothing_taken words = record {
 }
 
 pub a_found_answer : (bytes : List ℕ) → ((c : Contents) × (n : ℕ) × FileMeans bytes c n)
-    ⊎ ((line : ℕ) × (fault : Fault) × FoundFault bytes line fault)
+    ⊎ ((line : ℕ) × (fault : Fault) × IsFoundFault bytes line fault)
 a_found_answer bytes =
     elim (answer_after (words_of bytes) (words_of bytes) (words_are_words true 1 bytes)
     (nothing_taken (words_of bytes))) [

@@ -5,17 +5,18 @@ use Rattle.vcd_core.specs.Contents.{Contents}
 use Rattle.vcd_text.specs.declared.fault.Fault.{Fault}
 use Rattle.vcd_text.specs.declared.fault.Fault.TheVariants.{Truncated}
 use Rattle.vcd_text.specs.Words.{words_of, last_line}
-use Rattle.vcd_text.specs.Faults.{ShowsFault, FileFault, shown, none_shown}
-use Rattle.vcd_text.specs.FoundFaults.{FoundFault, word_shows, too_early}
+use Rattle.vcd_text.specs.Faults.{ShowsFault, IsFileFault, shown, none_shown}
+use Rattle.vcd_text.specs.FoundFaults.{IsFoundFault, word_shows, too_early}
 use Rattle.vcd_text.specs.Meaning.{FileMeans}
 use Rattle.vcd_text.specs.Laws.{EveryFileHasAtMostOneFault, NoFileHasMeaningAndFault}
 use Rattle.vcd_text.specs.Laws.{EveryFileHasMeaningOrFault}
-use Rattle.vcd_text.specs.Laws.{EveryFaultIsFound, FrontFaultIsFileFault}
+use Rattle.vcd_text.specs.Laws.{EveryFaultIsFound, PrefixFaultIsFileFault}
 use Rattle.vcd_text.proofs.OneAnswer.{one_found_fault, meaning-no_found_fault, stopped-not_refused}
 use Rattle.vcd_text.proofs.FileAnswers.{a_found_answer}
-use Rattle.vcd_text.proofs.FrontFaults.{front_fault_found}
+use Rattle.vcd_text.proofs.PrefixFaults.{prefix_fault_found}
 
-pub file_fault : (bytes : List ℕ) (line : ℕ) (fault : Fault) → FoundFault bytes line fault → FileFault bytes line fault
+pub file_fault : (bytes : List ℕ) (line : ℕ) (fault : Fault) → IsFoundFault bytes line fault
+    → IsFileFault bytes line fault
 file_fault bytes line fault (word_shows s) =
     (λ c n means. meaning-no_found_fault bytes c n line fault means (word_shows s), shown s)
 file_fault bytes line fault (too_early stops l f) = (
@@ -27,7 +28,7 @@ file_fault bytes line fault (too_early stops l f) = (
 ends_early : (bytes : List ℕ) (line : ℕ) (fault : Fault) → ((c : Contents) (n : ℕ) → FileMeans bytes c n → ⊥)
     → ((at : ℕ) (other : Fault) → ShowsFault (words_of bytes) at other → ⊥) → line ≡ last_line bytes
     → fault ≡ Truncated → ((c : Contents) × (n : ℕ) × FileMeans bytes c n)
-    ⊎ ((at : ℕ) × (other : Fault) × FoundFault bytes at other) → FoundFault bytes line fault
+    ⊎ ((at : ℕ) × (other : Fault) × IsFoundFault bytes at other) → IsFoundFault bytes line fault
 ends_early bytes line fault none silent l f (inl (c, n, means)) = absurd (none c n means)
 ends_early bytes line fault none silent l f (inr (at, other, word_shows s)) = absurd (silent at other s)
 ends_early bytes line fault none silent l f (inr (at, other, too_early stops last early)) = too_early stops l f
@@ -53,6 +54,6 @@ an_answer bytes =
       | inr found ↦ inr (found.0, found.1, file_fault bytes found.0 found.1 found.2)
     ]
 
-pub front_fault_stays : FrontFaultIsFileFault
-front_fault_stays front rest line fault s =
-    file_fault (front ++ rest) line fault (front_fault_found front rest line fault s)
+pub prefix_fault_stays : PrefixFaultIsFileFault
+prefix_fault_stays prefix rest line fault s =
+    file_fault (prefix ++ rest) line fault (prefix_fault_found prefix rest line fault s)

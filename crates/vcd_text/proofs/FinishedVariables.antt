@@ -19,7 +19,7 @@ use Rattle.vcd_text.specs.Grammar.{VariableDeclaration, ParseState, is_skipped, 
 use Rattle.vcd_text.specs.Grammar.{kept_variables}
 use Rattle.vcd_text.specs.Meaning.{latest_value, declared_signal}
 use Rattle.vcd_text.specs.inside.Variables.{declaration, without_code, target_of}
-use Rattle.vcd_text.specs.inside.Variables.{HasWave}
+use Rattle.vcd_text.specs.inside.Variables.{HasValueChanges}
 use Rattle.vcd_text.specs.inside.Variables.{VariablesMatch, Finishes, FinishesWave}
 use Rattle.vcd_text.specs.inside.Scopes.{chains_of, IsPlaced}
 use Rattle.vcd_text.specs.declared.reading.code_targets.CodeTarget.TheVariants.{Kept}
@@ -61,15 +61,15 @@ module _ (vs : Variables) (c : ParseState) (yielded rest : List Variable) (v : V
   own_declaration = declared_at vs c k (length yielded) v stands_at
 
   -- it is in the scopes of its declaration
-  pub own_place : IsPlaced vs.scopes v.place own_declaration.0.scopes
-  own_place = (k.firsts (length yielded) v stands_at).placed own_declaration.0 own_declaration.1
+  pub own_position : IsPlaced vs.scopes v.place own_declaration.0.scopes
+  own_position = (k.firsts (length yielded) v stands_at).placed own_declaration.0 own_declaration.1
 
   owned : target_of vs own_declaration.0.code ≡ Kept v.wave.width v.first
   owned = (k.firsts (length yielded) v stands_at).owned own_declaration.0 own_declaration.1
 
   own_wave : (e : VariableDeclaration) × (variable_of c own_declaration.0.code ≡ Some e) × (is_skipped e ≡ false)
       × (e.size ≡ v.wave.width)
-      × HasWave vs.kept.items (logged vs.log.items) v.first own_declaration.0.code v.wave.width c.value_changes
+      × HasValueChanges vs.kept.items (logged vs.log.items) v.first own_declaration.0.code v.wave.width c.value_changes
       c.tick
   own_wave = grind (arith, stands_kept, owned)
 
@@ -87,7 +87,7 @@ module _ (vs : Variables) (c : ParseState) (yielded rest : List Variable) (v : V
       let own = own_declaration in
       let size : v.wave.width ≡ own.0.size = sym (ap (λ (x : VariableDeclaration). x.size) own.2) in
       λ i. record {
-        scopes = (f.scopes ∙ own_place.scopes_are) i;
+        scopes = (f.scopes ∙ own_position.scopes_are) i;
         kind = (f.kind ∙ sym (ap (λ (x : VariableDeclaration). x.kind) own.2)) i;
         words = (f.words ∙ sym (ap (λ (x : VariableDeclaration). x.words) own.2)) i;
         width = (width ∙ size) i;

@@ -4,10 +4,10 @@ use Rattle.vcd_text.specs.Items.{Item}
 use Rattle.vcd_text.specs.Grammar.{ParseState, Allows, AllowsAll, state_after, state_after_item}
 use Rattle.std.proofs.Common.{ℕ, ap}
 use Rattle.vcd_text.specs.declared.fault.Fault.{Fault}
-use Rattle.vcd_text.specs.Words.{PlacedWord}
+use Rattle.vcd_text.specs.Words.{WordOnLine}
 use Rattle.vcd_text.specs.Items.{spellings}
 use Rattle.vcd_text.specs.Grammar.{initial_state, word_texts}
-use Rattle.vcd_text.specs.Faults.{WordFault, ShowsFault, fault_line}
+use Rattle.vcd_text.specs.Faults.{WordShows, ShowsFault, fault_line}
 
 -- from the state `start` the conditions of each item hold, and the state after all of them is
 -- `state`
@@ -30,20 +30,20 @@ reaches_one c d i allowed state_is = record { allowed = (allowed, tt); state_is 
 
 -- items in front and items after them
 pub reaches_both : (c d e : ParseState) (xs ys : List Item) → Reaches c xs d → Reaches d ys e → Reaches c (xs ++ ys) e
-reaches_both c d e [] ys front back = subst (λ x. Reaches x ys e) (sym front.state_is) back
-reaches_both c d e (x ∷ xs) ys front back =
-    reaches_first c e x (xs ++ ys) front.allowed.0
+reaches_both c d e [] ys prefix back = subst (λ x. Reaches x ys e) (sym prefix.state_is) back
+reaches_both c d e (x ∷ xs) ys prefix back =
+    reaches_first c e x (xs ++ ys) prefix.allowed.0
     (reaches_both (state_after_item c x) d e xs ys
-    (record { allowed = front.allowed.1; state_is = front.state_is }) back)
+    (record { allowed = prefix.allowed.1; state_is = prefix.state_is }) back)
 
 -- the same items between the same states
 pub reaches_same : (c d e : ParseState) (is : List Item) → Reaches c is d → d ≡ e → Reaches c is e
 reaches_same c d e is leads same = record { allowed = leads.allowed; state_is = leads.state_is ∙ same }
 
 -- after the words of these items a word shows a fault, whatever follows it
-pub shown_by : (words whole begun more : List PlacedWord) (w : PlacedWord) (items : List Item) (c : ParseState)
+pub shown_by : (words whole begun more : List WordOnLine) (w : WordOnLine) (items : List Item) (c : ParseState)
     (line : ℕ) (fault : Fault) → Reaches initial_state items c → words ≡ whole ++ (begun ++ w ∷ more)
-    → word_texts whole ≡ spellings items → WordFault c (word_texts begun) w.text fault
+    → word_texts whole ≡ spellings items → WordShows c (word_texts begun) w.text fault
     → line ≡ fault_line c.in_body begun w → ShowsFault words line fault
 shown_by words whole begun more w items c line fault leads parts spelled decided at = record {
   items = items;
@@ -54,6 +54,6 @@ shown_by words whole begun more w items c line fault leads parts spelled decided
   parts = parts;
   spelled = spelled;
   allowed = leads.allowed;
-  decided = subst (λ c. WordFault c (word_texts begun) w.text fault) (sym leads.state_is) decided;
+  decided = subst (λ c. WordShows c (word_texts begun) w.text fault) (sym leads.state_is) decided;
   at = at ∙ ap (λ c. fault_line c.in_body begun w) (sym leads.state_is);
 }

@@ -6,7 +6,7 @@ use Rattle.std.specs.Prelude.{IsTrue, IsFalse, codes}
 use Rattle.std.proofs.lemmas.List.{append-nil, map-append}
 use Rattle.std.proofs.lemmas.Bool.{and_parts}
 use Rattle.vcd_text.specs.declared.fault.Fault.{Fault}
-use Rattle.vcd_text.specs.Words.{PlacedWord}
+use Rattle.vcd_text.specs.Words.{WordOnLine}
 use Rattle.vcd_text.specs.Letters.{is_among}
 use Rattle.vcd_core.specs.Word.{is_one_of}
 use Rattle.vcd_text.specs.Items.{spellings, header_word, header_words, is_other}
@@ -26,13 +26,13 @@ use Rattle.vcd_text.proofs.Declaring.{so_deep, short_words}
 use Rattle.vcd_text.proofs.OneAnswer.{accepted-not_refused, stopped-not_refused}
 use Rattle.vcd_text.proofs.Changing.{among_first, among_last}
 
-collecting : (m : Parser) (c : ParseState) (begun : List PlacedWord) (keyword : List ℕ) → ParserMatches m c
+collecting : (m : Parser) (c : ParseState) (begun : List WordOnLine) (keyword : List ℕ) → ParserMatches m c
     → Collects m begun keyword → IsTrue (is_one_of (codes "$timescale" ∷ codes "$scope" ∷ header_words) keyword)
     → IsUnfinished c (word_texts begun)
 collecting m c begun keyword agrees is among =
     words_due keyword m.words.items (sym agrees.in_body ∙ is.declares) is.spelled among is.no_end
 
-awaiting : (m : Parser) (c : ParseState) (begun : List PlacedWord) (letters text : List ℕ) → ParserMatches m c
+awaiting : (m : Parser) (c : ParseState) (begun : List WordOnLine) (letters text : List ℕ) → ParserMatches m c
     → AwaitsCode m begun letters text
     → ((b : ℕ) → IsTrue (is_among letters b) → IsTrue (is_among pair_prefixes b)) → IsUnfinished c (word_texts begun)
 awaiting m c begun letters text agrees is more =
@@ -40,7 +40,7 @@ awaiting m c begun letters text agrees is more =
     (more is.letter is.among)
 
 -- a word must follow words that are no whole file
-unfinished : (m : Parser) (c : ParseState) (begun : List PlacedWord) (item : OpenItem) → ParserMatches m c
+unfinished : (m : Parser) (c : ParseState) (begun : List WordOnLine) (item : OpenItem) → ParserMatches m c
     → IsBegun m begun item → IsFalse (m.in_body && is_nothing item) → IsUnfinished c (word_texts begun)
 unfinished m c begun items.Nothing agrees none no_end = grind arith
 unfinished m c begun (items.Entry kind) agrees is no_end =
@@ -62,12 +62,12 @@ unfinished m c begun items.Vector agrees is no_end =
 unfinished m c begun items.RealOrString agrees (text, is) no_end =
     awaiting m c begun real_or_string_prefixes text agrees is (among_last vector_prefixes real_or_string_prefixes)
 
-texts_are : (m : Parser) (words : List PlacedWord) (r : HasTakenWords m words)
+texts_are : (m : Parser) (words : List WordOnLine) (r : HasTakenWords m words)
     → word_texts words ≡ spellings r.items ++ word_texts r.begun
 texts_are m words r = grind (arith, map-append)
 
 -- words that are no whole file end too early
-pub stops : (m : Parser) (words : List PlacedWord) → HasTakenWords m words → is_complete m ≡ false → Stops words
+pub stops : (m : Parser) (words : List WordOnLine) → HasTakenWords m words → is_complete m ≡ false → Stops words
 stops m words r incomplete = record {
   items = r.items;
   begun = word_texts r.begun;
@@ -78,12 +78,12 @@ stops m words r incomplete = record {
 }
 
 -- words that are a whole file are accepted
-pub accepts : (m : Parser) (words : List PlacedWord) (r : HasTakenWords m words) → is_complete m ≡ true
+pub accepts : (m : Parser) (words : List WordOnLine) (r : HasTakenWords m words) → is_complete m ≡ true
     → Accepts words r.state
 accepts m words r complete = grind (arith, and_parts, texts_are, append-nil)
 
 -- words that have been taken show no fault
-pub no_fault : (m : Parser) (words : List PlacedWord) → HasTakenWords m words → (line : ℕ) (fault : Fault)
+pub no_fault : (m : Parser) (words : List WordOnLine) → HasTakenWords m words → (line : ℕ) (fault : Fault)
     → ShowsFault words line fault → ⊥
 no_fault m words r line fault refuses = by_test (is_complete m) refl
   where

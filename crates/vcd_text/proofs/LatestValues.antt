@@ -35,8 +35,8 @@ module _ (width k t : ℕ) where
   after_value_changes before rs = latest_value width (code_of k) t before rs
 
   -- value changes past the tick change nothing
-  past_value_changes : (u : ℕ) (before : List Bit) (placed : List (ℕ × SignalContents)) → t < u
-      → after_value_changes before (map (value_change_of u) placed) ≡ before
+  past_value_changes : (u : ℕ) (before : List Bit) (positioned : List (ℕ × SignalContents)) → t < u
+      → after_value_changes before (map (value_change_of u) positioned) ≡ before
   unfolding latest_value
   past_value_changes u before [] past = refl
   past_value_changes u before (p ∷ ps) past = grind (arith, and_right, lt-leb, past_value_changes u before ps past)

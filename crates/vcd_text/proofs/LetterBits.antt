@@ -1,4 +1,4 @@
--- The letters of a word, and those that the extension restores from the next.
+-- The letters of a block, and those that the extension restores from the next.
 use Rattle.std.proofs.Common.{◌≡◌, ℕ, zero, suc, ◌+◌, ◌-◌, ◌*◌, ◌/◌, ◌%◌, ◌^◌, ◌<◌, ◌≤◌, min, max}
 use Rattle.std.proofs.Common.{Bool, true, false}
 use Rattle.std.proofs.Common.{List, [], ◌∷◌, ◌++◌, length, drop, get_or, slice_range, if◌then◌else◌}
@@ -25,21 +25,21 @@ use Rattle.vcd_core.specs.declared.bit.Bit.TheVariants.{Zero, X}
 use Rattle.vcd_core.specs.declared.letter_block.LetterBlock.{LetterBlock}
 use Rattle.vcd_core.specs.Value.{letter_at, printed_letter, same_letter}
 use Rattle.vcd_core.specs.BlockRows.{letter_in, letter_of, letters_of, HoldsLetters}
-use Rattle.vcd_core.proofs.ValueLemmas.{letter_at-letters_of, length-letters_of, one_word}
+use Rattle.vcd_core.proofs.ValueLemmas.{letter_at-letters_of, length-letters_of, one_block}
 use Rattle.vcd_core.proofs.ValueLemmas.{same_letter_at}
 use Rattle.vcd_text.specs.Letters.{pad_letter, printed_letters}
-use Rattle.vcd_text.specs.inside.ValueFronts.{IsShortFormLen, is_redundant_above}
+use Rattle.vcd_text.specs.inside.BeforeCode.{IsShortFormLen, is_redundant_above}
 
--- ---- the letters of words
+-- ---- the letters of blocks
 
-pub held_letter : (v : List Bit) (from : ℕ) (word : LetterBlock) (i : ℕ) → HoldsLetters Zero v from word → i < 64
-    → from + i < length v → letter_in word i ≡ letter_at v (from + i)
-held_letter v from word i holds inside within = grind (arith, lt-ltb)
+pub held_letter : (v : List Bit) (from : ℕ) (block : LetterBlock) (i : ℕ) → HoldsLetters Zero v from block → i < 64
+    → from + i < length v → letter_in block i ≡ letter_at v (from + i)
+held_letter v from block i holds inside within = grind (arith, lt-ltb)
 
--- a letter of the value of a word
-pub given_letter : (width : ℕ) (word : LetterBlock) (k : ℕ) → width ≤ 64 → k < width
-    → letter_at (letters_of width (word ∷ [])) k ≡ letter_in word k
-given_letter width word k narrow within = grind (arith, letter_at-letters_of, one_word)
+-- a letter of the value of a block
+pub given_letter : (width : ℕ) (block : LetterBlock) (k : ℕ) → width ≤ 64 → k < width
+    → letter_at (letters_of width (block ∷ [])) k ≡ letter_in block k
+given_letter width block k narrow within = grind (arith, letter_at-letters_of, one_block)
 
 -- ---- the lowest letters
 
@@ -58,39 +58,39 @@ pair_written f row k a b long inside written upper lower i within =
     grind (arith, length-set, cases_lt, get_or-set_other, cases_eq, get_or-set_same)
 
 -- the end of a row of letters
-pub row_end : (row : List ℕ) (count : ℕ) (word : LetterBlock) → length row ≡ 64 → count ≤ 64
-    → ((i : ℕ) → i < count → get_or row (63 - i) 0 ≡ printed_letter (letter_in word i))
-    → slice_range row (64 - count) 64 ≡ printed_letters (letters_of count (word ∷ []))
-row_end row count word long fits written =
-    let v = letters_of count (word ∷ []) in
-    let few : length v ≡ count = length-letters_of count (word ∷ []) in
+pub row_end : (row : List ℕ) (count : ℕ) (block : LetterBlock) → length row ≡ 64 → count ≤ 64
+    → ((i : ℕ) → i < count → get_or row (63 - i) 0 ≡ printed_letter (letter_in block i))
+    → slice_range row (64 - count) 64 ≡ printed_letters (letters_of count (block ∷ []))
+row_end row count block long fits written =
+    let v = letters_of count (block ∷ []) in
+    let few : length v ≡ count = length-letters_of count (block ∷ []) in
     let rest : length (drop (64 - count) row) ≡ count = length-drop (64 - count) row ∙ omega (arith, long, fits) in
     take_all (64 - (64 - count)) (drop (64 - count) row) (omega (arith, rest))
     ∙ ext_get_or 0 _ _ (rest ∙ sym (length-map v printed_letter ∙ few)) (λ i below.
     let inside : i < count = omega (arith, below, rest) in
     let k : ℕ = count - 1 - i in
-    let place : 64 - count + i ≡ 63 - k = omega (arith, inside, fits) in
+    let index : 64 - count + i ≡ 63 - k = omega (arith, inside, fits) in
     let back : length v - 1 - k ≡ i = omega (arith, inside, few) in
-    get_or-drop (64 - count) row i 0 ∙ ap (λ n. get_or row n 0) place ∙ written k (omega (arith, inside))
-    ∙ ap printed_letter (sym (given_letter count word k fits (omega (arith, inside))) ∙ ap (λ n. get_or v n X) back)
+    get_or-drop (64 - count) row i 0 ∙ ap (λ n. get_or row n 0) index ∙ written k (omega (arith, inside))
+    ∙ ap printed_letter (sym (given_letter count block k fits (omega (arith, inside))) ∙ ap (λ n. get_or v n X) back)
     ∙ sym (get_or-map printed_letter v i X 0 (omega (arith, inside, few))))
 
--- the letters of a word of a value are before the lower ones
-pub word_and_rest : (v : List Bit) (left from : ℕ) (word : LetterBlock) → from ≤ left → left ≤ from + 64
-    → left ≤ length v → HoldsLetters Zero v from word
-    → printed_letters (lowest left v) ≡ printed_letters (letters_of (left - from) (word ∷ []))
+-- the letters of a block of a value are before the lower ones
+pub block_and_rest : (v : List Bit) (left from : ℕ) (block : LetterBlock) → from ≤ left → left ≤ from + 64
+    → left ≤ length v → HoldsLetters Zero v from block
+    → printed_letters (lowest left v) ≡ printed_letters (letters_of (left - from) (block ∷ []))
     ++ printed_letters (lowest from v)
-word_and_rest v left from word most fits within holds =
+block_and_rest v left from block most fits within holds =
     let count : ℕ = left - from in
     let start : ℕ = length v - left in
     let end : ℕ = length v - from in
     let part = slice_range v start end in
-    let few : length (letters_of count (word ∷ [])) ≡ count = grind (arith, length-letters_of) in
+    let few : length (letters_of count (block ∷ [])) ≡ count = grind (arith, length-letters_of) in
     let long : length part ≡ count = grind (arith, length-take-le, length-drop) in
-    let same : part ≡ letters_of count (word ∷ []) =
+    let same : part ≡ letters_of count (block ∷ []) =
     grind (arith, same_letter_at, get_or-take, get_or-drop, held_letter, given_letter) in
     ap printed_letters (drop_split v start end (omega arith) ∙ ap (λ l. l ++ drop end v) same)
-    ∙ map-append printed_letter (letters_of count (word ∷ [])) (drop end v)
+    ∙ map-append printed_letter (letters_of count (block ∷ [])) (drop end v)
 
 -- ---- redundant letters
 
@@ -98,9 +98,9 @@ word_and_rest v left from word most fits within holds =
 abbrev pub is_redundant_in : List Bit → ℕ → Bool
 is_redundant_in v i = same_letter (pad_letter (letter_at v i ∷ [])) (letter_at v (i + 1))
 
-pub redundant_held : (v : List Bit) (from : ℕ) (word : LetterBlock) (i : ℕ) → HoldsLetters Zero v from word → i + 1 < 64
-    → from + i + 1 < length v → is_redundant_above word i ≡ is_redundant_in v (from + i)
-redundant_held v from word i holds inside within = grind (arith, held_letter)
+pub redundant_held : (v : List Bit) (from : ℕ) (block : LetterBlock) (i : ℕ) → HoldsLetters Zero v from block
+    → i + 1 < 64 → from + i + 1 < length v → is_redundant_above block i ≡ is_redundant_in v (from + i)
+redundant_held v from block i holds inside within = grind (arith, held_letter)
 
 -- the bits that are set, by those of a letter and of the next
 abbrev mark : ℕ → ℕ → ℕ → ℕ → ℕ
@@ -184,10 +184,10 @@ needed_where_one : (b : Bool) (n : ℕ) → n ≡ (if b then 0 else 1) → n ≡
 needed_where_one true n is one = absurd (omega arith)
 needed_where_one false n is one = refl
 
-pub short_form_len_is : (count : ℕ) (word : LetterBlock) (marks mask : ℕ) → 1 ≤ count → count ≤ 64 → mask < 2 ^ 64
-    → mask ≡ 2 ^ (count - 1) - 1 → ((i : ℕ) → i < 64 → bit_at marks i ≡ (if is_redundant_above word i then 0 else 1))
-    → IsShortFormLen count word (65 - count_leading_zeros 64 (bit_and marks mask))
-short_form_len_is count word marks mask least most fits is_mask marks_are =
+pub short_form_len_is : (count : ℕ) (block : LetterBlock) (marks mask : ℕ) → 1 ≤ count → count ≤ 64 → mask < 2 ^ 64
+    → mask ≡ 2 ^ (count - 1) - 1 → ((i : ℕ) → i < 64 → bit_at marks i ≡ (if is_redundant_above block i then 0 else 1))
+    → IsShortFormLen count block (65 - count_leading_zeros 64 (bit_and marks mask))
+short_form_len_is count block marks mask least most fits is_mask marks_are =
     let m : ℕ = bit_and marks mask in
     let small : m < 2 ^ 64 = omega (arith, and_le_r marks mask, fits) in
     let length = has_length m small in
@@ -215,8 +215,8 @@ short_form_len_is count word marks mask least most fits is_mask marks_are =
         bit_at_ones (count - 1) i (omega (arith, within)),
       ));
       needed = λ some.
-          let place : 65 - count_leading_zeros 64 m - 2 ≡ n - 1 = omega (arith, kept) in
+          let index : 65 - count_leading_zeros 64 m - 2 ≡ n - 1 = omega (arith, kept) in
           let one = (both (omega (arith, kept))).0 in
-          ap (is_redundant_above word) place
+          ap (is_redundant_above block) index
           ∙ needed_where_one _ _ (marks_are (n - 1) (omega (arith, length.1.counted))) one;
     }

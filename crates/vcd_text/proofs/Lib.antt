@@ -1,9 +1,9 @@
 pub mod SoundMeaning
-pub mod FrontAnswers
+pub mod PrefixAnswers
 pub mod Chunks
 pub mod NextWords
 pub mod LastWords
-pub mod FrontItem
+pub mod PrefixItem
 pub mod OneAnswer
 pub mod OneRefusal
 pub mod Timescales
@@ -39,7 +39,7 @@ pub mod Texts
 pub mod WaveChanges
 pub mod LoggedValues
 pub mod ChangeLogs
-pub mod FlushedVariables
+pub mod MovedLogs
 pub mod CodeTargets
 pub mod DeclaredVariables
 pub mod ChangedVariables
@@ -59,7 +59,7 @@ pub mod SpelledItems
 pub mod ItemsInTurn
 pub mod SharedScopes
 pub mod TextDeclarations
-pub mod FrontFaults
+pub mod PrefixFaults
 pub mod FileFaults
 pub mod OneOf
 pub mod WordOutcomes

@@ -89,11 +89,11 @@ module _ (width tick : ℕ) (f : ℕ → List Bit) (cs : List Change) where
   gives_first e es g = ends_later cs g.floor e.tick g.rises.0 g.ticks
 
   -- then the wave has it
-  pub gives_flushed : (ds : List Change) (e : LoggedChange) (es : List LoggedChange)
+  pub gives_moved : (ds : List Change) (e : LoggedChange) (es : List LoggedChange)
       → All (λ (c : Change). c.tick ≤ e.tick) ds
       → ((t : ℕ) → value_at width ds t ≡ (if nat_le e.tick t then logged_letters width e else value_at width cs t))
       → GivesLoggedValues width tick f cs (e ∷ es) → GivesLoggedValues width tick f ds es
-  gives_flushed ds e es ended values g = grind arith
+  gives_moved ds e es ended values g = grind arith
 
 -- a wave with no change, if the log has none for it
 pub gives_nothing : (width tick : ℕ) → GivesLoggedValues width tick (λ t. all_x width) [] []

@@ -8,10 +8,10 @@ use Rattle.std.proofs.lemmas.Bool.{and_parts, eqb-true}
 use Rattle.std.specs.Prelude.{ℕ}
 use Rattle.vcd_text.specs.declared.fault.Fault.{Fault}
 use Rattle.vcd_text.specs.declared.fault.ReadError.{ReadError}
-use Rattle.vcd_text.specs.Words.{PlacedWord}
+use Rattle.vcd_text.specs.Words.{WordOnLine}
 use Rattle.vcd_text.specs.Grammar.{ParseState, state_after_item}
 use Rattle.vcd_text.specs.Grammar.{initial_state, word_texts}
-use Rattle.vcd_text.specs.Faults.{WordFault, among_declarations, among_changes}
+use Rattle.vcd_text.specs.Faults.{WordShows, among_declarations, among_changes}
 use Rattle.vcd_text.specs.Faults.{ShowsFault, fault_line}
 use Rattle.vcd_text.specs.inside.OpenItems.{item_fault_line}
 use Rattle.vcd_text.specs.inside.Reading.{HasTakenWords, WordStep, goes_on, ends_item}
@@ -26,7 +26,7 @@ use Rattle.vcd_text.proofs.ItemsInTurn.{reaches_both, reaches_one, shown_by}
 use Rattle.vcd_text.proofs.FileAnswers.{spelled_more}
 
 -- words that go on with the open item, or end it
-pub words_taken : (old new : Parser) (words_so_far words : List PlacedWord) (r : HasTakenWords old words_so_far)
+pub words_taken : (old new : Parser) (words_so_far words : List WordOnLine) (r : HasTakenWords old words_so_far)
     → WordStep r.state (r.begun ++ words) new → HasTakenWords new (words_so_far ++ words)
 words_taken old new words_so_far words r (goes_on at) = grind (arith, append_assoc)
 words_taken old new words_so_far words r (ends_item i spelled allows at) =
@@ -46,20 +46,20 @@ words_taken old new words_so_far words r (ends_item i spelled allows at) =
     }
 
 -- a fault with its line is shown; out of memory has none
-error_shown : (words : List PlacedWord) (line : ℕ) (fault : Fault) → (fault ≡ NoMemory) ⊎ ShowsFault words line fault
+error_shown : (words : List WordOnLine) (line : ℕ) (fault : Fault) → (fault ≡ NoMemory) ⊎ ShowsFault words line fault
     → (error_at line fault ≡ memory_error) ⊎ ShowsFault words (error_at line fault).line (error_at line fault).fault
 error_shown words line fault (inl none) = inl (ap (error_at line) none)
 error_shown words line fault (inr shows) = grind arith
 
 -- ---- lines
 
-declaring : (m : Parser) (c : ParseState) (begun : List PlacedWord) (w : PlacedWord) → ParserMatches m c
+declaring : (m : Parser) (c : ParseState) (begun : List WordOnLine) (w : WordOnLine) → ParserMatches m c
     → IsFalse m.in_body → w.line ≡ fault_line c.in_body begun w
 declaring m c begun w agrees none = sym (ap (λ b. fault_line b begun w) (sym agrees.in_body ∙ none))
 
 -- the line that is shown is that of the definition
-pub line_shown : (m : Parser) (c : ParseState) (begun : List PlacedWord) (w : PlacedWord) (fault : Fault)
-    (item : OpenItem) → ParserMatches m c → IsBegun m begun item → WordFault c (word_texts begun) w.text fault
+pub line_shown : (m : Parser) (c : ParseState) (begun : List WordOnLine) (w : WordOnLine) (fault : Fault)
+    (item : OpenItem) → ParserMatches m c → IsBegun m begun item → WordShows c (word_texts begun) w.text fault
     → item_fault_line item m.line w.line ≡ fault_line c.in_body begun w
 line_shown m c begun w fault items.Nothing agrees none decided = grind arith
 line_shown m c begun w fault (items.Entry kind) agrees is decided = declaring m c begun w agrees is.declares
@@ -76,14 +76,14 @@ line_shown m c begun w fault items.Vector agrees is decided = grind arith
 line_shown m c begun w fault items.RealOrString agrees (text, is) decided = grind arith
 
 -- the fault of a word is that of the definition, with its line, whatever follows
-pub one_shown : (old : Parser) (words_so_far more : List PlacedWord) (w : PlacedWord)
+pub one_shown : (old : Parser) (words_so_far more : List WordOnLine) (w : WordOnLine)
     (r : HasTakenWords old words_so_far) (fault : Fault)
-    → (fault ≡ NoMemory) ⊎ WordFault r.state (word_texts r.begun) w.text fault
+    → (fault ≡ NoMemory) ⊎ WordShows r.state (word_texts r.begun) w.text fault
     → (let e : ReadError = error_at (item_fault_line old.item old.line w.line) fault in
     (e ≡ memory_error) ⊎ ShowsFault (words_so_far ++ w ∷ more) e.line e.fault)
 one_shown old words_so_far more w r fault refused =
     let line = item_fault_line old.item old.line w.line in
-    let words : List PlacedWord = words_so_far ++ w ∷ more in
+    let words : List WordOnLine = words_so_far ++ w ∷ more in
     let parts : words ≡ r.whole ++ (r.begun ++ w ∷ more) = ap (λ ws. ws ++ w ∷ more) r.parts
     ∙ append_assoc r.whole r.begun (w ∷ more) in
     error_shown words line fault (elim refused [

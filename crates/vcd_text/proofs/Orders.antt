@@ -24,7 +24,7 @@ use Rattle.vcd_text.proofs.Counts.{rises_from, same_times}
 use Rattle.vcd_text.proofs.Sorting.{AtLeast, RisesFrom, same_transitions, times, times_permuted}
 use Rattle.std.proofs.lemmas.Grind.{common_steps}
 
--- a key that is not below another is that of a transition at its place or after it
+-- a key that is not below another is that of a transition at its point or after it
 not_below : (from a b : ℕ) → a ≤ b → AtLeast (from + a / POSITIONS) (a % POSITIONS) (transition_of_key from b)
 not_below from a b up = grind (arith, cases_lt)
 

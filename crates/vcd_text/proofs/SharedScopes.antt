@@ -1,4 +1,4 @@
--- From one path of scopes to another: the scopes past the shared front are closed, and the others
+-- From one path of scopes to another: the scopes past the shared prefix are closed, and the others
 -- opened.
 use Rattle.std.proofs.Common.{◌≡◌, ◌≤◌, ◌+◌, ◌-◌, ◌∙◌, ℕ, zero, suc, true, false, not, List, []}
 use Rattle.std.proofs.Common.{◌∷◌, ◌++◌, map, length}
@@ -42,19 +42,19 @@ declaring header timescale scopes declared =
 same_scope_is : (a b : ScopeName) → same_scope a b ≡ true → a ≡ b
 same_scope_is a b same = grind (arith, pointwise, and_parts, bytes_eq-Decides, pointwise_decides)
 
--- the front that two paths share is a front of both
-shared_front : (xs ys : List ScopeName)
+-- the prefix that two paths share is a prefix of both
+shared_prefix : (xs ys : List ScopeName)
     → take (common_prefix_len same_scope xs ys) xs ≡ take (common_prefix_len same_scope xs ys) ys
-shared_front [] [] = refl
-shared_front [] (y ∷ ys) = refl
-shared_front (x ∷ xs) [] = refl
-shared_front (x ∷ xs) (y ∷ ys) =
+shared_prefix [] [] = refl
+shared_prefix [] (y ∷ ys) = refl
+shared_prefix (x ∷ xs) [] = refl
+shared_prefix (x ∷ xs) (y ∷ ys) =
     cond_both (same_scope x y) (1 + common_prefix_len same_scope xs ys) 0 (λ n. take n (x ∷ xs) ≡ take n (y ∷ ys))
     (λ same. subst (λ n. take n (x ∷ xs) ≡ take n (y ∷ ys)) (sym (one-add (common_prefix_len same_scope xs ys)))
-    (ap₂ (λ s l. s ∷ l) (same_scope_is x y same) (shared_front xs ys)))
+    (ap₂ (λ s l. s ∷ l) (same_scope_is x y same) (shared_prefix xs ys)))
     (λ other. refl)
 
--- the scopes from a place on are sound
+-- the scopes from an index on are sound
 pub later_scopes : (n : ℕ) (path : List ScopeName) → list_all is_sound_scope path ≡ true
     → list_all is_sound_scope (drop n path) ≡ true
 later_scopes n path sound =
@@ -67,7 +67,7 @@ pub words_have_no_end : (ws : List (List ℕ)) → list_all is_word ws ≡ true 
 words_have_no_end ws words =
     all_weaker is_word (λ word. not (is_end_word word)) (λ w word. (and_parts _ (not (is_end_word w)) word).1) ws words
 
--- the scopes past the front of a path are closed, the innermost first
+-- the scopes past the prefix of a path are closed, the innermost first
 scopes_closed : (h : List Header) (t : Option Timescale) (opened : List ScopeName) (ds : List VariableDeclaration)
     (n : ℕ) → n ≤ length opened
     → Reaches (declaring h t opened ds) (replicate n upscope) (declaring h t (take (length opened - n) opened) ds)
@@ -83,17 +83,17 @@ scopes_closed h t opened ds (suc n) within =
     ∙ take-take (length opened - suc n) (length opened - 1) opened (omega arith))))
 
 -- scopes are opened, the outermost first
-scopes_opened : (h : List Header) (t : Option Timescale) (front path : List ScopeName) (ds : List VariableDeclaration)
+scopes_opened : (h : List Header) (t : Option Timescale) (prefix path : List ScopeName) (ds : List VariableDeclaration)
     → list_all is_sound_scope path ≡ true
-    → Reaches (declaring h t front ds) (map (λ s. scope s.kind s.words) path) (declaring h t (front ++ path) ds)
-scopes_opened h t front [] ds sound = grind (arith, reaches_same, reaches_none, append-nil)
-scopes_opened h t front (s ∷ path) ds sound =
+    → Reaches (declaring h t prefix ds) (map (λ s. scope s.kind s.words) path) (declaring h t (prefix ++ path) ds)
+scopes_opened h t prefix [] ds sound = grind (arith, reaches_same, reaches_none, append-nil)
+scopes_opened h t prefix (s ∷ path) ds sound =
     let parts : (is_sound_scope s ≡ true) × (list_all is_sound_scope path ≡ true) = grind (arith, and_parts) in
-    reaches_first (declaring h t front ds) (declaring h t (front ++ (s ∷ path)) ds) (scope s.kind s.words)
+    reaches_first (declaring h t prefix ds) (declaring h t (prefix ++ (s ∷ path)) ds) (scope s.kind s.words)
     (map (λ s. scope s.kind s.words) path) (refl, words_have_no_end (s.kind ∷ s.words) parts.0)
-    (reaches_same (declaring h t (front ++ s ∷ []) ds) _ _ (map (λ s. scope s.kind s.words) path)
-    (scopes_opened h t (front ++ s ∷ []) path ds parts.1)
-    (ap (λ s. declaring h t s ds) (append_assoc front (s ∷ []) path)))
+    (reaches_same (declaring h t (prefix ++ s ∷ []) ds) _ _ (map (λ s. scope s.kind s.words) path)
+    (scopes_opened h t (prefix ++ s ∷ []) path ds parts.1)
+    (ap (λ s. declaring h t s ds) (append_assoc prefix (s ∷ []) path)))
 
 -- from one path to another
 pub scopes_lead : (h : List Header) (t : Option Timescale) (opened path : List ScopeName)
@@ -103,13 +103,13 @@ scopes_lead h t opened path ds sound =
     let shared : ℕ = common_prefix_len same_scope opened path in
     let within : shared ≤ length opened = (common_prefix_len-le same_scope opened path).0 in
     let kept : length opened - (length opened - shared) ≡ shared = omega arith in
-    let front : List ScopeName = take shared path in
-    let reached : take (length opened - (length opened - shared)) opened ≡ front = grind (arith, shared_front) in
-    reaches_both (declaring h t opened ds) (declaring h t front ds) (declaring h t path ds)
+    let prefix : List ScopeName = take shared path in
+    let reached : take (length opened - (length opened - shared)) opened ≡ prefix = grind (arith, shared_prefix) in
+    reaches_both (declaring h t opened ds) (declaring h t prefix ds) (declaring h t path ds)
     (replicate (length opened - shared) upscope) (map (λ s. scope s.kind s.words) (drop shared path))
     (reaches_same _ _ _ _ (scopes_closed h t opened ds (length opened - shared) (omega arith))
     (ap (λ s. declaring h t s ds) reached))
-    (reaches_same _ _ _ _ (scopes_opened h t front (drop shared path) ds (later_scopes shared path sound))
+    (reaches_same _ _ _ _ (scopes_opened h t prefix (drop shared path) ds (later_scopes shared path sound))
     (ap (λ s. declaring h t s ds) (take-append-drop shared path)))
 
 -- all scopes are closed

@@ -13,7 +13,7 @@ use Rattle.vcd_core.specs.declared.letter_block.LetterBlock.{LetterBlock}
 use Rattle.vcd_core.specs.BlockRows.{HoldsLetters}
 use Rattle.vcd_core.specs.inside.ValueLaws.{same_letters-Decides}
 use Rattle.vcd_text.specs.Letters.{pad_letter, extension, suffixes, short_form}
-use Rattle.vcd_text.specs.inside.ValueFronts.{IsShortFormLen}
+use Rattle.vcd_text.specs.inside.BeforeCode.{IsShortFormLen}
 use Rattle.vcd_text.proofs.LetterBits.{is_redundant_in, lowest, redundant_held}
 
 -- the letters after those at the front are left out one by one
@@ -123,22 +123,23 @@ short_rest v len least within redundant needed =
     ∙ sym (left_out v len (length v - len) (length v) least (omega arith) (omega arith) redundant)
     ∙ ap (λ n. shortened (drop n v)) all ∙ sym (short_is v)
 
--- the letters of a word that are left out, after those above them
-pub more_redundant : (v : List Bit) (from : ℕ) (word : LetterBlock) (left len rest : ℕ) → HoldsLetters Zero v from word
-    → from < left → left ≤ from + 64 → IsShortFormLen (left - from) word len → rest ≡ from + len
+-- the letters of a block that are left out, after those above them
+pub more_redundant : (v : List Bit) (from : ℕ) (block : LetterBlock) (left len rest : ℕ)
+    → HoldsLetters Zero v from block
+    → from < left → left ≤ from + 64 → IsShortFormLen (left - from) block len → rest ≡ from + len
     → ((i : ℕ) → left ≤ i + 1 → i + 1 < length v → is_redundant_in v i ≡ true)
     → (i : ℕ) → rest ≤ i + 1 → i + 1 < length v → is_redundant_in v i ≡ true
-more_redundant v from word left len rest holds some near is at above i past within =
-    let place : from + (i - from) ≡ i = omega (arith, is.least) in
-    grind (arith, place, cases_lt, redundant_held)
+more_redundant v from block left len rest holds some near is at above i past within =
+    let index : from + (i - from) ≡ i = omega (arith, is.least) in
+    grind (arith, index, cases_lt, redundant_held)
 
 -- the first of its letters that stays
-pub first_needed : (v : List Bit) (from : ℕ) (word : LetterBlock) (count len rest : ℕ) → HoldsLetters Zero v from word
-    → count ≤ 64 → from + count ≤ length v → IsShortFormLen count word len → rest ≡ from + len → 1 < len
+pub first_needed : (v : List Bit) (from : ℕ) (block : LetterBlock) (count len rest : ℕ) → HoldsLetters Zero v from block
+    → count ≤ 64 → from + count ≤ length v → IsShortFormLen count block len → rest ≡ from + len → 1 < len
     → is_redundant_in v (rest - 2) ≡ false
-first_needed v from word count len rest holds near within is at more =
-    let place : from + (len - 2) ≡ rest - 2 = omega (arith, more) in
-    grind (arith, place, redundant_held)
+first_needed v from block count len rest holds near within is at more =
+    let index : from + (len - 2) ≡ rest - 2 = omega (arith, more) in
+    grind (arith, index, redundant_held)
 
 -- the state after a test of two letters
 pub state_at : (v : List Bit) (k : ℕ) (letter next : Bit) (r b : Bool) → 1 ≤ k → letter ≡ letter_at v k

@@ -37,14 +37,14 @@ times_permuted t k xs ys moved = grind (arith, times_is_sum, sum_by-IsPermutatio
 once_itself : (m : Transition) → once m.tick m.position m ≡ 1
 once_itself m = grind (arith, eq-eqb)
 
--- a transition is at a place or after it; places are ordered by tick and position
+-- a transition is at a point or after it; points are ordered by tick and position
 abbrev pub AtLeast : ℕ → ℕ → Transition → Type 0
 AtLeast t k m = (t < m.tick) ⊎ ((t ≡ m.tick) × (k ≤ m.position))
 
 abbrev Before : ℕ → ℕ → ℕ → ℕ → Type 0
 Before u j t k = (u < t) ⊎ ((u ≡ t) × (j < k))
 
--- transitions rise from a place on
+-- transitions rise from a point on
 abbrev pub RisesFrom : ℕ → ℕ → List Transition → Type 0
 RisesFrom t k [] = Unit {0}
 RisesFrom t k (m ∷ ms) = AtLeast t k m × RisesFrom m.tick m.position ms

@@ -37,7 +37,7 @@ use Rattle.vcd_text.specs.Grammar.{ParseState, VariableDeclaration, ValueChange,
 use Rattle.vcd_text.specs.Grammar.{AllowsAll}
 use Rattle.vcd_text.specs.Grammar.{state_after, state_after_item, is_skipped, kept_variables}
 use Rattle.vcd_text.specs.Grammar.{variable_of}
-use Rattle.vcd_text.specs.Grammar.{may_have_code, has_room, value_changes_after}
+use Rattle.vcd_text.specs.Grammar.{may_have_code, is_within_limit, value_changes_after}
 use Rattle.vcd_text.specs.Grammar.{with_value_change, takes_binary_number}
 use Rattle.vcd_text.proofs.WordLaws.{is_run_text, texts_are_runs, run_is_word}
 use Rattle.vcd_text.specs.Meaning.{meaning, declared_signal, latest_value}
@@ -168,7 +168,7 @@ both_kept false e h = (h, refl)
 
 -- one more variable
 clean_declared : (c : ParseState) (d : VariableDeclaration) → IsClean c → IsFalse c.in_body → IsCleanDeclaration d
-    → IsTrue (may_have_code (variable_of c d.code) d) → IsTrue (has_room c.declared d)
+    → IsTrue (may_have_code (variable_of c d.code) d) → IsTrue (is_within_limit c.declared d)
     → IsClean (record c { declared = c.declared ++ d ∷ [] })
 clean_declared c d clean declaring is shares room =
     let e : ParseState = record c { declared = c.declared ++ d ∷ [] } in

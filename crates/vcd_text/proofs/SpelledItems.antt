@@ -84,7 +84,7 @@ with_end_unbroken ws words = grind (arith, list_all-append, and_from)
 -- items in front and items after them
 both_spelled : (xs ys : List Item) → list_all is_spelled xs ≡ true → list_all is_spelled ys ≡ true
     → list_all is_spelled (xs ++ ys) ≡ true
-both_spelled xs ys front back = grind (arith, list_all-append, and_from)
+both_spelled xs ys prefix back = grind (arith, list_all-append, and_from)
 
 one_word : (w : List ℕ) → is_unbroken w ≡ true → list_all is_unbroken (w ∷ []) ≡ true
 one_word w unbroken = and_from (is_unbroken w) true unbroken refl
@@ -92,7 +92,8 @@ one_word w unbroken = and_from (is_unbroken w) true unbroken refl
 vector_spelled : (k : ℕ) (v : List Bit) → is_spelled (vector 98 (printed_letters (short_form v)) (code_of k)) ≡ true
 vector_spelled k v = grind (arith, and_from, longer_unbroken, printed_no_space, one_word, code_unbroken)
 
-values_spelled : (t : ℕ) (placed : List (ℕ × SignalContents)) → list_all is_spelled (value_items t placed) ≡ true
+values_spelled : (t : ℕ) (positioned : List (ℕ × SignalContents)) → list_all is_spelled (value_items t positioned)
+    ≡ true
 values_spelled t [] = refl
 values_spelled t (p ∷ ps) =
     grind (arith, and_from, vector_spelled, one_word, longer_unbroken, code_no_space, values_spelled t ps)
@@ -153,11 +154,11 @@ pub items_spelled : (c : Contents) → IsSound c → list_all is_spelled (items_
 unfolding items_of
 items_spelled c sound =
     let end : c.end ≤ END_LIMIT = sound.end in
-    let front : List Item = header_items c.header ++ timescale_items c.timescale in
-    let declared : List Item = front ++ signal_items [] 0 c.signals in
+    let prefix : List Item = header_items c.header ++ timescale_items c.timescale in
+    let declared : List Item = prefix ++ signal_items [] 0 c.signals in
     both_spelled (declared ++ end_definitions ∷ first_items c.signals) (tick_items c.signals c.end 1 c.end)
     (both_spelled declared (end_definitions ∷ first_items c.signals)
-    (both_spelled front (signal_items [] 0 c.signals)
+    (both_spelled prefix (signal_items [] 0 c.signals)
     (both_spelled (header_items c.header) (timescale_items c.timescale) (header_spelled c.header sound.header)
     (timescale_is_spelled c.timescale sound.timescale))
     (signals_spelled c.end [] 0 c.signals (recursion_from_All (IsSoundSignal c.end) c.signals sound.signals)))

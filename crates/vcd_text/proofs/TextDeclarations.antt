@@ -26,7 +26,7 @@ use Rattle.vcd_core.specs.Decimal.{number_of}
 use Rattle.vcd_text.specs.Items.{Item, entry, variable, end_definitions, is_end_word}
 use Rattle.vcd_text.specs.Grammar.{ParseState, VariableDeclaration, initial_state, declaration_of}
 use Rattle.vcd_text.specs.Grammar.{variable_of}
-use Rattle.vcd_text.specs.Grammar.{may_have_code, has_room}
+use Rattle.vcd_text.specs.Grammar.{may_have_code, is_within_limit}
 use Rattle.vcd_text.specs.Text.{header_items, timescale_items, scope_items, code_of, variable_item}
 use Rattle.vcd_text.specs.Text.{signal_items}
 use Rattle.vcd_text.specs.Text.{first_items, tick_items, items_of}
@@ -40,16 +40,16 @@ use Rattle.vcd_text.proofs.SoundTimescales.{sound_count, count_small, timescale_
 
 -- ---- header and timescale
 
-header_leads : (front hs : List Header) → list_all is_sound_header hs ≡ true
-    → Reaches (declaring front None [] []) (header_items hs) (declaring (front ++ hs) None [] [])
-header_leads front [] sound = grind (arith, reaches_same, reaches_none, append-nil)
-header_leads front (h ∷ hs) sound =
+header_leads : (prefix hs : List Header) → list_all is_sound_header hs ≡ true
+    → Reaches (declaring prefix None [] []) (header_items hs) (declaring (prefix ++ hs) None [] [])
+header_leads prefix [] sound = grind (arith, reaches_same, reaches_none, append-nil)
+header_leads prefix (h ∷ hs) sound =
     let parts : (is_sound_header h ≡ true) × (list_all is_sound_header hs ≡ true) = grind (arith, and_parts) in
-    reaches_first (declaring front None [] []) (declaring (front ++ (h ∷ hs)) None [] []) (entry h.kind h.words)
+    reaches_first (declaring prefix None [] []) (declaring (prefix ++ (h ∷ hs)) None [] []) (entry h.kind h.words)
     (header_items hs) (refl, words_have_no_end h.words parts.0)
-    (reaches_same (declaring (front ++ h ∷ []) None [] []) _ _ (header_items hs)
-    (header_leads (front ++ h ∷ []) hs parts.1)
-    (ap (λ l. declaring l None [] []) (append_assoc front (h ∷ []) hs)))
+    (reaches_same (declaring (prefix ++ h ∷ []) None [] []) _ _ (header_items hs)
+    (header_leads (prefix ++ h ∷ []) hs parts.1)
+    (ap (λ l. declaring l None [] []) (append_assoc prefix (h ∷ []) hs)))
 
 -- digits are not `$end`
 digits_no_end : (w : List ℕ) → list_all is_ascii_digit w ≡ true → is_end_word w ≡ false
@@ -96,7 +96,8 @@ variable_leads h t ds end k s sound few at below =
       refl,
       (grind (arith, and_parts, words_have_no_end, and_from, decimal_no_end, not_from_false, code_no_end)),
       decimal_is_number s.width (omega arith),
-      subst (λ o. IsSomeAnd o (λ d. IsTrue (may_have_code (variable_of before d.code) d) × IsTrue (has_room ds d)))
+      subst (λ o. IsSomeAnd o (λ d. IsTrue (may_have_code (variable_of before d.code) d)
+          × IsTrue (is_within_limit ds d)))
           (sym declares) (fresh, (grind (arith, length-filter, count_by-le-length, or_right, lt-ltb))),
     )
     (ap (λ o. declaring h t s.scopes (ds ++ option_to_list o)) declares)
@@ -130,9 +131,9 @@ declaration_items c = header_items c.header ++ timescale_items c.timescale ++ si
 pub declarations_lead : (c : Contents) → IsSound c → Reaches initial_state (declaration_items c) (declared_state c)
 declarations_lead c sound =
     let few : length c.signals ≤ SIGNAL_LIMIT = sound.few in
-    let front : List Item = header_items c.header ++ timescale_items c.timescale in
-    reaches_both _ _ _ (front ++ signal_items [] 0 c.signals) (end_definitions ∷ [])
-    (reaches_both _ _ _ front (signal_items [] 0 c.signals)
+    let prefix : List Item = header_items c.header ++ timescale_items c.timescale in
+    reaches_both _ _ _ (prefix ++ signal_items [] 0 c.signals) (end_definitions ∷ [])
+    (reaches_both _ _ _ prefix (signal_items [] 0 c.signals)
     (reaches_both _ _ _ (header_items c.header) (timescale_items c.timescale)
     (header_leads [] c.header sound.header) (timescale_leads c.header c.timescale sound.timescale))
     (signals_lead c.header c.timescale [] [] c.end 0 c.signals

@@ -17,10 +17,10 @@ joined w (v ∷ ws) = ap (λ l. w ++ (32 ∷ l)) (joined v ws)
 
 -- words and further ones
 pub writes_words : {W : Type 0} {sink : sinks.Ghosts W} {o0 o1 o2 : Output W}
-    (front back : List (List ℕ)) → Emits sink o0 o1 (spaced_words front) → Emits sink o1 o2 (spaced_words back)
-    → Emits sink o0 o2 (spaced_words (front ++ back))
-writes_words front back first second =
-    writes_as (sym (flat_map-append (λ w. 32 ∷ w) front back)) (writes_both first second)
+    (prefix back : List (List ℕ)) → Emits sink o0 o1 (spaced_words prefix) → Emits sink o1 o2 (spaced_words back)
+    → Emits sink o0 o2 (spaced_words (prefix ++ back))
+writes_words prefix back first second =
+    writes_as (sym (flat_map-append (λ w. 32 ∷ w) prefix back)) (writes_both first second)
 
 pub writes_line : {W : Type 0} {sink : sinks.Ghosts W} {o0 o1 o2 o3 : Output W} (w : List ℕ)
     (ws : List (List ℕ)) → Emits sink o0 o1 w → Emits sink o1 o2 (spaced_words ws) → Emits sink o2 o3 (codes " $end\n")

@@ -24,7 +24,7 @@ items_left signals end last ms =
 
 -- the transitions of a list of signals at a tick
 abbrev at_tick : ℕ → List (ℕ × SignalContents) → List Transition
-at_tick t placed = map (λ p. transition_of t p.0) placed
+at_tick t positioned = map (λ p. transition_of t p.0) positioned
 
 -- a signal is at its position
 abbrev IsAtPosition : List SignalContents → ℕ × SignalContents → Type 0
@@ -42,9 +42,9 @@ all_differing signals t =
     All-filter (λ p. differs_at t p.1) (IsAtPosition signals) (enumerate_from 0 signals) (all_at_positions signals)
 
 -- transitions at the tick of the last stamp
-same_tick : (signals : List SignalContents) (end t : ℕ) (placed : List (ℕ × SignalContents)) (ms : List Transition)
-    → All (IsAtPosition signals) placed
-    → items_left signals end t (at_tick t placed ++ ms) ≡ value_items t placed ++ items_left signals end t ms
+same_tick : (signals : List SignalContents) (end t : ℕ) (positioned : List (ℕ × SignalContents)) (ms : List Transition)
+    → All (IsAtPosition signals) positioned
+    → items_left signals end t (at_tick t positioned ++ ms) ≡ value_items t positioned ++ items_left signals end t ms
 unfolding transition_items last_tick
 same_tick signals end t [] ms all = refl
 same_tick signals end t (p ∷ ps) ms all =
@@ -53,10 +53,10 @@ same_tick signals end t (p ∷ ps) ms all =
     grind (arith, eq-eqb, here, rest)
 
 -- those at a later tick, before the end
-inner_tick : (signals : List SignalContents) (end last t : ℕ) (placed : List (ℕ × SignalContents))
-    (ms : List Transition) (rest : List Item) → last < t → All (IsAtPosition signals) placed
+inner_tick : (signals : List SignalContents) (end last t : ℕ) (positioned : List (ℕ × SignalContents))
+    (ms : List Transition) (rest : List Item) → last < t → All (IsAtPosition signals) positioned
     → items_left signals end last ms ≡ rest → items_left signals end t ms ≡ rest
-    → items_left signals end last (at_tick t placed ++ ms) ≡ with_stamp false t (value_items t placed) ++ rest
+    → items_left signals end last (at_tick t positioned ++ ms) ≡ with_stamp false t (value_items t positioned) ++ rest
 unfolding transition_items last_tick
 inner_tick signals end last t [] ms rest later all still now = still
 inner_tick signals end last t (p ∷ ps) ms rest later all still now =
@@ -65,9 +65,9 @@ inner_tick signals end last t (p ∷ ps) ms rest later all still now =
     grind (arith, ne_eqb, here, more)
 
 -- and at the end
-end_tick : (signals : List SignalContents) (last t : ℕ) (placed : List (ℕ × SignalContents)) → last < t
-    → All (IsAtPosition signals) placed
-    → items_left signals t last (at_tick t placed ++ []) ≡ with_stamp true t (value_items t placed) ++ []
+end_tick : (signals : List SignalContents) (last t : ℕ) (positioned : List (ℕ × SignalContents)) → last < t
+    → All (IsAtPosition signals) positioned
+    → items_left signals t last (at_tick t positioned ++ []) ≡ with_stamp true t (value_items t positioned) ++ []
 unfolding transition_items last_tick
 end_tick signals last t [] later all = grind (arith, ne_eqb)
 end_tick signals last t (p ∷ ps) later all =

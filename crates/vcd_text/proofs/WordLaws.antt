@@ -11,7 +11,7 @@ use Rattle.std.proofs.lemmas.Bool.{ne_eqb}
 use Rattle.vcd_core.specs.Word.{is_word, is_white_space}
 use Rattle.vcd_text.specs.Items.{is_end_word}
 use Rattle.vcd_text.specs.inside.Spaces.{line_feeds_in, begins_with_space}
-use Rattle.vcd_text.specs.Words.{line_after, ends_before, with_longer_first, with_byte, PlacedWord}
+use Rattle.vcd_text.specs.Words.{line_after, ends_before, with_longer_first, with_byte, WordOnLine}
 use Rattle.vcd_text.specs.Words.{word_on, words_from}
 use Rattle.std.proofs.lemmas.Bool.{and_parts, not-true}
 use Rattle.std.proofs.lemmas.Grind.{common_steps}
@@ -71,7 +71,7 @@ word_whole end_counts line (b ∷ c ∷ w) rest some no_space ends =
     ∙ ap (with_longer_first b line)
     (word_whole end_counts line (c ∷ w) rest (omega arith) (and_parts _ _ no_space).1 ends)
 
--- the same at a place in the text
+-- the same at an index of the text
 pub word_split : (end_counts : Bool) (line n : ℕ) (text : List ℕ) → 0 < length (take n text)
     → list_all (λ b. not (is_white_space b)) (take n text) ≡ true → ends_before end_counts (drop n text) ≡ true
     → words_from end_counts line text ≡ word_on (take n text) line ∷ words_from end_counts line (drop n text)
@@ -110,24 +110,24 @@ word_part line (b ∷ c ∷ w) no_space =
 abbrev pub is_run : List ℕ → Type 0
 is_run text = (0 < length text) × (list_all (λ b. not (is_white_space b)) text ≡ true)
 
-runs_with_byte : (space last : Bool) (b line : ℕ) (ws : List PlacedWord) → is_white_space b ≡ space
-    → All (λ (w : PlacedWord). is_run w.text) ws
-    → All (λ (w : PlacedWord). is_run w.text) (with_byte space last b line ws)
+runs_with_byte : (space last : Bool) (b line : ℕ) (ws : List WordOnLine) → is_white_space b ≡ space
+    → All (λ (w : WordOnLine). is_run w.text) ws
+    → All (λ (w : WordOnLine). is_run w.text) (with_byte space last b line ws)
 runs_with_byte true last b line ws is runs = runs
 runs_with_byte false true b line ws is runs = grind (arith, All-cons)
 runs_with_byte false false b line [] is runs = runs
 runs_with_byte false false b line (w ∷ ws) is runs =
-    let head = All-head (λ (w : PlacedWord). is_run w.text) w ws runs in
-    All-cons (λ (w : PlacedWord). is_run w.text) (word_on (b ∷ w.text) line) ws (
+    let head = All-head (λ (w : WordOnLine). is_run w.text) w ws runs in
+    All-cons (λ (w : WordOnLine). is_run w.text) (word_on (b ∷ w.text) line) ws (
       omega arith,
       rw is head.1,
-    ) (All-tail (λ (w : PlacedWord). is_run w.text) w ws runs)
+    ) (All-tail (λ (w : WordOnLine). is_run w.text) w ws runs)
 
 -- each word is such a run
 pub words_are_words : (end_counts : Bool) (line : ℕ) (bytes : List ℕ)
-    → All (λ (w : PlacedWord). is_run w.text) (words_from end_counts line bytes)
+    → All (λ (w : WordOnLine). is_run w.text) (words_from end_counts line bytes)
 unfolding words_from
-words_are_words end_counts line [] = All-nil (λ (w : PlacedWord). is_run w.text)
+words_are_words end_counts line [] = All-nil (λ (w : WordOnLine). is_run w.text)
 words_are_words end_counts line (b ∷ bs) =
     search (arith, runs_with_byte, words_are_words end_counts (line_after b line) bs)
 
@@ -138,16 +138,16 @@ is_run_text text = not (length text == 0) && list_all (λ b. not (is_white_space
 run_passes : (text : List ℕ) → is_run text → is_run_text text ≡ true
 run_passes text (some, no_space) = rw (ne_eqb (length text) 0 (λ none. absurd (omega arith)), no_space) refl
 
-texts_pass : (ws : List PlacedWord) → All (λ (w : PlacedWord). is_run w.text) ws
-    → list_all is_run_text (map (λ (w : PlacedWord). w.text) ws) ≡ true
+texts_pass : (ws : List WordOnLine) → All (λ (w : WordOnLine). is_run w.text) ws
+    → list_all is_run_text (map (λ (w : WordOnLine). w.text) ws) ≡ true
 texts_pass [] runs = refl
 texts_pass (w ∷ ws) runs =
-    ap (λ t. t && list_all is_run_text (map (λ (w : PlacedWord). w.text) ws))
-    (run_passes w.text (All-head (λ (w : PlacedWord). is_run w.text) w ws runs))
-    ∙ texts_pass ws (All-tail (λ (w : PlacedWord). is_run w.text) w ws runs)
+    ap (λ t. t && list_all is_run_text (map (λ (w : WordOnLine). w.text) ws))
+    (run_passes w.text (All-head (λ (w : WordOnLine). is_run w.text) w ws runs))
+    ∙ texts_pass ws (All-tail (λ (w : WordOnLine). is_run w.text) w ws runs)
 
 pub texts_are_runs : (end_counts : Bool) (line : ℕ) (bytes : List ℕ)
-    → list_all is_run_text (map (λ (w : PlacedWord). w.text) (words_from end_counts line bytes)) ≡ true
+    → list_all is_run_text (map (λ (w : WordOnLine). w.text) (words_from end_counts line bytes)) ≡ true
 texts_are_runs end_counts line bytes =
     texts_pass (words_from end_counts line bytes) (words_are_words end_counts line bytes)
 
@@ -156,7 +156,7 @@ pub run_is_word : (text : List ℕ) → is_run_text text ≡ true → is_end_wor
 run_is_word text run other = ap (λ t. t && not (is_end_word text)) run ∙ ap not other
 
 -- there are no more words than bytes
-more_with_byte : (space last : Bool) (b line : ℕ) (ws : List PlacedWord)
+more_with_byte : (space last : Bool) (b line : ℕ) (ws : List WordOnLine)
     → length (with_byte space last b line ws) ≤ suc (length ws)
 more_with_byte space last b line ws = grind arith
 

@@ -31,12 +31,12 @@ use Rattle.vcd_text.specs.Items.{begins_declaration}
 use Rattle.vcd_text.specs.Items.{timescale_of, vector_prefixes, real_or_string_prefixes}
 use Rattle.vcd_text.specs.Grammar.{ParseState, VariableDeclaration, Allows, is_skipped}
 use Rattle.vcd_text.specs.Grammar.{has_good_size, declaration_of}
-use Rattle.vcd_text.specs.Grammar.{variable_of, may_have_code, has_room, is_tick, is_binary_number}
+use Rattle.vcd_text.specs.Grammar.{variable_of, may_have_code, is_within_limit, is_tick, is_binary_number}
 use Rattle.vcd_text.specs.Grammar.{takes_binary_number}
-use Rattle.vcd_text.specs.Faults.{WordFault, pair_prefixes, no_declaration, no_timescale, no_kind}
+use Rattle.vcd_text.specs.Faults.{WordShows, pair_prefixes, begins_no_declaration, no_timescale, missing_kind}
 use Rattle.vcd_text.specs.FoundFaults.{IsUnfinished}
-use Rattle.vcd_text.specs.Faults.{upscope_at_top, upscope_goes_on, no_size, no_variable, code_mixed}
-use Rattle.vcd_text.specs.Faults.{no_room}
+use Rattle.vcd_text.specs.Faults.{upscope_at_top, upscope_goes_on, no_size, missing_part, code_mixed}
+use Rattle.vcd_text.specs.Faults.{one_too_many}
 use Rattle.vcd_text.specs.Faults.{definitions_go_on, no_tick, tick_goes_back, missing_code}
 use Rattle.vcd_text.specs.Faults.{unknown_scalar_code}
 use Rattle.vcd_text.specs.Faults.{unknown_pair_code, no_value, value_too_long, declaration_late}
@@ -56,7 +56,7 @@ pub data IsOpen (c : ParseState) (begun : List (List ℕ)) : Type 0 where
 
 -- the result of a word
 pub data WordOutcome (c : ParseState) (begun : List (List ℕ)) (word : List ℕ) : Type 0 where
-  shows_fault : (fault : Fault) → WordFault c begun word fault → WordOutcome c begun word
+  shows_fault : (fault : Fault) → WordShows c begun word fault → WordOutcome c begun word
   ends_item : (i : Item) → spelling i ≡ begun ++ word ∷ [] → Allows c i → WordOutcome c begun word
   goes_on : IsUnfinished c (begun ++ word ∷ []) → WordOutcome c begun word
 
@@ -111,7 +111,7 @@ declaring_word c word declares is =
 declaration_begins : (c : ParseState) (word : List ℕ) → IsFalse c.in_body → WordOutcome c [] word
 declaration_begins c word declares =
     elim (cases_Bool (begins_declaration word)) [
-      | inr isnt ↦ shows_fault UnexpectedWord (among_declarations declares (no_declaration refl isnt refl))
+      | inr isnt ↦ shows_fault UnexpectedWord (among_declarations declares (begins_no_declaration refl isnt refl))
       | inl is ↦ elim (cases_Bool (is_one_of declaration_words word)) [
         | inl declaring ↦ declaring_word c word declares declaring
         | inr none ↦ elim (cases_Bool (is_one_of header_words word)) [
@@ -196,7 +196,7 @@ timescale_ends c words declares no_end =
 
 scope_ends : (c : ParseState) (words : List (List ℕ)) → IsFalse c.in_body → IsTrue (has_no_end_word words)
     → WordOutcome c (codes "$scope" ∷ words) end_word
-scope_ends c [] declares no_end = shows_fault BadScope (among_declarations declares (no_kind refl refl refl))
+scope_ends c [] declares no_end = shows_fault BadScope (among_declarations declares (missing_kind refl refl refl))
 scope_ends c (kind ∷ words) declares no_end = ends_item (scope kind words) refl (declares, no_end)
 
 words_end : (c : ParseState) (keyword : List ℕ) (words : List (List ℕ)) → IsFalse c.in_body
@@ -217,15 +217,15 @@ declared_ends c words d declares no_end good told =
     elim (cases_Bool (may_have_code (variable_of c d.code) d)) [
       | inr mixed ↦ shows_fault MixedCode
           (among_declarations declares (code_mixed words d refl refl no_end good told mixed refl))
-      | inl may ↦ elim (cases_Bool (has_room c.declared d)) [
+      | inl may ↦ elim (cases_Bool (is_within_limit c.declared d)) [
         | inr full ↦ shows_fault TooManySignals
-            (among_declarations declares (no_room words d refl refl no_end good told may full refl))
+            (among_declarations declares (one_too_many words d refl refl no_end good told may full refl))
         | inl room ↦ ends_item (variable words) refl (
           declares,
           no_end,
           good,
           some_has (declaration_of c words) (λ d. IsTrue (may_have_code (variable_of c d.code) d)
-              × IsTrue (has_room c.declared d)) d told (may, room),
+              × IsTrue (is_within_limit c.declared d)) d told (may, room),
         )
       ]
     ]
@@ -234,7 +234,7 @@ variable_ends : (c : ParseState) (words : List (List ℕ)) → IsFalse c.in_body
     → IsTrue (has_good_size words) → WordOutcome c (codes "$var" ∷ words) end_word
 variable_ends c words declares no_end good =
     elim (cases_Option (declaration_of c words)) [
-      | inl none ↦ shows_fault BadVar (among_declarations declares (no_variable words refl refl no_end good none refl))
+      | inl none ↦ shows_fault BadVar (among_declarations declares (missing_part words refl refl no_end good none refl))
       | inr (d, told) ↦ declared_ends c words d declares no_end good told
     ]
 

@@ -36,37 +36,37 @@ writes_as {sink = sink} {o0 = o0} {o1 = o1} same writes = grind arith
 
 -- ---- loops
 
--- a front of a whole is written, and the rest is left
-pub record WritesFront {W : Type 0} (sink : sinks.Ghosts W) (old new : Output W) (left whole : List ℕ) : Type 0 where
+-- a prefix of a whole is written, and the rest is left
+pub record WritesPrefix {W : Type 0} (sink : sinks.Ghosts W) (old new : Output W) (left whole : List ℕ) : Type 0 where
   pub done : List ℕ
   pub writes : Emits sink old new done
   pub split : done ++ left ≡ whole
 
-pub front_begun : {W : Type 0} {sink : sinks.Ghosts W} {o : Output W} {left whole : List ℕ} → left ≡ whole
-    → WritesFront sink o o left whole
-front_begun same = record { done = []; writes = writes_none; split = same }
+pub prefix_begun : {W : Type 0} {sink : sinks.Ghosts W} {o : Output W} {left whole : List ℕ} → left ≡ whole
+    → WritesPrefix sink o o left whole
+prefix_begun same = record { done = []; writes = writes_none; split = same }
 
-pub front_grows : {W : Type 0} {sink : sinks.Ghosts W} {o0 o1 o2 : Output W} {part left whole : List ℕ}
-    (rest : List ℕ) → WritesFront sink o0 o1 left whole → Emits sink o1 o2 part → left ≡ part ++ rest
-    → WritesFront sink o0 o2 rest whole
-front_grows {part = part} {left = left} {whole = whole} rest front more is = record {
-  done = front.done ++ part;
-  writes = writes_both front.writes more;
-  split = carried front.done part rest left whole is front.split;
+pub prefix_grows : {W : Type 0} {sink : sinks.Ghosts W} {o0 o1 o2 : Output W} {part left whole : List ℕ}
+    (rest : List ℕ) → WritesPrefix sink o0 o1 left whole → Emits sink o1 o2 part → left ≡ part ++ rest
+    → WritesPrefix sink o0 o2 rest whole
+prefix_grows {part = part} {left = left} {whole = whole} rest prefix more is = record {
+  done = prefix.done ++ part;
+  writes = writes_both prefix.writes more;
+  split = carried prefix.done part rest left whole is prefix.split;
 }
 
-pub front_whole : {W : Type 0} {sink : sinks.Ghosts W} {o0 o1 : Output W} {left whole : List ℕ}
-    → WritesFront sink o0 o1 left whole → left ≡ [] → Emits sink o0 o1 whole
-front_whole {left = left} {whole = whole} front none = search (arith, writes_as, append-nil)
+pub prefix_whole : {W : Type 0} {sink : sinks.Ghosts W} {o0 o1 : Output W} {left whole : List ℕ}
+    → WritesPrefix sink o0 o1 left whole → left ≡ [] → Emits sink o0 o1 whole
+prefix_whole {left = left} {whole = whole} prefix none = search (arith, writes_as, append-nil)
 
 -- the items before one of a list are written, and then that item
-pub front_item : {W : Type 0} {sink : sinks.Ghosts W} {o0 o1 o2 : Output W} {X : Type 0}
+pub prefix_item : {W : Type 0} {sink : sinks.Ghosts W} {o0 o1 o2 : Output W} {X : Type 0}
     (F : List X → List ℕ) (xs : List X) (k : ℕ) (x : X) {part whole : List ℕ}
-    → WritesFront sink o0 o1 (F (drop k xs)) whole → Emits sink o1 o2 part → k < length xs
+    → WritesPrefix sink o0 o1 (F (drop k xs)) whole → Emits sink o1 o2 part → k < length xs
     → x ≡ get_or xs k x → F (x ∷ drop (k + 1) xs) ≡ part ++ F (drop (k + 1) xs)
-    → WritesFront sink o0 o2 (F (drop (k + 1) xs)) whole
-front_item F xs k x front more within is split =
-    front_grows _ front more (ap F (drop_more xs k x within ∙ ap (λ y. y ∷ drop (k + 1) xs) (sym is)) ∙ split)
+    → WritesPrefix sink o0 o2 (F (drop (k + 1) xs)) whole
+prefix_item F xs k x prefix more within is split =
+    prefix_grows _ prefix more (ap F (drop_more xs k x within ∙ ap (λ y. y ∷ drop (k + 1) xs) (sym is)) ∙ split)
 
 -- ---- the buffer
 
@@ -74,8 +74,8 @@ front_item F xs k x front more within is split =
 sent_bytes : (before t0 t1 : Option (List ℕ)) (f0 : Bool) (n k : ℕ) (text bytes : List ℕ)
     → (f0 ≡ false → drop n text ≡ bytes) → (f0 ≡ true → k ≡ 0)
     → Appends before t0 (take n text) → Appends t0 t1 (take k bytes) → Appends before t1 (take (n + k) text)
-sent_bytes before t0 t1 false n k text bytes is none front more = grind (arith, take-add, Appends-trans)
-sent_bytes before t0 t1 true n k text bytes is none front more = grind (arith, append-nil, Appends-trans)
+sent_bytes before t0 t1 false n k text bytes is none prefix more = grind (arith, take-add, Appends-trans)
+sent_bytes before t0 t1 true n k text bytes is none prefix more = grind (arith, append-nil, Appends-trans)
 
 -- the bytes sent before and now are within the text
 within_whole : (f0 : Bool) (n k : ℕ) (text part bytes : List ℕ) → n ≤ length text
@@ -97,7 +97,7 @@ pub bytes_sent : {W : Type 0} (sink : sinks.Ghosts W) (old new : Output W) (k : 
     → Appends (sink.taken old.writer.now) (sink.taken new.writer.now) (take k bytes) → k ≤ length bytes
     → (sink.has_failed new.writer.now ≡ false → k ≡ length bytes) → (sink.has_failed old.writer.now ≡ true → k ≡ 0)
     → (sink.has_failed old.writer.now ≡ true → sink.has_failed new.writer.now ≡ true)
-    → new.start ≡ min (old.start + k) (2 ^ 128 - 1) → new.unsent.items ≡ [] → Emits sink old new part
+    → new.sent_count ≡ min (old.sent_count + k) (2 ^ 128 - 1) → new.unsent.items ≡ [] → Emits sink old new part
 bytes_sent sink old new k part bytes same left more few all none stays counted empty = record {
   same_writer = same;
   appends = λ before text stands.
@@ -107,12 +107,12 @@ bytes_sent sink old new k part bytes same left more few all none stays counted e
       λ ready. left n text stands.within (stands.rest ready) in
       let held : Appends before (sink.taken old.writer.now) (take n (text ++ part)) =
       subst (Appends before (sink.taken old.writer.now)) (sym (take-append-le n text part stands.within))
-      stands.front in
+      stands.prefix in
       record {
         sent = n + k;
         within = within_whole failed n k text part bytes stands.within is none few;
         counted = omega (arith, counted, stands.counted);
-        front = sent_bytes before _ _ failed n k (text ++ part) bytes is none held more;
+        prefix = sent_bytes before _ _ failed n k (text ++ part) bytes is none held more;
         rest = λ ready. none_left failed _ n k (text ++ part) bytes is stays all ready ∙ sym empty;
       };
 }
@@ -126,14 +126,14 @@ nothing_taken (Some xs) = sym (append-nil xs)
 
 -- the text since the buffer was empty
 pub whole_written : {W : Type 0} {sink : sinks.Ghosts W} {old new : Output W} {whole : List ℕ}
-    → old.unsent.items ≡ [] → old.start ≡ 0 → Emits sink old new whole
+    → old.unsent.items ≡ [] → old.sent_count ≡ 0 → Emits sink old new whole
     → HasEmitted sink (sink.taken old.writer.now) new whole
 whole_written {sink = sink} {old = old} empty none writes =
     writes.appends (sink.taken old.writer.now) [] (record {
       sent = 0;
       within = omega arith;
       counted = none;
-      front = nothing_taken (sink.taken old.writer.now);
+      prefix = nothing_taken (sink.taken old.writer.now);
       rest = λ _. sym empty;
     })
 
@@ -148,15 +148,15 @@ all_taken {sink = sink} {before = before} {output = output} {text = text} ready 
       arith,
       ap (length {A = ℕ}) (stands.rest ready ∙ empty),
       length-drop stands.sent text,
-    ))) stands.front
+    ))) stands.prefix
 
 -- the count is that of the bytes sent, if the text can be counted
-pub counted_front : {W : Type 0} {sink : sinks.Ghosts W} {before : Option (List ℕ)} {output : Output W}
+pub counted_prefix : {W : Type 0} {sink : sinks.Ghosts W} {before : Option (List ℕ)} {output : Output W}
     {text : List ℕ} → HasEmitted sink before output text → length text < 2 ^ 128
-    → Appends before (sink.taken output.writer.now) (take output.start text) × (output.start ≤ length text)
-counted_front {sink = sink} {before = before} {output = output} {text = text} stands small =
-    let exact : stands.sent ≡ output.start = omega (arith, stands.counted, stands.within, small) in (
-      subst (λ n. Appends before (sink.taken output.writer.now) (take n text)) exact stands.front,
+    → Appends before (sink.taken output.writer.now) (take output.sent_count text) × (output.sent_count ≤ length text)
+counted_prefix {sink = sink} {before = before} {output = output} {text = text} stands small =
+    let exact : stands.sent ≡ output.sent_count = omega (arith, stands.counted, stands.within, small) in (
+      subst (λ n. Appends before (sink.taken output.writer.now) (take n text)) exact stands.prefix,
       omega (arith, exact, stands.within),
     )
 
@@ -177,17 +177,17 @@ flushed_whole {before = before} {text = text} later (Ok x) stands empty kept rea
     appends_kept before _ _ text (all_taken ready empty stands) kept
 flushed_whole later (Err e) stands empty kept ready = tt
 
--- or a counted front of it
-pub failed_front : {W T : Type 0} {sink : sinks.Ghosts W} {before : Option (List ℕ)} {output : Output W}
+-- or a counted prefix of it
+pub failed_prefix : {W T : Type 0} {sink : sinks.Ghosts W} {before : Option (List ℕ)} {output : Output W}
     {text : List ℕ} (later : W) (r : Result T WriteError) → HasEmitted sink before output text
-    → Keeps (sink.taken output.writer.now) (sink.taken later) → IfErr r (λ e. e ≡ WriteFault output.start)
+    → Keeps (sink.taken output.writer.now) (sink.taken later) → IfErr r (λ e. e ≡ WriteFault output.sent_count)
     → OnErr r (sink.has_failed later ≡ true)
     → IfErr r (TookBefore text before (sink.taken later) (sink.has_failed later))
-failed_front later (Ok x) stands kept is failed = tt
-failed_front {sink = sink} {before = before} {text = text} later (Err e) stands kept is failed =
+failed_prefix later (Ok x) stands kept is failed = tt
+failed_prefix {sink = sink} {before = before} {text = text} later (Err e) stands kept is failed =
     subst (TookBefore text before (sink.taken later) (sink.has_failed later)) (sym is) (
       λ small.
-          let front = counted_front stands small in
-          (appends_kept before _ _ _ front.0 kept, front.1),
+          let prefix = counted_prefix stands small in
+          (appends_kept before _ _ _ prefix.0 kept, prefix.1),
       failed,
     )

@@ -2,7 +2,7 @@
 use Rattle.std.specs.Prelude.{◌≡◌, ℕ, ◌<◌, List, ◌∷◌, ◌++◌, length, IsTrue, IsFalse, [], codes}
 use Rattle.vcd_text.specs.declared.fault.Fault.{Fault}
 use Rattle.vcd_text.specs.declared.fault.Fault.TheVariants.{Truncated}
-use Rattle.vcd_text.specs.Words.{PlacedWord, words_of, complete_words, last_line}
+use Rattle.vcd_text.specs.Words.{WordOnLine, words_of, complete_words, last_line}
 use Rattle.vcd_core.specs.Word.{is_one_of}
 use Rattle.vcd_text.specs.Letters.{is_among}
 use Rattle.vcd_text.specs.Items.{Item, spellings, has_no_end_word, header_words, is_other}
@@ -35,7 +35,7 @@ pub data IsUnfinished (c : ParseState) (begun : List (List ℕ)) : Type 0 where
       → IsTrue (is_other c.in_body word) → IsTrue (has_no_end_word words) → IsUnfinished c begun
 
 -- the words end too early, and no word shows a fault
-pub record Stops (words : List PlacedWord) : Type 0 where
+pub record Stops (words : List WordOnLine) : Type 0 where
   pub items : List Item
   pub begun : List (List ℕ)
   pub spelled : word_texts words ≡ spellings items ++ begun
@@ -43,16 +43,16 @@ pub record Stops (words : List PlacedWord) : Type 0 where
   pub unfinished : IsUnfinished (state_after initial_state items) begun
 
 -- the fault of a file, at this line: a word shows it, or the words end too early
-pub data FoundFault (bytes : List ℕ) (line : ℕ) (fault : Fault) : Type 0 where
-  word_shows : ShowsFault (words_of bytes) line fault → FoundFault bytes line fault
+pub data IsFoundFault (bytes : List ℕ) (line : ℕ) (fault : Fault) : Type 0 where
+  word_shows : ShowsFault (words_of bytes) line fault → IsFoundFault bytes line fault
   too_early : Stops (words_of bytes) → line ≡ last_line bytes → fault ≡ Truncated
-      → FoundFault bytes line fault
+      → IsFoundFault bytes line fault
 
--- a complete word of this front of a file shows this fault, at this line, whatever follows the
--- front
-abbrev pub FrontFault : List ℕ → ℕ → Fault → Type 0
-FrontFault bytes line fault = ShowsFault (complete_words bytes) line fault
+-- a complete word of this prefix of a file shows this fault, at this line, whatever follows the
+-- prefix
+abbrev pub PrefixShows : List ℕ → ℕ → Fault → Type 0
+PrefixShows bytes line fault = ShowsFault (complete_words bytes) line fault
 
--- no complete word of this front shows a fault
-abbrev pub HasNoFrontFault : List ℕ → Type 0
-HasNoFrontFault bytes = (line : ℕ) (fault : Fault) → FrontFault bytes line fault → ⊥
+-- no complete word of this prefix shows a fault
+abbrev pub PrefixShowsNone : List ℕ → Type 0
+PrefixShowsNone bytes = (line : ℕ) (fault : Fault) → PrefixShows bytes line fault → ⊥

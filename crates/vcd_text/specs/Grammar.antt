@@ -13,7 +13,7 @@ use Rattle.vcd_core.specs.declared.capture.ScopeName.{ScopeName}
 use Rattle.vcd_core.specs.declared.value.TheConstants.{WIDTH_LIMIT}
 use Rattle.vcd_core.specs.declared.capture.TheConstants.{END_LIMIT, SIGNAL_LIMIT}
 use Rattle.vcd_core.specs.Word.{is_skipped_kind, is_one_of}
-use Rattle.vcd_text.specs.Words.{PlacedWord}
+use Rattle.vcd_text.specs.Words.{WordOnLine}
 use Rattle.vcd_core.specs.Decimal.{is_number, number_of}
 use Rattle.vcd_text.specs.Letters.{is_among, is_binary_digit, letters_of_digits}
 use Rattle.vcd_text.specs.Items.{Item, entry, timescale, scope, upscope, variable, end_definitions}
@@ -103,9 +103,9 @@ may_have_code (Some a) b =
     (is_skipped a && is_skipped b)
     || (not (is_skipped a) && not (is_skipped b) && (a.size == b.size))
 
--- whether there is room for a variable among the signals
-abbrev pub has_room : List VariableDeclaration → VariableDeclaration → Bool
-has_room declared d = is_skipped d || nat_lt (length (kept_variables declared)) SIGNAL_LIMIT
+-- whether a variable is skipped, or the signals are below their limit
+abbrev pub is_within_limit : List VariableDeclaration → VariableDeclaration → Bool
+is_within_limit declared d = is_skipped d || nat_lt (length (kept_variables declared)) SIGNAL_LIMIT
 
 -- ---- changes
 
@@ -135,7 +135,7 @@ Allows c upscope = IsFalse c.in_body × (0 < length c.scopes)
 Allows c (variable words) = IsFalse c.in_body × IsTrue (has_no_end_word words)
     × IsTrue (has_good_size words)
     × IsSomeAnd (declaration_of c words)
-    (λ d. IsTrue (may_have_code (variable_of c d.code) d) × IsTrue (has_room c.declared d))
+    (λ d. IsTrue (may_have_code (variable_of c d.code) d) × IsTrue (is_within_limit c.declared d))
 Allows c end_definitions = IsFalse c.in_body
 Allows c (stamp digits) = IsTrue c.in_body × IsTrue (is_tick digits) × (c.tick ≤ number_of digits)
 Allows c (scalar digit code) = IsTrue c.in_body × IsTrue (is_binary_digit digit) × (0 < length code)
@@ -194,12 +194,12 @@ AllowsAll c (i ∷ is) = Allows c i × AllowsAll (state_after_item c i) is
 -- ---- files
 
 -- the texts of words
-abbrev pub word_texts : List PlacedWord → List (List ℕ)
+abbrev pub word_texts : List WordOnLine → List (List ℕ)
 word_texts words = map (λ word. word.text) words
 
 -- the words are accepted with this state: they spell items, with `$enddefinitions $end` among them,
 -- whose conditions hold
-pub record Accepts (words : List PlacedWord) (state : ParseState) : Type 0 where
+pub record Accepts (words : List WordOnLine) (state : ParseState) : Type 0 where
   pub items : List Item
   pub spelled : word_texts words ≡ spellings items
   pub allowed : AllowsAll initial_state items

@@ -1,11 +1,11 @@
--- The laws of files: a file has one result, a front's fault is the file's, and the text of a
+-- The laws of files: a file has one result, a prefix's fault is the file's, and the text of a
 -- capture means the capture.
 use Rattle.std.specs.Prelude.{◌≡◌, ℕ, ◌⊎◌, List, ◌++◌}
 use Rattle.vcd_core.specs.Contents.{Contents}
 use Rattle.vcd_core.specs.Sound.{IsSound}
 use Rattle.vcd_text.specs.declared.fault.Fault.{Fault}
-use Rattle.vcd_text.specs.Faults.{FileFault}
-use Rattle.vcd_text.specs.FoundFaults.{FoundFault, FrontFault}
+use Rattle.vcd_text.specs.Faults.{IsFileFault}
+use Rattle.vcd_text.specs.FoundFaults.{IsFoundFault, PrefixShows}
 use Rattle.vcd_text.specs.Meaning.{FileMeans}
 use Rattle.vcd_text.specs.Text.{text}
 
@@ -20,41 +20,43 @@ EveryFileHasAtMostOneMeaning = (bytes : List ℕ) (c d : Contents) (m n : ℕ) �
 -- no file has two faults, nor one fault at two lines
 abbrev pub EveryFileHasAtMostOneFault : Type 0
 EveryFileHasAtMostOneFault =
-    (bytes : List ℕ) (line other_line : ℕ) (fault other_fault : Fault) → FileFault bytes line fault
-    → FileFault bytes other_line other_fault
+    (bytes : List ℕ) (line other_line : ℕ) (fault other_fault : Fault)
+    → IsFileFault bytes line fault
+    → IsFileFault bytes other_line other_fault
     → (line ≡ other_line) × (fault ≡ other_fault)
 
 -- no file has both a meaning and a fault
 abbrev pub NoFileHasMeaningAndFault : Type 0
 NoFileHasMeaningAndFault = (bytes : List ℕ) (c : Contents) (n line : ℕ) (fault : Fault)
     → FileMeans bytes c n
-    → FileFault bytes line fault → ⊥
+    → IsFileFault bytes line fault → ⊥
 
 -- every file has a meaning or a fault
 abbrev pub EveryFileHasMeaningOrFault : Type 0
 EveryFileHasMeaningOrFault =
     (bytes : List ℕ) → ((c : Contents) × (n : ℕ) × FileMeans bytes c n)
-    ⊎ ((line : ℕ) × (fault : Fault) × FileFault bytes line fault)
+    ⊎ ((line : ℕ) × (fault : Fault) × IsFileFault bytes line fault)
 
 -- if a file has a fault, it is found so: a word shows it, or the words end too early
 abbrev pub EveryFaultIsFound : Type 0
-EveryFaultIsFound = (bytes : List ℕ) (line : ℕ) (fault : Fault) → FileFault bytes line fault
-    → FoundFault bytes line fault
+EveryFaultIsFound = (bytes : List ℕ) (line : ℕ) (fault : Fault) → IsFileFault bytes line fault
+    → IsFoundFault bytes line fault
 
--- ---- fronts
+-- ---- prefixes
 
--- no front of a file shows two faults, nor one fault at two lines
-abbrev pub EveryFrontHasAtMostOneFault : Type 0
-EveryFrontHasAtMostOneFault =
-    (front : List ℕ) (line other_line : ℕ) (fault other_fault : Fault) → FrontFault front line fault
-    → FrontFault front other_line other_fault
+-- no prefix of a file shows two faults, nor one fault at two lines
+abbrev pub EveryPrefixHasAtMostOneFault : Type 0
+EveryPrefixHasAtMostOneFault =
+    (prefix : List ℕ) (line other_line : ℕ) (fault other_fault : Fault)
+    → PrefixShows prefix line fault
+    → PrefixShows prefix other_line other_fault
     → (line ≡ other_line) × (fault ≡ other_fault)
 
--- the fault that a front shows is the fault of every file with this front
-abbrev pub FrontFaultIsFileFault : Type 0
-FrontFaultIsFileFault = (front rest : List ℕ) (line : ℕ) (fault : Fault)
-    → FrontFault front line fault
-    → FileFault (front ++ rest) line fault
+-- the fault that a prefix shows is the fault of every file with this prefix
+abbrev pub PrefixFaultIsFileFault : Type 0
+PrefixFaultIsFileFault = (prefix rest : List ℕ) (line : ℕ) (fault : Fault)
+    → PrefixShows prefix line fault
+    → IsFileFault (prefix ++ rest) line fault
 
 -- ---- written texts
 
@@ -70,4 +72,4 @@ NothingElseIsReadBack = (c d : Contents) (n : ℕ) → IsSound c → FileMeans (
 -- the text of a sound capture has no fault
 abbrev pub TextHasNoFault : Type 0
 TextHasNoFault = (c : Contents) (line : ℕ) (fault : Fault) → IsSound c
-    → FileFault (text c) line fault → ⊥
+    → IsFileFault (text c) line fault → ⊥

@@ -39,7 +39,7 @@ timescale_items (Some t) = timescale (decimal t.count ∷ unit_text t.unit ∷ [
 abbrev pub same_scope : ScopeName → ScopeName → Bool
 same_scope a b = bytes_eq a.kind b.kind && pointwise bytes_eq a.words b.words
 
--- from the open scopes to those of a signal: the open ones past the shared front are closed, then
+-- from the open scopes to those of a signal: the open ones past the shared prefix are closed, then
 -- the others are opened (18.2)
 abbrev pub scope_items : List ScopeName → List ScopeName → List Item
 scope_items opened path =
@@ -81,7 +81,7 @@ differs_at t s = not (same_letters (signal_value s t) (signal_value s (t - 1)))
 
 -- the values at a tick of signals, each with its position
 abbrev pub value_items : ℕ → List (ℕ × SignalContents) → List Item
-value_items t placed = map (λ p. value_item (code_of p.0) (signal_value p.1 t)) placed
+value_items t positioned = map (λ p. value_item (code_of p.0) (signal_value p.1 t)) positioned
 
 -- the signals that differ at a tick, in order, each with its position
 abbrev pub differing : List SignalContents → ℕ → List (ℕ × SignalContents)

@@ -15,7 +15,7 @@ pub mod Transitions
 pub mod ValueDigits
 pub mod LetterBlocks
 pub mod Written
-pub mod ValueFronts
+pub mod BeforeCode
 pub mod TextParts
 pub mod Cursors
 pub mod ReadBufferView

@@ -3,7 +3,7 @@
 ghost use Rattle.vcd_text.specs.Laws.{EveryFileHasAtMostOneMeaning, EveryFileHasAtMostOneFault};
 ghost use Rattle.vcd_text.specs.Laws.{NoFileHasMeaningAndFault, EveryFileHasMeaningOrFault};
 ghost use Rattle.vcd_text.specs.Laws.{EveryFaultIsFound};
-ghost use Rattle.vcd_text.specs.Laws.{EveryFrontHasAtMostOneFault, FrontFaultIsFileFault};
+ghost use Rattle.vcd_text.specs.Laws.{EveryPrefixHasAtMostOneFault, PrefixFaultIsFileFault};
 ghost use Rattle.vcd_text.specs.Laws.{TextIsReadBack, NothingElseIsReadBack, TextHasNoFault};
 
 /// A file has at most one result. It has no two meanings, no two faults, no two lines of one fault,
@@ -21,16 +21,16 @@ pub fn has_an_answer()
     ensures found { EveryFaultIsFound }
 {}
 
-/// A front of a file shows at most one fault, at one line. Only words of the front that white space
-/// follows count.
-pub fn front_has_one_fault()
-    ensures { EveryFrontHasAtMostOneFault }
+/// A prefix of a file shows at most one fault, at one line. Only words of the prefix that white
+/// space follows count.
+pub fn prefix_has_one_fault()
+    ensures { EveryPrefixHasAtMostOneFault }
 {}
 
-/// The fault that a front of a file shows is the fault of the file, at the same line, whatever
+/// The fault that a prefix of a file shows is the fault of the file, at the same line, whatever
 /// bytes follow.
-pub fn front_fault_stays()
-    ensures { FrontFaultIsFileFault }
+pub fn prefix_fault_stays()
+    ensures { PrefixFaultIsFileFault }
 {}
 
 /// The text of a sound capture is accepted as a file, means that capture, and has no skipped

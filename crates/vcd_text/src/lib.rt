@@ -16,9 +16,9 @@ mod writing;
 
 pub use fault::{Fault, ReadError, WriteError};
 pub use laws::{
-    front_fault_stays, front_has_one_fault, has_an_answer, has_one_answer,
-    nothing_else_is_read_back, text_is_read_back,
+    has_an_answer, has_one_answer, nothing_else_is_read_back, prefix_fault_stays,
+    prefix_has_one_fault, text_is_read_back,
 };
 pub use reading::{FILE_LIMIT, Loaded, read, value_of_digits};
-pub use words::{PlacedWord, Words};
+pub use words::{WordOnLine, Words};
 pub use writing::write;

@@ -59,8 +59,8 @@ pub struct Loaded {
 /// Memory: those bytes, the longest word, the log and the capture. The log has 32 bytes for each
 /// change; its 128 groups are freed one by one as their waves are made. In the capture each change
 /// takes a tick and a value of `WIDTH_LIMIT` bits. Each signal also takes its width. A table has a
-/// place for each possible code of up to three bytes before the last one declared. A map has a copy
-/// of each longer code.
+/// target for each possible code of up to three bytes before the last one declared. A map has a
+/// copy of each longer code.
 pub fn read<R: Source>(alloc: Global, reader: &mut R) -> Result<Loaded, ReadError>
     requires ready { R.has_failed reader.old ≡ false }
     ensures means { IfOk result (λ loaded. IfSome (R.coming reader.old) (λ file.

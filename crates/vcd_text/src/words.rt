@@ -11,7 +11,7 @@ use vcd_core::is_white_space;
 
 /// A word, borrowed from its text, and its line, counted from 1.
 #[derive(Clone, Copy)]
-pub struct PlacedWord<'a> {
+pub struct WordOnLine<'a> {
     pub text: &'a [u8],
     pub line: u64,
 }
@@ -42,7 +42,7 @@ impl<'a> Words<'a> {
     }
 
     /// The next word; none at the end. It moves past the word, or to the end.
-    pub fn next_word(&mut self) -> Option<PlacedWord<'a>>
+    pub fn next_word(&mut self) -> Option<WordOnLine<'a>>
         ensures words { MatchOption result (words_left self.old ≡ []) (λ word.
             words_left self.old ≡ word_contents word ∷ words_left self.new) }
         ensures some { IfSome result (λ word. 0 < length word.text.now) }
@@ -58,7 +58,7 @@ impl<'a> Words<'a> {
         if text.is_empty() {
             return None;
         }
-        Some(PlacedWord {
+        Some(WordOnLine {
             text,
             line: line_feeds + 1,
         })
@@ -69,13 +69,13 @@ impl<'a> Iterator for Words<'a> {
     ghost use Rattle.std.specs.Iterator.{YieldsFirstBy, item_count};
     ghost use Rattle.vcd_text.specs.LentWords.{word_contents, words_left};
 
-    type Item = PlacedWord<'a>;
+    type Item = WordOnLine<'a>;
 
     ghost next_gives = { YieldsFirstBy word_contents words_left };
 
     ghost remaining = { item_count words_left };
 
-    fn next(&mut self) -> Option<PlacedWord<'a>> {
+    fn next(&mut self) -> Option<WordOnLine<'a>> {
         self.next_word()
     }
 }

@@ -52,7 +52,7 @@ pub fn write<W: Sink>(alloc: Global, capture: &Capture, writer: &mut W) -> Resul
     let unsent = empty_buffer(alloc)?;
     let mut output = Output {
         unsent,
-        start: 0,
+        sent_count: 0,
         writer,
     };
     write_declarations(&mut output, capture);
@@ -62,9 +62,9 @@ pub fn write<W: Sink>(alloc: Global, capture: &Capture, writer: &mut W) -> Resul
     // Taken apart with each field named, as only so the prover knows what the writer is at the end.
     let Output {
         unsent,
-        start,
+        sent_count,
         writer,
     } = output;
     drop(unsent);
-    flush(writer, start)
+    flush(writer, sent_count)
 }

@@ -15,8 +15,8 @@ last_digit (suc count) n more =
 -- the last digit after what is written
 pub pushed_digit : (count n digit : ℕ) (start written all : List ℕ) → count ≢ 0 → digit ≡ digit_glyph false (n % 16) →
     written ≡ start ++ hex_digits (count - 1) (n / 16) → all ≡ written ++ digit ∷ [] → all ≡ start ++ hex_digits count n
-pushed_digit count n digit start written all more is front whole =
-    whole ∙ ap (λ (xs : List ℕ). xs ++ digit ∷ []) front
+pushed_digit count n digit start written all more is prefix whole =
+    whole ∙ ap (λ (xs : List ℕ). xs ++ digit ∷ []) prefix
     ∙ ap (λ (d : ℕ). start ++ hex_digits (count - 1) (n / 16) ++ d ∷ []) is
     ∙ append_assoc start (hex_digits (count - 1) (n / 16)) (digit_glyph false (n % 16) ∷ [])
     ∙ ap (λ (xs : List ℕ). start ++ xs) (sym (last_digit count n more))

@@ -28,34 +28,34 @@ none_of_text replies texts rest text number line before between after parts coun
     let whole : length replies ≡ length texts + suc (length rest) =
     ap length parts ∙ length-append texts (text ∷ rest) in
     let before_it : line - 1 ≡ length texts = omega (arith, at, count) in
-    let front : take (line - 1) replies ≡ texts = ap (λ i. take i replies) before_it ∙ ap (take (length texts)) parts
+    let prefix : take (line - 1) replies ≡ texts = ap (λ i. take i replies) before_it ∙ ap (take (length texts)) parts
     ∙ take-append_seam texts (text ∷ rest) in (
       omega (arith, at),
       omega (arith, at, count, whole),
-      subst (Appends before after) (ap concat (sym front))
+      subst (Appends before after) (ap concat (sym prefix))
           (Appends-kept before between after (concat texts) took kept),
     )
 
 -- the writer takes the first bytes of a text: with the texts before, these are the first bytes of
 -- all
-front_of_text : (replies texts rest : List (List ℕ)) (text : List ℕ) (bytes count written : ℕ)
+prefix_of_text : (replies texts rest : List (List ℕ)) (text : List ℕ) (bytes count written : ℕ)
     (before between after : Option (List ℕ)) →
     replies ≡ texts ++ text ∷ rest → length (concat texts) ≡ bytes → Appends before between (concat texts)
     → written ≡ bytes + count → count ≤ length text → Appends between after (take count text) →
     StopsInReplies replies (Appends before after) (run_errors.ReplyFault written)
-front_of_text replies texts rest text bytes count written before between after parts texts_bytes took at within takes =
+prefix_of_text replies texts rest text bytes count written before between after parts texts_bytes took at within takes =
     let whole : concat replies ≡ concat texts ++ (text ++ concat rest) = ap concat parts
     ∙ concat-append texts (text ∷ rest) in
     let sum : length (concat replies) ≡ length (concat texts) + (length text + length (concat rest)) =
     ap length whole ∙ length-append (concat texts) (text ++ concat rest)
     ∙ ap (λ n. length (concat texts) + n) (length-append text (concat rest)) in
     let so_many : written ≡ length (concat texts) + count = at ∙ ap (λ n. n + count) (sym texts_bytes) in
-    let front : take written (concat replies) ≡ concat texts ++ take count text =
+    let prefix : take written (concat replies) ≡ concat texts ++ take count text =
     ap (λ n. take n (concat replies)) so_many ∙ ap (take (length (concat texts) + count)) whole
     ∙ take-append-add (concat texts) (text ++ concat rest) count
     ∙ ap (λ l. concat texts ++ l) (take-append-le count text (concat rest) within) in (
       omega (arith, so_many, sum, within),
-      subst (Appends before after) (sym front)
+      subst (Appends before after) (sym prefix)
           (Appends-trans before between after (concat texts) (take count text) took takes),
     )
 
@@ -70,7 +70,7 @@ text_stops replies texts rest text number bytes before between after (run_errors
     none_of_text replies texts rest text number line before between after parts count took stops.0 stops.1
 text_stops replies texts rest text number bytes before between after (run_errors.ReplyFault written) parts count
     texts_bytes took stops =
-    front_of_text replies texts rest text bytes stops.0 written before between after parts texts_bytes took stops.1
+    prefix_of_text replies texts rest text bytes stops.0 written before between after parts texts_bytes took stops.1
     stops.2 stops.3
 text_stops replies texts rest text number bytes before between after (run_errors.Capture fault) parts count texts_bytes
     took stops = absurd stops
@@ -109,10 +109,10 @@ flush_stops skipped lines old number left now refused bytes before between after
     let all : concat (line_replies skipped 1 old lines) ≡ concat so.texts =
     ap concat (last.replies ∙ append-nil so.texts) in
     let len : length (concat (line_replies skipped 1 old lines)) ≡ bytes = ap length all ∙ so.counted in
-    let front : take bytes (concat (line_replies skipped 1 old lines)) ≡ concat so.texts =
+    let prefix : take bytes (concat (line_replies skipped 1 old lines)) ≡ concat so.texts =
     ap (λ n. take n (concat (line_replies skipped 1 old lines))) (sym len)
     ∙ take-length (concat (line_replies skipped 1 old lines)) ∙ all in (
       omega (arith, len),
-      subst (Appends before after) (sym front)
+      subst (Appends before after) (sym prefix)
           (Appends-kept before between after (concat so.texts) so.took kept),
     )

@@ -6,7 +6,7 @@ use Rattle.std.specs.List.{concat}
 use Rattle.std.specs.Global.{Vec}
 use Rattle.vcd_text.specs.Refusals as refusals
 use Rattle.vcd_text.specs.inside.Reading.{is_no_memory}
-use Rattle.vcd_text.proofs.OneRefusal.{one_error, one_front_answer}
+use Rattle.vcd_text.proofs.OneRefusal.{one_error, one_prefix_answer}
 use Rattle.vcd_text.specs.declared.fault.Fault.TheVariants as faults
 use Rattle.vcd_text.specs.declared.fault.ReadError.{ReadError}
 use Rattle.vcd_text.specs.declared.fault.WriteError.TheVariants as write_errors
@@ -27,7 +27,7 @@ one_refused_file file e other (has_fault short fault) (has_fault also fault_too)
 one_refused_file file e other (has_fault short fault) (too_large long answer) = absurd (omega (arith, short, long))
 one_refused_file file e other (too_large long answer) (has_fault short fault) = absurd (omega (arith, short, long))
 one_refused_file file e other (too_large long answer) (too_large also answer_too) =
-    one_front_answer (take FILE_LIMIT file) faults.TooLarge other e answer_too answer
+    one_prefix_answer (take FILE_LIMIT file) faults.TooLarge other e answer_too answer
 
 -- a refused file of which the source has not failed, by whether memory was refused
 refused_file : (file script : List ℕ) (depth : ℕ) (has_failed : Bool) (left : Option (List ℕ)) (e : ReadError)
@@ -41,7 +41,7 @@ refused_file file script depth has_failed left e made none ready empty (refusals
 refused_file file script depth has_failed left e made none ready empty (refusals.too_large whole long answer) false is =
     rw is (too_large long answer, λ other. one_refused_file file e other (too_large long answer))
 refused_file file script depth has_failed left e made none ready empty
-    (refusals.reader_failed front rest failed is_left is_front short answer) false is =
+    (refusals.reader_failed prefix rest failed is_left is_prefix short answer) false is =
     let no : false ≡ true = sym ready ∙ failed in absurd (cc)
 refused_file file script depth has_failed left e made none ready empty (refusals.no_memory e_is) false is =
     let no : true ≡ false = rw e_is at is in absurd (cc)

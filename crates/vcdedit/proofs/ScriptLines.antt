@@ -24,21 +24,21 @@ only_line script line rest parts none some one =
     let filled : 0 < length line = rw (← same) some in
     ap script_lines same ∙ line_last line filled one ∙ ap (λ (r : List ℕ). line ∷ script_lines r) (sym none)
 
--- a split at a place
+-- a split at an index
 pub split_parts : (script line following : List ℕ) (n : ℕ) → line ≡ take n script → following ≡ drop n script
     → script ≡ line ++ following
-split_parts script line following n front back =
-    sym (take-append-drop n script) ∙ ap (λ (x : List ℕ). x ++ drop n script) (sym front)
+split_parts script line following n prefix back =
+    sym (take-append-drop n script) ∙ ap (λ (x : List ℕ). x ++ drop n script) (sym prefix)
     ∙ ap (λ (x : List ℕ). line ++ x) (sym back)
 
--- the same where the script is split at a place
+-- the same where the script is split at an index
 pub first_at : (script line following rest : List ℕ) (n b : ℕ) → line ≡ take n script → following ≡ drop n script
     → following ≡ b ∷ rest → is_one_line (take n script) ≡ true → is_after_line (drop n script) ≡ true →
     (script_lines script ≡ line ∷ script_lines rest) × (length rest < length script)
-first_at script line following rest n b front back begins one ends =
-    let parts : script ≡ line ++ b ∷ rest = split_parts script line following n front back
+first_at script line following rest n b prefix back begins one ends =
+    let parts : script ≡ line ++ b ∷ rest = split_parts script line following n prefix back
     ∙ ap (λ (x : List ℕ). line ++ x) begins in
-    let black : is_one_line line ≡ true = rw front one in
+    let black : is_one_line line ≡ true = rw prefix one in
     let feed : (b == 10) ≡ true = ap is_after_line (sym begins ∙ back) ∙ ends in
     (first_line script line rest b parts black feed, omega (arith, length-append line (b ∷ rest), ap length parts))
 
@@ -49,9 +49,9 @@ nothing_left (b ∷ bs) none = absurd (omega arith)
 pub last_at : (script line following : List ℕ) (n : ℕ) → line ≡ take n script → following ≡ drop n script
     → length following ≡ 0 → (length script == 0) ≡ false → is_one_line (take n script) ≡ true →
     (script_lines script ≡ line ∷ script_lines following) × (length following < length script)
-last_at script line following n front back none some one =
-    let parts : script ≡ line ++ following = split_parts script line following n front back in
-    let black : is_one_line line ≡ true = rw front one in
+last_at script line following n prefix back none some one =
+    let parts : script ≡ line ++ following = split_parts script line following n prefix back in
+    let black : is_one_line line ≡ true = rw prefix one in
     let other = eqb-false (length script) 0 some in
     let filled : 0 < length script = omega (arith, other) in
     (only_line script line following parts (nothing_left following none) filled black, omega arith)

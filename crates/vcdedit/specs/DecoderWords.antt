@@ -21,23 +21,23 @@ use Rattle.vcdedit.specs.ScriptWords.{signal_of_name, number_of_word}
 
 -- ---- words
 
--- the numbers of a ratio, given the place of the first `/`; without one the second number is 1
+-- the numbers of a ratio, given the index of the first `/`; without one the second number is 1
 abbrev pub ratio_at : List ℕ → Option ℕ → Result (ℕ × ℕ) LineError
 ratio_at word None = do
   numerator ← number_of_word word
   Ok (numerator, 1)
-ratio_at word (Some place) = do
-  numerator ← number_of_word (take place word)
-  denominator ← number_of_word (drop (place + 1) word)
+ratio_at word (Some index) = do
+  numerator ← number_of_word (take index word)
+  denominator ← number_of_word (drop (index + 1) word)
   Ok (numerator, denominator)
 
--- the place of the first `/` (47) of a word
-abbrev pub slash_place : List ℕ → Option ℕ
-slash_place word = position (λ b. b == 47) word
+-- the index of the first `/` (47) of a word
+abbrev pub slash_index : List ℕ → Option ℕ
+slash_index word = position (λ b. b == 47) word
 
 -- the ratio that a word writes: `N/D`, or `N`
 abbrev pub ratio_of_word : List ℕ → Result (ℕ × ℕ) LineError
-ratio_of_word word = ratio_at word (slash_place word)
+ratio_of_word word = ratio_at word (slash_index word)
 
 -- the parity bit that a word names
 abbrev pub parity_of_word : List ℕ → Result Parity LineError

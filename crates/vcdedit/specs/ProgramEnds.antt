@@ -15,7 +15,7 @@ use Rattle.vcdedit.specs.declared.running.run_error.RunError.TheVariants as run_
 use Rattle.vcdedit.specs.declared.running.run_error.Summary.{Summary}
 use Rattle.vcdedit.specs.CommandLine.{AskedOptions, asked_options, option_app}
 use Rattle.vcdedit.specs.RunEnds.{DeviceEnd, RunEnds}
-use Rattle.vcdedit.specs.Report.{done_status, error_status, error_line}
+use Rattle.vcdedit.specs.Report.{done_status, error_status, error_report}
 
 -- the exit status of the program: 2 if its words are refused
 abbrev pub program_status : Ending → ℕ
@@ -27,7 +27,7 @@ program_status (Refused text) = 2
 -- the program's text on standard error: none if it did what the words ask for
 abbrev pub program_text : Ending → List ℕ
 program_text (Done summary) = []
-program_text (Failed e) = error_line e
+program_text (Failed e) = error_report e
 program_text Shown = []
 program_text (Refused text) = string_bytes text
 

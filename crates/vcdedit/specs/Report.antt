@@ -43,31 +43,31 @@ error_status (run_errors.ReplyFault written) = 4
 error_status (run_errors.Write e) = write_status e
 
 -- the line if memory ran out, at any place
-abbrev pub out_of_memory_line : List ℕ
-out_of_memory_line = codes "vcdedit: out of memory\n"
+abbrev pub out_of_memory_report : List ℕ
+out_of_memory_report = codes "vcdedit: out of memory\n"
 
 -- the line for a fault at a line of the capture
-abbrev pub numbered_line : Fault → ℕ → List ℕ
-numbered_line fault line =
+abbrev pub report_with_line : Fault → ℕ → List ℕ
+report_with_line fault line =
     codes "vcdedit: capture line " ++ decimal line ++ codes ": " ++ fault_name fault
     ++ codes "\n"
 
 -- the line for a fault of the capture
-abbrev pub capture_line : Fault → ℕ → List ℕ
-capture_line faults.ReadFault line = codes "vcdedit: capture: read fault\n"
-capture_line faults.NoMemory line = out_of_memory_line
-capture_line fault line = numbered_line fault line
+abbrev pub capture_report : Fault → ℕ → List ℕ
+capture_report faults.ReadFault line = codes "vcdedit: capture: read fault\n"
+capture_report faults.NoMemory line = out_of_memory_report
+capture_report fault line = report_with_line fault line
 
 -- the line for a fault of the output
-abbrev pub write_error_line : WriteError → List ℕ
-write_error_line write_errors.NoMemory = out_of_memory_line
-write_error_line (write_errors.WriteFault written) = codes "vcdedit: output: write fault\n"
+abbrev pub write_error_report : WriteError → List ℕ
+write_error_report write_errors.NoMemory = out_of_memory_report
+write_error_report (write_errors.WriteFault written) = codes "vcdedit: output: write fault\n"
 
 -- the line on standard error of a run that failed
-abbrev pub error_line : RunError → List ℕ
-error_line (run_errors.Capture e) = capture_line e.fault e.line
-error_line run_errors.ScriptTooLarge = codes "vcdedit: script: too large\n"
-error_line run_errors.ScriptReadFault = codes "vcdedit: script: read fault\n"
-error_line (run_errors.NoMemory line) = out_of_memory_line
-error_line (run_errors.ReplyFault written) = codes "vcdedit: replies: write fault\n"
-error_line (run_errors.Write e) = write_error_line e
+abbrev pub error_report : RunError → List ℕ
+error_report (run_errors.Capture e) = capture_report e.fault e.line
+error_report run_errors.ScriptTooLarge = codes "vcdedit: script: too large\n"
+error_report run_errors.ScriptReadFault = codes "vcdedit: script: read fault\n"
+error_report (run_errors.NoMemory line) = out_of_memory_report
+error_report (run_errors.ReplyFault written) = codes "vcdedit: replies: write fault\n"
+error_report (run_errors.Write e) = write_error_report e

@@ -50,8 +50,8 @@ abbrev pub HasText : DeviceEnd → List ℕ → Type 0
 HasText w text = Appends w.before w.after text
 
 -- a writer took the first `count` bytes of a text
-abbrev pub HasFront : DeviceEnd → (count : ℕ) → List ℕ → Type 0
-HasFront w count text = (count ≤ length text) × HasText w (take count text)
+abbrev pub HasPrefix : DeviceEnd → (count : ℕ) → List ℕ → Type 0
+HasPrefix w count text = (count ≤ length text) × HasText w (take count text)
 
 -- an `Option<&mut D>` as a call gives it back: none, one, or (never) a third variant
 abbrev pub Returned : Type 0 → Type 0
@@ -127,7 +127,7 @@ module _ (depth : ℕ) (capture script : DeviceEnd) where
     -- the writer of the replies failed: it took exactly `count` bytes of them
     RunEnds (Err (ReplyFault count)) = IsAccepted capture × IsRead SCRIPT_LIMIT script
         × (replies.has_failed ≡ true) × IfSome output IsUntouched
-        × ForRun (λ written. HasFront replies count (concat written.replies))
+        × ForRun (λ written. HasPrefix replies count (concat written.replies))
     -- memory ran out for the output: all replies are written, and none of the output
     RunEnds (Err (Write write_errors.NoMemory)) = IsAccepted capture × IsRead SCRIPT_LIMIT script
         × (replies.has_failed ≡ false)
@@ -139,4 +139,4 @@ module _ (depth : ℕ) (capture script : DeviceEnd) where
         × IsRead SCRIPT_LIMIT script × (replies.has_failed ≡ false)
         × IsSomeAnd output (λ out. (out.has_failed ≡ true)
         × ForRun (λ written. HasText replies (concat written.replies)
-        × (length written.output < 2 ^ 128 → HasFront out count written.output)))
+        × (length written.output < 2 ^ 128 → HasPrefix out count written.output)))

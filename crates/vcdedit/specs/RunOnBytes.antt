@@ -4,7 +4,7 @@ use Rattle.std.specs.Prelude.{◌≡◌, ◌<◌, ◌≤◌, ◌⊎◌, ℕ, zer
 use Rattle.std.specs.Prelude.{Err}
 use Rattle.std.specs.List.{concat}
 use Rattle.vcd_core.specs.Contents.{Contents}
-use Rattle.vcd_text.specs.Faults.{FileFault, IsFrontAnswer}
+use Rattle.vcd_text.specs.Faults.{IsFileFault, IsPrefixAnswer}
 use Rattle.vcd_text.specs.Meaning.{FileMeans}
 use Rattle.vcd_text.specs.declared.fault.Fault.TheVariants as faults
 use Rattle.vcd_text.specs.declared.fault.ReadError.{ReadError}
@@ -19,8 +19,8 @@ use Rattle.vcdedit.specs.Run.{RunOutcome, IsRun}
 
 -- why a capture file is refused: for its fault, or its length
 pub data IsRefusedFile (file : List ℕ) (e : ReadError) : Type 0 where
-  has_fault : length file ≤ FILE_LIMIT → FileFault file e.line e.fault → IsRefusedFile file e
-  too_large : FILE_LIMIT < length file → IsFrontAnswer (take FILE_LIMIT file) faults.TooLarge e
+  has_fault : length file ≤ FILE_LIMIT → IsFileFault file e.line e.fault → IsRefusedFile file e
+  too_large : FILE_LIMIT < length file → IsPrefixAnswer (take FILE_LIMIT file) faults.TooLarge e
       → IsRefusedFile file e
 
 -- the capture file has a meaning

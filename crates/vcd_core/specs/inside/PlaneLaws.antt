@@ -97,10 +97,10 @@ pub letter_at-letters_in : (width : ℕ) (words : List ℕ) (k : ℕ) → k < wi
     → letter_at (letters_in width words) k ≡ letter_of (plane_bit 0 words k) (plane_bit 1 words k)
 unfolding letters_in
 letter_at-letters_in width words k within =
-    let place : length (letters_in width words) - 1 - k ≡ width - 1 - k =
+    let index : length (letters_in width words) - 1 - k ≡ width - 1 - k =
     ap (λ n. n - 1 - k) (length-letters_in width words) in
     let back : width - 1 - (width - 1 - k) ≡ k = omega arith in
-    ap (λ i. get_or (letters_in width words) i X) place
+    ap (λ i. get_or (letters_in width words) i X) index
     ∙ get_or-map-range_with_len
     (λ i. letter_of (plane_bit 0 words (width - 1 - i)) (plane_bit 1 words (width - 1 - i)))
     0 width (width - 1 - k) (width - 1 - k) X (omega arith) (omega arith)
@@ -123,10 +123,10 @@ planes_are n width words v planes long same =
     ∙ same_from_bits_below 64 _ _ (number-lt (bit j) 64 (bits j))
     (planes.small j 0 (omega (arith, planes.sized)))
     (λ i inside.
-    let place : 2 * ((64 * (j / 2) + i) / 64) + j % 2 ≡ j = omega arith in
+    let index : 2 * ((64 * (j / 2) + i) / 64) + j % 2 ≡ j = omega arith in
     let rest : (64 * (j / 2) + i) % 64 ≡ i = omega arith in
     let here : plane_bit (j % 2) words (64 * (j / 2) + i) ≡ bit_at (get_or words j 0) i =
-    (λ p. bit_at (get_or words (place p) 0) (rest p)) in
+    (λ p. bit_at (get_or words (index p) 0) (rest p)) in
     bit_at-number (bit j) 64 i (bits j) inside
     ∙ at_bit (j % 2) (64 * (j / 2) + i) (omega arith) (omega arith) ∙ here))
   where

@@ -31,7 +31,7 @@ pub fn write_all<W: Sink>(sink: &mut W, bytes: &[u8]) -> Result<(), ShortWrite>
     requires ready { W.has_failed sink.old ≡ false }
     ensures all { OnOk result (Appends (W.taken sink.old) (W.taken sink.new) bytes.now) }
     ensures not_failed { OnOk result (W.has_failed sink.new ≡ false) }
-    ensures front { IfErr result (λ short.
+    ensures prefix { IfErr result (λ short.
         Appends (W.taken sink.old) (W.taken sink.new) (take short.written bytes.now)) }
     ensures not_all { IfErr result (λ short. short.written < length bytes.now) }
     ensures failed { OnErr result (W.has_failed sink.new ≡ true) }
@@ -59,7 +59,7 @@ pub fn write_and_flush<W: Sink>(sink: &mut W, bytes: &[u8]) -> Result<(), ShortW
     ensures all { OnOk result (Appends (W.taken sink.old) (W.taken sink.new) bytes.now) }
     ensures not_failed { OnOk result (W.has_failed sink.new ≡ false) }
     ensures flushed { OnOk result (W.is_flushed sink.new ≡ true) }
-    ensures front { IfErr result (λ short.
+    ensures prefix { IfErr result (λ short.
         Appends (W.taken sink.old) (W.taken sink.new) (take short.written bytes.now)) }
     ensures within { IfErr result (λ short. short.written ≤ length bytes.now) }
     ensures failed { OnErr result (W.has_failed sink.new ≡ true) }

@@ -10,7 +10,7 @@ use std::rc::RcSlice;
 
 /// The scopes of a signal, outermost first.
 ///
-/// Several paths can share one list, each as a front of it. Contracts see the list of scope names,
+/// Several paths can share one list, each as a prefix of it. Contracts see the list of scope names,
 /// shared or not.
 #[derive(Drop)]
 pub struct ScopePath {
@@ -68,12 +68,12 @@ impl ScopePath {
     pub fn share(&self) -> Result<ScopePath, NoMemory>
         ensures { IfOk result (λ path. path ≡ self.now) }
     {
-        self.front(self.count)
+        self.prefix(self.count)
     }
 
     /// The path of the first `count` scopes. It takes no memory if the list can be shared;
     /// otherwise it copies each of these scopes.
-    pub fn front(&self, count: usize) -> Result<ScopePath, NoMemory>
+    pub fn prefix(&self, count: usize) -> Result<ScopePath, NoMemory>
         requires { count ≤ length self.now }
         ensures { IfOk result (λ path. path ≡ take count self.now) }
     {

@@ -34,8 +34,8 @@ impl TextEnd {
     /// the text does. If it is true, the caller compares the bytes.
     #[inline(always)]
     pub(crate) fn may_end_with(self, other: TextEnd) -> bool
-        ensures { (text front end : List ℕ) → self ≡ text_end text → other ≡ text_end end
-            → text ≡ front ++ end → IsTrue result }
+        ensures { (text prefix end : List ℕ) → self ≡ text_end text → other ≡ text_end end
+            → text ≡ prefix ++ end → IsTrue result }
     {
         self.bytes & other.mask == other.bytes & other.mask
     }

@@ -87,7 +87,7 @@ pub record HasRoomForPiece (ss : List Signal) (p : Piece) (coming : Option WaveV
   pub wave : CanBePutIn (wave_at ss p.signal) p coming
   pub piece : p.to - p.from ≤ vec_capacity p.changes
 
--- the same for each piece at places `from` to before `to`
+-- the same for each piece at indexes `from` to before `to`
 abbrev pub HaveRoom : List Signal → List Piece → List (Option WaveView) → ℕ → ℕ → Type 0
 HaveRoom ss ps comings from to = (k : ℕ) (d : Piece) → from ≤ k → k < to
     → HasRoomForPiece ss (slice_index_or ps k d) (slice_index_or comings k None)

@@ -1,4 +1,4 @@
--- The inverse of a value as a row of words.
+-- The inverse of a value as a row of blocks.
 use Rattle.std.specs.Prelude.{◌≡◌, ◌<◌, ◌/◌, ◌%◌, ℕ, List, length}
 use Rattle.vcd_core.specs.declared.bit.Bit.{Bit}
 use Rattle.vcd_core.specs.declared.letter_block.LetterBlock.{LetterBlock}
@@ -8,5 +8,5 @@ use Rattle.vcd_edit.specs.Operators.{not_bit}
 
 -- each letter below a limit is the negated one
 unfoldable pub ShowsInverse : ℕ → List Bit → List LetterBlock → Type 0
-ShowsInverse limit value words = (k : ℕ) → k < limit → k < length value
-    → letter_in (block_at words (k / 64)) (k % 64) ≡ not_bit (letter_at value k)
+ShowsInverse limit value blocks = (k : ℕ) → k < limit → k < length value
+    → letter_in (block_at blocks (k / 64)) (k % 64) ≡ not_bit (letter_at value k)

@@ -73,11 +73,11 @@ fn exchange_with_wave(piece: &mut Piece, wave: &mut Wave, coming: Option<Wave>)
         (piece_view piece.new) }
 {
     trim(piece, wave.changes());
-    let end_place = piece.from + piece.changes.as_slice().len();
+    let end_index = piece.from + piece.changes.as_slice().len();
     let back = opposite(piece.by);
     splice_or_replace(piece, wave, coming);
     piece.changes.shrink_to_fit();
-    piece.to = end_place;
+    piece.to = end_index;
     piece.by = back;
 }
 

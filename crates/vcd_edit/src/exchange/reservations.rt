@@ -90,9 +90,9 @@ fn coming_wave(
     ensures { IfOk result (IsComing (wave_at capture.now.signals piece.now.signal) piece.now) }
 {
     let count = comings.len();
-    for place in count.saturating_sub(LOOK_BACK)..count {
-        if let Some(wave) = &comings[place] {
-            if have_same_result(capture, piece, &pieces[place]) {
+    for index in count.saturating_sub(LOOK_BACK)..count {
+        if let Some(wave) = &comings[index] {
+            if have_same_result(capture, piece, &pieces[index]) {
                 let coming = wave.copy()?;
                 return Ok(coming);
             }
@@ -103,45 +103,45 @@ fn coming_wave(
     Ok(coming)
 }
 
-/// Keeps the wave that comes for the piece at a place. Each piece before it has none, or has one
+/// Keeps the wave that comes for the piece at an index. Each piece before it has none, or has one
 /// already.
-fn put_coming(comings: &mut Vec<Option<Wave>>, place: usize, coming: Wave) -> Result<(), NoMemory>
-    requires { vec_len comings.old ≤ place }
-    ensures count { OnOk result (vec_len comings.new ≡ place + 1) }
-    ensures coming { OnOk result (slice_index_or comings.new.items place None ≡ Some coming) }
-    ensures others { OnOk result ((k : ℕ) → k ≢ place → slice_index_or comings.new.items k None
+fn put_coming(comings: &mut Vec<Option<Wave>>, index: usize, coming: Wave) -> Result<(), NoMemory>
+    requires { vec_len comings.old ≤ index }
+    ensures count { OnOk result (vec_len comings.new ≡ index + 1) }
+    ensures coming { OnOk result (slice_index_or comings.new.items index None ≡ Some coming) }
+    ensures others { OnOk result ((k : ℕ) → k ≢ index → slice_index_or comings.new.items k None
         ≡ slice_index_or comings.old.items k None) }
 {
-    for _place in comings.len()..place {
+    for _index in comings.len()..index {
         comings.push(None)?;
     }
     comings.push(Some(coming))?;
     Ok(())
 }
 
-/// Makes what the piece at a place needs: room, or the wave that comes in the place of one that
+/// Makes what the piece at an index needs: room, or the wave that comes in the place of one that
 /// shares its list.
 #[tactic(auto, using(crate::proofs::PieceLoops::views_kept))]
 fn reserve_next(
     capture: &mut Capture,
     pieces: &mut [Piece],
-    place: usize,
+    index: usize,
     comings: &mut Vec<Option<Wave>>,
 ) -> Result<(), NoMemory>
-    requires within { place < length pieces.old }
-    requires count { vec_len comings.old ≤ place }
+    requires within { index < length pieces.old }
+    requires count { vec_len comings.old ≤ index }
     requires ready { All (PieceReadyIn (contents capture.old)) (map piece_view pieces.old) }
-    requires room { HaveRoom capture.old.signals pieces.old comings.old.items 0 place }
+    requires room { HaveRoom capture.old.signals pieces.old comings.old.items 0 index }
     ensures contents { contents capture.new ≡ contents capture.old }
     ensures pieces { map piece_view pieces.new ≡ map piece_view pieces.old }
-    ensures count { OnOk result (vec_len comings.new ≤ place + 1) }
+    ensures count { OnOk result (vec_len comings.new ≤ index + 1) }
     ensures room { OnOk result (HaveRoom capture.new.signals pieces.new comings.new.items 0
-        (place + 1)) }
+        (index + 1)) }
 {
-    if reserve_piece(capture, &mut pieces[place])? {
+    if reserve_piece(capture, &mut pieces[index])? {
         let pieces = &pieces[..];
-        let coming = coming_wave(capture, pieces, comings.as_slice(), &pieces[place])?;
-        put_coming(comings, place, coming)?;
+        let coming = coming_wave(capture, pieces, comings.as_slice(), &pieces[index])?;
+        put_coming(comings, index, coming)?;
     }
     Ok(())
 }
@@ -162,8 +162,8 @@ pub(crate) fn reserve_all(
     ensures never_refused { pieces.old ≡ [] → IsOk result }
 {
     let mut comings = Vec::new(alloc);
-    for place in 0..pieces.len() {
-        reserve_next(capture, pieces, place, &mut comings)?;
+    for index in 0..pieces.len() {
+        reserve_next(capture, pieces, index, &mut comings)?;
     }
     Ok(comings)
 }

@@ -34,7 +34,7 @@ fn is_moved(old: &Change, by: i64, new: &Change) -> bool
 }
 
 /// How many changes two lists have in common at the front.
-fn common_front(old: &[Change], new: &[Change]) -> usize
+fn common_prefix(old: &[Change], new: &[Change]) -> usize
     ensures count { result ≡ common_prefix_len same_change old.now new.now }
     ensures in_old { result ≤ length old.now }
     ensures in_new { result ≤ length new.now }
@@ -49,7 +49,7 @@ fn common_front(old: &[Change], new: &[Change]) -> usize
 }
 
 /// How many last old changes, moved by `by` ticks, are the last new ones.
-fn common_back(old: &[Change], new: &[Change], by: i64) -> usize
+fn common_suffix(old: &[Change], new: &[Change], by: i64) -> usize
     ensures count { result ≡ common_moved_suffix (neg_ℤ by) old.now new.now }
     ensures in_old { result ≤ length old.now }
     ensures in_new { result ≤ length new.now }
@@ -63,7 +63,7 @@ fn common_back(old: &[Change], new: &[Change], by: i64) -> usize
     most
 }
 
-fn drop_front(list: &mut Vec<Change>, count: usize)
+fn remove_prefix(list: &mut Vec<Change>, count: usize)
     requires { count ≤ vec_len list.old }
     ensures items { list.new.items ≡ drop count list.old.items }
     ensures capacity { vec_capacity list.new ≡ vec_capacity list.old }
@@ -86,11 +86,11 @@ pub(crate) fn trim(piece: &mut Piece, changes: &[Change])
     ensures capacity { vec_capacity piece.new.changes ≡ vec_capacity piece.old.changes }
 {
     let part = &changes[piece.from..piece.to];
-    let front = common_front(part, piece.changes.as_slice());
-    drop_front(&mut piece.changes, front);
-    let back = common_back(&part[front..], piece.changes.as_slice(), piece.by);
-    let kept = piece.changes.len() - back;
+    let prefix = common_prefix(part, piece.changes.as_slice());
+    remove_prefix(&mut piece.changes, prefix);
+    let suffix = common_suffix(&part[prefix..], piece.changes.as_slice(), piece.by);
+    let kept = piece.changes.len() - suffix;
     piece.changes.truncate(kept);
-    piece.from += front;
-    piece.to -= back;
+    piece.from += prefix;
+    piece.to -= suffix;
 }

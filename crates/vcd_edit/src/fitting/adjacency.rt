@@ -115,25 +115,25 @@ pub(crate) fn is_valid_piece(piece: &Piece, wave: &Wave, end: u64) -> bool
     if piece.from > piece.to || piece.to > changes.len() {
         return false;
     }
-    let front = &changes[..piece.from];
+    let prefix = &changes[..piece.from];
     let later = &changes[piece.to..];
     let list = piece.changes.as_slice();
     // Each test has its own exit: a test that passed shows what the next ones need.
     if !all_move_to(later, piece.by, end) {
         return false;
     }
-    if !may_all_follow(front, width, list) {
+    if !may_all_follow(prefix, width, list) {
         return false;
     }
     if !may_come_next(
-        prior_changes(front, list, list.len()),
+        prior_changes(prefix, list, list.len()),
         width,
         later,
         piece.by,
     ) {
         return false;
     }
-    if !ends_by(front, end) {
+    if !ends_by(prefix, end) {
         return false;
     }
     ends_by(list, end)

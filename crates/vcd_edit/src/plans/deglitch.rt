@@ -30,7 +30,7 @@ pub(crate) fn plan(
     let wave = &signal_at(capture, signal).wave;
     let changes = wave.changes();
     let x = x_value(wave);
-    let from = count_kept_in_front(changes, &x, ticks);
+    let from = kept_prefix_len(changes, &x, ticks);
     if from == changes.len() {
         return Ok(empty_record(alloc));
     }
@@ -48,7 +48,7 @@ pub(crate) fn plan(
 }
 
 /// How many changes come before the first one taken out.
-fn count_kept_in_front(changes: &[Change], before: &Value, ticks: u64) -> usize
+fn kept_prefix_len(changes: &[Change], before: &Value, ticks: u64) -> usize
     ensures within { result ≤ length changes.now }
     ensures kept { kept_changes ticks before.now changes.now ≡ take result changes.now
         ++ kept_changes ticks (value_after before.now (take result changes.now))

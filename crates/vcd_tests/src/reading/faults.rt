@@ -146,12 +146,12 @@ const OF_READERS_THAT_FAIL: &str = "\
 1 BadVar:$var wire x\x0b
 4 ReadFault:||$comment|";
 
-/// Stops unless a row's file, after `front`, has the fault of the row. A row that begins with `--`
+/// Stops unless a row's file, after `prefix`, has the fault of the row. A row that begins with `--`
 /// is a comment.
 fn check_row(
     rt: &impl Abort,
     alloc: Global,
-    front: &str,
+    prefix: &str,
     row: &str,
     fails: bool,
 ) -> Result<(), Fail> {
@@ -159,7 +159,7 @@ fn check_row(
         return Ok(());
     }
     let (answer, text) = row.split_once(':').ok_or("no answer")?;
-    let mut file = file_of(alloc, front)?;
+    let mut file = file_of(alloc, prefix)?;
     let following = file_of(alloc, text)?;
     file.extend_from_slice(following.as_slice())?;
     check_answer(rt, alloc, file.as_slice(), fails, answer)

@@ -18,7 +18,7 @@ use Rattle.vcd_text.specs.declared.reading.variables.Variable.{Variable}
 
 -- the letters that a change of the log gives a variable of this width
 abbrev pub logged_letters : ℕ → LoggedChange → List Bit
-logged_letters width e = letters_of width (e.word ∷ [])
+logged_letters width e = letters_of width (e.block ∷ [])
 
 -- the value at a tick, if these changes come after a value
 abbrev pub value_after_changes : ℕ → ℕ → List Bit → List LoggedChange → List Bit
@@ -93,12 +93,12 @@ pub record AppliesLogged (e : LoggedChange) (old new : List Variable) : Type 0 w
 
 -- ---- the room that waves get for the log
 
--- the expected room after one more change; a repeated word is not counted
+-- the expected room after one more change; a repeated block is not counted
 abbrev pub room_with : ExpectedRoom → LoggedChange → ExpectedRoom
 room_with h e = record {
-  count = if h.last.low == e.word.low && h.last.high == e.word.high then h.count
+  count = if h.last.low == e.block.low && h.last.high == e.block.high then h.count
       else min (h.count + 1) (2 ^ 64 - 1);
-  last = e.word;
+  last = e.block;
 }
 
 -- the variable with one more change in its expected room
@@ -123,22 +123,22 @@ pub record HasExactRoom (old new : Variable) : Type 0 where
 -- ---- the variables with the changes of the log
 
 -- the variables can take their changes of the log
-abbrev pub CanFlush : List Variable → (ℕ → List LoggedChange) → Type 0
-CanFlush kept log =
+abbrev pub CanMoveLog : List Variable → (ℕ → List LoggedChange) → Type 0
+CanMoveLog kept log =
     (position : ℕ) → 0 < length (log position)
     → (v : Variable) × (slice_get kept position ≡ Some v) × (tick : ℕ) × (f : ℕ → List Bit)
     × GivesLoggedValues v.wave.width tick f v.wave.changes (log position)
 
 -- the variable is the same, and its wave with the rest of the log has the same values
-pub record FlushesOne (old new : Variable) (log rest : List LoggedChange) : Type 0 where
+pub record MovesChanges (old new : Variable) (log rest : List LoggedChange) : Type 0 where
   pub same : IsSameVariable old new
   pub gives : (tick : ℕ) (f : ℕ → List Bit)
       → GivesLoggedValues old.wave.width tick f old.wave.changes log
       → GivesLoggedValues new.wave.width tick f new.wave.changes rest
 
 -- the variables have taken the changes that are no longer in the log
-pub record FlushesLog (old new : List Variable) (log rest : ℕ → List LoggedChange) : Type 0 where
+pub record MovesLog (old new : List Variable) (log rest : ℕ → List LoggedChange) : Type 0 where
   pub long : length new ≡ length old
   pub each : (position : ℕ) (v : Variable) → slice_get old position ≡ Some v
       → (w : Variable) × (slice_get new position ≡ Some w)
-      × FlushesOne v w (log position) (rest position)
+      × MovesChanges v w (log position) (rest position)

@@ -10,7 +10,7 @@ use Rattle.vcd_text.specs.declared.reading.TheConstants.{FILE_LIMIT}
 use Rattle.vcd_text.specs.declared.reading.file_reader.FileReader.{FileReader}
 use Rattle.vcd_text.specs.declared.reading.parser.Parser.{Parser}
 use Rattle.vcd_text.specs.Words.{words_from, complete_words, last_line}
-use Rattle.vcd_text.specs.FoundFaults.{FrontFault}
+use Rattle.vcd_text.specs.FoundFaults.{PrefixShows}
 use Rattle.vcd_text.specs.MemoryErrors.{memory_error}
 use Rattle.vcd_text.specs.inside.Reading.{HasTakenWords}
 
@@ -49,4 +49,4 @@ pub record HasUntakenChunk (p : FileReader) (unfinished_len : ℕ) (bytes : List
 -- the words that are now complete have been taken, or one shows a fault, or memory has run out
 abbrev pub TakesChunk : List ℕ → Result (Unit {0}) ReadError → FileReader → Type 0
 TakesChunk bytes (Ok x) new = HasReadBytes new bytes
-TakesChunk bytes (Err e) new = (e ≡ memory_error) ⊎ FrontFault bytes e.line e.fault
+TakesChunk bytes (Err e) new = (e ≡ memory_error) ⊎ PrefixShows bytes e.line e.fault

@@ -1,4 +1,4 @@
--- The targets of codes: those of few bytes by their place in a table, the others by a map.
+-- The targets of codes: those of few bytes by their index in a table, the others by a map.
 use Rattle.std.specs.Prelude.{ℕ, ◌+◌, ◌*◌, ◌==◌, nat_le, ◌||◌, if◌then◌else◌, List, [], ◌∷◌}
 use Rattle.std.specs.Prelude.{slice_index_or, unwrap_or}
 use Rattle.std.specs.Prelude.{Option, Some, None, bytes_eq}
@@ -17,23 +17,24 @@ abbrev pub joined_digits : Option ℕ → Option ℕ → Option ℕ
 joined_digits (Some a) (Some rest) = Some (a + 128 * rest)
 joined_digits first others = None
 
--- the place of a code of one to three such bytes: they are its digits to the base 128, the lowest
+-- the index of a code of one to three such bytes: they are its digits to the base 128, the lowest
 -- first
-abbrev pub place_of : List ℕ → Option ℕ
-place_of (a ∷ []) = digit_of a
-place_of (a ∷ b ∷ []) = joined_digits (digit_of a) (digit_of b)
-place_of (a ∷ b ∷ c ∷ []) = joined_digits (digit_of a) (joined_digits (digit_of b) (digit_of c))
-place_of code = None
+abbrev pub index_of_code : List ℕ → Option ℕ
+index_of_code (a ∷ []) = digit_of a
+index_of_code (a ∷ b ∷ []) = joined_digits (digit_of a) (digit_of b)
+index_of_code (a ∷ b ∷ c ∷ []) = joined_digits (digit_of a) (joined_digits (digit_of b)
+    (digit_of c))
+index_of_code code = None
 
 -- the target of a code in a map
 abbrev pub in_map : {S : Type 0} → IndexMap (Vec ℕ) CodeTarget S → List ℕ → CodeTarget
 in_map codes code = unwrap_or (get_by (λ key. bytes_eq code key.items) codes) Undeclared
 
--- the target of a code at this place
-abbrev pub target_at_place : CodeTargets → List ℕ → Option ℕ → CodeTarget
-target_at_place t code None = in_map t.others code
-target_at_place t code (Some place) = slice_index_or t.short.items place Undeclared
+-- the target of a code at this index
+abbrev pub target_at_index : CodeTargets → List ℕ → Option ℕ → CodeTarget
+target_at_index t code None = in_map t.others code
+target_at_index t code (Some index) = slice_index_or t.short.items index Undeclared
 
 -- the target of a code
 abbrev pub code_target : CodeTargets → List ℕ → CodeTarget
-code_target t code = target_at_place t code (place_of code)
+code_target t code = target_at_index t code (index_of_code code)

@@ -9,7 +9,7 @@ use Rattle.vcd_text.specs.Letters.{is_among}
 abbrev pub digits_of : List ℕ → ℕ → List ℕ
 digits_of digits k = let end = length digits - 64 * k in slice_range digits (end - 64) end
 
--- letters are added at the low end of a word, whatever it holds and whatever extends that
+-- letters are added at the low end of a block, whatever it holds and whatever extends that
 abbrev pub AddsLetters : List Bit → (old new : LetterBlock) → Type 0
 AddsLetters more old new = (pad : Bit) (s : List Bit) → HoldsLetters pad s 0 old
     → HoldsLetters pad (s ++ more) 0 new

@@ -8,7 +8,7 @@ use Rattle.vcd_text.specs.declared.fault.Fault.TheVariants.{NoMemory}
 use Rattle.vcd_text.specs.declared.fault.ReadError.{ReadError}
 use Rattle.vcd_core.specs.Contents.{Contents}
 use Rattle.vcd_core.specs.Sound.{IsSound}
-use Rattle.vcd_text.specs.Words.{PlacedWord, words_of}
+use Rattle.vcd_text.specs.Words.{WordOnLine, words_of}
 use Rattle.vcd_text.specs.Meaning.{FileMeans}
 use Rattle.vcd_text.specs.inside.OpenItems.{is_nothing}
 use Rattle.vcd_text.specs.Letters.{is_among}
@@ -19,7 +19,7 @@ use Rattle.vcd_text.specs.Grammar.{initial_state}
 use Rattle.vcd_text.specs.Grammar.{word_texts}
 use Rattle.vcd_core.specs.declared.value.TheConstants.{WIDTH_LIMIT}
 use Rattle.vcd_core.specs.Decimal.{is_number, number_of}
-use Rattle.vcd_text.specs.Faults.{WordFault, ShowsFault}
+use Rattle.vcd_text.specs.Faults.{WordShows, ShowsFault}
 use Rattle.vcd_text.specs.MemoryErrors.{memory_error}
 use Rattle.vcd_text.specs.inside.Variables.{VariablesMatch}
 use Rattle.vcd_text.specs.declared.reading.parser.Parser.{Parser}
@@ -38,13 +38,13 @@ pub record ParserMatches (m : Parser) (c : ParseState) : Type 0 where
   pub no_early_change : IsFalse c.in_body → c.value_changes ≡ []
 
 -- a declaration is open, and the parser keeps its words after the keyword
-pub record Collects (m : Parser) (begun : List PlacedWord) (keyword : List ℕ) : Type 0 where
+pub record Collects (m : Parser) (begun : List WordOnLine) (keyword : List ℕ) : Type 0 where
   pub declares : IsFalse m.in_body
   pub spelled : word_texts begun ≡ keyword ∷ m.words.items
   pub no_end : IsTrue (has_no_end_word m.words.items)
 
 -- a variable is open whose size has come; the parser keeps its other words
-pub record CollectsVariable (m : Parser) (begun : List PlacedWord) : Type 0 where
+pub record CollectsVariable (m : Parser) (begun : List WordOnLine) : Type 0 where
   pub kind : List ℕ
   pub word : List ℕ
   pub following : List (List ℕ)
@@ -56,7 +56,7 @@ pub record CollectsVariable (m : Parser) (begun : List PlacedWord) : Type 0 wher
   pub size : m.size ≡ min (number_of word) (WIDTH_LIMIT + 1)
 
 -- another command is open
-pub record PassesOver (m : Parser) (begun : List PlacedWord) : Type 0 where
+pub record PassesOver (m : Parser) (begun : List WordOnLine) : Type 0 where
   pub keyword : List ℕ
   pub words : List (List ℕ)
   pub spelled : word_texts begun ≡ keyword ∷ words
@@ -64,9 +64,9 @@ pub record PassesOver (m : Parser) (begun : List PlacedWord) : Type 0 where
   pub no_end : IsTrue (has_no_end_word words)
 
 -- a change of two words is open, whose first word has one of these letters and then this text
-pub record AwaitsCode (m : Parser) (begun : List PlacedWord) (letters text : List ℕ) : Type 0 where
+pub record AwaitsCode (m : Parser) (begun : List WordOnLine) (letters text : List ℕ) : Type 0 where
   pub in_body : IsTrue m.in_body
-  pub word : PlacedWord
+  pub word : WordOnLine
   pub letter : ℕ
   pub is : begun ≡ word ∷ []
   pub spelled : word.text ≡ letter ∷ text
@@ -74,7 +74,7 @@ pub record AwaitsCode (m : Parser) (begun : List PlacedWord) (letters text : Lis
   pub line : m.line ≡ word.line
 
 -- these words of the open item have been taken
-abbrev pub IsBegun : Parser → List PlacedWord → OpenItem → Type 0
+abbrev pub IsBegun : Parser → List WordOnLine → OpenItem → Type 0
 IsBegun m begun items.Nothing = begun ≡ []
 IsBegun m begun (items.Entry kind) = Collects m begun (header_word kind)
 IsBegun m begun items.Timescale = Collects m begun (codes "$timescale")
@@ -91,33 +91,33 @@ IsBegun m begun items.RealOrString = (text : List ℕ)
     × AwaitsCode m begun real_or_string_prefixes text
 
 -- the whole items gave this state, and these words of an open item have been taken
-abbrev pub IsAtState : Parser → ParseState → List PlacedWord → Type 0
+abbrev pub IsAtState : Parser → ParseState → List WordOnLine → Type 0
 IsAtState m c begun = ParserMatches m c × IsBegun m begun m.item
 
 -- ---- one word
 
 -- a word goes on with the open item, or ends it, and its conditions hold
-pub data WordStep (c : ParseState) (begun : List PlacedWord) (new : Parser) : Type 0 where
+pub data WordStep (c : ParseState) (begun : List WordOnLine) (new : Parser) : Type 0 where
   goes_on : IsAtState new c begun → WordStep c begun new
   ends_item : (i : Item) → spelling i ≡ word_texts begun → Allows c i
       → IsAtState new (state_after_item c i) []
       → WordStep c begun new
 
 -- the result of a word: it is taken, or shows a fault, or memory runs out
-abbrev pub WordResult : Parser → PlacedWord → Result (Unit {0}) Fault → Parser → Type 0
-WordResult old w (Ok x) new = (c : ParseState) (begun : List PlacedWord) → IsAtState old c begun
+abbrev pub WordResult : Parser → WordOnLine → Result (Unit {0}) Fault → Parser → Type 0
+WordResult old w (Ok x) new = (c : ParseState) (begun : List WordOnLine) → IsAtState old c begun
     → WordStep c (begun ++ w ∷ []) new
-WordResult old w (Err fault) new = (c : ParseState) (begun : List PlacedWord)
+WordResult old w (Err fault) new = (c : ParseState) (begun : List WordOnLine)
     → IsAtState old c begun
-    → (fault ≡ NoMemory) ⊎ WordFault c (word_texts begun) w.text fault
+    → (fault ≡ NoMemory) ⊎ WordShows c (word_texts begun) w.text fault
 
 -- ---- the words from the first
 
 -- all these words have been taken
-pub record HasTakenWords (m : Parser) (words : List PlacedWord) : Type 0 where
+pub record HasTakenWords (m : Parser) (words : List WordOnLine) : Type 0 where
   pub items : List Item
-  pub whole : List PlacedWord
-  pub begun : List PlacedWord
+  pub whole : List WordOnLine
+  pub begun : List WordOnLine
   pub state : ParseState
   pub parts : words ≡ whole ++ begun
   pub spelled : word_texts whole ≡ spellings items
@@ -127,7 +127,7 @@ pub record HasTakenWords (m : Parser) (words : List PlacedWord) : Type 0 where
 
 -- some words have been taken, fewer than 2 ^ 63
 pub record IsUnderway (m : Parser) : Type 0 where
-  pub words : List PlacedWord
+  pub words : List WordOnLine
   pub taken_words : HasTakenWords m words
   pub few : length words < 2 ^ 63
 
@@ -143,20 +143,20 @@ error_at line fault = if is_no_memory fault then memory_error
 
 -- these further words have been taken, or one of them shows a fault whatever follows, or memory has
 -- run out
-abbrev pub WordsResult : Parser → List PlacedWord → Result (Unit {0}) ReadError → Parser → Type 0
-WordsResult old words (Ok x) new = (words_so_far : List PlacedWord) → HasTakenWords old words_so_far
+abbrev pub WordsResult : Parser → List WordOnLine → Result (Unit {0}) ReadError → Parser → Type 0
+WordsResult old words (Ok x) new = (words_so_far : List WordOnLine) → HasTakenWords old words_so_far
     → HasTakenWords new (words_so_far ++ words)
-WordsResult old words (Err e) new = (words_so_far more : List PlacedWord)
+WordsResult old words (Err e) new = (words_so_far more : List WordOnLine)
     → HasTakenWords old words_so_far
     → (e ≡ memory_error) ⊎ ShowsFault (words_so_far ++ (words ++ more)) e.line e.fault
 
 -- these words can be taken after those before
-abbrev pub WordCountFits : Parser → List PlacedWord → Type 0
-WordCountFits m words = (words_so_far : List PlacedWord) × HasTakenWords m words_so_far
+abbrev pub WordCountFits : Parser → List WordOnLine → Type 0
+WordCountFits m words = (words_so_far : List WordOnLine) × HasTakenWords m words_so_far
     × (length words_so_far + length words < 2 ^ 63)
 
 -- all words of a list have been taken after others, or one shows a fault, or memory has run out
-abbrev pub AllWordsResult : List PlacedWord → List PlacedWord → Result ℕ ReadError → Parser → Type 0
+abbrev pub AllWordsResult : List WordOnLine → List WordOnLine → Result ℕ ReadError → Parser → Type 0
 AllWordsResult words_so_far words (Ok line_feeds) new = HasTakenWords new (words_so_far ++ words)
 AllWordsResult words_so_far words (Err e) new = (e ≡ memory_error)
     ⊎ ShowsFault (words_so_far ++ words) e.line e.fault

@@ -21,7 +21,8 @@ transition_of tick position = record { tick = tick; position = position }
 
 -- the signals that differ at a tick from the tick before, each with its position, in order
 abbrev pub transitions_at : ℕ → List (ℕ × SignalContents) → List Transition
-transitions_at t placed = map (λ p. transition_of t p.0) (filter (λ p. differs_at t p.1) placed)
+transitions_at t positioned = map (λ p. transition_of t p.0) (filter (λ p. differs_at t p.1)
+    positioned)
 
 -- the signals that differ, the first at this position, at n ticks from t on
 unfoldable pub transitions_from : ℕ → List SignalContents → ℕ → ℕ → List Transition

@@ -16,10 +16,10 @@ use Rattle.vcd_text.specs.declared.fault.Fault.{Fault}
 use Rattle.vcd_text.specs.declared.fault.Fault.TheVariants as faults
 use Rattle.vcd_text.specs.Letters.{letters_of_digits, extension}
 use Rattle.vcd_text.specs.Items.{variable, end_word, has_no_end_word}
-use Rattle.vcd_text.specs.Faults.{DeclarationFault}
+use Rattle.vcd_text.specs.Faults.{DeclarationShows}
 use Rattle.vcd_text.specs.Grammar.{VariableDeclaration, ValueChange, ParseState, is_skipped}
 use Rattle.vcd_text.specs.Grammar.{kept_variables}
-use Rattle.vcd_text.specs.Grammar.{declaration_of, variable_of, may_have_code, has_room}
+use Rattle.vcd_text.specs.Grammar.{declaration_of, variable_of, may_have_code, is_within_limit}
 use Rattle.vcd_text.specs.Grammar.{is_binary_number, has_good_size}
 use Rattle.vcd_text.specs.Grammar.{takes_binary_number, state_after_item, with_value_change}
 use Rattle.vcd_text.specs.Meaning.{latest_value}
@@ -60,7 +60,8 @@ target_of vs code = code_target vs.code_targets code
 
 -- the variable at this position has the size; its wave and its log give the code's value changes up
 -- to the tick
-pub record HasWave (vs : List Variable) (log : ℕ → List LoggedChange) (position : ℕ) (code : List ℕ)
+pub record HasValueChanges (vs : List Variable) (log : ℕ → List LoggedChange) (position : ℕ)
+    (code : List ℕ)
     (size : ℕ)
     (value_changes : List ValueChange) (tick : ℕ) : Type 0 where
   pub first : Variable
@@ -77,7 +78,7 @@ TargetMatches vs log value_changes tick code Undeclared None = Unit {0}
 TargetMatches vs log value_changes tick code Skipped (Some d) = IsTrue (is_skipped d)
 TargetMatches vs log value_changes tick code (Kept width position) (Some d) =
     IsFalse (is_skipped d) × (d.size ≡ width)
-    × HasWave vs log position code width value_changes tick
+    × HasValueChanges vs log position code width value_changes tick
 TargetMatches vs log value_changes tick code target declared = ⊥
 
 -- the same for the variables of the parser and a state of the file
@@ -137,14 +138,14 @@ with_declaration c d = record c { declared = c.declared ++ d ∷ [] }
 pub data CannotDeclare (c : ParseState) (d : VariableDeclaration) (fault : Fault) : Type 0 where
   mixed : IsFalse (may_have_code (variable_of c d.code) d) → fault ≡ faults.MixedCode
       → CannotDeclare c d fault
-  many : IsTrue (may_have_code (variable_of c d.code) d) → IsFalse (has_room c.declared d)
+  many : IsTrue (may_have_code (variable_of c d.code) d) → IsFalse (is_within_limit c.declared d)
       → fault ≡ faults.TooManySignals → CannotDeclare c d fault
 
 -- the result of a declaration: it is added, or not allowed here, or memory runs out
 abbrev pub DeclaresAs : ParseState → VariableDeclaration → Result (Unit {0}) Fault → Variables
     → Type 0
 DeclaresAs c d (Ok x) new = IsTrue (may_have_code (variable_of c d.code) d)
-    × IsTrue (has_room c.declared d)
+    × IsTrue (is_within_limit c.declared d)
     × VariablesMatch new (with_declaration c d)
 DeclaresAs c d (Err fault) new = (fault ≡ faults.NoMemory) ⊎ CannotDeclare c d fault
 
@@ -154,10 +155,10 @@ DeclaresAs c d (Err fault) new = (fault ≡ faults.NoMemory) ⊎ CannotDeclare c
 abbrev pub Declares : ParseState → List (List ℕ) → Result (Unit {0}) Fault → Variables → Type 0
 Declares c words (Ok x) new =
     IsSomeAnd (declaration_of c words) (λ d. IsTrue (may_have_code (variable_of c d.code) d)
-    × IsTrue (has_room c.declared d))
+    × IsTrue (is_within_limit c.declared d))
     × VariablesMatch new (state_after_item c (variable words))
 Declares c words (Err fault) new = IsTrue (has_no_end_word words) → IsTrue (has_good_size words)
-    → (fault ≡ faults.NoMemory) ⊎ DeclarationFault c (codes "$var" ∷ words) end_word fault
+    → (fault ≡ faults.NoMemory) ⊎ DeclarationShows c (codes "$var" ∷ words) end_word fault
 
 -- the same of words without a size, and of the size that has been read
 abbrev pub DeclaresWords : List (List ℕ) → ℕ → Variables → Result (Unit {0}) Fault → Variables
@@ -182,15 +183,15 @@ pub record HasValueFrom (tick : ℕ) (digits : List ℕ) (old new : Variable) : 
 -- ---- the result of a change with these digits
 
 -- the code is not declared, or its variable refuses the digits
-pub data BinaryNumberFault (c : ParseState) (code digits : List ℕ) (fault : Fault) : Type 0 where
+pub data RefusesChange (c : ParseState) (code digits : List ℕ) (fault : Fault) : Type 0 where
   unknown : variable_of c code ≡ None → fault ≡ faults.UnknownCode
-      → BinaryNumberFault c code digits fault
+      → RefusesChange c code digits fault
   no_value : (d : VariableDeclaration) → variable_of c code ≡ Some d → IsFalse (is_skipped d)
       → IsFalse (is_binary_number digits)
-      → fault ≡ faults.BadChange → BinaryNumberFault c code digits fault
+      → fault ≡ faults.BadChange → RefusesChange c code digits fault
   too_long : (d : VariableDeclaration) → variable_of c code ≡ Some d → IsFalse (is_skipped d)
       → IsTrue (is_binary_number digits) → d.size < length digits
-      → fault ≡ faults.ValueTooLong → BinaryNumberFault c code digits fault
+      → fault ≡ faults.ValueTooLong → RefusesChange c code digits fault
 
 -- the result of the change: it is added, or shows a fault, or memory runs out
 abbrev pub ChangeResult : ParseState → (code digits : List ℕ) → Result (Unit {0}) Fault → Variables
@@ -199,7 +200,7 @@ ChangeResult c code digits (Ok x) new =
     IsSomeAnd (variable_of c code) (λ d. IsTrue (takes_binary_number d digits))
     × VariablesMatch new (with_value_change c code (letters_of_digits digits))
 ChangeResult c code digits (Err fault) new = (fault ≡ faults.NoMemory)
-    ⊎ BinaryNumberFault c code digits fault
+    ⊎ RefusesChange c code digits fault
 
 -- ---- the signals of the variables at the end
 

@@ -29,4 +29,4 @@ pub record IsReady (end from : ℕ) (signals : List Signal) (window : Window) : 
   pub some : 1 ≤ from
   pub room : length signals ≤ vec_capacity window.keys
   pub next : AreNext from signals window.cursors.items
-  pub start_places : length window.start_places.items ≡ length signals
+  pub start_cursors : length window.start_cursors.items ≡ length signals

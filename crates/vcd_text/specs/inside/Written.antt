@@ -1,4 +1,4 @@
--- A text while it is written: its front was taken, and the rest waits in a buffer.
+-- A text while it is written: its prefix was taken, and the rest waits in a buffer.
 use Rattle.std.specs.Prelude.{◌≡◌, ◌≤◌, ◌-◌, ◌^◌, min, ℕ, false, List, ◌++◌, length, take, drop}
 use Rattle.std.specs.Prelude.{Option}
 use Rattle.std.specs.Io.KnownBytes.{Appends}
@@ -12,8 +12,8 @@ pub record HasEmitted {W : Type 0} (sink : sinks.Ghosts W) (before : Option (Lis
   where
     pub sent : ℕ
     pub within : sent ≤ length text
-    pub counted : output.start ≡ min sent (2 ^ 128 - 1)
-    pub front : Appends before (sink.taken output.writer.now) (take sent text)
+    pub counted : output.sent_count ≡ min sent (2 ^ 128 - 1)
+    pub prefix : Appends before (sink.taken output.writer.now) (take sent text)
     pub rest : sink.has_failed output.writer.now ≡ false → drop sent text ≡ output.unsent.items
 
 -- whatever text an output held, it now holds it with `part` appended, and has the same writer

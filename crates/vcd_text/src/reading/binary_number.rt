@@ -92,14 +92,14 @@ fn extended_value(width: u64, digits: &[u8]) -> Option<Value>
     let pad = pad_of(digits);
     let mut blocks = [LetterBlock::filled(Bit::Zero); BLOCKS];
     for k in 0..blocks_in(width) {
-        let block = block_of_digits(pad, digits_of_word(digits, k))?;
+        let block = block_of_digits(pad, digits_of_block(digits, k))?;
         blocks[k] = block;
     }
     Some(Value::from_blocks(width, &blocks))
 }
 
 /// The digits of the 64 letters from bit `64 * k` on. There can be fewer.
-fn digits_of_word(digits: &[u8], k: usize) -> &[u8]
+fn digits_of_block(digits: &[u8], k: usize) -> &[u8]
     requires { k < BLOCKS }
     ensures { result.now ≡ digits_of digits.now k }
 {

@@ -21,7 +21,7 @@ use std::alloc::Global;
 impl Parser {
     /// Takes a word between two changes, which is on this line. By its first byte it is a stamp, a
     /// command, or the first word of a change of a value. Any other word is `BadChange`.
-    pub fn begin_change(&mut self, alloc: Global, text: &[u8], line: u64) -> Result<(), Fault>
+    pub fn take_body_word(&mut self, alloc: Global, text: &[u8], line: u64) -> Result<(), Fault>
         requires between { self.old.item ≡ items.Nothing }
         requires in_body { self.old.in_body ≡ true }
         requires reading { IsUnderway self.old }
@@ -30,8 +30,8 @@ impl Parser {
     {
         match text {
             [b'#', digits @ ..] => self.stamp(digits),
-            [b'$', ..] => self.begin_command(text),
-            [first, rest @ ..] => self.begin_value(alloc, *first, rest, line),
+            [b'$', ..] => self.take_command(text),
+            [first, rest @ ..] => self.take_value_word(alloc, *first, rest, line),
             [] => Err(Fault::BadChange),
         }
     }
@@ -56,7 +56,7 @@ impl Parser {
 
     /// Takes a word of a dump, or begins a command that is passed over. A word of the
     /// declarations is `UnexpectedWord`.
-    fn begin_command(&mut self, text: &[u8]) -> Result<(), Fault>
+    fn take_command(&mut self, text: &[u8]) -> Result<(), Fault>
         requires between { self.old.item ≡ items.Nothing }
         requires in_body { self.old.in_body ≡ true }
         requires command { is_command text.now ≡ true }
@@ -73,7 +73,13 @@ impl Parser {
     }
 
     /// Takes the first word of a change of a value: this byte, and the rest.
-    fn begin_value(&mut self, alloc: Global, first: u8, rest: &[u8], line: u64) -> Result<(), Fault>
+    fn take_value_word(
+        &mut self,
+        alloc: Global,
+        first: u8,
+        rest: &[u8],
+        line: u64,
+    ) -> Result<(), Fault>
         requires between { self.old.item ≡ items.Nothing }
         requires in_body { self.old.in_body ≡ true }
         requires reading { IsUnderway self.old }
@@ -81,11 +87,11 @@ impl Parser {
         ensures { WordResult self.old (word_on (first ∷ rest.now) line) result self.new }
     {
         if is_binary_digit(first) {
-            self.change_scalar(alloc, first, rest)
+            self.take_scalar_change(alloc, first, rest)
         } else if is_vector_prefix(first) {
-            self.begin_vector(rest, line)
+            self.take_vector_value(rest, line)
         } else if is_real_or_string_prefix(first) {
-            self.begin_real_or_string(line);
+            self.take_real_or_string(line);
             Ok(())
         } else {
             Err(Fault::BadChange)
@@ -94,7 +100,7 @@ impl Parser {
 
     /// Sets a code to the value that a binary digit writes. The error is `BadChange` if there is no
     /// code, and `UnknownCode` if the code was not declared.
-    fn change_scalar(&mut self, alloc: Global, digit: u8, code: &[u8]) -> Result<(), Fault>
+    fn take_scalar_change(&mut self, alloc: Global, digit: u8, code: &[u8]) -> Result<(), Fault>
         requires between { self.old.item ≡ items.Nothing }
         requires in_body { self.old.in_body ≡ true }
         requires reading { IsUnderway self.old }
@@ -111,7 +117,7 @@ impl Parser {
     }
 
     /// Begins a change by a binary number, and keeps its digits.
-    fn begin_vector(&mut self, digits: &[u8], line: u64) -> Result<(), Fault>
+    fn take_vector_value(&mut self, digits: &[u8], line: u64) -> Result<(), Fault>
         requires between { self.old.item ≡ items.Nothing }
         requires in_body { self.old.in_body ≡ true }
         ensures { (first : ℕ) → is_among vector_prefixes first ≡ true →
@@ -125,7 +131,7 @@ impl Parser {
     }
 
     /// Begins a change of a real number or a string.
-    fn begin_real_or_string(&mut self, line: u64)
+    fn take_real_or_string(&mut self, line: u64)
         requires between { self.old.item ≡ items.Nothing }
         requires in_body { self.old.in_body ≡ true }
         ensures { (first : ℕ) (text : List ℕ) → is_among real_or_string_prefixes first ≡ true →
@@ -138,7 +144,7 @@ impl Parser {
     /// Takes the code of a change by a binary number, and sets it to the digits. The error is
     /// `UnknownCode` if the code was not declared, `BadChange` if the digits are no value, and
     /// `ValueTooLong` if they are too many.
-    pub fn end_vector(&mut self, alloc: Global, code: &[u8]) -> Result<(), Fault>
+    pub fn take_vector_code(&mut self, alloc: Global, code: &[u8]) -> Result<(), Fault>
         requires item { self.old.item ≡ items.Vector }
         requires reading { IsUnderway self.old }
         ensures { (line : ℕ) → WordResult self.old (word_on code.now line) result self.new }
@@ -150,7 +156,7 @@ impl Parser {
 
     /// Takes the code of a change of a real number or a string, which changes nothing. The error is
     /// `UnknownCode` if the code was not declared.
-    pub fn end_real_or_string(&mut self, code: &[u8]) -> Result<(), Fault>
+    pub fn take_real_or_string_code(&mut self, code: &[u8]) -> Result<(), Fault>
         requires item { self.old.item ≡ items.RealOrString }
         ensures { (line : ℕ) → WordResult self.old (word_on code.now line) result self.new }
     {

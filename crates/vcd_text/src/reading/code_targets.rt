@@ -2,7 +2,7 @@
 
 ghost use Rattle.std.specs.Prelude.{◌≡◌, ◌+◌, ◌<◌, ◌≤◌, ◌^◌, ◌==◌, ℕ, List, length, if◌then◌else◌};
 ghost use Rattle.std.specs.Prelude.{slice_index_or, IfSome, OnOk, bytes_eq, max};
-ghost use Rattle.vcd_text.specs.inside.CodeTargets.{digit_of, place_of, code_target, in_map};
+ghost use Rattle.vcd_text.specs.inside.CodeTargets.{digit_of, index_of_code, code_target, in_map};
 ghost use Rattle.vcd_text.specs.declared.reading.code_targets.CodeTarget.TheVariants as targets;
 
 use indexmap::IndexMap;
@@ -23,7 +23,7 @@ pub enum CodeTarget {
 /// The targets of the codes.
 #[derive(Drop)]
 pub struct CodeTargets {
-    /// The target of each short code, at the place of the code.
+    /// The target of each short code, at the index of the code.
     pub short: Vec<CodeTarget>,
     /// The other codes, each with its target.
     pub others: IndexMap<Vec<u8>, CodeTarget>,
@@ -44,30 +44,30 @@ impl CodeTargets {
     pub fn get(&self, code: &[u8]) -> CodeTarget
         ensures { result ≡ code_target self.now code.now }
     {
-        match short_place(code) {
-            Some(place) => target_at(&self.short, place),
+        match table_index(code) {
+            Some(index) => target_at(&self.short, index),
             None => target_in(&self.others, code),
         }
     }
 
-    /// Gives a code this target. A short code takes room for all places up to its own, another one
+    /// Gives a code this target. A short code takes room for all indexes up to its own, another one
     /// a copy of the code.
     pub fn insert(&mut self, alloc: Global, code: &[u8], target: CodeTarget) -> Result<(), NoMemory>
         ensures { OnOk result ((key : List ℕ) → code_target self.new key ≡
             (if bytes_eq key code.now then target else code_target self.old key)) }
     {
-        match short_place(code) {
-            Some(place) => put_at(&mut self.short, place, target),
+        match table_index(code) {
+            Some(index) => put_at(&mut self.short, index, target),
             None => put_in(&mut self.others, alloc, code, target),
         }
     }
 }
 
-/// The target at a place. Past the end of the table no code is declared.
-fn target_at(table: &[CodeTarget], place: usize) -> CodeTarget
-    ensures { result ≡ slice_index_or table.now place targets.Undeclared }
+/// The target at an index. Past the end of the table no code is declared.
+fn target_at(table: &[CodeTarget], index: usize) -> CodeTarget
+    ensures { result ≡ slice_index_or table.now index targets.Undeclared }
 {
-    table.get(place).copied().unwrap_or(CodeTarget::Undeclared)
+    table.get(index).copied().unwrap_or(CodeTarget::Undeclared)
 }
 
 /// The target of a code in the map.
@@ -77,16 +77,16 @@ fn target_in(codes: &IndexMap<Vec<u8>, CodeTarget>, code: &[u8]) -> CodeTarget
     codes.get(code).copied().unwrap_or(CodeTarget::Undeclared)
 }
 
-/// Gives a place this target. If the table ends before it, the codes between are undeclared.
-fn put_at(table: &mut Vec<CodeTarget>, place: usize, target: CodeTarget) -> Result<(), NoMemory>
-    requires { place < 2 ^ 32 }
+/// Gives an index this target. If the table ends before it, the codes between are undeclared.
+fn put_at(table: &mut Vec<CodeTarget>, index: usize, target: CodeTarget) -> Result<(), NoMemory>
+    requires { index < 2 ^ 32 }
     ensures target { OnOk result ((i : ℕ) → slice_index_or table.new.items i targets.Undeclared ≡
-        (if i == place then target else slice_index_or table.old.items i targets.Undeclared)) }
+        (if i == index then target else slice_index_or table.old.items i targets.Undeclared)) }
     ensures exact { OnOk result
-        (length table.new.items ≡ max (length table.old.items) (place + 1)) }
+        (length table.new.items ≡ max (length table.old.items) (index + 1)) }
 {
-    lengthen(table, place + 1)?;
-    table[place] = target;
+    lengthen(table, index + 1)?;
+    table[index] = target;
     Ok(())
 }
 
@@ -118,10 +118,10 @@ fn put_in(
     Ok(())
 }
 
-/// The place of a code of one to three bytes, each from 1 to 127; none for any other code.
-fn short_place(code: &[u8]) -> Option<usize>
-    ensures place { result ≡ place_of code.now }
-    ensures fits { IfSome result (λ place. place < 2 ^ 32) }
+/// The index of a code of one to three bytes, each from 1 to 127; none for any other code.
+fn table_index(code: &[u8]) -> Option<usize>
+    ensures index { result ≡ index_of_code code.now }
+    ensures fits { IfSome result (λ index. index < 2 ^ 32) }
 {
     match code {
         [a] => code_digit(*a),

@@ -7,10 +7,10 @@ ghost use Rattle.std.specs.Io.KnownBytes.{Consumes, Keeps, IsAtEnd};
 ghost use Rattle.vcd_core.specs.Word.{is_white_space as white};
 ghost use Rattle.vcd_core.specs.CaptureContents.{contents};
 ghost use Rattle.vcd_core.specs.Sound.{IsSound};
-ghost use Rattle.vcd_text.specs.Words.{words_from, PlacedWord as WordInFile};
+ghost use Rattle.vcd_text.specs.Words.{words_from, WordOnLine as WordInFile};
 ghost use Rattle.vcd_text.specs.LentWords.{words_left};
 ghost use Rattle.vcd_text.specs.Meaning.{FileMeans};
-ghost use Rattle.vcd_text.specs.FoundFaults.{FoundFault};
+ghost use Rattle.vcd_text.specs.FoundFaults.{IsFoundFault};
 ghost use Rattle.vcd_text.specs.Refusals.{IsRefusal};
 ghost use Rattle.vcd_text.specs.MemoryErrors.{memory_error};
 ghost use Rattle.vcd_text.specs.inside.Spaces.{has_complete_words, line_feeds_in};
@@ -78,7 +78,7 @@ impl FileReader {
             R.has_failed source.new ≡ false) }
     {
         self.buffer.make_room()?;
-        let from = self.buffer.len();
+        let unfinished_len = self.buffer.len();
         let Ok(count) = self.buffer.read_from(source, self.bytes_left) else {
             return Err(ReadError::at(self.line_feeds + 1, Fault::ReadFault));
         };
@@ -86,24 +86,24 @@ impl FileReader {
             return Err(ReadError::at(self.line_feeds + 1, Fault::TooLarge));
         }
         self.bytes_left -= count;
-        self.take_words(alloc, from)?;
+        self.take_words(alloc, unfinished_len)?;
         Ok(count > 0)
     }
 
-    /// Takes the complete words. The first `from` bytes of the buffer are no white space.
-    fn take_words(&mut self, alloc: Global, from: usize) -> Result<(), ReadError>
-        requires { (bytes : List ℕ) × HasUntakenChunk self.old from bytes }
-        ensures taken { (bytes : List ℕ) → HasUntakenChunk self.old from bytes →
+    /// Takes the complete words. The first `unfinished_len` bytes of the buffer are no white space.
+    fn take_words(&mut self, alloc: Global, unfinished_len: usize) -> Result<(), ReadError>
+        requires { (bytes : List ℕ) × HasUntakenChunk self.old unfinished_len bytes }
+        ensures taken { (bytes : List ℕ) → HasUntakenChunk self.old unfinished_len bytes →
             TakesChunk bytes result self.new }
         ensures bytes_left { self.new.bytes_left ≡ self.old.bytes_left }
     {
-        let len = complete_words_len(self.buffer.as_slice(), from);
+        let len = complete_words_len(self.buffer.as_slice(), unfinished_len);
         let complete = Words {
             rest: &self.buffer.as_slice()[..len],
             line_feeds: self.line_feeds,
         };
         self.line_feeds = read_words(&mut self.parser, alloc, complete)?;
-        self.buffer.drop_front(len);
+        self.buffer.remove_prefix(len);
         Ok(())
     }
 
@@ -115,7 +115,7 @@ impl FileReader {
             FileMeans bytes (contents loaded.capture) loaded.skipped) }
         ensures sound { IfOk result (λ loaded. IsSound (contents loaded.capture)) }
         ensures fault { IfErr result (λ e. (bytes : List ℕ) → HasReadBytes self bytes →
-            (e ≡ memory_error) ⊎ FoundFault bytes e.line e.fault) }
+            (e ≡ memory_error) ⊎ IsFoundFault bytes e.line e.fault) }
     {
         let FileReader {
             mut parser,
@@ -145,16 +145,17 @@ fn check_complete(parser: &Parser, line: u64) -> Result<(), ReadError>
     Ok(())
 }
 
-/// The number of bytes up to and including the last white space. The first `from` bytes have none.
-fn complete_words_len(bytes: &[u8], from: usize) -> usize
-    requires within { from ≤ length bytes.now }
-    requires no_space { list_all (λ b. not (white b)) (take from bytes.now) ≡ true }
+/// The number of bytes up to and including the last white space. The first `unfinished_len` bytes
+/// have none.
+fn complete_words_len(bytes: &[u8], unfinished_len: usize) -> usize
+    requires within { unfinished_len ≤ length bytes.now }
+    requires no_space { list_all (λ b. not (white b)) (take unfinished_len bytes.now) ≡ true }
     ensures within { result ≤ length bytes.now }
     ensures complete { has_complete_words (take result bytes.now) ≡ true }
     ensures no_space { list_all (λ b. not (white b)) (drop result bytes.now) ≡ true }
 {
     let mut len = bytes.len();
-    while len > from {
+    while len > unfinished_len {
         if is_white_space(bytes[len - 1]) {
             return len;
         }

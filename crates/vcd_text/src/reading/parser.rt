@@ -108,10 +108,10 @@ impl Parser {
         ensures { WordResult self.old (word_on text.now line) result self.new }
     {
         match self.item {
-            OpenItem::Nothing if self.in_body => self.begin_change(alloc, text, line),
+            OpenItem::Nothing if self.in_body => self.take_body_word(alloc, text, line),
             OpenItem::Nothing => self.begin_declaration(text),
-            OpenItem::Vector => self.end_vector(alloc, text),
-            OpenItem::RealOrString => self.end_real_or_string(text),
+            OpenItem::Vector => self.take_vector_code(alloc, text),
+            OpenItem::RealOrString => self.take_real_or_string_code(text),
             _ if text == b"$end".as_slice() => self.close(alloc),
             _ => self.continue_item(alloc, text),
         }

@@ -6,11 +6,11 @@
 ghost use Rattle.std.specs.Prelude.{◌≡◌, ◌<◌, ◌++◌, ◌==◌, ◌≤◌, ℕ, List, [], ◌∷◌, length, slice_get};
 ghost use Rattle.std.specs.Prelude.{Some, if◌then◌else◌, OnOk, All};
 ghost use Rattle.std.specs.List.{fold};
-ghost use Rattle.vcd_text.specs.declared.reading.variables.Variable.{Variable as DeclaredVariable};
+ghost use Rattle.vcd_text.specs.declared.reading.variables.Variable.{Variable as KeptVariable};
 ghost use Rattle.vcd_text.specs.declared.reading.pending.LoggedChange.{LoggedChange as LogEntry};
 ghost use Rattle.vcd_text.specs.inside.ChangeLog.{logged, changes_of_position, room_with, counted};
 ghost use Rattle.vcd_text.specs.inside.ChangeLog.{AreGrouped, CanTake, AppliesLogged, HasExactRoom};
-ghost use Rattle.vcd_text.specs.inside.ChangeLog.{CanFlush, FlushesLog};
+ghost use Rattle.vcd_text.specs.inside.ChangeLog.{CanMoveLog, MovesLog};
 
 use crate::reading::variables::Variable;
 use std::alloc::Global;
@@ -21,12 +21,12 @@ use vcd_core::{LetterBlock, NoMemory};
 pub const GROUPS: usize = 128;
 
 /// A change of the variable at `position`, of at most 64 bits: from `tick` on it has the letters of
-/// the word. It has 32 bytes.
+/// the block. It has 32 bytes.
 #[derive(Clone, Copy)]
 pub struct LoggedChange {
     pub tick: u64,
     pub position: usize,
-    pub word: LetterBlock,
+    pub block: LetterBlock,
 }
 
 /// Appends a change to its group. Each group has the order of the file.
@@ -65,7 +65,7 @@ fn add_groups(
     Ok(())
 }
 
-/// An upper bound of the changes of the log that a wave is about to get, and the word of the last
+/// An upper bound of the changes of the log that a wave is about to get, and the block of the last
 /// one. It concerns room alone.
 #[derive(Clone, Copy)]
 pub struct ExpectedRoom {
@@ -74,7 +74,7 @@ pub struct ExpectedRoom {
 }
 
 /// No change: all x.
-pub const NO_ROOM: ExpectedRoom = ExpectedRoom {
+pub const NOTHING_EXPECTED: ExpectedRoom = ExpectedRoom {
     count: 0,
     last: LetterBlock {
         low: u64::MAX,
@@ -84,15 +84,15 @@ pub const NO_ROOM: ExpectedRoom = ExpectedRoom {
 
 /// Gives each variable the changes of the log, in their order. Each group is freed before the next.
 ///
-/// It takes two steps for each change. A wave gets room once, for the changes of the log whose word
-/// differs from the one before. The first is compared with all x.
+/// It takes two steps for each change. A wave gets room once, for the changes of the log whose
+/// block differs from the one before. The first is compared with all x.
 pub fn move_log_to_waves(
     kept: &mut Vec<Variable>,
     groups: Vec<Vec<LoggedChange>>,
 ) -> Result<(), NoMemory>
-    requires { CanFlush kept.old.items (logged groups.items) }
+    requires { CanMoveLog kept.old.items (logged groups.items) }
     ensures { OnOk result
-        (FlushesLog kept.old.items kept.new.items (logged groups.items) (λ _. [])) }
+        (MovesLog kept.old.items kept.new.items (logged groups.items) (λ _. [])) }
 {
     for group in groups {
         let changes = group.as_slice();
@@ -121,14 +121,14 @@ fn count_change(kept: &mut Vec<Variable>, change: LoggedChange)
 }
 
 impl ExpectedRoom {
-    /// The expected room after one more change. A repeated word is not counted.
+    /// The expected room after one more change. A repeated block is not counted.
     pub fn with_change(self, change: LoggedChange) -> ExpectedRoom
         ensures { result ≡ room_with self change }
     {
-        let same = self.last == change.word;
+        let same = self.last == change.block;
         ExpectedRoom {
             count: self.count.saturating_add(usize::from(!same)),
-            last: change.word,
+            last: change.block,
         }
     }
 }
@@ -137,9 +137,9 @@ impl ExpectedRoom {
 /// were counted.
 fn move_group(kept: &mut Vec<Variable>, group: &[LoggedChange]) -> Result<(), NoMemory>
     requires { (rest : ℕ → List LoggedChange) ×
-        CanFlush kept.old.items
+        CanMoveLog kept.old.items
         (λ position. changes_of_position position group.now ++ rest position) }
-    ensures { OnOk result ((rest : ℕ → List LoggedChange) → FlushesLog kept.old.items kept.new.items
+    ensures { OnOk result ((rest : ℕ → List LoggedChange) → MovesLog kept.old.items kept.new.items
         (λ position. changes_of_position position group.now ++ rest position) rest) }
 {
     for change in group {
@@ -152,7 +152,7 @@ fn move_group(kept: &mut Vec<Variable>, group: &[LoggedChange]) -> Result<(), No
 fn move_change(kept: &mut Vec<Variable>, change: LoggedChange) -> Result<(), NoMemory>
     requires { CanTake kept.old.items change }
     ensures applies { OnOk result (AppliesLogged change kept.old.items kept.new.items) }
-    ensures room { OnOk result ((v w : DeclaredVariable)
+    ensures room { OnOk result ((v w : KeptVariable)
         → slice_get kept.old.items change.position ≡ Some v →
         slice_get kept.new.items change.position ≡ Some w → HasExactRoom v w) }
 {

@@ -101,7 +101,7 @@ impl ReadBuffer {
 
     /// Removes the first `count` bytes, and moves the others to the front. If `count` is 0 nothing
     /// moves, so a long word is not moved for each chunk.
-    pub fn drop_front(&mut self, count: usize)
+    pub fn remove_prefix(&mut self, count: usize)
         requires { count ≤ length self.old.bytes }
         ensures { self.new.bytes ≡ drop count self.old.bytes }
     {

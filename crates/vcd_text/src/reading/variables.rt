@@ -6,9 +6,9 @@ ghost use Rattle.vcd_text.specs.inside.ChangeLog.{AppliesToVariable, HasExactRoo
 ghost use Rattle.vcd_text.specs.inside.ChangeLog.{counted_variable};
 ghost use Rattle.vcd_text.specs.inside.Variables.{VariablesMatch};
 
+mod assigning;
 mod declaring;
 mod finishing;
-mod set;
 
 use crate::reading::code_targets::CodeTargets;
 use crate::reading::pending::{ExpectedRoom, LoggedChange};
@@ -58,7 +58,7 @@ impl Variable {
     {
         let more = replace(&mut self.expected_room.count, 0);
         self.wave.reserve_exact(more)?;
-        self.wave.push_block(change.tick, change.word)
+        self.wave.push_block(change.tick, change.block)
     }
 }
 

@@ -7,11 +7,11 @@ ghost use Rattle.vcd_text.specs.inside.Cursors.{AreNext, IsNext, tick_at};
 use std::alloc::Global;
 use vcd_core::{Change, NoMemory, Signal, Wave};
 
-/// The next change of a signal: its place in the wave, its tick, and the tick of the change after
+/// The next change of a signal: its index in the wave, its tick, and the tick of the change after
 /// it. A tick is past all ticks if there is no such change. It has 24 bytes; with `Option`s, 40.
 #[derive(Clone, Copy)]
 pub struct Cursor {
-    pub place: usize,
+    pub index: usize,
     pub tick: u64,
     pub following_tick: u64,
 }
@@ -33,9 +33,9 @@ fn first_change(wave: &Wave) -> Cursor
 {
     let changes = wave.changes();
     let first = Cursor {
-        place: 0,
-        tick: tick_at_place(changes, 0),
-        following_tick: tick_at_place(changes, 1),
+        index: 0,
+        tick: tick_at_index(changes, 0),
+        following_tick: tick_at_index(changes, 1),
     };
     if first.tick == 0 {
         return following_change(changes, first);
@@ -45,23 +45,23 @@ fn first_change(wave: &Wave) -> Cursor
 
 /// The change after the next one. It reads a tick one change further on, and does not wait for it.
 pub fn following_change(changes: &[Change], next: Cursor) -> Cursor
-    requires { next.place < length changes.now }
-    ensures place { result.place ≡ next.place + 1 }
+    requires { next.index < length changes.now }
+    ensures index { result.index ≡ next.index + 1 }
     ensures tick { result.tick ≡ next.following_tick }
-    ensures following_tick { result.following_tick ≡ tick_at changes.now (next.place + 2) }
+    ensures following_tick { result.following_tick ≡ tick_at changes.now (next.index + 2) }
 {
     Cursor {
-        place: next.place + 1,
+        index: next.index + 1,
         tick: next.following_tick,
-        following_tick: tick_at_place(changes, next.place + 2),
+        following_tick: tick_at_index(changes, next.index + 2),
     }
 }
 
-/// The tick of the change at a place, past all ticks if there is none.
-pub fn tick_at_place(changes: &[Change], place: usize) -> u64
-    ensures { result ≡ tick_at changes.now place }
+/// The tick of the change at an index, past all ticks if there is none.
+pub fn tick_at_index(changes: &[Change], index: usize) -> u64
+    ensures { result ≡ tick_at changes.now index }
 {
-    match changes.get(place) {
+    match changes.get(index) {
         Some(change) => change.tick,
         None => u64::MAX,
     }

@@ -149,7 +149,7 @@ fn shared_len(opened: &[ScopeName], path: &[ScopeName]) -> usize
     ensures in_opened { result ≤ length opened.now }
     ensures in_path { result ≤ length path.now }
 {
-    // Fronts of one list are compared by name as well: `ptr_eq` has no clause on the contents of
+    // Prefixes of one list are compared by name as well: `ptr_eq` has no clause on the contents of
     // two lists.
     let most = opened.len().min(path.len());
     for k in 0..most {

@@ -13,12 +13,12 @@ use vcd_core::{NoMemory, Sink, write_all};
 /// The size of the buffer, in bytes.
 const ROOM: usize = 65536;
 
-/// A writer, the bytes that wait for it, and the place in the text where they start. After a
+/// A writer, the bytes that wait for it, and how many bytes were sent. After a
 /// failure of the writer, nothing more is sent.
 #[derive(Drop)]
 pub struct Output<'w, W> {
     pub unsent: Vec<u8>,
-    pub start: u128,
+    pub sent_count: u128,
     pub writer: &'w mut W,
 }
 
@@ -39,12 +39,12 @@ pub fn write_bytes<W: Sink>(output: &mut Output<W>, bytes: &[u8])
         output.new.writer.now ≡ output.old.writer.now }
     ensures room { vec_capacity output.old.unsent ≤ vec_capacity output.new.unsent }
 {
-    if has_space_for(&output.unsent, bytes.len()) {
+    if has_room_for(&output.unsent, bytes.len()) {
         let _ = output.unsent.extend_from_slice(bytes);
         return;
     }
     send_buffer(output);
-    if has_space_for(&output.unsent, bytes.len()) {
+    if has_room_for(&output.unsent, bytes.len()) {
         let _ = output.unsent.extend_from_slice(bytes);
         return;
     }
@@ -58,7 +58,7 @@ pub fn write_byte<W: Sink>(output: &mut Output<W>, byte: u8)
         output.new.writer.now ≡ output.old.writer.now }
     ensures room { vec_capacity output.old.unsent ≤ vec_capacity output.new.unsent }
 {
-    if has_space_for(&output.unsent, 1) {
+    if has_room_for(&output.unsent, 1) {
         let _ = output.unsent.push(byte);
         return;
     }
@@ -66,7 +66,7 @@ pub fn write_byte<W: Sink>(output: &mut Output<W>, byte: u8)
 }
 
 /// Whether there is room for `count` more bytes.
-fn has_space_for(unsent: &Vec<u8>, count: usize) -> bool
+fn has_room_for(unsent: &Vec<u8>, count: usize) -> bool
     ensures { result ≡ nat_le (vec_len unsent.now + count) (vec_capacity unsent.now) }
 {
     count <= unsent.capacity() - unsent.len()
@@ -79,7 +79,7 @@ pub fn send_buffer<W: Sink>(output: &mut Output<W>)
     ensures room { vec_capacity output.new.unsent ≡ vec_capacity output.old.unsent }
 {
     let count = send_bytes(output.writer, output.unsent.as_slice());
-    output.start = output.start.saturating_add(count);
+    output.sent_count = output.sent_count.saturating_add(count);
     output.unsent.clear();
 }
 
@@ -90,12 +90,12 @@ fn send_directly<W: Sink>(output: &mut Output<W>, bytes: &[u8])
     ensures room { vec_capacity output.new.unsent ≡ vec_capacity output.old.unsent }
 {
     let count = send_bytes(output.writer, bytes);
-    output.start = output.start.saturating_add(count);
+    output.sent_count = output.sent_count.saturating_add(count);
 }
 
 /// The number of bytes that the writer takes: all, unless it fails or has failed.
 fn send_bytes<W: Sink>(writer: &mut W, bytes: &[u8]) -> u128
-    ensures front { Appends (W.taken writer.old) (W.taken writer.new) (take result bytes.now) }
+    ensures prefix { Appends (W.taken writer.old) (W.taken writer.new) (take result bytes.now) }
     ensures within { result ≤ length bytes.now }
     ensures all { W.has_failed writer.new ≡ false → result ≡ length bytes.now }
     ensures failed { W.has_failed writer.old ≡ true → result ≡ 0 }

@@ -10,7 +10,7 @@ ghost use Rattle.vcd_text.specs.inside.Written.{Emits};
 ghost use Rattle.vcd_text.specs.declared.writing.window.TheConstants.{POSITIONS};
 ghost use Rattle.vcd_text.specs.Text.{item_line, tick_items};
 
-use super::cursors::{Cursor, tick_at_place};
+use super::cursors::{Cursor, tick_at_index};
 use super::output::Output;
 use super::stamps::write_new_stamp;
 use super::values::write_value_near;
@@ -39,8 +39,8 @@ pub fn write_transitions<W: Sink>(
         }
         let count = fill_window(window, signals, from, most.min(end - from + 1), end);
         let keys = window.keys.as_slice();
-        let start_places = window.start_places.as_mut_slice();
-        last = write_keys(output, signals, keys, start_places, from, last);
+        let start_cursors = window.start_cursors.as_mut_slice();
+        last = write_keys(output, signals, keys, start_cursors, from, last);
         most = next_window_ticks(count, window.keys.len(), window.keys.capacity());
         from += count;
     }
@@ -76,34 +76,34 @@ fn next_window_ticks(count: u64, used: usize, room: usize) -> u64
     count
 }
 
-/// Writes the changes of keys, after the text up to tick `last`. Returns the last tick. At
-/// `start_places` is the place where the next change of each signal is looked up first.
+/// Writes the changes of keys, after the text up to tick `last`. Returns the last tick. The
+/// search for the next change of each signal begins at its cursor.
 fn write_keys<W: Sink>(
     output: &mut Output<W>,
     signals: &[Signal],
     keys: &[u64],
-    start_places: &mut [Cursor],
+    start_cursors: &mut [Cursor],
     from: u64,
     last: u64,
 ) -> u64
     requires few { length signals.now ≤ SIGNAL_LIMIT }
     requires keys { All (IsKey from (length signals.now)) keys.now }
-    requires start_places { length start_places.old ≡ length signals.now }
+    requires start_cursors { length start_cursors.old ≡ length signals.now }
     ensures text { Emits W.Sink output.old output.new
         (flat_map item_line (transition_items (map signal_contents signals.now) last
         (transitions_of from keys.now))) }
     ensures last { result ≡ last_tick last (transitions_of from keys.now) }
-    ensures start_places { length start_places.new ≡ length start_places.old }
+    ensures start_cursors { length start_cursors.new ≡ length start_cursors.old }
 {
     let mut last = last;
     for (k, key) in keys.iter().enumerate() {
-        prefetch_changes(signals, start_places, keys, k);
+        prefetch_changes(signals, start_cursors, keys, k);
         let tick = from + *key / POSITIONS;
         let position = (*key % POSITIONS) as usize;
-        let place = start_places[position].place;
+        let index = start_cursors[position].index;
         write_new_stamp(output, last, tick);
-        write_value_near(output, position, &signals[position].wave, tick, place);
-        start_places[position].place = place.saturating_add(1);
+        write_value_near(output, position, &signals[position].wave, tick, index);
+        start_cursors[position].index = index.saturating_add(1);
         last = tick;
     }
     last
@@ -113,19 +113,19 @@ fn write_keys<W: Sink>(
 /// to overlap.
 const PREFETCH_COUNT: usize = 32;
 
-/// Reads the changes of the next `PREFETCH_COUNT` keys, if the place is a multiple of that number,
+/// Reads the changes of the next `PREFETCH_COUNT` keys, if the index is a multiple of that number,
 /// so that they are in the cache when they are written. Nothing waits for what it reads.
-fn prefetch_changes(signals: &[Signal], start_places: &mut [Cursor], keys: &[u64], place: usize)
+fn prefetch_changes(signals: &[Signal], start_cursors: &mut [Cursor], keys: &[u64], index: usize)
     requires keys { All (λ key. key % POSITIONS < length signals.now) keys.now }
-    requires start_places { length start_places.old ≡ length signals.now }
-    ensures { length start_places.new ≡ length start_places.old }
+    requires start_cursors { length start_cursors.old ≡ length signals.now }
+    ensures { length start_cursors.new ≡ length start_cursors.old }
 {
-    if place % PREFETCH_COUNT != 0 {
+    if index % PREFETCH_COUNT != 0 {
         return;
     }
-    for k in place..keys.len().min(place.saturating_add(PREFETCH_COUNT)) {
+    for k in index..keys.len().min(index.saturating_add(PREFETCH_COUNT)) {
         let position = (keys[k] % POSITIONS) as usize;
         let changes = signals[position].wave.changes();
-        start_places[position].tick = tick_at_place(changes, start_places[position].place);
+        start_cursors[position].tick = tick_at_index(changes, start_cursors[position].index);
     }
 }

@@ -9,28 +9,28 @@ ghost use Rattle.vcd_core.specs.BlockRows.{letter_in, letters_of};
 ghost use Rattle.vcd_core.specs.declared.capture.TheConstants.{SIGNAL_LIMIT};
 ghost use Rattle.vcd_text.specs.Letters.{pad_letter, printed_letters, short_form};
 ghost use Rattle.vcd_text.specs.Text.{code_of, item_line, value_item};
-ghost use Rattle.vcd_text.specs.inside.ValueFronts.{IsShortFormLen, is_redundant_above};
-ghost use Rattle.vcd_text.specs.inside.ValueFronts.{value_front};
+ghost use Rattle.vcd_text.specs.inside.BeforeCode.{IsShortFormLen, is_redundant_above};
+ghost use Rattle.vcd_text.specs.inside.BeforeCode.{value_before_code};
 ghost use Rattle.vcd_text.specs.inside.Written.{Emits};
 
 use super::codes::write_code;
 use super::output::{Output, write_byte, write_bytes};
 use vcd_core::{Bit, LetterBlock, Sink, Value, Wave};
 
-/// Writes the value at `tick`. If the change at `place` has that tick, it writes its value, without
+/// Writes the value at `tick`. If the change at `index` has that tick, it writes its value, without
 /// a search.
 pub fn write_value_near<W: Sink>(
     output: &mut Output<W>,
     position: usize,
     wave: &Wave,
     tick: u64,
-    place: usize,
+    index: usize,
 )
     requires { position < SIGNAL_LIMIT }
     ensures { Emits W.Sink output.old output.new (item_line (value_item (code_of position)
         (value_at wave.now.width wave.now.changes tick))) }
 {
-    if let Some(change) = wave.changes().get(place) {
+    if let Some(change) = wave.changes().get(index) {
         if change.tick == tick {
             write_value(output, position, &change.value);
             return;
@@ -40,20 +40,20 @@ pub fn write_value_near<W: Sink>(
 }
 
 /// Writes the line that gives a value to the signal at `position`. It takes a step for each two
-/// written letters, and for each word of 64 letters that is left out.
+/// written letters, and for each block of 64 letters that is left out.
 fn write_value<W: Sink>(output: &mut Output<W>, position: usize, value: &Value)
     requires { position < SIGNAL_LIMIT }
     ensures { Emits W.Sink output.old output.new
         (item_line (value_item (code_of position) value.now)) }
 {
-    write_value_front(output, value);
+    write_value_prefix(output, value);
     write_code(output, position);
     write_byte(output, b'\n');
 }
 
 /// Writes the part before the code: one letter, or `b`, the short form and a space.
-fn write_value_front<W: Sink>(output: &mut Output<W>, value: &Value)
-    ensures { Emits W.Sink output.old output.new (value_front value.now) }
+fn write_value_prefix<W: Sink>(output: &mut Output<W>, value: &Value)
+    ensures { Emits W.Sink output.old output.new (value_before_code value.now) }
 {
     if value.width() == 1 {
         write_byte(output, letter_pair(value.block(0))[1]);

@@ -36,8 +36,8 @@ pub struct Window {
     /// The next change of each signal after the window.
     pub cursors: Vec<Cursor>,
     /// The next change of each signal from the window's first tick on. While the window is written:
-    /// the place at which its next change is looked up first.
-    pub start_places: Vec<Cursor>,
+    /// where the search for its next change begins.
+    pub start_cursors: Vec<Cursor>,
 }
 
 impl Window {
@@ -50,11 +50,11 @@ impl Window {
     {
         let keys = Vec::with_capacity(alloc, signals.len().max(LEAST_KEYS))?;
         let cursors = first_changes(alloc, signals)?;
-        let start_places = cursors.clone()?;
+        let start_cursors = cursors.clone()?;
         Ok(Window {
             keys,
             cursors,
-            start_places,
+            start_cursors,
         })
     }
 }
@@ -72,12 +72,12 @@ pub fn fill_window(window: &mut Window, signals: &[Signal], from: u64, most: u64
     ensures keys { All (IsKey from (length signals.now)) window.new.keys.items }
     ensures ready { IsReady end (from + result) signals.now window.new }
 {
-    swap(&mut window.cursors, &mut window.start_places);
+    swap(&mut window.cursors, &mut window.start_cursors);
     let mut count = most;
     while !list_window(
         &mut window.keys,
         signals,
-        window.start_places.as_slice(),
+        window.start_cursors.as_slice(),
         window.cursors.as_mut_slice(),
         from,
         from + count,
@@ -94,7 +94,7 @@ pub fn fill_window(window: &mut Window, signals: &[Signal], from: u64, most: u64
 fn list_window(
     keys: &mut Vec<u64>,
     signals: &[Signal],
-    start_changes: &[Cursor],
+    start_cursors: &[Cursor],
     cursors: &mut [Cursor],
     from: u64,
     to: u64,
@@ -102,7 +102,7 @@ fn list_window(
 ) -> bool
     requires few { length signals.now ≤ SIGNAL_LIMIT }
     requires sound { All (IsSoundSignal end) (map signal_contents signals.now) }
-    requires start_changes { AreNext from signals.now start_changes.now }
+    requires start_cursors { AreNext from signals.now start_cursors.now }
     requires next { length cursors.old ≡ length signals.now }
     requires order { from ≤ to }
     requires end { to ≤ END_LIMIT + 1 }
@@ -122,7 +122,7 @@ fn list_window(
             keys,
             position,
             &signal.wave,
-            start_changes[position],
+            start_cursors[position],
             from,
             to,
         ) {

@@ -15,7 +15,7 @@ pub fn append_letters(text: &mut Vec<u8>, value: &Value) -> MemoryResult<()>
 {
     let width = value.width();
     for k in 0..width {
-        text.push(value.bit(width - 1 - k).letter())?;
+        text.push(value.bit(width - 1 - k).printed_letter())?;
     }
     Ok(())
 }

@@ -74,7 +74,7 @@ fn append_signal_line(text: &mut Vec<u8>, position: usize, signal: &Signal) -> M
     append_bytes(text, b"\n")
 }
 
-/// Appends the front of a signal's line: its position and its width.
+/// Appends the first words of a signal's line: its position and its width.
 fn append_position_and_width(text: &mut Vec<u8>, position: usize, width: u64) -> MemoryResult<()>
     ensures { OnOk result (text.new.items ≡
         text.old.items ++ number_line (codes "@" ++ decimal position) width) }

@@ -16,27 +16,27 @@ use vcd_decode::{BitOrder, Parity, Spi, Uart};
 pub fn ratio_of_word(word: &[u8]) -> Result<(u64, u64), LineError>
     ensures { result ≡ spec.ratio_of_word word.now }
 {
-    match slash_place(word) {
-        Some(place) => ratio_at(word, place),
+    match slash_index(word) {
+        Some(index) => ratio_at(word, index),
         None => Ok((number_of_word(word)?, 1)),
     }
 }
 
-/// The place of the first `/` of a word.
-fn slash_place(word: &[u8]) -> Option<usize>
-    ensures place { result ≡ spec.slash_place word.now }
-    ensures within { IfSome result (λ place. place < length word.now) }
+/// The index of the first `/` of a word.
+fn slash_index(word: &[u8]) -> Option<usize>
+    ensures index { result ≡ spec.slash_index word.now }
+    ensures within { IfSome result (λ index. index < length word.now) }
 {
     word.iter().position(|byte| *byte == b'/')
 }
 
 /// The numbers before and after the `/` of a word.
-fn ratio_at(word: &[u8], place: usize) -> Result<(u64, u64), LineError>
-    requires { place < length word.now }
-    ensures { result ≡ spec.ratio_at word.now (Some place) }
+fn ratio_at(word: &[u8], index: usize) -> Result<(u64, u64), LineError>
+    requires { index < length word.now }
+    ensures { result ≡ spec.ratio_at word.now (Some index) }
 {
-    let numerator = number_of_word(&word[..place])?;
-    let denominator = number_of_word(&word[place + 1..])?;
+    let numerator = number_of_word(&word[..index])?;
+    let denominator = number_of_word(&word[index + 1..])?;
     Ok((numerator, denominator))
 }
 

@@ -46,11 +46,11 @@ fn parse_rule(name: &[u8], words: &mut Words<'_>, capture: &Capture) -> Result<R
         let (a, b) = parse_pair(words, capture)?;
         return Ok(Rule::Or(a, b));
     }
-    parse_xor_or_bit(name, words, capture)
+    parse_rule_after_or(name, words, capture)
 }
 
 /// Reads the operands after a rule that comes later than `or` in the table.
-fn parse_xor_or_bit(
+fn parse_rule_after_or(
     name: &[u8],
     words: &mut Words<'_>,
     capture: &Capture,

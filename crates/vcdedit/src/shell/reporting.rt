@@ -2,8 +2,8 @@
 
 ghost use Rattle.std.specs.Prelude.{◌≡◌, ◌≤◌, false, true, OnOk, OnErr};
 ghost use Rattle.std.specs.Io.KnownBytes.{Appends};
-ghost use Rattle.vcdedit.specs.Report.{capture_line, capture_status, done_status, error_line};
-ghost use Rattle.vcdedit.specs.Report.{numbered_line, error_status};
+ghost use Rattle.vcdedit.specs.Report.{capture_report, capture_status, done_status, error_report};
+ghost use Rattle.vcdedit.specs.Report.{report_with_line, error_status};
 
 use crate::running::{RunError, Summary};
 use itoa::Buffer;
@@ -17,7 +17,7 @@ pub fn report<W: Sink>(error: &RunError, writer: &mut W) -> u8
     ensures most { result ≤ 5 }
     ensures status { result ≡ error_status error.now }
     ensures line { W.has_failed writer.new ≡ false →
-        Appends (W.taken writer.old) (W.taken writer.new) (error_line error.now) }
+        Appends (W.taken writer.old) (W.taken writer.new) (error_report error.now) }
 {
     if write_line(error, writer).is_ok() {
         let _ = writer.flush();
@@ -78,12 +78,12 @@ const OUT_OF_MEMORY: &[u8] = b"vcdedit: out of memory\n";
 fn write_line<W: Sink>(error: &RunError, writer: &mut W) -> Result<(), ShortWrite>
     requires { W.has_failed writer.old ≡ false }
     ensures line { OnOk result
-        (Appends (W.taken writer.old) (W.taken writer.new) (error_line error.now)) }
+        (Appends (W.taken writer.old) (W.taken writer.new) (error_report error.now)) }
     ensures not_failed { OnOk result (W.has_failed writer.new ≡ false) }
     ensures fault { OnErr result (W.has_failed writer.new ≡ true) }
 {
     match error {
-        RunError::Capture(error) => write_capture_line(error, writer),
+        RunError::Capture(error) => write_capture_report(error, writer),
         RunError::ScriptTooLarge => write_all(writer, b"vcdedit: script: too large\n"),
         RunError::ScriptReadFault => write_all(writer, b"vcdedit: script: read fault\n"),
         RunError::ReplyFault { .. } => write_all(writer, b"vcdedit: replies: write fault\n"),
@@ -99,27 +99,27 @@ fn write_line<W: Sink>(error: &RunError, writer: &mut W) -> Result<(), ShortWrit
 }
 
 /// Writes the line on a fault of the capture.
-fn write_capture_line<W: Sink>(error: &ReadError, writer: &mut W) -> Result<(), ShortWrite>
+fn write_capture_report<W: Sink>(error: &ReadError, writer: &mut W) -> Result<(), ShortWrite>
     requires { W.has_failed writer.old ≡ false }
     ensures line { OnOk result
         (Appends (W.taken writer.old) (W.taken writer.new)
-        (capture_line error.now.fault error.now.line)) }
+        (capture_report error.now.fault error.now.line)) }
     ensures not_failed { OnOk result (W.has_failed writer.new ≡ false) }
     ensures fault { OnErr result (W.has_failed writer.new ≡ true) }
 {
     match error.fault {
         Fault::ReadFault => write_all(writer, b"vcdedit: capture: read fault\n"),
         Fault::NoMemory => write_all(writer, OUT_OF_MEMORY),
-        _ => write_numbered_line(error, writer),
+        _ => write_report_with_line(error, writer),
     }
 }
 
 /// Writes the line on a fault at a line of the capture.
-fn write_numbered_line<W: Sink>(error: &ReadError, writer: &mut W) -> Result<(), ShortWrite>
+fn write_report_with_line<W: Sink>(error: &ReadError, writer: &mut W) -> Result<(), ShortWrite>
     requires { W.has_failed writer.old ≡ false }
     ensures line { OnOk result
         (Appends (W.taken writer.old) (W.taken writer.new)
-        (numbered_line error.now.fault error.now.line)) }
+        (report_with_line error.now.fault error.now.line)) }
     ensures not_failed { OnOk result (W.has_failed writer.new ≡ false) }
     ensures fault { OnErr result (W.has_failed writer.new ≡ true) }
 {

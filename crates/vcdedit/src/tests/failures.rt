@@ -124,18 +124,18 @@ fn a_capture_with_a_fault_before_a_script_that_fails(rt: HostRuntime) {
 }
 
 /// The writer of the replies takes these first bytes of them, all if its flush fails.
-fn check_reply_fault(rt: &impl Abort, alloc: Global, front: &[u8]) {
-    let run = run_on(alloc, CAPTURE, SCRIPT, front.len(), AMPLE);
-    let written = front.len() as u128;
-    check_ending(rt, &run, RunError::ReplyFault { written }, front, b"");
+fn check_reply_fault(rt: &impl Abort, alloc: Global, prefix: &[u8]) {
+    let run = run_on(alloc, CAPTURE, SCRIPT, prefix.len(), AMPLE);
+    let written = prefix.len() as u128;
+    check_ending(rt, &run, RunError::ReplyFault { written }, prefix, b"");
 }
 
 /// The writer of the output takes these first bytes of it, all if its flush fails.
-fn check_output_fault(rt: &impl Abort, alloc: Global, front: &[u8]) {
-    let run = run_on(alloc, CAPTURE, SCRIPT, AMPLE, front.len());
-    let written = front.len() as u128;
+fn check_output_fault(rt: &impl Abort, alloc: Global, prefix: &[u8]) {
+    let run = run_on(alloc, CAPTURE, SCRIPT, AMPLE, prefix.len());
+    let written = prefix.len() as u128;
     let fault = WriteError::WriteFault { written };
-    check_ending(rt, &run, RunError::Write(fault), REPLIES, front);
+    check_ending(rt, &run, RunError::Write(fault), REPLIES, prefix);
 }
 
 #[test]

@@ -18,11 +18,11 @@ later_bit : (a b i : ℕ) → b < 2 → i + 1 < 64 → bit_at (bit_or (a * 2 % 1
 later_bit a b i small inside =
     let whole : a * 2 ^ 1 + 0 ≡ (a * 2 / 18446744073709551616) * 2 ^ 64 + a * 2 % 18446744073709551616 = omega arith in
     let none : bit_at b (i + 1) ≡ 0 = bit_at_above b 1 (i + 1) (omega arith) (omega arith) in
-    let place : i + 1 - 1 ≡ i = omega arith in
+    let index : i + 1 - 1 ≡ i = omega arith in
     let moved : bit_at (a * 2 % 18446744073709551616) (i + 1) ≡ bit_at a i =
     sym (bit_at_cat_low (a * 2 / 18446744073709551616) 64 (a * 2 % 18446744073709551616) (i + 1) inside)
     ∙ ap (λ n. bit_at n (i + 1)) (sym whole) ∙ bit_at_cat_high a 1 0 (i + 1) (omega arith) (omega arith)
-    ∙ ap (bit_at a) place in
+    ∙ ap (bit_at a) index in
     bit_at_or _ b (i + 1) ∙ (λ p. max (moved p) (none p)) ∙ omega arith
 
 bit_is : (set : Bool) (b : ℕ) → b ≡ bool_byte set → b ≡ (if set then 1 else 0)

@@ -2,7 +2,7 @@ use Rattle.std.proofs.Common.{◌∙◌, arith, refl}
 use Rattle.std.proofs.lemmas.List.{length-set}
 use Rattle.vcd_core.specs.declared.value.TheConstants.{BLOCKS}
 use Rattle.vcd_core.proofs.PlaneBits.{none_held, one_more}
-use Rattle.vcd_core.proofs.ValueLemmas.{letters_in-words}
+use Rattle.vcd_core.proofs.ValueLemmas.{letters_in-blocks}
 use Rattle.vcd_core.proofs.planes.planes_of_blocks.Goals as goal
 
 pub loop-j-init : goal.loop-j-init
@@ -21,7 +21,7 @@ loop-j-preserved c = rw c.ones-mask.ensures (record {
 })
 
 pub returns-clause-letters : goal.returns-clause-letters
-returns-clause-letters c = letters_in-words BLOCKS c.args.width c.loop-j.j _ _ c.loop-j.invariant.holds (omega arith)
+returns-clause-letters c = letters_in-blocks BLOCKS c.args.width c.loop-j.j _ _ c.loop-j.invariant.holds (omega arith)
 
 pub returns-clause-planes : goal.returns-clause-planes
 returns-clause-planes c = record {

@@ -10,13 +10,13 @@ pub returns : goal.returns
 returns c =
     let (width, form) = c.requires in
     let cs = c.args.changes.now in
-    let from = c.place_before-from.result in
-    let to = c.place_after-to.result in
+    let from = c.search_start-from.result in
+    let to = c.search_end-to.result in
     let n = c.partition_point.result in
     let point = IsPartitionPoint-from_clause (λ (x : Change). leb x.tick c.args.tick) (slice_range cs from to) n
     c.partition_point.ensures.partitioned
     (IsPartitionedBy-leb (λ (x : Change). x.tick) (slice_range cs from to) c.args.tick
     (part_rises width cs form c.args.tick from to (omega arith) (omega arith))) (λ a r f h. search rules) in
     point_counts width cs form c.args.tick from to n (omega arith) (omega arith) c.partition_point.ensures.bound
-    c.place_before-from.ensures.earlier c.place_after-to.ensures.later
+    c.search_start-from.ensures.earlier c.search_end-to.ensures.later
     (λ k early. point.0 k no_change (omega arith) early) (λ k late within. point.1 k no_change late within)

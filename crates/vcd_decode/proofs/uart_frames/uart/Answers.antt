@@ -13,23 +13,23 @@ use Rattle.vcd_decode.proofs.uart_frames.uart.Goals.{then-begins_frame, else-beg
 
 pub bit-letter-requires : goal.bit-letter-requires
 bit-letter-requires c =
-    letter_at_item c.args.wave.now.width c.changes-changes.result.now c.loop-place.place c.index-changes-place.result
+    letter_at_item c.args.wave.now.width c.changes-changes.result.now c.loop-index.index c.index-changes-index.result
     c.requires.one_bit c.changes-changes.ensures.form
-    c.loop-place-test.true c.index-changes-place.is
+    c.loop-index-test.true c.index-changes-index.is
 
 pub begun_frame-frame-requires-clause-within : goal.begun_frame-frame-requires-clause-within
 begun_frame-frame-requires-clause-within c =
-    up_to_at c.args.end c.changes-changes.result.now c.loop-place.place c.index-changes-place.result
-    (subst (AllUpTo c.args.end) (sym c.changes-changes.ensures.changes) c.requires.within) c.loop-place-test.true
-    c.index-changes-place.is
+    up_to_at c.args.end c.changes-changes.result.now c.loop-index.index c.index-changes-index.result
+    (subst (AllUpTo c.args.end) (sym c.changes-changes.ensures.changes) c.requires.within) c.loop-index-test.true
+    c.index-changes-index.is
 
-pub loop-place-preserved : goal.loop-place-preserved
-loop-place-preserved c =
+pub loop-index-preserved : goal.loop-index-preserved
+loop-index-preserved c =
     let begun = begun_frame (line_of c.args.wave.now) c.args.end c.args.setup.now in
-    let tick = c.index-changes-place.result.tick in
+    let tick = c.index-changes-index.result.tick in
     let frame : c.if-begins_frame.frame
-    ≡ (if is_one c.loop-place.before && is_zero c.bit-letter.result
-    && nat_lt c.loop-place.taken tick then begun tick else None) =
+    ≡ (if is_one c.loop-index.before && is_zero c.bit-letter.result
+    && nat_lt c.loop-index.taken tick then begun tick else None) =
     elim c.if-begins_frame.branch [
       | then-begins_frame w ↦
           w.frame-is ∙ ap (λ (f : Option Annotation). f) w.begun_frame-frame.ensures
@@ -37,20 +37,20 @@ loop-place-preserved c =
       | else-begins_frame w ↦
           w.frame-is ∙ ap (λ b. if b then begun tick else None) (sym w.if-begins_frame.false ∙ c.begins_frame.ensures)
     ] in
-    walked begun c.loop-place.taken c.in_ok-taken.taken c.loop-place.before c.bit-letter.result
-    c.changes-changes.result.now c.loop-place.place c.index-changes-place.result
-    c.if-begins_frame.frame c.loop-place.found.items c.push_frame.new.found.items
+    walked begun c.loop-index.taken c.in_ok-taken.taken c.loop-index.before c.bit-letter.result
+    c.changes-changes.result.now c.loop-index.index c.index-changes-index.result
+    c.if-begins_frame.frame c.loop-index.found.items c.push_frame.new.found.items
     (frames begun 0 (fall_ticks X c.changes-changes.result.now))
-    c.loop-place-test.true c.index-changes-place.is c.bit-letter.ensures frame c.in_ok-taken.ensures.found
-    c.in_ok-taken.ensures.taken c.loop-place.invariant
+    c.loop-index-test.true c.index-changes-index.is c.bit-letter.ensures frame c.in_ok-taken.ensures.found
+    c.in_ok-taken.ensures.taken c.loop-index.invariant
 
 pub returns : goal.returns
 returns c =
-    all_walked (begun_frame (line_of c.args.wave.now) c.args.end c.args.setup.now) c.loop-place.taken
-    c.loop-place.before c.changes-changes.result.now c.loop-place.place
-    c.loop-place.found.items
+    all_walked (begun_frame (line_of c.args.wave.now) c.args.end c.args.setup.now) c.loop-index.taken
+    c.loop-index.before c.changes-changes.result.now c.loop-index.index
+    c.loop-index.found.items
     (frames (begun_frame (line_of c.args.wave.now) c.args.end c.args.setup.now) 0
-    (fall_ticks X c.changes-changes.result.now)) (omega arith) c.loop-place.invariant
+    (fall_ticks X c.changes-changes.result.now)) (omega arith) c.loop-index.invariant
     ∙ frames_by_changes c.args.wave.now c.changes-changes.result.now c.args.end c.args.setup.now c.requires.one_bit
     c.changes-changes.ensures.changes
     c.changes-changes.ensures.form c.requires.within

@@ -6,8 +6,8 @@ use Rattle.vcd_decode.specs.Uart.{begun_frame, frames}
 use Rattle.vcd_decode.proofs.Falls.{fall_ticks}
 use Rattle.vcd_decode.proofs.uart_frames.uart.Given as goal
 
-abbrev pub invariant-loop-place : goal.invariant-loop-place
-invariant-loop-place l =
+abbrev pub invariant-loop-index : goal.invariant-loop-index
+invariant-loop-index l =
     l.found.items ++ frames (begun_frame (line_of l.wave) l.end l.setup) l.taken
-    (fall_ticks l.before (drop l.place l.changes))
+    (fall_ticks l.before (drop l.index l.changes))
     ≡ frames (begun_frame (line_of l.wave) l.end l.setup) 0 (fall_ticks X l.changes)

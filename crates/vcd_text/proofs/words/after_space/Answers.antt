@@ -18,14 +18,14 @@ passed_other end_counts line b bs text is space other = grind (arith, space_pass
 
 pub loop-byte-preserved-then-byte-eq10 : goal.loop-byte-preserved-then-byte-eq10
 loop-byte-preserved-then-byte-eq10 c =
-    let front : c.loop-byte.rest.now ≡ c.in-Some.byte.now ∷ c.in-Some.following.now = search rules in
+    let prefix : c.loop-byte.rest.now ≡ c.in-Some.byte.now ∷ c.in-Some.following.now = search rules in
     let space : is_white_space c.in-Some.byte.now ≡ true = sym c.is_white_space.ensures
     ∙ c.if-not-is_white_space.false in
-    let long = ap (length {A = ℕ}) front in (
-      λ end_counts. passed_feed end_counts (c.loop-byte.lines + 1) _ _ _ front space c.if-byte-eq10.true
+    let long = ap (length {A = ℕ}) prefix in (
+      λ end_counts. passed_feed end_counts (c.loop-byte.lines + 1) _ _ _ prefix space c.if-byte-eq10.true
           ∙ c.loop-byte.invariant.0 end_counts,
       omega (arith, c.loop-byte.invariant.1, long),
-      omega (arith, c.loop-byte.invariant.2, feed_first _ _ _ front c.if-byte-eq10.true),
+      omega (arith, c.loop-byte.invariant.2, feed_first _ _ _ prefix c.if-byte-eq10.true),
     )
 
 pub loop-byte-preserved : goal.loop-byte-preserved

@@ -14,12 +14,12 @@ use Rattle.vcd_text.specs.Text.{first_items, item_line, text, tick_items}
 use Rattle.vcd_text.specs.inside.TextParts.{declarations_text}
 use Rattle.vcd_text.specs.inside.Written.{HasEmitted, Emits}
 use Rattle.vcd_text.proofs.Texts.{whole_text}
-use Rattle.vcd_text.proofs.Written.{failed_front, flushed_whole, whole_written, writes_as, writes_both}
+use Rattle.vcd_text.proofs.Written.{failed_prefix, flushed_whole, whole_written, writes_as, writes_both}
 use Rattle.vcd_text.proofs.writing.write.Goals as goal
 
 -- the whole text is written
 all_written : {W : Type 0} {sink : sinks.Ghosts W} {o0 o1 o2 o3 o4 : Output W} (c : Contents) (signals : List Signal)
-    (end : ℕ) → map signal_contents signals ≡ c.signals → end ≡ c.end → o0.unsent.items ≡ [] → o0.start ≡ 0
+    (end : ℕ) → map signal_contents signals ≡ c.signals → end ≡ c.end → o0.unsent.items ≡ [] → o0.sent_count ≡ 0
     → Emits sink o0 o1 (declarations_text c)
     → Emits sink o1 o2 (flat_map item_line (first_items (map signal_contents signals)))
     → Emits sink o2 o3 (flat_map item_line (tick_items (map signal_contents signals) end 1 end))
@@ -50,7 +50,7 @@ returns-clause-failed g c =
     let same : c.flush.new.writer ≡ c.writer-1.given.0 = search rules in
     subst (λ w. IfErr c.flush.result (TookBefore (text (contents c.args.capture.now)) (g.W.Sink.taken c.args.writer.now)
     (g.W.Sink.taken w) (g.W.Sink.has_failed w))) same
-    (failed_front c.flush.new.writer c.flush.result
+    (failed_prefix c.flush.new.writer c.flush.result
     (all_written (contents c.args.capture.now)
     c.signals-signals.result.now c.end-end.result (ap (map signal_contents) c.signals-signals.ensures) c.end-end.ensures
     c.in_ok-unsent.ensures.empty refl c.write_declarations.ensures c.write_first_values.ensures

@@ -12,7 +12,7 @@ ghost use Rattle.vcd_text.specs.inside.Variables.{CannotDeclare, DeclaresWords, 
 
 use crate::fault::Fault;
 use crate::reading::code_targets::CodeTarget;
-use crate::reading::pending::NO_ROOM;
+use crate::reading::pending::NOTHING_EXPECTED;
 use crate::reading::variables::{Variable, Variables};
 use std::alloc::Global;
 use vcd_core::{NameWords, SIGNAL_LIMIT, Seq, WIDTH_LIMIT, Wave, Word, is_skipped_kind};
@@ -80,7 +80,7 @@ impl Variables {
             words: NameWords::new(Seq::from_vec(name)),
             wave: Wave::new(alloc, width),
             first,
-            expected_room: NO_ROOM,
+            expected_room: NOTHING_EXPECTED,
         };
         self.add(alloc, code, variable)
     }

@@ -26,12 +26,12 @@ impl Variables {
             map (declared_signal c.value_changes c.tick) (kept_variables c.declared)) }
     {
         let mut variables = self;
-        variables.empty_log(alloc)?;
-        variables.flushed_signals(alloc)
+        variables.move_log(alloc)?;
+        variables.finished_signals(alloc)
     }
 
     /// Gives the waves their changes of the log, which is then empty.
-    fn empty_log(&mut self, alloc: Global) -> Result<(), NoMemory>
+    fn move_log(&mut self, alloc: Global) -> Result<(), NoMemory>
         requires { (c : ParseState) × VariablesMatch self.old c }
         ensures same { OnOk result ((c : ParseState) → VariablesMatch self.old c
             → VariablesMatch self.new c) }
@@ -42,7 +42,7 @@ impl Variables {
     }
 
     /// The signals of the kept variables, if the log is empty.
-    fn flushed_signals(self, alloc: Global) -> Result<Vec<Signal>, NoMemory>
+    fn finished_signals(self, alloc: Global) -> Result<Vec<Signal>, NoMemory>
         requires empty { self.log.items ≡ [] }
         requires known { (c : ParseState) × VariablesMatch self c }
         ensures { IfOk result (λ signals. (c : ParseState) → VariablesMatch self c →
@@ -79,7 +79,7 @@ fn push_signal(
         first,
         ..
     } = variable;
-    let scopes = chains[place.chain].front(place.count)?;
+    let scopes = chains[place.chain].prefix(place.count)?;
     let wave = finished_wave(wave, first, signals.as_mut_slice())?;
     signals.push(Signal {
         scopes,

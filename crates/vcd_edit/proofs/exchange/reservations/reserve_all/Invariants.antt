@@ -5,7 +5,7 @@ use Rattle.vcd_edit.specs.inside.Exchanges.{HaveRoom}
 use Rattle.vcd_edit.proofs.exchange.reservations.reserve_all.Given as goal
 
 -- the first pieces have what they need
-abbrev pub invariant-loop-place : goal.invariant-loop-place
-invariant-loop-place l = (contents l.capture ≡ contents l.fn.capture)
-    × (map piece_view l.pieces ≡ map piece_view l.fn.pieces) × (vec_len l.comings ≤ l.place)
-    × HaveRoom l.capture.signals l.pieces l.comings.items 0 l.place
+abbrev pub invariant-loop-index : goal.invariant-loop-index
+invariant-loop-index l = (contents l.capture ≡ contents l.fn.capture)
+    × (map piece_view l.pieces ≡ map piece_view l.fn.pieces) × (vec_len l.comings ≤ l.index)
+    × HaveRoom l.capture.signals l.pieces l.comings.items 0 l.index

@@ -12,37 +12,37 @@ use Rattle.vcd_edit.proofs.exchange.reservations.reserve_next.Goals as goal
 pub reserve_piece-requires : goal.reserve_piece-requires
 reserve_piece-requires c =
     record {
-      signal = subst (λ (p : Piece). p.signal < length c.args.capture.now.signals) c.index-pieces-place.is
-          (signal_is_there (contents c.args.capture.now) c.args.capture.now.signals c.index-pieces-place.result refl
-          (ready_at (contents c.args.capture.now) c.args.pieces.now c.args.place c.index-pieces-place.result
-          c.requires.within c.index-pieces-place.is c.requires.ready));
+      signal = subst (λ (p : Piece). p.signal < length c.args.capture.now.signals) c.index-pieces-index.is
+          (signal_is_there (contents c.args.capture.now) c.args.capture.now.signals c.index-pieces-index.result refl
+          (ready_at (contents c.args.capture.now) c.args.pieces.now c.args.index c.index-pieces-index.result
+          c.requires.within c.index-pieces-index.is c.requires.ready));
     }
 
 pub coming_wave-requires-clause-ready : goal.coming_wave-requires-clause-ready
 coming_wave-requires-clause-ready c =
-    let views = views_kept c.args.pieces.now c.args.place c.index-pieces-place.result c.reserve_piece.new.piece
-    c.requires.within c.index-pieces-place.is
-    (c.reserve_piece.ensures.piece ∙ ap piece_view (sym c.index-pieces-place.is)) in
-    subst (λ k. All (PieceReadyIn k) (map piece_view (set c.args.pieces.now c.args.place c.reserve_piece.new.piece)))
+    let views = views_kept c.args.pieces.now c.args.index c.index-pieces-index.result c.reserve_piece.new.piece
+    c.requires.within c.index-pieces-index.is
+    (c.reserve_piece.ensures.piece ∙ ap piece_view (sym c.index-pieces-index.is)) in
+    subst (λ k. All (PieceReadyIn k) (map piece_view (set c.args.pieces.now c.args.index c.reserve_piece.new.piece)))
     (sym c.reserve_piece.ensures.contents)
     (subst (All (PieceReadyIn (contents c.args.capture.now))) (sym views) c.requires.ready)
 
 pub coming_wave-requires-clause-piece_ready : goal.coming_wave-requires-clause-piece_ready
 coming_wave-requires-clause-piece_ready c =
-    ready_at (contents c.reserve_piece.new.capture) (set c.args.pieces.now c.args.place c.reserve_piece.new.piece)
-    c.args.place c.index-pieces-place-then-branch.result
-    (omega (arith, length-set c.args.pieces.now c.args.place c.reserve_piece.new.piece, c.requires.within))
-    c.index-pieces-place-then-branch.is (coming_wave-requires-clause-ready c)
+    ready_at (contents c.reserve_piece.new.capture) (set c.args.pieces.now c.args.index c.reserve_piece.new.piece)
+    c.args.index c.index-pieces-index-then-branch.result
+    (omega (arith, length-set c.args.pieces.now c.args.index c.reserve_piece.new.piece, c.requires.within))
+    c.index-pieces-index-then-branch.is (coming_wave-requires-clause-ready c)
 
 pub returns-else-branch-clause-room : goal.returns-else-branch-clause-room
 returns-else-branch-clause-room c =
     let y = c.reserve_piece.new.piece in
     have_more_room c.args.capture.now.signals c.reserve_piece.new.capture.signals c.args.pieces.now
-    c.args.comings.now.items c.args.place y c.requires.within c.requires.room c.reserve_piece.ensures.never_less
+    c.args.comings.now.items c.args.index y c.requires.within c.requires.room c.reserve_piece.ensures.never_less
     c.args.comings.now.items (λ k other. refl)
     (record {
       wave = subst (CanBePutIn (wave_at c.reserve_piece.new.capture.signals y.signal) y)
-          (sym (get_or_past c.args.comings.now.items c.args.place _ (omega (arith, c.requires.count))))
+          (sym (get_or_past c.args.comings.now.items c.args.index _ (omega (arith, c.requires.count))))
           (subst (λ k. HasRoomInWave (wave_at c.reserve_piece.new.capture.signals k) y)
           (sym (ap (λ (v : PieceView). v.signal) c.reserve_piece.ensures.piece))
           (c.in_ok-reserve_piece.ensures.own c.if-branch.false));

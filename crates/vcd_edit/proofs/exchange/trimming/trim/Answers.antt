@@ -11,12 +11,12 @@ returns-clause-trimmed c =
     let range : FitsSigned w64 p.by = search rules in
     let parts = found cs ns p.from p.to p.by (neg_ℤ p.by) refl c.requires.small c.requires.ordered c.requires.within
     c.requires.ticks
-    c.common_front-front.result c.common_back-back.result _ c.as_slice.result.now c.as_slice-2.result.now
-    c.drop_front.new.list.items c.truncate.new.self.items
-    (to_z-of_z w64 p.by range) c.as_slice.ensures.value c.drop_front.ensures.items c.as_slice-2.ensures.value
-    c.common_front-front.ensures.count c.common_back-back.ensures.count
+    c.common_prefix-prefix.result c.common_suffix-suffix.result _ c.as_slice.result.now c.as_slice-2.result.now
+    c.remove_prefix.new.list.items c.truncate.new.self.items
+    (to_z-of_z w64 p.by range) c.as_slice.ensures.value c.remove_prefix.ensures.items c.as_slice-2.ensures.value
+    c.common_prefix-prefix.ensures.count c.common_suffix-suffix.ensures.count
     (c.truncate.ensures.items
-    ∙ ap (λ n. take (n - c.common_back-back.result) c.drop_front.new.list.items) (c.len.ensures
+    ∙ ap (λ n. take (n - c.common_suffix-suffix.result) c.remove_prefix.new.list.items) (c.len.ensures
     ∙ sym c.as_slice-2.ensures.len)) in
     is_trimmed cs ns p.from p.to p.by (neg_ℤ p.by) refl c.requires.small c.requires.ordered c.requires.within
     c.requires.ticks

@@ -11,9 +11,9 @@ use Rattle.vcd_core.specs.WavePush.{last_value}
 use Rattle.vcd_core.specs.Splice.{moved_change, AllTicksFit}
 use Rattle.vcd_edit.specs.Records.{piece_view}
 use Rattle.vcd_edit.specs.inside.Adjacency.{floor_after, value_following, may_all_follow, MovesTo}
-use Rattle.vcd_edit.proofs.AdjacencyTests.{front_rises, later_rises, follow_rise, moves_fit}
+use Rattle.vcd_edit.proofs.AdjacencyTests.{prefix_rises, later_rises, follow_rise, moves_fit}
 use Rattle.vcd_edit.proofs.AdjacencyTests.{stands_by_tests}
-use Rattle.vcd_edit.proofs.AdjacencyTests.{front_ends, piece_ends, later_move, at_both_seams}
+use Rattle.vcd_edit.proofs.AdjacencyTests.{prefix_ends, piece_ends, later_move, at_both_seams}
 use Rattle.vcd_edit.proofs.AdjacencyTests.{refused}
 use Rattle.vcd_edit.proofs.fitting.adjacency.is_valid_piece.Goals as goal
 
@@ -24,7 +24,7 @@ all_move_to-requires c =
     let p = piece_view c.args.piece.now in
     let is : IsWave width cs = subst (IsWave width) c.changes-changes.ensures.changes c.changes-changes.ensures.form in
     let later_is = take_rest c.changes-changes.result.now p.to ∙ ap (drop p.to) c.changes-changes.ensures.changes in
-    let front_is = ap (take p.from) c.changes-changes.ensures.changes in
+    let prefix_is = ap (take p.from) c.changes-changes.ensures.changes in
     let range : FitsSigned w64 p.by = search rules in
     let by_is = to_z-of_z w64 p.by range in
     let within : p.to ≤ length cs = omega (arith, ap length c.changes-changes.ensures.changes) in
@@ -38,7 +38,7 @@ returns-then-not-all_move_to c =
     let p = piece_view c.args.piece.now in
     let is : IsWave width cs = subst (IsWave width) c.changes-changes.ensures.changes c.changes-changes.ensures.form in
     let later_is = take_rest c.changes-changes.result.now p.to ∙ ap (drop p.to) c.changes-changes.ensures.changes in
-    let front_is = ap (take p.from) c.changes-changes.ensures.changes in
+    let prefix_is = ap (take p.from) c.changes-changes.ensures.changes in
     let range : FitsSigned w64 p.by = search rules in
     let by_is = to_z-of_z w64 p.by range in
     let within : p.to ≤ length cs = omega (arith, ap length c.changes-changes.ensures.changes) in
@@ -56,15 +56,15 @@ returns-then-not-may_all_follow c =
     let p = piece_view c.args.piece.now in
     let is : IsWave width cs = subst (IsWave width) c.changes-changes.ensures.changes c.changes-changes.ensures.form in
     let later_is = take_rest c.changes-changes.result.now p.to ∙ ap (drop p.to) c.changes-changes.ensures.changes in
-    let front_is = ap (take p.from) c.changes-changes.ensures.changes in
+    let prefix_is = ap (take p.from) c.changes-changes.ensures.changes in
     let range : FitsSigned w64 p.by = search rules in
     let by_is = to_z-of_z w64 p.by range in
     let within : p.to ≤ length cs = omega (arith, ap length c.changes-changes.ensures.changes) in
     let piece_is : c.may_all_follow.result
     ≡ may_all_follow (floor_after 0 (take p.from cs)) (value_following width (take p.from cs)) p.changes =
     c.may_all_follow.ensures
-    ∙ (λ i. may_all_follow (floor_after 0 (front_is i))
-    (value_following (c.width-width.ensures.width i) (front_is i)) (c.as_slice-list.ensures.value i)) in
+    ∙ (λ i. may_all_follow (floor_after 0 (prefix_is i))
+    (value_following (c.width-width.ensures.width i) (prefix_is i)) (c.as_slice-list.ensures.value i)) in
     refused c.may_all_follow.result _ c.if-not-may_all_follow.true (λ stands. piece_is
     ∙ (at_both_seams width c.args.end cs p is (omega arith) within stands).0)
 
@@ -75,7 +75,7 @@ may_come_next-requires-clause-fit c =
     let p = piece_view c.args.piece.now in
     let is : IsWave width cs = subst (IsWave width) c.changes-changes.ensures.changes c.changes-changes.ensures.form in
     let later_is = take_rest c.changes-changes.result.now p.to ∙ ap (drop p.to) c.changes-changes.ensures.changes in
-    let front_is = ap (take p.from) c.changes-changes.ensures.changes in
+    let prefix_is = ap (take p.from) c.changes-changes.ensures.changes in
     let range : FitsSigned w64 p.by = search rules in
     let by_is = to_z-of_z w64 p.by range in
     let within : p.to ≤ length cs = omega (arith, ap length c.changes-changes.ensures.changes) in
@@ -95,16 +95,16 @@ returns-then-not-may_come_next c =
     let p = piece_view c.args.piece.now in
     let is : IsWave width cs = subst (IsWave width) c.changes-changes.ensures.changes c.changes-changes.ensures.form in
     let later_is = take_rest c.changes-changes.result.now p.to ∙ ap (drop p.to) c.changes-changes.ensures.changes in
-    let front_is = ap (take p.from) c.changes-changes.ensures.changes in
+    let prefix_is = ap (take p.from) c.changes-changes.ensures.changes in
     let range : FitsSigned w64 p.by = search rules in
     let by_is = to_z-of_z w64 p.by range in
     let within : p.to ≤ length cs = omega (arith, ap length c.changes-changes.ensures.changes) in
     let list = c.as_slice-list.result.now in
     let all : take (length list) list ≡ p.changes = take_all (length list) list (omega arith)
     ∙ c.as_slice-list.ensures.value in
-    let floor = c.prior_changes.ensures.floor ∙ (λ i. floor_after (floor_after 0 (front_is i)) (all i)) in
+    let floor = c.prior_changes.ensures.floor ∙ (λ i. floor_after (floor_after 0 (prefix_is i)) (all i)) in
     let value = c.prior_changes.ensures.value c.width-width.result
-    ∙ (λ i. last_value (value_following (c.width-width.ensures.width i) (front_is i)) (all i)) in
+    ∙ (λ i. last_value (value_following (c.width-width.ensures.width i) (prefix_is i)) (all i)) in
     let later_test : c.may_come_next.result ≡ may_all_follow (floor_after (floor_after 0 (take p.from cs)) p.changes)
     (last_value (value_following width (take p.from cs)) p.changes)
     (map (moved_change p.by) (take 1 (drop p.to cs))) =
@@ -120,14 +120,14 @@ ends_by-requires c =
     let p = piece_view c.args.piece.now in
     let is : IsWave width cs = subst (IsWave width) c.changes-changes.ensures.changes c.changes-changes.ensures.form in
     let later_is = take_rest c.changes-changes.result.now p.to ∙ ap (drop p.to) c.changes-changes.ensures.changes in
-    let front_is = ap (take p.from) c.changes-changes.ensures.changes in
+    let prefix_is = ap (take p.from) c.changes-changes.ensures.changes in
     let range : FitsSigned w64 p.by = search rules in
     let by_is = to_z-of_z w64 p.by range in
     let within : p.to ≤ length cs = omega (arith, ap length c.changes-changes.ensures.changes) in
-    subst (λ (l : List Change). (floor : ℕ) × (before : List Bit) × AreChangesFrom floor before l) (sym front_is) (
+    subst (λ (l : List Change). (floor : ℕ) × (before : List Bit) × AreChangesFrom floor before l) (sym prefix_is) (
       0,
       all_x width,
-      front_rises width p.from p.to cs is,
+      prefix_rises width p.from p.to cs is,
     )
 
 pub returns-then-not-ends_by : goal.returns-then-not-ends_by
@@ -137,13 +137,13 @@ returns-then-not-ends_by c =
     let p = piece_view c.args.piece.now in
     let is : IsWave width cs = subst (IsWave width) c.changes-changes.ensures.changes c.changes-changes.ensures.form in
     let later_is = take_rest c.changes-changes.result.now p.to ∙ ap (drop p.to) c.changes-changes.ensures.changes in
-    let front_is = ap (take p.from) c.changes-changes.ensures.changes in
+    let prefix_is = ap (take p.from) c.changes-changes.ensures.changes in
     let range : FitsSigned w64 p.by = search rules in
     let by_is = to_z-of_z w64 p.by range in
     let within : p.to ≤ length cs = omega (arith, ap length c.changes-changes.ensures.changes) in
     refused c.ends_by.result _ c.if-not-ends_by.true
     (λ stands. c.ends_by.ensures.1
-    (subst (AllUpTo c.args.end) (sym front_is) (front_ends width c.args.end cs p is (omega arith) within stands)))
+    (subst (AllUpTo c.args.end) (sym prefix_is) (prefix_ends width c.args.end cs p is (omega arith) within stands)))
 
 pub ends_by-requires-2 : goal.ends_by-requires-2
 ends_by-requires-2 c =
@@ -152,15 +152,15 @@ ends_by-requires-2 c =
     let p = piece_view c.args.piece.now in
     let is : IsWave width cs = subst (IsWave width) c.changes-changes.ensures.changes c.changes-changes.ensures.form in
     let later_is = take_rest c.changes-changes.result.now p.to ∙ ap (drop p.to) c.changes-changes.ensures.changes in
-    let front_is = ap (take p.from) c.changes-changes.ensures.changes in
+    let prefix_is = ap (take p.from) c.changes-changes.ensures.changes in
     let range : FitsSigned w64 p.by = search rules in
     let by_is = to_z-of_z w64 p.by range in
     let within : p.to ≤ length cs = omega (arith, ap length c.changes-changes.ensures.changes) in
     let piece_is : c.may_all_follow.result
     ≡ may_all_follow (floor_after 0 (take p.from cs)) (value_following width (take p.from cs)) p.changes =
     c.may_all_follow.ensures
-    ∙ (λ i. may_all_follow (floor_after 0 (front_is i))
-    (value_following (c.width-width.ensures.width i) (front_is i)) (c.as_slice-list.ensures.value i)) in
+    ∙ (λ i. may_all_follow (floor_after 0 (prefix_is i))
+    (value_following (c.width-width.ensures.width i) (prefix_is i)) (c.as_slice-list.ensures.value i)) in
     subst (λ (l : List Change). (floor : ℕ) × (before : List Bit) × AreChangesFrom floor before l)
     (sym c.as_slice-list.ensures.value) (
       floor_after 0 (take p.from cs),
@@ -175,21 +175,21 @@ returns c =
     let p = piece_view c.args.piece.now in
     let is : IsWave width cs = subst (IsWave width) c.changes-changes.ensures.changes c.changes-changes.ensures.form in
     let later_is = take_rest c.changes-changes.result.now p.to ∙ ap (drop p.to) c.changes-changes.ensures.changes in
-    let front_is = ap (take p.from) c.changes-changes.ensures.changes in
+    let prefix_is = ap (take p.from) c.changes-changes.ensures.changes in
     let range : FitsSigned w64 p.by = search rules in
     let by_is = to_z-of_z w64 p.by range in
     let within : p.to ≤ length cs = omega (arith, ap length c.changes-changes.ensures.changes) in
     let piece_is : c.may_all_follow.result
     ≡ may_all_follow (floor_after 0 (take p.from cs)) (value_following width (take p.from cs)) p.changes =
     c.may_all_follow.ensures
-    ∙ (λ i. may_all_follow (floor_after 0 (front_is i))
-    (value_following (c.width-width.ensures.width i) (front_is i)) (c.as_slice-list.ensures.value i)) in
+    ∙ (λ i. may_all_follow (floor_after 0 (prefix_is i))
+    (value_following (c.width-width.ensures.width i) (prefix_is i)) (c.as_slice-list.ensures.value i)) in
     let list = c.as_slice-list.result.now in
     let all : take (length list) list ≡ p.changes = take_all (length list) list (omega arith)
     ∙ c.as_slice-list.ensures.value in
-    let floor = c.prior_changes.ensures.floor ∙ (λ i. floor_after (floor_after 0 (front_is i)) (all i)) in
+    let floor = c.prior_changes.ensures.floor ∙ (λ i. floor_after (floor_after 0 (prefix_is i)) (all i)) in
     let value = c.prior_changes.ensures.value c.width-width.result
-    ∙ (λ i. last_value (value_following (c.width-width.ensures.width i) (front_is i)) (all i)) in
+    ∙ (λ i. last_value (value_following (c.width-width.ensures.width i) (prefix_is i)) (all i)) in
     let later_test : c.may_come_next.result ≡ may_all_follow (floor_after (floor_after 0 (take p.from cs)) p.changes)
     (last_value (value_following width (take p.from cs)) p.changes)
     (map (moved_change p.by) (take 1 (drop p.to cs))) =
@@ -202,7 +202,7 @@ returns c =
       (λ t. stands_by_tests width c.args.end cs p is (omega arith) within (moves.0 c.if-not-all_move_to.false)
           (sym piece_is ∙ c.if-not-may_all_follow.false)
           (sym later_test ∙ c.if-not-may_come_next.false)
-          (subst (AllUpTo c.args.end) front_is (c.ends_by.ensures.0 c.if-not-ends_by.false))
+          (subst (AllUpTo c.args.end) prefix_is (c.ends_by.ensures.0 c.if-not-ends_by.false))
           (subst (AllUpTo c.args.end) c.as_slice-list.ensures.value (c.ends_by-2.ensures.0 t))),
       (λ stands. c.ends_by-2.ensures.1
           (subst (AllUpTo c.args.end) (sym c.as_slice-list.ensures.value)

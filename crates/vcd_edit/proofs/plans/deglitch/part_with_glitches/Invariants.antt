@@ -8,6 +8,7 @@ abbrev pub invariant-loop-i : goal.invariant-loop-i
 invariant-loop-i l = record {
   to : l.part.to ≤ l.i;
   less : l.part.kept ≤ l.part.to;
-  kept : (front : List Change) × (length front ≡ l.part.kept) × (kept_changes l.ticks l.fn.before l.changes
-      ≡ front ++ take (l.i - l.part.to) (drop l.part.to l.changes) ++ kept_changes l.ticks l.last (drop l.i l.changes));
+  kept : (prefix : List Change) × (length prefix ≡ l.part.kept) × (kept_changes l.ticks l.fn.before l.changes
+      ≡ prefix ++ take (l.i - l.part.to) (drop l.part.to l.changes) ++ kept_changes l.ticks l.last
+      (drop l.i l.changes));
 }

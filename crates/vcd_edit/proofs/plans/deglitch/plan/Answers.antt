@@ -30,7 +30,7 @@ returns-then-from-changes c =
     c.signal_at.ensures.signal (deglitch_is_wave c.args.signal n (contents c.args.capture.now)) refl
     (sym (kept_of_signal n end s c.signal_at.ensures.sound)
     ∙ none_left_out n s c.changes-changes.result.now c.x_value-x.result c.changes-changes.ensures.changes
-    c.x_value-x.ensures c.count_kept_in_front-from.result (omega arith) c.count_kept_in_front-from.ensures.kept
+    c.x_value-x.ensures c.kept_prefix_len-from.result (omega arith) c.kept_prefix_len-from.ensures.kept
     c.if-from-changes.true)
 
 pub returns : goal.returns
@@ -39,7 +39,7 @@ returns c =
     let n = c.args.ticks in
     let end = c.args.capture.now.end in
     let cs = c.changes-changes.result.now in
-    let from = c.count_kept_in_front-from.result in
+    let from = c.kept_prefix_len-from.result in
     let part = c.part_with_glitches-part.result in
     let later : List Change = take (length cs - from) (drop from cs) in
     let rest : later ≡ drop from cs = take_all (length cs - from) (drop from cs) (omega (arith, length-drop from cs)) in
@@ -57,7 +57,7 @@ returns c =
     c.signal_at.ensures.within c.signal_at.ensures.signal
     (deglitch_is_wave c.args.signal n (contents c.args.capture.now)) refl refl
     (deglitch_gives n s cs c.x_value-x.result c.changes-changes.ensures.changes c.x_value-x.ensures from (omega arith)
-    c.count_kept_in_front-from.ensures.kept
+    c.kept_prefix_len-from.ensures.kept
     c.last_value-before.result later c.in_ok-kept_list.field-0.items part.kept part.to (c.last_value-before.ensures
     ∙ ap (λ (w : ℕ). last_value (all_x w) (take from cs)) c.width.ensures.width) rest
     c.part_with_glitches-part.ensures.kept c.in_ok-kept_list.ensures

@@ -18,7 +18,8 @@ use Rattle.vcd_text.proofs.reading.digit_blocks.block_of_digits.Goals as goal
 -- the digits of one of the eights
 eight_digits : (digits : List ℕ) (eights : List (List ℕ)) (i : ℕ) → eights ≡ first_chunks 8 (length digits / 8) digits
     → i < length digits / 8 → get_or eights i [] ≡ take 8 (drop (8 * i) digits)
-eight_digits digits eights i front within = ap (λ l. get_or l i []) front ∙ eight_at (length digits / 8) i digits within
+eight_digits digits eights i prefix within = ap (λ l. get_or l i []) prefix ∙ eight_at (length digits / 8) i digits
+    within
 
 pub returns-in_err-block : goal.returns-in_err-block
 returns-in_err-block c =
@@ -38,11 +39,11 @@ loop-eight-preserved c =
     let at = eight_digits digits _ i c.as_chunks.ensures.front
     (omega (arith, c.loop-eight-test.true, c.as_chunks.ensures.front_len)) in
     let eight = take 8 (drop (8 * i) digits) in
-    let word = c.in_ok-block.block in
+    let block = c.in_ok-block.block in
     record {
-      holds = holds_both c.args.pad (take (8 * i) digits) eight (take (8 * (i + 1)) digits) _ word
+      holds = holds_both c.args.pad (take (8 * i) digits) eight (take (8 * (i + 1)) digits) _ block
           (eight_more digits i) c.loop-eight.invariant.holds
-          (subst (λ l. AddsLetters (letters_of_digits l) c.loop-eight.block word) at c.in_ok-block.ensures.1);
+          (subst (λ l. AddsLetters (letters_of_digits l) c.loop-eight.block block) at c.in_ok-block.ensures.1);
       letters = both_are_digits (take (8 * i) digits) eight (take (8 * (i + 1)) digits) (eight_more digits i)
           c.loop-eight.invariant.letters
           (sym (ap (list_all is_binary_digit) at) ∙ c.in_ok-block.ensures.0);

@@ -1,4 +1,4 @@
--- The letters of the eights so far are at the low end of the word.
+-- The letters of the eights so far are at the low end of the block.
 use Rattle.std.proofs.Common.{◌≡◌, ◌*◌, true, take}
 use Rattle.std.specs.List.{list_all}
 use Rattle.vcd_text.specs.Letters.{is_binary_digit, letters_of_digits}

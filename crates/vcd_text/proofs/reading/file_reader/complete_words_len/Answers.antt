@@ -12,9 +12,9 @@ returns-then-is_white_space-clause-complete c = grind (arith, complete_at)
 pub returns-clause-no_space : goal.returns-clause-no_space
 returns-clause-no_space c =
     let bytes = c.args.bytes.now in
-    let from = c.args.from in
-    let last : c.loop-len.len ≡ from = omega (arith, c.loop-len-test.false, c.loop-len.invariant.0) in
-    ap (list_all (λ b. not (is_white_space b))) (sym (take-append-drop from bytes))
-    ∙ list_all-append (λ b. not (is_white_space b)) (take from bytes) (drop from bytes)
-    ∙ ap (λ t. t && list_all (λ b. not (is_white_space b)) (drop from bytes)) c.requires.no_space
+    let unfinished_len = c.args.unfinished_len in
+    let last : c.loop-len.len ≡ unfinished_len = omega (arith, c.loop-len-test.false, c.loop-len.invariant.0) in
+    ap (list_all (λ b. not (is_white_space b))) (sym (take-append-drop unfinished_len bytes))
+    ∙ list_all-append (λ b. not (is_white_space b)) (take unfinished_len bytes) (drop unfinished_len bytes)
+    ∙ ap (λ t. t && list_all (λ b. not (is_white_space b)) (drop unfinished_len bytes)) c.requires.no_space
     ∙ ap (λ k. list_all (λ b. not (is_white_space b)) (drop k bytes)) (sym last) ∙ c.loop-len.invariant.2

@@ -3,7 +3,7 @@ use Rattle.std.proofs.Common.{arith, append_assoc}
 use Rattle.std.proofs.Common.{append-nil, length-append, refl}
 use Rattle.std.proofs.lemmas.Result.{err_from_is_err_and}
 use Rattle.vcd_text.specs.declared.fault.ReadError.{ReadError}
-use Rattle.vcd_text.specs.Words.{PlacedWord}
+use Rattle.vcd_text.specs.Words.{WordOnLine}
 use Rattle.vcd_text.specs.LentWords.{word_contents, words_left}
 use Rattle.vcd_text.specs.Faults.{ShowsFault}
 use Rattle.vcd_text.specs.MemoryErrors.{memory_error}
@@ -11,7 +11,7 @@ use Rattle.vcd_text.specs.inside.Reading.{HasTakenWords, AllWordsResult}
 use Rattle.vcd_text.proofs.reading.file_reader.read_words.Goals as goal
 
 -- the words so far, this word, and the words left
-in_turn : (all came words left : List PlacedWord) (word : PlacedWord) → all ≡ came ++ words → words ≡ word ∷ left
+in_turn : (all came words left : List WordOnLine) (word : WordOnLine) → all ≡ came ++ words → words ≡ word ∷ left
     → all ≡ (came ++ word ∷ []) ++ left
 in_turn all came words left word parts next = grind (arith, append_assoc)
 
@@ -33,7 +33,7 @@ take_word-requires-clause-reading c =
         few,
         length-append words_so_far came,
         length-append came (words_left c.loop-word.left),
-        ap (length {A = PlacedWord}) c.loop-word.invariant.0.1,
+        ap (length {A = WordOnLine}) c.loop-word.invariant.0.1,
       );
     }
 

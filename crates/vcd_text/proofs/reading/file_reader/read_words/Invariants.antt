@@ -1,5 +1,5 @@
 use Rattle.std.proofs.Common.{◌≡◌, ◌+◌, List, ◌++◌, length}
-use Rattle.vcd_text.specs.Words.{PlacedWord}
+use Rattle.vcd_text.specs.Words.{WordOnLine}
 use Rattle.vcd_text.specs.inside.Reading.{HasTakenWords}
 use Rattle.vcd_text.specs.LentWords.{words_left}
 use Rattle.vcd_text.specs.inside.Spaces.{line_feeds_in}
@@ -7,11 +7,11 @@ use Rattle.vcd_text.proofs.reading.file_reader.read_words.Given as goal
 
 abbrev pub invariant-loop-word : goal.invariant-loop-word
 invariant-loop-word l =
-    ((came : List PlacedWord) × (words_left l.fn.words ≡ came ++ words_left l.left)
-    × ((words_so_far : List PlacedWord) → HasTakenWords l.fn.parser words_so_far
+    ((came : List WordOnLine) × (words_left l.fn.words ≡ came ++ words_left l.left)
+    × ((words_so_far : List WordOnLine) → HasTakenWords l.fn.parser words_so_far
     → HasTakenWords l.parser (words_so_far ++ came)))
     × (l.left.line_feeds + line_feeds_in l.left.rest.now
     ≡ l.fn.words.line_feeds + line_feeds_in l.fn.words.rest.now)
 
 abbrev pub decreases-loop-word : goal.decreases-loop-word
-decreases-loop-word l = length {A = PlacedWord} (words_left l.left)
+decreases-loop-word l = length {A = WordOnLine} (words_left l.left)

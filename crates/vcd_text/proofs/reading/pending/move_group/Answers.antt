@@ -1,20 +1,20 @@
 use Rattle.std.proofs.Common.{◌+◌, ◌++◌, ◌<◌, length, drop, get_or, List, subst, sym, arith}
 use Rattle.std.proofs.lemmas.List.{drop_more, drop_all}
-use Rattle.vcd_text.specs.inside.ChangeLog.{changes_of_position, CanFlush, FlushesLog}
+use Rattle.vcd_text.specs.inside.ChangeLog.{changes_of_position, CanMoveLog, MovesLog}
 use Rattle.vcd_text.specs.declared.reading.pending.LoggedChange.{LoggedChange}
-use Rattle.vcd_text.proofs.FlushedVariables.{can_take, flushes_one, flushes_then, can_still}
-use Rattle.vcd_text.proofs.FlushedVariables.{more_left}
+use Rattle.vcd_text.proofs.MovedLogs.{can_take, moves_one, moves_then, can_still}
+use Rattle.vcd_text.proofs.MovedLogs.{more_left}
 use Rattle.vcd_text.proofs.reading.pending.move_group.Goals as goal
 
 pub move_change-requires : goal.move_change-requires
 move_change-requires c =
     let group = c.args.group.now in
     let i = c.loop-change.change-index in
-    let none : LoggedChange = record { tick = 0; position = 0; word = record { low = 0; high = 0 } } in
+    let none : LoggedChange = record { tick = 0; position = 0; block = record { low = 0; high = 0 } } in
     let e = get_or group i none in
     let (rest, can) = c.loop-change.invariant.0 in
     can_take e (drop (i + 1) group) rest c.loop-change.kept.items
-    (subst (λ (es : List LoggedChange). CanFlush c.loop-change.kept.items (λ position. changes_of_position position es
+    (subst (λ (es : List LoggedChange). CanMoveLog c.loop-change.kept.items (λ position. changes_of_position position es
     ++ rest position))
     (drop_more group i none c.loop-change-test.true) can)
 
@@ -22,7 +22,7 @@ pub loop-change-preserved : goal.loop-change-preserved
 loop-change-preserved c =
     let group = c.args.group.now in
     let i = c.loop-change.change-index in
-    let none : LoggedChange = record { tick = 0; position = 0; word = record { low = 0; high = 0 } } in
+    let none : LoggedChange = record { tick = 0; position = 0; block = record { low = 0; high = 0 } } in
     let e = get_or group i none in
     let left = drop (i + 1) group in
     let now = c.loop-change.kept.items in
@@ -37,23 +37,23 @@ loop-change-preserved c =
             (λ position some.
             subst (λ (es : List LoggedChange). 0 < length (changes_of_position position es ++ after position))
             (sym more) (more_left e left (after position) position some))
-            (subst (λ (es : List LoggedChange). FlushesLog now new (λ position. changes_of_position position es
+            (subst (λ (es : List LoggedChange). MovesLog now new (λ position. changes_of_position position es
             ++ after position) (λ position. changes_of_position position left ++ after position)) (sym more)
-            (flushes_one e left after now new takes)) can,
+            (moves_one e left after now new takes)) can,
       ),
       λ rest.
-          flushes_then c.args.kept.now.items now new (λ position. changes_of_position position group ++ rest position)
+          moves_then c.args.kept.now.items now new (λ position. changes_of_position position group ++ rest position)
           (λ position. changes_of_position position (drop i group) ++ rest position)
           (λ position. changes_of_position position left ++ rest position)
           (c.loop-change.invariant.1 rest)
-          (subst (λ (es : List LoggedChange). FlushesLog now new (λ position. changes_of_position position es
+          (subst (λ (es : List LoggedChange). MovesLog now new (λ position. changes_of_position position es
           ++ rest position) (λ position. changes_of_position position left ++ rest position)) (sym more)
-          (flushes_one e left rest now new takes)),
+          (moves_one e left rest now new takes)),
     )
 
 pub returns : goal.returns
 returns c = λ rest.
-    subst (λ (es : List LoggedChange). FlushesLog c.args.kept.now.items c.loop-change.kept.items
+    subst (λ (es : List LoggedChange). MovesLog c.args.kept.now.items c.loop-change.kept.items
     (λ position. changes_of_position position c.args.group.now ++ rest position)
     (λ position. changes_of_position position es ++ rest position))
     (drop_all c.loop-change.change-index c.args.group.now (omega (arith, c.loop-change-test.false)))

@@ -1,5 +1,5 @@
 use Rattle.std.proofs.Common.{ℕ, ◌++◌, List, drop}
-use Rattle.vcd_text.specs.inside.ChangeLog.{changes_of_position, CanFlush, FlushesLog}
+use Rattle.vcd_text.specs.inside.ChangeLog.{changes_of_position, CanMoveLog, MovesLog}
 use Rattle.vcd_text.specs.declared.reading.pending.LoggedChange.{LoggedChange}
 use Rattle.vcd_text.proofs.reading.pending.move_group.Given as goal
 
@@ -7,7 +7,7 @@ use Rattle.vcd_text.proofs.reading.pending.move_group.Given as goal
 abbrev pub invariant-loop-change : goal.invariant-loop-change
 invariant-loop-change l =
     ((rest : ℕ → List LoggedChange)
-    × CanFlush l.kept.items (λ position. changes_of_position position (drop l.change-index l.group) ++ rest position))
-    × ((rest : ℕ → List LoggedChange) → FlushesLog l.fn.kept.items l.kept.items
+    × CanMoveLog l.kept.items (λ position. changes_of_position position (drop l.change-index l.group) ++ rest position))
+    × ((rest : ℕ → List LoggedChange) → MovesLog l.fn.kept.items l.kept.items
     (λ position. changes_of_position position l.group ++ rest position)
     (λ position. changes_of_position position (drop l.change-index l.group) ++ rest position))

@@ -1,11 +1,11 @@
 -- The written bytes and the digits of the rest are the code.
 use Rattle.vcd_text.specs.Text.{code_of, code_digits}
-use Rattle.vcd_text.proofs.Written.{WritesFront}
+use Rattle.vcd_text.proofs.Written.{WritesPrefix}
 use Rattle.vcd_text.proofs.writing.codes.write_code.Given as goal
 
 abbrev pub invariant-loop-left : goal.invariant-loop-left
 invariant-loop-left g l =
-    WritesFront g.W.Sink l.initial.output l.output (code_digits l.left l.left) (code_of l.position)
+    WritesPrefix g.W.Sink l.initial.output l.output (code_digits l.left l.left) (code_of l.position)
 
 abbrev pub decreases-loop-left : goal.decreases-loop-left
 decreases-loop-left g l = l.left

@@ -3,10 +3,10 @@ use Rattle.std.proofs.Common.{◌-◌, replicate}
 use Rattle.std.specs.List.{flat_map}
 use Rattle.vcd_text.specs.Items.{upscope}
 use Rattle.vcd_text.specs.Text.{item_line}
-use Rattle.vcd_text.proofs.Written.{WritesFront}
+use Rattle.vcd_text.proofs.Written.{WritesPrefix}
 use Rattle.vcd_text.proofs.writing.declarations.write_upscopes.Given as goal
 
 abbrev pub invariant-loop-closed : goal.invariant-loop-closed
 invariant-loop-closed g l =
-    WritesFront g.W.Sink l.initial.output l.output
+    WritesPrefix g.W.Sink l.initial.output l.output
     (flat_map item_line (replicate (l.count - l._closed) upscope)) (flat_map item_line (replicate l.count upscope))

@@ -9,4 +9,4 @@ returns-clause-written g c =
     let sent = c.send_bytes-count.ensures in
     bytes_sent g.W.Sink c.args.output.now _ c.send_bytes-count.result [] c.as_slice.result.now refl
     (λ n text within is. ap (drop n) (append-nil text) ∙ is ∙ sym c.as_slice.ensures.value)
-    sent.front sent.within sent.all sent.failed sent.stays c.saturating_add-output.ensures c.clear.ensures.items
+    sent.prefix sent.within sent.all sent.failed sent.stays c.saturating_add-output.ensures c.clear.ensures.items

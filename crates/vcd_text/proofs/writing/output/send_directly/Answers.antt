@@ -10,4 +10,4 @@ returns-clause-written g c =
     let bytes = c.args.bytes.now in
     bytes_sent g.W.Sink c.args.output.now _ c.send_bytes-count.result bytes bytes refl
     (λ n text within is. drop-append-le n text bytes within ∙ ap (λ l. l ++ bytes) (is ∙ c.requires.empty))
-    sent.front sent.within sent.all sent.failed sent.stays c.saturating_add-output.ensures c.requires.empty
+    sent.prefix sent.within sent.all sent.failed sent.stays c.saturating_add-output.ensures c.requires.empty

@@ -6,7 +6,7 @@ use Rattle.vcd_core.specs.declared.capture.Signal.{Signal}
 use Rattle.vcd_core.specs.CaptureContents.{signal_contents}
 use Rattle.vcd_core.specs.Wave.{value_at}
 use Rattle.vcd_text.specs.Text.{code_of, item_line, value_item, value_items}
-use Rattle.vcd_text.proofs.Written.{front_grows, front_whole}
+use Rattle.vcd_text.proofs.Written.{prefix_grows, prefix_whole}
 use Rattle.vcd_text.proofs.writing.stamps.write_all_values.Goals as goal
 
 -- the lines of the signals from a position on
@@ -20,9 +20,9 @@ constant_piece k signals s within at = grind (arith, drop_more)
 
 pub loop-position-preserved : goal.loop-position-preserved
 loop-position-preserved g c =
-    front_grows _ c.loop-position.invariant c.write_value_near.ensures
+    prefix_grows _ c.loop-position.invariant c.write_value_near.ensures
     (constant_piece c.loop-position.position c.args.signals.now c.index-signals-position.result (omega arith)
     c.index-signals-position.is)
 
 pub returns : goal.returns
-returns g c = front_whole c.loop-position.invariant (grind (arith, drop_all))
+returns g c = prefix_whole c.loop-position.invariant (grind (arith, drop_all))

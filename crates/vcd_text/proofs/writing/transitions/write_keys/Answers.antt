@@ -6,11 +6,11 @@ use Rattle.vcd_text.specs.Text.{code_of, item_line, value_item}
 use Rattle.vcd_text.specs.declared.writing.window.TheConstants.{POSITIONS}
 use Rattle.vcd_text.proofs.Listing.{value_there}
 use Rattle.vcd_text.proofs.Orders.{last_written, none_written, one_later, one_written}
-use Rattle.vcd_text.proofs.Written.{front_begun, front_grows, front_whole, writes_as, writes_both}
+use Rattle.vcd_text.proofs.Written.{prefix_begun, prefix_grows, prefix_whole, writes_as, writes_both}
 use Rattle.vcd_text.proofs.writing.transitions.write_keys.Goals as goal
 
 pub loop-k-init : goal.loop-k-init
-loop-k-init g c = record { text = front_begun refl; last = refl; start_places = refl }
+loop-k-init g c = record { text = prefix_begun refl; last = refl; start_cursors = refl }
 
 pub prefetch_changes-requires-clause-keys : goal.prefetch_changes-requires-clause-keys
 prefetch_changes-requires-clause-keys g c = λ k d inside. (c.requires.keys k d inside).position
@@ -18,8 +18,8 @@ prefetch_changes-requires-clause-keys g c = λ k d inside. (c.requires.keys k d 
 pub overflow_add-tick : goal.overflow_add-tick
 overflow_add-tick g c = omega (arith, (c.requires.keys c.loop-k.k 0 (omega arith)).tick)
 
-pub bounds-start_places-position : goal.bounds-start_places-position
-bounds-start_places-position g c = grind arith
+pub bounds-start_cursors-position : goal.bounds-start_cursors-position
+bounds-start_cursors-position g c = grind arith
 
 pub bounds-signals-position : goal.bounds-signals-position
 bounds-signals-position g c = omega (arith, (c.requires.keys c.loop-k.k 0 (omega arith)).position)
@@ -40,18 +40,18 @@ loop-k-preserved g c =
     let value = value_there signals s (key % POSITIONS) (c.args.from + key / POSITIONS) there
     (get_or_default signals (key % POSITIONS) c.index-signals-position.result s there) in
     record {
-      text = front_grows _ kept.text (writes_both c.write_new_stamp.ensures
+      text = prefix_grows _ kept.text (writes_both c.write_new_stamp.ensures
           (writes_as (ap (λ v. item_line (value_item (code_of (key % POSITIONS)) v)) (sym value))
           c.write_value_near.ensures))
           (one_written (map signal_contents signals) c.args.from c.loop-k.last k keys inside);
       last = one_later c.args.from c.loop-k.last k _ keys inside kept.last;
-      start_places = length-set c.prefetch_changes.new.start_places (key % POSITIONS) _ ∙ c.prefetch_changes.ensures
-          ∙ kept.start_places;
+      start_cursors = length-set c.prefetch_changes.new.start_cursors (key % POSITIONS) _ ∙ c.prefetch_changes.ensures
+          ∙ kept.start_cursors;
     }
 
 pub returns-clause-text : goal.returns-clause-text
 returns-clause-text g c =
-    front_whole c.loop-k.invariant.text
+    prefix_whole c.loop-k.invariant.text
     (none_written (map signal_contents c.args.signals.now) c.args.from c.loop-k.last c.loop-k.k c.args.keys.now
     (omega arith))
 

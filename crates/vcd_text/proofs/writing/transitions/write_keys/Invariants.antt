@@ -5,18 +5,18 @@ use Rattle.vcd_core.specs.CaptureContents.{signal_contents}
 use Rattle.vcd_text.specs.Text.{item_line}
 use Rattle.vcd_text.specs.inside.Transitions.{last_tick, transition_items}
 use Rattle.vcd_text.specs.inside.Windows.{transitions_of}
-use Rattle.vcd_text.proofs.Written.{WritesFront}
+use Rattle.vcd_text.proofs.Written.{WritesPrefix}
 use Rattle.vcd_text.proofs.writing.transitions.write_keys.Given as goal
 
 abbrev pub invariant-loop-k : goal.invariant-loop-k
 invariant-loop-k g l =
     record {
-      text : WritesFront g.W.Sink l.initial.output l.output
+      text : WritesPrefix g.W.Sink l.initial.output l.output
           (flat_map item_line (transition_items (map signal_contents l.signals) l.last
           (transitions_of l.from (drop l.k l.keys))))
           (flat_map item_line (transition_items (map signal_contents l.signals) l.initial.last
           (transitions_of l.from l.keys)));
       last : last_tick l.last (transitions_of l.from (drop l.k l.keys))
           ≡ last_tick l.initial.last (transitions_of l.from l.keys);
-      start_places : length l.start_places ≡ length l.initial.start_places;
+      start_cursors : length l.start_cursors ≡ length l.initial.start_cursors;
     }

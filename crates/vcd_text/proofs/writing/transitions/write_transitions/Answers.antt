@@ -4,12 +4,12 @@ use Rattle.vcd_core.specs.CaptureContents.{signal_contents}
 use Rattle.vcd_text.specs.inside.Windows.{transitions_of}
 use Rattle.std.proofs.Common.{ap, ◌∙◌}
 use Rattle.vcd_text.proofs.TransitionText.{all_left, end_left, window_written}
-use Rattle.vcd_text.proofs.Written.{front_begun, front_grows, front_whole}
+use Rattle.vcd_text.proofs.Written.{prefix_begun, prefix_grows, prefix_whole}
 use Rattle.std.proofs.lemmas.List.{with_items_is}
 use Rattle.vcd_text.proofs.writing.transitions.write_transitions.Goals as goal
 
 pub loop-from-init : goal.loop-from-init
-loop-from-init g c = grind (arith, front_begun, all_left)
+loop-from-init g c = grind (arith, prefix_begun, all_left)
 
 pub loop-from-preserved : goal.loop-from-preserved
 loop-from-preserved g c =
@@ -22,7 +22,7 @@ loop-from-preserved g c =
     let all = ap (transitions_of c.loop-from.from) c.as_slice-keys.ensures.value ∙ filled.ensures.all in
     record {
       text =
-          front_grows _ c.loop-from.invariant.text written.ensures.text
+          prefix_grows _ c.loop-from.invariant.text written.ensures.text
           (window_written signals c.args.end c.loop-from.last written.result c.loop-from.from filled.result _ all
           written.ensures.last following);
       ready = record {
@@ -31,7 +31,7 @@ loop-from-preserved g c =
         some = ready.some;
         room = ready.room;
         next = ready.next;
-        start_places = grind (arith, with_items_is);
+        start_cursors = grind (arith, with_items_is);
       };
       within = following;
       some = c.next_window_ticks-most.ensures;
@@ -39,6 +39,6 @@ loop-from-preserved g c =
 
 pub returns : goal.returns
 returns g c =
-    front_whole (front_grows _ c.loop-from.invariant.text c.write_new_stamp.ensures
+    prefix_whole (prefix_grows _ c.loop-from.invariant.text c.write_new_stamp.ensures
     (end_left (map signal_contents c.args.signals.now) c.args.end c.loop-from.last c.loop-from.from
     (omega arith))) refl

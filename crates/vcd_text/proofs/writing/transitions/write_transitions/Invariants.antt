@@ -6,13 +6,13 @@ use Rattle.vcd_text.specs.Text.{item_line, tick_items}
 use Rattle.vcd_text.specs.inside.Transitions.{transitions_from}
 use Rattle.vcd_text.specs.inside.Windows.{IsReady}
 use Rattle.vcd_text.proofs.TransitionText.{items_left}
-use Rattle.vcd_text.proofs.Written.{WritesFront}
+use Rattle.vcd_text.proofs.Written.{WritesPrefix}
 use Rattle.vcd_text.proofs.writing.transitions.write_transitions.Given as goal
 
 abbrev pub invariant-loop-from : goal.invariant-loop-from
 invariant-loop-from g l =
     record {
-      text : WritesFront g.W.Sink l.initial.output l.output
+      text : WritesPrefix g.W.Sink l.initial.output l.output
           (flat_map item_line (items_left (map signal_contents l.signals) l.end l.last
           (transitions_from 0 (map signal_contents l.signals) l.from (l.end + 1 - l.from))))
           (flat_map item_line (tick_items (map signal_contents l.signals) l.end 1 l.end));

@@ -10,12 +10,12 @@ pub loop-k-preserved : goal.loop-k-preserved
 loop-k-preserved c =
     let k = c.loop-k.k in
     let at = λ (i : ℕ). ap printed_letter (c.loop-k.invariant.left i) in
-    let place : (i : ℕ) → 2 * k + (i + 2) ≡ 2 * (k + 1) + i = λ i. omega arith in
+    let index : (i : ℕ) → 2 * k + (i + 2) ≡ 2 * (k + 1) + i = λ i. omega arith in
     record {
       sized = length-set _ _ _ ∙ length-set _ _ _ ∙ c.loop-k.invariant.sized;
       written = pair_written (λ i. printed_letter (letter_in c.args.block i)) c.loop-k.letters k _ _
           c.loop-k.invariant.sized (omega arith) c.loop-k.invariant.written
           (c.letter_pair-pair.ensures.higher ∙ at 1) (c.letter_pair-pair.ensures.lower ∙ at 0);
       left = λ i. c.without_pair-left.ensures i ∙ c.loop-k.invariant.left (i + 2)
-          ∙ ap (letter_in c.args.block) (place i);
+          ∙ ap (letter_in c.args.block) (index i);
     }

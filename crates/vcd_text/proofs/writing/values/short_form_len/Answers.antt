@@ -2,7 +2,7 @@
 use Rattle.std.proofs.Common.{◌≡◌, ◌+◌, ◌-◌, ◌*◌, ◌/◌, ◌≤◌, ℕ, ap, subst, sym}
 use Rattle.std.proofs.Common.{◌∙◌, arith, inl, inr}
 use Rattle.std.proofs.lemmas.Bool.{cases_eq}
-use Rattle.vcd_text.specs.inside.ValueFronts.{IsShortFormLen}
+use Rattle.vcd_text.specs.inside.BeforeCode.{IsShortFormLen}
 use Rattle.vcd_text.proofs.LetterBits.{is_redundant_in}
 use Rattle.vcd_text.proofs.ShortForms.{first_needed, more_redundant, short_rest, state_at}
 use Rattle.vcd_text.proofs.writing.values.short_form_len.Goals as goal
@@ -25,11 +25,11 @@ returns-then-not-is_redundant-clause-rest c =
     let below : ℕ = 64 * ((c.loop-left.left - 1) / 64) in
     let kept = c.loop-left.invariant in
     let is = c.short_form_len_of_block-len.ensures in
-    let place : below + 1 - 2 ≡ below - 1 = omega arith in
+    let index : below + 1 - 2 ≡ below - 1 = omega arith in
     short_rest v (below + 1) (omega arith) (omega (arith, kept.within))
     (more_redundant v below _ c.loop-left.left _ _ c.block.ensures (omega arith) (omega arith) is
     (omega (arith, is.least, c.if-len-gt1.false)) kept.redundant)
-    (λ _. ap (is_redundant_in v) place ∙ state_at v below _ _ _ _ (omega (arith, c.loop-left-test.true)) c.bit.ensures
+    (λ _. ap (is_redundant_in v) index ∙ state_at v below _ _ _ _ (omega (arith, c.loop-left-test.true)) c.bit.ensures
     c.bit-in-loop-left.ensures c.is_redundant.ensures c.if-not-is_redundant.true)
 
 pub loop-left-preserved : goal.loop-left-preserved
@@ -42,8 +42,8 @@ loop-left-preserved c =
     record {
       redundant = λ i past within. elim (cases_eq (i + 1) below) [
         | inl here ↦
-            let place : i ≡ below - 1 = omega (arith, here) in
-            ap (is_redundant_in v) place ∙ state_at v below _ _ _ _ some c.bit.ensures c.bit-in-loop-left.ensures
+            let index : i ≡ below - 1 = omega (arith, here) in
+            ap (is_redundant_in v) index ∙ state_at v below _ _ _ _ some c.bit.ensures c.bit-in-loop-left.ensures
             c.is_redundant.ensures c.if-not-is_redundant.false
         | inr apart ↦ more_redundant v below _ c.loop-left.left _ (below + 1) c.block.ensures (omega arith)
             (omega arith) is (omega (arith, is.least, c.if-len-gt1.false)) kept.redundant i (omega (arith, apart))

@@ -1,13 +1,13 @@
 -- The written letters and those that are left are those of the value.
 use Rattle.std.proofs.Common.{◌≤◌, length}
 use Rattle.vcd_text.specs.Letters.{printed_letters}
-use Rattle.vcd_text.proofs.Written.{WritesFront}
+use Rattle.vcd_text.proofs.Written.{WritesPrefix}
 use Rattle.vcd_text.proofs.LetterBits.{lowest}
 use Rattle.vcd_text.proofs.writing.values.write_lowest.Given as goal
 
 abbrev pub invariant-loop-left : goal.invariant-loop-left
 invariant-loop-left g l = record {
-  front : WritesFront g.W.Sink l.initial.output l.output
+  prefix : WritesPrefix g.W.Sink l.initial.output l.output
       (printed_letters (lowest l.left l.value)) (printed_letters (lowest l.count l.value));
   within : l.left ≤ length l.value;
 }

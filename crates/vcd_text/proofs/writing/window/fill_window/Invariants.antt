@@ -6,7 +6,7 @@ abbrev pub invariant-loop-count : goal.invariant-loop-count
 invariant-loop-count l =
     record {
       next : length l.window.cursors.items ≡ length l.signals;
-      tried : l.window.start_places ≡ l.initial.window.start_places;
+      tried : l.window.start_cursors ≡ l.initial.window.start_cursors;
       some : 1 ≤ l.count;
       most : l.count ≤ l.most;
       room : vec_capacity l.initial.window.keys ≤ vec_capacity l.window.keys;

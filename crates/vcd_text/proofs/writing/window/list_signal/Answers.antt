@@ -30,11 +30,11 @@ loop-next-preserved c =
     record {
       next = goes_on _ c.args.from c.args.to cs next c.following_change-next.result
           (subst (IsWave _) c.changes-changes.ensures.changes c.changes-changes.ensures.form) kept.next early
-          c.requires.end more.place more.tick
-          (more.following_tick ∙ ap (λ l. tick_at l (next.place + 2)) c.changes-changes.ensures.changes);
+          c.requires.end more.index more.tick
+          (more.following_tick ∙ ap (λ l. tick_at l (next.index + 2)) c.changes-changes.ensures.changes);
       all =
           ap (λ k. transitions_of c.args.from new ++ window_of_signal c.args.from c.args.to c.args.position (drop k cs))
-          more.place
+          more.index
           ∙ one_key c.args.from next.tick c.args.position c.key_of.result keys new _ _ c.requires.position
           kept.next.not_earlier c.key_of.ensures c.push_in_room.ensures.items
           (ap (λ w. transitions_of c.args.from keys ++ w)
@@ -59,7 +59,7 @@ returns-then-len-capacity-clause-no_room_or_too_far c = inr (
       ap (length {A = Transition}) kept.all,
       ap (length {A = Transition})
           (steps c.args.from c.args.to c.args.position cs next kept.next (omega arith) c.requires.end),
-      length-append (transitions_of c.args.from keys) (window (drop next.place cs)),
+      length-append (transitions_of c.args.from keys) (window (drop next.index cs)),
       length-append (transitions_of c.args.from old) (window cs),
       length-map keys (transition_of_key c.args.from),
       length-map old (transition_of_key c.args.from),

@@ -10,7 +10,7 @@ invariant-loop-next l =
     record {
       next : IsNext l.from l.to l.wave.changes l.next;
       all : transitions_of l.from l.keys.items
-          ++ window_of_signal l.from l.to l.position (drop l.next.place l.wave.changes)
+          ++ window_of_signal l.from l.to l.position (drop l.next.index l.wave.changes)
           ≡ transitions_of l.from l.initial.keys.items ++ window_of_signal l.from l.to l.position l.wave.changes;
       keys : (count : ℕ) → l.position < count → All (IsKey l.from count) l.initial.keys.items
           → All (IsKey l.from count) l.keys.items;
@@ -18,4 +18,4 @@ invariant-loop-next l =
     }
 
 abbrev pub decreases-loop-next : goal.decreases-loop-next
-decreases-loop-next l = length l.wave.changes - l.next.place
+decreases-loop-next l = length l.wave.changes - l.next.index

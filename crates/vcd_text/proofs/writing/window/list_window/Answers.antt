@@ -12,10 +12,10 @@ use Rattle.vcd_text.proofs.writing.window.list_window.Goals as goal
 pub list_signal-requires-clause-next : goal.list_signal-requires-clause-next
 list_signal-requires-clause-next c =
     let k = c.loop-position.position in
-    let none : Cursor = record { place = 0; tick = 0; following_tick = 0 } in
-    subst (λ (l : List Change). IsNext c.args.from c.args.from l (get_or c.args.start_changes.now k none))
+    let none : Cursor = record { index = 0; tick = 0; following_tick = 0 } in
+    subst (λ (l : List Change). IsNext c.args.from c.args.from l (get_or c.args.start_cursors.now k none))
     (ap (λ (x : Signal). x.wave.changes) (sym c.index-signals-position.is))
-    (c.requires.start_changes.each k c.index-signals-position.result none (omega arith))
+    (c.requires.start_cursors.each k c.index-signals-position.result none (omega arith))
 
 pub returns-in-None-clause-keys : goal.returns-in-None-clause-keys
 returns-in-None-clause-keys c =

@@ -17,9 +17,9 @@ pub loop-k-preserved : goal.loop-k-preserved
 loop-k-preserved c =
     let v : List Bit = c.args.value.now in
     let k : ℕ = c.loop-k.k in
-    let place : length v - 1 - (c.width-width.result - 1 - k) ≡ k = omega arith in
-    let letter : c.letter.result ≡ printed_letter (get_or v k X) = c.letter.ensures
-    ∙ ap printed_letter (c.bit.ensures ∙ ap (λ i. get_or v i X) place) in
+    let index : length v - 1 - (c.width-width.result - 1 - k) ≡ k = omega arith in
+    let letter : c.printed_letter.result ≡ printed_letter (get_or v k X) = c.printed_letter.ensures
+    ∙ ap printed_letter (c.bit.ensures ∙ ap (λ i. get_or v i X) index) in
     c.in_ok-push.ensures.items
     ∙ (λ i. c.loop-k.invariant i ++ letter i ∷ [])
     ∙ append_assoc c.args.text.now.items (printed_letters (take k v)) (printed_letter (get_or v k X) ∷ [])

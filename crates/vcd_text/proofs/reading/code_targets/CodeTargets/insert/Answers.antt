@@ -6,5 +6,5 @@ use Rattle.vcd_text.proofs.reading.code_targets.CodeTargets.insert.Goals as goal
 pub returns-in-Some : goal.returns-in-Some
 returns-in-Some c =
     on_ok_weaker c.put_at.result
-    (short_put c.args.self.now c.put_at.new.table c.args.code.now c.in-Some.place c.args.target
-    (sym c.in-Some.ensures.place)) c.put_at.ensures.target
+    (short_put c.args.self.now c.put_at.new.table c.args.code.now c.in-Some.index c.args.target
+    (sym c.in-Some.ensures.index)) c.put_at.ensures.target

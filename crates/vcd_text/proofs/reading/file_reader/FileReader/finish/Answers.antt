@@ -2,7 +2,7 @@ use Rattle.std.proofs.Common.{◌≡◌, ◌⊎◌, inr, ℕ, List, Err, IfErr, 
 use Rattle.std.proofs.lemmas.Result.{err_from_is_err_and}
 use Rattle.vcd_text.specs.declared.fault.ReadError.{ReadError}
 use Rattle.vcd_text.specs.Words.{complete_words}
-use Rattle.vcd_text.specs.FoundFaults.{FoundFault, too_early}
+use Rattle.vcd_text.specs.FoundFaults.{IsFoundFault, too_early}
 use Rattle.vcd_text.specs.MemoryErrors.{memory_error}
 use Rattle.vcd_text.specs.inside.Chunks.{HasReadBytes}
 use Rattle.vcd_text.proofs.Chunks.{last_taken, last_shown}
@@ -18,7 +18,7 @@ returns-in_err-read_words-clause-fault c =
     let p = c.args.self in
     let refused = err_from_is_err_and c.from_residual.result c.from_residual.ensures.1 in
     subst (λ r. IfErr r (λ (e : ReadError). (bytes : List ℕ) → HasReadBytes p bytes
-    → (e ≡ memory_error) ⊎ FoundFault bytes e.line e.fault)) (sym (refused.1 ∙ ap Err refused.2))
+    → (e ≡ memory_error) ⊎ IsFoundFault bytes e.line e.fault)) (sym (refused.1 ∙ ap Err refused.2))
     (λ bytes taken. last_shown p c.as_slice.result.now bytes c.in_err-read_words.field-0.0 taken c.as_slice.ensures
     (c.in_err-read_words.ensures.words (complete_words bytes) taken.taken_words))
 
@@ -30,7 +30,7 @@ returns-in_err-check_complete-clause-fault c =
     c.from_residual-in_err-check_complete.ensures.1 in
     let (open_still, truncated) = c.in_err-check_complete.ensures.truncated in
     subst (λ r. IfErr r (λ (e : ReadError). (bytes : List ℕ) → HasReadBytes p bytes
-    → (e ≡ memory_error) ⊎ FoundFault bytes e.line e.fault)) (sym (refused.1 ∙ ap Err refused.2))
+    → (e ≡ memory_error) ⊎ IsFoundFault bytes e.line e.fault)) (sym (refused.1 ∙ ap Err refused.2))
     (λ bytes taken.
     let reads = last_taken p m c.as_slice.result.now bytes taken c.as_slice.ensures
     (c.in_ok-read_words.ensures.words (complete_words bytes) taken.taken_words) in

@@ -35,8 +35,9 @@ take_words-requires g c =
     let (bytes, taken) = c.requires.read_bytes in
     let (chunk, consumes, text, count) = c.in-Ok.ensures.more in (
       bytes ++ chunk,
-      has_come p c.read_from.new.self c.len-from.result c.in-Ok.count bytes c.make_room.new.self.bytes chunk taken text
-          c.in_ok-make_room.ensures.same count (omega (arith, c.if-count-self.false)) c.len-from.ensures,
+      has_come p c.read_from.new.self c.len-unfinished_len.result c.in-Ok.count bytes c.make_room.new.self.bytes chunk
+          taken text
+          c.in_ok-make_room.ensures.same count (omega (arith, c.if-count-self.false)) c.len-unfinished_len.ensures,
     )
 
 pub returns-in_err-take_words-clause-refused : goal.returns-in_err-take_words-clause-refused
@@ -52,8 +53,10 @@ returns-in_err-take_words-clause-refused g c =
     (sym (refused.1 ∙ ap Err refused.2))
     (λ coming stands.
     let (bytes, first, taken) = stands in
-    let come = has_come p c.read_from.new.self c.len-from.result c.in-Ok.count bytes c.make_room.new.self.bytes chunk
-    taken text c.in_ok-make_room.ensures.same count (omega (arith, c.if-count-self.false)) c.len-from.ensures in
+    let come = has_come p c.read_from.new.self c.len-unfinished_len.result c.in-Ok.count bytes
+    c.make_room.new.self.bytes chunk
+    taken text c.in_ok-make_room.ensures.same count (omega (arith, c.if-count-self.false))
+    c.len-unfinished_len.ensures in
     shown_early coming (g.R.Source.coming source) (g.R.Source.has_failed source) (bytes ++ chunk)
     c.in_err-take_words.field-0.0 c.in-Ok.ensures.not_failed
     (Consumes-trans coming (g.R.Source.coming c.args.source.now) (g.R.Source.coming source) bytes chunk first second)
@@ -65,8 +68,10 @@ returns-in_err-take_words-clause-failed g c =
     let p = c.args.self.now in
     let (bytes, taken) = c.requires.read_bytes in
     let (chunk, second, text, count) = c.in-Ok.ensures.more in
-    let come = has_come p c.read_from.new.self c.len-from.result c.in-Ok.count bytes c.make_room.new.self.bytes chunk
-    taken text c.in_ok-make_room.ensures.same count (omega (arith, c.if-count-self.false)) c.len-from.ensures in
+    let come = has_come p c.read_from.new.self c.len-unfinished_len.result c.in-Ok.count bytes
+    c.make_room.new.self.bytes chunk
+    taken text c.in_ok-make_room.ensures.same count (omega (arith, c.if-count-self.false))
+    c.len-unfinished_len.ensures in
     let refused = err_from_is_err_and c.from_residual-in_err-take_words.result
     c.from_residual-in_err-take_words.ensures.1 in
     subst (λ r. IfErr r (λ (e : ReadError). e.fault ≡ faults.ReadFault
@@ -79,8 +84,10 @@ returns-clause-taken g c = λ coming stands.
     let p = c.args.self.now in
     let (bytes, first, taken) = stands in
     let (chunk, second, text, count) = c.in-Ok.ensures.more in
-    let come = has_come p c.read_from.new.self c.len-from.result c.in-Ok.count bytes c.make_room.new.self.bytes chunk
-    taken text c.in_ok-make_room.ensures.same count (omega (arith, c.if-count-self.false)) c.len-from.ensures in (
+    let come = has_come p c.read_from.new.self c.len-unfinished_len.result c.in-Ok.count bytes
+    c.make_room.new.self.bytes chunk
+    taken text c.in_ok-make_room.ensures.same count (omega (arith, c.if-count-self.false))
+    c.len-unfinished_len.ensures in (
       bytes ++ chunk,
       Consumes-trans coming (g.R.Source.coming c.args.source.now) (g.R.Source.coming c.read_from.new.source) bytes chunk
           first second,

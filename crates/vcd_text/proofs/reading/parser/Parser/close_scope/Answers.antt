@@ -1,7 +1,7 @@
 use Rattle.std.proofs.Common.{◌≡◌, ◌<◌, ◌∷◌, length, sym, ◌∙◌, arith}
 use Rattle.std.proofs.lemmas.Bool.{eqb-false}
 use Rattle.vcd_text.proofs.Declaring.{closes_scope}
-use Rattle.vcd_text.proofs.DeclaredVariables.{front_removed}
+use Rattle.vcd_text.proofs.DeclaredVariables.{prefix_removed}
 use Rattle.vcd_text.proofs.reading.parser.Parser.close_scope.Goals as goal
 
 pub returns : goal.returns
@@ -9,9 +9,9 @@ returns c =
     let m = c.args.self.now in
     let other = eqb-false m.words.len 0 (sym c.is_empty.ensures ∙ c.if-is_empty.false) in
     let some : 0 < length m.words.items = omega (arith, other, m.words.ok.0) in
-    let front : m.words.items ≡ c.remove-kind.result ∷ c.words_out_of-words.result =
-    front_removed m.words.items c.words_out_of-words.result c.remove-kind.result some c.remove-kind.ensures.value
+    let prefix : m.words.items ≡ c.remove-kind.result ∷ c.words_out_of-words.result =
+    prefix_removed m.words.items c.words_out_of-words.result c.remove-kind.result some c.remove-kind.ensures.value
     (c.words_out_of-words.ensures ∙ c.remove-kind.ensures.items) in
     closes_scope m c.enter.new.self c.words_out_of-words.new.words
-    (record { kind = c.remove-kind.result; words = c.words_out_of-words.result }) c.requires front
+    (record { kind = c.remove-kind.result; words = c.words_out_of-words.result }) c.requires prefix
     c.in_ok-enter.ensures.opened c.in_ok-enter.ensures.places

@@ -36,19 +36,20 @@ returns-then-width-gt64 c = λ state code tick k had.
     c.change_wave.ensures.values)
     c.change_wave.ensures.refuses
 
-pub returns-in_err-word : goal.returns-in_err-word
-returns-in_err-word c = λ state code tick k had.
+pub returns-in_err-block : goal.returns-in_err-block
+returns-in_err-block c = λ state code tick k had.
     let old = c.args.self.now in
     let digits = c.args.digits.now in
     let failed = err_from_is_err_and c.from_residual.result c.from_residual.ensures.1 in
     subst (λ r. ChangeResult state code digits r old) (sym (failed.1 ∙ ap Err failed.2))
-    (inr (refused old state code digits c.args.width c.args.first k had c.in_err-word.field-0.0 c.in_err-word.ensures))
+    (inr (refused old state code digits c.args.width c.args.first k had c.in_err-block.field-0.0
+    c.in_err-block.ensures))
 
 pub returns : goal.returns
 returns c = λ state code tick k had.
     let e : LoggedChange =
-    record { tick = c.args.tick; position = c.args.first; word = c.in_ok-word.word } in
+    record { tick = c.args.tick; position = c.args.first; block = c.in_ok-block.block } in
     narrow_changes c.args.self.now c.append.new.groups state code c.args.digits.now c.args.width c.args.first
     e k had
-    (omega (arith, c.if-width-gt64.false)) (sym tick) refl c.in_ok-word.ensures c.in_ok-append.ensures.grouped
+    (omega (arith, c.if-width-gt64.false)) (sym tick) refl c.in_ok-block.ensures c.in_ok-append.ensures.grouped
     c.in_ok-append.ensures.appended tt

@@ -1,6 +1,6 @@
 use Rattle.std.proofs.Common.{◌≡◌, ◌≤◌, ◌∙◌, ◌||◌, ◌==◌, nat_lt, true, false, ℕ, List, ◌∷◌, length, inr, refl, ap}
 use Rattle.std.proofs.Common.{sym, subst, arith}
-use Rattle.vcd_text.specs.Faults.{no_variable}
+use Rattle.vcd_text.specs.Faults.{missing_part}
 use Rattle.vcd_core.specs.declared.value.TheConstants.{WIDTH_LIMIT}
 use Rattle.vcd_core.specs.Decimal.{number_of}
 use Rattle.vcd_core.specs.Word.{is_skipped_kind}
@@ -11,7 +11,7 @@ use Rattle.vcd_text.proofs.reading.variables.Variables.declare.Goals as goal
 
 pub returns-then-len-lt3 : goal.returns-then-len-lt3
 returns-then-len-lt3 c = λ state kind word following are read value_changes k no_end good.
-    inr (no_variable (kind ∷ word ∷ following) refl refl no_end good (too_few state kind word following (omega (
+    inr (missing_part (kind ∷ word ∷ following) refl refl no_end good (too_few state kind word following (omega (
       arith,
       c.if-len-lt3.true,
       c.len.ensures,

@@ -2,7 +2,7 @@ use Rattle.std.proofs.Common.{◌≡◌, ◌∙◌, Err, inr, refl, sym, ap, sub
 use Rattle.std.proofs.lemmas.Result.{err_from_is_err_and}
 use Rattle.vcd_text.specs.Grammar.{VariableDeclaration, is_skipped}
 use Rattle.vcd_text.specs.inside.Variables.{declaration_of_parts, declaration_in, DeclaresAs}
-use Rattle.vcd_text.specs.declared.reading.pending.TheConstants.{NO_ROOM}
+use Rattle.vcd_text.specs.declared.reading.pending.TheConstants.{NOTHING_EXPECTED}
 use Rattle.vcd_text.specs.declared.reading.variables.Variable.{Variable}
 use Rattle.vcd_text.proofs.VariablesMatch.{scopes_moved}
 use Rattle.vcd_text.proofs.reading.variables.Variables.keep.Goals as goal
@@ -23,7 +23,7 @@ returns c = λ state k value_changes keeps.
       words = c.new.result;
       wave = c.new-2.result;
       first = c.in_ok-first.first;
-      expected_room = NO_ROOM;
+      expected_room = NOTHING_EXPECTED;
     } in
     let same : declaration_in state.scopes c.args.code.now v ≡ d =
     λ i. declaration_of_parts state c.args.kind (c.new-2.ensures.width i) c.args.code.now

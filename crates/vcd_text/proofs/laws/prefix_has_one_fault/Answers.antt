@@ -1,0 +1,6 @@
+use Rattle.vcd_text.specs.Words.{complete_words}
+use Rattle.vcd_text.proofs.OneAnswer.{one_fault}
+use Rattle.vcd_text.proofs.laws.prefix_has_one_fault.Goals as goal
+
+pub returns : goal.returns
+returns c prefix = one_fault (complete_words prefix)

@@ -1,6 +1,0 @@
-use Rattle.std.proofs.Common.{arith}
-use Rattle.vcd_text.proofs.Changing.{ends_vector}
-use Rattle.vcd_text.proofs.reading.parser.Parser.end_vector.Goals as goal
-
-pub returns : goal.returns
-returns c line = grind (arith, ends_vector)

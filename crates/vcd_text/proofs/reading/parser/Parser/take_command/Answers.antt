@@ -1,0 +1,14 @@
+use Rattle.std.proofs.Common.{arith, sym, ◌∙◌}
+use Rattle.vcd_text.proofs.Changing.{takes_dump_word, declares_late, passes_over}
+use Rattle.vcd_text.proofs.reading.parser.Parser.take_command.Goals as goal
+
+pub returns-then-is_dump_word : goal.returns-then-is_dump_word
+returns-then-is_dump_word c line =
+    takes_dump_word c.args.self.now c.args.text.now line c.requires.between c.requires.in_body
+    (sym c.is_dump_word.ensures ∙ c.if-is_dump_word.true)
+
+pub returns-then-is_declaration_word : goal.returns-then-is_declaration_word
+returns-then-is_declaration_word c line = grind (arith, declares_late)
+
+pub returns : goal.returns
+returns c line = grind (arith, passes_over)

@@ -1,0 +1,95 @@
+//! Changing the value of a code.
+
+ghost use Rattle.std.specs.Prelude.{◌≡◌, ◌⊎◌, ◌≤◌, ℕ, List, is_some, IfErr, OnOk, All};
+ghost use Rattle.vcd_text.specs.Grammar.{ParseState, variable_of};
+ghost use Rattle.vcd_text.specs.inside.Variables.{target_of, VariablesMatch, ChangeResult};
+ghost use Rattle.vcd_text.specs.inside.Variables.{HasValueFrom};
+ghost use Rattle.vcd_text.specs.inside.ValueDigits.{RefusesBinaryNumber};
+ghost use Rattle.vcd_text.specs.declared.fault.Fault.TheVariants.{NoMemory as NoMemoryFault};
+ghost use Rattle.vcd_text.specs.declared.reading.code_targets.CodeTarget.TheVariants.{Kept};
+
+use crate::fault::Fault;
+use crate::reading::binary_number::{read_letter_block, read_value};
+use crate::reading::code_targets::CodeTarget;
+use crate::reading::pending::{LoggedChange, append};
+use crate::reading::variables::{Variable, Variables};
+use std::alloc::Global;
+
+impl Variable {
+    /// Appends a change to the wave: from `tick` on it has the value of these digits.
+    fn change_wave(&mut self, tick: u64, digits: &[u8]) -> Result<(), Fault>
+        requires none_later { All (λ change. change.tick ≤ tick) self.old.wave.changes }
+        ensures values { OnOk result (HasValueFrom tick digits.now self.old self.new) }
+        ensures refuses { IfErr result (λ fault. (fault ≡ NoMemoryFault) ⊎
+            RefusesBinaryNumber self.old.wave.width digits.now fault) }
+    {
+        let value = read_value(self.wave.width(), digits)?;
+        self.wave.push(tick, value)?;
+        Ok(())
+    }
+}
+
+impl Variables {
+    /// Appends a change: from `tick` on, the code has the value of these digits. It takes one
+    /// look-up, and one push to the log or a wave. A skipped code accepts any digits.
+    pub fn change(
+        &mut self,
+        alloc: Global,
+        code: &[u8],
+        tick: u64,
+        digits: &[u8],
+    ) -> Result<(), Fault>
+        requires known { (c : ParseState) × VariablesMatch self.old c × (c.tick ≤ tick) }
+        ensures { (c : ParseState) → c.tick ≡ tick → VariablesMatch self.old c →
+            ChangeResult c code.now digits.now result self.new }
+    {
+        match self.code_targets.get(code) {
+            CodeTarget::Undeclared => Err(Fault::UnknownCode),
+            CodeTarget::Skipped => Ok(()),
+            CodeTarget::Kept(width, first) => {
+                self.change_at(alloc, u64::from(width), first as usize, tick, digits)
+            }
+        }
+    }
+
+    /// Appends a change of the variable of this width at a position, the first of its code. One of
+    /// at most 64 bits gets it in the log, a wider one in its wave.
+    fn change_at(
+        &mut self,
+        alloc: Global,
+        width: u64,
+        first: usize,
+        tick: u64,
+        digits: &[u8],
+    ) -> Result<(), Fault>
+        requires known { (c : ParseState) × (code : List ℕ) × VariablesMatch self.old c
+            × (c.tick ≤ tick)
+            × (target_of self.old code ≡ Kept width first) }
+        ensures { (c : ParseState) (code : List ℕ) → c.tick ≡ tick → VariablesMatch self.old c →
+            target_of self.old code ≡ Kept width first →
+            ChangeResult c code digits.now result self.new }
+    {
+        if width > 64 {
+            return self.kept[first].change_wave(tick, digits);
+        }
+        let block = read_letter_block(width, digits)?;
+        let change = LoggedChange {
+            tick,
+            position: first,
+            block,
+        };
+        append(&mut self.log, alloc, change)?;
+        Ok(())
+    }
+
+    /// Whether a code has been declared.
+    pub fn has_code(&self, code: &[u8]) -> bool
+        ensures { (c : ParseState) → VariablesMatch self.now c
+            → result ≡ is_some (variable_of c code.now) }
+    {
+        match self.code_targets.get(code) {
+            CodeTarget::Undeclared => false,
+            CodeTarget::Skipped | CodeTarget::Kept(_, _) => true,
+        }
+    }
+}
