@@ -1,10 +1,13 @@
 """What the tools share: declarations as the program reads them, limits, times, names and files that are no plain VCD."""
 
+import bz2
 import glob
 import gzip
 import io
+import lzma
 import os
 import re
+import zipfile
 
 import vcd_files
 from common import TOP, run, text_at
@@ -61,11 +64,29 @@ PLANTED = [
     ("tools/vcd_files.py", 'b"shortreal", ', ""),
     ("tools/vcd_files.py", '"ms": 3', '"ms": 4'),
     ("tools/vcd_files.py", "SIGNAL_LIMIT = 65536", "SIGNAL_LIMIT = 65535"),
+    ("tools/vcd_files.py", 'rb"BZh"', 'rb"BZx"'),
 ]
 DECLARED = b"$var wire 1 ! a $end $enddefinitions $end #0 1! #5\n"
-# A file, and a word of what it is said to be.
+
+
+def zipped(text):
+    """A zip file that has a text as its one file."""
+    file = io.BytesIO()
+    with zipfile.ZipFile(file, "w") as archive:
+        archive.writestr("capture.vcd", text)
+    return file.getvalue()
+
+
+# A file, and a word of what it is said to be. Of formats that Python does not write it is the first bytes.
 OTHERS = [
     (gzip.compress(DECLARED), "gzip"),
+    (bz2.compress(DECLARED), "bzip2"),
+    (lzma.compress(DECLARED), "xz"),
+    (zipped(DECLARED), "zip"),
+    (b"\x28\xb5\x2f\xfd\x20", "zstd"),
+    (b"\x13\x80\x00\x01", "LXT2"),
+    (b"VZ\x00\x01", "VZT"),
+    (b"GHDLwave\n\x10", "GHW"),
     (b"\xef\xbb\xbf" + DECLARED, "byte order mark"),
     (DECLARED.decode().encode("utf-16"), "UTF-16"),
     (DECLARED.decode().encode("utf-16-be"), "UTF-16"),
