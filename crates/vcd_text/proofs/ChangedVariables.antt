@@ -79,7 +79,7 @@ same_declaration v w same = λ i. record {
 
 -- ---- a value change more
 
-value_with : (width : ℕ) (code : List ℕ) (t : ℕ) (before : List Bit) (rs : List ValueChange) (r : ValueChange)
+pub value_with : (width : ℕ) (code : List ℕ) (t : ℕ) (before : List Bit) (rs : List ValueChange) (r : ValueChange)
     → latest_value width code t before (rs ++ r ∷ [])
     ≡ (if bytes_eq r.code code && nat_le r.tick t then extension width r.letters else latest_value width code t
     before rs)
@@ -237,10 +237,11 @@ module _ (old : Variables) (list : Vec Variable) (log : Vec (Vec LoggedChange)) 
   pub changed : (x : Unit {0}) → ChangeResult c code digits (Ok x) (with_changes old list log)
   changed x = (changed_takes, changed_knows)
 
--- the result of a change of a wide variable
+-- the result of a change that a wave takes
 pub wide_changes : (old : Variables) (list : Vec Variable) (c : ParseState) (code digits : List ℕ) (width first : ℕ)
     (v w : Variable) (result : Result (Unit {0}) Fault) (k : VariablesMatch old c)
-    (had : target_of old code ≡ Kept width first) → v ≡ get_or old.kept.items first v → 64 < width
+    (had : target_of old code ≡ Kept width first) → v ≡ get_or old.kept.items first v
+    → (64 < width) ⊎ (old.log.items ≡ [])
     → list.items ≡ set old.kept.items first w → OnOk result (HasValueFrom c.tick digits v w)
     → IfErr result (λ fault. (fault ≡ faults.NoMemory) ⊎ RefusesBinaryNumber v.wave.width digits fault)
     → ChangeResult c code digits result (with_changes old list old.log)
@@ -251,7 +252,10 @@ wide_changes old list c code digits width first v w (Ok x) k had read wide items
     (λ f g. gives_pushed v.wave.width c.tick f v.wave.changes
     (extension v.wave.width (letters_of_digits digits)) w.wave.changes
     (logged old.log.items first)
-    (omega (arith, wide, size)) sets.ticks
+    (elim wide [
+      | inl more ↦ inl (omega (arith, more, size))
+      | inr none ↦ inr (ap (λ l. logged l first) none)
+    ]) sets.ticks
     (λ t. ap (λ n. value_at n w.wave.changes t) (sym sets.same.width)
     ∙ sets.values t) g)
     (λ position _. refl) x

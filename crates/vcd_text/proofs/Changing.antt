@@ -19,7 +19,7 @@ use Rattle.vcd_text.specs.Items.{Item, stamp, scalar, vector, real_or_string, du
 use Rattle.vcd_text.specs.Items.{is_command}
 use Rattle.vcd_text.specs.Items.{dump_words, declaration_words, vector_prefixes}
 use Rattle.vcd_text.specs.Items.{real_or_string_prefixes}
-use Rattle.vcd_text.specs.Grammar.{ParseState, VariableDeclaration, ValueChange, Allows}
+use Rattle.vcd_text.specs.Grammar.{ParseState, VariableDeclaration, Allows}
 use Rattle.vcd_text.specs.Grammar.{state_after_item, word_texts}
 use Rattle.vcd_text.specs.Grammar.{is_tick, is_binary_number, takes_binary_number, variable_of}
 use Rattle.vcd_text.specs.Faults.{ChangeShows, no_tick, tick_goes_back, missing_code}
@@ -37,7 +37,10 @@ use Rattle.vcd_text.specs.declared.reading.parser.OpenItem.{OpenItem}
 use Rattle.vcd_text.specs.declared.reading.parser.OpenItem.TheVariants as items
 use Rattle.vcd_text.specs.declared.reading.variables.Variables.{Variables}
 use Rattle.vcd_text.proofs.VariablesMatch.{knows_further}
-use Rattle.vcd_text.proofs.Declaring.{agrees_by}
+use Rattle.vcd_text.proofs.Declaring.{agrees_by, agrees_as}
+use Rattle.vcd_text.proofs.PartChanges.{agrees_changed, refuses_file, seen_at}
+use Rattle.vcd_text.specs.declared.reading.part.Part.{Part}
+use Rattle.vcd_text.specs.inside.SeenParts.{seen_state, seen_tick, PartChange}
 use Rattle.std.proofs.lemmas.List.Folds.{list_any-append}
 
 -- ---- between two changes
@@ -53,65 +56,61 @@ none_begun m begun between taken = subst (IsBegun m begun) between taken
 -- a word that is a whole item
 whole_item : (old new : Parser) (w : WordOnLine) (i : Item) → old.item ≡ items.Nothing → new.item ≡ items.Nothing
     → spelling i ≡ w.text ∷ []
-    → ((c : ParseState) → ParserMatches old c → Allows c i × ParserMatches new (state_after_item c i))
+    → ((part : Part) (c : ParseState) → ParserMatches part old c
+    → Allows c i × ParserMatches part new (state_after_item c i))
     → WordResult old w (Ok tt) new
-whole_item old new w i between closed spelled item c begun (agrees, taken) =
+whole_item old new w i between closed spelled item part c begun (agrees, taken) =
     let none = none_begun old begun between taken in
-    ends_item i (spelled ∙ ap (λ bs. word_texts (bs ++ w ∷ [])) (sym none)) (item c agrees).0 (
-      (item c agrees).1,
+    ends_item i (spelled ∙ ap (λ bs. word_texts (bs ++ w ∷ [])) (sym none)) (item part c agrees).0 (
+      (item part c agrees).1,
       subst (IsBegun new []) (sym closed) refl,
     )
 
 -- a first word that shows a fault
-shown_at : (m : Parser) (c : ParseState) (begun : List WordOnLine) (w : WordOnLine) (fault : Fault)
-    → m.item ≡ items.Nothing → m.in_body ≡ true → IsAtState m c begun
+shown_at : (part : Part) (m : Parser) (c : ParseState) (begun : List WordOnLine) (w : WordOnLine) (fault : Fault)
+    → m.item ≡ items.Nothing → m.in_body ≡ true → IsAtState part m c begun
     → ChangeShows c [] w.text fault → (fault ≡ NoMemory) ⊎ WordShows c (word_texts begun) w.text fault
-shown_at m c begun w fault between in_body (agrees, taken) row =
+shown_at part m c begun w fault between in_body (agrees, taken) row =
     inr (among_changes (sym agrees.in_body
     ∙ in_body)
     (subst (λ bs. ChangeShows c (word_texts bs) w.text fault) (sym (none_begun m begun between taken)) row))
 
 shows : (old new : Parser) (w : WordOnLine) (fault : Fault) → old.item ≡ items.Nothing → old.in_body ≡ true
-    → ((c : ParseState) → ParserMatches old c → ChangeShows c [] w.text fault) → WordResult old w (Err fault) new
-shows old new w fault between in_body row c begun at =
-    shown_at old c begun w fault between in_body at (row c at.0)
+    → ((part : Part) (c : ParseState) → ParserMatches part old c → ChangeShows c [] w.text fault) → WordResult old w (Err fault) new
+shows old new w fault between in_body row part c begun at =
+    shown_at part old c begun w fault between in_body at (row part c at.0)
 
 -- the state does not depend on the open item
-agrees_still : (m : Parser) (c : ParseState) (item : OpenItem) (line : ℕ) → ParserMatches m c
-    → ParserMatches (record m { item = item; line = line }) c
-agrees_still m c item line agrees = grind arith
-
--- one more value change among the changes
-agrees_set : (m : Parser) (c : ParseState) (vs : Variables) (value_changes : List ValueChange) (item : OpenItem)
-    → ParserMatches m c → m.in_body ≡ true → VariablesMatch vs (record c { value_changes = value_changes })
-    → ParserMatches (record m { variables = vs; item = item }) (record c { value_changes = value_changes })
-agrees_set m c vs value_changes item agrees in_body knows = grind (arith, not_both)
+agrees_still : (part : Part) (m : Parser) (c : ParseState) (item : OpenItem) (line : ℕ) → ParserMatches part m c
+    → ParserMatches part (record m { item = item; line = line }) c
+agrees_still part m c item line agrees = agrees_as part m _ c agrees refl refl refl refl refl refl refl
 
 -- ---- stamps
 
 pub no_stamp : (m new : Parser) (digits : List ℕ) (line : ℕ) → m.item ≡ items.Nothing → m.in_body ≡ true
     → is_tick digits ≡ false → WordResult m (word_on (35 ∷ digits) line) (Err BadTime) new
 no_stamp m new digits line between in_body isnt =
-    shows m new (word_on (35 ∷ digits) line) BadTime between in_body (λ c agrees. no_tick digits refl refl isnt refl)
+    shows m new (word_on (35 ∷ digits) line) BadTime between in_body (λ part c agrees. no_tick digits refl refl isnt refl)
 
 pub stamp_goes_back : (m new : Parser) (digits : List ℕ) (line tick : ℕ) → m.item ≡ items.Nothing → m.in_body ≡ true
     → is_tick digits ≡ true → tick ≡ number_of digits → tick < m.tick
     → WordResult m (word_on (35 ∷ digits) line) (Err TimeBackwards) new
 stamp_goes_back m new digits line tick between in_body is number back =
     shows m new (word_on (35 ∷ digits) line) TimeBackwards between in_body
-    (λ c agrees. tick_goes_back digits refl refl is (omega (arith, agrees.tick)) refl)
+    (λ part c agrees. tick_goes_back digits refl refl is (omega (arith, agrees.tick)) refl)
 
 pub takes_stamp : (m : Parser) (digits : List ℕ) (line tick : ℕ) → m.item ≡ items.Nothing → m.in_body ≡ true
     → is_tick digits ≡ true → tick ≡ number_of digits → m.tick ≤ tick
     → WordResult m (word_on (35 ∷ digits) line) (Ok tt) (record m { tick = tick })
 takes_stamp m digits line tick between in_body is number later =
     whole_item m (record m { tick = tick }) (word_on (35 ∷ digits) line) (stamp digits) between between refl
-    (λ c agrees.
+    (λ part c agrees.
     let after : c.tick ≤ number_of digits = omega (arith, agrees.tick) in (
       (sym agrees.in_body ∙ in_body, is, after),
-      agrees_by _ _ agrees.header agrees.timescale agrees.in_body number
-          (knows_further m.variables c c.header c.timescale c.in_body (number_of digits) after agrees.variables)
-          agrees.no_early_change,
+      agrees_by part _ _ agrees.seen agrees.header agrees.timescale agrees.in_body number agrees.part_is
+          (knows_further m.variables (seen_state part c agrees.seen) c.header c.timescale c.in_body
+          (seen_tick part (number_of digits)) (omega (arith, after)) agrees.variables)
+          agrees.no_early_change agrees.none_seen agrees.tells agrees.hears,
     ))
 
 -- ---- commands
@@ -120,7 +119,7 @@ pub takes_dump_word : (m : Parser) (text : List ℕ) (line : ℕ) → m.item ≡
     → is_one_of dump_words text ≡ true → WordResult m (word_on text line) (Ok tt) m
 takes_dump_word m text line between in_body is =
     whole_item m m (word_on text line) (dump_word text) between between refl
-    (λ c agrees. ((sym agrees.in_body ∙ in_body, is), agrees))
+    (λ part c agrees. ((sym agrees.in_body ∙ in_body, is), agrees))
 
 pub declares_late : (m new : Parser) (text : List ℕ) (line : ℕ) → m.item ≡ items.Nothing → m.in_body ≡ true
     → is_one_of declaration_words text ≡ true → WordResult m (word_on text line) (Err UnexpectedWord) new
@@ -129,10 +128,10 @@ declares_late m new text line between in_body is = grind (arith, shows)
 pub passes_over : (m : Parser) (text : List ℕ) (line : ℕ) → m.item ≡ items.Nothing → m.in_body ≡ true
     → is_command text ≡ true → is_one_of dump_words text ≡ false → is_one_of declaration_words text ≡ false
     → WordResult m (word_on text line) (Ok tt) (record m { item = items.Other })
-passes_over m text line between in_body command dump declaring c begun (agrees, taken) =
+passes_over m text line between in_body command dump declaring part c begun (agrees, taken) =
     let none = none_begun m begun between taken in
     goes_on (
-      agrees_still m c items.Other m.line agrees,
+      agrees_still part m c items.Other m.line agrees,
       record {
         keyword = text;
         words = [];
@@ -148,7 +147,7 @@ pub no_code : (m new : Parser) (letter : ℕ) (code : List ℕ) (line : ℕ) →
     → is_binary_digit letter ≡ true → length code ≡ 0 → WordResult m (word_on (letter ∷ code) line) (Err BadChange) new
 no_code m new letter code line between in_body is none =
     shows m new (word_on (letter ∷ code) line) BadChange between in_body
-    (λ c agrees. missing_code letter refl (ap (λ cs. letter ∷ cs) (nil_from_length code none)) is refl)
+    (λ part c agrees. missing_code letter refl (ap (λ cs. letter ∷ cs) (nil_from_length code none)) is refl)
 
 pub begins_nothing : (m new : Parser) (first : ℕ) (text : List ℕ) (line : ℕ) → m.item ≡ items.Nothing
     → m.in_body ≡ true
@@ -157,7 +156,7 @@ pub begins_nothing : (m new : Parser) (first : ℕ) (text : List ℕ) (line : �
 begins_nothing m new first text line between in_body no_command no_letter no_vector no_real_or_string =
     let other : is_among (codes "#$" ++ pair_prefixes) first ≡ false = grind (arith, list_any-append, or_from) in
     shows m new (word_on (first ∷ text) line) BadChange between in_body
-    (λ c agrees. begins_no_change first text refl refl no_letter other refl)
+    (λ part c agrees. begins_no_change first text refl refl no_letter other refl)
 
 -- some variable accepts the digits
 taken_by_some : (o : Option VariableDeclaration) (digits : List ℕ)
@@ -180,20 +179,21 @@ bit_shows c letter code fault is some (variables.too_long d found keeps value lo
 
 pub sets_bit : (m : Parser) (vs : Variables) (letter : ℕ) (code : List ℕ) (line : ℕ) (r : Result (Unit {0}) Fault)
     → m.item ≡ items.Nothing → m.in_body ≡ true → is_binary_digit letter ≡ true → 0 < length code
-    → ((c : ParseState) → c.tick ≡ m.tick → VariablesMatch m.variables c → ChangeResult c code (letter ∷ []) r vs)
+    → ((c : ParseState) → c.tick ≡ seen_tick m.part m.tick → VariablesMatch m.variables c
+    → PartChange m.part m.silent.items m.tick c code (letter ∷ []) m.variables r vs)
     → WordResult m (word_on (letter ∷ code) line) r (record m { variables = vs })
 sets_bit m vs letter code line (Ok x) between in_body is some takes =
     whole_item m (record m { variables = vs }) (word_on (letter ∷ code) line) (scalar letter code) between between refl
-    (λ c agrees.
-    let change = takes c (sym agrees.tick) agrees.variables in (
+    (λ part c agrees.
+    let change = takes (seen_state part c agrees.seen) (seen_at part m c agrees) agrees.variables in (
       (sym agrees.in_body ∙ in_body, is, some, taken_by_some (variable_of c code) (letter ∷ []) change.0),
-      agrees_set m c vs (state_after_item c (scalar letter code)).value_changes m.item agrees in_body change.1,
+      agrees_changed part m c vs code (letter ∷ []) m.item agrees in_body change,
     ))
-sets_bit m vs letter code line (Err fault) between in_body is some takes = λ c begun at.
-    elim (takes c (sym at.0.tick) at.0.variables) [
+sets_bit m vs letter code line (Err fault) between in_body is some takes = λ part c begun at.
+    elim (takes (seen_state part c at.0.seen) (seen_at part m c at.0) at.0.variables) [
       | inl memory ↦ inl memory
-      | inr row ↦ shown_at m c begun (word_on (letter ∷ code) line) fault between in_body at
-          (bit_shows c letter code fault is some row)
+      | inr row ↦ shown_at part m c begun (word_on (letter ∷ code) line) fault between in_body at
+          (bit_shows c letter code fault is some (refuses_file part c at.0.seen code (letter ∷ []) fault row))
     ]
 
 -- ---- changes of two words
@@ -202,10 +202,10 @@ pub begins_real_or_string : (m : Parser) (first : ℕ) (text : List ℕ) (line :
     → m.in_body ≡ true
     → is_among real_or_string_prefixes first ≡ true
     → WordResult m (word_on (first ∷ text) line) (Ok tt) (record m { item = items.RealOrString; line = line })
-begins_real_or_string m first text line between in_body is c begun (agrees, taken) =
+begins_real_or_string m first text line between in_body is part c begun (agrees, taken) =
     let none = none_begun m begun between taken in
     goes_on (
-      agrees_still m c items.RealOrString line agrees,
+      agrees_still part m c items.RealOrString line agrees,
       (
         text,
         record {
@@ -246,52 +246,58 @@ vector_shows c first digits code fault is (variables.too_long d found keeps valu
     value_too_long first digits d refl is found keeps value long which
 
 -- all words of a change by a binary number have been taken
-pub whole_vector : (m : Parser) (c : ParseState) (vs : Variables) (item : OpenItem) (words : List WordOnLine)
-    (letter : ℕ) (digits code : List ℕ) → ParserMatches m c → m.in_body ≡ true
+pub whole_vector : (part : Part) (m : Parser) (c : ParseState) (vs : Variables) (item : OpenItem) (words : List WordOnLine)
+    (letter : ℕ) (digits code : List ℕ) → ParserMatches part m c → m.in_body ≡ true
     → item ≡ items.Nothing → is_among vector_prefixes letter ≡ true → (letter ∷ digits) ∷ code ∷ [] ≡ word_texts words
-    → ChangeResult c code digits (Ok tt) vs → WordStep c words (record m { variables = vs; item = item })
-whole_vector m c vs item words letter digits code agrees in_body closed is spelled change =
-    ends_item (vector letter digits code) spelled (sym agrees.in_body ∙ in_body, is, change.0) (
-      agrees_set m c vs (state_after_item c (vector letter digits code)).value_changes item agrees in_body change.1,
+    → IsSomeAnd (variable_of c code) (λ d. IsTrue (takes_binary_number d digits))
+    → ParserMatches part (record m { variables = vs; item = item }) (state_after_item c (vector letter digits code))
+    → WordStep part c words (record m { variables = vs; item = item })
+whole_vector part m c vs item words letter digits code agrees in_body closed is spelled takes changed =
+    ends_item (vector letter digits code) spelled (sym agrees.in_body ∙ in_body, is, takes) (
+      changed,
       subst (IsBegun (record m { variables = vs; item = item }) []) (sym closed) refl,
     )
 
 -- the code of a change by a binary number shows a fault
-pub vector_shown : (m : Parser) (c : ParseState) (letter : ℕ) (digits code : List ℕ) (fault : Fault) → ParserMatches m c
+pub vector_shown : (part : Part) (m : Parser) (c : ParseState) (letter : ℕ) (digits code : List ℕ) (fault : Fault) → ParserMatches part m c
     → m.in_body ≡ true → is_among vector_prefixes letter ≡ true → RefusesChange c code digits fault
     → WordShows c ((letter ∷ digits) ∷ []) code fault
-vector_shown m c letter digits code fault agrees in_body is row =
+vector_shown part m c letter digits code fault agrees in_body is row =
     among_changes (sym agrees.in_body ∙ in_body) (vector_shows c letter digits code fault is row)
 
 pub ends_vector : (m : Parser) (vs : Variables) (code : List ℕ) (line : ℕ) (r : Result (Unit {0}) Fault)
     → m.item ≡ items.Vector
-    → ((c : ParseState) → c.tick ≡ m.tick → VariablesMatch m.variables c → ChangeResult c code m.digits.items r vs)
+    → ((c : ParseState) → c.tick ≡ seen_tick m.part m.tick → VariablesMatch m.variables c
+    → PartChange m.part m.silent.items m.tick c code m.digits.items m.variables r vs)
     → WordResult m (word_on code line) r (record m { variables = vs; item = items.Nothing })
-ends_vector m vs code line (Ok x) item takes = λ c begun (agrees, taken).
+ends_vector m vs code line (Ok x) item takes = λ part c begun (agrees, taken).
     let b : AwaitsCode m begun vector_prefixes m.digits.items = subst (IsBegun m begun) item taken in
-    whole_vector m c vs items.Nothing (begun ++ word_on code line ∷ []) b.letter m.digits.items code agrees b.in_body
+    let change = takes (seen_state part c agrees.seen) (seen_at part m c agrees) agrees.variables in
+    whole_vector part m c vs items.Nothing (begun ++ word_on code line ∷ []) b.letter m.digits.items code agrees b.in_body
     refl
     b.among
-    (texts_whole m begun vector_prefixes m.digits.items code line b) (takes c (sym agrees.tick) agrees.variables)
-ends_vector m vs code line (Err fault) item takes = λ c begun (agrees, taken).
+    (texts_whole m begun vector_prefixes m.digits.items code line b) change.0
+    (agrees_changed part m c vs code m.digits.items items.Nothing agrees b.in_body change)
+ends_vector m vs code line (Err fault) item takes = λ part c begun (agrees, taken).
     let b : AwaitsCode m begun vector_prefixes m.digits.items = subst (IsBegun m begun) item taken in
-    elim (takes c (sym agrees.tick) agrees.variables) [
+    elim (takes (seen_state part c agrees.seen) (seen_at part m c agrees) agrees.variables) [
       | inl memory ↦ inl memory
       | inr row ↦ inr (subst (λ ts. WordShows c ts code fault)
           (sym (texts_begun m begun vector_prefixes m.digits.items b))
-          (vector_shown m c b.letter m.digits.items code fault agrees b.in_body b.among row))
+          (vector_shown part m c b.letter m.digits.items code fault agrees b.in_body b.among
+          (refuses_file part c agrees.seen code m.digits.items fault row)))
     ]
 
 pub ends_real_or_string : (m : Parser) (code : List ℕ) (line : ℕ) → m.item ≡ items.RealOrString
     → ((c : ParseState) → VariablesMatch m.variables c → is_some (variable_of c code) ≡ true)
     → WordResult m (word_on code line) (Ok tt) (record m { item = items.Nothing })
-ends_real_or_string m code line item declared c begun (agrees, taken) =
+ends_real_or_string m code line item declared part c begun (agrees, taken) =
     let at : (text : List ℕ) × AwaitsCode m begun real_or_string_prefixes text = subst (IsBegun m begun) item taken in
     let text = at.0 in
     let b = at.1 in
     ends_item (real_or_string b.letter text code) (texts_whole m begun real_or_string_prefixes text code line b)
-    (sym agrees.in_body ∙ b.in_body, b.among, declared c agrees.variables) (
-      agrees_still m c items.Nothing m.line agrees,
+    (sym agrees.in_body ∙ b.in_body, b.among, declared (seen_state part c agrees.seen) agrees.variables) (
+      agrees_still part m c items.Nothing m.line agrees,
       refl,
     )
 
@@ -302,7 +308,7 @@ none_is (Some d) h = not_both refl h
 pub unknown_real_or_string : (m new : Parser) (code : List ℕ) (line : ℕ) → m.item ≡ items.RealOrString
     → ((c : ParseState) → VariablesMatch m.variables c → is_some (variable_of c code) ≡ false)
     → WordResult m (word_on code line) (Err UnknownCode) new
-unknown_real_or_string m new code line item unknown c begun (agrees, taken) =
+unknown_real_or_string m new code line item unknown part c begun (agrees, taken) =
     let at : (text : List ℕ) × AwaitsCode m begun real_or_string_prefixes text = subst (IsBegun m begun) item taken in
     let text = at.0 in
     let b = at.1 in
@@ -310,4 +316,4 @@ unknown_real_or_string m new code line item unknown c begun (agrees, taken) =
     ∙ b.in_body) (subst (λ ts. ChangeShows c ts code UnknownCode)
     (sym (texts_begun m begun real_or_string_prefixes text b))
     (unknown_pair_code b.letter text refl (among_last vector_prefixes real_or_string_prefixes b.letter b.among)
-    (none_is (variable_of c code) (unknown c agrees.variables)) refl)))
+    (none_is (variable_of c code) (unknown (seen_state part c agrees.seen) agrees.variables)) refl)))

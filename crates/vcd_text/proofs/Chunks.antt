@@ -23,7 +23,7 @@ use Rattle.vcd_text.specs.Words.{WordOnLine, line_after, with_longer_first, with
 use Rattle.vcd_text.specs.Words.{words_of, complete_words}
 use Rattle.vcd_text.specs.Grammar.{ParseState}
 use Rattle.vcd_text.specs.Faults.{IsFileFault, ShowsFault, shown, none_shown}
-use Rattle.vcd_text.specs.FoundFaults.{IsFoundFault}
+use Rattle.vcd_text.specs.FoundFaults.{IsFoundFault, word_shows}
 use Rattle.vcd_text.specs.FoundFaults.{PrefixShows}
 use Rattle.vcd_text.specs.Faults.{ChangeShows, IsPrefixAnswer}
 use Rattle.vcd_text.specs.Refusals.{IsRefusal, has_fault, too_large, no_memory}
@@ -38,6 +38,7 @@ use Rattle.vcd_text.proofs.FileFaults.{file_fault, prefix_fault_stays}
 use Rattle.vcd_text.proofs.WordLaws.{line_feeds_of_both, no_line_feeds, word_part}
 use Rattle.vcd_text.specs.inside.ReadBufferView.{ReadBufferView}
 use Rattle.std.proofs.lemmas.Grind.{common_steps}
+use Rattle.vcd_text.specs.declared.reading.part.Part.{Part}
 
 -- ---- line feeds
 
@@ -104,7 +105,7 @@ words_complete end_counts line (b ∷ c ∷ text) rest complete =
 
 -- ---- one more chunk
 
-module _ (p : FileReader) (from len : ℕ) (bytes complete_text : List ℕ) (come : HasUntakenChunk p from bytes)
+module _ (part : Part) (p : FileReader) (from len : ℕ) (bytes complete_text : List ℕ) (come : HasUntakenChunk part p from bytes)
     (ends : has_complete_words (take len p.buffer.bytes) ≡ true)
     (no_space : list_all (λ b. not (is_white_space b)) (drop len p.buffer.bytes) ≡ true)
     (prefix : complete_text ≡ take len p.buffer.bytes) where
@@ -136,8 +137,8 @@ module _ (p : FileReader) (from len : ℕ) (bytes complete_text : List ℕ) (com
       ∙ ap (λ words. complete_words come.before ++ words) (append-nil complete)
 
   -- the complete words have been taken
-  pub now_taken : (new : Parser) → HasTakenWords new (complete_words come.before ++ complete)
-      → HasTaken new back (p.line_feeds + line_feeds_in complete_text) p.bytes_left bytes
+  pub now_taken : (new : Parser) → HasTakenWords part new (complete_words come.before ++ complete)
+      → HasTaken part new back (p.line_feeds + line_feeds_in complete_text) p.bytes_left bytes
   now_taken new reads =
       grind (
         arith,
@@ -160,27 +161,29 @@ module _ (p : FileReader) (from len : ℕ) (bytes complete_text : List ℕ) (com
 
 -- ---- nothing has been read, or all has been
 
-pub nothing_taken : (m : Parser) (word : List ℕ) → word ≡ [] → HasTakenWords m [] → HasTaken m word 0 FILE_LIMIT []
+pub nothing_taken : (part : Part) (m : Parser) (word : List ℕ) → word ≡ [] → HasTakenWords part m [] → HasTaken part m word 0 FILE_LIMIT []
 unfolding words_from
-nothing_taken m word none reads = grind arith
+nothing_taken part m word none reads = grind arith
 
 -- the words so far, and the last one
-all_words : (p : FileReader) (text bytes : List ℕ) → HasReadBytes p bytes → text ≡ p.buffer.bytes
+all_words : (part : Part) (p : FileReader) (text bytes : List ℕ) → HasReadBytes part p bytes → text ≡ p.buffer.bytes
     → complete_words bytes ++ words_from true (p.line_feeds + 1) text ≡ words_of bytes
-all_words p text bytes taken is =
+all_words part p text bytes taken is =
     ap (λ word. complete_words bytes ++ words_from true (p.line_feeds + 1) word) (is ∙ sym (append-nil p.buffer.bytes))
     ∙ sym (taken.words true []) ∙ ap (words_from true 1) (append-nil bytes)
 
 -- so all words of the bytes have been taken, or one shows a fault
-pub last_taken : (p : FileReader) (new : Parser) (text bytes : List ℕ) → HasReadBytes p bytes → text ≡ p.buffer.bytes
-    → HasTakenWords new (complete_words bytes ++ words_from true (p.line_feeds + 1) text)
-    → HasTakenWords new (words_of bytes)
-last_taken p new text bytes taken is reads = subst (HasTakenWords new) (all_words p text bytes taken is) reads
+pub last_taken : (part : Part) (p : FileReader) (new : Parser) (text bytes : List ℕ) → HasReadBytes part p bytes → text ≡ p.buffer.bytes
+    → HasTakenWords part new (complete_words bytes ++ words_from true (p.line_feeds + 1) text)
+    → HasTakenWords part new (words_of bytes)
+last_taken part p new text bytes taken is reads = subst (HasTakenWords part new) (all_words part p text bytes taken is) reads
 
-pub last_shown : (p : FileReader) (text bytes : List ℕ) (e : ReadError) → HasReadBytes p bytes → text ≡ p.buffer.bytes
+pub last_shown : (part : Part) (p : FileReader) (text bytes : List ℕ) (e : ReadError) → HasReadBytes part p bytes → text ≡ p.buffer.bytes
     → (e ≡ memory_error) ⊎ ShowsFault (complete_words bytes ++ words_from true (p.line_feeds + 1) text) e.line e.fault
     → (e ≡ memory_error) ⊎ IsFoundFault bytes e.line e.fault
-last_shown p text bytes e h4 h5 h6 = grind (arith, all_words)
+last_shown part p text bytes e taken is (inl none) = inl none
+last_shown part p text bytes e taken is (inr shows) =
+    inr (word_shows (subst (λ words. ShowsFault words e.line e.fault) (all_words part p text bytes taken is) shows))
 
 -- ---- results for a file of which these bytes have come
 
@@ -211,16 +214,16 @@ shown_early (Some xs) (Some ys) failed bytes e ready consumes within (inr shows)
     ]
 
 -- the file has more bytes than the limit
-pub full : (coming middle left : Option (List ℕ)) (failed : Bool) (p : FileReader)
+pub full : (part : Part) (coming middle left : Option (List ℕ)) (failed : Bool) (p : FileReader)
     (bytes chunk : List ℕ) (e : ReadError)
     → IsFalse failed → Consumes coming middle bytes → Consumes middle left chunk → 0 < length chunk → p.bytes_left ≡ 0
-    → HasReadBytes p bytes
+    → HasReadBytes part p bytes
     → e ≡ record { line = p.line_feeds + 1; fault = faults.TooLarge }
     → IfSome coming (λ file. IsRefusal file failed left e)
-full coming middle left failed p bytes chunk e ready first second some none taken is =
+full part coming middle left failed p bytes chunk e ready first second some none taken is =
     larger coming left failed bytes e ready
     (over coming left (Consumes-trans coming middle left bytes chunk first second))
-    (inr (none_shown (shows_none p.parser (complete_words bytes) taken.taken_words)
+    (inr (none_shown (shows_none part p.parser (complete_words bytes) taken.taken_words)
     (ap (λ (e : ReadError). e.line) is ∙ sym taken.lines) (ap (λ (e : ReadError). e.fault) is)))
   where
     over : (coming left : Option (List ℕ)) → Consumes coming left (bytes ++ chunk)
@@ -242,14 +245,14 @@ full coming middle left failed p bytes chunk e ready first second some none take
     )
 
 -- the reader failed
-pub broken : (coming middle left : Option (List ℕ)) (failed : Bool) (p : FileReader) (bytes : List ℕ) (e : ReadError)
-    → IsTrue failed → Consumes coming middle bytes → Keeps middle left → HasReadBytes p bytes
+pub broken : (part : Part) (coming middle left : Option (List ℕ)) (failed : Bool) (p : FileReader) (bytes : List ℕ) (e : ReadError)
+    → IsTrue failed → Consumes coming middle bytes → Keeps middle left → HasReadBytes part p bytes
     → e ≡ record { line = p.line_feeds + 1; fault = faults.ReadFault }
     → IfSome coming (λ file. IsRefusal file failed left e)
-broken coming middle left failed p bytes e has consumes keeps taken is =
+broken part coming middle left failed p bytes e has consumes keeps taken is =
     failing coming left failed bytes e has (Consumes-kept coming middle left bytes consumes keeps)
     (omega (arith, taken.size))
-    (inr (none_shown (shows_none p.parser (complete_words bytes) taken.taken_words)
+    (inr (none_shown (shows_none part p.parser (complete_words bytes) taken.taken_words)
     (ap (λ (e : ReadError). e.line) is ∙ sym taken.lines) (ap (λ (e : ReadError). e.fault) is)))
 
 -- the whole file came
@@ -285,16 +288,16 @@ is_no_file_failure bytes e h2 h3 = grind (arith, by_change)
 -- ---- a chunk after the bytes taken
 
 -- the chunk came after the word that can go on
-pub has_come : (p : FileReader) (buffer : ReadBufferView) (from count : ℕ) (before word chunk : List ℕ)
-    → HasReadBytes p before
+pub has_come : (part : Part) (p : FileReader) (buffer : ReadBufferView) (from count : ℕ) (before word chunk : List ℕ)
+    → HasReadBytes part p before
     → buffer.bytes ≡ word ++ chunk → word ≡ p.buffer.bytes → count ≡ length chunk → count ≤ p.bytes_left
     → from ≡ length word
-    → HasUntakenChunk (record p { buffer = buffer; bytes_left = p.bytes_left - count }) from (before ++ chunk)
-has_come p buffer from count before word chunk taken text same many within len = grind arith
+    → HasUntakenChunk part (record p { buffer = buffer; bytes_left = p.bytes_left - count }) from (before ++ chunk)
+has_come part p buffer from count before word chunk taken text same many within len = grind arith
 
 -- the first bytes of the text are those of the word that can go on
-pub word_is_first : (p : FileReader) (from : ℕ) (bytes : List ℕ) → HasUntakenChunk p from bytes
+pub word_is_first : (part : Part) (p : FileReader) (from : ℕ) (bytes : List ℕ) → HasUntakenChunk part p from bytes
     → (from ≤ length p.buffer.bytes) × (list_all (λ b. not (is_white_space b)) (take from p.buffer.bytes) ≡ true)
     × (length bytes + p.bytes_left ≡ FILE_LIMIT) × (length p.buffer.bytes ≤ length bytes)
     × (p.line_feeds ≤ length bytes)
-word_is_first p from bytes come = grind (arith, length-append, count_by-le-length, take-append_seam)
+word_is_first part p from bytes come = grind (arith, length-append, count_by-le-length, take-append_seam)

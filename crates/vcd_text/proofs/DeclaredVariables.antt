@@ -88,7 +88,7 @@ module _ (log : ℕ → List LoggedChange) (value_changes : List ValueChange) (t
   stands_still vs code target None s = s
   stands_still vs code target (Some d) s = s
 
-one_position : (v w i j : ℕ) → Kept v i ≡ Kept w j → i ≡ j
+pub one_position : (v w i j : ℕ) → Kept v i ≡ Kept w j → i ≡ j
 one_position v w i j same = grind arith
 
 -- the code of a declaration has this target from now on, and the others keep theirs

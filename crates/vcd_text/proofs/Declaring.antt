@@ -23,6 +23,7 @@ use Rattle.vcd_text.specs.Grammar.{ParseState, Allows, state_after_item, word_te
 use Rattle.vcd_text.specs.Grammar.{has_good_size, declaration_of}
 use Rattle.vcd_text.specs.Faults.{WordShows, DeclarationShows, no_timescale, no_size, missing_part}
 use Rattle.vcd_text.specs.Faults.{among_declarations}
+use Rattle.vcd_text.specs.Faults as rows
 use Rattle.vcd_text.specs.inside.Scopes.{open_scopes, KeepsPlaces}
 use Rattle.vcd_text.specs.inside.Variables.{VariablesMatch, Declares, DeclaresWords}
 use Rattle.vcd_text.specs.inside.Reading.{ParserMatches, Collects, CollectsVariable, PassesOver, IsBegun}
@@ -32,6 +33,15 @@ use Rattle.vcd_text.specs.inside.Reading.{ends_item, WordResult}
 use Rattle.vcd_text.specs.declared.reading.parser.Parser.{Parser}
 use Rattle.vcd_text.specs.declared.reading.parser.OpenItem.TheVariants as items
 use Rattle.vcd_text.specs.declared.reading.scopes.Scopes.{Scopes}
+use Rattle.vcd_text.specs.declared.reading.part.Part.{Part}
+use Rattle.vcd_text.specs.inside.SeenParts.{seen_state, TellsPart, HearsPart, HearsVariables}
+use Rattle.vcd_text.specs.Grammar.{ValueChange, kept_variables}
+use Rattle.vcd_text.specs.Meaning.{latest_value}
+use Rattle.vcd_core.specs.Value.{all_x}
+use Rattle.std.specs.Prelude.{slice_index_or}
+use Rattle.std.proofs.lemmas.Option.{slice_get_cases, slice_get_within}
+use Rattle.vcd_text.proofs.DeclaredVariables.{one_position}
+use Rattle.vcd_text.proofs.VariablesMatch.{kept_long}
 use Rattle.vcd_text.specs.declared.reading.variables.Variables.{Variables}
 use Rattle.vcd_text.proofs.VariablesMatch.{knows_further, scopes_moved}
 use Rattle.vcd_text.proofs.FileAnswers.{texts_more}
@@ -47,17 +57,67 @@ still_known vs c header unit in_body k = knows_further vs c header unit in_body 
 -- ---- the end of an item
 
 -- the parser matches a state, part by part
-pub agrees_by : (m : Parser) (c : ParseState) → m.header.items ≡ c.header → m.timescale ≡ c.timescale
-    → m.in_body ≡ c.in_body → m.tick ≡ c.tick
-    → VariablesMatch m.variables c → (IsFalse c.in_body → c.value_changes ≡ []) → ParserMatches m c
-agrees_by m c header time in_body tick variables no_early_change = grind arith
+pub agrees_by : (part : Part) (m : Parser) (c : ParseState) (seen : List ValueChange)
+    → m.header.items ≡ c.header → m.timescale ≡ c.timescale
+    → m.in_body ≡ c.in_body → m.tick ≡ c.tick → m.part ≡ part
+    → VariablesMatch m.variables (seen_state part c seen) → (IsFalse c.in_body → c.value_changes ≡ [])
+    → (IsFalse c.in_body → seen ≡ []) → TellsPart part c seen
+    → (IsTrue c.in_body → HearsPart part m.silent.items m.variables c) → ParserMatches part m c
+agrees_by part m c seen header time in_body tick is variables no_early_change none tells hears = record {
+  header = header;
+  timescale = time;
+  in_body = in_body;
+  tick = tick;
+  part_is = is;
+  seen = seen;
+  variables = variables;
+  no_early_change = no_early_change;
+  none_seen = none;
+  tells = tells;
+  hears = hears;
+}
+
+-- before the first change nothing is to be told
+pub tells_nothing : (part : Part) (c : ParseState) (seen : List ValueChange) → c.value_changes ≡ [] → seen ≡ []
+    → TellsPart part c seen
+unfolding latest_value
+tells_nothing part c seen none none_seen position d remains t within =
+    ap (latest_value d.size d.code t (all_x d.size)) none_seen
+    ∙ sym (ap (latest_value d.size d.code (part.first + t) (all_x d.size)) none)
+
+-- among the declarations no code need be heard
+hears_none : {A : Type 0} (b : Bool) → IsFalse b → IsTrue b → A
+hears_none b isnt is = let both : true ≡ false = sym is ∙ isnt in absurd (cc)
+
+-- the parser matches a state among the declarations
+agrees_early : (part : Part) (m : Parser) (c : ParseState) (seen : List ValueChange)
+    → m.header.items ≡ c.header → m.timescale ≡ c.timescale
+    → m.in_body ≡ c.in_body → m.tick ≡ c.tick → m.part ≡ part
+    → VariablesMatch m.variables (seen_state part c seen) → c.value_changes ≡ [] → seen ≡ [] → IsFalse c.in_body
+    → ParserMatches part m c
+agrees_early part m c seen header time in_body tick is variables none none_seen early =
+    agrees_by part m c seen header time in_body tick is variables (λ _. none) (λ _. none_seen)
+    (tells_nothing part c seen none none_seen) (λ in_it. hears_none c.in_body early in_it)
+
+-- a parser that differs only in the open item matches the same state
+pub agrees_as : (part : Part) (m new : Parser) (c : ParseState) → ParserMatches part m c → new.header ≡ m.header
+    → new.timescale ≡ m.timescale → new.in_body ≡ m.in_body → new.tick ≡ m.tick → new.part ≡ m.part
+    → new.variables ≡ m.variables → new.silent ≡ m.silent → ParserMatches part new c
+agrees_as part m new c a header time in_body tick is variables silent =
+    agrees_by part new c a.seen (ap (λ (v : Vec Header). v.items) header ∙ a.header) (time ∙ a.timescale)
+    (in_body ∙ a.in_body)
+    (tick ∙ a.tick) (is ∙ a.part_is) (subst (λ vs. VariablesMatch vs (seen_state part c a.seen)) (sym variables)
+    a.variables)
+    a.no_early_change a.none_seen a.tells
+    (λ in_it. subst (λ (s : Vec Bool). HearsPart part s.items new.variables c) (sym silent)
+    (subst (λ vs. HearsPart part m.silent.items vs c) (sym variables) (a.hears in_it)))
 
 -- if the conditions of the open item hold, its `$end` ends it
-ends_here : (new : Parser) (c : ParseState) (begun : List WordOnLine) (line : ℕ) (i : Item) (words : List (List ℕ))
+ends_here : (part : Part) (new : Parser) (c : ParseState) (begun : List WordOnLine) (line : ℕ) (i : Item) (words : List (List ℕ))
     → word_texts begun ≡ words → spelling i ≡ words ++ end_word ∷ [] → Allows c i
-    → ParserMatches new (state_after_item c i) → new.item ≡ items.Nothing
-    → WordStep c (begun ++ word_on end_word line ∷ []) new
-ends_here new c begun line i words spelled whole allows agrees closed =
+    → ParserMatches part new (state_after_item c i) → new.item ≡ items.Nothing
+    → WordStep part c (begun ++ word_on end_word line ∷ []) new
+ends_here part new c begun line i words spelled whole allows agrees closed =
     ends_item i (whole ∙ (grind (arith, texts_more))) allows
     (agrees, subst (IsBegun new []) (sym closed) refl)
 
@@ -65,40 +125,44 @@ ends_here new c begun line i words spelled whole allows agrees closed =
 pub closes_entry : (m new : Parser) (kind : HeaderKind) → m.item ≡ items.Entry kind
     → new.header.items ≡ m.header.items ++ record { kind = kind; words = m.words.items } ∷ []
     → new ≡ record m { header = new.header; words = new.words; item = items.Nothing }
-    → (line : ℕ) (c : ParseState) (begun : List WordOnLine) → IsAtState m c begun
-    → WordStep c (begun ++ word_on end_word line ∷ []) new
-closes_entry m new kind is pushed others line c begun at =
+    → (line : ℕ) (part : Part) (c : ParseState) (begun : List WordOnLine) → IsAtState part m c begun
+    → WordStep part c (begun ++ word_on end_word line ∷ []) new
+closes_entry m new kind is pushed others line part c begun at =
     let a = at.0 in
     let b : Collects m begun (header_word kind) = subst (IsBegun m begun) is at.1 in
+    let early : IsFalse c.in_body = sym a.in_body ∙ b.declares in
     let i : Item = entry kind m.words.items in
-    subst (WordStep c (begun ++ word_on end_word line ∷ [])) (sym others)
-    (ends_here (record m { header = new.header; words = new.words; item = items.Nothing }) c begun line i
+    subst (WordStep part c (begun ++ word_on end_word line ∷ [])) (sym others)
+    (ends_here part (record m { header = new.header; words = new.words; item = items.Nothing }) c begun line i
     (header_word kind ∷ m.words.items)
     b.spelled refl (sym a.in_body ∙ b.declares, b.no_end)
-    (agrees_by _ _ (pushed ∙ ap (λ h. h ++ record { kind = kind; words = m.words.items } ∷ []) a.header)
-    a.timescale a.in_body a.tick
-    (still_known m.variables c (state_after_item c i).header c.timescale c.in_body a.variables) a.no_early_change) refl)
+    (agrees_early part _ _ a.seen (pushed ∙ ap (λ h. h ++ record { kind = kind; words = m.words.items } ∷ []) a.header)
+    a.timescale a.in_body a.tick a.part_is
+    (still_known m.variables (seen_state part c a.seen) (state_after_item c i).header c.timescale c.in_body
+    a.variables) (a.no_early_change early) (a.none_seen early) early) refl)
 
 -- a timescale replaces the one before
 pub closes_timescale : (m : Parser) (found : Timescale) → m.item ≡ items.Timescale
     → timescale_of m.words.items ≡ Some found
-    → (line : ℕ) (c : ParseState) (begun : List WordOnLine) → IsAtState m c begun
-    → WordStep c (begun ++ word_on end_word line ∷ []) (record m { timescale = Some found; item = items.Nothing })
-closes_timescale m found is some line c begun at =
+    → (line : ℕ) (part : Part) (c : ParseState) (begun : List WordOnLine) → IsAtState part m c begun
+    → WordStep part c (begun ++ word_on end_word line ∷ []) (record m { timescale = Some found; item = items.Nothing })
+closes_timescale m found is some line part c begun at =
     let a = at.0 in
     let b : Collects m begun (codes "$timescale") = subst (IsBegun m begun) is at.1 in
+    let early : IsFalse c.in_body = sym a.in_body ∙ b.declares in
     let i : Item = timescale m.words.items in
-    ends_here (record m { timescale = Some found; item = items.Nothing }) c begun line i
+    ends_here part (record m { timescale = Some found; item = items.Nothing }) c begun line i
     (codes "$timescale" ∷ m.words.items)
     b.spelled refl (sym a.in_body ∙ b.declares, b.no_end, subst IsSome (sym some) refl)
-    (agrees_by _ _ a.header (sym some) a.in_body a.tick
-    (still_known m.variables c c.header (timescale_of m.words.items) c.in_body a.variables) a.no_early_change) refl
+    (agrees_early part _ _ a.seen a.header (sym some) a.in_body a.tick a.part_is
+    (still_known m.variables (seen_state part c a.seen) c.header (timescale_of m.words.items) c.in_body a.variables)
+    (a.no_early_change early) (a.none_seen early) early) refl
 
 -- the words spell no timescale
 pub shows_no_timescale : (m : Parser) → m.item ≡ items.Timescale → timescale_of m.words.items ≡ None
-    → (c : ParseState) (begun : List WordOnLine) → IsAtState m c begun
+    → (part : Part) (c : ParseState) (begun : List WordOnLine) → IsAtState part m c begun
     → WordShows c (word_texts begun) end_word faults.BadTimescale
-shows_no_timescale m is none c begun at =
+shows_no_timescale m is none part c begun at =
     let b : Collects m begun (codes "$timescale") = subst (IsBegun m begun) is at.1 in
     among_declarations (sym at.0.in_body ∙ b.declares) (no_timescale m.words.items b.spelled refl b.no_end none refl)
 
@@ -106,18 +170,19 @@ shows_no_timescale m is none c begun at =
 pub closes_scope : (m : Parser) (scopes : Scopes) (rest : Vec (List ℕ)) (s : ScopeName) → m.item ≡ items.Scope
     → m.words.items ≡ s.kind ∷ s.words → open_scopes scopes ≡ open_scopes m.variables.scopes ++ s ∷ []
     → KeepsPlaces m.variables.scopes scopes
-    → (line : ℕ) (c : ParseState) (begun : List WordOnLine) → IsAtState m c begun
-    → WordStep c (begun ++ word_on end_word line ∷ [])
+    → (line : ℕ) (part : Part) (c : ParseState) (begun : List WordOnLine) → IsAtState part m c begun
+    → WordStep part c (begun ++ word_on end_word line ∷ [])
     (record m { variables = record m.variables { scopes = scopes }; words = rest; item = items.Nothing })
-closes_scope m scopes rest s is words pushed keeps line c begun at =
+closes_scope m scopes rest s is words pushed keeps line part c begun at =
     let a = at.0 in
     let b : Collects m begun (codes "$scope") = subst (IsBegun m begun) is at.1 in
-    ends_here _ c begun line (scope s.kind s.words) (codes "$scope" ∷ s.kind ∷ s.words)
+    let early : IsFalse c.in_body = sym a.in_body ∙ b.declares in
+    ends_here part _ c begun line (scope s.kind s.words) (codes "$scope" ∷ s.kind ∷ s.words)
     (b.spelled ∙ ap (λ ws. codes "$scope" ∷ ws) words) refl
     (sym a.in_body ∙ b.declares, ap has_no_end_word (sym words) ∙ b.no_end)
-    (agrees_by _ _ a.header a.timescale a.in_body a.tick
-    (scopes_moved m.variables scopes c (c.scopes ++ s ∷ [])
-    (pushed ∙ ap (λ ss. ss ++ s ∷ []) a.variables.opened) keeps a.variables) a.no_early_change) refl
+    (agrees_early part _ _ a.seen a.header a.timescale a.in_body a.tick a.part_is
+    (scopes_moved m.variables scopes (seen_state part c a.seen) (c.scopes ++ s ∷ [])
+    (pushed ∙ ap (λ ss. ss ++ s ∷ []) a.variables.opened) keeps a.variables) (a.no_early_change early) (a.none_seen early) early) refl
 
 -- as many scopes are open as in the state
 pub so_deep : (vs : Variables) (c : ParseState) → VariablesMatch vs c → length c.scopes ≡ vs.scopes.depth
@@ -128,45 +193,70 @@ so_deep vs c k = ap (length {A = ScopeName}) (sym k.opened)
 pub closes_upscope : (m : Parser) (scopes : Scopes) → m.item ≡ items.Upscope
     → open_scopes scopes ≡ take (length (open_scopes m.variables.scopes) - 1) (open_scopes m.variables.scopes)
     → KeepsPlaces m.variables.scopes scopes
-    → (line : ℕ) (c : ParseState) (begun : List WordOnLine) → IsAtState m c begun
-    → WordStep c (begun ++ word_on end_word line ∷ [])
+    → (line : ℕ) (part : Part) (c : ParseState) (begun : List WordOnLine) → IsAtState part m c begun
+    → WordStep part c (begun ++ word_on end_word line ∷ [])
     (record m { variables = record m.variables { scopes = scopes }; item = items.Nothing })
-closes_upscope m scopes is popped keeps line c begun at =
+closes_upscope m scopes is popped keeps line part c begun at =
     let a = at.0 in
     let b : IsFalse m.in_body × (word_texts begun ≡ codes "$upscope" ∷ []) × (0 < m.variables.scopes.depth) =
     grind arith in
-    ends_here _ c begun line upscope (codes "$upscope" ∷ [])
-    b.1 refl (sym a.in_body ∙ b.0, omega (arith, so_deep m.variables c a.variables, b.2))
-    (agrees_by _ _ a.header a.timescale a.in_body a.tick
-    (scopes_moved m.variables scopes c (take (length c.scopes - 1) c.scopes)
+    let early : IsFalse c.in_body = sym a.in_body ∙ b.0 in
+    ends_here part _ c begun line upscope (codes "$upscope" ∷ [])
+    b.1 refl (sym a.in_body ∙ b.0, omega (arith, so_deep m.variables (seen_state part c a.seen) a.variables, b.2))
+    (agrees_early part _ _ a.seen a.header a.timescale a.in_body a.tick a.part_is
+    (scopes_moved m.variables scopes (seen_state part c a.seen) (take (length c.scopes - 1) c.scopes)
     (popped ∙ ap (λ (ss : List ScopeName). take (length ss - 1) ss) a.variables.opened) keeps a.variables)
-    a.no_early_change) refl
+    (a.no_early_change early) (a.none_seen early) early) refl
+
+-- the codes of the variables that remain are heard
+heard_codes : (part : Part) (vs : Variables) (c : ParseState) (seen : List ValueChange) (silent : List Bool)
+    → VariablesMatch vs (seen_state part c seen) → HearsVariables vs.kept.items part.left_out.items silent
+    → HearsPart part silent vs c
+heard_codes part vs c seen silent k hears position d (declared, remains) width first target =
+    elim (slice_get_cases vs.kept.items position).1 [
+      | inl (v, within, at, read) ↦
+          let same = one_position width v.wave.width first v.first
+          (sym target ∙ (k.firsts position v at).owned d declared) in
+          subst (λ n. slice_index_or silent n false ≡ false) (sym same) (hears position v at remains)
+      | inr (past, at) ↦ absurd (omega (
+        arith,
+        past,
+        kept_long vs (seen_state part c seen) k,
+        slice_get_within (kept_variables c.declared) position d declared,
+      ))
+    ]
 
 -- the changes begin
-pub closes_definitions : (m : Parser) → m.item ≡ items.EndDefinitions
-    → (line : ℕ) (c : ParseState) (begun : List WordOnLine) → IsAtState m c begun
-    → WordStep c (begun ++ word_on end_word line ∷ []) (record m { in_body = true; item = items.Nothing })
-closes_definitions m is line c begun at =
+pub closes_definitions : (m : Parser) (silent : Vec Bool) → m.item ≡ items.EndDefinitions
+    → HearsVariables m.variables.kept.items m.part.left_out.items silent.items
+    → (line : ℕ) (part : Part) (c : ParseState) (begun : List WordOnLine) → IsAtState part m c begun
+    → WordStep part c (begun ++ word_on end_word line ∷ [])
+    (record m { silent = silent; in_body = true; item = items.Nothing })
+closes_definitions m silent is hears line part c begun at =
     let a = at.0 in
     let b : IsFalse m.in_body × (word_texts begun ≡ codes "$enddefinitions" ∷ []) =
     subst (IsBegun m begun) is at.1 in
-    ends_here (record m { in_body = true; item = items.Nothing }) c begun line end_definitions
+    let early : IsFalse c.in_body = sym a.in_body ∙ b.0 in
+    ends_here part (record m { silent = silent; in_body = true; item = items.Nothing }) c begun line
+    end_definitions
     (codes "$enddefinitions" ∷ [])
     b.1 refl (sym a.in_body ∙ b.0)
-    (agrees_by _ _ a.header a.timescale refl a.tick
-    (still_known m.variables c c.header c.timescale true a.variables)
-    (λ _. a.no_early_change (sym a.in_body ∙ b.0))) refl
+    (agrees_by part _ _ a.seen a.header a.timescale refl a.tick a.part_is
+    (still_known m.variables (seen_state part c a.seen) c.header c.timescale true a.variables)
+    (λ _. a.no_early_change early) (λ _. a.none_seen early) a.tells
+    (λ _. heard_codes part m.variables c a.seen silent.items a.variables
+    (subst (λ (q : Part). HearsVariables m.variables.kept.items q.left_out.items silent.items) a.part_is hears))) refl
 
 -- another command changes nothing
 pub closes_other : (m : Parser) → m.item ≡ items.Other
-    → (line : ℕ) (c : ParseState) (begun : List WordOnLine) → IsAtState m c begun
-    → WordStep c (begun ++ word_on end_word line ∷ []) (record m { item = items.Nothing })
-closes_other m is line c begun at =
+    → (line : ℕ) (part : Part) (c : ParseState) (begun : List WordOnLine) → IsAtState part m c begun
+    → WordStep part c (begun ++ word_on end_word line ∷ []) (record m { item = items.Nothing })
+closes_other m is line part c begun at =
     let a = at.0 in
     let b : PassesOver m begun = subst (IsBegun m begun) is at.1 in
-    ends_here (record m { item = items.Nothing }) c begun line (other b.keyword b.words) (b.keyword ∷ b.words)
+    ends_here part (record m { item = items.Nothing }) c begun line (other b.keyword b.words) (b.keyword ∷ b.words)
     b.spelled refl (ap (λ in_body. is_other in_body b.keyword) (sym a.in_body) ∙ b.other, b.no_end)
-    (agrees_by _ _ a.header a.timescale a.in_body a.tick a.variables a.no_early_change) refl
+    (agrees_as part m _ c a refl refl refl refl refl refl refl) refl
 
 -- ---- variables
 
@@ -180,7 +270,7 @@ short_words c (kind ∷ size ∷ words) short = absurd (omega (arith, short))
 -- a variable that ends before its size
 pub ends_early : (m new : Parser) → m.item ≡ items.Variable → (line : ℕ)
     → WordResult m (word_on end_word line) (Err faults.BadVar) new
-ends_early m new is line c begun at =
+ends_early m new is line part c begun at =
     let b : Collects m begun (codes "$var") × (length m.words.items ≤ 1) = subst (IsBegun m begun) is at.1 in
     let short = short_words c m.words.items b.1 in
     inr (among_declarations (sym at.0.in_body ∙ b.0.declares)
@@ -189,19 +279,35 @@ ends_early m new is line c begun at =
 -- the variables have the declaration
 pub closes_variable : (m : Parser) (variables : Variables) (words : List (List ℕ)) (rest : Vec (List ℕ))
     → words ≡ m.words.items → DeclaresWords words m.size m.variables (Ok tt) variables
-    → m.item ≡ items.SizedVariable → (line : ℕ) (c : ParseState) (begun : List WordOnLine) → IsAtState m c begun
-    → WordStep c (begun ++ word_on end_word line ∷ [])
+    → m.item ≡ items.SizedVariable → (line : ℕ) (part : Part) (c : ParseState) (begun : List WordOnLine) → IsAtState part m c begun
+    → WordStep part c (begun ++ word_on end_word line ∷ [])
     (record m { variables = variables; words = rest; item = items.Nothing })
-closes_variable m variables words rest spelled declare is line c begun at =
+closes_variable m variables words rest spelled declare is line part c begun at =
     let a = at.0 in
     let b : CollectsVariable m begun = subst (IsBegun m begun) is at.1 in
     let declares : IsFalse c.in_body = sym a.in_body ∙ b.declares in
     let all : List (List ℕ) = b.kind ∷ b.word ∷ b.following in
-    let d : Declares c all (Ok tt) variables =
-    declare c b.kind b.word b.following (spelled ∙ b.words) b.size (a.no_early_change declares) a.variables in
-    ends_here _ c begun line (variable all) (codes "$var" ∷ all)
+    let d : Declares (seen_state part c a.seen) all (Ok tt) variables =
+    declare (seen_state part c a.seen) b.kind b.word b.following (spelled ∙ b.words) b.size (a.none_seen declares)
+    a.variables in
+    ends_here part _ c begun line (variable all) (codes "$var" ∷ all)
     b.spelled refl (declares, b.no_end, b.number, d.0)
-    (agrees_by _ _ a.header a.timescale a.in_body a.tick d.1 a.no_early_change) refl
+    (agrees_early part _ _ a.seen a.header a.timescale a.in_body a.tick a.part_is d.1
+    (a.no_early_change declares) (a.none_seen declares) declares) refl
+
+-- a fault in the state that is kept is one in the state of the file
+shows_file : (part : Part) (c : ParseState) (seen : List ValueChange) (begun : List (List ℕ)) (word : List ℕ)
+    (fault : Fault) → DeclarationShows (seen_state part c seen) begun word fault → DeclarationShows c begun word fault
+shows_file part c seen begun word fault (rows.begins_no_declaration e f g) = rows.begins_no_declaration e f g
+shows_file part c seen begun word fault (rows.no_timescale ws e f g h i) = rows.no_timescale ws e f g h i
+shows_file part c seen begun word fault (rows.missing_kind e f g) = rows.missing_kind e f g
+shows_file part c seen begun word fault (rows.upscope_at_top e f g h) = rows.upscope_at_top e f g h
+shows_file part c seen begun word fault (rows.upscope_goes_on e f g h) = rows.upscope_goes_on e f g h
+shows_file part c seen begun word fault (rows.no_size kind e f g h) = rows.no_size kind e f g h
+shows_file part c seen begun word fault (rows.missing_part ws e f g h i j) = rows.missing_part ws e f g h i j
+shows_file part c seen begun word fault (rows.code_mixed ws d e f g h i j k) = rows.code_mixed ws d e f g h i j k
+shows_file part c seen begun word fault (rows.one_too_many ws d e f g h i j k l) = rows.one_too_many ws d e f g h i j k l
+shows_file part c seen begun word fault (rows.definitions_go_on e f g) = rows.definitions_go_on e f g
 
 -- the words declare no variable that is allowed here
 pub shows_no_variable : (m new : Parser) (result : Result (Unit {0}) Fault) (fault : Fault) (variables : Variables)
@@ -210,17 +316,19 @@ pub shows_no_variable : (m new : Parser) (result : Result (Unit {0}) Fault) (fau
     → IsErrAnd result (λ e. e ≡ fault) → (line : ℕ) → WordResult m (word_on end_word line) result new
 shows_no_variable m new (Ok x) fault variables words spelled declare is failed line = absurd failed
 shows_no_variable m new (Err e) fault variables words spelled declare is failed line =
-    λ c begun at.
+    λ part c begun at.
     let a = at.0 in
     let b : CollectsVariable m begun = subst (IsBegun m begun) is at.1 in
     let declares : IsFalse c.in_body = sym a.in_body ∙ b.declares in
-    let d : Declares c (b.kind ∷ b.word ∷ b.following) (Err fault) variables =
-    declare c b.kind b.word b.following (spelled ∙ b.words) b.size (a.no_early_change declares) a.variables in
+    let d : Declares (seen_state part c a.seen) (b.kind ∷ b.word ∷ b.following) (Err fault) variables =
+    declare (seen_state part c a.seen) b.kind b.word b.following (spelled ∙ b.words) b.size (a.none_seen declares)
+    a.variables in
     subst (λ f. (f ≡ faults.NoMemory) ⊎ WordShows c (word_texts begun) end_word f) (sym failed)
     (elim (d b.no_end b.number) [
       | inl memory ↦ inl memory
       | inr shown ↦ inr (among_declarations declares
-          (subst (λ texts. DeclarationShows c texts end_word fault) (sym b.spelled) shown))
+          (subst (λ texts. DeclarationShows c texts end_word fault) (sym b.spelled)
+          (shows_file part c a.seen _ end_word fault shown)))
     ])
 
 -- the kind of a variable, if it is the only word
@@ -232,9 +340,9 @@ one_word (kind ∷ size ∷ words) one none = absurd (omega arith)
 
 -- a size that is no number
 pub shows_no_size : (m : Parser) (text : List ℕ) → m.item ≡ items.Variable → 0 < length m.words.items
-    → is_number text ≡ false → (c : ParseState) (begun : List WordOnLine) → IsAtState m c begun
+    → is_number text ≡ false → (part : Part) (c : ParseState) (begun : List WordOnLine) → IsAtState part m c begun
     → WordShows c (word_texts begun) text faults.BadVar
-shows_no_size m text is some isnt c begun at =
+shows_no_size m text is some isnt part c begun at =
     let b : Collects m begun (codes "$var") × (length m.words.items ≤ 1) = subst (IsBegun m begun) is at.1 in
     let k = one_word m.words.items (omega (arith, some, b.1)) b.0.no_end in
     among_declarations (sym at.0.in_body
@@ -245,14 +353,14 @@ shows_no_size m text is some isnt c begun at =
 -- the size of a variable
 pub takes_size : (m : Parser) (text : List ℕ) (size : ℕ) → m.item ≡ items.Variable → 0 < length m.words.items
     → is_number text ≡ true → size ≡ min (number_of text) (WIDTH_LIMIT + 1) → IsFalse (is_end_word text)
-    → (line : ℕ) (c : ParseState) (begun : List WordOnLine) → IsAtState m c begun
-    → WordStep c (begun ++ word_on text line ∷ []) (record m { size = size; item = items.SizedVariable })
-takes_size m text size is some number read isnt line c begun at =
+    → (line : ℕ) (part : Part) (c : ParseState) (begun : List WordOnLine) → IsAtState part m c begun
+    → WordStep part c (begun ++ word_on text line ∷ []) (record m { size = size; item = items.SizedVariable })
+takes_size m text size is some number read isnt line part c begun at =
     let a = at.0 in
     let b : Collects m begun (codes "$var") × (length m.words.items ≤ 1) = subst (IsBegun m begun) is at.1 in
     let k = one_word m.words.items (omega (arith, some, b.1)) b.0.no_end in
     goes_on (
-      agrees_by _ _ a.header a.timescale a.in_body a.tick a.variables a.no_early_change,
+      agrees_as part m _ c a refl refl refl refl refl refl refl,
       record {
         kind = k.0;
         word = text;
@@ -270,13 +378,13 @@ takes_size m text size is some number read isnt line c begun at =
 -- a word of a variable after its size
 pub continues_variable : (m : Parser) (words : Vec (List ℕ)) (text : List ℕ) → m.item ≡ items.SizedVariable
     → words.items ≡ m.words.items ++ text ∷ [] → IsFalse (is_end_word text)
-    → (line : ℕ) (c : ParseState) (begun : List WordOnLine) → IsAtState m c begun
-    → WordStep c (begun ++ word_on text line ∷ []) (record m { words = words })
-continues_variable m words text is pushed isnt line c begun at =
+    → (line : ℕ) (part : Part) (c : ParseState) (begun : List WordOnLine) → IsAtState part m c begun
+    → WordStep part c (begun ++ word_on text line ∷ []) (record m { words = words })
+continues_variable m words text is pushed isnt line part c begun at =
     let a = at.0 in
     let b : CollectsVariable m begun = subst (IsBegun m begun) is at.1 in
     goes_on (
-      agrees_by _ _ a.header a.timescale a.in_body a.tick a.variables a.no_early_change,
+      agrees_as part m _ c a refl refl refl refl refl refl refl,
       subst (IsBegun (record m { words = words }) (begun ++ word_on text line ∷ [])) (sym is) (record {
         kind = b.kind;
         word = b.word;
@@ -292,9 +400,9 @@ continues_variable m words text is pushed isnt line c begun at =
 
 -- a word of another command
 pub passes_over : (m : Parser) (text : List ℕ) → m.item ≡ items.Other → IsFalse (is_end_word text)
-    → (line : ℕ) (c : ParseState) (begun : List WordOnLine) → IsAtState m c begun
-    → WordStep c (begun ++ word_on text line ∷ []) m
-passes_over m text is isnt line c begun at =
+    → (line : ℕ) (part : Part) (c : ParseState) (begun : List WordOnLine) → IsAtState part m c begun
+    → WordStep part c (begun ++ word_on text line ∷ []) m
+passes_over m text is isnt line part c begun at =
     let b : PassesOver m begun = subst (IsBegun m begun) is at.1 in
     goes_on (
       at.0,

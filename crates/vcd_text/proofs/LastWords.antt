@@ -15,7 +15,8 @@ use Rattle.vcd_text.specs.Grammar.{ParseState, Accepts, word_texts}
 use Rattle.vcd_text.specs.Faults.{ShowsFault}
 use Rattle.vcd_text.specs.FoundFaults.{Stops, IsUnfinished, words_due}
 use Rattle.vcd_text.specs.Faults.{pair_prefixes}
-use Rattle.vcd_text.specs.FoundFaults.{variable_due, definitions_due, code_due, other_due}
+use Rattle.vcd_text.specs.inside.SeenParts.{seen_state}
+use Rattle.vcd_text.specs.FoundFaults.{upscope_due, variable_due, definitions_due, code_due, other_due}
 use Rattle.vcd_text.specs.inside.OpenItems.{is_nothing}
 use Rattle.vcd_text.specs.inside.Reading.{HasTakenWords, ParserMatches, IsBegun, Collects}
 use Rattle.vcd_text.specs.inside.Reading.{AwaitsCode, is_complete}
@@ -25,68 +26,71 @@ use Rattle.vcd_text.specs.declared.reading.parser.OpenItem.TheVariants as items
 use Rattle.vcd_text.proofs.Declaring.{so_deep, short_words}
 use Rattle.vcd_text.proofs.OneAnswer.{accepted-not_refused, stopped-not_refused}
 use Rattle.vcd_text.proofs.Changing.{among_first, among_last}
+use Rattle.vcd_text.specs.declared.reading.part.Part.{Part}
 
-collecting : (m : Parser) (c : ParseState) (begun : List WordOnLine) (keyword : List ℕ) → ParserMatches m c
+collecting : (part : Part) (m : Parser) (c : ParseState) (begun : List WordOnLine) (keyword : List ℕ) → ParserMatches part m c
     → Collects m begun keyword → IsTrue (is_one_of (codes "$timescale" ∷ codes "$scope" ∷ header_words) keyword)
     → IsUnfinished c (word_texts begun)
-collecting m c begun keyword agrees is among =
+collecting part m c begun keyword agrees is among =
     words_due keyword m.words.items (sym agrees.in_body ∙ is.declares) is.spelled among is.no_end
 
-awaiting : (m : Parser) (c : ParseState) (begun : List WordOnLine) (letters text : List ℕ) → ParserMatches m c
+awaiting : (part : Part) (m : Parser) (c : ParseState) (begun : List WordOnLine) (letters text : List ℕ) → ParserMatches part m c
     → AwaitsCode m begun letters text
     → ((b : ℕ) → IsTrue (is_among letters b) → IsTrue (is_among pair_prefixes b)) → IsUnfinished c (word_texts begun)
-awaiting m c begun letters text agrees is more =
+awaiting part m c begun letters text agrees is more =
     code_due is.letter text (sym agrees.in_body ∙ is.in_body) (ap word_texts is.is ∙ ap (λ t. t ∷ []) is.spelled)
     (more is.letter is.among)
 
 -- a word must follow words that are no whole file
-unfinished : (m : Parser) (c : ParseState) (begun : List WordOnLine) (item : OpenItem) → ParserMatches m c
+unfinished : (part : Part) (m : Parser) (c : ParseState) (begun : List WordOnLine) (item : OpenItem) → ParserMatches part m c
     → IsBegun m begun item → IsFalse (m.in_body && is_nothing item) → IsUnfinished c (word_texts begun)
-unfinished m c begun items.Nothing agrees none no_end = grind arith
-unfinished m c begun (items.Entry kind) agrees is no_end =
-    collecting m c begun (header_word kind) agrees is (grind arith)
-unfinished m c begun items.Timescale agrees is no_end = collecting m c begun (codes "$timescale") agrees is refl
-unfinished m c begun items.Scope agrees is no_end = collecting m c begun (codes "$scope") agrees is refl
-unfinished m c begun items.Upscope agrees is no_end = grind (arith, so_deep)
-unfinished m c begun items.Variable agrees is no_end =
+unfinished part m c begun items.Nothing agrees none no_end = grind arith
+unfinished part m c begun (items.Entry kind) agrees is no_end =
+    collecting part m c begun (header_word kind) agrees is (grind arith)
+unfinished part m c begun items.Timescale agrees is no_end = collecting part m c begun (codes "$timescale") agrees is refl
+unfinished part m c begun items.Scope agrees is no_end = collecting part m c begun (codes "$scope") agrees is refl
+unfinished part m c begun items.Upscope agrees is no_end =
+    upscope_due (sym agrees.in_body ∙ is.0) is.1
+    (omega (arith, so_deep m.variables (seen_state part c agrees.seen) agrees.variables, is.2))
+unfinished part m c begun items.Variable agrees is no_end =
     variable_due m.words.items (sym agrees.in_body ∙ is.0.declares) is.0.spelled is.0.no_end
     (short_words c m.words.items is.1).0
-unfinished m c begun items.SizedVariable agrees is no_end =
+unfinished part m c begun items.SizedVariable agrees is no_end =
     variable_due (is.kind ∷ is.word ∷ is.following) (sym agrees.in_body ∙ is.declares) is.spelled is.no_end is.number
-unfinished m c begun items.EndDefinitions agrees is no_end = definitions_due (sym agrees.in_body ∙ is.0) is.1
-unfinished m c begun items.Other agrees is no_end =
+unfinished part m c begun items.EndDefinitions agrees is no_end = definitions_due (sym agrees.in_body ∙ is.0) is.1
+unfinished part m c begun items.Other agrees is no_end =
     other_due is.keyword is.words is.spelled (subst (λ b. IsTrue (is_other b is.keyword)) agrees.in_body is.other)
     is.no_end
-unfinished m c begun items.Vector agrees is no_end =
-    awaiting m c begun vector_prefixes m.digits.items agrees is (among_first vector_prefixes real_or_string_prefixes)
-unfinished m c begun items.RealOrString agrees (text, is) no_end =
-    awaiting m c begun real_or_string_prefixes text agrees is (among_last vector_prefixes real_or_string_prefixes)
+unfinished part m c begun items.Vector agrees is no_end =
+    awaiting part m c begun vector_prefixes m.digits.items agrees is (among_first vector_prefixes real_or_string_prefixes)
+unfinished part m c begun items.RealOrString agrees (text, is) no_end =
+    awaiting part m c begun real_or_string_prefixes text agrees is (among_last vector_prefixes real_or_string_prefixes)
 
-texts_are : (m : Parser) (words : List WordOnLine) (r : HasTakenWords m words)
+texts_are : (part : Part) (m : Parser) (words : List WordOnLine) (r : HasTakenWords part m words)
     → word_texts words ≡ spellings r.items ++ word_texts r.begun
-texts_are m words r = grind (arith, map-append)
+texts_are part m words r = grind (arith, map-append)
 
 -- words that are no whole file end too early
-pub stops : (m : Parser) (words : List WordOnLine) → HasTakenWords m words → is_complete m ≡ false → Stops words
-stops m words r incomplete = record {
+pub stops : (part : Part) (m : Parser) (words : List WordOnLine) → HasTakenWords part m words → is_complete m ≡ false → Stops words
+stops part m words r incomplete = record {
   items = r.items;
   begun = word_texts r.begun;
-  spelled = texts_are m words r;
+  spelled = texts_are part m words r;
   allowed = r.allowed;
   unfinished = subst (λ c. IsUnfinished c (word_texts r.begun)) (sym r.state_is)
-      (unfinished m r.state r.begun m.item r.at.0 r.at.1 incomplete);
+      (unfinished part m r.state r.begun m.item r.at.0 r.at.1 incomplete);
 }
 
 -- words that are a whole file are accepted
-pub accepts : (m : Parser) (words : List WordOnLine) (r : HasTakenWords m words) → is_complete m ≡ true
+pub accepts : (part : Part) (m : Parser) (words : List WordOnLine) (r : HasTakenWords part m words) → is_complete m ≡ true
     → Accepts words r.state
-accepts m words r complete = grind (arith, and_parts, texts_are, append-nil)
+accepts part m words r complete = grind (arith, and_parts, texts_are, append-nil)
 
 -- words that have been taken show no fault
-pub no_fault : (m : Parser) (words : List WordOnLine) → HasTakenWords m words → (line : ℕ) (fault : Fault)
+pub no_fault : (part : Part) (m : Parser) (words : List WordOnLine) → HasTakenWords part m words → (line : ℕ) (fault : Fault)
     → ShowsFault words line fault → ⊥
-no_fault m words r line fault refuses = by_test (is_complete m) refl
+no_fault part m words r line fault refuses = by_test (is_complete m) refl
   where
     by_test : (b : Bool) → is_complete m ≡ b → ⊥
-    by_test true complete = accepted-not_refused words r.state line fault (accepts m words r complete) refuses
-    by_test false incomplete = stopped-not_refused words line fault (stops m words r incomplete) refuses
+    by_test true complete = accepted-not_refused words r.state line fault (accepts part m words r complete) refuses
+    by_test false incomplete = stopped-not_refused words line fault (stops part m words r incomplete) refuses

@@ -1,5 +1,10 @@
 pub mod SoundMeaning
-pub mod PrefixAnswers
+mod PartChanges
+mod LateChanges
+mod PartMeanings
+mod WholeParts
+mod PartSteps
+mod PrefixAnswers
 pub mod Chunks
 pub mod NextWords
 pub mod LastWords

@@ -1,6 +1,6 @@
 -- A wave followed by changes of the log.
 use Rattle.std.proofs.Common.{◌≡◌, ℕ, ◌<◌, ◌≤◌, if◌then◌else◌, nat_le, List, [], ◌∷◌, ◌++◌, All}
-use Rattle.std.proofs.Common.{refl, ap, ◌∙◌, arith}
+use Rattle.std.proofs.Common.{refl, ap, ◌∙◌, arith, ◌⊎◌, inl, inr}
 use Rattle.std.proofs.lemmas.List.Elements.{All-nil, All-weaker}
 use Rattle.vcd_core.specs.declared.bit.Bit.{Bit}
 use Rattle.vcd_core.specs.declared.wave.Change.{Change}
@@ -62,20 +62,21 @@ module _ (width tick : ℕ) (f : ℕ → List Bit) (cs : List Change) where
       → GivesLoggedValues width tick (λ t. if nat_le tick t then v else f t) cs (es ++ e ∷ [])
   gives_appended v es e at narrow letters g = grind (arith, rises_more, value_after_changes-more)
 
-  -- a change that a wide wave takes
-  pub gives_pushed : (v : List Bit) (ds : List Change) (es : List LoggedChange) → 64 < width
+  -- a change that a wave takes, of a wide variable or before any change of the log
+  pub gives_pushed : (v : List Bit) (ds : List Change) (es : List LoggedChange) → (64 < width) ⊎ (es ≡ [])
       → All (λ (c : Change). c.tick ≤ tick) ds
       → ((t : ℕ) → value_at width ds t ≡ (if nat_le tick t then v else value_at width cs t))
       → GivesLoggedValues width tick f cs es
       → GivesLoggedValues width tick (λ t. if nat_le tick t then v else f t) ds es
-  gives_pushed v ds [] wide ended values g = record {
+  gives_pushed v ds [] alone ended values g = record {
     floor = tick;
     ticks = ended;
     rises = omega arith;
     narrow = λ some. absurd (omega (arith, some));
     values = λ t. values t ∙ ap (λ b. if nat_le tick t then v else b) (g.values t);
   }
-  gives_pushed v ds (e ∷ es) wide ended values g = grind arith
+  gives_pushed v ds (e ∷ es) (inl wide) ended values g = grind arith
+  gives_pushed v ds (e ∷ es) (inr none) ended values g = let never : e ∷ es ≡ [] = none in absurd (cc)
 
   -- ---- a change of the log less
 

@@ -25,7 +25,6 @@ use Rattle.vcd_text.specs.declared.reading.variables.Variables.{Variables}
 use Rattle.vcd_text.proofs.LoggedValues.{gives_narrow, gives_first, gives_moved}
 use Rattle.vcd_text.proofs.ChangedVariables.{set_here, set_there, own_wave, with_changes}
 use Rattle.vcd_text.proofs.ChangedVariables.{same_declaration}
-use Rattle.vcd_text.specs.inside.Scopes.{IsPlaced}
 use Rattle.vcd_text.specs.declared.reading.pending.ExpectedRoom.{ExpectedRoom}
 use Rattle.vcd_text.proofs.CodeTargets.{stands_moved}
 use Rattle.vcd_text.proofs.VariablesMatch.{declared_at}

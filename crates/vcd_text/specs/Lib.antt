@@ -8,6 +8,7 @@ pub mod Grammar
 pub mod Faults
 pub mod FoundFaults
 pub mod Meaning
+pub mod Parts
 pub mod Text
 pub mod Laws
 pub mod LentWords

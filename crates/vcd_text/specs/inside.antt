@@ -21,3 +21,4 @@ pub mod Cursors
 pub mod ReadBufferView
 pub mod Windows
 pub mod SkippedVariables
+pub mod SeenParts

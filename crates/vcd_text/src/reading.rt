@@ -8,6 +8,7 @@ ghost use Rattle.std.specs.Io.KnownBytes.{IsAtEnd};
 ghost use Rattle.vcd_core.specs.CaptureContents.{contents};
 ghost use Rattle.vcd_core.specs.Sound.{IsSound};
 ghost use Rattle.vcd_text.specs.Meaning.{FileMeans};
+ghost use Rattle.vcd_text.specs.Parts.{PartMeans};
 ghost use Rattle.vcd_text.specs.declared.fault.Fault.{Fault};
 ghost use Rattle.vcd_text.specs.Refusals.{IsRefusal};
 
@@ -20,6 +21,7 @@ mod digits;
 mod file_reader;
 mod keywords;
 mod parser;
+mod part;
 mod pending;
 mod read_buffer;
 mod scopes;
@@ -30,6 +32,7 @@ mod variables;
 use crate::fault::ReadError;
 use crate::reading::file_reader::FileReader;
 pub use binary_number::value_of_digits;
+pub use part::Part;
 use std::alloc::Global;
 use vcd_core::{Capture, Source};
 
@@ -75,7 +78,29 @@ pub fn read<R: Source>(alloc: Global, reader: &mut R) -> Result<Loaded, ReadErro
     ensures too_large { IfErr result (λ e. e.fault ≡ Fault.TooLarge →
         R.has_failed reader.new ≡ false) }
 {
-    let mut progress = FileReader::new(alloc);
+    read_part(alloc, reader, Part::whole(alloc))
+}
+
+/// Reads a part of a capture file. The whole file follows the grammar, or its first fault is the
+/// result, as of `read`.
+///
+/// Memory: as of `read`, but for the changes. Those of the part are held, and the last one before
+/// it of each signal.
+pub fn read_part<R: Source>(alloc: Global, reader: &mut R, part: Part) -> Result<Loaded, ReadError>
+    requires ready { R.has_failed reader.old ≡ false }
+    ensures means { IfOk result (λ loaded. IfSome (R.coming reader.old) (λ file.
+        (length file ≤ FILE_LIMIT) × PartMeans part file (contents loaded.capture) loaded.skipped)) }
+    ensures sound { IfOk result (λ loaded. IsSound (contents loaded.capture)) }
+    ensures not_failed { OnOk result (R.has_failed reader.new ≡ false) }
+    ensures ended { OnOk result (IsAtEnd (R.coming reader.new)) }
+    ensures refused { IfErr result (λ e. IfSome (R.coming reader.old) (λ file.
+        IsRefusal file (R.has_failed reader.new) (R.coming reader.new) e)) }
+    ensures failed { IfErr result (λ e. e.fault ≡ Fault.ReadFault →
+        R.has_failed reader.new ≡ true) }
+    ensures too_large { IfErr result (λ e. e.fault ≡ Fault.TooLarge →
+        R.has_failed reader.new ≡ false) }
+{
+    let mut progress = FileReader::new(alloc, part);
     while progress.take_chunk(alloc, reader)? {}
     progress.finish(alloc)
 }

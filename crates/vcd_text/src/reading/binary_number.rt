@@ -1,13 +1,14 @@
 //! The values that a file writes in binary digits (IEEE 1364-2005, 18.2).
 
 ghost use Rattle.std.specs.Prelude.{◌≡◌, ◌<◌, ◌≤◌, true, false, [], ◌∷◌, length, MatchOption};
-ghost use Rattle.std.specs.Prelude.{MatchResult};
+ghost use Rattle.std.specs.Prelude.{MatchResult, IsTrue};
 ghost use Rattle.std.specs.List.{list_all};
 ghost use Rattle.vcd_core.specs.BlockRows.{letters_of};
 ghost use Rattle.vcd_text.specs.Letters.{is_binary_digit as digit_test, letters_of_digits};
 ghost use Rattle.vcd_text.specs.Letters.{value_of_digits as digits_value, extension};
 ghost use Rattle.vcd_text.specs.inside.ValueDigits.{WritesValue, RefusesBinaryNumber};
 ghost use Rattle.vcd_text.specs.inside.LetterBlocks.{digits_of};
+ghost use Rattle.vcd_text.specs.Grammar.{is_binary_number};
 
 use crate::fault::Fault;
 use crate::reading::digit_blocks::block_of_digits;
@@ -48,6 +49,19 @@ pub fn value_of_digits(width: u64, digits: &[u8]) -> Option<Value>
     ensures { result ≡ digits_value width digits.now }
 {
     read_value(width, digits).ok()
+}
+
+/// Refuses digits that are no value of `width` bits, as `read_value` does.
+pub fn check_digits(width: u64, digits: &[u8]) -> Result<(), Fault>
+    ensures { MatchResult result (λ _. IsTrue (is_binary_number digits.now)
+        × (length digits.now ≤ width))
+        (λ fault. RefusesBinaryNumber width digits.now fault) }
+{
+    check_count(width, digits)?;
+    if !are_binary_digits(digits) {
+        return Err(Fault::BadChange);
+    }
+    Ok(())
 }
 
 /// Refuses an empty list of digits, and more digits than the width.

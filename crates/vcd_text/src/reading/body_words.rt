@@ -112,8 +112,15 @@ impl Parser {
             return Err(Fault::BadChange);
         }
         let digits = [digit];
-        self.variables
-            .change(alloc, code, self.tick, digits.as_slice())
+        let silent = self.silent.as_slice();
+        self.variables.change(
+            alloc,
+            code,
+            self.tick,
+            digits.as_slice(),
+            &self.part,
+            silent,
+        )
     }
 
     /// Begins a change by a binary number, and keeps its digits.
@@ -151,7 +158,9 @@ impl Parser {
     {
         self.item = OpenItem::Nothing;
         let digits = self.digits.as_slice();
-        self.variables.change(alloc, code, self.tick, digits)
+        let silent = self.silent.as_slice();
+        self.variables
+            .change(alloc, code, self.tick, digits, &self.part, silent)
     }
 
     /// Takes the code of a change of a real number or a string, which changes nothing. The error is

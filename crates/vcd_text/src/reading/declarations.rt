@@ -15,6 +15,7 @@ use crate::reading::keywords::{is_command, is_dump_word};
 use crate::reading::parser::{OpenItem, Parser};
 use crate::reading::ticks_and_sizes::size_of;
 use crate::reading::timescale::timescale_in;
+use crate::reading::variables::silent_variables;
 use std::alloc::Global;
 use std::mem::replace;
 use vcd_core::{Header, HeaderKind, NoMemory, ScopeName, Seq, Word, copy_word};
@@ -112,7 +113,7 @@ impl Parser {
             OpenItem::Upscope => self.close_upscope(),
             OpenItem::Variable => Err(Fault::BadVar),
             OpenItem::SizedVariable => self.close_variable(alloc),
-            OpenItem::EndDefinitions => self.close_definitions(),
+            OpenItem::EndDefinitions => self.close_definitions(alloc),
             _ => self.close_other(),
         }
     }
@@ -183,10 +184,12 @@ impl Parser {
     }
 
     /// Begins the changes.
-    fn close_definitions(&mut self) -> Result<(), Fault>
+    fn close_definitions(&mut self, alloc: Global) -> Result<(), Fault>
         requires { self.old.item ≡ items.EndDefinitions }
         ensures { (line : ℕ) → WordResult self.old (word_on end_word line) result self.new }
     {
+        let silent = silent_variables(self.variables.kept.as_slice(), &self.part.left_out)?;
+        self.silent = silent;
         self.in_body = true;
         self.item = OpenItem::Nothing;
         Ok(())

@@ -9,7 +9,8 @@ ghost use Rattle.vcd_core.specs.CaptureContents.{contents};
 ghost use Rattle.vcd_core.specs.Sound.{IsSound};
 ghost use Rattle.vcd_text.specs.Words.{words_from, WordOnLine as WordInFile};
 ghost use Rattle.vcd_text.specs.LentWords.{words_left};
-ghost use Rattle.vcd_text.specs.Meaning.{FileMeans};
+ghost use Rattle.vcd_text.specs.Parts.{PartMeans};
+ghost use Rattle.vcd_text.specs.declared.reading.part.Part.{Part as ReadPart};
 ghost use Rattle.vcd_text.specs.FoundFaults.{IsFoundFault};
 ghost use Rattle.vcd_text.specs.Refusals.{IsRefusal};
 ghost use Rattle.vcd_text.specs.MemoryErrors.{memory_error};
@@ -21,6 +22,7 @@ ghost use Rattle.vcd_text.specs.inside.Chunks.{TakesChunk};
 
 use crate::fault::{Fault, ReadError};
 use crate::reading::parser::Parser;
+use crate::reading::part::Part;
 use crate::reading::read_buffer::ReadBuffer;
 use crate::reading::{FILE_LIMIT, Loaded};
 use crate::words::Words;
@@ -42,11 +44,11 @@ pub struct FileReader {
 
 impl FileReader {
     /// The progress before the first read.
-    pub fn new(alloc: Global) -> FileReader
-        ensures { HasReadBytes result [] }
+    pub fn new(alloc: Global, part: Part) -> FileReader
+        ensures { HasReadBytes part result [] }
     {
         FileReader {
-            parser: Parser::new(alloc),
+            parser: Parser::new(alloc, part),
             buffer: ReadBuffer::new(alloc),
             line_feeds: 0,
             bytes_left: FILE_LIMIT,
@@ -61,16 +63,16 @@ impl FileReader {
         source: &mut R,
     ) -> Result<bool, ReadError>
         requires ready { R.has_failed source.old ≡ false }
-        requires read_bytes { (bytes : List ℕ) × HasReadBytes self.old bytes }
-        ensures taken { OnOk result ((coming : Option (List ℕ)) →
-            FileReaderMatches coming (R.coming source.old) self.old →
-            FileReaderMatches coming (R.coming source.new) self.new) }
+        requires read_bytes { (part : ReadPart) × (bytes : List ℕ) × HasReadBytes part self.old bytes }
+        ensures taken { OnOk result ((part : ReadPart) (coming : Option (List ℕ)) →
+            FileReaderMatches part coming (R.coming source.old) self.old →
+            FileReaderMatches part coming (R.coming source.new) self.new) }
         ensures not_failed { OnOk result (R.has_failed source.new ≡ false) }
         ensures ended { IfOk result (λ more. more ≡ false → IsAtEnd (R.coming source.new)) }
         ensures fewer { IfOk result (λ more. more ≡ true
             → self.new.bytes_left < self.old.bytes_left) }
-        ensures refused { IfErr result (λ e. (coming : Option (List ℕ)) →
-            FileReaderMatches coming (R.coming source.old) self.old → IfSome coming (λ file.
+        ensures refused { IfErr result (λ e. (part : ReadPart) (coming : Option (List ℕ)) →
+            FileReaderMatches part coming (R.coming source.old) self.old → IfSome coming (λ file.
             IsRefusal file (R.has_failed source.new) (R.coming source.new) e)) }
         ensures failed { IfErr result (λ e. e.fault ≡ Fault.ReadFault →
             R.has_failed source.new ≡ true) }
@@ -92,9 +94,9 @@ impl FileReader {
 
     /// Takes the complete words. The first `unfinished_len` bytes of the buffer are no white space.
     fn take_words(&mut self, alloc: Global, unfinished_len: usize) -> Result<(), ReadError>
-        requires { (bytes : List ℕ) × HasUntakenChunk self.old unfinished_len bytes }
-        ensures taken { (bytes : List ℕ) → HasUntakenChunk self.old unfinished_len bytes →
-            TakesChunk bytes result self.new }
+        requires { (part : ReadPart) × (bytes : List ℕ) × HasUntakenChunk part self.old unfinished_len bytes }
+        ensures taken { (part : ReadPart) (bytes : List ℕ) →
+            HasUntakenChunk part self.old unfinished_len bytes → TakesChunk part bytes result self.new }
         ensures bytes_left { self.new.bytes_left ≡ self.old.bytes_left }
     {
         let len = complete_words_len(self.buffer.as_slice(), unfinished_len);
@@ -110,11 +112,13 @@ impl FileReader {
     /// Takes the word that the file's end completes, if there is one. The result is the meaning of
     /// the file, or its fault.
     pub fn finish(self, alloc: Global) -> Result<Loaded, ReadError>
-        requires { (bytes : List ℕ) × HasReadBytes self bytes }
-        ensures means { IfOk result (λ loaded. (bytes : List ℕ) → HasReadBytes self bytes →
-            FileMeans bytes (contents loaded.capture) loaded.skipped) }
+        requires { (part : ReadPart) × (bytes : List ℕ) × HasReadBytes part self bytes }
+        ensures means { IfOk result (λ loaded. (part : ReadPart) (bytes : List ℕ) →
+            HasReadBytes part self bytes →
+            PartMeans part bytes (contents loaded.capture) loaded.skipped) }
         ensures sound { IfOk result (λ loaded. IsSound (contents loaded.capture)) }
-        ensures fault { IfErr result (λ e. (bytes : List ℕ) → HasReadBytes self bytes →
+        ensures fault { IfErr result (λ e. (part : ReadPart) (bytes : List ℕ) →
+            HasReadBytes part self bytes →
             (e ≡ memory_error) ⊎ IsFoundFault bytes e.line e.fault) }
     {
         let FileReader {
@@ -168,8 +172,8 @@ fn complete_words_len(bytes: &[u8], unfinished_len: usize) -> usize
 /// feeds before the end of their text.
 fn read_words(parser: &mut Parser, alloc: Global, words: Words) -> Result<u64, ReadError>
     requires { WordCountFits parser.old (words_left words) }
-    ensures words { (words_so_far : List WordInFile) → HasTakenWords parser.old words_so_far →
-        AllWordsResult words_so_far (words_left words.entry) result parser.new }
+    ensures words { (part : ReadPart) (words_so_far : List WordInFile) →
+        HasTakenWords part parser.old words_so_far → AllWordsResult part words_so_far (words_left words.entry) result parser.new }
     ensures line_feeds { IfOk result (λ line_feeds.
         line_feeds ≡ words.entry.line_feeds + line_feeds_in words.entry.rest.now) }
 {

@@ -11,7 +11,8 @@ ghost use Rattle.vcd_text.specs.inside.Reading.{is_complete, Means};
 
 use crate::fault::{Fault, ReadError};
 use crate::reading::Loaded;
-use crate::reading::variables::Variables;
+use crate::reading::part::Part;
+use crate::reading::variables::{Variables, remaining_signals};
 use std::alloc::Global;
 use vcd_core::{Capture, Header, HeaderKind, NoMemory, Timescale, Word};
 
@@ -57,12 +58,17 @@ pub struct Parser {
     pub digits: Vec<u8>,
     /// The line of the open change.
     pub line: u64,
+    /// The part of the capture that is read.
+    pub part: Part,
+    /// Whether no change is kept of a variable, by the position of the first one of its code. A
+    /// variable past the end of the list keeps its changes.
+    pub silent: Vec<bool>,
 }
 
 impl Parser {
     /// A parser before the first word. It takes no memory.
-    pub fn new(alloc: Global) -> Parser
-        ensures { HasTakenWords result [] }
+    pub fn new(alloc: Global, part: Part) -> Parser
+        ensures { HasTakenWords part result [] }
     {
         Parser {
             header: Vec::new(alloc),
@@ -75,6 +81,8 @@ impl Parser {
             size: 0,
             digits: Vec::new(alloc),
             line: 0,
+            part,
+            silent: Vec::new(alloc),
         }
     }
 
@@ -135,11 +143,13 @@ impl Parser {
             timescale,
             variables,
             tick,
+            part,
             ..
         } = self;
         let skipped = variables.skipped;
-        let signals = variables.into_signals(alloc)?;
-        let capture = Capture::new(header, timescale, tick, signals);
+        let all = variables.into_signals(alloc)?;
+        let signals = remaining_signals(alloc, all, part.left_out.as_slice())?;
+        let capture = Capture::new(header, timescale, part.seen_tick(tick), signals);
         Ok(Loaded { capture, skipped })
     }
 }

@@ -7,12 +7,14 @@ ghost use Rattle.vcd_text.specs.inside.ChangeLog.{counted_variable};
 ghost use Rattle.vcd_text.specs.inside.Variables.{VariablesMatch};
 
 mod assigning;
+mod choosing;
 mod declaring;
 mod finishing;
 
 use crate::reading::code_targets::CodeTargets;
 use crate::reading::pending::{ExpectedRoom, LoggedChange};
 use crate::reading::scopes::{ScopePlace, Scopes};
+pub use choosing::{remaining_signals, silent_variables};
 use std::alloc::Global;
 use std::mem::replace;
 use vcd_core::{NameWords, NoMemory, Wave, Word};

@@ -1,51 +1,17 @@
-use Rattle.std.proofs.Common.{◌≡◌, ◌≤◌, true, length, IfSome, arith}
-use Rattle.std.proofs.lemmas.Result.{err_from_is_err_and, IfOk-weaker, IfErr-weaker}
+use Rattle.std.proofs.Common.{◌≤◌, length, IfSome}
+use Rattle.std.proofs.lemmas.Result.{IfOk-weaker}
 use Rattle.vcd_core.specs.CaptureContents.{contents}
-use Rattle.vcd_text.specs.declared.fault.Fault.TheVariants as faults
-use Rattle.vcd_text.specs.declared.fault.ReadError.{ReadError}
 use Rattle.vcd_text.specs.declared.reading.Loaded.{Loaded}
 use Rattle.vcd_text.specs.declared.reading.TheConstants.{FILE_LIMIT}
 use Rattle.vcd_text.specs.Meaning.{FileMeans}
-use Rattle.vcd_text.specs.Refusals.{IsRefusal}
-use Rattle.vcd_text.proofs.Chunks.{at_end, of_all, is_no_file_failure}
+use Rattle.vcd_text.proofs.WholeParts.{whole_means}
 use Rattle.vcd_text.proofs.reading.read.Goals as goal
-
-pub returns-in_err-take_chunk-clause-refused : goal.returns-in_err-take_chunk-clause-refused
-returns-in_err-take_chunk-clause-refused g c = grind (arith, err_from_is_err_and)
-
-pub finish-requires : goal.finish-requires
-finish-requires g c =
-    let stands = c.in_ok-take_chunk.ensures.taken (g.R.Source.coming c.args.reader.now) c.loop-progress.invariant.0 in
-    (stands.0, stands.2)
 
 pub returns-clause-means : goal.returns-clause-means
 returns-clause-means g c =
     let coming = g.R.Source.coming c.args.reader.now in
-    let left = g.R.Source.coming c.take_chunk.new.source in
-    let (bytes, consumes, taken) = c.in_ok-take_chunk.ensures.taken coming c.loop-progress.invariant.0 in
-    IfOk-weaker c.finish.result _
+    IfOk-weaker c.read_part.result _
     (λ (loaded : Loaded). IfSome coming (λ file. (length file ≤ FILE_LIMIT)
     × FileMeans file (contents loaded.capture) loaded.skipped))
-    (λ loaded means. of_all coming left bytes (λ file. (length file ≤ FILE_LIMIT)
-    × FileMeans file (contents loaded.capture) loaded.skipped) consumes
-    (c.in_ok-take_chunk.ensures.ended c.if-branch.false) (omega (arith, taken.size), means bytes taken))
-    c.finish.ensures.means
-
-pub returns-clause-refused : goal.returns-clause-refused
-returns-clause-refused g c =
-    let coming = g.R.Source.coming c.args.reader.now in
-    let left = g.R.Source.coming c.take_chunk.new.source in
-    let failed = g.R.Source.has_failed c.take_chunk.new.source in
-    let (bytes, consumes, taken) = c.in_ok-take_chunk.ensures.taken coming c.loop-progress.invariant.0 in
-    IfErr-weaker c.finish.result _ (λ (e : ReadError). IfSome coming (λ file. IsRefusal file failed left e))
-    (λ e fault. at_end coming left failed bytes e c.in_ok-take_chunk.ensures.not_failed consumes
-    (c.in_ok-take_chunk.ensures.ended c.if-branch.false) (omega (arith, taken.size)) (fault bytes taken))
-    c.finish.ensures.fault
-
-pub returns-clause-failed : goal.returns-clause-failed
-returns-clause-failed g c =
-    let failed = g.R.Source.has_failed c.take_chunk.new.source in
-    let (bytes, consumes, taken) =
-    c.in_ok-take_chunk.ensures.taken (g.R.Source.coming c.args.reader.now) c.loop-progress.invariant.0 in
-    IfErr-weaker c.finish.result _ (λ (e : ReadError). e.fault ≡ faults.ReadFault
-    → failed ≡ true) (λ e fault is. absurd (is_no_file_failure bytes e (fault bytes taken) is)) c.finish.ensures.fault
+    (λ loaded. whole_means coming c.whole.result (contents loaded.capture) loaded.skipped c.whole.ensures)
+    c.read_part.ensures.means

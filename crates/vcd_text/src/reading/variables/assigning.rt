@@ -4,13 +4,15 @@ ghost use Rattle.std.specs.Prelude.{◌≡◌, ◌⊎◌, ◌≤◌, ℕ, List, 
 ghost use Rattle.vcd_text.specs.Grammar.{ParseState, variable_of};
 ghost use Rattle.vcd_text.specs.inside.Variables.{target_of, VariablesMatch, ChangeResult};
 ghost use Rattle.vcd_text.specs.inside.Variables.{HasValueFrom};
+ghost use Rattle.vcd_text.specs.inside.SeenParts.{seen_tick, PartChange};
 ghost use Rattle.vcd_text.specs.inside.ValueDigits.{RefusesBinaryNumber};
 ghost use Rattle.vcd_text.specs.declared.fault.Fault.TheVariants.{NoMemory as NoMemoryFault};
 ghost use Rattle.vcd_text.specs.declared.reading.code_targets.CodeTarget.TheVariants.{Kept};
 
 use crate::fault::Fault;
-use crate::reading::binary_number::{read_letter_block, read_value};
+use crate::reading::binary_number::{check_digits, read_letter_block, read_value};
 use crate::reading::code_targets::CodeTarget;
+use crate::reading::part::{Part, is_set};
 use crate::reading::pending::{LoggedChange, append};
 use crate::reading::variables::{Variable, Variables};
 use std::alloc::Global;
@@ -38,16 +40,27 @@ impl Variables {
         code: &[u8],
         tick: u64,
         digits: &[u8],
+        part: &Part,
+        silent: &[bool],
     ) -> Result<(), Fault>
-        requires known { (c : ParseState) × VariablesMatch self.old c × (c.tick ≤ tick) }
-        ensures { (c : ParseState) → c.tick ≡ tick → VariablesMatch self.old c →
-            ChangeResult c code.now digits.now result self.new }
+        requires known { (c : ParseState) × VariablesMatch self.old c
+            × (c.tick ≡ seen_tick part.now tick) }
+        ensures { (c : ParseState) → c.tick ≡ seen_tick part.now tick → VariablesMatch self.old c →
+            PartChange part.now silent.now tick c code.now digits.now self.old result self.new }
     {
         match self.code_targets.get(code) {
             CodeTarget::Undeclared => Err(Fault::UnknownCode),
             CodeTarget::Skipped => Ok(()),
             CodeTarget::Kept(width, first) => {
-                self.change_at(alloc, u64::from(width), first as usize, tick, digits)
+                let (width, first) = (u64::from(width), first as usize);
+                if part.is_late(tick) {
+                    return check_digits(width, digits);
+                }
+                if is_set(silent, first) {
+                    return check_digits(width, digits);
+                }
+                let seen = part.seen_tick(tick);
+                self.change_at(alloc, width, first, seen, digits, tick < part.first)
             }
         }
     }
@@ -61,16 +74,23 @@ impl Variables {
         first: usize,
         tick: u64,
         digits: &[u8],
+        early: bool,
     ) -> Result<(), Fault>
         requires known { (c : ParseState) × (code : List ℕ) × VariablesMatch self.old c
             × (c.tick ≤ tick)
             × (target_of self.old code ≡ Kept width first) }
-        ensures { (c : ParseState) (code : List ℕ) → c.tick ≡ tick → VariablesMatch self.old c →
+        ensures changed { (c : ParseState) (code : List ℕ) → c.tick ≡ tick → VariablesMatch self.old c →
             target_of self.old code ≡ Kept width first →
             ChangeResult c code digits.now result self.new }
+        ensures targets { self.new.code_targets ≡ self.old.code_targets }
     {
         if width > 64 {
             return self.kept[first].change_wave(tick, digits);
+        }
+        if early {
+            if self.log.is_empty() {
+                return self.kept[first].change_wave(tick, digits);
+            }
         }
         let block = read_letter_block(width, digits)?;
         let change = LoggedChange {

@@ -17,17 +17,18 @@ in_turn all came words left word parts next = grind (arith, append_assoc)
 
 pub loop-word-init : goal.loop-word-init
 loop-word-init c = (
-  ([], refl, λ words_so_far reads. subst (HasTakenWords c.args.parser.now) (sym (append-nil words_so_far)) reads),
+  ([], refl, λ part words_so_far reads. subst (HasTakenWords part c.args.parser.now) (sym (append-nil words_so_far)) reads),
   refl,
 )
 
 pub take_word-requires-clause-reading : goal.take_word-requires-clause-reading
 take_word-requires-clause-reading c =
     let came = c.loop-word.invariant.0.0 in
-    let (words_so_far, reads, few) = c.requires in
+    let (part, words_so_far, reads, few) = c.requires in
     record {
+      part = part;
       words = words_so_far ++ came;
-      taken_words = c.loop-word.invariant.0.2 words_so_far reads;
+      taken_words = c.loop-word.invariant.0.2 part words_so_far reads;
       few = omega (
         arith,
         few,
@@ -48,14 +49,14 @@ loop-word-preserved c =
         came ++ word ∷ [],
         in_turn (words_left c.args.words) came (words_left c.loop-word.left) (words_left c.next_word.new.self) word
             c.loop-word.invariant.0.1 c.in-Some.ensures.words,
-        λ words_so_far reads. subst (HasTakenWords c.take_word.new.self) (append_assoc words_so_far came (word ∷ []))
-            (c.in_ok-take_word.ensures (words_so_far ++ came) (c.loop-word.invariant.0.2 words_so_far reads)),
+        λ part words_so_far reads. subst (HasTakenWords part c.take_word.new.self) (append_assoc words_so_far came (word ∷ []))
+            (c.in_ok-take_word.ensures part (words_so_far ++ came) (c.loop-word.invariant.0.2 part words_so_far reads)),
       ),
       c.in-Some.ensures.line_feeds ∙ c.loop-word.invariant.1,
     )
 
 pub returns-in_err-take_word-clause-words : goal.returns-in_err-take_word-clause-words
-returns-in_err-take_word-clause-words c = λ words_so_far reads.
+returns-in_err-take_word-clause-words c = λ part words_so_far reads.
     let came = c.loop-word.invariant.0.0 in
     let refused = err_from_is_err_and c.from_residual.result c.from_residual.ensures.1 in
     let word = word_contents c.in-Some.word in
@@ -65,7 +66,7 @@ returns-in_err-take_word-clause-words c = λ words_so_far reads.
     (sym (append_assoc came (word ∷ []) more) ∙ sym (in_turn (words_left c.args.words) came
     (words_left c.loop-word.left) more word c.loop-word.invariant.0.1 c.in-Some.ensures.words)) in
     let e : ReadError = c.in_err-take_word.field-0.0 in
-    subst (λ r. AllWordsResult words_so_far (words_left c.args.words) r c.take_word.new.self)
+    subst (λ r. AllWordsResult part words_so_far (words_left c.args.words) r c.take_word.new.self)
     (sym (refused.1 ∙ ap Err refused.2))
     (subst (λ words. (e ≡ memory_error) ⊎ ShowsFault words e.line e.fault) all
-    (c.in_err-take_word.ensures (words_so_far ++ came) more (c.loop-word.invariant.0.2 words_so_far reads)))
+    (c.in_err-take_word.ensures part (words_so_far ++ came) more (c.loop-word.invariant.0.2 part words_so_far reads)))

@@ -2,4 +2,4 @@ use Rattle.vcd_text.proofs.Chunks.{nothing_taken}
 use Rattle.vcd_text.proofs.reading.file_reader.FileReader.new.Goals as goal
 
 pub returns : goal.returns
-returns c = nothing_taken c.new.result c.new-2.result.bytes c.new-2.ensures c.new.ensures
+returns c = nothing_taken _ c.new.result c.new-2.result.bytes c.new-2.ensures c.new.ensures

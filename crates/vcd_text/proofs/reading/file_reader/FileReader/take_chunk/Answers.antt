@@ -7,24 +7,25 @@ use Rattle.vcd_text.specs.declared.fault.Fault.TheVariants as faults
 use Rattle.vcd_text.specs.declared.fault.ReadError.{ReadError}
 use Rattle.vcd_text.specs.Refusals.{IsRefusal}
 use Rattle.vcd_text.specs.inside.Chunks.{FileReaderMatches}
+use Rattle.vcd_text.specs.declared.reading.part.Part.{Part}
 use Rattle.vcd_text.proofs.Chunks.{has_come, shown_early, is_no_failure, full, broken}
 use Rattle.vcd_text.proofs.reading.file_reader.FileReader.take_chunk.Goals as goal
 
 pub returns-in_default-clause-refused : goal.returns-in_default-clause-refused
-returns-in_default-clause-refused g c = λ coming stands.
+returns-in_default-clause-refused g c = λ part coming stands.
     let p = c.args.self.now in
     let source = c.read_from.new.source in
     let (bytes, first, taken) = stands in
-    broken coming (g.R.Source.coming c.args.source.now) (g.R.Source.coming source) (g.R.Source.has_failed source)
+    broken part coming (g.R.Source.coming c.args.source.now) (g.R.Source.coming source) (g.R.Source.has_failed source)
     p bytes c.at.result c.in_default.ensures.failed first c.in_default.ensures.coming taken c.at.ensures
 
 pub returns-then-count-self-clause-refused : goal.returns-then-count-self-clause-refused
-returns-then-count-self-clause-refused g c = λ coming stands.
+returns-then-count-self-clause-refused g c = λ part coming stands.
     let p = c.args.self.now in
     let source = c.read_from.new.source in
     let (bytes, first, taken) = stands in
     let (chunk, second, text, count) = c.in-Ok.ensures.more in
-    full coming (g.R.Source.coming c.args.source.now) (g.R.Source.coming source) (g.R.Source.has_failed source) p bytes
+    full part coming (g.R.Source.coming c.args.source.now) (g.R.Source.coming source) (g.R.Source.has_failed source) p bytes
     chunk c.at-then-count-self.result c.in-Ok.ensures.not_failed first second
     (omega (arith, count, c.if-count-self.true))
     (c.in-Ok.ensures.within c.if-count-self.true) taken c.at-then-count-self.ensures
@@ -32,10 +33,11 @@ returns-then-count-self-clause-refused g c = λ coming stands.
 pub take_words-requires : goal.take_words-requires
 take_words-requires g c =
     let p = c.args.self.now in
-    let (bytes, taken) = c.requires.read_bytes in
+    let (part, bytes, taken) = c.requires.read_bytes in
     let (chunk, consumes, text, count) = c.in-Ok.ensures.more in (
+      part,
       bytes ++ chunk,
-      has_come p c.read_from.new.self c.len-unfinished_len.result c.in-Ok.count bytes c.make_room.new.self.bytes chunk
+      has_come part p c.read_from.new.self c.len-unfinished_len.result c.in-Ok.count bytes c.make_room.new.self.bytes chunk
           taken text
           c.in_ok-make_room.ensures.same count (omega (arith, c.if-count-self.false)) c.len-unfinished_len.ensures,
     )
@@ -47,13 +49,13 @@ returns-in_err-take_words-clause-refused g c =
     let refused = err_from_is_err_and c.from_residual-in_err-take_words.result
     c.from_residual-in_err-take_words.ensures.1 in
     let source = c.read_from.new.source in
-    subst (λ r. IfErr r (λ (e : ReadError). (coming : Option (List ℕ))
-    → FileReaderMatches coming (g.R.Source.coming c.args.source.now) p
+    subst (λ r. IfErr r (λ (e : ReadError). (part : Part) (coming : Option (List ℕ))
+    → FileReaderMatches part coming (g.R.Source.coming c.args.source.now) p
     → IfSome coming (λ file. IsRefusal file (g.R.Source.has_failed source) (g.R.Source.coming source) e)))
     (sym (refused.1 ∙ ap Err refused.2))
-    (λ coming stands.
+    (λ part coming stands.
     let (bytes, first, taken) = stands in
-    let come = has_come p c.read_from.new.self c.len-unfinished_len.result c.in-Ok.count bytes
+    let come = has_come part p c.read_from.new.self c.len-unfinished_len.result c.in-Ok.count bytes
     c.make_room.new.self.bytes chunk
     taken text c.in_ok-make_room.ensures.same count (omega (arith, c.if-count-self.false))
     c.len-unfinished_len.ensures in
@@ -61,14 +63,14 @@ returns-in_err-take_words-clause-refused g c =
     c.in_err-take_words.field-0.0 c.in-Ok.ensures.not_failed
     (Consumes-trans coming (g.R.Source.coming c.args.source.now) (g.R.Source.coming source) bytes chunk first second)
     (omega (arith, length-append bytes chunk, count, c.if-count-self.false, taken.size))
-    (c.in_err-take_words.ensures.taken (bytes ++ chunk) come))
+    (c.in_err-take_words.ensures.taken part (bytes ++ chunk) come))
 
 pub returns-in_err-take_words-clause-failed : goal.returns-in_err-take_words-clause-failed
 returns-in_err-take_words-clause-failed g c =
     let p = c.args.self.now in
-    let (bytes, taken) = c.requires.read_bytes in
+    let (part, bytes, taken) = c.requires.read_bytes in
     let (chunk, second, text, count) = c.in-Ok.ensures.more in
-    let come = has_come p c.read_from.new.self c.len-unfinished_len.result c.in-Ok.count bytes
+    let come = has_come part p c.read_from.new.self c.len-unfinished_len.result c.in-Ok.count bytes
     c.make_room.new.self.bytes chunk
     taken text c.in_ok-make_room.ensures.same count (omega (arith, c.if-count-self.false))
     c.len-unfinished_len.ensures in
@@ -77,19 +79,19 @@ returns-in_err-take_words-clause-failed g c =
     subst (λ r. IfErr r (λ (e : ReadError). e.fault ≡ faults.ReadFault
     → g.R.Source.has_failed c.read_from.new.source ≡ true)) (sym (refused.1 ∙ ap Err refused.2))
     (λ is. absurd (is_no_failure (bytes ++ chunk) c.in_err-take_words.field-0.0
-    (c.in_err-take_words.ensures.taken (bytes ++ chunk) come) is))
+    (c.in_err-take_words.ensures.taken part (bytes ++ chunk) come) is))
 
 pub returns-clause-taken : goal.returns-clause-taken
-returns-clause-taken g c = λ coming stands.
+returns-clause-taken g c = λ part coming stands.
     let p = c.args.self.now in
     let (bytes, first, taken) = stands in
     let (chunk, second, text, count) = c.in-Ok.ensures.more in
-    let come = has_come p c.read_from.new.self c.len-unfinished_len.result c.in-Ok.count bytes
+    let come = has_come part p c.read_from.new.self c.len-unfinished_len.result c.in-Ok.count bytes
     c.make_room.new.self.bytes chunk
     taken text c.in_ok-make_room.ensures.same count (omega (arith, c.if-count-self.false))
     c.len-unfinished_len.ensures in (
       bytes ++ chunk,
       Consumes-trans coming (g.R.Source.coming c.args.source.now) (g.R.Source.coming c.read_from.new.source) bytes chunk
           first second,
-      c.in_ok-take_words.ensures.taken (bytes ++ chunk) come,
+      c.in_ok-take_words.ensures.taken part (bytes ++ chunk) come,
     )

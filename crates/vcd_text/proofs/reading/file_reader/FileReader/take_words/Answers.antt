@@ -11,36 +11,42 @@ use Rattle.vcd_text.proofs.WordLaws.{words_are_few}
 use Rattle.vcd_text.proofs.reading.file_reader.FileReader.take_words.Goals as goal
 
 pub read_words-requires : goal.read_words-requires
-read_words-requires c = grind (arith, word_is_first, length-append, length-take, words_are_few)
+read_words-requires c =
+    let (part, bytes, come) = c.requires in (
+      part,
+      complete_words come.before,
+      come.taken.taken_words,
+      grind (arith, word_is_first, length-append, length-take, words_are_few),
+    )
 
 pub returns-in_err-self-clause-taken : goal.returns-in_err-self-clause-taken
-returns-in_err-self-clause-taken c = λ bytes come.
+returns-in_err-self-clause-taken c = λ part bytes come.
     let p = c.args.self.now in
     let len = c.complete_words_len-len.result in
     let value = c.as_slice.ensures in
     let prefix = c.as_slice-2.ensures in
     let refused = err_from_is_err_and c.from_residual.result c.from_residual.ensures.1 in
-    subst (λ r. TakesChunk bytes r (record p { parser = c.read_words.new.parser })) (sym (refused.1 ∙ ap Err refused.2))
-    (now_shown p c.args.unfinished_len len bytes (take len c.as_slice-2.result.now) come
+    subst (λ r. TakesChunk part bytes r (record p { parser = c.read_words.new.parser })) (sym (refused.1 ∙ ap Err refused.2))
+    (now_shown part p c.args.unfinished_len len bytes (take len c.as_slice-2.result.now) come
     (ap (λ l. has_complete_words (take len l)) (sym value) ∙ c.complete_words_len-len.ensures.complete)
     (ap (λ l. list_all (λ b. not (is_white_space b)) (drop len l)) (sym value)
     ∙ c.complete_words_len-len.ensures.no_space)
     (ap (take len) prefix) c.in_err-self.field-0.0
-    (c.in_err-self.ensures.words (complete_words come.before) come.taken.taken_words))
+    (c.in_err-self.ensures.words part (complete_words come.before) come.taken.taken_words))
 
 pub returns-clause-taken : goal.returns-clause-taken
-returns-clause-taken c = λ bytes come.
+returns-clause-taken c = λ part bytes come.
     let p = c.args.self.now in
     let len = c.complete_words_len-len.result in
     let value = c.as_slice.ensures in
     let prefix = c.as_slice-2.ensures in
-    let taken = now_taken p c.args.unfinished_len len bytes (take len c.as_slice-2.result.now) come
+    let taken = now_taken part p c.args.unfinished_len len bytes (take len c.as_slice-2.result.now) come
     (ap (λ l. has_complete_words (take len l)) (sym value) ∙ c.complete_words_len-len.ensures.complete)
     (ap (λ l. list_all (λ b. not (is_white_space b)) (drop len l)) (sym value)
     ∙ c.complete_words_len-len.ensures.no_space)
     (ap (take len) prefix) c.read_words.new.parser
-    (c.in_ok-self.ensures.words (complete_words come.before) come.taken.taken_words) in
-    subst (λ word. HasTaken c.read_words.new.parser word c.in_ok-self.field-0 p.bytes_left bytes)
+    (c.in_ok-self.ensures.words part (complete_words come.before) come.taken.taken_words) in
+    subst (λ word. HasTaken part c.read_words.new.parser word c.in_ok-self.field-0 p.bytes_left bytes)
     (sym c.remove_prefix.ensures)
-    (subst (λ n. HasTaken c.read_words.new.parser (drop len p.buffer.bytes) n p.bytes_left bytes)
+    (subst (λ n. HasTaken part c.read_words.new.parser (drop len p.buffer.bytes) n p.bytes_left bytes)
     (sym c.in_ok-self.ensures.line_feeds) taken)

@@ -4,11 +4,11 @@ use Rattle.vcd_text.proofs.Declaring.{shows_no_size, takes_size}
 use Rattle.vcd_text.proofs.reading.parser.Parser.begin_variable.Goals as goal
 
 pub returns-in_default : goal.returns-in_default
-returns-in_default c = λ line state begun at.
+returns-in_default c = λ line part state begun at.
     let m = c.args.self.now in
     let other = eqb-false m.words.len 0 (sym c.is_empty.ensures ∙ c.if-is_empty.false) in
     let some : 0 < length m.words.items = omega (arith, other, m.words.ok.0) in
-    inr (shows_no_size m c.args.text.now c.requires.item some c.in_default.ensures state begun at)
+    inr (shows_no_size m c.args.text.now c.requires.item some c.in_default.ensures part state begun at)
 
 pub returns : goal.returns
 returns c line =

@@ -9,6 +9,6 @@ returns-in-Some c =
     ∙ c.in_ok-timescale.ensures ∙ c.in-Some.is)
 
 pub returns-in-None : goal.returns-in-None
-returns-in-None c = λ line d begun at.
+returns-in-None c = λ line part d begun at.
     inr (shows_no_timescale c.args.self.now c.requires (ap timescale_of (sym c.deref.ensures.value)
-    ∙ c.in_ok-timescale.ensures ∙ c.in-None.is) d begun at)
+    ∙ c.in_ok-timescale.ensures ∙ c.in-None.is) part d begun at)

@@ -1,4 +1,8 @@
-use Rattle.std.proofs.Common.{[], refl}
+use Rattle.std.proofs.Common.{[], None, false, refl, arith}
+use Rattle.vcd_text.proofs.VariablesMatch.{knows_further}
+use Rattle.vcd_text.proofs.Declaring.{tells_nothing}
+use Rattle.vcd_text.specs.inside.SeenParts.{seen_tick}
+use Rattle.std.proofs.lemmas.Bool.{false≢true}
 use Rattle.vcd_text.specs.Grammar.{initial_state}
 use Rattle.vcd_text.proofs.reading.parser.Parser.new.Goals as goal
 
@@ -18,8 +22,14 @@ returns c = record {
       timescale = refl;
       in_body = refl;
       tick = refl;
-      variables = c.new-2.ensures;
+      part_is = refl;
+      seen = [];
+      variables = knows_further c.new-2.result initial_state [] None false (seen_tick c.args.part 0) (omega arith)
+          c.new-2.ensures;
       no_early_change = λ _. refl;
+      none_seen = λ _. refl;
+      tells = tells_nothing c.args.part initial_state [] refl refl;
+      hears = λ early. absurd (false≢true early);
     },
     refl,
   );

@@ -8,12 +8,12 @@ use Rattle.vcd_text.proofs.NextWords.{words_taken, one_shown}
 use Rattle.vcd_text.proofs.reading.parser.Parser.take_word.Goals as goal
 
 pub returns-in-Ok : goal.returns-in-Ok
-returns-in-Ok c = λ words_so_far r. words_taken c.args.self.now c.take.new.self words_so_far
-    (word_on c.args.text.now c.args.line ∷ []) r (c.in-Ok.ensures r.state r.begun r.at)
+returns-in-Ok c = λ part words_so_far r. words_taken part c.args.self.now c.take.new.self words_so_far
+    (word_on c.args.text.now c.args.line ∷ []) r (c.in-Ok.ensures part r.state r.begun r.at)
 
 pub returns-in-Err : goal.returns-in-Err
-returns-in-Err c = λ words_so_far more r.
+returns-in-Err c = λ part words_so_far more r.
     let w = word_on c.args.text.now c.args.line in
     let is = ap (λ line. error_at line c.in-Err.fault) (sym c.item_fault_line-shown.ensures) ∙ sym c.at.ensures in
     subst (λ (e : ReadError). (e ≡ memory_error) ⊎ ShowsFault (words_so_far ++ w ∷ more) e.line e.fault) is
-    (one_shown c.args.self.now words_so_far more w r c.in-Err.fault (c.in-Err.ensures r.state r.begun r.at))
+    (one_shown part c.args.self.now words_so_far more w r c.in-Err.fault (c.in-Err.ensures part r.state r.begun r.at))

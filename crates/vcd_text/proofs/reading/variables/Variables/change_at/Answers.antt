@@ -1,4 +1,6 @@
-use Rattle.std.proofs.Common.{◌≤◌, Err, OnOk, All, inr, refl, sym, ap, subst, ◌∙◌, arith}
+use Rattle.std.proofs.Common.{◌≤◌, Err, OnOk, All, inl, inr, refl, sym, ap, subst, ◌∙◌, arith}
+use Rattle.std.proofs.lemmas.Bool.{eqb-true}
+use Rattle.std.proofs.lemmas.List.{nil_from_length}
 use Rattle.std.specs.Vec.{with_item}
 use Rattle.std.proofs.lemmas.Result.{err_from_is_err_and}
 use Rattle.std.proofs.lemmas.List.Elements.{All-weaker}
@@ -24,20 +26,20 @@ change_wave-requires c =
           (λ e le. omega (arith, le, later)) wave (wave_late old state code digits c.args.width c.args.first k had));
     }
 
-pub returns-then-width-gt64 : goal.returns-then-width-gt64
-returns-then-width-gt64 c = λ state code tick k had.
+pub returns-then-width-gt64-clause-changed : goal.returns-then-width-gt64-clause-changed
+returns-then-width-gt64-clause-changed c = λ state code tick k had.
     let old = c.args.self.now in
     let digits = c.args.digits.now in
     let v = c.index_mut.result.now in
     wide_changes old (with_item old.kept c.args.first c.change_wave.new.self) state code digits
     c.args.width c.args.first v c.change_wave.new.self c.change_wave.result k had
-    c.index_mut.ensures.value c.if-width-gt64.true refl
+    c.index_mut.ensures.value (inl c.if-width-gt64.true) refl
     (subst (λ t. OnOk c.change_wave.result (HasValueFrom t digits v c.change_wave.new.self)) (sym tick)
     c.change_wave.ensures.values)
     c.change_wave.ensures.refuses
 
-pub returns-in_err-block : goal.returns-in_err-block
-returns-in_err-block c = λ state code tick k had.
+pub returns-in_err-block-clause-changed : goal.returns-in_err-block-clause-changed
+returns-in_err-block-clause-changed c = λ state code tick k had.
     let old = c.args.self.now in
     let digits = c.args.digits.now in
     let failed = err_from_is_err_and c.from_residual.result c.from_residual.ensures.1 in
@@ -45,11 +47,44 @@ returns-in_err-block c = λ state code tick k had.
     (inr (refused old state code digits c.args.width c.args.first k had c.in_err-block.field-0.0
     c.in_err-block.ensures))
 
-pub returns : goal.returns
-returns c = λ state code tick k had.
+pub returns-clause-changed : goal.returns-clause-changed
+returns-clause-changed c = λ state code tick k had.
     let e : LoggedChange =
     record { tick = c.args.tick; position = c.args.first; block = c.in_ok-block.block } in
     narrow_changes c.args.self.now c.append.new.groups state code c.args.digits.now c.args.width c.args.first
     e k had
     (omega (arith, c.if-width-gt64.false)) (sym tick) refl c.in_ok-block.ensures c.in_ok-append.ensures.grouped
     c.in_ok-append.ensures.appended tt
+
+pub change_wave-requires-then-is_empty : goal.change_wave-requires-then-is_empty
+change_wave-requires-then-is_empty c =
+    let old = c.args.self.now in
+    let (state, code, k, later, had) = c.requires.known in
+    let digits = c.args.digits.now in
+    let v = c.index_mut-then-is_empty.result.now in
+    let wave = (own_wave old state code digits c.args.width c.args.first k had).4.first.wave.changes in
+    record {
+      none_later = subst (λ (u : Variable). All (λ (e : Change). e.tick ≤ c.args.tick) u.wave.changes)
+          (sym (read_is old state code digits c.args.width c.args.first k had v
+          c.index_mut-then-is_empty.ensures.value))
+          (All-weaker (λ (e : Change). e.tick ≤ state.tick) (λ (e : Change). e.tick ≤ c.args.tick)
+          (λ e le. omega (arith, le, later)) wave (wave_late old state code digits c.args.width c.args.first k had));
+    }
+
+pub returns-then-is_empty-clause-changed : goal.returns-then-is_empty-clause-changed
+returns-then-is_empty-clause-changed c = λ state code tick k had.
+    let old = c.args.self.now in
+    let digits = c.args.digits.now in
+    let v = c.index_mut-then-is_empty.result.now in
+    wide_changes old (with_item old.kept c.args.first c.change_wave-then-is_empty.new.self) state code digits
+    c.args.width c.args.first v c.change_wave-then-is_empty.new.self c.change_wave-then-is_empty.result k had
+    c.index_mut-then-is_empty.ensures.value
+    (inr (nil_from_length old.log.items (omega (
+      arith,
+      eqb-true old.log.len 0 (sym c.is_empty.ensures ∙ c.if-is_empty.true),
+      old.log.ok.0,
+    )))) refl
+    (subst (λ t. OnOk c.change_wave-then-is_empty.result
+    (HasValueFrom t digits v c.change_wave-then-is_empty.new.self)) (sym tick)
+    c.change_wave-then-is_empty.ensures.values)
+    c.change_wave-then-is_empty.ensures.refuses

@@ -1,9 +1,9 @@
 use Rattle.std.proofs.Common.{◌≡◌, false}
 use Rattle.vcd_text.specs.inside.Chunks.{FileReaderMatches}
-use Rattle.vcd_text.proofs.reading.read.Given as goal
+use Rattle.vcd_text.proofs.reading.read_part.Given as goal
 
 abbrev pub invariant-loop-progress : goal.invariant-loop-progress
-invariant-loop-progress g l = FileReaderMatches (g.R.Source.coming l.fn.reader) (g.R.Source.coming l.reader) l.progress
+invariant-loop-progress g l = FileReaderMatches l.fn.part (g.R.Source.coming l.fn.reader) (g.R.Source.coming l.reader) l.progress
     × (g.R.Source.has_failed l.reader ≡ false)
 
 abbrev pub decreases-loop-progress : goal.decreases-loop-progress
