@@ -10,24 +10,19 @@ use thiserror::Error;
 ///
 /// The names are the project's own.
 #[derive(Clone, Copy, Debug, PartialEq, Eq, Error)]
+#[error("{}", self.name())]
 pub enum SetupError {
     /// A number of the ratio, ticks to bits, is outside 1 to `RATIO_LIMIT`.
-    #[error("BadRatio")]
     BadRatio,
     /// A bit lasts fewer than two ticks.
-    #[error("BitTooShort")]
     BitTooShort,
     /// The number of data bits is outside 5 to 9.
-    #[error("BadData")]
     BadData,
     /// The number of stop bits is neither 1 nor 2.
-    #[error("BadStop")]
     BadStop,
     /// The mode is above `GREATEST_MODE`.
-    #[error("BadMode")]
     BadMode,
     /// The number of bits of a word is outside 1 to `WORD_BITS_LIMIT`.
-    #[error("BadBits")]
     BadBits,
 }
 

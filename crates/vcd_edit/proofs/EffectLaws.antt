@@ -5,7 +5,6 @@ use Rattle.std.proofs.Common.{IsTrue, not, ℤ, pos, ◌-ℤ◌, List, [], ◌�
 use Rattle.std.proofs.Common.{refl, sym, ap}
 use Rattle.std.proofs.Common.{◌∙◌, ◌⊎◌, arith}
 use Rattle.std.specs.Prelude.{neg_ℤ}
-use Rattle.std.specs.Borrow.{Bor}
 use Rattle.std.specs.List.{list_all}
 use Rattle.std.proofs.lemmas.Bool.{cases_lt, lt-ltb, le-ltb, le-leb, lt-leb, and_parts, and_left}
 use Rattle.std.proofs.lemmas.Bool.{and_right}
@@ -22,23 +21,18 @@ use Rattle.vcd_core.specs.Contents.{Contents, SignalContents, no_signal, signal_
 use Rattle.vcd_core.specs.Contents.{signal_value}
 use Rattle.vcd_core.specs.Sound.{IsSound}
 use Rattle.vcd_core.proofs.Waves.{value_at-changes_of, changes_of-value_at, changes_same}
-use Rattle.vcd_edit.specs.declared.edit.Edit.TheVariants.{Derive}
-use Rattle.vcd_edit.specs.declared.edit.Rule.{Rule}
-use Rattle.vcd_edit.specs.declared.edit.Rule.TheVariants.{Not, And, Or, Xor, BitOf}
-use Rattle.vcd_edit.specs.declared.edit.Operator.TheVariants as operators
-use Rattle.vcd_edit.specs.Operators.{not_bit, operator_bit}
+use Rattle.vcd_edit.specs.declared.edit.Rule.TheVariants.{BitOf}
+use Rattle.vcd_edit.specs.Operators.{not_bit}
 use Rattle.vcd_edit.specs.Effect.{with_values, with_wave, renamed_signal, inverse_value}
 use Rattle.vcd_edit.specs.Effect.{value_at_any_tick, shift_value}
-use Rattle.vcd_edit.specs.Effect.{cut_value, force_value, signal_after_cut, cut_contents, formula}
-use Rattle.vcd_edit.specs.Effect.{formula_bit, derived_signal, effect}
+use Rattle.vcd_edit.specs.Effect.{cut_value, force_value, signal_after_cut, cut_contents}
+use Rattle.vcd_edit.specs.Effect.{derived_signal, effect}
 use Rattle.vcd_edit.specs.AppliedRecords.{with_pieces, apply_record}
 use Rattle.vcd_edit.specs.EffectLaws.{value_of, x_for_z, InvertTwice, InvertTwiceWithoutZ}
 use Rattle.vcd_edit.specs.EffectLaws.{CutKeepsOtherTicks}
 use Rattle.vcd_edit.specs.EffectLaws.{CutsCommute, ShiftAndBack, ForceIsLocal, LastForceCounts}
 use Rattle.vcd_edit.specs.EffectLaws.{RenameAndBack}
-use Rattle.vcd_edit.specs.EffectLaws.{RemoveAndBack, entry, table_entry, not_table, and_table}
-use Rattle.vcd_edit.specs.EffectLaws.{or_table, xor_table}
-use Rattle.vcd_edit.specs.EffectLaws.{DerivedByTables, BitOfOneBit}
+use Rattle.vcd_edit.specs.EffectLaws.{RemoveAndBack, BitOfOneBit}
 use Rattle.vcd_edit.proofs.SoundEffects.{sound_at, value_at_width}
 use Rattle.vcd_edit.proofs.OppositeRecords.{insert-remove}
 
@@ -297,85 +291,6 @@ last_force_counts c k from to first last within =
     ∙ choice_same (nat_le from t && nat_lt t to) last first (signal_value s t))
 
 -- ---- derive
-
-not_by_table : (a : Bit) → not_bit a ≡ entry not_table a
-not_by_table Zero = refl
-not_by_table One = refl
-not_by_table X = refl
-not_by_table Z = refl
-
-and_by_table : (a b : Bit) → operator_bit operators.And a b ≡ table_entry and_table a b
-and_by_table Zero Zero = refl
-and_by_table Zero One = refl
-and_by_table Zero X = refl
-and_by_table Zero Z = refl
-and_by_table One Zero = refl
-and_by_table One One = refl
-and_by_table One X = refl
-and_by_table One Z = refl
-and_by_table X Zero = refl
-and_by_table X One = refl
-and_by_table X X = refl
-and_by_table X Z = refl
-and_by_table Z Zero = refl
-and_by_table Z One = refl
-and_by_table Z X = refl
-and_by_table Z Z = refl
-
-or_by_table : (a b : Bit) → operator_bit operators.Or a b ≡ table_entry or_table a b
-or_by_table Zero Zero = refl
-or_by_table Zero One = refl
-or_by_table Zero X = refl
-or_by_table Zero Z = refl
-or_by_table One Zero = refl
-or_by_table One One = refl
-or_by_table One X = refl
-or_by_table One Z = refl
-or_by_table X Zero = refl
-or_by_table X One = refl
-or_by_table X X = refl
-or_by_table X Z = refl
-or_by_table Z Zero = refl
-or_by_table Z One = refl
-or_by_table Z X = refl
-or_by_table Z Z = refl
-
-xor_by_table : (a b : Bit) → operator_bit operators.Xor a b ≡ table_entry xor_table a b
-xor_by_table Zero Zero = refl
-xor_by_table Zero One = refl
-xor_by_table Zero X = refl
-xor_by_table Zero Z = refl
-xor_by_table One Zero = refl
-xor_by_table One One = refl
-xor_by_table One X = refl
-xor_by_table One Z = refl
-xor_by_table X Zero = refl
-xor_by_table X One = refl
-xor_by_table X X = refl
-xor_by_table X Z = refl
-xor_by_table Z Zero = refl
-xor_by_table Z One = refl
-xor_by_table Z X = refl
-xor_by_table Z Z = refl
-
--- the derived signal is the last
-derived_at : (c : Contents) (word : Bor (List ℕ)) (rule : Rule) (t : ℕ) → t ≤ c.end
-    → value_of (effect (Derive word rule) c) (length c.signals) t ≡ formula_bit (formula rule) c t ∷ []
-unfolding effect
-derived_at c word rule t upto =
-    ap (λ (s : SignalContents). signal_value s t)
-    (get_or_push c.signals (derived_signal word.now rule c) no_signal (length c.signals) refl)
-    ∙ value_at-changes_of 1 c.end t (λ u. formula_bit (formula rule) c u ∷ []) upto
-
-pub derived_by_tables : DerivedByTables
-derived_by_tables c word a b t upto =
-    let x = letter_at (value_of c a t) 0 in
-    let y = letter_at (value_of c b t) 0 in (
-      derived_at c word (Not a) t upto ∙ ap (λ (z : Bit). z ∷ []) (not_by_table x),
-      derived_at c word (And a b) t upto ∙ ap (λ (z : Bit). z ∷ []) (and_by_table x y),
-      derived_at c word (Or a b) t upto ∙ ap (λ (z : Bit). z ∷ []) (or_by_table x y),
-      derived_at c word (Xor a b) t upto ∙ ap (λ (z : Bit). z ∷ []) (xor_by_table x y),
-    )
 
 only_bit : (v : List Bit) → length v ≡ 1 → letter_at v 0 ∷ [] ≡ v
 only_bit [] long = absurd (omega arith)

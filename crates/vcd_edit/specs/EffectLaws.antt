@@ -1,18 +1,17 @@
 -- What the edits are for, in the subject's own words: each is the contract of a function of `laws`.
 use Rattle.std.specs.Prelude.{ℕ, ◌+◌, ◌-◌, ◌≡◌, ◌⊎◌, ◌<◌, ◌≤◌, ℤ, pos, ◌+ℤ◌, neg_ℤ, IsTrue, not}
 use Rattle.std.specs.Prelude.{List, [], ◌∷◌}
-use Rattle.std.specs.Prelude.{length, map, slice_index_or, None, Some}
+use Rattle.std.specs.Prelude.{length, map, None, Some}
 use Rattle.std.specs.List.{list_all}
 use Rattle.std.specs.Borrow.{Bor}
 use Rattle.vcd_core.specs.declared.bit.Bit.{Bit}
-use Rattle.vcd_core.specs.declared.bit.Bit.TheVariants.{Zero, One, X, Z}
-use Rattle.vcd_core.specs.Value.{letter_at, letter_number, same_letter}
+use Rattle.vcd_core.specs.declared.bit.Bit.TheVariants.{X, Z}
+use Rattle.vcd_core.specs.Value.{same_letter}
 use Rattle.vcd_core.specs.Contents.{Contents, signal_at, signal_value}
 use Rattle.vcd_core.specs.Sound.{IsSound}
 use Rattle.vcd_edit.specs.declared.edit.Edit.TheVariants.{Rename, Remove, Invert, Shift, Cut, Force}
 use Rattle.vcd_edit.specs.declared.edit.Edit.TheVariants.{Derive}
-use Rattle.vcd_edit.specs.declared.edit.Rule.{Rule}
-use Rattle.vcd_edit.specs.declared.edit.Rule.TheVariants.{Not, And, Or, Xor, BitOf}
+use Rattle.vcd_edit.specs.declared.edit.Rule.TheVariants.{BitOf}
 use Rattle.vcd_edit.specs.AppliedRecords.{apply_record}
 use Rattle.vcd_edit.specs.Effect.{effect}
 
@@ -86,58 +85,6 @@ LastForceCounts =
     ≡ effect (Force k from to last) c
 
 -- ---- derive
-
--- an entry of a row; letters are in the order 0, 1, x, z
-abbrev pub entry : List Bit → Bit → Bit
-entry row b = slice_index_or row (letter_number b) X
-
--- an entry of a table: the first letter chooses the row
-abbrev pub table_entry : List (List Bit) → Bit → Bit → Bit
-table_entry rows a b = entry (slice_index_or rows (letter_number a) []) b
-
--- the table of `~` (IEEE 1364-2005, 5.1.10)
-abbrev pub not_table : List Bit
-not_table = One ∷ Zero ∷ X ∷ X ∷ []
-
--- the table of `&`
-abbrev pub and_table : List (List Bit)
-and_table =
-    (Zero ∷ Zero ∷ Zero ∷ Zero ∷ [])
-    ∷ (Zero ∷ One ∷ X ∷ X ∷ [])
-    ∷ (Zero ∷ X ∷ X ∷ X ∷ [])
-    ∷ (Zero ∷ X ∷ X ∷ X ∷ [])
-    ∷ []
-
--- the table of `|`
-abbrev pub or_table : List (List Bit)
-or_table =
-    (Zero ∷ One ∷ X ∷ X ∷ [])
-    ∷ (One ∷ One ∷ One ∷ One ∷ [])
-    ∷ (X ∷ One ∷ X ∷ X ∷ [])
-    ∷ (X ∷ One ∷ X ∷ X ∷ [])
-    ∷ []
-
--- the table of `^`
-abbrev pub xor_table : List (List Bit)
-xor_table =
-    (Zero ∷ One ∷ X ∷ X ∷ [])
-    ∷ (One ∷ Zero ∷ X ∷ X ∷ [])
-    ∷ (X ∷ X ∷ X ∷ X ∷ [])
-    ∷ (X ∷ X ∷ X ∷ X ∷ [])
-    ∷ []
-
--- at each tick a derived signal has the entry of the operator's table for its operands
-abbrev pub DerivedByTables : Type 0
-DerivedByTables =
-    (c : Contents) (word : Bor (List ℕ)) (a b t : ℕ) → t ≤ c.end
-    → let x = letter_at (value_of c a t) 0 in
-    let y = letter_at (value_of c b t) 0 in
-    let derived : Rule → List Bit = λ rule. value_of (effect (Derive word rule) c)
-    (length c.signals) t in
-    (derived (Not a) ≡ entry not_table x ∷ [])
-    × (derived (And a b) ≡ table_entry and_table x y ∷ [])
-    × (derived (Or a b) ≡ table_entry or_table x y ∷ [])
-    × (derived (Xor a b) ≡ table_entry xor_table x y ∷ [])
 
 -- bit 0 of a signal of one bit is its wave
 abbrev pub BitOfOneBit : Type 0

@@ -10,36 +10,27 @@ use thiserror::Error;
 ///
 /// The first nine are tested in this order. The names are the project's own.
 #[derive(Clone, Copy, Debug, PartialEq, Eq, Error)]
+#[error("{}", self.name())]
 pub enum EditError {
     /// A position is not below the number of signals.
-    #[error("NoSuchSignal")]
     NoSuchSignal,
     /// An operand of a bitwise operator is wider than one bit.
-    #[error("NotScalar")]
     NotScalar,
     /// A bit number is not below the width of its signal.
-    #[error("BadBit")]
     BadBit,
     /// A range of ticks is empty or goes past the end.
-    #[error("BadRange")]
     BadRange,
     /// A count of ticks is 0.
-    #[error("BadCount")]
     BadCount,
     /// A value has another width than its signal.
-    #[error("BadValue")]
     BadValue,
     /// A name is empty, has white space or is `$end`.
-    #[error("BadWord")]
     BadWord,
     /// Another signal already has the new full name.
-    #[error("NameTaken")]
     NameTaken,
     /// The capture already has the most signals allowed.
-    #[error("TooManySignals")]
     TooManySignals,
     /// Memory was refused.
-    #[error("NoMemory")]
     NoMemory,
 }
 

@@ -6,7 +6,7 @@ ghost use Rattle.vcd_edit.specs.Laws.{DeglitchWithoutShortRuns, DeglitchTwice};
 ghost use Rattle.vcd_edit.specs.EffectLaws.{InvertTwice, InvertTwiceWithoutZ, CutKeepsOtherTicks};
 ghost use Rattle.vcd_edit.specs.EffectLaws.{CutsCommute, ShiftAndBack, ForceIsLocal};
 ghost use Rattle.vcd_edit.specs.EffectLaws.{LastForceCounts};
-ghost use Rattle.vcd_edit.specs.EffectLaws.{DerivedByTables, BitOfOneBit, RenameAndBack};
+ghost use Rattle.vcd_edit.specs.EffectLaws.{BitOfOneBit, RenameAndBack};
 ghost use Rattle.vcd_edit.specs.EffectLaws.{RemoveAndBack};
 
 /// An edit with no fault keeps a sound capture sound.
@@ -55,11 +55,6 @@ pub fn force_is_local()
 /// The last of two forces of one range counts.
 pub fn last_force_counts()
     ensures { LastForceCounts }
-{}
-
-/// A derived signal has at each tick the entry of its operator's table (IEEE 1364-2005, 5.1.10).
-pub fn derived_by_tables()
-    ensures { DerivedByTables }
 {}
 
 /// Bit 0 of a signal of one bit is its wave.

@@ -25,24 +25,19 @@ pub enum Step<'a> {
 
 /// Why a step is refused.
 #[derive(Clone, Copy, Debug, PartialEq, Eq, Error)]
+#[error("{}", self.name())]
 pub enum StepError {
     /// The edit is refused.
-    #[error(transparent)]
     Edit(EditError),
     /// There is no edit to undo.
-    #[error("NothingToUndo")]
     NothingToUndo,
     /// There is no edit to redo.
-    #[error("NothingToRedo")]
     NothingToRedo,
     /// The depth is not from 1 to [`DEPTH_LIMIT`].
-    #[error("BadDepth")]
     BadDepth,
     /// More edits than the new depth could be redone.
-    #[error("DepthTooSmall")]
     DepthTooSmall,
     /// Memory was refused for an undo, a redo or a greater depth.
-    #[error("NoMemory")]
     NoMemory,
 }
 

@@ -15,55 +15,40 @@ use thiserror::Error;
 /// The names are the project's own. The rules of the format (IEEE 1364-2005, 18.2, in the project's
 /// profile) give the fault of a file, and its line.
 #[derive(Clone, Copy, Debug, PartialEq, Eq, Error)]
+#[error("{}", self.name())]
 pub enum Fault {
     /// The words end before `$enddefinitions $end`, inside an item, or before a code.
-    #[error("Truncated")]
     Truncated,
     /// A word that is not allowed at its place.
-    #[error("UnexpectedWord")]
     UnexpectedWord,
     /// A timescale that is not 1, 10 or 100 of a unit from `s` to `fs`.
-    #[error("BadTimescale")]
     BadTimescale,
     /// A `$scope` without a kind.
-    #[error("BadScope")]
     BadScope,
     /// `$upscope` while no scope is open.
-    #[error("UpscopeAtTop")]
     UpscopeAtTop,
     /// A `$var` without kind, size, code or name, or with a size that is no decimal number.
-    #[error("BadVar")]
     BadVar,
     /// A code of two kept variables of different sizes, or of one that is kept and one that is
     /// skipped. Skipped variables can share a code whatever their kinds and sizes.
-    #[error("MixedCode")]
     MixedCode,
     /// A time stamp that is no decimal number, or above the greatest tick, `END_LIMIT`.
-    #[error("BadTime")]
     BadTime,
     /// A time stamp below the one before it.
-    #[error("TimeBackwards")]
     TimeBackwards,
     /// A word that is no change, a change without its code, or a byte that is no binary digit.
-    #[error("BadChange")]
     BadChange,
     /// A change of a code that no `$var` declared.
-    #[error("UnknownCode")]
     UnknownCode,
     /// More digits than the variable has bits.
-    #[error("ValueTooLong")]
     ValueTooLong,
     /// More kept variables than the signals that a capture can have.
-    #[error("TooManySignals")]
     TooManySignals,
     /// The file has more than `FILE_LIMIT` bytes.
-    #[error("TooLarge")]
     TooLarge,
     /// The reader failed.
-    #[error("ReadFault")]
     ReadFault,
     /// Memory ran out.
-    #[error("NoMemory")]
     NoMemory,
 }
 
@@ -156,12 +141,11 @@ impl From<vcd_core::NoMemory> for ReadError {
 
 /// A fault of writing a capture.
 #[derive(Clone, Copy, Debug, PartialEq, Eq, Error)]
+#[error("{}", self.name())]
 pub enum WriteError {
     /// Memory ran out; no byte was written.
-    #[error("NoMemory")]
     NoMemory,
     /// The writer failed. It took exactly the first `written` bytes of the text.
-    #[error("WriteFault")]
     WriteFault { written: u128 },
 }
 

@@ -60,57 +60,6 @@ then_any : {A : Type 0} (c : Contents) (r : Result A LineError) (f : A → Resul
 then_any c (Ok x) f gives = gives x
 then_any c (Err found) f gives = refused c found
 
-of_none : (c : Contents) (words : List (List ℕ)) (parsed : Result Command LineError) → GivesSignals c parsed
-    → GivesSignals c (no_word words parsed)
-of_none c [] parsed gives = gives
-of_none c (word ∷ words) parsed gives = refused c _
-
-of_one : (c : Contents) (words : List (List ℕ)) (parse : List ℕ → Result Command LineError)
-    → ((a : List ℕ) → GivesSignals c (parse a)) → GivesSignals c (one_word words parse)
-of_one c [] parse gives = refused c _
-of_one c (a ∷ []) parse gives = gives a
-of_one c (a ∷ b ∷ words) parse gives = refused c _
-
-of_two : (c : Contents) (words : List (List ℕ)) (parse : List ℕ → List ℕ → Result Command LineError)
-    → ((a b : List ℕ) → GivesSignals c (parse a b)) → GivesSignals c (two_words words parse)
-of_two c [] parse gives = refused c _
-of_two c (a ∷ []) parse gives = refused c _
-of_two c (a ∷ b ∷ []) parse gives = gives a b
-of_two c (a ∷ b ∷ d ∷ words) parse gives = refused c _
-
-of_four : (c : Contents) (words : List (List ℕ)) (parse : List ℕ → List ℕ → List ℕ → List ℕ → Result Command LineError)
-    → ((w x y z : List ℕ) → GivesSignals c (parse w x y z)) → GivesSignals c (four_words words parse)
-of_four c [] parse gives = refused c _
-of_four c (w ∷ []) parse gives = refused c _
-of_four c (w ∷ x ∷ []) parse gives = refused c _
-of_four c (w ∷ x ∷ y ∷ []) parse gives = refused c _
-of_four c (w ∷ x ∷ y ∷ z ∷ []) parse gives = gives w x y z
-of_four c (w ∷ x ∷ y ∷ z ∷ more ∷ words) parse gives = refused c _
-
-of_five : (c : Contents) (words : List (List ℕ)) (parse : List ℕ → List ℕ → List ℕ → List ℕ → List ℕ
-    → Result Command LineError) →
-    ((v w x y z : List ℕ) → GivesSignals c (parse v w x y z)) → GivesSignals c (five_words words parse)
-of_five c [] parse gives = refused c _
-of_five c (v ∷ []) parse gives = refused c _
-of_five c (v ∷ w ∷ []) parse gives = refused c _
-of_five c (v ∷ w ∷ x ∷ []) parse gives = refused c _
-of_five c (v ∷ w ∷ x ∷ y ∷ []) parse gives = refused c _
-of_five c (v ∷ w ∷ x ∷ y ∷ z ∷ []) parse gives = gives v w x y z
-of_five c (v ∷ w ∷ x ∷ y ∷ z ∷ more ∷ words) parse gives = refused c _
-
-of_seven : (c : Contents) (words : List (List ℕ)) (parse : List ℕ → List ℕ → List ℕ → List ℕ → List ℕ → List ℕ → List ℕ
-    → Result Command LineError) →
-    ((t u v w x y z : List ℕ) → GivesSignals c (parse t u v w x y z)) → GivesSignals c (seven_words words parse)
-of_seven c [] parse gives = refused c _
-of_seven c (t ∷ []) parse gives = refused c _
-of_seven c (t ∷ u ∷ []) parse gives = refused c _
-of_seven c (t ∷ u ∷ v ∷ []) parse gives = refused c _
-of_seven c (t ∷ u ∷ v ∷ w ∷ []) parse gives = refused c _
-of_seven c (t ∷ u ∷ v ∷ w ∷ x ∷ []) parse gives = refused c _
-of_seven c (t ∷ u ∷ v ∷ w ∷ x ∷ y ∷ []) parse gives = refused c _
-of_seven c (t ∷ u ∷ v ∷ w ∷ x ∷ y ∷ z ∷ []) parse gives = gives t u v w x y z
-of_seven c (t ∷ u ∷ v ∷ w ∷ x ∷ y ∷ z ∷ more ∷ words) parse gives = refused c _
-
 either : (c : Contents) (b : Bool) (x y : Result Command LineError) → GivesSignals c x → GivesSignals c y
     → GivesSignals c (cond b x y)
 either c true x y first second = first
@@ -165,7 +114,7 @@ of_derive c (word ∷ rule ∷ operands) = then_any c (rule_of c rule operands) 
 
 of_uart : (c : Capture) (words : List (List ℕ))
     → GivesSignals (contents c) (command_of (contents c) keywords.Uart words)
-of_uart c words = of_five (contents c) words _ (λ name bit count parity stop.
+of_uart c words = then_any (contents c) (five_words words) _ (λ (name, bit, count, parity, stop).
     read_on (contents c) (signal_of_name (contents c) name) (λ k. k < length (contents c).signals) _
     (found_within c name)
     (λ k within.
@@ -180,7 +129,7 @@ of_uart c words = of_five (contents c) words _ (λ name bit count parity stop.
 
 of_spi : (c : Capture) (words : List (List ℕ))
     → GivesSignals (contents c) (command_of (contents c) keywords.Spi words)
-of_spi c words = of_seven (contents c) words _ (λ clk mosi miso cs mode bits order.
+of_spi c words = then_any (contents c) (seven_words words) _ (λ (clk, mosi, miso, cs, mode, bits, order).
     read_on (contents c) (signal_of_name (contents c) clk) (λ k. k < length (contents c).signals) _ (found_within c clk)
     (λ k clk_within.
     read_on (contents c) (signal_or_absent (contents c) mosi)
@@ -205,7 +154,7 @@ of_spi c words = of_seven (contents c) words _ (λ clk mosi miso cs mode bits or
 
 of_i2c : (c : Capture) (words : List (List ℕ))
     → GivesSignals (contents c) (command_of (contents c) keywords.I2c words)
-of_i2c c words = of_two (contents c) words _ (λ scl sda.
+of_i2c c words = then_any (contents c) (two_words words) _ (λ (scl, sda).
     read_on (contents c) (signal_of_name (contents c) scl) (λ k. k < length (contents c).signals) _ (found_within c scl)
     (λ j scl_within.
     read_on (contents c) (signal_of_name (contents c) sda) (λ k. k < length (contents c).signals) _ (found_within c sda)
@@ -218,36 +167,39 @@ of_i2c c words = of_two (contents c) words _ (λ scl sda.
 of_keyword : (c : Capture) (keyword : Keyword) (words : List (List ℕ))
     → GivesSignals (contents c) (command_of (contents c) keyword words)
 of_keyword c keywords.Rename words =
-    of_two _ words _ (λ name word. then_any _ (signal_of_name (contents c) name) _ (λ k. steps _ _))
+    then_any _ (two_words words) _ (λ (name, word). then_any _ (signal_of_name (contents c) name) _ (λ k. steps _ _))
 of_keyword c keywords.Remove words =
-    of_one _ words _ (λ name. then_any _ (signal_of_name (contents c) name) _ (λ k. steps _ _))
+    then_any _ (one_word words) _ (λ name. then_any _ (signal_of_name (contents c) name) _ (λ k. steps _ _))
 of_keyword c keywords.Invert words =
-    of_one _ words _ (λ name. then_any _ (signal_of_name (contents c) name) _ (λ k. steps _ _))
+    then_any _ (one_word words) _ (λ name. then_any _ (signal_of_name (contents c) name) _ (λ k. steps _ _))
 of_keyword c keywords.Shift words =
-    of_two _ words _ (λ name by. then_any _ (signal_of_name (contents c) name) _
+    then_any _ (two_words words) _ (λ (name, by). then_any _ (signal_of_name (contents c) name) _
     (λ k. then_any _ (distance_of_word by) _ (λ d. steps _ _)))
 of_keyword c keywords.Cut words =
-    of_two _ words _ (λ from to. then_any _ (number_of_word from) _
+    then_any _ (two_words words) _ (λ (from, to). then_any _ (number_of_word from) _
     (λ a. then_any _ (number_of_word to) _ (λ b. steps _ _)))
 of_keyword c keywords.Deglitch words =
-    of_two _ words _ (λ name ticks. then_any _ (signal_of_name (contents c) name) _
+    then_any _ (two_words words) _ (λ (name, ticks). then_any _ (signal_of_name (contents c) name) _
     (λ k. then_any _ (number_of_word ticks) _ (λ count. steps _ _)))
 of_keyword c keywords.Force words =
-    of_four _ words _ (λ name from to value. then_any _ (signal_of_name (contents c) name) _
+    then_any _ (four_words words) _ (λ (name, from, to, value). then_any _ (signal_of_name (contents c) name) _
     (λ k. then_any _ (number_of_word from) _ (λ a.
     then_any _ (number_of_word to) _
     (λ b. then_any _ (value_of_word (signal_at (contents c) k).width value) _ (λ v. steps _ _)))))
 of_keyword c keywords.Derive words = of_derive (contents c) words
-of_keyword c keywords.Undo words = of_none _ words _ (steps _ _)
-of_keyword c keywords.Redo words = of_none _ words _ (steps _ _)
-of_keyword c keywords.Depth words = of_one _ words _ (λ count. then_any _ (number_of_word count) _ (λ depth. steps _ _))
-of_keyword c keywords.List words = of_none _ words _ (record { has = tt })
+of_keyword c keywords.Undo words = then_any _ (no_word words) _ (λ none. steps _ _)
+of_keyword c keywords.Redo words = then_any _ (no_word words) _ (λ none. steps _ _)
+of_keyword c keywords.Depth words =
+    then_any _ (one_word words) _ (λ count. then_any _ (number_of_word count) _ (λ depth. steps _ _))
+of_keyword c keywords.List words = then_any _ (no_word words) _ (λ none. record { has = tt })
 of_keyword c keywords.Value words =
-    of_two _ words _ (λ name tick. read_on _ (signal_of_name (contents c) name) (λ k. k < length (contents c).signals) _
+    then_any _ (two_words words) _ (λ (name, tick).
+    read_on _ (signal_of_name (contents c) name) (λ k. k < length (contents c).signals) _
     (found_within c name) (λ k within.
     then_any _ (number_of_word tick) _ (λ t. record { has = within })))
 of_keyword c keywords.Changes words =
-    of_one _ words _ (λ name. read_on _ (signal_of_name (contents c) name) (λ k. k < length (contents c).signals) _
+    then_any _ (one_word words) _ (λ name.
+    read_on _ (signal_of_name (contents c) name) (λ k. k < length (contents c).signals) _
     (found_within c name) (λ k within. record { has = within }))
 of_keyword c keywords.Uart words = of_uart c words
 of_keyword c keywords.Spi words = of_spi c words

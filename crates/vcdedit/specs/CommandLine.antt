@@ -1,9 +1,10 @@
 -- The options of the command line, and what its words ask for. They are the project's own.
-use Rattle.std.specs.Prelude.{ℕ, List, [], ◌∷◌, codes, true, Option, Some, unwrap_or}
+use Rattle.std.specs.Prelude.{ℕ, List, [], ◌∷◌, codes, true, if◌then◌else◌, Option, Some, None}
 use Rattle.std.specs.Option.{option_copied}
 use Rattle.std.specs.Str.Parse.{digits_value, without_leading_plus}
 use Rattle.clap.specs.Words.{App, Rule, Text, first_of, matches_of, new_app, new_rule, one_of}
 use Rattle.clap.specs.Simple.{new_shape}
+use Rattle.clap.specs.ValueTests.{is_unsigned_in}
 use Rattle.clap.specs.declared.builder.action.ArgAction.TheVariants.{Set}
 use Rattle.clap.specs.declared.builder.value_parser.ValueParser.TheVariants as parsers
 use Rattle.vcd_journal.specs.declared.step.TheConstants.{DEPTH_LIMIT}
@@ -46,9 +47,12 @@ option_app = record (new_app (codes "vcdedit")) {
   };
 }
 
--- the number of the depth's text; accepted words have one, if only the default
+-- the number of the depth's text, if it is from 1 to the limit; accepted words have such a text, if
+-- only the default
 abbrev pub depth_asked : Option Text → ℕ
-depth_asked text = digits_value 10 (without_leading_plus (unwrap_or text []))
+depth_asked None = 1
+depth_asked (Some text) = if is_unsigned_in 1 DEPTH_LIMIT text
+    then digits_value 10 (without_leading_plus text) else 1
 
 -- the path of each given option, and the depth
 pub record AskedOptions : Type 0 where

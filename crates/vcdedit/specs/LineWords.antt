@@ -1,6 +1,6 @@
 -- How many words a line has, which is tested first. Then they are read from the left, up to the
 -- first fault.
-use Rattle.std.specs.Prelude.{ℕ, List, [], ◌∷◌, Result, Ok, Err}
+use Rattle.std.specs.Prelude.{ℕ, List, [], ◌∷◌, Result, Ok, Err, ⊤}
 use Rattle.vcdedit.specs.declared.script.line_error.LineError.{LineError}
 use Rattle.vcdedit.specs.declared.script.line_error.LineError.TheVariants.{WrongCount}
 
@@ -11,38 +11,34 @@ abbrev pub ◌>>=◌ : {A B : Type 0} → Result A LineError → (A → Result B
 (Ok x) >>= f = f x
 (Err fault) >>= f = Err fault
 
--- readings of the words of a line; `WrongCount` if there are more of them, or fewer
-module _ {A : Type 0} where
-  -- of no word: this reading
-  abbrev pub no_word : List (List ℕ) → Result A LineError → Result A LineError
-  no_word [] parsed = parsed
-  no_word (word ∷ words) parsed = Err WrongCount
+-- that there is no word
+abbrev pub no_word : List (List ℕ) → Result ⊤ LineError
+no_word [] = Ok tt
+no_word words = Err WrongCount
 
-  -- of one word: what `parse` makes of it
-  abbrev pub one_word : List (List ℕ) → (List ℕ → Result A LineError) → Result A LineError
-  one_word (first ∷ words) parse = no_word words (parse first)
-  one_word [] parse = Err WrongCount
+-- the one word
+abbrev pub one_word : List (List ℕ) → Result (List ℕ) LineError
+one_word (first ∷ words) = no_word words >>= λ _. Ok first
+one_word [] = Err WrongCount
 
-  -- of two words, which are `first` and one more
-  abbrev pub two_words : List (List ℕ) → (List ℕ → List ℕ → Result A LineError) → Result A LineError
-  two_words (first ∷ words) parse = one_word words (parse first)
-  two_words [] parse = Err WrongCount
+-- the two words
+abbrev pub two_words : List (List ℕ) → Result (List ℕ × List ℕ) LineError
+two_words (first ∷ words) = one_word words >>= λ second. Ok (first, second)
+two_words [] = Err WrongCount
 
-  -- of four words, which are `first`, `second` and two more
-  abbrev pub four_words : List (List ℕ) → (List ℕ → List ℕ → List ℕ → List ℕ → Result A LineError)
-      → Result A LineError
-  four_words (first ∷ second ∷ words) parse = two_words words (parse first second)
-  four_words words parse = Err WrongCount
+-- the four words
+abbrev pub four_words : List (List ℕ) → Result (List ℕ × List ℕ × List ℕ × List ℕ) LineError
+four_words (a ∷ b ∷ words) = two_words words >>= λ (c, d). Ok (a, b, c, d)
+four_words words = Err WrongCount
 
-  -- of five words, which are `first` and four more
-  abbrev pub five_words : List (List ℕ)
-      → (List ℕ → List ℕ → List ℕ → List ℕ → List ℕ → Result A LineError) → Result A LineError
-  five_words (first ∷ words) parse = four_words words (parse first)
-  five_words [] parse = Err WrongCount
+-- the five words
+abbrev pub five_words : List (List ℕ)
+    → Result (List ℕ × List ℕ × List ℕ × List ℕ × List ℕ) LineError
+five_words (a ∷ words) = four_words words >>= λ (b, c, d, e). Ok (a, b, c, d, e)
+five_words [] = Err WrongCount
 
-  -- of seven words, which are `first`, `second` and five more
-  abbrev pub seven_words : List (List ℕ)
-      → (List ℕ → List ℕ → List ℕ → List ℕ → List ℕ → List ℕ → List ℕ → Result A LineError)
-      → Result A LineError
-  seven_words (first ∷ second ∷ words) parse = five_words words (parse first second)
-  seven_words words parse = Err WrongCount
+-- the seven words
+abbrev pub seven_words : List (List ℕ)
+    → Result (List ℕ × List ℕ × List ℕ × List ℕ × List ℕ × List ℕ × List ℕ) LineError
+seven_words (a ∷ b ∷ words) = five_words words >>= λ (c, d, e, f, g). Ok (a, b, c, d, e, f, g)
+seven_words words = Err WrongCount

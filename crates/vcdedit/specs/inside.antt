@@ -14,4 +14,3 @@ pub mod RunStages
 pub mod SentReplies
 pub mod ParsedDecoders
 pub mod LineAnswers
-pub mod Matches

@@ -18,25 +18,20 @@ pub struct Summary {
 ///
 /// Up to `ScriptReadFault` no reply was written, up to `ReplyFault` no output.
 #[derive(Clone, Copy, Debug, PartialEq, Eq, Error)]
+#[error("{}", self.name())]
 pub enum RunError {
     /// The capture could not be read.
-    #[error(transparent)]
     Capture(ReadError),
     /// The script has more than `SCRIPT_LIMIT` bytes.
-    #[error("ScriptTooLarge")]
     ScriptTooLarge,
     /// The script's source failed.
-    #[error("ScriptReadFault")]
     ScriptReadFault,
     /// Memory ran out at this line of the script, counted from 1, or at 0 before the first. Exactly
     /// the replies to the lines before it were written.
-    #[error("NoMemory")]
     NoMemory { line: u64 },
     /// The writer of the replies failed. It took exactly their first `written` bytes.
-    #[error("ReplyFault")]
     ReplyFault { written: u128 },
     /// The output could not be written.
-    #[error(transparent)]
     Write(WriteError),
 }
 

@@ -25,7 +25,7 @@ pub fn parse_uart<'a>(words: &mut Words<'a>, capture: &Capture) -> Parsed<'a>
     ensures { ReadsAs (command_of (contents capture.now) keywords.Uart (texts_left words.old))
         result }
 {
-    let (name, (bit, data_bits, (parity, stop_bits))) = take_five(words)?;
+    let (name, bit, data_bits, parity, stop_bits) = take_five(words)?;
     let signal = signal_of_name(capture, name)?;
     let ratio = ratio_of_word(bit)?;
     let data_bits = number_of_word(data_bits)?;
@@ -41,7 +41,7 @@ pub fn parse_spi<'a>(words: &mut Words<'a>, capture: &Capture) -> Parsed<'a>
     ensures { ReadsAs (command_of (contents capture.now) keywords.Spi (texts_left words.old))
         result }
 {
-    let (clk, mosi, (miso, (cs, mode, (bits, order)))) = take_seven(words)?;
+    let (clk, mosi, miso, cs, mode, bits, order) = take_seven(words)?;
     let clk = signal_of_name(capture, clk)?;
     let mosi = signal_or_absent(capture, mosi)?;
     let miso = signal_or_absent(capture, miso)?;

@@ -1,12 +1,9 @@
 //! The lines that derive a signal.
 
-ghost use Rattle.std.specs.Prelude.{◌≡◌, ℕ, if◌then◌else◌, Ok, Err, IfOk, IfErr, codes};
-ghost use Rattle.std.specs.Str.{bytes_eq};
-ghost use Rattle.vcd_edit.specs.declared.edit.Rule.TheVariants.{Xor};
-ghost use Rattle.vcdedit.specs.declared.script.line_error.LineError.TheVariants.{BadOption};
+ghost use Rattle.std.specs.Prelude.{◌≡◌};
 ghost use Rattle.vcd_core.specs.CaptureContents.{contents};
 ghost use Rattle.vcd_text.specs.LentWords.{texts_left};
-ghost use Rattle.vcdedit.specs.ScriptCommands.{pair_rule, bit_rule, rule_of, command_of};
+ghost use Rattle.vcdedit.specs.ScriptCommands.{not_rule, pair_of, bit_rule, rule_of, command_of};
 ghost use Rattle.vcdedit.specs.declared.script.keyword.Keyword.TheVariants as keywords;
 ghost use Rattle.vcdedit.specs.inside.Commands.{ReadsAs};
 
@@ -35,8 +32,7 @@ fn parse_rule(name: &[u8], words: &mut Words<'_>, capture: &Capture) -> Result<R
     ensures { result ≡ rule_of (contents capture.now) name.now (texts_left words.old) }
 {
     if name == b"not".as_slice() {
-        let operand = signal_of_name(capture, take_one(words)?)?;
-        return Ok(Rule::Not(operand));
+        return parse_not(words, capture);
     }
     if name == b"and".as_slice() {
         let (a, b) = parse_pair(words, capture)?;
@@ -46,39 +42,36 @@ fn parse_rule(name: &[u8], words: &mut Words<'_>, capture: &Capture) -> Result<R
         let (a, b) = parse_pair(words, capture)?;
         return Ok(Rule::Or(a, b));
     }
-    parse_rule_after_or(name, words, capture)
-}
-
-/// Reads the operands after a rule that comes later than `or` in the table.
-fn parse_rule_after_or(
-    name: &[u8],
-    words: &mut Words<'_>,
-    capture: &Capture,
-) -> Result<Rule, LineError>
-    ensures { result ≡ (if bytes_eq name.now (codes "xor")
-        then pair_rule (contents capture.now) Xor (texts_left words.old)
-        else (if bytes_eq name.now (codes "bit")
-        then bit_rule (contents capture.now) (texts_left words.old)
-        else Err BadOption)) }
-{
     if name == b"xor".as_slice() {
         let (a, b) = parse_pair(words, capture)?;
         return Ok(Rule::Xor(a, b));
     }
     if name == b"bit".as_slice() {
-        let (operand, bit) = take_two(words)?;
-        let operand = signal_of_name(capture, operand)?;
-        return Ok(Rule::BitOf(operand, number_of_word(bit)?));
+        return parse_bit(words, capture);
     }
     Err(LineError::BadOption)
 }
 
+/// Reads `A`.
+fn parse_not(words: &mut Words<'_>, capture: &Capture) -> Result<Rule, LineError>
+    ensures { result ≡ not_rule (contents capture.now) (texts_left words.old) }
+{
+    let operand = signal_of_name(capture, take_one(words)?)?;
+    Ok(Rule::Not(operand))
+}
+
+/// Reads `A K`.
+fn parse_bit(words: &mut Words<'_>, capture: &Capture) -> Result<Rule, LineError>
+    ensures { result ≡ bit_rule (contents capture.now) (texts_left words.old) }
+{
+    let (operand, bit) = take_two(words)?;
+    let operand = signal_of_name(capture, operand)?;
+    Ok(Rule::BitOf(operand, number_of_word(bit)?))
+}
+
 /// Reads `A B`.
 fn parse_pair(words: &mut Words<'_>, capture: &Capture) -> Result<(usize, usize), LineError>
-    ensures both { IfOk result (λ k. (rule : ℕ → ℕ → Rule) →
-        pair_rule (contents capture.now) rule (texts_left words.old) ≡ Ok (rule k.0 k.1)) }
-    ensures fault { IfErr result (λ e. (rule : ℕ → ℕ → Rule) →
-        pair_rule (contents capture.now) rule (texts_left words.old) ≡ Err e) }
+    ensures { result ≡ pair_of (contents capture.now) (texts_left words.old) }
 {
     let (a, b) = take_two(words)?;
     let first = signal_of_name(capture, a)?;

@@ -82,7 +82,7 @@ pub fn parse_force<'a>(words: &mut Words<'a>, capture: &Capture) -> Parsed<'a>
     ensures { ReadsAs (command_of (contents capture.now) keywords.Force (texts_left words.old))
         result }
 {
-    let (name, from, (to, value)) = take_four(words)?;
+    let (name, from, to, value) = take_four(words)?;
     let signal = signal_of_name(capture, name)?;
     let from = number_of_word(from)?;
     let to = number_of_word(to)?;

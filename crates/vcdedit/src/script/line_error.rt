@@ -8,30 +8,23 @@ use vcd_decode::SetupError;
 
 /// Why a line of the script is no command.
 #[derive(Clone, Copy, Debug, PartialEq, Eq, Error)]
+#[error("{}", self.name())]
 pub enum LineError {
     /// The first word names no command.
-    #[error("UnknownCommand")]
     UnknownCommand,
     /// The command takes another number of words.
-    #[error("WrongCount")]
     WrongCount,
     /// A word is not a decimal number, or the number is too large.
-    #[error("BadNumber")]
     BadNumber,
     /// No signal has this name.
-    #[error("NoSuchName")]
     NoSuchName,
     /// A value has an unknown letter, or more letters than its signal has bits.
-    #[error("BadValueText")]
     BadValueText,
     /// A word is not one of those allowed in its place.
-    #[error("BadOption")]
     BadOption,
     /// A decoder's signal is wider than one bit.
-    #[error("NotScalar")]
     NotScalar,
     /// The numbers of a decoder's setup are not allowed.
-    #[error(transparent)]
     Setup(SetupError),
 }
 

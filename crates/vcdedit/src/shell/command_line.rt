@@ -1,12 +1,11 @@
 //! The words of the command line, as `clap` reads them.
 
-ghost use Rattle.std.specs.Prelude.{◌≡◌, ◌≤◌, ℕ, false, List, Some, map, IfOk};
+ghost use Rattle.std.specs.Prelude.{◌≡◌, ◌≤◌, ℕ, false, codes, List, Some, map, IfOk};
 ghost use Rattle.std.specs.String.{string_bytes};
 ghost use Rattle.clap.specs.Words.{FailsBy, app_of, fault_of, found_of, kind_of, matches_of};
-ghost use Rattle.clap.specs.Words.{new_rule, rows_of, rule_of};
-ghost use Rattle.vcdedit.specs.CommandLine.{asked_options, depth_option, input_option, option_app};
-ghost use Rattle.vcdedit.specs.CommandLine.{options_in, output_option, script_option};
-ghost use Rattle.vcdedit.specs.inside.Matches.{HasDepth};
+ghost use Rattle.clap.specs.Words.{new_rule, one_text, rows_of, rule_of};
+ghost use Rattle.vcdedit.specs.CommandLine.{asked_options, depth_asked, depth_option, input_option};
+ghost use Rattle.vcdedit.specs.CommandLine.{option_app, options_in, output_option, script_option};
 
 use clap::builder::ValueParser;
 use clap::error::ErrorKind;
@@ -98,9 +97,8 @@ pub fn parse_words<'a>(alloc: Global, words: &'a [String]) -> Result<Options<'a>
     Ok(options_of(&matches))
 }
 
-/// The options of accepted words, which have a depth in its range.
+/// The options of accepted words.
 fn options_of<'a>(matches: &ArgMatches<'a>) -> Options<'a>
-    requires { HasDepth (found_of matches.now) }
     ensures asked { (words : List (List ℕ)) →
         rows_of (found_of matches.now) ≡ matches_of option_app words →
         options_in result ≡ asked_options words }
@@ -111,7 +109,19 @@ fn options_of<'a>(matches: &ArgMatches<'a>) -> Options<'a>
         input: matches.get_str("input-file"),
         script: matches.get_str("script"),
         output: matches.get_str("output-file"),
-        depth: matches.get_one("depth").unwrap(),
+        depth: depth_of(matches),
+    }
+}
+
+/// The depth, which accepted words have in its range.
+fn depth_of(matches: &ArgMatches<'_>) -> u64
+    ensures depth { result ≡ depth_asked (one_text (found_of matches.now) (codes "depth")) }
+    ensures least { 1 ≤ result }
+    ensures most { result ≤ DEPTH_LIMIT }
+{
+    match matches.get_one::<u64>("depth") {
+        Some(depth) if 1 <= depth && depth <= DEPTH_LIMIT => depth,
+        _ => 1,
     }
 }
 

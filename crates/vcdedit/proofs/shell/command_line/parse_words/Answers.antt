@@ -2,7 +2,6 @@
 use Rattle.std.proofs.Common.{◌∙◌, ap, map, sym}
 use Rattle.std.specs.String.{string_bytes}
 use Rattle.clap.specs.Words.{App, fault_of, is_simple, is_simple_and_free, matches_of}
-use Rattle.vcdedit.proofs.AskedDepths.{depth_is_read}
 use Rattle.vcdedit.proofs.AskedOptions.{free, simple}
 use Rattle.vcdedit.proofs.shell.command_line.parse_words.Goals as goal
 
@@ -16,7 +15,3 @@ pub returns-clause-faults : goal.returns-clause-faults
 returns-clause-faults c =
     sym (ap (λ (a : App). fault_of a (map string_bytes c.args.words.now)) c.in_ok-command.ensures)
     ∙ c.in_ok-matches.ensures.kinds (ap is_simple_and_free c.in_ok-command.ensures ∙ free)
-
-pub options_of-requires : goal.options_of-requires
-options_of-requires c =
-    depth_is_read c.in_ok-command.command c.in_ok-command.ensures c.in_ok-matches.matches c.in_ok-matches.ensures.parsed
