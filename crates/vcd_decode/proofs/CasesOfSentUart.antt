@@ -1,8 +1,9 @@
 -- Worked cases: lines that send frames.
 use Rattle.std.proofs.Common.{◌≡◌, refl}
-use Rattle.std.specs.Prelude.{ℕ, List, [], ◌∷◌, map}
+use Rattle.std.specs.Prelude.{ℕ, List, [], ◌∷◌, map, get_or}
 use Rattle.std.specs.List.{range_with_len}
-use Rattle.vcd_core.specs.declared.bit.Bit.TheVariants.{Zero, One}
+use Rattle.vcd_core.specs.declared.bit.Bit.{Bit}
+use Rattle.vcd_core.specs.declared.bit.Bit.TheVariants.{Zero, One, X, Z}
 use Rattle.vcd_decode.specs.declared.annotation.Annotation.{Annotation}
 use Rattle.vcd_decode.specs.declared.annotation.Kind.TheVariants.{Byte, ParityError, FrameError}
 use Rattle.vcd_decode.specs.declared.uart_setup.Parity.TheVariants.{None, Even, Odd}
@@ -10,8 +11,8 @@ use Rattle.vcd_decode.specs.UartSetup.{UartSetup, uart_setup}
 use Rattle.vcd_decode.specs.Lines.{annotation}
 use Rattle.vcd_decode.specs.Uart.{uart_annotations, frames, falls, begun_frame, sample_offset}
 use Rattle.vcd_decode.specs.SentLevels.{data_levels}
-use Rattle.vcd_decode.specs.UartSent.{Flaw, flawless, wrong_parity, low_stop, SentFrame, sent_line}
-use Rattle.vcd_decode.specs.UartSent.{bits_line}
+use Rattle.vcd_decode.specs.UartSent.{Flaw, flawless, wrong_parity, low_stop, SentFrame}
+use Rattle.vcd_decode.proofs.ExactFrames.{bits_line, sent_line}
 
 sent : ℕ → ℕ → Flaw → SentFrame
 sent start word flaw = record { start = start; word = word; flaw = flaw }
@@ -48,3 +49,15 @@ flaws : found (uart_setup 5 2 5 Odd 2) 70 (sent 1 31 wrong_parity ∷ sent 23 0 
     ≡ annotation 1 22 (ParityError 31) ∷ annotation 23 44 FrameError ∷ annotation 47 68 (Byte 1) ∷ []
 unfolding sent found uart_annotations frames falls begun_frame sample_offset sent_line bits_line data_levels
 flaws = refl
+
+-- a fall that is over half a bit later, and a frame whose bits are there in their middles alone
+worn_line : List Bit
+worn_line =
+    One ∷ One ∷ Zero ∷ Zero ∷ One ∷ X ∷ One ∷ One ∷ One ∷ Zero ∷ Zero ∷ Zero ∷ Zero ∷ X ∷ One ∷ X ∷ X ∷ One
+    ∷ One ∷ One ∷ Z ∷ Z ∷ X ∷ Z ∷ One ∷ Zero ∷ Zero ∷ X ∷ Z ∷ X ∷ Zero ∷ Z ∷ One ∷ One ∷ One ∷ One ∷ One ∷ One
+    ∷ X ∷ One ∷ One ∷ X ∷ Zero ∷ Z ∷ Z ∷ X ∷ X ∷ X ∷ One ∷ One ∷ One ∷ []
+
+worn : uart_annotations (λ t. get_or worn_line t One) 50 (uart_setup 6 1 5 None 1)
+    ≡ annotation 9 48 (Byte 11) ∷ []
+unfolding worn_line uart_annotations frames falls begun_frame sample_offset
+worn = refl

@@ -16,6 +16,7 @@ pub mod CasesOfSentUart
 pub mod SentLevels
 pub mod SentBits
 pub mod SentFrames
+pub mod ExactFrames
 pub mod CasesOfSentSpi
 pub mod SentClocks
 pub mod SentWords

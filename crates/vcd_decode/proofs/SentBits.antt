@@ -1,11 +1,11 @@
 -- The bits of a frame that is sent: when they last, and what kind of frame they make.
-use Rattle.std.proofs.Common.{◌≡◌, ℕ, zero, suc, ◌+◌, ◌-◌, ◌*◌, ◌/◌, ◌%◌, ◌<◌, ◌≤◌, ◌==◌, ◌||◌}
+use Rattle.std.proofs.Common.{◌≡◌, ℕ, zero, suc, ◌+◌, ◌-◌, ◌*◌, ◌%◌, ◌<◌, ◌≤◌, ◌==◌, ◌||◌}
 use Rattle.std.proofs.Common.{Bool, true, false}
 use Rattle.std.proofs.Common.{if◌then◌else◌, cond, List, [], ◌∷◌, ◌++◌, length, get_or, take, drop}
 use Rattle.std.proofs.Common.{count_by, replicate}
-use Rattle.std.proofs.Common.{inl, inr, refl, sym, ap, subst, ◌∙◌, ◌^◌, arith}
+use Rattle.std.proofs.Common.{inl, inr, refl, sym, ap, ◌∙◌, ◌^◌, arith}
 use Rattle.std.specs.List.{list_any}
-use Rattle.std.proofs.lemmas.Bool.{lt-ltb, le-ltb, eq-eqb, ne_eqb}
+use Rattle.std.proofs.lemmas.Bool.{eq-eqb, ne_eqb}
 use Rattle.std.proofs.lemmas.List.{get_or-append_right, length-append, length-replicate}
 use Rattle.std.proofs.lemmas.List.{append_assoc}
 use Rattle.std.proofs.lemmas.List.Folds.{list_any-append}
@@ -25,7 +25,7 @@ use Rattle.vcd_decode.specs.Uart.{is_parity_wrong, frame_kind}
 use Rattle.vcd_decode.specs.SentLevels.{level, data_levels}
 use Rattle.vcd_decode.specs.UartSent.{Flaw, flawless, wrong_parity, low_stop, SentFrame}
 use Rattle.vcd_decode.specs.UartSent.{CanHaveFlaw, parity_levels}
-use Rattle.vcd_decode.specs.UartSent.{sent_parity, stop_levels, bit_offset, bits_line, sent_kind}
+use Rattle.vcd_decode.specs.UartSent.{sent_parity, stop_levels, bit_offset, half_bit, sent_kind}
 use Rattle.vcd_decode.proofs.SampleTicks.{quotients_rise}
 use Rattle.vcd_decode.proofs.SentLevels.{level_cases, level_clear, data_clear, data_length}
 use Rattle.vcd_decode.proofs.SentLevels.{number_of_data}
@@ -35,34 +35,30 @@ use Rattle.vcd_decode.proofs.SentLevels.{number_of_data}
 pub bits_rise : (u : UartSetup) (k m : ℕ) → k ≤ m → bit_offset u k ≤ bit_offset u m
 bits_rise u k m le = quotients_rise (k * u.numerator) (m * u.numerator) u.denominator (mul-le-mul_right u.numerator le)
 
--- not before it starts
-pub sample_in_bit : (u : UartSetup) (k : ℕ) → 1 ≤ u.denominator → bit_offset u k ≤ sample_offset u k
+-- half a bit or more after it starts
+pub sample_after_start : (u : UartSetup) (k : ℕ) → 1 ≤ u.denominator
+    → bit_offset u k + half_bit u ≤ sample_offset u k
 unfolding sample_offset
-sample_in_bit u k positive =
-    (le-div_iff_mul-le {k = 2 * u.denominator} {x = bit_offset u k} {y = (2 * k + 1) * u.numerator} (omega arith)).1
-    (omega (arith, div-mul-le_self (k * u.numerator) u.denominator))
+sample_after_start u k positive =
+    (le-div_iff_mul-le {k = 2 * u.denominator} {x = bit_offset u k + half_bit u} {y = (2 * k + 1) * u.numerator}
+    (omega arith)).1
+    (omega (
+      arith,
+      div-mul-le_self (k * u.numerator) u.denominator,
+      div-mul-le_self u.numerator (2 * u.denominator),
+    ))
 
--- and before the next bit starts
-pub sample_before_next : (u : UartSetup) (k : ℕ) → 1 ≤ u.denominator → 2 * u.denominator ≤ u.numerator
-    → sample_offset u k < bit_offset u (suc k)
+-- and half a bit or more before the next starts
+pub sample_before_next : (u : UartSetup) (k : ℕ) → 1 ≤ u.denominator
+    → sample_offset u k + half_bit u ≤ bit_offset u (suc k)
 unfolding sample_offset
-sample_before_next u k positive long =
-    (le-div_iff_mul-le {k = u.denominator} {x = suc ((2 * k + 1) * u.numerator / (2 * u.denominator))}
-    {y = suc k * u.numerator} positive).1
-    (omega (arith, div-mul-le_self ((2 * k + 1) * u.numerator) (2 * u.denominator)))
-
--- the line of bits has bit k from its start to the start of the next
-pub bit_held : (u : UartSetup) (bs : List Bit) (k j m offset : ℕ) → m ≡ k + j → bit_offset u m ≤ offset
-    → offset < bit_offset u (suc m)
-    → bits_line u k bs offset ≡ get_or bs j One
-unfolding bits_line
-bit_held u [] k j m offset at from before = refl
-bit_held u (b ∷ bs) k zero m offset at from before =
-    let here : offset < bit_offset u (suc k) = subst (λ n. offset < bit_offset u (suc n)) (omega arith) before in
-    rw (lt-ltb offset (bit_offset u (suc k)) here) refl
-bit_held u (b ∷ bs) k (suc j) m offset at from before =
-    let past : bit_offset u (suc k) ≤ offset = omega (arith, bits_rise u (suc k) m (omega arith)) in
-    rw (le-ltb offset (bit_offset u (suc k)) past) (bit_held u bs (suc k) j m offset (omega arith) from before)
+sample_before_next u k positive =
+    (le-div_iff_mul-le {k = u.denominator} {x = sample_offset u k + half_bit u} {y = suc k * u.numerator} positive).1
+    (omega (
+      arith,
+      div-mul-le_self ((2 * k + 1) * u.numerator) (2 * u.denominator),
+      div-mul-le_self u.numerator (2 * u.denominator),
+    ))
 
 -- ---- the parity bit
 

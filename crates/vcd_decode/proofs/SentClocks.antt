@@ -13,7 +13,7 @@ use Rattle.vcd_decode.specs.SpiSetup.{SpiSetup}
 use Rattle.vcd_decode.specs.Lines.{letter_before, is_zero, is_one}
 use Rattle.vcd_decode.specs.Spi.{has_sampling_edge}
 use Rattle.vcd_decode.specs.SentLevels.{level}
-use Rattle.vcd_decode.specs.SpiSent.{SpiWord, sent_clock, WordsFit, word_ticks, bit_start}
+use Rattle.vcd_decode.specs.SpiSent.{SpiWord, sent_clock, WordsFit, word_ticks}
 use Rattle.vcd_decode.specs.SpiSent.{bit_middle}
 use Rattle.vcd_decode.proofs.SentLevels.{level_cases}
 
@@ -28,6 +28,10 @@ level_even n even = elim (level_cases n) [ inl is ↦ absurd (omega (arith, is.1
 -- whether a mode samples where the clock goes from one letter to another
 abbrev pub edge_of : ℕ → Bit → Bit → Bool
 edge_of mode x y = if mode == 0 || mode == 3 then is_zero x && is_one y else is_one x && is_zero y
+
+-- the tick at which bit k of a word starts
+abbrev bit_start : ℕ → SpiWord → ℕ → ℕ
+bit_start half w k = w.start + 2 * k * half
 
 -- the number of the clock's level as a bit starts
 abbrev first_level : ℕ → ℕ

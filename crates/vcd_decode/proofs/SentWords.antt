@@ -72,7 +72,7 @@ unfolding SendsData
 line_shows u half word_of None w ws positive fit sends = refl
 line_shows u half word_of (Some f) w ws positive fit sends =
     line_read u half w f (word_of w) fit
-    (λ k within. sends.0 k (bit_middle half w k) within (omega arith) (omega arith))
+    sends.0
 
 later_sent : (u : SpiSetup) (half : ℕ) (word_of : SpiWord → ℕ) (line : Option (ℕ → Bit)) (w : SpiWord)
     (ws : List SpiWord) → MaySendData u half word_of line (w ∷ ws) → MaySendData u half word_of line ws

@@ -14,15 +14,15 @@ use Rattle.vcd_decode.specs.SpiSent.{sent_word_annotation, sent_part_annotation}
 use Rattle.vcd_decode.specs.I2c.{i2c_annotations}
 use Rattle.vcd_decode.specs.I2cSent.{Transfer, AreTransfers, message_levels, HaveLevels}
 use Rattle.vcd_decode.specs.I2cSent.{message_annotations}
-use Rattle.vcd_decode.specs.UartSent.{SentFrame, sent_line, CanBeSent, sent_annotation}
+use Rattle.vcd_decode.specs.UartSent.{SentFrame, SendsFrames, sent_annotation}
 
--- a line that sends frames, decoded, gives these frames; it is 1 at tick 0, and the capture ends
--- after the last frame
+-- a line that sends frames, decoded, gives these frames; the capture ends after the middle of the
+-- last bit
 abbrev pub UartFramesAreFound : Type 0
 UartFramesAreFound =
     (u : UartSetup) (line : ℕ → Bit) (end : ℕ) (ws : List SentFrame)
-    → IsUartSetup u.numerator u.denominator u.data_bits u.stop_bits → CanBeSent u 1 end ws
-    → ((t : ℕ) → t ≤ end → line t ≡ sent_line u ws t)
+    → IsUartSetup u.numerator u.denominator u.data_bits u.stop_bits
+    → SendsFrames u line 0 end ws
     → uart_annotations line end u ≡ map (sent_annotation u) ws
 
 -- the lines of a serial peripheral interface that send words while the chip is selected, decoded,

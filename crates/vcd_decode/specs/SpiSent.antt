@@ -28,10 +28,6 @@ pub record SpiWord : Type 0 where
 abbrev pub word_ticks : SpiSetup → ℕ → ℕ
 word_ticks u half = 2 * u.bits * half
 
--- the tick at which bit k starts
-abbrev pub bit_start : ℕ → SpiWord → ℕ → ℕ
-bit_start half w k = w.start + 2 * k * half
-
 -- the tick in the middle of bit k
 abbrev pub bit_middle : ℕ → SpiWord → ℕ → ℕ
 bit_middle half w k = w.start + (2 * k + 1) * half
@@ -60,13 +56,12 @@ abbrev pub ordered_levels : BitOrder → ℕ → ℕ → List Bit
 ordered_levels Lsb bits word = data_levels bits word
 ordered_levels Msb bits word = reverse (data_levels bits word)
 
--- a data line has each bit of a word from its start to the start of the next; between words it has
--- any level
+-- a data line has each bit of a word at the tick in its middle; at other ticks it has any letter
 unfoldable pub SendsData : SpiSetup → ℕ → (SpiWord → ℕ) → (ℕ → Bit) → List SpiWord → Type 0
 SendsData u half word_of f [] = ⊤
 SendsData u half word_of f (w ∷ ws) =
-    ((k t : ℕ) → k < u.bits → bit_start half w k ≤ t → t < bit_start half w (suc k)
-    → f t ≡ get_or (ordered_levels u.order u.bits (word_of w)) k X)
+    ((k : ℕ) → k < u.bits
+    → f (bit_middle half w k) ≡ get_or (ordered_levels u.order u.bits (word_of w)) k X)
     × SendsData u half word_of f ws
 
 -- the same for a line that may be absent

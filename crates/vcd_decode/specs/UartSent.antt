@@ -1,6 +1,6 @@
 -- The line that a sender of frames drives (ISO 1177): what the frames of `Uart` are to give back.
-use Rattle.std.specs.Prelude.{ℕ, suc, ◌+◌, ◌*◌, ◌-◌, ◌/◌, ◌^◌, ◌<◌, ◌≤◌, ◌≡◌, nat_lt, ⊤}
-use Rattle.std.specs.Prelude.{List, [], ◌∷◌, ◌++◌, replicate, count_by, if◌then◌else◌}
+use Rattle.std.specs.Prelude.{ℕ, suc, ◌+◌, ◌*◌, ◌-◌, ◌/◌, ◌^◌, ◌<◌, ◌≤◌, ◌≡◌, ◌≢◌, ⊤}
+use Rattle.std.specs.Prelude.{List, [], ◌∷◌, ◌++◌, replicate, get_or, count_by}
 use Rattle.vcd_core.specs.declared.bit.Bit.{Bit}
 use Rattle.vcd_core.specs.declared.bit.Bit.TheVariants.{Zero, One}
 use Rattle.vcd_decode.specs.declared.annotation.Annotation.{Annotation}
@@ -51,52 +51,52 @@ frame_levels u w =
     Zero ∷ data_bits ++ sent_parity u.parity w.flaw (count_by is_one data_bits)
     ++ stop_levels u.stop_bits w.flaw
 
--- ---- the line
-
--- the ticks from the start of a frame to the start of its bit k
-abbrev pub bit_offset : UartSetup → ℕ → ℕ
-bit_offset u k = k * u.numerator / u.denominator
-
--- the ticks of a whole frame
-abbrev pub frame_ticks : UartSetup → ℕ
-frame_ticks u = bit_offset u (suc (last_bit u))
-
--- bits one after the other, the first of them bit k: each lasts until the next starts, and the line
--- is 1 after them
-unfoldable pub bits_line : UartSetup → ℕ → List Bit → ℕ → Bit
-bits_line u k [] offset = One
-bits_line u k (b ∷ bs) offset = if nat_lt offset (bit_offset u (suc k)) then b
-    else bits_line u (suc k) bs offset
-
--- the line that sends these frames, and is 1 before, between and after them
-unfoldable pub sent_line : UartSetup → List SentFrame → ℕ → Bit
-sent_line u [] t = One
-sent_line u (w ∷ ws) t =
-    if nat_lt t w.start then One
-    else (if nat_lt t (w.start + frame_ticks u) then bits_line u 0 (frame_levels u w) (t - w.start)
-    else sent_line u ws t)
-
--- ---- what can be sent
-
 -- a parity bit can be wrong if there is one, and a stop bit can be 0 if there is one
 abbrev pub CanHaveFlaw : UartSetup → Flaw → Type 0
 CanHaveFlaw u flawless = ⊤
 CanHaveFlaw u wrong_parity = parity_bits u.parity ≡ 1
 CanHaveFlaw u (low_stop k) = k < u.stop_bits
 
--- the ticks after a frame at which the line is 1, so that the next start bit begins with a fall
-abbrev pub idle_ticks : Flaw → ℕ
-idle_ticks (low_stop k) = 1
-idle_ticks flaw = 0
+-- ---- the line
 
--- the words fit their bits, and their frames fit one after the other into the ticks from `from` to
--- `end`
-unfoldable pub CanBeSent : UartSetup → ℕ → ℕ → List SentFrame → Type 0
-CanBeSent u from end [] = ⊤
-CanBeSent u from end (w ∷ ws) =
-    (w.word < 2 ^ u.data_bits) × CanHaveFlaw u w.flaw × (from ≤ w.start)
-    × (w.start + frame_ticks u ≤ suc end)
-    × CanBeSent u (w.start + frame_ticks u + idle_ticks w.flaw) end ws
+-- the ticks from the start of a frame to the start of its bit k
+abbrev pub bit_offset : UartSetup → ℕ → ℕ
+bit_offset u k = k * u.numerator / u.denominator
+
+-- the ticks of half a bit, rounded down
+abbrev pub half_bit : UartSetup → ℕ
+half_bit u = u.numerator / (2 * u.denominator)
+
+-- the line has each bit of a frame in its middle: at the ticks that are at least half a bit after
+-- its start, and at least as much before the start of the next. At other ticks after the frame's
+-- start it may have any letter, so edges may be early or late
+abbrev pub HasBits : UartSetup → (ℕ → Bit) → SentFrame → Type 0
+HasBits u line w =
+    (k t : ℕ) → k ≤ last_bit u → w.start + bit_offset u k + half_bit u ≤ t
+    → t + half_bit u ≤ w.start + bit_offset u (suc k)
+    → line t ≡ get_or (frame_levels u w) k One
+
+-- the last tick in the middle of the last bit
+abbrev pub last_middle : UartSetup → SentFrame → ℕ
+last_middle u w = w.start + bit_offset u (suc (last_bit u)) - half_bit u
+
+-- after the tick `from`, and before the tick `until`, the line begins no frame: if it falls from 1
+-- to 0, it is not 0 half a bit later
+abbrev pub IsIdle : UartSetup → (ℕ → Bit) → ℕ → ℕ → ℕ → Type 0
+IsIdle u line from until end =
+    (t : ℕ) → from ≤ t → suc t < until → line t ≡ One → line (suc t) ≡ Zero
+    → (suc t + half_bit u ≤ end) × (line (suc t + half_bit u) ≢ Zero)
+
+-- after the tick `from`, and up to `end`, a line sends these frames and no other; each begins with
+-- a fall from 1 to 0
+unfoldable pub SendsFrames : UartSetup → (ℕ → Bit) → ℕ → ℕ → List SentFrame → Type 0
+SendsFrames u line from end [] = IsIdle u line from (suc end) end
+SendsFrames u line from end (w ∷ ws) =
+    (w.word < 2 ^ u.data_bits) × CanHaveFlaw u w.flaw
+    × (from < w.start) × IsIdle u line from w.start end
+    × (line (w.start - 1) ≡ One) × (line w.start ≡ Zero)
+    × HasBits u line w × (last_middle u w ≤ end)
+    × SendsFrames u line (last_middle u w) end ws
 
 -- ---- what is to be found
 

@@ -6,15 +6,16 @@ ghost use Rattle.vcd_decode.specs.Laws.{I2cMessagesAreFound};
 /// A line that idles at 1 and sends frames decodes to one annotation for each frame. It goes from
 /// the frame's start to the sample of its last bit. Its kind is `byte` with the word that was sent,
 /// `parity-error` if the parity bit is wrong, or `frame-error` if a stop bit is 0. This holds for
-/// every setup and any idle time between frames, or none.
+/// every setup and any idle time between frames, or none. Edges after the frame's start may be
+/// early or late by up to half a bit: a bit has to be there in its middle alone.
 pub fn uart_frames_are_found()
     ensures { UartFramesAreFound }
 {}
 
 /// The lines of a serial peripheral interface that send words while the chip is selected decode to
 /// these words. Each goes from the middle of its first bit to that of its last. This holds in each
-/// mode, order and number of bits. If the chip is released within a word, that word is `partial`,
-/// with the count of its bits.
+/// mode, order and number of bits, and data have to be right in the middle of each bit alone. If
+/// the chip is released within a word, that word is `partial`, with the count of its bits.
 pub fn spi_words_are_found()
     ensures words { SpiWordsAreFound }
     ensures part { SpiPartIsFound }

@@ -18,11 +18,11 @@ use Rattle.vcd_edit.specs.Effect.{run_start, run_end, is_steady, steady_value, w
 use Rattle.vcd_edit.specs.EditFaults.{edit_fault}
 use Rattle.vcd_edit.specs.EffectLaws.{value_of}
 use Rattle.vcd_edit.specs.Laws.{IsRunOfOneValue, HasNoShortRun, DeglitchLeavesNoShortRun}
-use Rattle.vcd_edit.specs.Laws.{DeglitchKeepsLongRuns}
+use Rattle.vcd_edit.specs.Laws.{DeglitchKeepsLongRuns, DeglitchFillsShortRuns}
 use Rattle.vcd_edit.specs.Laws.{DeglitchWithoutShortRuns, DeglitchTwice}
 use Rattle.vcd_edit.proofs.Faults.{no_fault, position_below}
 use Rattle.vcd_edit.proofs.SoundEffects.{effect_is_sound, sound_at}
-use Rattle.vcd_edit.proofs.Runs.{run_stays, if_same, if_other, deglitch_is_wave}
+use Rattle.vcd_edit.proofs.Runs.{run_stays, run_falls, if_same, if_other, deglitch_is_wave}
 
 same_or_other : (v w : List Bit) → (v ≡ w) ⊎ (v ≢ w)
 same_or_other v w = choose (same_letters v w) refl
@@ -219,12 +219,60 @@ leaves_none k n c sound none first last late early run =
     (same_run (value_of (effect (Deglitch k n) c) k) (steady_value n c.end (value_of c k)) c.end first last late
     (omega (arith, end_stays k n c)) (values_after k n c none) run)
 
+-- ticks of one value lie within a run of it
+kept : (n end : ℕ) (f : ℕ → List Bit) (first last t : ℕ) → last ≤ end
+    → ((s : ℕ) → first ≤ s → s ≤ last → f s ≡ f first)
+    → (first ≡ 0) ⊎ (last ≡ end) ⊎ (n ≤ last - first + 1)
+    → first ≤ t → t ≤ last → steady_value n end f t ≡ f t
+kept n end f first last t within one long from to =
+    let a = run_start f t in
+    let b = run_end f t (end - t) in
+    let start : StartsAt f t a = start_is f t in
+    let stop : EndsAt f t (end - t) b = end_is f t (end - t) in
+    let early : a ≤ first = elim (cases_lt first a) [
+      | inl less ↦
+          absurd (start.2 (a - 1) (omega arith)
+          (one a (omega arith) (omega arith) ∙ sym (one (a - 1) (omega arith) (omega arith))))
+      | inr more ↦ more
+    ] in
+    let late : last ≤ b = elim (cases_lt b last) [
+      | inl less ↦
+          absurd (stop.3 (omega arith)
+          (one (suc b) (omega arith) (omega arith) ∙ sym (one b (omega arith) (omega arith))))
+      | inr more ↦ more
+    ] in
+    let all_same : (s : ℕ) → a ≤ s → s ≤ b → f s ≡ f t = λ s after before. elim (cases_lt s t) [
+      | inl less ↦ start.1 s after (omega arith)
+      | inr more ↦ stop.2 s more before
+    ] in
+    run_stays n end f a b (omega arith) (omega arith)
+    (λ s after before. all_same s after before ∙ sym (all_same a (omega arith) (omega arith))) start.2
+    (λ less. stop.3 (omega arith))
+    (steady_by n end a b (λ later sooner. long_enough a b early late later sooner long) (omega arith)) t (omega arith)
+    (omega arith)
+  where
+    long_enough : (a b : ℕ) → a ≤ first → last ≤ b → 0 < a → b < end
+        → (first ≡ 0) ⊎ (last ≡ end) ⊎ (n ≤ last - first + 1) → n ≤ b - a + 1
+    long_enough a b early late later sooner (inl is) = omega arith
+    long_enough a b early late later sooner (inr (inl is)) = omega arith
+    long_enough a b early late later sooner (inr (inr is)) = omega arith
+
 pub keeps_long : DeglitchKeepsLongRuns
-keeps_long k n c sound none first last t early (ordered, one, before, after) long from to =
+keeps_long k n c sound none first last t within one long from to =
     values_after k n c none t (omega arith)
-    ∙ run_stays n c.end (value_of c k) first last ordered (omega arith) one
+    ∙ kept n c.end (value_of c k) first last t within one long from to
+
+not_steady : (n end a b : ℕ) → 0 < a → b < end → b - a + 1 < n → (a == 0 || b == end || nat_le n (b - a + 1)) ≡ false
+not_steady n end a b late early short = grind (arith, nat_tests)
+
+pub fills_short : DeglitchFillsShortRuns
+fills_short k n c sound none first last t late early (ordered, one, before, after) short from to =
+    let g = steady_value n c.end (value_of c k) in
+    values_after k n c none t (omega arith)
+    ∙ run_falls n c.end (value_of c k) first last ordered (omega arith) one
     (λ p is equal. before (ap (value_of c k) (omega arith) ∙ sym equal)) (λ less. after)
-    (steady_by n c.end first last (λ _ _. long) (omega arith)) t from to
+    (not_steady n c.end first last late early short) (g (first - 1)) (λ p is. ap g (omega arith)) t from to
+    ∙ sym (values_after k n c none (first - 1) (omega arith))
 
 pub without_short_runs : DeglitchWithoutShortRuns
 without_short_runs k n c sound none long =

@@ -1,5 +1,5 @@
 -- The laws of edits: each is the contract of a function of `laws`.
-use Rattle.std.specs.Prelude.{ℕ, suc, ◌+◌, ◌-◌, ◌≡◌, ◌≢◌, ◌<◌, ◌≤◌, None, List}
+use Rattle.std.specs.Prelude.{ℕ, suc, ◌+◌, ◌-◌, ◌≡◌, ◌≢◌, ◌⊎◌, ◌<◌, ◌≤◌, None, List}
 use Rattle.vcd_core.specs.declared.bit.Bit.{Bit}
 use Rattle.vcd_core.specs.Contents.{Contents}
 use Rattle.vcd_core.specs.Sound.{IsSound}
@@ -35,14 +35,27 @@ DeglitchLeavesNoShortRun =
     → HasNoShortRun ticks (effect (Deglitch k ticks) c).end
     (value_of (effect (Deglitch k ticks) c) k)
 
--- a run that is long enough keeps its value
+-- a value that lasts from tick 0, or to the end, or for at least `ticks` ticks stays
 abbrev pub DeglitchKeepsLongRuns : Type 0
 DeglitchKeepsLongRuns =
     (k ticks : ℕ) (c : Contents) → IsSound c → edit_fault (Deglitch k ticks) c ≡ None
     → (first last t : ℕ)
-    → last < c.end → IsRunOfOneValue (value_of c k) first last → ticks ≤ last - first + 1
+    → last ≤ c.end
+    → ((s : ℕ) → first ≤ s → s ≤ last → value_of c k s ≡ value_of c k first)
+    → (first ≡ 0) ⊎ (last ≡ c.end) ⊎ (ticks ≤ last - first + 1)
     → first ≤ t → t ≤ last
     → value_of (effect (Deglitch k ticks) c) k t ≡ value_of c k t
+
+-- any other run gets the value that the signal then has just before it
+abbrev pub DeglitchFillsShortRuns : Type 0
+DeglitchFillsShortRuns =
+    (k ticks : ℕ) (c : Contents) → IsSound c → edit_fault (Deglitch k ticks) c ≡ None
+    → (first last t : ℕ)
+    → 0 < first → last < c.end → IsRunOfOneValue (value_of c k) first last
+    → last - first + 1 < ticks
+    → first ≤ t → t ≤ last
+    → value_of (effect (Deglitch k ticks) c) k t
+    ≡ value_of (effect (Deglitch k ticks) c) k (first - 1)
 
 -- a capture whose signal has no short run is unchanged
 abbrev pub DeglitchWithoutShortRuns : Type 0

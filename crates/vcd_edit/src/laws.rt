@@ -2,7 +2,8 @@
 
 ghost use Rattle.vcd_edit.specs.Laws.{EffectIsSound};
 ghost use Rattle.vcd_edit.specs.Laws.{DeglitchLeavesNoShortRun, DeglitchKeepsLongRuns};
-ghost use Rattle.vcd_edit.specs.Laws.{DeglitchWithoutShortRuns, DeglitchTwice};
+ghost use Rattle.vcd_edit.specs.Laws.{DeglitchFillsShortRuns, DeglitchWithoutShortRuns};
+ghost use Rattle.vcd_edit.specs.Laws.{DeglitchTwice};
 ghost use Rattle.vcd_edit.specs.EffectLaws.{InvertTwice, InvertTwiceWithoutZ, CutKeepsOtherTicks};
 ghost use Rattle.vcd_edit.specs.EffectLaws.{CutsCommute, ShiftAndBack, ForceIsLocal};
 ghost use Rattle.vcd_edit.specs.EffectLaws.{LastForceCounts};
@@ -15,11 +16,13 @@ pub fn effect_is_sound()
 {}
 
 /// A deglitch takes out the short runs of one value, and nothing else. Afterwards each run that
-/// holds neither tick 0 nor the end has at least as many ticks as asked for. A long run keeps its
-/// value, and a wave without short runs is unchanged. A second deglitch changes nothing.
+/// holds neither tick 0 nor the end has at least as many ticks as asked for. A run that is long
+/// enough, or holds tick 0 or the end, keeps its value. Any other gets the value just before it.
+/// A wave without short runs is unchanged. A second deglitch changes nothing.
 pub fn deglitch_takes_short_runs_out()
     ensures none_left { DeglitchLeavesNoShortRun }
     ensures long_stay { DeglitchKeepsLongRuns }
+    ensures short_filled { DeglitchFillsShortRuns }
     ensures unchanged { DeglitchWithoutShortRuns }
     ensures once { DeglitchTwice }
 {}

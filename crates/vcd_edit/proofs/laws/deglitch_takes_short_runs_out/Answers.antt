@@ -7,6 +7,9 @@ returns-clause-none_left c = short_runs.leaves_none
 pub returns-clause-long_stay : goal.returns-clause-long_stay
 returns-clause-long_stay c = short_runs.keeps_long
 
+pub returns-clause-short_filled : goal.returns-clause-short_filled
+returns-clause-short_filled c = short_runs.fills_short
+
 pub returns-clause-unchanged : goal.returns-clause-unchanged
 returns-clause-unchanged c = short_runs.without_short_runs
 
