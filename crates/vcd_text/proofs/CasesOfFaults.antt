@@ -15,18 +15,21 @@ use Rattle.vcd_text.specs.Grammar.{initial_state, state_after, word_texts, Allow
 use Rattle.vcd_text.proofs.OneAnswer.{accepted-not_refused}
 use Rattle.vcd_text.specs.Items.{Item, spellings, scope, upscope, variable, end_definitions, stamp}
 use Rattle.vcd_text.specs.Items.{vector, dump_word}
-use Rattle.vcd_text.specs.Faults.{WordShows, fault_line}
+use Rattle.vcd_text.specs.Faults.{fault_line}
+use Rattle.vcd_text.specs.inside.FaultRows.{WordShows}
 use Rattle.vcd_text.specs.FoundFaults.{IsFoundFault, word_shows}
 use Rattle.vcd_text.specs.FoundFaults.{PrefixShows, PrefixShowsNone, too_early}
-use Rattle.vcd_text.specs.Faults.{among_declarations, among_changes, upscope_at_top}
-use Rattle.vcd_text.specs.FoundFaults.{declaration_due, code_due}
-use Rattle.vcd_text.specs.Faults.{no_timescale, missing_kind, missing_part, no_size, code_mixed}
-use Rattle.vcd_text.specs.Faults.{begins_no_declaration}
-use Rattle.vcd_text.specs.Faults.{definitions_go_on, declaration_late, missing_code, no_value}
-use Rattle.vcd_text.specs.Faults.{begins_no_change}
-use Rattle.vcd_text.specs.Faults.{no_tick, tick_goes_back, unknown_scalar_code, unknown_pair_code}
-use Rattle.vcd_text.specs.Faults.{value_too_long}
+use Rattle.vcd_text.specs.inside.FaultRows.{among_declarations, among_changes, upscope_at_top}
+use Rattle.vcd_text.specs.inside.FaultRows.{declaration_due, code_due}
+use Rattle.vcd_text.specs.inside.FaultRows.{no_timescale, missing_kind, missing_part, no_size, code_mixed}
+use Rattle.vcd_text.specs.inside.FaultRows.{begins_no_declaration}
+use Rattle.vcd_text.specs.inside.FaultRows.{definitions_go_on, declaration_late, missing_code, no_value}
+use Rattle.vcd_text.specs.inside.FaultRows.{begins_no_change}
+use Rattle.vcd_text.specs.inside.FaultRows.{no_tick, tick_goes_back, unknown_scalar_code, unknown_pair_code}
+use Rattle.vcd_text.specs.inside.FaultRows.{value_too_long}
 use Rattle.vcd_text.proofs.ItemsInTurn.{shown_by}
+use Rattle.vcd_text.proofs.ItemFaults.{shows_new}
+use Rattle.vcd_text.proofs.ItemRows.{unfinished_new}
 
 -- one variable, and the end of the declarations
 abbrev one_variable : List Item
@@ -58,7 +61,8 @@ time_goes_back_in_prefix = record {
   parts = refl;
   spelled = refl;
   allowed = search arith;
-  decided = among_changes refl (tick_goes_back (codes "9") refl refl refl (omega arith) refl);
+  decided = shows_new (state_after initial_state (one_variable ++ stamp (codes "10") ∷ [])) [] (codes "#9") TimeBackwards
+      (among_changes refl (tick_goes_back (codes "9") refl refl refl (omega arith) refl));
   at = refl;
 }
 
@@ -77,7 +81,8 @@ ends_before_code = too_early (record {
   begun = codes "b101" ∷ [];
   spelled = refl;
   allowed = search arith;
-  unfinished = code_due 98 (codes "101") refl refl refl;
+  unfinished = unfinished_new (state_after initial_state (one_variable ++ stamp (codes "0") ∷ [])) (codes "b101" ∷ [])
+      (code_due 98 (codes "101") refl refl refl);
 }) refl refl
 
 -- the empty file
@@ -88,7 +93,7 @@ nothing = too_early (record {
   begun = [];
   spelled = refl;
   allowed = tt;
-  unfinished = declaration_due refl refl;
+  unfinished = unfinished_new initial_state [] (declaration_due refl refl);
 }) refl refl
 
 -- a tick one past the greatest

@@ -19,14 +19,17 @@ use Rattle.vcd_text.specs.Items.{Item, stamp, scalar, vector, real_or_string, du
 use Rattle.vcd_text.specs.Items.{is_command}
 use Rattle.vcd_text.specs.Items.{dump_words, declaration_words, vector_prefixes}
 use Rattle.vcd_text.specs.Items.{real_or_string_prefixes}
-use Rattle.vcd_text.specs.Grammar.{ParseState, VariableDeclaration, Allows}
+use Rattle.vcd_text.specs.Grammar.{ParseState, VariableDeclaration}
+use Rattle.vcd_text.specs.inside.FaultRows.{Allows}
 use Rattle.vcd_text.specs.Grammar.{state_after_item, word_texts}
-use Rattle.vcd_text.specs.Grammar.{is_tick, is_binary_number, takes_binary_number, variable_of}
-use Rattle.vcd_text.specs.Faults.{ChangeShows, no_tick, tick_goes_back, missing_code}
-use Rattle.vcd_text.specs.Faults.{unknown_scalar_code}
-use Rattle.vcd_text.specs.Faults.{unknown_pair_code, no_value, value_too_long, begins_no_change}
-use Rattle.vcd_text.specs.Faults.{among_changes}
-use Rattle.vcd_text.specs.Faults.{WordShows, pair_prefixes}
+use Rattle.vcd_text.specs.Grammar.{variable_of}
+use Rattle.vcd_text.specs.inside.FaultRows.{is_tick, is_binary_number}
+use Rattle.vcd_text.specs.inside.FaultRows.{takes_binary_number}
+use Rattle.vcd_text.specs.inside.FaultRows.{ChangeShows, no_tick, tick_goes_back, missing_code}
+use Rattle.vcd_text.specs.inside.FaultRows.{unknown_scalar_code}
+use Rattle.vcd_text.specs.inside.FaultRows.{unknown_pair_code, no_value, value_too_long, begins_no_change}
+use Rattle.vcd_text.specs.inside.FaultRows.{among_changes}
+use Rattle.vcd_text.specs.inside.FaultRows.{WordShows, pair_prefixes}
 use Rattle.vcd_text.specs.inside.Variables.{VariablesMatch, RefusesChange, ChangeResult}
 use Rattle.vcd_text.specs.inside.Variables as variables
 use Rattle.vcd_text.specs.inside.Reading.{ParserMatches, AwaitsCode, IsBegun, IsAtState, WordStep}

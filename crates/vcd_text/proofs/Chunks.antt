@@ -25,7 +25,8 @@ use Rattle.vcd_text.specs.Grammar.{ParseState}
 use Rattle.vcd_text.specs.Faults.{IsFileFault, ShowsFault, shown, none_shown}
 use Rattle.vcd_text.specs.FoundFaults.{IsFoundFault, word_shows}
 use Rattle.vcd_text.specs.FoundFaults.{PrefixShows}
-use Rattle.vcd_text.specs.Faults.{ChangeShows, IsPrefixAnswer}
+use Rattle.vcd_text.specs.Faults.{IsPrefixAnswer}
+use Rattle.vcd_text.specs.inside.FaultRows.{ChangeShows}
 use Rattle.vcd_text.specs.Refusals.{IsRefusal, has_fault, too_large, no_memory}
 use Rattle.vcd_text.specs.MemoryErrors.{memory_error}
 use Rattle.vcd_text.specs.inside.Spaces.{line_feeds_in, has_complete_words}

@@ -34,7 +34,7 @@ use Rattle.vcd_text.specs.inside.Variables.{HasValueChanges, TargetMatches, HasF
 use Rattle.vcd_text.specs.inside.Variables.{VariablesMatch, IsFree, declaration_of_parts}
 use Rattle.vcd_text.specs.inside.Scopes.{open_scopes, IsPlaced}
 use Rattle.vcd_text.specs.inside.Variables.{with_declaration, mixed, many, DeclaresAs, Declares}
-use Rattle.vcd_text.specs.Faults.{code_mixed, one_too_many}
+use Rattle.vcd_text.specs.inside.FaultRows.{code_mixed, one_too_many}
 use Rattle.vcd_text.specs.declared.reading.code_targets.CodeTargets.{CodeTargets}
 use Rattle.vcd_text.specs.declared.reading.code_targets.CodeTarget.{CodeTarget}
 use Rattle.vcd_text.specs.declared.reading.code_targets.CodeTarget.TheVariants.{Undeclared, Skipped, Kept}

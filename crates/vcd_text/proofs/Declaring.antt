@@ -19,11 +19,12 @@ use Rattle.vcd_text.specs.Items.{Item, entry, timescale, scope, upscope, variabl
 use Rattle.vcd_text.specs.Items.{other, spelling}
 use Rattle.vcd_text.specs.Items.{end_word, is_end_word, has_no_end_word, header_word, is_other}
 use Rattle.vcd_text.specs.Items.{timescale_of}
-use Rattle.vcd_text.specs.Grammar.{ParseState, Allows, state_after_item, word_texts}
+use Rattle.vcd_text.specs.Grammar.{ParseState, state_after_item, word_texts}
+use Rattle.vcd_text.specs.inside.FaultRows.{Allows}
 use Rattle.vcd_text.specs.Grammar.{has_good_size, declaration_of}
-use Rattle.vcd_text.specs.Faults.{WordShows, DeclarationShows, no_timescale, no_size, missing_part}
-use Rattle.vcd_text.specs.Faults.{among_declarations}
-use Rattle.vcd_text.specs.Faults as rows
+use Rattle.vcd_text.specs.inside.FaultRows.{WordShows, DeclarationShows, no_timescale, no_size, missing_part}
+use Rattle.vcd_text.specs.inside.FaultRows.{among_declarations}
+use Rattle.vcd_text.specs.inside.FaultRows as rows
 use Rattle.vcd_text.specs.inside.Scopes.{open_scopes, KeepsPlaces}
 use Rattle.vcd_text.specs.inside.Variables.{VariablesMatch, Declares, DeclaresWords}
 use Rattle.vcd_text.specs.inside.Reading.{ParserMatches, Collects, CollectsVariable, PassesOver, IsBegun}

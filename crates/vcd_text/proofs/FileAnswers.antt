@@ -5,18 +5,20 @@ use Rattle.std.proofs.Common.{subst, ◌∙◌, append_assoc}
 use Rattle.std.proofs.Common.{IsTrue}
 use Rattle.std.specs.List.{All}
 use Rattle.std.proofs.lemmas.List.{append-nil, map-append}
-use Rattle.std.proofs.lemmas.List.Elements.{All-head, All-tail}
+use Rattle.std.proofs.lemmas.List.Elements.{All-tail}
 use Rattle.std.proofs.lemmas.Bool.{cases_Bool}
 use Rattle.vcd_core.specs.Contents.{Contents}
 use Rattle.vcd_text.specs.declared.fault.Fault.{Fault}
 use Rattle.vcd_text.specs.declared.fault.Fault.TheVariants.{Truncated}
 use Rattle.vcd_text.specs.Words.{WordOnLine, words_of, last_line}
 use Rattle.vcd_text.specs.Items.{Item, spelling, spellings}
-use Rattle.vcd_text.specs.Grammar.{ParseState, Allows, Accepts, state_after_item, initial_state}
+use Rattle.vcd_text.specs.Grammar.{ParseState, Accepts, state_after_item, initial_state}
+use Rattle.vcd_text.specs.inside.FaultRows.{Allows}
 use Rattle.vcd_text.specs.Grammar.{word_texts}
 use Rattle.vcd_text.specs.Faults.{fault_line, ShowsFault}
 use Rattle.vcd_text.specs.FoundFaults.{IsFoundFault}
-use Rattle.vcd_text.specs.FoundFaults.{IsUnfinished, declaration_due, Stops}
+use Rattle.vcd_text.specs.FoundFaults.{Stops}
+use Rattle.vcd_text.specs.inside.FaultRows.{IsUnfinished, declaration_due}
 use Rattle.vcd_text.specs.FoundFaults.{word_shows}
 use Rattle.vcd_text.specs.FoundFaults.{too_early}
 use Rattle.vcd_text.specs.Meaning.{FileMeans, meaning}
@@ -26,6 +28,8 @@ use Rattle.vcd_text.proofs.WordLaws.{is_run, words_are_words}
 use Rattle.vcd_text.proofs.WordOutcomes.{IsOpen, between, inside, shows_fault, ends_item, goes_on}
 use Rattle.vcd_text.proofs.WordOutcomes.{word_outcome}
 use Rattle.vcd_text.proofs.ItemsInTurn.{shown_by}
+use Rattle.vcd_text.proofs.ItemRows.{unfinished_new}
+use Rattle.vcd_text.specs.Grammar.{state_after}
 
 -- the result of all words of a file
 data AnswerTo (words : List WordOnLine) : Type 0 where
@@ -106,7 +110,8 @@ stops_here words u due = stops_early (record {
   begun = word_texts u.begun;
   spelled = texts_are words u;
   allowed = u.leads.allowed;
-  unfinished = subst (λ c. IsUnfinished c (word_texts u.begun)) (sym u.leads.state_is) due;
+  unfinished = unfinished_new (state_after initial_state u.items) (word_texts u.begun)
+      (subst (λ c. IsUnfinished c (word_texts u.begun)) (sym u.leads.state_is) due);
 })
 
 -- nothing is open after the last word, and `$enddefinitions $end` has come
@@ -134,8 +139,7 @@ answer_after : (words rest : List WordOnLine) → All (λ (w : WordOnLine). is_r
     → AnswerTo words
 answer_after words [] runs u = at_end words u u.open_item
 answer_after words (w ∷ rest) runs u =
-    elim (word_outcome u.state (word_texts u.begun) w.text (All-head (λ (v : WordOnLine). is_run v.text) w rest runs).0
-    u.open_item) [
+    elim (word_outcome u.state (word_texts u.begun) w.text u.open_item) [
       | shows_fault fault decided ↦
           is_refused (fault_line u.state.in_body u.begun w) fault
           (shown_by words u.whole u.begun rest w u.items u.state _ fault u.leads u.parts u.spelled decided refl)

@@ -13,10 +13,11 @@ use Rattle.vcd_text.specs.Items.{spellings, header_word, header_words, is_other}
 use Rattle.vcd_text.specs.Items.{vector_prefixes, real_or_string_prefixes}
 use Rattle.vcd_text.specs.Grammar.{ParseState, Accepts, word_texts}
 use Rattle.vcd_text.specs.Faults.{ShowsFault}
-use Rattle.vcd_text.specs.FoundFaults.{Stops, IsUnfinished, words_due}
-use Rattle.vcd_text.specs.Faults.{pair_prefixes}
+use Rattle.vcd_text.specs.FoundFaults.{Stops}
+use Rattle.vcd_text.specs.inside.FaultRows.{IsUnfinished, words_due}
+use Rattle.vcd_text.specs.inside.FaultRows.{pair_prefixes}
 use Rattle.vcd_text.specs.inside.SeenParts.{seen_state}
-use Rattle.vcd_text.specs.FoundFaults.{upscope_due, variable_due, definitions_due, code_due, other_due}
+use Rattle.vcd_text.specs.inside.FaultRows.{upscope_due, variable_due, definitions_due, code_due, other_due}
 use Rattle.vcd_text.specs.inside.OpenItems.{is_nothing}
 use Rattle.vcd_text.specs.inside.Reading.{HasTakenWords, ParserMatches, IsBegun, Collects}
 use Rattle.vcd_text.specs.inside.Reading.{AwaitsCode, is_complete}
@@ -24,6 +25,8 @@ use Rattle.vcd_text.specs.declared.reading.parser.Parser.{Parser}
 use Rattle.vcd_text.specs.declared.reading.parser.OpenItem.{OpenItem}
 use Rattle.vcd_text.specs.declared.reading.parser.OpenItem.TheVariants as items
 use Rattle.vcd_text.proofs.Declaring.{so_deep, short_words}
+use Rattle.vcd_text.proofs.ItemRows.{unfinished_new}
+use Rattle.vcd_text.specs.Grammar.{state_after, initial_state}
 use Rattle.vcd_text.proofs.OneAnswer.{accepted-not_refused, stopped-not_refused}
 use Rattle.vcd_text.proofs.Changing.{among_first, among_last}
 use Rattle.vcd_text.specs.declared.reading.part.Part.{Part}
@@ -77,8 +80,9 @@ stops part m words r incomplete = record {
   begun = word_texts r.begun;
   spelled = texts_are part m words r;
   allowed = r.allowed;
-  unfinished = subst (λ c. IsUnfinished c (word_texts r.begun)) (sym r.state_is)
-      (unfinished part m r.state r.begun m.item r.at.0 r.at.1 incomplete);
+  unfinished = unfinished_new (state_after initial_state r.items) (word_texts r.begun)
+      (subst (λ c. IsUnfinished c (word_texts r.begun)) (sym r.state_is)
+      (unfinished part m r.state r.begun m.item r.at.0 r.at.1 incomplete));
 }
 
 -- words that are a whole file are accepted

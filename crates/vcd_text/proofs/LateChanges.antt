@@ -10,7 +10,9 @@ use Rattle.vcd_core.specs.Decimal.{number_of}
 use Rattle.vcd_text.specs.Letters.{extension}
 use Rattle.vcd_text.specs.Items.{Item, entry, timescale, scope, upscope, variable, end_definitions, stamp, scalar}
 use Rattle.vcd_text.specs.Items.{vector, real_or_string, dump_word, other}
-use Rattle.vcd_text.specs.Grammar.{VariableDeclaration, ValueChange, ParseState, Allows, AllowsAll, state_after}
+use Rattle.vcd_text.specs.Grammar.{VariableDeclaration, ValueChange, ParseState, AllowsAll, state_after}
+use Rattle.vcd_text.specs.inside.FaultRows.{Allows}
+use Rattle.vcd_text.proofs.ItemTests.{allows_old}
 use Rattle.vcd_text.specs.Grammar.{state_after_item, is_skipped, variable_of, value_changes_after}
 use Rattle.vcd_text.specs.Meaning.{latest_value}
 
@@ -54,7 +56,7 @@ pub late_after : (c : ParseState) (is : List Item) → AllowsAll c is → UpToTi
     → UpToTick (state_after c is).tick (state_after c is).value_changes
 late_after c [] allows late = late
 late_after c (i ∷ is) (allows, rest) late =
-    late_after (state_after_item c i) is rest (late_after_item c i allows late)
+    late_after (state_after_item c i) is rest (late_after_item c i (allows_old c i allows) late)
 
 -- ---- values
 

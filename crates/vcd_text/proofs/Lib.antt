@@ -69,3 +69,6 @@ pub mod FileFaults
 pub mod OneOf
 pub mod WordOutcomes
 pub mod FileAnswers
+pub mod ItemTests
+pub mod ItemFaults
+pub mod ItemRows

@@ -11,7 +11,7 @@ use Rattle.vcd_text.specs.declared.fault.ReadError.{ReadError}
 use Rattle.vcd_text.specs.Words.{WordOnLine}
 use Rattle.vcd_text.specs.Grammar.{ParseState, state_after_item}
 use Rattle.vcd_text.specs.Grammar.{initial_state, word_texts}
-use Rattle.vcd_text.specs.Faults.{WordShows, among_declarations, among_changes}
+use Rattle.vcd_text.specs.inside.FaultRows.{WordShows, among_declarations, among_changes}
 use Rattle.vcd_text.specs.Faults.{ShowsFault, fault_line}
 use Rattle.vcd_text.specs.inside.OpenItems.{item_fault_line}
 use Rattle.vcd_text.specs.inside.Reading.{HasTakenWords, WordStep, goes_on, ends_item}

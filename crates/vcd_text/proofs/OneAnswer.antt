@@ -16,8 +16,25 @@ use Rattle.vcd_text.specs.FoundFaults.{Stops, too_early}
 use Rattle.vcd_text.specs.Meaning.{FileMeans, meaning}
 use Rattle.vcd_text.specs.inside.SkippedVariables.{skipped_count}
 use Rattle.vcd_text.proofs.PrefixItem.{Prefix, whole, faulty, unfinished, ended, prefix_of, prefix_at}
-use Rattle.vcd_text.proofs.PrefixItem.{whole_prefix}
-use Rattle.vcd_text.proofs.PrefixItem.{fault_prefix, unfinished_prefix, index_of_fault}
+use Rattle.vcd_text.proofs.PrefixItem as by_rows
+use Rattle.vcd_text.proofs.PrefixItem.{index_of_fault}
+use Rattle.vcd_text.proofs.ItemTests.{allows_old}
+use Rattle.vcd_text.proofs.ItemRows.{shows_old, unfinished_old}
+use Rattle.vcd_text.specs.Grammar.{Allows}
+use Rattle.vcd_text.specs.Faults.{WordShows}
+use Rattle.vcd_text.specs.FoundFaults.{IsUnfinished}
+
+whole_prefix : (c : ParseState) (i : Item) (rest : List (List ℕ)) → Allows c i
+    → prefix_of c (spelling i ++ rest) ≡ whole i rest
+whole_prefix c i rest a = by_rows.whole_prefix c i rest (allows_old c i a)
+
+fault_prefix : (c : ParseState) (begun : List (List ℕ)) (word : List ℕ) (fault : Fault) (more : List (List ℕ))
+    → WordShows c begun word fault → prefix_of c (begun ++ word ∷ more) ≡ faulty (index_of_fault c.in_body begun) fault
+fault_prefix c begun word fault more shows =
+    by_rows.fault_prefix c begun word fault more (shows_old c begun word fault shows)
+
+unfinished_prefix : (c : ParseState) (begun : List (List ℕ)) → IsUnfinished c begun → prefix_of c begun ≡ unfinished
+unfinished_prefix c begun due = by_rows.unfinished_prefix c begun (unfinished_old c begun due)
 
 abbrev IsLast : Prefix → Type 0
 IsLast (whole i rest) = ⊥
@@ -64,7 +81,14 @@ accepts_ends words state a = grind (arith, append-nil, prefix_at)
 
 stops_ends : (words : List WordOnLine) (s : Stops words)
     → Ends (word_texts words) (state_after initial_state s.items) s.begun unfinished
-stops_ends words s = search (arith, unfinished_prefix)
+stops_ends words s = record {
+  items = s.items;
+  spelled = s.spelled;
+  allowed = s.allowed;
+  state_is = refl;
+  shows = unfinished_prefix (state_after initial_state s.items) s.begun s.unfinished;
+  is_last = tt;
+}
 
 refuses_ends : (words : List WordOnLine) (line : ℕ) (fault : Fault) (r : ShowsFault words line fault)
     → Ends (word_texts words) (state_after initial_state r.items) (word_texts (r.begun ++ r.word ∷ r.more))

@@ -8,7 +8,7 @@ use Rattle.vcd_text.specs.Words.{words_from}
 use Rattle.vcd_text.specs.Words.{words_of, complete_words}
 use Rattle.vcd_text.specs.Faults.{ShowsFault}
 use Rattle.vcd_text.specs.FoundFaults.{IsFoundFault, word_shows, PrefixShows}
-use Rattle.vcd_text.proofs.ItemsInTurn.{shown_by}
+use Rattle.vcd_text.proofs.ItemsInTurn.{shown_word}
 use Rattle.vcd_text.specs.Grammar.{state_after, initial_state}
 
 -- the first words of a list of words
@@ -45,7 +45,7 @@ complete_in_prefix end_counts line (b ∷ next ∷ prefix) rest =
 shown_further : (words all : List WordOnLine) (line : ℕ) (fault : Fault) → IsPrefix words all
     → ShowsFault words line fault → ShowsFault all line fault
 shown_further words all line fault prefix s =
-    shown_by all s.whole s.begun (s.more ++ prefix.0) s.word s.items (state_after initial_state s.items) line fault
+    shown_word all s.whole s.begun (s.more ++ prefix.0) s.word s.items (state_after initial_state s.items) line fault
     (record { allowed = s.allowed; state_is = refl })
     (prefix.1 ∙ ap (λ ws. ws ++ prefix.0) s.parts ∙ append_assoc s.whole (s.begun ++ s.word ∷ s.more) prefix.0
     ∙ ap (λ ws. s.whole ++ ws) (append_assoc s.begun (s.word ∷ s.more) prefix.0)) s.spelled s.decided s.at

@@ -26,18 +26,20 @@ use Rattle.vcd_text.specs.Items.{is_end_word}
 use Rattle.vcd_text.specs.Items.{has_no_end_word, dump_words, declaration_words, header_words}
 use Rattle.vcd_text.specs.Items.{begins_declaration}
 use Rattle.vcd_text.specs.Items.{is_other, timescale_of, vector_prefixes, real_or_string_prefixes}
-use Rattle.vcd_text.specs.Grammar.{ParseState, VariableDeclaration, Allows, is_skipped}
+use Rattle.vcd_text.specs.Grammar.{ParseState, VariableDeclaration, is_skipped}
+use Rattle.vcd_text.specs.inside.FaultRows.{Allows}
 use Rattle.vcd_text.specs.Grammar.{has_good_size, declaration_of}
-use Rattle.vcd_text.specs.Grammar.{variable_of, may_have_code, is_within_limit, is_tick, is_binary_number}
-use Rattle.vcd_text.specs.Grammar.{takes_binary_number}
-use Rattle.vcd_text.specs.Faults.{ChangeShows, WordShows, pair_prefixes}
-use Rattle.vcd_text.specs.FoundFaults.{IsUnfinished}
-use Rattle.vcd_text.specs.Faults.{no_tick, tick_goes_back, missing_code}
-use Rattle.vcd_text.specs.Faults.{unknown_scalar_code, unknown_pair_code, no_value, value_too_long}
-use Rattle.vcd_text.specs.Faults.{declaration_late, begins_no_change}
-use Rattle.vcd_text.specs.Faults.{among_declarations, among_changes}
-use Rattle.vcd_text.specs.FoundFaults.{declaration_due, words_due, upscope_due}
-use Rattle.vcd_text.specs.FoundFaults.{variable_due, definitions_due, code_due, other_due}
+use Rattle.vcd_text.specs.Grammar.{variable_of, may_have_code, is_within_limit}
+use Rattle.vcd_text.specs.inside.FaultRows.{is_tick, is_binary_number}
+use Rattle.vcd_text.specs.inside.FaultRows.{takes_binary_number}
+use Rattle.vcd_text.specs.inside.FaultRows.{ChangeShows, WordShows, pair_prefixes}
+use Rattle.vcd_text.specs.inside.FaultRows.{IsUnfinished}
+use Rattle.vcd_text.specs.inside.FaultRows.{no_tick, tick_goes_back, missing_code}
+use Rattle.vcd_text.specs.inside.FaultRows.{unknown_scalar_code, unknown_pair_code, no_value, value_too_long}
+use Rattle.vcd_text.specs.inside.FaultRows.{declaration_late, begins_no_change, no_byte}
+use Rattle.vcd_text.specs.inside.FaultRows.{among_declarations, among_changes}
+use Rattle.vcd_text.specs.inside.FaultRows.{declaration_due, words_due, upscope_due}
+use Rattle.vcd_text.specs.inside.FaultRows.{variable_due, definitions_due, code_due, other_due}
 use Rattle.vcd_text.proofs.OneOf.{by_among, by_one_of}
 
 -- a fault is at an index, counted from the first word
@@ -159,7 +161,7 @@ command_prefix w ws =
     (closing (λ words rest. whole (other w words) rest) ws))
 
 abbrev pub change_prefix : ParseState → List ℕ → List (List ℕ) → Prefix
-change_prefix c [] ws = unfinished
+change_prefix c [] ws = faulty 0 BadChange
 change_prefix c (first ∷ text) ws =
     cond (is_binary_digit first) (scalar_prefix c first text ws)
     (cond (is_among (codes "#") first) (stamp_prefix c text ws)
@@ -274,6 +276,7 @@ change_faulty c begun word fault more (value_too_long first digits d b h v s n l
     ∙ ap (λ o. known o (λ d. vector_fits c first digits word more d)) v ∙ cond-false (is_skipped d) _ _ s
     ∙ cond-true (is_binary_number digits) _ _ n
     ∙ cond-true (nat_lt d.size (length digits)) _ _ (lt-ltb d.size (length digits) l))
+change_faulty c begun word fault more (no_byte b w f) = rw (b, w, f) refl
 change_faulty c begun word fault more (declaration_late b w f) =
     rw (b, f) (by_one_of (λ x. change_prefix c x more ≡ faulty 0 UnexpectedWord) declaration_words word w
     (refl, (refl, (refl, (refl, (refl, tt))))))

@@ -33,12 +33,15 @@ use Rattle.vcd_text.specs.Items.{stamp, scalar}
 use Rattle.vcd_text.specs.Items.{vector, real_or_string, dump_word, other, spelling, spellings}
 use Rattle.vcd_text.specs.Items.{end_word}
 use Rattle.vcd_text.specs.Items.{is_end_word, has_no_end_word}
-use Rattle.vcd_text.specs.Grammar.{ParseState, VariableDeclaration, ValueChange, Accepts, Allows}
+use Rattle.vcd_text.specs.Grammar.{ParseState, VariableDeclaration, ValueChange, Accepts}
+use Rattle.vcd_text.specs.inside.FaultRows.{Allows}
 use Rattle.vcd_text.specs.Grammar.{AllowsAll}
+use Rattle.vcd_text.proofs.ItemTests.{allows_old}
 use Rattle.vcd_text.specs.Grammar.{state_after, state_after_item, is_skipped, kept_variables}
 use Rattle.vcd_text.specs.Grammar.{variable_of}
 use Rattle.vcd_text.specs.Grammar.{may_have_code, is_within_limit, value_changes_after}
-use Rattle.vcd_text.specs.Grammar.{with_value_change, takes_binary_number}
+use Rattle.vcd_text.specs.Grammar.{with_value_change}
+use Rattle.vcd_text.specs.inside.FaultRows.{takes_binary_number}
 use Rattle.vcd_text.proofs.WordLaws.{is_run_text, texts_are_runs, run_is_word}
 use Rattle.vcd_text.specs.Meaning.{meaning, declared_signal, latest_value}
 use Rattle.std.proofs.lemmas.List.Folds.{find-append}
@@ -267,7 +270,7 @@ clean_items c [] clean all allows = clean
 clean_items c (i ∷ is) clean all allows =
     let p = and_parts (list_all is_run_text (spelling i)) (list_all is_run_text (spellings is))
     (sym (list_all-append is_run_text (spelling i) (spellings is)) ∙ all) in
-    clean_items (state_after_item c i) is (clean_item c i clean p.0 allows.0) p.1 allows.1
+    clean_items (state_after_item c i) is (clean_item c i clean p.0 (allows_old c i allows.0)) p.1 allows.1
 
 -- ---- waves
 

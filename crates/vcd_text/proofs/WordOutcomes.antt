@@ -29,22 +29,24 @@ use Rattle.vcd_text.specs.Items.{is_end_word}
 use Rattle.vcd_text.specs.Items.{has_no_end_word, dump_words, declaration_words, header_words}
 use Rattle.vcd_text.specs.Items.{begins_declaration}
 use Rattle.vcd_text.specs.Items.{timescale_of, vector_prefixes, real_or_string_prefixes}
-use Rattle.vcd_text.specs.Grammar.{ParseState, VariableDeclaration, Allows, is_skipped}
+use Rattle.vcd_text.specs.Grammar.{ParseState, VariableDeclaration, is_skipped}
+use Rattle.vcd_text.specs.inside.FaultRows.{Allows}
 use Rattle.vcd_text.specs.Grammar.{has_good_size, declaration_of}
-use Rattle.vcd_text.specs.Grammar.{variable_of, may_have_code, is_within_limit, is_tick, is_binary_number}
-use Rattle.vcd_text.specs.Grammar.{takes_binary_number}
-use Rattle.vcd_text.specs.Faults.{WordShows, pair_prefixes, begins_no_declaration, no_timescale, missing_kind}
-use Rattle.vcd_text.specs.FoundFaults.{IsUnfinished}
-use Rattle.vcd_text.specs.Faults.{upscope_at_top, upscope_goes_on, no_size, missing_part, code_mixed}
-use Rattle.vcd_text.specs.Faults.{one_too_many}
-use Rattle.vcd_text.specs.Faults.{definitions_go_on, no_tick, tick_goes_back, missing_code}
-use Rattle.vcd_text.specs.Faults.{unknown_scalar_code}
-use Rattle.vcd_text.specs.Faults.{unknown_pair_code, no_value, value_too_long, declaration_late}
-use Rattle.vcd_text.specs.Faults.{begins_no_change}
-use Rattle.vcd_text.specs.Faults.{among_declarations, among_changes}
-use Rattle.vcd_text.specs.FoundFaults.{declaration_due, words_due, upscope_due, variable_due}
-use Rattle.vcd_text.specs.FoundFaults.{definitions_due}
-use Rattle.vcd_text.specs.FoundFaults.{code_due, other_due}
+use Rattle.vcd_text.specs.Grammar.{variable_of, may_have_code, is_within_limit}
+use Rattle.vcd_text.specs.inside.FaultRows.{is_tick, is_binary_number}
+use Rattle.vcd_text.specs.inside.FaultRows.{takes_binary_number}
+use Rattle.vcd_text.specs.inside.FaultRows.{WordShows, pair_prefixes, begins_no_declaration, no_timescale, missing_kind}
+use Rattle.vcd_text.specs.inside.FaultRows.{IsUnfinished}
+use Rattle.vcd_text.specs.inside.FaultRows.{upscope_at_top, upscope_goes_on, no_size, missing_part, code_mixed}
+use Rattle.vcd_text.specs.inside.FaultRows.{one_too_many}
+use Rattle.vcd_text.specs.inside.FaultRows.{definitions_go_on, no_tick, tick_goes_back, missing_code}
+use Rattle.vcd_text.specs.inside.FaultRows.{unknown_scalar_code}
+use Rattle.vcd_text.specs.inside.FaultRows.{unknown_pair_code, no_value, value_too_long, declaration_late}
+use Rattle.vcd_text.specs.inside.FaultRows.{begins_no_change, no_byte}
+use Rattle.vcd_text.specs.inside.FaultRows.{among_declarations, among_changes}
+use Rattle.vcd_text.specs.inside.FaultRows.{declaration_due, words_due, upscope_due, variable_due}
+use Rattle.vcd_text.specs.inside.FaultRows.{definitions_due}
+use Rattle.vcd_text.specs.inside.FaultRows.{code_due, other_due}
 use Rattle.vcd_text.proofs.OneOf.{by_among, by_one_of}
 use Rattle.vcd_core.specs.declared.capture.HeaderKind.{HeaderKind}
 use Rattle.vcd_text.specs.Items.{header_word}
@@ -164,9 +166,9 @@ letter_word c letter (b ∷ code) in_body is =
       )
     ]
 
-change_begins : (c : ParseState) (word : List ℕ) → IsTrue c.in_body → 0 < length word → WordOutcome c [] word
-change_begins c [] in_body some = absurd (omega arith)
-change_begins c (first ∷ text) in_body some =
+change_begins : (c : ParseState) (word : List ℕ) → IsTrue c.in_body → WordOutcome c [] word
+change_begins c [] in_body = shows_fault BadChange (among_changes in_body (no_byte refl refl refl))
+change_begins c (first ∷ text) in_body =
     elim (cases_Bool (is_binary_digit first)) [
       | inl letter ↦ letter_word c first text in_body letter
       | inr no_letter ↦ elim (cases_Bool (is_among (codes "#$") first)) [
@@ -301,10 +303,10 @@ pair_ends c first text code in_body pair =
 
 -- ---- any word
 
-first_word : (c : ParseState) (word : List ℕ) → 0 < length word → WordOutcome c [] word
-first_word c word some =
+first_word : (c : ParseState) (word : List ℕ) → WordOutcome c [] word
+first_word c word =
     elim (cases_Bool c.in_body) [
-      | inl in_body ↦ change_begins c word in_body some
+      | inl in_body ↦ change_begins c word in_body
       | inr declares ↦ declaration_begins c word declares
     ]
 
@@ -327,7 +329,7 @@ later_word c begun word (other_due keyword words b is no_end) =
     rw b (by_end (WordOutcome c (keyword ∷ words)) word (ends_item (other keyword words) refl (is, no_end))
     (λ isnt. goes_on (other_due keyword (words ++ word ∷ []) refl is (no_end_more words word no_end isnt))))
 
-pub word_outcome : (c : ParseState) (begun : List (List ℕ)) (word : List ℕ) → 0 < length word → IsOpen c begun
+pub word_outcome : (c : ParseState) (begun : List (List ℕ)) (word : List ℕ) → IsOpen c begun
     → WordOutcome c begun word
-word_outcome c begun word some (between none) = rw none (first_word c word some)
-word_outcome c begun word some (inside due) = later_word c begun word due
+word_outcome c begun word (between none) = rw none (first_word c word)
+word_outcome c begun word (inside due) = later_word c begun word due

@@ -1,10 +1,10 @@
 -- The accepted files and their state: the conditions of each item, and its effect (IEEE 1364-2005,
 -- 18.2, in the project's profile).
-use Rattle.std.specs.Prelude.{◌≡◌, ℕ, ◌-◌, ◌<◌, ◌≤◌, Bool, true, false, not, ◌&&◌, ◌||◌, ◌==◌}
+use Rattle.std.specs.Prelude.{◌≡◌, ℕ, ◌-◌, Bool, true, false, not, ◌&&◌, ◌||◌, ◌==◌}
 use Rattle.std.specs.Prelude.{nat_lt, nat_le, []}
 use Rattle.std.specs.Prelude.{if◌then◌else◌, List, ◌∷◌, ◌++◌, map, length, take, filter, find}
-use Rattle.std.specs.Prelude.{Option, Some, None}
-use Rattle.std.specs.Prelude.{IsSome, IsSomeAnd, IsTrue, IsFalse, option_to_list, bytes_eq}
+use Rattle.std.specs.Prelude.{Option, Some, None, is_some}
+use Rattle.std.specs.Prelude.{IsTrue, option_to_list, bytes_eq}
 use Rattle.std.specs.List.{list_all}
 use Rattle.vcd_core.specs.declared.bit.Bit.{Bit}
 use Rattle.vcd_core.specs.declared.capture.Header.{Header}
@@ -13,6 +13,12 @@ use Rattle.vcd_core.specs.declared.capture.ScopeName.{ScopeName}
 use Rattle.vcd_core.specs.declared.value.TheConstants.{WIDTH_LIMIT}
 use Rattle.vcd_core.specs.declared.capture.TheConstants.{END_LIMIT, SIGNAL_LIMIT}
 use Rattle.vcd_core.specs.Word.{is_skipped_kind, is_one_of}
+use Rattle.vcd_core.specs.Tests.{Test, ◌unless◌, first_fault}
+use Rattle.vcd_text.specs.declared.fault.Fault.{Fault}
+use Rattle.vcd_text.specs.declared.fault.Fault.TheVariants.{BadTimescale, BadVar, MixedCode}
+use Rattle.vcd_text.specs.declared.fault.Fault.TheVariants.{BadTime, TimeBackwards, BadChange}
+use Rattle.vcd_text.specs.declared.fault.Fault.TheVariants.{UnknownCode, ValueTooLong}
+use Rattle.vcd_text.specs.declared.fault.Fault.TheVariants.{TooManySignals}
 use Rattle.vcd_text.specs.Words.{WordOnLine}
 use Rattle.vcd_core.specs.Decimal.{is_number, number_of}
 use Rattle.vcd_text.specs.Letters.{is_among, is_binary_digit, letters_of_digits}
@@ -107,46 +113,58 @@ may_have_code (Some a) b =
 abbrev pub is_within_limit : List VariableDeclaration → VariableDeclaration → Bool
 is_within_limit declared d = is_skipped d || nat_lt (length (kept_variables declared)) SIGNAL_LIMIT
 
--- ---- changes
-
--- whether a text is a tick
-abbrev pub is_tick : List ℕ → Bool
-is_tick digits = is_number digits && nat_le (number_of digits) END_LIMIT
-
--- whether a text is a binary number: one or more binary digits alone
-abbrev pub is_binary_number : List ℕ → Bool
-is_binary_number digits = not (length digits == 0) && list_all is_binary_digit digits
-
--- whether a variable accepts these digits: a skipped one any, a kept one a value that is not too
--- long
-abbrev pub takes_binary_number : VariableDeclaration → List ℕ → Bool
-takes_binary_number d digits =
-    is_skipped d || (is_binary_number digits && nat_le (length digits) d.size)
-
 -- ---- the conditions of an item
 
--- the conditions of an item in this state
+-- whether an item can stand here, whatever its tests give
+abbrev pub fits : ParseState → Item → Bool
+fits c (entry kind words) = not c.in_body && has_no_end_word words
+fits c (timescale words) = not c.in_body && has_no_end_word words
+fits c (scope kind words) = not c.in_body && has_no_end_word (kind ∷ words)
+fits c upscope = not c.in_body && nat_lt 0 (length c.scopes)
+fits c (variable words) = not c.in_body && (has_no_end_word words && has_good_size words)
+fits c end_definitions = not c.in_body
+fits c (stamp digits) = c.in_body
+fits c (scalar digit code) = c.in_body && (is_binary_digit digit && nat_lt 0 (length code))
+fits c (vector first digits code) = c.in_body && is_among vector_prefixes first
+fits c (real_or_string first text code) = c.in_body && is_among real_or_string_prefixes first
+fits c (dump_word word) = c.in_body && is_one_of dump_words word
+fits c (other word words) = is_other c.in_body word && has_no_end_word words
+
+-- the tests of a variable, or of a `$var` without one of its parts
+abbrev pub variable_tests : ParseState → Option VariableDeclaration → List (Test Fault)
+variable_tests c None = (BadVar unless false) ∷ []
+variable_tests c (Some d) =
+    (MixedCode unless may_have_code (variable_of c d.code) d)
+    ∷ (TooManySignals unless is_within_limit c.declared d)
+    ∷ []
+
+-- the tests of digits for the variable of a code: a skipped one takes any, a kept one a value that
+-- is not too long
+abbrev pub digit_tests : List ℕ → Option VariableDeclaration → List (Test Fault)
+digit_tests digits None = (UnknownCode unless false) ∷ []
+digit_tests digits (Some d) =
+    (BadChange unless (is_skipped d
+    || (not (length digits == 0) && list_all is_binary_digit digits)))
+    ∷ (ValueTooLong unless (is_skipped d || nat_le (length digits) d.size))
+    ∷ []
+
+-- the tests of an item, in the order of the faults
+abbrev pub item_tests : ParseState → Item → List (Test Fault)
+item_tests c (timescale words) = (BadTimescale unless is_some (timescale_of words)) ∷ []
+item_tests c (variable words) = variable_tests c (declaration_of c words)
+item_tests c (stamp digits) =
+    (BadTime unless (is_number digits && nat_le (number_of digits) END_LIMIT))
+    ∷ (TimeBackwards unless nat_le c.tick (number_of digits))
+    ∷ []
+item_tests c (scalar digit code) = (UnknownCode unless is_some (variable_of c code)) ∷ []
+item_tests c (vector first digits code) = digit_tests digits (variable_of c code)
+item_tests c (real_or_string first text code) =
+    (UnknownCode unless is_some (variable_of c code)) ∷ []
+item_tests c item = []
+
+-- an item fits, and no test of it fails
 abbrev pub Allows : ParseState → Item → Type 0
-Allows c (entry kind words) = IsFalse c.in_body × IsTrue (has_no_end_word words)
-Allows c (timescale words) = IsFalse c.in_body × IsTrue (has_no_end_word words)
-    × IsSome (timescale_of words)
-Allows c (scope kind words) = IsFalse c.in_body × IsTrue (has_no_end_word (kind ∷ words))
-Allows c upscope = IsFalse c.in_body × (0 < length c.scopes)
-Allows c (variable words) = IsFalse c.in_body × IsTrue (has_no_end_word words)
-    × IsTrue (has_good_size words)
-    × IsSomeAnd (declaration_of c words)
-    (λ d. IsTrue (may_have_code (variable_of c d.code) d) × IsTrue (is_within_limit c.declared d))
-Allows c end_definitions = IsFalse c.in_body
-Allows c (stamp digits) = IsTrue c.in_body × IsTrue (is_tick digits) × (c.tick ≤ number_of digits)
-Allows c (scalar digit code) = IsTrue c.in_body × IsTrue (is_binary_digit digit) × (0 < length code)
-    × IsSome (variable_of c code)
-Allows c (vector first digits code) = IsTrue c.in_body × IsTrue (is_among vector_prefixes first)
-    × IsSomeAnd (variable_of c code) (λ d. IsTrue (takes_binary_number d digits))
-Allows c (real_or_string first text code) = IsTrue c.in_body
-    × IsTrue (is_among real_or_string_prefixes first)
-    × IsSome (variable_of c code)
-Allows c (dump_word word) = IsTrue c.in_body × IsTrue (is_one_of dump_words word)
-Allows c (other word words) = IsTrue (is_other c.in_body word) × IsTrue (has_no_end_word words)
+Allows c i = IsTrue (fits c i) × (first_fault (item_tests c i) ≡ None)
 
 -- ---- the effect of an item
 

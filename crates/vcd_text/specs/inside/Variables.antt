@@ -16,12 +16,14 @@ use Rattle.vcd_text.specs.declared.fault.Fault.{Fault}
 use Rattle.vcd_text.specs.declared.fault.Fault.TheVariants as faults
 use Rattle.vcd_text.specs.Letters.{letters_of_digits, extension}
 use Rattle.vcd_text.specs.Items.{variable, end_word, has_no_end_word}
-use Rattle.vcd_text.specs.Faults.{DeclarationShows}
+use Rattle.vcd_text.specs.inside.FaultRows.{DeclarationShows}
 use Rattle.vcd_text.specs.Grammar.{VariableDeclaration, ValueChange, ParseState, is_skipped}
 use Rattle.vcd_text.specs.Grammar.{kept_variables}
 use Rattle.vcd_text.specs.Grammar.{declaration_of, variable_of, may_have_code, is_within_limit}
-use Rattle.vcd_text.specs.Grammar.{is_binary_number, has_good_size}
-use Rattle.vcd_text.specs.Grammar.{takes_binary_number, state_after_item, with_value_change}
+use Rattle.vcd_text.specs.Grammar.{has_good_size}
+use Rattle.vcd_text.specs.inside.FaultRows.{is_binary_number}
+use Rattle.vcd_text.specs.Grammar.{state_after_item, with_value_change}
+use Rattle.vcd_text.specs.inside.FaultRows.{takes_binary_number}
 use Rattle.vcd_text.specs.Meaning.{latest_value}
 use Rattle.vcd_text.specs.inside.CodeTargets.{code_target}
 use Rattle.vcd_text.specs.inside.ChangeLog.{GivesLoggedValues, logged, AreGrouped, IsSameVariable}

@@ -1,6 +1,6 @@
 use Rattle.std.proofs.Common.{◌≡◌, ◌≤◌, ◌∙◌, ◌||◌, ◌==◌, nat_lt, true, false, ℕ, List, ◌∷◌, length, inr, refl, ap}
 use Rattle.std.proofs.Common.{sym, subst, arith}
-use Rattle.vcd_text.specs.Faults.{missing_part}
+use Rattle.vcd_text.specs.inside.FaultRows.{missing_part}
 use Rattle.vcd_core.specs.declared.value.TheConstants.{WIDTH_LIMIT}
 use Rattle.vcd_core.specs.Decimal.{number_of}
 use Rattle.vcd_core.specs.Word.{is_skipped_kind}
