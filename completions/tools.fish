@@ -1,28 +1,29 @@
-# Completion of the tools around vcdedit for fish. `make install` puts it where fish looks for each tool.
-complete -c vcdedit-apply -s h -l help -d 'How it is called'
-complete -c vcdedit-apply -l keep-going -d 'Write the capture even if lines were refused'
-complete -c vcdedit-apply -l drop-skipped -d 'Write the capture without the variables that would be lost'
-complete -c vcdedit-apply -l to -x -a '(__fish_complete_directories)' -d 'Write to this folder'
-complete -c vcdedit-apply -l backup -x -a '.orig' -d 'Keep the old capture under its name with this ending'
-complete -c vcdedit-apply -l jobs -x -d 'Captures at a time'
-complete -c vcdedit-apply -l depth -x -a '1 10 100 1000' -d 'How many edits can be undone'
-complete -c vcdedit-narrow -s h -l help -d 'How it is called'
-complete -c vcdedit-narrow -l keep -x -d 'Keep the variables with such a name'
-complete -c vcdedit-narrow -l remove -x -d 'Leave these out, of those that are kept'
-complete -c vcdedit-narrow -s E -l expressions -d 'Patterns are expressions'
-complete -c vcdedit-narrow -l from -x -d 'The first tick of the window'
-complete -c vcdedit-narrow -l to -x -d 'The last tick of the window'
-complete -c vcdedit-narrow -s o -l output-file -r -F -d 'The file to write'
-complete -c vcdedit-select -s h -l help -d 'How it is called'
-complete -c vcdedit-select -l from -x -d 'The first tick of the window'
-complete -c vcdedit-select -l to -x -d 'The last tick of the window'
-complete -c vcdedit-select -l keep-times -d 'Times stay: signals are x before the window'
-complete -c vcdedit-select -l keep -x -d 'Keep these signals alone'
-complete -c vcdedit-select -l remove -x -d 'Remove these signals'
-complete -c vcdedit-select -s E -l expressions -d 'Patterns are expressions'
-complete -c vcdedit-select -l prefix -x -d 'A prefix for the own name of each signal'
-complete -c vcdedit-select -l rename -x -d 'Another own name for a signal'
-complete -c vcdedit-select -l baud -x -a '9600 115200 921600' -d 'Show BIT of this baud rate'
-complete -c vcdedit-select -l timescale -x -a '1us 1ns 1ps' -d 'With --baud: the timescale'
-complete -c vcdedit-compare -s h -l help -d 'How it is called'
-complete -c vcdedit-compare -l strict -d 'Status 3 if variables were left out'
+# Completion of the tools around vcdedit for fish: their options, as --help lists them, names of signals and files. `make
+# install` puts it where fish looks for each tool.
+function __vcdedit_names --description 'The names of the signals of the first capture on the line, if they are there within half a second'
+    set -l words (commandline -opc) (commandline -ct)
+    for path in $words[2..]
+        if test -f $path
+            timeout 0.5 (string replace -r -- '-[a-z]+$' '' $words[1]) -i $path 2>/dev/null | string replace -rf '^@\d+ \d+ \S+ ' ''
+            return
+        end
+    end
+end
+
+set -l tool (basename (status filename) .fish)
+for row in ($tool --help 2>/dev/null | string match -r -- '^ +(?:-\w(?: \S+)?, )?--[a-z-]+.*')
+    set -l option (string match -r -- '--([a-z-]+)(?: ([A-Z=]+))?' $row)
+    set -l words -c $tool -l $option[2] -d (string match -r -- '--[a-z-]+(?: [A-Z= ]+)?  +(\S.*)$' $row)[2]
+    switch "$option[2] $option[3]"
+        case '* PATTERN' '* NAME' '* OLD=NEW'
+            complete $words -x -a '(__vcdedit_names)'
+        case '* FOLDER'
+            complete $words -x -a '(__fish_complete_directories)'
+        case '* FILE'
+            complete $words -r -F
+        case '* '
+            complete $words
+        case '*'
+            complete $words -x
+    end
+end

@@ -4,18 +4,21 @@ plain VCD. docs/FORMATS.md has the rules; `checks/tools` compares limits and wor
 Words, names and codes are bytes, as they stand in the file; `shown` makes text of them.
 """
 
+import argparse
 import collections
 import fnmatch
 import fractions
-import heapq
 import itertools
 import mmap
 import os
 import re
+import shutil
+import signal
 import subprocess
 import sys
 import tempfile
 
+VERSION = "1.0.0"
 GREATEST_TICK = 9223372036854775807
 GREATEST_WIDTH = 1024
 SIGNAL_LIMIT = 65536
@@ -26,10 +29,18 @@ SKIPPED_KINDS = {b"real", b"realtime", b"real_parameter", b"shortreal", b"event"
 DUMP_WORDS = {b"$dumpvars", b"$dumpall", b"$dumpon", b"$dumpoff", b"$end"}
 UNITS = {"s": 0, "ms": 3, "us": 6, "ns": 9, "ps": 12, "fs": 15}
 CHUNK = 65536
-# The words that begin with one of these letters, and the words after them: to look for one letter is much faster than for
-# five. And the first letters of words that a code follows.
-MARKED = [re.compile(re.escape(letter) + rb"(?<!\S.)\S*(?=\s*(\S*))", re.S) for letter in (b"$", b"r", b"R", b"s", b"S")]
-BEFORE_CODES = (b"b", b"B", b"r", b"R", b"s", b"S")
+SPACE = re.compile(rb"\s")
+# The first letters of changes.
+SCALARS, VECTORS, REALS = (frozenset(letters) for letters in (b"01lLhHxXuUwWzZ-", b"bB", b"rRsS"))
+STAMP, DOLLAR = b"#$"
+LINES_SHOWN = 10
+
+REASONS = {
+    FileNotFoundError: "there is no such file",
+    IsADirectoryError: "is a folder",
+    PermissionError: "there is no permission",
+    FileExistsError: "is there already",
+}
 
 # What the first bytes of a file show that is no plain VCD: the bytes, what the file is, and what to do.
 OTHER_FILES = [
@@ -140,33 +151,116 @@ def want_one_size(variable, sizes, line):
         raise Fault("MixedCode", line)
 
 
-def real_and_string_changes(file, variables):
-    """How many real and string changes the kept ones of these variables have in a file: (first variable of a code, count)."""
-    first = {one.code: one for one in reversed(variables) if is_kept(one)}
-    if not first:
-        return []
+class Losses:
+    """What the written file of a capture lacks: variables that are left out; of the others how many real and string changes,
+    and how many changes that a later one of the same tick replaces; and how many comments among the changes."""
+
+    def __init__(self):
+        self.variables, self.kept = [], []
+        self.values, self.replaced, self.comments = collections.Counter(), collections.Counter(), 0
+
+    def take_changes(self, each):
+        """Takes the words behind the declarations, up to the first that is no item: the program tells its fault."""
+        stamp, seen = b"#0", {}
+        for word in each:
+            first = word[0]
+            if first in SCALARS:
+                code = word[1:]
+            elif first == STAMP:
+                if word != stamp:
+                    stamp, seen = word, {}
+                continue
+            elif first in VECTORS:
+                code = next(each, None)
+            elif first in REALS:
+                self.values[next(each, None)] += 1
+                continue
+            elif first == DOLLAR:
+                if word not in DUMP_WORDS:
+                    self.comments += word == b"$comment"
+                    collections.deque(itertools.takewhile(b"$end".__ne__, each), 0)
+                continue
+            else:
+                return
+            if seen.setdefault(code, word) != word:
+                self.replaced[code] += 1
+                seen[code] = word
+
+    def rows(self):
+        """(count, what it is, a row for each variable, whether values are lost) for each kind of loss that there is."""
+        kept = {one.code: one for one in reversed(self.kept)}
+        skipped = [
+            "%s%s %s" % (
+                shown(one.kind),
+                "" if one.kind in SKIPPED_KINDS else " of %s bits" % one.size,
+                shown(full_name(one)),
+            )
+            for one in self.variables
+        ]
+        found = [(len(skipped), "variable%s", skipped, True)]
+        for counts, what in ((self.values, "real or string change%s"), (self.replaced, "change%s replaced within a tick")):
+            each = [(kept[code], count) for code, count in counts.items() if code in kept]
+            names = ["%s: %s" % (shown(full_name(one)), counted(count, what)) for one, count in each]
+            found.append((sum(count for _, count in each), what, names, counts is self.values))
+        return [row for row in [*found, (self.comments, "comment%s among the changes", [], False)] if row[0]]
+
+
+def losses_of(file):
+    """What would be lost of a regular file that is open for bytes, as far as it is a capture."""
+    losses, place = Losses(), 0
+    if os.fstat(file.fileno()).st_size == 0:
+        return losses
     text = mmap.mmap(file.fileno(), 0, access=mmap.ACCESS_READ)
-    counts, is_passed_over = collections.Counter(), False
-    for found in heapq.merge(*[words.finditer(text) for words in MARKED], key=re.Match.start):
-        word, code = found.group(), found.group(1)
-        if is_passed_over:
-            is_passed_over = word != b"$end"
-        elif word.startswith(b"$"):
-            is_passed_over = word not in DUMP_WORDS and begins_item(found)
-        elif code in first and begins_item(found):
-            counts[code] += 1
-    return [(first[code], count) for code, count in counts.items()]
+
+    def stream():
+        nonlocal place
+        for found in re.finditer(rb"\S+", text):
+            place = found.end()
+            yield 0, found.group()
+        yield 0, None
+
+    try:
+        declared = read_declarations(stream()).variables
+    except Fault:
+        return losses
+    losses.variables = [one for one in declared if not is_kept(one)]
+    losses.kept = list(filter(is_kept, declared))
+    losses.take_changes(itertools.chain.from_iterable(piece.split() for piece in pieces(text, place)))
+    return losses
 
 
-def begins_item(found):
-    """Whether an item begins at a word. In the row of words before it that a code may follow, each second one is a code."""
-    place, reach = found.start(), 64
-    while True:
-        before = found.string[max(0, place - reach) : place].split()[reach < place :]
-        row = list(itertools.takewhile(lambda word: word.startswith(BEFORE_CODES), reversed(before)))
-        if len(row) < len(before) or reach >= place:
-            return len(row) % 2 == 0
-        reach *= 4
+def names_in(file):
+    """The full names of a capture's signals, as far as its declarations can be read: the program tells their fault."""
+    file.seek(0)
+    try:
+        return [full_name(one) for one in read_declarations(words(file)).variables if is_kept(one)]
+    except Fault:
+        return []
+
+
+def pieces(text, place):
+    """The rest of a text, in pieces that end between words."""
+    while place < len(text):
+        space = SPACE.search(text, place + CHUNK)
+        end = space.start() if space else len(text)
+        yield text[place:end]
+        place = end
+
+
+def counted(count, what):
+    """`2 variables` of 2 and `variable%s`."""
+    return "%d %s" % (count, what % ("s" * (count != 1)))
+
+
+def listed(phrases):
+    """`A, B and C`."""
+    return " and ".join([", ".join(phrases[:-1]), phrases[-1]] if phrases[1:] else phrases)
+
+
+def some(rows):
+    """The first rows, and how many more there are."""
+    more = len(rows) - LINES_SHOWN
+    return rows[:LINES_SHOWN] + ["and %d more" % more] * (more > 0)
 
 
 def words_up_to_end(stream, command):
@@ -272,13 +366,70 @@ def program():
     return "vcdedit"
 
 
-def want_standard_streams():
+class Parser(argparse.ArgumentParser):
+    """It does not pass over a standard output that can't be written."""
+
+    def _print_message(self, message, file=None):
+        (file or sys.stderr).write(message)
+
+
+def parser(name, usage, text, more):
+    """The options that each tool has."""
+    made = Parser(
+        prog=name,
+        usage=usage,
+        description=text,
+        epilog=more,
+        formatter_class=argparse.RawDescriptionHelpFormatter,
+        allow_abbrev=False,
+    )
+    made.add_argument("--version", action="version", version="%s %s" % (name, VERSION))
+    return made
+
+
+def reason_of(error):
+    return REASONS.get(type(error), error.strerror or str(error))
+
+
+def want_standard_streams(name="vcdedit"):
     """Ends where standard output or standard error is closed, and makes a closed standard input empty: else a file that is
     opened would be in their place."""
     if sys.stdin is None:
         os.open(os.devnull, os.O_RDONLY)
+    if sys.stderr is not None and sys.stdout is None:
+        sys.stderr.write("%s: standard output is closed\n" % name)
     if sys.stdout is None or sys.stderr is None:
         sys.exit(4)
+
+
+def end(name, main):
+    """Runs a tool and ends with its status. A standard output that can't be written has a line and status 4."""
+    want_standard_streams(name)
+    try:
+        try:
+            status = main(sys.argv[1:])
+        except SystemExit as ended:
+            status = ended.code
+        sys.stdout.flush()
+    except KeyboardInterrupt:
+        status = 128 + signal.SIGINT
+    except OSError as error:
+        os.dup2(os.open(os.devnull, os.O_WRONLY), 1)
+        sys.stderr.write("%s: %s: %s\n" % (name, error.filename or "standard output", reason_of(error)))
+        status = 4
+    sys.exit(status)
+
+
+def opened(path):
+    """A capture that is read more than once: a pipe is copied first."""
+    file = sys.stdin.buffer if path == "-" else open(path, "rb")
+    if file.seekable() and path != "-":
+        return file
+    copy = tempfile.TemporaryFile()
+    with file:
+        shutil.copyfileobj(file, copy)
+    copy.seek(0)
+    return copy
 
 
 def in_memory(text):
@@ -291,7 +442,16 @@ def in_memory(text):
 
 def run(words_of_run, **how):
     """A run of the program, which is looked for first."""
+    return looked_for(subprocess.run, words_of_run, how)
+
+
+def start(words_of_run, **how):
+    """The same, which goes on."""
+    return looked_for(subprocess.Popen, words_of_run, how)
+
+
+def looked_for(call, words_of_run, how):
     try:
-        return subprocess.run([program(), *words_of_run], **how)
+        return call([program(), *words_of_run], **how)
     except OSError as error:
         raise Trouble("there is no program %s (%s): say in VCDEDIT where it is" % (program(), error.strerror)) from None

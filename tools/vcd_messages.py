@@ -1,9 +1,11 @@
 """What vcdedit's faults and refusals mean for a capture and a script at hand: the line itself, and what to do.
 
-docs/FORMATS.md and docs/SCRIPT.md say more of each. `checks/messages` compares the names with the program's.
+messages.txt has each, docs/FORMATS.md and docs/SCRIPT.md say more.
 """
 
+import collections
 import difflib
+import os
 import re
 
 import vcd_files
@@ -13,53 +15,20 @@ LONGEST = 100
 NAMES_SHOWN = 3
 NAMES_COMPARED = 20000
 
-# What to do about each fault of a capture.
-FAULTS = {
-    "Truncated": "the file ends too early: run the tool again, or delete the last change",
-    "UnexpectedWord": "this word has no place here: is the file VCD, and did a tool write a line of its own into it?",
-    "BadTimescale": "write 1, 10 or 100 and s, ms, us, ns, ps or fs, and check that the stamps fit it",
-    "BadScope": "a scope needs a kind, then a name: $scope module top $end",
-    "UpscopeAtTop": "more scopes are closed than were opened: delete the line, or find the $scope that was lost",
-    "BadVar": "a declaration needs kind, size, code and name: $var wire 8 ! data [7:0] $end",
-    "MixedCode": "one code is declared with two sizes, or for a kept and a skipped variable: give the second variable another code, and its changes too",
-    "BadTime": "a stamp is # and decimal digits, at most 2^63 - 1; a bare # at the end shows that the file was cut off",
-    "TimeBackwards": "at the last line the file was cut off; else sort or shift the second part",
-    "BadChange": "this is no change of a value: leave analog channels out when you record",
-    "UnknownCode": "no variable has this code: restore its declaration, or delete the change",
-    "ValueTooLong": "correct the size in the declaration, or the value",
-    "TooManySignals": "there are more than 65,536 signals: vcdedit-narrow keeps some; or dump fewer scopes",
-    "TooLarge": "the file has more than 4 GiB: vcdedit-narrow keeps a part; or dump a shorter time or fewer scopes",
-    "ReadFault": "it can't be read: check the path, the permissions and the disc",
-    "NoMemory": "a change takes 272 bytes, and an edit holds as much for each change that it replaced: give the run more "
-    "memory, use --depth 1 if edits hold it, or make the capture smaller first (vcdedit-narrow)",
-}
 
-# What to do about each refusal of a line.
-REFUSALS = {
-    "UnknownCommand": "commands are in lower case: vcdedit --help lists them",
-    "WrongCount": "a name has no white space (data[7:0]), and a comment needs a line of its own",
-    "NoSuchName": "write the name as the listing shows it, with scopes, case and range; @K is the signal at position K",
-    "BadNumber": "write decimal digits alone, no unit and no 0x",
-    "BadValueText": "write at most one letter for each bit: 0, 1, x or z; the listing shows the width",
-    "BadOption": "write one of: not and or xor bit; none even odd; msb lsb",
-    "NotScalar": "make a signal of the bit you mean: derive WORD bit NAME K",
-    "BadRatio": "both numbers of BIT are within 1 to 1,000,000,000: shorten the ratio",
-    "BitTooShort": "BIT is in ticks, not in seconds; else record the capture with a higher sample rate",
-    "BadData": "DATA is 5 to 9: count the data bits without start, parity and stop bits",
-    "BadStop": "STOP is 1 or 2",
-    "BadMode": "MODE is 0 to 3",
-    "BadBits": "BITS is 1 to 32: read a longer word as several",
-    "BadBit": "count bits from 0, the least significant",
-    "BadRange": "FROM is below TO, and TO at most the end (force: one past it); after a cut the end is another one",
-    "BadCount": "write the length of the shortest run that stays",
-    "BadWord": "a name can't be $end: choose another",
-    "NameTaken": "remove or rename the signal that has this full name first",
-    "TooManySignals": "remove a signal that you do not need",
-    "NothingToUndo": "no edit is held: run again with a greater --depth",
-    "NothingToRedo": "no edit was undone, or another was made since: write the edit again",
-    "BadDepth": "write a depth within 1 to 1,000",
-    "DepthTooSmall": "redo the edits that were undone, or make a new one, first",
-}
+def messages_at(path):
+    """The faults and refusals of a file: kind, name, what it means, what to do, and what the line of a fault is that of."""
+    with open(path, encoding="utf-8") as file:
+        blocks = [block.splitlines() for block in file.read().strip().split("\n\n")[1:]]
+    return [Message(*head.split(" "), means, remedy, *(line or [None])) for head, means, remedy, *line in blocks]
+
+
+Message = collections.namedtuple("Message", "kind name means remedy line")
+MESSAGES = messages_at(os.path.join(os.path.dirname(os.path.realpath(__file__)), "messages.txt"))
+# What to do about each fault of a capture, and about each refusal of a line.
+FAULTS, REFUSALS = (
+    {one.name: one.remedy.replace("`", "") for one in MESSAGES if one.kind == kind} for kind in ("fault", "refusal")
+)
 
 # What other lines on standard error mean.
 ENDINGS = {
@@ -117,7 +86,7 @@ def told_refusal(line, name, number, names):
         return told + ["the script %s: %s" % other]
     if name == "UnknownCommand":
         near = difflib.get_close_matches(command.lower(), list(rows), 1, 0.6)
-        told += ["is %s meant?" % near[0]] * len(near)
+        told += ["is %s meant?" % word for word in near]
     if name == "WrongCount" and command in rows:
         told += ["usage: %s (%s)" % rows[command]]
     about = told_names(named(words, rows), names) if name == "NoSuchName" else []

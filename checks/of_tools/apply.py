@@ -35,10 +35,13 @@ FAILING = [
     ("echo 'vcdedit: output: write fault' >&2; exit 4", 4, "is the disc full?"),
     ("echo 'vcdedit: out of memory' >&2; exit 5", 5, "out of memory"),
     ("kill -9 $$", 5, "signal 9"),
-    (': > "$out"; exit 0', 4, "wrote nothing"),
+    ('echo ok; : > "$out"; exit 0', 4, "wrote nothing"),
+    ("exit 0", 4, "left lines of the script without a reply"),
+    ("echo ok; echo ok; exit 0", 4, "answers what was not asked"),
+    ("kill -XFSZ $$", 4, "ulimit -f"),
     ("echo 'line 1: refused: NoSuchName'; exit 1", 1, "1 line refused"),
-    ("echo changed >> ../moved/A; exit 0", 4, "changed by another program"),
-    ("mv ../moved/A ../moved/away; cp ../moved/away ../moved/A; exit 0", 4, "changed by another program"),
+    ("echo ok; echo changed >> ../moved/A; exit 0", 4, "changed by another program"),
+    ("echo ok; mv ../moved/A ../moved/away; cp ../moved/away ../moved/A; exit 0", 4, "changed by another program"),
 ]
 # A line that is refused, and what is told of it.
 REFUSED = [
@@ -68,38 +71,33 @@ FAULTY = [
 TOOL, MESSAGES = "tools/apply_script", "tools/vcd_messages.py"
 PLANTED = [
     (TOOL, "real = os.path.realpath(self.path)", "real = os.path.abspath(self.path)"),
-    (TOOL, "keep_mode(written, before)\n                os.fsync", "os.fsync"),
-    (TOOL, "                self.want_unchanged(real, source, before)\n", ""),
-    (TOOL, "                if unfinished:\n", "                if False:\n"),
-    (TOOL, "status == 1 and not self.options.keep_going", "False"),
-    (TOOL, "        if status > 1 or status < 0:\n", "        if status > 1:\n"),
-    (TOOL, "        if rows:\n", "        if False:\n"),
+    (TOOL, "keep_mode(written, before)\n            os.fsync", "os.fsync"),
+    (TOOL, "            self.want_unchanged(real, source, before)\n", ""),
+    (TOOL, "            if unfinished:\n", "            if False:\n"),
+    (TOOL, "and self.script.edits and not self.options.keep_going", "and False"),
+    (TOOL, "            if not self.script.edits:\n", "            if False:\n"),
+    (TOOL, "            if self.options.dry_run:\n", "            if False:\n"),
+    (TOOL, "            self.want_an_edit(status)\n            if", "            if"),
+    (TOOL, "word in ASKED_AT_LENGTH:\n                self.passed", "False:\n                self.passed"),
+    (TOOL, "            if self.screen.failure:\n", "            if False:\n"),
+    (TOOL, "if self.next < len(self.script.passed)", "if False"),
+    (TOOL, "if self.next >= len(self.script.passed)", "if False"),
+    (TOOL, "if status == -signal.SIGXFSZ", "if False"),
+    (TOOL, "[*self.guard, *words]", "words"),
+    (TOOL, "        if any(stops for _, _, _, stops in rows):", "        if False:"),
+    (TOOL, "        if rows:\n            self.left", "        if False:\n            self.left"),
     (TOOL, "if self.options.drop_skipped:", "if False:"),
-    ("tools/vcd_files.py", "    if not first:\n", "    if first:\n"),
-    ("tools/vcd_files.py", "code in first and begins_item(found)", "code in first"),
-    ("tools/vcd_files.py", "            is_passed_over = word not in DUMP_WORDS", "            is_passed_over = False"),
     (TOOL, "        if os.path.lexists(real + options.backup):", "        if False:"),
     (TOOL, "        keep_old(real, backup)\n", "        pass\n"),
-    (TOOL, " & 0o222:", " & 0:"),
+    (TOOL, "if os.path.isfile(real) and not", "if False and not"),
     (TOOL, "if target == real:", "if False:"),
-    (TOOL, "            child.terminate()\n\n", "            pass\n\n"),
     (TOOL, "if os.fstat(written).st_size == 0:", "if False:"),
-    ("tools/vcd_files.py", "        os.open(os.devnull, os.O_RDONLY)\n", "        pass\n"),
-    ("tools/vcd_files.py", "        sys.exit(4)\n", "        sys.exit(0)\n"),
     (TOOL, "max(outcome.status", "min(outcome.status"),
     (TOOL, ")[:NAME_BYTES]", ")"),
-    (TOOL, '"%s.%d.%d.unfinished"', '"%s.%d.%d"'),
     (TOOL, "        if count > 1:\n            parser", "        if False:\n            parser"),
-    (TOOL, "    if os.path.realpath(options.script) in", "    if None in"),
-    (TOOL, "for number in (signal.SIGINT, signal.SIGTERM, signal.SIGHUP)", "for number in (signal.SIGINT, signal.SIGTERM)"),
-    (TOOL, "    except OSError as error:\n        os.dup2", "    except ValueError as error:\n        os.dup2"),
-    (TOOL, "sys.stderr.isatty()", "False"),
-    (TOOL, "if self.is_terminal and self.ended", "if False and self.ended"),
-    (MESSAGES, 'name.startswith(small + b"[")', "False"),
-    (MESSAGES, "if name == \"WrongCount\" and command in rows", "if False"),
-    (MESSAGES, "    if other and (line", "    if False and (line"),
-    (MESSAGES, "if now == number and not prefix", "if now > number and not prefix"),
-    (MESSAGES, "had = [", "had = [] and ["),
+    ("tools/vcd_files.py", "stamp, seen = word, {}\n", "stamp = word\n"),
+    ("tools/vcd_files.py", "                if word not in DUMP_WORDS:\n                    self", "                if True:\n                    self"),
+    (MESSAGES, '["is %s meant?" % word for word in near]', '["is %s meant?" % near[0]]'),
 ]
 
 
@@ -145,7 +143,7 @@ def writes(program, folder):
     is_link, mode = os.path.islink(place.folder + "/link"), stat.S_IMODE(os.stat(place.folder + "/A").st_mode)
     yield "the link is kept, and the mode", (is_link, mode) == (True, 0o640)
     status, shown, _ = place.run("script", "bad", "B", "--jobs", "2", "--backup", ".orig")
-    ends = ["bad: as it was: refused: line 1: UnexpectedWord", "B: written: 1 ok"]
+    ends = ["bad: as it was: refused: line 1: UnexpectedWord", "B: written: 1 ok", "1 written, 1 not, status 3"]
     yield "several, one of which is refused", (status, shown) == (3, ends)
     yield "the old one is kept", (place.load("B"), place.load("B.orig")) == (wanted, LINE)
     status, shown, _ = place.run("script", "B", "--backup", ".orig")
@@ -153,9 +151,9 @@ def writes(program, folder):
     place.store("C", LINE)
     status, shown, _ = place.run("script", "C", "--to", "new/folder")
     yield "to a folder", (status, place.load("C"), place.load("new/folder/C")) == (0, LINE, wanted)
-    place.store("questions", "value tb.rx 5\nundo\n")
-    status, shown, _ = place.run("questions", "C", "--keep-going")
-    yield "replies, and a refused line", (status, shown) == (1, ["C: 0", "C: written: 0 ok, 1 line refused"])
+    place.store("some", "value tb.rx 5\nundo\n" + WRITTEN)
+    status, shown, _ = place.run("some", "C", "--keep-going")
+    yield "replies, and a refused line", (status, shown) == (1, ["C:1: 0", "C: written: 1 ok, 1 line refused"])
     odd = os.fsdecode(b"\xff odd\n-name")
     place.store(odd, LINE)
     status = run([APPLY, "script", "./" + odd], cwd=place.folder, env=place.environment, errors="surrogateescape")[0]
@@ -163,7 +161,7 @@ def writes(program, folder):
     long = "n" * 250
     place.store(long, LINE)
     yield "a long name", place.run("script", long)[0] == 0 and place.load(long) == wanted
-    kept = ["A", "B", "B.orig", "C", "bad", "link", "new", long, "questions", "script", odd]
+    kept = ["A", "B", "B.orig", "C", "bad", "link", "new", long, "script", "some", odd]
     yield "nothing else is there", place.names() == sorted(kept)
 
 
@@ -180,18 +178,23 @@ def stays(program, folder):
         ("lost", 4, "there is no such file"),
         ("pipe", 4, "is no regular file"),
         ("fixed", 4, "is write-protected: chmod u+w, or --to FOLDER"),
-        ("dropped", 1, "3 real or string changes would be lost"),
-        ("both", 1, "2 variables and 3 real or string changes would be lost"),
+        ("dropped", 1, "3 real or string changes and 1 comment among the changes would be lost"),
+        ("both", 1, "2 variables, 3 real or string changes and 1 comment among the changes would be lost"),
         ("lossy", 1, "2 variables would be lost"),
     ):
         found = place.run("script", name)
         yield name + " stays", found[:2] == (status, ["%s: as it was: %s" % (name, reason)])
     yield "what would be lost is named", "real tb.volts" in found[2] and "wire of 2000 bits tb.wide" in found[2]
     told = place.run("script", "dropped")[2]
-    yield "whose changes would be lost", "    2 of tb.rx\n    1 of tb.q[3:0]\n" in told
+    yield "whose changes would be lost", "    tb.rx: 2 real or string changes\n    tb.q[3:0]: 1 real or string change\n" in told
     yield "none has changed", [place.load(name) for name in ("fixed", "lossy", "dropped")] == [LINE, LOSSY, DROPPED]
     yield "a loss that is asked for", [place.run("script", name, "--drop-skipped")[0] for name in ("both", "dropped")] == [0, 0]
-    yield "what looks like a lost change", place.run("script", "like")[:2] == (0, ["like: written: 1 ok"])
+    told = "1 change replaced within a tick and 1 comment among the changes"
+    place.store("within", LIKE_DROPPED.replace("#20", "#20 1! 0!"))
+    found = place.run("script", "within")
+    yield "what is left out", found[:2] == (0, ["within: written: 1 ok, without " + told])
+    yield "it is named", found[2] == "within: %s left out\n    tb.rx: 1 change replaced within a tick\n" % told
+    yield "what looks like a lost change", place.run("script", "like")[1] == ["like: written: 1 ok, without 1 comment among the changes"]
     for line, told in REFUSED:
         place.store("lines", line + "\n")
         status, _, errors = place.run("lines", "A")
@@ -213,12 +216,54 @@ def stays(program, folder):
         (["script", "A", "--backup", "/b"], 2),
     ):
         yield "refused: " + " ".join(words), place.run(*words)[0] == status and place.load("A") == LINE
-    full = subprocess.run([APPLY, "script", "A"], cwd=place.folder, env=place.environment, stdout=open("/dev/full", "w"), stderr=subprocess.PIPE)
-    for closed, status in ((">&-", 4), ("2>&-", 4), ("<&-", 0)):
+    for closed, status, told in ((">&-", 4, "vcdedit-apply: standard output is closed\n"), ("2>&-", 4, ""), ("<&-", 0, "")):
         words = ["sh", "-c", 'exec "$@" %s' % closed, "sh", APPLY, "script", "A", "--to", "closed"]
         done = run(words, cwd=place.folder, env=place.environment)
-        yield "closed: " + closed, done[0] == status and done[2] == ""
-    yield "a full standard output", full.returncode == 4 and b"Traceback" not in full.stderr
+        yield "closed: " + closed, done[0] == status and done[2] == told
+    for words in (["--help"], ["--version"]):
+        yield "a full standard output: %s" % words, on_a_full_disc(place, *words) == (4, "standard output: No space left on device\n")
+
+
+def on_a_full_disc(place, *words):
+    """(status, what is told) of a run whose standard output is full."""
+    with open("/dev/full", "w") as full:
+        done = subprocess.run([APPLY, *words], cwd=place.folder, env=place.environment, stdout=full, stderr=subprocess.PIPE, text=True)
+    return done.returncode, done.stderr.partition("vcdedit-apply: ")[2]
+
+
+def answers(program, folder):
+    """A script that only asks is answered; so is a dry run. Nothing is written, and each reply has its line."""
+    place = Folder(program, folder + "/answers", A=LINE, lossy=LOSSY)
+    place.store("asks", "# a comment\n\nchanges tb.rx\n  list \nchanges tb.q[3:0]\nvalue tb.rx 5\n")
+    os.chmod(place.folder + "/A", 0o444)
+    listed = [
+        "4: " + line for line in ("timescale 1 us", "end 30", "signals 2", "skipped %d", "@0 1 wire tb.rx", "@1 4 wire tb.q[3:0]")
+    ]
+    lines = ["3: 0 1", "3: 5 0", "3: 6 1", *listed, "5: 0 0000", "5: 20 0101", "6: 0"]
+    ends = ["%s: as it was: no line of the script edits", "0 written, 2 not, status 0"]
+    wanted = ["A:" + line.replace("%d", "0") for line in lines] + [ends[0] % "A"]
+    wanted += ["lossy:" + line.replace("%d", "2") for line in lines] + [ends[0] % "lossy", ends[1]]
+    yield "a script that asks", place.run("asks", "A", "lossy") == (0, wanted, "")
+    place.store("asks", "changes tb.rx\nclean\n")
+    found = place.run("asks", "A")
+    yield "a refused question", found[:2] == (1, ["A:1: 0 1", "A:1: 5 0", "A:1: 6 1", ends[0] % "A"]) and "asks line 2: clean" in found[2]
+    os.chmod(place.folder + "/A", 0o644)
+    place.store("B", LINE)
+    place.store("bad", "#0\n")
+    found = place.run("script", "A", "lossy", "bad", "B", "--dry-run", "--backup", ".orig", "--jobs", "4")
+    ends = ["A: would be written: 1 ok", "lossy: as it was: 2 variables would be lost", "bad: as it was: refused: line 1: UnexpectedWord"]
+    yield "a dry run", found[:2] == (3, [*ends, "B: would be written: 1 ok", "2 would be written, 2 not, status 3"])
+    place.store("refused", "invert tb.none\nvalue tb.rx 0\n")
+    found = place.run("refused", "A", "--keep-going")
+    yield "no edit is carried out", found[:2] == (1, ["A:2: 1", "A: as it was: no edit was carried out, 1 line refused"])
+    yield "nothing is written", place.load("A") == LINE and place.names() == ["A", "B", "asks", "bad", "lossy", "refused", "script"]
+    told = "standard output: No space left on device. Written before: %s\n"
+    yield "a full standard output", on_a_full_disc(place, "script", "A", "B") == (4, told % "A") and place.load("B") == LINE != place.load("A")
+    place.store("asks", "value tb.rx 5\n" + WRITTEN)
+    yield "a reply to a full disc", on_a_full_disc(place, "asks", "B") == (4, told % "none") and place.load("B") == LINE
+    place.environment["VCDEDIT"] = "/bin/true"
+    told = "B: as it was: /bin/true left lines of the script without a reply"
+    yield "no vcdedit", place.run("script", "B") == (4, [told], "")
 
 
 def fails(folder):
@@ -279,11 +324,11 @@ def interrupted(folder):
         with open(path) as file:
             child = int(file.read())
         if number == signal.SIGKILL:
-            os.kill(child, signal.SIGKILL)
             seen = [re.fullmatch(r"A\.%d\.0\.unfinished" % tool.pid, name) is not None for name in left]
             yield "what is left of a run that is killed", (began, kept, seen) == (True, True, [True])
+            yield "its run ends", wait_for(lambda: not is_running(child))
         else:
-            ends = ["%s: as it was: interrupted" % name for name in "AB"]
+            ends = ["%s: as it was: interrupted" % name for name in "AB"] + ["0 written, 2 not, status %d" % (128 + number)]
             yield "signal %d" % number, (began, kept, left, shown, tool.returncode) == (True, True, [], ends, 128 + number)
             yield "signal %d ends the run" % number, wait_for(lambda: not is_running(child))
 
@@ -302,6 +347,7 @@ def on_a_terminal(program, folder):
 def check(program, folder):
     yield from writes(program, folder)
     yield from stays(program, folder)
+    yield from answers(program, folder)
     yield from fails(folder)
     yield from interrupted(folder)
     yield from on_a_terminal(program, folder)

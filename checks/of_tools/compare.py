@@ -1,8 +1,9 @@
 """Comparing two captures."""
 
+import gzip
 import os
-import re
 import shutil
+import subprocess
 
 from common import TOP, run, store
 
@@ -12,12 +13,12 @@ COMPARED = "examples/board/capture.vcd"
 # A script, and what the comparison of a capture and what the script makes of it says.
 EDITED = [
     ("", ["the same: 18 signals up to tick 221008847"]),
-    ("invert tb.clk", ["tb.clk: first at tick 0: 0, 1; places: 1", "differences: 1"]),
-    ("force tb.q[7:0] 0 2 z", ["tb.q[7:0]: first at tick 0: xxxxxxxx, zzzzzzzz; places: 1", "differences: 1"]),
-    ("force tb.tx 100000000 100000001 x", ["tb.tx: first at tick 100000000: 0, x; places: 1", "differences: 1"]),
-    ("remove tb.u.clk", ["tb.u.clk: only in A", "differences: 1"]),
-    ("derive odd bit tb.q[7:0] 0", ["tb.odd: only in B", "differences: 1"]),
-    ("cut 221008846 221008847", ["end: 221008847, 221008846 (compared up to the smaller)", "differences: 1"]),
+    ("invert tb.clk", ["tb.clk: 1 difference, first at tick 0: 0, 1", "lines that differ: 1"]),
+    ("force tb.q[7:0] 0 2 z", ["tb.q[7:0]: 1 difference, first at tick 0: xxxxxxxx, zzzzzzzz", "lines that differ: 1"]),
+    ("force tb.tx 100000000 100000001 x", ["tb.tx: 1 difference, first at tick 100000000: 0, x", "lines that differ: 1"]),
+    ("remove tb.u.clk", ["tb.u.clk: only in A", "lines that differ: 1"]),
+    ("derive odd bit tb.q[7:0] 0", ["tb.odd: only in B", "lines that differ: 1"]),
+    ("cut 221008846 221008847", ["end: 221008847, 221008846 (compared up to the smaller)", "lines that differ: 1"]),
 ]
 
 ONE = "wire 1 a"
@@ -25,75 +26,114 @@ TWO = "wire 1 a|wire 1 a"
 # Two captures, each its declarations and its changes; what a comparison says of them, and what in the other order.
 # `!` is the code of the first signal, `"` of the second, and `#` of the third.
 PAIRS = {
-    "the first tick": ((ONE, "#5 1! #9"), (ONE, "1! #4 x! #5 1! #9"), "a: first at tick 0: x, 1; places: 1",
-                       "a: first at tick 0: 1, x; places: 1"),
+    "the first tick": ((ONE, "#5 1! #9"), (ONE, "1! #4 x! #5 1! #9"), "a: 1 difference, first at tick 0: x, 1",
+                       "a: 1 difference, first at tick 0: 1, x"),
     "a larger end": ((ONE, "#5 1! #9"), (ONE, "#5 1! #12"), "end: 9, 12 (compared up to the smaller)",
                      "end: 12, 9 (compared up to the smaller)"),
     "past the smaller end": ((ONE, "#5 1! #9"), (ONE, "#5 1! #10 0! #11 x! #12"), "end: 9, 12 (compared up to the smaller)",
                              "end: 12, 9 (compared up to the smaller)"),
-    "at the smaller end": ((ONE, "#9 1!"), (ONE, "#10 1!"), "end: 9, 10 (compared up to the smaller)|a: first at tick 9: 1, x; places: 1",
-                           "end: 10, 9 (compared up to the smaller)|a: first at tick 9: x, 1; places: 1"),
-    "the last tick": ((ONE, "#5 0! #9 1!"), (ONE, "#5 0! #9"), "a: first at tick 9: 1, 0; places: 1",
-                      "a: first at tick 9: 0, 1; places: 1"),
+    "at the smaller end": ((ONE, "#9 1!"), (ONE, "#10 1!"), "end: 9, 10 (compared up to the smaller)|a: 1 difference, first at tick 9: 1, x",
+                           "end: 10, 9 (compared up to the smaller)|a: 1 difference, first at tick 9: x, 1"),
+    "the last tick": ((ONE, "#5 0! #9 1!"), (ONE, "#5 0! #9"), "a: 1 difference, first at tick 9: 1, 0",
+                      "a: 1 difference, first at tick 9: 0, 1"),
     "a kind": ((ONE, "0! #9"), ("reg 1 a", "0! #9"), "a: wire, reg", "a: reg, wire"),
     "a kind of digits": (("1 1 a", "0! #9"), ("01 1 a", "0! #9"), "a: 1, 01", "a: 01, 1"),
     "a width": (("wire 2 a", "b1 ! #9"), ("wire 3 a", "b1 ! #8 bx ! #9"), "a: 2 bits, 3 bits", "a: 3 bits, 2 bits"),
     "a kind and a width": (("wire 2 a", "b1 ! #9"), ("reg 3 a", "b1 ! #9"), "a: wire, reg|a: 2 bits, 3 bits",
                            "a: reg, wire|a: 3 bits, 2 bits"),
-    "a timescale": (("1 ns|" + ONE, "#9"), ("10 ns|" + ONE, "#9"), "timescale: 1 ns, 10 ns (ticks are compared as they are)",
-                    "timescale: 10 ns, 1 ns (ticks are compared as they are)"),
     "no timescale": (("1 ns|" + ONE, "#9"), (ONE, "#9"), "timescale: 1 ns, none (ticks are compared as they are)",
                      "timescale: none, 1 ns (ticks are compared as they are)"),
     "a signal": ((ONE, "#9"), (ONE + "|wire 1 b", "#9"), "b: only in B", "b: only in A"),
-    "the second of a name": ((TWO, '0! 0" #3 1" #9'), (TWO, '0! 0" #9'), "a (2): first at tick 3: 1, 0; places: 1",
-                             "a (2): first at tick 3: 0, 1; places: 1"),
-    "the first of a name": ((TWO, '0! 0" #3 1! #9'), (TWO, '0! 0" #9'), "a: first at tick 3: 1, 0; places: 1",
-                            "a: first at tick 3: 0, 1; places: 1"),
+    "the second of a name": ((TWO, '0! 0" #3 1" #9'), (TWO, '0! 0" #9'), "a (2): 1 difference, first at tick 3: 1, 0",
+                             "a (2): 1 difference, first at tick 3: 0, 1"),
+    "the first of a name": ((TWO, '0! 0" #3 1! #9'), (TWO, '0! 0" #9'), "a: 1 difference, first at tick 3: 1, 0",
+                            "a: 1 difference, first at tick 3: 0, 1"),
     "a name twice": ((TWO, '0! 0" #9'), (ONE, "0! #9"), "a (2): only in A", "a (2): only in B"),
     "ticks above 2^53": ((ONE, "#9007199254740992 1! #9007199254740994"), (ONE, "#9007199254740993 1! #9007199254740994"),
-                         "a: first at tick 9007199254740992: 1, x; places: 1", "a: first at tick 9007199254740992: x, 1; places: 1"),
+                         "a: 1 difference, first at tick 9007199254740992: 1, x", "a: 1 difference, first at tick 9007199254740992: x, 1"),
     "the greatest ticks": ((ONE, "0! #9223372036854775806 1! #9223372036854775807"), (ONE, "0! #9223372036854775807 1!"),
-                           "a: first at tick 9223372036854775806: 1, 0; places: 1",
-                           "a: first at tick 9223372036854775806: 0, 1; places: 1"),
+                           "a: 1 difference, first at tick 9223372036854775806: 1, 0",
+                           "a: 1 difference, first at tick 9223372036854775806: 0, 1"),
     "ends above 2^53": ((ONE, "0! #9007199254740992"), (ONE, "0! #9007199254740993"),
                         "end: 9007199254740992, 9007199254740993 (compared up to the smaller)",
                         "end: 9007199254740993, 9007199254740992 (compared up to the smaller)"),
     "ticks of 2 and 3 digits": ((ONE, "0! #20 1! #100 0! #200"), (ONE, "0! #20 1! #99 0! #200"),
-                                "a: first at tick 99: 1, 0; places: 1", "a: first at tick 99: 0, 1; places: 1"),
+                                "a: 1 difference, first at tick 99: 1, 0", "a: 1 difference, first at tick 99: 0, 1"),
     "two places": (("wire 4 a", "b1 ! #3 bz1 ! #5 b1 ! #9"), ("wire 4 a", "b1 ! #4 bx ! #9"),
-                   "a: first at tick 3: zzz1, 0001; places: 1", "a: first at tick 3: 0001, zzz1; places: 1"),
-    "three places": ((ONE, "0! #3 1! #4 0! #5 1! #6 0! #7 1! #9"), (ONE, "0! #9"), "a: first at tick 3: 1, 0; places: 3",
-                     "a: first at tick 3: 0, 1; places: 3"),
+                   "a: 1 difference, first at tick 3: zzz1, 0001", "a: 1 difference, first at tick 3: 0001, zzz1"),
+    "three places": ((ONE, "0! #3 1! #4 0! #5 1! #6 0! #7 1! #9"), (ONE, "0! #9"), "a: 3 differences, first at tick 3: 1, 0",
+                     "a: 3 differences, first at tick 3: 0, 1"),
 }
 # The same in both orders: other codes, another order, other header entries, values that are written twice.
 SAME = [
-    ((ONE, "0! #3 1! #9"), (ONE, "0! #3 1! #4 1! #9"), "the same: 1 signals up to tick 9"),
+    ((ONE, "0! #3 1! #9"), (ONE, "0! #3 1! #4 1! #9"), "the same: 1 signal up to tick 9"),
     (("wire 1 a|reg 2 b", '0! b1 " #9'), ("reg 2 b|wire 1 a", 'b1 ! 0" #9'), "the same: 2 signals up to tick 9"),
     (("", "#9"), ("", "#9"), "the same: 0 signals up to tick 9"),
 ]
 REAL, PLAIN = (ONE + "|real 64 r|event 1 e", '0! r1.5 " #9'), (ONE, "0! #9")
-LEFT_OUT = "not compared, since vcdedit leaves them out: %d and %d variables"
-# Two captures of which the one has variables that are left out, and the numbers of these.
-SKIPPED = [(REAL, PLAIN, 2, 0), (PLAIN, REAL, 0, 2), (REAL, REAL, 2, 2), (PLAIN, PLAIN, 0, 0)]
+# Changes of a kept variable that are left out too, which --strict alone counts.
+LOST = (ONE, "0! 1! 0! r1.5 ! $comment see $end sHigh ! #9")
+LEFT_OUT = "%s: not compared: 2 variables"
+LOST_LINES = ["%s: not compared: 2 real or string changes, 2 changes replaced within a tick and 1 comment among the changes",
+              "    a: 2 real or string changes", "    a: 2 changes replaced within a tick"]
+SKIPPED_LINES = [LEFT_OUT, "    real r", "    event e"]
+# Two captures, and which of them have variables that are left out.
+SKIPPED = [(REAL, PLAIN, "A"), (PLAIN, REAL, "B"), (REAL, REAL, "AB"), (PLAIN, PLAIN, "")]
+CLOCK = "0! #10 1! #11 0! #20 1! #30 0! #50"
+NAMES = "wire 1 tb.u.a|wire 1 tb.u.b|wire 4 tb.q[3:0]"
+# Options, two captures, the status, and what is said.
+OPTIONS = [
+    (["--within", "2"], (ONE, CLOCK), (ONE, CLOCK.replace("#20", "#22")), 0, ["the same: 1 signal up to tick 50"]),
+    (["--within", "2"], (ONE, CLOCK), (ONE, CLOCK.replace("#20", "#23")), 1, ["a: 1 difference, first at tick 20: 1, 0"]),
+    (["--within", "9"], (ONE, CLOCK), (ONE, CLOCK.replace("#10 1! #11 0! ", "")), 1, ["a: 1 difference, first at tick 10: 1, 0"]),
+    (["--within", "9"], (ONE, CLOCK), (ONE, CLOCK.replace("#10 1! #11 0! ", "#14 1! #15 0! ")), 0, ["the same: 1 signal up to tick 50"]),
+    (["--within", "2"], (ONE, "0! #9 1! #10"), (ONE, "0! #12 1!"), 1, ["a: 1 difference, first at tick 9: 1, 0"]),
+    (["--within", "2"], (ONE, "0! #9 1! #10"), (ONE, "0! #11 1! #12"), 0, ["the same: 1 signal up to tick 10"]),
+    (["--within", "2"], (ONE, "0! #9"), (ONE, "0! #10 1! #11"), 0, ["the same: 1 signal up to tick 9"]),
+    (["--from", "12", "--to", "40"], (ONE, CLOCK), (ONE, "0! #20 1! #30 0! #41 1! #60"), 0, ["the same: 1 signal from tick 12 to 40"]),
+    (["--from", "12"], (ONE, CLOCK), (ONE, CLOCK.replace("#11 0! ", "")), 1, ["a: 1 difference, first at tick 12: 0, 1"]),
+    (["--from", "11"], (ONE, CLOCK), (ONE, "1! #11 0! #20 1! #30 0! #50"), 0, ["the same: 1 signal from tick 11 to 50"]),
+    (["--to", "19"], (ONE, CLOCK), (ONE, "0! #10 1! #11 0! #19"), 0, ["the same: 1 signal up to tick 19"]),
+    (["--from", "60"], (ONE, CLOCK), (ONE, CLOCK), 2, "tick 60 is past"),
+    ([], ("1 ns|" + ONE, "0! #3 1! #9"), ("100 ps|" + ONE, "0! #30 1! #90"), 0,
+     ["timescale: 1 ns, 100 ps (ticks are those of 100 ps)", "the same: 1 signal up to tick 90"]),
+    (["--within", "200ps"], ("1 ns|" + ONE, "0! #3 1! #9"), ("100 ps|" + ONE, "0! #32 1! #91"), 0,
+     ["timescale: 1 ns, 100 ps (ticks are those of 100 ps)", "the same: 1 signal up to tick 90"]),
+    (["--within", "1ns"], (ONE, CLOCK), (ONE, CLOCK), 2, "no timescale"),
+    (["--map", "tb.u=top"], (NAMES, "#9"), (NAMES.replace("tb.u", "top"), "#9"), 0, ["the same: 3 signals up to tick 9"]),
+    (["--map", "tb.q=tb.d"], (NAMES, "#9"), (NAMES.replace("tb.q", "tb.d"), "#9"), 0, ["the same: 3 signals up to tick 9"]),
+    (["--map", "tb.u.a=tb.u.b", "--map", "tb.u.b=tb.u.a"], (NAMES, "0! #9"), (NAMES, '0" #9'), 0, ["the same: 3 signals up to tick 9"]),
+    (["--map", "tb=top"], (NAMES, "#9"), (NAMES, "#9"), 1, None),
+    (["--map", "t=top"], (NAMES, "#9"), (NAMES, "#9"), 2, "no signal of A has this name"),
+    (["--map", "top"], (NAMES, "#9"), (NAMES, "#9"), 2, "write OLD=NEW"),
+    (["--keep", "tb.u.*"], (NAMES, "#9"), (NAMES, "b1 # #9"), 0, ["the same: 2 signals up to tick 9"]),
+    (["--keep", "*.q[3:0]"], (NAMES, "#9"), (NAMES, "b1 # #9"), 1, ["tb.q[3:0]: 1 difference, first at tick 0: xxxx, 0001"]),
+    (["--keep", "u*"], (NAMES, "#9"), (NAMES, "#9"), 2, "no signal has a name like u*"),
+]
+# Files that are no capture, and what is said of them.
+FAULTY = [
+    (b"no capture\n", ["line 1: no capture: UnexpectedWord", "is the file VCD"]),
+    (gzip.compress(b"#0\n"), ["packed by gzip", "gzip -dc"]),
+    (b"\xef\xbb\xbf#0\n", ["byte order mark"]),
+    (b"META samplerate: 1\n", ["sigrok-cli"]),
+    (bytes([0] * 7 + [1, 0x49, 0, 0]), ["FST", "fst2vcd"]),
+]
+TOOL_FILE = "tools/compare_captures"
 PLANTED = [
-    ("tools/compare_captures", "length(a) < length(b)", "a < b"),
-    ("tools/compare_captures", "(a \"\") < (b \"\")", "a + 0 < b + 0"),
-    ("tools/compare_captures", "last = before(end[\"A\"], end[\"B\"]) ? end[\"A\"] : end[\"B\"]", "last = end[\"A\"]"),
-    ("tools/compare_captures", "if (end[\"A\"] != end[\"B\"])", "if (before(end[\"B\"], end[\"A\"]))"),
-    ("tools/compare_captures", "if (timescale[\"A\"] != timescale[\"B\"])", "if (0)"),
-    ("tools/compare_captures", "if (kind[\"A\", name] != kind[\"B\", name])", "if (0)"),
-    ("tools/compare_captures", "word[3] \"\" #", "word[3] #"),
-    ("tools/compare_captures", "if (width[\"A\", name] != width[\"B\", name])", "if (0)"),
-    ("tools/compare_captures", "if (turn > 1) name = name \" (\" turn \")\"", ""),
-    ("tools/compare_captures", "if (before(last, now)) continue", "if (!before(now, last)) continue"),
-    ("tools/compare_captures", "        if (before(last, now)) continue\n", ""),
-    ("tools/compare_captures", "apart[p] = 0", "apart[p] = apart[p]"),
-    ("tools/compare_captures", "skipped[\"A\"] + skipped[\"B\"] > 0", "skipped[\"A\"] > 0"),
-    ("tools/compare_captures", "*) printf './%s' \"$1\" ;;", "*) printf '%s' \"$1\" ;;"),
-    ("tools/compare_captures", "- | [!-]*) printf", "[!-]*) printf"),
-    ("tools/compare_captures", "ENVIRON[\"STRICT\"] ? 3 : 0", "ENVIRON[\"STRICT\"] ? 1 : 0"),
-    ("tools/compare_captures", "differences ? 1 : left_out", "left_out"),
-    ("tools/compare_captures", "print \"vcdedit-compare: \"", "print \"compare_captures: \""),
+    (TOOL_FILE, "<= bounds.within", "< bounds.within"),
+    (TOOL_FILE, "bounds.first < tick <= bounds.last", "bounds.first < tick"),
+    (TOOL_FILE, "        if tick > bounds.last + bounds.within:\n", "        if tick > bounds.last:\n"),
+    (TOOL_FILE, "            if tick > bounds.first:\n", "            if tick >= bounds.first:\n"),
+    (TOOL_FILE, "int(max(ticks) / each)", "int(each / min(ticks))"),
+    (TOOL_FILE, "    if kind != kind_there:", "    if False:"),
+    (TOOL_FILE, "        turns[name] += 1\n", ""),
+    (TOOL_FILE, "0 if is_whole or not options.strict else 3", "0"),
+    (TOOL_FILE, "if strict else []", "if False else []"),
+    (TOOL_FILE, "        self.file.seek(0)\n", ""),
+    (TOOL_FILE, "name.startswith((old + b\".\"", "name.startswith((old"),
+    ("tools/vcd_files.py", "if seen.setdefault(code, word) != word", "if seen.setdefault(code, word) is None"),
+    ("tools/vcd_files.py", "self.comments += word", "self.comments -= word"),
+    ("tools/vcd_files.py", "self.values[next(each, None)] += 1", "next(each, None)"),
 ]
 
 
@@ -119,11 +159,26 @@ def check(program, folder):
         made = run([program, "-i", "A", "--script", "/dev/stdin", "-o", "B"], cwd=folder, input=script + "\n")
         found = compare("A", "B")
         yield "comparing after " + script, (made[0], found) == (0, (int(script != ""), "\n".join([*wanted, ""]), ""))
-    store(folder, "bad", text="no capture\n")
-    for pair in (["bad", "A"], ["A", "bad"]):
-        status, shown, errors = compare(*pair)
-        wanted = ["vcdedit: capture line 1: UnexpectedWord", "vcdedit-compare: bad: vcdedit ended with status 3"]
-        yield "comparing with a refused capture", (status, shown, errors.splitlines()) == (2, "", wanted)
+    for capture, told in FAULTY:
+        store(folder, "bad", text=capture)
+        for pair in (["bad", "A"], ["A", "bad"]):
+            status, shown, errors = compare(*pair)
+            right = errors.startswith("vcdedit-compare: bad: ") and all(word in errors for word in told)
+            yield "comparing with a refused capture: %s" % told, (status, shown, right) == (2, "", True)
+    for words in (["A", "A"], ["--help"], ["--version"]):
+        with open("/dev/full", "w") as full:
+            done = subprocess.run([TOOL, *words], cwd=folder, env=environment, stdout=full, stderr=subprocess.PIPE)
+        told = b"vcdedit-compare: standard output: No space left on device\n"
+        yield "a full standard output: %s" % words, (done.returncode, done.stderr) == (4, told)
+    done = run([TOOL, "A", "A"], cwd=folder, env={**environment, "VCDEDIT": "/bin/true"})
+    yield "no vcdedit", done == (2, "", "vcdedit-compare: /bin/true is no vcdedit\n")
+    for words, first, second, status, wanted in OPTIONS:
+        store(folder, "A", text=text(*first))
+        store(folder, "B", text=text(*second))
+        found = compare(*words, "A", "B")
+        lines = found[1].splitlines()[: None if status == 0 else -1]
+        right = lines == wanted if isinstance(wanted, list) else wanted is None or wanted in found[2]
+        yield "%s: %s" % (words, found), (found[0], right) == (status, True)
 
 
 def pairs(folder, compare):
@@ -134,7 +189,7 @@ def pairs(folder, compare):
                 store(folder, path, text=text(*capture))
             lines = wanted[turn].split("|")
             found = compare("A", "B")
-            yield "%s: %s" % (name, found), found == (1, "\n".join([*lines, "differences: %d" % len(lines), ""]), "")
+            yield "%s: %s" % (name, found), found == (1, "\n".join([*lines, "lines that differ: %d" % len(lines), ""]), "")
     for *captures, wanted in SAME:
         for place in (0, 1):
             store(folder, "A", text=text(*captures[place]))
@@ -143,32 +198,38 @@ def pairs(folder, compare):
 
 
 def skipped(folder, compare):
-    """Variables that are left out have a line, and with --strict a status."""
-    for first, second, *counts in SKIPPED:
+    """Variables that are left out have a line, and with --strict names and a status; so have changes and comments."""
+    for first, second, sides in SKIPPED:
         store(folder, "A", text=text(*first))
         store(folder, "B", text=text(*second))
-        left_out = any(counts)
-        lines = [LEFT_OUT % tuple(counts), "the same as far as compared: 1 signals up to tick 9"] if left_out else ["the same: 1 signals up to tick 9"]
-        wanted = "\n".join([*lines, ""])
-        yield "left out: %s" % counts, compare("A", "B") == (0, wanted, "")
-        yield "left out and strict: %s" % counts, compare("--strict", "A", "B") == (3 if left_out else 0, wanted, "")
+        for words, lines in (([], [LEFT_OUT]), (["--strict"], SKIPPED_LINES)):
+            told = [line % side if "%" in line else line for side in sides for line in lines]
+            wanted = [*told, "the same%s: 1 signal up to tick 9" % (" as far as compared" if sides else "")]
+            found = compare(*words, "A", "B")
+            yield "left out: %s" % sides, found == (3 if sides and words else 0, "\n".join([*wanted, ""]), "")
         store(folder, "B", text=text(second[0], second[1].replace("0!", "1!")))
         found = compare("--strict", "A", "B")
-        yield "left out, strict and another value: %s" % counts, found[0] == 1 and "first at tick 0: 0, 1" in found[1]
+        yield "left out, strict and another value: %s" % sides, found[0] == 1 and "first at tick 0: 0, 1" in found[1]
+    store(folder, "A", text=text(*LOST))
+    store(folder, "B", text=text(*PLAIN))
+    wanted = [LOST_LINES[0] % "A", *LOST_LINES[1:], "the same as far as compared: 1 signal up to tick 9"]
+    yield "changes that are left out", compare("A", "B", "--strict") == (3, "\n".join([*wanted, ""]), "")
+    yield "changes that are not counted", compare("A", "B") == (0, "the same: 1 signal up to tick 9\n", "")
 
 
 def paths(folder, compare):
     """Names that begin with `-`, standard input, and words that are none of it."""
     capture = text(*PLAIN)
-    names = ["-", "-A.vcd", "--strict", "--", "A", "with blank", "a'b\"c$d"]
+    names = ["-", "-A.vcd", "--strict", "A", "with blank", "a'b\"c$d"]
     for name in names[1:]:
         store(folder, "./" + name, text=capture)
-    same = (0, "the same: 1 signals up to tick 9\n", "")
+    same = (0, "the same: 1 signal up to tick 9\n", "")
     for name in names[1:]:
-        for words in (["A", name], ["--", name, "A"], ["-", "./" + name], ["./" + name, "-"], ["--strict", "--", name, name]):
+        others = [["A", name]] if not name.startswith("-") else []
+        for words in (*others, ["--", name, "A"], ["-", "./" + name], ["./" + name, "-"], ["--strict", "--", name, name]):
             yield "paths: %s" % words, compare(*words, given=capture) == same
-    for words in ([], ["A"], ["A", "A", "A"], ["-", "-"], ["--strict", "A"]):
+    yield "an option behind the captures", compare("A", "A", "--strict") == same
+    for words in ([], ["A"], ["A", "A", "A"], ["-", "-"], ["--strict", "A"], ["A", "A", "--frob"]):
         status, shown, errors = compare(*words, given=capture)
-        yield "words: %s" % words, (status, shown, errors.split()[:2]) == (2, "", ["usage:", "vcdedit-compare"])
-    status, shown, errors = compare("--help")
-    yield "help", status == 0 and "vcdedit-compare [--strict] A B" in shown and re.search(r"compare_captures|^#", shown, flags=re.M) is None
+        yield "words: %s" % words, (status, shown) == (2, "") and "vcdedit-compare: error: " in errors
+    yield "another file", compare("A", "none") == (2, "", "vcdedit-compare: none: there is no such file\n")

@@ -8,7 +8,7 @@ use Rattle.vcd_core.specs.declared.bit.Bit.TheVariants.{Zero, One, X, Z}
 abbrev pub all_x : ℕ → List Bit
 all_x width = replicate width X
 
--- bit k of a value, counted from the least significant end; k is below its width
+-- bit k of a value, counted from its last letter, the least significant; k is below its width
 abbrev pub letter_at : List Bit → ℕ → Bit
 letter_at v k = slice_index_or v (length v - 1 - k) X
 

@@ -1,4 +1,4 @@
--- A wave as the list of its changes: its value at a tick, its one form, and a push at its end.
+-- A wave as the list of its changes: its value at a tick, and its one form.
 use Rattle.std.specs.Prelude.{ℕ, zero, suc, Bool, ◌+◌, ◌≡◌, ◌≢◌, ◌≤◌, true, false, if◌then◌else◌}
 use Rattle.std.specs.Prelude.{nat_le, List}
 use Rattle.std.specs.Prelude.{[], ◌∷◌, length}

@@ -144,12 +144,12 @@ stretch_past es role g given b eight =
 -- ---- all events
 
 abbrev WalksFree : List BusEvent → Type 0
-WalksFree es = walk_annotations None es ≡ annotations_of_events None es
+WalksFree es = walk_annotations None es ≡ annotations_of_events false None es
 
 abbrev WalksTransfer : List BusEvent → Type 0
 WalksTransfer es = (role : ByteRole) (g : List BusBit) (given : Option ℕ) → length g ≤ 8
     → walk_annotations (Some (transfer_of role (partial_byte_of g) given)) es ≡ stretch es role g
-    ++ annotations_of_events (Some (option_or given (shown_address (stretch es role g)))) es
+    ++ annotations_of_events true (option_or given (shown_address (stretch es role g))) es
 
 -- at a condition the current bits are a rest
 at_condition : (c : BusEvent) (es : List BusEvent) (role : ByteRole) (g : List BusBit) (given : Option ℕ) → length g ≤ 8
@@ -189,7 +189,7 @@ held_byte : (b : BusBit) (es : List BusEvent) (role : ByteRole) (g : List BusBit
     → length g ≡ 8
     → walk_annotations (Some (transfer_of role (partial_byte_of g) given)) (events.Bit b ∷ es)
     ≡ stretch (events.Bit b ∷ es) role g
-    ++ annotations_of_events (Some (option_or given (shown_address (stretch (events.Bit b ∷ es) role g))))
+    ++ annotations_of_events true (option_or given (shown_address (stretch (events.Bit b ∷ es) role g)))
     (events.Bit b ∷ es)
 unfolding bits_until has_condition annotations_of_events
 held_byte b es role g given later eight =
@@ -202,15 +202,15 @@ held_byte b es role g given later eight =
     let past = stretch_past es role g given b eight in
     bit_whole t b es count
     ∙ ap (λ (annotations : List Annotation). whole ++ annotations) (later next [] given_then (omega arith))
-    ∙ sym (append_assoc whole rest (annotations_of_events (Some (option_or given_then (shown_address rest))) es))
-    ∙ ap (λ (o : Option ℕ). (whole ++ rest) ++ annotations_of_events (Some o) es) (sym (given_past t b rest))
-    ∙ sym (λ i. past i ++ annotations_of_events (Some (option_or given (shown_address (past i)))) es)
+    ∙ sym (append_assoc whole rest (annotations_of_events true (option_or given_then (shown_address rest)) es))
+    ∙ ap (λ (o : Option ℕ). (whole ++ rest) ++ annotations_of_events true o es) (sym (given_past t b rest))
+    ∙ sym (λ i. past i ++ annotations_of_events true (option_or given (shown_address (past i))) es)
 
 held_bit : (b : BusBit) (es : List BusEvent) (role : ByteRole) (g : List BusBit) (given : Option ℕ) → WalksTransfer es
     → length g < 8
     → walk_annotations (Some (transfer_of role (partial_byte_of g) given)) (events.Bit b ∷ es)
     ≡ stretch (events.Bit b ∷ es) role g
-    ++ annotations_of_events (Some (option_or given (shown_address (stretch (events.Bit b ∷ es) role g))))
+    ++ annotations_of_events true (option_or given (shown_address (stretch (events.Bit b ∷ es) role g)))
     (events.Bit b ∷ es)
 unfolding bits_until has_condition annotations_of_events
 held_bit b es role g given later few =
@@ -224,33 +224,33 @@ held_bit b es role g given later few =
     ∙ later role (g ++ b ∷ []) given (omega (arith, length_push g b))
     ∙ (λ i. nines_annotations (has_condition es) role (groups_of 9 (longer i))
     ++ annotations_of_events
-    (Some (option_or given (shown_address (nines_annotations (has_condition es) role (groups_of 9 (longer i))))))
+    true (option_or given (shown_address (nines_annotations (has_condition es) role (groups_of 9 (longer i)))))
     es)
 
 held_start : (t : ℕ) (es : List BusEvent) (role : ByteRole) (g : List BusBit) (given : Option ℕ) → WalksTransfer es
     → length g ≤ 8
     → walk_annotations (Some (transfer_of role (partial_byte_of g) given)) (events.Start t ∷ es)
     ≡ stretch (events.Start t ∷ es) role g
-    ++ annotations_of_events (Some (option_or given (shown_address (stretch (events.Start t ∷ es) role g))))
+    ++ annotations_of_events true (option_or given (shown_address (stretch (events.Start t ∷ es) role g)))
     (events.Start t ∷ es)
 unfolding walk_annotations bits_until has_condition annotations_of_events
 held_start t es role g given later few =
     let here = at_condition (events.Start t) es role g given few refl refl in
     let rest : List Annotation = transfer_rest_annotations (Some (transfer_of role (partial_byte_of g) given)) in
     let shown : List Annotation = stretch es (roles.Address given) [] in
-    let others : List Annotation = shown ++ annotations_of_events (Some (shown_address shown)) es in
+    let others : List Annotation = shown ++ annotations_of_events true (shown_address shown) es in
     let start : List Annotation = annotation t t kinds.RepeatedStart ∷ [] in
     let old = sym here.1 in
     ap (λ (annotations : List Annotation). (rest ++ start) ++ annotations)
     (later (roles.Address given) [] None (omega arith))
     ∙ append_assoc rest start others
-    ∙ (λ i. here.0 i ++ annotations_of_events (Some (old i)) (events.Start t ∷ es))
+    ∙ (λ i. here.0 i ++ annotations_of_events true (old i) (events.Start t ∷ es))
 
 held_stop : (t : ℕ) (es : List BusEvent) (role : ByteRole) (g : List BusBit) (given : Option ℕ) → WalksFree es
     → length g ≤ 8
     → walk_annotations (Some (transfer_of role (partial_byte_of g) given)) (events.Stop t ∷ es)
     ≡ stretch (events.Stop t ∷ es) role g
-    ++ annotations_of_events (Some (option_or given (shown_address (stretch (events.Stop t ∷ es) role g))))
+    ++ annotations_of_events true (option_or given (shown_address (stretch (events.Stop t ∷ es) role g)))
     (events.Stop t ∷ es)
 unfolding walk_annotations bits_until has_condition annotations_of_events
 held_stop t es role g given later few =
@@ -259,8 +259,8 @@ held_stop t es role g given later few =
     let stop : List Annotation = annotation t t kinds.Stop ∷ [] in
     let old = sym here.1 in
     ap (λ (annotations : List Annotation). (rest ++ stop) ++ annotations) later
-    ∙ append_assoc rest stop (annotations_of_events None es)
-    ∙ (λ i. here.0 i ++ annotations_of_events (Some (old i)) (events.Stop t ∷ es))
+    ∙ append_assoc rest stop (annotations_of_events false None es)
+    ∙ (λ i. here.0 i ++ annotations_of_events true (old i) (events.Stop t ∷ es))
 
 held_none : WalksTransfer []
 unfolding walk_annotations bits_until has_condition annotations_of_events
@@ -296,7 +296,7 @@ walked (events.Stop t ∷ es) =
     )
 
 -- events taken one at a time, from a free bus on
-pub walk_is : (es : List BusEvent) → walk_annotations None es ≡ annotations_of_events None es
+pub walk_is : (es : List BusEvent) → walk_annotations None es ≡ annotations_of_events false None es
 walk_is es = (walked es).0
 
 -- the annotations of an event, and then those after it

@@ -1,6 +1,3 @@
-pub mod CasesOfUart
-pub mod CasesOfSpi
-pub mod CasesOfI2c
 pub mod LineLetters
 pub mod Falls
 pub mod SampleTicks
@@ -22,7 +19,10 @@ pub mod SentClocks
 pub mod SentWords
 pub mod SelectedTicks
 pub mod SentSpi
+pub mod EvenClocks
 pub mod SentBus
 pub mod SentBytes
 pub mod SentMessages
 pub mod CasesOfSentI2c
+pub mod StraightEdges
+pub mod CasesOfBusEvents

@@ -1,12 +1,13 @@
 -- An I2C message that is sent is found.
-use Rattle.std.proofs.Common.{◌≡◌, ℕ, suc, ◌+◌, ◌*◌, true, Option, Some, None, List, [], ◌∷◌, ◌++◌}
+use Rattle.std.proofs.Common.{◌≡◌, ℕ, suc, ◌+◌, ◌*◌, Bool, true, false, if◌then◌else◌, Option, None}
+use Rattle.std.proofs.Common.{List, [], ◌∷◌, ◌++◌}
 use Rattle.std.proofs.Common.{length}
 use Rattle.std.proofs.Common.{map, refl, sym, ap, ◌∙◌, arith}
 use Rattle.std.specs.List.{flat_map}
-use Rattle.std.specs.Option.{option_flatten}
 use Rattle.std.proofs.lemmas.List.{length-append}
 use Rattle.vcd_core.specs.declared.bit.Bit.{Bit}
 use Rattle.vcd_core.specs.declared.bit.Bit.TheVariants.{Zero, One}
+use Rattle.vcd_decode.specs.declared.annotation.Kind.{Kind}
 use Rattle.vcd_decode.specs.declared.annotation.Kind.TheVariants as kinds
 use Rattle.vcd_decode.specs.declared.i2c_bus.events.BusLevels.{BusLevels}
 use Rattle.vcd_decode.specs.declared.i2c_bus.events.BusBit.{BusBit}
@@ -17,7 +18,7 @@ use Rattle.vcd_decode.specs.Lines.{annotation}
 use Rattle.vcd_decode.specs.Groups.{groups_of}
 use Rattle.vcd_decode.specs.I2c.{annotations_of_events, has_condition, bits_until}
 use Rattle.vcd_decode.specs.I2c.{nines_annotations}
-use Rattle.vcd_decode.specs.I2c.{shown_address, start_kind}
+use Rattle.vcd_decode.specs.I2c.{shown_address}
 use Rattle.vcd_decode.specs.I2cSent.{Transfer, IsTransfer, ten_bits_of, AreTransfers}
 use Rattle.vcd_decode.specs.I2cSent.{transfer_bytes, levels}
 use Rattle.vcd_decode.specs.I2cSent.{bit_levels}
@@ -90,32 +91,38 @@ bits_up_to at i [] [] = refl
 bits_up_to at i (t ∷ ts) [] = refl
 bits_up_to at i ts (b ∷ bits) = ap (λ bs. b ∷ bs) (bits_up_to at i ts bits)
 
-bits_passed : (last : Option (Option ℕ)) (es : List BusEvent) (bits : List BusBit)
-    → annotations_of_events last (map (λ b. events.Bit b) bits ++ es) ≡ annotations_of_events last es
-unfolding annotations_of_events
-bits_passed last es [] = refl
-bits_passed last es (b ∷ bits) = bits_passed last es bits
+-- the kind of a START
+abbrev start_kind : Bool → Kind
+start_kind repeated = if repeated then kinds.RepeatedStart else kinds.Start
 
-transfer_found : (at : ℕ → ℕ) (start i j : ℕ) (last : Option (Option ℕ)) (t : Transfer) (ts : List Transfer)
-    → IsTransfer (option_flatten last) t
-    → annotations_of_events last (events.Start start ∷ bit_events at i (transfer_bits t) ++ later_events at j ts)
-    ≡ annotation start start (start_kind last) ∷ sent_bytes at i (transfer_bytes t)
-    ++ annotations_of_events (Some (ten_bits_of t)) (later_events at j ts)
+bits_passed : (repeated : Bool) (given : Option ℕ) (es : List BusEvent) (bits : List BusBit)
+    → annotations_of_events repeated given (map (λ b. events.Bit b) bits ++ es)
+    ≡ annotations_of_events repeated given es
 unfolding annotations_of_events
-transfer_found at start i j last t ts is =
+bits_passed repeated given es [] = refl
+bits_passed repeated given es (b ∷ bits) = bits_passed repeated given es bits
+
+transfer_found : (at : ℕ → ℕ) (start i j : ℕ) (repeated : Bool) (given : Option ℕ) (t : Transfer) (ts : List Transfer)
+    → IsTransfer given t
+    → annotations_of_events repeated given
+    (events.Start start ∷ bit_events at i (transfer_bits t) ++ later_events at j ts)
+    ≡ annotation start start (start_kind repeated) ∷ sent_bytes at i (transfer_bytes t)
+    ++ annotations_of_events true (ten_bits_of t) (later_events at j ts)
+unfolding annotations_of_events
+transfer_found at start i j repeated given t ts is =
     let bits = sent_bits at i (transfer_bits t) in
     let es = map (λ b. events.Bit b) bits ++ later_events at j ts in
-    let role = roles.Address (option_flatten last) in
+    let role = roles.Address given in
     let shown : nines_annotations (has_condition es) role (groups_of 9 (bits_until es))
     ≡ sent_bytes at i (transfer_bytes t) =
     (λ k. nines_annotations (has_one at j ts bits k) role (groups_of 9 (bits_up_to at j ts bits k)))
-    ∙ bytes_found role at i (transfer_bytes t) (rise_of at j ts) (transfer_kinds (option_flatten last) t is) in
-    (λ k. annotation start start (start_kind last) ∷ shown k
-    ++ annotations_of_events (Some (shown_address (shown k))) es)
-    ∙ ap (λ (given : Option ℕ). annotation start start (start_kind last) ∷ sent_bytes at i (transfer_bytes t)
-    ++ annotations_of_events (Some given) es) (address_shown at i t)
-    ∙ ap (λ found. annotation start start (start_kind last) ∷ sent_bytes at i (transfer_bytes t) ++ found)
-    (bits_passed (Some (ten_bits_of t)) (later_events at j ts) bits)
+    ∙ bytes_found role at i (transfer_bytes t) (rise_of at j ts) (transfer_kinds given t is) in
+    (λ k. annotation start start (start_kind repeated) ∷ shown k
+    ++ annotations_of_events true (shown_address (shown k)) es)
+    ∙ ap (λ (next : Option ℕ). annotation start start (start_kind repeated) ∷ sent_bytes at i (transfer_bytes t)
+    ++ annotations_of_events true next es) (address_shown at i t)
+    ∙ ap (λ found. annotation start start (start_kind repeated) ∷ sent_bytes at i (transfer_bytes t) ++ found)
+    (bits_passed true (ten_bits_of t) (later_events at j ts) bits)
 
 -- three levels a bit
 bit_lengths : (bits : List Bit) → length (flat_map bit_levels bits) ≡ 3 * length bits
@@ -127,7 +134,7 @@ transfer_length : (t : Transfer) → length (transfer_levels t) ≡ 3 + 3 * leng
 transfer_length t = ap (λ n. suc (suc (suc n))) (bit_lengths (transfer_bits t)) ∙ omega arith
 
 later_found : (at : ℕ → ℕ) (given : Option ℕ) (i : ℕ) (ts : List Transfer) → AreTransfers given ts
-    → annotations_of_events (Some given) (later_events at i ts) ≡ later_annotations at i ts
+    → annotations_of_events true given (later_events at i ts) ≡ later_annotations at i ts
 unfolding annotations_of_events later_events later_annotations AreTransfers
 later_found at given i [] are =
     let index : suc (suc i) ≡ i + 2 = omega arith in
@@ -137,7 +144,7 @@ later_found at given i (t ∷ ts) (is, are) =
     let second : 4 + i ≡ i + 1 + 3 = omega arith in
     let next : 4 + i + 3 * length (transfer_bits t) ≡ i + 1 + length (transfer_levels t) =
     omega (arith, transfer_length t) in
-    transfer_found at (at (suc (suc i))) (4 + i) (4 + i + 3 * length (transfer_bits t)) (Some given) t ts is
+    transfer_found at (at (suc (suc i))) (4 + i) (4 + i + 3 * length (transfer_bits t)) true given t ts is
     ∙ ap (λ found. annotation (at (suc (suc i))) (at (suc (suc i))) kinds.RepeatedStart
     ∷ sent_bytes at (4 + i) (transfer_bytes t) ++ found)
     (later_found at (ten_bits_of t) (4 + i + 3 * length (transfer_bits t)) ts are)
@@ -149,12 +156,12 @@ unfolding level_events AreTransfers
 message_found scl sda end at t ts first rises last are have =
     let bits = transfer_bits t in
     let next : 3 + 3 * length bits ≡ length (transfer_levels t) = sym (transfer_length t) in
-    ap (annotations_of_events None)
+    ap (annotations_of_events false None)
     (bus_walked scl sda at rises end
     (levels One Zero ∷ levels Zero Zero ∷ flat_map bit_levels bits ++ later_levels ts) first last have
     ∙ ap (λ es. events.Start (at 1) ∷ es)
     (bits_walked at (later_levels ts) (λ j. later_events at j ts) (later_walked at ts) bits 3 Zero))
-    ∙ transfer_found at (at 1) 3 (3 + 3 * length bits) None t ts are.0
+    ∙ transfer_found at (at 1) 3 (3 + 3 * length bits) false None t ts are.0
     ∙ ap (λ found. annotation (at 1) (at 1) kinds.Start ∷ sent_bytes at 3 (transfer_bytes t) ++ found)
     (later_found at (ten_bits_of t) (3 + 3 * length bits) ts are.1)
     ∙ ap (λ k. annotation (at 1) (at 1) kinds.Start ∷ sent_bytes at 3 (transfer_bytes t)

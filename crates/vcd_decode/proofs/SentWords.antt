@@ -18,7 +18,7 @@ use Rattle.vcd_decode.specs.Lines.{is_unclear, number_from_letters}
 use Rattle.vcd_decode.specs.Groups.{groups_of}
 use Rattle.vcd_decode.specs.Spi.{data_of_letters, line_data, group_annotation}
 use Rattle.vcd_decode.specs.SentLevels.{data_levels}
-use Rattle.vcd_decode.specs.SpiSent.{SpiWord, WordsFit, word_ticks, bit_middle, ordered_levels}
+use Rattle.vcd_decode.specs.SpiSent.{SpiWord, WordsFit, word_end, ordered_levels}
 use Rattle.vcd_decode.specs.SpiSent.{SendsData, MaySendData}
 use Rattle.vcd_decode.specs.SpiSent.{sent_line_data, sent_word_annotation, sent_part_annotation}
 use Rattle.vcd_decode.proofs.SentLevels.{data_clear, data_length, number_of_data}
@@ -53,32 +53,32 @@ read_levels f g (b ∷ bs) a at =
     read_levels f g bs (a + 1) (λ i below. ap (λ i. f (g i)) (omega arith) ∙ at (suc i) (omega arith)) in
     λ i. head i ∷ tail i
 
-line_read : (u : SpiSetup) (half : ℕ) (w : SpiWord) (f : ℕ → Bit) (word : ℕ) → word < 2 ^ u.bits
-    → ((k : ℕ) → k < u.bits → f (bit_middle half w k) ≡ get_or (ordered_levels u.order u.bits word) k X)
-    → line_data u.order (Some f) (middles half w u.bits) ≡ Number word
-line_read u half w f word within at =
+line_read : (u : SpiSetup) (w : SpiWord) (f : ℕ → Bit) (word : ℕ) → word < 2 ^ u.bits
+    → ((k : ℕ) → k < u.bits → f (w.bit_middle k) ≡ get_or (ordered_levels u.order u.bits word) k X)
+    → line_data u.order (Some f) (middles w u.bits) ≡ Number word
+line_read u w f word within at =
     let levels = ordered_levels u.order u.bits word in
     let size = levels_length u.order u.bits word in
-    ap (λ n. data_of_letters u.order (map f (map (bit_middle half w) (range_with_len 0 n)))) (sym size)
-    ∙ ap (data_of_letters u.order) (read_levels f (bit_middle half w) levels 0
-    (λ i below. ap (λ k. f (bit_middle half w k)) (omega arith) ∙ at i (omega (arith, size))))
+    ap (λ n. data_of_letters u.order (map f (map w.bit_middle (range_with_len 0 n)))) (sym size)
+    ∙ ap (data_of_letters u.order) (read_levels f w.bit_middle levels 0
+    (λ i below. ap (λ k. f (w.bit_middle k)) (omega arith) ∙ at i (omega (arith, size))))
     ∙ levels_data u.order u.bits word within
 
 -- what a line shows of the first word that it sends
-line_shows : (u : SpiSetup) (half : ℕ) (word_of : SpiWord → ℕ) (line : Option (ℕ → Bit)) (w : SpiWord)
-    (ws : List SpiWord) → 0 < half → word_of w < 2 ^ u.bits → MaySendData u half word_of line (w ∷ ws)
-    → line_data u.order line (middles half w u.bits) ≡ sent_line_data line (word_of w)
+line_shows : (u : SpiSetup) (word_of : SpiWord → ℕ) (line : Option (ℕ → Bit)) (w : SpiWord)
+    (ws : List SpiWord) → word_of w < 2 ^ u.bits → MaySendData u word_of line (w ∷ ws)
+    → line_data u.order line (middles w u.bits) ≡ sent_line_data line (word_of w)
 unfolding SendsData
-line_shows u half word_of None w ws positive fit sends = refl
-line_shows u half word_of (Some f) w ws positive fit sends =
-    line_read u half w f (word_of w) fit
+line_shows u word_of None w ws fit sends = refl
+line_shows u word_of (Some f) w ws fit sends =
+    line_read u w f (word_of w) fit
     sends.0
 
-later_sent : (u : SpiSetup) (half : ℕ) (word_of : SpiWord → ℕ) (line : Option (ℕ → Bit)) (w : SpiWord)
-    (ws : List SpiWord) → MaySendData u half word_of line (w ∷ ws) → MaySendData u half word_of line ws
+later_sent : (u : SpiSetup) (word_of : SpiWord → ℕ) (line : Option (ℕ → Bit)) (w : SpiWord)
+    (ws : List SpiWord) → MaySendData u word_of line (w ∷ ws) → MaySendData u word_of line ws
 unfolding SendsData
-later_sent u half word_of None w ws sends = tt
-later_sent u half word_of (Some f) w ws sends = sends.1
+later_sent u word_of None w ws sends = tt
+later_sent u word_of (Some f) w ws sends = sends.1
 
 -- ---- a word
 
@@ -87,66 +87,66 @@ index_mapped g a zero k within = absurd (omega arith)
 index_mapped g a (suc n) zero within = ap g (omega arith)
 index_mapped g a (suc n) (suc k) within = index_mapped g (a + 1) n k (omega arith) ∙ ap g (omega arith)
 
-middles_length : (half : ℕ) (w : SpiWord) (count : ℕ) → length (middles half w count) ≡ count
-middles_length half w count = length-map (range_with_len 0 count) (bit_middle half w) ∙ length-range_with_len 0 count
+middles_length : (w : SpiWord) (count : ℕ) → length (middles w count) ≡ count
+middles_length w count = length-map (range_with_len 0 count) w.bit_middle ∙ length-range_with_len 0 count
 
-first_middle : (half : ℕ) (w : SpiWord) (count : ℕ) → 0 < count
-    → slice_index (middles half w count) 0 ≡ bit_middle half w 0
-first_middle half w count some = index_mapped (bit_middle half w) 0 count 0 some
+first_middle : (w : SpiWord) (count : ℕ) → 0 < count
+    → slice_index (middles w count) 0 ≡ w.bit_middle 0
+first_middle w count some = index_mapped w.bit_middle 0 count 0 some
 
-last_middle : (half : ℕ) (w : SpiWord) (count : ℕ) → 0 < count
-    → slice_index (middles half w count) (count - 1) ≡ bit_middle half w (count - 1)
-last_middle half w count some =
-    index_mapped (bit_middle half w) 0 count (count - 1) (omega arith) ∙ ap (bit_middle half w) (omega arith)
+last_middle : (w : SpiWord) (count : ℕ) → 0 < count
+    → slice_index (middles w count) (count - 1) ≡ w.bit_middle (count - 1)
+last_middle w count some =
+    index_mapped w.bit_middle 0 count (count - 1) (omega arith) ∙ ap w.bit_middle (omega arith)
 
 -- a word of these data
-word_read : (u : SpiSetup) (half : ℕ) (w : SpiWord) (mosi miso : Option (ℕ → Bit)) → 0 < u.bits
-    → line_data u.order mosi (middles half w u.bits) ≡ sent_line_data mosi w.out
-    → line_data u.order miso (middles half w u.bits) ≡ sent_line_data miso w.back
-    → group_annotation u mosi miso (middles half w u.bits) ≡ sent_word_annotation u half mosi miso w
-word_read u half w mosi miso some out back =
+word_read : (u : SpiSetup) (w : SpiWord) (mosi miso : Option (ℕ → Bit)) → 0 < u.bits
+    → line_data u.order mosi (middles w u.bits) ≡ sent_line_data mosi w.out
+    → line_data u.order miso (middles w u.bits) ≡ sent_line_data miso w.back
+    → group_annotation u mosi miso (middles w u.bits) ≡ sent_word_annotation u mosi miso w
+word_read u w mosi miso some out back =
     rw (
-      middles_length half w u.bits,
+      middles_length w u.bits,
       le-ltb u.bits u.bits (omega arith),
-      first_middle half w u.bits some,
-      last_middle half w u.bits some,
+      first_middle w u.bits some,
+      last_middle w u.bits some,
       out,
       back,
     ) refl
 
 -- a word of which some bits are missing
-pub part_read : (u : SpiSetup) (half : ℕ) (w : SpiWord) (count : ℕ) (mosi miso : Option (ℕ → Bit)) → 0 < count
-    → count < u.bits → group_annotation u mosi miso (middles half w count) ≡ sent_part_annotation half w count
-part_read u half w count mosi miso some less =
+pub part_read : (u : SpiSetup) (w : SpiWord) (count : ℕ) (mosi miso : Option (ℕ → Bit)) → 0 < count
+    → count < u.bits → group_annotation u mosi miso (middles w count) ≡ sent_part_annotation w count
+part_read u w count mosi miso some less =
     rw (
-      middles_length half w count,
+      middles_length w count,
       lt-ltb count u.bits less,
-      first_middle half w count some,
-      last_middle half w count some,
+      first_middle w count some,
+      last_middle w count some,
     ) refl
 
-pub part_size : (half : ℕ) (w : SpiWord) (count : ℕ) → length (middles half w count) ≡ count
-part_size half w count = middles_length half w count
+pub part_size : (w : SpiWord) (count : ℕ) → length (middles w count) ≡ count
+part_size w count = middles_length w count
 
 -- ---- all words
 
-pub words_read : (u : SpiSetup) (half from until : ℕ) (mosi miso : Option (ℕ → Bit)) (ws : List SpiWord)
-    (rest : List ℕ) → 0 < u.bits → 0 < half → WordsFit u half from until ws
-    → MaySendData u half (λ w. w.out) mosi ws → MaySendData u half (λ w. w.back) miso ws
-    → map (group_annotation u mosi miso) (groups_of u.bits (flat_map (λ w. middles half w u.bits) ws ++ rest))
-    ≡ map (sent_word_annotation u half mosi miso) ws
+pub words_read : (u : SpiSetup) (from until : ℕ) (mosi miso : Option (ℕ → Bit)) (ws : List SpiWord)
+    (rest : List ℕ) → 0 < u.bits → WordsFit u from until ws
+    → MaySendData u (λ w. w.out) mosi ws → MaySendData u (λ w. w.back) miso ws
+    → map (group_annotation u mosi miso) (groups_of u.bits (flat_map (λ w. middles w u.bits) ws ++ rest))
+    ≡ map (sent_word_annotation u mosi miso) ws
     ++ map (group_annotation u mosi miso) (groups_of u.bits rest)
 unfolding WordsFit
-words_read u half from until mosi miso [] rest some positive fit out back = refl
-words_read u half from until mosi miso (w ∷ ws) rest some positive fit out back =
-    let ticks = middles half w u.bits in
-    let others = flat_map (λ w. middles half w u.bits) ws in
-    let here : group_annotation u mosi miso ticks ≡ sent_word_annotation u half mosi miso w =
-    word_read u half w mosi miso some (line_shows u half (λ w. w.out) mosi w ws positive fit.0 out)
-    (line_shows u half (λ w. w.back) miso w ws positive fit.1 back) in
-    let later = words_read u half (w.start + word_ticks u half) until mosi miso ws rest some positive fit.3
-    (later_sent u half (λ w. w.out) mosi w ws out) (later_sent u half (λ w. w.back) miso w ws back) in
+words_read u from until mosi miso [] rest some fit out back = refl
+words_read u from until mosi miso (w ∷ ws) rest some fit out back =
+    let ticks = middles w u.bits in
+    let others = flat_map (λ w. middles w u.bits) ws in
+    let here : group_annotation u mosi miso ticks ≡ sent_word_annotation u mosi miso w =
+    word_read u w mosi miso some (line_shows u (λ w. w.out) mosi w ws fit.0 out)
+    (line_shows u (λ w. w.back) miso w ws fit.1 back) in
+    let later = words_read u (word_end u w) until mosi miso ws rest some fit.4
+    (later_sent u (λ w. w.out) mosi w ws out) (later_sent u (λ w. w.back) miso w ws back) in
     ap (λ ts. map (group_annotation u mosi miso) (groups_of u.bits ts)) (append_assoc ticks others rest)
     ∙ ap (map (group_annotation u mosi miso))
-    (groups_whole u.bits ticks (others ++ rest) some (middles_length half w u.bits))
+    (groups_whole u.bits ticks (others ++ rest) some (middles_length w u.bits))
     ∙ (λ i. here i ∷ later i)

@@ -1,9 +1,9 @@
 -- The annotations of an I2C bus (UM10204, 3.1); those of rests and unclear levels are the project's
 -- own.
-use Rattle.std.specs.Prelude.{ℕ, ◌-◌, ◌==◌, ◌&&◌, nat_le, Bool, true, false, Option, Some, None}
+use Rattle.std.specs.Prelude.{ℕ, ◌-◌, ◌==◌, ◌&&◌, nat_le, Bool, true, false, Option, None}
 use Rattle.std.specs.Prelude.{List, []}
 use Rattle.std.specs.Prelude.{◌∷◌, ◌++◌, length, take, drop, map, slice_index}
-use Rattle.std.specs.Option.{option_or, option_flatten}
+use Rattle.std.specs.Option.{option_or}
 use Rattle.vcd_core.specs.declared.bit.Bit.{Bit}
 use Rattle.vcd_decode.specs.declared.annotation.Annotation.{Annotation}
 use Rattle.vcd_decode.specs.declared.annotation.Kind.{Kind}
@@ -69,24 +69,20 @@ unfoldable pub shown_address : List Annotation → Option ℕ
 shown_address [] = None
 shown_address (a ∷ others) = option_or (ten_bit_address a.kind) (shown_address others)
 
--- the kind of a START: a repeated one if the last condition was a START
-abbrev pub start_kind : Option (Option ℕ) → Kind
-start_kind None = kinds.Start
-start_kind (Some given) = kinds.RepeatedStart
-
--- the annotations of conditions and bits; `last` is none unless the condition before them was a
--- START, and has the address of ten bits after it
-unfoldable pub annotations_of_events : Option (Option ℕ) → List BusEvent → List Annotation
-annotations_of_events last [] = []
-annotations_of_events last (events.Bit b ∷ es) = annotations_of_events last es
-annotations_of_events last (events.Stop t ∷ es) =
-    annotation t t kinds.Stop ∷ annotations_of_events None es
-annotations_of_events last (events.Start t ∷ es) =
-    let shown = nines_annotations (has_condition es) (roles.Address (option_flatten last))
+-- the annotations of conditions and bits; `repeated`: the condition before them was a START, and
+-- `given` is the address of ten bits after it, if there was one
+unfoldable pub annotations_of_events : (repeated : Bool) → (given : Option ℕ) → List BusEvent
+    → List Annotation
+annotations_of_events repeated given [] = []
+annotations_of_events repeated given (events.Bit b ∷ es) = annotations_of_events repeated given es
+annotations_of_events repeated given (events.Stop t ∷ es) =
+    annotation t t kinds.Stop ∷ annotations_of_events false None es
+annotations_of_events repeated given (events.Start t ∷ es) =
+    let shown = nines_annotations (has_condition es) (roles.Address given)
     (groups_of 9 (bits_until es)) in
-    annotation t t (start_kind last) ∷ shown
-    ++ annotations_of_events (Some (shown_address shown)) es
+    annotation t t (if repeated then kinds.RepeatedStart else kinds.Start) ∷ shown
+    ++ annotations_of_events true (shown_address shown) es
 
 -- the annotations of the lines SCL and SDA at the ticks 0 to `end`
 abbrev pub i2c_annotations : (ℕ → Bit) → (ℕ → Bit) → ℕ → List Annotation
-i2c_annotations scl sda end = annotations_of_events None (bus_events scl sda end)
+i2c_annotations scl sda end = annotations_of_events false None (bus_events scl sda end)

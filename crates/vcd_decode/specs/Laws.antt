@@ -1,20 +1,26 @@
--- The laws of the decoders: what is sent is found. Each is the contract of a function of `laws`.
-use Rattle.std.specs.Prelude.{ℕ, suc, ◌-◌, ◌≡◌, ◌<◌, ◌≤◌, Option, None, List, [], ◌∷◌, ◌++◌, map}
-use Rattle.std.specs.Prelude.{length}
+-- The laws of the decoders: what is sent is found, and an edge through x or z counts for nothing.
+-- Each is the contract of a function of `laws`.
+use Rattle.std.specs.Prelude.{ℕ, suc, ◌-◌, ◌≡◌, ◌<◌, ◌≤◌, ◌&&◌, Bool, true, if◌then◌else◌}
+use Rattle.std.specs.Prelude.{Option, None, List, [], ◌∷◌, ◌++◌, map, length}
+use Rattle.std.specs.List.{All}
 use Rattle.vcd_core.specs.declared.bit.Bit.{Bit}
+use Rattle.vcd_core.specs.declared.bit.Bit.TheVariants.{Zero, One, Z}
+use Rattle.vcd_core.specs.Value.{same_letter}
 use Rattle.vcd_decode.specs.UartSetup.{UartSetup}
 use Rattle.vcd_decode.specs.SetupFaults.{spi_fault}
 use Rattle.vcd_decode.specs.SetupResults.{IsUartSetup}
 use Rattle.vcd_decode.specs.Uart.{uart_annotations}
 use Rattle.vcd_decode.specs.SpiSetup.{SpiSetup}
 use Rattle.vcd_decode.specs.Spi.{spi_annotations}
-use Rattle.vcd_decode.specs.SpiSent.{SpiWord, WordsFit, sent_clock, MaySendData, IsChipSelect}
-use Rattle.vcd_decode.specs.SpiSent.{bit_middle}
-use Rattle.vcd_decode.specs.SpiSent.{sent_word_annotation, sent_part_annotation}
+use Rattle.vcd_decode.specs.SpiSent.{SpiWord, HasHalves, WordsFit, SendsClock, MaySendData}
+use Rattle.vcd_decode.specs.SpiSent.{IsChipSelect, sent_word_annotation, sent_part_annotation}
+use Rattle.vcd_decode.specs.Lines.{letter_before}
 use Rattle.vcd_decode.specs.I2c.{i2c_annotations}
 use Rattle.vcd_decode.specs.I2cSent.{Transfer, AreTransfers, message_levels, HaveLevels}
 use Rattle.vcd_decode.specs.I2cSent.{message_annotations}
 use Rattle.vcd_decode.specs.UartSent.{SentFrame, SendsFrames, sent_annotation}
+
+-- ---- what is sent is found
 
 -- a line that sends frames, decoded, gives these frames; the capture ends after the middle of the
 -- last bit
@@ -26,32 +32,30 @@ UartFramesAreFound =
     → uart_annotations line end u ≡ map (sent_annotation u) ws
 
 -- the lines of a serial peripheral interface that send words while the chip is selected, decoded,
--- give these words, for every setup; before and after that, the clock may do anything
+-- give these words, for every setup; the clock idles at the tick before that, and at others before
+-- and after it may do anything
 abbrev pub SpiWordsAreFound : Type 0
 SpiWordsAreFound =
-    (u : SpiSetup) (half select release end : ℕ) (ws : List SpiWord) (clk : ℕ → Bit)
+    (u : SpiSetup) (select release end : ℕ) (ws : List SpiWord) (clk : ℕ → Bit)
     (mosi miso cs : Option (ℕ → Bit))
-    → spi_fault u ≡ None → 0 < half → WordsFit u half select release ws → release ≤ suc end
-    → IsChipSelect cs select release end
-    → ((t : ℕ) → select ≤ suc t → t < release → clk t ≡ sent_clock u half ws t)
-    → MaySendData u half (λ w. w.out) mosi ws → MaySendData u half (λ w. w.back) miso ws
-    → spi_annotations u clk mosi miso cs end ≡ map (sent_word_annotation u half mosi miso) ws
+    → spi_fault u ≡ None → WordsFit u select release ws → release ≤ suc end
+    → IsChipSelect cs select release end → SendsClock u clk (select - 1) release ws
+    → MaySendData u (λ w. w.out) mosi ws → MaySendData u (λ w. w.back) miso ws
+    → spi_annotations u clk mosi miso cs end ≡ map (sent_word_annotation u mosi miso) ws
 
 -- if the chip is released within a word, once `count` of its bits have been sampled, that word is
 -- partial
 abbrev pub SpiPartIsFound : Type 0
 SpiPartIsFound =
-    (u : SpiSetup) (half select release end : ℕ) (ws : List SpiWord) (w : SpiWord) (count : ℕ)
-    (clk : ℕ → Bit)
-    (mosi miso cs : Option (ℕ → Bit))
-    → spi_fault u ≡ None → 0 < half → WordsFit u half select w.start ws → release ≤ suc end
-    → 0 < count → count < u.bits → bit_middle half w (count - 1) < release
-    → release ≤ bit_middle half w count
-    → IsChipSelect cs select release end
-    → ((t : ℕ) → select ≤ suc t → t < release → clk t ≡ sent_clock u half (ws ++ w ∷ []) t)
-    → MaySendData u half (λ w. w.out) mosi ws → MaySendData u half (λ w. w.back) miso ws
+    (u : SpiSetup) (select release end : ℕ) (ws : List SpiWord) (w : SpiWord) (count : ℕ)
+    (clk : ℕ → Bit) (mosi miso cs : Option (ℕ → Bit))
+    → spi_fault u ≡ None → WordsFit u select (w.bit_start 0) ws → HasHalves w → release ≤ suc end
+    → 0 < count → count < u.bits
+    → w.bit_middle (count - 1) < release → release ≤ w.bit_middle count
+    → IsChipSelect cs select release end → SendsClock u clk (select - 1) release (ws ++ w ∷ [])
+    → MaySendData u (λ w. w.out) mosi ws → MaySendData u (λ w. w.back) miso ws
     → spi_annotations u clk mosi miso cs end
-    ≡ map (sent_word_annotation u half mosi miso) ws ++ sent_part_annotation half w count ∷ []
+    ≡ map (sent_word_annotation u mosi miso) ws ++ sent_part_annotation w count ∷ []
 
 -- an I2C message, decoded, gives its conditions, addresses, directions, data and acknowledges, at
 -- any tick distances: the level at index i begins at the tick `at i`, and the last one lasts to the
@@ -62,3 +66,48 @@ I2cMessagesAreFound =
     → at 0 ≡ 0 → ((i : ℕ) → at i < at (suc i)) → at (length (message_levels t ts)) ≡ suc end
     → AreTransfers None (t ∷ ts) → HaveLevels scl sda at (message_levels t ts)
     → i2c_annotations scl sda end ≡ message_annotations at t ts
+
+-- ---- an edge through x or z counts for nothing
+
+-- whether a line goes straight from one letter to another at a tick: it has the one just before the
+-- tick, and the other at it
+abbrev pub goes_straight : (from to : Bit) → (ℕ → Bit) → ℕ → Bool
+goes_straight from to line t = same_letter (letter_before line t) from && same_letter (line t) to
+
+-- each frame that is found begins where the line goes straight from 1 to 0
+abbrev pub FramesBeginStraight : Type 0
+FramesBeginStraight =
+    (u : UartSetup) (line : ℕ → Bit) (end : ℕ)
+    → All (λ frame. goes_straight One Zero line frame.start ≡ true) (uart_annotations line end u)
+
+-- of the clock of a serial peripheral interface straight edges alone count: two clocks that have
+-- the same give the same words
+abbrev pub StraightClocksCount : Type 0
+StraightClocksCount =
+    (u : SpiSetup) (clk other : ℕ → Bit) (mosi miso cs : Option (ℕ → Bit)) (end : ℕ)
+    → ((t : ℕ) → goes_straight Zero One clk t ≡ goes_straight Zero One other t)
+    → ((t : ℕ) → goes_straight One Zero clk t ≡ goes_straight One Zero other t)
+    → spi_annotations u clk mosi miso cs end ≡ spi_annotations u other mosi miso cs end
+
+-- a line of a bus where z is pulled up to 1
+abbrev pub pulled_up : (ℕ → Bit) → ℕ → Bit
+pulled_up line t = if same_letter (line t) Z then One else line t
+
+-- whether SCL stays 1 at a tick, and SDA goes straight from one letter to another
+abbrev pub goes_while_high : (from to : Bit) → (scl sda : ℕ → Bit) → ℕ → Bool
+goes_while_high from to scl sda t =
+    goes_straight One One (pulled_up scl) t && goes_straight from to (pulled_up sda) t
+
+-- of an I2C bus straight edges alone count: two buses give the same if at each tick both or neither
+-- have a rise of SCL, with the same letter of SDA, a fall of SDA while SCL stays high, and a rise
+abbrev pub StraightBusEdgesCount : Type 0
+StraightBusEdgesCount =
+    (scl sda other_scl other_sda : ℕ → Bit) (end : ℕ)
+    → ((t : ℕ) → goes_straight Zero One (pulled_up scl) t
+    ≡ goes_straight Zero One (pulled_up other_scl) t)
+    → ((t : ℕ) → goes_straight Zero One (pulled_up scl) t ≡ true → sda t ≡ other_sda t)
+    → ((t : ℕ) → goes_while_high One Zero scl sda t
+    ≡ goes_while_high One Zero other_scl other_sda t)
+    → ((t : ℕ) → goes_while_high Zero One scl sda t
+    ≡ goes_while_high Zero One other_scl other_sda t)
+    → i2c_annotations scl sda end ≡ i2c_annotations other_scl other_sda end

@@ -1,9 +1,7 @@
 -- The lines that a sender of words drives on a serial peripheral interface: what `Spi` is to give
 -- back.
-use Rattle.std.specs.Prelude.{ℕ, suc, ◌+◌, ◌*◌, ◌-◌, ◌/◌, ◌%◌, ◌^◌, ◌<◌, ◌≤◌, ◌≡◌, ◌&&◌, nat_lt}
-use Rattle.std.specs.Prelude.{nat_le, ⊤, Option}
-use Rattle.std.specs.Prelude.{Some}
-use Rattle.std.specs.Prelude.{None, List, [], ◌∷◌, reverse, get_or, if◌then◌else◌}
+use Rattle.std.specs.Prelude.{ℕ, suc, ◌+◌, ◌-◌, ◌/◌, ◌%◌, ◌^◌, ◌<◌, ◌≤◌, ◌≡◌, ◌&&◌, nat_lt, nat_le}
+use Rattle.std.specs.Prelude.{⊤, Option, Some, None, List, [], ◌∷◌, reverse, get_or, if◌then◌else◌}
 use Rattle.vcd_core.specs.declared.bit.Bit.{Bit}
 use Rattle.vcd_core.specs.declared.bit.Bit.TheVariants.{Zero, One, X}
 use Rattle.vcd_decode.specs.declared.annotation.Annotation.{Annotation}
@@ -18,38 +16,52 @@ use Rattle.vcd_decode.specs.SentLevels.{level, data_levels}
 
 -- ---- words
 
--- a word each way, and the tick at which its first bit starts
+-- a word each way, and the ticks at which each of its bits starts and has its middle
 pub record SpiWord : Type 0 where
-  pub start : ℕ
+  pub bit_start : ℕ → ℕ
+  pub bit_middle : ℕ → ℕ
   pub out : ℕ
   pub back : ℕ
 
--- the ticks of a word: two halves of the clock a bit, each of `half` ticks
-abbrev pub word_ticks : SpiSetup → ℕ → ℕ
-word_ticks u half = 2 * u.bits * half
+-- the tick after a word: there a further bit would start
+abbrev pub word_end : SpiSetup → SpiWord → ℕ
+word_end u w = w.bit_start u.bits
 
--- the tick in the middle of bit k
-abbrev pub bit_middle : ℕ → SpiWord → ℕ → ℕ
-bit_middle half w k = w.start + (2 * k + 1) * half
+-- each bit has ticks before its middle and from there on, as many as may be
+abbrev pub HasHalves : SpiWord → Type 0
+HasHalves w = (k : ℕ) → (w.bit_start k < w.bit_middle k) × (w.bit_middle k < w.bit_start (suc k))
 
 -- the words fit their bits, and one after the other into the ticks from `from` to before `until`
-unfoldable pub WordsFit : SpiSetup → ℕ → ℕ → ℕ → List SpiWord → Type 0
-WordsFit u half from until [] = from ≤ until
-WordsFit u half from until (w ∷ ws) =
-    (w.out < 2 ^ u.bits) × (w.back < 2 ^ u.bits) × (from ≤ w.start)
-    × WordsFit u half (w.start + word_ticks u half) until ws
+unfoldable pub WordsFit : SpiSetup → ℕ → ℕ → List SpiWord → Type 0
+WordsFit u from until [] = from ≤ until
+WordsFit u from until (w ∷ ws) =
+    (w.out < 2 ^ u.bits) × (w.back < 2 ^ u.bits) × HasHalves w × (from ≤ w.bit_start 0)
+    × WordsFit u (word_end u w) until ws
 
 -- ---- lines
 
--- the clock: 0 where it idles in the modes 0 and 1, else 1; in the modes 1 and 3 it changes as a
--- bit starts, and in all modes in the middle of a bit
-unfoldable pub sent_clock : SpiSetup → ℕ → List SpiWord → ℕ → Bit
-sent_clock u half [] t = level (u.mode / 2)
-sent_clock u half (w ∷ ws) t =
-    if nat_lt t w.start then level (u.mode / 2)
-    else (if nat_lt t (w.start + word_ticks u half)
-    then level (u.mode / 2 + u.mode % 2 + (t - w.start) / half)
-    else sent_clock u half ws t)
+-- the clock where it idles: 0 in the modes 0 and 1, else 1
+abbrev pub idle_level : ℕ → Bit
+idle_level mode = level (mode / 2)
+
+-- the clock in the first half of a bit: in the modes 1 and 3 it changes as the bit starts
+abbrev pub first_level : ℕ → Bit
+first_level mode = level (mode / 2 + mode % 2)
+
+-- the clock in the second half: in each mode it changes in the middle of a bit
+abbrev pub second_level : ℕ → Bit
+second_level mode = level (suc (mode / 2 + mode % 2))
+
+-- the clock idles but in words, at the ticks from `from` to before `until`
+unfoldable pub SendsClock : SpiSetup → (ℕ → Bit) → ℕ → ℕ → List SpiWord → Type 0
+SendsClock u clk from until [] = (t : ℕ) → from ≤ t → t < until → clk t ≡ idle_level u.mode
+SendsClock u clk from until (w ∷ ws) =
+    ((t : ℕ) → from ≤ t → t < w.bit_start 0 → t < until → clk t ≡ idle_level u.mode)
+    × ((k t : ℕ) → k < u.bits → w.bit_start k ≤ t → t < w.bit_middle k → t < until
+    → clk t ≡ first_level u.mode)
+    × ((k t : ℕ) → k < u.bits → w.bit_middle k ≤ t → t < w.bit_start (suc k) → t < until
+    → clk t ≡ second_level u.mode)
+    × SendsClock u clk (word_end u w) until ws
 
 -- the bits of a word in their order
 abbrev pub ordered_levels : BitOrder → ℕ → ℕ → List Bit
@@ -57,17 +69,17 @@ ordered_levels Lsb bits word = data_levels bits word
 ordered_levels Msb bits word = reverse (data_levels bits word)
 
 -- a data line has each bit of a word at the tick in its middle; at other ticks it has any letter
-unfoldable pub SendsData : SpiSetup → ℕ → (SpiWord → ℕ) → (ℕ → Bit) → List SpiWord → Type 0
-SendsData u half word_of f [] = ⊤
-SendsData u half word_of f (w ∷ ws) =
+unfoldable pub SendsData : SpiSetup → (SpiWord → ℕ) → (ℕ → Bit) → List SpiWord → Type 0
+SendsData u word_of f [] = ⊤
+SendsData u word_of f (w ∷ ws) =
     ((k : ℕ) → k < u.bits
-    → f (bit_middle half w k) ≡ get_or (ordered_levels u.order u.bits (word_of w)) k X)
-    × SendsData u half word_of f ws
+    → f (w.bit_middle k) ≡ get_or (ordered_levels u.order u.bits (word_of w)) k X)
+    × SendsData u word_of f ws
 
 -- the same for a line that may be absent
-abbrev pub MaySendData : SpiSetup → ℕ → (SpiWord → ℕ) → Option (ℕ → Bit) → List SpiWord → Type 0
-MaySendData u half word_of None ws = ⊤
-MaySendData u half word_of (Some f) ws = SendsData u half word_of f ws
+abbrev pub MaySendData : SpiSetup → (SpiWord → ℕ) → Option (ℕ → Bit) → List SpiWord → Type 0
+MaySendData u word_of None ws = ⊤
+MaySendData u word_of (Some f) ws = SendsData u word_of f ws
 
 -- the chip is selected at the ticks from `select` to before `release`: there the line is 0, and 1
 -- at all others up to the end. Without the line it is selected at all ticks
@@ -84,13 +96,12 @@ sent_line_data None word = Absent
 sent_line_data (Some f) word = Number word
 
 -- the annotation of a word: from the middle of its first bit to that of its last
-abbrev pub sent_word_annotation : SpiSetup → ℕ → (mosi miso : Option (ℕ → Bit)) → SpiWord
-    → Annotation
-sent_word_annotation u half mosi miso w =
-    annotation (bit_middle half w 0) (bit_middle half w (u.bits - 1))
+abbrev pub sent_word_annotation : SpiSetup → (mosi miso : Option (ℕ → Bit)) → SpiWord → Annotation
+sent_word_annotation u mosi miso w =
+    annotation (w.bit_middle 0) (w.bit_middle (u.bits - 1))
     (Word (sent_line_data mosi w.out) (sent_line_data miso w.back))
 
 -- the annotation of the first bits of a word
-abbrev pub sent_part_annotation : ℕ → SpiWord → ℕ → Annotation
-sent_part_annotation half w count =
-    annotation (bit_middle half w 0) (bit_middle half w (count - 1)) (Unfinished count)
+abbrev pub sent_part_annotation : SpiWord → ℕ → Annotation
+sent_part_annotation w count =
+    annotation (w.bit_middle 0) (w.bit_middle (count - 1)) (Unfinished count)

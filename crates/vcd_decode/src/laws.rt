@@ -1,21 +1,24 @@
 //! Laws about the definitions of the decoders, as contracts of functions that do nothing.
 
 ghost use Rattle.vcd_decode.specs.Laws.{UartFramesAreFound, SpiWordsAreFound, SpiPartIsFound};
-ghost use Rattle.vcd_decode.specs.Laws.{I2cMessagesAreFound};
+ghost use Rattle.vcd_decode.specs.Laws.{I2cMessagesAreFound, FramesBeginStraight};
+ghost use Rattle.vcd_decode.specs.Laws.{StraightClocksCount, StraightBusEdgesCount};
 
 /// A line that idles at 1 and sends frames decodes to one annotation for each frame. It goes from
 /// the frame's start to the sample of its last bit. Its kind is `byte` with the word that was sent,
 /// `parity-error` if the parity bit is wrong, or `frame-error` if a stop bit is 0. This holds for
-/// every setup and any idle time between frames, or none. Edges after the frame's start may be
-/// early or late by up to half a bit: a bit has to be there in its middle alone.
+/// every setup. The line is 1 just before each frame, and need not idle longer between them. Edges
+/// after the frame's start may be late by half a bit, or early by less than that: a bit has to be
+/// there in its middle alone.
 pub fn uart_frames_are_found()
     ensures { UartFramesAreFound }
 {}
 
 /// The lines of a serial peripheral interface that send words while the chip is selected decode to
 /// these words. Each goes from the middle of its first bit to that of its last. This holds in each
-/// mode, order and number of bits, and data have to be right in the middle of each bit alone. If
-/// the chip is released within a word, that word is `partial`, with the count of its bits.
+/// mode, order and number of bits. The halves of each bit may have any lengths, and data have to be
+/// right in the middle of each bit alone. If the chip is released within a word, that word is
+/// `partial`, with the count of its bits.
 pub fn spi_words_are_found()
     ensures words { SpiWordsAreFound }
     ensures part { SpiPartIsFound }
@@ -26,4 +29,14 @@ pub fn spi_words_are_found()
 /// seven bits or ten. This holds at any tick distances that keep SDA still while SCL is high.
 pub fn i2c_messages_are_found()
     ensures { I2cMessagesAreFound }
+{}
+
+/// An edge through x or z counts for nothing. A frame begins only where its line goes straight from
+/// 1 to 0. Of the clock of a serial peripheral interface, and of an I2C bus, straight edges alone
+/// count: where these are the same, the same is found. An edge is straight if the line has the one
+/// level just before the tick, and the other at it; z on an I2C bus is high.
+pub fn unclear_edges_count_for_nothing()
+    ensures frames { FramesBeginStraight }
+    ensures clocks { StraightClocksCount }
+    ensures buses { StraightBusEdgesCount }
 {}

@@ -16,20 +16,20 @@ use Rattle.vcd_edit.specs.Touched.{puts_in, stored_changes}
 
 -- ---- captures and records
 
-abbrev top : ScopeName
+abbrev pub top : ScopeName
 top = record { kind = codes "module"; words = codes "top" ∷ [] }
 
 -- one letter from a tick on
-abbrev from : ℕ → Bit → Change
+abbrev pub from : ℕ → Bit → Change
 from tick letter = change tick (letter ∷ [])
 
-abbrev wire : List ℕ → List Change → SignalContents
+abbrev pub wire : List ℕ → List Change → SignalContents
 wire name changes = record { scopes = top ∷ []; kind = codes "wire"; words = name ∷ []; width = 1; changes = changes }
 
-abbrev capture : ℕ → List SignalContents → Contents
+abbrev pub capture : ℕ → List SignalContents → Contents
 capture end signals = record { header = []; timescale = None; end = end; signals = signals }
 
-abbrev alone : ℕ → List Change → Contents
+abbrev pub alone : ℕ → List Change → Contents
 alone end changes = capture end (wire (codes "a") changes ∷ [])
 
 -- a record of one piece for the first signal

@@ -9,7 +9,8 @@ use Rattle.vcd_edit.specs.declared.edit.Rule.TheVariants.{Xor}
 use Rattle.vcd_edit.specs.Effect.{effect, run_start, run_end, steady_value}
 use Rattle.vcd_edit.specs.Touched.{touched_count, touched_from}
 use Rattle.vcd_edit.specs.TouchedByEdit.{touched_by_edit}
-use Rattle.vcd_edit.proofs.CasesOfEdits.{from, alone, lent, two_signals, three_signals}
+use Rattle.vcd_edit.proofs.CasesOfRecords.{from, alone}
+use Rattle.vcd_edit.proofs.CasesOfEffectLaws.{lent, two_signals, three_signals}
 
 touched_by_invert : touched_by_edit (Invert 0) (alone 8 (from 0 Z ∷ from 4 One ∷ [])) ≡ 2
 unfolding effect changes_from value_from touched_count touched_from

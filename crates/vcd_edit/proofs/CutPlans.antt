@@ -103,7 +103,7 @@ pub cut_is_one_step : (c : Contents) (by : ℤ) (g : SignalContents → SignalCo
     → HasOneKindOfPart (record { pieces = ps; word = None; signal = None; other_end = Some end })
 cut_is_one_step c by g n ps end lead =
     record {
-      apart = lead.apart;
+      rise = lead.rise;
       word_alone = λ other. absurd (other refl);
       signal_alone =
           λ other. absurd (other refl);

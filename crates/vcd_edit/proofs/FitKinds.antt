@@ -155,7 +155,7 @@ module _ (end : ℕ) (c : Contents) (r : RecordView) (e : Option ℕ) (one : Has
       → IsTrue test ↔ PartsFit end (record r { other_end = e }) c
   by_kind w m word signal test tells =
       let one_now : HasOneKindOfPart (parts r.pieces r.word r.signal e) =
-      record { apart = one.apart; word_alone = one.word_alone; signal_alone = one.signal_alone } in
+      record { rise = one.rise; word_alone = one.word_alone; signal_alone = one.signal_alone } in
       let kinds = kinds_tell end c r.pieces r.word r.signal e one_now in
       let same : KindFits end c r.pieces r.word r.signal ≡ KindFits end c r.pieces w m =
       λ i. KindFits end c r.pieces (word i) (signal i) in (

@@ -1,38 +1,33 @@
--- Which records fit a capture, as tests of their parts show.
-use Rattle.std.proofs.Common.{◌≡◌, ◌≢◌, IsTrue, Bool, true, false, refl, ℕ, zero, suc, ◌+◌, ◌<◌}
-use Rattle.std.proofs.Common.{◌≤◌, nat_le}
-use Rattle.std.proofs.Common.{if◌then◌else◌, List, [], ◌∷◌, length, map, get_or, set}
-use Rattle.std.proofs.Common.{slice_index_or, All, sym, ap}
-use Rattle.std.proofs.Common.{subst, ◌∙◌, arith}
-use Rattle.std.specs.List.{sum_by, list_all}
-use Rattle.std.proofs.lemmas.Bool.{le-leb, leb-true, both_ways}
-use Rattle.vcd_core.proofs.Pushes.{all_from_upto}
-use Rattle.std.proofs.lemmas.List.{length-map, map-set, get_or-map}
-use Rattle.std.proofs.lemmas.List.Sums.{sum_by-set, sum_by-cons, AllPass-from_list_all}
-use Rattle.std.proofs.lemmas.List.Sums.{list_all-from_AllPass}
-use Rattle.std.proofs.lemmas.List.Elements.{All-nil, All-cons, All-head, All-tail, All-set, All-map}
-use Rattle.std.proofs.lemmas.List.Elements.{All-get_or}
-use Rattle.vcd_core.specs.declared.wave.Change.{Change}
-use Rattle.vcd_core.specs.declared.capture.TheConstants.{SIGNAL_LIMIT}
+-- Which pieces fit a capture, as one pass over its signals shows.
+use Rattle.std.proofs.Common.{◌≡◌, ◌≢◌, ◌↔◌, ℕ, zero, suc, ◌+◌, ◌-◌, ◌<◌, ◌≤◌, ◌==◌, Bool, true, false}
+use Rattle.std.proofs.Common.{List, [], ◌∷◌, length, map, take, drop, get_or, slice_index_or, All, refl, sym}
+use Rattle.std.proofs.Common.{if◌then◌else◌, ap, subst, ◌∙◌, arith}
+use Rattle.std.proofs.lemmas.Bool.{eqb-true, eqb-false, eq-eqb}
+use Rattle.std.proofs.lemmas.List.{length-map, length-drop, get_or-map, get_or_default, take_rest, drop-map}
+use Rattle.std.proofs.lemmas.List.{drop-drop, drop_all}
+use Rattle.std.proofs.lemmas.List.Elements.{All-nil, All-cons, All-head, All-tail}
 use Rattle.vcd_core.specs.Wave.{IsWave, AllUpTo}
+use Rattle.vcd_core.specs.Splice.{AllTicksFit}
+use Rattle.vcd_core.specs.declared.capture.Signal.{Signal}
+use Rattle.vcd_core.specs.declared.capture.TheConstants.{SIGNAL_LIMIT}
 use Rattle.vcd_core.specs.Contents.{Contents, SignalContents, no_signal, signal_at}
+use Rattle.vcd_core.specs.CaptureContents.{signal_contents}
 use Rattle.vcd_core.specs.Sound.{IsSoundSignal}
+use Rattle.vcd_edit.specs.declared.record.Piece.{Piece}
 use Rattle.vcd_edit.specs.RecordView.{PieceView}
 use Rattle.vcd_edit.specs.AppliedRecords.{changes_with_piece, signal_with_changes, with_piece}
-use Rattle.vcd_edit.specs.AppliedRecords.{with_pieces, PieceFits}
-use Rattle.vcd_edit.specs.AppliedRecords.{NoPieceFor, HaveDistinctSignals}
-use Rattle.vcd_edit.specs.declared.record.Piece.{Piece}
+use Rattle.vcd_edit.specs.AppliedRecords.{with_pieces, PieceFits, RiseFrom}
 use Rattle.vcd_edit.specs.Records.{piece_view}
 use Rattle.vcd_edit.specs.inside.Adjacency.{IsValidPiece}
-use Rattle.vcd_edit.specs.inside.Fitting.{HasSoundNames, IsFormedSignal, late_count, IsValidIn}
-use Rattle.vcd_edit.specs.inside.Fitting.{AreSoundSignals}
-use Rattle.vcd_edit.proofs.TouchedSums.{sum_by-map}
-use Rattle.vcd_edit.proofs.OppositePieces.{signal_elsewhere, count_kept, counts_kept, none_all}
-use Rattle.vcd_edit.proofs.OppositePieces.{pieces_reach}
+use Rattle.vcd_edit.specs.inside.Fitting.{HasSoundNames, IsSoundHere, pieces_after, AreSoundFrom}
+use Rattle.vcd_edit.specs.inside.Fitting.{AreSoundSignals, is_for}
+use Rattle.vcd_edit.proofs.EditPlans.{contents_at}
+use Rattle.vcd_edit.proofs.OppositePieces.{signal_here, signal_elsewhere, signal_kept, before_all}
+use Rattle.vcd_edit.proofs.OppositePieces.{counts_kept}
 
 -- ---- a signal by its names and its changes
 
-pub sound_names : (end : ℕ) (s : SignalContents) → IsSoundSignal end s → HasSoundNames s
+sound_names : (end : ℕ) (s : SignalContents) → IsSoundSignal end s → HasSoundNames s
 sound_names end s is = record {
   scopes = is.scopes;
   kind = is.kind;
@@ -45,7 +40,7 @@ sound_names end s is = record {
   ticks = tt;
 }
 
-pub sound_by_parts : (end : ℕ) (s : SignalContents) → HasSoundNames s → IsWave s.width s.changes → AllUpTo end s.changes
+sound_by_parts : (end : ℕ) (s : SignalContents) → HasSoundNames s → IsWave s.width s.changes → AllUpTo end s.changes
     → IsSoundSignal end s
 sound_by_parts end s names wave ticks = record {
   scopes = names.scopes;
@@ -59,226 +54,214 @@ sound_by_parts end s names wave ticks = record {
   ticks = ticks;
 }
 
--- ---- whether a list ends in time
-
-abbrev is_in_time : ℕ → List Change → Bool
-is_in_time end cs = list_all (λ c. nat_le c.tick end) cs
-
-in_time : (end : ℕ) (cs : List Change) → AllUpTo end cs → is_in_time end cs ≡ true
-in_time end cs upto =
-    list_all-from_AllPass (λ c. nat_le c.tick end) cs (λ k d less. le-leb _ _ (all_from_upto end cs upto k d less))
-
-up_to : (end : ℕ) (cs : List Change) → is_in_time end cs ≡ true → AllUpTo end cs
-up_to end [] all = tt
-up_to end (c ∷ cs) all =
-    let each = AllPass-from_list_all (λ (c : Change). nat_le c.tick end) (c ∷ cs) all in (
-      leb-true c.tick end (each 0 c (omega arith)),
-      up_to end cs (list_all-from_AllPass (λ c. nat_le c.tick end) cs
-          (λ k d less. each (suc k) d (omega (arith, less)))),
-    )
-
-pub not_late : (end : ℕ) (cs : List Change) → AllUpTo end cs → late_count end cs ≡ 0
-not_late end cs upto = ap (λ b. if b then 0 else 1) (in_time end cs upto)
-
-never_late : (end : ℕ) (cs : List Change) → late_count end cs ≡ 0 → AllUpTo end cs
-never_late end cs none = up_to end cs (decided (is_in_time end cs) none)
-  where
-    decided : (b : Bool) → ◌≡◌ {A = ℕ} (if b then 0 else 1) 0 → b ≡ true
-    decided true none = refl
-    decided false none = absurd (omega (arith, none))
-
-pub is_late : (end : ℕ) (cs : List Change) (r : Bool) → (AllUpTo end cs → IsTrue r) → r ≡ false → late_count end cs ≡ 1
-is_late end cs r passes fails = decided (is_in_time end cs) refl
-  where
-    decided : (b : Bool) → is_in_time end cs ≡ b → late_count end cs ≡ 1
-    decided true is = absurd (both_ways r fails (passes (up_to end cs is)))
-    decided false is = ap (λ b. if b then 0 else 1) is
-
--- ---- one piece
-
--- another piece is as valid as before
-stands_after : (end : ℕ) (c : Contents) (p q : PieceView) → q.signal ≢ p.signal → IsValidIn end c.signals q
-    → IsValidIn end (with_piece c p).signals q
-stands_after end c p q other stands = record {
-  within = omega (arith, count_kept c p, stands.within);
-  valid = subst (λ (s : SignalContents). IsValidPiece s.width end s.changes q)
-      (sym (signal_elsewhere c p q.signal other)) stands.valid;
-}
-
-abbrev late_in : ℕ → List SignalContents → ℕ
-late_in end ss = sum_by (λ (s : SignalContents). late_count end s.changes) ss
-
-abbrev late_at : ℕ → Contents → PieceView → ℕ
-late_at end c p = late_count end (signal_at c p.signal).changes
-
--- its signal then ends in time
-late_after : (end : ℕ) (c : Contents) (p : PieceView) → IsValidIn end c.signals p
-    → late_in end (with_piece c p).signals + late_at end c p ≡ late_in end c.signals
-late_after end c p stands =
-    let old = signal_at c p.signal in
-    let new = signal_with_changes old (changes_with_piece p old.changes) in
-    omega (
-      arith,
-      sum_by-set (λ (s : SignalContents). late_count end s.changes) c.signals p.signal new no_signal stands.within,
-      not_late end new.changes stands.valid.upto,
-    )
-
--- all but the changes
-abbrev bare : SignalContents → SignalContents
-bare s = signal_with_changes s []
-
-bare_after : (c : Contents) (p : PieceView) → map bare (with_piece c p).signals ≡ map bare c.signals
-bare_after c p =
-    let old = signal_at c p.signal in
-    map-set bare c.signals p.signal (signal_with_changes old (changes_with_piece p old.changes))
-    ∙ kept c.signals p.signal
-  where
-    kept : (ss : List SignalContents) (k : ℕ) → set (map bare ss) k (bare (get_or ss k no_signal)) ≡ map bare ss
-    kept [] k = refl
-    kept (s ∷ ss) zero = refl
-    kept (s ∷ ss) (suc k) = ap (λ l. bare s ∷ l) (kept ss k)
-
--- ---- pieces one after another
-
-stand_after : (end : ℕ) (c : Contents) (p : PieceView) (ps : List PieceView) → NoPieceFor p.signal ps
-    → All (IsValidIn end c.signals) ps → All (IsValidIn end (with_piece c p).signals) ps
-stand_after end c p ps none stand =
-    λ k d less. stands_after end c p (get_or ps k d) (none_all p.signal ps none k d less) (stand k d less)
-
-late_elsewhere : (end : ℕ) (c : Contents) (p : PieceView) (ps : List PieceView) → NoPieceFor p.signal ps
-    → sum_by (late_at end (with_piece c p)) ps ≡ sum_by (late_at end c) ps
-late_elsewhere end c p [] none = refl
-late_elsewhere end c p (q ∷ qs) (other, none) =
-    sum_by-cons (late_at end (with_piece c p)) q qs
-    ∙ (λ i. late_count end (signal_elsewhere c p q.signal other i).changes + late_elsewhere end c p qs none i)
-    ∙ sym (sum_by-cons (late_at end c) q qs)
-
-late_all : (end : ℕ) (c : Contents) (ps : List PieceView) → HaveDistinctSignals ps → All (IsValidIn end c.signals) ps
-    → late_in end (with_pieces c ps).signals + sum_by (late_at end c) ps ≡ late_in end c.signals
-unfolding with_pieces
-late_all end c [] apart stand = omega arith
-late_all end c (p ∷ ps) (none, apart) stand =
-    omega (
-      arith,
-      late_all end (with_piece c p) ps apart
-          (stand_after end c p ps none (All-tail (IsValidIn end c.signals) p ps stand)),
-      late_elsewhere end c p ps none,
-      late_after end c p (All-head (IsValidIn end c.signals) p ps stand),
-      sum_by-cons (late_at end c) p ps,
-    )
-
-bare_all : (c : Contents) (ps : List PieceView) → map bare (with_pieces c ps).signals ≡ map bare c.signals
-unfolding with_pieces
-bare_all c [] = refl
-bare_all c (p ∷ ps) = bare_all (with_piece c p) ps ∙ bare_after c p
-
-formed_all : (end : ℕ) (c : Contents) (ps : List PieceView) → HaveDistinctSignals ps → All (IsValidIn end c.signals) ps
-    → All IsFormedSignal c.signals → All IsFormedSignal (with_pieces c ps).signals
-unfolding with_pieces
-formed_all end c [] apart stand formed = formed
-formed_all end c (p ∷ ps) (none, apart) stand formed =
-    let here : IsValidIn end c.signals p = All-head (IsValidIn end c.signals) p ps stand in
-    let old = signal_at c p.signal in
-    let names : HasSoundNames old = (All-get_or IsFormedSignal c.signals p.signal no_signal here.within formed).0 in
-    formed_all end (with_piece c p) ps apart
-    (stand_after end c p ps none (All-tail (IsValidIn end c.signals) p ps stand))
-    (All-set IsFormedSignal c.signals p.signal (signal_with_changes old (changes_with_piece p old.changes)) (
-      names,
-      here.valid.form,
-    ) formed)
-
--- ---- what the tests of pieces show
-
-all_in_time : (end : ℕ) (ss : List SignalContents) → late_in end ss ≡ 0
-    → All (λ (s : SignalContents). AllUpTo end s.changes) ss
-all_in_time end [] none = All-nil (λ (s : SignalContents). AllUpTo end s.changes)
-all_in_time end (s ∷ ss) none =
-    let split = sum_by-cons (λ (s : SignalContents). late_count end s.changes) s ss in
-    All-cons (λ (s : SignalContents). AllUpTo end s.changes) s ss
-    (never_late end s.changes (omega (arith, split, none))) (all_in_time end ss (omega (arith, split, none)))
-
-none_late : (end : ℕ) (ss : List SignalContents) → All (IsSoundSignal end) ss → late_in end ss ≡ 0
-none_late end [] sound = refl
-none_late end (s ∷ ss) sound =
-    omega (
-      arith,
-      sum_by-cons (λ (s : SignalContents). late_count end s.changes) s ss,
-      not_late end s.changes (All-head (IsSoundSignal end) s ss sound).ticks,
-      none_late end ss (All-tail (IsSoundSignal end) s ss sound),
-    )
-
 pub unmapped : {X Y : Type 0} (P : Y → Type 0) (f : X → Y) (xs : List X) → All P (map f xs) → All (λ x. P (f x)) xs
 unmapped P f xs all k d less =
     subst P (get_or-map f xs k d (f d) less) (all k (f d) (omega (arith, less, length-map xs f)))
 
-pub late_pieces_are : (end : ℕ) (c : Contents) (ss : List SignalContents) (pieces : List Piece) → c.signals ≡ ss
-    → sum_by (late_at end c) (map piece_view pieces)
-    ≡ sum_by (λ (p : Piece). late_count end (slice_index_or ss p.signal no_signal).changes) pieces
-late_pieces_are end c ss pieces same =
-    sum_by-map (late_at end c) piece_view pieces
-    ∙ ap (λ l. sum_by (λ (p : Piece). late_count end (slice_index_or l p.signal no_signal).changes) pieces) same
+-- ---- one pass over the signals
 
--- pieces that fit and give sound signals
-abbrev FitAll : ℕ → Contents → List PieceView → Type 0
-FitAll end c ps = All (PieceFits c) ps × AreSoundSignals end (with_pieces c ps).signals
+-- the signals from a position on are sound once the pieces are put in
+abbrev AreSoundThen : ℕ → ℕ → Contents → List PieceView → Type 0
+AreSoundThen end k c ps =
+    (j : ℕ) → k ≤ j → j < length c.signals → IsSoundSignal end (signal_at (with_pieces c ps) j)
 
-module _ (end : ℕ) (c : Contents) (ps : List PieceView) (apart : HaveDistinctSignals ps) where
-  pub few_before : FitAll end c ps → length c.signals ≤ SIGNAL_LIMIT
-  few_before (fit, (few, sound)) = omega (arith, few, counts_kept c ps)
+-- the signal at a position, and the later ones
+at_or_later : (P : ℕ → Type 0) (k n : ℕ) → P k → ((j : ℕ) → suc k ≤ j → j < n → P j) → (j : ℕ) → k ≤ j → j < n → P j
+at_or_later P k n here later j from to = choose (j == k) refl
+  where
+    choose : (b : Bool) → (j == k) ≡ b → P j
+    choose true same = subst P (sym (eqb-true j k same)) here
+    choose false other = later j (let differs = eqb-false j k other in omega (arith, from, differs)) to
 
-  pub fit_by_tests : length c.signals ≤ SIGNAL_LIMIT → All IsFormedSignal c.signals → All (IsValidIn end c.signals) ps
-      → late_in end c.signals ≡ sum_by (late_at end c) ps → FitAll end c ps
-  fit_by_tests few formed stand late =
-      let formed_then = formed_all end c ps apart stand formed in
-      let upto = all_in_time end (with_pieces c ps).signals (omega (arith, late_all end c ps apart stand, late)) in (
-        (λ k d less. record {
-          signal = (stand k d less).within;
-          ordered = (stand k d less).valid.ordered;
-          within = (stand k d less).valid.within;
-          ticks = (stand k d less).valid.ticks;
-        }),
-        (
-          omega (arith, few, counts_kept c ps),
-          (λ k d less. sound_by_parts end (get_or (with_pieces c ps).signals k d) (formed_then k d less).0
-              (formed_then k d less).1 (upto k d less)),
-        ),
+module _ (end : ℕ) (c : Contents) where
+  -- what a signal with its piece is
+  module _ (p : PieceView) (ps : List PieceView) (k : ℕ) (same : p.signal ≡ k) (within : k < length c.signals)
+      (rise : RiseFrom (suc p.signal) ps) where
+    here_is : signal_at (with_pieces c (p ∷ ps)) k
+        ≡ signal_with_changes (signal_at c k) (changes_with_piece p (signal_at c k).changes)
+    unfolding with_pieces
+    here_is =
+        signal_kept (with_piece c p) ps k (suc p.signal) (omega (arith, same)) rise
+        ∙ ap (signal_at (with_piece c p)) (sym same) ∙ signal_here c p (omega (arith, same, within))
+        ∙ ap (λ j. signal_with_changes (signal_at c j) (changes_with_piece p (signal_at c j).changes)) same
+
+    later_is : (j : ℕ) → suc k ≤ j → signal_at (with_pieces c (p ∷ ps)) j ≡ signal_at (with_pieces c ps) j
+    unfolding with_pieces
+    later_is j from =
+        ap (λ d. signal_at d j) (sym (before_all c p ps (suc p.signal) (omega arith) rise))
+        ∙ signal_elsewhere (with_pieces c ps) p j (λ is. absurd (omega (arith, from, same, is)))
+
+    fits_here : IsSoundHere end true (signal_at c k) (p ∷ ps) → PieceFits c p
+    fits_here here = record {
+      signal = omega (arith, same, within);
+      ordered = here.1.ordered;
+      within = subst (λ j. p.to ≤ length (signal_at c j).changes) (sym same) here.1.within;
+      ticks = subst (λ j. AllTicksFit p.by (drop p.to (signal_at c j).changes)) (sym same) here.1.ticks;
+    }
+
+    sound_here : IsSoundHere end true (signal_at c k) (p ∷ ps)
+        → IsSoundSignal end (signal_at (with_pieces c (p ∷ ps)) k)
+    sound_here here = subst (IsSoundSignal end) (sym here_is) (sound_by_parts end
+        (signal_with_changes (signal_at c k) (changes_with_piece p (signal_at c k).changes)) here.0 here.1.form
+        here.1.upto)
+
+    valid_here : PieceFits c p → IsSoundSignal end (signal_at (with_pieces c (p ∷ ps)) k)
+        → IsSoundHere end true (signal_at c k) (p ∷ ps)
+    valid_here fits sound =
+        let new = signal_with_changes (signal_at c k) (changes_with_piece p (signal_at c k).changes) in
+        let after : IsSoundSignal end new = subst (IsSoundSignal end) here_is sound in (
+          sound_names end new after,
+          record {
+            ordered = fits.ordered;
+            within = subst (λ j. p.to ≤ length (signal_at c j).changes) same fits.within;
+            ticks = subst (λ j. AllTicksFit p.by (drop p.to (signal_at c j).changes)) same fits.ticks;
+            form = after.wave;
+            upto = after.ticks;
+          },
+        )
+
+  -- the pass tells which pieces fit
+  tells : (n k : ℕ) (ps : List PieceView) → k + n ≡ length c.signals → RiseFrom k ps
+      → AreSoundFrom end c.signals k n ps ↔ (All (PieceFits c) ps × AreSoundThen end k c ps)
+  unfolding AreSoundFrom with_pieces
+  tells zero k [] count rise =
+      ((λ none. (All-nil (PieceFits c), (λ j from to. absurd (omega (arith, count, from, to))))), (λ fit. refl))
+  tells zero k (p ∷ ps) count rise = (
+    (λ none. absurd (cc)),
+    (λ fit. absurd (omega (arith, count, rise.0, (All-head (PieceFits c) p ps fit.0).signal))),
+  )
+  tells (suc n) k [] count rise =
+      let rest = tells n (suc k) [] (omega (arith, count)) tt in (
+        (λ sound. (
+          All-nil (PieceFits c),
+          at_or_later (λ j. IsSoundSignal end (signal_at (with_pieces c []) j)) k (length c.signals) sound.0
+              (rest.0 sound.1).1,
+        )),
+        (λ fit. (
+          fit.1 k (omega arith) (omega (arith, count)),
+          rest.1 (fit.0, (λ j from to. fit.1 j (omega (arith, from)) to)),
+        )),
+      )
+  tells (suc n) k (p ∷ ps) count rise =
+      choose (p.signal == k) refl (λ qs from. tells n (suc k) qs (omega (arith, count)) from)
+    where
+      within : k < length c.signals
+      within = omega (arith, count)
+
+      choose : (b : Bool) → (p.signal == k) ≡ b
+          → ((qs : List PieceView) → RiseFrom (suc k) qs
+          → AreSoundFrom end c.signals (suc k) n qs ↔ (All (PieceFits c) qs × AreSoundThen end (suc k) c qs))
+          → (IsSoundHere end b (signal_at c k) (p ∷ ps)
+          × AreSoundFrom end c.signals (suc k) n (pieces_after b (p ∷ ps)))
+          ↔ (All (PieceFits c) (p ∷ ps) × AreSoundThen end k c (p ∷ ps))
+      choose true test next =
+          let same = eqb-true p.signal k test in
+          let rest = next ps (subst (λ j. RiseFrom (suc j) ps) same rise.1) in (
+            (λ sound. (
+              All-cons (PieceFits c) p ps (fits_here p ps k same within rise.1 sound.0) (rest.0 sound.1).0,
+              at_or_later (λ j. IsSoundSignal end (signal_at (with_pieces c (p ∷ ps)) j)) k (length c.signals)
+                  (sound_here p ps k same within rise.1 sound.0)
+                  (λ j from to. subst (IsSoundSignal end) (sym (later_is p ps k same within rise.1 j from))
+                  ((rest.0 sound.1).1 j from to)),
+            )),
+            (λ fit. (
+              valid_here p ps k same within rise.1 (All-head (PieceFits c) p ps fit.0)
+                  (fit.1 k (omega arith) within),
+              rest.1 (
+                All-tail (PieceFits c) p ps fit.0,
+                (λ j from to. subst (IsSoundSignal end) (later_is p ps k same within rise.1 j from)
+                    (fit.1 j (omega (arith, from)) to)),
+              ),
+            )),
+          )
+      choose false test next =
+          let other = eqb-false p.signal k test in
+          let from_next : suc k ≤ p.signal = omega (arith, rise.0, other) in
+          let rest = next (p ∷ ps) (from_next, rise.1) in
+          let kept : signal_at (with_pieces c (p ∷ ps)) k ≡ signal_at c k =
+          signal_kept c (p ∷ ps) k (suc k) (omega arith) (from_next, rise.1) in (
+            (λ sound. (
+              (rest.0 sound.1).0,
+              at_or_later (λ j. IsSoundSignal end (signal_at (with_pieces c (p ∷ ps)) j)) k (length c.signals)
+                  (subst (IsSoundSignal end) (sym kept) sound.0) (rest.0 sound.1).1,
+            )),
+            (λ fit. (
+              subst (IsSoundSignal end) kept (fit.1 k (omega arith) within),
+              rest.1 (fit.0, (λ j from to. fit.1 j (omega (arith, from)) to)),
+            )),
+          )
+
+  -- pieces that fit and give sound signals
+  abbrev FitAll : List PieceView → Type 0
+  FitAll ps = All (PieceFits c) ps × AreSoundSignals end (with_pieces c ps).signals
+
+  pub pass_tells : (ps : List PieceView) → RiseFrom 0 ps → length c.signals ≤ SIGNAL_LIMIT
+      → AreSoundFrom end c.signals 0 (length c.signals) ps ↔ FitAll ps
+  pass_tells ps rise few =
+      let all = tells (length c.signals) 0 ps (omega arith) rise in
+      let count = counts_kept c ps in (
+        (λ sound. (
+          (all.0 sound).0,
+          (
+            omega (arith, few, count),
+            (λ k d less. subst (IsSoundSignal end) (get_or_default (with_pieces c ps).signals k no_signal d less)
+                ((all.0 sound).1 k (omega arith) (omega (arith, less, count)))),
+          ),
+        )),
+        (λ fit. all.1 (fit.0, (λ j from to. fit.1.1 j no_signal (omega (arith, to, count))))),
       )
 
-  pub names_before : FitAll end c ps → All HasSoundNames c.signals
-  names_before (fit, (few, sound)) =
-      unmapped (IsSoundSignal 0) bare c.signals
-      (subst (All (IsSoundSignal 0)) (bare_all c ps)
-      (All-map (IsSoundSignal 0) bare (with_pieces c ps).signals
-      (λ k d less. sound_names end (get_or (with_pieces c ps).signals k d) (sound k d less))))
+-- ---- one step of the pass
 
-  pub stand_before : FitAll end c ps → All (IsValidIn end c.signals) ps
-  stand_before (fit, (few, sound)) = λ k d less.
-      let p = get_or ps k d in
-      let fits : PieceFits c p = fit k d less in
-      let old = signal_at c p.signal in
-      let new = signal_with_changes old (changes_with_piece p old.changes) in
-      let reached : signal_at (with_pieces c ps) p.signal ≡ new =
-      pieces_reach c ps apart (λ k d less. (fit k d less).signal) k d less in
-      let inside : p.signal < length (with_pieces c ps).signals = omega (arith, fits.signal, counts_kept c ps) in
-      let after : IsSoundSignal end new =
-      subst (IsSoundSignal end) reached
-      (All-get_or (IsSoundSignal end) (with_pieces c ps).signals p.signal no_signal inside sound) in
-      record {
-        within = fits.signal;
-        valid = record {
-          ordered = fits.ordered;
-          within = fits.within;
-          ticks = fits.ticks;
-          form = after.wave;
-          upto =
-              after.ticks;
-        };
-      }
+pub all_left : (end : ℕ) (signals : List SignalContents) (n : ℕ) (ps : List PieceView)
+    → AreSoundFrom end signals 0 (n - 0) ps ≡ AreSoundFrom end signals 0 n ps
+all_left end signals n ps = ap (λ n. AreSoundFrom end signals 0 n ps) {x = n - 0} {y = n} (omega arith)
 
-  pub late_before : FitAll end c ps → late_in end c.signals ≡ sum_by (late_at end c) ps
-  late_before (fit, (few, sound)) =
-      omega (
-        arith,
-        late_all end c ps apart (stand_before (fit, (few, sound))),
-        none_late end (with_pieces c ps).signals sound,
-      )
+module _ (end : ℕ) (signals : List Signal) (pieces : List Piece) (k done : ℕ) where
+  abbrev ss : List SignalContents
+  ss = map signal_contents signals
+
+  abbrev all : List PieceView
+  all = map piece_view pieces
+
+  abbrev rest : List PieceView
+  rest = map piece_view (take (length pieces - done) (drop done pieces))
+
+  rest_is : rest ≡ drop done all
+  rest_is = ap (map piece_view) (take_rest pieces done) ∙ sym (drop-map piece_view done pieces)
+
+  rest_after : (b : Bool) (more : ℕ) → more ≡ (if b then 1 else 0)
+      → pieces_after b (drop done all) ≡ drop (done + more) all
+  rest_after true more is = drop-drop 1 done all ∙ ap (λ n. drop n all) (omega (arith, is))
+  rest_after false more is = ap (λ n. drop n all) {x = done} (omega (arith, is))
+
+  -- the signal at a position, and then the later ones
+  pub one_more : (s : Signal) (more : ℕ) → k < length signals → s ≡ get_or signals k s
+      → more ≡ (if is_for k rest then 1 else 0)
+      → AreSoundFrom end ss k (length signals - k) (drop done all)
+      ≡ (IsSoundHere end (is_for k rest) (signal_contents s) rest
+      × AreSoundFrom end ss (k + 1) (length signals - (k + 1)) (drop (done + more) all))
+  unfolding AreSoundFrom
+  one_more s more within is count =
+      let left : length signals - k ≡ suc (length signals - (k + 1)) = omega (arith, within) in
+      let next : suc k ≡ k + 1 = omega arith in
+      let after : pieces_after (is_for k (drop done all)) (drop done all) ≡ drop (done + more) all =
+      ap (λ ps. pieces_after (is_for k ps) (drop done all)) (sym rest_is) ∙ rest_after (is_for k rest) more count in
+      ap (λ n. AreSoundFrom end ss k n (drop done all)) left
+      ∙ (λ i. IsSoundHere end (is_for k (sym rest_is i)) (contents_at signals k s within is i) (sym rest_is i)
+      × AreSoundFrom end ss (next i) (length signals - (k + 1)) (after i))
+
+  pub rest_count : done ≤ length pieces → length (take (length pieces - done) (drop done pieces)) ≡ length pieces - done
+  rest_count within = ap length (take_rest pieces done) ∙ length-drop done pieces
+
+  -- no signal is left
+  pub none_more : length signals ≤ k → AreSoundFrom end ss k (length signals - k) (drop done all) ≡ (drop done all ≡ [])
+  unfolding AreSoundFrom
+  none_more past = ap (λ n. AreSoundFrom end ss k n (drop done all)) {y = 0} (omega (arith, past))
+
+  pub none_left : (done == length pieces) ≡ true → drop done all ≡ []
+  none_left test = drop_all done all (omega (arith, length-map pieces piece_view, eqb-true done (length pieces) test))
+
+  pub all_done : done ≤ length pieces → drop done all ≡ [] → (done == length pieces) ≡ true
+  all_done within none = eq-eqb done (length pieces)
+      (omega (arith, within, ap length none, length-drop done all, length-map pieces piece_view))

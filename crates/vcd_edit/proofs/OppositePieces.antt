@@ -1,16 +1,16 @@
 -- Pieces put into a capture one after another, and the pieces that undo them.
-use Rattle.std.proofs.Common.{◌≡◌, ◌≢◌, ℕ, ◌<◌, ◌≤◌, List, [], ◌∷◌, ◌++◌, length, drop, reverse}
+use Rattle.std.proofs.Common.{◌≡◌, ◌≢◌, ℕ, suc, ◌<◌, ◌≤◌, List, [], ◌∷◌, ◌++◌, length, drop}
 use Rattle.std.proofs.Common.{get_or, set, All, refl}
 use Rattle.std.proofs.Common.{sym, ap, subst, ◌∙◌, arith}
 use Rattle.std.proofs.lemmas.List.{length-set, get_or-set_same, get_or-set_other, set-set}
-use Rattle.std.proofs.lemmas.List.{set-get_or, reverse-append}
+use Rattle.std.proofs.lemmas.List.{set-get_or, set_comm}
 use Rattle.std.proofs.lemmas.List.Elements.{All-nil, All-cons, All-head, All-tail}
 use Rattle.vcd_core.specs.Contents.{Contents, SignalContents, no_signal, signal_at}
 use Rattle.vcd_core.specs.Splice.{AllTicksFit}
 use Rattle.vcd_edit.specs.RecordView.{PieceView}
 use Rattle.vcd_edit.specs.AppliedRecords.{changes_with_piece, signal_with_changes, with_piece}
 use Rattle.vcd_edit.specs.AppliedRecords.{with_pieces, PieceFits}
-use Rattle.vcd_edit.specs.AppliedRecords.{NoPieceFor, HaveDistinctSignals}
+use Rattle.vcd_edit.specs.AppliedRecords.{RiseFrom}
 use Rattle.vcd_edit.specs.inside.Exchanges.{PieceReady, IsOppositePiece, PieceReadyIn}
 use Rattle.vcd_edit.specs.inside.Exchanges.{AreOppositePieces}
 
@@ -100,13 +100,14 @@ unfolding with_pieces
 counts_kept c [] = refl
 counts_kept c (p ∷ ps) = counts_kept (with_piece c p) ps ∙ count_kept c p
 
--- a signal without a piece stays
-pub signal_kept : (c : Contents) (ps : List PieceView) (k : ℕ) → NoPieceFor k ps
+-- a signal before those of the pieces stays
+pub signal_kept : (c : Contents) (ps : List PieceView) (k j : ℕ) → k < j → RiseFrom j ps
     → signal_at (with_pieces c ps) k ≡ signal_at c k
 unfolding with_pieces
-signal_kept c [] k none = refl
-signal_kept c (p ∷ ps) k (other, none) = signal_kept (with_piece c p) ps k none
-    ∙ signal_elsewhere c p k (λ same. other (sym same))
+signal_kept c [] k j less rise = refl
+signal_kept c (p ∷ ps) k j less (from, rise) =
+    signal_kept (with_piece c p) ps k (suc p.signal) (omega (arith, less, from)) rise
+    ∙ signal_elsewhere c p k (λ same. absurd (omega (arith, less, from, same)))
 
 pub AreOppositePieces-push : (c : Contents) (ps qs : List PieceView) (p q : PieceView) → AreOppositePieces c ps qs
     → p.signal < length (with_pieces c ps).signals
@@ -119,101 +120,110 @@ AreOppositePieces-push c (x ∷ ps) [] p q lead within leads = absurd lead
 AreOppositePieces-push c (x ∷ ps) (y ∷ qs) p q (first, one, lead) within leads =
     (first, one, AreOppositePieces-push (with_piece c x) ps qs p q lead within leads)
 
--- all opposite pieces, the last one first
-pub all_back : (c : Contents) (ps qs : List PieceView) → AreOppositePieces c ps qs
-    → with_pieces (with_pieces c ps) (reverse qs) ≡ c
-unfolding with_pieces
-all_back c [] [] lead = refl
-all_back c [] (q ∷ qs) lead = absurd lead
-all_back c (p ∷ ps) [] lead = absurd lead
-all_back c (p ∷ ps) (q ∷ qs) (within, leads, lead) =
-    ap (with_pieces (with_pieces (with_piece c p) ps)) (reverse-append (q ∷ []) qs)
-    ∙ with_pieces-push (with_pieces (with_piece c p) ps) (reverse qs) q
-    ∙ ap (λ d. with_piece d q) (all_back (with_piece c p) ps qs lead)
-    ∙ back_one c p q within leads
+-- ---- pieces for several signals
 
--- ---- which signals have pieces
+pub all_from : (j : ℕ) (ps : List PieceView) → RiseFrom j ps → All (λ p. j ≤ p.signal) ps
+all_from j [] rise = All-nil (λ p. j ≤ p.signal)
+all_from j (p ∷ ps) (from, rise) =
+    All-cons (λ p. j ≤ p.signal) p ps from (λ k d less. omega (arith, from, all_from (suc p.signal) ps rise k d less))
 
-none_back : (c : Contents) (ps qs : List PieceView) (k : ℕ) → AreOppositePieces c ps qs → NoPieceFor k ps
-    → NoPieceFor k qs
-none_back c [] [] k lead none = tt
-none_back c [] (q ∷ qs) k lead none = absurd lead
-none_back c (p ∷ ps) [] k lead none = absurd lead
-none_back c (p ∷ ps) (q ∷ qs) k (within, leads, lead) (other, none) =
-    ((λ same. other (sym leads.signal ∙ same)), none_back (with_piece c p) ps qs k lead none)
-
-apart_back : (c : Contents) (ps qs : List PieceView) → AreOppositePieces c ps qs → HaveDistinctSignals ps
-    → HaveDistinctSignals qs
-apart_back c [] [] lead apart = tt
-apart_back c [] (q ∷ qs) lead apart = absurd lead
-apart_back c (p ∷ ps) [] lead apart = absurd lead
-apart_back c (p ∷ ps) (q ∷ qs) (within, leads, lead) (none, apart) = (
-  subst (λ k. NoPieceFor k qs) (sym leads.signal) (none_back (with_piece c p) ps qs p.signal lead none),
-  apart_back (with_piece c p) ps qs lead apart,
+pub rise_back : (c : Contents) (ps qs : List PieceView) (j : ℕ) → AreOppositePieces c ps qs → RiseFrom j ps
+    → RiseFrom j qs
+rise_back c [] [] j lead rise = tt
+rise_back c [] (q ∷ qs) j lead rise = absurd lead
+rise_back c (p ∷ ps) [] j lead rise = absurd lead
+rise_back c (p ∷ ps) (q ∷ qs) j (within, leads, lead) (from, rise) = (
+  omega (arith, from, leads.signal),
+  subst (λ k. RiseFrom (suc k) qs) (sym leads.signal) (rise_back (with_piece c p) ps qs (suc p.signal) lead rise),
 )
 
-none_push : (k : ℕ) (ps : List PieceView) (p : PieceView) → NoPieceFor k ps → p.signal ≢ k → NoPieceFor k (ps ++ p ∷ [])
-none_push k [] p none other = (other, tt)
-none_push k (q ∷ ps) p (first, none) other = (first, none_push k ps p none other)
+-- pieces for two signals, in either order
+either_first : (c : Contents) (p q : PieceView) → p.signal ≢ q.signal
+    → with_piece (with_piece c p) q ≡ with_piece (with_piece c q) p
+either_first c p q other =
+    let new_p = signal_with_changes (signal_at c p.signal) (changes_with_piece p (signal_at c p.signal).changes) in
+    let new_q = signal_with_changes (signal_at c q.signal) (changes_with_piece q (signal_at c q.signal).changes) in
+    let signals : (with_piece (with_piece c p) q).signals ≡ (with_piece (with_piece c q) p).signals =
+    ap (λ (s : SignalContents). set (set c.signals p.signal new_p) q.signal
+    (signal_with_changes s (changes_with_piece q s.changes))) (signal_elsewhere c p q.signal (λ same. other (sym same)))
+    ∙ set_comm c.signals p.signal q.signal new_p new_q other
+    ∙ sym (ap (λ (s : SignalContents). set (set c.signals q.signal new_q) p.signal
+    (signal_with_changes s (changes_with_piece p s.changes))) (signal_elsewhere c q p.signal other)) in
+    λ i. record { header = c.header; timescale = c.timescale; end = c.end; signals = signals i }
 
-apart_push : (ps : List PieceView) (p : PieceView) → HaveDistinctSignals ps → NoPieceFor p.signal ps
-    → HaveDistinctSignals (ps ++ p ∷ [])
-apart_push [] p apart none = (tt, tt)
-apart_push (q ∷ ps) p (first, apart) (other, none) =
-    (none_push q.signal ps p first (λ same. other (sym same)), apart_push ps p apart none)
+-- a piece before or after pieces for later signals
+pub before_all : (c : Contents) (q : PieceView) (ps : List PieceView) (j : ℕ) → q.signal < j → RiseFrom j ps
+    → with_piece (with_pieces c ps) q ≡ with_pieces (with_piece c q) ps
+unfolding with_pieces
+before_all c q [] j less rise = refl
+before_all c q (p ∷ ps) j less (from, rise) =
+    before_all (with_piece c p) q ps (suc p.signal) (omega (arith, less, from)) rise
+    ∙ ap (λ d. with_pieces d ps) (either_first c p q (λ same. absurd (omega (arith, less, from, same))))
 
-none_reverse : (k : ℕ) (ps : List PieceView) → NoPieceFor k ps → NoPieceFor k (reverse ps)
-none_reverse k [] none = tt
-none_reverse k (p ∷ ps) (other, none) =
-    subst (NoPieceFor k) (sym (reverse-append (p ∷ []) ps)) (none_push k (reverse ps) p (none_reverse k ps none) other)
+-- pieces for later signals are undone by the same ones
+undone_before : (c : Contents) (p : PieceView) (ps qs : List PieceView) (j : ℕ) → p.signal < j → RiseFrom j ps
+    → AreOppositePieces (with_piece c p) ps qs → AreOppositePieces c ps qs
+undone_before c p [] [] j less rise lead = tt
+undone_before c p [] (y ∷ qs) j less rise lead = absurd lead
+undone_before c p (x ∷ ps) [] j less rise lead = absurd lead
+undone_before c p (x ∷ ps) (y ∷ qs) j less (from, rise) (within, leads, lead) =
+    let other : p.signal ≢ x.signal = λ same. absurd (omega (arith, less, from, same)) in (
+      omega (arith, within, count_kept c p),
+      subst (λ (s : SignalContents). IsOppositePiece s.changes x y)
+          (signal_elsewhere c p x.signal (λ same. other (sym same))) leads,
+      undone_before (with_piece c x) p ps qs (suc x.signal) (omega (arith, less, from)) rise
+          (subst (λ d. AreOppositePieces d ps qs) (either_first c p x other) lead),
+    )
 
-apart_reverse : (ps : List PieceView) → HaveDistinctSignals ps → HaveDistinctSignals (reverse ps)
-apart_reverse [] apart = tt
-apart_reverse (p ∷ ps) (none, apart) =
-    subst HaveDistinctSignals (sym (reverse-append (p ∷ []) ps))
-    (apart_push (reverse ps) p (apart_reverse ps apart) (none_reverse p.signal ps none))
-
-pub back_apart : (c : Contents) (ps qs : List PieceView) → AreOppositePieces c ps qs → HaveDistinctSignals ps
-    → HaveDistinctSignals (reverse qs)
-back_apart c ps qs lead apart = apart_reverse qs (apart_back c ps qs lead apart)
-
-pub none_all : (k : ℕ) (ps : List PieceView) → NoPieceFor k ps → All (λ p. p.signal ≢ k) ps
-none_all k [] none = All-nil (λ p. p.signal ≢ k)
-none_all k (p ∷ ps) (other, none) = All-cons (λ p. p.signal ≢ k) p ps other (none_all k ps none)
+-- all opposite pieces
+pub all_back : (c : Contents) (ps qs : List PieceView) (j : ℕ) → RiseFrom j ps → AreOppositePieces c ps qs
+    → with_pieces (with_pieces c ps) qs ≡ c
+unfolding with_pieces
+all_back c [] [] j rise lead = refl
+all_back c [] (q ∷ qs) j rise lead = absurd lead
+all_back c (p ∷ ps) [] j rise lead = absurd lead
+all_back c (p ∷ ps) (q ∷ qs) j (from, rise) (within, leads, lead) =
+    ap (λ d. with_pieces d qs)
+    (before_all (with_piece c p) q ps (suc p.signal) (omega (arith, leads.signal)) rise
+    ∙ ap (λ d. with_pieces d ps) (back_one c p q within leads))
+    ∙ all_back c ps qs (suc p.signal) rise (undone_before c p ps qs (suc p.signal) (omega arith) rise lead)
 
 -- ---- the opposite pieces fit
 
-pub back_fits_all : (c : Contents) (ps qs : List PieceView) → AreOppositePieces c ps qs → HaveDistinctSignals ps
+pub back_fits_all : (c : Contents) (ps qs : List PieceView) (j : ℕ) → RiseFrom j ps → AreOppositePieces c ps qs
     → All (PieceFits (with_pieces c ps)) qs
 unfolding with_pieces
-back_fits_all c [] [] lead apart = All-nil (PieceFits c)
-back_fits_all c [] (q ∷ qs) lead apart = absurd lead
-back_fits_all c (p ∷ ps) [] lead apart = absurd lead
-back_fits_all c (p ∷ ps) (q ∷ qs) (within, leads, lead) (none, apart) =
+back_fits_all c [] [] j rise lead = All-nil (PieceFits c)
+back_fits_all c [] (q ∷ qs) j rise lead = absurd lead
+back_fits_all c (p ∷ ps) [] j rise lead = absurd lead
+back_fits_all c (p ∷ ps) (q ∷ qs) j (from, rise) (within, leads, lead) =
     let here : PieceFits (with_pieces (with_piece c p) ps) q =
     fits_elsewhere (with_piece c p) (with_pieces (with_piece c p) ps) q (counts_kept (with_piece c p) ps)
-    (signal_kept (with_piece c p) ps q.signal (subst (λ k. NoPieceFor k ps) (sym leads.signal) none))
+    (signal_kept (with_piece c p) ps q.signal (suc p.signal) (omega (arith, leads.signal)) rise)
     (back_fits_one c p q within leads) in
-    All-cons (PieceFits (with_pieces (with_piece c p) ps)) q qs here (back_fits_all (with_piece c p) ps qs lead apart)
+    All-cons (PieceFits (with_pieces (with_piece c p) ps)) q qs here
+    (back_fits_all (with_piece c p) ps qs (suc p.signal) rise lead)
 
 -- ---- what the pieces make of their signals
 
-pub pieces_reach : (c : Contents) (ps : List PieceView) → HaveDistinctSignals ps
+pub pieces_reach : (c : Contents) (ps : List PieceView) (j : ℕ) → RiseFrom j ps
     → All (λ p. p.signal < length c.signals) ps
     → All (λ p. signal_at (with_pieces c ps) p.signal
     ≡ signal_with_changes (signal_at c p.signal) (changes_with_piece p (signal_at c p.signal).changes)) ps
 unfolding with_pieces
-pieces_reach c [] apart within = λ k d less. absurd (omega arith)
-pieces_reach c (p ∷ ps) (none, apart) within =
+pieces_reach c [] j rise within = λ k d less. absurd (omega arith)
+pieces_reach c (p ∷ ps) j (from, rise) within =
     let next = with_piece c p in
     let inside : All (λ q. q.signal < length next.signals) ps =
     λ k d less. omega (arith, count_kept c p, All-tail (λ q. q.signal < length c.signals) p ps within k d less) in
-    let rest = pieces_reach next ps apart inside in
+    let rest = pieces_reach next ps (suc p.signal) rise inside in
     let here : signal_at (with_pieces next ps) p.signal
     ≡ signal_with_changes (signal_at c p.signal) (changes_with_piece p (signal_at c p.signal).changes) =
-    signal_kept next ps p.signal none ∙ signal_here c p (All-head (λ q. q.signal < length c.signals) p ps within) in
+    signal_kept next ps p.signal (suc p.signal) (omega arith) rise
+    ∙ signal_here c p (All-head (λ q. q.signal < length c.signals) p ps within) in
     All-cons (λ q. signal_at (with_pieces next ps) q.signal
     ≡ signal_with_changes (signal_at c q.signal) (changes_with_piece q (signal_at c q.signal).changes)) p ps here
     (λ k d less. rest k d less
     ∙ ap (λ (s : SignalContents). signal_with_changes s (changes_with_piece (get_or ps k d) s.changes))
-    (signal_elsewhere c p (get_or ps k d).signal (none_all p.signal ps none k d less)))
+    (signal_elsewhere c p (get_or ps k d).signal
+    (λ same. absurd (omega (arith, same, all_from (suc p.signal) ps rise k d less)))))

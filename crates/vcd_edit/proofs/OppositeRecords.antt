@@ -1,7 +1,7 @@
 -- The record of the opposite step: it undoes the step, it fits, and it stores touched changes only.
 use Rattle.std.proofs.Common.{◌≡◌, ◌≢◌, ℕ, zero, suc, ◌+◌, ◌^◌, ◌<◌, ◌≤◌, ℤ, neg_ℤ, List, [], ◌∷◌}
 use Rattle.std.proofs.Common.{◌++◌, length, take}
-use Rattle.std.proofs.Common.{drop, map, reverse, get_or, set, slice_index_or, All, Option, Some}
+use Rattle.std.proofs.Common.{drop, map, get_or, set, slice_index_or, All, Option, Some}
 use Rattle.std.proofs.Common.{None, refl, sym, ap}
 use Rattle.std.proofs.Common.{subst, ◌∙◌, arith}
 use Rattle.std.specs.List.{insert, remove, sum_by}
@@ -26,7 +26,7 @@ use Rattle.vcd_edit.specs.AppliedRecords.{with_first_word, signals_with_one_in_o
 use Rattle.vcd_edit.specs.AppliedRecords.{with_signal_in_out, with_end}
 use Rattle.vcd_edit.specs.AppliedRecords.{apply_record, PieceFits, WordFits, MayPutInOrTakeOut}
 use Rattle.vcd_edit.specs.AppliedRecords.{SignalFits, Fits}
-use Rattle.vcd_edit.specs.AppliedRecords.{HaveDistinctSignals, HasOneKindOfPart}
+use Rattle.vcd_edit.specs.AppliedRecords.{RiseFrom, HasOneKindOfPart}
 use Rattle.vcd_edit.specs.Touched.{touched_in_signal, touched_from, partners, record_pairing}
 use Rattle.vcd_edit.specs.Touched.{pairing_at}
 use Rattle.vcd_edit.specs.Touched.{stored_changes}
@@ -35,10 +35,9 @@ use Rattle.vcd_edit.specs.inside.Exchanges.{PieceReadyIn, AreOppositePieces}
 use Rattle.vcd_edit.specs.inside.Opposites.{opposite_word, removed_signal, opposite_signal}
 use Rattle.vcd_edit.specs.inside.Opposites.{opposite_end}
 use Rattle.vcd_edit.specs.inside.Opposites.{opposite_record, AreNamed, IsNamedAt, IsOppositeRecord}
-use Rattle.vcd_edit.proofs.TouchedParts.{All-reverse}
-use Rattle.vcd_edit.proofs.OppositePieces.{all_back, back_apart, back_fits_all, counts_kept}
+use Rattle.vcd_edit.proofs.OppositePieces.{all_back, rise_back, back_fits_all, counts_kept}
 use Rattle.vcd_edit.proofs.OppositePieces.{pieces_reach}
-use Rattle.vcd_edit.proofs.TouchedSums.{touched_at_least, stored_within, sum_by-reverse}
+use Rattle.vcd_edit.proofs.TouchedSums.{touched_at_least, stored_within}
 
 -- ---- pieces and another end
 
@@ -117,17 +116,18 @@ signals_of_end (Some e) c = refl
 -- ---- the three kinds of step
 
 -- only pieces, and perhaps an end
-module _ (e : Option ℕ) (c : Contents) (ps qs : List PieceView) (lead : AreOppositePieces c ps qs) where
-  pub pieces_back : with_end (opposite_end e c) (with_pieces (with_end e (with_pieces c ps)) (reverse qs)) ≡ c
-  pieces_back =
-      ap (with_end (opposite_end e c)) (pieces_of_end e (with_pieces c ps) (reverse qs)
-      ∙ ap (with_end e) (all_back c ps qs lead)) ∙ end_back e c c refl
+module _ (e : Option ℕ) (c : Contents) (ps qs : List PieceView) (rise : RiseFrom 0 ps)
+    (lead : AreOppositePieces c ps qs)
+  where
+    pub pieces_back : with_end (opposite_end e c) (with_pieces (with_end e (with_pieces c ps)) qs) ≡ c
+    pieces_back =
+        ap (with_end (opposite_end e c)) (pieces_of_end e (with_pieces c ps) qs
+        ∙ ap (with_end e) (all_back c ps qs 0 rise lead)) ∙ end_back e c c refl
 
-  pub pieces_fit : HaveDistinctSignals ps → All (PieceFits (with_end e (with_pieces c ps))) (reverse qs)
-  pieces_fit apart =
-      All-weaker (PieceFits (with_pieces c ps)) (PieceFits (with_end e (with_pieces c ps)))
-      (fits_at_end e (with_pieces c ps)) (reverse qs)
-      (All-reverse (PieceFits (with_pieces c ps)) qs (back_fits_all c ps qs lead apart))
+    pub pieces_fit : All (PieceFits (with_end e (with_pieces c ps))) qs
+    pieces_fit =
+        All-weaker (PieceFits (with_pieces c ps)) (PieceFits (with_end e (with_pieces c ps)))
+        (fits_at_end e (with_pieces c ps)) qs (back_fits_all c ps qs 0 rise lead)
 
 -- only a word, and perhaps an end
 pub word_back : (e : Option ℕ) (c : Contents) (k : ℕ) (word : List ℕ) → k < length c.signals
@@ -152,7 +152,7 @@ signal_back (Some e) c k o may =
 
 -- ---- any step
 
-no_pieces_back : (c : Contents) (ps qs : List PieceView) → AreOppositePieces c ps qs → ps ≡ [] → qs ≡ []
+pub no_pieces_back : (c : Contents) (ps qs : List PieceView) → AreOppositePieces c ps qs → ps ≡ [] → qs ≡ []
 no_pieces_back c ps [] lead none = refl
 no_pieces_back c [] (q ∷ qs) lead none = absurd lead
 no_pieces_back c (p ∷ ps) (q ∷ qs) lead none = absurd (cc)
@@ -161,9 +161,6 @@ pub none_put : (c : Contents) (ps : List PieceView) → ps ≡ [] → with_piece
 unfolding with_pieces
 none_put c [] none = refl
 none_put c (p ∷ ps) none = absurd (cc)
-
-none_reversed : (qs : List PieceView) → qs ≡ [] → reverse qs ≡ []
-none_reversed qs none = ap reverse none
 
 Some≢None : {X : Type 0} (x : X) → Some x ≢ None
 Some≢None x same = absurd (cc)
@@ -189,19 +186,19 @@ leads_back : (c : Contents) (ps qs : List PieceView) (w : Option (ℕ × List �
     → HasOneKindOfPart (parts ps w m e) → WordFits c w → SignalFits c m → AreNamed c → AreOppositePieces c ps qs
     → apply_record (opposite_record (parts ps w m e) qs c) (apply_record (parts ps w m e) c) ≡ c
 unfolding apply_record
-leads_back c ps qs None None e one word signal named lead = pieces_back e c ps qs lead
+leads_back c ps qs None None e one word signal named lead = pieces_back e c ps qs one.rise lead
 leads_back c ps qs (Some w) None e one word signal named lead =
     let none = no_pieces_at_word ps w None e one in
     let there = with_end e (with_first_word (Some w) (with_pieces c ps)) in
     ap (λ x. with_end (opposite_end e c) (with_first_word (opposite_word (Some w) c) x))
-    (none_put there (reverse qs) (none_reversed qs (no_pieces_back c ps qs lead none))
+    (none_put there qs (no_pieces_back c ps qs lead none)
     ∙ ap (λ x. with_end e (with_first_word (Some w) x)) (none_put c ps none))
     ∙ word_back e c w.0 w.1 word (named w.0 word)
 leads_back c ps qs None (Some m) e one word signal named lead =
     let none = no_pieces_at_signal ps None m e one in
     let there = with_end e (with_signal_in_out (Some m) (with_pieces c ps)) in
     ap (λ x. with_end (opposite_end e c) (with_signal_in_out (opposite_signal (Some m) c) x))
-    (none_put there (reverse qs) (none_reversed qs (no_pieces_back c ps qs lead none))
+    (none_put there qs (no_pieces_back c ps qs lead none)
     ∙ ap (λ x. with_end e (with_signal_in_out (Some m) x)) (none_put c ps none))
     ∙ signal_back e c m.0 m.1 signal
 leads_back c ps qs (Some w) (Some m) e one word signal named lead = absurd (no_word_at_signal ps w m e one)
@@ -209,16 +206,16 @@ leads_back c ps qs (Some w) (Some m) e one word signal named lead = absurd (no_w
 pieces_fit_back : (c : Contents) (ps qs : List PieceView) (w : Option (ℕ × List ℕ))
     (m : Option (ℕ × Option SignalContents)) (e : Option ℕ)
     → HasOneKindOfPart (parts ps w m e) → AreOppositePieces c ps qs
-    → All (PieceFits (apply_record (parts ps w m e) c)) (reverse qs)
+    → All (PieceFits (apply_record (parts ps w m e) c)) qs
 unfolding apply_record
-pieces_fit_back c ps qs None None e one lead = pieces_fit e c ps qs lead one.apart
+pieces_fit_back c ps qs None None e one lead = pieces_fit e c ps qs one.rise lead
 pieces_fit_back c ps qs (Some w) m e one lead =
     subst (All (PieceFits (apply_record (parts ps (Some w) m e) c)))
-    (sym (none_reversed qs (no_pieces_back c ps qs lead (no_pieces_at_word ps w m e one))))
+    (sym (no_pieces_back c ps qs lead (no_pieces_at_word ps w m e one)))
     (All-nil (PieceFits (apply_record (parts ps (Some w) m e) c)))
 pieces_fit_back c ps qs None (Some m) e one lead =
     subst (All (PieceFits (apply_record (parts ps None (Some m) e) c)))
-    (sym (none_reversed qs (no_pieces_back c ps qs lead (no_pieces_at_signal ps None m e one))))
+    (sym (no_pieces_back c ps qs lead (no_pieces_at_signal ps None m e one)))
     (All-nil (PieceFits (apply_record (parts ps None (Some m) e) c)))
 
 word_fits_back : (c : Contents) (ps : List PieceView) (w : Option (ℕ × List ℕ)) (m : Option (ℕ × Option SignalContents))
@@ -257,17 +254,17 @@ alone_back : (c : Contents) (ps qs : List PieceView) (w : Option (ℕ × List �
     → HasOneKindOfPart (parts ps w m e) → AreOppositePieces c ps qs
     → HasOneKindOfPart (opposite_record (parts ps w m e) qs c)
 alone_back c ps qs w m e one lead =
-    record { apart = back_apart c ps qs lead one.apart; word_alone = at_word w one; signal_alone = at_signal w m one }
+    record { rise = rise_back c ps qs 0 lead one.rise; word_alone = at_word w one; signal_alone = at_signal w m one }
   where
-    at_word : (w : Option (ℕ × List ℕ)) → HasOneKindOfPart (parts ps w m e) → opposite_word w c ≢ None → reverse qs ≡ []
+    at_word : (w : Option (ℕ × List ℕ)) → HasOneKindOfPart (parts ps w m e) → opposite_word w c ≢ None → qs ≡ []
     at_word None one some = absurd (some refl)
-    at_word (Some v) one some = none_reversed qs (no_pieces_back c ps qs lead (no_pieces_at_word ps v m e one))
+    at_word (Some v) one some = no_pieces_back c ps qs lead (no_pieces_at_word ps v m e one)
 
     at_signal : (w : Option (ℕ × List ℕ)) (m : Option (ℕ × Option SignalContents)) → HasOneKindOfPart (parts ps w m e)
-        → opposite_signal m c ≢ None → (reverse qs ≡ []) × (opposite_word w c ≡ None)
+        → opposite_signal m c ≢ None → (qs ≡ []) × (opposite_word w c ≡ None)
     at_signal w None one some = absurd (some refl)
     at_signal None (Some n) one some =
-        (none_reversed qs (no_pieces_back c ps qs lead (no_pieces_at_signal ps None n e one)), refl)
+        (no_pieces_back c ps qs lead (no_pieces_at_signal ps None n e one), refl)
     at_signal (Some v) (Some n) one some = absurd (no_word_at_signal ps v n e one)
 
 pub are_named : (c : Contents) → IsSound c → AreNamed c
@@ -313,8 +310,8 @@ signal_stores advance c k None after may is =
           (omega (arith, may, count, length-insert (map Some after) k None (omega (arith, may, count)))),
     )
 
-nothing_stored : (qs : List PieceView) → qs ≡ [] → sum_by (λ (p : PieceView). length p.changes) (reverse qs) ≡ 0
-nothing_stored qs none = ap (λ l. sum_by (λ (p : PieceView). length p.changes) (reverse l)) none
+nothing_stored : (qs : List PieceView) → qs ≡ [] → sum_by (λ (p : PieceView). length p.changes) qs ≡ 0
+nothing_stored qs none = ap (sum_by (λ (p : PieceView). length p.changes)) none
 
 stores_back : (advance : ℕ → ℤ) (c : Contents) (ps qs : List PieceView) (w : Option (ℕ × List ℕ))
     (m : Option (ℕ × Option SignalContents)) (e : Option ℕ)
@@ -326,8 +323,7 @@ unfolding apply_record
 stores_back advance c ps qs None None e one signal lead opposite =
     omega (
       arith,
-      sum_by-reverse (λ (p : PieceView). length p.changes) qs,
-      stored_within advance c ps qs lead one.apart opposite,
+      stored_within advance c ps qs 0 one.rise lead opposite,
       ap (λ ss. touched_from advance 0 c.signals (map Some ss)) (signals_of_end e (with_pieces c ps)),
     )
 stores_back advance c ps qs (Some w) None e one signal lead opposite =
@@ -401,7 +397,7 @@ pieces_ready c r fits one sound = λ k d less.
     pieces_alone c r.pieces r.word r.signal r.other_end one (omega (arith, less)) in
     let reached : signal_at (apply_record r c) p.signal ≡ new =
     ap (λ l. get_or l p.signal no_signal) same
-    ∙ pieces_reach c r.pieces one.apart (within_all c r.pieces fits.pieces) k d less in
+    ∙ pieces_reach c r.pieces 0 one.rise (within_all c r.pieces fits.pieces) k d less in
     let inside : p.signal < length (apply_record r c).signals =
     omega (arith, fit.signal, ap length same, counts_kept c r.pieces) in
     let after : IsSoundSignal (apply_record r c).end new =

@@ -15,30 +15,20 @@ use Rattle.vcd_edit.specs.RecordView.{PieceView}
 use Rattle.vcd_edit.specs.Effect.{with_values}
 use Rattle.vcd_edit.specs.AppliedRecords.{changes_with_piece, signal_with_changes, with_piece}
 use Rattle.vcd_edit.specs.AppliedRecords.{with_pieces, PieceFits}
-use Rattle.vcd_edit.specs.AppliedRecords.{NoPieceFor, HaveDistinctSignals}
+use Rattle.vcd_edit.specs.AppliedRecords.{RiseFrom}
 use Rattle.vcd_edit.specs.inside.Ranges.{GivesChanges}
 use Rattle.vcd_edit.specs.inside.Plans.{PiecesForEach}
-
--- one more piece is the last
-pub with_pieces-push : (c : Contents) (ps : List PieceView) (p : PieceView)
-    → with_pieces c (ps ++ p ∷ []) ≡ with_piece (with_pieces c ps) p
-unfolding with_pieces
-with_pieces-push c [] p = refl
-with_pieces-push c (q ∷ ps) p = with_pieces-push (with_piece c q) ps p
-
-none_more : (k : ℕ) (ps : List PieceView) (p : PieceView) → NoPieceFor k ps → p.signal ≢ k → NoPieceFor k (ps ++ p ∷ [])
-none_more k [] p none other = (other, tt)
-none_more k (q ∷ ps) p (apart, none) other = (apart, none_more k ps p none other)
+use Rattle.vcd_edit.proofs.OppositePieces.{with_pieces-push}
 
 -- pieces for signals below a position, and one for the signal there
-apart_more : (ps : List PieceView) (p : PieceView) → HaveDistinctSignals ps → All (λ q. q.signal < p.signal) ps
-    → HaveDistinctSignals (ps ++ p ∷ [])
-apart_more [] p apart below = (tt, tt)
-apart_more (q ∷ ps) p (none, apart) below =
-    let first : q.signal < p.signal = All-head (λ (q : PieceView). q.signal < p.signal) q ps below in (
-      none_more q.signal ps p none (λ same. absurd (omega (arith, first, same))),
-      apart_more ps p apart (All-tail (λ (q : PieceView). q.signal < p.signal) q ps below),
-    )
+rise_more : (ps : List PieceView) (p : PieceView) (j : ℕ) → j ≤ p.signal → RiseFrom j ps
+    → All (λ q. q.signal < p.signal) ps → RiseFrom j (ps ++ p ∷ [])
+rise_more [] p j from rise below = (from, tt)
+rise_more (q ∷ ps) p j from (first, rise) below = (
+  first,
+  rise_more ps p (suc q.signal) (All-head (λ (q : PieceView). q.signal < p.signal) q ps below) rise
+      (All-tail (λ (q : PieceView). q.signal < p.signal) q ps below),
+)
 
 -- an element that has not been reached
 pub element_here : {X : Type 0} (f : X → X) (xs ys : List X) (i : ℕ) (d : X) → i < length xs
@@ -77,7 +67,7 @@ module _ (c : Contents) (g : SignalContents → SignalContents) (n : ℕ) (by : 
     leads = lead.leads ∙ ap (λ (ss : List SignalContents). record c { signals = ss }) (sym unchanged ∙ more);
     fit = lead.fit;
     below = still_below;
-    apart = lead.apart;
+    rise = lead.rise;
     offset = lead.offset;
   }
     where
@@ -101,7 +91,7 @@ module _ (c : Contents) (g : SignalContents → SignalContents) (n : ℕ) (by : 
       ticks = subst (λ (s : SignalContents). AllTicksFit p.by (drop p.to s.changes)) (sym there) gives.ticks;
     });
     below = All-push (λ (q : PieceView). q.signal < n + 1) ps p still_below (omega (arith, at_n));
-    apart = apart_more ps p lead.apart (λ k d less. omega (arith, lead.below k d less, at_n));
+    rise = rise_more ps p 0 (omega arith) lead.rise (λ k d less. omega (arith, lead.below k d less, at_n));
     offset = All-push (λ (q : PieceView). q.by ≡ by) ps p lead.offset offset;
   }
     where
@@ -130,8 +120,7 @@ lead_none c by g ps empty =
       leads = refl;
       fit = All-nil (PieceFits c);
       below = All-nil (λ (p : PieceView). p.signal < 0);
-      apart =
-          tt;
+      rise = tt;
       offset = All-nil (λ (p : PieceView). p.by ≡ by);
     })
 

@@ -20,14 +20,14 @@ use Rattle.vcd_core.specs.Splice.{spliced_changes}
 use Rattle.vcd_edit.specs.declared.record.Piece.{Piece}
 use Rattle.vcd_edit.specs.RecordView.{PieceView}
 use Rattle.vcd_edit.specs.AppliedRecords.{changes_with_piece, with_piece, with_pieces}
-use Rattle.vcd_edit.specs.AppliedRecords.{HaveDistinctSignals}
+use Rattle.vcd_edit.specs.AppliedRecords.{RiseFrom}
 use Rattle.vcd_edit.specs.Records.{piece_view}
 use Rattle.vcd_edit.specs.inside.Exchanges.{IsOppositePiece, PieceReady, PieceReadyIn, AreOppositePieces}
 use Rattle.vcd_edit.specs.inside.Exchanges.{wave_at, HasNoLessRoom}
 use Rattle.vcd_edit.specs.inside.Exchanges.{HasRoomForPiece, CanBePutIn, IsComing, HaveRoom}
 use Rattle.vcd_edit.specs.inside.Exchanges.{ExchangedSoFar}
 use Rattle.vcd_edit.proofs.OppositePieces.{ready_after, with_pieces-push, AreOppositePieces-push}
-use Rattle.vcd_edit.proofs.OppositePieces.{none_all}
+use Rattle.vcd_edit.proofs.OppositePieces.{all_from}
 use Rattle.vcd_edit.proofs.ContentsAfterExchange.{contents_at, wave_is_there, piece_put, other_waves}
 
 pub views_kept : (ps : List Piece) (i : ℕ) (x y : Piece) → i < length ps → x ≡ get_or ps i x
@@ -164,8 +164,8 @@ module _ (before : Contents) (old new : List Piece) (i : ℕ) (x : Piece) (c : C
   ready_now : All (PieceReadyIn (contents c)) (piece_view x ∷ map piece_view (drop (i + 1) old))
   ready_now = subst (λ l. All (PieceReadyIn (contents c)) (map piece_view l)) begins far.ready
 
-  apart_now : HaveDistinctSignals (piece_view x ∷ map piece_view (drop (i + 1) old))
-  apart_now = subst (λ l. HaveDistinctSignals (map piece_view l)) begins far.apart
+  rise_now : RiseFrom far.rise.0 (piece_view x ∷ map piece_view (drop (i + 1) old))
+  rise_now = subst (λ l. RiseFrom far.rise.0 (map piece_view l)) begins far.rise.1
 
   next_ready : PieceReadyIn (contents c) (piece_view x)
   next_ready = All-head (PieceReadyIn (contents c)) (piece_view x) (map piece_view (drop (i + 1) old)) ready_now
@@ -182,7 +182,8 @@ module _ (before : Contents) (old new : List Piece) (i : ℕ) (x : Piece) (c : C
   next_piece_room = next_room.piece
 
   others : All (λ p. p.signal ≢ x.signal) (map piece_view (drop (i + 1) old))
-  others = none_all x.signal (map piece_view (drop (i + 1) old)) apart_now.0
+  others = λ k d less same.
+      absurd (omega (arith, same, all_from (suc x.signal) (map piece_view (drop (i + 1) old)) rise_now.1 k d less))
 
   other_later : (k : ℕ) (d : Piece) → i + 1 ≤ k → k < length old → (get_or old k d).signal ≢ x.signal
   other_later k d from to =
@@ -243,7 +244,7 @@ module _ (before : Contents) (old new : List Piece) (i : ℕ) (x : Piece) (c : C
                 (others k d less)
                 (All-tail (PieceReadyIn (contents c)) (piece_view x) (map piece_view (drop (i + 1) old)) ready_now k d
                 less));
-            apart = apart_now.1;
+            rise = (suc x.signal, rise_now.1);
             room = λ k d from to.
                 let was = far.room k d (omega (arith, from)) to in
                 record {

@@ -1,5 +1,5 @@
 -- A record was exchanged with a capture, part by part.
-use Rattle.std.proofs.Common.{◌≡◌, ◌≢◌, ℕ, Option, Some, None, refl, List, map, reverse, All, arith, sym}
+use Rattle.std.proofs.Common.{◌≡◌, ◌≢◌, ℕ, Option, Some, None, refl, List, map, All, arith, sym}
 use Rattle.std.proofs.Common.{ap, subst, ◌∙◌}
 use Rattle.std.proofs.lemmas.Option.{none-some}
 use Rattle.std.proofs.lemmas.List.{get_or-map, length-map}
@@ -10,8 +10,8 @@ use Rattle.vcd_core.specs.declared.capture.Signal.{Signal}
 use Rattle.vcd_edit.specs.RecordView.{PieceView, RecordView}
 use Rattle.vcd_edit.specs.AppliedRecords.{with_pieces, with_first_word, with_signal_in_out}
 use Rattle.vcd_edit.specs.AppliedRecords.{with_end, apply_record}
-use Rattle.vcd_edit.specs.AppliedRecords.{PieceFits, WordFits, Fits, HaveDistinctSignals}
-use Rattle.vcd_edit.specs.AppliedRecords.{HasOneKindOfPart}
+use Rattle.vcd_edit.specs.AppliedRecords.{PieceFits, WordFits, Fits, RiseFrom}
+use Rattle.vcd_edit.specs.AppliedRecords.{HasOneKindOfPart, HasNeitherPiecesNorSignal}
 use Rattle.vcd_edit.specs.declared.record.Piece.{Piece}
 use Rattle.vcd_edit.specs.Records.{piece_view, signal_view}
 use Rattle.vcd_edit.specs.inside.Exchanges.{PieceReadyIn, AreOppositePieces, HaveRoom}
@@ -19,7 +19,7 @@ use Rattle.vcd_edit.specs.inside.Opposites.{opposite_word, opposite_signal, oppo
 use Rattle.vcd_edit.specs.inside.Opposites.{opposite_record, IsNamedAt}
 use Rattle.vcd_edit.specs.inside.Opposites.{IsOppositeRecord}
 use Rattle.vcd_edit.proofs.OppositeRecords.{pieces_ready, opposite_is_record, leads_other_way}
-use Rattle.vcd_edit.proofs.OppositeRecords.{in_order, ready_moved}
+use Rattle.vcd_edit.proofs.OppositeRecords.{in_order, ready_moved, no_pieces_back}
 use Rattle.vcd_edit.proofs.OppositeRecords.{lead_moved, word_fits, word_named, word_same, end_same}
 
 -- each piece of a record that fits
@@ -46,8 +46,8 @@ module _ (c : Contents) (r : RecordView) (fits : Fits r c) (one : HasOneKindOfPa
       (subst (λ x. All (PieceReadyIn x) r.pieces) (sym to_moved)
       (ready_moved c r one (pieces_ready c r fits one sound)))
 
-  pub apart_then : HaveDistinctSignals l
-  apart_then = subst HaveDistinctSignals (sym whole) one.apart
+  pub rise_then : RiseFrom 0 l
+  rise_then = subst (RiseFrom 0) (sym whole) one.rise
 
   -- after the pieces, before the word
   module _ (spliced : Contents) (to_spliced : spliced ≡ with_pieces moved l) where
@@ -68,7 +68,7 @@ module _ (c : Contents) (r : RecordView) (fits : Fits r c) (one : HasOneKindOfPa
           ∙ ap (λ x. with_end r.other_end (with_first_word r.word x)) spliced_is ∙ in_order c r one
 
       module _ (qs : List PieceView) (lead : AreOppositePieces moved l qs) (q : RecordView)
-          (pieces : q.pieces ≡ reverse qs) (word : q.word ≡ opposite_word r.word spliced)
+          (pieces : q.pieces ≡ qs) (word : q.word ≡ opposite_word r.word spliced)
           (signal : q.signal ≡ opposite_signal r.signal c) (other_end : q.other_end ≡ opposite_end r.other_end named)
         where
           lead_is : AreOppositePieces c r.pieces qs
@@ -85,6 +85,12 @@ module _ (c : Contents) (r : RecordView) (fits : Fits r c) (one : HasOneKindOfPa
 
           pub is_record_then : HasOneKindOfPart q
           is_record_then = subst HasOneKindOfPart (sym other_way) (opposite_is_record c r qs one lead_is)
+
+          pub neither_then : HasNeitherPiecesNorSignal r → HasNeitherPiecesNorSignal q
+          neither_then none = (
+            pieces ∙ no_pieces_back c r.pieces qs lead_is none.0,
+            signal ∙ ap (λ m. opposite_signal m c) none.1,
+          )
 
           pub leads_then : IsOppositeRecord c r q
           leads_then = subst (IsOppositeRecord c r) (sym other_way) (leads_other_way c r qs one fits sound lead_is)

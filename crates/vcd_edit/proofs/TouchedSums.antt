@@ -12,13 +12,13 @@ use Rattle.vcd_core.specs.Contents.{Contents, SignalContents, no_signal, signal_
 use Rattle.vcd_edit.specs.RecordView.{PieceView}
 use Rattle.vcd_edit.specs.AppliedRecords.{changes_with_piece, signal_with_changes, with_piece}
 use Rattle.vcd_edit.specs.AppliedRecords.{with_pieces}
-use Rattle.vcd_edit.specs.AppliedRecords.{HaveDistinctSignals}
+use Rattle.vcd_edit.specs.AppliedRecords.{RiseFrom}
 use Rattle.vcd_edit.specs.Touched.{same_change, touched_count, touched_in_signal, touched_from}
 use Rattle.vcd_edit.specs.Touched.{piece_advance}
 use Rattle.vcd_edit.specs.inside.Exchanges.{AreOppositePieces}
 use Rattle.vcd_edit.proofs.TouchedParts.{same_change_self}
 use Rattle.vcd_edit.proofs.OppositePieces.{signal_here, signal_kept, counts_kept, count_kept}
-use Rattle.vcd_edit.proofs.OppositePieces.{none_all}
+use Rattle.vcd_edit.proofs.OppositePieces.{all_from}
 
 -- ---- the sum over the signals
 
@@ -80,27 +80,27 @@ touched_self o cs =
     prefix_self (x ∷ xs) = cond-true (same_change x x) _ _ (same_change_self x) ∙ omega (arith, prefix_self xs)
 
 -- what opposite pieces store, with the opposite offsets
-pub stored_within : (advance : ℕ → ℤ) (c : Contents) (ps qs : List PieceView) → AreOppositePieces c ps qs
-    → HaveDistinctSignals ps
+pub stored_within : (advance : ℕ → ℤ) (c : Contents) (ps qs : List PieceView) (j : ℕ) → RiseFrom j ps
+    → AreOppositePieces c ps qs
     → All (λ p. advance p.signal ≡ neg_ℤ p.by) ps
     → sum_by (λ q. length q.changes) qs ≤ touched_from advance 0 c.signals (map Some (with_pieces c ps).signals)
 unfolding with_pieces
-stored_within advance c [] [] lead apart opposite = omega arith
-stored_within advance c [] (q ∷ qs) lead apart opposite = absurd lead
-stored_within advance c (p ∷ ps) [] lead apart opposite = absurd lead
-stored_within advance c (p ∷ ps) (q ∷ qs) (within, leads, lead) (none, apart) opposite =
+stored_within advance c [] [] j rise lead opposite = omega arith
+stored_within advance c [] (q ∷ qs) j rise lead opposite = absurd lead
+stored_within advance c (p ∷ ps) [] j rise lead opposite = absurd lead
+stored_within advance c (p ∷ ps) (q ∷ qs) j (from, rise) (within, leads, lead) opposite =
     let next = with_piece c p in
     let end = with_pieces next ps in
     let after = map Some end.signals in
     let old = signal_at c p.signal in
     let new = signal_with_changes old (changes_with_piece p old.changes) in
-    let rest = stored_within advance next ps qs lead apart
+    let rest = stored_within advance next ps qs (suc p.signal) rise lead
     (All-tail (λ p. advance p.signal ≡ neg_ℤ p.by) p ps opposite) in
     let in_after : p.signal < length after =
     omega (arith, within, length-map {A = SignalContents} end.signals Some, counts_kept next ps, count_kept c p) in
     let partner : get_or after p.signal None ≡ Some new =
     get_or-map Some end.signals p.signal no_signal None (omega (arith, within, counts_kept next ps, count_kept c p))
-    ∙ ap Some (signal_kept next ps p.signal none ∙ signal_here c p within) in
+    ∙ ap Some (signal_kept next ps p.signal (suc p.signal) (omega arith) rise ∙ signal_here c p within) in
     let moved = touched-set advance 0 c.signals after p.signal no_signal new None within in_after in
     let mine : touched_count (neg_ℤ p.by) old.changes new.changes
     ≡ touched_in_signal (advance (0 + p.signal)) old (get_or after p.signal None) =
@@ -112,27 +112,16 @@ stored_within advance c (p ∷ ps) (q ∷ qs) (within, leads, lead) (none, apart
     ap (touched_in_signal (advance (0 + p.signal)) new) partner ∙ touched_self (advance (0 + p.signal)) new.changes in
     omega (arith, sum_by-cons (λ (q : PieceView). length q.changes) q qs, rest, leads.stored, moved, mine, nothing)
 
-pub sum_by-reverse : (f : PieceView → ℕ) (ps : List PieceView) → sum_by f (reverse ps) ≡ sum_by f ps
-sum_by-reverse f [] = refl
-sum_by-reverse f (p ∷ ps) =
-    ap (sum_by f) (reverse-append (p ∷ []) ps) ∙ sum_by-append f (reverse ps) (p ∷ [])
-    ∙ omega (arith, sum_by-reverse f ps, sum_by-cons f p ps, sum_by-cons f p [])
-
--- the changes in pieces, counted in the code
-pub sum_by-map : {X Y : Type 0} (f : Y → ℕ) (g : X → Y) (xs : List X) → sum_by f (map g xs) ≡ sum_by (λ x. f (g x)) xs
-sum_by-map f g [] = refl
-sum_by-map f g (x ∷ xs) = sum_by-cons f (g x) (map g xs) ∙ ap (λ n. f (g x) + n) (sum_by-map f g xs)
-    ∙ sym (sum_by-cons (λ x. f (g x)) x xs)
-
 -- ---- the offsets of a record's own pieces
 
-pub own_advances : (ps : List PieceView) → HaveDistinctSignals ps → All (λ p. piece_advance ps p.signal ≡ neg_ℤ p.by) ps
+pub own_advances : (ps : List PieceView) (j : ℕ) → RiseFrom j ps → All (λ p. piece_advance ps p.signal ≡ neg_ℤ p.by) ps
 unfolding piece_advance
-own_advances [] apart = λ k d less. absurd (omega arith)
-own_advances (p ∷ ps) (none, apart) =
-    let rest = own_advances ps apart in
+own_advances [] j rise = λ k d less. absurd (omega arith)
+own_advances (p ∷ ps) j (from, rise) =
+    let rest = own_advances ps (suc p.signal) rise in
     All-cons (λ q. piece_advance (p ∷ ps) q.signal ≡ neg_ℤ q.by) p ps
     (cond-true (p.signal == p.signal) _ _ (eq-eqb p.signal p.signal refl))
     (λ k d less. cond-false (p.signal == (get_or ps k d).signal) _ _
-    (ne_eqb p.signal (get_or ps k d).signal (λ same. none_all p.signal ps none k d less (sym same)))
+    (ne_eqb p.signal (get_or ps k d).signal
+    (λ same. absurd (omega (arith, same, all_from (suc p.signal) ps rise k d less))))
     ∙ rest k d less)

@@ -1,10 +1,11 @@
 -- What a record makes of a capture, and which records fit one. The rules are the project's own.
-use Rattle.std.specs.Prelude.{◌≡◌, ◌≢◌, ℕ, ◌<◌, ◌≤◌, List, [], ◌∷◌, length, drop, All, Option, Some}
-use Rattle.std.specs.Prelude.{None}
+use Rattle.std.specs.Prelude.{◌≡◌, ◌≢◌, ◌⊎◌, ℕ, suc, ◌<◌, ◌≤◌, List, [], ◌∷◌, length, drop, All}
+use Rattle.std.specs.Prelude.{Option, Some, None}
 use Rattle.std.specs.List.{insert, remove}
 use Rattle.vcd_core.specs.declared.wave.Change.{Change}
 use Rattle.vcd_core.specs.Contents.{Contents, SignalContents, signal_at, with_signal}
 use Rattle.vcd_core.specs.Splice.{AllTicksFit, spliced_changes}
+use Rattle.vcd_core.specs.Names.{full_names}
 use Rattle.vcd_core.specs.Sound.{IsSound}
 use Rattle.vcd_edit.specs.RecordView.{PieceView, RecordView}
 use Rattle.vcd_edit.specs.Effect.{renamed_signal}
@@ -53,6 +54,10 @@ abbrev pub PutsNoSignalIn : Option (ℕ × Option SignalContents) → Type 0
 PutsNoSignalIn None = Unit {0}
 PutsNoSignalIn (Some m) = m.1 ≡ None
 
+-- no signal is put in, taken out or given other changes
+abbrev pub HasNeitherPiecesNorSignal : RecordView → Type 0
+HasNeitherPiecesNorSignal r = (r.pieces ≡ []) × (r.signal ≡ None)
+
 -- the capture with another end
 abbrev pub with_end : Option ℕ → Contents → Contents
 with_end None c = c
@@ -96,20 +101,20 @@ pub record Fits (r : RecordView) (c : Contents) : Type 0 where
   pub signal : SignalFits c r.signal
   pub sound : IsSound (apply_record r c)
 
+-- a step from one capture to another puts a signal in, or leaves all full names as they are
+abbrev pub PutsInOrKeepsNames : Contents → Contents → Type 0
+PutsInOrKeepsNames c d =
+    (length c.signals < length d.signals) ⊎ (full_names d.signals ≡ full_names c.signals)
+
 -- ---- which records there are
 
--- no piece is for the signal at this position
-abbrev pub NoPieceFor : ℕ → List PieceView → Type 0
-NoPieceFor k [] = Unit {0}
-NoPieceFor k (p ∷ ps) = (p.signal ≢ k) × NoPieceFor k ps
-
--- each signal has at most one piece
-abbrev pub HaveDistinctSignals : List PieceView → Type 0
-HaveDistinctSignals [] = Unit {0}
-HaveDistinctSignals (p ∷ ps) = NoPieceFor p.signal ps × HaveDistinctSignals ps
+-- pieces for signals from a position on, each for a later signal than the piece before it
+abbrev pub RiseFrom : ℕ → List PieceView → Type 0
+RiseFrom k [] = Unit {0}
+RiseFrom k (p ∷ ps) = (k ≤ p.signal) × RiseFrom (suc p.signal) ps
 
 -- a record has pieces, or a word, or a signal to put in or take out: at most one of the three
 pub record HasOneKindOfPart (r : RecordView) : Type 0 where
-  pub apart : HaveDistinctSignals r.pieces
+  pub rise : RiseFrom 0 r.pieces
   pub word_alone : r.word ≢ None → r.pieces ≡ []
   pub signal_alone : r.signal ≢ None → (r.pieces ≡ []) × (r.word ≡ None)

@@ -2,7 +2,7 @@
 use Rattle.std.specs.Prelude.{ℕ, ℤ, pos, ◌-ℤ◌, neg_ℤ, length}
 use Rattle.vcd_core.specs.Contents.{Contents}
 use Rattle.vcd_edit.specs.declared.edit.Edit.{Edit}
-use Rattle.vcd_edit.specs.declared.edit.Edit.TheVariants.{Remove, Shift, Cut, Derive}
+use Rattle.vcd_edit.specs.declared.edit.Edit.TheVariants.{Rename, Remove, Shift, Cut, Derive}
 use Rattle.vcd_edit.specs.Effect.{effect}
 use Rattle.vcd_edit.specs.Touched.{Pairing, stays, takes_out, puts_in, partners, touched_from}
 
@@ -22,6 +22,11 @@ edit_pairing e c = stays
 abbrev pub touched_by_edit : Edit → Contents → ℕ
 touched_by_edit e c = touched_from (λ k. edit_advance e) 0 c.signals
     (partners (edit_pairing e c) (effect e c).signals)
+
+-- an edit that gives a signal another name
+abbrev pub IsRename : Edit → Type 0
+IsRename (Rename k word) = Unit {0}
+IsRename e = ⊥
 
 -- an edit that takes a signal out
 abbrev pub IsRemove : Edit → Type 0

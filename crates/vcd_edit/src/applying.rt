@@ -6,16 +6,16 @@ ghost use Rattle.vcd_core.specs.Sound.{IsSound};
 ghost use Rattle.vcd_edit.specs.Effect.{effect as edit_effect};
 ghost use Rattle.vcd_edit.specs.EditFaults.{edit_fault};
 ghost use Rattle.vcd_edit.specs.EditAnswers.{MayRefuse};
-ghost use Rattle.vcd_edit.specs.AppliedRecords.{apply_record, Fits};
+ghost use Rattle.vcd_edit.specs.AppliedRecords.{apply_record, Fits, HasNeitherPiecesNorSignal};
 ghost use Rattle.vcd_edit.specs.Touched.{stored_changes};
-ghost use Rattle.vcd_edit.specs.TouchedByEdit.{touched_by_edit, IsRemove};
+ghost use Rattle.vcd_edit.specs.TouchedByEdit.{touched_by_edit, IsRename, IsRemove};
 
 use crate::checking::check;
 use crate::edit::Edit;
+use crate::exchange::exchange_record;
 use crate::fault::EditError;
 use crate::plans::plan;
 use crate::record::Record;
-use crate::reverting::exchange_record;
 use std::alloc::Global;
 use vcd_core::Capture;
 
@@ -23,7 +23,8 @@ use vcd_core::Capture;
 ///
 /// An edit that has a fault, as [`check`] shows it, is refused with that fault, and takes no
 /// memory. An edit without a fault is refused only if memory runs out; a remove never is. A refused
-/// edit leaves the capture as it was. The record stores touched changes only.
+/// edit leaves the capture as it was. The record stores touched changes only, and that of a rename
+/// none: it has neither pieces nor a signal.
 ///
 /// A force and a shift cost a binary search, the changes that they put in and take out, and one
 /// move of the later ones. A cut costs as much for each signal that changes at or after `from`. An
@@ -42,6 +43,7 @@ pub fn apply(alloc: Global, capture: &mut Capture, edit: &Edit) -> Result<Record
         ≡ contents capture.old) }
     ensures stored { IfOk result
         (λ r. stored_changes r ≤ touched_by_edit edit.now (contents capture.old)) }
+    ensures renamed { IsRename edit.now → IfOk result HasNeitherPiecesNorSignal }
     ensures sound { OnOk result (IsSound (contents capture.new)) }
     ensures refused { IfErr result (MayRefuse (edit_fault edit.now (contents capture.old))) }
     ensures never_refused { IsRemove edit.now → edit_fault edit.now (contents capture.old) ≡ None →

@@ -1,8 +1,9 @@
-//! How the pieces of a record are exchanged with ranges of a capture's waves.
+//! How a record is exchanged with a capture: its pieces with ranges of waves, and its other parts.
 
 mod exchanges;
+mod records;
 mod reservations;
 mod trimming;
 
-pub(crate) use exchanges::exchange_pieces;
-pub(crate) use reservations::reserve_all;
+pub use records::Kept;
+pub(crate) use records::exchange_record;

@@ -20,6 +20,7 @@ mod tests;
 pub use applying::apply;
 pub use checking::check;
 pub use edit::{Edit, Rule};
+pub use exchange::Kept;
 pub use fault::EditError;
 pub use laws::{
     bit_of_one_bit, cut_keeps_other_ticks, cuts_commute, deglitch_takes_short_runs_out,
@@ -27,4 +28,4 @@ pub use laws::{
     rename_and_back, shift_and_back,
 };
 pub use record::Record;
-pub use reverting::{Kept, revert};
+pub use reverting::revert;

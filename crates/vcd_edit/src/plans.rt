@@ -4,8 +4,8 @@ ghost use Rattle.std.specs.Prelude.{◌≡◌, [], None, IsOk, IfOk};
 ghost use Rattle.vcd_core.specs.CaptureContents.{contents};
 ghost use Rattle.vcd_core.specs.Sound.{IsSound};
 ghost use Rattle.vcd_edit.specs.EditFaults.{edit_fault};
-ghost use Rattle.vcd_edit.specs.AppliedRecords.{PutsNoSignalIn};
-ghost use Rattle.vcd_edit.specs.TouchedByEdit.{IsRemove};
+ghost use Rattle.vcd_edit.specs.AppliedRecords.{PutsNoSignalIn, HasNeitherPiecesNorSignal};
+ghost use Rattle.vcd_edit.specs.TouchedByEdit.{IsRename, IsRemove};
 ghost use Rattle.vcd_edit.specs.inside.Plans.{IsPlan};
 
 mod cut;
@@ -32,6 +32,7 @@ pub(crate) fn plan(alloc: Global, capture: &Capture, edit: &Edit) -> Result<Reco
     ensures never_refused { IsRemove edit.now → IsOk result }
     ensures taken_out { IsRemove edit.now → IfOk result
         (λ r. (r.pieces ≡ []) × PutsNoSignalIn r.signal) }
+    ensures renamed { IsRename edit.now → IfOk result HasNeitherPiecesNorSignal }
 {
     match *edit {
         Edit::Rename { signal, word } => rename::plan(alloc, capture, signal, word),

@@ -22,8 +22,8 @@ pub struct Piece {
 /// The difference between two captures. It has pieces of waves, a new first word of a signal's
 /// name, or a signal to put in or take out. It may also have another end.
 ///
-/// Each signal has at most one piece. A record with a word has no pieces, and one with a signal to
-/// put in or take out has neither. Contracts see a record as plain data.
+/// Pieces rise by signal, so each signal has at most one. A record with a word has no pieces, and
+/// one with a signal to put in or take out has neither. Contracts see a record as plain data.
 #[derive(Drop)]
 pub struct Record {
     pub(crate) pieces: Vec<Piece>,

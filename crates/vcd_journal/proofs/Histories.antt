@@ -2,19 +2,18 @@
 use Rattle.std.proofs.Common.{◌≡◌, ◌<◌, ◌≤◌, ◌+◌, ℕ, zero, suc, List, [], ◌∷◌, ◌-◌, length, take}
 use Rattle.std.proofs.Common.{drop, refl, sym, ◌∙◌}
 use Rattle.std.proofs.Common.{ap, subst, Some, arith}
-use Rattle.std.specs.Prelude.{slice_get, nat_lt, Bool, true, false}
-use Rattle.std.proofs.lemmas.Bool.Decides.{nat_tests}
+use Rattle.std.specs.Prelude.{slice_get}
 use Rattle.std.proofs.lemmas.List.{take_all, length-take}
 use Rattle.vcd_core.specs.Contents.{Contents}
 use Rattle.circular_buffer.specs.Buffer.{Buffer}
 use Rattle.vcd_edit.specs.declared.edit.Edit.{Edit}
 use Rattle.vcd_edit.specs.Effect.{effect}
 use Rattle.vcd_edit.specs.RecordView.{RecordView}
-use Rattle.vcd_edit.specs.AppliedRecords.{apply_record, Fits}
+use Rattle.vcd_edit.specs.AppliedRecords.{apply_record, Fits, PutsInOrKeepsNames}
 use Rattle.vcd_journal.specs.declared.step.Step.TheVariants as steps
 use Rattle.vcd_journal.specs.Machine.{Machine, machine_after_edit, machine_after_depth}
-use Rattle.vcd_journal.specs.Machine.{may_need_memory}
-use Rattle.vcd_journal.specs.inside.Histories.{AllRecordsFit, HasNoFewerSignals, AreSessionRings}
+use Rattle.vcd_journal.specs.Machine.{MayNeedMemory}
+use Rattle.vcd_journal.specs.inside.Histories.{AllRecordsFit, FirstMayNeedMemory, AreSessionRings}
 use Rattle.vcd_journal.specs.ReachedCaptures.{reached_captures}
 use Rattle.vcd_journal.specs.inside.Histories.{PopsRecord}
 
@@ -126,31 +125,22 @@ record_put_back r (q ∷ rs) n first within = let same : r ≡ q = cc in rw same
 
 -- ---- out of memory
 
--- a step by the first record that is never refused where fewer signals are left
-pub no_fewer_left : (c : Contents) (r : RecordView) (rs : List RecordView) → Some r ≡ slice_get rs 0
-    → (length (apply_record r c).signals < length c.signals → ⊥) → HasNoFewerSignals c rs
-no_fewer_left c r [] first never = tt
-no_fewer_left c r (q ∷ rs) first never =
-    let same : r ≡ q = cc in
-    subst (λ (p : RecordView). length c.signals ≤ length (apply_record p c).signals) same
-    (at_most (length (apply_record r c).signals) (length c.signals) never)
-  where
-    at_most : (a b : ℕ) → (a < b → ⊥) → b ≤ a
-    at_most a b never = choose (nat_lt a b) refl
-      where
-        choose : (t : Bool) → nat_lt a b ≡ t → b ≤ a
-        choose true less = absurd (never (grind (arith, nat_tests)))
-        choose false more = grind (arith, nat_tests)
+-- a step by the first record
+pub first_needs : (c : Contents) (r : RecordView) (rs : List RecordView) → Some r ≡ slice_get rs 0
+    → PutsInOrKeepsNames c (apply_record r c) → FirstMayNeedMemory c rs
+first_needs c r [] first needs = tt
+first_needs c r (q ∷ rs) first needs =
+    let same : r ≡ q = cc in subst (λ (p : RecordView). PutsInOrKeepsNames c (apply_record p c)) same needs
 
-pub undo_needs : (c : Contents) (past future : List RecordView) (depth : ℕ) → HasNoFewerSignals c past
-    → may_need_memory (machine_of c past future depth) steps.Undo ≡ true
-undo_needs c [] future depth more = grind (arith, nat_tests)
-undo_needs c (r ∷ rs) future depth more = grind (arith, nat_tests)
+pub undo_needs : (c : Contents) (past future : List RecordView) (depth : ℕ) → 0 < length past
+    → FirstMayNeedMemory c past → MayNeedMemory (machine_of c past future depth) steps.Undo
+undo_needs c [] future depth some needs = absurd (omega (arith, some))
+undo_needs c (r ∷ rs) future depth some needs = needs
 
-pub redo_needs : (c : Contents) (past future : List RecordView) (depth : ℕ) → HasNoFewerSignals c future
-    → may_need_memory (machine_of c past future depth) steps.Redo ≡ true
-redo_needs c past [] depth more = grind (arith, nat_tests)
-redo_needs c past (r ∷ rs) depth more = grind (arith, nat_tests)
+pub redo_needs : (c : Contents) (past future : List RecordView) (depth : ℕ) → 0 < length future
+    → FirstMayNeedMemory c future → MayNeedMemory (machine_of c past future depth) steps.Redo
+redo_needs c past [] depth some needs = absurd (omega (arith, some))
+redo_needs c past (r ∷ rs) depth some needs = needs
 
 -- ---- another depth
 

@@ -19,7 +19,7 @@ use Rattle.vcd_journal.specs.declared.step.Answer.{Answer}
 use Rattle.vcd_journal.specs.declared.step.Answer.TheVariants.{Done, Refused}
 use Rattle.vcd_journal.specs.Machine.{Machine, machine_after_edit, machine_after_depth}
 use Rattle.vcd_journal.specs.Machine.{refused_outcome, undo_outcome}
-use Rattle.vcd_journal.specs.Machine.{redo_outcome, step_outcome, may_need_memory, memory_refusal}
+use Rattle.vcd_journal.specs.Machine.{redo_outcome, step_outcome, MayNeedMemory, memory_refusal}
 use Rattle.vcd_journal.specs.Machine.{IsStep, AreSteps}
 use Rattle.vcd_journal.specs.History.{is_depth}
 
@@ -29,18 +29,13 @@ pub edit_accepted : (e : Edit) (m n : Machine) → edit_fault e m.now ≡ None �
     → IsStep m (steps.Edit e) Done n
 edit_accepted e m n none is = inl (rw (none, is) refl)
 
--- an edit without a fault may need memory unless it is a remove
-edit_needs : (e : Edit) (m : Machine) → edit_fault e m.now ≡ None → (IsRemove e → ⊥)
-    → may_need_memory m (steps.Edit e) ≡ true
-edit_needs e m none other = let keeps = effect_keeps e m.now other in rw none (grind (arith, nat_tests))
-
 pub edit_refused : (e : Edit) (found : EditError) (m n : Machine) → MayRefuse (edit_fault e m.now) found
     → (IsRemove e → edit_fault e m.now ≡ None → ⊥) → n ≡ m
     → IsStep m (steps.Edit e) (Refused (refusals.Edit found)) n
 edit_refused e found m n (inl here) never is = inl (rw (here, is) refl)
 edit_refused e found m n (inr refused) never is =
     inr (record {
-      needs = edit_needs e m refused.0 (λ removes. never removes refused.0);
+      needs = effect_keeps e m.now (λ removes. never removes refused.0);
       accepted = rw (refused.0) refl;
       answer = ap (λ r. Refused (refusals.Edit r)) refused.1;
       unchanged = is;
@@ -65,7 +60,7 @@ undo_done : (m : Machine) (past : List Contents) → 0 < length past → (undo_o
 undo_done m [] some = absurd (omega arith)
 undo_done m (back ∷ older) some = refl
 
-pub undo_no_memory : (m n : Machine) → 0 < length m.past → may_need_memory m steps.Undo ≡ true → n ≡ m
+pub undo_no_memory : (m n : Machine) → 0 < length m.past → MayNeedMemory m steps.Undo → n ≡ m
     → IsStep m steps.Undo (Refused refusals.NoMemory) n
 undo_no_memory m n some needs is =
     inr (record { needs = needs; accepted = undo_done m m.past some; answer = refl; unchanged = is })
@@ -88,7 +83,7 @@ redo_done : (m : Machine) (future : List Contents) → 0 < length future → (re
 redo_done m [] some = absurd (omega arith)
 redo_done m (next ∷ later) some = refl
 
-pub redo_no_memory : (m n : Machine) → 0 < length m.future → may_need_memory m steps.Redo ≡ true → n ≡ m
+pub redo_no_memory : (m n : Machine) → 0 < length m.future → MayNeedMemory m steps.Redo → n ≡ m
     → IsStep m steps.Redo (Refused refusals.NoMemory) n
 redo_no_memory m n some needs is =
     inr (record { needs = needs; accepted = redo_done m m.future some; answer = refl; unchanged = is })
@@ -118,8 +113,7 @@ pub depth_no_memory : (depth : ℕ) (m n : Machine) → is_depth depth ≡ true 
     → n ≡ m → IsStep m (steps.Depth depth) (Refused refusals.NoMemory) n
 depth_no_memory depth m n is_one most greater is =
     let small : nat_lt depth (length m.future) ≡ false = grind (arith, nat_tests) in
-    let needs : nat_lt m.depth depth ≡ true = grind (arith, nat_tests) in
-    inr (record { needs = needs; accepted = rw (is_one, small) refl; answer = refl; unchanged = is })
+    inr (record { needs = greater; accepted = rw (is_one, small) refl; answer = refl; unchanged = is })
 
 -- ---- all steps
 

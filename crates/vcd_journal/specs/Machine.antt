@@ -1,12 +1,13 @@
 -- A session as a list of captures: the current one, and those that undo and redo reach. The
 -- project's own.
-use Rattle.std.specs.Prelude.{◌≡◌, ◌⊎◌, ℕ, ◌-◌, nat_lt, nat_le, Bool, not, IsTrue, if◌then◌else◌}
+use Rattle.std.specs.Prelude.{◌≡◌, ◌⊎◌, ◌<◌, ◌≤◌, ℕ, ◌-◌, nat_lt, not, if◌then◌else◌}
 use Rattle.std.specs.Prelude.{List, [], ◌∷◌}
 use Rattle.std.specs.Prelude.{length, take, Option, Some, None, Result, MatchResult}
 use Rattle.vcd_core.specs.Contents.{Contents}
 use Rattle.vcd_edit.specs.declared.edit.Edit.{Edit}
 use Rattle.vcd_edit.specs.declared.fault.EditError.{EditError}
 use Rattle.vcd_edit.specs.declared.fault.EditError.TheVariants as errors
+use Rattle.vcd_edit.specs.AppliedRecords.{PutsInOrKeepsNames}
 use Rattle.vcd_edit.specs.Effect.{effect}
 use Rattle.vcd_edit.specs.EditFaults.{edit_fault}
 use Rattle.vcd_journal.specs.declared.step.Step.{Step}
@@ -105,11 +106,12 @@ step_outcome m (steps.Depth depth) = depth_outcome depth m
 
 -- ---- every possible outcome of a step
 
--- whether a step may run out of memory: a depth only if it is greater, another step only if it
--- leaves no fewer signals
-abbrev pub may_need_memory : Machine → Step → Bool
-may_need_memory m (steps.Depth depth) = nat_lt m.depth depth
-may_need_memory m s = nat_le (length m.now.signals) (length (step_outcome m s).after.now.signals)
+-- a step may run out of memory: an edit only if it leaves no fewer signals, a depth only if it is
+-- greater, an undo or redo only if it puts a signal in or leaves all full names as they are
+abbrev pub MayNeedMemory : Machine → Step → Type 0
+MayNeedMemory m (steps.Edit e) = length m.now.signals ≤ length (effect e m.now).signals
+MayNeedMemory m (steps.Depth depth) = m.depth < depth
+MayNeedMemory m s = PutsInOrKeepsNames m.now (step_outcome m s).after.now
 
 -- the answer if memory is refused
 abbrev pub memory_refusal : Step → Answer
@@ -118,7 +120,7 @@ memory_refusal s = Refused refusals.NoMemory
 
 -- a step that would be accepted is refused because memory ran out, and changes nothing
 pub record IsMemoryRefusal (m : Machine) (s : Step) (a : Answer) (n : Machine) : Type 0 where
-  pub needs : IsTrue (may_need_memory m s)
+  pub needs : MayNeedMemory m s
   pub accepted : (step_outcome m s).answer ≡ Done
   pub answer : a ≡ memory_refusal s
   pub unchanged : n ≡ m

@@ -7,7 +7,8 @@ ghost use Rattle.std.specs.Prelude.{◌≡◌, ◌≤◌, ◌<◌, max, [], ◌�
 ghost use Rattle.circular_buffer.specs.Buffer.{buffer};
 ghost use Rattle.vcd_core.specs.CaptureContents.{contents};
 ghost use Rattle.vcd_core.specs.Sound.{IsSound};
-ghost use Rattle.vcd_journal.specs.inside.Histories.{AllRecordsFit, HasNoFewerSignals, PopsRecord};
+ghost use Rattle.vcd_journal.specs.inside.Histories.{AllRecordsFit, FirstMayNeedMemory};
+ghost use Rattle.vcd_journal.specs.inside.Histories.{PopsRecord};
 
 use circular_buffer::HeapCircularBuffer;
 use std::alloc::Global;
@@ -71,7 +72,7 @@ pub fn enlarge(ring: &mut Ring, capacity: usize) -> Result<(), NoMemory>
 
 /// Applies the newest record of `from` to the capture. That record is removed, and the one that
 /// undoes it becomes the newest of `to`. If memory is refused, nothing changes. A step that removes
-/// a signal never needs memory.
+/// a signal or changes a name never needs memory.
 pub fn apply_newest(
     alloc: Global,
     capture: &mut Capture,
@@ -91,8 +92,7 @@ pub fn apply_newest(
     ensures sound { IsSound (contents capture.new) }
     ensures from_room { from.new.capacity ≡ from.old.capacity }
     ensures to_room { to.new.capacity ≡ to.old.capacity }
-    ensures no_fewer_signals { OnErr result (HasNoFewerSignals (contents capture.old)
-        from.old.items) }
+    ensures needs { OnErr result (FirstMayNeedMemory (contents capture.old) from.old.items) }
     ensures unchanged { OnErr result ((contents capture.new ≡ contents capture.old)
         × (from.new ≡ from.old) × (to.new ≡ to.old)) }
 {

@@ -23,8 +23,8 @@ use vcd_edit::Edit;
 /// current one. A record holds at most as many changes as its step touched.
 ///
 /// A refused step changes nothing: contents, both histories and the depth are as before. A step
-/// that removes a signal never needs memory. Contracts see a session as the captures that undo and
-/// redo can reach.
+/// that removes a signal never needs memory, nor does an undo or redo that changes a name.
+/// Contracts see a session as the captures that undo and redo can reach.
 #[derive(Drop)]
 pub struct Session {
     capture: Capture,

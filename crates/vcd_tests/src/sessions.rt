@@ -109,8 +109,14 @@ fn oldest_step_is_dropped(rt: HostRuntime) -> Result<(), Fail> {
         Step::Undo,
         Step::Undo,
         Step::Undo,
+        Step::Redo,
+        rename(b""),
+        rename(b"a"),
+        Step::Redo,
     ];
     let text = "ok ok ok ok ok NothingToUndo 9|b 0@0 1@5 0 2";
+    check_answers_of(&rt, rt.alloc(), 2, &steps[..6], text)?;
+    let text = "ok ok ok ok ok NothingToUndo ok BadWord ok NothingToRedo 9|a 0@0 1@5 2 0";
     check_answers_of(&rt, rt.alloc(), 2, &steps, text)
 }
 
@@ -190,8 +196,9 @@ fn greater_depth_holds_more(rt: HostRuntime) -> Result<(), Fail> {
         Step::Undo,
         Step::Undo,
         Step::Undo,
+        Step::Depth(0),
         Step::Depth(DEPTH_LIMIT),
     ];
-    let text = "ok ok ok ok ok ok NothingToUndo ok 9|b 0@0 1@5 0 2";
+    let text = "ok ok ok ok ok ok NothingToUndo BadDepth ok 9|b 0@0 1@5 0 2";
     check_answers_of(&rt, rt.alloc(), 1, &steps, text)
 }

@@ -18,8 +18,8 @@ use Rattle.vcd_text.specs.Letters.{letters_of_digits, extension}
 use Rattle.vcd_text.specs.Grammar.{VariableDeclaration, ValueChange, ParseState, is_skipped}
 use Rattle.vcd_text.specs.Grammar.{variable_of, kept_variables}
 use Rattle.vcd_text.specs.Grammar.{value_changes_after}
-use Rattle.vcd_text.specs.inside.FaultRows.{is_binary_number}
-use Rattle.vcd_text.specs.inside.FaultRows.{takes_binary_number}
+use Rattle.vcd_text.specs.inside.DigitTests.{is_binary_number}
+use Rattle.vcd_text.specs.inside.DigitTests.{takes_binary_number}
 use Rattle.vcd_text.specs.Grammar.{with_value_change}
 use Rattle.vcd_text.specs.Meaning.{latest_value}
 use Rattle.vcd_text.specs.inside.ChangeLog.{logged_letters, GivesLoggedValues, logged, AreGrouped, IsSameVariable}

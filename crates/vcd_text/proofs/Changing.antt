@@ -4,9 +4,9 @@ use Rattle.std.proofs.Common.{◌++◌, ◌&&◌}
 use Rattle.std.proofs.Common.{length, Some, None, IsSome, IsSomeAnd, Option, Result, Ok, Err}
 use Rattle.std.proofs.Common.{is_some, refl, sym, ap}
 use Rattle.std.proofs.Common.{subst, ◌∙◌, arith}
-use Rattle.std.specs.Prelude.{codes, nat_eq, IsTrue}
+use Rattle.std.specs.Prelude.{codes, nat_le, IsTrue}
 use Rattle.std.proofs.lemmas.List.{nil_from_length}
-use Rattle.std.proofs.lemmas.Bool.{or_parts, or_from, or_left, or_right, eqb-false}
+use Rattle.std.proofs.lemmas.Bool.{or_parts, and_from, lt-leb, eqb-false}
 use Rattle.vcd_text.specs.declared.fault.Fault.{Fault}
 use Rattle.vcd_text.specs.declared.fault.Fault.TheVariants.{NoMemory, BadTime, TimeBackwards}
 use Rattle.vcd_text.specs.declared.fault.Fault.TheVariants.{BadChange}
@@ -20,16 +20,18 @@ use Rattle.vcd_text.specs.Items.{is_command}
 use Rattle.vcd_text.specs.Items.{dump_words, declaration_words, vector_prefixes}
 use Rattle.vcd_text.specs.Items.{real_or_string_prefixes}
 use Rattle.vcd_text.specs.Grammar.{ParseState, VariableDeclaration}
-use Rattle.vcd_text.specs.inside.FaultRows.{Allows}
+use Rattle.vcd_text.specs.Grammar.{Allows}
 use Rattle.vcd_text.specs.Grammar.{state_after_item, word_texts}
 use Rattle.vcd_text.specs.Grammar.{variable_of}
-use Rattle.vcd_text.specs.inside.FaultRows.{is_tick, is_binary_number}
-use Rattle.vcd_text.specs.inside.FaultRows.{takes_binary_number}
-use Rattle.vcd_text.specs.inside.FaultRows.{ChangeShows, no_tick, tick_goes_back, missing_code}
-use Rattle.vcd_text.specs.inside.FaultRows.{unknown_scalar_code}
-use Rattle.vcd_text.specs.inside.FaultRows.{unknown_pair_code, no_value, value_too_long, begins_no_change}
-use Rattle.vcd_text.specs.inside.FaultRows.{among_changes}
-use Rattle.vcd_text.specs.inside.FaultRows.{WordShows, pair_prefixes}
+use Rattle.vcd_text.specs.inside.DigitTests.{is_tick, is_binary_number}
+use Rattle.vcd_text.specs.inside.DigitTests.{takes_binary_number}
+use Rattle.vcd_text.specs.Grammar.{digit_tests}
+use Rattle.vcd_text.specs.Faults.{WordShows, test_fails}
+use Rattle.vcd_core.specs.Tests.{first_fault, ◌unless◌}
+use Rattle.vcd_text.proofs.ItemFaults.{missing_code, declaration_late, begins_no_change}
+use Rattle.vcd_text.proofs.ItemTests.{fits_scalar, failed, failed_later, refuses_digits, refuses_length}
+use Rattle.vcd_text.proofs.ItemTests.{allows_stamp, allows_scalar}
+use Rattle.vcd_text.proofs.ItemTests.{allows_vector, allows_real_or_string, allows_dump_word}
 use Rattle.vcd_text.specs.inside.Variables.{VariablesMatch, RefusesChange, ChangeResult}
 use Rattle.vcd_text.specs.inside.Variables as variables
 use Rattle.vcd_text.specs.inside.Reading.{ParserMatches, AwaitsCode, IsBegun, IsAtState, WordStep}
@@ -44,7 +46,6 @@ use Rattle.vcd_text.proofs.Declaring.{agrees_by, agrees_as}
 use Rattle.vcd_text.proofs.PartChanges.{agrees_changed, refuses_file, seen_at}
 use Rattle.vcd_text.specs.declared.reading.part.Part.{Part}
 use Rattle.vcd_text.specs.inside.SeenParts.{seen_state, seen_tick, PartChange}
-use Rattle.std.proofs.lemmas.List.Folds.{list_any-append}
 
 -- ---- between two changes
 
@@ -72,16 +73,17 @@ whole_item old new w i between closed spelled item part c begun (agrees, taken) 
 -- a first word that shows a fault
 shown_at : (part : Part) (m : Parser) (c : ParseState) (begun : List WordOnLine) (w : WordOnLine) (fault : Fault)
     → m.item ≡ items.Nothing → m.in_body ≡ true → IsAtState part m c begun
-    → ChangeShows c [] w.text fault → (fault ≡ NoMemory) ⊎ WordShows c (word_texts begun) w.text fault
-shown_at part m c begun w fault between in_body (agrees, taken) row =
-    inr (among_changes (sym agrees.in_body
-    ∙ in_body)
-    (subst (λ bs. ChangeShows c (word_texts bs) w.text fault) (sym (none_begun m begun between taken)) row))
+    → (IsTrue c.in_body → WordShows c [] w.text fault)
+    → (fault ≡ NoMemory) ⊎ WordShows c (word_texts begun) w.text fault
+shown_at part m c begun w fault between in_body (agrees, taken) shown =
+    inr (subst (λ bs. WordShows c (word_texts bs) w.text fault) (sym (none_begun m begun between taken))
+    (shown (sym agrees.in_body ∙ in_body)))
 
 shows : (old new : Parser) (w : WordOnLine) (fault : Fault) → old.item ≡ items.Nothing → old.in_body ≡ true
-    → ((part : Part) (c : ParseState) → ParserMatches part old c → ChangeShows c [] w.text fault) → WordResult old w (Err fault) new
-shows old new w fault between in_body row part c begun at =
-    shown_at part old c begun w fault between in_body at (row part c at.0)
+    → ((part : Part) (c : ParseState) → ParserMatches part old c → IsTrue c.in_body → WordShows c [] w.text fault)
+    → WordResult old w (Err fault) new
+shows old new w fault between in_body shown part c begun at =
+    shown_at part old c begun w fault between in_body at (shown part c at.0)
 
 -- the state does not depend on the open item
 agrees_still : (part : Part) (m : Parser) (c : ParseState) (item : OpenItem) (line : ℕ) → ParserMatches part m c
@@ -93,14 +95,18 @@ agrees_still part m c item line agrees = agrees_as part m _ c agrees refl refl r
 pub no_stamp : (m new : Parser) (digits : List ℕ) (line : ℕ) → m.item ≡ items.Nothing → m.in_body ≡ true
     → is_tick digits ≡ false → WordResult m (word_on (35 ∷ digits) line) (Err BadTime) new
 no_stamp m new digits line between in_body isnt =
-    shows m new (word_on (35 ∷ digits) line) BadTime between in_body (λ part c agrees. no_tick digits refl refl isnt refl)
+    shows m new (word_on (35 ∷ digits) line) BadTime between in_body (λ part c agrees in_it.
+    test_fails (stamp digits) in_it refl
+    (failed BadTime (is_tick digits) ((TimeBackwards unless nat_le c.tick (number_of digits)) ∷ []) isnt))
 
 pub stamp_goes_back : (m new : Parser) (digits : List ℕ) (line tick : ℕ) → m.item ≡ items.Nothing → m.in_body ≡ true
     → is_tick digits ≡ true → tick ≡ number_of digits → tick < m.tick
     → WordResult m (word_on (35 ∷ digits) line) (Err TimeBackwards) new
 stamp_goes_back m new digits line tick between in_body is number back =
     shows m new (word_on (35 ∷ digits) line) TimeBackwards between in_body
-    (λ part c agrees. tick_goes_back digits refl refl is (omega (arith, agrees.tick)) refl)
+    (λ part c agrees in_it. test_fails (stamp digits) in_it refl
+    (failed_later BadTime TimeBackwards (is_tick digits) ((TimeBackwards unless nat_le c.tick (number_of digits)) ∷ [])
+    is (failed TimeBackwards (nat_le c.tick (number_of digits)) [] (lt-leb _ _ (omega (arith, agrees.tick))))))
 
 pub takes_stamp : (m : Parser) (digits : List ℕ) (line tick : ℕ) → m.item ≡ items.Nothing → m.in_body ≡ true
     → is_tick digits ≡ true → tick ≡ number_of digits → m.tick ≤ tick
@@ -109,7 +115,7 @@ takes_stamp m digits line tick between in_body is number later =
     whole_item m (record m { tick = tick }) (word_on (35 ∷ digits) line) (stamp digits) between between refl
     (λ part c agrees.
     let after : c.tick ≤ number_of digits = omega (arith, agrees.tick) in (
-      (sym agrees.in_body ∙ in_body, is, after),
+      allows_stamp c digits (sym agrees.in_body ∙ in_body) is after,
       agrees_by part _ _ agrees.seen agrees.header agrees.timescale agrees.in_body number agrees.part_is
           (knows_further m.variables (seen_state part c agrees.seen) c.header c.timescale c.in_body
           (seen_tick part (number_of digits)) (omega (arith, after)) agrees.variables)
@@ -122,11 +128,13 @@ pub takes_dump_word : (m : Parser) (text : List ℕ) (line : ℕ) → m.item ≡
     → is_one_of dump_words text ≡ true → WordResult m (word_on text line) (Ok tt) m
 takes_dump_word m text line between in_body is =
     whole_item m m (word_on text line) (dump_word text) between between refl
-    (λ part c agrees. ((sym agrees.in_body ∙ in_body, is), agrees))
+    (λ part c agrees. (allows_dump_word c text (sym agrees.in_body ∙ in_body) is, agrees))
 
 pub declares_late : (m new : Parser) (text : List ℕ) (line : ℕ) → m.item ≡ items.Nothing → m.in_body ≡ true
     → is_one_of declaration_words text ≡ true → WordResult m (word_on text line) (Err UnexpectedWord) new
-declares_late m new text line between in_body is = grind (arith, shows)
+declares_late m new text line between in_body is =
+    shows m new (word_on text line) UnexpectedWord between in_body
+    (λ part c agrees in_it. declaration_late c text in_it is)
 
 pub passes_over : (m : Parser) (text : List ℕ) (line : ℕ) → m.item ≡ items.Nothing → m.in_body ≡ true
     → is_command text ≡ true → is_one_of dump_words text ≡ false → is_one_of declaration_words text ≡ false
@@ -150,16 +158,16 @@ pub no_code : (m new : Parser) (letter : ℕ) (code : List ℕ) (line : ℕ) →
     → is_binary_digit letter ≡ true → length code ≡ 0 → WordResult m (word_on (letter ∷ code) line) (Err BadChange) new
 no_code m new letter code line between in_body is none =
     shows m new (word_on (letter ∷ code) line) BadChange between in_body
-    (λ part c agrees. missing_code letter refl (ap (λ cs. letter ∷ cs) (nil_from_length code none)) is refl)
+    (λ part c agrees in_it. subst (λ cs. WordShows c [] (letter ∷ cs) BadChange) (sym (nil_from_length code none))
+    (missing_code c letter in_it is))
 
 pub begins_nothing : (m new : Parser) (first : ℕ) (text : List ℕ) (line : ℕ) → m.item ≡ items.Nothing
     → m.in_body ≡ true
     → is_among (codes "#$") first ≡ false → is_binary_digit first ≡ false → is_among vector_prefixes first ≡ false
     → is_among real_or_string_prefixes first ≡ false → WordResult m (word_on (first ∷ text) line) (Err BadChange) new
 begins_nothing m new first text line between in_body no_command no_letter no_vector no_real_or_string =
-    let other : is_among (codes "#$" ++ pair_prefixes) first ≡ false = grind (arith, list_any-append, or_from) in
     shows m new (word_on (first ∷ text) line) BadChange between in_body
-    (λ part c agrees. begins_no_change first text refl refl no_letter other refl)
+    (λ part c agrees in_it. begins_no_change c first text in_it no_letter no_command no_vector no_real_or_string)
 
 -- some variable accepts the digits
 taken_by_some : (o : Option VariableDeclaration) (digits : List ℕ)
@@ -172,12 +180,14 @@ one_letter : (letter : ℕ) → is_binary_digit letter ≡ true → is_binary_nu
 one_letter letter is = λ i. is i && true
 
 bit_shows : (c : ParseState) (letter : ℕ) (code : List ℕ) (fault : Fault) → is_binary_digit letter ≡ true
-    → 0 < length code → RefusesChange c code (letter ∷ []) fault → ChangeShows c [] (letter ∷ code) fault
-bit_shows c letter code fault is some (variables.unknown none which) =
-    unknown_scalar_code letter code refl refl is some none which
-bit_shows c letter code fault is some (variables.no_value d found keeps isnt which) =
+    → 0 < length code → RefusesChange c code (letter ∷ []) fault → IsTrue c.in_body
+    → WordShows c [] (letter ∷ code) fault
+bit_shows c letter code fault is some (variables.unknown none which) in_body =
+    rw which (test_fails (scalar letter code) (fits_scalar c letter code in_body is some) refl
+    (failed UnknownCode (is_some (variable_of c code)) [] (ap is_some none)))
+bit_shows c letter code fault is some (variables.no_value d found keeps isnt which) in_body =
     not_both (one_letter letter is) isnt
-bit_shows c letter code fault is some (variables.too_long d found keeps value long which) =
+bit_shows c letter code fault is some (variables.too_long d found keeps value long which) in_body =
     grind (arith, or_parts, eqb-false)
 
 pub sets_bit : (m : Parser) (vs : Variables) (letter : ℕ) (code : List ℕ) (line : ℕ) (r : Result (Unit {0}) Fault)
@@ -189,7 +199,8 @@ sets_bit m vs letter code line (Ok x) between in_body is some takes =
     whole_item m (record m { variables = vs }) (word_on (letter ∷ code) line) (scalar letter code) between between refl
     (λ part c agrees.
     let change = takes (seen_state part c agrees.seen) (seen_at part m c agrees) agrees.variables in (
-      (sym agrees.in_body ∙ in_body, is, some, taken_by_some (variable_of c code) (letter ∷ []) change.0),
+      allows_scalar c letter code (sym agrees.in_body ∙ in_body) is some
+          (taken_by_some (variable_of c code) (letter ∷ []) change.0),
       agrees_changed part m c vs code (letter ∷ []) m.item agrees in_body change,
     ))
 sets_bit m vs letter code line (Err fault) between in_body is some takes = λ part c begun at.
@@ -232,21 +243,15 @@ texts_whole : (m : Parser) (begun : List WordOnLine) (letters text code : List �
     (b : AwaitsCode m begun letters text) → (b.letter ∷ text) ∷ code ∷ [] ≡ word_texts (begun ++ word_on code line ∷ [])
 texts_whole m begun letters text code line b = grind arith
 
-pub among_first : (xs ys : List ℕ) (b : ℕ) → is_among xs b ≡ true → is_among (xs ++ ys) b ≡ true
-among_first xs ys b h = list_any-append (nat_eq b) xs ys ∙ or_left _ _ h
-
-pub among_last : (xs ys : List ℕ) (b : ℕ) → is_among ys b ≡ true → is_among (xs ++ ys) b ≡ true
-among_last xs ys b h = list_any-append (nat_eq b) xs ys ∙ or_right _ _ h
-
-vector_shows : (c : ParseState) (first : ℕ) (digits code : List ℕ) (fault : Fault)
-    → is_among vector_prefixes first ≡ true
-    → RefusesChange c code digits fault → ChangeShows c ((first ∷ digits) ∷ []) code fault
-vector_shows c first digits code fault is (variables.unknown none which) =
-    unknown_pair_code first digits refl (among_first vector_prefixes real_or_string_prefixes first is) none which
-vector_shows c first digits code fault is (variables.no_value d found keeps isnt which) =
-    no_value first digits d refl is found keeps isnt which
-vector_shows c first digits code fault is (variables.too_long d found keeps value long which) =
-    value_too_long first digits d refl is found keeps value long which
+-- the tests of the digits fail
+digits_fail : (c : ParseState) (digits code : List ℕ) (fault : Fault) → RefusesChange c code digits fault
+    → first_fault (digit_tests digits (variable_of c code)) ≡ Some fault
+digits_fail c digits code fault (variables.unknown none which) =
+    ap (λ d. first_fault (digit_tests digits d)) none ∙ ap Some (sym which)
+digits_fail c digits code fault (variables.no_value d found keeps isnt which) =
+    ap (λ d. first_fault (digit_tests digits d)) found ∙ refuses_digits digits d keeps isnt ∙ ap Some (sym which)
+digits_fail c digits code fault (variables.too_long d found keeps value long which) =
+    ap (λ d. first_fault (digit_tests digits d)) found ∙ refuses_length digits d keeps value long ∙ ap Some (sym which)
 
 -- all words of a change by a binary number have been taken
 pub whole_vector : (part : Part) (m : Parser) (c : ParseState) (vs : Variables) (item : OpenItem) (words : List WordOnLine)
@@ -256,7 +261,8 @@ pub whole_vector : (part : Part) (m : Parser) (c : ParseState) (vs : Variables) 
     → ParserMatches part (record m { variables = vs; item = item }) (state_after_item c (vector letter digits code))
     → WordStep part c words (record m { variables = vs; item = item })
 whole_vector part m c vs item words letter digits code agrees in_body closed is spelled takes changed =
-    ends_item (vector letter digits code) spelled (sym agrees.in_body ∙ in_body, is, takes) (
+    ends_item (vector letter digits code) spelled
+    (allows_vector c letter digits code (sym agrees.in_body ∙ in_body) is takes) (
       changed,
       subst (IsBegun (record m { variables = vs; item = item }) []) (sym closed) refl,
     )
@@ -266,7 +272,8 @@ pub vector_shown : (part : Part) (m : Parser) (c : ParseState) (letter : ℕ) (d
     → m.in_body ≡ true → is_among vector_prefixes letter ≡ true → RefusesChange c code digits fault
     → WordShows c ((letter ∷ digits) ∷ []) code fault
 vector_shown part m c letter digits code fault agrees in_body is row =
-    among_changes (sym agrees.in_body ∙ in_body) (vector_shows c letter digits code fault is row)
+    test_fails (vector letter digits code) (and_from _ _ (sym agrees.in_body ∙ in_body) is) refl
+    (digits_fail c digits code fault row)
 
 pub ends_vector : (m : Parser) (vs : Variables) (code : List ℕ) (line : ℕ) (r : Result (Unit {0}) Fault)
     → m.item ≡ items.Vector
@@ -299,14 +306,11 @@ ends_real_or_string m code line item declared part c begun (agrees, taken) =
     let text = at.0 in
     let b = at.1 in
     ends_item (real_or_string b.letter text code) (texts_whole m begun real_or_string_prefixes text code line b)
-    (sym agrees.in_body ∙ b.in_body, b.among, declared (seen_state part c agrees.seen) agrees.variables) (
+    (allows_real_or_string c b.letter text code (sym agrees.in_body ∙ b.in_body) b.among
+    (declared (seen_state part c agrees.seen) agrees.variables)) (
       agrees_still part m c items.Nothing m.line agrees,
       refl,
     )
-
-none_is : (o : Option VariableDeclaration) → is_some o ≡ false → o ≡ None
-none_is None h = refl
-none_is (Some d) h = not_both refl h
 
 pub unknown_real_or_string : (m new : Parser) (code : List ℕ) (line : ℕ) → m.item ≡ items.RealOrString
     → ((c : ParseState) → VariablesMatch m.variables c → is_some (variable_of c code) ≡ false)
@@ -315,8 +319,6 @@ unknown_real_or_string m new code line item unknown part c begun (agrees, taken)
     let at : (text : List ℕ) × AwaitsCode m begun real_or_string_prefixes text = subst (IsBegun m begun) item taken in
     let text = at.0 in
     let b = at.1 in
-    inr (among_changes (sym agrees.in_body
-    ∙ b.in_body) (subst (λ ts. ChangeShows c ts code UnknownCode)
-    (sym (texts_begun m begun real_or_string_prefixes text b))
-    (unknown_pair_code b.letter text refl (among_last vector_prefixes real_or_string_prefixes b.letter b.among)
-    (none_is (variable_of c code) (unknown (seen_state part c agrees.seen) agrees.variables)) refl)))
+    inr (subst (λ ts. WordShows c ts code UnknownCode) (sym (texts_begun m begun real_or_string_prefixes text b))
+    (test_fails (real_or_string b.letter text code) (and_from _ _ (sym agrees.in_body ∙ b.in_body) b.among) refl
+    (failed UnknownCode (is_some (variable_of c code)) [] (unknown (seen_state part c agrees.seen) agrees.variables))))

@@ -1,8 +1,8 @@
 -- A file in chunks: the progress after one more chunk, and the result if no more comes.
 use Rattle.std.proofs.Common.{◌≡◌, ◌⊎◌, inl, inr, ℕ, zero, suc, ◌+◌, ◌-◌, ◌<◌, ◌≤◌, Bool, true}
-use Rattle.std.proofs.Common.{false, not}
+use Rattle.std.proofs.Common.{false, not, cond}
 use Rattle.std.proofs.Common.{List, [], ◌∷◌, ◌++◌, length, take, drop, get_or, Option, Some, None}
-use Rattle.std.proofs.Common.{IfSome, refl, sym}
+use Rattle.std.proofs.Common.{IfSome, sym}
 use Rattle.std.proofs.Common.{ap, subst, ◌∙◌, arith, append_assoc, length-append}
 use Rattle.std.specs.Prelude.{IsTrue, IsFalse}
 use Rattle.std.specs.List.{list_all}
@@ -14,19 +14,16 @@ use Rattle.std.proofs.lemmas.List.Sums.{count_by-le-length}
 use Rattle.std.proofs.lemmas.Bool.{cases_lt}
 use Rattle.vcd_core.specs.Word.{is_white_space}
 use Rattle.vcd_text.specs.declared.reading.TheConstants.{FILE_LIMIT}
-use Rattle.vcd_text.specs.declared.fault.Fault.{Fault}
 use Rattle.vcd_text.specs.declared.fault.Fault.TheVariants as faults
 use Rattle.vcd_text.specs.declared.fault.ReadError.{ReadError}
 use Rattle.vcd_text.specs.declared.reading.file_reader.FileReader.{FileReader}
 use Rattle.vcd_text.specs.declared.reading.parser.Parser.{Parser}
-use Rattle.vcd_text.specs.Words.{WordOnLine, line_after, with_longer_first, with_byte, words_from}
+use Rattle.vcd_text.specs.Words.{WordOnLine, line_after, word_of, words_from}
 use Rattle.vcd_text.specs.Words.{words_of, complete_words}
-use Rattle.vcd_text.specs.Grammar.{ParseState}
 use Rattle.vcd_text.specs.Faults.{IsFileFault, ShowsFault, shown, none_shown}
 use Rattle.vcd_text.specs.FoundFaults.{IsFoundFault, word_shows}
 use Rattle.vcd_text.specs.FoundFaults.{PrefixShows}
 use Rattle.vcd_text.specs.Faults.{IsPrefixAnswer}
-use Rattle.vcd_text.specs.inside.FaultRows.{ChangeShows}
 use Rattle.vcd_text.specs.Refusals.{IsRefusal, has_fault, too_large, no_memory}
 use Rattle.vcd_text.specs.MemoryErrors.{memory_error}
 use Rattle.vcd_text.specs.inside.Spaces.{line_feeds_in, has_complete_words}
@@ -62,47 +59,26 @@ complete_at (suc n) [] within space = absurd (omega arith)
 complete_at (suc n) (b ∷ []) within space = absurd (omega arith)
 complete_at (suc n) (b ∷ c ∷ bs) within space = complete_at n (c ∷ bs) (omega arith) space
 
--- a text of complete words that begins with a word has a word
-some_word : (line b : ℕ) (bs : List ℕ) → has_complete_words (b ∷ bs) ≡ true → is_white_space b ≡ false
-    → 0 < length (words_from true line (b ∷ bs))
-unfolding words_from
-some_word line b [] complete no_space = let no : false ≡ true = sym no_space ∙ complete in absurd (cc)
-some_word line b (c ∷ bs) complete no_space =
-    subst (λ s. 0 < length (with_byte s (is_white_space c) b line (words_from true (line_after b line) (c ∷ bs))))
-    (sym no_space) (by_test (is_white_space c) refl (λ e. some_word (line_after b line) c bs complete e))
-  where
-    longer : (ws : List WordOnLine) → 0 < length ws → 0 < length (with_longer_first b line ws)
-    longer [] some = absurd (omega arith)
-    longer (w ∷ ws) some = omega arith
-
-    by_test : (t : Bool) → is_white_space c ≡ t
-        → (is_white_space c ≡ false → 0 < length (words_from true (line_after b line) (c ∷ bs)))
-        → 0 < length (with_byte false t b line (words_from true (line_after b line) (c ∷ bs)))
-    by_test true e some = omega arith
-    by_test false e some = longer (words_from true (line_after b line) (c ∷ bs)) (some e)
-
--- a byte before words and others
-byte_first : (space last : Bool) (b line : ℕ) (ws more : List WordOnLine)
-    → (space ≡ false → last ≡ false → 0 < length ws)
-    → with_byte space last b line (ws ++ more) ≡ with_byte space last b line ws ++ more
-byte_first space last b line ws more h6 = grind arith
-
 -- the words of a text of complete words, and those after it
+complete_first : (end_counts : Bool) (begun : List ℕ) (line b : ℕ) (bs rest : List ℕ)
+    → has_complete_words (b ∷ bs) ≡ true
+    → words_from end_counts begun line ((b ∷ bs) ++ rest) ≡ words_from true begun line (b ∷ bs)
+    ++ words_from end_counts [] (line + line_feeds_in (b ∷ bs)) rest
+unfolding words_from
+complete_first end_counts begun line b [] rest complete = grind (arith, line_one, append-nil)
+complete_first end_counts begun line b (c ∷ bs) rest complete =
+    let ended : List WordOnLine = cond (is_white_space b) (word_of begun line) [] in
+    let next : List ℕ = cond (is_white_space b) [] (begun ++ b ∷ []) in
+    ap (λ ws. ended ++ ws) (complete_first end_counts next (line_after b line) c bs rest complete)
+    ∙ sym (append_assoc ended (words_from true next (line_after b line) (c ∷ bs)) _)
+    ∙ ap (λ n. words_from true begun line (b ∷ c ∷ bs) ++ words_from end_counts [] n rest) (line_more b line (c ∷ bs))
+
 pub words_complete : (end_counts : Bool) (line : ℕ) (text rest : List ℕ) → has_complete_words text ≡ true
-    → words_from end_counts line (text ++ rest) ≡ words_from true line text
-    ++ words_from end_counts (line + line_feeds_in text) rest
+    → words_from end_counts [] line (text ++ rest) ≡ words_from true [] line text
+    ++ words_from end_counts [] (line + line_feeds_in text) rest
 unfolding words_from
 words_complete end_counts line [] rest complete = grind arith
-words_complete end_counts line (b ∷ []) rest complete = grind (arith, line_one)
-words_complete end_counts line (b ∷ c ∷ text) rest complete =
-    search (
-      arith,
-      byte_first,
-      some_word,
-      line_more,
-      words_complete end_counts (line_after b line) (c ∷ text) rest
-          complete,
-    )
+words_complete end_counts line (b ∷ bs) rest complete = complete_first end_counts [] line b bs rest complete
 
 -- ---- one more chunk
 
@@ -116,22 +92,22 @@ module _ (part : Part) (p : FileReader) (from len : ℕ) (bytes complete_text : 
 
   -- the complete words
   abbrev complete : List WordOnLine
-  complete = words_from true (p.line_feeds + 1) complete_text
+  complete = words_from true [] (p.line_feeds + 1) complete_text
 
   in_two : come.word ++ come.chunk ≡ complete_text ++ back
   in_two = sym come.text ∙ sym (take-append-drop len p.buffer.bytes) ∙ ap (λ text. text ++ back) (sym prefix)
 
   -- the words of all bytes so far, and of those that follow
-  words_now : (end_counts : Bool) (rest : List ℕ) → words_from end_counts 1 (bytes ++ rest)
+  words_now : (end_counts : Bool) (rest : List ℕ) → words_from end_counts [] 1 (bytes ++ rest)
       ≡ complete_words come.before
-      ++ (complete ++ words_from end_counts ((p.line_feeds + line_feeds_in complete_text) + 1) (back ++ rest))
+      ++ (complete ++ words_from end_counts [] ((p.line_feeds + line_feeds_in complete_text) + 1) (back ++ rest))
   words_now end_counts rest = grind (arith, append_assoc, in_two, words_complete)
 
   closed_now : complete_words bytes ≡ complete_words come.before ++ complete
   closed_now =
-      ap (words_from false 1) (sym (append-nil bytes)) ∙ words_now false []
+      ap (words_from false [] 1) (sym (append-nil bytes)) ∙ words_now false []
       ∙ ap (λ text. complete_words come.before
-      ++ (complete ++ words_from false ((p.line_feeds + line_feeds_in complete_text) + 1) text))
+      ++ (complete ++ words_from false [] ((p.line_feeds + line_feeds_in complete_text) + 1) text))
       (append-nil back)
       ∙ ap (λ words. complete_words come.before ++ (complete ++ words))
       (word_part ((p.line_feeds + line_feeds_in complete_text) + 1) back no_space)
@@ -168,19 +144,19 @@ nothing_taken part m word none reads = grind arith
 
 -- the words so far, and the last one
 all_words : (part : Part) (p : FileReader) (text bytes : List ℕ) → HasReadBytes part p bytes → text ≡ p.buffer.bytes
-    → complete_words bytes ++ words_from true (p.line_feeds + 1) text ≡ words_of bytes
+    → complete_words bytes ++ words_from true [] (p.line_feeds + 1) text ≡ words_of bytes
 all_words part p text bytes taken is =
-    ap (λ word. complete_words bytes ++ words_from true (p.line_feeds + 1) word) (is ∙ sym (append-nil p.buffer.bytes))
-    ∙ sym (taken.words true []) ∙ ap (words_from true 1) (append-nil bytes)
+    ap (λ word. complete_words bytes ++ words_from true [] (p.line_feeds + 1) word) (is ∙ sym (append-nil p.buffer.bytes))
+    ∙ sym (taken.words true []) ∙ ap (words_from true [] 1) (append-nil bytes)
 
 -- so all words of the bytes have been taken, or one shows a fault
 pub last_taken : (part : Part) (p : FileReader) (new : Parser) (text bytes : List ℕ) → HasReadBytes part p bytes → text ≡ p.buffer.bytes
-    → HasTakenWords part new (complete_words bytes ++ words_from true (p.line_feeds + 1) text)
+    → HasTakenWords part new (complete_words bytes ++ words_from true [] (p.line_feeds + 1) text)
     → HasTakenWords part new (words_of bytes)
 last_taken part p new text bytes taken is reads = subst (HasTakenWords part new) (all_words part p text bytes taken is) reads
 
 pub last_shown : (part : Part) (p : FileReader) (text bytes : List ℕ) (e : ReadError) → HasReadBytes part p bytes → text ≡ p.buffer.bytes
-    → (e ≡ memory_error) ⊎ ShowsFault (complete_words bytes ++ words_from true (p.line_feeds + 1) text) e.line e.fault
+    → (e ≡ memory_error) ⊎ ShowsFault (complete_words bytes ++ words_from true [] (p.line_feeds + 1) text) e.line e.fault
     → (e ≡ memory_error) ⊎ IsFoundFault bytes e.line e.fault
 last_shown part p text bytes e taken is (inl none) = inl none
 last_shown part p text bytes e taken is (inr shows) =
@@ -273,18 +249,14 @@ pub of_all : (coming left : Option (List ℕ)) (bytes : List ℕ) (P : List ℕ 
     → IsAtEnd left → P bytes → IfSome coming P
 of_all coming left bytes P h4 h5 h6 = grind (arith, append-nil)
 
-by_change : (c : ParseState) (begun : List (List ℕ)) (word : List ℕ) (fault : Fault) → fault ≡ faults.ReadFault
-    → ChangeShows c begun word fault → ⊥
-by_change c begun word fault h4 h5 = grind arith
-
 pub is_no_failure : (bytes : List ℕ) (e : ReadError) → (e ≡ memory_error) ⊎ PrefixShows bytes e.line e.fault
     → e.fault ≡ faults.ReadFault → ⊥
 is_no_failure bytes e (inl none) is = grind arith
-is_no_failure bytes e (inr shows) is = grind (arith, by_change)
+is_no_failure bytes e (inr shows) is = grind arith
 
 pub is_no_file_failure : (bytes : List ℕ) (e : ReadError) → (e ≡ memory_error) ⊎ IsFoundFault bytes e.line e.fault
     → e.fault ≡ faults.ReadFault → ⊥
-is_no_file_failure bytes e h2 h3 = grind (arith, by_change)
+is_no_file_failure bytes e h2 h3 = grind arith
 
 -- ---- a chunk after the bytes taken
 

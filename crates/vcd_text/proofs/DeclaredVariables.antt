@@ -34,7 +34,9 @@ use Rattle.vcd_text.specs.inside.Variables.{HasValueChanges, TargetMatches, HasF
 use Rattle.vcd_text.specs.inside.Variables.{VariablesMatch, IsFree, declaration_of_parts}
 use Rattle.vcd_text.specs.inside.Scopes.{open_scopes, IsPlaced}
 use Rattle.vcd_text.specs.inside.Variables.{with_declaration, mixed, many, DeclaresAs, Declares}
-use Rattle.vcd_text.specs.inside.FaultRows.{code_mixed, one_too_many}
+use Rattle.vcd_core.specs.Tests.{◌unless◌}
+use Rattle.vcd_text.specs.declared.fault.Fault.TheVariants as faults
+use Rattle.vcd_text.proofs.ItemTests.{failed, failed_later}
 use Rattle.vcd_text.specs.declared.reading.code_targets.CodeTargets.{CodeTargets}
 use Rattle.vcd_text.specs.declared.reading.code_targets.CodeTarget.{CodeTarget}
 use Rattle.vcd_text.specs.declared.reading.code_targets.CodeTarget.TheVariants.{Undeclared, Skipped, Kept}
@@ -379,11 +381,15 @@ declares_names : (c : ParseState) (kind size code : List ℕ) (names : List (Lis
     → Declares c (kind ∷ size ∷ code ∷ names) result new
 declares_names c kind size code [] result new some as_one = absurd (omega (arith, some))
 declares_names c kind size code (name ∷ names) (Ok x) new some (may, room, knows) = ((may, room), knows)
-declares_names c kind size code (name ∷ names) (Err fault) new some as_one = λ no_end good. elim as_one [
-  | inl none ↦ inl none
-  | inr (mixed may is) ↦ inr (code_mixed _ _ refl refl no_end good refl may is)
-  | inr (many may room is) ↦ inr (one_too_many _ _ refl refl no_end good refl may room is)
-]
+declares_names c kind size code (name ∷ names) (Err fault) new some as_one =
+    let d = declaration_of_parts c kind (number_of size) code (name ∷ names) in
+    let last = (faults.TooManySignals unless is_within_limit c.declared d) ∷ [] in
+    elim as_one [
+      | inl none ↦ inl none
+      | inr (mixed may is) ↦ inr (failed faults.MixedCode _ last may ∙ ap Some (sym is))
+      | inr (many may room is) ↦ inr (failed_later faults.MixedCode faults.TooManySignals _ last may
+          (failed faults.TooManySignals _ [] room) ∙ ap Some (sym is))
+    ]
 
 -- the prefix of a list, and the rest
 pub prefix_removed : (xs ys : List (List ℕ)) (x : List ℕ) → 0 < length xs → x ≡ slice_index_or xs 0 x → ys ≡ remove xs 0

@@ -1,10 +1,10 @@
 -- A declaration after the next of its words.
 use Rattle.std.proofs.Common.{◌≡◌, ℕ, ◌-◌, ◌<◌, ◌≤◌, ◌+◌, ◌&&◌, not, min, Bool, true, false, List, [], ◌∷◌, ◌++◌}
 use Rattle.std.proofs.Common.{length, take}
-use Rattle.std.proofs.Common.{Option, Some, None, IsSome, IsTrue, IsFalse, Result, Ok, Err, IsErrAnd}
+use Rattle.std.proofs.Common.{Option, Some, None, is_some, IsSome, IsTrue, IsFalse, Result, Ok, Err, IsErrAnd}
 use Rattle.std.proofs.Common.{◌⊎◌, codes, refl, sym, ap, subst, ◌∙◌, arith, inl, inr}
 use Rattle.std.proofs.lemmas.Bool.{and_parts}
-use Rattle.std.proofs.lemmas.List.{length-take-le}
+use Rattle.std.proofs.lemmas.List.{length-take-le, nil_from_length}
 use Rattle.std.specs.Global.{Vec}
 use Rattle.vcd_core.specs.declared.capture.Header.{Header}
 use Rattle.vcd_core.specs.declared.capture.HeaderKind.{HeaderKind}
@@ -18,13 +18,13 @@ use Rattle.vcd_core.specs.declared.value.TheConstants.{WIDTH_LIMIT}
 use Rattle.vcd_text.specs.Items.{Item, entry, timescale, scope, upscope, variable, end_definitions}
 use Rattle.vcd_text.specs.Items.{other, spelling}
 use Rattle.vcd_text.specs.Items.{end_word, is_end_word, has_no_end_word, header_word, is_other}
-use Rattle.vcd_text.specs.Items.{timescale_of}
+use Rattle.vcd_text.specs.Items.{timescale_of, begins_declaration}
 use Rattle.vcd_text.specs.Grammar.{ParseState, state_after_item, word_texts}
-use Rattle.vcd_text.specs.inside.FaultRows.{Allows}
+use Rattle.vcd_text.specs.Grammar.{Allows}
 use Rattle.vcd_text.specs.Grammar.{has_good_size, declaration_of}
-use Rattle.vcd_text.specs.inside.FaultRows.{WordShows, DeclarationShows, no_timescale, no_size, missing_part}
-use Rattle.vcd_text.specs.inside.FaultRows.{among_declarations}
-use Rattle.vcd_text.specs.inside.FaultRows as rows
+use Rattle.vcd_text.specs.Grammar.{variable_tests}
+use Rattle.vcd_text.specs.Faults.{WordShows, test_fails}
+use Rattle.vcd_core.specs.Tests.{first_fault}
 use Rattle.vcd_text.specs.inside.Scopes.{open_scopes, KeepsPlaces}
 use Rattle.vcd_text.specs.inside.Variables.{VariablesMatch, Declares, DeclaresWords}
 use Rattle.vcd_text.specs.inside.Reading.{ParserMatches, Collects, CollectsVariable, PassesOver, IsBegun}
@@ -47,6 +47,11 @@ use Rattle.vcd_text.specs.declared.reading.variables.Variables.{Variables}
 use Rattle.vcd_text.proofs.VariablesMatch.{knows_further, scopes_moved}
 use Rattle.vcd_text.proofs.FileAnswers.{texts_more}
 use Rattle.vcd_text.proofs.WordOutcomes.{no_end_more}
+use Rattle.vcd_text.proofs.ItemFaults.{no_size, begins_no_declaration, upscope_at_top, upscope_goes_on}
+use Rattle.vcd_text.proofs.ItemFaults.{definitions_go_on, missing_kind}
+use Rattle.vcd_text.proofs.ItemTests.{fits_in_words, fits_variable, failed, allows_entry, allows_timescale}
+use Rattle.vcd_text.proofs.ItemTests.{allows_scope, allows_upscope, allows_variable, allows_end_definitions}
+use Rattle.vcd_text.proofs.ItemTests.{allows_other}
 
 -- ---- the state stays the same
 
@@ -136,7 +141,7 @@ closes_entry m new kind is pushed others line part c begun at =
     subst (WordStep part c (begun ++ word_on end_word line ∷ [])) (sym others)
     (ends_here part (record m { header = new.header; words = new.words; item = items.Nothing }) c begun line i
     (header_word kind ∷ m.words.items)
-    b.spelled refl (sym a.in_body ∙ b.declares, b.no_end)
+    b.spelled refl (allows_entry c kind m.words.items early b.no_end)
     (agrees_early part _ _ a.seen (pushed ∙ ap (λ h. h ++ record { kind = kind; words = m.words.items } ∷ []) a.header)
     a.timescale a.in_body a.tick a.part_is
     (still_known m.variables (seen_state part c a.seen) (state_after_item c i).header c.timescale c.in_body
@@ -154,7 +159,7 @@ closes_timescale m found is some line part c begun at =
     let i : Item = timescale m.words.items in
     ends_here part (record m { timescale = Some found; item = items.Nothing }) c begun line i
     (codes "$timescale" ∷ m.words.items)
-    b.spelled refl (sym a.in_body ∙ b.declares, b.no_end, subst IsSome (sym some) refl)
+    b.spelled refl (allows_timescale c m.words.items early b.no_end (subst IsSome (sym some) refl))
     (agrees_early part _ _ a.seen a.header (sym some) a.in_body a.tick a.part_is
     (still_known m.variables (seen_state part c a.seen) c.header (timescale_of m.words.items) c.in_body a.variables)
     (a.no_early_change early) (a.none_seen early) early) refl
@@ -165,7 +170,10 @@ pub shows_no_timescale : (m : Parser) → m.item ≡ items.Timescale → timesca
     → WordShows c (word_texts begun) end_word faults.BadTimescale
 shows_no_timescale m is none part c begun at =
     let b : Collects m begun (codes "$timescale") = subst (IsBegun m begun) is at.1 in
-    among_declarations (sym at.0.in_body ∙ b.declares) (no_timescale m.words.items b.spelled refl b.no_end none refl)
+    test_fails (timescale m.words.items)
+    (fits_in_words c m.words.items (sym at.0.in_body ∙ b.declares) b.no_end)
+    (ap (λ ws. ws ++ end_word ∷ []) (sym b.spelled))
+    (failed faults.BadTimescale (is_some (timescale_of m.words.items)) [] (ap is_some none))
 
 -- a scope is the innermost
 pub closes_scope : (m : Parser) (scopes : Scopes) (rest : Vec (List ℕ)) (s : ScopeName) → m.item ≡ items.Scope
@@ -180,7 +188,7 @@ closes_scope m scopes rest s is words pushed keeps line part c begun at =
     let early : IsFalse c.in_body = sym a.in_body ∙ b.declares in
     ends_here part _ c begun line (scope s.kind s.words) (codes "$scope" ∷ s.kind ∷ s.words)
     (b.spelled ∙ ap (λ ws. codes "$scope" ∷ ws) words) refl
-    (sym a.in_body ∙ b.declares, ap has_no_end_word (sym words) ∙ b.no_end)
+    (allows_scope c s.kind s.words early (ap has_no_end_word (sym words) ∙ b.no_end))
     (agrees_early part _ _ a.seen a.header a.timescale a.in_body a.tick a.part_is
     (scopes_moved m.variables scopes (seen_state part c a.seen) (c.scopes ++ s ∷ [])
     (pushed ∙ ap (λ ss. ss ++ s ∷ []) a.variables.opened) keeps a.variables) (a.no_early_change early) (a.none_seen early) early) refl
@@ -203,7 +211,8 @@ closes_upscope m scopes is popped keeps line part c begun at =
     grind arith in
     let early : IsFalse c.in_body = sym a.in_body ∙ b.0 in
     ends_here part _ c begun line upscope (codes "$upscope" ∷ [])
-    b.1 refl (sym a.in_body ∙ b.0, omega (arith, so_deep m.variables (seen_state part c a.seen) a.variables, b.2))
+    b.1 refl (allows_upscope c early
+    (omega (arith, so_deep m.variables (seen_state part c a.seen) a.variables, b.2)))
     (agrees_early part _ _ a.seen a.header a.timescale a.in_body a.tick a.part_is
     (scopes_moved m.variables scopes (seen_state part c a.seen) (take (length c.scopes - 1) c.scopes)
     (popped ∙ ap (λ (ss : List ScopeName). take (length ss - 1) ss) a.variables.opened) keeps a.variables)
@@ -241,7 +250,7 @@ closes_definitions m silent is hears line part c begun at =
     ends_here part (record m { silent = silent; in_body = true; item = items.Nothing }) c begun line
     end_definitions
     (codes "$enddefinitions" ∷ [])
-    b.1 refl (sym a.in_body ∙ b.0)
+    b.1 refl (allows_end_definitions c early)
     (agrees_by part _ _ a.seen a.header a.timescale refl a.tick a.part_is
     (still_known m.variables (seen_state part c a.seen) c.header c.timescale true a.variables)
     (λ _. a.no_early_change early) (λ _. a.none_seen early) a.tells
@@ -256,7 +265,8 @@ closes_other m is line part c begun at =
     let a = at.0 in
     let b : PassesOver m begun = subst (IsBegun m begun) is at.1 in
     ends_here part (record m { item = items.Nothing }) c begun line (other b.keyword b.words) (b.keyword ∷ b.words)
-    b.spelled refl (ap (λ in_body. is_other in_body b.keyword) (sym a.in_body) ∙ b.other, b.no_end)
+    b.spelled refl (allows_other c b.keyword b.words
+    (ap (λ in_body. is_other in_body b.keyword) (sym a.in_body) ∙ b.other) b.no_end)
     (agrees_as part m _ c a refl refl refl refl refl refl refl) refl
 
 -- ---- variables
@@ -274,8 +284,10 @@ pub ends_early : (m new : Parser) → m.item ≡ items.Variable → (line : ℕ)
 ends_early m new is line part c begun at =
     let b : Collects m begun (codes "$var") × (length m.words.items ≤ 1) = subst (IsBegun m begun) is at.1 in
     let short = short_words c m.words.items b.1 in
-    inr (among_declarations (sym at.0.in_body ∙ b.0.declares)
-    (missing_part m.words.items b.0.spelled refl b.0.no_end short.0 short.1 refl))
+    inr (test_fails (variable m.words.items)
+    (fits_variable c m.words.items (sym at.0.in_body ∙ b.0.declares) b.0.no_end short.0)
+    (ap (λ ws. ws ++ end_word ∷ []) (sym b.0.spelled))
+    (ap (λ d. first_fault (variable_tests c d)) short.1))
 
 -- the variables have the declaration
 pub closes_variable : (m : Parser) (variables : Variables) (words : List (List ℕ)) (rest : Vec (List ℕ))
@@ -292,23 +304,9 @@ closes_variable m variables words rest spelled declare is line part c begun at =
     declare (seen_state part c a.seen) b.kind b.word b.following (spelled ∙ b.words) b.size (a.none_seen declares)
     a.variables in
     ends_here part _ c begun line (variable all) (codes "$var" ∷ all)
-    b.spelled refl (declares, b.no_end, b.number, d.0)
+    b.spelled refl (allows_variable c all declares b.no_end b.number d.0)
     (agrees_early part _ _ a.seen a.header a.timescale a.in_body a.tick a.part_is d.1
     (a.no_early_change declares) (a.none_seen declares) declares) refl
-
--- a fault in the state that is kept is one in the state of the file
-shows_file : (part : Part) (c : ParseState) (seen : List ValueChange) (begun : List (List ℕ)) (word : List ℕ)
-    (fault : Fault) → DeclarationShows (seen_state part c seen) begun word fault → DeclarationShows c begun word fault
-shows_file part c seen begun word fault (rows.begins_no_declaration e f g) = rows.begins_no_declaration e f g
-shows_file part c seen begun word fault (rows.no_timescale ws e f g h i) = rows.no_timescale ws e f g h i
-shows_file part c seen begun word fault (rows.missing_kind e f g) = rows.missing_kind e f g
-shows_file part c seen begun word fault (rows.upscope_at_top e f g h) = rows.upscope_at_top e f g h
-shows_file part c seen begun word fault (rows.upscope_goes_on e f g h) = rows.upscope_goes_on e f g h
-shows_file part c seen begun word fault (rows.no_size kind e f g h) = rows.no_size kind e f g h
-shows_file part c seen begun word fault (rows.missing_part ws e f g h i j) = rows.missing_part ws e f g h i j
-shows_file part c seen begun word fault (rows.code_mixed ws d e f g h i j k) = rows.code_mixed ws d e f g h i j k
-shows_file part c seen begun word fault (rows.one_too_many ws d e f g h i j k l) = rows.one_too_many ws d e f g h i j k l
-shows_file part c seen begun word fault (rows.definitions_go_on e f g) = rows.definitions_go_on e f g
 
 -- the words declare no variable that is allowed here
 pub shows_no_variable : (m new : Parser) (result : Result (Unit {0}) Fault) (fault : Fault) (variables : Variables)
@@ -325,11 +323,11 @@ shows_no_variable m new (Err e) fault variables words spelled declare is failed 
     declare (seen_state part c a.seen) b.kind b.word b.following (spelled ∙ b.words) b.size (a.none_seen declares)
     a.variables in
     subst (λ f. (f ≡ faults.NoMemory) ⊎ WordShows c (word_texts begun) end_word f) (sym failed)
-    (elim (d b.no_end b.number) [
+    (elim d [
       | inl memory ↦ inl memory
-      | inr shown ↦ inr (among_declarations declares
-          (subst (λ texts. DeclarationShows c texts end_word fault) (sym b.spelled)
-          (shows_file part c a.seen _ end_word fault shown)))
+      | inr fails ↦ let all : List (List ℕ) = b.kind ∷ b.word ∷ b.following in
+          inr (test_fails (variable all) (fits_variable c all declares b.no_end b.number)
+          (ap (λ ws. ws ++ end_word ∷ []) (sym b.spelled)) fails)
     ])
 
 -- the kind of a variable, if it is the only word
@@ -346,8 +344,8 @@ pub shows_no_size : (m : Parser) (text : List ℕ) → m.item ≡ items.Variable
 shows_no_size m text is some isnt part c begun at =
     let b : Collects m begun (codes "$var") × (length m.words.items ≤ 1) = subst (IsBegun m begun) is at.1 in
     let k = one_word m.words.items (omega (arith, some, b.1)) b.0.no_end in
-    among_declarations (sym at.0.in_body
-    ∙ b.0.declares) (no_size k.0 (b.0.spelled ∙ ap (λ ws. codes "$var" ∷ ws) k.1) k.2 isnt refl)
+    subst (λ ws. WordShows c ws text faults.BadVar) (sym (b.0.spelled ∙ ap (λ ws. codes "$var" ∷ ws) k.1))
+    (no_size c k.0 text (sym at.0.in_body ∙ b.0.declares) k.2 isnt)
 
 -- ---- a word that goes on
 
@@ -415,3 +413,54 @@ passes_over m text is isnt line part c begun at =
         no_end = no_end_more b.words text b.no_end isnt;
       }),
     )
+
+-- ---- a word with which no declaration goes on
+
+shown_after : (c : ParseState) (begun : List WordOnLine) (texts : List (List ℕ)) (word : List ℕ) (fault : Fault)
+    → word_texts begun ≡ texts → WordShows c texts word fault
+    → (fault ≡ faults.NoMemory) ⊎ WordShows c (word_texts begun) word fault
+shown_after c begun texts word fault is shown = inr (subst (λ ts. WordShows c ts word fault) (sym is) shown)
+
+-- a word that begins no declaration
+pub shows_no_declaration : (m new : Parser) (text : List ℕ) → m.item ≡ items.Nothing → IsFalse m.in_body
+    → IsFalse (begins_declaration text) → (line : ℕ)
+    → WordResult m (word_on text line) (Err faults.UnexpectedWord) new
+shows_no_declaration m new text is declares isnt line part c begun at =
+    let none : begun ≡ [] = subst (IsBegun m begun) is at.1 in
+    shown_after c begun [] text faults.UnexpectedWord (ap word_texts none)
+    (begins_no_declaration c text (sym at.0.in_body ∙ declares) isnt)
+
+-- `$upscope` while no scope is open
+pub shows_upscope_at_top : (m new : Parser) (text : List ℕ) → m.item ≡ items.Nothing → IsFalse m.in_body
+    → text ≡ codes "$upscope" → m.variables.scopes.depth ≡ 0 → (line : ℕ)
+    → WordResult m (word_on text line) (Err faults.UpscopeAtTop) new
+shows_upscope_at_top m new text is declares word top line part c begun at =
+    let a = at.0 in
+    let none : begun ≡ [] = subst (IsBegun m begun) is at.1 in
+    shown_after c begun [] text faults.UpscopeAtTop (ap word_texts none)
+    (subst (λ w. WordShows c [] w faults.UpscopeAtTop) (sym word)
+    (upscope_at_top c (sym a.in_body ∙ declares)
+    (nil_from_length c.scopes (so_deep m.variables (seen_state part c a.seen) a.variables ∙ top))))
+
+-- a word other than `$end` after `$upscope` or `$enddefinitions`
+pub shows_no_end : (m new : Parser) (text : List ℕ) → (m.item ≡ items.Upscope) ⊎ (m.item ≡ items.EndDefinitions)
+    → IsFalse (is_end_word text) → (line : ℕ) → WordResult m (word_on text line) (Err faults.UnexpectedWord) new
+shows_no_end m new text (inl is) isnt line part c begun at =
+    let a = at.0 in
+    let b : IsFalse m.in_body × (word_texts begun ≡ codes "$upscope" ∷ []) × (0 < m.variables.scopes.depth) =
+    subst (IsBegun m begun) is at.1 in
+    shown_after c begun (codes "$upscope" ∷ []) text faults.UnexpectedWord b.1
+    (upscope_goes_on c text (sym a.in_body ∙ b.0) isnt
+    (omega (arith, so_deep m.variables (seen_state part c a.seen) a.variables, b.2)))
+shows_no_end m new text (inr is) isnt line part c begun at =
+    let b : IsFalse m.in_body × (word_texts begun ≡ codes "$enddefinitions" ∷ []) = subst (IsBegun m begun) is at.1 in
+    shown_after c begun (codes "$enddefinitions" ∷ []) text faults.UnexpectedWord b.1
+    (definitions_go_on c text (sym at.0.in_body ∙ b.0) isnt)
+
+-- a scope without a kind
+pub shows_missing_kind : (m new : Parser) → m.item ≡ items.Scope → m.words.items ≡ [] → (line : ℕ)
+    → WordResult m (word_on end_word line) (Err faults.BadScope) new
+shows_missing_kind m new is none line part c begun at =
+    let b : Collects m begun (codes "$scope") = subst (IsBegun m begun) is at.1 in
+    shown_after c begun (codes "$scope" ∷ []) end_word faults.BadScope
+    (b.spelled ∙ ap (λ ws. codes "$scope" ∷ ws) none) (missing_kind c (sym at.0.in_body ∙ b.declares))

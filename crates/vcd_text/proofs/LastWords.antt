@@ -13,11 +13,10 @@ use Rattle.vcd_text.specs.Items.{spellings, header_word, header_words, is_other}
 use Rattle.vcd_text.specs.Items.{vector_prefixes, real_or_string_prefixes}
 use Rattle.vcd_text.specs.Grammar.{ParseState, Accepts, word_texts}
 use Rattle.vcd_text.specs.Faults.{ShowsFault}
-use Rattle.vcd_text.specs.FoundFaults.{Stops}
-use Rattle.vcd_text.specs.inside.FaultRows.{IsUnfinished, words_due}
-use Rattle.vcd_text.specs.inside.FaultRows.{pair_prefixes}
+use Rattle.vcd_text.specs.FoundFaults.{Stops, IsUnfinished}
+use Rattle.vcd_text.proofs.Unfinished.{declaration_due, words_due, upscope_due, variable_due, definitions_due}
+use Rattle.vcd_text.proofs.Unfinished.{vector_due, real_or_string_due, other_due}
 use Rattle.vcd_text.specs.inside.SeenParts.{seen_state}
-use Rattle.vcd_text.specs.inside.FaultRows.{upscope_due, variable_due, definitions_due, code_due, other_due}
 use Rattle.vcd_text.specs.inside.OpenItems.{is_nothing}
 use Rattle.vcd_text.specs.inside.Reading.{HasTakenWords, ParserMatches, IsBegun, Collects}
 use Rattle.vcd_text.specs.inside.Reading.{AwaitsCode, is_complete}
@@ -25,49 +24,50 @@ use Rattle.vcd_text.specs.declared.reading.parser.Parser.{Parser}
 use Rattle.vcd_text.specs.declared.reading.parser.OpenItem.{OpenItem}
 use Rattle.vcd_text.specs.declared.reading.parser.OpenItem.TheVariants as items
 use Rattle.vcd_text.proofs.Declaring.{so_deep, short_words}
-use Rattle.vcd_text.proofs.ItemRows.{unfinished_new}
-use Rattle.vcd_text.specs.Grammar.{state_after, initial_state}
 use Rattle.vcd_text.proofs.OneAnswer.{accepted-not_refused, stopped-not_refused}
-use Rattle.vcd_text.proofs.Changing.{among_first, among_last}
 use Rattle.vcd_text.specs.declared.reading.part.Part.{Part}
 
 collecting : (part : Part) (m : Parser) (c : ParseState) (begun : List WordOnLine) (keyword : List ℕ) → ParserMatches part m c
     → Collects m begun keyword → IsTrue (is_one_of (codes "$timescale" ∷ codes "$scope" ∷ header_words) keyword)
     → IsUnfinished c (word_texts begun)
 collecting part m c begun keyword agrees is among =
-    words_due keyword m.words.items (sym agrees.in_body ∙ is.declares) is.spelled among is.no_end
+    rw is.spelled (words_due c keyword m.words.items (sym agrees.in_body ∙ is.declares) among is.no_end)
 
 awaiting : (part : Part) (m : Parser) (c : ParseState) (begun : List WordOnLine) (letters text : List ℕ) → ParserMatches part m c
     → AwaitsCode m begun letters text
-    → ((b : ℕ) → IsTrue (is_among letters b) → IsTrue (is_among pair_prefixes b)) → IsUnfinished c (word_texts begun)
-awaiting part m c begun letters text agrees is more =
-    code_due is.letter text (sym agrees.in_body ∙ is.in_body) (ap word_texts is.is ∙ ap (λ t. t ∷ []) is.spelled)
-    (more is.letter is.among)
+    → ((b : ℕ) → IsTrue c.in_body → IsTrue (is_among letters b) → IsUnfinished c ((b ∷ text) ∷ []))
+    → IsUnfinished c (word_texts begun)
+awaiting part m c begun letters text agrees is due =
+    subst (IsUnfinished c) (sym (ap word_texts is.is ∙ ap (λ t. t ∷ []) is.spelled))
+    (due is.letter (sym agrees.in_body ∙ is.in_body) is.among)
 
 -- a word must follow words that are no whole file
 unfinished : (part : Part) (m : Parser) (c : ParseState) (begun : List WordOnLine) (item : OpenItem) → ParserMatches part m c
     → IsBegun m begun item → IsFalse (m.in_body && is_nothing item) → IsUnfinished c (word_texts begun)
-unfinished part m c begun items.Nothing agrees none no_end = grind arith
+unfinished part m c begun items.Nothing agrees none no_end =
+    rw none (declaration_due c (grind arith))
 unfinished part m c begun (items.Entry kind) agrees is no_end =
     collecting part m c begun (header_word kind) agrees is (grind arith)
 unfinished part m c begun items.Timescale agrees is no_end = collecting part m c begun (codes "$timescale") agrees is refl
 unfinished part m c begun items.Scope agrees is no_end = collecting part m c begun (codes "$scope") agrees is refl
 unfinished part m c begun items.Upscope agrees is no_end =
-    upscope_due (sym agrees.in_body ∙ is.0) is.1
-    (omega (arith, so_deep m.variables (seen_state part c agrees.seen) agrees.variables, is.2))
+    rw is.1 (upscope_due c (sym agrees.in_body ∙ is.0)
+    (omega (arith, so_deep m.variables (seen_state part c agrees.seen) agrees.variables, is.2)))
 unfinished part m c begun items.Variable agrees is no_end =
-    variable_due m.words.items (sym agrees.in_body ∙ is.0.declares) is.0.spelled is.0.no_end
-    (short_words c m.words.items is.1).0
+    rw is.0.spelled (variable_due c m.words.items (sym agrees.in_body ∙ is.0.declares) is.0.no_end
+    (short_words c m.words.items is.1).0)
 unfinished part m c begun items.SizedVariable agrees is no_end =
-    variable_due (is.kind ∷ is.word ∷ is.following) (sym agrees.in_body ∙ is.declares) is.spelled is.no_end is.number
-unfinished part m c begun items.EndDefinitions agrees is no_end = definitions_due (sym agrees.in_body ∙ is.0) is.1
+    rw is.spelled (variable_due c (is.kind ∷ is.word ∷ is.following) (sym agrees.in_body ∙ is.declares) is.no_end
+    is.number)
+unfinished part m c begun items.EndDefinitions agrees is no_end =
+    rw is.1 (definitions_due c (sym agrees.in_body ∙ is.0))
 unfinished part m c begun items.Other agrees is no_end =
-    other_due is.keyword is.words is.spelled (subst (λ b. IsTrue (is_other b is.keyword)) agrees.in_body is.other)
-    is.no_end
+    rw is.spelled (other_due c is.keyword is.words
+    (subst (λ b. IsTrue (is_other b is.keyword)) agrees.in_body is.other) is.no_end)
 unfinished part m c begun items.Vector agrees is no_end =
-    awaiting part m c begun vector_prefixes m.digits.items agrees is (among_first vector_prefixes real_or_string_prefixes)
+    awaiting part m c begun vector_prefixes m.digits.items agrees is (λ b. vector_due c b m.digits.items)
 unfinished part m c begun items.RealOrString agrees (text, is) no_end =
-    awaiting part m c begun real_or_string_prefixes text agrees is (among_last vector_prefixes real_or_string_prefixes)
+    awaiting part m c begun real_or_string_prefixes text agrees is (λ b. real_or_string_due c b text)
 
 texts_are : (part : Part) (m : Parser) (words : List WordOnLine) (r : HasTakenWords part m words)
     → word_texts words ≡ spellings r.items ++ word_texts r.begun
@@ -80,9 +80,8 @@ stops part m words r incomplete = record {
   begun = word_texts r.begun;
   spelled = texts_are part m words r;
   allowed = r.allowed;
-  unfinished = unfinished_new (state_after initial_state r.items) (word_texts r.begun)
-      (subst (λ c. IsUnfinished c (word_texts r.begun)) (sym r.state_is)
-      (unfinished part m r.state r.begun m.item r.at.0 r.at.1 incomplete));
+  unfinished = subst (λ c. IsUnfinished c (word_texts r.begun)) (sym r.state_is)
+      (unfinished part m r.state r.begun m.item r.at.0 r.at.1 incomplete);
 }
 
 -- words that are a whole file are accepted

@@ -11,8 +11,8 @@ use Rattle.vcd_text.specs.Letters.{extension}
 use Rattle.vcd_text.specs.Items.{Item, entry, timescale, scope, upscope, variable, end_definitions, stamp, scalar}
 use Rattle.vcd_text.specs.Items.{vector, real_or_string, dump_word, other}
 use Rattle.vcd_text.specs.Grammar.{VariableDeclaration, ValueChange, ParseState, AllowsAll, state_after}
-use Rattle.vcd_text.specs.inside.FaultRows.{Allows}
-use Rattle.vcd_text.proofs.ItemTests.{allows_old}
+use Rattle.vcd_text.specs.Grammar.{Allows}
+use Rattle.vcd_text.proofs.ItemTests.{has_tick}
 use Rattle.vcd_text.specs.Grammar.{state_after_item, is_skipped, variable_of, value_changes_after}
 use Rattle.vcd_text.specs.Meaning.{latest_value}
 
@@ -45,7 +45,7 @@ late_after_item c (variable words) allows late = late
 late_after_item c end_definitions allows late = late
 late_after_item c (stamp digits) allows late =
     All-weaker (λ (r : ValueChange). r.tick ≤ c.tick) (λ (r : ValueChange). r.tick ≤ number_of digits)
-    (λ r le. omega (arith, le, allows.2)) c.value_changes late
+    (λ r le. omega (arith, le, (has_tick c digits allows).1)) c.value_changes late
 late_after_item c (scalar digit code) allows late = one_more c code _ (variable_of c code) late
 late_after_item c (vector first digits code) allows late = one_more c code _ (variable_of c code) late
 late_after_item c (real_or_string first text code) allows late = late
@@ -56,7 +56,7 @@ pub late_after : (c : ParseState) (is : List Item) → AllowsAll c is → UpToTi
     → UpToTick (state_after c is).tick (state_after c is).value_changes
 late_after c [] allows late = late
 late_after c (i ∷ is) (allows, rest) late =
-    late_after (state_after_item c i) is rest (late_after_item c i (allows_old c i allows) late)
+    late_after (state_after_item c i) is rest (late_after_item c i allows late)
 
 -- ---- values
 

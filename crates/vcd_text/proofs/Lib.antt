@@ -20,11 +20,6 @@ pub mod TextChanges
 pub mod LatestValues
 pub mod TextMeaning
 pub mod TextReadBack
-pub mod CasesOfWords
-pub mod CasesOfLetters
-pub mod CasesOfFiles
-pub mod CasesOfFaults
-pub mod CasesOfText
 pub mod TextLines
 pub mod ShortForms
 pub mod Codes
@@ -71,4 +66,4 @@ pub mod WordOutcomes
 pub mod FileAnswers
 pub mod ItemTests
 pub mod ItemFaults
-pub mod ItemRows
+pub mod Unfinished

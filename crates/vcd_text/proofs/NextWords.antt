@@ -1,17 +1,18 @@
 -- One more word, from the first word of the file on.
 use Rattle.std.proofs.Common.{arith}
-use Rattle.std.specs.Prelude.{IsFalse}
-use Rattle.std.proofs.Common.{◌≡◌, ◌⊎◌, inl, inr, List, [], ◌∷◌, ◌++◌, refl, sym, ap}
+use Rattle.std.specs.Prelude.{IsFalse, IsTrue}
+use Rattle.std.proofs.Common.{◌≡◌, ◌⊎◌, inl, inr, List, [], ◌∷◌, ◌++◌, refl, sym, ap, subst}
 use Rattle.std.proofs.Common.{◌∙◌, append_assoc}
 use Rattle.std.proofs.lemmas.List.{append-nil, map-append}
-use Rattle.std.proofs.lemmas.Bool.{and_parts, eqb-true}
 use Rattle.std.specs.Prelude.{ℕ}
 use Rattle.vcd_text.specs.declared.fault.Fault.{Fault}
 use Rattle.vcd_text.specs.declared.fault.ReadError.{ReadError}
 use Rattle.vcd_text.specs.Words.{WordOnLine}
+use Rattle.vcd_text.specs.Items.{is_other}
 use Rattle.vcd_text.specs.Grammar.{ParseState, state_after_item}
 use Rattle.vcd_text.specs.Grammar.{initial_state, word_texts}
-use Rattle.vcd_text.specs.inside.FaultRows.{WordShows, among_declarations, among_changes}
+use Rattle.vcd_text.specs.Faults.{WordShows}
+use Rattle.vcd_text.proofs.OneAnswer.{passed_over}
 use Rattle.vcd_text.specs.Faults.{ShowsFault, fault_line}
 use Rattle.vcd_text.specs.inside.OpenItems.{item_fault_line}
 use Rattle.vcd_text.specs.inside.Reading.{HasTakenWords, WordStep, goes_on, ends_item}
@@ -70,9 +71,10 @@ line_shown part m c begun w fault items.Upscope agrees is decided = declaring pa
 line_shown part m c begun w fault items.Variable agrees is decided = declaring part m c begun w agrees is.0.declares
 line_shown part m c begun w fault items.SizedVariable agrees is decided = declaring part m c begun w agrees is.declares
 line_shown part m c begun w fault items.EndDefinitions agrees is decided = declaring part m c begun w agrees is.0
-line_shown part m c begun w fault items.Other agrees is (among_declarations none shows) = grind arith
-line_shown part m c begun w fault items.Other agrees is (among_changes all shows) =
-    absurd (grind (arith, and_parts, eqb-true))
+line_shown part m c begun w fault items.Other agrees is decided =
+    absurd (passed_over c is.keyword is.words w.text fault
+    (subst (λ b. IsTrue (is_other b is.keyword)) agrees.in_body is.other) is.no_end
+    (subst (λ ts. WordShows c ts w.text fault) is.spelled decided))
 line_shown part m c begun w fault items.Vector agrees is decided = grind arith
 line_shown part m c begun w fault items.RealOrString agrees (text, is) decided = grind arith
 

@@ -3,7 +3,7 @@ use Rattle.std.proofs.Common.{◌≡◌, inl, inr, ℕ, ◌≤◌, Bool, List, l
 use Rattle.std.specs.Prelude.{IsTrue, IsFalse, IsSomeAnd, MatchResult}
 use Rattle.std.proofs.lemmas.Bool.{and_from, or_right, le-leb}
 use Rattle.vcd_text.specs.Grammar.{ParseState}
-use Rattle.vcd_text.specs.inside.FaultRows.{takes_binary_number, is_binary_number}
+use Rattle.vcd_text.specs.inside.DigitTests.{takes_binary_number, is_binary_number}
 use Rattle.vcd_text.specs.Grammar.{is_skipped}
 use Rattle.vcd_text.specs.declared.fault.Fault.{Fault}
 use Rattle.vcd_text.specs.declared.reading.part.Part.{Part}

@@ -15,7 +15,7 @@ use Rattle.vcd_core.specs.inside.ValueLaws.{same_letters-Decides}
 use Rattle.vcd_text.specs.Letters.{is_binary_digit, letter_of_digit, letters_of_digits}
 use Rattle.vcd_text.specs.Letters.{printed_letters}
 use Rattle.vcd_text.specs.Letters.{extension, suffixes, short_form}
-use Rattle.vcd_text.specs.inside.FaultRows.{is_binary_number}
+use Rattle.vcd_text.specs.inside.DigitTests.{is_binary_number}
 
 -- ---- letters
 

@@ -22,6 +22,7 @@ use Rattle.vcd_text.specs.Text.{same_scope, scope_items}
 use Rattle.vcd_text.proofs.Scopes.{all_closed}
 use Rattle.vcd_text.proofs.WeakerTests.{all_weaker}
 use Rattle.vcd_text.proofs.ItemsInTurn.{Reaches, reaches_none, reaches_first, reaches_both}
+use Rattle.vcd_text.proofs.ItemTests.{allows_upscope, allows_scope}
 use Rattle.vcd_text.proofs.ItemsInTurn.{reaches_same}
 use Rattle.std.proofs.lemmas.List.Folds.{list_all-append}
 
@@ -77,7 +78,7 @@ scopes_closed h t opened ds (suc n) within =
     let one_less : length outer ≡ length opened - 1 = length-take-le (length opened - 1) opened (omega arith) in
     let left : length outer - n ≡ length opened - suc n = omega arith in
     reaches_first (declaring h t opened ds) (declaring h t (take (length opened - suc n) opened) ds) upscope
-    (replicate n upscope) (refl, omega arith)
+    (replicate n upscope) (allows_upscope (declaring h t opened ds) refl (omega arith))
     (reaches_same (declaring h t outer ds) _ _ (replicate n upscope) (scopes_closed h t outer ds n (omega arith))
     (ap (λ s. declaring h t s ds) (ap (λ m. take m outer) left
     ∙ take-take (length opened - suc n) (length opened - 1) opened (omega arith))))
@@ -90,7 +91,8 @@ scopes_opened h t prefix [] ds sound = grind (arith, reaches_same, reaches_none,
 scopes_opened h t prefix (s ∷ path) ds sound =
     let parts : (is_sound_scope s ≡ true) × (list_all is_sound_scope path ≡ true) = grind (arith, and_parts) in
     reaches_first (declaring h t prefix ds) (declaring h t (prefix ++ (s ∷ path)) ds) (scope s.kind s.words)
-    (map (λ s. scope s.kind s.words) path) (refl, words_have_no_end (s.kind ∷ s.words) parts.0)
+    (map (λ s. scope s.kind s.words) path)
+    (allows_scope (declaring h t prefix ds) s.kind s.words refl (words_have_no_end (s.kind ∷ s.words) parts.0))
     (reaches_same (declaring h t (prefix ++ s ∷ []) ds) _ _ (map (λ s. scope s.kind s.words) path)
     (scopes_opened h t (prefix ++ s ∷ []) path ds parts.1)
     (ap (λ s. declaring h t s ds) (append_assoc prefix (s ∷ []) path)))

@@ -34,15 +34,15 @@ use Rattle.vcd_text.specs.Items.{vector, real_or_string, dump_word, other, spell
 use Rattle.vcd_text.specs.Items.{end_word}
 use Rattle.vcd_text.specs.Items.{is_end_word, has_no_end_word}
 use Rattle.vcd_text.specs.Grammar.{ParseState, VariableDeclaration, ValueChange, Accepts}
-use Rattle.vcd_text.specs.inside.FaultRows.{Allows}
+use Rattle.vcd_text.specs.Grammar.{Allows}
 use Rattle.vcd_text.specs.Grammar.{AllowsAll}
-use Rattle.vcd_text.proofs.ItemTests.{allows_old}
+use Rattle.vcd_text.proofs.ItemTests.{has_timescale, has_declaration, has_tick, knows_code, takes_digits}
 use Rattle.vcd_text.specs.Grammar.{state_after, state_after_item, is_skipped, kept_variables}
 use Rattle.vcd_text.specs.Grammar.{variable_of}
 use Rattle.vcd_text.specs.Grammar.{may_have_code, is_within_limit, value_changes_after}
 use Rattle.vcd_text.specs.Grammar.{with_value_change}
-use Rattle.vcd_text.specs.inside.FaultRows.{takes_binary_number}
-use Rattle.vcd_text.proofs.WordLaws.{is_run_text, texts_are_runs, run_is_word}
+use Rattle.vcd_text.specs.inside.DigitTests.{takes_binary_number}
+use Rattle.vcd_text.proofs.WordLaws.{by_test, is_run_text, texts_are_runs, run_is_word}
 use Rattle.vcd_text.specs.Meaning.{meaning, declared_signal, latest_value}
 use Rattle.std.proofs.lemmas.List.Folds.{find-append}
 
@@ -59,10 +59,6 @@ clean_words (w ∷ ws) rest all none =
     (clean_words ws rest p.1 q.1)
 
 -- ---- lists
-
-by_test : (P : Bool → Type 0) (b : Bool) → (b ≡ true → P true) → (b ≡ false → P false) → P b
-by_test P true t f = t refl
-by_test P false t f = f refl
 
 -- the result of a search passes a test that all pass
 found_passes : {A : Type 0} (p q : A → Bool) (xs : List A) → list_all q xs ≡ true → IfSome (find p xs) (λ x. q x ≡ true)
@@ -211,12 +207,15 @@ clean_declared c d clean declaring is shares room =
 clean_variable : (c : ParseState) (words : List (List ℕ)) → IsClean c
     → list_all is_run_text (spelling (variable words)) ≡ true → Allows c (variable words)
     → IsClean (state_after_item c (variable words))
-clean_variable c [] clean all allows = absurd allows.3
-clean_variable c (kind ∷ []) clean all allows = absurd allows.3
-clean_variable c (kind ∷ size ∷ []) clean all allows = absurd allows.3
-clean_variable c (kind ∷ size ∷ code ∷ []) clean all allows = absurd allows.3
+clean_variable c [] clean all allows = absurd (has_declaration c [] allows)
+clean_variable c (kind ∷ []) clean all allows = absurd (has_declaration c (kind ∷ []) allows)
+clean_variable c (kind ∷ size ∷ []) clean all allows = absurd (has_declaration c (kind ∷ size ∷ []) allows)
+clean_variable c (kind ∷ size ∷ code ∷ []) clean all allows =
+    absurd (has_declaration c (kind ∷ size ∷ code ∷ []) allows)
 clean_variable c (kind ∷ size ∷ code ∷ name ∷ names) clean all allows =
-    let words = clean_words (kind ∷ size ∷ code ∷ name ∷ names) (end_word ∷ []) all allows.1 in
+    let fit = and_parts _ _ allows.0 in
+    let may = has_declaration c (kind ∷ size ∷ code ∷ name ∷ names) allows in
+    let words = clean_words (kind ∷ size ∷ code ∷ name ∷ names) (end_word ∷ []) all (and_parts _ _ fit.1).0 in
     let p = and_parts (is_word kind) (list_all is_word (size ∷ code ∷ name ∷ names)) words in
     let q = and_parts (is_word size) (list_all is_word (code ∷ name ∷ names)) p.1 in
     let r = and_parts (is_word code) (list_all is_word (name ∷ names)) q.1 in
@@ -226,8 +225,8 @@ clean_variable c (kind ∷ size ∷ code ∷ name ∷ names) clean all allows =
       size = number_of size;
       code = code;
       words = name ∷ names;
-    }) clean allows.0
-    (record { scopes = clean.scopes; kind = p.0; named = omega arith; words = r.1 }) allows.3.0 allows.3.1
+    }) clean (not-true _ fit.0)
+    (record { scopes = clean.scopes; kind = p.0; named = omega arith; words = r.1 }) may.0 may.1
 
 -- the state stays clean if neither variables nor value changes are added
 clean_beside : (c : ParseState) (header : List Header) (time : Option Timescale) (scopes : List ScopeName)
@@ -249,17 +248,26 @@ clean_beside c header time scopes in_body tick clean sound_header sound_timescal
 clean_item : (c : ParseState) (i : Item) → IsClean c → list_all is_run_text (spelling i) ≡ true → Allows c i
     → IsClean (state_after_item c i)
 clean_item c (entry kind words) clean all allows =
+    let fit = and_parts _ _ allows.0 in
+    let none : has_no_end_word words ≡ true = fit.1 in
     grind (arith, clean_beside, list_all-append, and_from, clean_words, and_parts)
-clean_item c (timescale words) clean all allows = grind (arith, clean_beside, found_passes)
-clean_item c (scope kind words) clean all allows = grind (arith, clean_beside, list_all-append, and_from, clean_words)
+clean_item c (timescale words) clean all allows =
+    let found = has_timescale c words allows in grind (arith, clean_beside, found_passes)
+clean_item c (scope kind words) clean all allows =
+    let fit = and_parts _ _ allows.0 in
+    let none : has_no_end_word (kind ∷ words) ≡ true = fit.1 in
+    grind (arith, clean_beside, list_all-append, and_from, clean_words)
 clean_item c upscope clean all allows = grind (arith, clean_beside, all_taken)
 clean_item c (variable words) clean all allows = clean_variable c words clean all allows
 clean_item c end_definitions clean all allows = grind (arith, clean_beside)
-clean_item c (stamp digits) clean all allows = grind (arith, clean_beside, leb-true, and_parts)
-clean_item c (scalar letter code) clean all allows = search (arith, clean_value_change, some_kept)
+clean_item c (stamp digits) clean all allows =
+    let tick = has_tick c digits allows in grind (arith, clean_beside, leb-true, and_parts)
+clean_item c (scalar letter code) clean all allows =
+    clean_value_change c code (letters_of_digits (letter ∷ [])) clean (and_parts _ _ allows.0).0
+    (some_kept (variable_of c code) (knows_code c letter code allows))
 clean_item c (vector first digits code) clean all allows =
-    clean_value_change c code (letters_of_digits digits) clean allows.0
-    (some_taken digits (variable_of c code) allows.2)
+    clean_value_change c code (letters_of_digits digits) clean (and_parts _ _ allows.0).0
+    (some_taken digits (variable_of c code) (takes_digits c first digits code allows))
 clean_item c (real_or_string first text code) clean all allows = clean
 clean_item c (dump_word word) clean all allows = clean
 clean_item c (other word words) clean all allows = clean
@@ -270,7 +278,7 @@ clean_items c [] clean all allows = clean
 clean_items c (i ∷ is) clean all allows =
     let p = and_parts (list_all is_run_text (spelling i)) (list_all is_run_text (spellings is))
     (sym (list_all-append is_run_text (spelling i) (spellings is)) ∙ all) in
-    clean_items (state_after_item c i) is (clean_item c i clean p.0 (allows_old c i allows.0)) p.1 allows.1
+    clean_items (state_after_item c i) is (clean_item c i clean p.0 allows.0) p.1 allows.1
 
 -- ---- waves
 

@@ -34,6 +34,7 @@ use Rattle.vcd_text.proofs.CodesDiffer.{codes_differ, code_no_end}
 use Rattle.vcd_text.proofs.Decimals.{decimal_digits, decimal_is_number, number_of-decimal}
 use Rattle.vcd_text.proofs.DeclaredSignals.{declared_as, declared_state, declared_of}
 use Rattle.vcd_text.proofs.ItemsInTurn.{Reaches, reaches_none, reaches_first, reaches_one}
+use Rattle.vcd_text.proofs.ItemTests.{allows_entry, allows_variable}
 use Rattle.vcd_text.proofs.ItemsInTurn.{reaches_both, reaches_same}
 use Rattle.vcd_text.proofs.SharedScopes.{declaring, words_have_no_end, scopes_lead, scopes_end}
 use Rattle.vcd_text.proofs.SoundTimescales.{sound_count, count_small, timescale_read}
@@ -46,7 +47,8 @@ header_leads prefix [] sound = grind (arith, reaches_same, reaches_none, append-
 header_leads prefix (h ∷ hs) sound =
     let parts : (is_sound_header h ≡ true) × (list_all is_sound_header hs ≡ true) = grind (arith, and_parts) in
     reaches_first (declaring prefix None [] []) (declaring (prefix ++ (h ∷ hs)) None [] []) (entry h.kind h.words)
-    (header_items hs) (refl, words_have_no_end h.words parts.0)
+    (header_items hs)
+    (allows_entry (declaring prefix None [] []) h.kind h.words refl (words_have_no_end h.words parts.0))
     (reaches_same (declaring (prefix ++ h ∷ []) None [] []) _ _ (header_items hs)
     (header_leads (prefix ++ h ∷ []) hs parts.1)
     (ap (λ l. declaring l None [] []) (append_assoc prefix (h ∷ []) hs)))
@@ -92,14 +94,13 @@ variable_leads h t ds end k s sound few at below =
     let declares : declaration_of before words ≡ Some (declared_as k s) =
     grind (arith, words_declare, number_of-decimal) in
     let fresh : may_have_code (variable_of before (code_of k)) (declared_as k s) ≡ true = grind arith in
-    reaches_one before (declaring h t s.scopes (ds ++ declared_as k s ∷ [])) (variable words) (
-      refl,
-      (grind (arith, and_parts, words_have_no_end, and_from, decimal_no_end, not_from_false, code_no_end)),
-      decimal_is_number s.width (omega arith),
-      subst (λ o. IsSomeAnd o (λ d. IsTrue (may_have_code (variable_of before d.code) d)
-          × IsTrue (is_within_limit ds d)))
-          (sym declares) (fresh, (grind (arith, length-filter, count_by-le-length, or_right, lt-ltb))),
-    )
+    reaches_one before (declaring h t s.scopes (ds ++ declared_as k s ∷ [])) (variable words)
+    (allows_variable before words refl
+    (grind (arith, and_parts, words_have_no_end, and_from, decimal_no_end, not_from_false, code_no_end))
+    (decimal_is_number s.width (omega arith))
+    (subst (λ o. IsSomeAnd o (λ d. IsTrue (may_have_code (variable_of before d.code) d)
+    × IsTrue (is_within_limit ds d)))
+    (sym declares) (fresh, (grind (arith, length-filter, count_by-le-length, or_right, lt-ltb)))))
     (ap (λ o. declaring h t s.scopes (ds ++ option_to_list o)) declares)
 
 -- ---- signals
@@ -138,7 +139,7 @@ declarations_lead c sound =
     (header_leads [] c.header sound.header) (timescale_leads c.header c.timescale sound.timescale))
     (signals_lead c.header c.timescale [] [] c.end 0 c.signals
     (recursion_from_All (IsSoundSignal c.end) c.signals sound.signals) (omega arith) refl (λ j from. refl)))
-    (reaches_one _ (declared_state c) end_definitions refl refl)
+    (reaches_one _ (declared_state c) end_definitions (refl, refl) refl)
 
 -- the declarations, and the items after them
 pub items_in_two : (c : Contents) → items_of c ≡ declaration_items c

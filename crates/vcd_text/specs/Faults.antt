@@ -32,10 +32,14 @@ GoesOn c begun word = (i : Item) × (more : List (List ℕ)) × IsTrue (fits c i
 
 -- the fault of a word with which no item goes on
 abbrev pub misfit_fault : (in_body : Bool) → (begun : List (List ℕ)) → (word : List ℕ) → Fault
+-- a declaration among the changes, or a word that begins no change: also a digit without a code
 misfit_fault true begun word =
     if is_one_of declaration_words word then UnexpectedWord else BadChange
+-- `$upscope` while no scope is open, or a word that begins no declaration
 misfit_fault false [] word =
     if bytes_eq word (codes "$upscope") then UpscopeAtTop else UnexpectedWord
+-- `$end` in the place of a scope's kind, a size that is no number, or a word other than `$end` after
+-- `$upscope` or `$enddefinitions`
 misfit_fault false (keyword ∷ words) word =
     if bytes_eq keyword (codes "$scope") then BadScope
     else (if bytes_eq keyword (codes "$var") then BadVar else UnexpectedWord)

@@ -115,7 +115,8 @@ is_within_limit declared d = is_skipped d || nat_lt (length (kept_variables decl
 
 -- ---- the conditions of an item
 
--- whether an item can stand here, whatever its tests give
+-- whether an item can stand here, whatever its tests give: what is decided before its last word. A
+-- word that no item has there is a fault of its own (`misfit_fault`)
 abbrev pub fits : ParseState → Item → Bool
 fits c (entry kind words) = not c.in_body && has_no_end_word words
 fits c (timescale words) = not c.in_body && has_no_end_word words
@@ -148,7 +149,7 @@ digit_tests digits (Some d) =
     ∷ (ValueTooLong unless (is_skipped d || nat_le (length digits) d.size))
     ∷ []
 
--- the tests of an item, in the order of the faults
+-- the tests of an item at its last word, in the order of the faults
 abbrev pub item_tests : ParseState → Item → List (Test Fault)
 item_tests c (timescale words) = (BadTimescale unless is_some (timescale_of words)) ∷ []
 item_tests c (variable words) = variable_tests c (declaration_of c words)

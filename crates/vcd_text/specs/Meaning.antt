@@ -10,7 +10,8 @@ use Rattle.vcd_text.specs.Letters.{extension}
 use Rattle.vcd_text.specs.Grammar.{VariableDeclaration, ValueChange, ParseState, Accepts}
 use Rattle.vcd_text.specs.Grammar.{is_skipped, kept_variables}
 
--- the last change of the code up to tick t, extended to the width; `before` if there is none
+-- the last change of the code up to tick t, extended to the width; `before` if there is none. This
+-- is `value_from` over the changes of one code
 unfoldable pub latest_value : ℕ → List ℕ → ℕ → List Bit → List ValueChange → List Bit
 latest_value width code t before [] = before
 latest_value width code t before (v ∷ vs) =

@@ -46,8 +46,8 @@ scope_items opened path =
     let shared : ℕ = common_prefix_len same_scope opened path in
     replicate (length opened - shared) upscope ++ map (λ s. scope s.kind s.words) (drop shared path)
 
--- n in bijective base 94, lowest digit first, with at most `most` digits; the digits 1 to 94 are
--- the bytes 33 to 126
+-- n in bijective base 94, lowest digit first; the digits 1 to 94 are the bytes 33 to 126. `most`
+-- bounds their count, so that this ends: n has at most n digits
 unfoldable pub code_digits : ℕ → ℕ → List ℕ
 code_digits most zero = []
 code_digits zero (suc n) = []
@@ -75,7 +75,7 @@ abbrev pub value_item : List ℕ → List Bit → Item
 value_item code (b ∷ []) = scalar (printed_letter b) code
 value_item code value = vector 98 (printed_letters (short_form value)) code
 
--- whether the value of a signal at a tick differs from that at the tick before
+-- whether the value of a signal at a tick past 0 differs from that at the tick before
 abbrev pub differs_at : ℕ → SignalContents → Bool
 differs_at t s = not (same_letters (signal_value s t) (signal_value s (t - 1)))
 

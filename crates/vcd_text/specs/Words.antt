@@ -1,7 +1,7 @@
 -- White space and words (IEEE 1364-2005, 18.2: the file is a list of words separated by white
 -- space).
 use Rattle.vcd_core.specs.Word.{is_white_space}
-use Rattle.std.specs.Prelude.{ℕ, ◌+◌, Bool, true, false, if◌then◌else◌, List, [], ◌∷◌, ◌==◌}
+use Rattle.std.specs.Prelude.{ℕ, ◌+◌, Bool, true, false, if◌then◌else◌, List, [], ◌∷◌, ◌++◌, ◌==◌}
 use Rattle.std.specs.Prelude.{count_by}
 
 -- a word and its line
@@ -17,39 +17,27 @@ word_on text line = record { text = text; line = line }
 abbrev pub line_after : ℕ → ℕ → ℕ
 line_after b line = if b == 10 then line + 1 else line
 
--- whether a word ends before these bytes: before white space, or before the end of the text if that
--- counts
-abbrev pub ends_before : Bool → List ℕ → Bool
-ends_before end_counts [] = end_counts
-ends_before end_counts (b ∷ bs) = is_white_space b
+-- the word with these bytes, if there are any
+abbrev pub word_of : List ℕ → ℕ → List WordOnLine
+word_of [] line = []
+word_of begun line = word_on begun line ∷ []
 
--- the words with one more byte at the front of the first
-abbrev pub with_longer_first : ℕ → ℕ → List WordOnLine → List WordOnLine
-with_longer_first b line [] = []
-with_longer_first b line (w ∷ ws) = word_on (b ∷ w.text) line ∷ ws
-
--- the words with byte b before them: space adds nothing, a last byte makes a word, any other
--- lengthens the first
-abbrev pub with_byte : (space last : Bool) → ℕ → ℕ → List WordOnLine → List WordOnLine
-with_byte true last b line ws = ws
-with_byte false true b line ws = word_on (b ∷ []) line ∷ ws
-with_byte false false b line ws = with_longer_first b line ws
-
--- the runs of bytes between white space, with the first byte on this line; if the text's end does
--- not count, only those that white space follows
-unfoldable pub words_from : Bool → ℕ → List ℕ → List WordOnLine
-words_from end_counts line [] = []
-words_from end_counts line (b ∷ bs) =
-    with_byte (is_white_space b) (ends_before end_counts bs) b line
-    (words_from end_counts (line_after b line) bs)
+-- the words of bytes from this line on, after the bytes `begun` of a word: white space ends a word,
+-- and any other byte goes on with it; the end of the bytes ends the last word, if it counts
+unfoldable pub words_from : (end_counts : Bool) → (begun : List ℕ) → ℕ → List ℕ → List WordOnLine
+words_from end_counts begun line [] = if end_counts then word_of begun line else []
+words_from end_counts begun line (b ∷ bs) =
+    (if is_white_space b then word_of begun line else [])
+    ++ words_from end_counts (if is_white_space b then [] else begun ++ b ∷ [])
+    (line_after b line) bs
 
 -- the words of a file, each with its line: 1 plus the line feeds before it
 abbrev pub words_of : List ℕ → List WordOnLine
-words_of bytes = words_from true 1 bytes
+words_of bytes = words_from true [] 1 bytes
 
 -- the words of this prefix of a file that white space follows
 abbrev pub complete_words : List ℕ → List WordOnLine
-complete_words bytes = words_from false 1 bytes
+complete_words bytes = words_from false [] 1 bytes
 
 -- the line of the end of a file: 1 plus all its line feeds
 abbrev pub last_line : List ℕ → ℕ

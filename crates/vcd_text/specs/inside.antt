@@ -22,4 +22,4 @@ pub mod ReadBufferView
 pub mod Windows
 pub mod SkippedVariables
 pub mod SeenParts
-pub mod FaultRows
+pub mod DigitTests

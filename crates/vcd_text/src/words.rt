@@ -4,8 +4,8 @@ ghost use Rattle.std.specs.Prelude.{◌≡◌, ◌+◌, ◌<◌, ◌≤◌, ◌^
 ghost use Rattle.std.specs.Prelude.{length, take, drop, MatchOption, IfSome, IfNone};
 ghost use Rattle.std.specs.List.{list_all};
 ghost use Rattle.vcd_core.specs.Word.{is_white_space as white};
-ghost use Rattle.vcd_text.specs.Words.{ends_before as ends_word, words_from, words_of};
-ghost use Rattle.vcd_text.specs.inside.Spaces.{begins_with_space, line_feeds_in};
+ghost use Rattle.vcd_text.specs.Words.{words_from, words_of};
+ghost use Rattle.vcd_text.specs.inside.Spaces.{begins_with_space, ends_before as ends_word, line_feeds_in};
 
 use vcd_core::is_white_space;
 
@@ -84,8 +84,8 @@ impl<'a> Iterator for Words<'a> {
 fn after_space(text: &[u8], line_feeds: u64) -> (&[u8], u64)
     requires { line_feeds + length text.now < 2 ^ 64 }
     ensures words { (end_counts : Bool) →
-        words_from end_counts (result.1 + 1) result.0.now
-        ≡ words_from end_counts (line_feeds + 1) text.now }
+        words_from end_counts [] (result.1 + 1) result.0.now
+        ≡ words_from end_counts [] (line_feeds + 1) text.now }
     ensures lines { result.1 + length result.0.now ≤ line_feeds + length text.now }
     ensures line_feeds { result.1 + line_feeds_in result.0.now
         ≡ line_feeds + line_feeds_in text.now }

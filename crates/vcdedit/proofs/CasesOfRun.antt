@@ -15,7 +15,8 @@ use Rattle.vcdedit.specs.Script.{script_lines}
 use Rattle.vcdedit.specs.ScriptCommands.{command_of_line}
 use Rattle.vcdedit.specs.Reply.{line_reply}
 use Rattle.vcdedit.specs.Run.{RunOutcome, outcome, IsRun}
-use Rattle.vcdedit.specs.RunEnds.{DeviceEnd, RunEnds}
+use Rattle.vcd_shell.specs.Devices.{DeviceEnd}
+use Rattle.vcdedit.specs.RunEnds.{RunEnds}
 use Rattle.vcdedit.specs.declared.running.run_error.RunError.TheVariants as run_errors
 use Rattle.vcdedit.proofs.RunHistories.{run_is}
 use Rattle.vcd_text.proofs.CasesOfFiles.{one_scalar as one_scalar_file, one_scalar_contents}

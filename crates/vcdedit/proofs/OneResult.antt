@@ -32,10 +32,10 @@ has_meaning : (file script : List ℕ) (depth : ℕ) (written : RunOutcome) → 
 has_meaning file script depth written run = (run.contents, run.skipped, run.means)
 
 pub same_bytes_same_result : SameBytesSameResult
-same_bytes_same_result file script depth (Err (NoMemory line replies)) other gives also = tt
-same_bytes_same_result file script depth (Ok one) (Err (NoMemory line replies)) gives also = tt
-same_bytes_same_result file script depth (Err (Capture e)) (Err (NoMemory line replies)) gives also = tt
-same_bytes_same_result file script depth (Err ScriptTooLarge) (Err (NoMemory line replies)) gives also = tt
+same_bytes_same_result file script depth (Err (NoMemory stage replies)) other gives also = tt
+same_bytes_same_result file script depth (Ok one) (Err (NoMemory stage replies)) gives also = tt
+same_bytes_same_result file script depth (Err (Capture e)) (Err (NoMemory stage replies)) gives also = tt
+same_bytes_same_result file script depth (Err ScriptTooLarge) (Err (NoMemory stage replies)) gives also = tt
 same_bytes_same_result file script depth (Ok one) (Ok other) gives also =
     let same = one_outcome file script depth gives.0 also.0 gives.1.2 also.1.2 in (
       gives.2 ∙ ap (λ (w : RunOutcome). concat w.replies) same ∙ sym also.2,

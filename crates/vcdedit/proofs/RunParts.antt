@@ -23,7 +23,8 @@ use Rattle.vcdedit.specs.declared.running.run_error.RunError.TheVariants as run_
 use Rattle.vcdedit.specs.declared.running.run_error.Summary.{Summary}
 use Rattle.vcdedit.specs.Script.{script_lines}
 use Rattle.vcdedit.specs.Run.{RunOutcome, IsRun, outcome}
-use Rattle.vcdedit.specs.RunEnds.{DeviceEnd, IsRead, IsAccepted, IsUntouched, HasText, IsFlushedAt}
+use Rattle.vcd_shell.specs.Devices.{DeviceEnd, IsRead, IsUntouched, HasText}
+use Rattle.vcdedit.specs.RunEnds.{IsAccepted, IsFlushedAt}
 use Rattle.vcdedit.specs.RunEnds.{RunEnds}
 use Rattle.vcdedit.specs.inside.RunLines.{HasFailedAt, EndsAtLine, RunsLines, StopsInReplies}
 use Rattle.vcdedit.specs.inside.RunLines.{StopsInLines}

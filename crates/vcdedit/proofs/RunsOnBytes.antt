@@ -16,9 +16,16 @@ use Rattle.vcdedit.specs.declared.running.run_error.RunError.{RunError}
 use Rattle.vcdedit.specs.declared.running.run_error.RunError.TheVariants as run_errors
 use Rattle.vcdedit.specs.declared.running.run_error.Summary.{Summary}
 use Rattle.vcdedit.specs.Run.{RunOutcome, IsRun}
-use Rattle.vcdedit.specs.RunEnds.{DeviceEnd, IsRead, RunEnds}
+use Rattle.vcd_shell.specs.Devices.{DeviceEnd, IsRead}
+use Rattle.vcdedit.specs.RunEnds.{RunEnds}
+use Rattle.vcdedit.specs.declared.running.run_on_bytes.Stage.TheVariants.{Line}
 use Rattle.vcdedit.specs.RunOnBytes.{IsRefusedFile, has_fault, too_large, IsRunWithin, RunGives}
-use Rattle.vcdedit.specs.inside.RunRefusals.{run_refusal}
+use Rattle.vcdedit.specs.inside.RunRefusals.{run_refusal, stage_of_line}
+
+-- a line that is not 0 is the stage
+pub stage_at : (line : ℕ) → (line ≡ 0 → ⊥) → Line line ≡ stage_of_line line
+stage_at zero other = absurd (other refl)
+stage_at (suc before) other = refl
 
 -- a file is refused for one fault
 one_refused_file : (file : List ℕ) (e other : ReadError) → IsRefusedFile file e → IsRefusedFile file other → other ≡ e
@@ -35,7 +42,7 @@ refused_file : (file script : List ℕ) (depth : ℕ) (has_failed : Bool) (left 
     → refusals.IsRefusal file has_failed left e
     → (out_of_memory : Bool) → is_no_memory e.fault ≡ out_of_memory
     → RunGives file script depth (Err (run_refusal (run_errors.Capture e) made none))
-refused_file file script depth has_failed left e made none ready empty refused true is = rw is (inl empty)
+refused_file file script depth has_failed left e made none ready empty refused true is = rw is empty
 refused_file file script depth has_failed left e made none ready empty (refusals.has_fault whole short fault) false is =
     rw is (has_fault short fault, λ other. one_refused_file file e other (has_fault short fault))
 refused_file file script depth has_failed left e made none ready empty (refusals.too_large whole long answer) false is =
@@ -92,22 +99,25 @@ refusal_of_run file script depth capture lines replies output made none run_erro
 refusal_of_run file script depth capture lines replies output made none run_errors.ScriptReadFault empty is_file ready
     is_script lines_ready was_empty made_is ends = let no : false ≡ true = sym lines_ready ∙ ends.1 in absurd (cc)
 refusal_of_run file script depth capture lines replies output made none (run_errors.NoMemory zero) empty is_file ready
-    is_script lines_ready was_empty made_is ends = inl (none_taken made.items replies was_empty made_is ends.1.0.0)
+    is_script lines_ready was_empty made_is ends = none_taken made.items replies was_empty made_is ends.1.0.0
 refusal_of_run file script depth capture lines replies output made none (run_errors.NoMemory (suc before)) empty is_file
     ready is_script lines_ready was_empty made_is ends =
     let gives = rw (is_file, is_script, was_empty, sym made_is) at ends.3 in
     let within = within_limits file script depth _ _ gives.0 is_file is_script ends.0.0 ends.1 gives.1 in
     (gives.0, within, gives.2.0, gives.2.1)
 refusal_of_run file script depth capture lines replies output made none (run_errors.ReplyFault count) empty is_file
-    ready is_script lines_ready was_empty made_is ends = inl empty
+    ready is_script lines_ready was_empty made_is ends =
+    let gives = rw (is_file, is_script, was_empty, sym made_is) at ends.4 in
+    let within = within_limits file script depth _ _ gives.0 is_file is_script ends.0.0 ends.1 gives.1 in
+    (gives.0, within, empty)
 refusal_of_run file script depth capture lines replies output made none (run_errors.Write write_errors.NoMemory) empty
     is_file ready is_script lines_ready was_empty made_is ends =
     let gives = rw (is_file, is_script, was_empty, sym made_is) at ends.4 in
     let within = within_limits file script depth _ _ gives.0 is_file is_script ends.0.0 ends.1 gives.1 in
-    inr (gives.0, within, gives.2)
+    (gives.0, within, gives.2)
 refusal_of_run file script depth capture lines replies output made none
     (run_errors.Write (write_errors.WriteFault count)) empty is_file ready is_script lines_ready was_empty made_is
     ends =
     let gives = rw (is_file, is_script, was_empty, sym made_is) at ends.3.1 in
     let within = within_limits file script depth _ _ gives.0 is_file is_script ends.0.0 ends.1 gives.1 in
-    inr (gives.0, within, gives.2.0)
+    (gives.0, within, gives.2.0)

@@ -24,8 +24,8 @@ CutFileIsReadAgain =
 
 -- two results are the same, or memory ran out in one of them; the room of texts is not compared
 abbrev pub AreSameButForMemory : (one other : Result RunTexts RunRefusal) → Type 0
-AreSameButForMemory (Err (NoMemory line replies)) other = Unit {0}
-AreSameButForMemory one (Err (NoMemory line replies)) = Unit {0}
+AreSameButForMemory (Err (NoMemory stage replies)) other = Unit {0}
+AreSameButForMemory one (Err (NoMemory stage replies)) = Unit {0}
 AreSameButForMemory (Ok one) (Ok other) = (one.replies.items ≡ other.replies.items)
     × (one.output.items ≡ other.output.items) × (one.refused ≡ other.refused)
 AreSameButForMemory (Err (Capture e)) (Err (Capture other)) = e ≡ other

@@ -1,12 +1,9 @@
 -- How the program ends: the exit status, and the text on standard error. Both are the project's
 -- own.
-use Rattle.std.specs.Prelude.{◌≡◌, ◌⊎◌, ℕ, Bool, true, false, List, [], Option, is_some, Result, Ok}
+use Rattle.std.specs.Prelude.{◌≡◌, ◌⊎◌, ℕ, List, [], Option, IsSome, is_some, Result, Ok}
 use Rattle.std.specs.Prelude.{Err}
 use Rattle.std.specs.String.{string_bytes}
-use Rattle.clap.specs.Words.{Kinds, IsAmong, fault_of}
-use Rattle.clap.specs.declared.error.kind.ErrorKind.{ErrorKind}
-use Rattle.clap.specs.declared.error.kind.ErrorKind.TheVariants.{DisplayHelp, DisplayVersion}
-use Rattle.clap.specs.declared.error.kind.ErrorKind.TheVariants.{OutOfMemory}
+use Rattle.clap.specs.Words.{Kinds, fault_of}
 use Rattle.vcdedit.specs.declared.shell.ending.Ending.{Ending}
 use Rattle.vcdedit.specs.declared.shell.ending.Ending.TheVariants.{Done, Failed, Shown, Refused}
 use Rattle.vcd_text.specs.declared.fault.Fault.TheVariants as faults
@@ -14,7 +11,11 @@ use Rattle.vcdedit.specs.declared.running.run_error.RunError.{RunError}
 use Rattle.vcdedit.specs.declared.running.run_error.RunError.TheVariants as run_errors
 use Rattle.vcdedit.specs.declared.running.run_error.Summary.{Summary}
 use Rattle.vcdedit.specs.CommandLine.{AskedOptions, asked_options, option_app}
-use Rattle.vcdedit.specs.RunEnds.{DeviceEnd, RunEnds}
+use Rattle.vcd_shell.specs.Devices.{DeviceEnd}
+use Rattle.vcd_shell.specs.WithoutRun.{IsAnswer}
+use Rattle.vcd_shell.specs.declared.words.WithoutRun.{WithoutRun}
+use Rattle.vcd_shell.specs.declared.words.WithoutRun.TheVariants as answers
+use Rattle.vcdedit.specs.RunEnds.{RunEnds}
 use Rattle.vcdedit.specs.Report.{done_status, error_status, error_report}
 
 -- the exit status of the program: 2 if its words are refused
@@ -38,11 +39,12 @@ abbrev pub ending_of : Result Summary RunError → Ending
 ending_of (Ok summary) = Done summary
 ending_of (Err e) = Failed e
 
--- why a run does not begin: an input can't be opened, or there is no memory for the buffer of the
--- replies
-abbrev pub IsFaultBeforeRun : RunError → Type 0
-IsFaultBeforeRun e = (e ≡ run_errors.Capture (record { line = 1; fault = faults.ReadFault }))
-    ⊎ (e ≡ run_errors.ScriptReadFault)
+-- why a run with these options does not begin: the capture can't be opened, or the script, if one
+-- is asked for; or there is no memory for the buffer of the replies
+abbrev pub IsFaultBeforeRun : AskedOptions → RunError → Type 0
+IsFaultBeforeRun options e =
+    (e ≡ run_errors.Capture (record { line = 1; fault = faults.ReadFault }))
+    ⊎ ((e ≡ run_errors.ScriptReadFault) × IsSome options.script)
     ⊎ (e ≡ run_errors.NoMemory 0)
 
 -- the outcome is that of a run on these sources; it writes the output if there is a path
@@ -53,7 +55,7 @@ IsOutcomeOn path outcome depth capture script = (replies : DeviceEnd) × (output
 
 -- the outcome is that of a run with these options, or the run does not begin
 abbrev pub IsOutcomeOfOptions : AskedOptions → Result Summary RunError → Type 0
-IsOutcomeOfOptions options outcome = ((e : RunError) × IsFaultBeforeRun e × (outcome ≡ Err e))
+IsOutcomeOfOptions options outcome = ((e : RunError) × IsFaultBeforeRun options e × (outcome ≡ Err e))
     ⊎ ((capture : DeviceEnd) × (script : DeviceEnd)
     × IsOutcomeOn options.output outcome options.depth capture script)
 
@@ -63,23 +65,17 @@ IsEndingOf words ending = (outcome : Result Summary RunError)
     × IsOutcomeOfOptions (asked_options words) outcome
     × (ending ≡ ending_of outcome)
 
--- the words ask for help or the version, by the kind of `clap`'s answer
-abbrev pub asks_for_text : ErrorKind → Bool
-asks_for_text DisplayHelp = true
-asks_for_text DisplayVersion = true
-asks_for_text _ = false
+-- the ending of words that ask for no run
+abbrev pub ending_without_run : WithoutRun → Ending
+ending_without_run answers.Shown = Shown
+ending_without_run (answers.NotShown written) = Failed (run_errors.ReplyFault written)
+ending_without_run (answers.Refused text) = Refused text
+ending_without_run answers.NoMemory = Failed (run_errors.NoMemory 0)
 
--- an ending without a run: help and the version are shown, other words refused, or this fails
-abbrev pub IsEndingOfKind : ErrorKind → Ending → Type 0
-IsEndingOfKind kind (Done summary) = ⊥
-IsEndingOfKind kind (Failed e) = Unit {0}
-IsEndingOfKind kind Shown = asks_for_text kind ≡ true
-IsEndingOfKind kind (Refused text) = asks_for_text kind ≡ false
-
--- words with these faults have this ending; asking for help or the version is one of them
+-- words with these faults have this ending
 abbrev pub IsEndingWithoutRun : Kinds → Ending → Type 0
-IsEndingWithoutRun kinds ending = (kind : ErrorKind)
-    × ((kind ≡ OutOfMemory) ⊎ IsAmong kind kinds) × IsEndingOfKind kind ending
+IsEndingWithoutRun kinds ending = (answer : WithoutRun) × IsAnswer kinds answer
+    × (ending ≡ ending_without_run answer)
 
 -- words have this ending: that of a run, or one without a run if they have a fault
 abbrev pub HasEnding : (words : List (List ℕ)) → Ending → Type 0

@@ -1,11 +1,9 @@
 -- What the program reports of a run that failed. The names, statuses and lines are the project's
 -- own.
-use Rattle.std.specs.Prelude.{ℕ, ◌==◌, if◌then◌else◌, List, ◌++◌, codes, decimal}
+use Rattle.std.specs.Prelude.{ℕ, ◌==◌, if◌then◌else◌, List, codes}
 use Rattle.vcd_text.specs.FaultNames.{fault_name, write_error_name}
-use Rattle.vcd_text.specs.declared.fault.Fault.{Fault}
-use Rattle.vcd_text.specs.declared.fault.Fault.TheVariants as faults
-use Rattle.vcd_text.specs.declared.fault.WriteError.{WriteError}
-use Rattle.vcd_text.specs.declared.fault.WriteError.TheVariants as write_errors
+use Rattle.vcd_shell.specs.Report.{capture_report, capture_status, out_of_memory_report, report_of}
+use Rattle.vcd_shell.specs.Report.{write_report, write_status}
 use Rattle.vcdedit.specs.declared.running.run_error.RunError.{RunError}
 use Rattle.vcdedit.specs.declared.running.run_error.RunError.TheVariants as run_errors
 
@@ -22,17 +20,6 @@ run_error_name (run_errors.Write e) = write_error_name e
 abbrev pub done_status : ℕ → ℕ
 done_status refused = if refused == 0 then 0 else 1
 
--- the exit status for a fault of the capture: 3 for its text, 4 for its source, 5 if memory ran out
-abbrev pub capture_status : Fault → ℕ
-capture_status faults.ReadFault = 4
-capture_status faults.NoMemory = 5
-capture_status _ = 3
-
--- the exit status for a fault of the output
-abbrev pub write_status : WriteError → ℕ
-write_status write_errors.NoMemory = 5
-write_status (write_errors.WriteFault written) = 4
-
 -- the exit status of a run that failed
 abbrev pub error_status : RunError → ℕ
 error_status (run_errors.Capture e) = capture_status e.fault
@@ -42,32 +29,15 @@ error_status (run_errors.NoMemory line) = 5
 error_status (run_errors.ReplyFault written) = 4
 error_status (run_errors.Write e) = write_status e
 
--- the line if memory ran out, at any place
-abbrev pub out_of_memory_report : List ℕ
-out_of_memory_report = codes "vcdedit: out of memory\n"
-
--- the line for a fault at a line of the capture
-abbrev pub report_with_line : Fault → ℕ → List ℕ
-report_with_line fault line =
-    codes "vcdedit: capture line " ++ decimal line ++ codes ": " ++ fault_name fault
-    ++ codes "\n"
-
--- the line for a fault of the capture
-abbrev pub capture_report : Fault → ℕ → List ℕ
-capture_report faults.ReadFault line = codes "vcdedit: capture: read fault\n"
-capture_report faults.NoMemory line = out_of_memory_report
-capture_report fault line = report_with_line fault line
-
--- the line for a fault of the output
-abbrev pub write_error_report : WriteError → List ℕ
-write_error_report write_errors.NoMemory = out_of_memory_report
-write_error_report (write_errors.WriteFault written) = codes "vcdedit: output: write fault\n"
+-- the line of a text, after the program's name
+abbrev pub said : List ℕ → List ℕ
+said = report_of (codes "vcdedit")
 
 -- the line on standard error of a run that failed
 abbrev pub error_report : RunError → List ℕ
-error_report (run_errors.Capture e) = capture_report e.fault e.line
-error_report run_errors.ScriptTooLarge = codes "vcdedit: script: too large\n"
-error_report run_errors.ScriptReadFault = codes "vcdedit: script: read fault\n"
-error_report (run_errors.NoMemory line) = out_of_memory_report
-error_report (run_errors.ReplyFault written) = codes "vcdedit: replies: write fault\n"
-error_report (run_errors.Write e) = write_error_report e
+error_report (run_errors.Capture e) = capture_report (codes "vcdedit") e.fault e.line
+error_report run_errors.ScriptTooLarge = said (codes "script: too large")
+error_report run_errors.ScriptReadFault = said (codes "script: read fault")
+error_report (run_errors.NoMemory line) = out_of_memory_report (codes "vcdedit")
+error_report (run_errors.ReplyFault written) = said (codes "replies: write fault")
+error_report (run_errors.Write e) = write_report (codes "vcdedit") e

@@ -6,13 +6,14 @@ use Rattle.std.specs.Prelude.{take, Option, Some}
 use Rattle.std.specs.Prelude.{◌^◌, None, Result, Ok, Err, IfSome, IsSomeAnd}
 use Rattle.std.specs.List.{concat}
 use Rattle.std.specs.Borrow.{MutBor}
-use Rattle.std.specs.Io.KnownBytes.{Appends, Keeps, IsAtEnd}
+use Rattle.std.specs.Io.KnownBytes.{Keeps}
 use Rattle.vcd_core.specs.Contents.{Contents}
 use Rattle.vcd_text.specs.Meaning.{FileMeans}
 use Rattle.vcd_text.specs.Refusals.{IsRefusal, IsOnlyRefusal}
 use Rattle.vcd_text.specs.declared.fault.Fault.TheVariants as faults
 use Rattle.vcd_text.specs.declared.fault.WriteError.TheVariants as write_errors
 use Rattle.vcd_text.specs.declared.reading.TheConstants.{FILE_LIMIT}
+use Rattle.vcd_shell.specs.Devices.{DeviceEnd, device_end, HasPrefix, HasText, IsRead, IsUntouched}
 use Rattle.vcdedit.specs.declared.running.script_input.TheConstants.{SCRIPT_LIMIT}
 use Rattle.vcdedit.specs.declared.running.run_error.RunError.{RunError}
 use Rattle.vcdedit.specs.declared.running.run_error.RunError.TheVariants.{Capture, ScriptTooLarge}
@@ -24,34 +25,10 @@ use Rattle.vcdedit.specs.Run.{RunOutcome, IsRun}
 
 -- ---- sources and writers
 
--- a device before and after: the bytes to come from a source, or taken by a writer, if shown;
--- whether it failed
-pub record DeviceEnd : Type 0 where
-  pub before : Option (List ℕ)
-  pub after : Option (List ℕ)
-  pub has_failed : Bool
-
--- a device is unchanged: it shows the same bytes as before, and has not failed
-abbrev pub IsUntouched : DeviceEnd → Type 0
-IsUntouched d = (d.after ≡ d.before) × (d.has_failed ≡ false)
-
--- a source did not fail: it was read to its end, and had at most `limit` bytes
-abbrev pub IsRead : (limit : ℕ) → DeviceEnd → Type 0
-IsRead limit r = (r.has_failed ≡ false) × IsAtEnd r.after
-    × IfSome r.before (λ bytes. length bytes ≤ limit)
-
 -- the capture read is within the limit and has a meaning
 abbrev pub IsAccepted : DeviceEnd → Type 0
 IsAccepted r = IsRead FILE_LIMIT r
     × IfSome r.before (λ file. (c : Contents) × (skipped : ℕ) × FileMeans file c skipped)
-
--- a writer took this text
-abbrev pub HasText : DeviceEnd → List ℕ → Type 0
-HasText w text = Appends w.before w.after text
-
--- a writer took the first `count` bytes of a text
-abbrev pub HasPrefix : DeviceEnd → (count : ℕ) → List ℕ → Type 0
-HasPrefix w count text = (count ≤ length text) × HasText w (take count text)
 
 -- an `Option<&mut D>` as a call gives it back: none, one, or (never) a third variant
 abbrev pub Returned : Type 0 → Type 0
@@ -59,15 +36,12 @@ Returned D = Unit {0} ⊎ (MutBor D × Unit {0}) ⊎ ⊥
 
 -- of devices, by what they show, and whether they have failed
 module _ {D : Type 0} (shown : D → Option (List ℕ)) (has_failed : D → Bool) where
-  -- the end of a device
-  abbrev pub device_end : (old new : D) → DeviceEnd
-  device_end old new = record { before = shown old; after = shown new; has_failed = has_failed new }
-
   -- holds of the end of the writer of the output, or of none: `out` is the `Option<&mut D>` as it
   -- was passed, `left` as it was returned; they are the same variant
   abbrev pub ForOutput : Option (MutBor D) → Returned D → (Option DeviceEnd → Type 0) → Type 0
   ForOutput None left property = property None
-  ForOutput (Some out) (inr (inl left)) property = property (Some (device_end out.now left.0.now))
+  ForOutput (Some out) (inr (inl left)) property =
+      property (Some (device_end shown has_failed out.now left.0.now))
   ForOutput (Some out) left property = ⊥
 
 -- the writer of the output, if there is one, was flushed after the last byte that it took

@@ -1,10 +1,11 @@
 -- What a run over bytes in memory gives: the headline without devices. The rules are the project's
 -- own.
-use Rattle.std.specs.Prelude.{◌≡◌, ◌<◌, ◌≤◌, ◌⊎◌, ℕ, zero, suc, List, [], length, take, Result, Ok}
+use Rattle.std.specs.Prelude.{◌≡◌, ◌<◌, ◌≤◌, ℕ, zero, suc, List, [], length, take, Result, Ok, codes}
 use Rattle.std.specs.Prelude.{Err}
 use Rattle.std.specs.List.{concat}
 use Rattle.vcd_core.specs.Contents.{Contents}
 use Rattle.vcd_text.specs.Faults.{IsFileFault, IsPrefixAnswer}
+use Rattle.vcd_text.specs.FaultNames.{fault_name}
 use Rattle.vcd_text.specs.Meaning.{FileMeans}
 use Rattle.vcd_text.specs.declared.fault.Fault.TheVariants as faults
 use Rattle.vcd_text.specs.declared.fault.ReadError.{ReadError}
@@ -15,7 +16,15 @@ use Rattle.vcdedit.specs.declared.running.run_on_bytes.RunRefusal.{RunRefusal}
 use Rattle.vcdedit.specs.declared.running.run_on_bytes.RunRefusal.TheVariants.{Capture}
 use Rattle.vcdedit.specs.declared.running.run_on_bytes.RunRefusal.TheVariants.{ScriptTooLarge}
 use Rattle.vcdedit.specs.declared.running.run_on_bytes.RunRefusal.TheVariants.{NoMemory}
+use Rattle.vcdedit.specs.declared.running.run_on_bytes.Stage.TheVariants.{Inputs, Line, Replies}
+use Rattle.vcdedit.specs.declared.running.run_on_bytes.Stage.TheVariants.{Output}
 use Rattle.vcdedit.specs.Run.{RunOutcome, IsRun}
+
+-- the name of a refusal
+abbrev pub run_refusal_name : RunRefusal → List ℕ
+run_refusal_name (Capture e) = fault_name e.fault
+run_refusal_name ScriptTooLarge = codes "ScriptTooLarge"
+run_refusal_name (NoMemory stage replies) = codes "NoMemory"
 
 -- why a capture file is refused: for its fault, or its length
 pub data IsRefusedFile (file : List ℕ) (e : ReadError) : Type 0 where
@@ -45,12 +54,16 @@ RunGives file script depth (Err (Capture e)) = IsRefusedFile file e
 -- the capture file is within its limit and has a meaning, and the script is above its limit
 RunGives file script depth (Err ScriptTooLarge) = (length file ≤ FILE_LIMIT) × HasMeaning file
     × (SCRIPT_LIMIT < length script)
--- memory ran out, and not at a line: there are no replies, and nothing is said of the files; or all
--- replies were made, and it ran out for the output
-RunGives file script depth (Err (NoMemory zero replies)) = (replies.items ≡ [])
-    ⊎ ((written : RunOutcome) × IsRunWithin file script depth written
-    × (replies.items ≡ concat written.replies))
+-- memory ran out for the inputs: there are no replies, and nothing is said of the files
+RunGives file script depth (Err (NoMemory Inputs replies)) = replies.items ≡ []
 -- memory ran out at a line, counted from 1: the replies are those to the lines before it
-RunGives file script depth (Err (NoMemory (suc before) replies)) = (written : RunOutcome)
+RunGives file script depth (Err (NoMemory (Line zero) replies)) = ⊥
+RunGives file script depth (Err (NoMemory (Line (suc before)) replies)) = (written : RunOutcome)
     × IsRunWithin file script depth written × (before < length written.replies)
     × (replies.items ≡ concat (take before written.replies))
+-- memory ran out for the replies: none are given
+RunGives file script depth (Err (NoMemory Replies replies)) = (written : RunOutcome)
+    × IsRunWithin file script depth written × (replies.items ≡ [])
+-- memory ran out for the output: all replies are given
+RunGives file script depth (Err (NoMemory Output replies)) = (written : RunOutcome)
+    × IsRunWithin file script depth written × (replies.items ≡ concat written.replies)

@@ -1,8 +1,9 @@
 //! `vcdedit`: edits four-state value change dump files (IEEE 1364-2005, 18.2) by script.
 //!
 //! It reads a capture and a script, answers with replies, and writes the edited capture. `run` does
-//! all that with devices that it is given; `status_of_program` opens those that the command line
-//! names. `script` reads what a line asks for, and `replies` makes the reply to it.
+//! all that with devices that it is given; `status_of_program` opens files for it, and its ending
+//! is one that the words of the command line can have. `script` reads what a line asks for, and
+//! `replies` makes the reply to it.
 #![tactic(auto)]
 
 mod laws;
@@ -14,9 +15,11 @@ mod shell;
 mod tests;
 
 pub use laws::{cut_file_is_read_again, same_bytes_same_result};
-pub use running::{RunError, RunRefusal, RunTexts, SCRIPT_LIMIT, Summary, run, run_on_bytes};
+pub use running::{
+    RunError, RunRefusal, RunTexts, SCRIPT_LIMIT, Stage, Summary, run, run_on_bytes,
+};
 pub use script::{Command, LineError, parse_line};
-pub use shell::{LateFile, report, status_of_program};
+pub use shell::{report, status_of_program};
 use std::env;
 use std::process::ExitCode;
 use vcd_core::ToWrite;

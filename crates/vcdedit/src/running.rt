@@ -8,5 +8,5 @@ mod script_input;
 
 pub use run::run;
 pub use run_error::{RunError, Summary};
-pub use run_on_bytes::{RunRefusal, RunTexts, run_on_bytes};
+pub use run_on_bytes::{RunRefusal, RunTexts, Stage, run_on_bytes};
 pub use script_input::SCRIPT_LIMIT;

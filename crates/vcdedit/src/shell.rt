@@ -3,11 +3,9 @@
 
 mod command_line;
 mod ending;
-mod late_file;
 mod opening;
 mod program;
 mod reporting;
 
-pub use late_file::LateFile;
 pub use program::status_of_program;
 pub use reporting::report;

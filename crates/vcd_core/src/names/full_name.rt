@@ -61,16 +61,19 @@ impl<'a> FullName<'a> {
         }
     }
 
-    /// The full name of a signal.
+    /// The full name in these scopes, outermost first, of a name of these words.
     #[tactic(auto, using(crate::proofs::FullNames::name_steps))]
+    pub fn of_words(scopes: &'a [ScopeName], words: &'a [Word]) -> FullName<'a>
+        ensures { name_bytes result ≡ name_in scopes.now words.now }
+    {
+        FullName::new(scopes, b"".as_slice(), words)
+    }
+
+    /// The full name of a signal.
     pub fn of(signal: &'a Signal) -> FullName<'a>
         ensures { name_bytes result ≡ full_name (signal_contents signal.now) }
     {
-        FullName::new(
-            signal.scopes.as_slice(),
-            b"".as_slice(),
-            signal.words.as_slice(),
-        )
+        FullName::of_words(signal.scopes.as_slice(), signal.words.as_slice())
     }
 
     /// A text as a full name.
@@ -136,8 +139,8 @@ impl<'a> FullName<'a> {
         others.next_byte().is_none()
     }
 
-    /// Takes the next byte.
-    fn next_byte(&mut self) -> Option<u8>
+    /// Takes the next byte of the name, if there is one.
+    pub fn next_byte(&mut self) -> Option<u8>
         ensures { MatchOption result (name_bytes self.old ≡ [])
             (λ byte. name_bytes self.old ≡ byte ∷ name_bytes self.new) }
     {

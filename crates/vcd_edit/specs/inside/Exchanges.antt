@@ -12,7 +12,7 @@ use Rattle.vcd_core.specs.Splice.{AllTicksFit}
 use Rattle.vcd_edit.specs.declared.record.Piece.{Piece}
 use Rattle.vcd_edit.specs.RecordView.{PieceView}
 use Rattle.vcd_edit.specs.AppliedRecords.{changes_with_piece, with_piece, with_pieces}
-use Rattle.vcd_edit.specs.AppliedRecords.{HaveDistinctSignals}
+use Rattle.vcd_edit.specs.AppliedRecords.{RiseFrom}
 use Rattle.vcd_edit.specs.Records.{piece_view}
 use Rattle.vcd_edit.specs.Touched.{touched_count}
 
@@ -102,5 +102,5 @@ pub record ExchangedSoFar (before : Contents) (old : List Piece) (i : ℕ) (new 
   pub there : now ≡ with_pieces before (map piece_view (take i old))
   pub back : AreOppositePieces before (map piece_view (take i old)) (map piece_view (take i new))
   pub ready : All (PieceReadyIn now) (map piece_view (drop i old))
-  pub apart : HaveDistinctSignals (map piece_view (drop i old))
+  pub rise : (k : ℕ) × RiseFrom k (map piece_view (drop i old))
   pub room : HaveRoom ss old comings i (length old)

@@ -1,12 +1,10 @@
 -- The tests that show whether a record fits a capture.
-use Rattle.std.specs.Prelude.{ℕ, ◌<◌, ◌≤◌, nat_le, if◌then◌else◌, List, [], length, slice_index_or}
-use Rattle.std.specs.Prelude.{All, Option, Some}
+use Rattle.std.specs.Prelude.{◌≡◌, ℕ, zero, suc, ◌<◌, ◌≤◌, ◌==◌, Bool, true, false, List, [], ◌∷◌}
+use Rattle.std.specs.Prelude.{length, drop, slice_index_or, All, Option, Some}
 use Rattle.std.specs.Prelude.{None, IsTrue, IfSome}
 use Rattle.std.specs.List.{list_all}
-use Rattle.vcd_core.specs.declared.wave.Change.{Change}
 use Rattle.vcd_core.specs.declared.capture.TheConstants.{END_LIMIT, SIGNAL_LIMIT}
 use Rattle.vcd_core.specs.Contents.{Contents, SignalContents, no_signal}
-use Rattle.vcd_core.specs.Wave.{IsWave}
 use Rattle.vcd_core.specs.Sound.{is_sound_header, is_sound_timescale, IsSoundSignal}
 use Rattle.vcd_edit.specs.RecordView.{PieceView, RecordView}
 use Rattle.vcd_edit.specs.AppliedRecords.{signal_with_changes, PieceFits, WordFits}
@@ -19,19 +17,32 @@ use Rattle.vcd_edit.specs.inside.Adjacency.{IsValidPiece}
 abbrev pub HasSoundNames : SignalContents → Type 0
 HasSoundNames s = IsSoundSignal 0 (signal_with_changes s [])
 
--- the same, and its changes are those of a wave with any end
-abbrev pub IsFormedSignal : SignalContents → Type 0
-IsFormedSignal s = HasSoundNames s × IsWave s.width s.changes
+-- a signal with a piece is sound up to an end, and the piece lies within its changes
+abbrev pub IsSoundWith : ℕ → SignalContents → PieceView → Type 0
+IsSoundWith end s p = HasSoundNames s × IsValidPiece s.width end s.changes p
 
--- 1 if a list has a change past the end, else 0
-abbrev pub late_count : ℕ → List Change → ℕ
-late_count end cs = if list_all (λ c. nat_le c.tick end) cs then 0 else 1
+-- whether the first of some pieces is for the signal at a position
+abbrev pub is_for : ℕ → List PieceView → Bool
+is_for k [] = false
+is_for k (p ∷ ps) = p.signal == k
 
--- a piece is for one of the signals, and gives a wave up to the end
-pub record IsValidIn (end : ℕ) (ss : List SignalContents) (p : PieceView) : Type 0 where
-  pub within : p.signal < length ss
-  pub valid : IsValidPiece (slice_index_or ss p.signal no_signal).width end
-      (slice_index_or ss p.signal no_signal).changes p
+-- the pieces after that one, if it is
+abbrev pub pieces_after : Bool → List PieceView → List PieceView
+pieces_after true ps = drop 1 ps
+pieces_after false ps = ps
+
+-- a signal is sound up to an end: with the first of the pieces if that is for it, else as it is
+abbrev pub IsSoundHere : ℕ → Bool → SignalContents → List PieceView → Type 0
+IsSoundHere end true s [] = ⊥
+IsSoundHere end true s (p ∷ ps) = IsSoundWith end s p
+IsSoundHere end false s ps = IsSoundSignal end s
+
+-- n signals from position k on are, each with its piece, and no piece is left
+unfoldable pub AreSoundFrom : ℕ → List SignalContents → ℕ → ℕ → List PieceView → Type 0
+AreSoundFrom end ss k zero ps = ps ≡ []
+AreSoundFrom end ss k (suc n) ps =
+    IsSoundHere end (is_for k ps) (slice_index_or ss k no_signal) ps
+    × AreSoundFrom end ss (suc k) n (pieces_after (is_for k ps) ps)
 
 -- a capture may have this number of signals, and each is sound up to an end
 abbrev pub AreSoundSignals : ℕ → List SignalContents → Type 0

@@ -1,5 +1,5 @@
 -- The parts of a capture that a record replaces: they make the record for the opposite step.
-use Rattle.std.specs.Prelude.{◌≡◌, ℕ, ◌<◌, ◌≤◌, neg_ℤ, ℤ, All, length, List, [], reverse}
+use Rattle.std.specs.Prelude.{◌≡◌, ℕ, ◌<◌, ◌≤◌, neg_ℤ, ℤ, All, length, List, []}
 use Rattle.std.specs.Prelude.{slice_index_or, Option, Some}
 use Rattle.std.specs.Prelude.{None}
 use Rattle.vcd_core.specs.Contents.{Contents, SignalContents, signal_at}
@@ -28,10 +28,10 @@ abbrev pub opposite_end : Option ℕ → Contents → Option ℕ
 opposite_end None c = None
 opposite_end (Some end) c = Some c.end
 
--- the record of the opposite step: its pieces are the opposite ones, the last one first
+-- the record of the opposite step: its pieces are the opposite ones
 abbrev pub opposite_record : RecordView → List PieceView → Contents → RecordView
 opposite_record r qs c = record {
-  pieces = reverse qs;
+  pieces = qs;
   word = opposite_word r.word c;
   signal = opposite_signal r.signal c;
   other_end = opposite_end r.other_end c;

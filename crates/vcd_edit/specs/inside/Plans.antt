@@ -9,7 +9,7 @@ use Rattle.vcd_edit.specs.Effect.{effect}
 use Rattle.vcd_edit.specs.Touched.{record_pairing}
 use Rattle.vcd_edit.specs.TouchedByEdit.{edit_advance, edit_pairing}
 use Rattle.vcd_edit.specs.AppliedRecords.{with_pieces, apply_record, PieceFits, Fits}
-use Rattle.vcd_edit.specs.AppliedRecords.{HaveDistinctSignals}
+use Rattle.vcd_edit.specs.AppliedRecords.{RiseFrom}
 use Rattle.vcd_edit.specs.inside.Ranges.{GivesChanges}
 use Rattle.vcd_edit.specs.Records.{piece_view}
 
@@ -38,5 +38,5 @@ pub record PiecesForEach (c : Contents) (by : ℤ) (g : SignalContents → Signa
     }
     pub fit : All (PieceFits c) ps
     pub below : All (λ p. p.signal < n) ps
-    pub apart : HaveDistinctSignals ps
+    pub rise : RiseFrom 0 ps
     pub offset : All (λ p. p.by ≡ by) ps

@@ -1,16 +1,15 @@
 //! How a piece is exchanged with a range of a wave.
 
 ghost use Rattle.std.specs.Prelude.{◌≡◌, ◌≢◌, ℕ, ◌-◌, ◌<◌, ◌≤◌, All, pos, ◌+ℤ◌, List, map, drop};
-ghost use Rattle.std.specs.Prelude.{reverse, length, slice_range, vec_len, vec_capacity};
+ghost use Rattle.std.specs.Prelude.{length, slice_range, vec_len, vec_capacity};
 ghost use Rattle.std.specs.Int.{w64, FitsUnsigned};
 ghost use Rattle.vcd_core.specs.Splice.{AllTicksFit};
 ghost use Rattle.vcd_core.specs.Wave.{IsWave};
 ghost use Rattle.vcd_core.specs.declared.capture.TheConstants.{END_LIMIT};
 ghost use Rattle.vcd_core.specs.Contents.{signal_at};
 ghost use Rattle.vcd_core.specs.CaptureContents.{contents};
-ghost use Rattle.vcd_edit.specs.RecordView.{PieceView};
 ghost use Rattle.vcd_edit.specs.AppliedRecords.{changes_with_piece, with_piece, with_pieces};
-ghost use Rattle.vcd_edit.specs.AppliedRecords.{HaveDistinctSignals};
+ghost use Rattle.vcd_edit.specs.AppliedRecords.{RiseFrom};
 ghost use Rattle.vcd_edit.specs.Records.{piece_view};
 ghost use Rattle.vcd_edit.specs.inside.Exchanges.{PieceReady, PieceReadyIn, IsOppositePiece};
 ghost use Rattle.vcd_edit.specs.inside.Exchanges.{AreOppositePieces, wave_at, CanBePutIn};
@@ -81,26 +80,25 @@ fn exchange_with_wave(piece: &mut Piece, wave: &mut Wave, coming: Option<Wave>)
     piece.by = back;
 }
 
-/// Swaps all pieces with their ranges of the capture, then reverses their list, so that the last is
-/// undone first. A piece with a wave that comes puts that in the place of its own.
+/// Swaps all pieces with their ranges of the capture. A piece with a wave that comes puts that in
+/// the place of its own.
 pub(crate) fn exchange_pieces(
     capture: &mut Capture,
     pieces: &mut Vec<Piece>,
     comings: Vec<Option<Wave>>,
 )
     requires ready { All (PieceReadyIn (contents capture.old)) (map piece_view pieces.old.items) }
-    requires apart { HaveDistinctSignals (map piece_view pieces.old.items) }
+    requires rise { RiseFrom 0 (map piece_view pieces.old.items) }
     requires room { HaveRoom capture.old.signals pieces.old.items comings.items 0
         (vec_len pieces.old) }
     ensures effect { contents capture.new
         ≡ with_pieces (contents capture.old) (map piece_view pieces.old.items) }
-    ensures restores { (qs : List PieceView) × (map piece_view pieces.new.items ≡ reverse qs)
-        × AreOppositePieces (contents capture.old) (map piece_view pieces.old.items) qs }
+    ensures restores { AreOppositePieces (contents capture.old) (map piece_view pieces.old.items)
+        (map piece_view pieces.new.items) }
 {
     let mut comings = comings.into_iter();
     for piece in pieces.as_mut_slice().iter_mut() {
         let wave = &mut capture.signals.item_mut(piece.signal).wave;
         exchange_with_wave(piece, wave, comings.next().unwrap_or(None));
     }
-    pieces.reverse();
 }

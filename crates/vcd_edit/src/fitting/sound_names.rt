@@ -5,24 +5,32 @@ ghost use Rattle.std.specs.List.{remove};
 ghost use Rattle.vcd_core.specs.CaptureContents.{signal_contents};
 ghost use Rattle.vcd_core.specs.Sound.{IsSoundSignal};
 ghost use Rattle.vcd_edit.specs.Effect.{renamed_signal};
-ghost use Rattle.vcd_edit.specs.inside.Fitting.{HasSoundNames, IsFormedSignal};
+ghost use Rattle.vcd_edit.specs.inside.Fitting.{HasSoundNames};
 
 use crate::checking::after_first;
 use vcd_core::{Signal, are_scopes_sound, are_words, is_skipped_kind, is_wave_sound, is_word};
 
-/// Whether all of a signal except its changes is sound.
-pub(crate) fn has_sound_names(signal: &Signal) -> bool
-    ensures sound { IsTrue result → IsFormedSignal (signal_contents signal.now) }
-    ensures names { HasSoundNames (signal_contents signal.now) → IsTrue result }
+/// Whether all of a signal except its changes is sound, with another first word of its name.
+fn has_sound_names_with(signal: &Signal, word: &[u8]) -> bool
+    ensures { IsTrue result ↔ HasSoundNames (renamed_signal word.now (signal_contents signal.now)) }
 {
     // Its clauses bound the width.
     let _width = signal.wave.width();
-    let _changes = signal.wave.changes();
-    is_word(signal.kind.as_slice())
+    is_word(word)
+        && are_words(after_first(signal.words.as_slice()))
+        && is_word(signal.kind.as_slice())
         && !is_skipped_kind(signal.kind.as_slice())
-        && !signal.words.is_empty()
-        && are_words(signal.words.as_slice())
         && are_scopes_sound(signal.scopes.as_slice())
+}
+
+/// Whether all of a signal except its changes is sound.
+pub(crate) fn has_sound_names(signal: &Signal) -> bool
+    ensures { IsTrue result ↔ HasSoundNames (signal_contents signal.now) }
+{
+    match signal.words.as_slice() {
+        [first, ..] => has_sound_names_with(signal, first.as_slice()),
+        [] => false,
+    }
 }
 
 /// Whether each signal is sound up to an end.
@@ -46,10 +54,5 @@ pub(crate) fn is_sound_with_word(signal: &Signal, word: &[u8], end: u64) -> bool
     ensures { IsTrue result
         ↔ IsSoundSignal end (renamed_signal word.now (signal_contents signal.now)) }
 {
-    is_word(word)
-        && are_words(after_first(signal.words.as_slice()))
-        && is_word(signal.kind.as_slice())
-        && !is_skipped_kind(signal.kind.as_slice())
-        && are_scopes_sound(signal.scopes.as_slice())
-        && is_wave_sound(&signal.wave, end)
+    has_sound_names_with(signal, word) && is_wave_sound(&signal.wave, end)
 }

@@ -4,6 +4,7 @@ ghost use Rattle.std.specs.Prelude.{◌≡◌, None, IfOk};
 ghost use Rattle.vcd_core.specs.CaptureContents.{contents};
 ghost use Rattle.vcd_core.specs.Sound.{IsSound};
 ghost use Rattle.vcd_edit.specs.EditFaults.{edit_fault};
+ghost use Rattle.vcd_edit.specs.AppliedRecords.{HasNeitherPiecesNorSignal};
 ghost use Rattle.vcd_edit.specs.inside.Plans.{IsPlan};
 ghost use Rattle.vcd_edit.specs.declared.edit.Edit.TheVariants as edits;
 
@@ -20,7 +21,8 @@ pub(crate) fn plan(
 ) -> Result<Record, NoMemory>
     requires sound { IsSound (contents capture.now) }
     requires allowed { edit_fault (edits.Rename signal word) (contents capture.now) ≡ None }
-    ensures { IfOk result (IsPlan (edits.Rename signal word.entry) (contents capture.now)) }
+    ensures plan { IfOk result (IsPlan (edits.Rename signal word.entry) (contents capture.now)) }
+    ensures renamed { IfOk result HasNeitherPiecesNorSignal }
 {
     let mut copy = Vec::new(alloc);
     copy.extend_from_slice(word)?;

@@ -4,7 +4,7 @@ use Rattle.circular_buffer.specs.Buffer.{Buffer}
 use Rattle.vcd_core.specs.Contents.{Contents}
 use Rattle.vcd_core.specs.Sound.{IsSound}
 use Rattle.vcd_edit.specs.RecordView.{RecordView}
-use Rattle.vcd_edit.specs.AppliedRecords.{apply_record, Fits}
+use Rattle.vcd_edit.specs.AppliedRecords.{apply_record, Fits, PutsInOrKeepsNames}
 use Rattle.vcd_journal.specs.declared.step.TheConstants.{DEPTH_LIMIT}
 use Rattle.vcd_journal.specs.ReachedCaptures.{reached_captures}
 
@@ -33,7 +33,7 @@ pub record PopsRecord (c : Contents) (before : List RecordView) (d : Contents)
   pub rest_fit : AllRecordsFit d after
   pub count : length before ≡ suc (length after)
 
--- the first record, if there is one, leads to a capture with no fewer signals
-abbrev pub HasNoFewerSignals : Contents → List RecordView → Type 0
-HasNoFewerSignals c [] = Unit {0}
-HasNoFewerSignals c (r ∷ rs) = length c.signals ≤ length (apply_record r c).signals
+-- the first record, if there is one, puts a signal in or leaves all names as they are
+abbrev pub FirstMayNeedMemory : Contents → List RecordView → Type 0
+FirstMayNeedMemory c [] = Unit {0}
+FirstMayNeedMemory c (r ∷ rs) = PutsInOrKeepsNames c (apply_record r c)

@@ -5,7 +5,8 @@ use crate::fixtures::{check_holds, load_file, text_of};
 use std::alloc::Global;
 use std::process::Abort;
 use std::test::Fail;
-use vcd_edit::{apply, check};
+use vcd_core::{Capture, NameWords, NoMemory, SIGNAL_LIMIT, ScopePath, Seq, Signal, Wave, Word};
+use vcd_edit::{Edit, EditError, Rule, apply, check};
 
 const FILE: &str = "\
 $scope module top $end $var wire 1 ! a $end $var wire 4 \" v $end $upscope $end
@@ -14,19 +15,29 @@ $enddefinitions $end #0 0! b0 \" #9";
 /// Edits with their faults. Of several faults the first in the order of `EditError` counts.
 const REFUSED: &str = "\
 derive v not 2:NoSuchSignal
+derive  and 1 2:NoSuchSignal
 remove 2:NoSuchSignal
+rename 2 :NoSuchSignal
+deglitch 2 0:NoSuchSignal
 derive  not 1:NotScalar
 derive n and 0 1:NotScalar
+derive  xor 0 1:NotScalar
 derive  bit 1 4:BadBit
+derive  bit 0 1:BadBit
 cut 0 10:BadRange
-cut 3 3:BadRange
+cut 3 10:BadRange
+cut 5 5:BadRange
 force 1 4 4 0:BadRange
 force 0 0 11 z:BadRange
+force 0 9 11 x:BadRange
 deglitch 0 0:BadCount
 force 1 0 10 0:BadValue
+rename 0 :BadWord
 rename 0 $end:BadWord
 rename 0 a\tb:BadWord
+derive $end not 0:BadWord
 rename 0 v:NameTaken
+derive a not 0:NameTaken
 derive a bit 1 3:NameTaken";
 
 /// Stops unless an edit is refused by its fault and leaves the capture as it was.
@@ -54,5 +65,50 @@ fn refused_edits(rt: HostRuntime) -> Result<(), Fail> {
     for row in REFUSED.lines() {
         check_refused(&rt, rt.alloc(), FILE.as_bytes(), row)?;
     }
+    Ok(())
+}
+
+fn word(alloc: Global, text: &[u8]) -> Result<Word, NoMemory> {
+    Ok(Seq::from_vec(text.to_vec(alloc)?))
+}
+
+/// The wire `a`, which is x throughout.
+fn wire(alloc: Global) -> Result<Signal, NoMemory> {
+    let mut words = Vec::new(alloc);
+    words.push(word(alloc, b"a")?)?;
+    Ok(Signal {
+        scopes: ScopePath::from_vec(Vec::new(alloc)),
+        kind: word(alloc, b"wire")?,
+        words: NameWords::new(Seq::from_vec(words)),
+        wave: Wave::new(alloc, 1),
+    })
+}
+
+/// A capture with the most signals allowed.
+fn full_capture(alloc: Global) -> Result<Capture, NoMemory> {
+    let mut signals = Vec::new(alloc);
+    for _ in 0..SIGNAL_LIMIT {
+        signals.push(wire(alloc)?)?;
+    }
+    Ok(Capture::new(Vec::new(alloc), None, 0, signals))
+}
+
+/// Stops unless a signal of this name, derived in a capture, is refused by a fault.
+fn check_derived(rt: &impl Abort, capture: &Capture, word: &[u8], fault: EditError) {
+    let rule = Rule::Not(0);
+    assert!(rt; check(capture, &Edit::Derive { word, rule }) == Err(fault));
+}
+
+#[test]
+fn one_signal_too_many(rt: HostRuntime) -> Result<(), Fail> {
+    let mut capture = full_capture(rt.alloc())?;
+    assert!(rt; capture.is_sound());
+    check_derived(&rt, &capture, b"b", EditError::TooManySignals);
+    check_derived(&rt, &capture, b"a", EditError::NameTaken);
+    let word = b"b".as_slice();
+    let rule = Rule::Not(0);
+    let refused = apply(rt.alloc(), &mut capture, &Edit::Derive { word, rule }).err();
+    assert!(rt; refused == Some(EditError::TooManySignals));
+    assert!(rt; capture.signals().len() == SIGNAL_LIMIT);
     Ok(())
 }

@@ -23,6 +23,7 @@ shift 0 2:0 0:8|a 0@2 1@5|b 1@0 x@5
 shift 0 7:2 1:8|a 0@7|b 1@0 x@5
 shift 0 -2:0 0:8|a 0@0 1@1|b 1@0 x@5
 shift 0 -4:2 1:8|a 1@0|b 1@0 x@5
+shift 0 9:2 0:8|a|b 1@0 x@5
 shift 0 9223372036854775807:2 0:8|a|b 1@0 x@5
 shift 0 -9223372036854775808:2 1:8|a 1@0|b 1@0 x@5
 cut 0 3:1 0:5|a 1@0|b 1@0 x@2
@@ -41,7 +42,8 @@ derive m not 1:0 2:8|a 0@0 1@3|b 1@0 x@5|m 0@0 x@5";
 const FROM_Z: &str = "$var wire 1 ! a $end $enddefinitions $end #0 z! #4 1! #8";
 
 const EDITS_FROM_Z: &str = "\
-invert 0:2 1:8|a 0@4";
+invert 0:2 1:8|a 0@4
+remove 0:2 0:8";
 
 const PULSE: &str = "$var wire 1 ! a $end $enddefinitions $end #0 0! #3 1! #7 0! #10";
 
@@ -92,7 +94,8 @@ $var wire 1 ! a $end $var wire 1 \" b $end $var wire 1 # c $end $enddefinitions 
 #0 0! 1\" z# #4";
 
 const EDITS_OF_THREE: &str = "\
-remove 1:1 0:4|a 0@0|c z@0";
+remove 1:1 0:4|a 0@0|c z@0
+rename 1 d:0 0:4|a 0@0|d 1@0|c z@0";
 
 const SHARED: &str = "\
 $var wire 1 % a $end $var wire 1 % b $end $var wire 1 % c $end $enddefinitions $end #0 1% #3 0%";
@@ -139,7 +142,14 @@ $enddefinitions $end #0 0! b0 \" #9";
 
 const EDITS_OF_STILL: &str = "\
 cut 0 9:0 0:0|top.a 0@0|top.v 0000@0
-rename 0 a:0 0:9|top.a 0@0|top.v 0000@0";
+rename 0 a:0 0:9|top.a 0@0|top.v 0000@0
+deglitch 0 1:0 0:9|top.a 0@0|top.v 0000@0
+force 0 9 10 x:0 1:9|top.a 0@0 x@9|top.v 0000@0
+invert 1:1 1:9|top.a 0@0|top.v 1111@0
+remove 1:1 0:9|top.a 0@0
+shift 1 -9223372036854775808:0 0:9|top.a 0@0|top.v 0000@0
+derive n bit 1 3:0 1:9|top.a 0@0|top.v 0000@0|top.n 0@0
+derive $END not 0:0 1:9|top.a 0@0|top.v 0000@0|top.$END 1@0";
 
 /// What a row says of an edit: the most changes that both records store, and the capture after it.
 #[derive(Drop)]

@@ -49,6 +49,7 @@ const OF_DECLARATIONS: &str = "\
 2 BadVar:$var wire 1 !|$end
 2 BadVar:$var wire|x ! a|$end
 1 BadVar:$var wire -1 ! a $end
+1 BadVar:$var wire 1_0 ! a $end
 2 BadVar:$var wire|+1
 2 BadVar:$var real|1x $end
 2 BadVar:$var wire 1 ! a $end|$var wire 2 ! $end
@@ -86,6 +87,7 @@ const OF_CHANGES: &str = "\
 3 BadTime:#5|#x5
 2 BadTime:#5 #4x
 2 BadTime:#-1
+2 BadTime:#1_0
 2 BadTime:#18446744073709551616
 2 BadTime:#99 #99999999999999999999999999999999999999999
 3 TimeBackwards:#10|#9

@@ -63,12 +63,20 @@ $enddefinitions $end \
 => $timescale 100 ms $end|$scope module a $end|$var wire 1 ! d $end|$upscope $end|$scope task $end|\
 $var wire 1 \" e [0] $end|$scope fork f $end|$var wire 1 # g $end|$upscope $end|$upscope $end|\
 $enddefinitions $end|#0|$dumpvars|x!|x\"|x#|$end|
+-- timescales of one word, and of words that are run together
+0: $timescale 1s $end $enddefinitions $end => $timescale 1 s $end|$enddefinitions $end|#0|\
+$dumpvars|$end|
+0: $timescale 1 00 f s $end $enddefinitions $end => $timescale 100 fs $end|$enddefinitions $end|#0|\
+$dumpvars|$end|
 -- commands that are passed over, and the brackets of dumps
 0: $attrbegin $var $scope $end $timescale 10 ps $end $x $end $var wire 1 $ a $end $var wire 1 # b \
 $end|$enddefinitions $end $dumpvars x$ #2 1# $end $end $comment $var #9 $end $dumpall $dumpon|\
 $dumpports #8 1$ $end $date $end $version x $end #3 1$ $dumpoff => $timescale 10 ps $end|\
 $var wire 1 ! a $end|$var wire 1 \" b $end|$enddefinitions $end|#0|$dumpvars|x!|x\"|$end|#2|1\"|#3|\
 1!|
+-- the bytes 8 and 14 part no words
+0: $comment a\x08a\x0ea $end $enddefinitions $end => $comment a\x08a\x0ea $end|\
+$enddefinitions $end|#0|$dumpvars|$end|
 -- entries of the header, in order
 0: $comment one| two $end $date $end $version $var wire #9 $end $scope module $end $comment \
 $comment $end|$timescale 1 us $end $date today $end $enddefinitions $end $comment three $end => \

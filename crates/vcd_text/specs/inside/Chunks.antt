@@ -1,6 +1,6 @@
 -- The progress of reading a file in chunks: the complete words have been taken, and a word that can
 -- go on is kept.
-use Rattle.std.specs.Prelude.{◌≡◌, ◌⊎◌, ℕ, ◌+◌, ◌≤◌, Bool, true, not, List, ◌++◌, length, Option}
+use Rattle.std.specs.Prelude.{◌≡◌, ◌⊎◌, ℕ, ◌+◌, ◌≤◌, Bool, true, not, List, [], ◌++◌, length, Option}
 use Rattle.std.specs.Prelude.{Result, Ok, Err}
 use Rattle.std.specs.List.{list_all}
 use Rattle.std.specs.Io.KnownBytes.{Consumes}
@@ -20,8 +20,8 @@ pub record HasTaken (part : Part) (m : Parser) (word : List ℕ) (line_feeds byt
     : Type 0 where
   pub taken_words : HasTakenWords part m (complete_words bytes)
   pub words : (end_counts : Bool) (rest : List ℕ)
-      → words_from end_counts 1 (bytes ++ rest)
-      ≡ complete_words bytes ++ words_from end_counts (line_feeds + 1) (word ++ rest)
+      → words_from end_counts [] 1 (bytes ++ rest)
+      ≡ complete_words bytes ++ words_from end_counts [] (line_feeds + 1) (word ++ rest)
   pub no_space : list_all (λ b. not (is_white_space b)) word ≡ true
   pub short : length word ≤ length bytes
   pub lines : last_line bytes ≡ line_feeds + 1

@@ -14,7 +14,7 @@ use Rattle.vcd_text.specs.Letters.{is_among}
 use Rattle.vcd_text.specs.Items.{Item, spelling, spellings, has_no_end_word, header_word, is_other}
 use Rattle.vcd_text.specs.Items.{vector_prefixes, real_or_string_prefixes}
 use Rattle.vcd_text.specs.Grammar.{ParseState, AllowsAll, state_after, state_after_item}
-use Rattle.vcd_text.specs.inside.FaultRows.{Allows}
+use Rattle.vcd_text.specs.Grammar.{Allows}
 use Rattle.vcd_text.specs.Grammar.{initial_state, ValueChange}
 use Rattle.vcd_text.specs.declared.reading.part.Part.{Part}
 use Rattle.vcd_text.specs.inside.SeenParts.{seen_state, TellsPart, HearsPart}
@@ -22,7 +22,7 @@ use Rattle.vcd_text.specs.Grammar.{word_texts}
 use Rattle.vcd_core.specs.declared.value.TheConstants.{WIDTH_LIMIT}
 use Rattle.vcd_core.specs.Decimal.{is_number, number_of}
 use Rattle.vcd_text.specs.Faults.{ShowsFault}
-use Rattle.vcd_text.specs.inside.FaultRows.{WordShows}
+use Rattle.vcd_text.specs.Faults.{WordShows}
 use Rattle.vcd_text.specs.MemoryErrors.{memory_error}
 use Rattle.vcd_text.specs.inside.Variables.{VariablesMatch}
 use Rattle.vcd_text.specs.declared.reading.parser.Parser.{Parser}

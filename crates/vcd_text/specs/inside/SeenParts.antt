@@ -8,7 +8,7 @@ use Rattle.vcd_text.specs.Meaning.{latest_value}
 use Rattle.vcd_text.specs.inside.Variables.{target_of, VariablesMatch, RefusesChange}
 use Rattle.vcd_text.specs.Letters.{letters_of_digits}
 use Rattle.vcd_text.specs.Grammar.{is_skipped, variable_of, with_value_change}
-use Rattle.vcd_text.specs.inside.FaultRows.{takes_binary_number}
+use Rattle.vcd_text.specs.inside.DigitTests.{takes_binary_number}
 use Rattle.vcd_text.specs.declared.fault.Fault.{Fault}
 use Rattle.vcd_text.specs.declared.fault.Fault.TheVariants as faults
 use Rattle.vcd_text.specs.declared.reading.part.Part.{Part}

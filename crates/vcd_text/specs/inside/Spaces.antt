@@ -7,6 +7,12 @@ abbrev pub begins_with_space : List ℕ → Bool
 begins_with_space [] = false
 begins_with_space (b ∷ bs) = is_white_space b
 
+-- whether a word ends before these bytes: before white space, or before the end of the text if that
+-- counts
+abbrev pub ends_before : Bool → List ℕ → Bool
+ends_before end_counts [] = end_counts
+ends_before end_counts (b ∷ bs) = is_white_space b
+
 -- whether a text ends in white space, or is empty: nothing after it goes on with its last word
 abbrev pub has_complete_words : List ℕ → Bool
 has_complete_words [] = true

@@ -2,7 +2,7 @@
 use Rattle.std.specs.Prelude.{◌≡◌, ◌⊎◌, ℕ, ◌<◌, ◌≤◌, if◌then◌else◌, nat_le, List, [], ◌∷◌, ◌++◌}
 use Rattle.std.specs.Prelude.{map, length, slice_get, take, ◌+◌, min}
 use Rattle.std.specs.Prelude.{count_by, All, Option, Some, None, IsTrue, IsFalse, IsSomeAnd, Result}
-use Rattle.std.specs.Prelude.{Ok, Err, codes}
+use Rattle.std.specs.Prelude.{Ok, Err}
 use Rattle.vcd_core.specs.declared.capture.TheConstants.{SIGNAL_LIMIT}
 use Rattle.vcd_core.specs.declared.value.TheConstants.{WIDTH_LIMIT}
 use Rattle.vcd_core.specs.Decimal.{number_of}
@@ -15,15 +15,15 @@ use Rattle.vcd_core.specs.declared.capture.Signal.{Signal}
 use Rattle.vcd_text.specs.declared.fault.Fault.{Fault}
 use Rattle.vcd_text.specs.declared.fault.Fault.TheVariants as faults
 use Rattle.vcd_text.specs.Letters.{letters_of_digits, extension}
-use Rattle.vcd_text.specs.Items.{variable, end_word, has_no_end_word}
-use Rattle.vcd_text.specs.inside.FaultRows.{DeclarationShows}
+use Rattle.vcd_text.specs.Items.{variable}
 use Rattle.vcd_text.specs.Grammar.{VariableDeclaration, ValueChange, ParseState, is_skipped}
 use Rattle.vcd_text.specs.Grammar.{kept_variables}
 use Rattle.vcd_text.specs.Grammar.{declaration_of, variable_of, may_have_code, is_within_limit}
-use Rattle.vcd_text.specs.Grammar.{has_good_size}
-use Rattle.vcd_text.specs.inside.FaultRows.{is_binary_number}
+use Rattle.vcd_text.specs.Grammar.{variable_tests}
+use Rattle.vcd_core.specs.Tests.{first_fault}
+use Rattle.vcd_text.specs.inside.DigitTests.{is_binary_number}
 use Rattle.vcd_text.specs.Grammar.{state_after_item, with_value_change}
-use Rattle.vcd_text.specs.inside.FaultRows.{takes_binary_number}
+use Rattle.vcd_text.specs.inside.DigitTests.{takes_binary_number}
 use Rattle.vcd_text.specs.Meaning.{latest_value}
 use Rattle.vcd_text.specs.inside.CodeTargets.{code_target}
 use Rattle.vcd_text.specs.inside.ChangeLog.{GivesLoggedValues, logged, AreGrouped, IsSameVariable}
@@ -153,14 +153,14 @@ DeclaresAs c d (Err fault) new = (fault ≡ faults.NoMemory) ⊎ CannotDeclare c
 
 -- ---- the result of a `$var`, at its `$end`
 
--- the result of the words: their variable is added, or they show a fault, or memory runs out
+-- the result of the words: their variable is added, or one of its tests fails, or memory runs out
 abbrev pub Declares : ParseState → List (List ℕ) → Result (Unit {0}) Fault → Variables → Type 0
 Declares c words (Ok x) new =
     IsSomeAnd (declaration_of c words) (λ d. IsTrue (may_have_code (variable_of c d.code) d)
     × IsTrue (is_within_limit c.declared d))
     × VariablesMatch new (state_after_item c (variable words))
-Declares c words (Err fault) new = IsTrue (has_no_end_word words) → IsTrue (has_good_size words)
-    → (fault ≡ faults.NoMemory) ⊎ DeclarationShows c (codes "$var" ∷ words) end_word fault
+Declares c words (Err fault) new = (fault ≡ faults.NoMemory)
+    ⊎ (first_fault (variable_tests c (declaration_of c words)) ≡ Some fault)
 
 -- the same of words without a size, and of the size that has been read
 abbrev pub DeclaresWords : List (List ℕ) → ℕ → Variables → Result (Unit {0}) Fault → Variables

@@ -1,7 +1,8 @@
 -- A run that ends before its replies or its output, for any such writers.
 use Rattle.std.specs.Prelude.{ℕ, Option, Err, IfSome}
 use Rattle.vcdedit.specs.declared.running.run_error.RunError.{RunError}
-use Rattle.vcdedit.specs.RunEnds.{DeviceEnd, IsAccepted, IsUntouched, RunEnds}
+use Rattle.vcd_shell.specs.Devices.{DeviceEnd, IsUntouched}
+use Rattle.vcdedit.specs.RunEnds.{IsAccepted, RunEnds}
 
 -- it ends before its output
 abbrev pub EndsBeforeOutput : (depth : ℕ) → (capture script : DeviceEnd) → (replies : DeviceEnd)

@@ -5,7 +5,8 @@ use Rattle.std.specs.Io.KnownBytes.{Appends}
 use Rattle.vcdedit.specs.declared.running.run_error.RunError.{RunError}
 use Rattle.vcdedit.specs.declared.running.run_error.RunError.TheVariants as run_errors
 use Rattle.vcdedit.specs.declared.running.run_error.Summary.{Summary}
-use Rattle.vcdedit.specs.RunEnds.{DeviceEnd, ForRun}
+use Rattle.vcd_shell.specs.Devices.{DeviceEnd}
+use Rattle.vcdedit.specs.RunEnds.{ForRun}
 
 -- all replies, or those to the lines before the one at which memory ran out
 abbrev pub HasSentReplies : Result Summary RunError → (depth : ℕ) → (capture script : DeviceEnd)

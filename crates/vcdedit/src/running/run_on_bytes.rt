@@ -4,12 +4,13 @@ ghost use Rattle.std.specs.Prelude.{◌≡◌, ◌≤◌, ℕ, List};
 ghost use Rattle.vcd_core.specs.Contents.{Contents};
 ghost use Rattle.vcd_text.specs.Meaning.{FileMeans};
 ghost use Rattle.vcdedit.specs.Run.{RunLaws};
-ghost use Rattle.vcdedit.specs.RunOnBytes.{RunGives};
-ghost use Rattle.vcdedit.specs.inside.RunRefusals.{run_refusal};
+ghost use Rattle.vcdedit.specs.RunOnBytes.{RunGives, run_refusal_name};
+ghost use Rattle.vcdedit.specs.inside.RunRefusals.{run_refusal, stage_of_line};
 ghost use Rattle.vcdedit.specs.declared.running.run_error.RunError.TheVariants as run_errors;
 
 use crate::running::{RunError, run};
 use std::alloc::Global;
+use thiserror::Error;
 use vcd_core::{FromBytes, ToBytes};
 use vcd_journal::DEPTH_LIMIT;
 use vcd_text::{Fault, ReadError};
@@ -26,15 +27,41 @@ pub struct RunTexts {
 }
 
 /// Why a run over bytes did not reach its end. Its devices fail only if memory runs out.
-#[derive(Drop)]
+#[derive(Debug, Drop, Error)]
+#[error("{}", self.name())]
 pub enum RunRefusal {
     /// The capture has this fault, at its line, or is larger than its limit.
     Capture(ReadError),
     /// The script is larger than its limit.
     ScriptTooLarge,
-    /// Memory ran out. At a line of the script, counted from 1, the replies are those to the lines
-    /// before it. At line 0 they are all replies if memory ran out for the output, else none.
-    NoMemory { line: u64, replies: Vec<u8> },
+    /// Memory ran out at this stage, and these are the replies.
+    NoMemory { stage: Stage, replies: Vec<u8> },
+}
+
+impl RunRefusal {
+    /// The fault's name, as the program prints it. It takes no memory.
+    pub fn name(&self) -> &'static str
+        ensures { result.now ≡ run_refusal_name self.now }
+    {
+        match self {
+            RunRefusal::Capture(error) => error.name(),
+            RunRefusal::ScriptTooLarge => "ScriptTooLarge",
+            RunRefusal::NoMemory { .. } => "NoMemory",
+        }
+    }
+}
+
+/// Where memory ran out in a run over bytes.
+#[derive(Clone, Copy, Debug, PartialEq)]
+pub enum Stage {
+    /// For the capture, for the script or for the session: there are no replies.
+    Inputs,
+    /// At a line of the script, counted from 1: the replies are those to the lines before it.
+    Line(u64),
+    /// For the text of the replies: none are given.
+    Replies,
+    /// For the output: all replies are given.
+    Output,
 }
 
 /// Runs the lines of the script on the capture, and gives the texts that a run writes. `depth` is
@@ -83,12 +110,30 @@ fn refusal_of(error: RunError, replies: Vec<u8>, empty: Vec<u8>) -> RunRefusal
     match error {
         RunError::Capture(refused) => refused_capture(refused, empty),
         RunError::ScriptTooLarge => RunRefusal::ScriptTooLarge,
-        RunError::NoMemory { line } => RunRefusal::NoMemory { line, replies },
-        RunError::Write(_) => RunRefusal::NoMemory { line: 0, replies },
+        RunError::NoMemory { line } => RunRefusal::NoMemory {
+            stage: stage_of_line(line),
+            replies,
+        },
+        RunError::Write(_) => RunRefusal::NoMemory {
+            stage: Stage::Output,
+            replies,
+        },
         _ => RunRefusal::NoMemory {
-            line: 0,
+            stage: Stage::Replies,
             replies: empty,
         },
+    }
+}
+
+/// The stage of a run's error: line 0 stands for the inputs.
+#[tactic(auto, using(crate::proofs::RunsOnBytes::stage_at))]
+fn stage_of_line(line: u64) -> Stage
+    ensures { result ≡ stage_of_line line }
+{
+    if line == 0 {
+        Stage::Inputs
+    } else {
+        Stage::Line(line)
     }
 }
 
@@ -97,7 +142,10 @@ fn refused_capture(refused: ReadError, replies: Vec<u8>) -> RunRefusal
     ensures { result ≡ run_refusal (run_errors.Capture refused) replies replies }
 {
     if refused.fault == Fault::NoMemory {
-        RunRefusal::NoMemory { line: 0, replies }
+        RunRefusal::NoMemory {
+            stage: Stage::Inputs,
+            replies,
+        }
     } else {
         RunRefusal::Capture(refused)
     }

@@ -3,7 +3,8 @@
 ghost use Rattle.std.specs.Prelude.{◌≡◌, ◌<◌, ◌≤◌, ◌++◌, ℕ, Bool, false, nat_lt, List, Option};
 ghost use Rattle.std.specs.Prelude.{length, vec_len, OnOk, IfOk, IfErr, IfSome};
 ghost use Rattle.std.specs.Io.KnownBytes.{Consumes, IsAtEnd};
-ghost use Rattle.vcdedit.specs.RunEnds.{device_end, IsRead, IsFlushedAt};
+ghost use Rattle.vcd_shell.specs.Devices.{device_end, IsRead};
+ghost use Rattle.vcdedit.specs.RunEnds.{IsFlushedAt};
 ghost use Rattle.vcdedit.specs.inside.RunStages.{EndsAfterCapture};
 
 use crate::running::RunError;

@@ -2,13 +2,12 @@
 
 ghost use Rattle.std.specs.Prelude.{◌≡◌, ◌≤◌, ℕ, false, codes, List, Some, map, IfOk};
 ghost use Rattle.std.specs.String.{string_bytes};
-ghost use Rattle.clap.specs.Words.{FailsBy, app_of, fault_of, found_of, kind_of, matches_of};
+ghost use Rattle.clap.specs.Words.{FailsBy, app_of, fault_of, found_of, matches_of};
 ghost use Rattle.clap.specs.Words.{new_rule, one_text, rows_of, rule_of};
 ghost use Rattle.vcdedit.specs.CommandLine.{asked_options, depth_asked, depth_option, input_option};
 ghost use Rattle.vcdedit.specs.CommandLine.{option_app, options_in, output_option, script_option};
 
 use clap::builder::ValueParser;
-use clap::error::ErrorKind;
 use clap::{Arg, ArgAction, ArgMatches, Command, Error};
 use std::alloc::{AllocError, Global};
 use vcd_journal::DEPTH_LIMIT;
@@ -19,6 +18,11 @@ const ABOUT: &str = "\
 Edits four-state waveform captures (VCD, IEEE 1364-2005, 18.2) by script, with undo and redo.\n\n\
 The capture is read whole, each line of the script is carried out and answered on standard output,
 and the edited capture is written. A file with a fault is refused, and nothing is written.";
+
+/// A refused command line shows it too, so it says how a capture is named.
+const USAGE: &str = "\
+vcdedit [-i CAPTURE] [--script SCRIPT] [-o OUTPUT] [--depth N]
+       vcdedit -i capture.vcd    shows what the capture holds";
 
 const AFTER_HELP: &str = "\
 Lines of a script. NAME is a signal's full name as `list` shows it, with its scopes and its range,
@@ -53,7 +57,7 @@ Examples:
                                                          within a pipe
 
 Take care:
-  -o onto the capture itself leaves nothing to go back to at a refused line or a full disc.
+  -o onto the capture itself: after a refused line or on a full disc the old capture is gone.
   A capture that was cut short may still be accepted: look at `end` in the listing.
   Variables of one code, such as a clock in many scopes, are edited one by one.
   Files with a byte order mark, in UTF-16 or packed by gzip are refused at line 1.
@@ -125,24 +129,15 @@ fn depth_of(matches: &ArgMatches<'_>) -> u64
     }
 }
 
-/// The error for a word that is no text.
-pub fn not_text_error(alloc: Global) -> Result<Error, AllocError>
-    ensures { IfOk result (λ e. kind_of e ≡ ErrorKind.ValueValidation) }
-{
-    command_line(alloc)?.error(
-        ErrorKind::ValueValidation,
-        "a word of the command line is no UTF-8 text",
-    )
-}
-
 /// The program and its options.
-fn command_line<'a>(alloc: Global) -> Result<Command<'a>, AllocError>
+pub fn command_line<'a>(alloc: Global) -> Result<Command<'a>, AllocError>
     ensures { IfOk result (λ c. app_of c ≡ option_app) }
 {
     let program = Command::new(alloc, "vcdedit")
         .no_binary_name(true)
         .version(VERSION)
         .about(ABOUT)
+        .override_usage(USAGE)
         .after_help(AFTER_HELP);
     program
         .arg(input_option(alloc))?

@@ -1,33 +1,34 @@
 //! The program: words in, files opened, a status out.
 
-ghost use Rattle.std.specs.Prelude.{◌≡◌, ◌≤◌, ◌⊎◌, true, false, [], Option, None, is_some};
+ghost use Rattle.std.specs.Prelude.{◌≡◌, ◌≤◌, ◌⊎◌, ◌∷◌, true, false, [], Option, None, is_some};
 ghost use Rattle.std.specs.Prelude.{Err, IsSome, map, drop, IfOk, IfErr};
 ghost use Rattle.std.specs.Io.Buffered.{writer_inner, writer_buffer, writer_capacity};
 ghost use Rattle.std.specs.Io.Buffered.{writer_contents};
-ghost use Rattle.std.specs.Io.KnownBytes.{Appends, Keeps};
+ghost use Rattle.std.specs.Io.KnownBytes.{Keeps};
 ghost use Rattle.std.specs.String.{string_bytes};
 ghost use Rattle.std.specs.Vec.Iter.{into_iter_items};
 ghost use Rattle.clap.specs.Words.{fault_of};
 ghost use Rattle.vcdedit.specs.CommandLine.{option_app, options_in};
 ghost use Rattle.clap.specs.declared.error.kind.ErrorKind.TheVariants.{ValueValidation};
-ghost use Rattle.vcdedit.specs.ProgramEnds.{HasEnding, IsEndingOf, IsEndingOfKind, ending_of};
-ghost use Rattle.vcdedit.specs.ProgramEnds.{IsEndingWithoutRun, IsOutcomeOn, IsOutcomeOfOptions};
+ghost use Rattle.vcd_shell.specs.Report.{IsTold};
+ghost use Rattle.vcdedit.specs.ProgramEnds.{HasEnding, IsEndingOf, IsEndingWithoutRun, ending_of};
+ghost use Rattle.vcdedit.specs.ProgramEnds.{IsOutcomeOn, IsOutcomeOfOptions};
 ghost use Rattle.vcdedit.specs.ProgramEnds.{program_status, program_text};
-ghost use Rattle.vcdedit.specs.RunEnds.{DeviceEnd, device_end, RunEnds};
+ghost use Rattle.vcd_shell.specs.Devices.{DeviceEnd, device_end};
+ghost use Rattle.vcdedit.specs.RunEnds.{RunEnds};
 ghost use Rattle.vcdedit.specs.inside.SentReplies.{HasSentReplies};
 
 use crate::running::{RunError, Summary, run};
-use crate::shell::command_line::{Options, not_text_error, parse_words};
+use crate::shell::command_line::{Options, command_line, parse_words};
 use crate::shell::ending::{Ending, NO_MEMORY, ending_without_run, report_ending};
-use crate::shell::late_file::LateFile;
-use crate::shell::opening::{open_capture, open_script};
-use std::alloc::{AllocError, Global};
+use crate::shell::opening::open_script;
 use std::env::Args;
 use std::io;
-use std::io::{BufWriter, ErrorKind, Write};
+use std::io::{BufWriter, Write};
 use std::rt::Runtime;
 use vcd_core::{FromRead, Sink, Source, ToWrite};
 use vcd_journal::DEPTH_LIMIT;
+use vcd_shell::{LateFile, answer_bad_words, answer_error, open_capture, words_after_name};
 use vcd_text::{Fault, ReadError};
 
 /// How many bytes of replies are buffered before they are written.
@@ -53,28 +54,22 @@ pub fn status_of_program<R: Runtime + AllocGlobal, E: Sink>(
     // the status and the text are those of one ending, which is that of the words
     ensures reported { (ending : Ending) ×
         IfOk words (λ args. HasEnding (map string_bytes (drop 1 (into_iter_items args))) ending) ×
-        IfErr words (λ _. IsEndingOfKind ValueValidation ending) ×
+        IfErr words (λ _. IsEndingWithoutRun (ValueValidation ∷ []) ending) ×
         (result ≡ program_status ending) ×
-        (E.has_failed errors.new ≡ false →
-        Appends (E.taken errors.old) (E.taken errors.new) (program_text ending)) }
+        IsTold (E.has_failed errors.new) (E.is_flushed errors.new)
+        (E.taken errors.old) (E.taken errors.new) (program_text ending) }
 {
     match words {
         Ok(words) => report_ending(ending_of_words(rt, words), errors),
-        Err(error) => report_ending(ending_without_words(rt, &error), errors),
+        Err(error) => report_ending(ending_of_bad_words(rt, &error), errors),
     }
 }
 
 /// The ending if the words could not be read: memory ran out, or one of them is no text.
-fn ending_without_words<R: Runtime + AllocGlobal>(rt: &R, error: &io::Error) -> Ending
-    ensures { IsEndingOfKind ValueValidation result }
+fn ending_of_bad_words<R: Runtime + AllocGlobal>(rt: &R, error: &io::Error) -> Ending
+    ensures { IsEndingWithoutRun (ValueValidation ∷ []) result }
 {
-    if error.kind() == ErrorKind::OutOfMemory {
-        return Ending::Failed(NO_MEMORY);
-    }
-    match not_text_error(rt.alloc()) {
-        Ok(error) => ending_without_run(rt, &error),
-        Err(_) => Ending::Failed(NO_MEMORY),
-    }
+    ending_without_run(answer_bad_words(rt, error, command_line(rt.alloc())))
 }
 
 /// Does what the words after the program's name ask for. If they ask for no run, nothing is opened.
@@ -93,15 +88,8 @@ fn ending_of_words<R: Runtime + AllocGlobal>(rt: &R, words: Args) -> Ending
     };
     match parse_words(rt.alloc(), words.as_slice()) {
         Ok(options) => ending_of_run(run_options(rt, &options)),
-        Err(error) => ending_without_run(rt, &error),
+        Err(error) => ending_without_run(answer_error(rt, &error)),
     }
-}
-
-/// All words but the first.
-fn words_after_name(alloc: Global, words: Args) -> Result<Vec<String>, AllocError>
-    ensures { IfOk result (λ after. after.items ≡ drop 1 (into_iter_items words)) }
-{
-    words.skip(1).collect(alloc)
 }
 
 /// The ending that the outcome of a run gives.

@@ -28,23 +28,6 @@ impl Read for EndlessReader {
     }
 }
 
-/// A writer that counts how often it is flushed.
-#[derive(Drop)]
-pub struct FlushCounter {
-    pub flushes: usize,
-}
-
-impl Write for FlushCounter {
-    fn write(&mut self, buf: &[u8]) -> io::Result<usize> {
-        Ok(buf.len())
-    }
-
-    fn flush(&mut self) -> io::Result<()> {
-        self.flushes = self.flushes.saturating_add(1);
-        Ok(())
-    }
-}
-
 /// A writer with room for `room` bytes. Once full it takes no more, and a flush fails.
 #[derive(Drop)]
 pub struct SmallWriter {

@@ -1,6 +1,5 @@
 //! The derived message of each fault is the fault's name; and the report of each ending.
 
-use crate::tests::devices::FlushCounter;
 use crate::{LineError, RunError, report};
 use std::alloc::Global;
 use std::fmt::Display;
@@ -82,14 +81,4 @@ fn reports_of_runs(rt: HostRuntime) -> Result<(), Fail> {
     }
     assert!(rt; reports.as_str() == REPORTS);
     Ok(())
-}
-
-/// No clause can say that a writer was flushed.
-#[test]
-fn a_report_is_flushed(rt: HostRuntime) {
-    for error in run_errors() {
-        let mut sink = ToWrite::new(FlushCounter { flushes: 0 });
-        let _status = report(&error, &mut sink);
-        assert!(rt; sink.into_inner().flushes == 1);
-    }
 }

@@ -1,7 +1,8 @@
-use Rattle.std.proofs.Common.{◌≡◌, ◌∙◌, All, ap, sym, subst, length, map, arith}
+use Rattle.std.proofs.Common.{◌≡◌, ◌∙◌, All, ap, refl, sym, subst, length, map, arith}
 use Rattle.std.proofs.lemmas.List.{length-map}
 use Rattle.vcd_core.specs.CaptureContents.{contents}
 use Rattle.vcd_edit.specs.AppliedRecords.{apply_record, with_signal_in_out, Fits}
+use Rattle.vcd_edit.specs.AppliedRecords.{HasNeitherPiecesNorSignal}
 use Rattle.vcd_edit.specs.Records.{piece_view, record_view, signal_view}
 use Rattle.vcd_edit.specs.inside.Opposites.{opposite_signal, IsOppositeRecord}
 use Rattle.vcd_edit.specs.inside.Exchanges.{PieceReadyIn, HaveRoom}
@@ -10,7 +11,7 @@ use Rattle.vcd_edit.proofs.OppositeRecords.{pieces_ready}
 use Rattle.vcd_edit.proofs.TouchedParts.{whole_list}
 use Rattle.vcd_edit.proofs.RecordExchanges.{ready_then, word_fits_then, word_named_then}
 use Rattle.vcd_edit.proofs.RecordExchanges.{end_is_back, room_then}
-use Rattle.vcd_edit.proofs.RecordExchanges.{is_record_then, leads_then}
+use Rattle.vcd_edit.proofs.RecordExchanges.{is_record_then, neither_then, leads_then}
 use Rattle.vcd_edit.proofs.reverting.exchange_record.Goals as goal
 
 pub reserve_all-requires : goal.reserve_all-requires
@@ -107,9 +108,9 @@ invariant_of-result c =
     (contents c.exchange_signal.new.capture) moved
     (contents c.exchange_pieces.new.capture) c.exchange_pieces.ensures.effect
     (contents c.exchange_word-word.new.capture) (contents c.exchange_end-other_end.new.capture)
-    c.exchange_word-word.ensures.effect c.exchange_end-other_end.ensures.effect c.exchange_pieces.ensures.restores.0
-    c.exchange_pieces.ensures.restores.2 q
-    c.exchange_pieces.ensures.restores.1 c.exchange_word-word.ensures.restores signal
+    c.exchange_word-word.ensures.effect c.exchange_end-other_end.ensures.effect _
+    c.exchange_pieces.ensures.restores q
+    refl c.exchange_word-word.ensures.restores signal
     c.exchange_end-other_end.ensures.restores
 
 pub returns-in-Ok-exchange_signal-clause-effect : goal.returns-in-Ok-exchange_signal-clause-effect
@@ -155,7 +156,35 @@ returns-in-Ok-exchange_signal-clause-restores c =
     (contents c.exchange_signal.new.capture) moved
     (contents c.exchange_pieces.new.capture) c.exchange_pieces.ensures.effect
     (contents c.exchange_word-word.new.capture) (contents c.exchange_end-other_end.new.capture)
-    c.exchange_word-word.ensures.effect c.exchange_end-other_end.ensures.effect c.exchange_pieces.ensures.restores.0
-    c.exchange_pieces.ensures.restores.2 q
-    c.exchange_pieces.ensures.restores.1 c.exchange_word-word.ensures.restores signal
+    c.exchange_word-word.ensures.effect c.exchange_end-other_end.ensures.effect _
+    c.exchange_pieces.ensures.restores q
+    refl c.exchange_word-word.ensures.restores signal
+    c.exchange_end-other_end.ensures.restores)
+
+pub returns-in-Ok-exchange_signal-clause-neither : goal.returns-in-Ok-exchange_signal-clause-neither
+returns-in-Ok-exchange_signal-clause-neither c =
+    let now = contents c.args.capture.now in
+    let p = c.applied_record.inside in let v = record_view p.pieces.items p.word p.signal p.other_end in
+    let fits : Fits v now = subst (λ r. Fits r now) (sym c.applied_record.view_is) c.requires.fits in
+    let pieces = whole_list c.applied_record.inside.pieces.len c.reserve_all.new.pieces
+    c.applied_record.inside.pieces.items
+    (omega (arith, c.as_mut_slice.ensures.len, c.reserve_all.auto.pieces)) in
+    let whole = ap (map piece_view) pieces ∙ c.reserve_all.ensures.pieces
+    ∙ ap (map piece_view) c.as_mut_slice.ensures.value in
+    let moved : contents c.exchange_signal.new.capture
+    ≡ with_signal_in_out v.signal now = c.in-Ok-exchange_signal.ensures.effect
+    ∙ ap (with_signal_in_out v.signal) c.reserve_all.ensures.contents in
+    let signal : signal_view c.in-Ok-exchange_signal.signal
+    ≡ opposite_signal v.signal now = c.in-Ok-exchange_signal.ensures.restores
+    ∙ ap (opposite_signal v.signal) c.reserve_all.ensures.contents in
+    let q = record_view c.exchange_pieces.new.pieces.items c.exchange_word-word.result c.in-Ok-exchange_signal.signal
+    c.exchange_end-other_end.result in
+    subst (λ r. HasNeitherPiecesNorSignal r → HasNeitherPiecesNorSignal q) c.applied_record.view_is
+    (neither_then now v fits c.applied_record.invariant c.requires.sound _ whole
+    (contents c.exchange_signal.new.capture) moved
+    (contents c.exchange_pieces.new.capture) c.exchange_pieces.ensures.effect
+    (contents c.exchange_word-word.new.capture) (contents c.exchange_end-other_end.new.capture)
+    c.exchange_word-word.ensures.effect c.exchange_end-other_end.ensures.effect _
+    c.exchange_pieces.ensures.restores q
+    refl c.exchange_word-word.ensures.restores signal
     c.exchange_end-other_end.ensures.restores)

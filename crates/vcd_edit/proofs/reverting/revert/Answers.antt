@@ -3,7 +3,7 @@ use Rattle.vcd_core.specs.CaptureContents.{contents}
 use Rattle.vcd_edit.specs.Touched.{piece_advance}
 use Rattle.vcd_edit.specs.inside.Opposites.{IsOppositeRecord}
 use Rattle.vcd_edit.proofs.TouchedSums.{own_advances}
-use Rattle.vcd_edit.proofs.SignalCounts.{fewer_is_taken_out}
+use Rattle.vcd_edit.proofs.SignalCounts.{refused_where}
 use Rattle.vcd_edit.proofs.reverting.revert.Goals as goal
 
 pub returns-clause-stored : goal.returns-clause-stored
@@ -11,12 +11,10 @@ returns-clause-stored c =
     let applied_record = c.args.applied_record in
     IfOk-weaker c.exchange_record.result (IsOppositeRecord (contents c.args.capture.now) applied_record) _
     (λ q leads. leads.stored (piece_advance applied_record.pieces)
-    (own_advances applied_record.pieces c.exchange_record.ensures.one_kind_of_part.apart))
+    (own_advances applied_record.pieces 0 c.exchange_record.ensures.one_kind_of_part.rise))
     c.exchange_record.ensures.restores
 
-pub returns-clause-never_refused_with_fewer_signals : goal.returns-clause-never_refused_with_fewer_signals
-returns-clause-never_refused_with_fewer_signals c = λ less.
-    let taken = fewer_is_taken_out c.args.applied_record (contents c.args.capture.now)
-    c.exchange_record.ensures.one_kind_of_part
-    c.requires.fits less in
-    c.exchange_record.ensures.never_refused taken.0 taken.1
+pub returns-clause-refused : goal.returns-clause-refused
+returns-clause-refused c =
+    refused_where c.exchange_record.result c.args.applied_record (contents c.args.capture.now)
+    c.exchange_record.ensures.one_kind_of_part c.requires.fits c.exchange_record.ensures.never_refused

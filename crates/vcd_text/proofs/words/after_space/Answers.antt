@@ -1,4 +1,4 @@
-use Rattle.std.proofs.Common.{◌≡◌, ℕ, ◌+◌, ◌==◌, Bool, true, false, List, ◌∷◌, length, sym, ap, ◌∙◌}
+use Rattle.std.proofs.Common.{◌≡◌, ℕ, ◌+◌, ◌==◌, Bool, true, false, List, [], ◌∷◌, length, sym, ap, ◌∙◌}
 use Rattle.std.proofs.Common.{arith, rules}
 use Rattle.std.proofs.lemmas.Bool.Decides.{Decides-eqb}
 use Rattle.std.proofs.lemmas.Bool.{ne_eqb}
@@ -9,11 +9,11 @@ use Rattle.vcd_text.proofs.words.after_space.Goals as goal
 
 -- a line feed, or other white space, is line_feeds
 passed_feed : (end_counts : Bool) (line b : ℕ) (bs text : List ℕ) → text ≡ b ∷ bs → is_white_space b ≡ true → b ≡ 10
-    → words_from end_counts (line + 1) bs ≡ words_from end_counts line text
+    → words_from end_counts [] (line + 1) bs ≡ words_from end_counts [] line text
 passed_feed end_counts line b bs text is space feed = grind (arith, Decides-eqb, space_passed)
 
 passed_other : (end_counts : Bool) (line b : ℕ) (bs text : List ℕ) → text ≡ b ∷ bs → is_white_space b ≡ true
-    → (b == 10) ≡ false → words_from end_counts line bs ≡ words_from end_counts line text
+    → (b == 10) ≡ false → words_from end_counts [] line bs ≡ words_from end_counts [] line text
 passed_other end_counts line b bs text is space other = grind (arith, space_passed)
 
 pub loop-byte-preserved-then-byte-eq10 : goal.loop-byte-preserved-then-byte-eq10

@@ -38,7 +38,54 @@ replies: 20-115 uart unknown
 a bit of the greatest length
 capture: [rx:1 1@0 0@1; end 9]
 script: uart top.rx 1000000000 8 none 1
-replies: 1-9 uart partial";
+replies: 1-9 uart partial
+
+where the next frame may begin
+capture: [a:1 1@0 0@20 1@30 0@40 1@90 0@100 1@110 0@116 | b:1 1@0 0@20 1@30 0@40 1@90 0@100 1@110 \
+0@115 | c:1 1@0 0@126 | d:1 0@5 z@9 0@12 | e:1; end 130]
+script: uart top.a 10 8 none 1 / uart top.b 10 8 none 1 / uart top.c 10 8 none 1 / \
+uart top.d 10 8 none 1 / uart top.e 10 8 none 1
+replies: 20-115 uart byte 0x41 / 116-130 uart partial / 20-115 uart frame-error / \
+126-130 uart partial
+
+after a start bit that is too short, a wrong frame and a parity bit that counts
+capture: [a:1 1@0 0@10 1@12 0@16 | b:1 1@0 0@10 1@13 0@18 1@28 0@29 | c:1 1@0 0@10 x@13 0@18 1@26 \
+0@27 | d:1 1@0 0@10 1@33 0@35 1@36 | e:1 1@0 0@10 1@33 0@35 1@37; end 40]
+script: uart top.a 10 8 none 1 / uart top.b 25/10 5 none 1 / uart top.b 25/10 5 odd 1 / \
+uart top.c 25/10 5 none 1 / uart top.d 25/10 9 even 1 / uart top.e 25/10 9 even 1
+replies: 16-40 uart partial / 10-26 uart frame-error / 29-40 uart partial / \
+10-28 uart parity-error 0x03 / 29-40 uart partial / 10-26 uart unknown / 27-40 uart partial / \
+10-38 uart byte 0x100 / 10-38 uart parity-error 0x100
+
+which of several faults is shown, and two stop bits
+capture: [a:1 1@0 0@10 1@13 0@18 | b:1 1@0 0@10 z@13 0@18 | c:1 1@0 0@10 1@13 0@18 x@26 | \
+d:1 1@0 0@10 1@13 0@18 1@28 | e:1 1@0 0@10 1@13 0@18 1@26 0@28 | f:1 1@0 0@10 1@13 0@18 1@26; \
+end 30]
+script: uart top.a 25/10 5 odd 1 / uart top.b 25/10 5 odd 1 / uart top.c 25/10 5 none 1 / \
+uart top.d 25/10 5 none 2 / uart top.e 25/10 5 none 2 / uart top.f 25/10 5 none 2
+replies: 10-28 uart frame-error / 10-28 uart unknown / 10-26 uart unknown / \
+10-28 uart frame-error / 10-28 uart frame-error / 10-28 uart byte 0x03
+
+the longest frame, up to the last tick and past it
+capture: [a:1 1@0 0@9223372024354775807 | b:1 1@0 0@9223372024354775808; end 9223372036854775807]
+script: uart top.a 1000000000 9 odd 2 / uart top.b 1000000000 9 odd 2
+replies: 9223372024354775807-9223372036854775807 uart frame-error / \
+9223372024354775808-9223372036854775807 uart partial
+
+the faults of a setup in their order
+capture: [a:1 1@0; end 9]
+script: uart top.a 0 4 none 3 / uart top.a 1000000001 4 none 3 / uart top.a 3/2 4 none 3 / \
+uart top.a 4/2 4 none 3 / uart top.a 4/2 10 none 3 / uart top.a 4/2 9 none 3 / \
+uart top.a 4/2 9 odd 2
+refused: 6
+replies: line 1: refused: BadRatio / line 2: refused: BadRatio / line 3: refused: BitTooShort / \
+line 4: refused: BadData / line 5: refused: BadData / line 6: refused: BadStop
+
+a start through x, and without the x
+capture: [rx:1 1@0 x@20 0@21 1@30 0@40 1@90 0@100 1@110; end 150]
+script: uart top.rx 10 8 none 1 / deglitch top.rx 2 / uart top.rx 10 8 none 1
+replies: 40-135 uart byte 0xd0 / ok / 21-116 uart byte 0x41
+output: [rx:1 1@0 0@21 1@30 0@40 1@90 0@100 1@110; end 150]";
 
 const SPI: &str = "\
 a word and a rest, and an x at an edge
@@ -66,7 +113,26 @@ output: [clk:1 0@0 1@10 0@15 1@20 0@25 1@30 0@35 1@40 0@45 1@50 0@55 1@60 0@65 1
 falling edges, and both orders of bits
 capture: [clk:1 0@0 1@10 0@15 1@20 0@25 1@30 0@35 1@40 0@45 | miso:1 0@0 1@12 0@22 1@32; end 50]
 script: spi top.clk - top.miso - 1 4 lsb / spi top.clk - top.miso - 1 4 msb
-replies: 15-45 spi word miso 0xd / 15-45 spi word miso 0xb";
+replies: 15-45 spi word miso 0xd / 15-45 spi word miso 0xb
+
+both falling and rising edges, data lines and the greatest setup
+capture: [clk:1 0@0 1@10 0@15 1@20 0@25 1@30 0@35 1@40 0@45 | mosi:1 1@0 z@30 | miso:1 0@0 1@20 | \
+cs:1 1@0 0@10 1@30; end 50]
+script: spi top.clk - - - 2 2 msb / spi top.clk top.mosi top.miso - 3 2 msb / \
+spi top.clk - - top.cs 0 2 msb / spi top.clk - - - 3 32 lsb
+replies: 15-25 spi word / 35-45 spi word / 10-20 spi word mosi 0x3 miso 0x1 / \
+30-40 spi word mosi ? miso 0x3 / 10-20 spi word / 10-40 spi partial 4
+
+a select of x or z, an edge from x, and no changes
+capture: [clk:1 1@10 0@15 1@20 0@25 1@30 | cs:1 0@0 z@22 x@23 0@24 | none:1; end 40]
+script: spi top.clk - - top.cs 0 2 msb / spi top.none top.none - top.none 0 8 msb
+replies: 20-20 spi partial 1 / 30-30 spi partial 1
+
+an edge through x, and without the x
+capture: [clk:1 0@0 1@10 0@15 x@19 1@20 0@25 1@30 0@35 1@40 0@45 | mosi:1 1@0 0@35; end 50]
+script: spi top.clk top.mosi - - 0 4 msb / deglitch top.clk 2 / spi top.clk top.mosi - - 0 4 msb
+replies: 10-40 spi partial 3 / ok / 10-40 spi word mosi 0xe
+output: [clk:1 0@0 1@10 0@15 1@20 0@25 1@30 0@35 1@40 0@45 | mosi:1 1@0 0@35; end 50]";
 
 const I2C: &str = "\
 an address that is written
@@ -122,7 +188,25 @@ replies: 10-10 i2c start / 20-90 i2c address-high 0x2 write / 100-100 i2c ack / 
 output: [scl:1 1@0 0@5 1@10 0@15 1@20 0@25 1@30 0@35 1@40 0@45 1@50 0@55 1@60 0@65 1@70 0@75 1@80 \
 0@85 1@90 0@95 1@100 0@105 1@110 0@115 1@120 0@125 1@130 0@135 1@140 0@145 1@150 0@155 1@160 0@165 \
 1@170 0@175 1@180 0@185 1@190 | sda:1 1@0 0@3 1@7 0@47 1@57 0@67 1@77 0@87 1@137 0@187 1@193; end \
-200]";
+200]
+
+an address with a rise of SCL through x, and without the x
+capture: [scl:1 1@0 0@15 x@19 1@20 0@25 1@30 0@35 1@40 0@45 1@50 0@55 1@60 0@65 1@70 0@75 1@80 \
+0@85 1@90 0@95 1@100 0@105 1@110 | sda:1 1@0 0@10 1@17 0@27 1@37 0@47 1@115; end 120]
+script: i2c top.scl top.sda / deglitch top.scl 2 / i2c top.scl top.sda
+replies: 10-10 i2c start / 30-100 i2c address 0x20 write / 110-110 i2c ack / 115-115 i2c stop / \
+ok / 10-10 i2c start / 20-90 i2c address 0x50 write / 100-100 i2c ack / 115-115 i2c stop
+output: [scl:1 1@0 0@15 1@20 0@25 1@30 0@35 1@40 0@45 1@50 0@55 1@60 0@65 1@70 0@75 1@80 0@85 1@90 \
+0@95 1@100 0@105 1@110 | sda:1 1@0 0@10 1@17 0@27 1@37 0@47 1@115; end 120]
+
+falls of SDA that are no start: through x, and while SCL is x
+capture: [scl:1 1@0 x@10 1@11 | sda:1 1@0 x@5 0@6 1@8 0@10; end 20]
+script: i2c top.scl top.sda
+replies: 8-8 i2c stop
+
+no changes
+capture: [scl:1 | sda:1; end 9]
+script: i2c top.scl top.sda";
 
 #[test]
 fn uart_lines(rt: HostRuntime) -> Result<(), Fail> {

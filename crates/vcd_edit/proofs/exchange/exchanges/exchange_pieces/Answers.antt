@@ -1,12 +1,12 @@
 use Rattle.std.proofs.Common.{◌∙◌, ◌<◌, All, refl, subst, sym, ap, length, map, take}
-use Rattle.std.proofs.Common.{reverse, get_or, None, arith}
+use Rattle.std.proofs.Common.{get_or, None, arith}
 use Rattle.std.proofs.lemmas.List.{take_all, get_or_default}
 use Rattle.vcd_core.specs.CaptureContents.{contents}
-use Rattle.vcd_edit.specs.AppliedRecords.{with_pieces, HaveDistinctSignals}
+use Rattle.vcd_edit.specs.AppliedRecords.{with_pieces, RiseFrom}
 use Rattle.vcd_edit.specs.Records.{piece_view}
 use Rattle.vcd_edit.specs.inside.Exchanges.{AreOppositePieces, PieceReadyIn}
 use Rattle.vcd_edit.specs.inside.Exchanges.{HasRoomForPiece, CanBePutIn}
-use Rattle.vcd_edit.proofs.TouchedParts.{map-reverse, whole_list}
+use Rattle.vcd_edit.proofs.TouchedParts.{whole_list}
 use Rattle.vcd_edit.proofs.PieceLoops.{next_signal, next_piece_room, next_coming}
 use Rattle.vcd_edit.proofs.PieceLoops.{wave_ready, wave_room, put_more}
 use Rattle.vcd_edit.proofs.exchange.exchanges.exchange_pieces.Goals as goal
@@ -22,7 +22,7 @@ loop-piece-init c =
         back = tt;
         ready = subst (λ ps. All (PieceReadyIn (contents c.args.capture.now)) (map piece_view ps))
             (sym given.ensures.value) c.requires.ready;
-        apart = subst (λ ps. HaveDistinctSignals (map piece_view ps)) (sym given.ensures.value) c.requires.apart;
+        rise = (0, subst (λ ps. RiseFrom 0 (map piece_view ps)) (sym given.ensures.value) c.requires.rise);
         room = λ k d from to. subst (λ ps. HasRoomForPiece ss (get_or ps k d) (get_or c.args.comings.items k None))
             (sym given.ensures.value) (c.requires.room k d from (omega (arith, to, given.ensures.len)));
       },
@@ -99,15 +99,13 @@ returns-clause-effect c =
 pub returns-clause-restores : goal.returns-clause-restores
 returns-clause-restores c =
     let l = c.loop-piece in
-    let given = c.as_mut_slice-piece-items in (
-      map piece_view l.piece-items,
-      ap (map piece_view) (c.reverse.ensures.items
-          ∙ ap reverse (whole_list c.args.pieces.now.len l.piece-items c.args.pieces.now.items
-          (omega (arith, given.ensures.len))))
-          ∙ map-reverse piece_view l.piece-items,
-      subst (λ ps. AreOppositePieces (contents c.args.capture.now) (map piece_view ps) (map piece_view l.piece-items))
-          (take_all l.piece-index given.result.now (omega arith) ∙ given.ensures.value)
-          (subst (λ ps. AreOppositePieces (contents c.args.capture.now)
-          (map piece_view (take l.piece-index given.result.now)) (map piece_view ps))
-          (take_all l.piece-index l.piece-items (omega arith)) l.invariant.0.back),
-    )
+    let given = c.as_mut_slice-piece-items in
+    let back = subst (λ ps. AreOppositePieces (contents c.args.capture.now) (map piece_view ps)
+    (map piece_view l.piece-items)) (take_all l.piece-index given.result.now (omega arith) ∙ given.ensures.value)
+    (subst (λ ps. AreOppositePieces (contents c.args.capture.now)
+    (map piece_view (take l.piece-index given.result.now)) (map piece_view ps))
+    (take_all l.piece-index l.piece-items (omega arith)) l.invariant.0.back) in
+    subst (λ ps. AreOppositePieces (contents c.args.capture.now) (map piece_view c.args.pieces.now.items)
+    (map piece_view ps))
+    (sym (whole_list c.args.pieces.now.len l.piece-items c.args.pieces.now.items (omega (arith, given.ensures.len))))
+    back

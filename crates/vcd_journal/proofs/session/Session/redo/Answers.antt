@@ -17,6 +17,6 @@ returns-in_err-apply_newest-clause-step c =
     rw (refused.1, refused.2, ← c.self.view_is)
     (redo_no_memory _ _ (some_captures (contents old.capture) old.future.items some)
     (redo_needs (contents old.capture) old.past.items old.future.items old.depth
-    c.in_err-apply_newest.ensures.no_fewer_signals)
+    some c.in_err-apply_newest.ensures.needs)
     (same_machine (contents old.capture) _ old.past.items _ old.future.items _ old.depth kept.0
     (ap (λ (ring : Buffer RecordView). ring.items) kept.2) (ap (λ (ring : Buffer RecordView). ring.items) kept.1)))

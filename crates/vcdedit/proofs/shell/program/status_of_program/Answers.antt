@@ -12,9 +12,9 @@ returns-in-Ok-clause-reported g c = (
 
 pub returns-in-Err-clause-reported : goal.returns-in-Err-clause-reported
 returns-in-Err-clause-reported g c = (
-  c.ending_without_words.result,
+  c.ending_of_bad_words.result,
   rw (c.in-Err.is) tt,
-  rw (c.in-Err.is) c.ending_without_words.ensures,
+  rw (c.in-Err.is) c.ending_of_bad_words.ensures,
   c.report_ending-in-Err.ensures.status,
   c.report_ending-in-Err.ensures.text,
 )

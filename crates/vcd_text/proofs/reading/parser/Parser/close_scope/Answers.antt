@@ -1,8 +1,15 @@
 use Rattle.std.proofs.Common.{◌≡◌, ◌<◌, ◌∷◌, length, sym, ◌∙◌, arith}
-use Rattle.std.proofs.lemmas.Bool.{eqb-false}
-use Rattle.vcd_text.proofs.Declaring.{closes_scope}
+use Rattle.std.proofs.lemmas.Bool.{eqb-true, eqb-false}
+use Rattle.std.proofs.lemmas.List.{nil_from_length}
+use Rattle.vcd_text.proofs.Declaring.{closes_scope, shows_missing_kind}
 use Rattle.vcd_text.proofs.DeclaredVariables.{prefix_removed}
 use Rattle.vcd_text.proofs.reading.parser.Parser.close_scope.Goals as goal
+
+pub returns-then-is_empty : goal.returns-then-is_empty
+returns-then-is_empty c =
+    let m = c.args.self.now in
+    let none = eqb-true m.words.len 0 (sym c.is_empty.ensures ∙ c.if-is_empty.true) in
+    shows_missing_kind m m c.requires (nil_from_length m.words.items (omega (arith, none, m.words.ok.0)))
 
 pub returns : goal.returns
 returns c =

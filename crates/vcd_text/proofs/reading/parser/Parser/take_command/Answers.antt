@@ -8,7 +8,9 @@ returns-then-is_dump_word c line =
     (sym c.is_dump_word.ensures ∙ c.if-is_dump_word.true)
 
 pub returns-then-is_declaration_word : goal.returns-then-is_declaration_word
-returns-then-is_declaration_word c line = grind (arith, declares_late)
+returns-then-is_declaration_word c line =
+    declares_late c.args.self.now c.args.self.now c.args.text.now line c.requires.between c.requires.in_body
+    (sym c.is_declaration_word.ensures ∙ c.if-is_declaration_word.true)
 
 pub returns : goal.returns
 returns c line = grind (arith, passes_over)

@@ -1,23 +1,23 @@
-use Rattle.std.proofs.Common.{◌≡◌, ◌≤◌, ◌∙◌, ◌||◌, ◌==◌, nat_lt, true, false, ℕ, List, ◌∷◌, length, inr, refl, ap}
+use Rattle.std.proofs.Common.{◌≡◌, ◌≤◌, ◌∙◌, ◌||◌, ◌==◌, nat_lt, true, false, ℕ, List, length, inr, ap}
 use Rattle.std.proofs.Common.{sym, subst, arith}
-use Rattle.vcd_text.specs.inside.FaultRows.{missing_part}
+use Rattle.vcd_core.specs.Tests.{first_fault}
 use Rattle.vcd_core.specs.declared.value.TheConstants.{WIDTH_LIMIT}
 use Rattle.vcd_core.specs.Decimal.{number_of}
 use Rattle.vcd_core.specs.Word.{is_skipped_kind}
-use Rattle.vcd_text.specs.Grammar.{VariableDeclaration, is_skipped}
+use Rattle.vcd_text.specs.Grammar.{VariableDeclaration, is_skipped, variable_tests}
 use Rattle.vcd_text.specs.inside.Variables.{declaration_of_parts, DeclaresAs}
 use Rattle.vcd_text.proofs.DeclaredVariables.{declares_parts, too_few, left_out, kept_size}
 use Rattle.vcd_text.proofs.reading.variables.Variables.declare.Goals as goal
 
 pub returns-then-len-lt3 : goal.returns-then-len-lt3
-returns-then-len-lt3 c = λ state kind word following are read value_changes k no_end good.
-    inr (missing_part (kind ∷ word ∷ following) refl refl no_end good (too_few state kind word following (omega (
+returns-then-len-lt3 c = λ state kind word following are read value_changes k.
+    inr (ap (λ d. first_fault (variable_tests state d)) (too_few state kind word following (omega (
       arith,
       c.if-len-lt3.true,
       c.len.ensures,
       c.args.words.ok.0,
       ap (length {A = List ℕ}) are,
-    ))) refl)
+    ))))
 
 pub returns-then-is_skipped : goal.returns-then-is_skipped
 returns-then-is_skipped c = λ state first word following are read value_changes k.

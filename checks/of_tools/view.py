@@ -1,0 +1,254 @@
+"""What is decoded, as it is shown: the rows, doubts, the written file, what GTKWave is to show, viewers."""
+
+import os
+import re
+import shutil
+import sys
+import time
+
+from common import EXAMPLES, TOP, load, load_if_there, run, store, store_program
+from of_tools.memory import PEAK
+
+TOOL = os.path.join(TOP, "tools/view_capture")
+I2C, I2C_LINE = os.path.join(EXAMPLES, "i2c/capture.vcd"), "i2c bench.scl bench.sda"
+GLITCHES, UART_LINE = os.path.join(EXAMPLES, "glitches/capture.vcd"), "uart bench.rx 10 8 none 1"
+# Examples, and a line that decodes them. Their rows have to say what the replies do.
+DECODED = {
+    "i2c": I2C_LINE,
+    "glitches": UART_LINE,
+    "sigrok-uart": "uart libsigrok.rx 78125/9 8 none 1",
+    "sigrok-cli": "spi libsigrok.clk libsigrok.mosi libsigrok.miso libsigrok.cs 0 8 msb",
+}
+LOST = ": edges and bits there are lost"
+# Names, changes and lines of a capture of one bit a signal; what is told; and the rows: the tick and the text of each change.
+ROWS = {
+    "frames that touch, the last up to the end": (
+        "r", "1! #10 0! #28 1! #30 0! #48 1! #49", ["uart r 2 8 none 1"], [], {"uart": "0 -|10 byte_0x00|30 byte_0x00"}),
+    "frames of one tick, the last at the end": (
+        "c d", '0! 1" #3 1! #5 0! #6 1!', ["spi c d - - 0 1 msb"], [],
+        {"spi": "0 -|3 word_mosi_0x1|4 -|6 word_mosi_0x1"}),
+    "a word that begins at once": ("c", "x! #0 0! #1 1! #2 0! #3 1! #9", ["spi c - - - 0 2 msb"], [], {"spi": "0 -|1 word|4 -"}),
+    "two decoders on one line": (
+        "r", "1! #10 0! #28 1! #40", ["uart r 2 8 none 1", "uart r 3 6 none 1"], [],
+        {"uart": "0 -|10 byte_0x00|30 -", "uart_2": "0 -|10 byte_0x20|33 -"}),
+    "nothing is found": ("r", "1! #10 0! #11 1! #40", ["uart r 8 8 none 1"], [], {"uart": "0 -"}),
+    "a decoder among edits": (
+        "r", "0! #10 1! #28 0! #40", ["invert r", "uart r 2 8 none 1", "invert r"], [], {"uart": "0 -|10 byte_0x00|30 -"}),
+    "a cut after a decoder": (
+        "r", "1! #10 0! #28 1! #40", ["uart r 2 8 none 1", "cut 0 5", "uart r 2 8 none 1"],
+        ["line 1: uart: no row: the capture ended at 40 then, and the one that is shown at 35"], {"uart": "0 -|5 byte_0x00|25 -"}),
+    "x in a frame, and beside it": (
+        "r", "1! #4 x! #6 1! #10 0! #15 x! #16 0! #28 1! #35 z! #39 x! #40", ["uart r 2 8 none 1"],
+        ["line 1: uart: r is x or z at 4-5, 15, 35-38, 39-40" + LOST],
+        {"uart": "0 -|4 ?x|6 -|10 ?x_unknown|30 -|35 ?x"}),
+    "x from before a frame into it": (
+        "c d", '0! x" #3 1! #5 0! 1" #6 1! #7 0! #9', ["spi c d - - 0 2 msb"], ["line 1: spi: d is x at 0-4" + LOST],
+        {"spi": "0 ?x|3 ?x_word_mosi_?|7 -"}),
+    "more than five places": (
+        "r", "1! #1 x! #2 1! #3 x! #4 1! #5 x! #6 1! #7 x! #8 1! #9 x! #10 1! #11 x! #12 1! #20", ["uart r 2 8 none 1"],
+        ["line 1: uart: r is x at 1, 3, 5, 7, 9, .. (6 places)" + LOST, "line 1: uart: r never falls from 1 to 0, so no frame begins"],
+        {"uart": "0 -" + "".join("|%d ?x|%d -" % (tick, tick + 1) for tick in range(1, 12, 2))}),
+    "a line that does not fall from 1": (
+        "r", "0! #10 1! #28 x! #30 0! #40", ["uart r 2 8 none 1"],
+        ["line 1: uart: r is x at 28-29" + LOST, "line 1: uart: r never falls from 1 to 0, so no frame begins"], {"uart": "0 -|28 ?x|30 -"}),
+    "z of I2C is high": (
+        "c d", 'z! z" #2 0" #4 0! #6 z! #8 z" #9', ["i2c c d"], [], {"i2c": "0 -|2 start|3 -|8 stop|9 -"}),
+    "x of I2C": (
+        "c d", '1! 1" #2 0" #4 x! #6 1! #8 1" #10', ["i2c c d"], ["line 1: i2c: c is x at 4-5" + LOST],
+        {"i2c": "0 -|2 start|3 -|4 ?x|6 -|8 stop|9 -"}),
+    "names that are taken": (
+        "decoded.uart decoded.uart_3", '1! 1" #9', ["uart @0 2 8 none 1", "uart @1 2 8 none 1"],
+        ["line %d: uart: decoded.uart%s never falls from 1 to 0, so no frame begins" % end for end in ((1, ""), (2, "_3"))],
+        {"uart_2": "0 -", "uart_4": "0 -"}),
+}
+# Declarations, and the names that GTKWave 3.3 has for them.
+NAMES = {
+    "wire 1 ! q [3]": "q[3]", "wire 1 ! r q s": "rqs", "wire 1 ! u [2:2]": "u[2]", "wire 1 ! t[5]": "t[5]", "wire 4 ! w": "w[3:0]",
+    "reg 4 ! v [4:1]": "v[4:1]", "reg 4 ! v[-1:-4]": "v[-1:-4]", "reg 4 ! a [2] [3:0]": "a[2][3:0]", "integer 32 ! i [31:0]": "i",
+}
+# Lines on the capture of a UART, and what GTKWave is to show of it: without --before, and with it.
+BEFORE = {
+    (UART_LINE, "deglitch bench.rx 3", UART_LINE): ("rx uart uart_2", "before.rx uart rx uart_2"),
+    ("depth 5", UART_LINE): ("rx uart", "before.rx uart rx"),
+    ("deglitch bench.rx 3", UART_LINE): ("rx uart", "before.rx rx uart"),
+    ("derive n not bench.rx", "uart bench.n 10 8 none 1"): ("n uart rx", "before.rx n uart rx"),
+    ("rename @0 tx",): ("tx", "before.rx tx"),
+    (): ("rx", "before.rx rx"),
+}
+# Words, and the status and a part of what is told. Nothing is written then.
+REFUSED = [
+    ([I2C, "i2c bench.scl bench.sd", "frob"], 1, "line 1: i2c bench.scl bench.sd: NoSuchName\n    bench.sd: near names are bench.sda"),
+    ([I2C, "list", "frob"], 1, "line 2: frob: UnknownCommand"),
+    ([I2C, "--script", "more"], 1, "    and 2 lines more are refused"),
+    ([I2C, "--script", "more", "list"], 2, "--script, or words"),
+    ([I2C, "-o", "v"], 2, "ends in .vcd"),
+    (["c.vcd", "-o", "c.vcd"], 2, "names the capture"),
+    (["more"], 3, "more: line 1: frob: UnexpectedWord"),
+    (["none.vcd"], 4, "none.vcd: No such file"),
+    (["/dev/stdin"], 4, "is no regular file"),
+    ([I2C, "-o", "none/v.vcd"], 4, "none/v.vcd: No such file"),
+    ([I2C], 4, "there is no gtkwave and no surfer: apt-get install gtkwave, or say in VCDEDIT_VIEWER where a viewer is"),
+    ([I2C, "--picture", "p.png"], 4, "there is no gtkwave: apt-get install gtkwave xvfb xauth"),
+]
+PLANTED = [
+    ("tools/view_capture", "covered < tick <= end", "covered < tick"),
+    ("tools/view_capture", "covered < tick <= end", "tick <= end"),
+    ("tools/view_capture", "if tick in begun or text != before:", "if text != before:"),
+    ("tools/view_capture", "bisect_right(starts, covered)", "bisect_right(starts, tick)"),
+    ("tools/view_capture", "bisect_left(ends, tick)", "bisect_left(ends, covered)"),
+    ("tools/view_capture", ' and decoder != b"i2c"', ""),
+    ("tools/view_capture", '[(0, b"x")] + [', "["),
+    ("tools/view_capture", "if listing.end == side.listing.end:", "if True:"),
+    ("tools/view_capture", "            taken.add(name)\n", ""),
+    ("tools/view_capture", ' and decoder != b"depth"', ""),
+    ("tools/view_capture", "words[3] = code + words[3]", "pass"),
+    ("tools/view_capture", 'words[place:-1] = [b"".join(words[place : -1 - len(range_of)]), *range_of]', "pass"),
+    ("tools/view_capture", 'in (b"integer", b"parameter")', 'in (b"parameter",)'),
+    ("tools/view_capture", " or signal.name not in names]", "]"),
+    ("tools/view_capture", "want_no_refusal(lines, replies, list(names))", "pass"),
+    ("tools/view_capture", '("gtkwave" in os.path.basename(viewer))', "True"),
+    ("tools/view_capture", "* 200 / max", "* 100 / max"),
+    ("tools/view_capture", "replies_to([], source, files[1])", "replies_to(list(asked_of(lines, usages)), source, files[1])"),
+]
+
+
+def text(names, changes):
+    declared = "".join("$var wire 1 %s %s $end\n" % ("!\""[place], name) for place, name in enumerate(names.split(" ")))
+    return "%s$enddefinitions $end\n#0 %s\n" % (declared, changes.replace(" ", "\n"))
+
+
+def rows_in(path):
+    """The rows of a written file, as in ROWS."""
+    head, _, changes = load(path).decode().partition("$enddefinitions $end\n")
+    names = dict(re.findall(r"\$var string [01] (\S+) (\S+) \$end", head))
+    rows, tick = {name: [] for name in names.values()}, 0
+    for line in changes.splitlines():
+        tick = int(line[1:]) if line.startswith("#") else tick
+        value, _, code = line.partition(" ")
+        if code in names:
+            rows[names[code]].append("%d %s" % (tick, value[1:] or "-"))
+    return {name: "|".join(row) for name, row in rows.items()}
+
+
+def row_of(replies, end):
+    """The row that annotations make, none of which touch."""
+    changes = {0: "-"}
+    for first, last, words in re.findall(r"^(\d+)-(\d+) \w+ (.*)$", replies, flags=re.M):
+        changes.update({int(first): words.replace(" ", "_"), int(last) + 1: "-"})
+    return "|".join("%d %s" % (tick, text) for tick, text in changes.items() if tick <= end)
+
+
+def rows(folder, view):
+    for name, (names, changes, lines, told, wanted) in ROWS.items():
+        store(folder, "c.vcd", text=text(names, changes))
+        status, _, errors = view("c.vcd", "-o", "v.vcd", *lines)
+        found = rows_in(os.path.join(folder, "v.vcd"))
+        yield "%s: %s" % (name, found), status == 0 and found == wanted
+        yield "%s: %s" % (name, errors), errors == "".join("vcdedit-view: %s\n" % line for line in told)
+
+
+def examples(program, folder, view):
+    """A row says what the replies do. vcdedit reads the written file again, and finds the capture after the edits."""
+    for name, line in DECODED.items():
+        capture, script = os.path.join(EXAMPLES, name, "capture.vcd"), store(folder, "script", text="invert @0\nundo\n%s\n" % line)
+        replies = run([program, "-i", capture, "--script", script, "-o", "w.vcd"], cwd=folder)[1]
+        view(capture, "-o", "v.vcd", "--script", "script")
+        listing, listed = (run([program, "-i", path], cwd=folder)[1] for path in ("v.vcd", "w.vcd"))
+        wanted = {line.split()[0]: row_of(replies, int(re.search(r"^end (\d+)$", listed, flags=re.M).group(1)))}
+        yield name + ": row", rows_in(os.path.join(folder, "v.vcd")) == wanted
+        yield name + ": the strings are skipped", "\nskipped 0\n" in listed and listing == listed.replace("skipped 0", "skipped 1")
+        again = run([program, "-i", "v.vcd", "--script", "/dev/null", "-o", "/dev/stdout"], cwd=folder)[1]
+        comment, _, rest = again.partition("\n")
+        yield name + ": its comment", "vcdedit-view: no evidence" in comment and line in comment
+        yield name + ": the signals", rest == load(folder, "w.vcd").decode()
+        if shutil.which("vcd2fst"):
+            run(["vcd2fst", "v.vcd", "v.fst"], cwd=folder)
+            back = store(folder, "back.vcd", text=run(["fst2vcd", "v.fst"], cwd=folder)[1])
+            yield name + ": through FST", rows_in(back) == wanted
+        else:
+            print("view: there is no vcd2fst, so the way through FST is not tested: apt-get install gtkwave")
+
+
+def shown_in(folder):
+    """What GTKWave is to show of the written file."""
+    return re.findall(r"^@\d+\n(?:\+\{.*\} )?(.*)$", load(folder, "v.gtkw").decode(), flags=re.M)
+
+
+def settings(folder, view):
+    declared = "".join("$var %s $end\n" % one.replace(" ! ", " c%d " % place) for place, one in enumerate(NAMES))
+    store(folder, "c.vcd", text="$scope module my top $end\n%s$upscope $end\n$enddefinitions $end\n#0 #9\n" % declared)
+    status, _, errors = view("c.vcd", "-o", "v.vcd")
+    yield "names: %s %s" % (errors, shown_in(folder)), status == 0 and shown_in(folder) == ["mytop." + name for name in NAMES.values()]
+    for lines, both in BEFORE.items():
+        for words, wanted in zip(([], ["--before"]), both):
+            status, said, errors = view(GLITCHES, *words, "-o", "v.vcd", *lines)
+            found = " ".join(shown_in(folder)).replace("bench.", "").replace("decoded.", "")
+            yield "%s %s: %s" % (words, lines, found), (status, found, errors) == (0, wanted, "")
+            yield "%s %s: %s" % (words, lines, said), re.findall(r"^decoded\.(\w+)", said, flags=re.M) == re.findall(r"uart\S*", wanted)
+    view(GLITCHES, "--before", "-o", "v.vcd", UART_LINE, "deglitch bench.rx 3", UART_LINE)
+    store(folder, "script", text="value before.bench.rx 75\nvalue bench.rx 75\n")
+    values = run([os.environ["VCDEDIT"], "-i", "v.vcd", "--script", "script"], cwd=folder)
+    yield "the capture before: %s" % (values,), values[1] == "1\n0\n"
+    zoom = float(re.search(r"^\*(\S+)", load(folder, "v.gtkw").decode(), flags=re.M).group(1))
+    yield "zoomed to fit", 500 < 255 * 200 * 2 ** zoom < 1000
+
+
+def refusals(folder, view):
+    store(folder, "more", text="frob\n" * 12)
+    store(folder, "c.vcd", text=text("r", "1!"))
+    for words, status, told in REFUSED:
+        before = sorted(os.listdir(folder))
+        found = view(*words, *([] if "-o" in words or told.startswith("there is no") else ["-o", "new.vcd"]), given="")
+        yield "%s: %s" % (words, found), found[0] == status and told in found[2] and "Traceback" not in found[2]
+        yield "%s: nothing is written" % words, sorted(os.listdir(folder)) == before
+
+
+def viewers(folder, view):
+    """What is started, with a program in the place of each. They are given what is shown; it is gone when they end."""
+    saw = "#!/bin/sh\necho \"$0 $*\" >> %s/saw; /bin/cat *.vcd > %s/seen\n" % (folder, folder)
+    tools = os.path.join(folder, "tools")
+    for tool in ("surfer", "gtkwave", "other"):
+        store_program(tools, tool, text=saw)
+        environment = {"PATH": tools} if tool != "other" else {"VCDEDIT_VIEWER": os.path.join(tools, tool)}
+        status, _, errors = view(I2C, I2C_LINE, **environment)
+        wanted = "%s capture.vcd%s" % (os.path.join(tools, tool), " capture.gtkw" * (tool == "gtkwave"))
+        yield "starts %s: %s" % (tool, errors), status == 0 and load(folder, "saw").decode().splitlines()[-1] == wanted
+        yield "%s has the rows" % tool, rows_in(os.path.join(folder, "seen"))["i2c"].startswith("0 -|15 start|16 -|22 address_0x50_write|93 -")
+    store_program(tools, "gtkwave", text="#!/bin/sh\nexit 3\n")
+    yield "a viewer that fails", view(I2C, PATH=tools)[0] == 4
+    store_program(tools, "xauth", text=saw)
+    store_program(tools, "xvfb-run", text="#!/bin/sh\necho none\n")
+    status, _, errors = view(I2C, "--picture", "p.png", PATH=tools)
+    yield "no picture: " + errors, status == 4 and errors == "vcdedit-view: GTKWave made no picture: none\n"
+    store_program(tools, "xvfb-run", text="#!/bin/sh\n/bin/cat *.gtkw show.tcl rc > picture.png\n")
+    view(I2C, I2C_LINE, "--picture", "p.png", PATH=tools)
+    yield "a picture", b"decoded.i2c" in load_if_there(folder, "p.png", default=b"")
+    yield "nothing is left", not os.listdir(os.path.join(folder, "tmp"))
+
+
+def sizes(folder, view):
+    """Time and memory are linear, up to 10,000 annotations."""
+    costs = []
+    for count in (2500, 10000):
+        frames = "\n".join("#%d\n0!\n#%d\n1!" % (20 * k + 10, 20 * k + 28) for k in range(count))
+        capture = store(folder, "c.vcd", text=text("r", "1!") + frames + "\n#%d\n" % (20 * count + 20))
+        begun = time.monotonic()
+        memory = int(run([sys.executable, "-S", "-c", PEAK, TOOL, capture, "uart r 2 8 none 1", "-o", os.path.join(folder, "v.vcd")])[1])
+        costs.append((time.monotonic() - begun, memory))
+        yield "%d annotations" % count, rows_in(os.path.join(folder, "v.vcd"))["uart"].count("byte_0x00") == count
+    yield "linear: %s" % costs, costs[1][0] < 8 * costs[0][0] and costs[1][1] < 5 * costs[0][1]
+
+
+def check(program, folder):
+    os.mkdir(os.path.join(folder, "tmp"))
+    os.environ.update(VCDEDIT=program, TMPDIR=os.path.join(folder, "tmp"))
+    without = os.path.join(folder, "bin")
+    os.mkdir(without)
+    os.symlink(sys.executable, os.path.join(without, "python3"))
+
+    def view(*words, given=None, **more):
+        return run([sys.executable, TOOL, *words], cwd=folder, input=given, env={**os.environ, "PATH": without, **more})
+
+    for part in (rows, settings, refusals, viewers, sizes):
+        yield from part(folder, view)
+    yield from examples(program, folder, view)

@@ -1,0 +1,33 @@
+-- What a program did to a source or a writer of bytes: the project's own.
+use Rattle.std.specs.Prelude.{◌≡◌, ◌≤◌, ℕ, Bool, false, List, length, take, Option, IfSome}
+use Rattle.std.specs.Io.KnownBytes.{Appends, IsAtEnd}
+
+-- a device before and after: the bytes to come from a source, or taken by a writer, if shown;
+-- whether it failed
+pub record DeviceEnd : Type 0 where
+  pub before : Option (List ℕ)
+  pub after : Option (List ℕ)
+  pub has_failed : Bool
+
+-- a device is unchanged: it shows the same bytes as before, and has not failed
+abbrev pub IsUntouched : DeviceEnd → Type 0
+IsUntouched d = (d.after ≡ d.before) × (d.has_failed ≡ false)
+
+-- a source did not fail: it was read to its end, and had at most `limit` bytes
+abbrev pub IsRead : (limit : ℕ) → DeviceEnd → Type 0
+IsRead limit r = (r.has_failed ≡ false) × IsAtEnd r.after
+    × IfSome r.before (λ bytes. length bytes ≤ limit)
+
+-- a writer took this text
+abbrev pub HasText : DeviceEnd → List ℕ → Type 0
+HasText w text = Appends w.before w.after text
+
+-- a writer took the first `count` bytes of a text
+abbrev pub HasPrefix : DeviceEnd → (count : ℕ) → List ℕ → Type 0
+HasPrefix w count text = (count ≤ length text) × HasText w (take count text)
+
+-- the end of a device, by what it shows, and whether it has failed
+abbrev pub device_end : {D : Type 0} → (shown : D → Option (List ℕ)) → (has_failed : D → Bool)
+    → (old new : D) → DeviceEnd
+device_end shown has_failed old new =
+    record { before = shown old; after = shown new; has_failed = has_failed new }

@@ -1,0 +1,27 @@
+-- What words of the command line get that ask for no run: the project's own.
+use Rattle.std.specs.Prelude.{◌≡◌, ◌⊎◌, ℕ, Bool, true, false}
+use Rattle.clap.specs.Words.{Kinds, IsAmong}
+use Rattle.clap.specs.declared.error.kind.ErrorKind.{ErrorKind}
+use Rattle.clap.specs.declared.error.kind.ErrorKind.TheVariants.{DisplayHelp, DisplayVersion}
+use Rattle.clap.specs.declared.error.kind.ErrorKind.TheVariants.{OutOfMemory}
+use Rattle.vcd_shell.specs.declared.words.WithoutRun.{WithoutRun}
+use Rattle.vcd_shell.specs.declared.words.WithoutRun.TheVariants.{Shown, NotShown, Refused, NoMemory}
+
+-- the words ask for help or the version, by the kind of `clap`'s answer
+abbrev pub asks_for_text : ErrorKind → Bool
+asks_for_text DisplayHelp = true
+asks_for_text DisplayVersion = true
+asks_for_text _ = false
+
+-- help and the version are shown, if standard output takes them; other words are refused; or memory
+-- runs out
+abbrev pub IsWithoutRun : ErrorKind → WithoutRun → Type 0
+IsWithoutRun kind Shown = asks_for_text kind ≡ true
+IsWithoutRun kind (NotShown written) = asks_for_text kind ≡ true
+IsWithoutRun kind (Refused text) = asks_for_text kind ≡ false
+IsWithoutRun kind NoMemory = Unit {0}
+
+-- words with these faults get this, for one of them; asking for help or the version is one
+abbrev pub IsAnswer : Kinds → WithoutRun → Type 0
+IsAnswer kinds answer = (kind : ErrorKind)
+    × ((kind ≡ OutOfMemory) ⊎ IsAmong kind kinds) × IsWithoutRun kind answer
