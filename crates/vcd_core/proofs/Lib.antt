@@ -1,14 +1,1 @@
-pub mod Decimals
-pub mod FullNames
-pub mod TextEnds
-pub mod Lookups
-pub mod EdgeLines
-pub mod EdgeLists
-pub mod EdgeSteps
-pub mod PlaneBits
-pub mod ValueLemmas
-pub mod Waves
-pub mod Pushes
-pub mod Splices
-pub mod Searches
-pub mod Shifts
+pub mod shared

@@ -9,8 +9,7 @@ ghost use Rattle.vcd_core.specs.Sound.{IsSoundSignal, IsSound};
 
 use crate::capture::{Capture, END_LIMIT, Header, SIGNAL_LIMIT, ScopeName, Signal, Timescale};
 use crate::value::WIDTH_LIMIT;
-use crate::wave::Wave;
-use crate::wave_push::ends_by;
+use crate::wave::{Wave, ends_by};
 use crate::word::{are_words, is_skipped_kind, is_word};
 
 impl Header {

@@ -40,7 +40,7 @@ impl Model for Value {
     ghost Value = { List Bit };
 
     ghost use Rattle.vcd_core.specs.inside.Planes.{view_value, value_of, IsValue};
-    ghost use Rattle.vcd_core.specs.inside.PlaneLaws.{value_of-view_value};
+    ghost use Rattle.vcd_core.specs.inside.value.PlanesOfLetters.{value_of-view_value};
 
     ghost view = { view_value };
 
@@ -157,7 +157,7 @@ impl Value {
 
 impl PartialEq for Value {
     ghost use Rattle.vcd_core.specs.Value.{same_letters};
-    ghost use Rattle.vcd_core.specs.inside.ValueLaws.{same_letters-equiv};
+    ghost use Rattle.vcd_core.specs.inside.value.EqualByLetters.{same_letters-equiv};
 
     ghost eq = { same_letters };
 

@@ -8,15 +8,22 @@ ghost use Rattle.vcd_core.specs.Wave.{value_at, IsWave};
 ghost use Rattle.vcd_core.specs.WavePush.{changes_after_push};
 ghost use Rattle.vcd_core.specs.BlockRows.{letters_of};
 ghost use Rattle.vcd_core.specs.Splice.{AllTicksFit, spliced_changes};
-ghost use Rattle.vcd_core.specs.declared.wave_push.TheConstants.{LEAST_ROOM};
+ghost use Rattle.vcd_core.specs.declared.wave.push.TheConstants.{LEAST_ROOM};
+
+mod list;
+mod push;
+mod searching;
+mod splicing;
 
 use crate::letter_block::LetterBlock;
 use crate::memory::NoMemory;
-use crate::searching::count_through_near;
-use crate::splicing::{splice_changes, splice_into, spliced_copy};
 use crate::value::{Value, WIDTH_LIMIT};
-use crate::wave_list::WaveList;
-use crate::wave_push::{last_value, push_block_change, push_change};
+use list::WaveList;
+pub use push::{ends_by, last_value};
+use push::{push_block_change, push_change};
+use searching::count_through_near;
+pub use splicing::moved_change;
+use splicing::{splice_changes, splice_into, spliced_copy};
 use std::alloc::Global;
 use std::marker::Model;
 use std::rc::Rc;
@@ -46,7 +53,7 @@ pub struct Wave {
 
 impl Model for Wave {
     ghost use Rattle.std.specs.Prelude.{◌≤◌, is_some, vec_capacity};
-    ghost use Rattle.vcd_core.specs.inside.WaveLists.{changes_of_list};
+    ghost use Rattle.vcd_core.specs.inside.wave.List.{changes_of_list};
     ghost use Rattle.vcd_core.specs.WaveView.{WaveView};
     ghost use Rattle.vcd_core.specs.Wave.{IsWave};
     ghost use Rattle.vcd_core.specs.declared.value.TheConstants.{WIDTH_LIMIT};

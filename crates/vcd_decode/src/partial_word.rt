@@ -1,10 +1,11 @@
 //! The bits of an SPI word so far.
 
 ghost use Rattle.std.specs.Prelude.{◌≡◌, ◌<◌, ◌==◌, ◌^◌};
-ghost use Rattle.vcd_decode.specs.inside.SpiGroup.{digit_of, longer_number, data_after};
-ghost use Rattle.vcd_decode.specs.inside.SpiGroup.{data_before, first_data, DataFits, group_before};
-ghost use Rattle.vcd_decode.specs.inside.SpiGroup.{group_after, word_annotation};
-ghost use Rattle.vcd_decode.specs.inside.SpiGroup.{unfinished_annotation};
+ghost use Rattle.vcd_decode.specs.inside.PartialWord.{digit_of, longer_number, data_after};
+ghost use Rattle.vcd_decode.specs.inside.PartialWord.{data_before, first_data, DataFits};
+ghost use Rattle.vcd_decode.specs.inside.PartialWord.{group_before};
+ghost use Rattle.vcd_decode.specs.inside.PartialWord.{group_after, word_annotation};
+ghost use Rattle.vcd_decode.specs.inside.PartialWord.{unfinished_annotation};
 
 use crate::annotation::{Annotation, Kind, LineData};
 use crate::spi_setup::{BitOrder, WORD_BITS_LIMIT};

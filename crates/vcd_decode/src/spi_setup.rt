@@ -5,7 +5,7 @@ ghost use Rattle.vcd_decode.specs.SetupFaults.{spi_fault};
 ghost use Rattle.vcd_decode.specs.SpiSetup.{spi_setup};
 ghost use Rattle.vcd_decode.specs.SetupResults.{SetupFaultIs};
 ghost use Rattle.vcd_decode.specs.Lines.{is_zero as zero_test, is_one as one_test};
-ghost use Rattle.vcd_decode.specs.inside.SpiClock.{is_present_and};
+ghost use Rattle.vcd_decode.specs.inside.SpiSetup.{is_present_and};
 
 use crate::letters::{is_one, is_zero};
 use crate::setup_error::SetupError;
@@ -55,7 +55,7 @@ impl Model for Spi {
 
 impl Spi {
     ghost use Rattle.vcd_decode.specs.inside.SpiParts.{samples_rising_edge};
-    ghost use Rattle.vcd_decode.specs.inside.SpiClock.{samples_at};
+    ghost use Rattle.vcd_decode.specs.inside.SpiSetup.{samples_at};
 
     /// The setup with this mode, this number of bits in a word and this order of bits.
     ///

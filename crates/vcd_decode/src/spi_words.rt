@@ -6,10 +6,10 @@ ghost use Rattle.vcd_core.specs.Edges.{EachUpTo};
 ghost use Rattle.vcd_core.specs.BitEdges.{EachOneBit};
 ghost use Rattle.vcd_decode.specs.WaveLines.{line_of};
 ghost use Rattle.vcd_decode.specs.Spi.{spi_annotations};
-ghost use Rattle.vcd_decode.specs.inside.SpiWalk.{selects_chip, deselects_chip, is_sampling};
-ghost use Rattle.vcd_decode.specs.inside.SpiWalk.{HasRoomForBit, annotations_of_unfinished};
-ghost use Rattle.vcd_decode.specs.inside.SpiWalk.{annotations_at_edge, edge_group};
-ghost use Rattle.vcd_decode.specs.inside.SpiWalk.{annotations_at_bit, bit_group};
+ghost use Rattle.vcd_decode.specs.inside.SpiWords.{selects_chip, deselects_chip, is_sampling};
+ghost use Rattle.vcd_decode.specs.inside.SpiWords.{HasRoomForBit, annotations_of_unfinished};
+ghost use Rattle.vcd_decode.specs.inside.SpiWords.{annotations_at_edge, edge_group};
+ghost use Rattle.vcd_decode.specs.inside.SpiWords.{annotations_at_bit, bit_group};
 
 use crate::annotation::Annotation;
 use crate::letters::is_zero;

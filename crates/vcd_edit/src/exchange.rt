@@ -1,6 +1,7 @@
 //! How a record is exchanged with a capture: its pieces with ranges of waves, and its other parts.
 
-mod exchanges;
+mod parts;
+mod pieces;
 mod records;
 mod reservations;
 mod trimming;

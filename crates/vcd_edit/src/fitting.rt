@@ -10,7 +10,8 @@ ghost use Rattle.vcd_edit.specs.AppliedRecords.{with_first_word, with_signal_in_
 ghost use Rattle.vcd_edit.specs.AppliedRecords.{MayPutInOrTakeOut, Fits, HasOneKindOfPart};
 ghost use Rattle.vcd_edit.specs.Records.{piece_view, word_view, contents_of_signal, signal_view};
 ghost use Rattle.vcd_edit.specs.Records.{record_view};
-ghost use Rattle.vcd_edit.specs.inside.Fitting.{AreSoundSignals, PartsFit, HasSoundMetadata};
+ghost use Rattle.vcd_edit.specs.inside.fitting.TestsOfParts.{AreSoundSignals, PartsFit};
+ghost use Rattle.vcd_edit.specs.inside.fitting.TestsOfParts.{HasSoundMetadata};
 
 mod adjacency;
 mod sound_names;

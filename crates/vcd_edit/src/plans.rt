@@ -6,7 +6,7 @@ ghost use Rattle.vcd_core.specs.Sound.{IsSound};
 ghost use Rattle.vcd_edit.specs.EditFaults.{edit_fault};
 ghost use Rattle.vcd_edit.specs.AppliedRecords.{PutsNoSignalIn, HasNeitherPiecesNorSignal};
 ghost use Rattle.vcd_edit.specs.TouchedByEdit.{IsRename, IsRemove};
-ghost use Rattle.vcd_edit.specs.inside.Plans.{IsPlan};
+ghost use Rattle.vcd_edit.specs.inside.plans.Plan.{IsPlan};
 
 mod cut;
 mod deglitch;

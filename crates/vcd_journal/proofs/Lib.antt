@@ -1,5 +1,2 @@
-pub mod Replay
-pub mod Bounds
-pub mod Steps
-pub mod Histories
-pub mod CasesOfHistory
+pub mod shared
+pub mod worked

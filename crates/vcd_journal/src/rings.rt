@@ -7,8 +7,8 @@ ghost use Rattle.std.specs.Prelude.{◌≡◌, ◌≤◌, ◌<◌, max, [], ◌�
 ghost use Rattle.circular_buffer.specs.Buffer.{buffer};
 ghost use Rattle.vcd_core.specs.CaptureContents.{contents};
 ghost use Rattle.vcd_core.specs.Sound.{IsSound};
-ghost use Rattle.vcd_journal.specs.inside.Histories.{AllRecordsFit, FirstMayNeedMemory};
-ghost use Rattle.vcd_journal.specs.inside.Histories.{PopsRecord};
+ghost use Rattle.vcd_journal.specs.inside.Rings.{AllRecordsFit, FirstMayNeedMemory};
+ghost use Rattle.vcd_journal.specs.inside.Rings.{PopsRecord};
 
 use circular_buffer::HeapCircularBuffer;
 use std::alloc::Global;

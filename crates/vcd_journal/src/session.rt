@@ -40,7 +40,7 @@ pub struct Session {
 impl Model for Session {
     ghost use Rattle.vcd_core.specs.CaptureContents.{contents};
     ghost use Rattle.vcd_journal.specs.Machine.{Machine};
-    ghost use Rattle.vcd_journal.specs.inside.Histories.{AreSessionRings};
+    ghost use Rattle.vcd_journal.specs.inside.Rings.{AreSessionRings};
     ghost use Rattle.vcd_journal.specs.ReachedCaptures.{reached_captures};
 
     ghost Value = { Machine };

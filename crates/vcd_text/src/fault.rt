@@ -3,7 +3,7 @@
 ghost use Rattle.std.specs.Prelude.{◌≡◌};
 ghost use Rattle.vcd_text.specs.FaultNames.{fault_name, write_error_name};
 ghost use Rattle.vcd_text.specs.MemoryErrors.{memory_error};
-ghost use Rattle.vcd_text.specs.inside.Reading.{error_at};
+ghost use Rattle.vcd_text.specs.inside.reading.Parser.{error_at};
 ghost use Rattle.vcd_text.specs.declared.fault.Fault.TheVariants.{NoMemory};
 ghost use Rattle.vcd_text.specs.declared.fault.WriteError.TheVariants as write_errors;
 

@@ -13,16 +13,16 @@ ghost use Rattle.vcd_text.specs.declared.fault.Fault.{Fault};
 ghost use Rattle.vcd_text.specs.Refusals.{IsRefusal};
 
 mod binary_number;
-mod body_words;
+mod changes;
 mod code_targets;
 mod declarations;
 mod digit_blocks;
 mod digits;
 mod file_reader;
 mod keywords;
+mod log;
 mod parser;
 mod part;
-mod pending;
 mod read_buffer;
 mod scopes;
 mod ticks_and_sizes;

@@ -5,7 +5,8 @@ ghost use Rattle.std.specs.Prelude.{length, take, drop, MatchOption, IfSome, IfN
 ghost use Rattle.std.specs.List.{list_all};
 ghost use Rattle.vcd_core.specs.Word.{is_white_space as white};
 ghost use Rattle.vcd_text.specs.Words.{words_from, words_of};
-ghost use Rattle.vcd_text.specs.inside.Spaces.{begins_with_space, ends_before as ends_word, line_feeds_in};
+ghost use Rattle.vcd_text.specs.inside.Words.{begins_with_space, ends_before as ends_word};
+ghost use Rattle.vcd_text.specs.inside.Words.{line_feeds_in};
 
 use vcd_core::is_white_space;
 
@@ -30,7 +31,7 @@ impl<'a> Words<'a> {
     ghost use Rattle.vcd_text.specs.LentWords.{word_contents, words_left};
 
     /// All words of a text.
-    #[tactic(auto, using(crate::proofs::WordLaws::words_are_few))]
+    #[tactic(auto, using(crate::proofs::words::WordsInTurn::words_are_few))]
     pub fn new(text: &'a [u8]) -> Words<'a>
         ensures words { words_left result ≡ words_of text.now }
         ensures few { length (words_left result) < 2 ^ 63 }

@@ -33,8 +33,8 @@ pub struct FullName<'a> {
 impl<'a> FullName<'a> {
     ghost use Rattle.std.specs.Prelude.{List, ℕ, ◌++◌};
     ghost use Rattle.vcd_core.specs.FullName.{bytes_after, name_bytes};
-    ghost use Rattle.vcd_core.specs.inside.TextEnds.{text_end};
-    ghost use Rattle.vcd_core.specs.inside.NameParts.{IsDrained};
+    ghost use Rattle.vcd_core.specs.inside.names.TextEnd.{text_end};
+    ghost use Rattle.vcd_core.specs.inside.names.FullName.{IsDrained};
 
     /// The full name in these scopes, outermost first, of a name whose words are `first` and the
     /// others.
@@ -62,7 +62,7 @@ impl<'a> FullName<'a> {
     }
 
     /// The full name in these scopes, outermost first, of a name of these words.
-    #[tactic(auto, using(crate::proofs::FullNames::name_steps))]
+    #[tactic(auto, using(crate::proofs::shared::FullNames::name_steps))]
     pub fn of_words(scopes: &'a [ScopeName], words: &'a [Word]) -> FullName<'a>
         ensures { name_bytes result ≡ name_in scopes.now words.now }
     {

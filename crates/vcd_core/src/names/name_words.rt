@@ -2,7 +2,7 @@
 
 ghost use Rattle.std.specs.Prelude.{◌≡◌, ◌==◌, ◌∷◌, ◌<◌, drop, length, slice_index_or};
 ghost use Rattle.std.specs.List.{concat};
-ghost use Rattle.vcd_core.specs.inside.TextEnds.{text_end};
+ghost use Rattle.vcd_core.specs.inside.names.TextEnd.{text_end};
 
 use crate::capture::Word;
 use crate::names::full_name::FullName;
@@ -24,7 +24,7 @@ pub struct NameWords {
 impl Model for NameWords {
     ghost use Rattle.std.specs.Prelude.{◌≡◌, ℕ, List};
     ghost use Rattle.std.specs.List.{concat};
-    ghost use Rattle.vcd_core.specs.inside.TextEnds.{text_end};
+    ghost use Rattle.vcd_core.specs.inside.names.TextEnd.{text_end};
 
     ghost Value = { List (List ℕ) };
 

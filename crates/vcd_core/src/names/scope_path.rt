@@ -34,7 +34,7 @@ impl Model for ScopePath {
 
     ghost Value = { List ScopeName };
 
-    ghost use Rattle.vcd_core.specs.inside.ScopeLists.{scopes_of_list};
+    ghost use Rattle.vcd_core.specs.inside.names.ScopePath.{scopes_of_list};
 
     ghost view = { λ p. take p.count (scopes_of_list p.list) };
 
@@ -117,7 +117,7 @@ impl ScopePath {
 }
 
 impl ScopeList {
-    ghost use Rattle.vcd_core.specs.inside.ScopeLists.{scopes_of_list};
+    ghost use Rattle.vcd_core.specs.inside.names.ScopePath.{scopes_of_list};
 
     fn as_slice(&self) -> &[ScopeName]
         ensures { result.now ≡ scopes_of_list self.now }

@@ -1,7 +1,7 @@
 //! The ends of texts, by which one look tells most texts apart.
 
 ghost use Rattle.std.specs.Prelude.{◌≡◌, [], ◌++◌, List, ℕ, IsTrue};
-ghost use Rattle.vcd_core.specs.inside.TextEnds.{longer_end, text_end};
+ghost use Rattle.vcd_core.specs.inside.names.TextEnd.{longer_end, text_end};
 
 /// The last 16 bytes of a text as a number, of which the last byte is the lowest. Of a shorter text
 /// they are all.

@@ -6,7 +6,7 @@ ghost use Rattle.vcd_core.specs.Wave.{AllUpTo};
 ghost use Rattle.vcd_decode.specs.WaveLines.{line_of};
 ghost use Rattle.vcd_decode.specs.I2c.{i2c_annotations};
 ghost use Rattle.vcd_decode.specs.declared.i2c_bus.events.BusEvent.{BusEvent};
-ghost use Rattle.vcd_decode.specs.inside.BusWalk as walk;
+ghost use Rattle.vcd_decode.specs.inside.i2c_bus.BusWalk as walk;
 
 use crate::annotation::Annotation;
 use crate::i2c_bus::events::{BusLevels, bus_event};

@@ -2,7 +2,8 @@
 
 ghost use Rattle.std.specs.Prelude.{◌≡◌, ◌<◌, IfSome};
 ghost use Rattle.vcd_decode.specs.BusBytes as spec;
-ghost use Rattle.vcd_decode.specs.inside.BusWalk.{no_bits, partial_byte_with, IsPartialByte};
+ghost use Rattle.vcd_decode.specs.inside.i2c_bus.BusWalk.{no_bits, partial_byte_with};
+ghost use Rattle.vcd_decode.specs.inside.i2c_bus.BusWalk.{IsPartialByte};
 
 use crate::annotation::{Direction, Kind};
 use crate::i2c_bus::events::{BusBit, is_line_high};

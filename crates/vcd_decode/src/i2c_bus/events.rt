@@ -2,7 +2,7 @@
 
 ghost use Rattle.std.specs.Prelude.{◌≡◌};
 ghost use Rattle.vcd_decode.specs.BusEvents.{is_line_high as high_test};
-ghost use Rattle.vcd_decode.specs.inside.LevelEvents as spec;
+ghost use Rattle.vcd_decode.specs.inside.i2c_bus.Events as spec;
 
 use crate::letters::is_zero;
 use vcd_core::Bit;

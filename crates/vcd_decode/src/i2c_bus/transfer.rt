@@ -2,7 +2,7 @@
 
 ghost use Rattle.std.specs.Prelude.{◌≡◌, ◌++◌, ◌∷◌, [], ◌<◌, IfOk, OnOk};
 ghost use Rattle.vcd_decode.specs.Lines.{annotation};
-ghost use Rattle.vcd_decode.specs.inside.BusWalk as walk;
+ghost use Rattle.vcd_decode.specs.inside.i2c_bus.BusWalk as walk;
 
 use crate::annotation::{Annotation, Kind};
 use crate::i2c_bus::bytes::{

@@ -5,7 +5,7 @@ ghost use Rattle.vcd_core.specs.CaptureContents.{contents};
 ghost use Rattle.vcd_core.specs.Sound.{IsSound};
 ghost use Rattle.vcd_edit.specs.AppliedRecords.{apply_record, Fits, HasOneKindOfPart};
 ghost use Rattle.vcd_edit.specs.AppliedRecords.{PutsNoSignalIn, HasNeitherPiecesNorSignal};
-ghost use Rattle.vcd_edit.specs.inside.Opposites.{IsOppositeRecord};
+ghost use Rattle.vcd_edit.specs.inside.exchange.Opposites.{IsOppositeRecord};
 
 use crate::exchange::parts::{exchange_end, exchange_signal, exchange_word};
 use crate::exchange::pieces::exchange_pieces;

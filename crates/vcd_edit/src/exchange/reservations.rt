@@ -7,8 +7,8 @@ ghost use Rattle.std.specs.Prelude.{vec_len, vec_capacity};
 ghost use Rattle.vcd_core.specs.CaptureContents.{contents};
 ghost use Rattle.vcd_core.specs.WaveView.{WaveView};
 ghost use Rattle.vcd_edit.specs.Records.{piece_view};
-ghost use Rattle.vcd_edit.specs.inside.Exchanges.{PieceReadyIn, wave_at, HasNoLessRoom};
-ghost use Rattle.vcd_edit.specs.inside.Exchanges.{HasRoomInWave, IsComing, HaveRoom};
+ghost use Rattle.vcd_edit.specs.inside.exchange.Pieces.{PieceReadyIn, wave_at, HasNoLessRoom};
+ghost use Rattle.vcd_edit.specs.inside.exchange.Pieces.{HasRoomInWave, IsComing, HaveRoom};
 
 use crate::record::Piece;
 use std::alloc::Global;
@@ -121,7 +121,7 @@ fn put_coming(comings: &mut Vec<Option<Wave>>, index: usize, coming: Wave) -> Re
 
 /// Makes what the piece at an index needs: room, or the wave that comes in the place of one that
 /// shares its list.
-#[tactic(auto, using(crate::proofs::PieceLoops::views_kept))]
+#[tactic(auto, using(crate::proofs::exchange::PiecesInTurn::views_kept))]
 fn reserve_next(
     capture: &mut Capture,
     pieces: &mut [Piece],

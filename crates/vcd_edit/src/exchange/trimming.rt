@@ -7,7 +7,7 @@ ghost use Rattle.std.specs.Ordering.{int_eq};
 ghost use Rattle.vcd_core.specs.Splice.{AllTicksFit};
 ghost use Rattle.vcd_edit.specs.Touched.{same_change, same_moved_change, common_moved_suffix};
 ghost use Rattle.vcd_edit.specs.Records.{piece_view};
-ghost use Rattle.vcd_edit.specs.inside.Trims.{IsTrimmed};
+ghost use Rattle.vcd_edit.specs.inside.exchange.Trimming.{IsTrimmed};
 
 use crate::record::Piece;
 use vcd_core::Change;

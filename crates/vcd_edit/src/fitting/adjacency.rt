@@ -7,8 +7,8 @@ ghost use Rattle.vcd_core.specs.Splice.{moved_change, TickFits, AllTicksFit};
 ghost use Rattle.vcd_core.specs.Wave.{AreChangesFrom, AllUpTo};
 ghost use Rattle.vcd_core.specs.WavePush.{last_value};
 ghost use Rattle.vcd_core.specs.declared.bit.Bit.{Bit as BitLetter};
-ghost use Rattle.vcd_edit.specs.inside.Adjacency.{floor_after, value_following, may_follow};
-ghost use Rattle.vcd_edit.specs.inside.Adjacency.{may_all_follow, MovesTo, IsValidPiece};
+ghost use Rattle.vcd_edit.specs.inside.fitting.Adjacency.{floor_after, value_following, may_follow};
+ghost use Rattle.vcd_edit.specs.inside.fitting.Adjacency.{may_all_follow, MovesTo, IsValidPiece};
 ghost use Rattle.vcd_edit.specs.Records.{piece_view};
 
 use crate::record::Piece;

@@ -5,7 +5,7 @@ ghost use Rattle.std.specs.List.{remove};
 ghost use Rattle.vcd_core.specs.CaptureContents.{signal_contents};
 ghost use Rattle.vcd_core.specs.Sound.{IsSoundSignal};
 ghost use Rattle.vcd_edit.specs.Effect.{renamed_signal};
-ghost use Rattle.vcd_edit.specs.inside.Fitting.{HasSoundNames};
+ghost use Rattle.vcd_edit.specs.inside.fitting.TestsOfParts.{HasSoundNames};
 
 use crate::checking::after_first;
 use vcd_core::{Signal, are_scopes_sound, are_words, is_skipped_kind, is_wave_sound, is_word};

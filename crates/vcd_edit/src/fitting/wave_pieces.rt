@@ -6,8 +6,9 @@ ghost use Rattle.vcd_core.specs.Contents.{Contents};
 ghost use Rattle.vcd_core.specs.CaptureContents.{signal_contents};
 ghost use Rattle.vcd_edit.specs.AppliedRecords.{with_pieces, PieceFits, RiseFrom};
 ghost use Rattle.vcd_edit.specs.Records.{piece_view};
-ghost use Rattle.vcd_edit.specs.inside.Fitting.{IsSoundWith, IsSoundHere, AreSoundFrom};
-ghost use Rattle.vcd_edit.specs.inside.Fitting.{AreSoundSignals, is_for};
+ghost use Rattle.vcd_edit.specs.inside.fitting.TestsOfParts.{IsSoundWith, IsSoundHere};
+ghost use Rattle.vcd_edit.specs.inside.fitting.TestsOfParts.{AreSoundFrom};
+ghost use Rattle.vcd_edit.specs.inside.fitting.TestsOfParts.{AreSoundSignals, is_for};
 
 use crate::fitting::adjacency::is_valid_piece;
 use crate::fitting::sound_names::has_sound_names;

@@ -8,7 +8,7 @@ ghost use Rattle.vcd_core.specs.Sound.{IsSound, IsSoundSignal};
 ghost use Rattle.vcd_edit.specs.Effect.{cut_value, signal_after_cut};
 ghost use Rattle.vcd_edit.specs.EditFaults.{edit_fault};
 ghost use Rattle.vcd_edit.specs.Records.{piece_view};
-ghost use Rattle.vcd_edit.specs.inside.Plans.{IsPlan, GivesValues, PiecesForEach};
+ghost use Rattle.vcd_edit.specs.inside.plans.Plan.{IsPlan, GivesValues, PiecesForEach};
 ghost use Rattle.vcd_edit.specs.declared.edit.Edit.TheVariants as edits;
 
 use crate::plans::parts::{negative_offset, push_if_new, value_after};

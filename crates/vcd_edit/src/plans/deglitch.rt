@@ -5,9 +5,9 @@ ghost use Rattle.vcd_core.specs.CaptureContents.{contents};
 ghost use Rattle.vcd_core.specs.Sound.{IsSound};
 ghost use Rattle.vcd_core.specs.WavePush.{last_value as value_after};
 ghost use Rattle.vcd_edit.specs.EditFaults.{edit_fault};
-ghost use Rattle.vcd_edit.specs.inside.RemainingChanges.{begins_steady as steady_test};
-ghost use Rattle.vcd_edit.specs.inside.RemainingChanges.{is_kept as kept_test, kept_changes};
-ghost use Rattle.vcd_edit.specs.inside.Plans.{IsPlan};
+ghost use Rattle.vcd_edit.specs.inside.plans.RemainingChanges.{begins_steady as steady_test};
+ghost use Rattle.vcd_edit.specs.inside.plans.RemainingChanges.{is_kept as kept_test, kept_changes};
+ghost use Rattle.vcd_edit.specs.inside.plans.Plan.{IsPlan};
 ghost use Rattle.vcd_edit.specs.declared.edit.Edit.TheVariants as edits;
 
 use crate::plans::parts::{empty_record, piece_record, signal_at, x_value};

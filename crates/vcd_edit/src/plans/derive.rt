@@ -10,8 +10,8 @@ ghost use Rattle.vcd_core.specs.Wave.{value_at, AllUpTo};
 ghost use Rattle.vcd_edit.specs.Operators.{operator_bit};
 ghost use Rattle.vcd_edit.specs.Effect.{derived_signal, formula, formula_bit};
 ghost use Rattle.vcd_edit.specs.EditFaults.{is_signal, operands, width_test, edit_fault};
-ghost use Rattle.vcd_edit.specs.inside.Derived.{selected_bit, HasOperands, HasBitsUpTo};
-ghost use Rattle.vcd_edit.specs.inside.Plans.{IsPlan};
+ghost use Rattle.vcd_edit.specs.inside.plans.Derive.{selected_bit, HasOperands, HasBitsUpTo};
+ghost use Rattle.vcd_edit.specs.inside.plans.Plan.{IsPlan};
 ghost use Rattle.vcd_edit.specs.declared.edit.Edit.TheVariants as edits;
 
 use crate::edit::{Formula, Operator, Rule};

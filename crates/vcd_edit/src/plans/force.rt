@@ -5,7 +5,7 @@ ghost use Rattle.vcd_core.specs.CaptureContents.{contents, signal_contents};
 ghost use Rattle.vcd_core.specs.Sound.{IsSound, IsSoundSignal};
 ghost use Rattle.vcd_edit.specs.Effect.{force_value};
 ghost use Rattle.vcd_edit.specs.EditFaults.{edit_fault};
-ghost use Rattle.vcd_edit.specs.inside.Plans.{IsPlan, GivesValues};
+ghost use Rattle.vcd_edit.specs.inside.plans.Plan.{IsPlan, GivesValues};
 ghost use Rattle.vcd_edit.specs.declared.edit.Edit.TheVariants as edits;
 
 use crate::plans::parts::{piece_between, piece_record, push_if_new, signal_at, value_just_before};

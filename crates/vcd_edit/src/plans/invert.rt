@@ -8,11 +8,11 @@ ghost use Rattle.vcd_core.specs.Wave.{value_at};
 ghost use Rattle.vcd_edit.specs.Operators.{not_bit};
 ghost use Rattle.vcd_edit.specs.Effect.{inverse_value};
 ghost use Rattle.vcd_edit.specs.EditFaults.{edit_fault};
-ghost use Rattle.vcd_edit.specs.inside.RemainingChanges.{without_repeats, mapped_change};
+ghost use Rattle.vcd_edit.specs.inside.plans.RemainingChanges.{without_repeats, mapped_change};
 ghost use Rattle.std.specs.Int.{bit_at};
 ghost use Rattle.vcd_core.specs.BlockRows.{letter_in};
-ghost use Rattle.vcd_edit.specs.inside.Inverse.{ShowsInverse};
-ghost use Rattle.vcd_edit.specs.inside.Plans.{IsPlan, GivesValues};
+ghost use Rattle.vcd_edit.specs.inside.plans.Invert.{ShowsInverse};
+ghost use Rattle.vcd_edit.specs.inside.plans.Plan.{IsPlan, GivesValues};
 ghost use Rattle.vcd_edit.specs.declared.edit.Edit.TheVariants as edits;
 
 use crate::plans::parts::{piece_record, push_if_new, signal_at, whole_piece, x_value};

@@ -11,7 +11,7 @@ ghost use Rattle.vcd_core.specs.Wave.{change, unless_same, value_at};
 ghost use Rattle.vcd_core.specs.WavePush.{last_value};
 ghost use Rattle.vcd_edit.specs.EditFaults.{is_signal};
 ghost use Rattle.vcd_edit.specs.Records.{piece_view};
-ghost use Rattle.vcd_edit.specs.inside.Ranges.{value_just_before};
+ghost use Rattle.vcd_edit.specs.inside.plans.Ranges.{value_just_before};
 
 use crate::record::{Piece, Record};
 use std::alloc::Global;

@@ -5,7 +5,7 @@ ghost use Rattle.vcd_core.specs.CaptureContents.{contents};
 ghost use Rattle.vcd_core.specs.Sound.{IsSound};
 ghost use Rattle.vcd_edit.specs.EditFaults.{edit_fault};
 ghost use Rattle.vcd_edit.specs.AppliedRecords.{HasNeitherPiecesNorSignal};
-ghost use Rattle.vcd_edit.specs.inside.Plans.{IsPlan};
+ghost use Rattle.vcd_edit.specs.inside.plans.Plan.{IsPlan};
 ghost use Rattle.vcd_edit.specs.declared.edit.Edit.TheVariants as edits;
 
 use crate::record::Record;

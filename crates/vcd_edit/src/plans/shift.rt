@@ -8,7 +8,7 @@ ghost use Rattle.vcd_core.specs.Sound.{IsSound, IsSoundSignal};
 ghost use Rattle.vcd_core.specs.Splice.{moved_change};
 ghost use Rattle.vcd_edit.specs.Effect.{shift_value};
 ghost use Rattle.vcd_edit.specs.EditFaults.{edit_fault};
-ghost use Rattle.vcd_edit.specs.inside.Plans.{IsPlan, GivesValues};
+ghost use Rattle.vcd_edit.specs.inside.plans.Plan.{IsPlan, GivesValues};
 ghost use Rattle.vcd_edit.specs.declared.edit.Edit.TheVariants as edits;
 
 use crate::plans::cut::cut_piece;

@@ -6,9 +6,9 @@ ghost use Rattle.std.specs.List.{list_all};
 ghost use Rattle.vcd_core.specs.BlockRows.{letters_of};
 ghost use Rattle.vcd_text.specs.Letters.{is_binary_digit as digit_test, letters_of_digits};
 ghost use Rattle.vcd_text.specs.Letters.{value_of_digits as digits_value, extension};
-ghost use Rattle.vcd_text.specs.inside.ValueDigits.{WritesValue, RefusesBinaryNumber};
-ghost use Rattle.vcd_text.specs.inside.LetterBlocks.{digits_of};
-ghost use Rattle.vcd_text.specs.inside.DigitTests.{is_binary_number};
+ghost use Rattle.vcd_text.specs.inside.reading.BinaryNumber.{WritesValue, RefusesBinaryNumber};
+ghost use Rattle.vcd_text.specs.inside.reading.DigitBlocks.{digits_of};
+ghost use Rattle.vcd_text.specs.inside.reading.DigitTests.{is_binary_number};
 
 use crate::fault::Fault;
 use crate::reading::digit_blocks::block_of_digits;

@@ -2,7 +2,8 @@
 
 ghost use Rattle.std.specs.Prelude.{◌≡◌, ◌+◌, ◌<◌, ◌≤◌, ◌^◌, ◌==◌, ℕ, List, length, if◌then◌else◌};
 ghost use Rattle.std.specs.Prelude.{slice_index_or, IfSome, OnOk, bytes_eq, max};
-ghost use Rattle.vcd_text.specs.inside.CodeTargets.{digit_of, index_of_code, code_target, in_map};
+ghost use Rattle.vcd_text.specs.inside.reading.CodeTargets.{digit_of, index_of_code, code_target};
+ghost use Rattle.vcd_text.specs.inside.reading.CodeTargets.{in_map};
 ghost use Rattle.vcd_text.specs.declared.reading.code_targets.CodeTarget.TheVariants as targets;
 
 use indexmap::IndexMap;

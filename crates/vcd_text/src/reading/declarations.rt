@@ -5,9 +5,9 @@ ghost use Rattle.vcd_text.specs.Words.{word_on};
 ghost use Rattle.vcd_core.specs.Word.{is_one_of};
 ghost use Rattle.vcd_text.specs.Items.{end_word, is_end_word, declaration_words, header_words};
 ghost use Rattle.vcd_text.specs.Items.{begins_declaration};
-ghost use Rattle.vcd_text.specs.inside.Reading.{IsUnderway, WordResult};
-ghost use Rattle.vcd_text.specs.inside.OpenItems.{is_inside};
-ghost use Rattle.vcd_text.specs.inside.OpeningWords.{Opens, keeps_words};
+ghost use Rattle.vcd_text.specs.inside.reading.Parser.{IsUnderway, WordResult};
+ghost use Rattle.vcd_text.specs.inside.reading.OpenItems.{is_inside};
+ghost use Rattle.vcd_text.specs.inside.reading.Declarations.{Opens, keeps_words};
 ghost use Rattle.vcd_text.specs.declared.reading.parser.OpenItem.TheVariants as items;
 
 use crate::fault::Fault;

@@ -4,7 +4,7 @@ ghost use Rattle.std.specs.Prelude.{◌≡◌, ◌≤◌, true, false, [], ◌�
 ghost use Rattle.std.specs.List.{list_all};
 ghost use Rattle.vcd_core.specs.BlockRows.{HoldsLetters};
 ghost use Rattle.vcd_text.specs.Letters.{is_binary_digit as digit_test, letters_of_digits};
-ghost use Rattle.vcd_text.specs.inside.LetterBlocks.{AddsLetters, is_two_state};
+ghost use Rattle.vcd_text.specs.inside.reading.DigitBlocks.{AddsLetters, is_two_state};
 
 use crate::reading::digits::{is_two_state, letter_of_digit, two_state_letter};
 use vcd_core::{Bit, LetterBlock};

@@ -4,7 +4,7 @@ ghost use Rattle.std.specs.Prelude.{◌≡◌, true, Some};
 ghost use Rattle.std.specs.List.{list_all};
 ghost use Rattle.vcd_text.specs.Letters.{letter_of_digit, is_binary_digit as digit_test};
 ghost use Rattle.vcd_text.specs.Letters.{letters_of_digits, pad_letter};
-ghost use Rattle.vcd_text.specs.inside.LetterBlocks.{is_two_state};
+ghost use Rattle.vcd_text.specs.inside.reading.DigitBlocks.{is_two_state};
 
 use vcd_core::Bit;
 

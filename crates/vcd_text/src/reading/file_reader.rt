@@ -14,11 +14,13 @@ ghost use Rattle.vcd_text.specs.declared.reading.part.Part.{Part as ReadPart};
 ghost use Rattle.vcd_text.specs.FoundFaults.{IsFoundFault};
 ghost use Rattle.vcd_text.specs.Refusals.{IsRefusal};
 ghost use Rattle.vcd_text.specs.MemoryErrors.{memory_error};
-ghost use Rattle.vcd_text.specs.inside.Spaces.{has_complete_words, line_feeds_in};
-ghost use Rattle.vcd_text.specs.inside.Reading.{HasTakenWords, WordCountFits, AllWordsResult};
-ghost use Rattle.vcd_text.specs.inside.Reading.{is_complete};
-ghost use Rattle.vcd_text.specs.inside.Chunks.{HasReadBytes, FileReaderMatches, HasUntakenChunk};
-ghost use Rattle.vcd_text.specs.inside.Chunks.{TakesChunk};
+ghost use Rattle.vcd_text.specs.inside.Words.{has_complete_words, line_feeds_in};
+ghost use Rattle.vcd_text.specs.inside.reading.Parser.{HasTakenWords, WordCountFits};
+ghost use Rattle.vcd_text.specs.inside.reading.Parser.{AllWordsResult};
+ghost use Rattle.vcd_text.specs.inside.reading.Parser.{is_complete};
+ghost use Rattle.vcd_text.specs.inside.reading.FileReader.{HasReadBytes, FileReaderMatches};
+ghost use Rattle.vcd_text.specs.inside.reading.FileReader.{HasUntakenChunk};
+ghost use Rattle.vcd_text.specs.inside.reading.FileReader.{TakesChunk};
 
 use crate::fault::{Fault, ReadError};
 use crate::reading::parser::Parser;

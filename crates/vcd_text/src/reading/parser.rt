@@ -2,12 +2,13 @@
 
 ghost use Rattle.std.specs.Prelude.{◌≡◌, ◌<◌, ◌∷◌, [], true, length, IfOk};
 ghost use Rattle.vcd_text.specs.Grammar.{ParseState};
-ghost use Rattle.vcd_text.specs.inside.Variables.{VariablesMatch};
+ghost use Rattle.vcd_text.specs.inside.reading.Variables.{VariablesMatch};
 ghost use Rattle.vcd_core.specs.CaptureContents.{contents};
 ghost use Rattle.vcd_text.specs.Words.{word_on};
-ghost use Rattle.vcd_text.specs.inside.OpenItems.{item_fault_line};
-ghost use Rattle.vcd_text.specs.inside.Reading.{HasTakenWords, IsUnderway, WordResult, WordsResult};
-ghost use Rattle.vcd_text.specs.inside.Reading.{is_complete, Means};
+ghost use Rattle.vcd_text.specs.inside.reading.OpenItems.{item_fault_line};
+ghost use Rattle.vcd_text.specs.inside.reading.Parser.{HasTakenWords, IsUnderway, WordResult};
+ghost use Rattle.vcd_text.specs.inside.reading.Parser.{WordsResult};
+ghost use Rattle.vcd_text.specs.inside.reading.Parser.{is_complete, Means};
 
 use crate::fault::{Fault, ReadError};
 use crate::reading::Loaded;

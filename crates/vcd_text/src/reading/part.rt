@@ -1,7 +1,7 @@
 //! The part of a capture that is read.
 
 ghost use Rattle.std.specs.Prelude.{◌≡◌, false, slice_index_or};
-ghost use Rattle.vcd_text.specs.inside.SeenParts.{seen_tick, is_late, IsWhole};
+ghost use Rattle.vcd_text.specs.inside.reading.Part.{seen_tick, is_late, IsWhole};
 
 use std::alloc::Global;
 use vcd_core::END_LIMIT;

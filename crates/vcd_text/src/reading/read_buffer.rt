@@ -23,7 +23,7 @@ pub struct ReadBuffer {
 
 impl Model for ReadBuffer {
     ghost use Rattle.std.specs.Prelude.{◌-◌, ◌≤◌, take, vec_len};
-    ghost use Rattle.vcd_text.specs.inside.ReadBufferView.{ReadBufferView};
+    ghost use Rattle.vcd_text.specs.inside.reading.ReadBuffer.{ReadBufferView};
 
     ghost Value = { ReadBufferView };
 

@@ -35,7 +35,8 @@ pub struct Scopes {
 
 impl Scopes {
     ghost use Rattle.std.specs.Prelude.{◌-◌, ◌++◌, ◌∷◌, [], take, IfOk, OnOk};
-    ghost use Rattle.vcd_text.specs.inside.Scopes.{chains_of, open_scopes, IsPlaced, KeepsPlaces};
+    ghost use Rattle.vcd_text.specs.inside.reading.Scopes.{chains_of, open_scopes, IsPlaced};
+    ghost use Rattle.vcd_text.specs.inside.reading.Scopes.{KeepsPlaces};
 
     /// No scopes. It takes no memory.
     pub fn new(alloc: Global) -> Scopes

@@ -3,7 +3,7 @@
 ghost use Rattle.std.specs.Prelude.{◌≡◌, ◌+◌, true, false, min, MatchOption};
 ghost use Rattle.vcd_core.specs.declared.value.TheConstants.{WIDTH_LIMIT};
 ghost use Rattle.vcd_core.specs.Decimal.{is_number, number_of};
-ghost use Rattle.vcd_text.specs.inside.DigitTests.{is_tick};
+ghost use Rattle.vcd_text.specs.inside.reading.DigitTests.{is_tick};
 
 use vcd_core::{END_LIMIT, WIDTH_LIMIT, number_up_to};
 

@@ -3,8 +3,8 @@
 ghost use Rattle.std.specs.Prelude.{◌≡◌, IfOk};
 ghost use Rattle.std.specs.List.{concat};
 ghost use Rattle.vcd_text.specs.Items.{timescale_of};
-ghost use Rattle.vcd_text.specs.inside.TimescaleText.{timescale_spelled, timescale_of_unit};
-ghost use Rattle.vcd_text.specs.inside.TimescaleText.{unit_named};
+ghost use Rattle.vcd_text.specs.inside.reading.Timescale.{timescale_spelled, timescale_of_unit};
+ghost use Rattle.vcd_text.specs.inside.reading.Timescale.{unit_named};
 
 use std::alloc::Global;
 use vcd_core::{NoMemory, TimeUnit, Timescale, Word};

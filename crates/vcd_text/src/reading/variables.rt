@@ -2,9 +2,9 @@
 
 ghost use Rattle.std.specs.Prelude.{◌≡◌, ◌≤◌, ◌+◌, false, length, IsOk, OnOk, All};
 ghost use Rattle.vcd_text.specs.Grammar.{initial_state};
-ghost use Rattle.vcd_text.specs.inside.ChangeLog.{AppliesToVariable, HasExactRoom};
-ghost use Rattle.vcd_text.specs.inside.ChangeLog.{counted_variable};
-ghost use Rattle.vcd_text.specs.inside.Variables.{VariablesMatch};
+ghost use Rattle.vcd_text.specs.inside.reading.Log.{AppliesToVariable, HasExactRoom};
+ghost use Rattle.vcd_text.specs.inside.reading.Log.{counted_variable};
+ghost use Rattle.vcd_text.specs.inside.reading.Variables.{VariablesMatch};
 
 mod assigning;
 mod choosing;
@@ -12,7 +12,7 @@ mod declaring;
 mod finishing;
 
 use crate::reading::code_targets::CodeTargets;
-use crate::reading::pending::{ExpectedRoom, LoggedChange};
+use crate::reading::log::{ExpectedRoom, LoggedChange};
 use crate::reading::scopes::{ScopePlace, Scopes};
 pub use choosing::{remaining_signals, silent_variables};
 use std::alloc::Global;

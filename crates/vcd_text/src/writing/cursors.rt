@@ -2,7 +2,7 @@
 //! its wave.
 
 ghost use Rattle.std.specs.Prelude.{◌≡◌, ◌<◌, ◌+◌, ℕ, length, IfOk};
-ghost use Rattle.vcd_text.specs.inside.Cursors.{AreNext, IsNext, tick_at};
+ghost use Rattle.vcd_text.specs.inside.writing.Cursors.{AreNext, IsNext, tick_at};
 
 use std::alloc::Global;
 use vcd_core::{Change, NoMemory, Signal, Wave};

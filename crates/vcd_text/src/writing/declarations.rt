@@ -9,8 +9,8 @@ ghost use Rattle.vcd_core.specs.declared.capture.TheConstants.{SIGNAL_LIMIT};
 ghost use Rattle.vcd_text.specs.Items.{entry, header_word, scope, upscope};
 ghost use Rattle.vcd_text.specs.Text.{header_items, item_line, same_scope, scope_items};
 ghost use Rattle.vcd_text.specs.Text.{signal_items, timescale_items, variable_item};
-ghost use Rattle.vcd_text.specs.inside.TextParts.{declarations_text};
-ghost use Rattle.vcd_text.specs.inside.Written.{Emits};
+ghost use Rattle.vcd_text.specs.inside.writing.Declarations.{declarations_text};
+ghost use Rattle.vcd_text.specs.inside.writing.Output.{Emits};
 
 use super::codes::write_code;
 use super::lines::{write_end, write_word, write_words};

@@ -1,8 +1,8 @@
 //! Words on a line: one space before each but the first, and a line feed after the last.
 
 ghost use Rattle.std.specs.Prelude.{◌≡◌, ◌∷◌, [], codes};
-ghost use Rattle.vcd_text.specs.inside.SpacedWords.{spaced_words};
-ghost use Rattle.vcd_text.specs.inside.Written.{Emits};
+ghost use Rattle.vcd_text.specs.inside.writing.Lines.{spaced_words};
+ghost use Rattle.vcd_text.specs.inside.writing.Output.{Emits};
 
 use super::output::{Output, write_byte, write_bytes};
 use vcd_core::{Sink, Word};

@@ -5,8 +5,8 @@ ghost use Rattle.std.specs.List.{enumerate_from, flat_map};
 ghost use Rattle.vcd_core.specs.CaptureContents.{signal_contents};
 ghost use Rattle.vcd_core.specs.declared.capture.TheConstants.{SIGNAL_LIMIT};
 ghost use Rattle.vcd_text.specs.Text.{first_items, item_line, stamp_of, value_items};
-ghost use Rattle.vcd_text.specs.inside.Transitions.{new_stamp};
-ghost use Rattle.vcd_text.specs.inside.Written.{Emits};
+ghost use Rattle.vcd_text.specs.inside.writing.Transitions.{new_stamp};
+ghost use Rattle.vcd_text.specs.inside.writing.Output.{Emits};
 
 use super::output::{Output, write_byte, write_bytes};
 use super::values::write_value_near;

@@ -9,9 +9,9 @@ ghost use Rattle.vcd_core.specs.BlockRows.{letter_in, letters_of};
 ghost use Rattle.vcd_core.specs.declared.capture.TheConstants.{SIGNAL_LIMIT};
 ghost use Rattle.vcd_text.specs.Letters.{pad_letter, printed_letters, short_form};
 ghost use Rattle.vcd_text.specs.Text.{code_of, item_line, value_item};
-ghost use Rattle.vcd_text.specs.inside.BeforeCode.{IsShortFormLen, is_redundant_above};
-ghost use Rattle.vcd_text.specs.inside.BeforeCode.{value_before_code};
-ghost use Rattle.vcd_text.specs.inside.Written.{Emits};
+ghost use Rattle.vcd_text.specs.inside.writing.Values.{IsShortFormLen, is_redundant_above};
+ghost use Rattle.vcd_text.specs.inside.writing.Values.{value_before_code};
+ghost use Rattle.vcd_text.specs.inside.writing.Output.{Emits};
 
 use super::codes::write_code;
 use super::output::{Output, write_byte, write_bytes};

@@ -6,10 +6,10 @@ ghost use Rattle.std.specs.Prelude.{false, length, map, All, vec_capacity, IfOk,
 ghost use Rattle.vcd_core.specs.CaptureContents.{signal_contents};
 ghost use Rattle.vcd_core.specs.Sound.{IsSoundSignal};
 ghost use Rattle.vcd_core.specs.declared.capture.TheConstants.{END_LIMIT, SIGNAL_LIMIT};
-ghost use Rattle.vcd_text.specs.inside.Cursors.{AreNext, IsNext};
-ghost use Rattle.vcd_text.specs.inside.Transitions.{transitions_from, unsorted_window};
-ghost use Rattle.vcd_text.specs.inside.Transitions.{window_of_signal};
-ghost use Rattle.vcd_text.specs.inside.Windows.{IsKey, IsReady, transitions_of};
+ghost use Rattle.vcd_text.specs.inside.writing.Cursors.{AreNext, IsNext};
+ghost use Rattle.vcd_text.specs.inside.writing.Transitions.{transitions_from, unsorted_window};
+ghost use Rattle.vcd_text.specs.inside.writing.Transitions.{window_of_signal};
+ghost use Rattle.vcd_text.specs.inside.writing.Window.{IsKey, IsReady, transitions_of};
 
 use super::cursors::{Cursor, first_changes, following_change};
 use std::alloc::Global;

@@ -4,9 +4,9 @@ ghost use Rattle.std.specs.Prelude.{◌≡◌, ◌<◌, ◌++◌, codes, OnOk, I
 ghost use Rattle.std.specs.Fmt.{decimal, digit_glyph};
 ghost use Rattle.vcdedit.specs.DecoderReply.{hex_digits, hex_text, data_text, direction_text};
 ghost use Rattle.vcdedit.specs.DecoderReply.{kind_text, annotation_line};
-ghost use Rattle.vcdedit.specs.inside.Replies.{with_line_feed};
+ghost use Rattle.vcdedit.specs.inside.replies.Reply.{with_line_feed};
 ghost use Rattle.vcd_decode.specs.declared.annotation.Kind.TheVariants as kinds;
-ghost use Rattle.vcdedit.specs.inside.Annotations.{annotations_text};
+ghost use Rattle.vcdedit.specs.inside.replies.Annotations.{annotations_text};
 
 use crate::replies::MemoryResult;
 use crate::replies::appending::{append_bytes, append_decimal, append_number};

@@ -3,9 +3,9 @@
 ghost use Rattle.std.specs.Prelude.{◌≡◌, false, Err, IfOk, OnErr};
 ghost use Rattle.vcd_journal.specs.StepErrorNames.{step_error_name};
 ghost use Rattle.vcdedit.specs.CommandSignals.{HasCommandSignals};
-ghost use Rattle.vcdedit.specs.inside.Answering.{AnswersStep, AnswersCommand, AnswersLine};
-ghost use Rattle.vcdedit.specs.inside.Answering.{is_no_memory};
-ghost use Rattle.vcdedit.specs.inside.Replies.{IsReplyTo};
+ghost use Rattle.vcdedit.specs.inside.replies.Answering.{AnswersStep, AnswersCommand, AnswersLine};
+ghost use Rattle.vcdedit.specs.inside.replies.Answering.{is_no_memory};
+ghost use Rattle.vcdedit.specs.inside.replies.Reply.{IsReplyTo};
 
 use crate::replies::decoding::{i2c_text, spi_text, uart_text};
 use crate::replies::listing::listing_text;

@@ -3,7 +3,7 @@
 ghost use Rattle.std.specs.Prelude.{◌≡◌, ◌++◌, OnOk};
 ghost use Rattle.std.specs.Fmt.{decimal};
 ghost use Rattle.vcd_text.specs.Letters.{printed_letters};
-ghost use Rattle.vcdedit.specs.inside.Listing.{number_line};
+ghost use Rattle.vcdedit.specs.inside.replies.Listing.{number_line};
 
 use crate::replies::MemoryResult;
 use itoa::Buffer;

@@ -11,7 +11,7 @@ ghost use Rattle.vcd_decode.specs.WaveLines.{line_of};
 ghost use Rattle.vcd_edit.specs.Effect.{signal_bit};
 ghost use Rattle.vcdedit.specs.DecoderReply as spec;
 ghost use Rattle.vcdedit.specs.CommandSignals.{IsScalarAt};
-ghost use Rattle.vcdedit.specs.inside.Replies.{with_line_feed};
+ghost use Rattle.vcdedit.specs.inside.replies.Reply.{with_line_feed};
 
 use crate::replies::MemoryResult;
 use crate::replies::annotations::annotations_to_bytes;

@@ -6,8 +6,8 @@ ghost use Rattle.std.specs.List.{concat, flat_map};
 ghost use Rattle.vcd_core.specs.CaptureContents.{contents, signal_contents};
 ghost use Rattle.vcd_core.specs.Names.{full_name};
 ghost use Rattle.vcdedit.specs.Queries.{timescale_line, signal_line, listing};
-ghost use Rattle.vcdedit.specs.inside.Listing.{number_line, signal_lines};
-ghost use Rattle.vcdedit.specs.inside.Replies.{with_line_feed};
+ghost use Rattle.vcdedit.specs.inside.replies.Listing.{number_line, signal_lines};
+ghost use Rattle.vcdedit.specs.inside.replies.Reply.{with_line_feed};
 
 use crate::replies::MemoryResult;
 use crate::replies::appending::{append_bytes, append_decimal, append_number};

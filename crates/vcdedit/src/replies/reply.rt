@@ -3,7 +3,7 @@
 ghost use Rattle.std.specs.Prelude.{◌≡◌, ◌++◌, ℕ, Ok, Err, OnOk, IfOk, false};
 ghost use Rattle.vcdedit.specs.Reply.{reply_text};
 ghost use Rattle.vcdedit.specs.Reply.{ok_reply};
-ghost use Rattle.vcdedit.specs.inside.Replies.{IsReplyTo};
+ghost use Rattle.vcdedit.specs.inside.replies.Reply.{IsReplyTo};
 
 use crate::replies::MemoryResult;
 use crate::replies::appending::{append_bytes, append_number};

@@ -6,7 +6,7 @@ ghost use Rattle.vcd_core.specs.Contents.{signal_at, signal_value};
 ghost use Rattle.vcd_core.specs.CaptureContents.{contents};
 ghost use Rattle.vcdedit.specs.Queries.{change_line};
 ghost use Rattle.vcd_text.specs.Letters.{printed_letters};
-ghost use Rattle.vcdedit.specs.inside.Replies.{with_line_feed};
+ghost use Rattle.vcdedit.specs.inside.replies.Reply.{with_line_feed};
 
 use crate::replies::MemoryResult;
 use crate::replies::appending::{append_bytes, append_decimal, append_letters};

@@ -9,8 +9,8 @@ ghost use Rattle.vcd_shell.specs.Devices.{device_end, IsRead};
 ghost use Rattle.vcdedit.specs.RunEnds.{IsAccepted, ForOutput, IsOutputFlushed};
 ghost use Rattle.vcdedit.specs.RunEnds.{IsFlushedAt, RunEnds};
 ghost use Rattle.vcd_journal.specs.Machine.{initial_machine};
-ghost use Rattle.vcdedit.specs.inside.RunStages.{EndsBeforeOutput};
-ghost use Rattle.vcdedit.specs.inside.ScriptRuns.{ScriptGives};
+ghost use Rattle.vcdedit.specs.inside.running.Stages.{EndsBeforeOutput};
+ghost use Rattle.vcdedit.specs.inside.running.Run.{ScriptGives};
 
 use crate::running::run_lines::run_lines;
 use crate::running::script_input::{SCRIPT_LIMIT, read_script};

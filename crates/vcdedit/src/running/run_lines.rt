@@ -3,9 +3,9 @@
 ghost use Rattle.std.specs.Prelude.{◌≡◌, ◌≤◌, ◌<◌, ◌^◌, ℕ, false, true, length, IfOk, IfErr, OnOk};
 ghost use Rattle.std.specs.Io.KnownBytes.{Appends, Keeps};
 ghost use Rattle.vcdedit.specs.Script.{script_lines};
-ghost use Rattle.vcdedit.specs.inside.Answering.{AnswersLine};
-ghost use Rattle.vcdedit.specs.inside.RunLines.{HasFailedAt, RunsLines, EndsAtLine};
-ghost use Rattle.vcdedit.specs.inside.RunLines.{StopsAtReply, StopsAtLine, StopsInLines};
+ghost use Rattle.vcdedit.specs.inside.replies.Answering.{AnswersLine};
+ghost use Rattle.vcdedit.specs.inside.running.RunLines.{HasFailedAt, RunsLines, EndsAtLine};
+ghost use Rattle.vcdedit.specs.inside.running.RunLines.{StopsAtReply, StopsAtLine, StopsInLines};
 
 use crate::replies::{Reply, answer_line};
 use crate::running::RunError;

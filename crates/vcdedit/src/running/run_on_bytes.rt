@@ -5,7 +5,7 @@ ghost use Rattle.vcd_core.specs.Contents.{Contents};
 ghost use Rattle.vcd_text.specs.Meaning.{FileMeans};
 ghost use Rattle.vcdedit.specs.Run.{RunLaws};
 ghost use Rattle.vcdedit.specs.RunOnBytes.{RunGives, run_refusal_name};
-ghost use Rattle.vcdedit.specs.inside.RunRefusals.{run_refusal, stage_of_line};
+ghost use Rattle.vcdedit.specs.inside.running.RunOnBytes.{run_refusal, stage_of_line};
 ghost use Rattle.vcdedit.specs.declared.running.run_error.RunError.TheVariants as run_errors;
 
 use crate::running::{RunError, run};
@@ -126,7 +126,7 @@ fn refusal_of(error: RunError, replies: Vec<u8>, empty: Vec<u8>) -> RunRefusal
 }
 
 /// The stage of a run's error: line 0 stands for the inputs.
-#[tactic(auto, using(crate::proofs::RunsOnBytes::stage_at))]
+#[tactic(auto, using(crate::proofs::running::run_on_bytes::ResultOfRun::stage_at))]
 fn stage_of_line(line: u64) -> Stage
     ensures { result ≡ stage_of_line line }
 {

@@ -5,7 +5,7 @@ ghost use Rattle.std.specs.Prelude.{length, vec_len, OnOk, IfOk, IfErr, IfSome};
 ghost use Rattle.std.specs.Io.KnownBytes.{Consumes, IsAtEnd};
 ghost use Rattle.vcd_shell.specs.Devices.{device_end, IsRead};
 ghost use Rattle.vcdedit.specs.RunEnds.{IsFlushedAt};
-ghost use Rattle.vcdedit.specs.inside.RunStages.{EndsAfterCapture};
+ghost use Rattle.vcdedit.specs.inside.running.Stages.{EndsAfterCapture};
 
 use crate::running::RunError;
 use std::alloc::Global;

@@ -5,8 +5,8 @@ ghost use Rattle.vcd_core.specs.CaptureContents.{contents};
 ghost use Rattle.vcd_text.specs.LentWords.{texts_left};
 ghost use Rattle.vcdedit.specs.ScriptCommands.{command_of};
 ghost use Rattle.vcdedit.specs.declared.script.keyword.Keyword.TheVariants as keywords;
-ghost use Rattle.vcdedit.specs.inside.ParsedDecoders.{spi_with_command, checked_spi_command};
-ghost use Rattle.vcdedit.specs.inside.Commands.{ReadsAs};
+ghost use Rattle.vcdedit.specs.inside.script.Decoders.{spi_with_command, checked_spi_command};
+ghost use Rattle.vcdedit.specs.inside.script.Line.{ReadsAs};
 
 use crate::script::decoder_words::{
     one_bit_signal, one_bit_signal_or_absent, order_of_word, parity_of_word, ratio_of_word,

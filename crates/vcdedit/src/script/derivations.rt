@@ -5,7 +5,7 @@ ghost use Rattle.vcd_core.specs.CaptureContents.{contents};
 ghost use Rattle.vcd_text.specs.LentWords.{texts_left};
 ghost use Rattle.vcdedit.specs.ScriptCommands.{not_rule, pair_of, bit_rule, rule_of, command_of};
 ghost use Rattle.vcdedit.specs.declared.script.keyword.Keyword.TheVariants as keywords;
-ghost use Rattle.vcdedit.specs.inside.Commands.{ReadsAs};
+ghost use Rattle.vcdedit.specs.inside.script.Line.{ReadsAs};
 
 use crate::script::edits::signal_of_name;
 use crate::script::line_words::{next_text, take_one, take_two};

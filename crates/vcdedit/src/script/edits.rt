@@ -7,7 +7,7 @@ ghost use Rattle.vcd_text.specs.LentWords.{texts_left};
 ghost use Rattle.vcdedit.specs.ScriptCommands.{command_of};
 ghost use Rattle.vcdedit.specs.declared.script.keyword.Keyword.TheVariants as keywords;
 ghost use Rattle.vcdedit.specs.ScriptWords.{signal_of_name, value_of_word};
-ghost use Rattle.vcdedit.specs.inside.Commands.{ReadsAs};
+ghost use Rattle.vcdedit.specs.inside.script.Line.{ReadsAs};
 
 use crate::script::line_words::{take_four, take_one, take_two};
 use crate::script::numbers::{distance_of_word, number_of_word};

@@ -9,7 +9,7 @@ ghost use Rattle.vcdedit.specs.WithoutAddress.{command_without_address};
 ghost use Rattle.vcdedit.specs.ScriptCommands.{command_of_line};
 ghost use Rattle.vcdedit.specs.ScriptCommands.{is_comment, command_of, command_of_words};
 ghost use Rattle.vcdedit.specs.declared.script.keyword.Keyword.TheVariants as keywords;
-ghost use Rattle.vcdedit.specs.inside.Commands.{ReadsAs};
+ghost use Rattle.vcdedit.specs.inside.script.Line.{ReadsAs};
 
 use crate::script::decoders::{parse_i2c, parse_spi, parse_uart};
 use crate::script::derivations::parse_derive;

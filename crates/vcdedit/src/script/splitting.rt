@@ -4,7 +4,7 @@ ghost use Rattle.std.specs.Prelude.{◌≡◌, ◌≤◌, ◌<◌, ◌==◌, ◌
 ghost use Rattle.std.specs.Prelude.{MatchOption};
 ghost use Rattle.std.specs.List.{list_all};
 ghost use Rattle.vcdedit.specs.Script.{script_lines};
-ghost use Rattle.vcdedit.specs.inside.ScriptParts.{is_after_line};
+ghost use Rattle.vcdedit.specs.inside.script.Splitting.{is_after_line};
 
 /// The first line of a script, without its line feed, and what follows it. An empty script has
 /// none.

@@ -16,7 +16,7 @@ ghost use Rattle.vcdedit.specs.ProgramEnds.{IsOutcomeOn, IsOutcomeOfOptions};
 ghost use Rattle.vcdedit.specs.ProgramEnds.{program_status, program_text};
 ghost use Rattle.vcd_shell.specs.Devices.{DeviceEnd, device_end};
 ghost use Rattle.vcdedit.specs.RunEnds.{RunEnds};
-ghost use Rattle.vcdedit.specs.inside.SentReplies.{HasSentReplies};
+ghost use Rattle.vcdedit.specs.inside.shell.Program.{HasSentReplies};
 
 use crate::running::{RunError, Summary, run};
 use crate::shell::command_line::{Options, command_line, parse_words};
@@ -143,7 +143,7 @@ fn run_inputs<R: Runtime + AllocGlobal, C: Source, S: Source>(
 /// Runs with a buffer for the replies. What it holds at the end is sent to the writer after it,
 /// even if memory ran out. Returns how the run ended, and that writer: if it failed, it is gone,
 /// and only an error after the run is kept.
-#[tactic(auto, using(crate::proofs::RunParts::replies_sent))]
+#[tactic(auto, using(crate::proofs::running::PartsOfRun::replies_sent))]
 fn run_with_reply_buffer<R: Runtime + AllocGlobal, C: Source, S: Source, W: Write + Drop>(
     rt: &R,
     capture: &mut C,

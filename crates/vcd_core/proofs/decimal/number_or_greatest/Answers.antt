@@ -1,5 +1,5 @@
 use Rattle.std.proofs.Common.{◌∙◌}
-use Rattle.vcd_core.proofs.Decimals.{numeral_more}
+use Rattle.vcd_core.proofs.decimal.DigitsInTurn.{numeral_more}
 use Rattle.vcd_core.proofs.decimal.number_or_greatest.Goals as goal
 
 pub loop-digit-preserved : goal.loop-digit-preserved

@@ -1,4 +1,4 @@
-use Rattle.vcd_core.proofs.Waves.{changes_rise, changes_end}
+use Rattle.vcd_core.proofs.shared.Waves.{changes_rise, changes_end}
 use Rattle.vcd_core.proofs.laws.changes_are_wave.Goals as goal
 
 pub returns : goal.returns

@@ -1,4 +1,4 @@
-use Rattle.vcd_core.proofs.Waves.{changes_of-value_at}
+use Rattle.vcd_core.proofs.shared.Waves.{changes_of-value_at}
 use Rattle.vcd_core.proofs.laws.changes_of_own_values.Goals as goal
 
 pub returns : goal.returns

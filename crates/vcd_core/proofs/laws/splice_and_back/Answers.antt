@@ -1,4 +1,4 @@
-use Rattle.vcd_core.proofs.Splices.{spliced_back, piece_of-spliced}
+use Rattle.vcd_core.proofs.shared.Splices.{spliced_back, piece_of-spliced}
 use Rattle.vcd_core.proofs.laws.splice_and_back.Goals as goal
 
 pub returns : goal.returns

@@ -1,6 +1,6 @@
 use Rattle.std.proofs.Common.{subst, sym}
 use Rattle.vcd_core.specs.Wave.{IsWave}
-use Rattle.vcd_core.proofs.Splices.{spliced_back, back_within, back_fits}
+use Rattle.vcd_core.proofs.shared.Splices.{spliced_back, back_within, back_fits}
 use Rattle.vcd_core.proofs.laws.splice_back_is_allowed.Goals as goal
 
 pub returns : goal.returns

@@ -1,7 +1,7 @@
 use Rattle.std.proofs.Common.{arith, refl}
 use Rattle.vcd_core.specs.declared.value.TheConstants.{BLOCKS}
-use Rattle.vcd_core.proofs.PlaneBits.{block_held}
-use Rattle.vcd_core.proofs.ValueLemmas.{letters_in-blocks}
+use Rattle.vcd_core.proofs.planes.WrittenBits.{block_held}
+use Rattle.vcd_core.proofs.shared.LettersOfPlanes.{letters_in-blocks}
 use Rattle.vcd_core.proofs.planes.planes_of_block.Goals as goal
 
 pub returns-clause-letters : goal.returns-clause-letters

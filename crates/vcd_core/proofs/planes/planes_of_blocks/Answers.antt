@@ -1,8 +1,8 @@
 use Rattle.std.proofs.Common.{◌∙◌, arith, refl}
 use Rattle.std.proofs.lemmas.List.{length-set}
 use Rattle.vcd_core.specs.declared.value.TheConstants.{BLOCKS}
-use Rattle.vcd_core.proofs.PlaneBits.{none_held, one_more}
-use Rattle.vcd_core.proofs.ValueLemmas.{letters_in-blocks}
+use Rattle.vcd_core.proofs.planes.WrittenBits.{none_held, one_more}
+use Rattle.vcd_core.proofs.shared.LettersOfPlanes.{letters_in-blocks}
 use Rattle.vcd_core.proofs.planes.planes_of_blocks.Goals as goal
 
 pub loop-j-init : goal.loop-j-init

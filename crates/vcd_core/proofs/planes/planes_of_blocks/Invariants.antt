@@ -1,6 +1,6 @@
 use Rattle.std.proofs.Common.{◌≡◌, ◌-◌, ◌*◌, length}
 use Rattle.vcd_core.specs.declared.value.TheConstants.{BLOCKS}
-use Rattle.vcd_core.proofs.PlaneBits.{HoldsBlocks}
+use Rattle.vcd_core.proofs.planes.WrittenBits.{HoldsBlocks}
 use Rattle.vcd_core.proofs.planes.planes_of_blocks.Given as goal
 
 abbrev pub invariant-loop-j : goal.invariant-loop-j

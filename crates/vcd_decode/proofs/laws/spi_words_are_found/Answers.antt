@@ -1,4 +1,4 @@
-use Rattle.vcd_decode.proofs.SentSpi.{words_found, part_found}
+use Rattle.vcd_decode.proofs.laws.sent.SpiWords.{words_found, part_found}
 use Rattle.vcd_decode.proofs.laws.spi_words_are_found.Goals as goal
 
 pub returns-clause-words : goal.returns-clause-words

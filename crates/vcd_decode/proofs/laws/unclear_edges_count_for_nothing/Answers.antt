@@ -1,4 +1,4 @@
-use Rattle.vcd_decode.proofs.StraightEdges.{frames_begin, same_clocks, same_buses}
+use Rattle.vcd_decode.proofs.laws.StraightEdges.{frames_begin, same_clocks, same_buses}
 use Rattle.vcd_decode.proofs.laws.unclear_edges_count_for_nothing.Goals as goal
 
 pub returns-clause-frames : goal.returns-clause-frames

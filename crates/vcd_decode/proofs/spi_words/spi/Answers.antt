@@ -4,7 +4,7 @@ use Rattle.std.specs.Option.{is_some, option_copied, option_map}
 use Rattle.vcd_core.specs.WaveView.{WaveView}
 use Rattle.vcd_decode.specs.WaveLines.{line_of}
 use Rattle.vcd_decode.specs.Spi.{spi_annotations}
-use Rattle.vcd_decode.proofs.SpiSteps.{so_far_none, so_far_open, so_far_more, so_far_ends}
+use Rattle.vcd_decode.proofs.spi_words.EdgeByEdge.{so_far_none, so_far_open, so_far_more, so_far_ends}
 use Rattle.vcd_decode.proofs.spi_words.spi.Goals as goal
 
 copied : (wave : Option (Bor WaveView)) → is_some wave ≡ is_some (option_copied wave)

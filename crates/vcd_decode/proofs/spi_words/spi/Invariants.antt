@@ -1,7 +1,7 @@
 use Rattle.std.specs.Option.{option_copied, option_map}
 use Rattle.vcd_decode.specs.WaveLines.{line_of}
 use Rattle.vcd_decode.specs.Spi.{spi_annotations}
-use Rattle.vcd_decode.specs.inside.SpiWalk.{SpiProgress}
+use Rattle.vcd_decode.specs.inside.SpiWords.{SpiProgress}
 use Rattle.vcd_decode.proofs.spi_words.spi.Given as goal
 
 -- the annotations so far and those to come are all annotations

@@ -1,6 +1,6 @@
 use Rattle.vcd_core.specs.CaptureContents.{signal_contents}
-use Rattle.vcd_edit.proofs.AdjacencyTests.{failed}
-use Rattle.vcd_edit.proofs.FitKinds.{put_by_tests, put_parts}
+use Rattle.vcd_edit.proofs.fitting.AdjacencyTests.{failed}
+use Rattle.vcd_edit.proofs.fitting.RecordKinds.{put_by_tests, put_parts}
 use Rattle.vcd_edit.proofs.fitting.may_be_put_in.Goals as goal
 
 pub returns-then-is_sound : goal.returns-then-is_sound

@@ -1,5 +1,5 @@
-use Rattle.vcd_edit.proofs.AdjacencyTests.{failed}
-use Rattle.vcd_edit.proofs.FitKinds.{word_by_tests, word_here, word_others}
+use Rattle.vcd_edit.proofs.fitting.AdjacencyTests.{failed}
+use Rattle.vcd_edit.proofs.fitting.RecordKinds.{word_by_tests, word_here, word_others}
 use Rattle.vcd_edit.proofs.fitting.may_be_renamed.Goals as goal
 
 pub returns-then-is_sound_with_word : goal.returns-then-is_sound_with_word

@@ -1,6 +1,6 @@
 use Rattle.std.proofs.Common.{◌∙◌, Some, ℕ, List, sym, ap}
 use Rattle.vcd_edit.specs.Records.{word_view, contents_of_signal, signal_view, record_view}
-use Rattle.vcd_edit.proofs.FitKinds.{parts_by_signal, parts_by_word, parts_by_pieces}
+use Rattle.vcd_edit.proofs.fitting.RecordKinds.{parts_by_signal, parts_by_word, parts_by_pieces}
 use Rattle.vcd_edit.proofs.fitting.parts_fit.Goals as goal
 
 pub returns-in-Some : goal.returns-in-Some

@@ -1,4 +1,4 @@
-use Rattle.vcd_edit.proofs.ShortRuns as short_runs
+use Rattle.vcd_edit.proofs.laws.ShortRuns as short_runs
 use Rattle.vcd_edit.proofs.laws.deglitch_takes_short_runs_out.Goals as goal
 
 pub returns-clause-none_left : goal.returns-clause-none_left

@@ -1,4 +1,4 @@
-use Rattle.vcd_edit.proofs.EffectLaws.{invert_twice, invert_twice_without_z}
+use Rattle.vcd_edit.proofs.shared.EffectLaws.{invert_twice, invert_twice_without_z}
 use Rattle.vcd_edit.proofs.laws.invert_twice.Goals as goal
 
 pub returns-clause-values : goal.returns-clause-values

@@ -1,4 +1,4 @@
-use Rattle.vcd_edit.proofs.EffectLaws.{last_force_counts}
+use Rattle.vcd_edit.proofs.shared.EffectLaws.{last_force_counts}
 use Rattle.vcd_edit.proofs.laws.last_force_counts.Goals as goal
 
 pub returns : goal.returns

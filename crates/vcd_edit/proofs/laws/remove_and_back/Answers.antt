@@ -1,4 +1,4 @@
-use Rattle.vcd_edit.proofs.EffectLaws.{remove_and_back}
+use Rattle.vcd_edit.proofs.shared.EffectLaws.{remove_and_back}
 use Rattle.vcd_edit.proofs.laws.remove_and_back.Goals as goal
 
 pub returns : goal.returns

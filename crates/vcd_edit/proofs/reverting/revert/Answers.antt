@@ -1,9 +1,9 @@
 use Rattle.std.proofs.lemmas.Result.{IfOk-weaker}
 use Rattle.vcd_core.specs.CaptureContents.{contents}
 use Rattle.vcd_edit.specs.Touched.{piece_advance}
-use Rattle.vcd_edit.specs.inside.Opposites.{IsOppositeRecord}
-use Rattle.vcd_edit.proofs.TouchedSums.{own_advances}
-use Rattle.vcd_edit.proofs.SignalCounts.{refused_where}
+use Rattle.vcd_edit.specs.inside.exchange.Opposites.{IsOppositeRecord}
+use Rattle.vcd_edit.proofs.shared.StoredAtMostTouched.{own_advances}
+use Rattle.vcd_edit.proofs.shared.SignalCounts.{refused_where}
 use Rattle.vcd_edit.proofs.reverting.revert.Goals as goal
 
 pub returns-clause-stored : goal.returns-clause-stored

@@ -1,4 +1,4 @@
-use Rattle.vcd_journal.proofs.Bounds.{history_is_bounded}
+use Rattle.vcd_journal.proofs.laws.BoundedHistory.{history_is_bounded}
 use Rattle.vcd_journal.proofs.laws.history_is_bounded.Goals as goal
 
 pub returns : goal.returns

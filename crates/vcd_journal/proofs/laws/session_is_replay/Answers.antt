@@ -1,4 +1,4 @@
-use Rattle.vcd_journal.proofs.Replay.{session_is_replay}
+use Rattle.vcd_journal.proofs.shared.Replay.{session_is_replay}
 use Rattle.vcd_journal.proofs.laws.session_is_replay.Goals as goal
 
 pub returns : goal.returns

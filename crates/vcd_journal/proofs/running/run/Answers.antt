@@ -2,7 +2,7 @@ use Rattle.std.proofs.Common.{◌≡◌, ◌+◌, ◌++◌, ◌∷◌, [], ◌�
 use Rattle.std.proofs.lemmas.List.{append-nil, append_assoc, take_more}
 use Rattle.vcd_journal.specs.declared.step.Step.{Step}
 use Rattle.vcd_journal.specs.declared.step.Answer.{Answer}
-use Rattle.vcd_journal.proofs.Steps.{steps_lead_more, no_steps}
+use Rattle.vcd_journal.proofs.shared.Steps.{steps_lead_more, no_steps}
 use Rattle.vcd_journal.proofs.running.run.Goals as goal
 
 pub loop-step-init : goal.loop-step-init

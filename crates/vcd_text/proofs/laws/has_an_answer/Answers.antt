@@ -1,4 +1,4 @@
-use Rattle.vcd_text.proofs.FileFaults.{an_answer, found_fault}
+use Rattle.vcd_text.proofs.shared.FoundFault.{an_answer, found_fault}
 use Rattle.vcd_text.proofs.laws.has_an_answer.Goals as goal
 
 pub returns-clause-one : goal.returns-clause-one

@@ -1,5 +1,5 @@
-use Rattle.vcd_text.proofs.OneAnswer as one_answer
-use Rattle.vcd_text.proofs.FileFaults as file_faults
+use Rattle.vcd_text.proofs.shared.ResultIsUnique as one_answer
+use Rattle.vcd_text.proofs.shared.FoundFault as file_faults
 use Rattle.vcd_text.proofs.laws.has_one_answer.Goals as goal
 
 pub returns-clause-one_meaning : goal.returns-clause-one_meaning

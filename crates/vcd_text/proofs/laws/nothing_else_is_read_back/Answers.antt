@@ -1,7 +1,7 @@
 use Rattle.vcd_text.specs.Text.{text}
-use Rattle.vcd_text.proofs.OneAnswer.{one_meaning}
-use Rattle.vcd_text.proofs.FileFaults.{meaning-no_fault}
-use Rattle.vcd_text.proofs.TextReadBack.{read_back}
+use Rattle.vcd_text.proofs.shared.ResultIsUnique.{one_meaning}
+use Rattle.vcd_text.proofs.shared.FoundFault.{meaning-no_fault}
+use Rattle.vcd_text.proofs.read_back.WholeText.{read_back}
 use Rattle.vcd_text.proofs.laws.nothing_else_is_read_back.Goals as goal
 
 pub returns-clause-same_capture : goal.returns-clause-same_capture

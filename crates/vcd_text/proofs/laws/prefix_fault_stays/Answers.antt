@@ -1,4 +1,4 @@
-use Rattle.vcd_text.proofs.FileFaults.{prefix_fault_stays}
+use Rattle.vcd_text.proofs.shared.FoundFault.{prefix_fault_stays}
 use Rattle.vcd_text.proofs.laws.prefix_fault_stays.Goals as goal
 
 pub returns : goal.returns

@@ -4,7 +4,7 @@ use Rattle.vcd_core.specs.CaptureContents.{contents}
 use Rattle.vcd_text.specs.declared.reading.Loaded.{Loaded}
 use Rattle.vcd_text.specs.declared.reading.TheConstants.{FILE_LIMIT}
 use Rattle.vcd_text.specs.Meaning.{FileMeans}
-use Rattle.vcd_text.proofs.WholeParts.{whole_means}
+use Rattle.vcd_text.proofs.part.WholeParts.{whole_means}
 use Rattle.vcd_text.proofs.reading.read.Goals as goal
 
 pub returns-clause-means : goal.returns-clause-means

@@ -7,7 +7,7 @@ use Rattle.vcd_text.specs.declared.reading.Loaded.{Loaded}
 use Rattle.vcd_text.specs.declared.reading.TheConstants.{FILE_LIMIT}
 use Rattle.vcd_text.specs.Parts.{PartMeans}
 use Rattle.vcd_text.specs.Refusals.{IsRefusal}
-use Rattle.vcd_text.proofs.Chunks.{at_end, of_all, is_no_file_failure}
+use Rattle.vcd_text.proofs.reading.file_reader.Chunks.{at_end, of_all, is_no_file_failure}
 use Rattle.vcd_text.proofs.reading.read_part.Goals as goal
 
 pub returns-in_err-take_chunk-clause-refused : goal.returns-in_err-take_chunk-clause-refused

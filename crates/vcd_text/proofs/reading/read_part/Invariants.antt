@@ -1,5 +1,5 @@
 use Rattle.std.proofs.Common.{◌≡◌, false}
-use Rattle.vcd_text.specs.inside.Chunks.{FileReaderMatches}
+use Rattle.vcd_text.specs.inside.reading.FileReader.{FileReaderMatches}
 use Rattle.vcd_text.proofs.reading.read_part.Given as goal
 
 abbrev pub invariant-loop-progress : goal.invariant-loop-progress

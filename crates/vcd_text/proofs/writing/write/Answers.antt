@@ -11,10 +11,10 @@ use Rattle.vcd_core.specs.CaptureContents.{contents, signal_contents}
 use Rattle.vcd_core.specs.declared.device.Sink as sinks
 use Rattle.vcd_text.specs.declared.writing.output.Output.{Output}
 use Rattle.vcd_text.specs.Text.{first_items, item_line, text, tick_items}
-use Rattle.vcd_text.specs.inside.TextParts.{declarations_text}
-use Rattle.vcd_text.specs.inside.Written.{HasEmitted, Emits}
-use Rattle.vcd_text.proofs.Texts.{whole_text}
-use Rattle.vcd_text.proofs.Written.{failed_prefix, flushed_whole, whole_written, writes_as, writes_both}
+use Rattle.vcd_text.specs.inside.writing.Declarations.{declarations_text}
+use Rattle.vcd_text.specs.inside.writing.Output.{HasEmitted, Emits}
+use Rattle.vcd_text.proofs.writing.TextParts.{whole_text}
+use Rattle.vcd_text.proofs.writing.output.Pieces.{failed_prefix, flushed_whole, whole_written, writes_as, writes_both}
 use Rattle.vcd_text.proofs.writing.write.Goals as goal
 
 -- the whole text is written

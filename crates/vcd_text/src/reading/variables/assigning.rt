@@ -2,18 +2,18 @@
 
 ghost use Rattle.std.specs.Prelude.{◌≡◌, ◌⊎◌, ◌≤◌, ℕ, List, is_some, IfErr, OnOk, All};
 ghost use Rattle.vcd_text.specs.Grammar.{ParseState, variable_of};
-ghost use Rattle.vcd_text.specs.inside.Variables.{target_of, VariablesMatch, ChangeResult};
-ghost use Rattle.vcd_text.specs.inside.Variables.{HasValueFrom};
-ghost use Rattle.vcd_text.specs.inside.SeenParts.{seen_tick, PartChange};
-ghost use Rattle.vcd_text.specs.inside.ValueDigits.{RefusesBinaryNumber};
+ghost use Rattle.vcd_text.specs.inside.reading.Variables.{target_of, VariablesMatch, ChangeResult};
+ghost use Rattle.vcd_text.specs.inside.reading.Variables.{HasValueFrom};
+ghost use Rattle.vcd_text.specs.inside.reading.Part.{seen_tick, PartChange};
+ghost use Rattle.vcd_text.specs.inside.reading.BinaryNumber.{RefusesBinaryNumber};
 ghost use Rattle.vcd_text.specs.declared.fault.Fault.TheVariants.{NoMemory as NoMemoryFault};
 ghost use Rattle.vcd_text.specs.declared.reading.code_targets.CodeTarget.TheVariants.{Kept};
 
 use crate::fault::Fault;
 use crate::reading::binary_number::{check_digits, read_letter_block, read_value};
 use crate::reading::code_targets::CodeTarget;
+use crate::reading::log::{LoggedChange, append};
 use crate::reading::part::{Part, is_set};
-use crate::reading::pending::{LoggedChange, append};
 use crate::reading::variables::{Variable, Variables};
 use std::alloc::Global;
 

@@ -1,10 +1,11 @@
 //! The variables of a part: those whose changes are kept, and the signals that remain.
 
-ghost use Rattle.std.specs.Prelude.{◌≡◌, ◌==◌, ◌∷◌, List, ℕ, false, if◌then◌else◌, slice_index_or, map, IfOk};
+ghost use Rattle.std.specs.Prelude.{◌≡◌, ◌==◌, ◌∷◌, List, ℕ, false, if◌then◌else◌, slice_index_or};
+ghost use Rattle.std.specs.Prelude.{map, IfOk};
 ghost use Rattle.vcd_core.specs.CaptureContents.{signal_contents};
 ghost use Rattle.vcd_core.specs.Contents.{SignalContents};
 ghost use Rattle.vcd_text.specs.Parts.{remaining};
-ghost use Rattle.vcd_text.specs.inside.SeenParts.{HearsVariables};
+ghost use Rattle.vcd_text.specs.inside.reading.Part.{HearsVariables};
 
 use crate::reading::part::is_set;
 use crate::reading::variables::Variable;

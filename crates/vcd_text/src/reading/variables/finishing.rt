@@ -5,10 +5,10 @@ ghost use Rattle.std.specs.Prelude.{◌≡◌, ◌++◌, ◌∷◌, [], map, sli
 ghost use Rattle.vcd_core.specs.CaptureContents.{signal_contents};
 ghost use Rattle.vcd_text.specs.Grammar.{ParseState, kept_variables};
 ghost use Rattle.vcd_text.specs.Meaning.{declared_signal};
-ghost use Rattle.vcd_text.specs.inside.Scopes.{IsWithin};
-ghost use Rattle.vcd_text.specs.inside.Variables.{VariablesMatch, Finishes, FinishesWave};
+ghost use Rattle.vcd_text.specs.inside.reading.Scopes.{IsWithin};
+ghost use Rattle.vcd_text.specs.inside.reading.Variables.{VariablesMatch, Finishes, FinishesWave};
 
-use crate::reading::pending::move_log_to_waves;
+use crate::reading::log::move_log_to_waves;
 use crate::reading::variables::{Variable, Variables};
 use std::alloc::Global;
 use std::mem::replace;

@@ -1,4 +1,4 @@
-use Rattle.vcdedit.proofs.CutFiles.{cut_file_is_read_again}
+use Rattle.vcdedit.proofs.laws.CutFiles.{cut_file_is_read_again}
 use Rattle.vcdedit.proofs.laws.cut_file_is_read_again.Goals as goal
 
 pub returns : goal.returns

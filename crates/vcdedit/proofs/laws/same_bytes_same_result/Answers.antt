@@ -1,4 +1,4 @@
-use Rattle.vcdedit.proofs.OneResult.{same_bytes_same_result}
+use Rattle.vcdedit.proofs.laws.SameBytesSameResult.{same_bytes_same_result}
 use Rattle.vcdedit.proofs.laws.same_bytes_same_result.Goals as goal
 
 pub returns : goal.returns

@@ -1,7 +1,7 @@
 use Rattle.std.proofs.Common.{◌∷◌, [], map, ap}
 use Rattle.vcd_core.specs.BitEdges.{bit_edge}
 use Rattle.std.specs.Option.{option_copied}
-use Rattle.vcd_core.proofs.EdgeSteps.{walk_from}
+use Rattle.vcd_core.proofs.edges.EdgesInTurn.{walk_from}
 use Rattle.vcd_core.proofs.bit_edges.BitEdges.new.Goals as goal
 
 pub returns : goal.returns

@@ -1,7 +1,7 @@
 use Rattle.std.proofs.Common.{length, map, sym, ap, ◌∙◌, arith}
 use Rattle.vcd_core.specs.BitEdges.{bit_edge}
 use Rattle.vcd_core.specs.inside.EdgeWalk.{traces_left}
-use Rattle.vcd_core.proofs.EdgeSteps.{walk_over, bit_walk_next, walk_kept}
+use Rattle.vcd_core.proofs.edges.EdgesInTurn.{walk_over, bit_walk_next, walk_kept}
 use Rattle.vcd_core.proofs.bit_edges.BitEdgesIterator.next.Goals as goal
 
 pub returns-in_err-tick-clause-steps : goal.returns-in_err-tick-clause-steps

@@ -3,7 +3,7 @@ use Rattle.std.specs.List.{position}
 use Rattle.std.specs.Str.{bytes_eq}
 use Rattle.vcd_core.specs.CaptureContents.{signal_contents}
 use Rattle.vcd_core.specs.Names.{full_name}
-use Rattle.vcd_core.proofs.Lookups.{lookup_numbered, lookup_named}
+use Rattle.vcd_core.proofs.capture.Lookups.{lookup_numbered, lookup_named}
 use Rattle.vcd_core.proofs.capture.Capture.find.Goals as goal
 
 pub returns-in-Some : goal.returns-in-Some

@@ -1,6 +1,6 @@
 use Rattle.std.proofs.Common.{◌∙◌}
 use Rattle.std.specs.Str.{bytes_eq}
-use Rattle.vcd_core.proofs.Lookups.{full_name_is}
+use Rattle.vcd_core.proofs.capture.Lookups.{full_name_is}
 use Rattle.vcd_core.proofs.capture.Capture.name_is.Goals as goal
 
 pub returns : goal.returns

@@ -1,6 +1,6 @@
 use Rattle.std.proofs.Common.{◌∷◌, []}
 use Rattle.std.specs.Option.{option_copied}
-use Rattle.vcd_core.proofs.EdgeSteps.{walk_from}
+use Rattle.vcd_core.proofs.edges.EdgesInTurn.{walk_from}
 use Rattle.vcd_core.proofs.edges.Edges.new.Goals as goal
 
 pub returns : goal.returns

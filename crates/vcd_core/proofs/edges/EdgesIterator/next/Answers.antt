@@ -1,6 +1,6 @@
 use Rattle.std.proofs.Common.{length, sym, ap, ◌∙◌, arith}
 use Rattle.vcd_core.specs.inside.EdgeWalk.{traces_left}
-use Rattle.vcd_core.proofs.EdgeSteps.{walk_over, walk_next, walk_kept}
+use Rattle.vcd_core.proofs.edges.EdgesInTurn.{walk_over, walk_next, walk_kept}
 use Rattle.vcd_core.proofs.edges.EdgesIterator.next.Goals as goal
 
 pub returns-in_err-tick-clause-steps : goal.returns-in_err-tick-clause-steps

@@ -1,6 +1,6 @@
 use Rattle.std.proofs.Common.{◌∙◌, sym}
 use Rattle.vcd_core.specs.BlockRows.{letter_of}
-use Rattle.vcd_core.proofs.ValueLemmas.{letter_of-letter}
+use Rattle.vcd_core.proofs.shared.LettersOfPlanes.{letter_of-letter}
 use Rattle.vcd_core.proofs.letter_block.LetterBlock.with_letter.Goals as goal
 
 pub returns-clause-lowest : goal.returns-clause-lowest

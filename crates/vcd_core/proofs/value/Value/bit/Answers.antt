@@ -1,6 +1,6 @@
 use Rattle.std.proofs.Common.{sym, ◌∙◌, arith}
 use Rattle.vcd_core.specs.BlockRows.{letter_of}
-use Rattle.vcd_core.proofs.ValueLemmas.{letter_at-shown, in_planes}
+use Rattle.vcd_core.proofs.shared.LettersOfPlanes.{letter_at-shown, in_planes}
 use Rattle.vcd_core.proofs.value.Value.bit.Goals as goal
 
 pub plane_bit-requires : goal.plane_bit-requires

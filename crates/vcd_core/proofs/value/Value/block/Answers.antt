@@ -1,7 +1,7 @@
 use Rattle.std.proofs.Common.{◌∙◌, arith}
 use Rattle.std.specs.Int.{bit_at}
 use Rattle.vcd_core.specs.BlockRows.{letter_of}
-use Rattle.vcd_core.proofs.ValueLemmas.{word_within, letter_in-shown}
+use Rattle.vcd_core.proofs.shared.LettersOfPlanes.{word_within, letter_in-shown}
 use Rattle.vcd_core.proofs.value.Value.block.Goals as goal
 
 pub plane_word-requires : goal.plane_word-requires

@@ -1,6 +1,6 @@
 use Rattle.std.proofs.Common.{◌∙◌, arith}
 use Rattle.vcd_core.specs.declared.value.TheConstants.{BLOCKS}
-use Rattle.vcd_core.proofs.ValueLemmas.{letters_of-replicate}
+use Rattle.vcd_core.proofs.shared.LettersOfPlanes.{letters_of-replicate}
 use Rattle.vcd_core.proofs.value.Value.filled.Goals as goal
 
 pub returns : goal.returns

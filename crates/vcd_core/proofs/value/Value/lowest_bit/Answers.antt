@@ -1,6 +1,6 @@
 use Rattle.std.proofs.Common.{◌<◌, sym, ap, length, ◌∙◌, arith}
 use Rattle.vcd_core.specs.BlockRows.{letter_of}
-use Rattle.vcd_core.proofs.ValueLemmas.{letter_at-shown}
+use Rattle.vcd_core.proofs.shared.LettersOfPlanes.{letter_at-shown}
 use Rattle.vcd_core.proofs.value.Value.lowest_bit.Goals as goal
 
 pub returns : goal.returns

@@ -1,5 +1,5 @@
 use Rattle.std.proofs.Common.{sym}
-use Rattle.vcd_core.proofs.ValueLemmas.{length-shown}
+use Rattle.vcd_core.proofs.shared.LettersOfPlanes.{length-shown}
 use Rattle.vcd_core.proofs.value.Value.width.Goals as goal
 
 pub returns-clause-width : goal.returns-clause-width

@@ -5,9 +5,9 @@ use Rattle.std.proofs.lemmas.Slice.Eq.{slice_eq-Decides}
 use Rattle.vcd_core.specs.declared.bit.Bit.{Bit}
 use Rattle.vcd_core.specs.declared.value.Value.TheInside.{Inside}
 use Rattle.vcd_core.specs.inside.Planes.{view_value, value_of, letters_in, IsValue}
-use Rattle.vcd_core.specs.inside.PlaneLaws.{value_of-view_value}
-use Rattle.vcd_core.specs.inside.ValueLaws.{same_letters-Decides}
-use Rattle.vcd_core.proofs.ValueLemmas.{same_words}
+use Rattle.vcd_core.specs.inside.value.PlanesOfLetters.{value_of-view_value}
+use Rattle.vcd_core.specs.inside.value.EqualByLetters.{same_letters-Decides}
+use Rattle.vcd_core.proofs.shared.LettersOfPlanes.{same_words}
 use Rattle.vcd_core.proofs.value.ValuePartialEq.eq.Goals as goal
 
 -- values with the same letters have the same planes

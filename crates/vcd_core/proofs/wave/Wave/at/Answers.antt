@@ -5,7 +5,7 @@ use Rattle.std.proofs.lemmas.Bool.{leb-true, leb-false}
 use Rattle.vcd_core.specs.declared.wave.Change.{Change}
 use Rattle.vcd_core.specs.Wave.{value_at, IsWave}
 use Rattle.vcd_core.specs.WaveView.{WaveView}
-use Rattle.vcd_core.proofs.Pushes.{ticks_do_not_fall, value_at_count, no_change}
+use Rattle.vcd_core.proofs.shared.Pushes.{ticks_do_not_fall, value_at_count, no_change}
 use Rattle.vcd_core.proofs.wave.Wave.at.Goals as goal
 
 pub returns : goal.returns

@@ -5,7 +5,7 @@ use Rattle.std.proofs.lemmas.List.Sorted.{IsPartitionPoint-from_clause, IsPartit
 use Rattle.vcd_core.specs.declared.wave.Change.{Change}
 use Rattle.vcd_core.specs.Wave.{IsWave}
 use Rattle.vcd_core.specs.WaveView.{WaveView}
-use Rattle.vcd_core.proofs.Pushes.{ticks_do_not_fall, count_is, no_change}
+use Rattle.vcd_core.proofs.shared.Pushes.{ticks_do_not_fall, count_is, no_change}
 use Rattle.vcd_core.proofs.wave.Wave.count_until.Goals as goal
 
 pub returns : goal.returns

@@ -7,10 +7,10 @@ use Rattle.vcd_core.specs.BlockRows.{letters_of}
 use Rattle.vcd_core.specs.Wave.{value_at, IsWave}
 use Rattle.vcd_core.specs.WavePush.{changes_before, changes_after_push, last_value}
 use Rattle.vcd_core.specs.WaveView.{WaveView}
-use Rattle.vcd_core.proofs.Pushes.{pushed_wave, pushed_upto, value_at-pushed, all_from_upto}
-use Rattle.vcd_core.proofs.Pushes.{upto_from_all, last_before}
-use Rattle.vcd_core.proofs.Pushes.{one_at_tick, own_changes}
-use Rattle.vcd_core.proofs.ValueLemmas.{length-letters_of}
+use Rattle.vcd_core.proofs.shared.Pushes.{pushed_wave, pushed_upto, value_at-pushed, all_from_upto}
+use Rattle.vcd_core.proofs.shared.Pushes.{upto_from_all, last_before}
+use Rattle.vcd_core.proofs.shared.Pushes.{one_at_tick, own_changes}
+use Rattle.vcd_core.proofs.shared.LettersOfPlanes.{length-letters_of}
 use Rattle.vcd_core.proofs.wave.Wave.push_block.Goals as goal
 
 pub invariant_of-self-2 : goal.invariant_of-self-2

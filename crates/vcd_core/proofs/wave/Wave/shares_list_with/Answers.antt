@@ -4,9 +4,9 @@ use Rattle.std.proofs.lemmas.Bool.Decides.{Decides-and, Decides-eqb, Decides-lik
 use Rattle.std.proofs.lemmas.Slice.Eq.{slice_eq-Decides}
 use Rattle.vcd_core.specs.declared.wave.Change.{Change}
 use Rattle.vcd_core.specs.Value.{same_letters}
-use Rattle.vcd_core.specs.inside.ValueLaws.{same_letters-Decides}
+use Rattle.vcd_core.specs.inside.value.EqualByLetters.{same_letters-Decides}
 use Rattle.vcd_core.specs.WaveView.{WaveView}
-use Rattle.vcd_core.specs.inside.WaveLists.{changes_of_list}
+use Rattle.vcd_core.specs.inside.wave.List.{changes_of_list}
 use Rattle.vcd_core.proofs.wave.Wave.shares_list_with.Goals as goal
 
 -- changes that compare as the same are one

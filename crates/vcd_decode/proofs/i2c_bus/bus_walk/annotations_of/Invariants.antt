@@ -1,5 +1,5 @@
 use Rattle.std.proofs.Common.{◌≡◌, ◌++◌, None, All}
-use Rattle.vcd_decode.specs.inside.BusWalk.{walk_annotations, edge_events, IsSoundTransfer, IsBusEdge}
+use Rattle.vcd_decode.specs.inside.i2c_bus.BusWalk.{walk_annotations, edge_events, IsSoundTransfer, IsBusEdge}
 use Rattle.vcd_decode.proofs.i2c_bus.bus_walk.annotations_of.Given as goal
 
 -- the annotations found and those of the edges that are left are all annotations

@@ -1,7 +1,7 @@
 use Rattle.std.proofs.Common.{sym, ◌∙◌}
-use Rattle.vcd_decode.specs.inside.LevelEvents.{bus_event}
-use Rattle.vcd_decode.specs.inside.BusWalk.{edge_event}
-use Rattle.vcd_decode.proofs.BusWalks.{event_taken}
+use Rattle.vcd_decode.specs.inside.i2c_bus.Events.{bus_event}
+use Rattle.vcd_decode.specs.inside.i2c_bus.BusWalk.{edge_event}
+use Rattle.vcd_decode.proofs.i2c_bus.bus_walk.EventByEvent.{event_taken}
 use Rattle.vcd_decode.proofs.i2c_bus.bus_walk.take_line_edge.Goals as goal
 
 pub returns-in-Some-clause-annotations : goal.returns-in-Some-clause-annotations

@@ -3,8 +3,8 @@ use Rattle.std.proofs.Common.{◌≡◌, ◌∙◌, Some, None, sym, subst, refl
 use Rattle.std.proofs.Common.{get_or, arith}
 use Rattle.std.proofs.lemmas.List.{get_or_default}
 use Rattle.vcd_core.specs.CaptureContents.{contents}
-use Rattle.vcd_edit.specs.inside.Exchanges.{CanBePutIn, wave_at}
-use Rattle.vcd_edit.proofs.PieceLoops.{ready_at, signal_is_there}
+use Rattle.vcd_edit.specs.inside.exchange.Pieces.{CanBePutIn, wave_at}
+use Rattle.vcd_edit.proofs.exchange.PiecesInTurn.{ready_at, signal_is_there}
 use Rattle.vcd_edit.proofs.exchange.reservations.coming_wave.Goals as goal
 
 pub have_same_result-requires-clause-other_signal : goal.have_same_result-requires-clause-other_signal

@@ -1,7 +1,7 @@
 use Rattle.std.proofs.Common.{◌≡◌, ◌≤◌, map, vec_len}
 use Rattle.vcd_core.specs.CaptureContents.{contents}
 use Rattle.vcd_edit.specs.Records.{piece_view}
-use Rattle.vcd_edit.specs.inside.Exchanges.{HaveRoom}
+use Rattle.vcd_edit.specs.inside.exchange.Pieces.{HaveRoom}
 use Rattle.vcd_edit.proofs.exchange.reservations.reserve_all.Given as goal
 
 -- the first pieces have what they need

@@ -5,8 +5,8 @@ use Rattle.vcd_core.specs.CaptureContents.{contents}
 use Rattle.vcd_edit.specs.declared.record.Piece.{Piece}
 use Rattle.vcd_edit.specs.RecordView.{PieceView}
 use Rattle.vcd_edit.specs.Records.{piece_view}
-use Rattle.vcd_edit.specs.inside.Exchanges.{PieceReadyIn, CanBePutIn, HasRoomInWave, wave_at}
-use Rattle.vcd_edit.proofs.PieceLoops.{ready_at, signal_is_there, views_kept, have_more_room}
+use Rattle.vcd_edit.specs.inside.exchange.Pieces.{PieceReadyIn, CanBePutIn, HasRoomInWave, wave_at}
+use Rattle.vcd_edit.proofs.exchange.PiecesInTurn.{ready_at, signal_is_there, views_kept, have_more_room}
 use Rattle.vcd_edit.proofs.exchange.reservations.reserve_next.Goals as goal
 
 pub reserve_piece-requires : goal.reserve_piece-requires

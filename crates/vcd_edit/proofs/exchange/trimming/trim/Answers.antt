@@ -1,6 +1,6 @@
 use Rattle.std.proofs.Common.{◌∙◌, ◌+◌, ◌-◌, ap, sym, refl, neg_ℤ, w64, FitsSigned, take, rules}
 use Rattle.std.proofs.lemmas.Int.{to_z-of_z}
-use Rattle.vcd_edit.proofs.TrimmedPieces.{found, is_trimmed}
+use Rattle.vcd_edit.proofs.exchange.trimming.TrimmedPieces.{found, is_trimmed}
 use Rattle.vcd_edit.proofs.exchange.trimming.trim.Goals as goal
 
 pub returns-clause-trimmed : goal.returns-clause-trimmed

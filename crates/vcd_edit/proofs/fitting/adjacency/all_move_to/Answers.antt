@@ -1,8 +1,8 @@
 use Rattle.std.proofs.Common.{w64, IsTrue, ◌↔◌, subst, sym, to_z, of_z, arith}
 use Rattle.std.proofs.lemmas.Int.{to_z-of_z}
 use Rattle.vcd_core.specs.declared.wave.Change.{Change}
-use Rattle.vcd_edit.specs.inside.Adjacency.{MovesTo}
-use Rattle.vcd_edit.proofs.AdjacencyTests.{ends_tell}
+use Rattle.vcd_edit.specs.inside.fitting.Adjacency.{MovesTo}
+use Rattle.vcd_edit.proofs.fitting.AdjacencyTests.{ends_tell}
 use Rattle.vcd_edit.proofs.fitting.adjacency.all_move_to.Goals as goal
 
 pub returns-then-moves_to : goal.returns-then-moves_to

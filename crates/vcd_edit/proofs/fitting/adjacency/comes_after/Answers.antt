@@ -1,4 +1,4 @@
-use Rattle.vcd_edit.proofs.AdjacencyTests.{free_after, free_at_first}
+use Rattle.vcd_edit.proofs.fitting.AdjacencyTests.{free_after, free_at_first}
 use Rattle.vcd_edit.proofs.fitting.adjacency.comes_after.Goals as goal
 
 pub returns-in-Some : goal.returns-in-Some

@@ -10,11 +10,11 @@ use Rattle.vcd_core.specs.Wave.{IsWave, AreChangesFrom, AllUpTo}
 use Rattle.vcd_core.specs.WavePush.{last_value}
 use Rattle.vcd_core.specs.Splice.{moved_change, AllTicksFit}
 use Rattle.vcd_edit.specs.Records.{piece_view}
-use Rattle.vcd_edit.specs.inside.Adjacency.{floor_after, value_following, may_all_follow, MovesTo}
-use Rattle.vcd_edit.proofs.AdjacencyTests.{prefix_rises, later_rises, follow_rise, moves_fit}
-use Rattle.vcd_edit.proofs.AdjacencyTests.{stands_by_tests}
-use Rattle.vcd_edit.proofs.AdjacencyTests.{prefix_ends, piece_ends, later_move, at_both_seams}
-use Rattle.vcd_edit.proofs.AdjacencyTests.{refused}
+use Rattle.vcd_edit.specs.inside.fitting.Adjacency.{floor_after, value_following, may_all_follow, MovesTo}
+use Rattle.vcd_edit.proofs.fitting.AdjacencyTests.{prefix_rises, later_rises, follow_rise, moves_fit}
+use Rattle.vcd_edit.proofs.fitting.AdjacencyTests.{stands_by_tests}
+use Rattle.vcd_edit.proofs.fitting.AdjacencyTests.{prefix_ends, piece_ends, later_move, at_both_seams}
+use Rattle.vcd_edit.proofs.fitting.AdjacencyTests.{refused}
 use Rattle.vcd_edit.proofs.fitting.adjacency.is_valid_piece.Goals as goal
 
 pub all_move_to-requires : goal.all_move_to-requires

@@ -1,9 +1,9 @@
 use Rattle.std.proofs.Common.{◌≡◌, ◌∙◌, refl, sym, ap, take, arith}
 use Rattle.std.proofs.lemmas.List.{drop_all}
 use Rattle.vcd_core.specs.WavePush.{last_value}
-use Rattle.vcd_edit.specs.inside.Adjacency.{floor_after, value_following, may_follow}
-use Rattle.vcd_edit.specs.inside.Adjacency.{may_all_follow}
-use Rattle.vcd_edit.proofs.AdjacencyTests.{follow_stops, follow_more}
+use Rattle.vcd_edit.specs.inside.fitting.Adjacency.{floor_after, value_following, may_follow}
+use Rattle.vcd_edit.specs.inside.fitting.Adjacency.{may_all_follow}
+use Rattle.vcd_edit.proofs.fitting.AdjacencyTests.{follow_stops, follow_more}
 use Rattle.vcd_edit.proofs.fitting.adjacency.may_all_follow.Goals as goal
 
 pub loop-i-init : goal.loop-i-init

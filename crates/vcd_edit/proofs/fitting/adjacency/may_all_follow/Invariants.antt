@@ -1,6 +1,6 @@
 use Rattle.std.proofs.Common.{◌≡◌, take, drop}
 use Rattle.vcd_core.specs.WavePush.{last_value}
-use Rattle.vcd_edit.specs.inside.Adjacency.{floor_after, value_following, may_all_follow}
+use Rattle.vcd_edit.specs.inside.fitting.Adjacency.{floor_after, value_following, may_all_follow}
 use Rattle.vcd_edit.proofs.fitting.adjacency.may_all_follow.Given as goal
 
 abbrev pub invariant-loop-i : goal.invariant-loop-i

@@ -2,8 +2,8 @@ use Rattle.std.proofs.Common.{◌≢◌, ◌∙◌, sym, ap, length, w64, arith}
 use Rattle.std.proofs.lemmas.Int.{to_z-of_z}
 use Rattle.std.proofs.lemmas.Bool.{eqb-true, eqb-false}
 use Rattle.vcd_core.specs.Splice.{moved_change}
-use Rattle.vcd_edit.specs.inside.Adjacency.{floor_after, value_following, may_follow}
-use Rattle.vcd_edit.proofs.AdjacencyTests.{first_follows, none_follows}
+use Rattle.vcd_edit.specs.inside.fitting.Adjacency.{floor_after, value_following, may_follow}
+use Rattle.vcd_edit.proofs.fitting.AdjacencyTests.{first_follows, none_follows}
 use Rattle.vcd_edit.proofs.fitting.adjacency.may_come_next.Goals as goal
 
 pub returns-then-is_empty : goal.returns-then-is_empty

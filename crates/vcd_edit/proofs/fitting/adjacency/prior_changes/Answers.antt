@@ -1,7 +1,7 @@
 use Rattle.std.proofs.Common.{[], sym, ap, take, arith}
 use Rattle.vcd_core.specs.WavePush.{last_value}
-use Rattle.vcd_edit.specs.inside.Adjacency.{floor_after, value_following}
-use Rattle.vcd_edit.proofs.AdjacencyTests.{after_some}
+use Rattle.vcd_edit.specs.inside.fitting.Adjacency.{floor_after, value_following}
+use Rattle.vcd_edit.proofs.fitting.AdjacencyTests.{after_some}
 use Rattle.vcd_edit.proofs.fitting.adjacency.prior_changes.Goals as goal
 
 pub returns-then-index-eq0-clause-floor : goal.returns-then-index-eq0-clause-floor

@@ -2,8 +2,8 @@ use Rattle.std.proofs.Common.{All, map, subst, sym, ◌∙◌, ap, ◌+◌}
 use Rattle.std.proofs.lemmas.List.{take-map, drop-map, take_rest}
 use Rattle.vcd_core.specs.CaptureContents.{signal_contents}
 use Rattle.vcd_core.specs.Sound.{IsSoundSignal}
-use Rattle.vcd_edit.proofs.AdjacencyTests.{failed}
-use Rattle.vcd_edit.proofs.AllElements.{of_others, others_prefix, others_back}
+use Rattle.vcd_edit.proofs.fitting.AdjacencyTests.{failed}
+use Rattle.vcd_edit.proofs.fitting.AllElements.{of_others, others_prefix, others_back}
 use Rattle.vcd_edit.proofs.fitting.sound_names.are_others_sound.Goals as goal
 
 pub returns-then-are_sound : goal.returns-then-are_sound

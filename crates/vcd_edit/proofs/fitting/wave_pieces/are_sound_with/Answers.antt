@@ -1,8 +1,8 @@
 use Rattle.std.proofs.Common.{refl, subst, sym, length, map, arith}
 use Rattle.vcd_core.specs.CaptureContents.{signal_contents}
 use Rattle.vcd_edit.specs.Records.{piece_view}
-use Rattle.vcd_edit.proofs.AdjacencyTests.{refused}
-use Rattle.vcd_edit.proofs.Fittings.{all_left, one_more, rest_count, none_more, none_left, all_done}
+use Rattle.vcd_edit.proofs.fitting.AdjacencyTests.{refused}
+use Rattle.vcd_edit.proofs.fitting.TestsOfParts.{all_left, one_more, rest_count, none_more, none_left, all_done}
 use Rattle.vcd_edit.proofs.fitting.wave_pieces.are_sound_with.Goals as goal
 
 pub loop-position-init : goal.loop-position-init

@@ -2,7 +2,7 @@
 use Rattle.std.proofs.Common.{◌↔◌, ◌≤◌, ◌-◌, length, map, drop}
 use Rattle.vcd_core.specs.CaptureContents.{signal_contents}
 use Rattle.vcd_edit.specs.Records.{piece_view}
-use Rattle.vcd_edit.specs.inside.Fitting.{AreSoundFrom}
+use Rattle.vcd_edit.specs.inside.fitting.TestsOfParts.{AreSoundFrom}
 use Rattle.vcd_edit.proofs.fitting.wave_pieces.are_sound_with.Given as goal
 
 abbrev pub invariant-loop-position : goal.invariant-loop-position

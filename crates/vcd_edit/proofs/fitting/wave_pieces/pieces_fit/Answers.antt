@@ -4,9 +4,9 @@ use Rattle.std.proofs.lemmas.List.{length-map}
 use Rattle.vcd_core.specs.Contents.{Contents, SignalContents}
 use Rattle.vcd_core.specs.CaptureContents.{signal_contents}
 use Rattle.vcd_edit.specs.Records.{piece_view}
-use Rattle.vcd_edit.specs.inside.Fitting.{AreSoundFrom}
-use Rattle.vcd_edit.proofs.OppositePieces.{counts_kept}
-use Rattle.vcd_edit.proofs.Fittings.{pass_tells}
+use Rattle.vcd_edit.specs.inside.fitting.TestsOfParts.{AreSoundFrom}
+use Rattle.vcd_edit.proofs.exchange.OppositePieces.{counts_kept}
+use Rattle.vcd_edit.proofs.fitting.TestsOfParts.{pass_tells}
 use Rattle.vcd_edit.proofs.fitting.wave_pieces.pieces_fit.Goals as goal
 
 pub returns-then-signals-gt-SIGNAL_LIMIT : goal.returns-then-signals-gt-SIGNAL_LIMIT

@@ -5,7 +5,7 @@ use Rattle.vcd_core.specs.CaptureContents.{signal_contents}
 use Rattle.vcd_core.specs.Sound.{IsSound}
 use Rattle.vcd_edit.specs.Effect.{signal_after_cut}
 use Rattle.vcd_edit.specs.Records.{piece_view}
-use Rattle.vcd_edit.specs.inside.Plans.{PiecesForEach}
+use Rattle.vcd_edit.specs.inside.plans.Plan.{PiecesForEach}
 use Rattle.vcd_edit.proofs.plans.cut.cut_pieces.Given as goal
 
 -- the pieces cut the signals so far

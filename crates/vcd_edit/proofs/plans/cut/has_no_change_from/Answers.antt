@@ -1,6 +1,6 @@
 use Rattle.std.proofs.Common.{◌-◌, subst, arith}
 use Rattle.vcd_core.specs.Wave.{AllUpTo}
-use Rattle.vcd_core.proofs.Pushes.{all_from_upto}
+use Rattle.vcd_core.proofs.shared.Pushes.{all_from_upto}
 use Rattle.vcd_edit.proofs.plans.cut.has_no_change_from.Goals as goal
 
 pub returns-then-tick-gt0 : goal.returns-then-tick-gt0

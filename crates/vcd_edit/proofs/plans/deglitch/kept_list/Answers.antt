@@ -1,7 +1,7 @@
 use Rattle.std.proofs.Common.{◌++◌, List, ap, sym, ◌∙◌, arith}
 use Rattle.vcd_core.specs.declared.wave.Change.{Change}
-use Rattle.vcd_edit.proofs.KeptChanges.{kept_listed, one_left_out, listed_enough, listed_all}
-use Rattle.vcd_edit.proofs.KeptChanges.{rest_is}
+use Rattle.vcd_edit.proofs.plans.deglitch.KeptChanges.{kept_listed, one_left_out, listed_enough, listed_all}
+use Rattle.vcd_edit.proofs.plans.deglitch.KeptChanges.{rest_is}
 use Rattle.vcd_edit.proofs.plans.deglitch.kept_list.Goals as goal
 use Rattle.vcd_edit.proofs.plans.deglitch.kept_list.Goals.{else-loop-i-test}
 use Rattle.vcd_edit.proofs.plans.deglitch.kept_list.Goals.{then-loop-i-test+then-len-part}

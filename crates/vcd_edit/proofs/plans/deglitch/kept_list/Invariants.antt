@@ -1,5 +1,5 @@
 use Rattle.std.proofs.Common.{◌≡◌, ◌≤◌, ◌++◌, length, drop}
-use Rattle.vcd_edit.specs.inside.RemainingChanges.{kept_changes}
+use Rattle.vcd_edit.specs.inside.plans.RemainingChanges.{kept_changes}
 use Rattle.vcd_edit.proofs.plans.deglitch.kept_list.Given as goal
 
 -- the changes listed and those that remain of the rest are all

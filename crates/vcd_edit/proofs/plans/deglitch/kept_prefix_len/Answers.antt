@@ -1,6 +1,6 @@
 use Rattle.std.proofs.Common.{refl, sym, ◌∙◌}
 use Rattle.vcd_core.specs.WavePush.{last_value}
-use Rattle.vcd_edit.proofs.KeptChanges.{kept_prefix, last_so_far, rest_is}
+use Rattle.vcd_edit.proofs.plans.deglitch.KeptChanges.{kept_prefix, last_so_far, rest_is}
 use Rattle.vcd_edit.proofs.plans.deglitch.kept_prefix_len.Goals as goal
 
 pub loop-i-init : goal.loop-i-init

@@ -1,6 +1,6 @@
 use Rattle.std.proofs.Common.{◌≡◌, ◌++◌, take, drop}
 use Rattle.vcd_core.specs.WavePush.{last_value}
-use Rattle.vcd_edit.specs.inside.RemainingChanges.{kept_changes}
+use Rattle.vcd_edit.specs.inside.plans.RemainingChanges.{kept_changes}
 use Rattle.vcd_edit.proofs.plans.deglitch.kept_prefix_len.Given as goal
 
 -- all so far remain

@@ -1,5 +1,5 @@
 use Rattle.std.proofs.Common.{◌++◌, ◌-◌, take, drop, sym, ◌∙◌, arith}
-use Rattle.vcd_edit.proofs.KeptChanges.{kept_after, left_out_after, part_long, part_done, rest_is}
+use Rattle.vcd_edit.proofs.plans.deglitch.KeptChanges.{kept_after, left_out_after, part_long, part_done, rest_is}
 use Rattle.vcd_edit.proofs.plans.deglitch.part_with_glitches.Goals as goal
 
 pub loop-i-preserved-then-is_kept : goal.loop-i-preserved-then-is_kept

@@ -1,6 +1,6 @@
 use Rattle.std.proofs.Common.{◌≡◌, ◌≤◌, ◌-◌, ◌++◌, List, length, take, drop}
 use Rattle.vcd_core.specs.declared.wave.Change.{Change}
-use Rattle.vcd_edit.specs.inside.RemainingChanges.{kept_changes}
+use Rattle.vcd_edit.specs.inside.plans.RemainingChanges.{kept_changes}
 use Rattle.vcd_edit.proofs.plans.deglitch.part_with_glitches.Given as goal
 
 -- the changes that remain of the part, and all between it and the current change

@@ -9,10 +9,10 @@ use Rattle.vcd_core.specs.Contents.{SignalContents, signal_value}
 use Rattle.vcd_core.specs.CaptureContents.{contents, signal_contents}
 use Rattle.vcd_edit.specs.declared.edit.Edit.TheVariants.{Deglitch}
 use Rattle.vcd_edit.specs.Effect.{steady_value}
-use Rattle.vcd_edit.proofs.Faults.{no_fault}
-use Rattle.vcd_edit.proofs.EditPlans.{wave_plan, nothing_plan}
-use Rattle.vcd_edit.proofs.Runs.{deglitch_is_wave}
-use Rattle.vcd_edit.proofs.DeglitchPlans.{kept_of_signal, none_left_out, deglitch_gives}
+use Rattle.vcd_edit.proofs.checking.NoFault.{no_fault}
+use Rattle.vcd_edit.proofs.plans.EffectOfRecord.{wave_plan, nothing_plan}
+use Rattle.vcd_edit.proofs.plans.Runs.{deglitch_is_wave}
+use Rattle.vcd_edit.proofs.plans.deglitch.DeglitchPiece.{kept_of_signal, none_left_out, deglitch_gives}
 use Rattle.vcd_edit.proofs.plans.deglitch.plan.Goals as goal
 
 pub signal_at-requires-clause-position_exists : goal.signal_at-requires-clause-position_exists

@@ -5,7 +5,7 @@ use Rattle.vcd_core.specs.CaptureContents.{contents}
 use Rattle.vcd_edit.specs.declared.edit.Formula.{Formula}
 use Rattle.vcd_edit.specs.Operators.{not_bit, operator_bit}
 use Rattle.vcd_edit.specs.Effect.{formula_bit}
-use Rattle.vcd_edit.specs.inside.Derived.{HasBitsUpTo}
+use Rattle.vcd_edit.specs.inside.plans.Derive.{HasBitsUpTo}
 use Rattle.vcd_edit.proofs.plans.derive.derived_wave.Goals as goal
 
 pub returns-in-Negation : goal.returns-in-Negation

@@ -6,10 +6,10 @@ use Rattle.vcd_core.specs.declared.bit.Bit.TheVariants.{X}
 use Rattle.vcd_core.specs.Value.{all_x}
 use Rattle.vcd_core.specs.declared.wave.Change.{Change}
 use Rattle.vcd_core.specs.Wave.{change, IsWave}
-use Rattle.vcd_edit.specs.inside.Derived.{selected_change}
-use Rattle.vcd_edit.proofs.DerivedWaves.{no_change_made, change_next, one_made, late_enough}
-use Rattle.vcd_edit.proofs.DerivedWaves.{selected_is, width_at}
-use Rattle.vcd_edit.proofs.WithoutRepeats.{wave_rises}
+use Rattle.vcd_edit.specs.inside.plans.Derive.{selected_change}
+use Rattle.vcd_edit.proofs.plans.derive.DerivedWave.{no_change_made, change_next, one_made, late_enough}
+use Rattle.vcd_edit.proofs.plans.derive.DerivedWave.{selected_is, width_at}
+use Rattle.vcd_edit.proofs.plans.WithoutRepeats.{wave_rises}
 use Rattle.vcd_edit.proofs.plans.derive.wave_of_one.Goals as goal
 
 pub loop-change-init : goal.loop-change-init

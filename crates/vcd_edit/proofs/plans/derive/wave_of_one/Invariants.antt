@@ -1,5 +1,5 @@
 use Rattle.std.proofs.Common.{map, drop}
-use Rattle.vcd_edit.specs.inside.Derived.{selected_change, DerivedSoFar}
+use Rattle.vcd_edit.specs.inside.plans.Derive.{selected_change, DerivedSoFar}
 use Rattle.vcd_edit.proofs.plans.derive.wave_of_one.Given as goal
 
 -- the wave and the remaining changes are all

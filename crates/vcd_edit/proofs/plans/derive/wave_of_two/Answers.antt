@@ -2,9 +2,9 @@ use Rattle.std.proofs.Common.{◌≡◌, suc, List, [], ◌∷◌, length, map, 
 use Rattle.vcd_core.specs.declared.bit.Bit.{Bit}
 use Rattle.vcd_core.specs.declared.bit_edges.BitEdge.{BitEdge}
 use Rattle.vcd_core.specs.Wave.{change, IsWave}
-use Rattle.vcd_edit.specs.inside.Derived.{edge_change, HasBits, DerivedSoFar}
-use Rattle.vcd_edit.proofs.DerivedWaves.{pair_edges, no_edge_made, each_has_bits, edge_bit_is}
-use Rattle.vcd_edit.proofs.DerivedWaves.{one_made, late_enough, pair_is}
+use Rattle.vcd_edit.specs.inside.plans.Derive.{edge_change, HasBits, DerivedSoFar}
+use Rattle.vcd_edit.proofs.plans.derive.DerivedWave.{pair_edges, no_edge_made, each_has_bits, edge_bit_is}
+use Rattle.vcd_edit.proofs.plans.derive.DerivedWave.{one_made, late_enough, pair_is}
 use Rattle.vcd_edit.proofs.plans.derive.wave_of_two.Goals as goal
 
 pub loop-edge-init : goal.loop-edge-init

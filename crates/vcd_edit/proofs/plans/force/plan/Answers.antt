@@ -2,8 +2,8 @@ use Rattle.std.proofs.Common.{refl, pos}
 use Rattle.vcd_core.specs.CaptureContents.{contents, signal_contents}
 use Rattle.vcd_edit.specs.declared.edit.Edit.TheVariants.{Force}
 use Rattle.vcd_edit.specs.Effect.{force_value}
-use Rattle.vcd_edit.proofs.Faults.{no_fault}
-use Rattle.vcd_edit.proofs.EditPlans.{wave_plan, force_ticks, force_is_wave}
+use Rattle.vcd_edit.proofs.checking.NoFault.{no_fault}
+use Rattle.vcd_edit.proofs.plans.EffectOfRecord.{wave_plan, force_ticks, force_is_wave}
 use Rattle.vcd_edit.proofs.plans.force.plan.Goals as goal
 
 pub signal_at-old-requires-clause-position_exists : goal.signal_at-old-requires-clause-position_exists

@@ -1,5 +1,5 @@
 use Rattle.std.proofs.Common.{◌∙◌}
-use Rattle.vcd_edit.proofs.Inverses.{inverse_more, inverse_done, inverse_none}
+use Rattle.vcd_edit.proofs.plans.invert.InversePiece.{inverse_more, inverse_done, inverse_none}
 use Rattle.vcd_edit.proofs.plans.invert.inverse_changes.Goals as goal
 
 pub loop-change-init : goal.loop-change-init

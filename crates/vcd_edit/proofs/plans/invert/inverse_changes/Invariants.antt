@@ -1,6 +1,6 @@
 use Rattle.std.proofs.Common.{◌≡◌, ◌++◌, map, drop}
 use Rattle.vcd_edit.specs.Operators.{not_bit}
-use Rattle.vcd_edit.specs.inside.RemainingChanges.{without_repeats, mapped_change}
+use Rattle.vcd_edit.specs.inside.plans.RemainingChanges.{without_repeats, mapped_change}
 use Rattle.vcd_edit.proofs.plans.invert.inverse_changes.Given as goal
 
 -- the changes listed and the remaining ones are all

@@ -4,11 +4,11 @@ use Rattle.vcd_core.specs.CaptureContents.{contents, signal_contents}
 use Rattle.vcd_edit.specs.declared.edit.Edit.TheVariants.{Invert}
 use Rattle.vcd_edit.specs.Operators.{not_bit}
 use Rattle.vcd_edit.specs.Effect.{inverse_value}
-use Rattle.vcd_edit.specs.inside.RemainingChanges.{without_repeats, mapped_change}
-use Rattle.vcd_edit.proofs.Faults.{no_fault}
-use Rattle.vcd_edit.proofs.EditPlans.{wave_plan}
-use Rattle.vcd_edit.proofs.WholeLists.{whole_gives}
-use Rattle.vcd_edit.proofs.Inverses.{inverse_changes, invert_is_wave}
+use Rattle.vcd_edit.specs.inside.plans.RemainingChanges.{without_repeats, mapped_change}
+use Rattle.vcd_edit.proofs.checking.NoFault.{no_fault}
+use Rattle.vcd_edit.proofs.plans.EffectOfRecord.{wave_plan}
+use Rattle.vcd_edit.proofs.plans.WholeListPiece.{whole_gives}
+use Rattle.vcd_edit.proofs.plans.invert.InversePiece.{inverse_changes, invert_is_wave}
 use Rattle.vcd_edit.proofs.plans.invert.plan.Goals as goal
 
 pub signal_at-requires-clause-position_exists : goal.signal_at-requires-clause-position_exists

@@ -1,6 +1,6 @@
 use Rattle.std.proofs.Common.{◌≡◌, ◌*◌, length}
 use Rattle.vcd_core.specs.declared.value.TheConstants.{BLOCKS}
-use Rattle.vcd_edit.specs.inside.Inverse.{ShowsInverse}
+use Rattle.vcd_edit.specs.inside.plans.Invert.{ShowsInverse}
 use Rattle.vcd_edit.proofs.plans.invert.write_inverse.Given as goal
 
 -- the words below j are written

@@ -1,4 +1,4 @@
-use Rattle.vcd_edit.proofs.EditPlans.{remove_plan}
+use Rattle.vcd_edit.proofs.plans.EffectOfRecord.{remove_plan}
 use Rattle.vcd_edit.proofs.plans.remove.plan.Goals as goal
 
 pub returns-clause-plan : goal.returns-clause-plan

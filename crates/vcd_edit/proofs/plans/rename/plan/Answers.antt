@@ -1,4 +1,4 @@
-use Rattle.vcd_edit.proofs.EditPlans.{rename_plan}
+use Rattle.vcd_edit.proofs.plans.EffectOfRecord.{rename_plan}
 use Rattle.vcd_edit.proofs.plans.rename.plan.Goals as goal
 
 pub returns-clause-plan : goal.returns-clause-plan

@@ -5,7 +5,7 @@ use Rattle.std.proofs.lemmas.Int.{ints, to_z-of_z}
 use Rattle.vcd_core.specs.Contents.{SignalContents}
 use Rattle.vcd_core.specs.CaptureContents.{signal_contents}
 use Rattle.vcd_edit.specs.Effect.{shift_value}
-use Rattle.vcd_edit.proofs.Shifts.{shift_to_last, shift_as_cut, gives_same}
+use Rattle.vcd_edit.proofs.plans.shift.ShiftPieces.{shift_to_last, shift_as_cut, gives_same}
 use Rattle.vcd_edit.proofs.plans.shift.advance_piece.Goals as goal
 
 pub returns-then-ticks-end : goal.returns-then-ticks-end

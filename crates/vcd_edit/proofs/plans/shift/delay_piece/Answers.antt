@@ -9,10 +9,10 @@ use Rattle.vcd_core.specs.Value.{all_x}
 use Rattle.vcd_core.specs.Splice.{moved_change}
 use Rattle.vcd_core.specs.Contents.{SignalContents}
 use Rattle.vcd_core.specs.CaptureContents.{signal_contents}
-use Rattle.vcd_core.proofs.Pushes.{all_from_upto}
+use Rattle.vcd_core.proofs.shared.Pushes.{all_from_upto}
 use Rattle.vcd_edit.specs.Effect.{shift_value}
-use Rattle.vcd_edit.proofs.Shifts.{leads_same, gives_same, shift_before, later_all_stay}
-use Rattle.vcd_edit.proofs.Shifts.{later_some_stay}
+use Rattle.vcd_edit.proofs.plans.shift.ShiftPieces.{leads_same, gives_same, shift_before, later_all_stay}
+use Rattle.vcd_edit.proofs.plans.shift.ShiftPieces.{later_some_stay}
 use Rattle.vcd_edit.proofs.plans.shift.delay_piece.Goals as goal
 
 pub returns-then-ticks-end : goal.returns-then-ticks-end

@@ -1,6 +1,6 @@
 use Rattle.std.proofs.Common.{◌+◌, List, ◌∷◌, [], ◌++◌, ap, ◌∙◌}
 use Rattle.vcd_core.specs.declared.wave.Change.{Change}
-use Rattle.vcd_edit.proofs.Shifts.{later_more}
+use Rattle.vcd_edit.proofs.plans.shift.ShiftPieces.{later_more}
 use Rattle.vcd_edit.proofs.plans.shift.later_changes.Goals as goal
 
 pub loop-change-preserved : goal.loop-change-preserved

@@ -4,9 +4,9 @@ use Rattle.std.proofs.lemmas.Int.{to_z-of_z}
 use Rattle.vcd_core.specs.CaptureContents.{contents, signal_contents}
 use Rattle.vcd_edit.specs.declared.edit.Edit.TheVariants.{Shift}
 use Rattle.vcd_edit.specs.Effect.{shift_value}
-use Rattle.vcd_edit.proofs.Faults.{no_fault}
-use Rattle.vcd_edit.proofs.EditPlans.{wave_plan}
-use Rattle.vcd_edit.proofs.Shifts.{shift_is_wave}
+use Rattle.vcd_edit.proofs.checking.NoFault.{no_fault}
+use Rattle.vcd_edit.proofs.plans.EffectOfRecord.{wave_plan}
+use Rattle.vcd_edit.proofs.plans.shift.ShiftPieces.{shift_is_wave}
 use Rattle.vcd_edit.proofs.plans.shift.plan.Goals as goal
 
 pub signal_at-old-requires-clause-position_exists : goal.signal_at-old-requires-clause-position_exists

@@ -4,9 +4,9 @@ use Rattle.vcd_core.specs.CaptureContents.{contents, signal_contents}
 use Rattle.vcd_edit.specs.declared.record.Piece.{Piece}
 use Rattle.vcd_edit.specs.AppliedRecords.{Fits}
 use Rattle.vcd_edit.specs.Records.{record_view}
-use Rattle.vcd_edit.specs.inside.Fitting.{PartsFit, HasSoundMetadata}
-use Rattle.vcd_edit.proofs.AdjacencyTests.{refused}
-use Rattle.vcd_edit.proofs.FitKinds.{frame_fits, fits_by_parts, parts_fits}
+use Rattle.vcd_edit.specs.inside.fitting.TestsOfParts.{PartsFit, HasSoundMetadata}
+use Rattle.vcd_edit.proofs.fitting.AdjacencyTests.{refused}
+use Rattle.vcd_edit.proofs.fitting.RecordKinds.{frame_fits, fits_by_parts, parts_fits}
 use Rattle.vcd_edit.proofs.record.Record.fits.Goals as goal
 
 pub returns-then-not-is_metadata_sound : goal.returns-then-not-is_metadata_sound

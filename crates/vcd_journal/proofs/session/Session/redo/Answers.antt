@@ -4,8 +4,8 @@ use Rattle.std.proofs.lemmas.Result.{err_from_is_err_and}
 use Rattle.circular_buffer.specs.Buffer.{Buffer}
 use Rattle.vcd_core.specs.CaptureContents.{contents}
 use Rattle.vcd_edit.specs.RecordView.{RecordView}
-use Rattle.vcd_journal.proofs.Steps.{redo_no_memory}
-use Rattle.vcd_journal.proofs.Histories.{some_captures, same_machine, redo_needs}
+use Rattle.vcd_journal.proofs.shared.Steps.{redo_no_memory}
+use Rattle.vcd_journal.proofs.session.RecordsOfHistory.{some_captures, same_machine, redo_needs}
 use Rattle.vcd_journal.proofs.session.Session.redo.Goals as goal
 
 pub returns-in_err-apply_newest-clause-step : goal.returns-in_err-apply_newest-clause-step

@@ -1,7 +1,7 @@
 use Rattle.std.proofs.Common.{◌∙◌, ◌≤◌, ◌+◌, sym, ap, subst, length}
 use Rattle.vcd_core.specs.CaptureContents.{contents}
 use Rattle.vcd_journal.specs.Machine.{Machine}
-use Rattle.vcd_journal.proofs.Histories.{length_reached_captures, few_captures}
+use Rattle.vcd_journal.proofs.session.RecordsOfHistory.{length_reached_captures, few_captures}
 use Rattle.vcd_journal.proofs.session.Session.redoable.Goals as goal
 
 pub returns-clause-count : goal.returns-clause-count

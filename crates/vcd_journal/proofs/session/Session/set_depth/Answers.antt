@@ -4,9 +4,9 @@ use Rattle.std.proofs.lemmas.Result.{err_from_is_err_and}
 use Rattle.vcd_core.specs.CaptureContents.{contents}
 use Rattle.vcd_journal.specs.History.{is_depth}
 use Rattle.vcd_journal.specs.ReachedCaptures.{reached_captures}
-use Rattle.vcd_journal.proofs.Steps.{depth_within, depth_too_small, depth_no_memory, depth_accepted}
-use Rattle.vcd_journal.proofs.Histories.{length_reached_captures, AllRecordsFit_take, same_machine}
-use Rattle.vcd_journal.proofs.Histories.{machine_of_depth}
+use Rattle.vcd_journal.proofs.shared.Steps.{depth_within, depth_too_small, depth_no_memory, depth_accepted}
+use Rattle.vcd_journal.proofs.session.RecordsOfHistory.{length_reached_captures, AllRecordsFit_take, same_machine}
+use Rattle.vcd_journal.proofs.session.RecordsOfHistory.{machine_of_depth}
 use Rattle.vcd_journal.proofs.session.Session.set_depth.Goals as goal
 
 pub returns-then-depth-redoable-clause-step : goal.returns-then-depth-redoable-clause-step

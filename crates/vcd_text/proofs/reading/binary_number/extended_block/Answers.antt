@@ -5,7 +5,7 @@ use Rattle.vcd_core.specs.declared.bit.Bit.{Bit}
 use Rattle.vcd_core.specs.BlockRows.{letters_of, HoldsLetters}
 use Rattle.vcd_core.specs.declared.letter_block.LetterBlock.{LetterBlock}
 use Rattle.vcd_text.specs.Letters.{pad_letter, extension}
-use Rattle.vcd_text.proofs.LetterBlocks.{block_is_extension}
+use Rattle.vcd_text.proofs.reading.digit_blocks.LetterBlocks.{block_is_extension}
 use Rattle.vcd_text.proofs.reading.binary_number.extended_block.Goals as goal
 
 -- if the block that was read holds the letters, it is the extension

@@ -2,7 +2,7 @@ use Rattle.std.proofs.Common.{◌≡◌, ◌-◌, [], ℕ, List, length, drop, a
 use Rattle.std.specs.List.{list_all}
 use Rattle.std.proofs.lemmas.List.{length-set, length-map, drop_all}
 use Rattle.vcd_text.specs.Letters.{is_binary_digit}
-use Rattle.vcd_text.proofs.LetterBlocks.{row_more, letters_more, no_letter, row_is_extension}
+use Rattle.vcd_text.proofs.reading.digit_blocks.LetterBlocks.{row_more, letters_more, no_letter, row_is_extension}
 use Rattle.vcd_text.proofs.reading.binary_number.extended_value.Goals as goal
 
 -- after the last digit there is none

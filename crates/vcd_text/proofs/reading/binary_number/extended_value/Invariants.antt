@@ -3,7 +3,7 @@ use Rattle.std.proofs.Common.{◌≡◌, ◌-◌, ◌*◌, true, drop, length}
 use Rattle.std.specs.List.{list_all}
 use Rattle.vcd_core.specs.declared.value.TheConstants.{BLOCKS}
 use Rattle.vcd_text.specs.Letters.{is_binary_digit, letters_of_digits}
-use Rattle.vcd_text.proofs.LetterBlocks.{RowHolds}
+use Rattle.vcd_text.proofs.reading.digit_blocks.LetterBlocks.{RowHolds}
 use Rattle.vcd_text.proofs.reading.binary_number.extended_value.Given as goal
 
 abbrev pub invariant-loop-k : goal.invariant-loop-k

@@ -1,7 +1,7 @@
 -- Whether the digits so far are 0 or 1.
 use Rattle.std.proofs.Common.{◌≡◌, take}
 use Rattle.std.specs.List.{list_all}
-use Rattle.vcd_text.specs.inside.LetterBlocks.{is_two_state}
+use Rattle.vcd_text.specs.inside.reading.DigitBlocks.{is_two_state}
 use Rattle.vcd_text.proofs.reading.digit_blocks.are_two_state.Given as goal
 
 abbrev pub invariant-loop-digit : goal.invariant-loop-digit

@@ -9,10 +9,10 @@ use Rattle.vcd_core.specs.declared.bit.Bit.{Bit}
 use Rattle.vcd_core.specs.declared.letter_block.LetterBlock.{LetterBlock}
 use Rattle.vcd_core.specs.BlockRows.{HoldsLetters}
 use Rattle.vcd_text.specs.Letters.{is_binary_digit, letters_of_digits}
-use Rattle.vcd_text.specs.inside.LetterBlocks.{AddsLetters}
-use Rattle.vcd_text.proofs.LetterBlocks.{eight_at, eight_more, holds_both, both_are_digits}
-use Rattle.vcd_text.proofs.LetterBlocks.{not_all_after}
-use Rattle.vcd_text.proofs.LetterBlocks.{not_all_before}
+use Rattle.vcd_text.specs.inside.reading.DigitBlocks.{AddsLetters}
+use Rattle.vcd_text.proofs.reading.digit_blocks.LetterBlocks.{eight_at, eight_more, holds_both, both_are_digits}
+use Rattle.vcd_text.proofs.reading.digit_blocks.LetterBlocks.{not_all_after}
+use Rattle.vcd_text.proofs.reading.digit_blocks.LetterBlocks.{not_all_before}
 use Rattle.vcd_text.proofs.reading.digit_blocks.block_of_digits.Goals as goal
 
 -- the digits of one of the eights

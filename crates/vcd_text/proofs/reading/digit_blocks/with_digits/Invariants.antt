@@ -2,7 +2,7 @@
 use Rattle.std.proofs.Common.{◌≡◌, true, take}
 use Rattle.std.specs.List.{list_all}
 use Rattle.vcd_text.specs.Letters.{is_binary_digit, letters_of_digits}
-use Rattle.vcd_text.specs.inside.LetterBlocks.{AddsLetters}
+use Rattle.vcd_text.specs.inside.reading.DigitBlocks.{AddsLetters}
 use Rattle.vcd_text.proofs.reading.digit_blocks.with_digits.Given as goal
 
 abbrev pub invariant-loop-digit : goal.invariant-loop-digit

@@ -7,7 +7,7 @@ use Rattle.vcd_text.specs.Words.{WordOnLine}
 use Rattle.vcd_text.specs.LentWords.{word_contents, words_left}
 use Rattle.vcd_text.specs.Faults.{ShowsFault}
 use Rattle.vcd_text.specs.MemoryErrors.{memory_error}
-use Rattle.vcd_text.specs.inside.Reading.{HasTakenWords, AllWordsResult}
+use Rattle.vcd_text.specs.inside.reading.Parser.{HasTakenWords, AllWordsResult}
 use Rattle.vcd_text.proofs.reading.file_reader.read_words.Goals as goal
 
 -- the words so far, this word, and the words left

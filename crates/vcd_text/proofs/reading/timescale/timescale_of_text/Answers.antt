@@ -1,7 +1,7 @@
 use Rattle.std.proofs.Common.{◌≡◌, false, [], ◌∷◌, ◌∙◌, ap, sym, take, rules}
 use Rattle.std.specs.Prelude.{bytes_eq}
-use Rattle.vcd_text.specs.inside.TimescaleText.{timescale_spelled}
-use Rattle.vcd_text.proofs.Timescales.{hundred, ten, one, none}
+use Rattle.vcd_text.specs.inside.reading.Timescale.{timescale_spelled}
+use Rattle.vcd_text.proofs.reading.timescale.CountAndUnit.{hundred, ten, one, none}
 use Rattle.vcd_text.proofs.reading.timescale.timescale_of_text.Goals as goal
 
 pub returns-in-Some : goal.returns-in-Some

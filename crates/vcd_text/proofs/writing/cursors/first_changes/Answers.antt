@@ -6,7 +6,7 @@ use Rattle.std.proofs.lemmas.Bool.{cases_eq}
 use Rattle.std.proofs.lemmas.List.{get_or_append_left, get_or_default, get_or_push, length_push}
 use Rattle.vcd_core.specs.declared.capture.Signal.{Signal}
 use Rattle.vcd_text.specs.declared.writing.cursors.Cursor.{Cursor}
-use Rattle.vcd_text.specs.inside.Cursors.{IsNext}
+use Rattle.vcd_text.specs.inside.writing.Cursors.{IsNext}
 use Rattle.vcd_text.proofs.writing.cursors.first_changes.Goals as goal
 
 one_more : (p : ℕ) (signals : List Signal) (cursors : List Cursor) (there : Signal) (next : Cursor)

@@ -2,7 +2,7 @@
 use Rattle.std.proofs.Common.{◌≡◌, ◌<◌, ℕ, length, get_or}
 use Rattle.vcd_core.specs.declared.capture.Signal.{Signal}
 use Rattle.vcd_text.specs.declared.writing.cursors.Cursor.{Cursor}
-use Rattle.vcd_text.specs.inside.Cursors.{IsNext}
+use Rattle.vcd_text.specs.inside.writing.Cursors.{IsNext}
 use Rattle.vcd_text.proofs.writing.cursors.first_changes.Given as goal
 
 abbrev pub invariant-loop-signal : goal.invariant-loop-signal

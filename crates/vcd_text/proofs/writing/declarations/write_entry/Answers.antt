@@ -1,9 +1,9 @@
 -- The keyword, the words and the end are the line.
 use Rattle.std.proofs.Common.{ap, ◌∙◌}
 use Rattle.vcd_text.specs.Items.{header_word}
-use Rattle.vcd_text.specs.inside.SpacedWords.{spaced_words}
-use Rattle.vcd_text.proofs.TextLines.{writes_line}
-use Rattle.vcd_text.proofs.Written.{writes_as}
+use Rattle.vcd_text.specs.inside.writing.Lines.{spaced_words}
+use Rattle.vcd_text.proofs.writing.declarations.Lines.{writes_line}
+use Rattle.vcd_text.proofs.writing.output.Pieces.{writes_as}
 use Rattle.vcd_text.proofs.writing.declarations.write_entry.Goals as goal
 
 pub returns : goal.returns

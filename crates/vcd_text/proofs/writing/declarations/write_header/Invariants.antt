@@ -2,7 +2,7 @@
 use Rattle.std.proofs.Common.{drop}
 use Rattle.std.specs.List.{flat_map}
 use Rattle.vcd_text.specs.Text.{header_items, item_line}
-use Rattle.vcd_text.proofs.Written.{WritesPrefix}
+use Rattle.vcd_text.proofs.writing.output.Pieces.{WritesPrefix}
 use Rattle.vcd_text.proofs.writing.declarations.write_header.Given as goal
 
 abbrev pub invariant-loop-one : goal.invariant-loop-one

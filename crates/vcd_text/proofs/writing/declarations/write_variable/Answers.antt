@@ -3,9 +3,9 @@ use Rattle.std.proofs.Common.{[], ◌∷◌, ap, sym, ◌∙◌, codes}
 use Rattle.std.specs.Prelude.{decimal}
 use Rattle.std.proofs.lemmas.List.{append-nil}
 use Rattle.vcd_text.specs.Text.{code_of}
-use Rattle.vcd_text.specs.inside.SpacedWords.{spaced_words}
-use Rattle.vcd_text.proofs.TextLines.{writes_line, writes_words}
-use Rattle.vcd_text.proofs.Written.{writes_as, writes_both}
+use Rattle.vcd_text.specs.inside.writing.Lines.{spaced_words}
+use Rattle.vcd_text.proofs.writing.declarations.Lines.{writes_line, writes_words}
+use Rattle.vcd_text.proofs.writing.output.Pieces.{writes_as, writes_both}
 use Rattle.vcd_text.proofs.writing.declarations.write_variable.Goals as goal
 
 pub returns : goal.returns

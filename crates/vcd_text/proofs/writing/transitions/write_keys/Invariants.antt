@@ -3,9 +3,9 @@ use Rattle.std.proofs.Common.{◌≡◌, length, drop, map}
 use Rattle.std.specs.List.{flat_map}
 use Rattle.vcd_core.specs.CaptureContents.{signal_contents}
 use Rattle.vcd_text.specs.Text.{item_line}
-use Rattle.vcd_text.specs.inside.Transitions.{last_tick, transition_items}
-use Rattle.vcd_text.specs.inside.Windows.{transitions_of}
-use Rattle.vcd_text.proofs.Written.{WritesPrefix}
+use Rattle.vcd_text.specs.inside.writing.Transitions.{last_tick, transition_items}
+use Rattle.vcd_text.specs.inside.writing.Window.{transitions_of}
+use Rattle.vcd_text.proofs.writing.output.Pieces.{WritesPrefix}
 use Rattle.vcd_text.proofs.writing.transitions.write_keys.Given as goal
 
 abbrev pub invariant-loop-k : goal.invariant-loop-k

@@ -1,10 +1,10 @@
 -- Each turn writes the transitions of one window.
 use Rattle.std.proofs.Common.{◌≤◌, ◌+◌, map, refl, arith}
 use Rattle.vcd_core.specs.CaptureContents.{signal_contents}
-use Rattle.vcd_text.specs.inside.Windows.{transitions_of}
+use Rattle.vcd_text.specs.inside.writing.Window.{transitions_of}
 use Rattle.std.proofs.Common.{ap, ◌∙◌}
-use Rattle.vcd_text.proofs.TransitionText.{all_left, end_left, window_written}
-use Rattle.vcd_text.proofs.Written.{prefix_begun, prefix_grows, prefix_whole}
+use Rattle.vcd_text.proofs.writing.transitions.ItemsOfTicks.{all_left, end_left, window_written}
+use Rattle.vcd_text.proofs.writing.output.Pieces.{prefix_begun, prefix_grows, prefix_whole}
 use Rattle.std.proofs.lemmas.List.{with_items_is}
 use Rattle.vcd_text.proofs.writing.transitions.write_transitions.Goals as goal
 

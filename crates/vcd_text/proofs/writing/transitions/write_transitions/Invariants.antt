@@ -3,10 +3,10 @@ use Rattle.std.proofs.Common.{◌≤◌, ◌+◌, ◌-◌, map}
 use Rattle.std.specs.List.{flat_map}
 use Rattle.vcd_core.specs.CaptureContents.{signal_contents}
 use Rattle.vcd_text.specs.Text.{item_line, tick_items}
-use Rattle.vcd_text.specs.inside.Transitions.{transitions_from}
-use Rattle.vcd_text.specs.inside.Windows.{IsReady}
-use Rattle.vcd_text.proofs.TransitionText.{items_left}
-use Rattle.vcd_text.proofs.Written.{WritesPrefix}
+use Rattle.vcd_text.specs.inside.writing.Transitions.{transitions_from}
+use Rattle.vcd_text.specs.inside.writing.Window.{IsReady}
+use Rattle.vcd_text.proofs.writing.transitions.ItemsOfTicks.{items_left}
+use Rattle.vcd_text.proofs.writing.output.Pieces.{WritesPrefix}
 use Rattle.vcd_text.proofs.writing.transitions.write_transitions.Given as goal
 
 abbrev pub invariant-loop-from : goal.invariant-loop-from

@@ -3,7 +3,7 @@ use Rattle.std.proofs.Common.{◌≡◌, ◌+◌, ◌*◌, ℕ, ap, ◌∙◌, a
 use Rattle.std.proofs.lemmas.List.{length-set}
 use Rattle.vcd_core.specs.Value.{printed_letter}
 use Rattle.vcd_core.specs.BlockRows.{letter_in}
-use Rattle.vcd_text.proofs.LetterBits.{pair_written}
+use Rattle.vcd_text.proofs.writing.values.LetterBits.{pair_written}
 use Rattle.vcd_text.proofs.writing.values.fill_letters.Goals as goal
 
 pub loop-k-preserved : goal.loop-k-preserved

@@ -1,5 +1,5 @@
 -- Bit by bit.
-use Rattle.vcd_text.proofs.LetterBits.{needed_bit}
+use Rattle.vcd_text.proofs.writing.values.LetterBits.{needed_bit}
 use Rattle.vcd_text.proofs.writing.values.needed_letters.Goals as goal
 
 pub returns : goal.returns

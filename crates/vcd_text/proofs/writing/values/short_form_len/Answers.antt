@@ -2,9 +2,9 @@
 use Rattle.std.proofs.Common.{◌≡◌, ◌+◌, ◌-◌, ◌*◌, ◌/◌, ◌≤◌, ℕ, ap, subst, sym}
 use Rattle.std.proofs.Common.{◌∙◌, arith, inl, inr}
 use Rattle.std.proofs.lemmas.Bool.{cases_eq}
-use Rattle.vcd_text.specs.inside.BeforeCode.{IsShortFormLen}
-use Rattle.vcd_text.proofs.LetterBits.{is_redundant_in}
-use Rattle.vcd_text.proofs.ShortForms.{first_needed, more_redundant, short_rest, state_at}
+use Rattle.vcd_text.specs.inside.writing.Values.{IsShortFormLen}
+use Rattle.vcd_text.proofs.writing.values.LetterBits.{is_redundant_in}
+use Rattle.vcd_text.proofs.writing.values.ShortForm.{first_needed, more_redundant, short_rest, state_at}
 use Rattle.vcd_text.proofs.writing.values.short_form_len.Goals as goal
 
 pub returns-then-len-gt1-clause-rest : goal.returns-then-len-gt1-clause-rest

@@ -1,6 +1,6 @@
 -- The letters passed so far are redundant.
 use Rattle.std.proofs.Common.{◌≡◌, ◌<◌, ◌≤◌, ◌+◌, ℕ, length, true}
-use Rattle.vcd_text.proofs.LetterBits.{is_redundant_in}
+use Rattle.vcd_text.proofs.writing.values.LetterBits.{is_redundant_in}
 use Rattle.vcd_text.proofs.writing.values.short_form_len.Given as goal
 
 abbrev pub invariant-loop-left : goal.invariant-loop-left

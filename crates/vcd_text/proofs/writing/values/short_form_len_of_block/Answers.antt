@@ -1,5 +1,5 @@
 -- The highest bit that is set is that of the last letter to stay.
-use Rattle.vcd_text.proofs.LetterBits.{short_form_len_is}
+use Rattle.vcd_text.proofs.writing.values.LetterBits.{short_form_len_is}
 use Rattle.vcd_text.proofs.writing.values.short_form_len_of_block.Goals as goal
 
 pub returns : goal.returns

@@ -1,6 +1,6 @@
 -- Both words are shifted.
 use Rattle.vcd_core.specs.BlockRows.{letter_of}
-use Rattle.vcd_text.proofs.LetterBits.{later_pair}
+use Rattle.vcd_text.proofs.writing.values.LetterBits.{later_pair}
 use Rattle.vcd_text.proofs.writing.values.without_pair.Goals as goal
 
 pub returns : goal.returns

@@ -2,9 +2,9 @@
 use Rattle.std.proofs.Common.{◌≡◌, ◌≢◌, ◌∷◌, ◌++◌, [], length, sym, ap, ◌∙◌, arith}
 use Rattle.vcd_core.specs.Value.{printed_letter}
 use Rattle.vcd_text.specs.Letters.{printed_letters}
-use Rattle.vcd_text.proofs.LetterBits.{held_letter}
-use Rattle.vcd_text.proofs.Values.{bit_before_code, bits_before_code}
-use Rattle.vcd_text.proofs.Written.{writes_as, writes_both}
+use Rattle.vcd_text.proofs.writing.values.LetterBits.{held_letter}
+use Rattle.vcd_text.proofs.writing.values.BeforeCode.{bit_before_code, bits_before_code}
+use Rattle.vcd_text.proofs.writing.output.Pieces.{writes_as, writes_both}
 use Rattle.vcd_text.proofs.writing.values.write_value_prefix.Goals as goal
 
 pub returns-then-width-eq1 : goal.returns-then-width-eq1

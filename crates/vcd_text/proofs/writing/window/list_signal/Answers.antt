@@ -2,11 +2,11 @@
 use Rattle.std.proofs.Common.{◌<◌, ◌+◌, ◌++◌, inr, length, drop, sym, ap, subst, ◌∙◌, arith}
 use Rattle.std.proofs.lemmas.List.{append-nil, length-append, length-map}
 use Rattle.vcd_core.specs.Wave.{IsWave}
-use Rattle.vcd_text.specs.inside.Cursors.{tick_at}
-use Rattle.vcd_text.specs.inside.Transitions.{Transition, window_of_signal}
-use Rattle.vcd_text.specs.inside.Windows.{transition_of_key, transitions_of}
-use Rattle.vcd_text.proofs.Cursors.{begins, goes_on, goes_to, steps, stops, tick_inside}
-use Rattle.vcd_text.proofs.Orders.{key_holds, one_key}
+use Rattle.vcd_text.specs.inside.writing.Cursors.{tick_at}
+use Rattle.vcd_text.specs.inside.writing.Transitions.{Transition, window_of_signal}
+use Rattle.vcd_text.specs.inside.writing.Window.{transition_of_key, transitions_of}
+use Rattle.vcd_text.proofs.writing.cursors.NextChange.{begins, goes_on, goes_to, steps, stops, tick_inside}
+use Rattle.vcd_text.proofs.writing.window.KeyOrder.{key_holds, one_key}
 use Rattle.vcd_text.proofs.writing.window.list_signal.Goals as goal
 
 pub loop-next-init : goal.loop-next-init

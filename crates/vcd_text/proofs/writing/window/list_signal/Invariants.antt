@@ -1,8 +1,8 @@
 -- The keys of the changes before the next one are listed.
 use Rattle.std.proofs.Common.{◌≡◌, ◌<◌, ◌≤◌, ◌-◌, ◌++◌, ℕ, length, drop, All, vec_capacity}
-use Rattle.vcd_text.specs.inside.Cursors.{IsNext}
-use Rattle.vcd_text.specs.inside.Transitions.{window_of_signal}
-use Rattle.vcd_text.specs.inside.Windows.{IsKey, transitions_of}
+use Rattle.vcd_text.specs.inside.writing.Cursors.{IsNext}
+use Rattle.vcd_text.specs.inside.writing.Transitions.{window_of_signal}
+use Rattle.vcd_text.specs.inside.writing.Window.{IsKey, transitions_of}
 use Rattle.vcd_text.proofs.writing.window.list_signal.Given as goal
 
 abbrev pub invariant-loop-next : goal.invariant-loop-next

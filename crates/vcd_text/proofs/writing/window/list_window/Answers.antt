@@ -4,9 +4,9 @@ use Rattle.std.proofs.lemmas.List.{length-map, length-set}
 use Rattle.vcd_core.specs.declared.capture.Signal.{Signal}
 use Rattle.vcd_core.specs.declared.wave.Change.{Change}
 use Rattle.vcd_text.specs.declared.writing.cursors.Cursor.{Cursor}
-use Rattle.vcd_text.specs.inside.Cursors.{IsNext}
-use Rattle.vcd_text.proofs.Listing.{one_listed, all_listed, longer_than}
-use Rattle.vcd_text.proofs.Cursors.{passed_next}
+use Rattle.vcd_text.specs.inside.writing.Cursors.{IsNext}
+use Rattle.vcd_text.proofs.writing.window.ListedBySignal.{one_listed, all_listed, longer_than}
+use Rattle.vcd_text.proofs.writing.cursors.NextChange.{passed_next}
 use Rattle.vcd_text.proofs.writing.window.list_window.Goals as goal
 
 pub list_signal-requires-clause-next : goal.list_signal-requires-clause-next

@@ -3,9 +3,9 @@ use Rattle.std.proofs.Common.{◌≡◌, ◌<◌, ◌≤◌, ◌++◌, ℕ, leng
 use Rattle.vcd_core.specs.declared.capture.Signal.{Signal}
 use Rattle.vcd_core.specs.CaptureContents.{signal_contents}
 use Rattle.vcd_text.specs.declared.writing.cursors.Cursor.{Cursor}
-use Rattle.vcd_text.specs.inside.Cursors.{IsNext}
-use Rattle.vcd_text.specs.inside.Transitions.{unsorted_window}
-use Rattle.vcd_text.specs.inside.Windows.{IsKey, transitions_of}
+use Rattle.vcd_text.specs.inside.writing.Cursors.{IsNext}
+use Rattle.vcd_text.specs.inside.writing.Transitions.{unsorted_window}
+use Rattle.vcd_text.specs.inside.writing.Window.{IsKey, transitions_of}
 use Rattle.vcd_text.proofs.writing.window.list_window.Given as goal
 
 abbrev pub invariant-loop-position : goal.invariant-loop-position

@@ -1,4 +1,4 @@
-use Rattle.vcdedit.proofs.HexDigits.{pushed_digit}
+use Rattle.vcdedit.proofs.replies.annotations.HexDigits.{pushed_digit}
 use Rattle.vcdedit.proofs.replies.annotations.+append_hex.Goals as goal
 
 pub returns : goal.returns

@@ -1,6 +1,6 @@
 -- The text so far and the annotations left make the whole text.
 use Rattle.std.proofs.Common.{◌≡◌, ◌++◌, drop}
-use Rattle.vcdedit.specs.inside.Annotations.{annotations_text}
+use Rattle.vcdedit.specs.inside.replies.Annotations.{annotations_text}
 use Rattle.vcdedit.proofs.replies.annotations.annotations_to_bytes.Given as goal
 
 abbrev pub invariant-loop-annotation : goal.invariant-loop-annotation

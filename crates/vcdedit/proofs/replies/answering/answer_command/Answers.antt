@@ -3,8 +3,8 @@ use Rattle.std.specs.Prelude.{IfOk}
 use Rattle.std.proofs.lemmas.Result.{IfOk-weaker}
 use Rattle.vcdedit.specs.declared.script.command.Command.{Command}
 use Rattle.vcdedit.specs.declared.script.command.Command.TheVariants as commands
-use Rattle.vcdedit.specs.inside.Answering.{AnswersStep, AnswersCommand}
-use Rattle.vcdedit.proofs.AnsweredLines.{command_steps}
+use Rattle.vcdedit.specs.inside.replies.Answering.{AnswersStep, AnswersCommand}
+use Rattle.vcdedit.proofs.replies.answering.AnsweredLines.{command_steps}
 use Rattle.vcdedit.proofs.replies.answering.answer_command.Goals as goal
 
 pub returns-in-Step-clause-answers : goal.returns-in-Step-clause-answers

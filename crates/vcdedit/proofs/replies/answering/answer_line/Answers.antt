@@ -1,8 +1,8 @@
 use Rattle.std.proofs.Common.{Err, List, ℕ, refl, subst}
 use Rattle.std.proofs.lemmas.Result.{IfOk-weaker}
-use Rattle.vcdedit.specs.inside.Answering.{AnswersCommand, AnswersLine}
-use Rattle.vcdedit.specs.inside.Replies.{IsReplyTo}
-use Rattle.vcdedit.proofs.AnsweredLines.{line_asks, line_stays}
+use Rattle.vcdedit.specs.inside.replies.Answering.{AnswersCommand, AnswersLine}
+use Rattle.vcdedit.specs.inside.replies.Reply.{IsReplyTo}
+use Rattle.vcdedit.proofs.replies.answering.AnsweredLines.{line_asks, line_stays}
 use Rattle.vcdedit.proofs.replies.answering.answer_line.Goals as goal
 
 pub returns-in-Ok-clause-answers : goal.returns-in-Ok-clause-answers

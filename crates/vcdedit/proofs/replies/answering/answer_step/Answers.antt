@@ -1,4 +1,4 @@
-use Rattle.vcdedit.proofs.AnsweredLines.{step_accepted}
+use Rattle.vcdedit.proofs.replies.answering.AnsweredLines.{step_accepted}
 use Rattle.vcdedit.proofs.replies.answering.answer_step.Goals as goal
 
 pub returns-in-Ok-clause-answers : goal.returns-in-Ok-clause-answers

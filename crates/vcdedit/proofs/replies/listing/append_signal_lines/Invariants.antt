@@ -2,8 +2,8 @@
 use Rattle.std.proofs.Common.{◌≡◌, ◌++◌, drop, map}
 use Rattle.std.specs.List.{flat_map}
 use Rattle.vcd_core.specs.CaptureContents.{signal_contents}
-use Rattle.vcdedit.specs.inside.Listing.{signal_lines}
-use Rattle.vcdedit.specs.inside.Replies.{with_line_feed}
+use Rattle.vcdedit.specs.inside.replies.Listing.{signal_lines}
+use Rattle.vcdedit.specs.inside.replies.Reply.{with_line_feed}
 use Rattle.vcdedit.proofs.replies.listing.append_signal_lines.Given as goal
 
 abbrev pub invariant-loop-position : goal.invariant-loop-position

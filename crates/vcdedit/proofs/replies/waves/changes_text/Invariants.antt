@@ -2,7 +2,7 @@
 use Rattle.std.proofs.Common.{◌≡◌, ◌++◌, drop, map}
 use Rattle.std.specs.List.{flat_map}
 use Rattle.vcdedit.specs.Queries.{change_line}
-use Rattle.vcdedit.specs.inside.Replies.{with_line_feed}
+use Rattle.vcdedit.specs.inside.replies.Reply.{with_line_feed}
 use Rattle.vcdedit.proofs.replies.waves.changes_text.Given as goal
 
 abbrev pub invariant-loop-change : goal.invariant-loop-change

@@ -1,7 +1,7 @@
 use Rattle.std.proofs.Common.{None, inl, inr, refl}
-use Rattle.vcdedit.proofs.RunParts.{run_reaches_end, run_reaches_end_with, run_stops_at_output}
-use Rattle.vcdedit.proofs.RunParts.{given_or_none}
-use Rattle.vcdedit.proofs.RunParts.{ends_with, ends_with_writer}
+use Rattle.vcdedit.proofs.running.PartsOfRun.{run_reaches_end, run_reaches_end_with, run_stops_at_output}
+use Rattle.vcdedit.proofs.running.PartsOfRun.{given_or_none}
+use Rattle.vcdedit.proofs.running.PartsOfRun.{ends_with, ends_with_writer}
 use Rattle.vcdedit.proofs.running.run.run.Goals as goal
 
 pub returns-in_err-session-clause-ends : goal.returns-in_err-session-clause-ends

@@ -1,9 +1,9 @@
 use Rattle.std.proofs.Common.{refl}
 use Rattle.vcd_core.specs.CaptureContents.{contents}
 use Rattle.vcdedit.specs.declared.running.run_error.RunError.TheVariants as run_errors
-use Rattle.vcdedit.proofs.RunParts.{script_gives_where_known, capture_ends, script_ends, lines_end}
-use Rattle.vcdedit.proofs.RunParts.{at_error}
-use Rattle.vcdedit.proofs.RunParts.{file_means, is_accepted, session_ends, flushed_at_line}
+use Rattle.vcdedit.proofs.running.PartsOfRun.{script_gives_where_known, capture_ends, script_ends, lines_end}
+use Rattle.vcdedit.proofs.running.PartsOfRun.{at_error}
+use Rattle.vcdedit.proofs.running.PartsOfRun.{file_means, is_accepted, session_ends, flushed_at_line}
 use Rattle.vcdedit.proofs.running.run.run_script.Goals as goal
 
 pub returns-in_err-loaded-clause-ended : goal.returns-in_err-loaded-clause-ended

@@ -1,4 +1,4 @@
-use Rattle.vcdedit.proofs.RunParts.{at_error}
+use Rattle.vcdedit.proofs.running.PartsOfRun.{at_error}
 use Rattle.vcdedit.proofs.running.run_lines.run_line.Goals as goal
 
 pub returns-in_err-write_reply-in-Ok-clause-stopped : goal.returns-in_err-write_reply-in-Ok-clause-stopped

@@ -1,9 +1,9 @@
 use Rattle.std.proofs.Common.{arith, rules}
 use Rattle.std.proofs.KnownBytes.{Appends-kept}
-use Rattle.vcdedit.proofs.RunParts.{at_error}
+use Rattle.vcdedit.proofs.running.PartsOfRun.{at_error}
 use Rattle.vcdedit.specs.Script.{script_lines}
-use Rattle.vcdedit.proofs.LinesLeft.{reply_more, none_left, no_lines}
-use Rattle.vcdedit.proofs.LinesStopped.{line_stops, flush_stops}
+use Rattle.vcdedit.proofs.running.run_lines.LinesLeft.{reply_more, none_left, no_lines}
+use Rattle.vcdedit.proofs.running.run_lines.StoppedByFault.{line_stops, flush_stops}
 use Rattle.vcdedit.proofs.running.run_lines.run_lines.Goals as goal
 
 pub loop-line-preserved : goal.loop-line-preserved

@@ -1,6 +1,6 @@
 use Rattle.std.proofs.Common.{◌≡◌, ◌+◌, ◌*◌, ◌^◌, ◌≤◌, false, length}
 use Rattle.vcdedit.specs.Script.{script_lines}
-use Rattle.vcdedit.proofs.LinesLeft.{RepliesSoFar}
+use Rattle.vcdedit.proofs.running.run_lines.LinesLeft.{RepliesSoFar}
 use Rattle.vcdedit.proofs.running.run_lines.run_lines.Given as goal
 
 abbrev pub invariant-loop-line : goal.invariant-loop-line

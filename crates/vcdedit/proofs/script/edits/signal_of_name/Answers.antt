@@ -1,7 +1,7 @@
 use Rattle.std.proofs.Common.{◌∙◌, ap, ℕ, Option}
 use Rattle.std.specs.Option.{ok_or}
 use Rattle.vcdedit.specs.declared.script.line_error.LineError.TheVariants.{NoSuchName}
-use Rattle.vcdedit.proofs.NamedSignals.{named_within}
+use Rattle.vcdedit.proofs.script.NamedSignals.{named_within}
 use Rattle.vcdedit.proofs.script.edits.signal_of_name.Goals as goal
 
 pub returns-clause-within : goal.returns-clause-within

@@ -4,7 +4,7 @@ use Rattle.vcd_core.specs.CaptureContents.{contents}
 use Rattle.vcd_text.specs.LentWords.{texts_left}
 use Rattle.vcdedit.specs.declared.script.keyword.Keyword.{Keyword}
 use Rattle.vcdedit.specs.ScriptCommands.{command_of}
-use Rattle.vcdedit.specs.inside.Commands.{ReadsAs}
+use Rattle.vcdedit.specs.inside.script.Line.{ReadsAs}
 use Rattle.vcdedit.proofs.script.line.parse_command.Goals as goal
 
 pub returns-in-Cut : goal.returns-in-Cut

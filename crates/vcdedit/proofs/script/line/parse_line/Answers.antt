@@ -9,8 +9,8 @@ use Rattle.vcdedit.specs.declared.script.line_error.LineError.{LineError}
 use Rattle.vcdedit.specs.WithoutAddress.{command_without_address}
 use Rattle.vcdedit.specs.ScriptCommands.{command_of_line}
 use Rattle.vcdedit.specs.ScriptCommands.{command_of_words}
-use Rattle.vcdedit.specs.inside.Commands.{ReadsAs}
-use Rattle.vcdedit.proofs.AskedSignals.{read_has_its_signals}
+use Rattle.vcdedit.specs.inside.script.Line.{ReadsAs}
+use Rattle.vcdedit.proofs.script.line.AskedSignals.{read_has_its_signals}
 use Rattle.vcdedit.proofs.script.line.parse_line.Goals as goal
 
 -- what is read, clause by clause

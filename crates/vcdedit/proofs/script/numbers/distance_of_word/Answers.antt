@@ -1,5 +1,5 @@
 use Rattle.std.proofs.Common.{◌≡◌, rules, sym, ap, ◌∙◌, Err}
-use Rattle.vcdedit.proofs.ScriptNumbers.{no_distance, parsed_distance}
+use Rattle.vcdedit.proofs.script.numbers.ParsedNumbers.{no_distance, parsed_distance}
 use Rattle.vcdedit.proofs.script.numbers.distance_of_word.Goals as goal
 
 pub returns-in_err-text_of : goal.returns-in_err-text_of

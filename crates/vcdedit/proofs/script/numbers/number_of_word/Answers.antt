@@ -1,5 +1,5 @@
 use Rattle.std.proofs.Common.{◌≢◌, get_or, rules}
-use Rattle.vcdedit.proofs.ScriptNumbers.{parsed_number}
+use Rattle.vcdedit.proofs.script.numbers.ParsedNumbers.{parsed_number}
 use Rattle.vcdedit.proofs.script.numbers.number_of_word.Goals as goal
 use Rattle.vcdedit.proofs.script.numbers.number_of_word.Goals.{in_default-via-then-word-lt1}
 use Rattle.vcdedit.proofs.script.numbers.number_of_word.Goals.{in_default-via-else-word-lt1+in_default-1}

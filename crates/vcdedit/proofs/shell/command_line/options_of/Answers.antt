@@ -1,5 +1,5 @@
 -- The getters read the rows of the words.
-use Rattle.vcdedit.proofs.AskedOptions.{read_options}
+use Rattle.vcdedit.proofs.shell.command_line.AskedOptions.{read_options}
 use Rattle.vcdedit.proofs.shell.command_line.options_of.Goals as goal
 
 pub returns-clause-asked : goal.returns-clause-asked

@@ -2,7 +2,7 @@
 use Rattle.std.proofs.Common.{◌∙◌, ap, map, sym}
 use Rattle.std.specs.String.{string_bytes}
 use Rattle.clap.specs.Words.{App, fault_of, is_simple, is_simple_and_free, matches_of}
-use Rattle.vcdedit.proofs.AskedOptions.{free, simple}
+use Rattle.vcdedit.proofs.shell.command_line.AskedOptions.{free, simple}
 use Rattle.vcdedit.proofs.shell.command_line.parse_words.Goals as goal
 
 pub returns-clause-asked : goal.returns-clause-asked

@@ -7,7 +7,7 @@ use Rattle.vcdedit.specs.CommandLine.{asked_options, option_app}
 use Rattle.vcd_shell.specs.declared.words.WithoutRun.TheVariants as answers
 use Rattle.vcdedit.specs.ProgramEnds.{IsOutcomeOfOptions, ending_without_run}
 use Rattle.vcdedit.specs.declared.running.run_error.RunError.TheVariants as run_errors
-use Rattle.vcdedit.proofs.ProgramRuns.{failed_for_memory}
+use Rattle.vcdedit.proofs.shell.program.EndingOfWords.{failed_for_memory}
 use Rattle.vcdedit.proofs.shell.program.ending_of_words.Goals as goal
 
 pub returns-in_default-clause-of_run : goal.returns-in_default-clause-of_run

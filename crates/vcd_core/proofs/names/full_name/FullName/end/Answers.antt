@@ -1,8 +1,8 @@
 use Rattle.std.proofs.Common.{ap, sym, ◌∙◌}
 use Rattle.vcd_core.specs.declared.names.text_end.TextEnd.{TextEnd}
 use Rattle.vcd_core.specs.FullName.{name_bytes}
-use Rattle.vcd_core.specs.inside.TextEnds.{end_after}
-use Rattle.vcd_core.proofs.TextEnds.{end_nil, end_more}
+use Rattle.vcd_core.specs.inside.names.TextEnd.{end_after}
+use Rattle.vcd_core.proofs.names.text_end.EndsOfTexts.{end_nil, end_more}
 use Rattle.vcd_core.proofs.names.full_name.FullName.end.Goals as goal
 
 pub loop-byte-init : goal.loop-byte-init

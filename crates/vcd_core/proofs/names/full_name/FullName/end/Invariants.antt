@@ -1,6 +1,6 @@
 use Rattle.std.proofs.Common.{◌≡◌, length}
 use Rattle.vcd_core.specs.FullName.{name_bytes}
-use Rattle.vcd_core.specs.inside.TextEnds.{end_after, text_end}
+use Rattle.vcd_core.specs.inside.names.TextEnd.{end_after, text_end}
 use Rattle.vcd_core.proofs.names.full_name.FullName.end.Given as goal
 
 abbrev pub invariant-loop-byte : goal.invariant-loop-byte

@@ -3,7 +3,7 @@ use Rattle.std.specs.List.{concat}
 use Rattle.vcd_core.specs.CaptureContents.{signal_contents}
 use Rattle.vcd_core.specs.Names.{full_name}
 use Rattle.vcd_core.specs.FullName.{name_bytes}
-use Rattle.vcd_core.proofs.FullNames.{name_in_ends, not_the_name}
+use Rattle.vcd_core.proofs.shared.FullNames.{name_in_ends, not_the_name}
 use Rattle.vcd_core.proofs.names.full_name.FullName.is_name_of.Goals as goal
 
 pub returns-else-may_end_with : goal.returns-else-may_end_with

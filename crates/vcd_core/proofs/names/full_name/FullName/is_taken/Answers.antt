@@ -5,7 +5,7 @@ use Rattle.std.proofs.lemmas.Iterator.Search.{any_from_yields_List}
 use Rattle.vcd_core.specs.CaptureContents.{signal_contents}
 use Rattle.vcd_core.specs.Names.{full_name}
 use Rattle.vcd_core.specs.FullName.{name_bytes}
-use Rattle.vcd_core.proofs.FullNames.{is_one_of_names}
+use Rattle.vcd_core.proofs.shared.FullNames.{is_one_of_names}
 use Rattle.vcd_core.proofs.names.full_name.FullName.is_taken.Goals as goal
 
 pub returns : goal.returns

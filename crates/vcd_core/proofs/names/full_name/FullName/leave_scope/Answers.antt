@@ -1,5 +1,5 @@
 use Rattle.std.proofs.Common.{◌∷◌, List, ℕ, sym, ap, ◌∙◌}
-use Rattle.vcd_core.proofs.FullNames.{bytes_in_none, bytes_in_scope, bytes_drained}
+use Rattle.vcd_core.proofs.shared.FullNames.{bytes_in_none, bytes_in_scope, bytes_drained}
 use Rattle.vcd_core.proofs.names.full_name.FullName.leave_scope.Goals as goal
 
 pub returns-in-empty : goal.returns-in-empty

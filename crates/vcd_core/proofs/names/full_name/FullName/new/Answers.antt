@@ -1,5 +1,5 @@
 use Rattle.std.proofs.Common.{◌∷◌, refl}
-use Rattle.vcd_core.proofs.FullNames.{bytes_in_none, bytes_in_scope}
+use Rattle.vcd_core.proofs.shared.FullNames.{bytes_in_none, bytes_in_scope}
 use Rattle.vcd_core.proofs.names.full_name.FullName.new.Goals as goal
 
 pub returns-in-empty : goal.returns-in-empty

@@ -1,4 +1,4 @@
-use Rattle.vcd_core.proofs.TextEnds.{passes_test}
+use Rattle.vcd_core.proofs.names.text_end.EndsOfTexts.{passes_test}
 use Rattle.vcd_core.proofs.names.text_end.TextEnd.may_end_with.Goals as goal
 
 pub returns : goal.returns

@@ -1,5 +1,5 @@
 use Rattle.std.proofs.Common.{sym}
-use Rattle.vcd_core.proofs.TextEnds.{end_nil}
+use Rattle.vcd_core.proofs.names.text_end.EndsOfTexts.{end_nil}
 use Rattle.vcd_core.proofs.names.text_end.TextEnd.new.Goals as goal
 
 pub returns : goal.returns

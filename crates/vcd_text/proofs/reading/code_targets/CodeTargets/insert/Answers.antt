@@ -1,6 +1,6 @@
 use Rattle.std.proofs.Common.{sym}
 use Rattle.std.proofs.lemmas.Result.{on_ok_weaker}
-use Rattle.vcd_text.proofs.ShortCodes.{short_put}
+use Rattle.vcd_text.proofs.reading.code_targets.ShortCodes.{short_put}
 use Rattle.vcd_text.proofs.reading.code_targets.CodeTargets.insert.Goals as goal
 
 pub returns-in-Some : goal.returns-in-Some

@@ -4,13 +4,13 @@ use Rattle.vcd_text.specs.declared.fault.ReadError.{ReadError}
 use Rattle.vcd_text.specs.Words.{complete_words}
 use Rattle.vcd_text.specs.FoundFaults.{IsFoundFault, too_early}
 use Rattle.vcd_text.specs.MemoryErrors.{memory_error}
-use Rattle.vcd_text.specs.inside.Chunks.{HasReadBytes}
+use Rattle.vcd_text.specs.inside.reading.FileReader.{HasReadBytes}
 use Rattle.vcd_text.specs.declared.reading.part.Part.{Part}
-use Rattle.vcd_text.specs.inside.SeenParts.{seen_state}
-use Rattle.vcd_text.proofs.Chunks.{last_taken, last_shown}
-use Rattle.vcd_text.proofs.LastWords.{stops}
-use Rattle.vcd_text.proofs.WholeParts.{part_means_sound}
-use Rattle.vcd_text.proofs.WordLaws.{words_are_few}
+use Rattle.vcd_text.specs.inside.reading.Part.{seen_state}
+use Rattle.vcd_text.proofs.reading.file_reader.Chunks.{last_taken, last_shown}
+use Rattle.vcd_text.proofs.reading.parser.NoWordLeft.{stops}
+use Rattle.vcd_text.proofs.part.WholeParts.{part_means_sound}
+use Rattle.vcd_text.proofs.words.WordsInTurn.{words_are_few}
 use Rattle.vcd_text.proofs.reading.file_reader.FileReader.finish.Goals as goal
 
 pub read_words-requires : goal.read_words-requires

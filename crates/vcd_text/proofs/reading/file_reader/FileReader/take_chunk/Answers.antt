@@ -6,9 +6,9 @@ use Rattle.std.proofs.lemmas.List.{length-append}
 use Rattle.vcd_text.specs.declared.fault.Fault.TheVariants as faults
 use Rattle.vcd_text.specs.declared.fault.ReadError.{ReadError}
 use Rattle.vcd_text.specs.Refusals.{IsRefusal}
-use Rattle.vcd_text.specs.inside.Chunks.{FileReaderMatches}
+use Rattle.vcd_text.specs.inside.reading.FileReader.{FileReaderMatches}
 use Rattle.vcd_text.specs.declared.reading.part.Part.{Part}
-use Rattle.vcd_text.proofs.Chunks.{has_come, shown_early, is_no_failure, full, broken}
+use Rattle.vcd_text.proofs.reading.file_reader.Chunks.{has_come, shown_early, is_no_failure, full, broken}
 use Rattle.vcd_text.proofs.reading.file_reader.FileReader.take_chunk.Goals as goal
 
 pub returns-in_default-clause-refused : goal.returns-in_default-clause-refused

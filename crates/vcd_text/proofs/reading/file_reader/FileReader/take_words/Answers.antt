@@ -4,10 +4,10 @@ use Rattle.std.proofs.lemmas.Result.{err_from_is_err_and}
 use Rattle.std.proofs.lemmas.List.{length-take, length-append}
 use Rattle.vcd_core.specs.Word.{is_white_space}
 use Rattle.vcd_text.specs.Words.{complete_words}
-use Rattle.vcd_text.specs.inside.Spaces.{has_complete_words}
-use Rattle.vcd_text.specs.inside.Chunks.{TakesChunk, HasTaken}
-use Rattle.vcd_text.proofs.Chunks.{now_taken, now_shown, word_is_first}
-use Rattle.vcd_text.proofs.WordLaws.{words_are_few}
+use Rattle.vcd_text.specs.inside.Words.{has_complete_words}
+use Rattle.vcd_text.specs.inside.reading.FileReader.{TakesChunk, HasTaken}
+use Rattle.vcd_text.proofs.reading.file_reader.Chunks.{now_taken, now_shown, word_is_first}
+use Rattle.vcd_text.proofs.words.WordsInTurn.{words_are_few}
 use Rattle.vcd_text.proofs.reading.file_reader.FileReader.take_words.Goals as goal
 
 pub read_words-requires : goal.read_words-requires

@@ -1,5 +1,5 @@
 use Rattle.std.proofs.Common.{arith}
-use Rattle.vcd_text.proofs.Declaring.{shows_no_declaration, shows_upscope_at_top}
+use Rattle.vcd_text.proofs.reading.declarations.DeclarationWords.{shows_no_declaration, shows_upscope_at_top}
 use Rattle.vcd_text.proofs.reading.parser.Parser.begin_declaration.Goals as goal
 
 pub returns-in_default : goal.returns-in_default

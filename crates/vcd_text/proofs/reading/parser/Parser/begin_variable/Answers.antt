@@ -1,6 +1,6 @@
 use Rattle.std.proofs.Common.{◌<◌, ◌∙◌, length, inr, sym, arith}
 use Rattle.std.proofs.lemmas.Bool.{eqb-false}
-use Rattle.vcd_text.proofs.Declaring.{shows_no_size, takes_size}
+use Rattle.vcd_text.proofs.reading.declarations.DeclarationWords.{shows_no_size, takes_size}
 use Rattle.vcd_text.proofs.reading.parser.Parser.begin_variable.Goals as goal
 
 pub returns-in_default : goal.returns-in_default

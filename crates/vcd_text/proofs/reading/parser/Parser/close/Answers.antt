@@ -1,4 +1,4 @@
-use Rattle.vcd_text.proofs.Declaring.{ends_early}
+use Rattle.vcd_text.proofs.reading.declarations.DeclarationWords.{ends_early}
 use Rattle.vcd_text.proofs.reading.parser.Parser.close.Goals as goal
 
 pub returns-in-Variable : goal.returns-in-Variable

@@ -1,6 +1,6 @@
 use Rattle.std.proofs.Common.{subst}
-use Rattle.vcd_text.specs.inside.SeenParts.{HearsVariables}
-use Rattle.vcd_text.proofs.Declaring.{closes_definitions}
+use Rattle.vcd_text.specs.inside.reading.Part.{HearsVariables}
+use Rattle.vcd_text.proofs.reading.declarations.DeclarationWords.{closes_definitions}
 use Rattle.vcd_text.proofs.reading.parser.Parser.close_definitions.Goals as goal
 
 pub returns : goal.returns

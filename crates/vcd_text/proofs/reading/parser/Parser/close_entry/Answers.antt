@@ -1,6 +1,6 @@
 use Rattle.std.proofs.Common.{◌∷◌, ◌++◌, [], refl, ap, ◌∙◌}
 use Rattle.vcd_text.specs.declared.reading.parser.OpenItem.TheVariants as items
-use Rattle.vcd_text.proofs.Declaring.{closes_entry}
+use Rattle.vcd_text.proofs.reading.declarations.DeclarationWords.{closes_entry}
 use Rattle.vcd_text.proofs.reading.parser.Parser.close_entry.Goals as goal
 
 pub returns : goal.returns

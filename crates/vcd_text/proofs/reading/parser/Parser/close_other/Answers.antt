@@ -1,4 +1,4 @@
-use Rattle.vcd_text.proofs.Declaring.{closes_other}
+use Rattle.vcd_text.proofs.reading.declarations.DeclarationWords.{closes_other}
 use Rattle.vcd_text.proofs.reading.parser.Parser.close_other.Goals as goal
 
 pub returns : goal.returns

@@ -1,8 +1,8 @@
 use Rattle.std.proofs.Common.{◌≡◌, ◌<◌, ◌∷◌, length, sym, ◌∙◌, arith}
 use Rattle.std.proofs.lemmas.Bool.{eqb-true, eqb-false}
 use Rattle.std.proofs.lemmas.List.{nil_from_length}
-use Rattle.vcd_text.proofs.Declaring.{closes_scope, shows_missing_kind}
-use Rattle.vcd_text.proofs.DeclaredVariables.{prefix_removed}
+use Rattle.vcd_text.proofs.reading.declarations.DeclarationWords.{closes_scope, shows_missing_kind}
+use Rattle.vcd_text.proofs.reading.variables.DeclaredVariable.{prefix_removed}
 use Rattle.vcd_text.proofs.reading.parser.Parser.close_scope.Goals as goal
 
 pub returns-then-is_empty : goal.returns-then-is_empty

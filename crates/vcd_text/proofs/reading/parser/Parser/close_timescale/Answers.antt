@@ -1,6 +1,6 @@
 use Rattle.std.proofs.Common.{sym, ap, ◌∙◌, inr}
 use Rattle.vcd_text.specs.Items.{timescale_of}
-use Rattle.vcd_text.proofs.Declaring.{closes_timescale, shows_no_timescale}
+use Rattle.vcd_text.proofs.reading.declarations.DeclarationWords.{closes_timescale, shows_no_timescale}
 use Rattle.vcd_text.proofs.reading.parser.Parser.close_timescale.Goals as goal
 
 pub returns-in-Some : goal.returns-in-Some

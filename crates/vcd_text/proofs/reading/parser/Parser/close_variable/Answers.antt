@@ -1,7 +1,7 @@
 use Rattle.std.proofs.Common.{ℕ, List, ap}
 use Rattle.std.specs.Global.{Vec}
-use Rattle.vcd_text.proofs.DeclaredCount.{few_declared}
-use Rattle.vcd_text.proofs.Declaring.{closes_variable, shows_no_variable}
+use Rattle.vcd_text.proofs.reading.parser.SkippedCount.{few_declared}
+use Rattle.vcd_text.proofs.reading.declarations.DeclarationWords.{closes_variable, shows_no_variable}
 use Rattle.vcd_text.proofs.reading.parser.Parser.close_variable.Goals as goal
 
 pub declare-requires : goal.declare-requires

@@ -1,4 +1,4 @@
-use Rattle.vcd_text.proofs.Declaring.{passes_over, shows_no_end}
+use Rattle.vcd_text.proofs.reading.declarations.DeclarationWords.{passes_over, shows_no_end}
 use Rattle.vcd_text.proofs.reading.parser.Parser.continue_item.Goals as goal
 
 pub returns-in-Upscope : goal.returns-in-Upscope

@@ -1,4 +1,4 @@
-use Rattle.vcd_text.proofs.Declaring.{continues_variable}
+use Rattle.vcd_text.proofs.reading.declarations.DeclarationWords.{continues_variable}
 use Rattle.vcd_text.proofs.reading.parser.Parser.continue_variable.Goals as goal
 
 pub returns : goal.returns

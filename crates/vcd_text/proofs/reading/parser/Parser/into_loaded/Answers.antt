@@ -7,11 +7,11 @@ use Rattle.vcd_text.specs.Meaning.{meaning, declared_signal}
 use Rattle.vcd_text.specs.Grammar.{kept_variables}
 use Rattle.vcd_text.specs.Parts.{part_of, remaining}
 use Rattle.vcd_text.specs.declared.reading.part.Part.{Part}
-use Rattle.vcd_text.specs.inside.SeenParts.{seen_state, seen_tick}
-use Rattle.vcd_text.specs.inside.Reading.{HasTakenWords}
-use Rattle.vcd_text.proofs.LastWords.{accepts}
-use Rattle.vcd_text.proofs.LateChanges.{UpToTick, late_after}
-use Rattle.vcd_text.proofs.PartMeanings.{signals_of_part}
+use Rattle.vcd_text.specs.inside.reading.Part.{seen_state, seen_tick}
+use Rattle.vcd_text.specs.inside.reading.Parser.{HasTakenWords}
+use Rattle.vcd_text.proofs.reading.parser.NoWordLeft.{accepts}
+use Rattle.vcd_text.proofs.part.LateChanges.{UpToTick, late_after}
+use Rattle.vcd_text.proofs.part.PartMeanings.{signals_of_part}
 use Rattle.vcd_text.proofs.reading.parser.Parser.into_loaded.Goals as goal
 
 pub returns : goal.returns

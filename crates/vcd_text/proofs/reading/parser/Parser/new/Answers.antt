@@ -1,7 +1,7 @@
 use Rattle.std.proofs.Common.{[], None, false, refl, arith}
-use Rattle.vcd_text.proofs.VariablesMatch.{knows_further}
-use Rattle.vcd_text.proofs.Declaring.{tells_nothing}
-use Rattle.vcd_text.specs.inside.SeenParts.{seen_tick}
+use Rattle.vcd_text.proofs.reading.variables.VariablesMatch.{knows_further}
+use Rattle.vcd_text.proofs.reading.declarations.DeclarationWords.{tells_nothing}
+use Rattle.vcd_text.specs.inside.reading.Part.{seen_tick}
 use Rattle.std.proofs.lemmas.Bool.{false≢true}
 use Rattle.vcd_text.specs.Grammar.{initial_state}
 use Rattle.vcd_text.proofs.reading.parser.Parser.new.Goals as goal

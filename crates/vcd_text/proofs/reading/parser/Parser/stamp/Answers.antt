@@ -1,4 +1,4 @@
-use Rattle.vcd_text.proofs.Changing.{no_stamp, stamp_goes_back, takes_stamp}
+use Rattle.vcd_text.proofs.reading.changes.ChangeWords.{no_stamp, stamp_goes_back, takes_stamp}
 use Rattle.vcd_text.proofs.reading.parser.Parser.stamp.Goals as goal
 
 pub returns-in_default : goal.returns-in_default

@@ -1,5 +1,5 @@
 use Rattle.std.proofs.Common.{arith, sym, ◌∙◌}
-use Rattle.vcd_text.proofs.Changing.{takes_dump_word, declares_late, passes_over}
+use Rattle.vcd_text.proofs.reading.changes.ChangeWords.{takes_dump_word, declares_late, passes_over}
 use Rattle.vcd_text.proofs.reading.parser.Parser.take_command.Goals as goal
 
 pub returns-then-is_dump_word : goal.returns-then-is_dump_word

@@ -1,4 +1,4 @@
-use Rattle.vcd_text.proofs.Changing.{begins_real_or_string}
+use Rattle.vcd_text.proofs.reading.changes.ChangeWords.{begins_real_or_string}
 use Rattle.vcd_text.proofs.reading.parser.Parser.take_real_or_string.Goals as goal
 
 pub returns : goal.returns

@@ -1,5 +1,5 @@
 use Rattle.std.proofs.Common.{sym, ◌∙◌}
-use Rattle.vcd_text.proofs.Changing.{ends_real_or_string, unknown_real_or_string}
+use Rattle.vcd_text.proofs.reading.changes.ChangeWords.{ends_real_or_string, unknown_real_or_string}
 use Rattle.vcd_text.proofs.reading.parser.Parser.take_real_or_string_code.Goals as goal
 
 pub returns-then-not-has_code : goal.returns-then-not-has_code

@@ -1,7 +1,7 @@
 use Rattle.std.proofs.Common.{sym, subst, [], ◌∷◌, ◌∙◌, length, arith}
-use Rattle.vcd_text.specs.inside.SeenParts.{PartChange}
+use Rattle.vcd_text.specs.inside.reading.Part.{PartChange}
 use Rattle.std.proofs.lemmas.Bool.{eqb-true, eqb-false}
-use Rattle.vcd_text.proofs.Changing.{no_code, sets_bit}
+use Rattle.vcd_text.proofs.reading.changes.ChangeWords.{no_code, sets_bit}
 use Rattle.vcd_text.proofs.reading.parser.Parser.take_scalar_change.Goals as goal
 
 pub returns-then-is_empty : goal.returns-then-is_empty

@@ -1,5 +1,5 @@
 use Rattle.std.proofs.Common.{sym, ◌∙◌}
-use Rattle.vcd_text.proofs.Changing.{begins_nothing}
+use Rattle.vcd_text.proofs.reading.changes.ChangeWords.{begins_nothing}
 use Rattle.vcd_text.proofs.reading.parser.Parser.take_value_word.Goals as goal
 
 pub returns-then-is_real_or_string_prefix : goal.returns-then-is_real_or_string_prefix

@@ -1,10 +1,10 @@
 use Rattle.std.proofs.Common.{◌≡◌, ◌∷◌, ◌++◌, ◌⊎◌, [], ap, sym, subst, ◌∙◌}
 use Rattle.vcd_text.specs.Words.{word_on}
-use Rattle.vcd_text.specs.inside.Reading.{error_at}
+use Rattle.vcd_text.specs.inside.reading.Parser.{error_at}
 use Rattle.vcd_text.specs.MemoryErrors.{memory_error}
 use Rattle.vcd_text.specs.Faults.{ShowsFault}
 use Rattle.vcd_text.specs.declared.fault.ReadError.{ReadError}
-use Rattle.vcd_text.proofs.NextWords.{words_taken, one_shown}
+use Rattle.vcd_text.proofs.reading.parser.NextWord.{words_taken, one_shown}
 use Rattle.vcd_text.proofs.reading.parser.Parser.take_word.Goals as goal
 
 pub returns-in-Ok : goal.returns-in-Ok

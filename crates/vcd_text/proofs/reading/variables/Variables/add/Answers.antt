@@ -1,9 +1,9 @@
 use Rattle.std.proofs.Common.{◌≡◌, ◌<◌, ◌++◌, ◌∷◌, [], length, Ok, inl, inr, refl, sym, subst, arith}
 use Rattle.vcd_core.specs.declared.capture.TheConstants.{SIGNAL_LIMIT}
-use Rattle.vcd_text.specs.inside.Variables.{declaration_in, DeclaresAs}
+use Rattle.vcd_text.specs.inside.reading.Variables.{declaration_in, DeclaresAs}
 use Rattle.vcd_text.specs.declared.reading.code_targets.CodeTarget.TheVariants.{Kept}
 use Rattle.vcd_text.specs.declared.reading.variables.Variables.{Variables}
-use Rattle.vcd_text.proofs.DeclaredVariables.{Puts, puts_same, with_kept, keep_declares}
+use Rattle.vcd_text.proofs.reading.variables.DeclaredVariable.{Puts, puts_same, with_kept, keep_declares}
 use Rattle.vcd_text.proofs.reading.variables.Variables.add.Goals.{then-variable-position+in_ok-insert}
 use Rattle.vcd_text.proofs.reading.variables.Variables.add.Goals.{else-variable-position}
 use Rattle.vcd_text.proofs.reading.variables.Variables.add.Goals as goal

@@ -5,11 +5,11 @@ use Rattle.std.specs.Vec.{with_item}
 use Rattle.std.proofs.lemmas.Result.{err_from_is_err_and}
 use Rattle.std.proofs.lemmas.List.Elements.{All-weaker}
 use Rattle.vcd_core.specs.declared.wave.Change.{Change}
-use Rattle.vcd_text.specs.inside.Variables.{HasValueFrom, ChangeResult}
-use Rattle.vcd_text.specs.declared.reading.pending.LoggedChange.{LoggedChange}
+use Rattle.vcd_text.specs.inside.reading.Variables.{HasValueFrom, ChangeResult}
+use Rattle.vcd_text.specs.declared.reading.log.LoggedChange.{LoggedChange}
 use Rattle.vcd_text.specs.declared.reading.variables.Variable.{Variable}
-use Rattle.vcd_text.proofs.ChangedVariables.{own_wave, read_is, wave_late, refused}
-use Rattle.vcd_text.proofs.ChangedVariables.{wide_changes, narrow_changes}
+use Rattle.vcd_text.proofs.reading.variables.ChangedVariable.{own_wave, read_is, wave_late, refused}
+use Rattle.vcd_text.proofs.reading.variables.ChangedVariable.{wide_changes, narrow_changes}
 use Rattle.vcd_text.proofs.reading.variables.Variables.change_at.Goals as goal
 
 pub change_wave-requires : goal.change_wave-requires

@@ -5,8 +5,8 @@ use Rattle.vcd_core.specs.declared.value.TheConstants.{WIDTH_LIMIT}
 use Rattle.vcd_core.specs.Decimal.{number_of}
 use Rattle.vcd_core.specs.Word.{is_skipped_kind}
 use Rattle.vcd_text.specs.Grammar.{VariableDeclaration, is_skipped, variable_tests}
-use Rattle.vcd_text.specs.inside.Variables.{declaration_of_parts, DeclaresAs}
-use Rattle.vcd_text.proofs.DeclaredVariables.{declares_parts, too_few, left_out, kept_size}
+use Rattle.vcd_text.specs.inside.reading.Variables.{declaration_of_parts, DeclaresAs}
+use Rattle.vcd_text.proofs.reading.variables.DeclaredVariable.{declares_parts, too_few, left_out, kept_size}
 use Rattle.vcd_text.proofs.reading.variables.Variables.declare.Goals as goal
 
 pub returns-then-len-lt3 : goal.returns-then-len-lt3

@@ -1,7 +1,7 @@
 use Rattle.std.proofs.Common.{◌≡◌, ◌++◌, ◌∷◌, ◌∙◌, sym, subst, arith}
 use Rattle.std.proofs.lemmas.List.{append_assoc}
-use Rattle.vcd_text.proofs.FinishedVariables.{next_finishes, finished, own_position}
-use Rattle.vcd_text.specs.inside.Scopes.{IsWithin}
+use Rattle.vcd_text.proofs.reading.variables.SignalsOfVariables.{next_finishes, finished, own_position}
+use Rattle.vcd_text.specs.inside.reading.Scopes.{IsWithin}
 use Rattle.vcd_text.proofs.reading.variables.Variables.finished_signals.Goals as goal
 
 pub push_signal-requires : goal.push_signal-requires

@@ -1,8 +1,8 @@
 use Rattle.std.proofs.Common.{◌≡◌, ◌++◌, map, length}
 use Rattle.vcd_core.specs.CaptureContents.{signal_contents}
 use Rattle.vcd_text.specs.Grammar.{ParseState}
-use Rattle.vcd_text.specs.inside.Variables.{VariablesMatch}
-use Rattle.vcd_text.proofs.FinishedVariables.{declared_signals}
+use Rattle.vcd_text.specs.inside.reading.Variables.{VariablesMatch}
+use Rattle.vcd_text.proofs.reading.variables.SignalsOfVariables.{declared_signals}
 use Rattle.vcd_text.proofs.reading.variables.Variables.finished_signals.Given as goal
 
 abbrev pub invariant-loop-variable : goal.invariant-loop-variable

@@ -1,10 +1,10 @@
 use Rattle.std.proofs.Common.{◌≡◌, ◌∙◌, Err, inr, refl, sym, ap, subst}
 use Rattle.std.proofs.lemmas.Result.{err_from_is_err_and}
 use Rattle.vcd_text.specs.Grammar.{VariableDeclaration, is_skipped}
-use Rattle.vcd_text.specs.inside.Variables.{declaration_of_parts, declaration_in, DeclaresAs}
-use Rattle.vcd_text.specs.declared.reading.pending.TheConstants.{NOTHING_EXPECTED}
+use Rattle.vcd_text.specs.inside.reading.Variables.{declaration_of_parts, declaration_in, DeclaresAs}
+use Rattle.vcd_text.specs.declared.reading.log.TheConstants.{NOTHING_EXPECTED}
 use Rattle.vcd_text.specs.declared.reading.variables.Variable.{Variable}
-use Rattle.vcd_text.proofs.VariablesMatch.{scopes_moved}
+use Rattle.vcd_text.proofs.reading.variables.VariablesMatch.{scopes_moved}
 use Rattle.vcd_text.proofs.reading.variables.Variables.keep.Goals as goal
 
 pub returns-in_err-first : goal.returns-in_err-first

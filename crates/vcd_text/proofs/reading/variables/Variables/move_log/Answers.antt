@@ -2,9 +2,9 @@ use Rattle.std.proofs.Common.{arith}
 use Rattle.std.proofs.Common.{[], ap, subst, ◌∙◌}
 use Rattle.std.specs.Global.{Vec}
 use Rattle.std.proofs.lemmas.Result.{on_ok_weaker}
-use Rattle.vcd_text.specs.inside.ChangeLog.{logged, MovesLog}
-use Rattle.vcd_text.specs.declared.reading.pending.LoggedChange.{LoggedChange}
-use Rattle.vcd_text.proofs.MovedLogs.{variables_can_move, moved_match}
+use Rattle.vcd_text.specs.inside.reading.Log.{logged, MovesLog}
+use Rattle.vcd_text.specs.declared.reading.log.LoggedChange.{LoggedChange}
+use Rattle.vcd_text.proofs.reading.log.MovedToWaves.{variables_can_move, moved_match}
 use Rattle.vcd_text.proofs.reading.variables.Variables.move_log.Goals as goal
 
 pub move_log_to_waves-requires : goal.move_log_to_waves-requires

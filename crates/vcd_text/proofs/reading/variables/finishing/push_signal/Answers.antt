@@ -3,7 +3,7 @@ use Rattle.std.proofs.lemmas.Grind.{common_steps}
 use Rattle.std.proofs.lemmas.List.{map-append, with_items_is}
 use Rattle.std.specs.Prelude.{slice_get}
 use Rattle.vcd_core.specs.declared.capture.Signal.{Signal}
-use Rattle.vcd_text.specs.inside.Variables.{Finishes}
+use Rattle.vcd_text.specs.inside.reading.Variables.{Finishes}
 use Rattle.vcd_text.proofs.reading.variables.finishing.push_signal.Goals as goal
 
 pub returns : goal.returns

@@ -1,0 +1,2 @@
+-- Lemmas of `capture`.
+pub mod Lookups

@@ -1,0 +1,2 @@
+-- Lemmas of `decimal`.
+pub mod DigitsInTurn

@@ -1,0 +1,3 @@
+-- Lemmas of `edges`.
+pub mod EdgesOfSeveralWaves
+pub mod EdgesInTurn

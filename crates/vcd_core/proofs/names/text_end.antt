@@ -1,0 +1,2 @@
+-- Lemmas of `names/text_end`.
+pub mod EndsOfTexts

@@ -1,0 +1,2 @@
+-- Lemmas of `planes`.
+pub mod WrittenBits

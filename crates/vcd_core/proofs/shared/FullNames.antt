@@ -1,0 +1,93 @@
+-- The beginning of a full name, and the tests of full names.
+use Rattle.std.proofs.Common.{◌≡◌, Bool, true, false, suc, append_assoc, length-append}
+use Rattle.std.proofs.Common.{if◌then◌else◌, ◌||◌, ℕ, ◌-◌}
+use Rattle.std.proofs.Common.{◌+◌, ◌*◌, slice_index_or}
+use Rattle.std.proofs.Common.{◌<◌, ◌≤◌, List, [], ◌∷◌, ◌++◌, length, get_or, take, drop, map, refl}
+use Rattle.std.proofs.Common.{sym, ap, ◌∙◌}
+use Rattle.std.proofs.Common.{append-nil, arith}
+use Rattle.std.specs.List.{concat, list_any}
+use Rattle.std.proofs.lemmas.Slice.Eq.{bytes_eq-Decides}
+use Rattle.std.specs.Str.{bytes_eq}
+use Rattle.std.proofs.lemmas.List.{take_all, get_or-append-add, length-drop, take-append-drop}
+use Rattle.vcd_core.specs.declared.capture.ScopeName.{ScopeName}
+use Rattle.vcd_core.specs.declared.capture.Signal.{Signal}
+use Rattle.vcd_core.specs.declared.names.full_name.FullName.{FullName}
+use Rattle.vcd_core.specs.CaptureContents.{signal_contents}
+use Rattle.vcd_core.specs.Names.{name_in, scope_text, full_name, full_names}
+use Rattle.vcd_core.specs.FullName.{name_bytes}
+use Rattle.vcd_core.specs.inside.names.FullName.{IsDrained}
+
+-- a name in no scope is its words, run together
+pub name_in-none : (words : List (List ℕ)) → name_in [] words ≡ concat words
+unfolding name_in
+name_in-none words = refl
+
+-- a name in scopes begins with the outermost one and a `.` (46)
+pub name_in-scope : (scope : ScopeName) (scopes : List ScopeName) (words : List (List ℕ))
+    → name_in (scope ∷ scopes) words ≡ scope_text scope ++ 46 ∷ name_in scopes words
+unfolding name_in
+name_in-scope scope [] words = refl
+name_in-scope scope (next ∷ scopes) words = refl
+
+-- an empty word adds nothing to a name
+pub name_in-empty_word : (scopes : List ScopeName) (words : List (List ℕ))
+    → name_in scopes ([] ∷ words) ≡ name_in scopes words
+unfolding name_in
+name_in-empty_word scopes words = refl
+
+-- a test of each image
+pub list_any-map : {X Y : Type 0} (f : X → Y) (p : Y → Bool) (xs : List X)
+    → list_any p (map f xs) ≡ list_any (λ x. p (f x)) xs
+list_any-map f p [] = refl
+list_any-map f p (x ∷ xs) = ap (λ (b : Bool). p (f x) || b) (list_any-map f p xs)
+
+pub ruleset name_steps = (name_in-empty_word, append-nil)
+
+-- the bytes of a name from its scopes, for no scope and for one or more
+pub bytes_in_none : (scopes : List ScopeName) (first : List ℕ) (others : List (List ℕ)) → length scopes < 1
+    → first ++ (concat others ++ []) ≡ name_in scopes (first ∷ others)
+bytes_in_none [] first others none = rw append-nil (sym (name_in-none (first ∷ others)))
+bytes_in_none (scope ∷ scopes) first others none = absurd (omega arith)
+
+pub bytes_in_scope : (scopes : List ScopeName) (scope : ScopeName) (name : List (List ℕ)) (text : List ℕ)
+    (words : List (List ℕ)) (in_scope : Bool) →
+    1 ≤ length scopes → scope ≡ get_or scopes 0 scope → text ≡ [] → words ≡ scope.words → in_scope ≡ true →
+    text ++ (concat words ++ (if in_scope then 46 ∷ name_in (take (length scopes - 1) (drop 1 scopes)) name else []))
+    ≡ name_in scopes name
+bytes_in_scope [] scope name text words in_scope some is empty same within = absurd (omega arith)
+bytes_in_scope (s ∷ inner) scope name text words in_scope some is empty same within =
+    let whole : take (length (s ∷ inner) - 1) inner ≡ inner = take_all (length (s ∷ inner) - 1) inner (omega arith) in
+    rw (empty, same, within, whole, is) (sym (name_in-scope s inner name))
+
+-- the bytes of a name of which a scope is left
+pub bytes_drained : (n : FullName) → IsDrained n → n.in_scope ≡ true
+    → name_bytes n ≡ 46 ∷ name_in n.scopes.now (n.first.now ∷ n.others.now)
+bytes_drained n drained within = rw (drained.text, drained.words, within) refl
+
+-- whether the name of one of the signals is this
+pub is_one_of_names : (name : List ℕ) (signals : List Signal)
+    → list_any (bytes_eq name) (full_names (map signal_contents signals))
+    ≡ list_any (λ s. bytes_eq name (full_name (signal_contents s))) signals
+is_one_of_names name signals = list_any-map full_name (bytes_eq name) (map signal_contents signals)
+    ∙ list_any-map signal_contents (λ s. bytes_eq name (full_name s)) signals
+
+-- ---- the end of a name
+
+-- a name in scopes ends with its words
+pub name_in_ends : (scopes : List ScopeName) (words : List (List ℕ))
+    → (prefix : List ℕ) × (name_in scopes words ≡ prefix ++ concat words)
+name_in_ends [] words = ([], name_in-none words)
+name_in_ends (scope ∷ scopes) words =
+    let rest = name_in_ends scopes words in (
+      scope_text scope ++ 46 ∷ rest.0,
+      name_in-scope scope scopes words ∙ ap (λ l. scope_text scope ++ 46 ∷ l) rest.1
+          ∙ sym (append_assoc (scope_text scope) (46 ∷ rest.0) (concat words)),
+    )
+
+-- what texts that end with these two would say of a test, of these two names
+pub not_the_name : (text name : List ℕ) (r : Bool) → r ≡ false → (text ≡ name → r ≡ true) → false ≡ bytes_eq text name
+not_the_name text name r fails passes = choose (bytes_eq text name) ((bytes_eq-Decides text name).0)
+  where
+    choose : (b : Bool) → (b ≡ true → text ≡ name) → false ≡ b
+    choose false same = refl
+    choose true same = sym fails ∙ passes (same refl)

@@ -1,0 +1,2 @@
+-- Lemmas of `wave/searching`.
+pub mod ChangesUpToTick

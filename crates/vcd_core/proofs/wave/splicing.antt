@@ -1,0 +1,2 @@
+-- Lemmas of `wave/splicing`.
+pub mod MovedChanges

@@ -1,0 +1,2 @@
+-- Definitions that `wave` and its proofs cite.
+pub mod List

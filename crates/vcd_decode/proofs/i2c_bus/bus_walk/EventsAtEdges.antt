@@ -1,0 +1,80 @@
+-- The events at the edges of two lines are those at all ticks.
+use Rattle.std.proofs.Common.{◌≡◌, ℕ, zero, suc, Option, Some, None, List, [], ◌∷◌, ◌++◌, refl, sym, ap}
+use Rattle.std.proofs.Common.{◌∙◌, option_to_list, map, All}
+use Rattle.std.specs.Prelude.{filter}
+use Rattle.std.specs.List.{filter_map, flat_map, cons_option, range_with_len, list_any}
+use Rattle.std.proofs.lemmas.List.Elements.{All-nil, All-cons}
+use Rattle.vcd_core.specs.declared.bit.Bit.{Bit}
+use Rattle.vcd_core.specs.declared.bit.Bit.TheVariants.{Zero, One, X, Z}
+use Rattle.vcd_core.specs.Edges.{trace_of, changes_at, edge_on, edges_on}
+use Rattle.vcd_core.specs.BitEdges.{bit_edge, bit_edges_of}
+use Rattle.vcd_core.specs.WaveView.{WaveView}
+use Rattle.vcd_decode.specs.Lines.{letter_before}
+use Rattle.vcd_decode.specs.WaveLines.{line_of}
+use Rattle.vcd_decode.specs.BusEvents.{bus_event_at, bus_events}
+use Rattle.vcd_decode.specs.inside.i2c_bus.Events.{bus_event}
+use Rattle.vcd_decode.specs.inside.i2c_bus.BusWalk.{levels_of, IsBusEdge, edge_event, edge_events}
+use Rattle.vcd_decode.specs.inside.LineEdges.{lines_of, line_edge}
+use Rattle.vcd_decode.proofs.shared.EdgeTicks.{over_edges}
+
+-- where no level changes, there is no event
+nothing_happens : (t : ℕ) (scl sda : Bit)
+    → bus_event t (record { scl = scl; sda = sda }) (record { scl = scl; sda = sda }) ≡ None
+nothing_happens t Zero Zero = refl
+nothing_happens t Zero One = refl
+nothing_happens t Zero X = refl
+nothing_happens t Zero Z = refl
+nothing_happens t One Zero = refl
+nothing_happens t One One = refl
+nothing_happens t One X = refl
+nothing_happens t One Z = refl
+nothing_happens t X Zero = refl
+nothing_happens t X One = refl
+nothing_happens t X X = refl
+nothing_happens t X Z = refl
+nothing_happens t Z Zero = refl
+nothing_happens t Z One = refl
+nothing_happens t Z X = refl
+nothing_happens t Z Z = refl
+
+as_lists : {A B : Type 0} (f : A → Option B) (xs : List A) → filter_map f xs ≡ flat_map (λ x. option_to_list (f x)) xs
+as_lists f [] = refl
+as_lists f (x ∷ xs) = choose (f x) (as_lists f xs)
+  where
+    choose : (o : Option _) → filter_map f xs ≡ flat_map (λ y. option_to_list (f y)) xs
+        → cons_option o (filter_map f xs) ≡ option_to_list o ++ flat_map (λ y. option_to_list (f y)) xs
+    choose None others = others
+    choose (Some y) others = ap (λ ys. y ∷ ys) others
+
+module _ (scl sda : WaveView) where
+  abbrev pub bus_waves : List (Option WaveView)
+  bus_waves = Some scl ∷ Some sda ∷ None ∷ None ∷ []
+
+  -- each edge has both lines
+  pub each_is_bus_edge : (end : ℕ) → All IsBusEdge (bit_edges_of bus_waves end)
+  unfolding edges_on
+  each_is_bus_edge end =
+      of_each (filter (λ t. list_any (changes_at t) (map trace_of bus_waves)) (range_with_len 0 (suc end)))
+    where
+      of_each : (ticks : List ℕ) → All IsBusEdge (map bit_edge (map (edge_on (map trace_of bus_waves)) ticks))
+      of_each [] = All-nil IsBusEdge
+      of_each (t ∷ ticks) = All-cons IsBusEdge (bit_edge (edge_on (map trace_of bus_waves) t))
+          (map bit_edge (map (edge_on (map trace_of bus_waves)) ticks)) (has_both t) (of_each ticks)
+        where
+          has_both : (t : ℕ) → IsBusEdge (bit_edge (edge_on (map trace_of bus_waves) t))
+          has_both zero = ((_, _, refl), (_, _, refl))
+          has_both (suc t) = ((_, _, refl), (_, _, refl))
+
+  still : (t : ℕ) → (line_edge (lines_of bus_waves) t).at ≡ (line_edge (lines_of bus_waves) t).before
+      → option_to_list (edge_event (line_edge (lines_of bus_waves) t)) ≡ []
+  still t same =
+      ap (λ (letters : List (Option Bit)). option_to_list
+      (bus_event t (levels_of (line_edge (lines_of bus_waves) t).before) (levels_of letters))) same
+      ∙ ap option_to_list (nothing_happens t (letter_before (line_of scl) t) (letter_before (line_of sda) t))
+
+  pub events_are : (end : ℕ) → edge_events (bit_edges_of bus_waves end) ≡ bus_events (line_of scl) (line_of sda) end
+  unfolding bus_events
+  events_are end =
+      as_lists edge_event (bit_edges_of bus_waves end)
+      ∙ over_edges bus_waves (λ e. option_to_list (edge_event e)) still end
+      ∙ sym (as_lists (bus_event_at (line_of scl) (line_of sda)) (range_with_len 0 (suc end)))

@@ -1,0 +1,3 @@
+-- Lemmas: shared.
+pub mod EdgeTicks
+pub mod Groups

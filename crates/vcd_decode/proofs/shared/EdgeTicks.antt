@@ -1,0 +1,148 @@
+-- A list that is empty where no line changes: over all ticks it is the list over the edges.
+use Rattle.std.proofs.Common.{◌≡◌, ℕ, zero, suc, ◌||◌, Bool, true, false, not, cond, Option, Some}
+use Rattle.std.proofs.Common.{None, List, [], ◌∷◌}
+use Rattle.std.proofs.Common.{◌++◌, map, replicate, get_or, refl, sym, ap, subst, ◌∙◌}
+use Rattle.std.specs.List.{filter, flat_map, list_any, range_with_len, AllByRecursion}
+use Rattle.std.specs.Option.{option_map}
+use Rattle.vcd_core.specs.declared.bit.Bit.{Bit}
+use Rattle.vcd_core.specs.declared.bit.Bit.TheVariants.{X}
+use Rattle.vcd_core.specs.declared.bit_edges.BitEdge.{BitEdge}
+use Rattle.vcd_core.specs.Value.{same_letters}
+use Rattle.vcd_core.specs.inside.value.EqualByLetters.{same_letters-Decides}
+use Rattle.vcd_core.specs.WaveView.{WaveView}
+use Rattle.vcd_core.specs.Edges.{Trace, trace_of, value_on, value_before, same_value, changes_at}
+use Rattle.vcd_core.specs.Edges.{edge_on, edges_on}
+use Rattle.vcd_core.specs.BitEdges.{lowest_bit, bit_edge, bit_edges_of}
+use Rattle.vcd_decode.specs.Lines.{letter_before}
+use Rattle.vcd_decode.specs.WaveLines.{line_of}
+use Rattle.vcd_decode.specs.inside.LineEdges.{lines_of, line_edge}
+
+-- ---- the bits at an edge are the letters of the lines
+
+x_letter : (n i : ℕ) → get_or (replicate n X) i X ≡ X
+x_letter zero i = refl
+x_letter (suc n) zero = refl
+x_letter (suc n) (suc i) = x_letter n i
+
+bit_before : (wave : Option WaveView) (t : ℕ)
+    → lowest_bit (value_before (trace_of wave) t) ≡ option_map (λ f. letter_before f t) (option_map line_of wave)
+bit_before None zero = refl
+bit_before None (suc t) = refl
+bit_before (Some w) zero = ap (λ (b : Bit). Some b) (x_letter w.width _)
+bit_before (Some w) (suc t) = refl
+
+bit_here : (wave : Option WaveView) (t : ℕ)
+    → lowest_bit (value_on (trace_of wave) t) ≡ option_map (λ f. f t) (option_map line_of wave)
+bit_here None t = refl
+bit_here (Some w) t = refl
+
+bits_before : (waves : List (Option WaveView)) (t : ℕ)
+    → map lowest_bit (map (λ l. value_before l t) (map trace_of waves))
+    ≡ map (option_map (λ f. letter_before f t)) (lines_of waves)
+bits_before [] t = refl
+bits_before (wave ∷ waves) t = λ i. bit_before wave t i ∷ bits_before waves t i
+
+bits_here : (waves : List (Option WaveView)) (t : ℕ) → map lowest_bit (map (λ l. value_on l t) (map trace_of waves))
+    ≡ map (option_map (λ f. f t)) (lines_of waves)
+bits_here [] t = refl
+bits_here (wave ∷ waves) t = λ i. bit_here wave t i ∷ bits_here waves t i
+
+edge_is : (waves : List (Option WaveView)) (t : ℕ)
+    → bit_edge (edge_on (map trace_of waves) t) ≡ line_edge (lines_of waves) t
+edge_is waves t =
+    let before = bits_before waves t in
+    let here = bits_here waves t in
+    λ i. record { tick = t; before = before i; at = here i }
+
+-- ---- where no wave changes
+
+first_fails : (p q : Bool) → (p || q) ≡ false → p ≡ false
+first_fails true q none = none
+first_fails false q none = refl
+
+second_fails : (p q : Bool) → (p || q) ≡ false → q ≡ false
+second_fails true q none = absurd (cc)
+second_fails false q none = none
+
+same_where : (v w : Option (List Bit)) → not (same_value v w) ≡ false → v ≡ w
+same_where None None none = refl
+same_where None (Some w) none = absurd (cc)
+same_where (Some v) None none = absurd (cc)
+same_where (Some v) (Some w) none =
+    ap (λ (u : List Bit). Some u) ((same_letters-Decides v w).0 (twice (same_letters v w) none))
+  where
+    twice : (b : Bool) → not b ≡ false → b ≡ true
+    twice true none = refl
+    twice false none = absurd (cc)
+
+still_values : (ls : List Trace) (t : ℕ) → list_any (changes_at t) ls ≡ false
+    → map (λ l. value_on l t) ls ≡ map (λ l. value_before l t) ls
+still_values [] t none = refl
+still_values (l ∷ ls) t none =
+    let here = same_where (value_on l t) (value_before l t)
+    (first_fails (changes_at t l) (list_any (changes_at t) ls) none) in
+    let rest = still_values ls t (second_fails (changes_at t l) (list_any (changes_at t) ls) none) in
+    λ i. here i ∷ rest i
+
+-- where no line changes, each has its letter of the tick before
+still_bits : (waves : List (Option WaveView)) (t : ℕ) → list_any (changes_at t) (map trace_of waves) ≡ false
+    → (line_edge (lines_of waves) t).at ≡ (line_edge (lines_of waves) t).before
+still_bits waves t none =
+    sym (bits_here waves t) ∙ ap (map lowest_bit) (still_values (map trace_of waves) t none) ∙ bits_before waves t
+
+-- ---- over the edges and over all ticks
+
+map-map : {A B C : Type 0} (f : B → C) (g : A → B) (xs : List A) → map f (map g xs) ≡ map (λ x. f (g x)) xs
+map-map f g [] = refl
+map-map f g (x ∷ xs) = ap (λ ys. f (g x) ∷ ys) (map-map f g xs)
+
+map_same : {A B : Type 0} (f g : A → B) (xs : List A) → ((x : A) → f x ≡ g x) → map f xs ≡ map g xs
+map_same f g [] same = refl
+map_same f g (x ∷ xs) same = λ i. same x i ∷ map_same f g xs same i
+
+module _ (waves : List (Option WaveView)) where
+  abbrev lines : List (Option (ℕ → Bit))
+  lines = lines_of waves
+
+  abbrev changes : ℕ → Bool
+  changes t = list_any (changes_at t) (map trace_of waves)
+
+  -- the edges are those of the lines at the ticks at which one changes
+  edges_are : (end : ℕ) → bit_edges_of waves end ≡ map (line_edge lines) (filter changes (range_with_len 0 (suc end)))
+  unfolding edges_on
+  edges_are end =
+      map-map bit_edge (edge_on (map trace_of waves)) (filter changes (range_with_len 0 (suc end)))
+      ∙ map_same (λ t. bit_edge (edge_on (map trace_of waves) t)) (line_edge lines)
+      (filter changes (range_with_len 0 (suc end))) (edge_is waves)
+
+  each_map : {A B : Type 0} (P : B → Type 0) (f : A → B) (xs : List A) → ((x : A) → P (f x))
+      → AllByRecursion P (map f xs)
+  each_map P f [] all = tt
+  each_map P f (x ∷ xs) all = (all x, each_map P f xs all)
+
+  -- each edge is that of the lines at its tick
+  pub each_edge : (end : ℕ) → AllByRecursion (λ e. e ≡ line_edge lines e.tick) (bit_edges_of waves end)
+  each_edge end =
+      let P : BitEdge → Type 0 = λ e. e ≡ line_edge lines e.tick in
+      subst (AllByRecursion P) (sym (edges_are end))
+      (each_map P (line_edge lines) (filter changes (range_with_len 0 (suc end))) (λ t. refl))
+
+  module _ {A : Type 0} (g : BitEdge → List A) (still : (t : ℕ) → (line_edge lines t).at ≡ (line_edge lines t).before
+      → g (line_edge lines t) ≡ []) where
+    over_kept : (ticks : List ℕ)
+        → flat_map g (map (line_edge lines) (filter changes ticks)) ≡ flat_map (λ t. g (line_edge lines t)) ticks
+    over_kept [] = refl
+    over_kept (t ∷ ticks) = choose (changes t) refl (over_kept ticks)
+      where
+        choose : (b : Bool) → changes t ≡ b → flat_map g (map (line_edge lines) (filter changes ticks))
+            ≡ flat_map (λ u. g (line_edge lines u)) ticks
+            → flat_map g (map (line_edge lines) (cond b (t ∷ filter changes ticks) (filter changes ticks)))
+            ≡ g (line_edge lines t) ++ flat_map (λ u. g (line_edge lines u)) ticks
+        choose true change later = ap (λ xs. g (line_edge lines t) ++ xs) later
+        choose false none later = later
+            ∙ ap (λ xs. xs ++ flat_map (λ u. g (line_edge lines u)) ticks) (sym (still t (still_bits waves t none)))
+
+    -- a list that is empty where no line changes
+    pub over_edges : (end : ℕ)
+        → flat_map g (bit_edges_of waves end) ≡ flat_map (λ t. g (line_edge lines t)) (range_with_len 0 (suc end))
+    over_edges end = ap (flat_map g) (edges_are end) ∙ over_kept (range_with_len 0 (suc end))

@@ -1,0 +1,3 @@
+-- Lemmas of `spi_words`.
+pub mod GroupAfterTick
+pub mod EdgeByEdge

@@ -1,0 +1,358 @@
+-- The walk over edges for SPI words: the annotations of an edge compared with those of all ticks.
+use Rattle.std.proofs.Common.{◌≡◌, ℕ, zero, suc, ◌+◌, ◌<◌, ◌==◌, ◌&&◌, Bool, true, false, cond, not}
+use Rattle.std.proofs.Common.{if◌then◌else◌}
+use Rattle.std.proofs.Common.{nat_lt, Option, Some, None, List, [], ◌∷◌, ◌++◌, map, length, refl}
+use Rattle.std.proofs.Common.{sym, ap, subst, ◌∙◌}
+use Rattle.std.proofs.Common.{append_assoc, add-one, inl, inr, arith}
+use Rattle.std.specs.List.{filter, flat_map, onto_first, range_with_len, slice_split}
+use Rattle.std.specs.List.{AllByRecursion}
+use Rattle.std.specs.Option.{is_some, option_map}
+use Rattle.std.proofs.lemmas.Bool.{cases_lt, lt-ltb, le-ltb}
+use Rattle.std.proofs.lemmas.List.{append-nil}
+use Rattle.vcd_core.specs.declared.bit.Bit.{Bit}
+use Rattle.vcd_core.specs.declared.bit.Bit.TheVariants.{Zero, One, X, Z}
+use Rattle.vcd_core.specs.declared.bit_edges.BitEdge.{BitEdge}
+use Rattle.vcd_core.specs.WaveView.{WaveView}
+use Rattle.vcd_core.specs.BitEdges.{bit_edges_of}
+use Rattle.vcd_decode.specs.declared.annotation.Annotation.{Annotation}
+use Rattle.vcd_decode.specs.declared.partial_word.PartialWord.{PartialWord}
+use Rattle.vcd_decode.specs.SpiSetup.{SpiSetup}
+use Rattle.vcd_decode.specs.Lines.{letter_before, is_zero, is_one}
+use Rattle.vcd_decode.specs.WaveLines.{line_of}
+use Rattle.vcd_decode.specs.Spi.{has_sampling_edge, is_selected, line_data, group_annotation}
+use Rattle.vcd_decode.specs.inside.SpiParts.{samples_rising_edge, group_start}
+use Rattle.vcd_decode.specs.Spi.{spi_annotations}
+use Rattle.vcd_decode.specs.inside.SpiParts.{segment_annotations}
+use Rattle.vcd_decode.specs.inside.LineEdges.{lines_of, line_edge}
+use Rattle.vcd_decode.specs.inside.SpiSetup.{is_present_and, samples_at}
+use Rattle.vcd_decode.specs.inside.PartialWord.{line_bit, first_data, data_after, group_before}
+use Rattle.vcd_decode.specs.inside.PartialWord.{group_after}
+use Rattle.vcd_decode.specs.inside.PartialWord.{word_annotation}
+use Rattle.vcd_decode.specs.inside.SpiWords.{selects_chip, deselects_chip, is_sampling}
+use Rattle.vcd_decode.specs.inside.SpiWords.{annotations_of_unfinished}
+use Rattle.vcd_decode.specs.inside.SpiWords.{annotations_at_edge}
+use Rattle.vcd_decode.specs.inside.SpiWords.{edge_group, tick_group, edge_marks}
+use Rattle.vcd_decode.specs.inside.SpiWords.{annotations_at_marks, HasRoomForBit}
+use Rattle.vcd_decode.specs.inside.SpiWords.{SpiProgress}
+use Rattle.vcd_decode.proofs.shared.Groups.{groups_none, groups_whole}
+use Rattle.vcd_decode.proofs.shared.EdgeTicks.{each_edge, over_edges}
+use Rattle.vcd_decode.proofs.spi_words.GroupAfterTick.{group_last, group_none, length_last, line_first, line_fits}
+use Rattle.vcd_decode.proofs.spi_words.GroupAfterTick.{rest_is, word_is}
+
+-- ---- a whole word in front of the rest
+
+module _ (u : SpiSetup) (some : 0 < u.bits) (mosi miso : Option (ℕ → Bit)) where
+  abbrev annotations_of_ticks : List ℕ → List Annotation
+  annotations_of_ticks = segment_annotations u mosi miso
+
+  word_first : (c ts : List ℕ) (marks : List (Option ℕ)) → length c ≡ u.bits
+      → annotations_at_marks u mosi miso (c ++ ts) marks ≡ group_annotation u mosi miso c
+      ∷ annotations_at_marks u mosi miso ts marks
+  unfolding annotations_at_marks
+  word_first c ts [] whole = ap (map (group_annotation u mosi miso)) (groups_whole u.bits c ts some whole)
+  word_first c ts (None ∷ marks) whole =
+      ap (λ appended. appended ++ annotations_at_marks u mosi miso [] marks)
+      (ap (map (group_annotation u mosi miso)) (groups_whole u.bits c ts some whole))
+  word_first c ts (Some t ∷ marks) whole =
+      ap (λ us. annotations_at_marks u mosi miso us marks) (append_assoc c ts (t ∷ []))
+      ∙ word_first c (ts ++ t ∷ []) marks whole
+
+  -- ---- the group of some ticks after an edge: the marks that the edge adds give the same
+
+  pub record IsClockStep (divides reads : Bool) (longer : PartialWord) (t : ℕ) (ts : List ℕ)
+      (marks : List (Option ℕ)) : Type 0 where
+    pub after : List ℕ
+    pub short : length after < u.bits
+    pub group : (if divides then group_before (tick_group u mosi miso ts)
+        else (if not reads then tick_group u mosi miso ts else
+        (if nat_lt (length ts + 1) u.bits then longer else group_before longer))) ≡ tick_group u mosi miso after
+    pub appended : (if divides then annotations_of_unfinished (tick_group u mosi miso ts)
+        else (if not reads then [] else (if nat_lt (length ts + 1) u.bits then [] else word_annotation longer ∷ [])))
+        ++ annotations_at_marks u mosi miso after marks
+        ≡ annotations_at_marks u mosi miso ts ((if divides then None ∷ [] else (if reads then Some t ∷ [] else []))
+        ++ marks)
+
+  clock_step : (divides reads : Bool) (longer : PartialWord) (t : ℕ) (ts : List ℕ) (marks : List (Option ℕ))
+      → length ts < u.bits
+      → longer ≡ tick_group u mosi miso (ts ++ t ∷ []) → IsClockStep divides reads longer t ts marks
+  unfolding annotations_at_marks
+  clock_step true reads longer t ts marks short is = record {
+    after = [];
+    short = some;
+    group = group_none u mosi miso ts;
+    appended = ap (λ a. a ++ annotations_at_marks u mosi miso [] marks) (rest_is u mosi miso ts short);
+  }
+  clock_step false false longer t ts marks short is =
+      record { after = ts; short = short; group = refl; appended = refl }
+  clock_step false true longer t ts marks short is =
+      elim (cases_lt (length ts + 1) u.bits) [
+        | inl less ↦
+            let test : nat_lt (length ts + 1) u.bits ≡ true = lt-ltb (length ts + 1) u.bits less in
+            record {
+              after = ts ++ t ∷ [];
+              short = omega (arith, length_last ts t);
+              group = rw test is;
+              appended = rw test refl;
+            }
+        | inr full ↦
+            let test : nat_lt (length ts + 1) u.bits ≡ false = le-ltb (length ts + 1) u.bits full in
+            let whole : length (ts ++ t ∷ []) ≡ u.bits = omega (arith, length_last ts t) in
+            record {
+              after = [];
+              short = some;
+              group = rw test (ap group_before is ∙ group_none u mosi miso (ts ++ t ∷ []));
+              appended = rw test (
+                  ap (λ g. word_annotation g ∷ annotations_at_marks u mosi miso [] marks) is
+                  ∙ ap (λ a. a ∷ annotations_at_marks u mosi miso [] marks)
+                  (sym (word_is u mosi miso (ts ++ t ∷ []) whole))
+                  ∙ sym (word_first (ts ++ t ∷ []) [] marks whole)
+                  ∙ ap (λ us. annotations_at_marks u mosi miso us marks) (append-nil (ts ++ t ∷ []))
+                  );
+            }
+      ]
+
+  module _ (clk : ℕ → Bit) (cs : Option (ℕ → Bit)) where
+    abbrev lines : List (Option (ℕ → Bit))
+    lines = Some clk ∷ mosi ∷ miso ∷ cs ∷ []
+
+    abbrev SoFar : List Annotation → List Annotation → PartialWord → List BitEdge → Type 0
+    SoFar all found g left = SpiProgress u clk mosi miso cs all found g left
+
+    longer_is : (e : BitEdge) (ts : List ℕ) → e ≡ line_edge lines e.tick
+        → group_after u.order (tick_group u mosi miso ts) e ≡ tick_group u mosi miso (ts ++ e.tick ∷ [])
+    longer_is e ts is =
+        let out : line_bit e.at 1 ≡ option_map (λ f. f e.tick) mosi = ap (λ (x : BitEdge). line_bit x.at 1) is in
+        let back : line_bit e.at 2 ≡ option_map (λ f. f e.tick) miso = ap (λ (x : BitEdge). line_bit x.at 2) is in
+        (λ i. record {
+          start = if length ts == 0 then e.tick else group_start ts;
+          last = e.tick;
+          count = length ts + 1;
+          mosi = data_after u.order (length ts) (line_data u.order mosi ts) (out i);
+          miso = data_after u.order (length ts) (line_data u.order miso ts) (back i);
+        }) ∙ group_last u mosi miso ts e.tick
+
+    edge_goes : (e : BitEdge) (ts : List ℕ) (marks : List (Option ℕ)) → length ts < u.bits → e ≡ line_edge lines e.tick
+        → IsClockStep (deselects_chip e) (is_sampling u e)
+        (group_after u.order (tick_group u mosi miso ts) e) e.tick ts marks
+    edge_goes e ts marks short is =
+        clock_step (deselects_chip e) (is_sampling u e)
+        (group_after u.order (tick_group u mosi miso ts) e) e.tick ts marks short
+        (longer_is e ts is)
+
+    -- ---- the loop
+
+    pub so_far_more : (all found more : List Annotation) (g next : PartialWord) (left rest : List BitEdge) (e : BitEdge)
+        → SoFar all found g left → left ≡ e ∷ rest
+        → more ≡ found ++ annotations_at_edge u g e → next ≡ edge_group u g e → SoFar all more next rest
+    unfolding edge_marks
+    so_far_more all found more g next left rest e so_far split appended grown =
+        let ts = so_far.ticks in
+        let marks : List (Option ℕ) = flat_map (edge_marks u) rest in
+        let each = subst (AllByRecursion (λ x. x ≡ line_edge lines x.tick)) split so_far.each in
+        let step = edge_goes e ts marks so_far.short each.0 in
+        let before : found ++ annotations_at_marks u mosi miso ts (edge_marks u e ++ marks) ≡ all =
+        ap (λ (es : List BitEdge). found ++ annotations_at_marks u mosi miso ts (flat_map (edge_marks u) es))
+        (sym split) ∙ so_far.rest in
+        record {
+          ticks = step.after;
+          short = step.short;
+          is_group = grown ∙ ap (λ (x : PartialWord). edge_group u x e) so_far.is_group ∙ step.group;
+          each = each.1;
+          rest =
+              ap (λ xs. xs ++ annotations_at_marks u mosi miso step.after marks) (appended
+              ∙ ap (λ (x : PartialWord). found ++ annotations_at_edge u x e) so_far.is_group)
+              ∙ append_assoc found (annotations_at_edge u (tick_group u mosi miso ts) e)
+              (annotations_at_marks u mosi miso step.after marks)
+              ∙ ap (λ xs. found ++ xs) step.appended
+              ∙ before;
+        }
+
+    -- at the end the rest is annotated
+    pub so_far_ends : (all found more : List Annotation) (g : PartialWord) (left : List BitEdge)
+        → SoFar all found g left
+        → left ≡ [] → more ≡ found ++ annotations_of_unfinished g → more ≡ all
+    unfolding annotations_at_marks
+    so_far_ends all found more g left so_far over appended =
+        let ts = so_far.ticks in
+        appended ∙ ap (λ (x : PartialWord). found ++ annotations_of_unfinished x) so_far.is_group
+        ∙ ap (λ xs. found ++ xs) (rest_is u mosi miso ts so_far.short)
+        ∙ ap (λ (es : List BitEdge). found ++ annotations_at_marks u mosi miso ts (flat_map (edge_marks u) es))
+        (sym over)
+        ∙ so_far.rest
+
+    -- the group has room for one more bit
+    pub so_far_open : (all found : List Annotation) (g : PartialWord) (left : List BitEdge) → SoFar all found g left
+        → HasRoomForBit u g
+    so_far_open all found g left so_far =
+        let ts = so_far.ticks in
+        let open_there : HasRoomForBit u (tick_group u mosi miso ts) =
+        record { count = so_far.short; mosi = line_fits u.order mosi ts; miso = line_fits u.order miso ts } in
+        subst (HasRoomForBit u) (sym so_far.is_group) open_there
+
+    -- ---- the marks of all ticks
+
+    -- whether the chip is selected just before a tick
+    abbrev was_selected : ℕ → Bool
+    was_selected t = selects_chip (option_map (λ f. letter_before f t) cs)
+
+    abbrev mark : Bool → Bool → Bool → ℕ → List (Option ℕ)
+    mark was is reads t = if was && not is then None ∷ [] else (if is && reads then Some t ∷ [] else [])
+
+    selected_is : (t : ℕ) → selects_chip (option_map (λ f. f t) cs) ≡ is_selected cs t
+    selected_is t = choose cs
+      where
+        choose : (line : Option (ℕ → Bit)) → selects_chip (option_map (λ f. f t) line) ≡ is_selected line t
+        choose None = refl
+        choose (Some f) = refl
+
+    selected_before : (t : ℕ) → was_selected (suc t) ≡ is_selected cs t
+    selected_before t = choose cs
+      where
+        choose : (line : Option (ℕ → Bit))
+            → selects_chip (option_map (λ f. letter_before f (suc t)) line) ≡ is_selected line t
+        choose None = refl
+        choose (Some f) = refl
+
+    mark_is : (t : ℕ) → edge_marks u (line_edge lines t)
+        ≡ mark (was_selected t) (is_selected cs t) (has_sampling_edge u.mode clk t) t
+    unfolding edge_marks
+    mark_is t = ap (λ is. mark (was_selected t) is (has_sampling_edge u.mode clk t) t) (selected_is t)
+
+    -- the annotations of parts of ticks, where some ticks come before the first part
+    abbrev parts_annotations : List ℕ → List (List ℕ) → List Annotation
+    parts_annotations ts [] = annotations_of_ticks ts
+    parts_annotations ts (part ∷ parts) = annotations_of_ticks (ts ++ filter (has_sampling_edge u.mode clk) part)
+        ++ flat_map annotations_of_ticks (map (filter (has_sampling_edge u.mode clk)) parts)
+
+    abbrev parts : ℕ → ℕ → List (List ℕ)
+    parts a n = slice_split (λ t. not (is_selected cs t)) (range_with_len a n)
+
+    none_is : annotations_of_ticks [] ≡ []
+    none_is = ap (map (group_annotation u mosi miso)) (groups_none u.bits)
+
+    -- without ticks before, they are those of each part
+    parts_alone : (ps : List (List ℕ))
+        → parts_annotations [] ps ≡ flat_map annotations_of_ticks (map (filter (has_sampling_edge u.mode clk)) ps)
+    parts_alone [] = none_is
+    parts_alone (part ∷ ps) = refl
+
+    -- a tick at which the chip is selected belongs to the first part
+    parts_read : (reads : Bool) (a : ℕ) (ts : List ℕ) (ps : List (List ℕ)) → has_sampling_edge u.mode clk a ≡ reads
+        → parts_annotations (if reads then ts ++ a ∷ [] else ts) ps ≡ parts_annotations ts (onto_first a ps)
+    parts_read true a ts [] is = rw is (sym (append-nil (annotations_of_ticks (ts ++ a ∷ []))))
+    parts_read false a ts [] is =
+        rw is (sym (append-nil (annotations_of_ticks (ts ++ [])) ∙ ap annotations_of_ticks (append-nil ts)))
+    parts_read true a ts (part ∷ ps) is =
+        rw is (ap (λ us. annotations_of_ticks us
+        ++ flat_map annotations_of_ticks (map (filter (has_sampling_edge u.mode clk)) ps))
+        (append_assoc ts (a ∷ []) (filter (has_sampling_edge u.mode clk) part)))
+    parts_read false a ts (part ∷ ps) is = rw is refl
+
+    annotations_at_tick : (was is reads : Bool) (a : ℕ) (ts : List ℕ) (marks : List (Option ℕ)) (ps : List (List ℕ))
+        → (was ≡ false → ts ≡ []) → has_sampling_edge u.mode clk a ≡ reads
+        → ((us : List ℕ) → (is ≡ false → us ≡ []) → annotations_at_marks u mosi miso us marks ≡ parts_annotations us ps)
+        → annotations_at_marks u mosi miso ts (mark was is reads a ++ marks)
+        ≡ parts_annotations ts (cond (not is) ([] ∷ ps) (onto_first a ps))
+    unfolding annotations_at_marks
+    annotations_at_tick true true true a ts marks ps following edge later = later (ts ++ a ∷ []) (λ none. absurd (cc))
+        ∙ parts_read true a ts ps edge
+    annotations_at_tick false true true a ts marks ps following edge later = later (ts ++ a ∷ []) (λ none. absurd (cc))
+        ∙ parts_read true a ts ps edge
+    annotations_at_tick true true false a ts marks ps following edge later = later ts (λ none. absurd (cc))
+        ∙ parts_read false a ts ps edge
+    annotations_at_tick false true false a ts marks ps following edge later = later ts (λ none. absurd (cc))
+        ∙ parts_read false a ts ps edge
+    annotations_at_tick true false reads a ts marks ps following edge later =
+        ap (λ xs. annotations_of_ticks ts ++ xs) (later [] (λ none. refl) ∙ parts_alone ps)
+        ∙ ap (λ us. annotations_of_ticks us
+        ++ flat_map annotations_of_ticks (map (filter (has_sampling_edge u.mode clk)) ps))
+        (sym (append-nil ts))
+    annotations_at_tick false false reads a ts marks ps following edge later =
+        later ts (λ none. following refl)
+        ∙ ap (λ us. parts_annotations us ps) (following refl)
+        ∙ parts_alone ps
+        ∙ ap (λ xs. xs ++ flat_map annotations_of_ticks (map (filter (has_sampling_edge u.mode clk)) ps)) (sym none_is)
+        ∙ ap (λ us. annotations_of_ticks (us ++ [])
+        ++ flat_map annotations_of_ticks (map (filter (has_sampling_edge u.mode clk)) ps)) (sym (following refl))
+
+    annotations_at_ticks : (a n : ℕ) (ts : List ℕ) → (was_selected a ≡ false → ts ≡ [])
+        → annotations_at_marks u mosi miso ts (flat_map (λ t. edge_marks u (line_edge lines t)) (range_with_len a n))
+        ≡ parts_annotations ts (parts a n)
+    unfolding annotations_at_marks
+    annotations_at_ticks a zero ts following = ap annotations_of_ticks (sym (append-nil ts))
+        ∙ sym (append-nil (annotations_of_ticks (ts ++ [])))
+    annotations_at_ticks a (suc n) ts following =
+        let next : was_selected (a + 1) ≡ is_selected cs a = ap was_selected (add-one a) ∙ selected_before a in
+        let later = λ (us : List ℕ) (none : is_selected cs a ≡ false → us ≡ []). annotations_at_ticks (a + 1) n us
+        (λ was. none (sym next ∙ was)) in
+        ap (λ marks. annotations_at_marks u mosi miso ts
+        (marks ++ flat_map (λ t. edge_marks u (line_edge lines t)) (range_with_len (a + 1) n))) (mark_is a)
+        ∙ annotations_at_tick (was_selected a) (is_selected cs a) (has_sampling_edge u.mode clk a) a ts
+        (flat_map (λ t. edge_marks u (line_edge lines t)) (range_with_len (a + 1) n)) (parts (a + 1) n) following
+        refl later
+
+    all_is : (end : ℕ) → annotations_at_marks u mosi miso []
+        (flat_map (λ t. edge_marks u (line_edge lines t)) (range_with_len 0 (suc end)))
+        ≡ spi_annotations u clk mosi miso cs end
+    unfolding spi_annotations
+    all_is end = annotations_at_ticks 0 (suc end) [] (λ none. refl) ∙ parts_alone (parts 0 (suc end))
+
+-- ---- the beginning
+
+-- where no line changes an edge has no mark
+still : (u : SpiSetup) (e : BitEdge) → e.at ≡ e.before → edge_marks u e ≡ []
+unfolding edge_marks
+still u e same =
+    let unread : samples_at u.mode (line_bit e.before 0) (line_bit e.before 0) ≡ false =
+    no_edge (samples_rising_edge u.mode) (line_bit e.before 0) in
+    ap (λ bits. edge_marks u (record { tick = e.tick; before = e.before; at = bits })) same
+    ∙ nothing (selects_chip (line_bit e.before 3))
+    (samples_at u.mode (line_bit e.before 0) (line_bit e.before 0)) unread
+  where
+    no_edge : (rise : Bool) (b : Option Bit)
+        → (if rise then is_present_and is_zero b && is_present_and is_one b else is_present_and is_one b
+        && is_present_and is_zero b) ≡ false
+    no_edge true None = refl
+    no_edge true (Some Zero) = refl
+    no_edge true (Some One) = refl
+    no_edge true (Some X) = refl
+    no_edge true (Some Z) = refl
+    no_edge false None = refl
+    no_edge false (Some Zero) = refl
+    no_edge false (Some One) = refl
+    no_edge false (Some X) = refl
+    no_edge false (Some Z) = refl
+
+    nothing : (selected reads : Bool) → reads ≡ false
+        → (if selected && not selected then None ∷ [] else (if selected && reads then Some e.tick ∷ [] else [])) ≡ []
+    nothing true true none = absurd (cc)
+    nothing true false none = refl
+    nothing false reads none = refl
+
+-- before the first edge everything is left
+pub so_far_none : (u : SpiSetup) → 0 < u.bits
+    → (w : WaveView) (mosi miso cs : Option WaveView) (end : ℕ) (es : List BitEdge) (found : List Annotation)
+    (g : PartialWord) (out back : Bool)
+    → es ≡ bit_edges_of (Some w ∷ mosi ∷ miso ∷ cs ∷ []) end → found ≡ [] → out ≡ is_some mosi → back ≡ is_some miso
+    → g ≡ record { start = 0; last = 0; count = 0; mosi = first_data out; miso = first_data back }
+    → SpiProgress u (line_of w) (option_map line_of mosi) (option_map line_of miso) (option_map line_of cs)
+    (spi_annotations u (line_of w) (option_map line_of mosi) (option_map line_of miso) (option_map line_of cs) end)
+    found g es
+so_far_none u some w mosi miso cs end es found g out back edges none out_is back_is is =
+    let waves : List (Option WaveView) = Some w ∷ mosi ∷ miso ∷ cs ∷ [] in
+    let first = ap first_data out_is ∙ line_first u.order mosi in
+    let second = ap first_data back_is ∙ line_first u.order miso in
+    record {
+      ticks = [];
+      short = some;
+      is_group = is ∙ (λ i. record { start = 0; last = 0; count = 0; mosi = first i; miso = second i });
+      each = subst (AllByRecursion (λ e. e ≡ line_edge (lines_of waves) e.tick)) (sym edges) (each_edge waves end);
+      rest =
+          ap (λ xs. xs ++ annotations_at_marks u (option_map line_of mosi) (option_map line_of miso) []
+          (flat_map (edge_marks u) es)) none
+          ∙ ap (λ (xs : List BitEdge). annotations_at_marks u (option_map line_of mosi) (option_map line_of miso) []
+          (flat_map (edge_marks u) xs)) edges
+          ∙ ap (annotations_at_marks u (option_map line_of mosi) (option_map line_of miso) [])
+          (over_edges waves (edge_marks u) (λ t quiet. still u (line_edge (lines_of waves) t) quiet) end)
+          ∙ all_is u some (option_map line_of mosi) (option_map line_of miso) (line_of w) (option_map line_of cs) end;
+    }

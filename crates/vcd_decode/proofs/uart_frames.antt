@@ -1,0 +1,5 @@
+-- Lemmas of `uart_frames`.
+pub mod BegunFrames
+pub mod SampleTicks
+pub mod Falls
+pub mod LineLetters

@@ -1,0 +1,130 @@
+-- The letter of a line of one bit, by the changes up to a tick.
+use Rattle.std.proofs.Common.{◌≡◌, ℕ, zero, suc, ◌+◌, ◌-◌, ◌<◌, ◌≤◌, Bool, cond, nat_le, count_by}
+use Rattle.std.proofs.Common.{List, [], ◌∷◌}
+use Rattle.std.proofs.Common.{length, take, get_or, refl, sym, ap, ◌∙◌, inl, inr, arith}
+use Rattle.std.proofs.lemmas.Bool.{cases_lt, lt-leb, le-leb}
+use Rattle.std.proofs.lemmas.List.{length-replicate, get_or-take}
+use Rattle.std.proofs.lemmas.List.Sums.{sum_by-cons}
+use Rattle.vcd_core.specs.declared.bit.Bit.{Bit}
+use Rattle.vcd_core.specs.declared.wave.Change.{Change}
+use Rattle.vcd_core.specs.declared.bit.Bit.TheVariants.{X}
+use Rattle.vcd_core.specs.Value.{all_x, letter_at}
+use Rattle.vcd_core.specs.WaveView.{WaveView}
+use Rattle.vcd_core.specs.Wave.{value_from, AreChangesFrom, IsWave, AllUpTo}
+use Rattle.vcd_core.specs.WavePush.{last_value}
+use Rattle.vcd_core.proofs.shared.Waves.{value_past, value_skip, value_early}
+use Rattle.vcd_core.proofs.shared.Pushes.{last_value-none}
+use Rattle.vcd_decode.specs.WaveLines.{line_of}
+
+-- whether a change is at or before a tick
+abbrev pub is_up_to : ℕ → Change → Bool
+is_up_to t c = nat_le c.tick t
+
+-- no change is up to the tick where the first comes later
+none_up_to : (cs : List Change) (t floor : ℕ) (before : List Bit) → AreChangesFrom floor before cs → t < floor
+    → count_by (is_up_to t) cs ≡ 0
+none_up_to [] t floor before rise early = refl
+none_up_to (c ∷ cs) t floor before rise early =
+    sum_by-cons (λ x. cond (is_up_to t x) 1 0) c cs
+    ∙ (λ i. cond (lt-leb c.tick t (omega arith) i) 1 0 + none_up_to cs t (c.tick + 1) c.value rise.3 (omega arith) i)
+
+-- the value at a tick is the last of the changes that are at or before it
+pub value_counted : (cs : List Change) (t floor : ℕ) (before kept : List Bit) → AreChangesFrom floor kept cs
+    → value_from before cs t ≡ last_value before (take (count_by (is_up_to t) cs) cs)
+unfolding value_from last_value
+value_counted [] t floor before kept rise = refl
+value_counted (c ∷ cs) t floor before kept rise =
+    elim (cases_lt t c.tick) [
+      | inl early ↦
+          let none : count_by (is_up_to t) (c ∷ cs) ≡ 0 =
+          none_up_to (c ∷ cs) t c.tick kept (omega arith, rise.1, rise.2, rise.3) early in
+          value_skip before c cs t early ∙ value_early before c.value cs (c.tick + 1) t rise.3 (omega arith)
+          ∙ ap (λ n. last_value before (take n (c ∷ cs))) (sym none)
+      | inr past ↦
+          let one : count_by (is_up_to t) (c ∷ cs) ≡ suc (count_by (is_up_to t) cs) =
+          sum_by-cons (λ x. cond (is_up_to t x) 1 0) c cs
+          ∙ (λ i. cond (le-leb c.tick t past i) 1 0 + count_by (is_up_to t) cs) ∙ omega arith in
+          value_past before c cs t past ∙ value_counted cs t (c.tick + 1) c.value c.value rise.3
+          ∙ ap (λ n. last_value before (take n (c ∷ cs))) (sym one)
+    ]
+
+wide_from : (floor : ℕ) (before : List Bit) (cs : List Change) (i : ℕ) (d : Change) → AreChangesFrom floor before cs
+    → i < length cs
+    → length (get_or cs i d).value ≡ length before
+wide_from floor before [] i d rise within = absurd (omega (arith, within))
+wide_from floor before (c ∷ cs) zero d rise within = rise.2
+wide_from floor before (c ∷ cs) (suc i) d (from, other, wide, rest) within =
+    wide_from (c.tick + 1) c.value cs i d rest (omega (arith, within)) ∙ wide
+
+-- each value of a wave of one bit has one letter
+pub one_bit_at : (width : ℕ) (cs : List Change) (i : ℕ) (d : Change) → IsWave width cs → width ≡ 1 → i < length cs
+    → length (get_or cs i d).value ≡ 1
+one_bit_at width cs i d is one within = wide_from 0 (all_x width) cs i d is.rise within ∙ length-replicate width _ ∙ one
+
+-- the last value is at the end of the list
+last_at : (before : List Bit) (cs : List Change) (n : ℕ) (d : Change) → n + 1 ≡ length cs
+    → last_value before cs ≡ (get_or cs n d).value
+unfolding last_value
+last_at before [] n d all = absurd (omega arith)
+last_at before (c ∷ []) zero d all = refl
+last_at before (c ∷ []) (suc n) d all = absurd (omega arith)
+last_at before (c ∷ b ∷ cs) zero d all = absurd (omega arith)
+last_at before (c ∷ b ∷ cs) (suc n) d all = last_at c.value (b ∷ cs) n d (omega arith)
+
+-- the letter at a tick is that of the last change up to it
+pub letter_counted : (wave : WaveView) (changes : List Change) (t n : ℕ) (c : Change) → changes ≡ wave.changes
+    → IsWave wave.width changes
+    → n ≡ count_by (is_up_to t) wave.changes → 1 ≤ length (take n changes)
+    → c ≡ get_or (take n changes) (length (take n changes) - 1) c
+    → letter_at c.value 0 ≡ line_of wave t
+letter_counted wave changes t n c same is counted some at =
+    let x = all_x wave.width in
+    let value : value_from x wave.changes t ≡ c.value =
+    ap (λ cs. value_from x cs t) (sym same)
+    ∙ value_counted changes t 0 x x is.rise
+    ∙ ap (λ cs. last_value x (take (count_by (is_up_to t) cs) changes)) same
+    ∙ ap (λ m. last_value x (take m changes)) (sym counted)
+    ∙ last_at x (take n changes) (length (take n changes) - 1) c (omega arith)
+    ∙ ap (λ (d : Change). d.value) (sym at) in
+    ap (λ (v : List Bit). letter_at v 0) (sym value)
+
+-- it is x where there is no change
+pub no_letter_counted : (wave : WaveView) (changes : List Change) (t n : ℕ) → wave.width ≡ 1 → changes ≡ wave.changes
+    → IsWave wave.width changes
+    → n ≡ count_by (is_up_to t) wave.changes → length (take n changes) < 1 → X ≡ line_of wave t
+no_letter_counted wave changes t n one same is counted none =
+    let x = all_x wave.width in
+    let value : value_from x wave.changes t ≡ x =
+    ap (λ cs. value_from x cs t) (sym same)
+    ∙ value_counted changes t 0 x x is.rise
+    ∙ ap (λ cs. last_value x (take (count_by (is_up_to t) cs) changes)) same
+    ∙ ap (λ m. last_value x (take m changes)) (sym counted)
+    ∙ sym (last_value-none x (take n changes) (omega arith)) in
+    sym (ap (λ (v : List Bit). letter_at v 0) value ∙ ap (λ w. letter_at (all_x w) 0) one)
+
+-- an item of the list has one letter
+pub one_letter : (wave : WaveView) (changes : List Change) (n i : ℕ) (c : Change) → wave.width ≡ 1
+    → IsWave wave.width changes → i < n → i < length changes
+    → c ≡ get_or (take n changes) i c → 0 < length c.value
+one_letter wave changes n i c one is early within at =
+    let there : c ≡ get_or changes i c = at ∙ get_or-take n changes i c early in
+    let wide : length c.value ≡ 1 = ap (λ (d : Change). length d.value) there
+    ∙ one_bit_at wave.width changes i c is one within in
+    omega arith
+
+-- the tick of an item is not past the end
+pub up_to_at : (end : ℕ) (cs : List Change) (i : ℕ) (c : Change) → AllUpTo end cs → i < length cs → c ≡ get_or cs i c
+    → c.tick ≤ end
+up_to_at end cs i c upto within at = omega (arith, item cs i upto within, ap (λ (d : Change). d.tick) at)
+  where
+    item : (list : List Change) (k : ℕ) → AllUpTo end list → k < length list → (get_or list k c).tick ≤ end
+    item [] k all less = absurd (omega arith)
+    item (d ∷ ds) zero (first, rest) less = first
+    item (d ∷ ds) (suc k) (first, rest) less = item ds k rest (omega arith)
+
+-- an item has one letter
+pub letter_at_item : (width : ℕ) (cs : List Change) (i : ℕ) (c : Change) → width ≡ 1 → IsWave width cs → i < length cs
+    → c ≡ get_or cs i c → 0 < length c.value
+letter_at_item width cs i c one is within at =
+    let wide : length c.value ≡ 1 = ap (λ (d : Change). length d.value) at ∙ one_bit_at width cs i c is one within in
+    omega arith

@@ -1,0 +1,63 @@
+-- Worked cases: lines that send frames.
+use Rattle.std.proofs.Common.{◌≡◌, refl}
+use Rattle.std.specs.Prelude.{ℕ, List, [], ◌∷◌, map, get_or}
+use Rattle.std.specs.List.{range_with_len}
+use Rattle.vcd_core.specs.declared.bit.Bit.{Bit}
+use Rattle.vcd_core.specs.declared.bit.Bit.TheVariants.{Zero, One, X, Z}
+use Rattle.vcd_decode.specs.declared.annotation.Annotation.{Annotation}
+use Rattle.vcd_decode.specs.declared.annotation.Kind.TheVariants.{Byte, ParityError, FrameError}
+use Rattle.vcd_decode.specs.declared.uart_setup.Parity.TheVariants.{None, Even, Odd}
+use Rattle.vcd_decode.specs.UartSetup.{UartSetup, uart_setup}
+use Rattle.vcd_decode.specs.Lines.{annotation}
+use Rattle.vcd_decode.specs.Uart.{uart_annotations, frames, falls, begun_frame, sample_offset}
+use Rattle.vcd_decode.specs.SentLevels.{data_levels}
+use Rattle.vcd_decode.specs.UartSent.{Flaw, flawless, wrong_parity, low_stop, SentFrame}
+use Rattle.vcd_decode.proofs.laws.sent.ExactFrames.{bits_line, sent_line}
+
+sent : ℕ → ℕ → Flaw → SentFrame
+sent start word flaw = record { start = start; word = word; flaw = flaw }
+
+found : UartSetup → ℕ → List SentFrame → List Annotation
+found u end ws = uart_annotations (sent_line u ws) end u
+
+-- bits of two and a half ticks: 2, 3, 2, 3, ..
+line : map (sent_line (uart_setup 5 2 5 Even 1) (sent 2 3 flawless ∷ [])) (range_with_len 0 24)
+    ≡ One ∷ One ∷ Zero ∷ Zero ∷ One ∷ One ∷ One ∷ One ∷ One ∷ Zero ∷ Zero ∷ Zero ∷ Zero ∷ Zero ∷ Zero ∷ Zero ∷ Zero
+    ∷ Zero ∷ Zero ∷ One ∷ One ∷ One ∷ One ∷ One ∷ []
+unfolding sent sent_line bits_line data_levels
+line = refl
+
+-- the parity bit and the first of two stop bits
+flawed_line : map (sent_line (uart_setup 2 1 5 Even 2) (sent 1 3 wrong_parity ∷ sent 19 3 (low_stop 0) ∷ []))
+    (range_with_len 0 37)
+    ≡ One ∷ Zero ∷ Zero ∷ One ∷ One ∷ One ∷ One ∷ Zero ∷ Zero ∷ Zero ∷ Zero ∷ Zero ∷ Zero ∷ One ∷ One ∷ One ∷ One ∷ One
+    ∷ One ∷ Zero ∷ Zero ∷ One ∷ One ∷ One ∷ One ∷ Zero ∷ Zero ∷ Zero ∷ Zero ∷ Zero ∷ Zero ∷ Zero ∷ Zero ∷ Zero ∷ Zero
+    ∷ One ∷ One ∷ []
+unfolding sent sent_line bits_line data_levels
+flawed_line = refl
+
+eight_bits : found (uart_setup 10 1 8 None 1) 130 (sent 20 65 flawless ∷ []) ≡ annotation 20 115 (Byte 65) ∷ []
+unfolding sent found uart_annotations frames falls begun_frame sample_offset sent_line bits_line data_levels
+eight_bits = refl
+
+two_words : found (uart_setup 5 2 5 Odd 2) 46 (sent 1 31 flawless ∷ sent 23 0 flawless ∷ [])
+    ≡ annotation 1 22 (Byte 31) ∷ annotation 23 44 (Byte 0) ∷ []
+unfolding sent found uart_annotations frames falls begun_frame sample_offset sent_line bits_line data_levels
+two_words = refl
+
+flaws : found (uart_setup 5 2 5 Odd 2) 70 (sent 1 31 wrong_parity ∷ sent 23 0 (low_stop 1) ∷ sent 47 1 flawless ∷ [])
+    ≡ annotation 1 22 (ParityError 31) ∷ annotation 23 44 FrameError ∷ annotation 47 68 (Byte 1) ∷ []
+unfolding sent found uart_annotations frames falls begun_frame sample_offset sent_line bits_line data_levels
+flaws = refl
+
+-- a fall that is over half a bit later, and a frame whose bits are there in their middles alone
+worn_line : List Bit
+worn_line =
+    One ∷ One ∷ Zero ∷ Zero ∷ One ∷ X ∷ One ∷ One ∷ One ∷ Zero ∷ Zero ∷ Zero ∷ Zero ∷ X ∷ One ∷ X ∷ X ∷ One
+    ∷ One ∷ One ∷ Z ∷ Z ∷ X ∷ Z ∷ One ∷ Zero ∷ Zero ∷ X ∷ Z ∷ X ∷ Zero ∷ Z ∷ One ∷ One ∷ One ∷ One ∷ One ∷ One
+    ∷ X ∷ One ∷ One ∷ X ∷ Zero ∷ Z ∷ Z ∷ X ∷ X ∷ X ∷ One ∷ One ∷ One ∷ []
+
+worn : uart_annotations (λ t. get_or worn_line t One) 50 (uart_setup 6 1 5 None 1)
+    ≡ annotation 9 48 (Byte 11) ∷ []
+unfolding worn_line uart_annotations frames falls begun_frame sample_offset
+worn = refl

@@ -1,0 +1,107 @@
+-- The walk over edges for SPI words: the annotations of each edge, and the group of bits after it.
+use Rattle.std.specs.Prelude.{ℕ, ◌≡◌, ◌+◌, ◌==◌, ◌<◌, ◌&&◌, nat_lt, Bool, true, not, if◌then◌else◌}
+use Rattle.std.specs.Prelude.{Option, Some, None}
+use Rattle.std.specs.Prelude.{List, [], ◌∷◌, ◌++◌, length}
+use Rattle.std.specs.List.{flat_map, AllByRecursion}
+use Rattle.vcd_core.specs.declared.bit.Bit.{Bit}
+use Rattle.vcd_core.specs.declared.bit_edges.BitEdge.{BitEdge}
+use Rattle.vcd_decode.specs.declared.annotation.Annotation.{Annotation}
+use Rattle.vcd_decode.specs.declared.partial_word.PartialWord.{PartialWord}
+use Rattle.vcd_decode.specs.SpiSetup.{SpiSetup}
+use Rattle.vcd_decode.specs.Lines.{is_zero}
+use Rattle.vcd_decode.specs.Spi.{line_data}
+use Rattle.vcd_decode.specs.inside.SpiParts.{group_start, group_end, segment_annotations}
+use Rattle.vcd_decode.specs.inside.LineEdges.{line_edge}
+use Rattle.vcd_decode.specs.inside.SpiSetup.{samples_at}
+use Rattle.vcd_decode.specs.inside.PartialWord.{line_bit, DataFits, group_before, group_after}
+use Rattle.vcd_decode.specs.inside.PartialWord.{word_annotation}
+use Rattle.vcd_decode.specs.inside.PartialWord.{unfinished_annotation}
+
+-- ---- the tests of an edge
+
+-- whether the chip is selected by the bit of its line
+abbrev pub selects_chip : Option Bit → Bool
+selects_chip None = true
+selects_chip (Some b) = is_zero b
+
+-- whether the chip is deselected
+abbrev pub deselects_chip : BitEdge → Bool
+deselects_chip e = selects_chip (line_bit e.before 3) && not (selects_chip (line_bit e.at 3))
+
+-- whether the data lines are sampled
+abbrev pub is_sampling : SpiSetup → BitEdge → Bool
+is_sampling u e =
+    selects_chip (line_bit e.at 3) && samples_at u.mode (line_bit e.before 0) (line_bit e.at 0)
+
+-- ---- the annotations of an edge, and the group after it
+
+-- the group has room for one more bit
+pub record HasRoomForBit (u : SpiSetup) (g : PartialWord) : Type 0 where
+  pub count : g.count < u.bits
+  pub mosi : DataFits g.count g.mosi
+  pub miso : DataFits g.count g.miso
+
+-- the annotations of an unfinished group
+abbrev pub annotations_of_unfinished : PartialWord → List Annotation
+annotations_of_unfinished g = if g.count == 0 then [] else unfinished_annotation g ∷ []
+
+-- the annotations of an edge at which the chip's selection does not change
+abbrev pub annotations_at_bit : SpiSetup → PartialWord → BitEdge → List Annotation
+annotations_at_bit u g e =
+    if not (is_sampling u e) then []
+    else (if nat_lt (g.count + 1) u.bits then []
+    else word_annotation (group_after u.order g e) ∷ [])
+
+-- the group after such an edge
+abbrev pub bit_group : SpiSetup → PartialWord → BitEdge → PartialWord
+bit_group u g e =
+    if not (is_sampling u e) then g
+    else (if nat_lt (g.count + 1) u.bits then group_after u.order g e
+    else group_before (group_after u.order g e))
+
+-- the annotations of any edge
+abbrev pub annotations_at_edge : SpiSetup → PartialWord → BitEdge → List Annotation
+annotations_at_edge u g e = if deselects_chip e then annotations_of_unfinished g
+    else annotations_at_bit u g e
+
+-- the group after any edge
+abbrev pub edge_group : SpiSetup → PartialWord → BitEdge → PartialWord
+edge_group u g e = if deselects_chip e then group_before g else bit_group u g e
+
+-- ---- the same by ticks
+
+-- the group of some ticks
+abbrev pub tick_group : SpiSetup → Option (ℕ → Bit) → Option (ℕ → Bit) → List ℕ → PartialWord
+tick_group u mosi miso ticks = record {
+  start = group_start ticks;
+  last = group_end ticks;
+  count = length ticks;
+  mosi = line_data u.order mosi ticks;
+  miso = line_data u.order miso ticks;
+}
+
+-- the mark of an edge: a sampling tick, or none if the chip is deselected
+unfoldable pub edge_marks : SpiSetup → BitEdge → List (Option ℕ)
+edge_marks u e = if deselects_chip e then None ∷ []
+    else (if is_sampling u e then Some e.tick ∷ [] else [])
+
+-- the annotations of marks, after some ticks of the segment
+unfoldable pub annotations_at_marks : SpiSetup → Option (ℕ → Bit) → Option (ℕ → Bit) → List ℕ
+    → List (Option ℕ)
+    → List Annotation
+annotations_at_marks u mosi miso ticks [] = segment_annotations u mosi miso ticks
+annotations_at_marks u mosi miso ticks (None ∷ marks) =
+    segment_annotations u mosi miso ticks ++ annotations_at_marks u mosi miso [] marks
+annotations_at_marks u mosi miso ticks (Some t ∷ marks) =
+    annotations_at_marks u mosi miso (ticks ++ t ∷ []) marks
+
+-- the annotations so far and those to come are all annotations: the group has the ticks of a
+-- segment that are no whole word yet
+pub record SpiProgress (u : SpiSetup) (clk : ℕ → Bit) (mosi miso cs : Option (ℕ → Bit))
+    (all found : List Annotation)
+    (group : PartialWord) (left : List BitEdge) : Type 0 where
+  pub ticks : List ℕ
+  pub short : length ticks < u.bits
+  pub is_group : group ≡ tick_group u mosi miso ticks
+  pub each : AllByRecursion (λ e. e ≡ line_edge (Some clk ∷ mosi ∷ miso ∷ cs ∷ []) e.tick) left
+  pub rest : found ++ annotations_at_marks u mosi miso ticks (flat_map (edge_marks u) left) ≡ all

@@ -1,0 +1,2 @@
+-- Lemmas of `checking`.
+pub mod NoFault

@@ -1,0 +1,2 @@
+-- Lemmas of `checking/new_names`.
+pub mod TakenNames

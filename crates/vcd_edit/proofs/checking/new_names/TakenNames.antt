@@ -1,0 +1,68 @@
+-- Whether a signal other than one at a position has a name.
+use Rattle.std.proofs.Common.{◌≡◌, ◌<◌, ◌-◌, ◌+◌, add-one, Bool, true, false, ◌||◌, ℕ, suc, List}
+use Rattle.std.proofs.Common.{length, map, take}
+use Rattle.std.proofs.Common.{drop, get_or, refl, sym, ◌∙◌, ap, arith}
+use Rattle.std.specs.List.{list_any, remove}
+use Rattle.std.specs.Str.{bytes_eq}
+use Rattle.std.proofs.lemmas.List.{map-append, take-map, drop-map, take_all, length-drop}
+use Rattle.std.proofs.lemmas.List.Folds.{list_any-append}
+use Rattle.vcd_core.specs.declared.capture.Signal.{Signal}
+use Rattle.vcd_core.specs.Contents.{no_signal}
+use Rattle.vcd_core.specs.CaptureContents.{signal_contents}
+use Rattle.vcd_core.specs.Names.{full_name, full_names}
+use Rattle.vcd_edit.specs.Effect.{renamed_signal}
+use Rattle.vcd_edit.proofs.plans.EffectOfRecord.{contents_at}
+
+-- the others are before the position or after it
+has_other : (name : List ℕ) (signals : List Signal) (k : ℕ)
+    → list_any (bytes_eq name) (full_names (remove (map signal_contents signals) k))
+    ≡ (list_any (bytes_eq name) (full_names (map signal_contents (take k signals)))
+    || list_any (bytes_eq name) (full_names (map signal_contents (drop (suc k) signals))))
+has_other name signals k =
+    ap (list_any (bytes_eq name))
+    (map-append full_name (take k (map signal_contents signals)) (drop (suc k) (map signal_contents signals)))
+    ∙ list_any-append (bytes_eq name) (full_names (take k (map signal_contents signals)))
+    (full_names (drop (suc k) (map signal_contents signals)))
+    ∙ rw (take-map signal_contents k signals, drop-map signal_contents (suc k) signals) refl
+
+-- the signals after a position
+pub following : (k : ℕ) (signals : List Signal)
+    → take (length signals - (k + 1)) (drop (k + 1) signals) ≡ drop (suc k) signals
+following k signals =
+    rw add-one (take_all (length signals - suc k) (drop (suc k) signals) (omega (arith, length-drop (suc k) signals)))
+
+-- the first test holds, or the second decides
+first_holds : (a b r : Bool) → r ≡ a → r ≡ true → r ≡ (a || b)
+first_holds true b r is holds = holds
+first_holds false b r is holds = absurd (cc)
+
+second_decides : (a b f r : Bool) → f ≡ a → f ≡ false → r ≡ b → r ≡ (a || b)
+second_decides true b f r is fails decides = absurd (cc)
+second_decides false b f r is fails decides = decides
+
+module _ (signals : List Signal) (k : ℕ) (s : Signal) (word name : List ℕ) (within : k < length signals)
+    (at : s ≡ get_or signals k s) (given : name ≡ full_name (renamed_signal word (signal_contents s))) where
+  name_taken : list_any (bytes_eq (full_name (renamed_signal word (get_or (map signal_contents signals) k no_signal))))
+      (full_names (remove (map signal_contents signals) k))
+      ≡ (list_any (bytes_eq name) (full_names (map signal_contents (take k signals)))
+      || list_any (bytes_eq name) (full_names (map signal_contents (drop (suc k) signals))))
+  name_taken = rw (contents_at signals k s within at, ← given) (has_other name signals k)
+
+  -- a signal before the position has the name
+  pub taken_before : (r : Bool) → r ≡ list_any (bytes_eq name) (full_names (map signal_contents (take k signals)))
+      → r ≡ true
+      → r ≡ list_any (bytes_eq (full_name (renamed_signal word (get_or (map signal_contents signals) k no_signal))))
+      (full_names (remove (map signal_contents signals) k))
+  taken_before r is holds = first_holds _ _ r is holds ∙ sym name_taken
+
+  -- no signal before it has the name
+  pub taken_after : (f r : Bool) → f ≡ list_any (bytes_eq name) (full_names (map signal_contents (take k signals)))
+      → f ≡ false
+      → r ≡ list_any (bytes_eq name)
+      (full_names (map signal_contents (take (length signals - (k + 1)) (drop (k + 1) signals))))
+      → r ≡ list_any (bytes_eq (full_name (renamed_signal word (get_or (map signal_contents signals) k no_signal))))
+      (full_names (remove (map signal_contents signals) k))
+  taken_after f r is fails decides =
+      second_decides _ _ f r is fails (decides
+      ∙ ap (λ (ss : List Signal). list_any (bytes_eq name) (full_names (map signal_contents ss)))
+      (following k signals)) ∙ sym name_taken

@@ -1,0 +1,5 @@
+-- Lemmas of `exchange`.
+pub mod ContentsAfterPiece
+pub mod PiecesInTurn
+pub mod OppositePieces
+pub mod OppositeRecords

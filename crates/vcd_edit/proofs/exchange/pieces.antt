@@ -1,0 +1,2 @@
+-- Lemmas of `exchange/pieces`.
+pub mod OppositeSplices

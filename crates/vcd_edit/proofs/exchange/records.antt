@@ -1,0 +1,2 @@
+-- Lemmas of `exchange/records`.
+pub mod RecordExchanges

@@ -1,0 +1,3 @@
+-- Lemmas of `exchange/trimming`.
+pub mod ChangeTests
+pub mod TrimmedPieces

@@ -1,0 +1,289 @@
+-- The changes of a function over a range of ticks, and a wave in which a piece replaces a range.
+use Rattle.std.proofs.Common.{◌≡◌, ℕ, zero, suc, ◌+◌, ◌-◌, ◌^◌, ◌<◌, ◌≤◌, Bool, true, false, cond}
+use Rattle.std.proofs.Common.{nat_lt, ℤ, pos, ◌+ℤ◌}
+use Rattle.std.proofs.Common.{unsigned_abs, List, [], ◌∷◌, ◌++◌, length, take, drop, map, refl, sym}
+use Rattle.std.proofs.Common.{ap, subst, ◌∙◌}
+use Rattle.std.proofs.Common.{arith}
+use Rattle.std.specs.Int.{w64, FitsUnsigned}
+use Rattle.std.specs.List.{count_by}
+use Rattle.std.proofs.lemmas.Bool.{lt-ltb, le-ltb}
+use Rattle.std.proofs.lemmas.Bool.Decides.{nat_tests}
+use Rattle.std.proofs.lemmas.List.{append_assoc, take_at, drop_at}
+use Rattle.std.proofs.lemmas.List.Sums.{sum_by-cons, sum_by-append, sum_by-le-sum_by}
+use Rattle.std.proofs.lemmas.List.Sums.{count_by-le-length}
+use Rattle.std.proofs.lemmas.List.Elements.{All-nil, All-cons}
+use Rattle.std.proofs.lemmas.Int.{ints}
+use Rattle.vcd_core.specs.declared.bit.Bit.{Bit}
+use Rattle.vcd_core.specs.declared.wave.Change.{Change}
+use Rattle.vcd_core.specs.Value.{all_x, same_letters}
+use Rattle.vcd_core.specs.Wave.{change, value_at, unless_same, changes_from, changes_of, IsWave}
+use Rattle.vcd_core.specs.Wave.{AllUpTo}
+use Rattle.vcd_core.specs.WavePush.{last_value}
+use Rattle.vcd_core.specs.Splice.{moved_change, TickFits, AllTicksFit, spliced_changes}
+use Rattle.vcd_core.proofs.shared.Waves.{put_cases, changes_are}
+use Rattle.vcd_edit.specs.RecordView.{PieceView}
+use Rattle.vcd_edit.specs.inside.plans.Ranges.{value_just_before, changes_in, GivesChanges}
+
+-- ---- a range is two ranges
+
+unless_same-append : (b : Bool) (c : Change) (xs ys : List Change)
+    → unless_same b c (xs ++ ys) ≡ unless_same b c xs ++ ys
+unless_same-append true c xs ys = refl
+unless_same-append false c xs ys = refl
+
+pub changes_in-split : (width : ℕ) (f : ℕ → List Bit) (t m n : ℕ)
+    → changes_in width f t (m + n) ≡ changes_in width f t m ++ changes_in width f (t + m) n
+unfolding changes_from
+changes_in-split width f t zero n =
+    ap (changes_in width f t) {x = 0 + n} {y = n} (omega arith)
+    ∙ ap (λ u. changes_in width f u n) {x = t} {y = t + 0} (omega arith)
+changes_in-split width f t (suc m) n =
+    ap (changes_in width f t) {x = suc m + n} {y = suc (m + n)} (omega arith)
+    ∙ ap (unless_same (same_letters (f t) (value_just_before width f t)) (change t (f t)))
+    (changes_in-split width f (suc t) m n
+    ∙ ap (λ u. changes_in width f (suc t) m ++ changes_in width f u n) {x = suc t + m} {y =
+    t + suc m} (omega arith))
+    ∙ unless_same-append (same_letters (f t) (value_just_before width f t)) (change t (f t))
+    (changes_in width f (suc t) m) (changes_in width f (t + suc m) n)
+
+-- ---- the same values
+
+same_from : (f g : ℕ → List Bit) (before : List Bit) (t n : ℕ) → ((i : ℕ) → i < n → f (t + i) ≡ g (t + i))
+    → changes_from before t n g ≡ changes_from before t n f
+unfolding changes_from
+same_from f g before t zero same = refl
+same_from f g before t (suc n) same =
+    let here : g t ≡ f t = ap g {x = t} {y = t + 0} (omega arith) ∙ sym (same 0 (omega arith))
+    ∙ ap f {x = t + 0} {y = t} (omega arith) in
+    let rest : changes_from (g t) (suc t) n g ≡ changes_from (f t) (suc t) n f =
+    same_from f g (g t) (suc t) n
+    (λ i less. ap f {x = suc t + i} {y = t + suc i} (omega arith) ∙ same (suc i) (omega arith)
+    ∙ ap g {x = t + suc i} {y = suc t + i} (omega arith))
+    ∙ ap (λ v. changes_from v (suc t) n f) here in
+    λ i. unless_same (same_letters (here i) before) (change t (here i)) (rest i)
+
+-- two functions with the same values over a range, and the same value before it
+pub changes_in-same : (width : ℕ) (f g : ℕ → List Bit) (t n : ℕ)
+    → value_just_before width f t ≡ value_just_before width g t
+    → ((i : ℕ) → i < n → f (t + i) ≡ g (t + i)) → changes_in width g t n ≡ changes_in width f t n
+changes_in-same width f g t n before same =
+    same_from f g (value_just_before width g t) t n same ∙ ap (λ v. changes_from v t n f) (sym before)
+
+-- ---- the same values elsewhere
+
+map-unless_same : (h : Change → Change) (b : Bool) (c : Change) (xs : List Change)
+    → map h (unless_same b c xs) ≡ unless_same b (h c) (map h xs)
+map-unless_same h true c xs = refl
+map-unless_same h false c xs = refl
+
+-- the values of g at n ticks from u on are those of f from t on, `by` ticks later
+moved_from : (f g : ℕ → List Bit) (before : List Bit) (by : ℤ) (t u n : ℕ) → pos u +ℤ by ≡ pos t
+    → ((i : ℕ) → i < n → f (t + i) ≡ g (u + i))
+    → map (moved_change by) (changes_from before u n g) ≡ changes_from before t n f
+unfolding changes_from moved_change
+moved_from f g before by t u zero later same = refl
+moved_from f g before by t u (suc n) later same =
+    let here : g u ≡ f t = ap g {x = u} {y = u + 0} (omega arith) ∙ sym (same 0 (omega arith))
+    ∙ ap f {x = t + 0} {y = t} (omega arith) in
+    let rest : map (moved_change by) (changes_from (g u) (suc u) n g) ≡ changes_from (f t) (suc t) n f =
+    moved_from f g (g u) by (suc t) (suc u) n (omega (arith, ints, later))
+    (λ i less. ap f {x = suc t + i} {y = t + suc i} (omega arith) ∙ same (suc i) (omega arith)
+    ∙ ap g {x = u + suc i} {y = suc u + i} (omega arith))
+    ∙ ap (λ v. changes_from v (suc t) n f) here in
+    let tick : unsigned_abs (pos u +ℤ by) ≡ t = ap unsigned_abs later in
+    map-unless_same (moved_change by) (same_letters (g u) before) (change u (g u)) (changes_from (g u) (suc u) n g)
+    ∙ (λ i. unless_same (same_letters (here i) before) (change (tick i) (here i)) (rest i))
+
+pub changes_in-moved : (width : ℕ) (f g : ℕ → List Bit) (by : ℤ) (t u n : ℕ) → pos u +ℤ by ≡ pos t
+    → (0 < n → value_just_before width f t ≡ value_just_before width g u) → ((i : ℕ) → i < n → f (t + i) ≡ g (u + i))
+    → map (moved_change by) (changes_in width g u n) ≡ changes_in width f t n
+unfolding changes_from
+changes_in-moved width f g by t u zero later before same = refl
+changes_in-moved width f g by t u (suc n) later before same =
+    moved_from f g (value_just_before width g u) by t u (suc n) later same
+    ∙ ap (λ v. changes_from v t (suc n) f) (sym (before (omega arith)))
+
+-- the values over a range are one value
+constant_from : (f : ℕ → List Bit) (v : List Bit) (t n : ℕ) → ((i : ℕ) → i < n → f (t + i) ≡ v)
+    → changes_from v t n f ≡ []
+unfolding changes_from
+constant_from f v t zero same = refl
+constant_from f v t (suc n) same =
+    let here : f t ≡ v = ap f {x = t} {y = t + 0} (omega arith) ∙ same 0 (omega arith) in
+    put_cases (λ l. l ≡ []) (f t) v (change t (f t)) (changes_from (f t) (suc t) n f)
+    (λ _. ap (λ w. changes_from w (suc t) n f) here
+    ∙ constant_from f v (suc t) n (λ i less. ap f {x = suc t + i} {y = t + suc i} (omega arith)
+    ∙ same (suc i) (omega arith)))
+    (λ other. absurd (other here))
+
+pub changes_in-constant : (width : ℕ) (f : ℕ → List Bit) (v : List Bit) (t n : ℕ) → 0 < n
+    → ((i : ℕ) → i < n → f (t + i) ≡ v)
+    → changes_in width f t n ≡ unless_same (same_letters v (value_just_before width f t)) (change t v) []
+unfolding changes_from
+changes_in-constant width f v t zero some same = absurd (omega arith)
+changes_in-constant width f v t (suc n) some same =
+    let here : f t ≡ v = ap f {x = t} {y = t + 0} (omega arith) ∙ same 0 (omega arith) in
+    let rest : changes_from (f t) (suc t) n f ≡ [] =
+    ap (λ w. changes_from w (suc t) n f) here
+    ∙ constant_from f v (suc t) n (λ i less. ap f {x = suc t + i} {y = t + suc i} (omega arith)
+    ∙ same (suc i) (omega arith)) in
+    λ i. unless_same (same_letters (here i) (value_just_before width f t)) (change t (here i)) (rest i)
+
+-- ---- the ticks of a range
+
+count_low_from : (before : List Bit) (t n a : ℕ) (f : ℕ → List Bit) → t + n ≤ a
+    → count_by (λ c. nat_lt c.tick a) (changes_from before t n f) ≡ length (changes_from before t n f)
+unfolding changes_from
+count_low_from before t zero a f low = refl
+count_low_from before t (suc n) a f low =
+    let rest = count_low_from (f t) (suc t) n a f (omega arith) in
+    put_cases (λ l. count_by (λ c. nat_lt c.tick a) l ≡ length l) (f t) before (change t (f t))
+    (changes_from (f t) (suc t) n f) (λ _. rest)
+    (λ _. sum_by-cons (λ (c : Change). cond (nat_lt c.tick a) 1 0) (change t (f t)) (changes_from (f t) (suc t) n f)
+    ∙ (λ i. cond (lt-ltb t a (omega arith) i) 1 0 + rest i) ∙ omega arith)
+
+count_high_from : (before : List Bit) (t n a : ℕ) (f : ℕ → List Bit) → a ≤ t
+    → count_by (λ c. nat_lt c.tick a) (changes_from before t n f) ≡ 0
+unfolding changes_from
+count_high_from before t zero a f high = refl
+count_high_from before t (suc n) a f high =
+    let rest = count_high_from (f t) (suc t) n a f (omega arith) in
+    put_cases (λ l. count_by (λ c. nat_lt c.tick a) l ≡ 0) (f t) before (change t (f t))
+    (changes_from (f t) (suc t) n f) (λ _. rest)
+    (λ _. sum_by-cons (λ (c : Change). cond (nat_lt c.tick a) 1 0) (change t (f t)) (changes_from (f t) (suc t) n f)
+    ∙ (λ i. cond (le-ltb t a (omega arith) i) 1 0 + rest i))
+
+one_if_before : (a u t : ℕ) → a ≤ u → cond (nat_lt t a) 1 0 ≤ cond (nat_lt t u) 1 0
+one_if_before a u t le = grind (arith, nat_tests)
+
+-- a later tick has no fewer changes before it
+pub counts_rise : (a u : ℕ) (cs : List Change) → a ≤ u
+    → count_by (λ c. nat_lt c.tick a) cs ≤ count_by (λ c. nat_lt c.tick u) cs
+counts_rise a u cs le =
+    sum_by-le-sum_by (λ (c : Change). cond (nat_lt c.tick a) 1 0) (λ (c : Change). cond (nat_lt c.tick u) 1 0) cs
+    (λ c. one_if_before a u c.tick le)
+
+ticks_fit_from : (before : List Bit) (by : ℤ) (u v n : ℕ) (g : ℕ → List Bit) → pos u +ℤ by ≡ pos v → v + n ≤ 2 ^ 64
+    → AllTicksFit by (changes_from before u n g)
+unfolding changes_from TickFits
+ticks_fit_from before by u v zero g later small = All-nil (TickFits by)
+ticks_fit_from before by u v (suc n) g later small =
+    let rest = ticks_fit_from (g u) by (suc u) (suc v) n g (omega (arith, ints, later)) (omega arith) in
+    let here : FitsUnsigned w64 (pos u +ℤ by) =
+    subst (FitsUnsigned w64) (sym later) (omega (arith, ints), omega (arith, ints)) in
+    put_cases (AllTicksFit by) (g u) before (change u (g u)) (changes_from (g u) (suc u) n g) (λ _. rest)
+    (λ _. All-cons (TickFits by) (change u (g u)) (changes_from (g u) (suc u) n g) here rest)
+
+-- the value after the changes of a range
+last_from : (before : List Bit) (t n : ℕ) (f : ℕ → List Bit)
+    → last_value before (changes_from before t (suc n) f) ≡ f (t + n)
+unfolding changes_from last_value
+last_from before t zero f =
+    let here : f t ≡ f (t + 0) = ap f {x = t} {y = t + 0} (omega arith) in
+    put_cases (λ l. last_value before l ≡ f (t + 0)) (f t) before (change t (f t)) [] (λ same. sym same ∙ here)
+    (λ _. here)
+last_from before t (suc n) f =
+    let later : f (suc t + n) ≡ f (t + suc n) = ap f {x = suc t + n} {y = t + suc n} (omega arith) in
+    let rest = changes_from (f t) (suc t) (suc n) f in
+    let is = last_from (f t) (suc t) n f ∙ later in
+    put_cases (λ l. last_value before l ≡ f (t + suc n)) (f t) before (change t (f t)) rest
+    (λ same. subst (λ v. last_value v rest ≡ f (t + suc n)) same is) (λ _. is)
+
+last_of_range : (width : ℕ) (f : ℕ → List Bit) (a : ℕ)
+    → last_value (all_x width) (changes_in width f 0 a) ≡ value_just_before width f a
+unfolding changes_from last_value
+last_of_range width f zero = refl
+last_of_range width f (suc t) = last_from (all_x width) 0 t f ∙ ap f {x = 0 + t} {y = t} (omega arith)
+
+-- ---- a wave by ranges
+
+upto_later : (low high : ℕ) (cs : List Change) → low ≤ high → AllUpTo low cs → AllUpTo high cs
+upto_later low high [] le upto = tt
+upto_later low high (c ∷ cs) le (first, rest) = (omega arith, upto_later low high cs le rest)
+
+-- a wave is the range of all its ticks
+pub wave_is_range : (width end n : ℕ) (cs : List Change) → IsWave width cs → AllUpTo end cs → end < n
+    → cs ≡ changes_in width (value_at width cs) 0 n
+wave_is_range width end n cs is upto long =
+    changes_are (all_x width) 0 n (n - 1) cs (value_at width cs) (omega arith) is.rise
+    (upto_later end (n - 1) cs (omega arith) upto) (λ s _ _. refl)
+
+module _ (width end a n k : ℕ) (cs : List Change) (is : IsWave width cs) (upto : AllUpTo end cs) (long : end < a + n)
+    (count : k ≡ count_by (λ c. nat_lt c.tick a) cs) where
+  abbrev low : List Change
+  low = changes_in width (value_at width cs) 0 a
+
+  abbrev high : List Change
+  high = changes_in width (value_at width cs) a n
+
+  parts : cs ≡ low ++ high
+  parts =
+      wave_is_range width end (a + n) cs is upto long ∙ changes_in-split width (value_at width cs) 0 a n
+      ∙ ap (λ u. low ++ changes_in width (value_at width cs) u n) {x = 0 + a} {y = a} (omega arith)
+
+  count_is_length : length low ≡ k
+  count_is_length =
+      sym (count ∙ ap (count_by (λ c. nat_lt c.tick a)) parts
+      ∙ sum_by-append (λ (c : Change). cond (nat_lt c.tick a) 1 0) low high
+      ∙ (λ i. count_low_from (all_x width) 0 a a (value_at width cs) (omega arith) i
+      + count_high_from (value_just_before width (value_at width cs) a) a n a (value_at width cs) (omega arith) i)
+      ∙ omega arith)
+
+  -- the changes before a tick
+  pub changes_before_tick : take k cs ≡ low
+  changes_before_tick = ap (take k) parts ∙ take_at low high k count_is_length
+
+  -- the changes from it on
+  pub changes_from_tick : drop k cs ≡ high
+  changes_from_tick = ap (drop k) parts ∙ drop_at low high k count_is_length
+
+  -- the value after the changes before a tick
+  pub last_before_tick : last_value (all_x width) (take k cs) ≡ value_just_before width (value_at width cs) a
+  last_before_tick = ap (last_value (all_x width)) changes_before_tick ∙ last_of_range width (value_at width cs) a
+
+-- ---- a piece replaces a range, and the later changes move
+
+module _ (width end : ℕ) (cs : List Change) (is : IsWave width cs) (upto : AllUpTo end cs) (a u m n k l stop : ℕ)
+    (by : ℤ) (f : ℕ → List Bit) (piece : List Change)
+    (long : end < u + n) (all : a + (m + n) ≡ suc stop) (from : k ≡ count_by (λ c. nat_lt c.tick a) cs)
+    (to : l ≡ count_by (λ c. nat_lt c.tick u) cs) (later : pos u +ℤ by ≡ pos (a + m)) where
+  -- the piece replaces the ticks from a to u, and the later changes begin at a + m
+  pub replaced : a ≤ u → ((s : ℕ) → s < a → f s ≡ value_at width cs s)
+      → ((i : ℕ) → i < n → f (a + m + i) ≡ value_at width cs (u + i))
+      → (0 < n → value_just_before width f (a + m) ≡ value_just_before width (value_at width cs) u)
+      → piece ≡ changes_in width f a m
+      → spliced_changes cs k l piece by ≡ changes_of width stop f
+  unfolding spliced_changes
+  replaced ordered early late before told =
+      let first : take k cs ≡ changes_in width f 0 a =
+      changes_before_tick width end a (u + n - a) k cs is upto (omega arith) from
+      ∙ changes_in-same width f (value_at width cs) 0 a refl (λ i less. early (0 + i) (omega arith)) in
+      let last : map (moved_change by) (drop l cs) ≡ changes_in width f (a + m) n =
+      ap (map (moved_change by)) (changes_from_tick width end u n l cs is upto long to)
+      ∙ changes_in-moved width f (value_at width cs) by (a + m) u n later before late in
+      (λ i. first i ++ told i ++ last i)
+      ∙ append_assoc (changes_in width f 0 a) (changes_in width f a m) (changes_in width f (a + m) n)
+      ∙ ap (λ xs. changes_in width f 0 a ++ xs) (sym (changes_in-split width f a m n))
+      ∙ ap (λ t. changes_in width f 0 a ++ changes_in width f t (m + n)) {x = a} {y = 0 + a} (omega arith)
+      ∙ sym (changes_in-split width f 0 a (m + n))
+      ∙ ap (changes_in width f 0) all
+
+  -- such a piece gives the changes of f
+  pub replacement_leads : (p : PieceView) → p.from ≡ k → p.to ≡ l → p.changes ≡ piece → p.by ≡ by → a ≤ u
+      → stop < 2 ^ 64
+      → ((s : ℕ) → s < a → f s ≡ value_at width cs s) → ((i : ℕ) → i < n → f (a + m + i) ≡ value_at width cs (u + i))
+      → (0 < n → value_just_before width f (a + m) ≡ value_just_before width (value_at width cs) u)
+      → piece ≡ changes_in width f a m
+      → GivesChanges p cs width stop f
+  replacement_leads p is_from is_to is_piece is_by ordered small early late before told =
+      record {
+        ordered = omega (arith, is_from, is_to, from, to, counts_rise a u cs ordered);
+        within = omega (arith, is_to, to, count_by-le-length (λ (c : Change). nat_lt c.tick u) cs);
+        ticks = subst (λ z. AllTicksFit z (drop p.to cs)) (sym is_by)
+            (subst (λ j. AllTicksFit by (drop j cs)) (sym is_to)
+            (subst (AllTicksFit by) (sym (changes_from_tick width end u n l cs is upto long to))
+            (ticks_fit_from (value_just_before width (value_at width cs) u) by u (a + m) n (value_at width cs) later
+            (omega arith))));
+        is = (λ i. spliced_changes cs (is_from i) (is_to i) (is_piece i) (is_by i))
+            ∙ replaced ordered early late before told;
+      }

@@ -1,0 +1,3 @@
+-- Lemmas of `plans/cut`.
+pub mod PlanOfCut
+pub mod PiecesOfSignals

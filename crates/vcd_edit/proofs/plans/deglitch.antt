@@ -1,0 +1,3 @@
+-- Lemmas of `plans/deglitch`.
+pub mod DeglitchPiece
+pub mod KeptChanges

@@ -1,0 +1,3 @@
+-- Lemmas of `plans/derive`.
+pub mod DerivedSignal
+pub mod DerivedWave

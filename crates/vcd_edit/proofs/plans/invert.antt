@@ -1,0 +1,3 @@
+-- Lemmas of `plans/invert`.
+pub mod InverseBlocks
+pub mod InversePiece

@@ -1,0 +1,2 @@
+-- Lemmas of `plans/shift`.
+pub mod ShiftPieces

@@ -1,0 +1,6 @@
+-- Lemmas: shared.
+pub mod EffectLaws
+pub mod SoundEffects
+pub mod SignalCounts
+pub mod TouchedBySplice
+pub mod StoredAtMostTouched

@@ -1,0 +1,268 @@
+-- What a splice touches, by its range and its piece.
+use Rattle.std.proofs.Common.{◌≡◌, ℕ, suc, ◌+◌, ◌-◌, ◌^◌, ◌<◌, ◌≤◌, ◌==◌, Bool, true, ℤ, pos, ◌+ℤ◌}
+use Rattle.std.proofs.Common.{◌-ℤ◌, neg_ℤ}
+use Rattle.std.proofs.Common.{unsigned_abs, List, [], ◌∷◌, ◌++◌, length, take, drop, get_or, map}
+use Rattle.std.proofs.Common.{reverse, All, refl}
+use Rattle.std.proofs.Common.{sym, ap, subst, ◌∙◌, inl, inr, arith}
+use Rattle.std.specs.Int.{w64, FitsUnsigned}
+use Rattle.std.specs.Bool.{Decides}
+use Rattle.std.specs.List.{common_prefix_len}
+use Rattle.std.specs.Ordering.{int_eq}
+use Rattle.std.proofs.lemmas.Bool.{cases_lt, cases_Bool, and_from, and_parts, eq-eqb, eqb-true}
+use Rattle.std.proofs.lemmas.Bool.{cond-true, cond-false}
+use Rattle.std.proofs.lemmas.Bool.Decides.{Decides-int_eq}
+use Rattle.std.proofs.lemmas.List.{append_assoc, reverse-append, reverse-reverse, length-append}
+use Rattle.std.proofs.lemmas.List.{length-map}
+use Rattle.std.proofs.lemmas.List.{length-reverse, length-drop, drop-append-le, take-append-le}
+use Rattle.std.proofs.lemmas.List.{take_all, drop_at}
+use Rattle.std.proofs.lemmas.List.{append-nil, take-append-drop, get_or-reverse, map-append, map-id}
+use Rattle.std.proofs.lemmas.List.Sums.{common_prefix_len-le}
+use Rattle.std.proofs.lemmas.List.Elements.{All-nil, All-cons, All-head, All-tail}
+use Rattle.std.proofs.lemmas.Int.{ints}
+use Rattle.vcd_core.specs.declared.wave.Change.{Change}
+use Rattle.vcd_core.specs.Value.{same_letters}
+use Rattle.vcd_core.specs.inside.value.EqualByLetters.{same_letters-Decides}
+use Rattle.vcd_core.specs.Splice.{moved_change, TickFits, AllTicksFit}
+use Rattle.vcd_edit.specs.Touched.{same_change, same_moved_change, common_moved_suffix}
+use Rattle.vcd_edit.specs.Touched.{touched_count}
+
+-- ---- tests of changes
+
+same_letters_self : (c : Change) → same_letters c.value c.value ≡ true
+same_letters_self c = (same_letters-Decides c.value c.value).1 refl
+
+pub same_change_self : (c : Change) → same_change c c ≡ true
+same_change_self c = and_from (c.tick == c.tick) (same_letters c.value c.value) (eq-eqb c.tick c.tick refl)
+    (same_letters_self c)
+
+same_change_is : (c d : Change) → same_change c d ≡ true → c ≡ d
+same_change_is c d same =
+    let parts = and_parts (c.tick == d.tick) (same_letters c.value d.value) same in
+    λ i. record { tick = eqb-true c.tick d.tick parts.0 i; value = (same_letters-Decides c.value d.value).0 parts.1 i }
+
+pub same_change-Decides : (c d : Change) → Decides (same_change c d) (c ≡ d)
+same_change-Decides c d = (
+  same_change_is c d,
+  λ same. subst (λ (e : Change). same_change c e ≡ true) same (same_change_self c),
+)
+
+-- a change matches its moved change
+same_lowered_moved : (by o : ℤ) (c : Change) → o ≡ neg_ℤ by → TickFits by c
+    → same_moved_change o c (moved_change by c) ≡ true
+unfolding moved_change TickFits
+same_lowered_moved by o c opposite fits =
+    let tick : pos c.tick -ℤ o ≡ pos (unsigned_abs (pos c.tick +ℤ by)) = omega (arith, ints, fits.0, opposite) in
+    and_from _ _ ((Decides-int_eq _ _).1 tick) (same_letters_self c)
+
+-- and only that one
+same_lowered_is : (by o : ℤ) (c d : Change) → o ≡ neg_ℤ by → d.tick < 2 ^ 64 → same_moved_change o c d ≡ true
+    → (moved_change by c ≡ d) × TickFits by c
+unfolding moved_change TickFits
+same_lowered_is by o c d opposite small same =
+    let parts = and_parts (int_eq (pos c.tick -ℤ o) (pos d.tick)) (same_letters c.value d.value) same in
+    let tick : pos c.tick -ℤ o ≡ pos d.tick = (Decides-int_eq _ _).0 parts.0 in
+    let later : pos c.tick +ℤ by ≡ pos d.tick = omega (arith, ints, tick, opposite) in
+    let value : c.value ≡ d.value = (same_letters-Decides c.value d.value).0 parts.1 in (
+      (λ i. record { tick = unsigned_abs (later i); value = value i }),
+      subst (FitsUnsigned w64) (sym later) (omega (arith, ints), omega (arith, ints, small)),
+    )
+
+-- ---- common prefixes
+
+module _ {X Y : Type 0} (e : X → Y → Bool) where
+  -- two lists that begin with matching lists
+  prefix_after : (h : X → Y) (us xs : List X) (ys : List Y) → All (λ a. e a (h a) ≡ true) us
+      → common_prefix_len e (us ++ xs) (map h us ++ ys) ≡ length us + common_prefix_len e xs ys
+  prefix_after h [] xs ys match = omega arith
+  prefix_after h (a ∷ us) xs ys match =
+      cond-true (e a (h a)) _ _ (All-head (λ a. e a (h a) ≡ true) a us match)
+      ∙ ap (λ n. 1 + n) (prefix_after h us xs ys (All-tail (λ a. e a (h a) ≡ true) a us match)) ∙ omega arith
+
+  -- lists that differ before either ends
+  prefix_differs : (xs cs : List X) (ys ds : List Y) → common_prefix_len e xs ys < length xs
+      → common_prefix_len e xs ys < length ys
+      → common_prefix_len e (xs ++ cs) (ys ++ ds) ≡ common_prefix_len e xs ys
+  prefix_differs [] cs ys ds in_xs in_ys = absurd (omega arith)
+  prefix_differs (x ∷ xs) cs [] ds in_xs in_ys = absurd (omega arith)
+  prefix_differs (x ∷ xs) cs (y ∷ ys) ds in_xs in_ys =
+      elim (cases_Bool (e x y)) [
+        | inl is ↦
+            let here : common_prefix_len e (x ∷ xs) (y ∷ ys) ≡ 1 + common_prefix_len e xs ys =
+            cond-true (e x y) _ _ is in
+            cond-true (e x y) _ _ is ∙ ap (λ n. 1 + n) (prefix_differs xs cs ys ds (omega arith) (omega arith))
+            ∙ sym here
+        | inr is ↦ cond-false (e x y) _ _ is ∙ sym (cond-false (e x y) _ _ is)
+      ]
+
+  -- the pairs that match at the front of each first part
+  prefix_parts : (h : X → Y) (P : X → Type 0) (Q : Y → Type 0)
+      → ((a : X) (b : Y) → Q b → e a b ≡ true → (h a ≡ b) × P a) → (xs : List X) (ys : List Y) → All Q ys
+      → (map h (take (common_prefix_len e xs ys) xs) ≡ take (common_prefix_len e xs ys) ys)
+      × All P (take (common_prefix_len e xs ys) xs)
+  prefix_parts h P Q means [] ys all = (refl, All-nil P)
+  prefix_parts h P Q means (x ∷ xs) [] all = (refl, All-nil P)
+  prefix_parts h P Q means (x ∷ xs) (y ∷ ys) all =
+      elim (cases_Bool (e x y)) [
+        | inl is ↦
+            let rest = prefix_parts h P Q means xs ys (All-tail Q y ys all) in
+            let here = means x y (All-head Q y ys all) is in
+            subst (λ n. (map h (take n (x ∷ xs)) ≡ take n (y ∷ ys)) × All P (take n (x ∷ xs)))
+            (sym (cond-true (e x y) (1 + common_prefix_len e xs ys) 0 is ∙ one_more (common_prefix_len e xs ys)))
+            ((λ i. here.0 i ∷ rest.0 i), All-cons P x _ here.1 rest.1)
+        | inr is ↦ subst (λ n. (map h (take n (x ∷ xs)) ≡ take n (y ∷ ys)) × All P (take n (x ∷ xs)))
+            (sym (cond-false (e x y) (1 + common_prefix_len e xs ys) 0 is)) (refl, All-nil P)
+      ]
+    where
+      one_more : (n : ℕ) → 1 + n ≡ suc n
+      one_more n = omega arith
+
+-- ---- common suffixes
+
+-- the last changes that move with the tail match
+suffix_end : (by o : ℤ) (xs ys cs : List Change) → o ≡ neg_ℤ by → AllTicksFit by cs
+    → common_moved_suffix o (xs ++ cs) (ys ++ map (moved_change by) cs) ≡ length cs + common_moved_suffix o xs ys
+suffix_end by o xs ys [] opposite fit =
+    (λ i. common_moved_suffix o (append-nil xs i) (append-nil ys i)) ∙ omega arith
+suffix_end by o xs ys (c ∷ cs) opposite fit =
+    let d = moved_change by c in
+    let last : common_moved_suffix o (xs ++ c ∷ []) (ys ++ d ∷ []) ≡ 1 + common_moved_suffix o xs ys =
+    (λ i. common_prefix_len (same_moved_change o) (reverse-append xs (c ∷ []) i) (reverse-append ys (d ∷ []) i))
+    ∙ cond-true (same_moved_change o c d) _ _ (same_lowered_moved by o c opposite (All-head (TickFits by) c cs fit)) in
+    (λ i. common_moved_suffix o (sym (append_assoc xs (c ∷ []) cs) i)
+    (sym (append_assoc ys (d ∷ []) (map (moved_change by) cs)) i))
+    ∙ suffix_end by o (xs ++ c ∷ []) (ys ++ d ∷ []) cs opposite (All-tail (TickFits by) c cs fit)
+    ∙ ap (λ n. length cs + n) last ∙ omega arith
+
+pub suffix_le : (o : ℤ) (xs ys : List Change) → (common_moved_suffix o xs ys ≤ length xs)
+    × (common_moved_suffix o xs ys ≤ length ys)
+suffix_le o xs ys =
+    let both = common_prefix_len-le (same_moved_change o) (reverse xs) (reverse ys) in
+    (omega (arith, both.0, length-reverse xs), omega (arith, both.1, length-reverse ys))
+
+module _ {X : Type 0} where
+  -- the end of a list, by its reverse
+  drop-by_reverse : (xs : List X) (n : ℕ) → n ≤ length xs → drop (length xs - n) xs ≡ reverse (take n (reverse xs))
+  drop-by_reverse xs n le =
+      let back = reverse xs in
+      let parts : xs ≡ reverse (drop n back) ++ reverse (take n back) =
+      sym (ap reverse (take-append-drop n back) ∙ reverse-reverse xs) ∙ reverse-append (take n back) (drop n back) in
+      ap (drop (length xs - n)) parts
+      ∙ drop_at (reverse (drop n back)) (reverse (take n back)) (length xs - n)
+      (omega (arith, length-reverse (drop n back), length-drop n back, length-reverse xs))
+
+  -- a slice that is the whole list leaves it whole
+  pub whole_list : (n : ℕ) (new old : List X) → n ≡ length new → take n (new ++ drop (length new) old) ≡ new
+  whole_list n new old all = take-append-le n new (drop (length new) old) (omega arith) ∙ take_all n new (omega arith)
+
+  pub map-reverse : {Y : Type 0} (h : X → Y) (xs : List X) → map h (reverse xs) ≡ reverse (map h xs)
+  map-reverse h [] = refl
+  map-reverse h (x ∷ xs) =
+      ap (map h) (reverse-append (x ∷ []) xs) ∙ map-append h (reverse xs) (x ∷ [])
+      ∙ ap (λ l. l ++ h x ∷ []) (map-reverse h xs) ∙ sym (reverse-append (h x ∷ []) (map h xs))
+
+  pub All-reverse : (P : X → Type 0) (xs : List X) → All P xs → All P (reverse xs)
+  All-reverse P xs all = λ k d within.
+      let long : k < length xs = omega (arith, within, length-reverse xs) in
+      subst P (sym (get_or-reverse xs k d long)) (all (length xs - 1 - k) d (omega arith))
+
+-- the old changes that match at the end move to the new ones
+pub suffix_moves : (by o : ℤ) (xs ys : List Change) → o ≡ neg_ℤ by → All (λ c. c.tick < 2 ^ 64) ys
+    → (map (moved_change by) (drop (length xs - common_moved_suffix o xs ys) xs)
+    ≡ drop (length ys - common_moved_suffix o xs ys) ys)
+    × AllTicksFit by (drop (length xs - common_moved_suffix o xs ys) xs)
+suffix_moves by o xs ys opposite small =
+    let n = common_moved_suffix o xs ys in
+    let le = suffix_le o xs ys in
+    let parts = prefix_parts (same_moved_change o) (moved_change by) (TickFits by) (λ c. c.tick < 2 ^ 64)
+    (λ c d less same. same_lowered_is by o c d opposite less same)
+    (reverse xs) (reverse ys) (All-reverse (λ c. c.tick < 2 ^ 64) ys small) in (
+      ap (map (moved_change by)) (drop-by_reverse xs n le.0) ∙ map-reverse (moved_change by) (take n (reverse xs))
+          ∙ ap reverse parts.0 ∙ sym (drop-by_reverse ys n le.1),
+      subst (AllTicksFit by) (sym (drop-by_reverse xs n le.0))
+          (All-reverse (TickFits by) (take n (reverse xs)) parts.1),
+    )
+
+-- the old changes that match at the front are the new ones
+pub prefix_same : (xs ys : List Change)
+    → take (common_prefix_len same_change xs ys) xs ≡ take (common_prefix_len same_change xs ys) ys
+prefix_same xs ys =
+    let n = common_prefix_len same_change xs ys in
+    sym (map-id (take n xs))
+    ∙ (prefix_parts same_change (λ c. c) (λ c. Unit {0}) (λ c. Unit {0}) (λ c d _ same. (same_change_is c d same, tt))
+    xs ys (λ k d within. tt)).0
+
+-- ---- what a list touches
+
+-- a list touches at least as many changes as it is longer
+touched_least : (o : ℤ) (old new : List Change) → length old ≤ touched_count o old new + length new
+unfolding touched_count
+touched_least o old new =
+    let n = common_prefix_len same_change old new in
+    let prefix = common_prefix_len-le same_change old new in
+    let end = suffix_le o (drop n old) (drop n new) in
+    omega (arith, prefix.0, prefix.1, end.0, end.1, length-drop n old, length-drop n new)
+
+module _ (by o : ℤ) (before ms ns cs : List Change) (opposite : o ≡ neg_ℤ by) (fit : AllTicksFit by cs) where
+  abbrev old : List Change
+  old = before ++ ms ++ cs
+
+  abbrev new : List Change
+  new = before ++ ns ++ map (moved_change by) cs
+
+  abbrev prefix : ℕ
+  prefix = common_prefix_len same_change ms ns
+
+  prefix_is : prefix < length ms → prefix < length ns → common_prefix_len same_change old new ≡ length before + prefix
+  prefix_is in_ms in_ns =
+      (λ i. common_prefix_len same_change (append_assoc before ms cs i)
+      (append_assoc before ns (map (moved_change by) cs) i))
+      ∙ ap (λ l. common_prefix_len same_change (before ++ (ms ++ cs)) (l ++ (ns ++ map (moved_change by) cs)))
+      (sym (map-id before))
+      ∙ prefix_after same_change (λ c. c) before (ms ++ cs) (ns ++ map (moved_change by) cs)
+      (λ k d within. same_change_self (get_or before k d))
+      ∙ ap (λ n. length before + n) (prefix_differs same_change ms cs ns (map (moved_change by) cs) in_ms in_ns)
+
+  rest_is : (xs ds : List Change) → prefix ≤ length xs
+      → drop (length before + prefix) (before ++ xs ++ ds) ≡ drop prefix xs ++ ds
+  rest_is xs ds le =
+      ap (drop (length before + prefix)) (append_assoc before xs ds) ∙ drop_after before (xs ++ ds) prefix
+      ∙ drop-append-le prefix xs ds le
+    where
+      drop_after : (us xs : List Change) (n : ℕ) → drop (length us + n) (us ++ xs) ≡ drop n xs
+      drop_after [] xs n = ap (λ k. drop k xs) {x = 0 + n} {y = n} (omega arith)
+      drop_after (u ∷ us) xs n =
+          ap (λ k. drop k (u ∷ us ++ xs)) {x = suc (length us) + n} {y = suc (length us + n)} (omega arith)
+          ∙ drop_after us xs n
+
+  -- a range replaced in a list, with the later changes moved, touches no more than the whole list
+  pub touched_middle : touched_count o ms ns ≤ touched_count o old new
+  unfolding touched_count
+  touched_middle =
+      let both = common_prefix_len-le same_change ms ns in
+      elim (cases_lt prefix (length ms)) [
+        | inr up ↦ omega arith
+        | inl in_ms ↦ elim (cases_lt prefix (length ns)) [
+          | inr all ↦
+              let least = touched_least o old new in
+              let lengths : length old + length ns ≡ length new + length ms =
+              omega (
+                arith,
+                length-append (before ++ ms) cs,
+                length-append before ms,
+                length-append (before ++ ns) (map (moved_change by) cs),
+                length-append before ns,
+                length-map cs (moved_change by),
+              ) in
+              omega (arith, least, lengths, both.0, both.1)
+          | inl in_ns ↦
+              let same = prefix_is in_ms in_ns in
+              let ends : common_moved_suffix o (drop (common_prefix_len same_change old new) old)
+              (drop (common_prefix_len same_change old new) new)
+              ≡ length cs + common_moved_suffix o (drop prefix ms) (drop prefix ns) =
+              (λ i. common_moved_suffix o (drop (same i) old) (drop (same i) new))
+              ∙ (λ i. common_moved_suffix o (rest_is ms cs (omega arith) i)
+              (rest_is ns (map (moved_change by) cs) (omega arith) i))
+              ∙ suffix_end by o (drop prefix ms) (drop prefix ns) cs opposite fit in
+              omega (arith, same, ends, length-append (before ++ ms) cs, length-append before ms)
+        ]
+      ]

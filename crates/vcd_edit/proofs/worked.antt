@@ -1,0 +1,4 @@
+-- Lemmas: worked.
+pub mod EffectLaws
+pub mod Records
+pub mod Touched

@@ -1,0 +1,69 @@
+-- The tests that show whether a record fits a capture.
+use Rattle.std.specs.Prelude.{◌≡◌, ℕ, zero, suc, ◌<◌, ◌≤◌, ◌==◌, Bool, true, false, List, [], ◌∷◌}
+use Rattle.std.specs.Prelude.{length, drop, slice_index_or, All, Option, Some}
+use Rattle.std.specs.Prelude.{None, IsTrue, IfSome}
+use Rattle.std.specs.List.{list_all}
+use Rattle.vcd_core.specs.declared.capture.TheConstants.{END_LIMIT, SIGNAL_LIMIT}
+use Rattle.vcd_core.specs.Contents.{Contents, SignalContents, no_signal}
+use Rattle.vcd_core.specs.Sound.{is_sound_header, is_sound_timescale, IsSoundSignal}
+use Rattle.vcd_edit.specs.RecordView.{PieceView, RecordView}
+use Rattle.vcd_edit.specs.AppliedRecords.{signal_with_changes, PieceFits, WordFits}
+use Rattle.vcd_edit.specs.AppliedRecords.{MayPutInOrTakeOut, SignalFits}
+use Rattle.vcd_edit.specs.AppliedRecords.{with_pieces, with_first_word, with_signal_in_out}
+use Rattle.vcd_edit.specs.AppliedRecords.{apply_record}
+use Rattle.vcd_edit.specs.inside.fitting.Adjacency.{IsValidPiece}
+
+-- all of a signal except its changes is sound
+abbrev pub HasSoundNames : SignalContents → Type 0
+HasSoundNames s = IsSoundSignal 0 (signal_with_changes s [])
+
+-- a signal with a piece is sound up to an end, and the piece lies within its changes
+abbrev pub IsSoundWith : ℕ → SignalContents → PieceView → Type 0
+IsSoundWith end s p = HasSoundNames s × IsValidPiece s.width end s.changes p
+
+-- whether the first of some pieces is for the signal at a position
+abbrev pub is_for : ℕ → List PieceView → Bool
+is_for k [] = false
+is_for k (p ∷ ps) = p.signal == k
+
+-- the pieces after that one, if it is
+abbrev pub pieces_after : Bool → List PieceView → List PieceView
+pieces_after true ps = drop 1 ps
+pieces_after false ps = ps
+
+-- a signal is sound up to an end: with the first of the pieces if that is for it, else as it is
+abbrev pub IsSoundHere : ℕ → Bool → SignalContents → List PieceView → Type 0
+IsSoundHere end true s [] = ⊥
+IsSoundHere end true s (p ∷ ps) = IsSoundWith end s p
+IsSoundHere end false s ps = IsSoundSignal end s
+
+-- n signals from position k on are, each with its piece, and no piece is left
+unfoldable pub AreSoundFrom : ℕ → List SignalContents → ℕ → ℕ → List PieceView → Type 0
+AreSoundFrom end ss k zero ps = ps ≡ []
+AreSoundFrom end ss k (suc n) ps =
+    IsSoundHere end (is_for k ps) (slice_index_or ss k no_signal) ps
+    × AreSoundFrom end ss (suc k) n (pieces_after (is_for k ps) ps)
+
+-- a capture may have this number of signals, and each is sound up to an end
+abbrev pub AreSoundSignals : ℕ → List SignalContents → Type 0
+AreSoundSignals end ss = (length ss ≤ SIGNAL_LIMIT) × All (IsSoundSignal end) ss
+
+-- a capture with another end is sound, apart from its signals
+abbrev pub HasSoundMetadata : ℕ → Contents → Type 0
+HasSoundMetadata end c = IsTrue (list_all is_sound_header c.header)
+    × IfSome c.timescale (λ t. IsTrue (is_sound_timescale t)) × (end ≤ END_LIMIT)
+
+-- the parts of a record lie within a capture, and the resulting signals are sound up to an end
+abbrev pub PartsFit : ℕ → RecordView → Contents → Type 0
+PartsFit end r c = All (PieceFits c) r.pieces × WordFits c r.word × SignalFits c r.signal
+    × AreSoundSignals end (apply_record r c).signals
+
+-- the same by the kind of the record: with a signal to put in or take out, with a word, or with
+-- pieces
+abbrev pub KindFits : ℕ → Contents → List PieceView → Option (ℕ × List ℕ)
+    → Option (ℕ × Option SignalContents) → Type 0
+KindFits end c ps w (Some m) = MayPutInOrTakeOut c m.0 m.1
+    × AreSoundSignals end (with_signal_in_out (Some m) c).signals
+KindFits end c ps (Some w) None = (w.0 < length c.signals)
+    × AreSoundSignals end (with_first_word (Some w) c).signals
+KindFits end c ps None None = All (PieceFits c) ps × AreSoundSignals end (with_pieces c ps).signals

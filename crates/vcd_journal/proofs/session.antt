@@ -1,0 +1,2 @@
+-- Lemmas of `session`.
+pub mod RecordsOfHistory

@@ -1,0 +1,152 @@
+-- The records of a session and the captures that they reach.
+use Rattle.std.proofs.Common.{◌≡◌, ◌<◌, ◌≤◌, ◌+◌, ℕ, zero, suc, List, [], ◌∷◌, ◌-◌, length, take}
+use Rattle.std.proofs.Common.{drop, refl, sym, ◌∙◌}
+use Rattle.std.proofs.Common.{ap, subst, Some, arith}
+use Rattle.std.specs.Prelude.{slice_get}
+use Rattle.std.proofs.lemmas.List.{take_all, length-take}
+use Rattle.vcd_core.specs.Contents.{Contents}
+use Rattle.circular_buffer.specs.Buffer.{Buffer}
+use Rattle.vcd_edit.specs.declared.edit.Edit.{Edit}
+use Rattle.vcd_edit.specs.Effect.{effect}
+use Rattle.vcd_edit.specs.RecordView.{RecordView}
+use Rattle.vcd_edit.specs.AppliedRecords.{apply_record, Fits, PutsInOrKeepsNames}
+use Rattle.vcd_journal.specs.declared.step.Step.TheVariants as steps
+use Rattle.vcd_journal.specs.Machine.{Machine, machine_after_edit, machine_after_depth}
+use Rattle.vcd_journal.specs.Machine.{MayNeedMemory}
+use Rattle.vcd_journal.specs.inside.Rings.{AllRecordsFit, FirstMayNeedMemory, AreSessionRings}
+use Rattle.vcd_journal.specs.ReachedCaptures.{reached_captures}
+use Rattle.vcd_journal.specs.inside.Rings.{PopsRecord}
+
+-- a capture for each record
+pub length_reached_captures : (c : Contents) (rs : List RecordView) → length (reached_captures c rs) ≡ length rs
+length_reached_captures c [] = refl
+length_reached_captures c (r ∷ rs) = ap suc (length_reached_captures (apply_record r c) rs)
+
+-- the newest records reach the nearest captures
+pub reached_captures_take : (c : Contents) (n : ℕ) (rs : List RecordView)
+    → reached_captures c (take n rs) ≡ take n (reached_captures c rs)
+reached_captures_take c zero rs = refl
+reached_captures_take c (suc n) [] = refl
+reached_captures_take c (suc n) (r ∷ rs) =
+    ap (λ (cs : List Contents). apply_record r c ∷ cs) (reached_captures_take (apply_record r c) n rs)
+
+-- the newest of records that fit also fit
+pub AllRecordsFit_take : (c : Contents) (n : ℕ) (rs : List RecordView) → AllRecordsFit c rs
+    → AllRecordsFit c (take n rs)
+AllRecordsFit_take c zero rs fit = tt
+AllRecordsFit_take c (suc n) [] fit = tt
+AllRecordsFit_take c (suc n) (r ∷ rs) fit = (fit.0, AllRecordsFit_take (apply_record r c) n rs fit.1)
+
+-- a session can reach as many captures as it has records
+pub few_captures : (c : Contents) (past future : Buffer RecordView) (depth : ℕ) → AreSessionRings c past future depth
+    → length (reached_captures c past.items) + length (reached_captures c future.items) ≤ depth
+few_captures c past future depth held =
+    rw (length_reached_captures c past.items, length_reached_captures c future.items) (held.few)
+
+-- with a record there is at least one
+pub some_captures : (c : Contents) (rs : List RecordView) → 0 < length rs → 0 < length (reached_captures c rs)
+some_captures c rs some = rw (length_reached_captures c rs) some
+
+-- the machine of a session with these records
+abbrev pub machine_of : Contents → List RecordView → List RecordView → ℕ → Machine
+machine_of c past future depth =
+    record { past = reached_captures c past; now = c; future = reached_captures c future; depth = depth }
+
+pub same_machine : (c d : Contents) (past past_then future future_then : List RecordView) (depth : ℕ) → d ≡ c
+    → past_then ≡ past → future_then ≡ future →
+    machine_of d past_then future_then depth ≡ machine_of c past future depth
+same_machine c d past past_then future future_then depth capture back forth =
+    λ i. machine_of (capture i) (back i) (forth i) depth
+
+-- ---- edits
+
+-- an edit adds the capture before it to the past
+pub past_after_edit : (before after : Contents) (r : RecordView) (rs : List RecordView) (n : ℕ)
+    → apply_record r after ≡ before
+    → reached_captures after (take n (r ∷ rs)) ≡ take n (before ∷ reached_captures before rs)
+past_after_edit before after r rs n leads = reached_captures_take after n (r ∷ rs)
+    ∙ ap (λ (c : Contents). take n (c ∷ reached_captures c rs)) leads
+
+-- its record fits
+pub fit_after_edit : (before after : Contents) (r : RecordView) (rs : List RecordView) (n : ℕ)
+    → apply_record r after ≡ before → Fits r after → AllRecordsFit before rs → AllRecordsFit after (take n (r ∷ rs))
+fit_after_edit before after r rs n leads fits fit =
+    AllRecordsFit_take after n (r ∷ rs) (fits, subst (λ (c : Contents). AllRecordsFit c rs) (sym leads) fit)
+
+-- at most n records are kept
+pub few_after_edit : (r : RecordView) (rs : List RecordView) (n : ℕ) → length (take n (r ∷ rs)) ≤ n
+few_after_edit r rs n = let kept = length-take n (r ∷ rs) in omega (arith, kept)
+
+-- the machine after an edit
+pub machine_of_edit : (e : Edit) (before after : Contents) (r : RecordView) (rs fs : List RecordView) (depth : ℕ)
+    → after ≡ effect e before → apply_record r after ≡ before →
+    machine_of after (take depth (r ∷ rs)) [] depth ≡ machine_after_edit e (machine_of before rs fs depth)
+machine_of_edit e before after r rs fs depth forth leads =
+    ap (λ (cs : List Contents). record { past = cs; now = after; future = []; depth = depth })
+    (past_after_edit before after r rs depth leads)
+    ∙ ap (λ (c : Contents). record {
+      past = take depth (before ∷ reached_captures before rs);
+      now = c;
+      future = [];
+      depth = depth;
+    }) forth
+
+-- ---- undo and redo
+
+-- the first of the records is taken out
+pops_first_record : (c d : Contents) (q : RecordView) (rs : List RecordView) → d ≡ apply_record q c
+    → AllRecordsFit c (q ∷ rs) → PopsRecord c (q ∷ rs) d rs
+pops_first_record c d q rs leads fit = record {
+  captures = ap (λ (e : Contents). e ∷ reached_captures e rs) (sym leads);
+  fit = fit;
+  rest_fit = subst (λ (e : Contents). AllRecordsFit e rs) (sym leads) fit.1;
+  count = refl;
+}
+
+pub pops_next_record : (c d : Contents) (r : RecordView) (rs : List RecordView) → Some r ≡ slice_get rs 0
+    → d ≡ apply_record r c → AllRecordsFit c rs → PopsRecord c rs d (drop 1 rs)
+pops_next_record c d r [] first leads fit = absurd (cc)
+pops_next_record c d r (q ∷ rs) first leads fit = let same : r ≡ q = cc in
+    pops_first_record c d q rs (leads ∙ ap (λ (p : RecordView). apply_record p c) same) fit
+
+-- the undo record is put in front
+pub pops_pushed_record : (c d : Contents) (r : RecordView) (rs : List RecordView) (n : ℕ) → apply_record r d ≡ c
+    → Fits r d → AllRecordsFit c rs → length rs < n → PopsRecord d (take n (r ∷ rs)) c rs
+pops_pushed_record c d r rs n leads fits fit room =
+    let whole : take n (r ∷ rs) ≡ r ∷ rs = take_all n (r ∷ rs) (omega arith) in
+    rw whole (pops_first_record d c r rs (sym leads)
+    (fits, subst (λ (e : Contents). AllRecordsFit e rs) (sym leads) fit))
+
+-- a record that was taken out is put back in its place
+pub record_put_back : (r : RecordView) (rs : List RecordView) (n : ℕ) → Some r ≡ slice_get rs 0 → length rs ≤ n
+    → take n (r ∷ drop 1 rs) ≡ rs
+record_put_back r [] n first within = absurd (cc)
+record_put_back r (q ∷ rs) n first within = let same : r ≡ q = cc in rw same (take_all n (q ∷ rs) within)
+
+-- ---- out of memory
+
+-- a step by the first record
+pub first_needs : (c : Contents) (r : RecordView) (rs : List RecordView) → Some r ≡ slice_get rs 0
+    → PutsInOrKeepsNames c (apply_record r c) → FirstMayNeedMemory c rs
+first_needs c r [] first needs = tt
+first_needs c r (q ∷ rs) first needs =
+    let same : r ≡ q = cc in subst (λ (p : RecordView). PutsInOrKeepsNames c (apply_record p c)) same needs
+
+pub undo_needs : (c : Contents) (past future : List RecordView) (depth : ℕ) → 0 < length past
+    → FirstMayNeedMemory c past → MayNeedMemory (machine_of c past future depth) steps.Undo
+undo_needs c [] future depth some needs = absurd (omega (arith, some))
+undo_needs c (r ∷ rs) future depth some needs = needs
+
+pub redo_needs : (c : Contents) (past future : List RecordView) (depth : ℕ) → 0 < length future
+    → FirstMayNeedMemory c future → MayNeedMemory (machine_of c past future depth) steps.Redo
+redo_needs c past [] depth some needs = absurd (omega (arith, some))
+redo_needs c past (r ∷ rs) depth some needs = needs
+
+-- ---- another depth
+
+pub machine_of_depth : (c : Contents) (rs fs : List RecordView) (old depth : ℕ) →
+    machine_of c (take (depth - length fs) rs) fs depth ≡ machine_after_depth depth (machine_of c rs fs old)
+machine_of_depth c rs fs old depth =
+    ap (λ (cs : List Contents). record { past = cs; now = c; future = reached_captures c fs; depth = depth })
+    (reached_captures_take c (depth - length fs) rs
+    ∙ ap (λ (n : ℕ). take (depth - n) (reached_captures c rs)) (sym (length_reached_captures c fs)))

@@ -1,0 +1,3 @@
+-- Lemmas: shared.
+pub mod Steps
+pub mod Replay

@@ -1,0 +1,2 @@
+-- Lemmas: worked.
+pub mod History

@@ -1,0 +1,4 @@
+-- Lemmas: part.
+pub mod LateChanges
+pub mod PartMeanings
+pub mod WholeParts

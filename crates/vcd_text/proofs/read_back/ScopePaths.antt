@@ -1,0 +1,124 @@
+-- From one path of scopes to another: the scopes past the shared prefix are closed, and the others
+-- opened.
+use Rattle.std.proofs.Common.{◌≡◌, ◌≤◌, ◌+◌, ◌-◌, ◌∙◌, ℕ, zero, suc, true, false, not, List, []}
+use Rattle.std.proofs.Common.{◌∷◌, ◌++◌, map, length}
+use Rattle.std.proofs.Common.{take, drop, replicate, refl, sym, ap, ap₂, subst, arith, one-add}
+use Rattle.std.proofs.Common.{append_assoc}
+use Rattle.std.proofs.Common.{append-nil, Option}
+use Rattle.std.specs.List.{list_all, common_prefix_len}
+use Rattle.std.specs.Cmp.Lexicographic.{pointwise, pointwise_decides}
+use Rattle.std.proofs.lemmas.Bool.{and_parts, cond_both}
+use Rattle.std.proofs.lemmas.List.{take_all, take-take, take-append-drop, length-take-le}
+use Rattle.std.proofs.lemmas.List.Sums.{common_prefix_len-le}
+use Rattle.std.proofs.lemmas.Slice.Eq.{bytes_eq-Decides}
+use Rattle.vcd_core.specs.declared.capture.Header.{Header}
+use Rattle.vcd_core.specs.declared.capture.Timescale.{Timescale}
+use Rattle.vcd_core.specs.declared.capture.ScopeName.{ScopeName}
+use Rattle.vcd_core.specs.Word.{is_word}
+use Rattle.vcd_core.specs.Sound.{is_sound_scope}
+use Rattle.vcd_text.specs.Items.{scope, upscope, is_end_word, has_no_end_word}
+use Rattle.vcd_text.specs.Grammar.{ParseState, VariableDeclaration}
+use Rattle.vcd_text.specs.Text.{same_scope, scope_items}
+use Rattle.vcd_text.proofs.writing.SharedScopes.{all_closed}
+use Rattle.vcd_text.proofs.shared.WeakerTests.{all_weaker}
+use Rattle.vcd_text.proofs.shared.ItemsInTurn.{Reaches, reaches_none, reaches_first, reaches_both}
+use Rattle.vcd_text.proofs.shared.ItemTests.{allows_upscope, allows_scope}
+use Rattle.vcd_text.proofs.shared.ItemsInTurn.{reaches_same}
+use Rattle.std.proofs.lemmas.List.Folds.{list_all-append}
+
+-- the state in the middle of the declarations
+abbrev pub declaring : List Header → Option Timescale → List ScopeName → List VariableDeclaration → ParseState
+declaring header timescale scopes declared =
+    record {
+      header = header;
+      timescale = timescale;
+      scopes = scopes;
+      declared = declared;
+      in_body = false;
+      value_changes = [];
+      tick = 0;
+    }
+
+-- scopes that compare as the same are one
+same_scope_is : (a b : ScopeName) → same_scope a b ≡ true → a ≡ b
+same_scope_is a b same = grind (arith, pointwise, and_parts, bytes_eq-Decides, pointwise_decides)
+
+-- the prefix that two paths share is a prefix of both
+shared_prefix : (xs ys : List ScopeName)
+    → take (common_prefix_len same_scope xs ys) xs ≡ take (common_prefix_len same_scope xs ys) ys
+shared_prefix [] [] = refl
+shared_prefix [] (y ∷ ys) = refl
+shared_prefix (x ∷ xs) [] = refl
+shared_prefix (x ∷ xs) (y ∷ ys) =
+    cond_both (same_scope x y) (1 + common_prefix_len same_scope xs ys) 0 (λ n. take n (x ∷ xs) ≡ take n (y ∷ ys))
+    (λ same. subst (λ n. take n (x ∷ xs) ≡ take n (y ∷ ys)) (sym (one-add (common_prefix_len same_scope xs ys)))
+    (ap₂ (λ s l. s ∷ l) (same_scope_is x y same) (shared_prefix xs ys)))
+    (λ other. refl)
+
+-- the scopes from an index on are sound
+pub later_scopes : (n : ℕ) (path : List ScopeName) → list_all is_sound_scope path ≡ true
+    → list_all is_sound_scope (drop n path) ≡ true
+later_scopes n path sound =
+    (and_parts (list_all is_sound_scope (take n path)) (list_all is_sound_scope (drop n path))
+    (sym (list_all-append is_sound_scope (take n path) (drop n path))
+    ∙ ap (list_all is_sound_scope) (take-append-drop n path) ∙ sound)).1
+
+-- words are not `$end`
+pub words_have_no_end : (ws : List (List ℕ)) → list_all is_word ws ≡ true → has_no_end_word ws ≡ true
+words_have_no_end ws words =
+    all_weaker is_word (λ word. not (is_end_word word)) (λ w word. (and_parts _ (not (is_end_word w)) word).1) ws words
+
+-- the scopes past the prefix of a path are closed, the innermost first
+scopes_closed : (h : List Header) (t : Option Timescale) (opened : List ScopeName) (ds : List VariableDeclaration)
+    (n : ℕ) → n ≤ length opened
+    → Reaches (declaring h t opened ds) (replicate n upscope) (declaring h t (take (length opened - n) opened) ds)
+scopes_closed h t opened ds zero within = grind (arith, reaches_same, reaches_none, take_all)
+scopes_closed h t opened ds (suc n) within =
+    let outer : List ScopeName = take (length opened - 1) opened in
+    let one_less : length outer ≡ length opened - 1 = length-take-le (length opened - 1) opened (omega arith) in
+    let left : length outer - n ≡ length opened - suc n = omega arith in
+    reaches_first (declaring h t opened ds) (declaring h t (take (length opened - suc n) opened) ds) upscope
+    (replicate n upscope) (allows_upscope (declaring h t opened ds) refl (omega arith))
+    (reaches_same (declaring h t outer ds) _ _ (replicate n upscope) (scopes_closed h t outer ds n (omega arith))
+    (ap (λ s. declaring h t s ds) (ap (λ m. take m outer) left
+    ∙ take-take (length opened - suc n) (length opened - 1) opened (omega arith))))
+
+-- scopes are opened, the outermost first
+scopes_opened : (h : List Header) (t : Option Timescale) (prefix path : List ScopeName) (ds : List VariableDeclaration)
+    → list_all is_sound_scope path ≡ true
+    → Reaches (declaring h t prefix ds) (map (λ s. scope s.kind s.words) path) (declaring h t (prefix ++ path) ds)
+scopes_opened h t prefix [] ds sound = grind (arith, reaches_same, reaches_none, append-nil)
+scopes_opened h t prefix (s ∷ path) ds sound =
+    let parts : (is_sound_scope s ≡ true) × (list_all is_sound_scope path ≡ true) = grind (arith, and_parts) in
+    reaches_first (declaring h t prefix ds) (declaring h t (prefix ++ (s ∷ path)) ds) (scope s.kind s.words)
+    (map (λ s. scope s.kind s.words) path)
+    (allows_scope (declaring h t prefix ds) s.kind s.words refl (words_have_no_end (s.kind ∷ s.words) parts.0))
+    (reaches_same (declaring h t (prefix ++ s ∷ []) ds) _ _ (map (λ s. scope s.kind s.words) path)
+    (scopes_opened h t (prefix ++ s ∷ []) path ds parts.1)
+    (ap (λ s. declaring h t s ds) (append_assoc prefix (s ∷ []) path)))
+
+-- from one path to another
+pub scopes_lead : (h : List Header) (t : Option Timescale) (opened path : List ScopeName)
+    (ds : List VariableDeclaration) → list_all is_sound_scope path ≡ true
+    → Reaches (declaring h t opened ds) (scope_items opened path) (declaring h t path ds)
+scopes_lead h t opened path ds sound =
+    let shared : ℕ = common_prefix_len same_scope opened path in
+    let within : shared ≤ length opened = (common_prefix_len-le same_scope opened path).0 in
+    let kept : length opened - (length opened - shared) ≡ shared = omega arith in
+    let prefix : List ScopeName = take shared path in
+    let reached : take (length opened - (length opened - shared)) opened ≡ prefix = grind (arith, shared_prefix) in
+    reaches_both (declaring h t opened ds) (declaring h t prefix ds) (declaring h t path ds)
+    (replicate (length opened - shared) upscope) (map (λ s. scope s.kind s.words) (drop shared path))
+    (reaches_same _ _ _ _ (scopes_closed h t opened ds (length opened - shared) (omega arith))
+    (ap (λ s. declaring h t s ds) reached))
+    (reaches_same _ _ _ _ (scopes_opened h t prefix (drop shared path) ds (later_scopes shared path sound))
+    (ap (λ s. declaring h t s ds) (take-append-drop shared path)))
+
+-- all scopes are closed
+pub scopes_end : (h : List Header) (t : Option Timescale) (opened : List ScopeName) (ds : List VariableDeclaration)
+    → Reaches (declaring h t opened ds) (map (λ s. upscope) opened) (declaring h t [] ds)
+scopes_end h t opened ds =
+    let none : length opened - length opened ≡ 0 = omega arith in
+    subst (λ is. Reaches (declaring h t opened ds) is (declaring h t [] ds)) (sym (all_closed opened))
+    (reaches_same _ _ _ _ (scopes_closed h t opened ds (length opened) (omega arith))
+    (ap (λ m. declaring h t (take m opened) ds) none))

@@ -1,0 +1,172 @@
+-- Every word of a capture's text has a byte and no white space.
+use Rattle.std.proofs.Common.{◌≡◌, ◌<◌, ◌≤◌, ◌+◌, ◌-◌, ◌^◌, ℕ, zero, suc, Bool, true, not, List, []}
+use Rattle.std.proofs.Common.{◌∷◌, ◌++◌, map, length, drop, replicate, Option, Some, None, IfSome}
+use Rattle.std.proofs.Common.{IsTrue, refl, arith}
+use Rattle.std.proofs.Common.{decimal}
+use Rattle.std.specs.List.{list_all, AllByRecursion, common_prefix_len}
+use Rattle.std.proofs.lemmas.Bool.{and_from, and_parts, and_right, or_from}
+use Rattle.std.proofs.lemmas.Bool.{not_from_false, lt-leb, leb-true}
+use Rattle.std.proofs.lemmas.Bool.{ne_eqb}
+use Rattle.std.proofs.lemmas.List.Elements.{recursion_from_All}
+use Rattle.std.proofs.lemmas.List.Folds.{list_all-append}
+use Rattle.vcd_core.specs.declared.bit.Bit.{Bit}
+use Rattle.vcd_core.specs.declared.capture.Header.{Header}
+use Rattle.vcd_core.specs.declared.capture.Timescale.{Timescale}
+use Rattle.vcd_core.specs.declared.capture.ScopeName.{ScopeName}
+use Rattle.vcd_core.specs.declared.capture.TheConstants.{END_LIMIT}
+use Rattle.vcd_core.specs.Word.{is_word, is_white_space}
+use Rattle.vcd_core.specs.Contents.{Contents, SignalContents}
+use Rattle.vcd_core.specs.Sound.{is_sound_header, is_sound_scope, is_sound_timescale, IsSoundSignal}
+use Rattle.vcd_core.specs.Sound.{IsSound}
+use Rattle.vcd_text.specs.Words.{words_of}
+use Rattle.std.specs.Char.{is_ascii_digit}
+use Rattle.vcd_text.specs.Letters.{printed_letters, short_form}
+use Rattle.vcd_text.specs.Items.{Item, scope, upscope, vector, end_definitions}
+use Rattle.vcd_text.specs.Items.{end_word, spellings}
+use Rattle.vcd_text.specs.Grammar.{word_texts}
+use Rattle.vcd_text.specs.Text.{header_items, timescale_items, same_scope, scope_items, code_of}
+use Rattle.vcd_text.specs.Text.{variable_item}
+use Rattle.vcd_text.specs.Text.{signal_items, value_items}
+use Rattle.vcd_text.specs.Text.{with_stamp, first_items, tick_items, items_of, text}
+use Rattle.vcd_text.proofs.read_back.CodesDiffer.{code_no_space, code_not_empty}
+use Rattle.vcd_text.proofs.read_back.Decimals.{decimal_digits, decimal_not_empty}
+use Rattle.vcd_text.proofs.read_back.Timescale.{sound_count, count_small}
+use Rattle.vcd_text.proofs.shared.WeakerTests.{all_weaker}
+use Rattle.vcd_text.proofs.read_back.Words.{is_unbroken, is_spelled, words_of_lines}
+use Rattle.vcd_text.proofs.writing.SharedScopes.{all_closed}
+use Rattle.vcd_text.proofs.read_back.ScopePaths.{later_scopes}
+
+-- ---- words
+
+-- whether a byte is no white space
+abbrev has_no_space : ℕ → Bool
+has_no_space b = not (is_white_space b)
+
+pub word_is_unbroken : (w : List ℕ) → is_word w ≡ true → is_unbroken w ≡ true
+word_is_unbroken [] word = word
+word_is_unbroken (b ∷ bs) word = (and_parts _ _ (and_parts _ _ word).0).1
+
+pub words_are_unbroken : (ws : List (List ℕ)) → list_all is_word ws ≡ true → list_all is_unbroken ws ≡ true
+words_are_unbroken ws words = all_weaker is_word is_unbroken word_is_unbroken ws words
+
+no_space_is_unbroken : (w : List ℕ) → 0 < length w → list_all has_no_space w ≡ true → is_unbroken w ≡ true
+no_space_is_unbroken [] some no_space = absurd (omega arith)
+no_space_is_unbroken (b ∷ bs) some no_space = no_space
+
+digit_is_no_space : (b : ℕ) → is_ascii_digit b ≡ true → has_no_space b ≡ true
+digit_is_no_space b digit = grind (arith, leb-true, and_parts, not_from_false, or_from, and_right, lt-leb, ne_eqb)
+
+decimal_no_space : (n : ℕ) → n < 2 ^ 64 → list_all has_no_space (decimal n) ≡ true
+decimal_no_space n small = all_weaker is_ascii_digit has_no_space digit_is_no_space (decimal n) (decimal_digits n small)
+
+pub decimal_unbroken : (n : ℕ) → n < 2 ^ 64 → is_unbroken (decimal n) ≡ true
+decimal_unbroken n small = no_space_is_unbroken (decimal n) (decimal_not_empty n small) (decimal_no_space n small)
+
+pub code_unbroken : (k : ℕ) → is_unbroken (code_of k) ≡ true
+code_unbroken k = no_space_is_unbroken (code_of k) (code_not_empty k) (code_no_space k)
+
+printed_no_space : (v : List Bit) → list_all has_no_space (printed_letters v) ≡ true
+printed_no_space [] = refl
+printed_no_space (b ∷ v) = grind (arith, and_from, printed_no_space v)
+
+-- a word with another byte in front
+longer_unbroken : (b : ℕ) (w : List ℕ) → has_no_space b ≡ true → list_all has_no_space w ≡ true
+    → is_unbroken (b ∷ w) ≡ true
+longer_unbroken b w first rest = and_from (has_no_space b) (list_all has_no_space w) first rest
+
+-- ---- items
+
+-- words up to `$end`
+with_end_unbroken : (ws : List (List ℕ)) → list_all is_unbroken ws ≡ true
+    → list_all is_unbroken (ws ++ end_word ∷ []) ≡ true
+with_end_unbroken ws words = grind (arith, list_all-append, and_from)
+
+-- items in front and items after them
+both_spelled : (xs ys : List Item) → list_all is_spelled xs ≡ true → list_all is_spelled ys ≡ true
+    → list_all is_spelled (xs ++ ys) ≡ true
+both_spelled xs ys prefix back = grind (arith, list_all-append, and_from)
+
+one_word : (w : List ℕ) → is_unbroken w ≡ true → list_all is_unbroken (w ∷ []) ≡ true
+one_word w unbroken = and_from (is_unbroken w) true unbroken refl
+
+vector_spelled : (k : ℕ) (v : List Bit) → is_spelled (vector 98 (printed_letters (short_form v)) (code_of k)) ≡ true
+vector_spelled k v = grind (arith, and_from, longer_unbroken, printed_no_space, one_word, code_unbroken)
+
+values_spelled : (t : ℕ) (positioned : List (ℕ × SignalContents)) → list_all is_spelled (value_items t positioned)
+    ≡ true
+values_spelled t [] = refl
+values_spelled t (p ∷ ps) =
+    grind (arith, and_from, vector_spelled, one_word, longer_unbroken, code_no_space, values_spelled t ps)
+
+stamped_spelled : (is_end : Bool) (t : ℕ) (items : List Item) → t < 2 ^ 64 → list_all is_spelled items ≡ true
+    → list_all is_spelled (with_stamp is_end t items) ≡ true
+stamped_spelled is_end t items small spelled =
+    grind (arith, and_from, one_word, longer_unbroken, decimal_no_space)
+
+ticks_spelled : (signals : List SignalContents) (end t n : ℕ) → t + n ≤ 2 ^ 64
+    → list_all is_spelled (tick_items signals end t n) ≡ true
+unfolding tick_items
+ticks_spelled signals end t zero small = refl
+ticks_spelled signals end t (suc n) small =
+    grind (arith, both_spelled, stamped_spelled, values_spelled, ticks_spelled signals end (suc t) n (omega arith))
+
+header_spelled : (header : List Header) → list_all is_sound_header header ≡ true
+    → list_all is_spelled (header_items header) ≡ true
+header_spelled [] sound = refl
+header_spelled (h ∷ hs) sound =
+    let parts = and_parts (is_sound_header h) (list_all is_sound_header hs) sound in
+    let rest = header_spelled hs parts.1 in
+    grind (arith, parts, rest, and_from, with_end_unbroken, words_are_unbroken)
+
+timescale_is_spelled : (t : Option Timescale) → IfSome t (λ t. IsTrue (is_sound_timescale t))
+    → list_all is_spelled (timescale_items t) ≡ true
+timescale_is_spelled None sound = refl
+timescale_is_spelled (Some t) sound = grind (arith, and_from, decimal_unbroken, count_small, sound_count, one_word)
+
+upscopes_spelled : (n : ℕ) → list_all is_spelled (replicate n upscope) ≡ true
+upscopes_spelled zero = refl
+upscopes_spelled (suc n) = upscopes_spelled n
+
+scopes_spelled : (path : List ScopeName) → list_all is_sound_scope path ≡ true
+    → list_all is_spelled (map (λ s. scope s.kind s.words) path) ≡ true
+scopes_spelled [] sound = refl
+scopes_spelled (s ∷ path) sound =
+    let parts = and_parts (is_sound_scope s) (list_all is_sound_scope path) sound in
+    let rest = scopes_spelled path parts.1 in
+    grind (arith, parts, rest, and_parts, and_from, word_is_unbroken, with_end_unbroken, words_are_unbroken)
+
+signals_spelled : (end : ℕ) (opened : List ScopeName) (k : ℕ) (signals : List SignalContents)
+    → AllByRecursion (IsSoundSignal end) signals → list_all is_spelled (signal_items opened k signals) ≡ true
+unfolding signal_items
+signals_spelled end opened k [] sound = rw (all_closed opened) (upscopes_spelled (length opened))
+signals_spelled end opened k (s ∷ ss) sound =
+    let shared : ℕ = common_prefix_len same_scope opened s.scopes in
+    both_spelled (scope_items opened s.scopes) (variable_item k s ∷ signal_items s.scopes (suc k) ss)
+    (both_spelled (replicate (length opened - shared) upscope) (map (λ s. scope s.kind s.words) (drop shared s.scopes))
+    (upscopes_spelled (length opened - shared))
+    (scopes_spelled (drop shared s.scopes) (later_scopes shared s.scopes sound.0.scopes)))
+    (and_from (is_spelled (variable_item k s)) (list_all is_spelled (signal_items s.scopes (suc k) ss))
+    (grind (arith, with_end_unbroken, and_from, word_is_unbroken, decimal_unbroken, code_unbroken, words_are_unbroken))
+    (signals_spelled end s.scopes (suc k) ss sound.1))
+
+-- every word of a sound capture's items
+pub items_spelled : (c : Contents) → IsSound c → list_all is_spelled (items_of c) ≡ true
+unfolding items_of
+items_spelled c sound =
+    let end : c.end ≤ END_LIMIT = sound.end in
+    let prefix : List Item = header_items c.header ++ timescale_items c.timescale in
+    let declared : List Item = prefix ++ signal_items [] 0 c.signals in
+    both_spelled (declared ++ end_definitions ∷ first_items c.signals) (tick_items c.signals c.end 1 c.end)
+    (both_spelled declared (end_definitions ∷ first_items c.signals)
+    (both_spelled prefix (signal_items [] 0 c.signals)
+    (both_spelled (header_items c.header) (timescale_items c.timescale) (header_spelled c.header sound.header)
+    (timescale_is_spelled c.timescale sound.timescale))
+    (signals_spelled c.end [] 0 c.signals (recursion_from_All (IsSoundSignal c.end) c.signals sound.signals)))
+    (and_from (is_spelled end_definitions) (list_all is_spelled (first_items c.signals)) refl
+    (grind (arith, both_spelled, and_from, one_word, longer_unbroken, decimal_no_space, values_spelled))))
+    (ticks_spelled c.signals c.end 1 c.end (omega arith))
+
+-- the words of a sound capture's text
+pub words_of_text : (c : Contents) → IsSound c → word_texts (words_of (text c)) ≡ spellings (items_of c)
+unfolding text
+words_of_text c sound = words_of_lines 1 (items_of c) (items_spelled c sound)

@@ -1,0 +1,4 @@
+-- Lemmas of `reading/changes`.
+pub mod PartChanges
+pub mod PartSteps
+pub mod ChangeWords

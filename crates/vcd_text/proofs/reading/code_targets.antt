@@ -1,0 +1,3 @@
+-- Lemmas of `reading/code_targets`.
+pub mod Targets
+pub mod ShortCodes

@@ -1,0 +1,2 @@
+-- Lemmas of `reading/declarations`.
+pub mod DeclarationWords

@@ -1,0 +1,2 @@
+-- Lemmas of `reading/digit_blocks`.
+pub mod LetterBlocks

@@ -1,0 +1,200 @@
+-- Letters that are read 64 at a time, from the last: a block with one more letter or eight, and a
+-- row with one more block.
+use Rattle.std.proofs.Common.{◌≡◌, ℕ, zero, suc, ◌+◌, ◌-◌, ◌*◌, ◌/◌, ◌%◌, ◌<◌, ◌≤◌, true, false}
+use Rattle.std.proofs.Common.{if◌then◌else◌, List, [], ◌∷◌, ◌++◌, length, take, drop, get_or, refl}
+use Rattle.std.proofs.Common.{sym, ap, ◌∙◌, arith, inl, inr, add-one}
+use Rattle.std.specs.Prelude.{unwrap_or}
+use Rattle.std.specs.List.{list_all}
+use Rattle.std.specs.Simd.{first_chunks}
+use Rattle.std.proofs.Math.Seq.{take-add}
+use Rattle.std.proofs.Math.ListN.{set}
+use Rattle.std.proofs.lemmas.Bool.{cases_lt, cases_eq, lt-ltb, le-ltb, and_from}
+use Rattle.std.proofs.lemmas.List.{get_or-take, get_or-drop, get_or_append_left}
+use Rattle.std.proofs.lemmas.List.{get_or-append_right, get_or-replicate}
+use Rattle.std.proofs.lemmas.List.{get_or-set_same, get_or-set_other, length-append, length-take-le}
+use Rattle.std.proofs.lemmas.List.{length-drop}
+use Rattle.std.proofs.lemmas.List.{length-map, length-replicate, take-map, drop-map, map-append}
+use Rattle.std.proofs.lemmas.List.{take-append-drop}
+use Rattle.std.proofs.lemmas.List.{drop-drop}
+use Rattle.std.proofs.lemmas.List.Folds.{drop_split, list_all-append}
+use Rattle.vcd_core.specs.declared.bit.Bit.{Bit}
+use Rattle.vcd_core.specs.declared.bit.Bit.TheVariants.{X}
+use Rattle.vcd_core.specs.Value.{letter_at}
+use Rattle.vcd_core.specs.declared.letter_block.LetterBlock.{LetterBlock}
+use Rattle.vcd_core.specs.BlockRows.{letter_in, letter_or, letters_of, block_at, HoldsLetters}
+use Rattle.vcd_core.proofs.shared.LettersOfPlanes.{same_letter_at, length-letters_of, letter_at-letters_of}
+use Rattle.vcd_core.proofs.shared.LettersOfPlanes.{one_block}
+use Rattle.vcd_text.specs.Letters.{is_binary_digit, letter_of_digit, letters_of_digits, pad_letter}
+use Rattle.vcd_text.specs.Letters.{extension}
+use Rattle.vcd_text.specs.inside.reading.DigitBlocks.{digits_of, AddsLetters}
+use Rattle.std.proofs.lemmas.Bool.{and_left, and_right}
+
+-- ---- one letter more
+
+in_text : (pad : Bit) (s : List Bit) (i : ℕ) → i < length s → letter_or pad s i ≡ letter_at s i
+in_text pad s i within = ap (λ b. if b then letter_at s i else pad) (lt-ltb i (length s) within)
+
+past_text : (pad : Bit) (s : List Bit) (i : ℕ) → length s ≤ i → letter_or pad s i ≡ pad
+past_text pad s i past = ap (λ b. if b then letter_at s i else pad) (le-ltb i (length s) past)
+
+last_letter : (pad : Bit) (s : List Bit) (b : Bit) → letter_or pad (s ++ b ∷ []) 0 ≡ b
+last_letter pad s b = grind (arith, length-append, in_text, get_or-append_right)
+
+other_letter : (pad : Bit) (s : List Bit) (b : Bit) (i : ℕ) → letter_or pad (s ++ b ∷ []) (i + 1) ≡ letter_or pad s i
+other_letter pad s b i = grind (arith, length-append, cases_lt, in_text, get_or_append_left, past_text)
+
+-- the letters from bit 0 on
+held : (pad : Bit) (s : List Bit) (block : LetterBlock) → HoldsLetters pad s 0 block → (i : ℕ) → i < 64
+    → letter_in block i ≡ letter_or pad s i
+held pad s block holds i inside = holds.each i inside ∙ ap (letter_or pad s) (let e : 0 + i ≡ i = omega arith in e)
+
+holds_each : (pad : Bit) (s : List Bit) (block : LetterBlock)
+    → ((i : ℕ) → i < 64 → letter_in block i ≡ letter_or pad s i) → HoldsLetters pad s 0 block
+holds_each pad s block each = grind arith
+
+-- ---- more letters below those that a block holds
+
+pub adds_one : (b : Bit) (old new : LetterBlock) → letter_in new 0 ≡ b
+    → ((i : ℕ) → i + 1 < 64 → letter_in new (i + 1) ≡ letter_in old i) → AddsLetters (b ∷ []) old new
+adds_one b old new first rest = λ pad s holds. holds_each pad (s ++ b ∷ []) new (each pad s holds)
+  where
+    each : (pad : Bit) (s : List Bit) → HoldsLetters pad s 0 old → (i : ℕ) → i < 64
+        → letter_in new i ≡ letter_or pad (s ++ b ∷ []) i
+    each pad s holds zero inside = first ∙ sym (last_letter pad s b)
+    each pad s holds (suc i) inside =
+        let more : i + 1 ≡ suc i = add-one i in
+        ap (letter_in new) (sym more) ∙ rest i (omega arith) ∙ held pad s old holds i (omega arith)
+        ∙ sym (ap (letter_or pad (s ++ b ∷ [])) (sym more) ∙ other_letter pad s b i)
+
+-- eight digits of those in eights
+pub eight_at : (count i : ℕ) (digits : List ℕ) → i < count
+    → get_or (first_chunks 8 count digits) i [] ≡ take 8 (drop (8 * i) digits)
+eight_at zero i digits within = absurd (omega arith)
+eight_at (suc count) zero digits within = refl
+eight_at (suc count) (suc i) digits within =
+    let index : 8 + 8 * i ≡ 8 * suc i = omega arith in
+    eight_at count i (drop 8 digits) (omega arith)
+    ∙ ap (take 8) (drop-drop (8 * i) 8 digits ∙ ap (λ n. drop n digits) index)
+
+-- the digits up to eight, and these
+pub eight_more : (digits : List ℕ) (i : ℕ)
+    → take (8 * i) digits ++ take 8 (drop (8 * i) digits) ≡ take (8 * (i + 1)) digits
+eight_more digits i =
+    let index : 8 * i + 8 ≡ 8 * (i + 1) = omega arith in
+    sym (take-add (8 * i) 8 digits) ∙ ap (λ n. take n digits) index
+
+-- digits in front, and others after them
+pub holds_both : (pad : Bit) (prefix back all : List ℕ) (old new : LetterBlock) → prefix ++ back ≡ all
+    → HoldsLetters pad (letters_of_digits prefix) 0 old → AddsLetters (letters_of_digits back) old new
+    → HoldsLetters pad (letters_of_digits all) 0 new
+holds_both pad prefix back all old new whole holds adds = grind (arith, map-append)
+
+pub both_are_digits : (prefix back all : List ℕ) → prefix ++ back ≡ all → list_all is_binary_digit prefix ≡ true
+    → list_all is_binary_digit back ≡ true → list_all is_binary_digit all ≡ true
+both_are_digits prefix back all whole first second = grind (arith, list_all-append, and_from)
+
+-- ---- one block more
+
+-- the letters of the first blocks of a row
+pub record RowHolds (pad : Bit) (s : List Bit) (count : ℕ) (blocks : List LetterBlock) : Type 0 where
+  pub each : (i : ℕ) → i < 64 * count → letter_in (block_at blocks (i / 64)) (i % 64) ≡ letter_or pad s i
+
+-- the letters of a block are those of the text
+part_letter : (pad : Bit) (digits : List ℕ) (k i : ℕ) → i < 64
+    → letter_or pad (letters_of_digits (digits_of digits k)) i ≡ letter_or pad (letters_of_digits digits) (64 * k + i)
+part_letter pad digits k i inside =
+    let end : ℕ = length digits - 64 * k in
+    let from : ℕ = end - 64 in
+    let s = letters_of_digits digits in
+    let all : length s ≡ length digits = length-map digits (λ b. unwrap_or (letter_of_digit b) X) in
+    let part : letters_of_digits (digits_of digits k) ≡ take (end - from) (drop from s) =
+    grind (arith, drop-map, take-map) in
+    let long : length (take (end - from) (drop from s)) ≡ end - from = grind (arith, length-take-le, length-drop) in
+    ap (λ l. letter_or pad l i) part ∙ elim (cases_lt i (end - from)) [
+      | inl within ↦
+          let index : length (take (end - from) (drop from s)) - 1 - i ≡ end - from - 1 - i = omega (arith, long) in
+          let at : from + (end - from - 1 - i) ≡ length s - 1 - (64 * k + i) = omega (arith, all) in
+          in_text pad (take (end - from) (drop from s)) i (omega (arith, long))
+          ∙ ap (λ n. get_or (take (end - from) (drop from s)) n X) index
+          ∙ get_or-take (end - from) (drop from s) (end - from - 1 - i) X (omega arith)
+          ∙ get_or-drop from s (end - from - 1 - i) X
+          ∙ ap (λ n. get_or s n X) at ∙ sym (in_text pad s (64 * k + i) (omega (arith, all)))
+      | inr past ↦ past_text pad (take (end - from) (drop from s)) i (omega (arith, long))
+          ∙ sym (past_text pad s (64 * k + i) (omega (arith, all)))
+    ]
+
+pub row_more : (pad : Bit) (digits : List ℕ) (blocks : List LetterBlock) (k : ℕ) (block : LetterBlock)
+    → k < length blocks
+    → RowHolds pad (letters_of_digits digits) k blocks → HoldsLetters pad (letters_of_digits (digits_of digits k)) 0
+    block → RowHolds pad (letters_of_digits digits) (k + 1) (set blocks k block)
+row_more pad digits blocks k block within before holds = record {
+  each = λ i below. elim (cases_eq (i / 64) k) [
+    | inl here ↦
+        let index : 64 * k + i % 64 ≡ i = omega arith in
+        ap (λ j. letter_in (block_at (set blocks k block) j) (i % 64)) here
+        ∙ ap (λ (w : LetterBlock). letter_in w (i % 64)) (get_or-set_same blocks k block no_block within)
+        ∙ held pad _ block holds (i % 64) (omega arith) ∙ part_letter pad digits k (i % 64) (omega arith)
+        ∙ ap (letter_or pad (letters_of_digits digits)) index
+    | inr elsewhere ↦ ap (λ (w : LetterBlock). letter_in w (i % 64))
+        (get_or-set_other blocks k (i / 64) block no_block elsewhere)
+        ∙ before.each i (omega arith)
+  ];
+}
+  where
+    no_block : LetterBlock
+    no_block = record { low = 0; high = 0 }
+
+-- ---- which digits are letters
+
+-- the letters of one more block
+pub letters_more : (digits : List ℕ) (k : ℕ) → list_all is_binary_digit (drop (length digits - 64 * k) digits) ≡ true
+    → list_all is_binary_digit (digits_of digits k) ≡ true
+    → list_all is_binary_digit (drop (length digits - 64 * (k + 1)) digits) ≡ true
+letters_more digits k following here =
+    let end : ℕ = length digits - 64 * k in
+    let start : length digits - 64 * (k + 1) ≡ end - 64 = omega arith in
+    ap (λ n. list_all is_binary_digit (drop n digits)) start
+    ∙ ap (list_all is_binary_digit) (drop_split digits (end - 64) end (omega arith))
+    ∙ list_all-append is_binary_digit (digits_of digits k) (drop end digits) ∙ and_from _ _ here following
+
+-- if not all bytes after an index, or before it, are digits, not all are
+pub not_all_after : (n : ℕ) (digits : List ℕ) → list_all is_binary_digit (drop n digits) ≡ false
+    → list_all is_binary_digit digits ≡ false
+not_all_after n digits none =
+    ap (list_all is_binary_digit) (sym (take-append-drop n digits))
+    ∙ list_all-append is_binary_digit (take n digits) (drop n digits) ∙ and_right _ _ none
+
+pub not_all_before : (n : ℕ) (digits : List ℕ) → list_all is_binary_digit (take n digits) ≡ false
+    → list_all is_binary_digit digits ≡ false
+not_all_before n digits none =
+    ap (list_all is_binary_digit) (sym (take-append-drop n digits))
+    ∙ list_all-append is_binary_digit (take n digits) (drop n digits) ∙ and_left _ _ none
+
+-- if a byte of a word is no digit, not all are
+pub no_letter : (digits : List ℕ) (k : ℕ) → list_all is_binary_digit (digits_of digits k) ≡ false
+    → list_all is_binary_digit digits ≡ false
+no_letter digits k none = grind (arith, not_all_after, not_all_before)
+
+-- ---- all blocks
+
+-- the letter at a bit of an extension
+extension_letter : (width : ℕ) (s : List Bit) (i : ℕ) → length s ≤ width → i < width
+    → letter_at (extension width s) i ≡ letter_or (pad_letter s) s i
+extension_letter width s i fits inside =
+    let pads = length-replicate (width - length s) (pad_letter s) in
+    grind (arith, pads, length-append, cases_lt, get_or-append_right, get_or_append_left, get_or-replicate)
+
+-- a row that holds all letters is the extension
+pub row_is_extension : (width count : ℕ) (s : List Bit) (blocks : List LetterBlock) → length s ≤ width
+    → width ≤ 64 * count → RowHolds (pad_letter s) s count blocks → letters_of width blocks ≡ extension width s
+row_is_extension width count s blocks fits covers row =
+    let long = length-letters_of width blocks in
+    grind (arith, long, length-append, length-replicate, same_letter_at, letter_at-letters_of, extension_letter)
+
+-- a block that holds all letters is the extension, if the width is at most 64
+pub block_is_extension : (width : ℕ) (s : List Bit) (block : LetterBlock) → length s ≤ width → width ≤ 64
+    → HoldsLetters (pad_letter s) s 0 block → letters_of width (block ∷ []) ≡ extension width s
+block_is_extension width s block fits narrow holds =
+    row_is_extension width 1 s (block ∷ []) fits (omega arith) (record {
+      each = λ i inside. one_block block i (omega arith) ∙ held (pad_letter s) s block holds i (omega arith);
+    })

@@ -1,0 +1,3 @@
+-- Lemmas of `reading/file_reader`.
+pub mod Chunks
+pub mod PrefixResults

@@ -1,0 +1,276 @@
+-- A file in chunks: the progress after one more chunk, and the result if no more comes.
+use Rattle.std.proofs.Common.{◌≡◌, ◌⊎◌, inl, inr, ℕ, zero, suc, ◌+◌, ◌-◌, ◌<◌, ◌≤◌, Bool, true}
+use Rattle.std.proofs.Common.{false, not, cond}
+use Rattle.std.proofs.Common.{List, [], ◌∷◌, ◌++◌, length, take, drop, get_or, Option, Some, None}
+use Rattle.std.proofs.Common.{IfSome, sym}
+use Rattle.std.proofs.Common.{ap, subst, ◌∙◌, arith, append_assoc, length-append}
+use Rattle.std.specs.Prelude.{IsTrue, IsFalse}
+use Rattle.std.specs.List.{list_all}
+use Rattle.std.specs.Io.KnownBytes.{Consumes, Keeps, IsAtEnd}
+use Rattle.std.proofs.KnownBytes.{Consumes-trans, Consumes-kept}
+use Rattle.std.proofs.Math.Seq.{take-append-add, take-append_seam}
+use Rattle.std.proofs.lemmas.List.{append-nil, take-append-drop}
+use Rattle.std.proofs.lemmas.List.Sums.{count_by-le-length}
+use Rattle.std.proofs.lemmas.Bool.{cases_lt}
+use Rattle.vcd_core.specs.Word.{is_white_space}
+use Rattle.vcd_text.specs.declared.reading.TheConstants.{FILE_LIMIT}
+use Rattle.vcd_text.specs.declared.fault.Fault.TheVariants as faults
+use Rattle.vcd_text.specs.declared.fault.ReadError.{ReadError}
+use Rattle.vcd_text.specs.declared.reading.file_reader.FileReader.{FileReader}
+use Rattle.vcd_text.specs.declared.reading.parser.Parser.{Parser}
+use Rattle.vcd_text.specs.Words.{WordOnLine, line_after, word_of, words_from}
+use Rattle.vcd_text.specs.Words.{words_of, complete_words}
+use Rattle.vcd_text.specs.Faults.{IsFileFault, ShowsFault, shown, none_shown}
+use Rattle.vcd_text.specs.FoundFaults.{IsFoundFault, word_shows}
+use Rattle.vcd_text.specs.FoundFaults.{PrefixShows}
+use Rattle.vcd_text.specs.Faults.{IsPrefixAnswer}
+use Rattle.vcd_text.specs.Refusals.{IsRefusal, has_fault, too_large, no_memory}
+use Rattle.vcd_text.specs.MemoryErrors.{memory_error}
+use Rattle.vcd_text.specs.inside.Words.{line_feeds_in, has_complete_words}
+use Rattle.vcd_text.specs.inside.reading.Parser.{HasTakenWords}
+use Rattle.vcd_text.specs.inside.reading.FileReader.{HasTaken, HasUntakenChunk, HasReadBytes}
+use Rattle.vcd_text.proofs.reading.parser.NoWordLeft.{no_fault as shows_none}
+use Rattle.vcd_text.proofs.reading.file_reader.PrefixResults.{larger, failing}
+use Rattle.vcd_text.proofs.shared.FaultOfPrefix.{longer_prefix_fault}
+use Rattle.vcd_text.proofs.shared.FoundFault.{file_fault, prefix_fault_stays}
+use Rattle.vcd_text.proofs.words.WordsInTurn.{line_feeds_of_both, no_line_feeds, word_part}
+use Rattle.vcd_text.specs.inside.reading.ReadBuffer.{ReadBufferView}
+use Rattle.std.proofs.lemmas.Grind.{common_steps}
+use Rattle.vcd_text.specs.declared.reading.part.Part.{Part}
+
+-- ---- line feeds
+
+line_one : (b line : ℕ) → line_after b line ≡ line + line_feeds_in (b ∷ [])
+line_one b line = grind arith
+
+line_more : (b line : ℕ) (bs : List ℕ) → line_after b line + line_feeds_in bs ≡ line + line_feeds_in (b ∷ bs)
+line_more b line bs =
+    let all : line_feeds_in (b ∷ bs) ≡ line_feeds_in (b ∷ []) + line_feeds_in bs = line_feeds_of_both (b ∷ []) bs in
+    omega (arith, all, line_one b line)
+
+-- ---- text up to white space
+
+-- a text that ends in white space after its first n bytes
+pub complete_at : (n : ℕ) (bytes : List ℕ) → n < length bytes → is_white_space (get_or bytes n 0) ≡ true
+    → has_complete_words (take (suc n) bytes) ≡ true
+complete_at zero [] within space = absurd (omega arith)
+complete_at zero (b ∷ bs) within space = space
+complete_at (suc n) [] within space = absurd (omega arith)
+complete_at (suc n) (b ∷ []) within space = absurd (omega arith)
+complete_at (suc n) (b ∷ c ∷ bs) within space = complete_at n (c ∷ bs) (omega arith) space
+
+-- the words of a text of complete words, and those after it
+complete_first : (end_counts : Bool) (begun : List ℕ) (line b : ℕ) (bs rest : List ℕ)
+    → has_complete_words (b ∷ bs) ≡ true
+    → words_from end_counts begun line ((b ∷ bs) ++ rest) ≡ words_from true begun line (b ∷ bs)
+    ++ words_from end_counts [] (line + line_feeds_in (b ∷ bs)) rest
+unfolding words_from
+complete_first end_counts begun line b [] rest complete = grind (arith, line_one, append-nil)
+complete_first end_counts begun line b (c ∷ bs) rest complete =
+    let ended : List WordOnLine = cond (is_white_space b) (word_of begun line) [] in
+    let next : List ℕ = cond (is_white_space b) [] (begun ++ b ∷ []) in
+    ap (λ ws. ended ++ ws) (complete_first end_counts next (line_after b line) c bs rest complete)
+    ∙ sym (append_assoc ended (words_from true next (line_after b line) (c ∷ bs)) _)
+    ∙ ap (λ n. words_from true begun line (b ∷ c ∷ bs) ++ words_from end_counts [] n rest) (line_more b line (c ∷ bs))
+
+pub words_complete : (end_counts : Bool) (line : ℕ) (text rest : List ℕ) → has_complete_words text ≡ true
+    → words_from end_counts [] line (text ++ rest) ≡ words_from true [] line text
+    ++ words_from end_counts [] (line + line_feeds_in text) rest
+unfolding words_from
+words_complete end_counts line [] rest complete = grind arith
+words_complete end_counts line (b ∷ bs) rest complete = complete_first end_counts [] line b bs rest complete
+
+-- ---- one more chunk
+
+module _ (part : Part) (p : FileReader) (from len : ℕ) (bytes complete_text : List ℕ) (come : HasUntakenChunk part p from bytes)
+    (ends : has_complete_words (take len p.buffer.bytes) ≡ true)
+    (no_space : list_all (λ b. not (is_white_space b)) (drop len p.buffer.bytes) ≡ true)
+    (prefix : complete_text ≡ take len p.buffer.bytes) where
+  -- the bytes after the complete words
+  abbrev back : List ℕ
+  back = drop len p.buffer.bytes
+
+  -- the complete words
+  abbrev complete : List WordOnLine
+  complete = words_from true [] (p.line_feeds + 1) complete_text
+
+  in_two : come.word ++ come.chunk ≡ complete_text ++ back
+  in_two = sym come.text ∙ sym (take-append-drop len p.buffer.bytes) ∙ ap (λ text. text ++ back) (sym prefix)
+
+  -- the words of all bytes so far, and of those that follow
+  words_now : (end_counts : Bool) (rest : List ℕ) → words_from end_counts [] 1 (bytes ++ rest)
+      ≡ complete_words come.before
+      ++ (complete ++ words_from end_counts [] ((p.line_feeds + line_feeds_in complete_text) + 1) (back ++ rest))
+  words_now end_counts rest = grind (arith, append_assoc, in_two, words_complete)
+
+  closed_now : complete_words bytes ≡ complete_words come.before ++ complete
+  closed_now =
+      ap (words_from false [] 1) (sym (append-nil bytes)) ∙ words_now false []
+      ∙ ap (λ text. complete_words come.before
+      ++ (complete ++ words_from false [] ((p.line_feeds + line_feeds_in complete_text) + 1) text))
+      (append-nil back)
+      ∙ ap (λ words. complete_words come.before ++ (complete ++ words))
+      (word_part ((p.line_feeds + line_feeds_in complete_text) + 1) back no_space)
+      ∙ ap (λ words. complete_words come.before ++ words) (append-nil complete)
+
+  -- the complete words have been taken
+  pub now_taken : (new : Parser) → HasTakenWords part new (complete_words come.before ++ complete)
+      → HasTaken part new back (p.line_feeds + line_feeds_in complete_text) p.bytes_left bytes
+  now_taken new reads =
+      grind (
+        arith,
+        common_steps,
+        length-append,
+        in_two,
+        line_feeds_of_both,
+        closed_now,
+        words_now,
+        append_assoc,
+        no_line_feeds,
+      )
+
+  -- or one of them shows a fault
+  pub now_shown : (e : ReadError)
+      → (e ≡ memory_error) ⊎ ShowsFault (complete_words come.before ++ complete) e.line e.fault
+      → (e ≡ memory_error) ⊎ PrefixShows bytes e.line e.fault
+  now_shown e (inl none) = inl none
+  now_shown e (inr shows) = inr (subst (λ words. ShowsFault words e.line e.fault) (sym closed_now) shows)
+
+-- ---- nothing has been read, or all has been
+
+pub nothing_taken : (part : Part) (m : Parser) (word : List ℕ) → word ≡ [] → HasTakenWords part m [] → HasTaken part m word 0 FILE_LIMIT []
+unfolding words_from
+nothing_taken part m word none reads = grind arith
+
+-- the words so far, and the last one
+all_words : (part : Part) (p : FileReader) (text bytes : List ℕ) → HasReadBytes part p bytes → text ≡ p.buffer.bytes
+    → complete_words bytes ++ words_from true [] (p.line_feeds + 1) text ≡ words_of bytes
+all_words part p text bytes taken is =
+    ap (λ word. complete_words bytes ++ words_from true [] (p.line_feeds + 1) word) (is ∙ sym (append-nil p.buffer.bytes))
+    ∙ sym (taken.words true []) ∙ ap (words_from true [] 1) (append-nil bytes)
+
+-- so all words of the bytes have been taken, or one shows a fault
+pub last_taken : (part : Part) (p : FileReader) (new : Parser) (text bytes : List ℕ) → HasReadBytes part p bytes → text ≡ p.buffer.bytes
+    → HasTakenWords part new (complete_words bytes ++ words_from true [] (p.line_feeds + 1) text)
+    → HasTakenWords part new (words_of bytes)
+last_taken part p new text bytes taken is reads = subst (HasTakenWords part new) (all_words part p text bytes taken is) reads
+
+pub last_shown : (part : Part) (p : FileReader) (text bytes : List ℕ) (e : ReadError) → HasReadBytes part p bytes → text ≡ p.buffer.bytes
+    → (e ≡ memory_error) ⊎ ShowsFault (complete_words bytes ++ words_from true [] (p.line_feeds + 1) text) e.line e.fault
+    → (e ≡ memory_error) ⊎ IsFoundFault bytes e.line e.fault
+last_shown part p text bytes e taken is (inl none) = inl none
+last_shown part p text bytes e taken is (inr shows) =
+    inr (word_shows (subst (λ words. ShowsFault words e.line e.fault) (all_words part p text bytes taken is) shows))
+
+-- ---- results for a file of which these bytes have come
+
+-- the prefix of a text whose first bytes are these
+prefix_of : (n : ℕ) (xs ys : List ℕ) → length xs ≤ n → take n (xs ++ ys) ≡ xs ++ take (n - length xs) ys
+prefix_of n xs ys fits = let parts : n ≡ length xs + (n - length xs) = omega arith in
+    ap (λ k. take k (xs ++ ys)) parts ∙ take-append-add xs ys (n - length xs)
+
+all_prefix : (n : ℕ) (xs ys : List ℕ) → length xs ≡ n → take n (xs ++ ys) ≡ xs
+all_prefix n xs ys is = ap (λ k. take k (xs ++ ys)) (sym is) ∙ take-append_seam xs ys
+
+-- a complete word shows a fault
+pub shown_early : (coming left : Option (List ℕ)) (failed : Bool) (bytes : List ℕ) (e : ReadError) → IsFalse failed
+    → Consumes coming left bytes → length bytes ≤ FILE_LIMIT
+    → (e ≡ memory_error) ⊎ PrefixShows bytes e.line e.fault → IfSome coming (λ file. IsRefusal file failed left e)
+shown_early None left failed bytes e ready consumes within answer = tt
+shown_early (Some xs) None failed bytes e ready consumes within answer = absurd consumes
+shown_early (Some xs) (Some ys) failed bytes e ready consumes within (inl none) = no_memory none
+shown_early (Some xs) (Some ys) failed bytes e ready consumes within (inr shows) =
+    elim (cases_lt FILE_LIMIT (length xs)) [
+      | inl long ↦ too_large ready long
+          (subst (λ prefix. IsPrefixAnswer prefix faults.TooLarge e)
+          (sym (ap (take FILE_LIMIT) consumes ∙ prefix_of FILE_LIMIT bytes ys within))
+          (shown (longer_prefix_fault bytes (take (FILE_LIMIT - length bytes) ys) e.line e.fault shows)))
+      | inr short ↦ has_fault ready short
+          (subst (λ file. IsFileFault file e.line e.fault) (sym consumes)
+          (prefix_fault_stays bytes ys e.line e.fault shows))
+    ]
+
+-- the file has more bytes than the limit
+pub full : (part : Part) (coming middle left : Option (List ℕ)) (failed : Bool) (p : FileReader)
+    (bytes chunk : List ℕ) (e : ReadError)
+    → IsFalse failed → Consumes coming middle bytes → Consumes middle left chunk → 0 < length chunk → p.bytes_left ≡ 0
+    → HasReadBytes part p bytes
+    → e ≡ record { line = p.line_feeds + 1; fault = faults.TooLarge }
+    → IfSome coming (λ file. IsRefusal file failed left e)
+full part coming middle left failed p bytes chunk e ready first second some none taken is =
+    larger coming left failed bytes e ready
+    (over coming left (Consumes-trans coming middle left bytes chunk first second))
+    (inr (none_shown (shows_none part p.parser (complete_words bytes) taken.taken_words)
+    (ap (λ (e : ReadError). e.line) is ∙ sym taken.lines) (ap (λ (e : ReadError). e.fault) is)))
+  where
+    over : (coming left : Option (List ℕ)) → Consumes coming left (bytes ++ chunk)
+        → IfSome coming (λ xs. (FILE_LIMIT < length xs) × (bytes ≡ take FILE_LIMIT xs))
+    over None left consumes = tt
+    over (Some xs) None consumes = absurd consumes
+    over (Some xs) (Some ys) consumes = (
+      omega (
+        arith,
+        ap (length {A = ℕ}) consumes,
+        length-append (bytes ++ chunk) ys,
+        length-append bytes chunk,
+        taken.size,
+        none,
+        some,
+      ),
+      sym (ap (take FILE_LIMIT) (consumes ∙ append_assoc bytes chunk ys)
+          ∙ all_prefix FILE_LIMIT bytes (chunk ++ ys) (omega (arith, taken.size, none))),
+    )
+
+-- the reader failed
+pub broken : (part : Part) (coming middle left : Option (List ℕ)) (failed : Bool) (p : FileReader) (bytes : List ℕ) (e : ReadError)
+    → IsTrue failed → Consumes coming middle bytes → Keeps middle left → HasReadBytes part p bytes
+    → e ≡ record { line = p.line_feeds + 1; fault = faults.ReadFault }
+    → IfSome coming (λ file. IsRefusal file failed left e)
+broken part coming middle left failed p bytes e has consumes keeps taken is =
+    failing coming left failed bytes e has (Consumes-kept coming middle left bytes consumes keeps)
+    (omega (arith, taken.size))
+    (inr (none_shown (shows_none part p.parser (complete_words bytes) taken.taken_words)
+    (ap (λ (e : ReadError). e.line) is ∙ sym taken.lines) (ap (λ (e : ReadError). e.fault) is)))
+
+-- the whole file came
+pub at_end : (coming left : Option (List ℕ)) (failed : Bool) (bytes : List ℕ) (e : ReadError) → IsFalse failed
+    → Consumes coming left bytes → IsAtEnd left → length bytes ≤ FILE_LIMIT
+    → (e ≡ memory_error) ⊎ IsFoundFault bytes e.line e.fault → IfSome coming (λ file. IsRefusal file failed left e)
+at_end None left failed bytes e ready consumes ends within answer = tt
+at_end (Some xs) None failed bytes e ready consumes ends within answer = absurd consumes
+at_end (Some xs) (Some ys) failed bytes e ready consumes ends within (inl none) = no_memory none
+at_end (Some xs) (Some ys) failed bytes e ready consumes ends within (inr fault) =
+    let all : bytes ≡ xs = sym (consumes ∙ ap (λ ys. bytes ++ ys) ends ∙ append-nil bytes) in
+    has_fault ready (omega (arith, within, ap (length {A = ℕ}) all))
+    (file_fault xs e.line e.fault (subst (λ file. IsFoundFault file e.line e.fault) all fault))
+
+-- a fact about the bytes is one about the file
+pub of_all : (coming left : Option (List ℕ)) (bytes : List ℕ) (P : List ℕ → Type 0) → Consumes coming left bytes
+    → IsAtEnd left → P bytes → IfSome coming P
+of_all coming left bytes P h4 h5 h6 = grind (arith, append-nil)
+
+pub is_no_failure : (bytes : List ℕ) (e : ReadError) → (e ≡ memory_error) ⊎ PrefixShows bytes e.line e.fault
+    → e.fault ≡ faults.ReadFault → ⊥
+is_no_failure bytes e (inl none) is = grind arith
+is_no_failure bytes e (inr shows) is = grind arith
+
+pub is_no_file_failure : (bytes : List ℕ) (e : ReadError) → (e ≡ memory_error) ⊎ IsFoundFault bytes e.line e.fault
+    → e.fault ≡ faults.ReadFault → ⊥
+is_no_file_failure bytes e h2 h3 = grind arith
+
+-- ---- a chunk after the bytes taken
+
+-- the chunk came after the word that can go on
+pub has_come : (part : Part) (p : FileReader) (buffer : ReadBufferView) (from count : ℕ) (before word chunk : List ℕ)
+    → HasReadBytes part p before
+    → buffer.bytes ≡ word ++ chunk → word ≡ p.buffer.bytes → count ≡ length chunk → count ≤ p.bytes_left
+    → from ≡ length word
+    → HasUntakenChunk part (record p { buffer = buffer; bytes_left = p.bytes_left - count }) from (before ++ chunk)
+has_come part p buffer from count before word chunk taken text same many within len = grind arith
+
+-- the first bytes of the text are those of the word that can go on
+pub word_is_first : (part : Part) (p : FileReader) (from : ℕ) (bytes : List ℕ) → HasUntakenChunk part p from bytes
+    → (from ≤ length p.buffer.bytes) × (list_all (λ b. not (is_white_space b)) (take from p.buffer.bytes) ≡ true)
+    × (length bytes + p.bytes_left ≡ FILE_LIMIT) × (length p.buffer.bytes ≤ length bytes)
+    × (p.line_feeds ≤ length bytes)
+word_is_first part p from bytes come = grind (arith, length-append, count_by-le-length, take-append_seam)

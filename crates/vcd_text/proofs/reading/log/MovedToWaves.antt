@@ -1,0 +1,238 @@
+-- Variables that take their changes of the log.
+use Rattle.std.proofs.Common.{◌≡◌, ℕ, suc, ◌<◌, true, false, ◌==◌, cond, List, [], ◌∷◌, ◌++◌}
+use Rattle.std.proofs.Common.{length, map, set}
+use Rattle.std.proofs.Common.{All, Option, Some, inl, inr, refl, sym, ap, subst, ◌∙◌, arith}
+use Rattle.std.specs.Prelude.{slice_get}
+use Rattle.std.specs.Global.{Vec}
+use Rattle.std.specs.List.{fold}
+use Rattle.std.specs.Option.{option_map_or}
+use Rattle.std.proofs.lemmas.Bool.{eqb-true, cases_Bool, cases_eq}
+use Rattle.std.proofs.lemmas.List.Elements.{All-nil, All-cons}
+use Rattle.std.proofs.lemmas.Option.{same_Some, slice_get_within, slice_get_cases}
+use Rattle.vcd_core.specs.declared.bit.Bit.{Bit}
+use Rattle.vcd_core.specs.Value.{all_x}
+use Rattle.vcd_text.specs.Grammar.{ParseState, kept_variables}
+use Rattle.vcd_text.specs.Meaning.{latest_value}
+use Rattle.vcd_text.specs.inside.reading.Log.{GivesLoggedValues, changes_of_position, logged}
+use Rattle.vcd_text.specs.inside.reading.Log.{AreGrouped, CanTake}
+use Rattle.vcd_text.specs.inside.reading.Log.{AppliesLogged, CanMoveLog, MovesChanges, MovesLog}
+use Rattle.vcd_text.specs.inside.reading.Log.{counted_variable, counted, room_with}
+use Rattle.vcd_text.specs.inside.reading.Variables.{target_of, HasValueChanges, HasFirst, VariablesMatch}
+use Rattle.vcd_text.specs.declared.reading.code_targets.CodeTarget.TheVariants.{Kept}
+use Rattle.vcd_text.specs.declared.reading.log.LoggedChange.{LoggedChange}
+use Rattle.vcd_text.specs.declared.reading.variables.Variable.{Variable}
+use Rattle.vcd_text.specs.declared.reading.variables.Variables.{Variables}
+use Rattle.vcd_text.proofs.reading.log.LoggedValues.{gives_narrow, gives_first, gives_moved}
+use Rattle.vcd_text.proofs.reading.variables.ChangedVariable.{set_here, set_there, own_wave, with_changes}
+use Rattle.vcd_text.proofs.reading.variables.ChangedVariable.{same_declaration}
+use Rattle.vcd_text.specs.declared.reading.log.ExpectedRoom.{ExpectedRoom}
+use Rattle.vcd_text.proofs.reading.code_targets.Targets.{stands_moved}
+use Rattle.vcd_text.proofs.reading.variables.VariablesMatch.{declared_at}
+use Rattle.std.proofs.lemmas.List.{length-set}
+
+pub moves_then : (us vs ws : List Variable) (log rest last : ℕ → List LoggedChange) → MovesLog us vs log rest
+    → MovesLog vs ws rest last → MovesLog us ws log last
+moves_then us vs ws log rest last a b = grind arith
+
+-- ---- a change
+
+module _ (e : LoggedChange) (es : List LoggedChange) (rest : ℕ → List LoggedChange) where
+  -- a test of the position of the first change
+  own_position : (e.position == e.position) ≡ true
+  own_position = grind arith
+
+  -- the first change of a group can be taken
+  pub can_take : (kept : List Variable)
+      → CanMoveLog kept (λ position. changes_of_position position (e ∷ es) ++ rest position) → CanTake kept e
+  can_take kept can = grind (arith, own_position, gives_narrow, gives_first)
+
+  -- then the others are left
+  pub moves_one : (old new : List Variable) → AppliesLogged e old new
+      → MovesLog old new (λ position. changes_of_position position (e ∷ es) ++ rest position)
+      (λ position. changes_of_position position es ++ rest position)
+  moves_one old new takes = record {
+    long = ap (length {A = Variable}) takes.others ∙ length-set old e.position takes.after;
+    each = λ position v at. elim (cases_Bool (e.position == position)) [
+      | inl same ↦
+          let here : e.position ≡ position = eqb-true e.position position same in
+          let is : takes.before ≡ v = same_Some takes.before v (sym takes.at_position ∙ ap (slice_get old) here
+          ∙ at) in (
+            takes.after,
+            ap (λ vs. slice_get vs position) takes.others ∙ ap (slice_get (set old e.position takes.after)) (sym here)
+                ∙ set_here old e.position takes.before takes.after takes.at_position,
+            subst (λ b. MovesChanges v takes.after
+                (cond b (e ∷ changes_of_position position es) (changes_of_position position es) ++ rest position)
+                (changes_of_position position es ++ rest position)) (sym same) (grind (arith, gives_moved)),
+          )
+      | inr other ↦ (
+        v,
+        ap (λ vs. slice_get vs position) takes.others
+            ∙ set_there old e.position position takes.after (λ same. let both : true ≡ false = sym own_position
+            ∙ ap (λ p. e.position == p) same ∙ other in absurd (cc))
+            ∙ at,
+        subst (λ b. MovesChanges v v (cond b (e ∷ changes_of_position position es) (changes_of_position position es)
+            ++ rest position) (changes_of_position position es ++ rest position)) (sym other) (grind arith),
+      )
+    ];
+  }
+
+-- a change that can be taken can still be taken
+pub can_still : (old new : List Variable) (log rest : ℕ → List LoggedChange)
+    → ((position : ℕ) → 0 < length (rest position) → 0 < length (log position)) → MovesLog old new log rest
+    → CanMoveLog old log → CanMoveLog new rest
+can_still old new log rest some moves_log can = grind arith
+
+-- the rest of a group was in it
+pub more_left : (e : LoggedChange) (es rest : List LoggedChange) (position : ℕ)
+    → 0 < length (changes_of_position position es ++ rest) → 0 < length (changes_of_position position (e ∷ es) ++ rest)
+more_left e es rest position some = grind arith
+
+-- ---- changes that are counted
+
+-- the first change of a group has its position
+some_here : (e : LoggedChange) (es rest : List LoggedChange)
+    → 0 < length (changes_of_position e.position (e ∷ es) ++ rest)
+some_here e es rest =
+    subst (λ b. 0 < length (cond b (e ∷ changes_of_position e.position es) (changes_of_position e.position es) ++ rest))
+    (sym (own_position e es (λ _. rest))) (grind arith)
+
+-- each change is one of a variable
+pub all_within : (kept : List Variable) (es : List LoggedChange) (rest : ℕ → List LoggedChange)
+    → ((position : ℕ) → 0 < length (changes_of_position position es ++ rest position)
+    → (v : Variable) × (slice_get kept position ≡ Some v))
+    → All (λ (e : LoggedChange). e.position < length kept) es
+all_within kept [] rest has = grind (arith, All-nil)
+all_within kept (e ∷ es) rest has =
+    let here = has e.position (some_here e es (rest e.position)) in
+    All-cons (λ (x : LoggedChange). x.position < length kept) e es
+    (slice_get_within kept e.position here.0 here.1)
+    (all_within kept es rest (λ position some. has position (more_left e es (rest position) position some)))
+
+-- nothing but the expected room changes
+hinted : (v : Variable) (room : ExpectedRoom) (log : List LoggedChange)
+    → MovesChanges v (record v { expected_room = room }) log log
+hinted v room log = record {
+  same = record { place = refl; kind = refl; words = refl; width = refl; first = refl };
+  gives = λ tick f gives. gives;
+}
+
+none_taken : (kept : List Variable) (log : ℕ → List LoggedChange) → MovesLog kept kept log log
+none_taken kept log = record {
+  long = refl;
+  each = λ position v at. (v, at, hinted v v.expected_room (log position));
+}
+
+counted_next : (kept : List Variable) (e : LoggedChange) (log : ℕ → List LoggedChange)
+    → MovesLog kept (counted kept e) log log
+counted_next kept e log =
+    let with_hint : Option Variable → List Variable =
+    λ o. option_map_or (λ (v : Variable). set kept e.position (counted_variable v e)) o kept in
+    elim (slice_get_cases kept e.position).1 [
+      | inl (v, within, at, read) ↦
+          subst (λ vs. MovesLog kept vs log log) (sym (ap with_hint at)) (record {
+            long = length-set kept e.position (counted_variable v e);
+            each = λ position u there. elim (cases_eq e.position position) [
+              | inl same ↦
+                  let is : v ≡ u = same_Some v u (sym at ∙ ap (slice_get kept) same ∙ there) in (
+                    counted_variable v e,
+                    ap (slice_get (set kept e.position (counted_variable v e))) (sym same)
+                        ∙ set_here kept e.position v (counted_variable v e) at,
+                    subst (λ x. MovesChanges x (counted_variable v e) (log position) (log position)) is
+                        (hinted v (room_with v.expected_room e) (log position)),
+                  )
+              | inr other ↦ (
+                u,
+                set_there kept e.position position (counted_variable v e) other ∙ there,
+                hinted u u.expected_room (log position),
+              )
+            ];
+          })
+      | inr (past, none) ↦ subst (λ vs. MovesLog kept vs log log) (sym (ap with_hint none)) (none_taken kept log)
+    ]
+
+pub all_counted : (es : List LoggedChange) (kept : List Variable) (log : ℕ → List LoggedChange)
+    → MovesLog kept (fold counted kept es) log log
+all_counted [] kept log = none_taken kept log
+all_counted (e ∷ es) kept log =
+    moves_then kept (counted kept e) (fold counted (counted kept e) es) log log log (counted_next kept e log)
+    (all_counted es (counted kept e) log)
+
+-- ---- the variables of a parser
+
+pub variables_can_move : (vs : Variables) (c : ParseState) → VariablesMatch vs c
+    → CanMoveLog vs.kept.items (logged vs.log.items)
+variables_can_move vs c k = λ position some.
+    let u = k.logs position some in
+    let d = declared_at vs c k position u.0 u.1 in
+    let width = u.0.wave.width in
+    let had : target_of vs d.0.code ≡ Kept width position =
+    (k.firsts position u.0 u.1).owned d.0 d.1 ∙ ap (Kept width) u.2 in
+    let f : ℕ → List Bit = λ t. latest_value width d.0.code t (all_x width) c.value_changes in
+    let wave = (own_wave vs c d.0.code [] width position k had).4 in (
+      wave.first,
+      wave.at_position,
+      c.tick,
+      f,
+      subst (λ n. GivesLoggedValues n c.tick f wave.first.wave.changes (logged vs.log.items position))
+          (sym wave.sized) wave.gives,
+    )
+
+same_all : {B : Type 0} (f : Variable → B) (vs ws : List Variable) → length ws ≡ length vs
+    → ((position : ℕ) (v : Variable) → slice_get vs position ≡ Some v
+    → (w : Variable) × (slice_get ws position ≡ Some w) × (f w ≡ f v)) → map f ws ≡ map f vs
+same_all f [] [] long each = refl
+same_all f [] (w ∷ ws) long each = absurd (omega (arith, long))
+same_all f (v ∷ vs) [] long each = absurd (omega (arith, long))
+same_all f (v ∷ vs) (w ∷ ws) long each =
+    let here = each 0 v refl in
+    let head : f w ≡ f v = ap f (same_Some w here.0 here.1) ∙ here.2 in
+    let tail = same_all f vs ws (omega (arith, long)) (λ position u at. each (suc position) u at) in
+    λ i. head i ∷ tail i
+
+module _ (old : Variables) (list : Vec Variable) (log : Vec (Vec LoggedChange)) (c : ParseState)
+    (k : VariablesMatch old c)
+    (empty : log.items ≡ [])
+    (moves_log : MovesLog old.kept.items list.items (logged old.log.items) (λ _. [])) where
+  -- the variable at a position before
+  stood : (position : ℕ) (w : Variable) → slice_get list.items position ≡ Some w
+      → (v : Variable) × (slice_get old.kept.items position ≡ Some v)
+      × MovesChanges v w (logged old.log.items position) []
+  stood position w at = elim (slice_get_cases old.kept.items position).1 [
+    | inl (v, within, there, read) ↦
+        let u = moves_log.each position v there in (
+          v,
+          there,
+          subst (λ x. MovesChanges v x (logged old.log.items position) []) (same_Some u.0 w (sym u.1 ∙ at)) u.2,
+        )
+    | inr (past, none) ↦ absurd (omega (arith, past, moves_log.long, slice_get_within list.items position w at))
+  ]
+
+  moved_wave : (position : ℕ) (code : List ℕ) (size : ℕ)
+      → HasValueChanges old.kept.items (logged old.log.items) position code size c.value_changes c.tick
+      → HasValueChanges list.items (logged log.items) position code size c.value_changes c.tick
+  moved_wave position code size wave = grind arith
+
+  moved_firsts : (position : ℕ) (w : Variable) → slice_get list.items position ≡ Some w
+      → HasFirst (with_changes old list log) (kept_variables c.declared) position w
+  moved_firsts position w at =
+      let v = stood position w at in
+      let before = k.firsts position v.0 v.1 in
+      record {
+        owned = grind arith;
+        placed = grind arith;
+        no_later = omega (arith, v.2.same.first, before.no_later);
+      }
+
+  -- the waves have the changes of the log
+  pub moved_match : VariablesMatch (with_changes old list log) c
+  moved_match = record {
+    opened = k.opened;
+    kept = grind (arith, same_all, same_declaration);
+    skipped = k.skipped;
+    targets_agree = grind (arith, stands_moved, moved_wave);
+    owners = k.owners;
+    firsts = moved_firsts;
+    few = omega (arith, moves_log.long, k.few);
+    grouped = subst (AreGrouped 0) (sym empty) tt;
+    logs = λ position some. absurd (omega (arith, some, ap (λ gs. length (logged gs position)) empty));
+  }

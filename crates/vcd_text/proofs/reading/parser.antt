@@ -1,0 +1,4 @@
+-- Lemmas of `reading/parser`.
+pub mod NoWordLeft
+pub mod NextWord
+pub mod SkippedCount

@@ -1,0 +1,2 @@
+-- Lemmas of `reading/scopes`.
+pub mod OpenedScope

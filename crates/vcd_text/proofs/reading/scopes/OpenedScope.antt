@@ -1,0 +1,24 @@
+-- The places of variables, as a scope is opened.
+use Rattle.std.proofs.Common.{◌≡◌, ℕ, ◌<◌, List, [], ◌∷◌, ◌++◌, length, inl, inr, arith}
+use Rattle.std.proofs.lemmas.Bool.{cases_lt}
+use Rattle.std.proofs.lemmas.List.{length_push, take-append-le, get_or_append_left}
+use Rattle.std.proofs.Math.Seq.{get_or-append_seam}
+use Rattle.vcd_core.specs.declared.capture.ScopeName.{ScopeName}
+use Rattle.vcd_text.specs.inside.reading.Scopes.{chain_at, KeepsPlaces}
+use Rattle.vcd_text.specs.declared.reading.scopes.Scopes.{Scopes}
+
+-- a chain before the last
+earlier_chain : (cs : List (List ScopeName)) (c : List ScopeName) (k : ℕ) → k < length cs
+    → chain_at (cs ++ c ∷ []) k ≡ chain_at cs k
+earlier_chain cs c k within = grind (arith, get_or_append_left)
+
+last_chain : (cs : List (List ScopeName)) (c : List ScopeName) (k : ℕ) → k ≡ length cs → chain_at (cs ++ c ∷ []) k ≡ c
+last_chain cs c k is = grind (arith, get_or-append_seam)
+
+-- a scope more at the end of the last chain
+pub scope_pushed : (old new : Scopes) (s : ScopeName) → new.chains.items ≡ old.chains.items
+    → new.chain.items ≡ old.chain.items ++ s ∷ [] → new.reach ≡ old.reach → KeepsPlaces old new
+scope_pushed old new s chains chain reach p scopes h = elim (cases_lt p.chain (length old.chains.items)) [
+  | inl before ↦ grind (arith, earlier_chain, length_push)
+  | inr after ↦ grind (arith, last_chain, length_push, take-append-le)
+]

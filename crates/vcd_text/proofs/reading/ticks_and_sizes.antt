@@ -1,0 +1,2 @@
+-- Lemmas of `reading/ticks_and_sizes`.
+pub mod BoundedNumbers

@@ -1,0 +1,2 @@
+-- Lemmas of `reading/timescale`.
+pub mod CountAndUnit

@@ -1,0 +1,6 @@
+-- Lemmas of `reading/variables`.
+pub mod ChangedVariable
+pub mod DeclaredVariable
+pub mod SignalsOfVariables
+pub mod VariablesMatch
+pub mod TicksAndWidths

@@ -1,0 +1,15 @@
+-- Lemmas: shared.
+pub mod Unfinished
+pub mod ItemTests
+pub mod ItemFaults
+pub mod SoundMeaning
+pub mod ResultExists
+pub mod ResultIsUnique
+pub mod OneRefusal
+pub mod FoundFault
+pub mod FaultOfPrefix
+pub mod FirstItem
+pub mod ItemsInTurn
+pub mod WordOutcomes
+pub mod OneOf
+pub mod WeakerTests

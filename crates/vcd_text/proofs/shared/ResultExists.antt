@@ -1,0 +1,185 @@
+-- Every file has a result: its words are accepted, or one shows a fault, or they end too early.
+use Rattle.std.proofs.Common.{◌≡◌, ◌⊎◌, inl, inr, ℕ, zero, suc, ◌<◌, ◌≤◌, List, [], ◌∷◌, ◌++◌, length, refl, sym, ap}
+use Rattle.std.proofs.Common.{subst, ◌∙◌, append_assoc, IsTrue, arith}
+use Rattle.std.proofs.lemmas.List.{append-nil, map-append, length-append, length-map}
+use Rattle.std.proofs.lemmas.Bool.{cases_Bool}
+use Rattle.vcd_core.specs.Contents.{Contents}
+use Rattle.vcd_text.specs.declared.fault.Fault.{Fault}
+use Rattle.vcd_text.specs.declared.fault.Fault.TheVariants.{Truncated}
+use Rattle.vcd_text.specs.Words.{WordOnLine, words_of, last_line}
+use Rattle.vcd_text.specs.Items.{Item, spelling, spellings}
+use Rattle.vcd_text.specs.Grammar.{ParseState, Allows, Accepts, state_after_item, initial_state}
+use Rattle.vcd_text.specs.Grammar.{word_texts}
+use Rattle.vcd_text.specs.Faults.{fault_line, ShowsFault, WordShows}
+use Rattle.vcd_text.specs.FoundFaults.{IsFoundFault, IsUnfinished, Stops, word_shows, too_early}
+use Rattle.vcd_text.specs.Meaning.{FileMeans, meaning}
+use Rattle.vcd_text.specs.inside.shared.SkippedCount.{skipped_count}
+use Rattle.vcd_text.proofs.shared.ItemsInTurn.{Reaches, reaches_none, reaches_one, reaches_both, shown_by}
+use Rattle.vcd_text.proofs.shared.Unfinished.{declaration_due}
+use Rattle.vcd_text.proofs.shared.WordOutcomes.{beginning, last_word, shows_fault, whole_item, goes_on}
+
+-- the result of all words of a file
+data AnswerTo (words : List WordOnLine) : Type 0 where
+  is_accepted : (state : ParseState) → Accepts words state → AnswerTo words
+  stops_early : Stops words → AnswerTo words
+  is_refused : (line : ℕ) (fault : Fault) → ShowsFault words line fault → AnswerTo words
+
+-- the words are those of whole items, and those to come
+record WordsSoFar (words rest : List WordOnLine) : Type 0 where
+  items : List Item
+  whole : List WordOnLine
+  state : ParseState
+  parts : words ≡ whole ++ rest
+  spelled : word_texts whole ≡ spellings items
+  leads : Reaches initial_state items state
+
+-- ---- texts of words
+
+pub texts_more : (begun : List WordOnLine) (w : WordOnLine)
+    → word_texts (begun ++ w ∷ []) ≡ word_texts begun ++ w.text ∷ []
+texts_more begun w = map-append (λ (v : WordOnLine). v.text) begun (w ∷ [])
+
+pub spelled_more : (items : List Item) (i : Item) → spellings (items ++ i ∷ []) ≡ spellings items ++ spelling i
+spelled_more [] i = append-nil (spelling i)
+spelled_more (j ∷ items) i = grind (arith, append_assoc, spelled_more items i)
+
+-- words whose texts are two lists
+record InParts (words : List WordOnLine) (xs ys : List (List ℕ)) : Type 0 where
+  first : List WordOnLine
+  rest : List WordOnLine
+  parts : words ≡ first ++ rest
+  first_texts : word_texts first ≡ xs
+  rest_texts : word_texts rest ≡ ys
+
+in_parts : (words : List WordOnLine) (xs ys : List (List ℕ)) → word_texts words ≡ xs ++ ys → InParts words xs ys
+in_parts words [] ys e = record { first = []; rest = words; parts = refl; first_texts = refl; rest_texts = e }
+in_parts [] (x ∷ xs) ys e = absurd (cc e)
+in_parts (w ∷ ws) (x ∷ xs) ys e =
+    let p = in_parts ws xs ys (cc e) in
+    let here : w.text ≡ x = cc e in
+    record {
+      first = w ∷ p.first;
+      rest = p.rest;
+      parts = ap (λ vs. w ∷ vs) p.parts;
+      first_texts = ap (λ v. v ∷ word_texts p.first) here ∙ ap (λ vs. x ∷ vs) p.first_texts;
+      rest_texts = p.rest_texts;
+    }
+
+-- ---- what the words to come begin with
+
+-- a word of them shows a fault
+refused : (words rest begun more : List WordOnLine) (w : WordOnLine) (fault : Fault) (u : WordsSoFar words rest)
+    → rest ≡ begun ++ w ∷ more → WordShows u.state (word_texts begun) w.text fault → AnswerTo words
+refused words rest begun more w fault u parts shown =
+    is_refused (fault_line u.state.in_body begun w) fault
+    (shown_by words u.whole begun more w u.items u.state _ fault u.leads
+    (u.parts ∙ ap (λ ws. u.whole ++ ws) parts) u.spelled shown refl)
+
+refused_at : (words rest begun found : List WordOnLine) (word : List ℕ) (more : List (List ℕ)) (fault : Fault)
+    (u : WordsSoFar words rest) → rest ≡ begun ++ found → word_texts found ≡ word ∷ more
+    → WordShows u.state (word_texts begun) word fault → AnswerTo words
+refused_at words rest begun [] word more fault u parts is shown = absurd (cc is)
+refused_at words rest begun (w ∷ ws) word more fault u parts is shown =
+    let here : w.text ≡ word = cc is in
+    refused words rest begun ws w fault u parts
+    (subst (λ t. WordShows u.state (word_texts begun) t fault) (sym here) shown)
+
+-- they begin with a whole item
+with_item : (words rest : List WordOnLine) (u : WordsSoFar words rest) (i : Item) (more : List (List ℕ))
+    → Allows u.state i → (p : InParts rest (spelling i) more) → WordsSoFar words p.rest
+with_item words rest u i more allows p = record {
+  items = u.items ++ i ∷ [];
+  whole = u.whole ++ p.first;
+  state = state_after_item u.state i;
+  parts = u.parts ∙ ap (λ ws. u.whole ++ ws) p.parts ∙ sym (append_assoc u.whole p.first p.rest);
+  spelled =
+      map-append (λ (v : WordOnLine). v.text) u.whole p.first ∙ ap (λ ws. ws ++ word_texts p.first) u.spelled
+      ∙ ap (λ ws. spellings u.items ++ ws) p.first_texts ∙ sym (spelled_more u.items i);
+  leads = reaches_both initial_state u.state (state_after_item u.state i) u.items (i ∷ []) u.leads
+      (reaches_one u.state (state_after_item u.state i) i allows refl);
+}
+
+fewer_left : (rest : List WordOnLine) (i : Item) (more : List (List ℕ)) (p : InParts rest (spelling i) more)
+    → length p.rest < length rest
+fewer_left rest i more p =
+    let (begun, word, last) = last_word i in
+    omega (
+      arith,
+      ap length p.parts,
+      length-append p.first p.rest,
+      sym (length-map p.first (λ (v : WordOnLine). v.text)) ∙ ap length (p.first_texts ∙ last),
+      length-append begun (word ∷ []),
+    )
+
+-- a word must follow them
+stops_here : (words rest : List WordOnLine) (u : WordsSoFar words rest) → IsUnfinished u.state (word_texts rest)
+    → AnswerTo words
+stops_here words rest u due = stops_early (record {
+  items = u.items;
+  begun = word_texts rest;
+  spelled = ap word_texts u.parts ∙ map-append (λ (v : WordOnLine). v.text) u.whole rest
+      ∙ ap (λ ws. ws ++ word_texts rest) u.spelled;
+  allowed = u.leads.allowed;
+  unfinished = subst (λ c. IsUnfinished c (word_texts rest)) (sym u.leads.state_is) due;
+})
+
+-- no word is left
+accepts_here : (words : List WordOnLine) (u : WordsSoFar words []) → IsTrue u.state.in_body → AnswerTo words
+accepts_here words u in_body = is_accepted u.state (record {
+  items = u.items;
+  spelled = ap word_texts (u.parts ∙ append-nil u.whole) ∙ u.spelled;
+  allowed = u.leads.allowed;
+  state_is = u.leads.state_is;
+  definitions_ended = in_body;
+})
+
+at_end : (words : List WordOnLine) (u : WordsSoFar words []) → AnswerTo words
+at_end words u =
+    elim (cases_Bool u.state.in_body) [
+      | inl in_body ↦ accepts_here words u in_body
+      | inr declares ↦ stops_here words [] u (declaration_due u.state declares)
+    ]
+
+-- ---- all words
+
+answer_after : (count : ℕ) (words rest : List WordOnLine) → length rest ≤ count → WordsSoFar words rest → AnswerTo words
+answer_after count words [] few u = at_end words u
+answer_after zero words (w ∷ ws) few u = absurd (omega (arith, few))
+answer_after (suc count) words (w ∷ ws) few u =
+    elim (beginning u.state w.text (word_texts ws)) [
+      | shows_fault begun word more fault is shown ↦
+          let p = in_parts (w ∷ ws) begun (word ∷ more) is in
+          refused_at words (w ∷ ws) p.first p.rest word more fault u p.parts p.rest_texts
+          (subst (λ ts. WordShows u.state ts word fault) (sym p.first_texts) shown)
+      | whole_item i more is allows ↦
+          let p = in_parts (w ∷ ws) (spelling i) more is in
+          answer_after count words p.rest (omega (arith, few, fewer_left (w ∷ ws) i more p))
+          (with_item words (w ∷ ws) u i more allows p)
+      | goes_on due ↦ stops_here words (w ∷ ws) u due
+    ]
+
+-- before the first word
+nothing_taken : (words : List WordOnLine) → WordsSoFar words words
+nothing_taken words = record {
+  items = [];
+  whole = [];
+  state = initial_state;
+  parts = refl;
+  spelled = refl;
+  leads = reaches_none initial_state;
+}
+
+pub a_found_answer : (bytes : List ℕ) → ((c : Contents) × (n : ℕ) × FileMeans bytes c n)
+    ⊎ ((line : ℕ) × (fault : Fault) × IsFoundFault bytes line fault)
+a_found_answer bytes =
+    elim (answer_after (length (words_of bytes)) (words_of bytes) (words_of bytes) (omega arith)
+    (nothing_taken (words_of bytes))) [
+      | is_accepted state accepts ↦
+          inl (
+            meaning state,
+            skipped_count state,
+            record { state = state; accepted = accepts; means = refl; left_out = refl },
+          )
+      | stops_early stops ↦ inr (last_line bytes, Truncated, too_early stops refl refl)
+      | is_refused line fault s ↦ inr (line, fault, word_shows s)
+    ]

@@ -1,0 +1,318 @@
+-- The meaning of an accepted file is sound.
+use Rattle.std.proofs.Common.{◌≡◌, ℕ, ◌<◌, ◌≤◌, Bool, true, false, cond, not, ◌&&◌, ◌||◌, List, []}
+use Rattle.std.proofs.Common.{◌∷◌, ◌++◌, length, take, drop, Option, Some, None, IsTrue, IsFalse}
+use Rattle.std.proofs.Common.{IsSome}
+use Rattle.std.proofs.Common.{IsSomeAnd, IfSome, All, refl, sym, ap, subst, ◌∙◌, arith}
+use Rattle.std.specs.Prelude.{find, bytes_eq, ◌==◌, nat_le}
+use Rattle.std.specs.List.{list_all}
+use Rattle.std.proofs.lemmas.Bool.{and_parts, and_from, or_parts, false≢true, not-true, eqb-true}
+use Rattle.std.proofs.lemmas.Bool.{eqb-false, leb-true}
+use Rattle.std.proofs.lemmas.Bool.{ltb-true, ltb-false}
+use Rattle.std.proofs.lemmas.Slice.Eq.{bytes_eq-Decides}
+use Rattle.std.proofs.lemmas.List.{append-nil, length-append, length-map, length-replicate}
+use Rattle.std.proofs.lemmas.List.{take-append-drop}
+use Rattle.std.proofs.lemmas.List.Elements.{All-nil, All-head, All-tail, All-push, All-map}
+use Rattle.std.proofs.lemmas.List.Elements.{All-weaker, All-filter}
+use Rattle.std.proofs.lemmas.List.Elements.{filter_passes, filter-append}
+use Rattle.std.proofs.lemmas.List.Folds.{list_all-append}
+use Rattle.vcd_core.specs.declared.bit.Bit.{Bit}
+use Rattle.vcd_core.specs.declared.capture.Header.{Header}
+use Rattle.vcd_core.specs.declared.capture.ScopeName.{ScopeName}
+use Rattle.vcd_core.specs.declared.capture.Timescale.{Timescale}
+use Rattle.vcd_core.specs.declared.value.TheConstants.{WIDTH_LIMIT}
+use Rattle.vcd_core.specs.declared.capture.TheConstants.{END_LIMIT, SIGNAL_LIMIT}
+use Rattle.vcd_core.specs.Word.{is_word, is_skipped_kind}
+use Rattle.vcd_core.specs.Sound.{IsSound, IsSoundSignal, is_sound_header, is_sound_scope}
+use Rattle.vcd_core.specs.Sound.{is_sound_timescale}
+use Rattle.vcd_core.proofs.shared.Waves.{changes_rise, changes_end}
+use Rattle.vcd_text.specs.Words.{words_of}
+use Rattle.vcd_core.specs.Decimal.{number_of}
+use Rattle.vcd_text.specs.Letters.{extension, letters_of_digits}
+use Rattle.vcd_text.specs.Items.{Item, entry, timescale, scope, upscope, variable, end_definitions}
+use Rattle.vcd_text.specs.Items.{stamp, scalar}
+use Rattle.vcd_text.specs.Items.{vector, real_or_string, dump_word, other, spelling, spellings}
+use Rattle.vcd_text.specs.Items.{end_word}
+use Rattle.vcd_text.specs.Items.{is_end_word, has_no_end_word}
+use Rattle.vcd_text.specs.Grammar.{ParseState, VariableDeclaration, ValueChange, Accepts}
+use Rattle.vcd_text.specs.Grammar.{Allows}
+use Rattle.vcd_text.specs.Grammar.{AllowsAll}
+use Rattle.vcd_text.proofs.shared.ItemTests.{has_timescale, has_declaration, has_tick, knows_code, takes_digits}
+use Rattle.vcd_text.specs.Grammar.{state_after, state_after_item, is_skipped, kept_variables}
+use Rattle.vcd_text.specs.Grammar.{variable_of}
+use Rattle.vcd_text.specs.Grammar.{may_have_code, is_within_limit, value_changes_after}
+use Rattle.vcd_text.specs.Grammar.{with_value_change}
+use Rattle.vcd_text.specs.inside.reading.DigitTests.{takes_binary_number}
+use Rattle.vcd_text.proofs.words.WordsInTurn.{by_test, is_run_text, texts_are_runs, run_is_word}
+use Rattle.vcd_text.specs.Meaning.{meaning, declared_signal, latest_value}
+use Rattle.std.proofs.lemmas.List.Folds.{find-append}
+
+-- ---- words
+
+-- words in front of an `$end` are words of names
+clean_words : (ws rest : List (List ℕ)) → list_all is_run_text (ws ++ rest) ≡ true → has_no_end_word ws ≡ true
+    → list_all is_word ws ≡ true
+clean_words [] rest all none = refl
+clean_words (w ∷ ws) rest all none =
+    let p = and_parts (is_run_text w) (list_all is_run_text (ws ++ rest)) all in
+    let q = and_parts (not (is_end_word w)) (has_no_end_word ws) none in
+    and_from (is_word w) (list_all is_word ws) (run_is_word w p.0 (not-true (is_end_word w) q.0))
+    (clean_words ws rest p.1 q.1)
+
+-- ---- lists
+
+-- the result of a search passes a test that all pass
+found_passes : {A : Type 0} (p q : A → Bool) (xs : List A) → list_all q xs ≡ true → IfSome (find p xs) (λ x. q x ≡ true)
+found_passes p q [] all = tt
+found_passes p q (x ∷ xs) all =
+    let parts = and_parts (q x) (list_all q xs) all in
+    by_test (λ b. IfSome (cond b (Some x) (find p xs)) (λ x. q x ≡ true)) (p x) (λ _. parts.0)
+    (λ _. found_passes p q xs parts.1)
+
+-- the result of a search is that of a search in a longer list
+found_further : {A : Type 0} (P : A → Type 0) (p : A → Bool) (xs : List A) (y : A) → IsSomeAnd (find p xs) P
+    → IsSomeAnd (find p (xs ++ y ∷ [])) P
+found_further P p [] y some = absurd some
+found_further P p (x ∷ xs) y some =
+    by_test (λ b. IsSomeAnd (cond b (Some x) (find p xs)) P → IsSomeAnd (cond b (Some x) (find p (xs ++ y ∷ []))) P)
+    (p x) (λ _ h. h) (λ _ h. found_further P p xs y h) some
+
+-- the last item is found if none before it is
+found_last : {A : Type 0} (p : A → Bool) (xs : List A) (y : A) → find p xs ≡ None → p y ≡ true
+    → find p (xs ++ y ∷ []) ≡ Some y
+found_last p xs y none here = grind (arith, find-append)
+
+all_taken : {A : Type 0} (p : A → Bool) (n : ℕ) (xs : List A) → list_all p xs ≡ true → list_all p (take n xs) ≡ true
+all_taken p n xs all =
+    (and_parts (list_all p (take n xs)) (list_all p (drop n xs)) (sym (list_all-append p (take n xs) (drop n xs))
+    ∙ ap (list_all p) (take-append-drop n xs) ∙ all)).0
+
+-- ---- the invariant
+
+pub record IsCleanDeclaration (d : VariableDeclaration) : Type 0 where
+  scopes : list_all is_sound_scope d.scopes ≡ true
+  kind : is_word d.kind ≡ true
+  named : 0 < length d.words
+  words : list_all is_word d.words ≡ true
+
+-- the variable of a code has the size of this one, if it is kept
+abbrev IsAgreed : ParseState → VariableDeclaration → Type 0
+IsAgreed c d = is_skipped d ≡ false → IsSomeAnd (variable_of c d.code) (λ e. (e.size ≡ d.size) × (is_skipped e ≡ false))
+
+-- the variable of the value change's code accepts its letters
+abbrev Fits : ParseState → ValueChange → Type 0
+Fits c r = IsSomeAnd (variable_of c r.code) (λ e. length r.letters ≤ e.size)
+
+record IsClean (c : ParseState) : Type 0 where
+  header : list_all is_sound_header c.header ≡ true
+  timescale : IfSome c.timescale (λ t. is_sound_timescale t ≡ true)
+  scopes : list_all is_sound_scope c.scopes ≡ true
+  declared : All IsCleanDeclaration c.declared
+  agree : All (IsAgreed c) c.declared
+  few : length (kept_variables c.declared) ≤ SIGNAL_LIMIT
+  fit : All (Fits c) c.value_changes
+  no_early_change : c.in_body ≡ false → c.value_changes ≡ []
+  tick : c.tick ≤ END_LIMIT
+
+-- ---- sizes
+
+-- a kept variable has a kind with four-state letters and a width within the limit
+kept_is : (d : VariableDeclaration) → is_skipped d ≡ false → (is_skipped_kind d.kind ≡ false) × (1 ≤ d.size)
+    × (d.size ≤ WIDTH_LIMIT)
+kept_is d keeps = grind (arith, or_parts, eqb-false, ltb-false)
+
+-- a variable accepts a letter
+some_kept : (o : Option VariableDeclaration) → IsSome o → IsSomeAnd o (λ e. is_skipped e ≡ false → 1 ≤ e.size)
+some_kept None some = absurd (false≢true some)
+some_kept (Some e) some = λ keeps. (kept_is e keeps).1
+
+-- a variable accepts digits that are no more than its bits
+some_taken : (digits : List ℕ) (o : Option VariableDeclaration)
+    → IsSomeAnd o (λ e. IsTrue (takes_binary_number e digits))
+    → IsSomeAnd o (λ e. is_skipped e ≡ false → length (letters_of_digits digits) ≤ e.size)
+some_taken digits None some = absurd some
+some_taken digits (Some e) takes = grind (arith, length-map, leb-true, and_parts)
+
+-- ---- one item
+
+-- one more value change
+clean_value_change : (c : ParseState) (code : List ℕ) (letters : List Bit) → IsClean c → IsTrue c.in_body
+    → IsSomeAnd (variable_of c code) (λ e. is_skipped e ≡ false → length letters ≤ e.size)
+    → IsClean (with_value_change c code letters)
+clean_value_change c code letters clean in_body fits = record {
+  header = clean.header;
+  timescale = clean.timescale;
+  scopes = clean.scopes;
+  declared = clean.declared;
+  agree = clean.agree;
+  few = clean.few;
+  fit = more (variable_of c code) refl fits;
+  no_early_change = λ no_more. absurd (false≢true (sym no_more ∙ in_body));
+  tick = clean.tick;
+}
+  where
+    more : (o : Option VariableDeclaration) → variable_of c code ≡ o
+        → IsSomeAnd o (λ e. is_skipped e ≡ false → length letters ≤ e.size)
+        → All (Fits c) (c.value_changes ++ value_changes_after c code letters o)
+    more None is some = absurd some
+    more (Some e) is some =
+        let r : ValueChange = record { tick = c.tick; code = code; letters = letters } in
+        by_test (λ b. All (Fits c) (c.value_changes ++ cond b [] (r ∷ []))) (is_skipped e)
+        (λ _. subst (All (Fits c)) (sym (append-nil c.value_changes)) clean.fit)
+        (λ keeps. All-push (Fits c) c.value_changes r clean.fit
+        (subst (λ o. IsSomeAnd o (λ e. length letters ≤ e.size)) (sym is) (some keeps)))
+
+both_kept : (s e : Bool) → ((s && false) || (not s && true && e)) ≡ true → (e ≡ true) × (s ≡ false)
+both_kept true e h = absurd (false≢true h)
+both_kept false e h = (h, refl)
+
+-- one more variable
+clean_declared : (c : ParseState) (d : VariableDeclaration) → IsClean c → IsFalse c.in_body → IsCleanDeclaration d
+    → IsTrue (may_have_code (variable_of c d.code) d) → IsTrue (is_within_limit c.declared d)
+    → IsClean (record c { declared = c.declared ++ d ∷ [] })
+clean_declared c d clean declaring is shares room =
+    let e : ParseState = record c { declared = c.declared ++ d ∷ [] } in
+    record {
+      header = clean.header;
+      timescale = clean.timescale;
+      scopes = clean.scopes;
+      declared = All-push IsCleanDeclaration c.declared d clean.declared is;
+      agree =
+          All-push (IsAgreed e) c.declared d
+          (All-weaker (IsAgreed c) (IsAgreed e)
+          (λ x agrees keeps. found_further _ (λ y. bytes_eq x.code y.code) c.declared d (agrees keeps)) c.declared
+          clean.agree)
+          (λ keeps. first_or_same (variable_of c d.code) refl shares keeps);
+      few = counted;
+      fit = subst (All (Fits e)) (sym (clean.no_early_change declaring)) (All-nil (Fits e));
+      no_early_change = clean.no_early_change;
+      tick = clean.tick;
+    }
+  where
+    first_or_same : (o : Option VariableDeclaration) → variable_of c d.code ≡ o → IsTrue (may_have_code o d)
+        → is_skipped d ≡ false
+        → IsSomeAnd (find (λ y. bytes_eq d.code y.code) (c.declared ++ d ∷ [])) (λ e. (e.size ≡ d.size)
+        × (is_skipped e ≡ false))
+    first_or_same None none shares keeps = grind (arith, found_last, bytes_eq-Decides)
+    first_or_same (Some x) some shares keeps =
+        let here : ((is_skipped x && false) || (not (is_skipped x) && true && (x.size == d.size))) ≡ true =
+        grind arith in
+        let same = both_kept (is_skipped x) (x.size == d.size) here in
+        found_further _ (λ y. bytes_eq d.code y.code) c.declared d
+        (subst (λ o. IsSomeAnd o (λ e. (e.size ≡ d.size) × (is_skipped e ≡ false))) (sym some)
+        (eqb-true x.size d.size same.0, same.1))
+
+    counted : length (kept_variables (c.declared ++ d ∷ [])) ≤ SIGNAL_LIMIT
+    counted = grind (arith, filter-append, length-append, by_test, ltb-true)
+
+clean_variable : (c : ParseState) (words : List (List ℕ)) → IsClean c
+    → list_all is_run_text (spelling (variable words)) ≡ true → Allows c (variable words)
+    → IsClean (state_after_item c (variable words))
+clean_variable c [] clean all allows = absurd (has_declaration c [] allows)
+clean_variable c (kind ∷ []) clean all allows = absurd (has_declaration c (kind ∷ []) allows)
+clean_variable c (kind ∷ size ∷ []) clean all allows = absurd (has_declaration c (kind ∷ size ∷ []) allows)
+clean_variable c (kind ∷ size ∷ code ∷ []) clean all allows =
+    absurd (has_declaration c (kind ∷ size ∷ code ∷ []) allows)
+clean_variable c (kind ∷ size ∷ code ∷ name ∷ names) clean all allows =
+    let fit = and_parts _ _ allows.0 in
+    let may = has_declaration c (kind ∷ size ∷ code ∷ name ∷ names) allows in
+    let words = clean_words (kind ∷ size ∷ code ∷ name ∷ names) (end_word ∷ []) all (and_parts _ _ fit.1).0 in
+    let p = and_parts (is_word kind) (list_all is_word (size ∷ code ∷ name ∷ names)) words in
+    let q = and_parts (is_word size) (list_all is_word (code ∷ name ∷ names)) p.1 in
+    let r = and_parts (is_word code) (list_all is_word (name ∷ names)) q.1 in
+    clean_declared c (record {
+      scopes = c.scopes;
+      kind = kind;
+      size = number_of size;
+      code = code;
+      words = name ∷ names;
+    }) clean (not-true _ fit.0)
+    (record { scopes = clean.scopes; kind = p.0; named = omega arith; words = r.1 }) may.0 may.1
+
+-- the state stays clean if neither variables nor value changes are added
+clean_beside : (c : ParseState) (header : List Header) (time : Option Timescale) (scopes : List ScopeName)
+    (in_body : Bool) (tick : ℕ) → IsClean c
+    → list_all is_sound_header header ≡ true → IfSome time (λ t. is_sound_timescale t ≡ true)
+    → list_all is_sound_scope scopes ≡ true → (in_body ≡ false → c.value_changes ≡ []) → tick ≤ END_LIMIT
+    → IsClean (record {
+      header = header;
+      timescale = time;
+      scopes = scopes;
+      declared = c.declared;
+      in_body = in_body;
+      value_changes = c.value_changes;
+      tick = tick;
+    })
+clean_beside c header time scopes in_body tick clean sound_header sound_timescale sound_scopes no_early_change within =
+    grind arith
+
+clean_item : (c : ParseState) (i : Item) → IsClean c → list_all is_run_text (spelling i) ≡ true → Allows c i
+    → IsClean (state_after_item c i)
+clean_item c (entry kind words) clean all allows =
+    let fit = and_parts _ _ allows.0 in
+    let none : has_no_end_word words ≡ true = fit.1 in
+    grind (arith, clean_beside, list_all-append, and_from, clean_words, and_parts)
+clean_item c (timescale words) clean all allows =
+    let found = has_timescale c words allows in grind (arith, clean_beside, found_passes)
+clean_item c (scope kind words) clean all allows =
+    let fit = and_parts _ _ allows.0 in
+    let none : has_no_end_word (kind ∷ words) ≡ true = fit.1 in
+    grind (arith, clean_beside, list_all-append, and_from, clean_words)
+clean_item c upscope clean all allows = grind (arith, clean_beside, all_taken)
+clean_item c (variable words) clean all allows = clean_variable c words clean all allows
+clean_item c end_definitions clean all allows = grind (arith, clean_beside)
+clean_item c (stamp digits) clean all allows =
+    let tick = has_tick c digits allows in grind (arith, clean_beside, leb-true, and_parts)
+clean_item c (scalar letter code) clean all allows =
+    clean_value_change c code (letters_of_digits (letter ∷ [])) clean (and_parts _ _ allows.0).0
+    (some_kept (variable_of c code) (knows_code c letter code allows))
+clean_item c (vector first digits code) clean all allows =
+    clean_value_change c code (letters_of_digits digits) clean (and_parts _ _ allows.0).0
+    (some_taken digits (variable_of c code) (takes_digits c first digits code allows))
+clean_item c (real_or_string first text code) clean all allows = clean
+clean_item c (dump_word word) clean all allows = clean
+clean_item c (other word words) clean all allows = clean
+
+clean_items : (c : ParseState) (is : List Item) → IsClean c → list_all is_run_text (spellings is) ≡ true
+    → AllowsAll c is → IsClean (state_after c is)
+clean_items c [] clean all allows = clean
+clean_items c (i ∷ is) clean all allows =
+    let p = and_parts (list_all is_run_text (spelling i)) (list_all is_run_text (spellings is))
+    (sym (list_all-append is_run_text (spelling i) (spellings is)) ∙ all) in
+    clean_items (state_after_item c i) is (clean_item c i clean p.0 allows.0) p.1 allows.1
+
+-- ---- waves
+
+-- a value change of this code has letters for this number of bits
+abbrev FitsWidth : ℕ → List ℕ → ValueChange → Type 0
+FitsWidth width code r = bytes_eq r.code code ≡ true → length r.letters ≤ width
+
+latest_length : (width : ℕ) (code : List ℕ) (t : ℕ) (before : List Bit) (rs : List ValueChange) → length before ≡ width
+    → All (FitsWidth width code) rs → length (latest_value width code t before rs) ≡ width
+unfolding latest_value
+latest_length width code t before [] long all = long
+latest_length width code t before (r ∷ rs) long all =
+    latest_length width code t (cond (bytes_eq r.code code && nat_le r.tick t) (extension width r.letters) before) rs
+    (grind (arith, by_test, length-append, length-replicate, and_parts, All-head))
+    (All-tail (FitsWidth width code) r rs all)
+
+sound_signal : (c : ParseState) (d : VariableDeclaration) → IsClean c → IsCleanDeclaration d → IsAgreed c d
+    → is_skipped d ≡ false → IsSoundSignal c.tick (declared_signal c.value_changes c.tick d)
+sound_signal c d clean is agrees keeps =
+    search (arith, kept_is, latest_length, length-replicate, bytes_eq-Decides, changes_rise, changes_end)
+
+pub meaning_is_sound : (bytes : List ℕ) (state : ParseState) → Accepts (words_of bytes) state → IsSound (meaning state)
+meaning_is_sound bytes state accepted =
+    let clean : IsClean state = grind (arith, clean_items, texts_are_runs) in
+    let declared = All-filter (λ d. not (is_skipped d)) IsCleanDeclaration state.declared clean.declared in
+    let agree = All-filter (λ d. not (is_skipped d)) (IsAgreed state) state.declared clean.agree in
+    let keeps = filter_passes (λ d. not (is_skipped d)) state.declared in
+    record {
+      header = clean.header;
+      timescale = clean.timescale;
+      end = clean.tick;
+      few = grind (arith, length-map);
+      signals = All-map (IsSoundSignal state.tick) (declared_signal state.value_changes state.tick)
+          (kept_variables state.declared)
+          (λ k d within. sound_signal state _ clean (declared k d within) (agree k d within)
+          (not-true _ (keeps k d within)));
+    }

@@ -1,0 +1,4 @@
+-- Lemmas of `writing`.
+pub mod TextParts
+pub mod SharedScopes
+pub mod CodeDigits

@@ -1,0 +1,2 @@
+-- Lemmas of `writing/cursors`.
+pub mod NextChange

@@ -1,0 +1,2 @@
+-- Lemmas of `writing/declarations`.
+pub mod Lines

@@ -1,0 +1,2 @@
+-- Lemmas of `writing/output`.
+pub mod Pieces

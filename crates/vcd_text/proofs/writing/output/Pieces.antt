@@ -1,0 +1,193 @@
+-- Pieces that are written one after another, through a buffer.
+use Rattle.std.proofs.Common.{◌≡◌, ◌<◌, ◌≤◌, ◌+◌, ◌-◌, ◌^◌, ℕ, Bool, true, false, List, [], ◌++◌}
+use Rattle.std.proofs.Common.{length, take, drop, min, refl, sym, ap, subst, ◌∙◌, arith, append_assoc, ◌∷◌, get_or}
+use Rattle.std.specs.Prelude.{Option, Some, None, Result, Ok, Err, OnOk, OnErr, IfErr}
+use Rattle.std.specs.Io.KnownBytes.{Appends, Keeps}
+use Rattle.std.proofs.KnownBytes.{Appends-trans}
+use Rattle.std.proofs.Math.Seq.{take-add}
+use Rattle.std.proofs.lemmas.List.{append-nil, length-append, length-drop, take-append-le}
+use Rattle.std.proofs.lemmas.List.{drop_all}
+use Rattle.std.proofs.lemmas.List.{drop_more, take_all}
+use Rattle.vcd_core.specs.declared.device.Sink as sinks
+use Rattle.vcd_text.specs.declared.fault.WriteError.{WriteError}
+use Rattle.vcd_text.specs.declared.fault.WriteError.TheVariants.{WriteFault}
+use Rattle.vcd_text.specs.declared.writing.output.Output.{Output}
+use Rattle.vcd_text.specs.WriteEnds.{TookBefore}
+use Rattle.vcd_text.specs.inside.writing.Output.{HasEmitted, Emits}
+
+-- a part from the front of the rest is written
+carried : (out part rest left whole : List ℕ) → left ≡ part ++ rest → out ++ left ≡ whole
+    → (out ++ part) ++ rest ≡ whole
+carried out part rest left whole split is = append_assoc out part rest ∙ ap (λ l. out ++ l) (sym split) ∙ is
+
+-- two parts
+pub writes_both : {W : Type 0} {sink : sinks.Ghosts W} {o0 o1 o2 : Output W} {a b : List ℕ}
+    → Emits sink o0 o1 a → Emits sink o1 o2 b → Emits sink o0 o2 (a ++ b)
+writes_both {sink = sink} {o2 = o2} {a = a} {b = b} first second = grind (arith, append_assoc)
+
+-- nothing
+pub writes_none : {W : Type 0} {sink : sinks.Ghosts W} {o : Output W} → Emits sink o o []
+writes_none {sink = sink} {o = o} = grind (arith, append-nil)
+
+-- the same part by another name
+pub writes_as : {W : Type 0} {sink : sinks.Ghosts W} {o0 o1 : Output W} {a b : List ℕ} → a ≡ b
+    → Emits sink o0 o1 a → Emits sink o0 o1 b
+writes_as {sink = sink} {o0 = o0} {o1 = o1} same writes = grind arith
+
+-- ---- loops
+
+-- a prefix of a whole is written, and the rest is left
+pub record WritesPrefix {W : Type 0} (sink : sinks.Ghosts W) (old new : Output W) (left whole : List ℕ) : Type 0 where
+  pub done : List ℕ
+  pub writes : Emits sink old new done
+  pub split : done ++ left ≡ whole
+
+pub prefix_begun : {W : Type 0} {sink : sinks.Ghosts W} {o : Output W} {left whole : List ℕ} → left ≡ whole
+    → WritesPrefix sink o o left whole
+prefix_begun same = record { done = []; writes = writes_none; split = same }
+
+pub prefix_grows : {W : Type 0} {sink : sinks.Ghosts W} {o0 o1 o2 : Output W} {part left whole : List ℕ}
+    (rest : List ℕ) → WritesPrefix sink o0 o1 left whole → Emits sink o1 o2 part → left ≡ part ++ rest
+    → WritesPrefix sink o0 o2 rest whole
+prefix_grows {part = part} {left = left} {whole = whole} rest prefix more is = record {
+  done = prefix.done ++ part;
+  writes = writes_both prefix.writes more;
+  split = carried prefix.done part rest left whole is prefix.split;
+}
+
+pub prefix_whole : {W : Type 0} {sink : sinks.Ghosts W} {o0 o1 : Output W} {left whole : List ℕ}
+    → WritesPrefix sink o0 o1 left whole → left ≡ [] → Emits sink o0 o1 whole
+prefix_whole {left = left} {whole = whole} prefix none = search (arith, writes_as, append-nil)
+
+-- the items before one of a list are written, and then that item
+pub prefix_item : {W : Type 0} {sink : sinks.Ghosts W} {o0 o1 o2 : Output W} {X : Type 0}
+    (F : List X → List ℕ) (xs : List X) (k : ℕ) (x : X) {part whole : List ℕ}
+    → WritesPrefix sink o0 o1 (F (drop k xs)) whole → Emits sink o1 o2 part → k < length xs
+    → x ≡ get_or xs k x → F (x ∷ drop (k + 1) xs) ≡ part ++ F (drop (k + 1) xs)
+    → WritesPrefix sink o0 o2 (F (drop (k + 1) xs)) whole
+prefix_item F xs k x prefix more within is split =
+    prefix_grows _ prefix more (ap F (drop_more xs k x within ∙ ap (λ y. y ∷ drop (k + 1) xs) (sym is)) ∙ split)
+
+-- ---- the buffer
+
+-- bytes after those that were sent are sent
+sent_bytes : (before t0 t1 : Option (List ℕ)) (f0 : Bool) (n k : ℕ) (text bytes : List ℕ)
+    → (f0 ≡ false → drop n text ≡ bytes) → (f0 ≡ true → k ≡ 0)
+    → Appends before t0 (take n text) → Appends t0 t1 (take k bytes) → Appends before t1 (take (n + k) text)
+sent_bytes before t0 t1 false n k text bytes is none prefix more = grind (arith, take-add, Appends-trans)
+sent_bytes before t0 t1 true n k text bytes is none prefix more = grind (arith, append-nil, Appends-trans)
+
+-- the bytes sent before and now are within the text
+within_whole : (f0 : Bool) (n k : ℕ) (text part bytes : List ℕ) → n ≤ length text
+    → (f0 ≡ false → drop n (text ++ part) ≡ bytes) → (f0 ≡ true → k ≡ 0) → k ≤ length bytes
+    → n + k ≤ length (text ++ part)
+within_whole true n k text part bytes within is none few = omega (arith, none refl, within, length-append text part)
+within_whole false n k text part bytes within is none few = grind (arith, length-drop, length-append)
+
+-- nothing is left after the bytes sent
+none_left : (f0 f1 : Bool) (n k : ℕ) (whole bytes : List ℕ) → (f0 ≡ false → drop n whole ≡ bytes)
+    → (f0 ≡ true → f1 ≡ true) → (f1 ≡ false → k ≡ length bytes) → f1 ≡ false → drop (n + k) whole ≡ []
+none_left true f1 n k whole bytes is stays all ready = absurd (cc (stays refl, ready))
+none_left false f1 n k whole bytes is stays all ready = grind (arith, drop_all, length-drop)
+
+-- bytes are sent that are the rest of the text with the part
+pub bytes_sent : {W : Type 0} (sink : sinks.Ghosts W) (old new : Output W) (k : ℕ) (part bytes : List ℕ)
+    → new.writer.ghost_name ≡ old.writer.ghost_name
+    → ((n : ℕ) (text : List ℕ) → n ≤ length text → drop n text ≡ old.unsent.items → drop n (text ++ part) ≡ bytes)
+    → Appends (sink.taken old.writer.now) (sink.taken new.writer.now) (take k bytes) → k ≤ length bytes
+    → (sink.has_failed new.writer.now ≡ false → k ≡ length bytes) → (sink.has_failed old.writer.now ≡ true → k ≡ 0)
+    → (sink.has_failed old.writer.now ≡ true → sink.has_failed new.writer.now ≡ true)
+    → new.sent_count ≡ min (old.sent_count + k) (2 ^ 128 - 1) → new.unsent.items ≡ [] → Emits sink old new part
+bytes_sent sink old new k part bytes same left more few all none stays counted empty = record {
+  same_writer = same;
+  appends = λ before text stands.
+      let n = stands.sent in
+      let failed = sink.has_failed old.writer.now in
+      let is : failed ≡ false → drop n (text ++ part) ≡ bytes =
+      λ ready. left n text stands.within (stands.rest ready) in
+      let held : Appends before (sink.taken old.writer.now) (take n (text ++ part)) =
+      subst (Appends before (sink.taken old.writer.now)) (sym (take-append-le n text part stands.within))
+      stands.prefix in
+      record {
+        sent = n + k;
+        within = within_whole failed n k text part bytes stands.within is none few;
+        counted = omega (arith, counted, stands.counted);
+        prefix = sent_bytes before _ _ failed n k (text ++ part) bytes is none held more;
+        rest = λ ready. none_left failed _ n k (text ++ part) bytes is stays all ready ∙ sym empty;
+      };
+}
+
+-- ---- the whole
+
+-- no text was written yet
+nothing_taken : (t : Option (List ℕ)) → Appends t t []
+nothing_taken None = tt
+nothing_taken (Some xs) = sym (append-nil xs)
+
+-- the text since the buffer was empty
+pub whole_written : {W : Type 0} {sink : sinks.Ghosts W} {old new : Output W} {whole : List ℕ}
+    → old.unsent.items ≡ [] → old.sent_count ≡ 0 → Emits sink old new whole
+    → HasEmitted sink (sink.taken old.writer.now) new whole
+whole_written {sink = sink} {old = old} empty none writes =
+    writes.appends (sink.taken old.writer.now) [] (record {
+      sent = 0;
+      within = omega arith;
+      counted = none;
+      prefix = nothing_taken (sink.taken old.writer.now);
+      rest = λ _. sym empty;
+    })
+
+-- ---- the end
+
+-- all is sent to a writer that has not failed
+pub all_taken : {W : Type 0} {sink : sinks.Ghosts W} {before : Option (List ℕ)} {output : Output W}
+    {text : List ℕ} → sink.has_failed output.writer.now ≡ false → output.unsent.items ≡ []
+    → HasEmitted sink before output text → Appends before (sink.taken output.writer.now) text
+all_taken {sink = sink} {before = before} {output = output} {text = text} ready empty stands =
+    subst (Appends before (sink.taken output.writer.now)) (take_all stands.sent text (omega (
+      arith,
+      ap (length {A = ℕ}) (stands.rest ready ∙ empty),
+      length-drop stands.sent text,
+    ))) stands.prefix
+
+-- the count is that of the bytes sent, if the text can be counted
+pub counted_prefix : {W : Type 0} {sink : sinks.Ghosts W} {before : Option (List ℕ)} {output : Output W}
+    {text : List ℕ} → HasEmitted sink before output text → length text < 2 ^ 128
+    → Appends before (sink.taken output.writer.now) (take output.sent_count text) × (output.sent_count ≤ length text)
+counted_prefix {sink = sink} {before = before} {output = output} {text = text} stands small =
+    let exact : stands.sent ≡ output.sent_count = omega (arith, stands.counted, stands.within, small) in (
+      subst (λ n. Appends before (sink.taken output.writer.now) (take n text)) exact stands.prefix,
+      omega (arith, exact, stands.within),
+    )
+
+-- a flush takes no byte
+pub appends_kept : (before after later : Option (List ℕ)) (text : List ℕ) → Appends before after text
+    → Keeps after later → Appends before later text
+appends_kept None after later text took kept = tt
+appends_kept (Some xs) None later text took kept = absurd took
+appends_kept (Some xs) (Some ys) None text took kept = absurd kept
+appends_kept (Some xs) (Some ys) (Some zs) text took kept = kept ∙ took
+
+-- after the buffer was sent and the writer flushed, the writer took the whole text
+pub flushed_whole : {W T : Type 0} {sink : sinks.Ghosts W} {before : Option (List ℕ)} {output : Output W}
+    {text : List ℕ} (later : W) (r : Result T WriteError) → HasEmitted sink before output text
+    → output.unsent.items ≡ [] → Keeps (sink.taken output.writer.now) (sink.taken later)
+    → OnOk r (sink.has_failed output.writer.now ≡ false) → OnOk r (Appends before (sink.taken later) text)
+flushed_whole {before = before} {text = text} later (Ok x) stands empty kept ready =
+    appends_kept before _ _ text (all_taken ready empty stands) kept
+flushed_whole later (Err e) stands empty kept ready = tt
+
+-- or a counted prefix of it
+pub failed_prefix : {W T : Type 0} {sink : sinks.Ghosts W} {before : Option (List ℕ)} {output : Output W}
+    {text : List ℕ} (later : W) (r : Result T WriteError) → HasEmitted sink before output text
+    → Keeps (sink.taken output.writer.now) (sink.taken later) → IfErr r (λ e. e ≡ WriteFault output.sent_count)
+    → OnErr r (sink.has_failed later ≡ true)
+    → IfErr r (TookBefore text before (sink.taken later) (sink.has_failed later))
+failed_prefix later (Ok x) stands kept is failed = tt
+failed_prefix {sink = sink} {before = before} {text = text} later (Err e) stands kept is failed =
+    subst (TookBefore text before (sink.taken later) (sink.has_failed later)) (sym is) (
+      λ small.
+          let prefix = counted_prefix stands small in
+          (appends_kept before _ _ _ prefix.0 kept, prefix.1),
+      failed,
+    )

@@ -1,0 +1,2 @@
+-- Lemmas of `writing/transitions`.
+pub mod ItemsOfTicks

@@ -1,0 +1,5 @@
+-- Lemmas of `writing/window`.
+pub mod ChangeCounts
+pub mod ListedBySignal
+pub mod KeyOrder
+pub mod SameCountsSameList

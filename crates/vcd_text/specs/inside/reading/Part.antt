@@ -1,0 +1,81 @@
+-- What the parser keeps of a part of a capture.
+use Rattle.std.specs.Prelude.{◌≡◌, ◌⊎◌, ℕ, ◌+◌, ◌-◌, ◌≤◌, Bool, false, ◌&&◌, nat_lt, min, List, []}
+use Rattle.std.specs.Prelude.{Some, Ok, Err, Result, IsTrue, IsFalse, IsSomeAnd, slice_get}
+use Rattle.std.specs.Prelude.{slice_index_or}
+use Rattle.vcd_core.specs.Value.{all_x}
+use Rattle.vcd_core.specs.declared.capture.TheConstants.{END_LIMIT}
+use Rattle.vcd_text.specs.Grammar.{VariableDeclaration, ValueChange, ParseState, kept_variables}
+use Rattle.vcd_text.specs.Meaning.{latest_value}
+use Rattle.vcd_text.specs.inside.reading.Variables.{target_of, VariablesMatch, RefusesChange}
+use Rattle.vcd_text.specs.Letters.{letters_of_digits}
+use Rattle.vcd_text.specs.Grammar.{is_skipped, variable_of, with_value_change}
+use Rattle.vcd_text.specs.inside.reading.DigitTests.{takes_binary_number}
+use Rattle.vcd_text.specs.declared.fault.Fault.{Fault}
+use Rattle.vcd_text.specs.declared.fault.Fault.TheVariants as faults
+use Rattle.vcd_text.specs.declared.reading.part.Part.{Part}
+use Rattle.vcd_text.specs.declared.reading.code_targets.CodeTarget.TheVariants.{Kept}
+use Rattle.vcd_text.specs.declared.reading.variables.Variable.{Variable}
+use Rattle.vcd_text.specs.declared.reading.variables.Variables.{Variables}
+
+-- the tick of the part at a tick of the file, up to its end
+abbrev pub seen_tick : Part → ℕ → ℕ
+seen_tick part tick = min part.last tick - part.first
+
+-- whether a tick is past the part
+abbrev pub is_late : Part → ℕ → Bool
+is_late part tick = nat_lt part.last tick && nat_lt part.first tick
+
+-- the state with the value changes that are kept, at the ticks of the part
+abbrev pub seen_state : Part → ParseState → List ValueChange → ParseState
+seen_state part c seen = record c { value_changes = seen; tick = seen_tick part c.tick }
+
+-- this declaration of a variable at a position remains
+abbrev pub Remains : Part → ParseState → ℕ → VariableDeclaration → Type 0
+Remains part c position d = (slice_get (kept_variables c.declared) position ≡ Some d)
+    × IsFalse (slice_index_or part.left_out.items position false)
+
+-- the value changes that are kept give each signal that remains its values at the ticks of the part
+abbrev pub TellsPart : Part → ParseState → List ValueChange → Type 0
+TellsPart part c seen = (position : ℕ) (d : VariableDeclaration) → Remains part c position d
+    → (t : ℕ) → t ≤ part.last - part.first
+    → latest_value d.size d.code t (all_x d.size) seen
+    ≡ latest_value d.size d.code (part.first + t) (all_x d.size) c.value_changes
+
+-- the code of each signal that remains is heard
+abbrev pub HearsPart : Part → List Bool → Variables → ParseState → Type 0
+HearsPart part silent vs c = (position : ℕ) (d : VariableDeclaration) → Remains part c position d
+    → (width first : ℕ) → target_of vs d.code ≡ Kept width first
+    → IsFalse (slice_index_or silent first false)
+
+-- a change at this tick is not kept: it is late, or its code is silent
+abbrev pub IsPassedOver : Part → List Bool → Variables → (tick : ℕ) → (code : List ℕ) → Type 0
+IsPassedOver part silent vs tick code = IsTrue (is_late part tick)
+    ⊎ ((width : ℕ) × (first : ℕ) × (target_of vs code ≡ Kept width first)
+    × IsTrue (slice_index_or silent first false))
+
+-- the first variable of the code of each one that remains is heard
+abbrev pub HearsVariables : List Variable → (left_out silent : List Bool) → Type 0
+HearsVariables kept left_out silent = (position : ℕ) (v : Variable) → slice_get kept position ≡ Some v
+    → IsFalse (slice_index_or left_out position false)
+    → IsFalse (slice_index_or silent v.first false)
+
+-- the result of a change at this tick of the file, for the state that is kept: it is added, or
+-- passed over, or its variable is skipped; or it shows a fault, or memory runs out
+abbrev pub PartChange : Part → List Bool → (tick : ℕ) → ParseState → (code digits : List ℕ)
+    → (old : Variables) → Result (Unit {0}) Fault → (new : Variables) → Type 0
+PartChange part silent tick c code digits old (Ok x) new =
+    IsSomeAnd (variable_of c code) (λ d. IsTrue (takes_binary_number d digits))
+    × (new.code_targets ≡ old.code_targets)
+    × ((IsFalse (is_late part tick)
+    × VariablesMatch new (with_value_change c code (letters_of_digits digits)))
+    ⊎ (VariablesMatch new c
+    × (IsSomeAnd (variable_of c code) (λ d. IsTrue (is_skipped d))
+    ⊎ IsPassedOver part silent old tick code)))
+PartChange part silent tick c code digits old (Err fault) new = (fault ≡ faults.NoMemory)
+    ⊎ RefusesChange c code digits fault
+
+-- all signals, at all ticks
+pub record IsWhole (part : Part) : Type 0 where
+  pub signals : part.left_out.items ≡ []
+  pub first : part.first ≡ 0
+  pub last : part.last ≡ END_LIMIT

@@ -1,0 +1,2 @@
+-- Definitions that `shared` and its proofs cite.
+pub mod SkippedCount

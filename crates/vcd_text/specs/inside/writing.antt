@@ -1,0 +1,8 @@
+-- Definitions that `writing` and its proofs cite.
+pub mod Output
+pub mod Lines
+pub mod Declarations
+pub mod Values
+pub mod Cursors
+pub mod Window
+pub mod Transitions

@@ -1,0 +1,2 @@
+-- Lemmas of `replies`.
+pub mod StepReplies

@@ -1,0 +1,2 @@
+-- Lemmas of `replies/annotations`.
+pub mod HexDigits

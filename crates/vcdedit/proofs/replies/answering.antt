@@ -1,0 +1,2 @@
+-- Lemmas of `replies/answering`.
+pub mod AnsweredLines

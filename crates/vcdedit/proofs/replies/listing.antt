@@ -1,0 +1,2 @@
+-- Lemmas of `replies/listing`.
+pub mod PrintedSignals

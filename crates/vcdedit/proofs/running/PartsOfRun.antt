@@ -1,0 +1,357 @@
+-- The parts of a run, put together.
+use Rattle.std.proofs.Common.{◌≡◌, ◌⊎◌, inl, inr, Result, Ok, Err, ℕ, zero, suc, ◌-◌, List, Option}
+use Rattle.std.proofs.Common.{Some, None, refl}
+use Rattle.std.proofs.Common.{◌≤◌, Bool, sym, subst, ap, ◌∙◌, true, false, arith, length, take}
+use Rattle.std.specs.Prelude.{IfSome, IfErr, IsErrAnd}
+use Rattle.std.specs.List.{concat}
+use Rattle.std.specs.Io.KnownBytes.{Appends, Keeps, IsAtEnd}
+use Rattle.vcd_core.specs.Contents.{Contents}
+use Rattle.vcd_text.specs.Meaning.{FileMeans}
+use Rattle.vcd_text.specs.Refusals.{IsRefusal, IsOnlyRefusal}
+use Rattle.vcd_text.proofs.shared.OneRefusal.{one_refusal}
+use Rattle.vcd_text.specs.Text.{text}
+use Rattle.vcd_text.specs.WriteEnds.{TookBefore}
+use Rattle.vcd_text.specs.declared.reading.TheConstants.{FILE_LIMIT}
+use Rattle.vcdedit.specs.declared.running.script_input.TheConstants.{SCRIPT_LIMIT}
+use Rattle.vcd_text.specs.declared.fault.Fault.TheVariants as faults
+use Rattle.vcd_text.specs.declared.fault.ReadError.{ReadError}
+use Rattle.vcd_text.specs.declared.fault.WriteError.{WriteError}
+use Rattle.vcd_text.specs.declared.fault.WriteError.TheVariants as write_errors
+use Rattle.vcd_journal.specs.Machine.{Machine, initial_machine}
+use Rattle.vcdedit.specs.declared.running.run_error.RunError.{RunError}
+use Rattle.vcdedit.specs.declared.running.run_error.RunError.TheVariants as run_errors
+use Rattle.vcdedit.specs.declared.running.run_error.Summary.{Summary}
+use Rattle.vcdedit.specs.Script.{script_lines}
+use Rattle.vcdedit.specs.Run.{RunOutcome, IsRun, outcome}
+use Rattle.vcd_shell.specs.Devices.{DeviceEnd, IsRead, IsUntouched, HasText}
+use Rattle.vcdedit.specs.RunEnds.{IsAccepted, IsFlushedAt}
+use Rattle.vcdedit.specs.RunEnds.{RunEnds}
+use Rattle.vcdedit.specs.inside.running.RunLines.{HasFailedAt, EndsAtLine, RunsLines, StopsInReplies}
+use Rattle.vcdedit.specs.inside.running.RunLines.{StopsInLines}
+use Rattle.vcdedit.specs.inside.running.Stages.{EndsBeforeOutput, EndsBeforeReplies, EndsAfterCapture}
+use Rattle.vcdedit.specs.inside.running.Run.{ScriptGives}
+use Rattle.vcdedit.specs.inside.shell.Program.{HasSentReplies}
+use Rattle.vcdedit.proofs.running.LinesAndHistory.{outcome_is, run_is}
+
+-- ---- the capture
+
+-- what a file within the limit means
+pub file_means : (coming : Option (List ℕ)) (c : Contents) (skipped : ℕ)
+    → IfSome coming (λ f. (length f ≤ FILE_LIMIT) × FileMeans f c skipped) → IfSome coming (λ f. FileMeans f c skipped)
+file_means None c skipped read = tt
+file_means (Some f) c skipped read = read.1
+
+file_is_short : (coming : Option (List ℕ)) (c : Contents) (skipped : ℕ)
+    → IfSome coming (λ f. (length f ≤ FILE_LIMIT) × FileMeans f c skipped) → IfSome coming (λ f. length f ≤ FILE_LIMIT)
+file_is_short None c skipped read = tt
+file_is_short (Some f) c skipped read = read.0
+
+file_has_meaning : (coming : Option (List ℕ)) (c : Contents) (skipped : ℕ)
+    → IfSome coming (λ f. (length f ≤ FILE_LIMIT) × FileMeans f c skipped) →
+    IfSome coming (λ f. (d : Contents) × (count : ℕ) × FileMeans f d count)
+file_has_meaning None c skipped read = tt
+file_has_meaning (Some f) c skipped read = (c, skipped, read.1)
+
+-- a capture that was read to its end, within the limit, and means something
+pub is_accepted : (capture : DeviceEnd) (c : Contents) (skipped : ℕ) → capture.has_failed ≡ false
+    → IsAtEnd capture.after → IfSome capture.before (λ f. (length f ≤ FILE_LIMIT) × FileMeans f c skipped)
+    → IsAccepted capture
+is_accepted capture c skipped ready ended read =
+    ((ready, ended, file_is_short capture.before c skipped read), file_has_meaning capture.before c skipped read)
+
+-- ---- the result of the script
+
+-- the lines of the script, run from the capture that the file means
+script_gives : (file script : List ℕ) (depth skipped : ℕ) (c : Contents) (new : Machine) (count : ℕ)
+    (before after : Option (List ℕ)) →
+    FileMeans file c skipped → RunsLines skipped (script_lines script) (initial_machine c depth) new count before after
+    → ScriptGives file script depth count (Appends before after) new.now
+script_gives file script depth skipped c new count before after means ran =
+    let here = ran.2 in
+    let is = outcome_is c skipped depth (script_lines script) in
+    let replies = ap (λ (o : RunOutcome). o.replies) is ∙ here.replies in
+    record {
+      contents = c;
+      skipped = skipped;
+      means = means;
+      replies = subst (λ (texts : List (List ℕ)). Appends before after (concat texts)) (sym replies) ran.1;
+      refused = ap (λ (o : RunOutcome). o.refused) is ∙ here.refused;
+      output = ap (λ (o : RunOutcome). o.output) is ∙ ap (λ (m : Machine). text m.now) here.after;
+    }
+
+-- the same for a device that may not show its bytes
+pub script_gives_where_known : (coming script_coming : Option (List ℕ)) (script : List ℕ) (depth skipped : ℕ)
+    (c : Contents) (new : Machine) (count : ℕ) (before after : Option (List ℕ)) →
+    IfSome coming (λ f. FileMeans f c skipped) → IfSome script_coming (λ s. script ≡ s)
+    → RunsLines skipped (script_lines script) (initial_machine c depth) new count before after →
+    IfSome coming (λ f. IfSome script_coming (λ s. ScriptGives f s depth count (Appends before after) new.now))
+script_gives_where_known None script_coming script depth skipped c new count before after means is ran = tt
+script_gives_where_known (Some f) None script depth skipped c new count before after means is ran = tt
+script_gives_where_known (Some f) (Some s) script depth skipped c new count before after means is ran =
+    script_gives f s depth skipped c new count before after means (rw is at ran)
+
+-- what holds of the outcome of the script on the capture file holds of what the run writes
+for_run : (coming script_coming : Option (List ℕ)) (script : List ℕ) (depth skipped : ℕ) (c : Contents)
+    (property : RunOutcome → Type 0) →
+    IfSome coming (λ f. FileMeans f c skipped) → IfSome script_coming (λ s. script ≡ s)
+    → property (outcome c skipped depth (script_lines script)) →
+    IfSome coming (λ f. IfSome script_coming (λ s. (written : RunOutcome) × IsRun f s depth written
+    × property written))
+for_run None script_coming script depth skipped c property means is holds = tt
+for_run (Some f) None script depth skipped c property means is holds = tt
+for_run (Some f) (Some s) script depth skipped c property means is holds = (
+  outcome c skipped depth (script_lines s),
+  run_is f s depth c skipped means,
+  subst (λ (bytes : List ℕ). property (outcome c skipped depth (script_lines bytes))) is holds,
+)
+
+-- what follows from the replies, the output and the count of refused lines holds of what the run
+-- writes
+if_run_writes : (file script : Option (List ℕ)) (depth count : ℕ) (took_replies : List ℕ
+    → Type 0) (now : Contents) (property : RunOutcome → Type 0) →
+    IfSome file (λ f. IfSome script (λ s. ScriptGives f s depth count took_replies now)) →
+    ((written : RunOutcome) → took_replies (concat written.replies) → written.output ≡ text now
+    → count ≡ written.refused → property written) →
+    IfSome file (λ f. IfSome script (λ s. (written : RunOutcome) × IsRun f s depth written × property written))
+if_run_writes None script depth count took_replies now property ran follows = tt
+if_run_writes (Some f) None depth count took_replies now property ran follows = tt
+if_run_writes (Some f) (Some s) depth count took_replies now property ran follows =
+    let written = outcome ran.contents ran.skipped depth (script_lines s) in (
+      written,
+      run_is f s depth ran.contents ran.skipped ran.means,
+      follows written ran.replies ran.output (sym ran.refused),
+    )
+
+-- ---- ends before the output
+
+-- a refused capture is refused for one fault
+refused_once : (coming left : Option (List ℕ)) (has_failed : Bool) (e : ReadError)
+    → IfSome coming (λ file. IsRefusal file has_failed left e)
+    → IfSome coming (λ file. IsRefusal file has_failed left e × IsOnlyRefusal file has_failed left e)
+refused_once None left has_failed e refused = tt
+refused_once (Some file) left has_failed e refused = (refused, one_refusal file has_failed left e refused)
+
+-- at a fault of the capture
+pub capture_ends : (capture script : DeviceEnd) (e : ReadError)
+    → IfSome capture.before (λ file. IsRefusal file capture.has_failed capture.after e) →
+    (e.fault ≡ faults.ReadFault → capture.has_failed ≡ true)
+    → (e.fault ≡ faults.TooLarge → capture.has_failed ≡ false) → IsUntouched script
+    → EndsBeforeReplies capture script (run_errors.Capture e)
+unfolding RunEnds
+capture_ends capture script e refused failed large unread depth replies untouched output kept =
+    (refused_once capture.before capture.after capture.has_failed e refused, failed, large, unread, (untouched, kept))
+
+-- at the script
+pub script_ends : (capture script replies : DeviceEnd) (depth : ℕ) (e : RunError) → EndsAfterCapture script e
+    → IsAccepted capture → IsUntouched replies → EndsBeforeOutput depth capture script replies e
+script_ends capture script replies depth e ends accepted untouched = ends capture accepted depth replies untouched
+
+-- at the first session
+pub session_ends : (capture script replies : DeviceEnd) (depth : ℕ) (e : RunError) → e ≡ run_errors.NoMemory 0
+    → IsAccepted capture → IsUntouched replies → EndsBeforeOutput depth capture script replies e
+unfolding RunEnds
+session_ends capture script replies depth e none accepted untouched output kept =
+    rw none (accepted, (untouched, kept))
+
+-- in the lines, given what was taken of the replies
+taken_end : (capture script replies : DeviceEnd) (bytes : List ℕ) (depth skipped : ℕ) (c : Contents)
+    (e : RunError) (is_flushed : Bool) →
+    IsAccepted capture → IsRead SCRIPT_LIMIT script → IfSome capture.before (λ f. FileMeans f c skipped)
+    → IfSome script.before (λ s. bytes ≡ s) →
+    HasFailedAt replies.has_failed is_flushed e
+    → StopsInReplies (outcome c skipped depth (script_lines bytes)).replies (Appends replies.before replies.after) e →
+    EndsBeforeOutput depth capture script replies e
+unfolding RunEnds
+taken_end capture script replies bytes depth skipped c (run_errors.NoMemory zero) is_flushed
+    accepted script_read means is failed
+    stops output kept = absurd (omega (arith, stops.0))
+taken_end capture script replies bytes depth skipped c (run_errors.NoMemory (suc before)) is_flushed
+    accepted script_read means is
+    failed stops output kept =
+    let one_less : suc before - 1 ≡ before = omega arith in
+    let took = subst (λ n. Appends replies.before replies.after
+    (concat (take n (outcome c skipped depth (script_lines bytes)).replies))) one_less stops.2 in (
+      accepted,
+      script_read,
+      kept,
+      for_run capture.before script.before bytes depth skipped c _ means is (omega (arith, stops.1), took),
+    )
+taken_end capture script replies bytes depth skipped c (run_errors.ReplyFault written) is_flushed
+    accepted script_read means is
+    failed stops output kept =
+    (accepted, script_read, failed, kept, for_run capture.before script.before bytes depth skipped c _ means is stops)
+taken_end capture script replies bytes depth skipped c (run_errors.Capture fault) is_flushed
+    accepted script_read means is failed
+    stops output kept = absurd stops
+taken_end capture script replies bytes depth skipped c run_errors.ScriptTooLarge is_flushed accepted
+    script_read means is failed
+    stops output kept = absurd stops
+taken_end capture script replies bytes depth skipped c run_errors.ScriptReadFault is_flushed
+    accepted script_read means is failed
+    stops output kept = absurd stops
+taken_end capture script replies bytes depth skipped c (run_errors.Write fault) is_flushed accepted
+    script_read means is failed
+    stops output kept = absurd stops
+
+-- the same by the machine's replies
+pub lines_end : (capture script replies : DeviceEnd) (bytes : List ℕ) (depth skipped : ℕ) (c : Contents)
+    (e : RunError) (is_flushed : Bool) →
+    IsAccepted capture → IsRead SCRIPT_LIMIT script → IfSome capture.before (λ f. FileMeans f c skipped)
+    → IfSome script.before (λ s. bytes ≡ s) →
+    HasFailedAt replies.has_failed is_flushed e
+    → StopsInLines skipped (script_lines bytes) (initial_machine c depth) replies.before replies.after e →
+    EndsBeforeOutput depth capture script replies e
+lines_end capture script replies bytes depth skipped c e is_flushed accepted script_read means is failed stops =
+    let written = outcome_is c skipped depth (script_lines bytes) in
+    taken_end capture script replies bytes depth skipped c e is_flushed accepted script_read means is failed
+    (subst (λ (texts : List (List ℕ)). StopsInReplies texts (Appends replies.before replies.after) e)
+    (sym (ap (λ (o : RunOutcome). o.replies) written)) stops)
+
+-- the replies were flushed where memory ran out at a line
+pub flushed_at_line : (has_failed is_flushed : Bool) (e : RunError) → EndsAtLine e → HasFailedAt has_failed is_flushed e
+    → IsFlushedAt has_failed is_flushed e
+flushed_at_line has_failed is_flushed (run_errors.NoMemory zero) ends failed = tt
+flushed_at_line has_failed is_flushed (run_errors.NoMemory (suc before)) ends failed = failed
+flushed_at_line has_failed is_flushed (run_errors.ReplyFault written) ends failed = tt
+flushed_at_line has_failed is_flushed (run_errors.Capture fault) ends failed = tt
+flushed_at_line has_failed is_flushed run_errors.ScriptTooLarge ends failed = tt
+flushed_at_line has_failed is_flushed run_errors.ScriptReadFault ends failed = tt
+flushed_at_line has_failed is_flushed (run_errors.Write fault) ends failed = absurd ends
+
+-- ---- the output
+
+-- the run is completed, with an output or without
+pub run_reaches_end : (capture script replies : DeviceEnd) (output : Option DeviceEnd) (depth : ℕ)
+    (summary : Summary) (now : Contents) →
+    IsAccepted capture → IsRead SCRIPT_LIMIT script → replies.has_failed ≡ false →
+    IfSome capture.before
+    (λ f. IfSome script.before
+    (λ s. ScriptGives f s depth summary.refused (Appends replies.before replies.after) now)) →
+    IfSome output (λ out. (out.has_failed ≡ false) × HasText out (text now))
+    → RunEnds depth capture script replies output (Ok summary)
+unfolding RunEnds
+run_reaches_end capture script replies None depth summary now accepted script_read ready ran wrote = (
+  accepted,
+  script_read,
+  ready,
+  tt,
+  if_run_writes capture.before script.before depth summary.refused _ now _ ran
+      (λ written replied output refused. (replied, tt, refused)),
+)
+run_reaches_end capture script replies (Some out) depth summary now accepted script_read ready ran wrote = (
+  accepted,
+  script_read,
+  ready,
+  wrote.0,
+  if_run_writes capture.before script.before depth summary.refused _ now _ ran
+      (λ written replied output refused. (replied, rw output wrote.1, refused)),
+)
+
+pub run_reaches_end_with : (capture script replies out : DeviceEnd) (depth : ℕ) (summary : Summary)
+    (now : Contents) →
+    IsAccepted capture → IsRead SCRIPT_LIMIT script → replies.has_failed ≡ false →
+    IfSome capture.before
+    (λ f. IfSome script.before
+    (λ s. ScriptGives f s depth summary.refused (Appends replies.before replies.after) now)) →
+    out.has_failed ≡ false → HasText out (text now) → RunEnds depth capture script replies (Some out) (Ok summary)
+run_reaches_end_with capture script replies out depth summary now accepted script_read ready ran out_ready wrote =
+    run_reaches_end capture script replies (Some out) depth summary now accepted script_read ready ran
+    (out_ready, wrote)
+
+-- or stops at its output
+pub run_stops_at_output : (capture script replies out : DeviceEnd) (depth count : ℕ) (now : Contents)
+    (fault : WriteError) →
+    IsAccepted capture → IsRead SCRIPT_LIMIT script → replies.has_failed ≡ false →
+    IfSome capture.before
+    (λ f. IfSome script.before (λ s. ScriptGives f s depth count (Appends replies.before replies.after) now)) →
+    TookBefore (text now) out.before out.after out.has_failed fault
+    → RunEnds depth capture script replies (Some out) (Err (run_errors.Write fault))
+unfolding RunEnds
+run_stops_at_output capture script replies out depth count now write_errors.NoMemory accepted script_read ready ran
+    took = (
+      accepted,
+      script_read,
+      ready,
+      took,
+      if_run_writes capture.before script.before depth count _ now _ ran (λ written replied output refused. replied),
+    )
+run_stops_at_output capture script replies out depth count now (write_errors.WriteFault written) accepted script_read
+    ready ran took = (
+      accepted,
+      script_read,
+      ready,
+      (
+        took.1,
+        if_run_writes capture.before script.before depth count _ now _ ran
+            (λ outcome replied output refused. (replied, rw output (λ small. ((took.0 small).1, (took.0 small).0)))),
+      ),
+    )
+
+-- ---- what is sent
+
+-- bytes that a writer has taken, and another keeps
+appends_kept : (before after later : Option (List ℕ)) (text : List ℕ) → Appends before after text → Keeps after later
+    → Appends before later text
+appends_kept None after later text took kept = tt
+appends_kept (Some xs) None later text took kept = absurd took
+appends_kept (Some xs) (Some ys) None text took kept = absurd kept
+appends_kept (Some xs) (Some ys) (Some zs) text took kept = kept ∙ took
+
+-- what holds of the replies of a run holds of what follows from it
+of_replies : (file script : Option (List ℕ)) (depth : ℕ) (property also : RunOutcome → Type 0)
+    → ((written : RunOutcome) → property written → also written) →
+    IfSome file (λ f. IfSome script (λ s. (written : RunOutcome) × IsRun f s depth written × property written))
+    → IfSome file (λ f. IfSome script (λ s. (written : RunOutcome) × IsRun f s depth written × also written))
+of_replies None script depth property also follows ran = tt
+of_replies (Some f) None depth property also follows ran = tt
+of_replies (Some f) (Some s) depth property also follows ran = (ran.0, ran.1, follows ran.0 ran.2)
+
+-- the writer after a buffer has what the buffer took
+pub replies_sent : (r : Result Summary RunError) (depth : ℕ) (capture script replies : DeviceEnd)
+    (output : Option DeviceEnd) (later : Option (List ℕ)) →
+    RunEnds depth capture script replies output r → Keeps replies.after later
+    → HasSentReplies r depth capture script replies.before later
+unfolding RunEnds
+replies_sent (Ok summary) depth capture script replies output later ends kept =
+    of_replies capture.before script.before depth _ _
+    (λ written replied. appends_kept replies.before replies.after later (concat written.replies) replied.0 kept) ends.4
+replies_sent (Err (run_errors.NoMemory zero)) depth capture script replies output later ends kept = tt
+replies_sent (Err (run_errors.NoMemory (suc count))) depth capture script replies output later ends kept =
+    of_replies capture.before script.before depth _ _
+    (λ written replied. appends_kept replies.before replies.after later (concat (take count written.replies)) replied.1
+    kept)
+    ends.3
+replies_sent (Err (run_errors.Capture e)) depth capture script replies output later ends kept = tt
+replies_sent (Err run_errors.ScriptTooLarge) depth capture script replies output later ends kept = tt
+replies_sent (Err run_errors.ScriptReadFault) depth capture script replies output later ends kept = tt
+replies_sent (Err (run_errors.ReplyFault count)) depth capture script replies output later ends kept = tt
+replies_sent (Err (run_errors.Write fault)) depth capture script replies output later ends kept = tt
+
+-- ---- errors passed on
+
+-- there is a writer, or none
+pub given_or_none : {X : Type 0} (o : Option X) → (o ≡ None) ⊎ ((x : X) × (o ≡ Some x))
+given_or_none None = inl refl
+given_or_none (Some x) = inr (x, refl)
+
+-- what holds of one error holds where it is passed on
+pub at_error : {A E : Type 0} (r : Result A E) (error : E) (P : E → Type 0) → IsErrAnd r (λ e. e ≡ error) → P error
+    → IfErr r P
+at_error (Ok v) error P gives holds = tt
+at_error (Err e) error P gives holds = rw gives holds
+
+-- a run that an error ended
+pub ends_with : (r : Result Summary RunError) (error : RunError) (depth : ℕ) (capture script : DeviceEnd)
+    (replies : DeviceEnd) (output : Option DeviceEnd) →
+    IsErrAnd r (λ e. e ≡ error) → RunEnds depth capture script replies output (Err error)
+    → RunEnds depth capture script replies output r
+ends_with (Ok summary) error depth capture script replies output gives ends = absurd gives
+ends_with (Err e) error depth capture script replies output gives ends = rw gives ends
+
+-- a run that an error ended before its output, with a writer for it that stays as it was
+pub ends_with_writer : (r : Result Summary RunError) (error : RunError) (depth : ℕ)
+    (capture script replies out : DeviceEnd) →
+    IsErrAnd r (λ e. e ≡ error) → EndsBeforeOutput depth capture script replies error → IsUntouched out
+    → RunEnds depth capture script replies (Some out) r
+ends_with_writer r error depth capture script replies out gives ends kept =
+    ends_with r error depth capture script replies (Some out) gives (ends (Some out) kept)

@@ -1,0 +1,3 @@
+-- Lemmas of `running/run_lines`.
+pub mod LinesLeft
+pub mod StoppedByFault

@@ -1,0 +1,3 @@
+-- Lemmas of `running/run_on_bytes`.
+pub mod LawsOfRun
+pub mod ResultOfRun

@@ -1,0 +1,2 @@
+-- Lemmas of `script`.
+pub mod NamedSignals

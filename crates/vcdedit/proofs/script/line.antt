@@ -1,0 +1,2 @@
+-- Lemmas of `script/line`.
+pub mod AskedSignals

@@ -1,0 +1,2 @@
+-- Lemmas of `script/numbers`.
+pub mod ParsedNumbers

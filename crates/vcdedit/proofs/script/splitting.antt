@@ -1,0 +1,3 @@
+-- Lemmas of `script/splitting`.
+pub mod LinesInTurn
+pub mod FirstLine

@@ -1,0 +1,3 @@
+-- Lemmas of `shell/command_line`.
+pub mod AskedDepth
+pub mod AskedOptions

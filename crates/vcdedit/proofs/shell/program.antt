@@ -1,0 +1,2 @@
+-- Lemmas of `shell/program`.
+pub mod EndingOfWords

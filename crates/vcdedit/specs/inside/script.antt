@@ -1,0 +1,4 @@
+-- Definitions that `script` and its proofs cite.
+pub mod Line
+pub mod Decoders
+pub mod Splitting

@@ -1,0 +1,2 @@
+-- Definitions that `shell` and its proofs cite.
+pub mod Program
