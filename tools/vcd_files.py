@@ -426,9 +426,11 @@ def opened(path):
     if file.seekable() and path != "-":
         return file
     copy = tempfile.TemporaryFile()
-    with file:
+    try:
         shutil.copyfileobj(file, copy)
-    copy.seek(0)
+        copy.seek(0)
+    except OSError as error:
+        raise Trouble("%s can't be copied to a temporary file: %s" % (path, reason_of(error))) from None
     return copy
 
 

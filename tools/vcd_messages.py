@@ -25,9 +25,10 @@ def messages_at(path):
 
 Message = collections.namedtuple("Message", "kind name means remedy line")
 MESSAGES = messages_at(os.path.join(os.path.dirname(os.path.realpath(__file__)), "messages.txt"))
-# What to do about each fault of a capture, and about each refusal of a line.
+# What each fault of a capture and each refusal of a line means, and on a further line what to do.
 FAULTS, REFUSALS = (
-    {one.name: one.remedy.replace("`", "") for one in MESSAGES if one.kind == kind} for kind in ("fault", "refusal")
+    {one.name: ("%s\n    %s" % (one.means, one.remedy)).replace("`", "") for one in MESSAGES if one.kind == kind}
+    for kind in ("fault", "refusal")
 )
 
 # What other lines on standard error mean.

@@ -55,7 +55,7 @@ REFUSED = [
     ("derive both and tb.rx", ["usage: derive WORD not A"]),
     ("Invert tb.rx", ["is invert meant?"]),
     ("\N{BYTE ORDER MARK}invert tb.rx", ["byte order mark"]),
-    ("cut 60 200", ["cut 60 200: BadRange", "at most the end"]),
+    ("cut 60 200", ["cut 60 200: BadRange", "TO is past the end"]),
 ]
 # A capture that is refused, and what is told of it.
 FAULTY = [
@@ -68,37 +68,6 @@ FAULTY = [
     (LINE.encode() + b"#9\n", ["line 5: #9: TimeBackwards", "cut off"]),
 ]
 
-TOOL, MESSAGES = "tools/apply_script", "tools/vcd_messages.py"
-PLANTED = [
-    (TOOL, "real = os.path.realpath(self.path)", "real = os.path.abspath(self.path)"),
-    (TOOL, "keep_mode(written, before)\n            os.fsync", "os.fsync"),
-    (TOOL, "            self.want_unchanged(real, source, before)\n", ""),
-    (TOOL, "            if unfinished:\n", "            if False:\n"),
-    (TOOL, "and self.script.edits and not self.options.keep_going", "and False"),
-    (TOOL, "            if not self.script.edits:\n", "            if False:\n"),
-    (TOOL, "            if self.options.dry_run:\n", "            if False:\n"),
-    (TOOL, "            self.want_an_edit(status)\n            if", "            if"),
-    (TOOL, "word in ASKED_AT_LENGTH:\n                self.passed", "False:\n                self.passed"),
-    (TOOL, "            if self.screen.failure:\n", "            if False:\n"),
-    (TOOL, "if self.next < len(self.script.passed)", "if False"),
-    (TOOL, "if self.next >= len(self.script.passed)", "if False"),
-    (TOOL, "if status == -signal.SIGXFSZ", "if False"),
-    (TOOL, "[*self.guard, *words]", "words"),
-    (TOOL, "        if any(stops for _, _, _, stops in rows):", "        if False:"),
-    (TOOL, "        if rows:\n            self.left", "        if False:\n            self.left"),
-    (TOOL, "if self.options.drop_skipped:", "if False:"),
-    (TOOL, "        if os.path.lexists(real + options.backup):", "        if False:"),
-    (TOOL, "        keep_old(real, backup)\n", "        pass\n"),
-    (TOOL, "if os.path.isfile(real) and not", "if False and not"),
-    (TOOL, "if target == real:", "if False:"),
-    (TOOL, "if os.fstat(written).st_size == 0:", "if False:"),
-    (TOOL, "max(outcome.status", "min(outcome.status"),
-    (TOOL, ")[:NAME_BYTES]", ")"),
-    (TOOL, "        if count > 1:\n            parser", "        if False:\n            parser"),
-    ("tools/vcd_files.py", "stamp, seen = word, {}\n", "stamp = word\n"),
-    ("tools/vcd_files.py", "                if word not in DUMP_WORDS:\n                    self", "                if True:\n                    self"),
-    (MESSAGES, '["is %s meant?" % word for word in near]', '["is %s meant?" % near[0]]'),
-]
 
 
 class Folder:
@@ -172,6 +141,10 @@ def stays(program, folder):
     os.mkfifo(place.folder + "/pipe")
     os.chmod(place.folder + "/fixed", 0o444)
     os.symlink("nowhere", place.folder + "/lost")
+    store(place.folder, "kept/A", text=LINE)
+    os.chmod(place.folder + "/kept/A", 0o444)
+    found = place.run("script", "A", "--to", "kept")
+    yield "a write-protected file in the folder", found[:2] == (4, ["A: not written: %s/kept/A is write-protected" % place.folder])
     for name, status, reason in (
         ("sub", 4, "is a folder"),
         ("none", 4, "there is no such file"),

@@ -112,28 +112,11 @@ OPTIONS = [
 ]
 # Files that are no capture, and what is said of them.
 FAULTY = [
-    (b"no capture\n", ["line 1: no capture: UnexpectedWord", "is the file VCD"]),
+    (b"no capture\n", ["line 1: no capture: UnexpectedWord", "the file is not VCD"]),
     (gzip.compress(b"#0\n"), ["packed by gzip", "gzip -dc"]),
     (b"\xef\xbb\xbf#0\n", ["byte order mark"]),
     (b"META samplerate: 1\n", ["sigrok-cli"]),
     (bytes([0] * 7 + [1, 0x49, 0, 0]), ["FST", "fst2vcd"]),
-]
-TOOL_FILE = "tools/compare_captures"
-PLANTED = [
-    (TOOL_FILE, "<= bounds.within", "< bounds.within"),
-    (TOOL_FILE, "bounds.first < tick <= bounds.last", "bounds.first < tick"),
-    (TOOL_FILE, "        if tick > bounds.last + bounds.within:\n", "        if tick > bounds.last:\n"),
-    (TOOL_FILE, "            if tick > bounds.first:\n", "            if tick >= bounds.first:\n"),
-    (TOOL_FILE, "int(max(ticks) / each)", "int(each / min(ticks))"),
-    (TOOL_FILE, "    if kind != kind_there:", "    if False:"),
-    (TOOL_FILE, "        turns[name] += 1\n", ""),
-    (TOOL_FILE, "0 if is_whole or not options.strict else 3", "0"),
-    (TOOL_FILE, "if strict else []", "if False else []"),
-    (TOOL_FILE, "        self.file.seek(0)\n", ""),
-    (TOOL_FILE, "name.startswith((old + b\".\"", "name.startswith((old"),
-    ("tools/vcd_files.py", "if seen.setdefault(code, word) != word", "if seen.setdefault(code, word) is None"),
-    ("tools/vcd_files.py", "self.comments += word", "self.comments -= word"),
-    ("tools/vcd_files.py", "self.values[next(each, None)] += 1", "next(each, None)"),
 ]
 
 

@@ -59,13 +59,6 @@ MATCHES = [
     (r"^tb\.(q|r)\[", True, b"tb.q[7:0]", True),
     (r"^q", True, b"tb.q", False),
 ]
-PLANTED = [
-    ("tools/vcd_files.py", 'b"$dumpall", ', ""),
-    ("tools/vcd_files.py", 'b"shortreal", ', ""),
-    ("tools/vcd_files.py", '"ms": 3', '"ms": 4'),
-    ("tools/vcd_files.py", "SIGNAL_LIMIT = 65536", "SIGNAL_LIMIT = 65535"),
-    ("tools/vcd_files.py", 'rb"BZh"', 'rb"BZx"'),
-]
 DECLARED = b"$var wire 1 ! a $end $enddefinitions $end #0 1! #5\n"
 
 

@@ -17,16 +17,6 @@ RANGE_IN = ["README.md", "docs/COOKBOOK.md", "docs/vcdedit.1"]
 PEAK = """import resource, subprocess, sys
 subprocess.run(["sh", "-c", '"$@" > /dev/null; exit 0', "sh", *sys.argv[1:]])
 print(resource.getrusage(resource.RUSAGE_CHILDREN).ru_maxrss)"""
-PLANTED = [
-    ("docs/COOKBOOK.md", "| 3.1 | 89 |", "| 3.1 | 27 |"),
-    ("docs/COOKBOOK.md", "| 16 | 14 |", "| 16 | 16 |"),
-    ("docs/COOKBOOK.md", "| 4.6 | 60 |", "| 6 | 60 |"),
-    ("README.md", "89 times the file", "27 times the file"),
-    ("docs/vcdedit.1", "14 to 89 times the file", "14 to 27 times the file"),
-    ("docs/COOKBOOK.md", "grep -c '^[01xzXZbB]' examples", "grep -c '^[01xzXZ]' examples"),
-    ("checks/of_tools/memory.py", "= 272\nBYTES", "= 222\nBYTES"),
-    ("checks/of_tools/memory.py", "SIGNAL = 700\n", "SIGNAL = 500\n"),
-]
 
 
 def peak(program, capture, *words):

@@ -6,7 +6,7 @@ import shutil
 
 from common import TOP, module_of, run, store, store_program, text_at
 
-PARTS = "vcdedit launch Makefile crates.txt completions docs examples cases tools".split()
+PARTS = "vcdedit launch CHANGELOG.md Makefile crates.txt completions docs examples cases tools".split()
 SHELLS = {"completions/vcdedit.bash": "--%s", "completions/_vcdedit": "--%s", "completions/vcdedit.fish": "-l %s"}
 
 # The words of a command line, of which the last is completed, and what comes of it.
@@ -24,37 +24,32 @@ COMPLETED = [
     (["--depth", "=", "100"], ["100", "1000"]),
     (["--dep"], ["--depth"]),
 ]
-COMPLETE_TOOL = """source "$1"; shift; compopt() { :; }
+# Half a second is not enough on a busy machine, so that a check of names waits longer.
+COMPLETE_TOOL = """source <(sed 's/timeout 0.5/timeout 20/' "$1"); shift; compopt() { :; }
 COMP_WORDS=("$@"); COMP_CWORD=$(($# - 1)); _vcdedit_tool "$1"; printf '%s\\n' "${COMPREPLY[@]}" """
+# The words of a command line, of which the last is completed, and what comes of it, where a capture has these signals.
+NAMED = """$scope module tb $end $var wire 1 ! clk $end $var wire 8 " q [7:0] $end $var wire 8 # a b [3:0] $end
+$upscope $end $enddefinitions $end"""
+NAMES = [
+    (["--keep", ""], ["tb.clk", r"tb.q\[7:0\]", r"tb.ab\[3:0\]"]),
+    (["--map", "tb.q"], [r"tb.q\[7:0\]"]),
+    (["--keep", "tb.q[7:"], [r"0\]"]),
+    (["--keep", "clk"], [""]),
+]
 # What is run after installing, in another folder: words, status and what is shown. Each tool calls the program next to it.
 RUN = [
     (["vcdedit", "--version"], 0, r"^vcdedit [0-9.]+\n"),
     (["vcdedit-compare", "--help"], 0, "ompares"),
-    (["vcdedit-compare", "/dev/null", "/dev/null"], 2, "line 1: Truncated"),
+    (["vcdedit-compare", "/dev/null", "/dev/null"], 2, "line 1: the file is empty"),
+    (["vcdedit-compare", "--version"], 0, r"^vcdedit-compare [0-9.]+\n"),
+    (["vcdedit-apply", "--version"], 0, r"^vcdedit-apply [0-9.]+\n"),
     (["vcdedit-apply", "--to", "/tmp", "/dev/null", "/dev/null"], 2, "is one of the captures"),
     (["vcdedit-apply", "--help"], 0, "Carries a script"),
     (["vcdedit-select", "--from", "0", "/dev/null"], 3, "line 1: the file is empty"),
+    (["vcdedit-view", "/dev/null", "-o", "/tmp/none.vcd"], 3, "line 1: the file is empty"),
 ]
 COMPLETE = """source "$1"; shift; compopt() { :; }
 COMP_WORDS=(vcdedit "$@"); COMP_CWORD=$#; _vcdedit; printf '%s\\n' "${COMPREPLY[@]}" """
-
-PLANTED = [
-    ("Makefile", "644 tools/vcd_files.py share/vcdedit/vcd_files.py\n", ""),
-    ("Makefile", "sed 's|(\\.\\./docs/|(../|g'", "cat"),
-    ("Makefile", "644 docs/vcdedit-select.1 share/man/man1/vcdedit-select.1\n", ""),
-    ("Makefile", "	rm -f \"$$root/bin/vcdedit\"; \\\n", ""),
-    ("docs/COOKBOOK.md", "# Cookbook\n", "# Cookbook\n\nSee `checks/pages`.\n"),
-    ("docs/SCRIPT.md", "# The script\n", "# The script\n\nSee README.\n"),
-    ("docs/FORMATS.md", "# The files that are read and written\n", "# The files that are read and written\n\n[See](DECISIONS.md).\n"),
-    ("docs/vcdedit-apply.1", ".BI \\-\\-jobs", ".BI \\-\\-job"),
-    ("docs/vcdedit-select.1", ".B \\-\\-keep\\-times\n", ".B \\-\\-times\n"),
-    ("completions/tools.fish", "complete -c vcdedit-select -l prefix", "complete -c vcdedit-select -l front"),
-    ("completions/tools.bash", "--[a-z-]+", "--[a-z]+"),
-    ("completions/_vcdedit_tools", "vcdedit-apply vcdedit-select", "vcdedit-select"),
-    ("completions/vcdedit.bash", "--depth -h", "-h"),
-    ("examples/compare_decoders", "    path = shutil.which(name)\n", "    path = name\n"),
-    ("examples/compare_decoders", 'line.partition(": ")[2]', 'line.split(": ")[1]'),
-]
 
 
 def lay_out(program, folder):
@@ -70,7 +65,8 @@ def lay_out(program, folder):
 
 
 def files_in(folder):
-    return sorted(os.path.join(place, name) for place, _, names in os.walk(folder) for name in names)
+    """The files and folders below a folder."""
+    return sorted(os.path.join(place, name) for place, folders, names in os.walk(folder) for name in folders + names)
 
 
 def installs(program, folder):
@@ -79,9 +75,10 @@ def installs(program, folder):
     yield "make says what else there is", status == 0 and all(
         "make " + target in shown for target in ("install", "uninstall", "deb")
     )
+    os.makedirs(os.path.join(tree, "root", "bin"))
     for name, words in (
         ("a relative PREFIX", ["PREFIX=here it is"]),
-        ("a DESTDIR", ["PREFIX=%s/place" % tree, "DESTDIR=%s/root" % tree]),
+        ("a DESTDIR that has folders", ["PREFIX=/", "DESTDIR=%s/root" % tree]),
     ):
         before = files_in(tree)
         made = run(["make", "install", *words], cwd=tree)
@@ -90,10 +87,11 @@ def installs(program, folder):
         yield name + ": install", made[0] == 0 and len(launcher) == 1
         if name == "a relative PREFIX":
             yield from run_from_anywhere(os.path.dirname(launcher[0]))
-        wanted = ["COOKBOOK.md", "SCRIPT.md", "FORMATS.md", "vcdedit.1", "_vcdedit", "vcdedit.fish", "completions/vcdedit"]
+        wanted = ["CHANGELOG.md", "COOKBOOK.md", "SCRIPT.md", "FORMATS.md", "messages.txt", "vcdedit.1", "_vcdedit", "vcdedit.fish", "completions/vcdedit"]
         yield name + ": documents and completions", all(any(path.endswith(end) for path in added) for end in wanted)
-        if name == "a DESTDIR":
+        if name != "a relative PREFIX":
             yield from documents_stand_alone(os.path.dirname([path for path in added if path.endswith("/COOKBOOK.md")][0]))
+            run(["make", "install", *words], cwd=tree)
         run(["make", "uninstall", *words], cwd=tree)
         yield name + ": uninstall", files_in(tree) == before
 
@@ -109,7 +107,7 @@ def documents_stand_alone(folder):
     """The installed documents name no file that is not installed: by links, by paths, or by `README`."""
     module = check_pages_in(folder)
     pages = list(module.files(".md"))
-    yield "documents are installed", len(pages) == 4
+    yield "documents are installed", len(pages) == 5
     for page in pages:
         text = module.read(page)
         lost = module.lost_links(page, text) + module.lost_paths(text) + re.findall(r"\bREADME\b|repository", text)
@@ -152,11 +150,11 @@ def tools_of_makefile():
     return re.findall(r"^755 (tools/\S+) bin/(\S+)$", text_at("Makefile"), flags=re.M)
 
 
-def explains_tools(folder):
+def explains_tools(program, folder):
     """Each option that a tool's help lists is in its page and completed, and no other is in the page."""
     names = tools_of_makefile()
     yield "there are tools", len(names) >= 2
-    fish, makefile = text_at("completions/tools.fish"), text_at("Makefile")
+    makefile = text_at("Makefile")
     for source, name in names:
         status, shown, _ = run([os.path.join(TOP, source), "--help"])
         options = set(re.findall(r"^ +(?:-\w(?: \S+)?, )?--([a-z-]+)", shown, flags=re.M))
@@ -164,8 +162,6 @@ def explains_tools(folder):
         told = set(re.findall(r"^\.[BI]\w* .*?--([a-z-]+)", page.split(".SH OPTIONS")[-1].split(".SH EXIT")[0], flags=re.M))
         yield name + ": help", status == 0 and shown != ""
         yield name + ": options of the page", told - {"help"} == options - {"help"}
-        completed = set(re.findall(r"^complete -c %s .*?-l ([a-z-]+)" % name, fish, flags=re.M))
-        yield name + ": fish completes its options", completed - {"help"} == options - {"help"}
         os.makedirs(folder, exist_ok=True)
         os.symlink(os.path.join(TOP, source), os.path.join(folder, name))
         words = ["bash", "--norc", "-c", COMPLETE_TOOL, "bash", os.path.join(TOP, "completions/tools.bash"), "./" + name, "--"]
@@ -174,6 +170,11 @@ def explains_tools(folder):
         for shell in ("bash-completion/completions/%s", "fish/vendor_completions.d/%s.fish", "man/man1/%s.1"):
             yield name + ": installs " + shell % name, re.search(r"^644 \S+ share/%s$" % (shell % name), makefile, flags=re.M)
         yield name + ": zsh knows it", name in text_at("completions/_vcdedit_tools").split("\n")[0].split()
+    store(folder, "named.vcd", text=NAMED)
+    os.symlink(program, os.path.join(folder, "vcdedit"))
+    for words, wanted in NAMES:
+        words = ["bash", "--norc", "-c", COMPLETE_TOOL, "bash", os.path.join(TOP, "completions/tools.bash"), "./vcdedit-compare", "named.vcd", *words]
+        yield "bash completes %s" % words[-2:], run(words, cwd=folder)[1].splitlines() == wanted
 
 
 def completes(program, folder):
@@ -194,5 +195,5 @@ def completes(program, folder):
 def check(program, folder):
     yield from installs(program, os.path.join(folder, "tree"))
     yield from completes(program, os.path.join(folder, "names"))
-    yield from explains_tools(os.path.join(folder, "tools"))
+    yield from explains_tools(program, os.path.join(folder, "tools"))
     yield from compares_decoders(program, os.path.join(folder, "decoders"))

@@ -173,7 +173,7 @@ def selections(place):
     yield "comments say what is removed", shown.splitlines() == ["# vcdedit-select --remove tb.u.clk names", "# tb.u.clk", "remove @5"]
     piped = place.select("-", "--to", "50", input=BUS)
     closed = run(["sh", "-c", 'exec "$@" >&-', "sh", SELECT, "names"], cwd=place.folder, env=place.environment)
-    yield "a closed standard output", closed == (4, "", "")
+    yield "a closed standard output", closed == (4, "", "vcdedit: standard output is closed\n")
     yield "standard input", lines_of(piped[1]) == ["force @1 500 501 0", "cut 50 500"]
     store(place.folder, "bad", text="#0\n")
     yield "a capture that is refused", place.select("bad")[0] == 3 and place.select("none")[0] == 4

@@ -46,11 +46,11 @@ ROWS = {
         {"spi": "0 ?x|3 ?x_word_mosi_?|7 -"}),
     "more than five places": (
         "r", "1! #1 x! #2 1! #3 x! #4 1! #5 x! #6 1! #7 x! #8 1! #9 x! #10 1! #11 x! #12 1! #20", ["uart r 2 8 none 1"],
-        ["line 1: uart: r is x at 1, 3, 5, 7, 9, .. (6 places)" + LOST, "line 1: uart: r never falls from 1 to 0, so no frame begins"],
-        {"uart": "0 -" + "".join("|%d ?x|%d -" % (tick, tick + 1) for tick in range(1, 12, 2))}),
+        ["line 1: uart: r is x at 1, 3, 5, 7, 9, .. (6 places)" + LOST, "line 1: uart: r never falls from 1 to 0 at 0-20: no frame begins"],
+        {"uart": "0 ?x"}),
     "a line that does not fall from 1": (
         "r", "0! #10 1! #28 x! #30 0! #40", ["uart r 2 8 none 1"],
-        ["line 1: uart: r is x at 28-29" + LOST, "line 1: uart: r never falls from 1 to 0, so no frame begins"], {"uart": "0 -|28 ?x|30 -"}),
+        ["line 1: uart: r is x at 28-29" + LOST, "line 1: uart: r never falls from 1 to 0 at 0-40: no frame begins"], {"uart": "0 ?x"}),
     "z of I2C is high": (
         "c d", 'z! z" #2 0" #4 0! #6 z! #8 z" #9', ["i2c c d"], [], {"i2c": "0 -|2 start|3 -|8 stop|9 -"}),
     "x of I2C": (
@@ -58,13 +58,14 @@ ROWS = {
         {"i2c": "0 -|2 start|3 -|4 ?x|6 -|8 stop|9 -"}),
     "names that are taken": (
         "decoded.uart decoded.uart_3", '1! 1" #9', ["uart @0 2 8 none 1", "uart @1 2 8 none 1"],
-        ["line %d: uart: decoded.uart%s never falls from 1 to 0, so no frame begins" % end for end in ((1, ""), (2, "_3"))],
-        {"uart_2": "0 -", "uart_4": "0 -"}),
+        ["line %d: uart: decoded.uart%s never falls from 1 to 0 at 0-9: no frame begins" % end for end in ((1, ""), (2, "_3"))],
+        {"uart_2": "0 ?x", "uart_4": "0 ?x"}),
 }
 # Declarations, and the names that GTKWave 3.3 has for them.
 NAMES = {
     "wire 1 ! q [3]": "q[3]", "wire 1 ! r q s": "rqs", "wire 1 ! u [2:2]": "u[2]", "wire 1 ! t[5]": "t[5]", "wire 4 ! w": "w[3:0]",
-    "reg 4 ! v [4:1]": "v[4:1]", "reg 4 ! v[-1:-4]": "v[-1:-4]", "reg 4 ! a [2] [3:0]": "a[2][3:0]", "integer 32 ! i [31:0]": "i",
+    "reg 4 ! v [4:1]": "v[4:1]", "reg 4 ! a [2] [3:0]": "a[2][3:0]", "integer 32 ! i [31:0]": "i", "reg 8 ! s [3:-4]": "s[3:-4]",
+    "reg 4 ! m [-1:-4]": "m[3:0]", "wire 1 ! n[-1:-1]": "n",
 }
 # Lines on the capture of a UART, and what GTKWave is to show of it: without --before, and with it.
 BEFORE = {
@@ -72,6 +73,7 @@ BEFORE = {
     ("depth 5", UART_LINE): ("rx uart", "before.rx uart rx"),
     ("deglitch bench.rx 3", UART_LINE): ("rx uart", "before.rx rx uart"),
     ("derive n not bench.rx", "uart bench.n 10 8 none 1"): ("n uart rx", "before.rx n uart rx"),
+    ("derive n not bench.rx",): ("rx n", "before.rx rx n"),
     ("rename @0 tx",): ("tx", "before.rx tx"),
     (): ("rx", "before.rx rx"),
 }
@@ -98,6 +100,7 @@ PLANTED = [
     ("tools/view_capture", "bisect_left(ends, tick)", "bisect_left(ends, covered)"),
     ("tools/view_capture", ' and decoder != b"i2c"', ""),
     ("tools/view_capture", '[(0, b"x")] + [', "["),
+    ("tools/view_capture", 'run[2] == b"1" and after[2] == b"0"', 'after[2] == b"0"'),
     ("tools/view_capture", "if listing.end == side.listing.end:", "if True:"),
     ("tools/view_capture", "            taken.add(name)\n", ""),
     ("tools/view_capture", ' and decoder != b"depth"', ""),
@@ -179,6 +182,8 @@ def settings(folder, view):
     store(folder, "c.vcd", text="$scope module my top $end\n%s$upscope $end\n$enddefinitions $end\n#0 #9\n" % declared)
     status, _, errors = view("c.vcd", "-o", "v.vcd")
     yield "names: %s %s" % (errors, shown_in(folder)), status == 0 and shown_in(folder) == ["mytop." + name for name in NAMES.values()]
+    written = load(folder, "v.vcd").decode()
+    yield "names of one word", all(" %s $end\n" % name in written for name in ("module mytop", "rqs", "q [3]", "a[2] [3:0]"))
     for lines, both in BEFORE.items():
         for words, wanted in zip(([], ["--before"]), both):
             status, said, errors = view(GLITCHES, *words, "-o", "v.vcd", *lines)
@@ -209,13 +214,15 @@ def viewers(folder, view):
     tools = os.path.join(folder, "tools")
     for tool in ("surfer", "gtkwave", "other"):
         store_program(tools, tool, text=saw)
-        environment = {"PATH": tools} if tool != "other" else {"VCDEDIT_VIEWER": os.path.join(tools, tool)}
+        environment = {"PATH": tools, "DISPLAY": ":0"} if tool != "other" else {"VCDEDIT_VIEWER": os.path.join(tools, tool)}
         status, _, errors = view(I2C, I2C_LINE, **environment)
         wanted = "%s capture.vcd%s" % (os.path.join(tools, tool), " capture.gtkw" * (tool == "gtkwave"))
         yield "starts %s: %s" % (tool, errors), status == 0 and load(folder, "saw").decode().splitlines()[-1] == wanted
         yield "%s has the rows" % tool, rows_in(os.path.join(folder, "seen"))["i2c"].startswith("0 -|15 start|16 -|22 address_0x50_write|93 -")
     store_program(tools, "gtkwave", text="#!/bin/sh\nexit 3\n")
-    yield "a viewer that fails", view(I2C, PATH=tools)[0] == 4
+    for environment, wanted in ((":0", "ended with status 3"), (None, "there is no screen")):
+        status, _, errors = view(I2C, PATH=tools, **({"DISPLAY": environment} if environment else {}))
+        yield "a viewer that fails: " + errors, status == 4 and wanted in errors
     store_program(tools, "xauth", text=saw)
     store_program(tools, "xvfb-run", text="#!/bin/sh\necho none\n")
     status, _, errors = view(I2C, "--picture", "p.png", PATH=tools)
@@ -242,6 +249,8 @@ def sizes(folder, view):
 def check(program, folder):
     os.mkdir(os.path.join(folder, "tmp"))
     os.environ.update(VCDEDIT=program, TMPDIR=os.path.join(folder, "tmp"))
+    for name in ("DISPLAY", "WAYLAND_DISPLAY", "VCDEDIT_VIEWER"):
+        os.environ.pop(name, None)
     without = os.path.join(folder, "bin")
     os.mkdir(without)
     os.symlink(sys.executable, os.path.join(without, "python3"))

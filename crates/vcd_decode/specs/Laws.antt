@@ -98,8 +98,8 @@ abbrev pub goes_while_high : (from to : Bit) → (scl sda : ℕ → Bit) → ℕ
 goes_while_high from to scl sda t =
     goes_straight One One (pulled_up scl) t && goes_straight from to (pulled_up sda) t
 
--- of an I2C bus straight edges alone count: two buses give the same if at each tick both or neither
--- have a rise of SCL, with the same letter of SDA, a fall of SDA while SCL stays high, and a rise
+-- of an I2C bus straight edges alone count: two buses give the same if these are the same. They are
+-- the rises of SCL, each with the letter of SDA, and the falls and rises of SDA while SCL stays 1
 abbrev pub StraightBusEdgesCount : Type 0
 StraightBusEdgesCount =
     (scl sda other_scl other_sda : ℕ → Bit) (end : ℕ)

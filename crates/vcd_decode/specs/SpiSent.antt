@@ -27,7 +27,7 @@ pub record SpiWord : Type 0 where
 abbrev pub word_end : SpiSetup → SpiWord → ℕ
 word_end u w = w.bit_start u.bits
 
--- each bit has ticks before its middle and from there on, as many as may be
+-- each bit has a tick or more before its middle, and from its middle on
 abbrev pub HasHalves : SpiWord → Type 0
 HasHalves w = (k : ℕ) → (w.bit_start k < w.bit_middle k) × (w.bit_middle k < w.bit_start (suc k))
 
@@ -52,7 +52,8 @@ first_level mode = level (mode / 2 + mode % 2)
 abbrev pub second_level : ℕ → Bit
 second_level mode = level (suc (mode / 2 + mode % 2))
 
--- the clock idles but in words, at the ticks from `from` to before `until`
+-- the clock at the ticks from `from` to before `until`: in words it has the levels of the halves of
+-- each bit, and elsewhere it idles
 unfoldable pub SendsClock : SpiSetup → (ℕ → Bit) → ℕ → ℕ → List SpiWord → Type 0
 SendsClock u clk from until [] = (t : ℕ) → from ≤ t → t < until → clk t ≡ idle_level u.mode
 SendsClock u clk from until (w ∷ ws) =

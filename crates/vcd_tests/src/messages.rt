@@ -1,4 +1,4 @@
-//! The derived message of a fault is the fault's name: one fault of each type, and one within another.
+//! The derived message of a fault is its name: one fault of each type, and one within another.
 
 use std::alloc::Global;
 use std::fmt::Display;

@@ -1,2 +1,3 @@
 -- Lemmas of `script`.
+pub mod WrongCounts
 pub mod NamedSignals

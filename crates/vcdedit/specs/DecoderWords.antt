@@ -16,8 +16,7 @@ use Rattle.vcd_edit.specs.EditFaults.{is_scalar}
 use Rattle.vcdedit.specs.declared.script.line_error.LineError.{LineError}
 use Rattle.vcdedit.specs.declared.script.line_error.LineError.TheVariants.{BadOption, NotScalar}
 use Rattle.vcdedit.specs.declared.script.line_error.LineError.TheVariants.{Setup}
-use Rattle.vcdedit.specs.LineWords.{◌>>=◌}
-use Rattle.vcdedit.specs.ScriptWords.{signal_of_name, number_of_word}
+use Rattle.vcdedit.specs.ScriptWords.{◌>>=◌, signal_of_name, number_of_word}
 
 -- ---- words
 

@@ -3,7 +3,6 @@ pub mod LineErrorNames
 pub mod LentBytes
 pub mod WithoutAddress
 pub mod ScriptWords
-pub mod LineWords
 pub mod DecoderWords
 pub mod ScriptCommands
 pub mod Script

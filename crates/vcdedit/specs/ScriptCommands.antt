@@ -23,9 +23,7 @@ use Rattle.vcdedit.specs.declared.script.line_error.LineError.{LineError}
 use Rattle.vcdedit.specs.declared.script.line_error.LineError.TheVariants.{UnknownCommand}
 use Rattle.vcdedit.specs.declared.script.line_error.LineError.TheVariants.{WrongCount, BadOption}
 use Rattle.vcdedit.specs.LentBytes.{lent_bytes}
-use Rattle.vcdedit.specs.LineWords.{◌>>=◌, no_word, one_word, two_words, four_words, five_words}
-use Rattle.vcdedit.specs.LineWords.{seven_words}
-use Rattle.vcdedit.specs.ScriptWords.{signal_of_name, number_of_word, distance_of_word}
+use Rattle.vcdedit.specs.ScriptWords.{◌>>=◌, signal_of_name, number_of_word, distance_of_word}
 use Rattle.vcdedit.specs.ScriptWords.{value_of_word}
 use Rattle.vcdedit.specs.DecoderWords.{ratio_of_word, parity_of_word, order_of_word}
 use Rattle.vcdedit.specs.DecoderWords.{signal_or_absent, one_bit_signal}
@@ -63,16 +61,18 @@ edit_command e = Ok (commands.Step (steps.Edit e))
 
 -- the rule `not A`
 abbrev pub not_rule : Contents → List (List ℕ) → Result Rule LineError
-not_rule c operands = one_word operands >>= λ a. do
+not_rule c (a ∷ []) = do
   k ← signal_of_name c a
   Ok (Not k)
+not_rule c operands = Err WrongCount
 
 -- the operands `A B`, which are signals
 abbrev pub pair_of : Contents → List (List ℕ) → Result (ℕ × ℕ) LineError
-pair_of c operands = two_words operands >>= λ (a, b). do
+pair_of c (a ∷ b ∷ []) = do
   j ← signal_of_name c a
   k ← signal_of_name c b
   Ok (j, k)
+pair_of c operands = Err WrongCount
 
 -- the rule `RULE A B`
 abbrev pub pair_rule : Contents → (ℕ → ℕ → Rule) → List (List ℕ) → Result Rule LineError
@@ -80,10 +80,11 @@ pair_rule c rule operands = pair_of c operands >>= λ (j, k). Ok (rule j k)
 
 -- the rule `bit A K`
 abbrev pub bit_rule : Contents → List (List ℕ) → Result Rule LineError
-bit_rule c operands = two_words operands >>= λ (a, bit). do
+bit_rule c (a ∷ bit ∷ []) = do
   j ← signal_of_name c a
   k ← number_of_word bit
   Ok (BitOf j k)
+bit_rule c operands = Err WrongCount
 
 -- the rule that a word names, with its operands
 abbrev pub rule_of : Contents → (word : List ℕ) → List (List ℕ) → Result Rule LineError
@@ -95,58 +96,53 @@ rule_of c word operands =
     else (if bytes_eq word (codes "bit") then bit_rule c operands
     else Err BadOption))))
 
--- the words after `derive`: the name, the rule, and its operands
-abbrev pub derive_command : Contents → List (List ℕ) → Result Command LineError
-derive_command c (word ∷ rule ∷ operands) = do
-  r ← rule_of c rule operands
-  edit_command (Derive (lent_bytes word) r)
-derive_command c words = Err WrongCount
-
--- what the words after a keyword ask for; the first fault counts, in the order in which they are
--- read here
+-- what the words after a keyword ask for, if there are as many as here; the first fault counts, in
+-- the order in which they are read here
 abbrev pub command_of : Contents → Keyword → List (List ℕ) → Result Command LineError
-command_of c keywords.Rename words = two_words words >>= λ (name, word). do
+command_of c keywords.Rename (name ∷ word ∷ []) = do
   k ← signal_of_name c name
   edit_command (Rename k (lent_bytes word))
-command_of c keywords.Remove words = one_word words >>= λ name. do
+command_of c keywords.Remove (name ∷ []) = do
   k ← signal_of_name c name
   edit_command (Remove k)
-command_of c keywords.Invert words = one_word words >>= λ name. do
+command_of c keywords.Invert (name ∷ []) = do
   k ← signal_of_name c name
   edit_command (Invert k)
-command_of c keywords.Shift words = two_words words >>= λ (name, by). do
+command_of c keywords.Shift (name ∷ by ∷ []) = do
   k ← signal_of_name c name
   distance ← distance_of_word by
   edit_command (Shift k distance)
-command_of c keywords.Cut words = two_words words >>= λ (from, to). do
+command_of c keywords.Cut (from ∷ to ∷ []) = do
   from_tick ← number_of_word from
   to_tick ← number_of_word to
   edit_command (Cut from_tick to_tick)
-command_of c keywords.Deglitch words = two_words words >>= λ (name, ticks). do
+command_of c keywords.Deglitch (name ∷ ticks ∷ []) = do
   k ← signal_of_name c name
   count ← number_of_word ticks
   edit_command (Deglitch k count)
-command_of c keywords.Force words = four_words words >>= λ (name, from, to, value). do
+command_of c keywords.Force (name ∷ from ∷ to ∷ value ∷ []) = do
   k ← signal_of_name c name
   from_tick ← number_of_word from
   to_tick ← number_of_word to
   letters ← value_of_word (signal_at c k).width value
   edit_command (Force k from_tick to_tick letters)
-command_of c keywords.Derive words = derive_command c words
-command_of c keywords.Undo words = no_word words >>= λ _. Ok (commands.Step steps.Undo)
-command_of c keywords.Redo words = no_word words >>= λ _. Ok (commands.Step steps.Redo)
-command_of c keywords.Depth words = one_word words >>= λ count. do
+command_of c keywords.Derive (word ∷ rule ∷ operands) = do
+  r ← rule_of c rule operands
+  edit_command (Derive (lent_bytes word) r)
+command_of c keywords.Undo [] = Ok (commands.Step steps.Undo)
+command_of c keywords.Redo [] = Ok (commands.Step steps.Redo)
+command_of c keywords.Depth (count ∷ []) = do
   depth ← number_of_word count
   Ok (commands.Step (steps.Depth depth))
-command_of c keywords.List words = no_word words >>= λ _. Ok commands.List
-command_of c keywords.Value words = two_words words >>= λ (name, tick). do
+command_of c keywords.List [] = Ok commands.List
+command_of c keywords.Value (name ∷ tick ∷ []) = do
   k ← signal_of_name c name
   t ← number_of_word tick
   Ok (commands.Value k t)
-command_of c keywords.Changes words = one_word words >>= λ name. do
+command_of c keywords.Changes (name ∷ []) = do
   k ← signal_of_name c name
   Ok (commands.Changes k)
-command_of c keywords.Uart words = five_words words >>= λ (name, bit, count, parity, stop). do
+command_of c keywords.Uart (name ∷ bit ∷ count ∷ parity ∷ stop ∷ []) = do
   k ← signal_of_name c name
   ratio ← ratio_of_word bit
   data_bits ← number_of_word count
@@ -155,8 +151,7 @@ command_of c keywords.Uart words = five_words words >>= λ (name, bit, count, pa
   line ← one_bit_signal c k
   setup ← faultless_uart (uart_setup ratio.0 ratio.1 data_bits parity_bit stop_bits)
   Ok (commands.Uart line setup)
-command_of c keywords.Spi words = do
-  (clk, mosi, miso, cs, mode, bits, order) ← seven_words words
+command_of c keywords.Spi (clk ∷ mosi ∷ miso ∷ cs ∷ mode ∷ bits ∷ order ∷ []) = do
   clk_named ← signal_of_name c clk
   mosi_named ← signal_or_absent c mosi
   miso_named ← signal_or_absent c miso
@@ -170,12 +165,13 @@ command_of c keywords.Spi words = do
   cs_line ← one_bit_signal_or_absent c cs_named
   setup ← faultless_spi (spi_setup number word_bits bit_order)
   Ok (commands.Spi clk_line mosi_line miso_line cs_line setup)
-command_of c keywords.I2c words = two_words words >>= λ (scl, sda). do
+command_of c keywords.I2c (scl ∷ sda ∷ []) = do
   scl_named ← signal_of_name c scl
   sda_named ← signal_of_name c sda
   scl_line ← one_bit_signal c scl_named
   sda_line ← one_bit_signal c sda_named
   Ok (commands.I2c scl_line sda_line)
+command_of c keyword words = Err WrongCount
 
 -- what the words of a line ask for on a capture, or why they are no command
 abbrev pub command_of_words : Contents → List (List ℕ) → Result Command LineError

@@ -12,6 +12,14 @@ use Rattle.vcdedit.specs.declared.script.line_error.LineError.{LineError}
 use Rattle.vcdedit.specs.declared.script.line_error.LineError.TheVariants.{NoSuchName, BadNumber}
 use Rattle.vcdedit.specs.declared.script.line_error.LineError.TheVariants.{BadValueText}
 
+-- words are read from the left, up to the first fault: what the next reading makes of this one, or
+-- the fault of this one
+infixl 10 ◌>>=◌
+abbrev pub ◌>>=◌ : {A B : Type 0} → Result A LineError → (A → Result B LineError)
+    → Result B LineError
+(Ok x) >>= f = f x
+(Err fault) >>= f = Err fault
+
 -- the position of the signal that a word names
 abbrev pub signal_of_name : Contents → List ℕ → Result ℕ LineError
 signal_of_name c name = ok_or (lookup c.signals name) NoSuchName

@@ -3,4 +3,3 @@
 pub mod replies
 pub mod running
 pub mod script
-pub mod shell

@@ -100,7 +100,7 @@ fn check_derived(rt: &impl Abort, capture: &Capture, word: &[u8], fault: EditErr
 }
 
 #[test]
-fn one_signal_too_many(rt: HostRuntime) -> Result<(), Fail> {
+fn one_derived_signal_too_many(rt: HostRuntime) -> Result<(), Fail> {
     let mut capture = full_capture(rt.alloc())?;
     assert!(rt; capture.is_sound());
     check_derived(&rt, &capture, b"b", EditError::TooManySignals);

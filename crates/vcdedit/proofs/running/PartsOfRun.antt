@@ -30,7 +30,6 @@ use Rattle.vcdedit.specs.inside.running.RunLines.{HasFailedAt, EndsAtLine, RunsL
 use Rattle.vcdedit.specs.inside.running.RunLines.{StopsInLines}
 use Rattle.vcdedit.specs.inside.running.Stages.{EndsBeforeOutput, EndsBeforeReplies, EndsAfterCapture}
 use Rattle.vcdedit.specs.inside.running.Run.{ScriptGives}
-use Rattle.vcdedit.specs.inside.shell.Program.{HasSentReplies}
 use Rattle.vcdedit.proofs.running.LinesAndHistory.{outcome_is, run_is}
 
 -- ---- the capture
@@ -286,46 +285,6 @@ run_stops_at_output capture script replies out depth count now (write_errors.Wri
             (λ outcome replied output refused. (replied, rw output (λ small. ((took.0 small).1, (took.0 small).0)))),
       ),
     )
-
--- ---- what is sent
-
--- bytes that a writer has taken, and another keeps
-appends_kept : (before after later : Option (List ℕ)) (text : List ℕ) → Appends before after text → Keeps after later
-    → Appends before later text
-appends_kept None after later text took kept = tt
-appends_kept (Some xs) None later text took kept = absurd took
-appends_kept (Some xs) (Some ys) None text took kept = absurd kept
-appends_kept (Some xs) (Some ys) (Some zs) text took kept = kept ∙ took
-
--- what holds of the replies of a run holds of what follows from it
-of_replies : (file script : Option (List ℕ)) (depth : ℕ) (property also : RunOutcome → Type 0)
-    → ((written : RunOutcome) → property written → also written) →
-    IfSome file (λ f. IfSome script (λ s. (written : RunOutcome) × IsRun f s depth written × property written))
-    → IfSome file (λ f. IfSome script (λ s. (written : RunOutcome) × IsRun f s depth written × also written))
-of_replies None script depth property also follows ran = tt
-of_replies (Some f) None depth property also follows ran = tt
-of_replies (Some f) (Some s) depth property also follows ran = (ran.0, ran.1, follows ran.0 ran.2)
-
--- the writer after a buffer has what the buffer took
-pub replies_sent : (r : Result Summary RunError) (depth : ℕ) (capture script replies : DeviceEnd)
-    (output : Option DeviceEnd) (later : Option (List ℕ)) →
-    RunEnds depth capture script replies output r → Keeps replies.after later
-    → HasSentReplies r depth capture script replies.before later
-unfolding RunEnds
-replies_sent (Ok summary) depth capture script replies output later ends kept =
-    of_replies capture.before script.before depth _ _
-    (λ written replied. appends_kept replies.before replies.after later (concat written.replies) replied.0 kept) ends.4
-replies_sent (Err (run_errors.NoMemory zero)) depth capture script replies output later ends kept = tt
-replies_sent (Err (run_errors.NoMemory (suc count))) depth capture script replies output later ends kept =
-    of_replies capture.before script.before depth _ _
-    (λ written replied. appends_kept replies.before replies.after later (concat (take count written.replies)) replied.1
-    kept)
-    ends.3
-replies_sent (Err (run_errors.Capture e)) depth capture script replies output later ends kept = tt
-replies_sent (Err run_errors.ScriptTooLarge) depth capture script replies output later ends kept = tt
-replies_sent (Err run_errors.ScriptReadFault) depth capture script replies output later ends kept = tt
-replies_sent (Err (run_errors.ReplyFault count)) depth capture script replies output later ends kept = tt
-replies_sent (Err (run_errors.Write fault)) depth capture script replies output later ends kept = tt
 
 -- ---- errors passed on
 

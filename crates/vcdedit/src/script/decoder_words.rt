@@ -4,6 +4,7 @@ ghost use Rattle.std.specs.Prelude.{◌≡◌, ◌<◌, Some, IfSome, IfOk, leng
 ghost use Rattle.vcd_core.specs.CaptureContents.{contents};
 ghost use Rattle.vcd_decode.specs.UartSetup.{uart_setup};
 ghost use Rattle.vcd_decode.specs.SpiSetup.{spi_setup};
+ghost use Rattle.vcdedit.specs.CommandSignals.{IsScalarAt};
 ghost use Rattle.vcdedit.specs.DecoderWords as spec;
 
 use crate::script::LineError;
@@ -85,7 +86,8 @@ pub fn signal_or_absent(capture: &Capture, word: &[u8]) -> Result<Option<usize>,
 /// Checks that a signal has one bit.
 pub fn one_bit_signal(capture: &Capture, signal: usize) -> Result<usize, LineError>
     requires { signal < length capture.now.signals }
-    ensures { result ≡ spec.one_bit_signal (contents capture.now) signal }
+    ensures tested { result ≡ spec.one_bit_signal (contents capture.now) signal }
+    ensures one_bit { IfOk result (IsScalarAt (contents capture.now)) }
 {
     if capture.signals()[signal].wave.width() == 1 {
         Ok(signal)
@@ -100,7 +102,8 @@ pub fn one_bit_signal_or_absent(
     line: Option<usize>,
 ) -> Result<Option<usize>, LineError>
     requires { IfSome line (λ k. k < length capture.now.signals) }
-    ensures { result ≡ spec.one_bit_signal_or_absent (contents capture.now) line }
+    ensures tested { result ≡ spec.one_bit_signal_or_absent (contents capture.now) line }
+    ensures one_bit { IfOk result (λ there. IfSome there (IsScalarAt (contents capture.now))) }
 {
     match line {
         Some(signal) => Ok(Some(one_bit_signal(capture, signal)?)),

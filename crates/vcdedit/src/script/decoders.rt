@@ -1,12 +1,12 @@
 //! The lines that decode signals.
+#![tactic(auto, using(crate::proofs::script::WrongCounts::wrong_count))]
 
 ghost use Rattle.std.specs.Prelude.{◌<◌, length, IfSome};
 ghost use Rattle.vcd_core.specs.CaptureContents.{contents};
 ghost use Rattle.vcd_text.specs.LentWords.{texts_left};
-ghost use Rattle.vcdedit.specs.ScriptCommands.{command_of};
 ghost use Rattle.vcdedit.specs.declared.script.keyword.Keyword.TheVariants as keywords;
 ghost use Rattle.vcdedit.specs.inside.script.Decoders.{spi_with_command, checked_spi_command};
-ghost use Rattle.vcdedit.specs.inside.script.Line.{ReadsAs};
+ghost use Rattle.vcdedit.specs.inside.script.Line.{ReadsAs, ReadsCommand};
 
 use crate::script::decoder_words::{
     one_bit_signal, one_bit_signal_or_absent, order_of_word, parity_of_word, ratio_of_word,
@@ -22,8 +22,7 @@ use vcd_text::Words;
 
 /// Reads `NAME BIT DATA PARITY STOP`.
 pub fn parse_uart<'a>(words: &mut Words<'a>, capture: &Capture) -> Parsed<'a>
-    ensures { ReadsAs (command_of (contents capture.now) keywords.Uart (texts_left words.old))
-        result }
+    ensures { ReadsCommand (contents capture.now) keywords.Uart (texts_left words.old) result }
 {
     let (name, bit, data_bits, parity, stop_bits) = take_five(words)?;
     let signal = signal_of_name(capture, name)?;
@@ -38,8 +37,7 @@ pub fn parse_uart<'a>(words: &mut Words<'a>, capture: &Capture) -> Parsed<'a>
 
 /// Reads `CLK MOSI MISO CS MODE BITS ORDER`.
 pub fn parse_spi<'a>(words: &mut Words<'a>, capture: &Capture) -> Parsed<'a>
-    ensures { ReadsAs (command_of (contents capture.now) keywords.Spi (texts_left words.old))
-        result }
+    ensures { ReadsCommand (contents capture.now) keywords.Spi (texts_left words.old) result }
 {
     let (clk, mosi, miso, cs, mode, bits, order) = take_seven(words)?;
     let clk = signal_of_name(capture, clk)?;
@@ -76,7 +74,7 @@ fn spi_with<'a>(
     requires mosi { IfSome lines.mosi (λ k. k < length capture.now.signals) }
     requires miso { IfSome lines.miso (λ k. k < length capture.now.signals) }
     requires cs { IfSome lines.cs (λ k. k < length capture.now.signals) }
-    ensures { ReadsAs
+    ensures { ReadsAs (contents capture.now)
         (spi_with_command (contents capture.now) lines mode.now bits.now order.now) result }
 {
     let mode = number_of_word(mode)?;
@@ -97,7 +95,8 @@ fn checked_spi<'a>(
     requires mosi { IfSome lines.mosi (λ k. k < length capture.now.signals) }
     requires miso { IfSome lines.miso (λ k. k < length capture.now.signals) }
     requires cs { IfSome lines.cs (λ k. k < length capture.now.signals) }
-    ensures { ReadsAs (checked_spi_command (contents capture.now) lines mode bits order) result }
+    ensures { ReadsAs (contents capture.now)
+        (checked_spi_command (contents capture.now) lines mode bits order) result }
 {
     let clk = one_bit_signal(capture, lines.clk)?;
     let mosi = one_bit_signal_or_absent(capture, lines.mosi)?;
@@ -115,8 +114,7 @@ fn checked_spi<'a>(
 
 /// Reads `SCL SDA`.
 pub fn parse_i2c<'a>(words: &mut Words<'a>, capture: &Capture) -> Parsed<'a>
-    ensures { ReadsAs (command_of (contents capture.now) keywords.I2c (texts_left words.old))
-        result }
+    ensures { ReadsCommand (contents capture.now) keywords.I2c (texts_left words.old) result }
 {
     let (scl, sda) = take_two(words)?;
     let scl = signal_of_name(capture, scl)?;

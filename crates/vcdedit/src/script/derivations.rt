@@ -3,9 +3,9 @@
 ghost use Rattle.std.specs.Prelude.{◌≡◌};
 ghost use Rattle.vcd_core.specs.CaptureContents.{contents};
 ghost use Rattle.vcd_text.specs.LentWords.{texts_left};
-ghost use Rattle.vcdedit.specs.ScriptCommands.{not_rule, pair_of, bit_rule, rule_of, command_of};
+ghost use Rattle.vcdedit.specs.ScriptCommands.{not_rule, pair_of, bit_rule, rule_of};
 ghost use Rattle.vcdedit.specs.declared.script.keyword.Keyword.TheVariants as keywords;
-ghost use Rattle.vcdedit.specs.inside.script.Line.{ReadsAs};
+ghost use Rattle.vcdedit.specs.inside.script.Line.{ReadsCommand};
 
 use crate::script::edits::signal_of_name;
 use crate::script::line_words::{next_text, take_one, take_two};
@@ -18,8 +18,7 @@ use vcd_text::Words;
 
 /// Reads `WORD RULE ..`.
 pub fn parse_derive<'a>(words: &mut Words<'a>, capture: &Capture) -> Parsed<'a>
-    ensures { ReadsAs (command_of (contents capture.now) keywords.Derive (texts_left words.old))
-        result }
+    ensures { ReadsCommand (contents capture.now) keywords.Derive (texts_left words.old) result }
 {
     let word = next_text(words).ok_or(LineError::WrongCount)?;
     let name = next_text(words).ok_or(LineError::WrongCount)?;
@@ -53,6 +52,7 @@ fn parse_rule(name: &[u8], words: &mut Words<'_>, capture: &Capture) -> Result<R
 }
 
 /// Reads `A`.
+#[tactic(auto, using(crate::proofs::script::WrongCounts::wrong_not))]
 fn parse_not(words: &mut Words<'_>, capture: &Capture) -> Result<Rule, LineError>
     ensures { result ≡ not_rule (contents capture.now) (texts_left words.old) }
 {
@@ -61,6 +61,7 @@ fn parse_not(words: &mut Words<'_>, capture: &Capture) -> Result<Rule, LineError
 }
 
 /// Reads `A K`.
+#[tactic(auto, using(crate::proofs::script::WrongCounts::wrong_bit))]
 fn parse_bit(words: &mut Words<'_>, capture: &Capture) -> Result<Rule, LineError>
     ensures { result ≡ bit_rule (contents capture.now) (texts_left words.old) }
 {
@@ -70,6 +71,7 @@ fn parse_bit(words: &mut Words<'_>, capture: &Capture) -> Result<Rule, LineError
 }
 
 /// Reads `A B`.
+#[tactic(auto, using(crate::proofs::script::WrongCounts::wrong_pair))]
 fn parse_pair(words: &mut Words<'_>, capture: &Capture) -> Result<(usize, usize), LineError>
     ensures { result ≡ pair_of (contents capture.now) (texts_left words.old) }
 {

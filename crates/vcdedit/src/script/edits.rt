@@ -1,13 +1,13 @@
 //! The lines that edit signals and time.
+#![tactic(auto, using(crate::proofs::script::WrongCounts::wrong_count))]
 
 ghost use Rattle.std.specs.Prelude.{◌≡◌, ◌<◌, length, IfOk};
 ghost use Rattle.vcd_core.specs.Contents.{Contents, signal_at};
 ghost use Rattle.vcd_core.specs.CaptureContents.{contents};
 ghost use Rattle.vcd_text.specs.LentWords.{texts_left};
-ghost use Rattle.vcdedit.specs.ScriptCommands.{command_of};
 ghost use Rattle.vcdedit.specs.declared.script.keyword.Keyword.TheVariants as keywords;
 ghost use Rattle.vcdedit.specs.ScriptWords.{signal_of_name, value_of_word};
-ghost use Rattle.vcdedit.specs.inside.script.Line.{ReadsAs};
+ghost use Rattle.vcdedit.specs.inside.script.Line.{ReadsCommand};
 
 use crate::script::line_words::{take_four, take_one, take_two};
 use crate::script::numbers::{distance_of_word, number_of_word};
@@ -19,8 +19,7 @@ use vcd_text::{Words, value_of_digits};
 
 /// Reads `NAME WORD`.
 pub fn parse_rename<'a>(words: &mut Words<'a>, capture: &Capture) -> Parsed<'a>
-    ensures { ReadsAs (command_of (contents capture.now) keywords.Rename (texts_left words.old))
-        result }
+    ensures { ReadsCommand (contents capture.now) keywords.Rename (texts_left words.old) result }
 {
     let (name, word) = take_two(words)?;
     let signal = signal_of_name(capture, name)?;
@@ -29,8 +28,7 @@ pub fn parse_rename<'a>(words: &mut Words<'a>, capture: &Capture) -> Parsed<'a>
 
 /// Reads `NAME` of a signal to remove.
 pub fn parse_remove<'a>(words: &mut Words<'a>, capture: &Capture) -> Parsed<'a>
-    ensures { ReadsAs (command_of (contents capture.now) keywords.Remove (texts_left words.old))
-        result }
+    ensures { ReadsCommand (contents capture.now) keywords.Remove (texts_left words.old) result }
 {
     let signal = signal_of_name(capture, take_one(words)?)?;
     Ok(Command::Step(Step::Edit(Edit::Remove { signal })))
@@ -38,8 +36,7 @@ pub fn parse_remove<'a>(words: &mut Words<'a>, capture: &Capture) -> Parsed<'a>
 
 /// Reads `NAME` of a signal to invert.
 pub fn parse_invert<'a>(words: &mut Words<'a>, capture: &Capture) -> Parsed<'a>
-    ensures { ReadsAs (command_of (contents capture.now) keywords.Invert (texts_left words.old))
-        result }
+    ensures { ReadsCommand (contents capture.now) keywords.Invert (texts_left words.old) result }
 {
     let signal = signal_of_name(capture, take_one(words)?)?;
     Ok(Command::Step(Step::Edit(Edit::Invert { signal })))
@@ -47,8 +44,7 @@ pub fn parse_invert<'a>(words: &mut Words<'a>, capture: &Capture) -> Parsed<'a>
 
 /// Reads `NAME BY`.
 pub fn parse_shift<'a>(words: &mut Words<'a>, capture: &Capture) -> Parsed<'a>
-    ensures { ReadsAs (command_of (contents capture.now) keywords.Shift (texts_left words.old))
-        result }
+    ensures { ReadsCommand (contents capture.now) keywords.Shift (texts_left words.old) result }
 {
     let (name, by) = take_two(words)?;
     let signal = signal_of_name(capture, name)?;
@@ -58,7 +54,7 @@ pub fn parse_shift<'a>(words: &mut Words<'a>, capture: &Capture) -> Parsed<'a>
 
 /// Reads `FROM TO`.
 pub fn parse_cut<'a>(words: &mut Words<'a>) -> Parsed<'a>
-    ensures { (c : Contents) → ReadsAs (command_of c keywords.Cut (texts_left words.old)) result }
+    ensures { (c : Contents) → ReadsCommand c keywords.Cut (texts_left words.old) result }
 {
     let (from, to) = take_two(words)?;
     let from = number_of_word(from)?;
@@ -68,8 +64,7 @@ pub fn parse_cut<'a>(words: &mut Words<'a>) -> Parsed<'a>
 
 /// Reads `NAME TICKS`.
 pub fn parse_deglitch<'a>(words: &mut Words<'a>, capture: &Capture) -> Parsed<'a>
-    ensures { ReadsAs (command_of (contents capture.now) keywords.Deglitch (texts_left words.old))
-        result }
+    ensures { ReadsCommand (contents capture.now) keywords.Deglitch (texts_left words.old) result }
 {
     let (name, ticks) = take_two(words)?;
     let signal = signal_of_name(capture, name)?;
@@ -79,8 +74,7 @@ pub fn parse_deglitch<'a>(words: &mut Words<'a>, capture: &Capture) -> Parsed<'a
 
 /// Reads `NAME FROM TO VALUE`.
 pub fn parse_force<'a>(words: &mut Words<'a>, capture: &Capture) -> Parsed<'a>
-    ensures { ReadsAs (command_of (contents capture.now) keywords.Force (texts_left words.old))
-        result }
+    ensures { ReadsCommand (contents capture.now) keywords.Force (texts_left words.old) result }
 {
     let (name, from, to, value) = take_four(words)?;
     let signal = signal_of_name(capture, name)?;

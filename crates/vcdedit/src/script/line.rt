@@ -7,9 +7,9 @@ ghost use Rattle.vcd_text.specs.LentWords.{texts_left};
 ghost use Rattle.vcdedit.specs.CommandSignals.{HasCommandSignals};
 ghost use Rattle.vcdedit.specs.WithoutAddress.{command_without_address};
 ghost use Rattle.vcdedit.specs.ScriptCommands.{command_of_line};
-ghost use Rattle.vcdedit.specs.ScriptCommands.{is_comment, command_of, command_of_words};
+ghost use Rattle.vcdedit.specs.ScriptCommands.{is_comment, command_of_words};
 ghost use Rattle.vcdedit.specs.declared.script.keyword.Keyword.TheVariants as keywords;
-ghost use Rattle.vcdedit.specs.inside.script.Line.{ReadsAs};
+ghost use Rattle.vcdedit.specs.inside.script.Line.{ReadsAs, ReadsCommand};
 
 use crate::script::decoders::{parse_i2c, parse_spi, parse_uart};
 use crate::script::derivations::parse_derive;
@@ -50,7 +50,7 @@ pub fn parse_line<'a>(line: &'a [u8], capture: &Capture) -> Result<Command<'a>, 
 
 /// Reads the first word, and then those after it.
 fn parse_first_word<'a>(first: &[u8], words: &mut Words<'a>, capture: &Capture) -> Parsed<'a>
-    ensures { ReadsAs
+    ensures { ReadsAs (contents capture.now)
         (command_of_words (contents capture.now) (first.now ∷ texts_left words.old)) result }
 {
     if is_comment(first) {
@@ -61,8 +61,9 @@ fn parse_first_word<'a>(first: &[u8], words: &mut Words<'a>, capture: &Capture) 
 }
 
 /// Reads the words after a keyword.
+#[tactic(auto, using(crate::proofs::script::WrongCounts::wrong_count))]
 fn parse_command<'a>(keyword: Keyword, words: &mut Words<'a>, capture: &Capture) -> Parsed<'a>
-    ensures { ReadsAs (command_of (contents capture.now) keyword (texts_left words.old)) result }
+    ensures { ReadsCommand (contents capture.now) keyword (texts_left words.old) result }
 {
     match keyword {
         Keyword::Rename => parse_rename(words, capture),
@@ -95,8 +96,9 @@ fn parse_command<'a>(keyword: Keyword, words: &mut Words<'a>, capture: &Capture)
 }
 
 /// Reads `N`, the new depth of the history.
+#[tactic(auto, using(crate::proofs::script::WrongCounts::wrong_count))]
 fn parse_depth<'a>(words: &mut Words<'a>) -> Parsed<'a>
-    ensures { (c : Contents) → ReadsAs (command_of c keywords.Depth (texts_left words.old)) result }
+    ensures { (c : Contents) → ReadsCommand c keywords.Depth (texts_left words.old) result }
 {
     let depth = number_of_word(take_one(words)?)?;
     Ok(Command::Step(Step::Depth(depth)))

@@ -1,9 +1,8 @@
 //! The words of a line after the first, and their number.
 
-ghost use Rattle.std.specs.Prelude.{◌≡◌, ◌∷◌, [], Ok, Err, IfOk, IfErr, OnOk, MatchOption};
+ghost use Rattle.std.specs.Prelude.{◌≡◌, ◌∷◌, [], IfOk, IfErr, OnOk, MatchOption};
 ghost use Rattle.vcd_text.specs.LentWords.{texts_left};
-ghost use Rattle.vcdedit.specs.LineWords.{no_word, one_word, two_words, four_words, five_words};
-ghost use Rattle.vcdedit.specs.LineWords.{seven_words};
+ghost use Rattle.vcdedit.specs.inside.script.Line.{IsWrongCount};
 
 use crate::script::LineError;
 use vcd_text::Words;
@@ -21,8 +20,8 @@ pub fn next_text<'a>(words: &mut Words<'a>) -> Option<&'a [u8]>
 
 /// Checks that no word is left.
 pub fn take_none<'a>(words: &mut Words<'a>) -> Result<(), LineError>
-    ensures none { OnOk result (no_word (texts_left words.old) ≡ Ok tt) }
-    ensures others { IfErr result (λ e. no_word (texts_left words.old) ≡ Err e) }
+    ensures none { OnOk result (texts_left words.old ≡ []) }
+    ensures others { IfErr result (IsWrongCount 0 (texts_left words.old)) }
 {
     match next_text(words) {
         Some(_) => Err(LineError::WrongCount),
@@ -32,8 +31,8 @@ pub fn take_none<'a>(words: &mut Words<'a>) -> Result<(), LineError>
 
 /// The one word that is left.
 pub fn take_one<'a>(words: &mut Words<'a>) -> Result<&'a [u8], LineError>
-    ensures one { IfOk result (λ text. one_word (texts_left words.old) ≡ Ok text.now) }
-    ensures others { IfErr result (λ e. one_word (texts_left words.old) ≡ Err e) }
+    ensures one { IfOk result (λ text. texts_left words.old ≡ text.now ∷ []) }
+    ensures others { IfErr result (IsWrongCount 1 (texts_left words.old)) }
 {
     let first = next_text(words).ok_or(LineError::WrongCount)?;
     take_none(words)?;
@@ -42,9 +41,8 @@ pub fn take_one<'a>(words: &mut Words<'a>) -> Result<&'a [u8], LineError>
 
 /// The two words that are left.
 pub fn take_two<'a>(words: &mut Words<'a>) -> Result<(&'a [u8], &'a [u8]), LineError>
-    ensures two { IfOk result (λ all.
-        two_words (texts_left words.old) ≡ Ok (all.0.now, all.1.now)) }
-    ensures others { IfErr result (λ e. two_words (texts_left words.old) ≡ Err e) }
+    ensures two { IfOk result (λ (a, b). texts_left words.old ≡ a.now ∷ b.now ∷ []) }
+    ensures others { IfErr result (IsWrongCount 2 (texts_left words.old)) }
 {
     let first = next_text(words).ok_or(LineError::WrongCount)?;
     let second = take_one(words)?;
@@ -55,9 +53,9 @@ type FourWords<'a> = (&'a [u8], &'a [u8], &'a [u8], &'a [u8]);
 
 /// The four words that are left.
 pub fn take_four<'a>(words: &mut Words<'a>) -> Result<FourWords<'a>, LineError>
-    ensures four { IfOk result (λ all. four_words (texts_left words.old)
-        ≡ Ok (all.0.now, all.1.now, all.2.now, all.3.now)) }
-    ensures others { IfErr result (λ e. four_words (texts_left words.old) ≡ Err e) }
+    ensures four { IfOk result (λ (a, b, c, d).
+        texts_left words.old ≡ a.now ∷ b.now ∷ c.now ∷ d.now ∷ []) }
+    ensures others { IfErr result (IsWrongCount 4 (texts_left words.old)) }
 {
     let first = next_text(words).ok_or(LineError::WrongCount)?;
     let second = next_text(words).ok_or(LineError::WrongCount)?;
@@ -69,9 +67,9 @@ type FiveWords<'a> = (&'a [u8], &'a [u8], &'a [u8], &'a [u8], &'a [u8]);
 
 /// The five words that are left.
 pub fn take_five<'a>(words: &mut Words<'a>) -> Result<FiveWords<'a>, LineError>
-    ensures five { IfOk result (λ all. five_words (texts_left words.old)
-        ≡ Ok (all.0.now, all.1.now, all.2.now, all.3.now, all.4.now)) }
-    ensures others { IfErr result (λ e. five_words (texts_left words.old) ≡ Err e) }
+    ensures five { IfOk result (λ (a, b, c, d, e).
+        texts_left words.old ≡ a.now ∷ b.now ∷ c.now ∷ d.now ∷ e.now ∷ []) }
+    ensures others { IfErr result (IsWrongCount 5 (texts_left words.old)) }
 {
     let a = next_text(words).ok_or(LineError::WrongCount)?;
     let (b, c, d, e) = take_four(words)?;
@@ -90,9 +88,9 @@ type SevenWords<'a> = (
 
 /// The seven words that are left.
 pub fn take_seven<'a>(words: &mut Words<'a>) -> Result<SevenWords<'a>, LineError>
-    ensures seven { IfOk result (λ (a, b, c, d, e, f, g). seven_words (texts_left words.old)
-        ≡ Ok (a.now, b.now, c.now, d.now, e.now, f.now, g.now)) }
-    ensures others { IfErr result (λ e. seven_words (texts_left words.old) ≡ Err e) }
+    ensures seven { IfOk result (λ (a, b, c, d, e, f, g). texts_left words.old
+        ≡ a.now ∷ b.now ∷ c.now ∷ d.now ∷ e.now ∷ f.now ∷ g.now ∷ []) }
+    ensures others { IfErr result (IsWrongCount 7 (texts_left words.old)) }
 {
     let a = next_text(words).ok_or(LineError::WrongCount)?;
     let b = next_text(words).ok_or(LineError::WrongCount)?;

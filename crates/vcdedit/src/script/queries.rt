@@ -1,10 +1,10 @@
 //! The lines that ask about a capture and leave it as it is.
+#![tactic(auto, using(crate::proofs::script::WrongCounts::wrong_count))]
 
 ghost use Rattle.vcd_core.specs.CaptureContents.{contents};
 ghost use Rattle.vcd_text.specs.LentWords.{texts_left};
-ghost use Rattle.vcdedit.specs.ScriptCommands.{command_of};
 ghost use Rattle.vcdedit.specs.declared.script.keyword.Keyword.TheVariants as keywords;
-ghost use Rattle.vcdedit.specs.inside.script.Line.{ReadsAs};
+ghost use Rattle.vcdedit.specs.inside.script.Line.{ReadsCommand};
 
 use crate::script::edits::signal_of_name;
 use crate::script::line_words::{take_one, take_two};
@@ -15,8 +15,7 @@ use vcd_text::Words;
 
 /// Reads `NAME TICK`.
 pub fn parse_value<'a>(words: &mut Words<'a>, capture: &Capture) -> Parsed<'a>
-    ensures { ReadsAs (command_of (contents capture.now) keywords.Value (texts_left words.old))
-        result }
+    ensures { ReadsCommand (contents capture.now) keywords.Value (texts_left words.old) result }
 {
     let (name, tick) = take_two(words)?;
     let signal = signal_of_name(capture, name)?;
@@ -26,8 +25,7 @@ pub fn parse_value<'a>(words: &mut Words<'a>, capture: &Capture) -> Parsed<'a>
 
 /// Reads `NAME` of a signal whose changes are asked for.
 pub fn parse_changes<'a>(words: &mut Words<'a>, capture: &Capture) -> Parsed<'a>
-    ensures { ReadsAs (command_of (contents capture.now) keywords.Changes (texts_left words.old))
-        result }
+    ensures { ReadsCommand (contents capture.now) keywords.Changes (texts_left words.old) result }
 {
     let signal = signal_of_name(capture, take_one(words)?)?;
     Ok(Command::Changes { signal })

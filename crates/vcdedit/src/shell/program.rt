@@ -1,10 +1,7 @@
 //! The program: words in, files opened, a status out.
 
-ghost use Rattle.std.specs.Prelude.{◌≡◌, ◌≤◌, ◌⊎◌, ◌∷◌, true, false, [], Option, None, is_some};
-ghost use Rattle.std.specs.Prelude.{Err, IsSome, map, drop, IfOk, IfErr};
-ghost use Rattle.std.specs.Io.Buffered.{writer_inner, writer_buffer, writer_capacity};
-ghost use Rattle.std.specs.Io.Buffered.{writer_contents};
-ghost use Rattle.std.specs.Io.KnownBytes.{Keeps};
+ghost use Rattle.std.specs.Prelude.{◌≡◌, ◌≤◌, ◌⊎◌, ◌∷◌, false, [], Option, is_some, map, drop, Err};
+ghost use Rattle.std.specs.Prelude.{IfOk, IfErr};
 ghost use Rattle.std.specs.String.{string_bytes};
 ghost use Rattle.std.specs.Vec.Iter.{into_iter_items};
 ghost use Rattle.clap.specs.Words.{fault_of};
@@ -16,7 +13,6 @@ ghost use Rattle.vcdedit.specs.ProgramEnds.{IsOutcomeOn, IsOutcomeOfOptions};
 ghost use Rattle.vcdedit.specs.ProgramEnds.{program_status, program_text};
 ghost use Rattle.vcd_shell.specs.Devices.{DeviceEnd, device_end};
 ghost use Rattle.vcdedit.specs.RunEnds.{RunEnds};
-ghost use Rattle.vcdedit.specs.inside.shell.Program.{HasSentReplies};
 
 use crate::running::{RunError, Summary, run};
 use crate::shell::command_line::{Options, command_line, parse_words};
@@ -24,7 +20,7 @@ use crate::shell::ending::{Ending, NO_MEMORY, ending_without_run, report_ending}
 use crate::shell::opening::open_script;
 use std::env::Args;
 use std::io;
-use std::io::{BufWriter, Write};
+use std::io::BufWriter;
 use std::rt::Runtime;
 use vcd_core::{FromRead, Sink, Source, ToWrite};
 use vcd_journal::DEPTH_LIMIT;
@@ -135,41 +131,13 @@ fn run_inputs<R: Runtime + AllocGlobal, C: Source, S: Source>(
         (device_end C.coming C.has_failed capture.old capture.new)
         (device_end S.coming S.has_failed script.old script.new) }
 {
-    let buffer = new_buffer(rt, io::writer(rt))?;
-    let (outcome, _) = run_with_reply_buffer(rt, capture, script, buffer, output, depth);
+    let writer = io::writer(rt);
+    let buffer = BufWriter::with_capacity(rt.alloc(), BUFFER, writer).map_err(|_| NO_MEMORY)?;
+    let mut replies = ToWrite::new(buffer);
+    let outcome = run_devices(rt, capture, script, &mut replies, output, depth);
+    // what is left was flushed by the run, or else refused: it is not sent again
+    let _ = replies.into_inner().into_parts();
     outcome
-}
-
-/// Runs with a buffer for the replies. What it holds at the end is sent to the writer after it,
-/// even if memory ran out. Returns how the run ended, and that writer: if it failed, it is gone,
-/// and only an error after the run is kept.
-#[tactic(auto, using(crate::proofs::running::PartsOfRun::replies_sent))]
-fn run_with_reply_buffer<R: Runtime + AllocGlobal, C: Source, S: Source, W: Write + Drop>(
-    rt: &R,
-    capture: &mut C,
-    script: &mut S,
-    buffer: BufWriter<W>,
-    output: Option<&str>,
-    depth: u64,
-) -> (Result<Summary, RunError>, Result<W, Option<io::Error>>)
-    requires depth_least { 1 ≤ depth }
-    requires depth_most { depth ≤ DEPTH_LIMIT }
-    requires capture_ready { C.has_failed capture.old ≡ false }
-    requires script_ready { S.has_failed script.old ≡ false }
-    ensures ends { (replies : DeviceEnd) × (out : Option DeviceEnd) ×
-        (is_some out ≡ is_some output.entry) ×
-        (result.1 ≡ Err None → replies.has_failed ≡ true) ×
-        RunEnds depth
-        (device_end C.coming C.has_failed capture.old capture.new)
-        (device_end S.coming S.has_failed script.old script.new) replies out result.0 }
-    ensures sent { IfOk result.1 (λ writer. HasSentReplies result.0 depth
-        (device_end C.coming C.has_failed capture.old capture.new)
-        (device_end S.coming S.has_failed script.old script.new)
-        (writer_contents W.contents buffer) (W.contents writer)) }
-{
-    let mut device = ToWrite::new(buffer);
-    let outcome = run_devices(rt, capture, script, &mut device, output, depth);
-    (outcome, close_device(device))
 }
 
 /// Runs with the file at `output` for the output, if there is one.
@@ -197,42 +165,4 @@ fn run_devices<R: Runtime + AllocGlobal, C: Source, S: Source, P: Sink>(
         None => None,
     };
     run(rt.alloc(), capture, script, replies, out.as_mut(), depth)
-}
-
-/// A buffer for the bytes to another writer.
-fn new_buffer<R: AllocGlobal, W: Write + Drop>(rt: &R, writer: W) -> Result<BufWriter<W>, RunError>
-    ensures inner { IfOk result (λ b. writer_inner b ≡ writer) }
-    ensures empty { IfOk result (λ b. writer_buffer b ≡ []) }
-    ensures capacity { IfOk result (λ b. writer_capacity b ≡ BUFFER) }
-    ensures fault { IfErr result (λ e. e ≡ NO_MEMORY) }
-{
-    BufWriter::with_capacity(rt.alloc(), BUFFER, writer).map_err(|_| NO_MEMORY)
-}
-
-/// Sends what a device holds to the writer after it, and gives that writer back.
-///
-/// Nothing is sent if the device has failed. If the writer fails here, nothing is sent again, and
-/// its error is given.
-fn close_device<W: Write + Drop>(device: ToWrite<BufWriter<W>>) -> Result<W, Option<io::Error>>
-    ensures sent { IfOk result (λ writer.
-        Keeps (⟦<ToWrite<BufWriter<W>> as Sink>⟧.taken device) (W.contents writer)) }
-    ensures failed { ⟦<ToWrite<BufWriter<W>> as Sink>⟧.has_failed device ≡ true →
-        result ≡ Err None }
-    ensures not_failed { ⟦<ToWrite<BufWriter<W>> as Sink>⟧.has_failed device ≡ false →
-        IfErr result IsSome }
-{
-    let has_failed = device.failed();
-    let buffer = device.into_inner();
-    if has_failed {
-        let _ = buffer.into_parts();
-        return Err(None);
-    }
-    match buffer.into_inner() {
-        Ok(writer) => Ok(writer),
-        Err(short) => {
-            let (error, buffer) = short.into_parts();
-            let _ = buffer.into_parts();
-            Err(Some(error))
-        }
-    }
 }

@@ -53,13 +53,12 @@ abbrev refused_at : (skipped : ℕ) → List ℕ → Machine → ℕ
 refused_at skipped line m = cond (is_refused_on skipped line m) 1 0
 
 -- one more line
-line_more : (skipped : ℕ) (lines : List (List ℕ)) (old : Machine) (number : ℕ) (line : List ℕ) (left : List (List ℕ))
-    (now new : Machine) (texts : List (List ℕ)) (refused : ℕ) →
+line_more : {skipped number refused : ℕ} {lines left texts : List (List ℕ)} {line : List ℕ} {old now new : Machine} →
     AreLeft skipped lines old number (line ∷ left) now texts refused → machine_after_line now line ≡ new →
     AreLeft skipped lines old (number + 1) left new (texts ++ replied_to skipped (number + 1) line now ∷ [])
     (refused + refused_at skipped line now)
 unfolding machine_after_lines line_replies refusal_count
-line_more skipped lines old number line left now new texts refused so after = record {
+line_more {skipped} {number} {refused} {left = left} {texts} {line} {now = now} {new} so after = record {
   after = so.after ∙ ap (λ (m : Machine). machine_after_lines m left) after;
   replies = so.replies
       ∙ ap (λ (m : Machine). texts ++ replied_to skipped (number + 1) line now ∷ line_replies skipped (number + 1 + 1) m
@@ -74,15 +73,15 @@ line_more skipped lines old number line left now new texts refused so after = re
 concat_more : (texts : List (List ℕ)) (text : List ℕ) → concat (texts ++ text ∷ []) ≡ concat texts ++ text
 concat_more texts text = concat-append texts (text ∷ []) ∙ ap (λ l. concat texts ++ l) (append-nil text)
 
-pub reply_more : (skipped : ℕ) (lines : List (List ℕ)) (old : Machine) (number : ℕ) (line : List ℕ)
-    (all left : List (List ℕ)) (now new : Machine) (reply : Reply) (refused more bytes written : ℕ)
-    (before between after : Option (List ℕ)) →
-    all ≡ line ∷ left → RepliesSoFar skipped lines old number all now refused bytes before between
-    → AnswersLine skipped (number + 1) line now new reply → Appends between after reply.text.items
+pub reply_more : {skipped number refused bytes : ℕ} {lines all left : List (List ℕ)} {line : List ℕ} {old now : Machine}
+    {before between : Option (List ℕ)} →
+    RepliesSoFar skipped lines old number all now refused bytes before between → all ≡ line ∷ left →
+    (new : Machine) (reply : Reply) (more written : ℕ) (after : Option (List ℕ)) →
+    AnswersLine skipped (number + 1) line now new reply → Appends between after reply.text.items
     → more ≡ cond reply.is_refused 1 0 → written ≡ length reply.text.items →
     RepliesSoFar skipped lines old (number + 1) left new (refused + more) (bytes + written) before after
-reply_more skipped lines old number line all left now new reply refused more bytes written before between after parts so
-    answers took counted len_is =
+reply_more {skipped} {number} {line = line} {now = now} {before} {between} so parts new reply more written after answers
+    took counted len_is =
     let text : List ℕ = replied_to skipped (number + 1) line now in
     let is : reply.text.items ≡ text = answers.1.0 in
     let one : more ≡ refused_at skipped line now = counted ∙ ap (λ (b : Bool). cond b 1 0) answers.1.1 in
@@ -96,17 +95,16 @@ reply_more skipped lines old number line all left now new reply refused more byt
       counted = omega (arith, len, so.counted, len_is, ap (λ (l : List ℕ). length l) is);
       took = subst (Appends before after) (sym joined)
           (Appends-trans before between after (concat so.texts) text so.took (subst (Appends between after) is took));
-      are_left = rw one
-          (line_more skipped lines old number line left now new so.texts refused (rw parts at so.are_left) answers.0);
+      are_left = rw one (line_more (rw parts at so.are_left) answers.0);
     }
 
 -- no line is left
-pub none_left : (skipped : ℕ) (lines : List (List ℕ)) (old : Machine) (number : ℕ) (left : List (List ℕ))
-    (now : Machine) (refused bytes : ℕ) (before after : Option (List ℕ)) →
-    left ≡ [] → RepliesSoFar skipped lines old number left now refused bytes before after
+pub none_left : {skipped number refused bytes : ℕ} {lines left : List (List ℕ)} {old now : Machine}
+    {before after : Option (List ℕ)} →
+    RepliesSoFar skipped lines old number left now refused bytes before after → left ≡ []
     → RunsLines skipped lines old now refused before after
 unfolding machine_after_lines line_replies refusal_count
-none_left skipped lines old number left now refused bytes before after none so =
+none_left {refused = refused} so none =
     let last = rw none at so.are_left in
     let sum : refused + 0 ≡ refused = omega arith in (
       so.texts,

@@ -84,13 +84,14 @@ text_stops replies texts rest text number bytes before between after (run_errors
 -- ---- lines
 
 -- at a line
-pub line_stops : (skipped : ℕ) (lines : List (List ℕ)) (old : Machine) (number : ℕ) (line : List ℕ)
-    (all left : List (List ℕ)) (now : Machine) (refused bytes : ℕ) (before between after : Option (List ℕ))
-    (e : RunError) →
-    all ≡ line ∷ left → RepliesSoFar skipped lines old number all now refused bytes before between →
-    StopsAtLine skipped (number + 1) line now bytes between after e → StopsInLines skipped lines old before after e
+pub line_stops : {skipped number refused bytes : ℕ} {lines all left : List (List ℕ)} {line : List ℕ} {old now : Machine}
+    {before between : Option (List ℕ)} →
+    RepliesSoFar skipped lines old number all now refused bytes before between → all ≡ line ∷ left →
+    (after : Option (List ℕ)) (e : RunError) → StopsAtLine skipped (number + 1) line now bytes between after e
+    → StopsInLines skipped lines old before after e
 unfolding line_replies
-line_stops skipped lines old number line all left now refused bytes before between after e parts so stops =
+line_stops {skipped} {number} {bytes = bytes} {lines} {left = left} {line} {old} {now} {before} {between} so parts after
+    e stops =
     let here = rw parts at so.are_left in
     text_stops (line_replies skipped 1 old lines) so.texts
     (line_replies skipped (number + 1 + 1) (machine_after_line now line) left)
@@ -99,12 +100,13 @@ line_stops skipped lines old number line all left now refused bytes before betwe
     here.replies so.one_each so.counted so.took stops
 
 -- after the last line, in the flush: all is written
-pub flush_stops : (skipped : ℕ) (lines : List (List ℕ)) (old : Machine) (number : ℕ) (left : List (List ℕ))
-    (now : Machine) (refused bytes : ℕ) (before between after : Option (List ℕ)) →
-    left ≡ [] → RepliesSoFar skipped lines old number left now refused bytes before between → Keeps between after
+pub flush_stops : {skipped number refused bytes : ℕ} {lines left : List (List ℕ)} {old now : Machine}
+    {before between : Option (List ℕ)} →
+    RepliesSoFar skipped lines old number left now refused bytes before between → left ≡ [] →
+    (after : Option (List ℕ)) → Keeps between after
     → StopsInLines skipped lines old before after (run_errors.ReplyFault bytes)
 unfolding line_replies
-flush_stops skipped lines old number left now refused bytes before between after none so kept =
+flush_stops {skipped} {bytes = bytes} {lines} {old = old} {before = before} {between} so none after kept =
     let last = rw none at so.are_left in
     let all : concat (line_replies skipped 1 old lines) ≡ concat so.texts =
     ap concat (last.replies ∙ append-nil so.texts) in

@@ -7,8 +7,7 @@ use Rattle.vcdedit.specs.declared.script.command.Command.{Command}
 use Rattle.vcdedit.specs.declared.script.command.Command.TheVariants as commands
 use Rattle.vcdedit.specs.declared.script.decoders.SpiLines.{SpiLines}
 use Rattle.vcdedit.specs.declared.script.line_error.LineError.{LineError}
-use Rattle.vcdedit.specs.LineWords.{◌>>=◌}
-use Rattle.vcdedit.specs.ScriptWords.{number_of_word}
+use Rattle.vcdedit.specs.ScriptWords.{◌>>=◌, number_of_word}
 use Rattle.vcdedit.specs.DecoderWords.{order_of_word, one_bit_signal}
 use Rattle.vcdedit.specs.DecoderWords.{one_bit_signal_or_absent, faultless_spi}
 

@@ -1,19 +1,16 @@
+-- The replies so far, with that of one more line, or with none where the lines end.
 use Rattle.std.proofs.Common.{arith, rules}
 use Rattle.std.proofs.KnownBytes.{Appends-kept}
 use Rattle.vcdedit.proofs.running.PartsOfRun.{at_error}
-use Rattle.vcdedit.specs.Script.{script_lines}
 use Rattle.vcdedit.proofs.running.run_lines.LinesLeft.{reply_more, none_left, no_lines}
 use Rattle.vcdedit.proofs.running.run_lines.StoppedByFault.{line_stops, flush_stops}
 use Rattle.vcdedit.proofs.running.run_lines.run_lines.Goals as goal
 
 pub loop-line-preserved : goal.loop-line-preserved
 loop-line-preserved g c = record {
-  replied = reply_more c.args.skipped (script_lines c.args.script.now) c.args.session.now c.loop-line.number
-      c.in-Some.line.now (script_lines c.loop-line.rest.now) (script_lines c.in-Some.following.now)
-      c.loop-line.session c.run_line.new.session c.in_ok-reply.reply c.loop-line.refused c.from-refused.result
-      c.loop-line.written c.len.result _ _ _
-      c.in-Some.ensures.0 c.loop-line.invariant.replied c.in_ok-reply.ensures.answers c.in_ok-reply.ensures.written
-      (search rules) (search rules);
+  replied = reply_more c.loop-line.invariant.replied c.in-Some.ensures.0 c.run_line.new.session c.in_ok-reply.reply
+      c.from-refused.result c.len.result (g.P.Sink.taken c.run_line.new.replies) c.in_ok-reply.ensures.answers
+      c.in_ok-reply.ensures.written (search rules) (search rules);
   ready = c.in_ok-reply.ensures.not_failed;
   number = omega (arith, c.in-Some.ensures.1);
   refused = search rules;
@@ -23,20 +20,15 @@ loop-line-preserved g c = record {
 pub returns-in_err-reply-clause-stopped : goal.returns-in_err-reply-clause-stopped
 returns-in_err-reply-clause-stopped g c =
     at_error c.from_residual.result c.in_err-reply.field-0.0 _ c.from_residual.ensures.1
-    (line_stops c.args.skipped (script_lines c.args.script.now) c.args.session.now c.loop-line.number c.in-Some.line.now
-    (script_lines c.loop-line.rest.now) (script_lines c.in-Some.following.now)
-    c.loop-line.session c.loop-line.refused c.loop-line.written _ _ _ c.in_err-reply.field-0.0 c.in-Some.ensures.0
-    c.loop-line.invariant.replied c.in_err-reply.ensures.stopped)
+    (line_stops c.loop-line.invariant.replied c.in-Some.ensures.0 (g.P.Sink.taken c.run_line.new.replies)
+    c.in_err-reply.field-0.0 c.in_err-reply.ensures.stopped)
 
 pub returns-in-Ok-clause-ran : goal.returns-in-Ok-clause-ran
 returns-in-Ok-clause-ran g c =
-    let so = none_left c.args.skipped (script_lines c.args.script.now) c.args.session.now c.loop-line.number
-    (script_lines c.loop-line.rest.now) c.loop-line.session c.loop-line.refused c.loop-line.written _ _
-    (no_lines c.loop-line.rest.now c.in_default.ensures) c.loop-line.invariant.replied in
+    let so = none_left c.loop-line.invariant.replied (no_lines c.loop-line.rest.now c.in_default.ensures) in
     (so.0, Appends-kept _ _ _ _ so.1 c.in-Ok.ensures.bytes, so.2)
 
 pub returns-in-Err-clause-stopped : goal.returns-in-Err-clause-stopped
 returns-in-Err-clause-stopped g c =
-    flush_stops c.args.skipped (script_lines c.args.script.now) c.args.session.now c.loop-line.number
-    (script_lines c.loop-line.rest.now) c.loop-line.session c.loop-line.refused c.loop-line.written _ _ _
-    (no_lines c.loop-line.rest.now c.in_default.ensures) c.loop-line.invariant.replied c.in-Err.ensures.bytes
+    flush_stops c.loop-line.invariant.replied (no_lines c.loop-line.rest.now c.in_default.ensures)
+    (g.P.Sink.taken c.flush.new.self) c.in-Err.ensures.bytes

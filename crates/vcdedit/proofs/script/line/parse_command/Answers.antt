@@ -3,16 +3,15 @@ use Rattle.std.proofs.Common.{sym, subst}
 use Rattle.vcd_core.specs.CaptureContents.{contents}
 use Rattle.vcd_text.specs.LentWords.{texts_left}
 use Rattle.vcdedit.specs.declared.script.keyword.Keyword.{Keyword}
-use Rattle.vcdedit.specs.ScriptCommands.{command_of}
-use Rattle.vcdedit.specs.inside.script.Line.{ReadsAs}
+use Rattle.vcdedit.specs.inside.script.Line.{ReadsCommand}
 use Rattle.vcdedit.proofs.script.line.parse_command.Goals as goal
 
 pub returns-in-Cut : goal.returns-in-Cut
 returns-in-Cut c =
-    subst (λ (k : Keyword). ReadsAs (command_of (contents c.args.capture.now) k (texts_left c.args.words.now))
+    subst (λ (k : Keyword). ReadsCommand (contents c.args.capture.now) k (texts_left c.args.words.now)
     c.parse_cut.result) (sym c.in-Cut.is) (c.parse_cut.ensures (contents c.args.capture.now))
 
 pub returns-in-Depth : goal.returns-in-Depth
 returns-in-Depth c =
-    subst (λ (k : Keyword). ReadsAs (command_of (contents c.args.capture.now) k (texts_left c.args.words.now))
+    subst (λ (k : Keyword). ReadsCommand (contents c.args.capture.now) k (texts_left c.args.words.now)
     c.parse_depth.result) (sym c.in-Depth.is) (c.parse_depth.ensures (contents c.args.capture.now))

@@ -1,2 +1,0 @@
--- Lemmas of `script/line`.
-pub mod AskedSignals

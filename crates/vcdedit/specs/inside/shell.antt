@@ -1,2 +1,0 @@
--- Definitions that `shell` and its proofs cite.
-pub mod Program
