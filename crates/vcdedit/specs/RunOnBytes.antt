@@ -1,11 +1,10 @@
 -- What a run over bytes in memory gives: the headline without devices. The rules are the project's
 -- own.
-use Rattle.std.specs.Prelude.{◌≡◌, ◌<◌, ◌≤◌, ℕ, zero, suc, List, [], length, take, Result, Ok, codes}
+use Rattle.std.specs.Prelude.{◌≡◌, ◌<◌, ◌≤◌, ℕ, zero, suc, List, [], length, take, Result, Ok}
 use Rattle.std.specs.Prelude.{Err}
 use Rattle.std.specs.List.{concat}
 use Rattle.vcd_core.specs.Contents.{Contents}
 use Rattle.vcd_text.specs.Faults.{IsFileFault, IsPrefixAnswer}
-use Rattle.vcd_text.specs.FaultNames.{fault_name}
 use Rattle.vcd_text.specs.Meaning.{FileMeans}
 use Rattle.vcd_text.specs.declared.fault.Fault.TheVariants as faults
 use Rattle.vcd_text.specs.declared.fault.ReadError.{ReadError}
@@ -19,12 +18,6 @@ use Rattle.vcdedit.specs.declared.running.run_on_bytes.RunRefusal.TheVariants.{N
 use Rattle.vcdedit.specs.declared.running.run_on_bytes.Stage.TheVariants.{Inputs, Line, Replies}
 use Rattle.vcdedit.specs.declared.running.run_on_bytes.Stage.TheVariants.{Output}
 use Rattle.vcdedit.specs.Run.{RunOutcome, IsRun}
-
--- the name of a refusal
-abbrev pub run_refusal_name : RunRefusal → List ℕ
-run_refusal_name (Capture e) = fault_name e.fault
-run_refusal_name ScriptTooLarge = codes "ScriptTooLarge"
-run_refusal_name (NoMemory stage replies) = codes "NoMemory"
 
 -- why a capture file is refused: for its fault, or its length
 pub data IsRefusedFile (file : List ℕ) (e : ReadError) : Type 0 where

@@ -4,7 +4,8 @@ ghost use Rattle.std.specs.Prelude.{◌≡◌, ◌≤◌, ℕ, List};
 ghost use Rattle.vcd_core.specs.Contents.{Contents};
 ghost use Rattle.vcd_text.specs.Meaning.{FileMeans};
 ghost use Rattle.vcdedit.specs.Run.{RunLaws};
-ghost use Rattle.vcdedit.specs.RunOnBytes.{RunGives, run_refusal_name};
+ghost use Rattle.vcdedit.specs.Report.{run_refusal_name};
+ghost use Rattle.vcdedit.specs.RunOnBytes.{RunGives};
 ghost use Rattle.vcdedit.specs.inside.running.RunOnBytes.{run_refusal, stage_of_line};
 ghost use Rattle.vcdedit.specs.declared.running.run_error.RunError.TheVariants as run_errors;
 
