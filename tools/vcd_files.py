@@ -77,6 +77,8 @@ class Trouble(Exception):
 # A variable as it is declared. `words` are those of its own name, `scopes` the names of its scopes, outermost first.
 Variable = collections.namedtuple("Variable", "kind size code words scopes")
 Declarations = collections.namedtuple("Declarations", "timescale variables line")
+# A kind of what the written file lacks: how much, of what, by which variables, and whether values are lost by it.
+Loss = collections.namedtuple("Loss", "count what names is_of_values")
 
 
 def shown(name):
@@ -152,8 +154,8 @@ def want_one_size(variable, sizes, line):
 
 
 class Losses:
-    """What the written file of a capture lacks: variables that are left out; of the others how many real and string changes,
-    and how many changes that a later one of the same tick replaces; and how many comments among the changes."""
+    """Variables that are left out; of the others how many real and string changes, and how many changes that a later one of
+    the same tick replaces; and how many comments among the changes."""
 
     def __init__(self):
         self.variables, self.kept = [], []
@@ -187,7 +189,7 @@ class Losses:
                 seen[code] = word
 
     def rows(self):
-        """(count, what it is, a row for each variable, whether values are lost) for each kind of loss that there is."""
+        """Each kind of loss that there is."""
         kept = {one.code: one for one in reversed(self.kept)}
         skipped = [
             "%s%s %s" % (
@@ -197,20 +199,20 @@ class Losses:
             )
             for one in self.variables
         ]
-        found = [(len(skipped), "variable%s", skipped, True)]
+        found = [Loss(len(skipped), "variable%s", skipped, True)]
         for counts, what in ((self.values, "real or string change%s"), (self.replaced, "change%s replaced within a tick")):
             each = [(kept[code], count) for code, count in counts.items() if code in kept]
             names = ["%s: %s" % (shown(full_name(one)), counted(count, what)) for one, count in each]
-            found.append((sum(count for _, count in each), what, names, counts is self.values))
-        return [row for row in [*found, (self.comments, "comment%s among the changes", [], False)] if row[0]]
+            found.append(Loss(sum(count for _, count in each), what, names, counts is self.values))
+        return [loss for loss in [*found, Loss(self.comments, "comment%s among the changes", [], False)] if loss.count]
 
 
-def losses_of(file):
-    """What would be lost of a regular file that is open for bytes, as far as it is a capture."""
-    losses, place = Losses(), 0
+def declared_in(file):
+    """The variables of a regular file that is open for bytes, its bytes, and where its changes begin. There are no variables
+    if the declarations have a fault: the program tells it."""
     if os.fstat(file.fileno()).st_size == 0:
-        return losses
-    text = mmap.mmap(file.fileno(), 0, access=mmap.ACCESS_READ)
+        return [], b"", 0
+    text, place = mmap.mmap(file.fileno(), 0, access=mmap.ACCESS_READ), 0
 
     def stream():
         nonlocal place
@@ -220,22 +222,24 @@ def losses_of(file):
         yield 0, None
 
     try:
-        declared = read_declarations(stream()).variables
+        return read_declarations(stream()).variables, text, place
     except Fault:
-        return losses
-    losses.variables = [one for one in declared if not is_kept(one)]
-    losses.kept = list(filter(is_kept, declared))
-    losses.take_changes(itertools.chain.from_iterable(piece.split() for piece in pieces(text, place)))
-    return losses
+        return [], b"", 0
 
 
 def names_in(file):
-    """The full names of a capture's signals, as far as its declarations can be read: the program tells their fault."""
-    file.seek(0)
-    try:
-        return [full_name(one) for one in read_declarations(words(file)).variables if is_kept(one)]
-    except Fault:
-        return []
+    """The full names of the signals of a capture."""
+    return [full_name(one) for one in declared_in(file)[0] if is_kept(one)]
+
+
+def losses_of(file):
+    """What the file that is written of a capture lacks: a Loss for each kind."""
+    losses = Losses()
+    declared, text, place = declared_in(file)
+    losses.variables = [one for one in declared if not is_kept(one)]
+    losses.kept = list(filter(is_kept, declared))
+    losses.take_changes(itertools.chain.from_iterable(piece.split() for piece in pieces(text, place)))
+    return losses.rows()
 
 
 def pieces(text, place):
@@ -252,15 +256,13 @@ def counted(count, what):
     return "%d %s" % (count, what % ("s" * (count != 1)))
 
 
-def listed(phrases):
-    """`A, B and C`."""
-    return " and ".join([", ".join(phrases[:-1]), phrases[-1]] if phrases[1:] else phrases)
-
-
-def some(rows):
-    """The first rows, and how many more there are."""
-    more = len(rows) - LINES_SHOWN
-    return rows[:LINES_SHOWN] + ["and %d more" % more] * (more > 0)
+def told_losses(losses):
+    """Losses in a phrase, and the first of the rows that name variables."""
+    phrases = [counted(loss.count, loss.what) for loss in losses]
+    names = [name for loss in losses for name in loss.names]
+    more = len(names) - LINES_SHOWN
+    phrase = " and ".join([", ".join(phrases[:-1]), phrases[-1]] if phrases[1:] else phrases)
+    return phrase, names[:LINES_SHOWN] + ["and %d more" % more] * (more > 0)
 
 
 def words_up_to_end(stream, command):

@@ -193,6 +193,11 @@ def stays(program, folder):
         words = ["sh", "-c", 'exec "$@" %s' % closed, "sh", APPLY, "script", "A", "--to", "closed"]
         done = run(words, cwd=place.folder, env=place.environment)
         yield "closed: " + closed, done[0] == status and done[2] == told
+    with open("/dev/full", "w") as full:
+        words = [APPLY, "script", "lossy", "B", "--to", "closed"]
+        place.store("B", LINE)
+        done = subprocess.run(words, cwd=place.folder, env=place.environment, stdout=subprocess.PIPE, stderr=full, text=True)
+    yield "a full standard error", done.returncode == 1 and done.stdout.endswith("1 written, 1 not, status 1\n")
     for words in (["--help"], ["--version"]):
         yield "a full standard output: %s" % words, on_a_full_disc(place, *words) == (4, "standard output: No space left on device\n")
 
@@ -230,7 +235,7 @@ def answers(program, folder):
     found = place.run("refused", "A", "--keep-going")
     yield "no edit is carried out", found[:2] == (1, ["A:2: 1", "A: as it was: no edit was carried out, 1 line refused"])
     yield "nothing is written", place.load("A") == LINE and place.names() == ["A", "B", "asks", "bad", "lossy", "refused", "script"]
-    told = "standard output: No space left on device. Written before: %s\n"
+    told = "standard output: No space left on device. Written before, so run again without: %s\n"
     yield "a full standard output", on_a_full_disc(place, "script", "A", "B") == (4, told % "A") and place.load("B") == LINE != place.load("A")
     place.store("asks", "value tb.rx 5\n" + WRITTEN)
     yield "a reply to a full disc", on_a_full_disc(place, "asks", "B") == (4, told % "none") and place.load("B") == LINE

@@ -80,7 +80,8 @@ fn parts_fit(
     signals: &[Signal],
     end: u64,
 ) -> bool
-    requires { (other_end : Option ℕ)
+    requires small { end ≤ END_LIMIT }
+    requires kind { (other_end : Option ℕ)
         × HasOneKindOfPart (record_view pieces.now word.now signal.now other_end) }
     ensures { (c : Contents) (other_end : Option ℕ) → c.signals ≡ map signal_contents signals.now
         → IsTrue result ↔ PartsFit end (record_view pieces.now word.now signal.now other_end) c }
@@ -105,8 +106,8 @@ impl Record {
     /// Whether the record fits a capture: its parts lie within it, and the resulting capture is
     /// sound.
     ///
-    /// It takes no memory. Its time grows with the words and the signals of the capture, and with
-    /// the changes in the pieces. It does not grow with the changes of the waves.
+    /// It takes no memory. Its time grows with the words and the signals of the capture, with the
+    /// changes in the pieces, and with those after the ranges of the pieces.
     pub fn fits(&self, capture: &Capture) -> bool
         ensures { IsTrue result ↔ Fits self.now (contents capture.now) }
     {

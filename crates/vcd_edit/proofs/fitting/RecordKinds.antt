@@ -8,7 +8,9 @@ use Rattle.std.specs.List.{insert, remove, list_all}
 use Rattle.std.proofs.lemmas.List.{length-set, length-map}
 use Rattle.std.proofs.lemmas.List.Elements.{All-nil}
 use Rattle.std.proofs.lemmas.List.Edits.{length-insert, length-remove}
+use Rattle.vcd_core.specs.declared.capture.Header.{Header}
 use Rattle.vcd_core.specs.declared.capture.Signal.{Signal}
+use Rattle.vcd_core.specs.declared.capture.Timescale.{Timescale}
 use Rattle.vcd_core.specs.declared.capture.TheConstants.{SIGNAL_LIMIT}
 use Rattle.vcd_core.specs.Contents.{Contents, SignalContents, no_signal, signal_at}
 use Rattle.vcd_core.specs.CaptureContents.{signal_contents}
@@ -180,15 +182,14 @@ module _ (end : ℕ) (c : Contents) (r : RecordView) (e : Option ℕ) (one : Has
 
 -- ---- the whole record
 
-header_kept : (c : Contents) (ps : List PieceView) → (with_pieces c ps).header ≡ c.header
-unfolding with_pieces
-header_kept c [] = refl
-header_kept c (p ∷ ps) = header_kept (with_piece c p) ps
+abbrev header_and_timescale : Contents → List Header × Option Timescale
+header_and_timescale c = (c.header, c.timescale)
 
-timescale_kept : (c : Contents) (ps : List PieceView) → (with_pieces c ps).timescale ≡ c.timescale
+kept_by_pieces : (c : Contents) (ps : List PieceView)
+    → header_and_timescale (with_pieces c ps) ≡ header_and_timescale c
 unfolding with_pieces
-timescale_kept c [] = refl
-timescale_kept c (p ∷ ps) = timescale_kept (with_piece c p) ps
+kept_by_pieces c [] = refl
+kept_by_pieces c (p ∷ ps) = kept_by_pieces (with_piece c p) ps
 
 end_of : (c : Contents) (w : Option (ℕ × List ℕ)) (m : Option (ℕ × Option SignalContents)) (e : Option ℕ)
     → (with_end e (with_signal_in_out m (with_first_word w c))).end ≡ unwrap_or e c.end
@@ -198,27 +199,16 @@ end_of c None (Some m) None = refl
 end_of c (Some w) (Some m) None = refl
 end_of c w m (Some end) = refl
 
-header_of : (c : Contents) (w : Option (ℕ × List ℕ)) (m : Option (ℕ × Option SignalContents)) (e : Option ℕ)
-    → (with_end e (with_signal_in_out m (with_first_word w c))).header ≡ c.header
-header_of c None None None = refl
-header_of c (Some w) None None = refl
-header_of c None (Some m) None = refl
-header_of c (Some w) (Some m) None = refl
-header_of c None None (Some end) = refl
-header_of c (Some w) None (Some end) = refl
-header_of c None (Some m) (Some end) = refl
-header_of c (Some w) (Some m) (Some end) = refl
-
-timescale_of : (c : Contents) (w : Option (ℕ × List ℕ)) (m : Option (ℕ × Option SignalContents)) (e : Option ℕ)
-    → (with_end e (with_signal_in_out m (with_first_word w c))).timescale ≡ c.timescale
-timescale_of c None None None = refl
-timescale_of c (Some w) None None = refl
-timescale_of c None (Some m) None = refl
-timescale_of c (Some w) (Some m) None = refl
-timescale_of c None None (Some end) = refl
-timescale_of c (Some w) None (Some end) = refl
-timescale_of c None (Some m) (Some end) = refl
-timescale_of c (Some w) (Some m) (Some end) = refl
+kept_by_parts : (c : Contents) (w : Option (ℕ × List ℕ)) (m : Option (ℕ × Option SignalContents)) (e : Option ℕ)
+    → header_and_timescale (with_end e (with_signal_in_out m (with_first_word w c))) ≡ header_and_timescale c
+kept_by_parts c None None None = refl
+kept_by_parts c (Some w) None None = refl
+kept_by_parts c None (Some m) None = refl
+kept_by_parts c (Some w) (Some m) None = refl
+kept_by_parts c None None (Some end) = refl
+kept_by_parts c (Some w) None (Some end) = refl
+kept_by_parts c None (Some m) (Some end) = refl
+kept_by_parts c (Some w) (Some m) (Some end) = refl
 
 module _ (r : RecordView) (c : Contents) where
   end_then : (apply_record r c).end ≡ unwrap_or r.other_end c.end
@@ -226,13 +216,9 @@ module _ (r : RecordView) (c : Contents) where
   end_then = end_of (with_pieces c r.pieces) r.word r.signal r.other_end
       ∙ ap (unwrap_or r.other_end) (end_kept c r.pieces)
 
-  header_then : (apply_record r c).header ≡ c.header
+  kept_then : header_and_timescale (apply_record r c) ≡ header_and_timescale c
   unfolding apply_record
-  header_then = header_of (with_pieces c r.pieces) r.word r.signal r.other_end ∙ header_kept c r.pieces
-
-  timescale_then : (apply_record r c).timescale ≡ c.timescale
-  unfolding apply_record
-  timescale_then = timescale_of (with_pieces c r.pieces) r.word r.signal r.other_end ∙ timescale_kept c r.pieces
+  kept_then = kept_by_parts (with_pieces c r.pieces) r.word r.signal r.other_end ∙ kept_by_pieces c r.pieces
 
   pub fits_by_parts : HasSoundMetadata (unwrap_or r.other_end c.end) c → PartsFit (unwrap_or r.other_end c.end) r c
       → Fits r c
@@ -241,8 +227,8 @@ module _ (r : RecordView) (c : Contents) where
     word = parts.1;
     signal = parts.2;
     sound = record {
-      header = subst (λ h. IsTrue (list_all is_sound_header h)) (sym header_then) frame.0;
-      timescale = subst (λ t. IfSome t (λ t. IsTrue (is_sound_timescale t))) (sym timescale_then) frame.1;
+      header = subst (λ h. IsTrue (list_all is_sound_header h)) (ap (λ k. k.0) (sym kept_then)) frame.0;
+      timescale = subst (λ t. IfSome t (λ t. IsTrue (is_sound_timescale t))) (ap (λ k. k.1) (sym kept_then)) frame.1;
       end = omega (arith, frame.2, end_then);
       few = parts.3.0;
       signals = subst (λ end. All (IsSoundSignal end) (apply_record r c).signals) (sym end_then) parts.3.1;
@@ -251,8 +237,8 @@ module _ (r : RecordView) (c : Contents) where
 
   pub frame_fits : Fits r c → HasSoundMetadata (unwrap_or r.other_end c.end) c
   frame_fits fits = (
-    subst (λ h. IsTrue (list_all is_sound_header h)) header_then fits.sound.header,
-    subst (λ t. IfSome t (λ t. IsTrue (is_sound_timescale t))) timescale_then fits.sound.timescale,
+    subst (λ h. IsTrue (list_all is_sound_header h)) (ap (λ k. k.0) kept_then) fits.sound.header,
+    subst (λ t. IfSome t (λ t. IsTrue (is_sound_timescale t))) (ap (λ k. k.1) kept_then) fits.sound.timescale,
     omega (arith, fits.sound.end, end_then),
   )
 

@@ -1,6 +1,6 @@
 -- Which pieces fit a capture, as one pass over its signals shows.
-use Rattle.std.proofs.Common.{◌≡◌, ◌≢◌, ◌↔◌, ℕ, zero, suc, ◌+◌, ◌-◌, ◌<◌, ◌≤◌, ◌==◌, Bool, true, false}
-use Rattle.std.proofs.Common.{List, [], ◌∷◌, length, map, take, drop, get_or, slice_index_or, All, refl, sym}
+use Rattle.std.proofs.Common.{◌≡◌, ◌↔◌, ℕ, zero, suc, ◌+◌, ◌-◌, ◌<◌, ◌≤◌, ◌==◌, Bool, true, false}
+use Rattle.std.proofs.Common.{List, [], ◌∷◌, length, map, take, drop, get_or, All, refl, sym}
 use Rattle.std.proofs.Common.{if◌then◌else◌, ap, subst, ◌∙◌, arith}
 use Rattle.std.proofs.lemmas.Bool.{eqb-true, eqb-false, eq-eqb}
 use Rattle.std.proofs.lemmas.List.{length-map, length-drop, get_or-map, get_or_default, take_rest, drop-map}
@@ -18,7 +18,6 @@ use Rattle.vcd_edit.specs.RecordView.{PieceView}
 use Rattle.vcd_edit.specs.AppliedRecords.{changes_with_piece, signal_with_changes, with_piece}
 use Rattle.vcd_edit.specs.AppliedRecords.{with_pieces, PieceFits, RiseFrom}
 use Rattle.vcd_edit.specs.Records.{piece_view}
-use Rattle.vcd_edit.specs.inside.fitting.Adjacency.{IsValidPiece}
 use Rattle.vcd_edit.specs.inside.fitting.TestsOfParts.{HasSoundNames, IsSoundHere, pieces_after, AreSoundFrom}
 use Rattle.vcd_edit.specs.inside.fitting.TestsOfParts.{AreSoundSignals, is_for}
 use Rattle.vcd_edit.proofs.plans.EffectOfRecord.{contents_at}

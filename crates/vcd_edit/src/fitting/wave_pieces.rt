@@ -13,7 +13,7 @@ ghost use Rattle.vcd_edit.specs.inside.fitting.TestsOfParts.{AreSoundSignals, is
 use crate::fitting::adjacency::is_valid_piece;
 use crate::fitting::sound_names::has_sound_names;
 use crate::record::Piece;
-use vcd_core::{SIGNAL_LIMIT, Signal};
+use vcd_core::{END_LIMIT, SIGNAL_LIMIT, Signal};
 
 /// Whether the first of some pieces is for the signal at a position.
 fn is_next_for(position: usize, pieces: &[Piece]) -> bool
@@ -35,6 +35,7 @@ fn count_for(position: usize, pieces: &[Piece]) -> usize
 
 /// Whether a signal with a piece is sound up to an end.
 fn is_sound_with(signal: &Signal, piece: &Piece, end: u64) -> bool
+    requires { end ≤ END_LIMIT }
     ensures { IsTrue result ↔ IsSoundWith end (signal_contents signal.now) (piece_view piece.now) }
 {
     has_sound_names(signal) && is_valid_piece(piece, &signal.wave, end)
@@ -43,6 +44,7 @@ fn is_sound_with(signal: &Signal, piece: &Piece, end: u64) -> bool
 /// Whether the signal at a position is sound up to an end, with the first of the pieces if that is
 /// for it.
 fn is_sound_here(signal: &Signal, position: usize, pieces: &[Piece], end: u64) -> bool
+    requires { end ≤ END_LIMIT }
     ensures { IsTrue result ↔ IsSoundHere end (is_for position (map piece_view pieces.now))
         (signal_contents signal.now) (map piece_view pieces.now) }
 {
@@ -54,6 +56,7 @@ fn is_sound_here(signal: &Signal, position: usize, pieces: &[Piece], end: u64) -
 
 /// Whether each signal, with its piece if it has one, is sound up to an end, and no piece is left.
 fn are_sound_with(pieces: &[Piece], signals: &[Signal], end: u64) -> bool
+    requires { end ≤ END_LIMIT }
     ensures { IsTrue result ↔ AreSoundFrom end (map signal_contents signals.now) 0
         (length signals.now) (map piece_view pieces.now) }
 {
@@ -70,6 +73,7 @@ fn are_sound_with(pieces: &[Piece], signals: &[Signal], end: u64) -> bool
 
 /// Whether pieces fit signals and give sound ones up to the end.
 pub(crate) fn pieces_fit(pieces: &[Piece], signals: &[Signal], end: u64) -> bool
+    requires small { end ≤ END_LIMIT }
     requires rise { RiseFrom 0 (map piece_view pieces.now) }
     ensures { (c : Contents) → c.signals ≡ map signal_contents signals.now
         → IsTrue result ↔ (All (PieceFits c) (map piece_view pieces.now)

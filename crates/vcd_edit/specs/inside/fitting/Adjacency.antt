@@ -1,14 +1,11 @@
 -- When a list of changes may come after another.
-use Rattle.std.specs.Int.{w64, FitsUnsigned}
-use Rattle.std.specs.Prelude.{ℤ, pos, ◌+ℤ◌, unsigned_abs, ℕ, ◌+◌, ◌≤◌, ◌&&◌, Bool, true, not}
-use Rattle.std.specs.Prelude.{nat_le, nat_eq, List, []}
-use Rattle.std.specs.Prelude.{◌∷◌, length, drop}
+use Rattle.std.specs.Prelude.{◌≡◌, ◌≢◌, ℤ, pos, ℕ, ◌+◌, ◌≤◌, List, [], ◌∷◌, length, drop, map}
 use Rattle.vcd_core.specs.declared.bit.Bit.{Bit}
 use Rattle.vcd_core.specs.declared.wave.Change.{Change}
-use Rattle.vcd_core.specs.Value.{all_x, same_letters}
+use Rattle.vcd_core.specs.Value.{all_x}
 use Rattle.vcd_core.specs.Wave.{IsWave, AllUpTo}
 use Rattle.vcd_core.specs.WavePush.{last_value}
-use Rattle.vcd_core.specs.Splice.{AllTicksFit}
+use Rattle.vcd_core.specs.Splice.{moved_change, TickFits, AllTicksFit}
 use Rattle.vcd_edit.specs.RecordView.{PieceView}
 use Rattle.vcd_edit.specs.AppliedRecords.{changes_with_piece}
 
@@ -17,25 +14,29 @@ unfoldable pub floor_after : ℕ → List Change → ℕ
 floor_after floor [] = floor
 floor_after floor (c ∷ cs) = floor_after (c.tick + 1) cs
 
--- whether a change may come after a value, at a tick from `floor` on
-abbrev pub may_follow : ℕ → List Bit → Change → Bool
-may_follow floor before c =
-    nat_le floor c.tick && (not (same_letters c.value before)
-    && nat_eq (length c.value) (length before))
+-- a change, moved by some ticks, may come after a value, at a tick from `floor` up to the end
+pub record MayComeNext (by : ℤ) (end floor : ℕ) (before : List Bit) (c : Change) : Type 0 where
+  pub fits : TickFits by c
+  pub from : floor ≤ (moved_change by c).tick
+  pub upto : (moved_change by c).tick ≤ end
+  pub other : c.value ≢ before
+  pub wide : length c.value ≡ length before
 
--- whether changes may come there, one after another
-unfoldable pub may_all_follow : ℕ → List Bit → List Change → Bool
-may_all_follow floor before [] = true
-may_all_follow floor before (c ∷ cs) =
-    may_follow floor before c && may_all_follow (c.tick + 1) c.value cs
+-- so may changes, one after another
+unfoldable pub MayFollow : ℤ → ℕ → ℕ → List Bit → List Change → Type 0
+MayFollow by end floor before [] = Unit {0}
+MayFollow by end floor before (c ∷ cs) = MayComeNext by end floor before c
+    × MayFollow by end ((moved_change by c).tick + 1) c.value cs
 
--- the value after the changes of a wave
-abbrev pub value_following : ℕ → List Change → List Bit
-value_following width before = last_value (all_x width) before
-
--- a tick that moves by `by` ticks is from 0 to the end
-abbrev pub MovesTo : ℤ → ℕ → ℕ → Type 0
-MovesTo by end tick = FitsUnsigned w64 (pos tick +ℤ by) × (unsigned_abs (pos tick +ℤ by) ≤ end)
+-- the first changes of a wave, then a list, then later changes that are moved, join to a wave up to
+-- the end
+abbrev pub JoinToWave : ℕ → ℕ → List Change → List Change → List Change → ℤ → Type 0
+JoinToWave width end prefix list later by =
+    let floor = floor_after 0 prefix in
+    let before = last_value (all_x width) prefix in
+    let placed = map (moved_change (pos 0)) list in
+    AllUpTo end prefix × MayFollow (pos 0) end floor before list
+    × MayFollow by end (floor_after floor placed) (last_value before placed) later
 
 -- what a record must hold to fit: the piece's range lies within the changes, and the result is a
 -- wave up to the end
