@@ -6,13 +6,14 @@ ghost use Rattle.vcd_core.specs.Sound.{IsSound};
 
 use crate::calls::Call;
 use crate::counting::CountingSink;
+use crate::parts::AskedPart;
 use crate::printing::{DONE, Failure, allow, print_capture, refuse};
 use std::alloc::Global;
 use std::io;
 use std::io::Write;
 use std::rt::Runtime;
 use vcd_core::{Capture, FromRead, Sink, Source, ToWrite};
-use vcd_text::{read, write};
+use vcd_text::{Loaded, ReadError, read, read_part, write};
 
 /// How many bytes a sink into memory takes without more memory.
 const ROOM: usize = 1_000_000;
@@ -30,20 +31,43 @@ pub fn capture_of_text(alloc: Global, text: &[u8]) -> Result<Capture, Failure>
     }
 }
 
+/// Says how a call ended that reads. Prints the line of a fault.
+fn tell_loaded<R: Runtime>(rt: &R, loaded: Result<Loaded, ReadError>) -> Result<(), Failure> {
+    match loaded {
+        Ok(_) => allow(rt, DONE),
+        Err(error) => {
+            allow(rt, error.name())?;
+            println!(rt; "line {}", error.line)?;
+            Ok(())
+        }
+    }
+}
+
 /// Makes the call `read`. Prints the line of a fault, whether the source has failed, and whether
 /// the rest ends the text.
 pub fn call_read<R: Runtime + AllocGlobal>(rt: &R, call: &Call) -> Result<(), Failure> {
     let mut source = FromRead::new(call.text);
     if call.makes {
         refuse(rt)?;
-        match read(rt.alloc(), &mut source) {
-            Ok(_) => allow(rt, DONE)?,
-            Err(error) => {
-                allow(rt, error.name())?;
-                println!(rt; "line {}", error.line)?;
-            }
-        }
+        tell_loaded(rt, read(rt.alloc(), &mut source))?;
     }
+    tell_source(rt, call, source)
+}
+
+/// Makes the call `read_part`, of the part that the argument asks for. It prints what that of
+/// `read` does.
+pub fn call_read_part<R: Runtime + AllocGlobal>(rt: &R, call: &Call) -> Result<(), Failure> {
+    let mut part = AskedPart::of_word(call.argument)?;
+    let mut source = FromRead::new(call.text);
+    if call.makes {
+        refuse(rt)?;
+        tell_loaded(rt, read_part(rt.alloc(), &mut source, &mut part))?;
+    }
+    tell_source(rt, call, source)
+}
+
+/// Prints whether a source of the capture's text has failed, and whether its rest ends the text.
+fn tell_source<R: Runtime>(rt: &R, call: &Call, source: FromRead<&[u8]>) -> Result<(), Failure> {
     let has_failed = source.failed();
     let is_rest = call.text.ends_with(source.into_inner());
     println!(rt; "failed {has_failed}, rest of the text {is_rest}")?;

@@ -11,6 +11,7 @@
 //! | `copy_word`, `copy_words`, `copy_scopes`: of the first signal | | |
 //! | `share_path`, `prefix`: of a path of its own; `share_scopes`: `ScopePath::shared` | | |
 //! | `read`, `write`, `uart`, `spi`, `i2c`, `Session::new` | | |
+//! | `read_part` | `no_signal`, `first_tick` or `last_tick` | |
 //! | `apply`, `revert` | an edit | |
 //! | `held`: lets the record of an edit go | an edit | `undo`, or nothing |
 //! | `step` | a step | the steps made before it |
@@ -29,6 +30,7 @@ mod counting;
 mod decoders;
 mod edits;
 mod files;
+mod parts;
 mod printing;
 mod sessions;
 mod waves;

@@ -5,7 +5,8 @@ ghost use Rattle.std.specs.Prelude.{◌≢◌, ◌↔◌, min, length, replicate
 ghost use Rattle.std.specs.Prelude.{if◌then◌else◌};
 ghost use Rattle.std.specs.Int.{bit_at};
 ghost use Rattle.vcd_core.specs.BlockRows.{letter_of, letters_of};
-ghost use Rattle.vcd_core.specs.inside.Planes.{plane_bit as bit_of_plane, letters_in, ArePlanes};
+ghost use Rattle.vcd_core.specs.inside.Planes as spec;
+ghost use Rattle.vcd_core.specs.inside.Planes.{letters_in, ArePlanes};
 
 use crate::bit::Bit;
 use crate::letter_block::LetterBlock;
@@ -36,7 +37,7 @@ pub fn blocks_in(width: u64) -> usize
 /// Whether bit `k` of the low plane (0) or the high plane (1) is set.
 pub(crate) fn plane_bit(words: &[u64], plane: usize, k: u64) -> bool
     requires { 2 * (k / 64) + plane < length words.now }
-    ensures { bit_of_plane plane words.now k ≡ (if result then 1 else 0) }
+    ensures { spec.plane_bit plane words.now k ≡ (if result then 1 else 0) }
 {
     (words[2 * (k / 64) as usize + plane] >> (k % 64)) & 1 == 1
 }
@@ -107,11 +108,11 @@ pub(crate) fn planes_of_block(width: u64, block: LetterBlock) -> [u64; 2 * BLOCK
 pub(crate) fn write_plane_bit(words: &mut [u64], plane: usize, k: u64, set: bool)
     requires plane { plane < 2 }
     requires within { 2 * (k / 64) + plane < length words.old }
-    ensures at { bit_of_plane plane words.new k ≡ (if set then 1 else 0) }
+    ensures at { spec.plane_bit plane words.new k ≡ (if set then 1 else 0) }
     ensures others { (i : ℕ) → i ≢ k →
-        bit_of_plane plane words.new i ≡ bit_of_plane plane words.old i }
+        spec.plane_bit plane words.new i ≡ spec.plane_bit plane words.old i }
     ensures other_plane { (other i : ℕ) → other < 2 → other ≢ plane →
-        bit_of_plane other words.new i ≡ bit_of_plane other words.old i }
+        spec.plane_bit other words.new i ≡ spec.plane_bit other words.old i }
     ensures sized { length words.new ≡ length words.old }
 {
     let mask = 1 << (k % 64);

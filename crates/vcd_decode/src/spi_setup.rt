@@ -4,7 +4,7 @@ ghost use Rattle.std.specs.Prelude.{◌≡◌, ◌≤◌, IfOk};
 ghost use Rattle.vcd_decode.specs.SetupFaults.{spi_fault};
 ghost use Rattle.vcd_decode.specs.SpiSetup.{spi_setup};
 ghost use Rattle.vcd_decode.specs.SetupResults.{SetupFaultIs};
-ghost use Rattle.vcd_decode.specs.Lines.{is_zero as zero_test, is_one as one_test};
+ghost use Rattle.vcd_decode.specs.Lines as spec;
 ghost use Rattle.vcd_decode.specs.inside.SpiSetup.{is_present_and};
 
 use crate::letters::{is_one, is_zero};
@@ -118,7 +118,7 @@ impl Spi {
 
 /// Whether the bit is present and 0.
 fn shows_zero(bit: Option<Bit>) -> bool
-    ensures { result ≡ is_present_and zero_test bit }
+    ensures { result ≡ is_present_and spec.is_zero bit }
 {
     match bit {
         Some(bit) => is_zero(bit),
@@ -128,7 +128,7 @@ fn shows_zero(bit: Option<Bit>) -> bool
 
 /// Whether the bit is present and 1.
 fn shows_one(bit: Option<Bit>) -> bool
-    ensures { result ≡ is_present_and one_test bit }
+    ensures { result ≡ is_present_and spec.is_one bit }
 {
     match bit {
         Some(bit) => is_one(bit),

@@ -6,12 +6,11 @@ ghost use Rattle.std.specs.Prelude.{if◌then◌else◌};
 ghost use Rattle.std.specs.List.{list_any};
 ghost use Rattle.std.specs.Option.{option_to_list, option_map_or};
 ghost use Rattle.vcd_core.specs.Wave.{AllUpTo};
-ghost use Rattle.vcd_decode.specs.Lines.{is_zero as zero_test, is_one as one_test};
-ghost use Rattle.vcd_decode.specs.Lines.{is_unclear as unclear_test, number_from_letters};
+ghost use Rattle.vcd_decode.specs.Lines as lines_spec;
+ghost use Rattle.vcd_decode.specs.Lines.{number_from_letters};
 ghost use Rattle.vcd_decode.specs.WaveLines.{line_of};
-ghost use Rattle.vcd_decode.specs.Uart.{last_bit, sample_tick, frame_letters};
-ghost use Rattle.vcd_decode.specs.Uart.{frame_kind as kind_of_frame, begun_frame as begun_by_fall};
-ghost use Rattle.vcd_decode.specs.Uart.{uart_annotations};
+ghost use Rattle.vcd_decode.specs.Uart as spec;
+ghost use Rattle.vcd_decode.specs.Uart.{last_bit, sample_tick, frame_letters, uart_annotations};
 
 use crate::annotation::{Annotation, Kind};
 use crate::letters::{is_one, is_unclear, is_zero};
@@ -73,7 +72,7 @@ fn push_frame(
 fn begun_frame(wave: &Wave, near: usize, end: u64, setup: &Uart, start: u64) -> Option<Annotation>
     requires one_bit { wave.now.width ≡ 1 }
     requires within { start ≤ end }
-    ensures { result ≡ begun_by_fall (line_of wave.now) end setup.now start }
+    ensures { result ≡ spec.begun_frame (line_of wave.now) end setup.now start }
 {
     let cut_off = Annotation {
         start,
@@ -104,7 +103,8 @@ fn begun_frame(wave: &Wave, near: usize, end: u64, setup: &Uart, start: u64) -> 
 fn frame_kind_at(wave: &Wave, near: usize, setup: &Uart, start: u64) -> Kind
     requires one_bit { wave.now.width ≡ 1 }
     requires fits { sample_tick setup.now start (last_bit setup.now) < 2 ^ 64 }
-    ensures { result ≡ kind_of_frame setup.now (frame_letters (line_of wave.now) setup.now start) }
+    ensures { result
+        ≡ spec.frame_kind setup.now (frame_letters (line_of wave.now) setup.now start) }
 {
     let mut letters = [Bit::X; FRAME_BITS];
     let letters = &mut letters[..setup.last_bit()];
@@ -128,7 +128,7 @@ fn read_letters(wave: &Wave, near: usize, setup: &Uart, start: u64, letters: &mu
 /// The kind of a frame with these letters.
 fn frame_kind(setup: &Uart, letters: &[Bit]) -> Kind
     requires { length letters.now ≡ last_bit setup.now }
-    ensures { result ≡ kind_of_frame setup.now letters.now }
+    ensures { result ≡ spec.frame_kind setup.now letters.now }
 {
     let (checked, stop) = letters.split_at(setup.checked_bits());
     if has_unclear(letters) {
@@ -146,7 +146,8 @@ fn frame_kind(setup: &Uart, letters: &[Bit]) -> Kind
 
 /// Whether the line falls from 1 to 0 at a tick after the frames so far, which end at `taken`.
 fn begins_frame(before: Bit, letter: Bit, taken: u64, tick: u64) -> bool
-    ensures { result ≡ (one_test before && zero_test letter && nat_lt taken tick) }
+    ensures { result
+        ≡ (lines_spec.is_one before && lines_spec.is_zero letter && nat_lt taken tick) }
 {
     is_one(before) && is_zero(letter) && taken < tick
 }
@@ -164,21 +165,21 @@ fn letter_near(wave: &Wave, near: usize, tick: u64) -> Bit
 
 /// Whether some letter is x or z.
 fn has_unclear(letters: &[Bit]) -> bool
-    ensures { result ≡ list_any unclear_test letters.now }
+    ensures { result ≡ list_any lines_spec.is_unclear letters.now }
 {
     letters.iter().any(|bit| is_unclear(*bit))
 }
 
 /// Whether some letter is 0.
 fn has_zero(letters: &[Bit]) -> bool
-    ensures { result ≡ list_any zero_test letters.now }
+    ensures { result ≡ list_any lines_spec.is_zero letters.now }
 {
     letters.iter().any(|bit| is_zero(*bit))
 }
 
 /// The number of letters that are 1.
 fn count_ones(letters: &[Bit]) -> usize
-    ensures { result ≡ count_by one_test letters.now }
+    ensures { result ≡ count_by lines_spec.is_one letters.now }
 {
     letters.iter().filter(|bit| is_one(**bit)).count()
 }

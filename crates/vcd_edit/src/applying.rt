@@ -3,7 +3,7 @@
 ghost use Rattle.std.specs.Prelude.{◌≡◌, ◌≤◌, None, IsOk, IfOk, OnOk, IfErr, OnErr};
 ghost use Rattle.vcd_core.specs.CaptureContents.{contents};
 ghost use Rattle.vcd_core.specs.Sound.{IsSound};
-ghost use Rattle.vcd_edit.specs.Effect.{effect as edit_effect};
+ghost use Rattle.vcd_edit.specs.Effect as spec;
 ghost use Rattle.vcd_edit.specs.EditFaults.{edit_fault};
 ghost use Rattle.vcd_edit.specs.EditAnswers.{MayRefuse};
 ghost use Rattle.vcd_edit.specs.AppliedRecords.{apply_record, Fits, HasNeitherPiecesNorSignal};
@@ -37,7 +37,7 @@ pub fn apply(alloc: Global, capture: &mut Capture, edit: &Edit) -> Result<Record
     requires { IsSound (contents capture.old) }
     ensures allowed { OnOk result (edit_fault edit.now (contents capture.old) ≡ None) }
     ensures effect { OnOk result
-        (contents capture.new ≡ edit_effect edit.now (contents capture.old)) }
+        (contents capture.new ≡ spec.effect edit.now (contents capture.old)) }
     ensures fits { IfOk result (λ r. Fits r (contents capture.new)) }
     ensures restores { IfOk result (λ r. apply_record r (contents capture.new)
         ≡ contents capture.old) }

@@ -4,7 +4,7 @@ ghost use Rattle.std.specs.Prelude.{◌≡◌, ◌≤◌, ◌+◌, IfOk, IfErr, 
 ghost use Rattle.vcd_core.specs.CaptureContents.{contents};
 ghost use Rattle.vcd_core.specs.Sound.{IsSound};
 ghost use Rattle.vcd_journal.specs.Machine.{initial_machine, IsStepCall};
-ghost use Rattle.vcd_journal.specs.History.{is_depth as depth_test};
+ghost use Rattle.vcd_journal.specs.History as spec;
 ghost use Rattle.vcd_journal.specs.declared.step.Step.TheVariants as steps;
 
 #[cfg(test)]
@@ -215,7 +215,7 @@ impl Session {
 
 /// Whether a session may have this depth.
 fn is_depth(depth: u64) -> bool
-    ensures { result ≡ depth_test depth }
+    ensures { result ≡ spec.is_depth depth }
 {
     1 <= depth && depth <= DEPTH_LIMIT
 }

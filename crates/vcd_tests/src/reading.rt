@@ -4,6 +4,7 @@ mod broken_off;
 mod chunks;
 mod faults;
 mod limits;
+mod parts;
 mod worked;
 
 use crate::fake_devices::{FakeReader, source_of};

@@ -1,3 +1,3 @@
-pub mod shared
 pub mod part
+pub mod shared
 pub mod read_back

@@ -8,10 +8,12 @@ pub mod Grammar
 pub mod Faults
 pub mod FoundFaults
 pub mod Meaning
-pub mod Parts
+pub mod AsDeclared
 pub mod Text
 pub mod Laws
 pub mod LentWords
 pub mod MemoryErrors
 pub mod Refusals
+pub mod Parts
+pub mod PartLaws
 pub mod inside

@@ -1,33 +1,98 @@
 -- A part of a capture: some of its signals, and some of its time. The project's own.
-use Rattle.std.specs.Prelude.{◌≡◌, ℕ, ◌+◌, ◌-◌, min, Bool, if◌then◌else◌, List, [], ◌∷◌, map}
+use Rattle.std.specs.Prelude.{◌≡◌, ℕ, ◌+◌, ◌-◌, min, length, Bool, List, [], ◌∷◌, ◌++◌, map, filter}
+use Rattle.std.specs.Prelude.{Option, Some, None, ◌⊎◌, ◌<◌}
+use Rattle.vcd_core.specs.declared.capture.TheConstants.{SIGNAL_LIMIT}
+use Rattle.vcd_core.specs.declared.capture.Timescale.{Timescale}
 use Rattle.vcd_core.specs.Wave.{changes_of}
 use Rattle.vcd_core.specs.Contents.{Contents, SignalContents, signal_value}
-use Rattle.vcd_text.specs.declared.reading.part.Part.{Part}
-use Rattle.vcd_text.specs.Meaning.{FileMeans}
+use Rattle.vcd_core.specs.CaptureContents.{contents}
+use Rattle.vcd_text.specs.declared.fault.Fault.TheVariants as faults
+use Rattle.vcd_text.specs.declared.fault.ReadError.{ReadError}
+use Rattle.vcd_text.specs.declared.reading.Loaded.{Loaded}
+use Rattle.vcd_text.specs.declared.reading.choice.TickRange.{TickRange}
+use Rattle.vcd_text.specs.Words.{WordOnLine, words_of}
+use Rattle.vcd_text.specs.Items.{Item, spellings, end_definitions}
+use Rattle.vcd_text.specs.Grammar.{ParseState, initial_state, state_after, AllowsAll, word_texts}
+use Rattle.vcd_text.specs.Meaning.{FileMeans, meaning}
+use Rattle.vcd_text.specs.Refusals.{IsRefusal}
 
--- the items that a list of tests does not leave out, by position; those past its end remain
-abbrev pub remaining : {A : Type 0} → List Bool → List A → List A
-remaining [] xs = xs
-remaining (out ∷ left_out) [] = []
-remaining (out ∷ left_out) (x ∷ xs) =
-    if out then remaining left_out xs else x ∷ remaining left_out xs
+-- ---- parts
+
+-- a signal as it is declared: it has no changes
+abbrev pub without_changes : SignalContents → SignalContents
+without_changes s = record s { changes = [] }
 
 -- a signal from the tick `first` on, with the end as many ticks later
 abbrev pub part_of_signal : (first end : ℕ) → SignalContents → SignalContents
 part_of_signal first end s =
     record s { changes = changes_of s.width end (λ t. signal_value s (first + t)) }
 
--- the part of a capture: the signals that remain, each with its values from the first tick to the
--- last one; the ticks count from the first
-abbrev pub part_of : Part → Contents → Contents
-part_of part c = record c {
-  end = min part.last c.end - part.first;
-  signals = map (part_of_signal part.first (min part.last c.end - part.first))
-      (remaining part.left_out.items c.signals);
+-- the part of a capture: the signals that a test takes as they are declared, each with its values
+-- from the first tick to the last one; the ticks count from the first
+abbrev pub part_of : (takes : SignalContents → Bool) → TickRange → Contents → Contents
+part_of takes ticks c = record c {
+  end = min ticks.last c.end - ticks.first;
+  signals = map (part_of_signal ticks.first (min ticks.last c.end - ticks.first))
+      (filter (λ s. takes (without_changes s)) c.signals);
 }
 
--- the file is accepted, and the contents are this part of what it means
-pub record PartMeans (part : Part) (bytes : List ℕ) (contents : Contents) (skipped : ℕ) : Type 0 where
+-- ---- reading a part
+
+-- what a choice answers to a timescale and to signals as they are declared: ticks, or none
+abbrev pub Answers : Type 1
+Answers = Option Timescale → List SignalContents → Option TickRange → Type 0
+
+-- the answers of a choice, between what it was before and is afterwards
+abbrev pub ChoiceAnswers : Type 0 → Type 1
+ChoiceAnswers C = C → Option Timescale → List SignalContents → Option TickRange → C → Type 0
+
+-- what a choice answers from one state to another
+abbrev pub told : {C : Type 0} → ChoiceAnswers C → (old new : C) → Answers
+told answers old new timescale signals answer = answers old timescale signals answer new
+
+-- the file is accepted, and what is loaded is this part of what it means
+pub record PartMeans (takes : SignalContents → Bool) (answers : Answers) (bytes : List ℕ)
+    (loaded : Loaded) : Type 0 where
   pub whole : Contents
-  pub means : FileMeans bytes whole skipped
-  pub is : contents ≡ part_of part whole
+  pub means : FileMeans bytes whole loaded.skipped
+  pub ticks : TickRange
+  pub answered : answers whole.timescale (map without_changes whole.signals) (Some ticks)
+  pub is : contents loaded.capture ≡ part_of takes ticks whole
+  pub end : loaded.end ≡ whole.end
+  pub count : loaded.signals ≡ length whole.signals
+
+-- ---- refusals
+
+-- the words begin with declarations that are accepted with this state, up to `$enddefinitions $end`
+-- on this line
+pub record HasDeclarations (words : List WordOnLine) (line : ℕ) (state : ParseState) : Type 0 where
+  pub items : List Item
+  pub before : List WordOnLine
+  pub last : WordOnLine
+  pub more : List WordOnLine
+  pub parts : words ≡ before ++ last ∷ more
+  pub spelled : word_texts (before ++ last ∷ []) ≡ spellings (items ++ end_definitions ∷ [])
+  pub allowed : AllowsAll initial_state (items ++ end_definitions ∷ [])
+  pub state_is : state_after initial_state (items ++ end_definitions ∷ []) ≡ state
+  pub at : line ≡ last.line
+
+-- the signals of a state as they are declared
+abbrev pub signals_of : ParseState → List SignalContents
+signals_of c = map without_changes (meaning c).signals
+
+-- why no part is read of a file with these words: its declarations are accepted, but more signals
+-- remain than a capture can have, or the choice does not answer
+pub data RefusesPart (takes : SignalContents → Bool) (answers : Answers) (words : List WordOnLine)
+    (e : ReadError) : Type 0 where
+  too_many_remain : (c : ParseState) → HasDeclarations words e.line c
+      → SIGNAL_LIMIT < length (filter takes (signals_of c)) → e.fault ≡ faults.TooManyRemain
+      → RefusesPart takes answers words e
+  declined : (c : ParseState) → HasDeclarations words e.line c
+      → answers c.timescale (signals_of c) None → e.fault ≡ faults.Declined
+      → RefusesPart takes answers words e
+
+-- the fault of reading a part of a file: one of reading the file, or no part of it is read
+abbrev pub IsPartRefusal : (takes : SignalContents → Bool) → Answers → (file : List ℕ)
+    → (failed : Bool) → (left : Option (List ℕ)) → ReadError → Type 0
+IsPartRefusal takes answers file failed left e =
+    IsRefusal file failed left e ⊎ RefusesPart takes answers (words_of file) e

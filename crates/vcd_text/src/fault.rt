@@ -44,6 +44,10 @@ pub enum Fault {
     ValueTooLong,
     /// More kept variables than the signals that a capture can have.
     TooManySignals,
+    /// More signals remain in a part than a capture can have.
+    TooManyRemain,
+    /// The choice of a part refuses what the file declares.
+    Declined,
     /// The file has more than `FILE_LIMIT` bytes.
     TooLarge,
     /// The reader failed.
@@ -71,6 +75,8 @@ impl Fault {
             Fault::UnknownCode => "UnknownCode",
             Fault::ValueTooLong => "ValueTooLong",
             Fault::TooManySignals => "TooManySignals",
+            Fault::TooManyRemain => "TooManyRemain",
+            Fault::Declined => "Declined",
             Fault::TooLarge => "TooLarge",
             Fault::ReadFault => "ReadFault",
             Fault::NoMemory => "NoMemory",

@@ -5,6 +5,7 @@ ghost use Rattle.vcd_text.specs.Laws.{NoFileHasMeaningAndFault, EveryFileHasMean
 ghost use Rattle.vcd_text.specs.Laws.{EveryFaultIsFound};
 ghost use Rattle.vcd_text.specs.Laws.{EveryPrefixHasAtMostOneFault, PrefixFaultIsFileFault};
 ghost use Rattle.vcd_text.specs.Laws.{TextIsReadBack, NothingElseIsReadBack, TextHasNoFault};
+ghost use Rattle.vcd_text.specs.PartLaws.{PartOfPartIsPart, AllIsPart};
 
 /// A file has at most one result. It has no two meanings, no two faults, no two lines of one fault,
 /// and never both a meaning and a fault.
@@ -44,4 +45,11 @@ pub fn text_is_read_back()
 pub fn nothing_else_is_read_back()
     ensures same_capture { NothingElseIsReadBack }
     ensures no_fault { TextHasNoFault }
+{}
+
+/// A part of a part of a capture is a part, if it begins in the first one. All signals, from tick 0
+/// to the end or further, are the capture.
+pub fn parts_agree()
+    ensures part_of_part { PartOfPartIsPart }
+    ensures all { AllIsPart }
 {}

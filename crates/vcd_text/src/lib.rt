@@ -16,9 +16,12 @@ mod writing;
 
 pub use fault::{Fault, ReadError, WriteError};
 pub use laws::{
-    has_an_answer, has_one_answer, nothing_else_is_read_back, prefix_fault_stays,
+    has_an_answer, has_one_answer, nothing_else_is_read_back, parts_agree, prefix_fault_stays,
     prefix_has_one_fault, text_is_read_back,
 };
-pub use reading::{FILE_LIMIT, Loaded, Part, read, read_part, value_of_digits};
+pub use reading::{
+    Choice, Declarations, DeclaredSignal, FILE_LIMIT, Loaded, TickRange, read, read_part,
+    value_of_digits,
+};
 pub use words::{WordOnLine, Words};
 pub use writing::write;

@@ -8,14 +8,16 @@ ghost use Rattle.std.specs.Io.KnownBytes.{IsAtEnd};
 ghost use Rattle.vcd_core.specs.CaptureContents.{contents};
 ghost use Rattle.vcd_core.specs.Sound.{IsSound};
 ghost use Rattle.vcd_text.specs.Meaning.{FileMeans};
-ghost use Rattle.vcd_text.specs.Parts.{PartMeans};
+ghost use Rattle.vcd_text.specs.Parts.{PartMeans, IsPartRefusal, told};
 ghost use Rattle.vcd_text.specs.declared.fault.Fault.{Fault};
 ghost use Rattle.vcd_text.specs.Refusals.{IsRefusal};
 
 mod binary_number;
 mod changes;
+mod choice;
 mod code_targets;
 mod declarations;
+mod declared_signals;
 mod digit_blocks;
 mod digits;
 mod file_reader;
@@ -30,20 +32,28 @@ mod timescale;
 mod variables;
 
 use crate::fault::ReadError;
+use crate::reading::choice::Whole;
 use crate::reading::file_reader::FileReader;
 pub use binary_number::value_of_digits;
-pub use part::Part;
+pub use choice::{Choice, TickRange};
+pub use declared_signals::{Declarations, DeclaredSignal};
 use std::alloc::Global;
 use vcd_core::{Capture, Source};
 
 /// The greatest size of a capture file, in bytes: 4 GiB.
 pub const FILE_LIMIT: usize = 4_294_967_296;
 
-/// A capture, and the number of skipped variables of its file.
+/// What a file gives.
 #[derive(Drop)]
 pub struct Loaded {
+    /// The capture, or the part of it that was chosen.
     pub capture: Capture,
+    /// The number of skipped variables of the file.
     pub skipped: u64,
+    /// The last tick of the file.
+    pub end: u64,
+    /// The number of signals of the file.
+    pub signals: usize,
 }
 
 /// Reads a capture file (IEEE 1364-2005, 18.2) to its end. The result is the capture that it means,
@@ -78,29 +88,41 @@ pub fn read<R: Source>(alloc: Global, reader: &mut R) -> Result<Loaded, ReadErro
     ensures too_large { IfErr result (λ e. e.fault ≡ Fault.TooLarge →
         R.has_failed reader.new ≡ false) }
 {
-    read_part(alloc, reader, Part::whole(alloc))
+    let mut whole = Whole;
+    read_part(alloc, reader, &mut whole)
 }
 
-/// Reads a part of a capture file. The whole file follows the grammar, or its first fault is the
-/// result, as of `read`.
+/// Reads a part of a capture file, which a choice takes of the signals and ticks that the file
+/// declares. The whole file follows the grammar, or its first fault is the result, as of `read`.
+///
+/// The choice is asked at the end of the declarations. There the result may be `Declined`, if the
+/// choice refuses the file, or `TooManyRemain`.
+///
+/// Time: as of `read`; a change outside the part is looked up and checked, and no more.
 ///
 /// Memory: as of `read`, but for the changes. Those of the part are held, and the last one before
-/// it of each signal.
-pub fn read_part<R: Source>(alloc: Global, reader: &mut R, part: Part) -> Result<Loaded, ReadError>
+/// it of each signal that remains.
+pub fn read_part<R: Source, C: Choice>(
+    alloc: Global,
+    reader: &mut R,
+    choice: &mut C,
+) -> Result<Loaded, ReadError>
     requires ready { R.has_failed reader.old ≡ false }
     ensures means { IfOk result (λ loaded. IfSome (R.coming reader.old) (λ file.
-        (length file ≤ FILE_LIMIT) × PartMeans part file (contents loaded.capture) loaded.skipped)) }
+        (length file ≤ FILE_LIMIT) ×
+        PartMeans (C.takes choice.old) (told C.answers choice.old choice.new) file loaded)) }
     ensures sound { IfOk result (λ loaded. IsSound (contents loaded.capture)) }
     ensures not_failed { OnOk result (R.has_failed reader.new ≡ false) }
     ensures ended { OnOk result (IsAtEnd (R.coming reader.new)) }
     ensures refused { IfErr result (λ e. IfSome (R.coming reader.old) (λ file.
-        IsRefusal file (R.has_failed reader.new) (R.coming reader.new) e)) }
+        IsPartRefusal (C.takes choice.old) (told C.answers choice.old choice.new) file
+        (R.has_failed reader.new) (R.coming reader.new) e)) }
     ensures failed { IfErr result (λ e. e.fault ≡ Fault.ReadFault →
         R.has_failed reader.new ≡ true) }
     ensures too_large { IfErr result (λ e. e.fault ≡ Fault.TooLarge →
         R.has_failed reader.new ≡ false) }
 {
-    let mut progress = FileReader::new(alloc, part);
-    while progress.take_chunk(alloc, reader)? {}
-    progress.finish(alloc)
+    let mut progress = FileReader::new(alloc);
+    while progress.take_chunk(alloc, reader, choice)? {}
+    progress.finish(alloc, choice)
 }

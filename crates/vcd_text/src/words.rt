@@ -3,10 +3,9 @@
 ghost use Rattle.std.specs.Prelude.{◌≡◌, ◌+◌, ◌<◌, ◌≤◌, ◌^◌, ◌∷◌, [], Bool, true, false, not};
 ghost use Rattle.std.specs.Prelude.{length, take, drop, MatchOption, IfSome, IfNone};
 ghost use Rattle.std.specs.List.{list_all};
-ghost use Rattle.vcd_core.specs.Word.{is_white_space as white};
+ghost use Rattle.vcd_core.specs.Word as spec;
 ghost use Rattle.vcd_text.specs.Words.{words_from, words_of};
-ghost use Rattle.vcd_text.specs.inside.Words.{begins_with_space, ends_before as ends_word};
-ghost use Rattle.vcd_text.specs.inside.Words.{line_feeds_in};
+ghost use Rattle.vcd_text.specs.inside.Words.{begins_with_space, ends_before, line_feeds_in};
 
 use vcd_core::is_white_space;
 
@@ -109,8 +108,8 @@ fn after_space(text: &[u8], line_feeds: u64) -> (&[u8], u64)
 /// The number of bytes before the first white space.
 fn word_len(text: &[u8]) -> usize
     ensures within { result ≤ length text.now }
-    ensures no_space { list_all (λ b. not (white b)) (take result text.now) ≡ true }
-    ensures ends { ends_word true (drop result text.now) ≡ true }
+    ensures no_space { list_all (λ b. not (spec.is_white_space b)) (take result text.now) ≡ true }
+    ensures ends { ends_before true (drop result text.now) ≡ true }
 {
     for (i, byte) in text.iter().enumerate() {
         if is_white_space(*byte) {

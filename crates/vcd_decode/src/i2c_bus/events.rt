@@ -1,7 +1,7 @@
 //! The events on the two lines of a bus: conditions and bits.
 
 ghost use Rattle.std.specs.Prelude.{◌≡◌};
-ghost use Rattle.vcd_decode.specs.BusEvents.{is_line_high as high_test};
+ghost use Rattle.vcd_decode.specs.BusEvents as bus_spec;
 ghost use Rattle.vcd_decode.specs.inside.i2c_bus.Events as spec;
 
 use crate::letters::is_zero;
@@ -31,7 +31,7 @@ pub(super) enum BusEvent {
 
 /// Whether a level is high: 1, or z, where a resistor pulls the line up. It is low if it is 0.
 pub(super) fn is_line_high(level: Bit) -> bool
-    ensures { result ≡ high_test level }
+    ensures { result ≡ bus_spec.is_line_high level }
 {
     matches!(level, Bit::One | Bit::Z)
 }

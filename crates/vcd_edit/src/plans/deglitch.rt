@@ -3,10 +3,10 @@
 ghost use Rattle.std.specs.Prelude.{◌≡◌, ◌≤◌, ◌++◌, None, IfOk, length, take, drop};
 ghost use Rattle.vcd_core.specs.CaptureContents.{contents};
 ghost use Rattle.vcd_core.specs.Sound.{IsSound};
-ghost use Rattle.vcd_core.specs.WavePush.{last_value as value_after};
+ghost use Rattle.vcd_core.specs.WavePush as push_spec;
 ghost use Rattle.vcd_edit.specs.EditFaults.{edit_fault};
-ghost use Rattle.vcd_edit.specs.inside.plans.RemainingChanges.{begins_steady as steady_test};
-ghost use Rattle.vcd_edit.specs.inside.plans.RemainingChanges.{is_kept as kept_test, kept_changes};
+ghost use Rattle.vcd_edit.specs.inside.plans.RemainingChanges as spec;
+ghost use Rattle.vcd_edit.specs.inside.plans.RemainingChanges.{kept_changes};
 ghost use Rattle.vcd_edit.specs.inside.plans.Plan.{IsPlan};
 ghost use Rattle.vcd_edit.specs.declared.edit.Edit.TheVariants as edits;
 
@@ -51,7 +51,7 @@ pub(crate) fn plan(
 fn kept_prefix_len(changes: &[Change], before: &Value, ticks: u64) -> usize
     ensures within { result ≤ length changes.now }
     ensures kept { kept_changes ticks before.now changes.now ≡ take result changes.now
-        ++ kept_changes ticks (value_after before.now (take result changes.now))
+        ++ kept_changes ticks (push_spec.last_value before.now (take result changes.now))
         (drop result changes.now) }
 {
     let mut last = before;
@@ -123,7 +123,7 @@ fn kept_list(
 
 /// Whether a change remains after the value `before`, the last one kept.
 fn is_kept(change: &Change, later: &[Change], before: &Value, ticks: u64) -> bool
-    ensures { result ≡ kept_test ticks before.now change.now later.now }
+    ensures { result ≡ spec.is_kept ticks before.now change.now later.now }
 {
     begins_steady(change, later, ticks) && change.value != *before
 }
@@ -131,7 +131,7 @@ fn is_kept(change: &Change, later: &[Change], before: &Value, ticks: u64) -> boo
 /// Whether the run that begins with a change stays: it contains tick 0 or the end, or has at least
 /// `ticks` ticks.
 fn begins_steady(change: &Change, later: &[Change], ticks: u64) -> bool
-    ensures { result ≡ steady_test ticks change.now later.now }
+    ensures { result ≡ spec.begins_steady ticks change.now later.now }
 {
     match later {
         [next, ..] => change.tick == 0 || ticks <= next.tick.saturating_sub(change.tick),

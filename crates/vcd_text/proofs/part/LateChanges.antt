@@ -70,7 +70,8 @@ latest_past width code end t before (r ∷ rs) past late =
     let here : r.tick ≤ end = All-head (λ (r : ValueChange). r.tick ≤ end) r rs late in
     let same : nat_le r.tick t ≡ nat_le r.tick end = le-leb r.tick t (omega (arith, here, past))
     ∙ sym (le-leb r.tick end here) in
-    ap (λ b. latest_value width code t (if bytes_eq r.code code && b then extension width r.letters else before) rs) same
+    ap (λ b. latest_value width code t (if bytes_eq r.code code && b then extension width r.letters else before) rs)
+    same
     ∙ latest_past width code end t
     (if bytes_eq r.code code && nat_le r.tick end then extension width r.letters else before) rs past
     (All-tail (λ (r : ValueChange). r.tick ≤ end) r rs late)

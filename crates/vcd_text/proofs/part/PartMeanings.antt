@@ -10,9 +10,9 @@ use Rattle.vcd_core.specs.Wave.{value_from, value_at, changes_of, AllUpTo}
 use Rattle.vcd_core.proofs.shared.Waves.{changes_same, value_at-changes_of, changes_end}
 use Rattle.vcd_text.specs.Grammar.{VariableDeclaration, ValueChange, ParseState, kept_variables}
 use Rattle.vcd_text.specs.Meaning.{latest_value, declared_signal, meaning}
-use Rattle.vcd_text.specs.Parts.{remaining, part_of_signal, part_of}
+use Rattle.vcd_text.specs.Parts.{part_of_signal}
 use Rattle.vcd_text.specs.declared.reading.part.Part.{Part}
-use Rattle.vcd_text.specs.inside.reading.Part.{seen_tick, TellsPart}
+use Rattle.vcd_text.specs.inside.reading.Part.{seen_tick, TellsPart, remaining, listed_part}
 use Rattle.vcd_text.proofs.part.LateChanges.{UpToTick, latest_past}
 
 -- ---- the items that remain
@@ -42,7 +42,7 @@ same_remaining f g h (false ∷ out) (d ∷ ds) same =
 -- ---- the values of a signal
 
 -- past the last change the value of a wave stays
-value_stays : (end t : ℕ) (before : List Bit) (cs : List Change) → end ≤ t → AllUpTo end cs
+pub value_stays : (end t : ℕ) (before : List Bit) (cs : List Change) → end ≤ t → AllUpTo end cs
     → value_from before cs t ≡ value_from before cs end
 unfolding value_from
 value_stays end t before [] past upto = refl
@@ -93,7 +93,7 @@ module _ (part : Part) (c : ParseState) (seen : List ValueChange) (tells : Tells
   -- the signals of a part
   pub signals_of_part : remaining part.left_out.items
       (map (declared_signal seen (seen_tick part c.tick)) (kept_variables c.declared))
-      ≡ (part_of part (meaning c)).signals
+      ≡ (listed_part part (meaning c)).signals
   signals_of_part =
       same_remaining (declared_signal seen (seen_tick part c.tick)) (declared_signal c.value_changes c.tick)
       (part_of_signal part.first (seen_tick part c.tick)) part.left_out.items (kept_variables c.declared) signal_of_part

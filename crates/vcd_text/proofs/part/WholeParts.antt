@@ -2,7 +2,7 @@
 use Rattle.std.proofs.Common.{◌≡◌, ℕ, ◌+◌, ◌-◌, ◌≤◌, Bool, true, false, if◌then◌else◌, min, List, [], ◌∷◌, map, length}
 use Rattle.std.proofs.Common.{Option, Some, None, IfSome, All, nat_le, refl, sym, ap, subst, ◌∙◌, arith}
 use Rattle.std.proofs.lemmas.List.{length-map, length-replicate}
-use Rattle.std.proofs.lemmas.List.Elements.{All-head, All-tail, All-cons, All-map}
+use Rattle.std.proofs.lemmas.List.Elements.{All-head, All-tail, All-map, All-filter}
 use Rattle.vcd_core.specs.declared.bit.Bit.{Bit}
 use Rattle.vcd_core.specs.declared.wave.Change.{Change}
 use Rattle.vcd_core.specs.Value.{all_x}
@@ -11,11 +11,26 @@ use Rattle.vcd_core.specs.Contents.{Contents, SignalContents, signal_value}
 use Rattle.vcd_core.specs.Sound.{IsSound, IsSoundSignal}
 use Rattle.vcd_core.proofs.shared.Waves.{wave_is, changes_rise, changes_end}
 use Rattle.vcd_text.specs.Meaning.{FileMeans}
-use Rattle.vcd_text.specs.Parts.{remaining, part_of_signal, part_of, PartMeans}
+use Rattle.std.proofs.Common.{suc, not, cond, ◌++◌, ◌<◌, ◌⊎◌, inl, inr}
+use Rattle.std.specs.Prelude.{filter}
+use Rattle.std.proofs.lemmas.List.Sums.{length-filter, count_by-le-length}
+use Rattle.vcd_core.specs.CaptureContents.{contents}
+use Rattle.vcd_core.specs.declared.capture.Timescale.{Timescale}
+use Rattle.vcd_text.specs.Meaning.{meaning, declared_signal}
+use Rattle.vcd_text.specs.Refusals.{IsRefusal}
+use Rattle.vcd_text.specs.Items.{end_definitions}
+use Rattle.vcd_text.specs.Parts.{Answers, without_changes, part_of_signal, part_of, PartMeans, IsPartRefusal}
+use Rattle.vcd_text.specs.Parts.{signals_of, too_many_remain, declined}
+use Rattle.vcd_text.specs.inside.reading.Part.{Asked, remaining, all_ticks}
+use Rattle.vcd_text.specs.inside.reading.Parser.{MeansListed}
+use Rattle.vcd_text.specs.inside.reading.Choice.{IsAnswered, LeavesOut, ticks_of}
+use Rattle.vcd_text.specs.declared.fault.ReadError.{ReadError}
+use Rattle.vcd_text.specs.declared.reading.Loaded.{Loaded}
+use Rattle.vcd_text.specs.declared.reading.choice.TickRange.{TickRange}
 use Rattle.vcd_text.specs.declared.reading.TheConstants.{FILE_LIMIT}
-use Rattle.vcd_text.specs.declared.reading.part.Part.{Part}
-use Rattle.vcd_text.specs.inside.reading.Part.{IsWhole}
 use Rattle.vcd_text.proofs.shared.SoundMeaning.{meaning_is_sound}
+use Rattle.vcd_text.proofs.part.FewSignals.{KeepsFew, few_after}
+use Rattle.vcd_text.specs.Grammar.{initial_state, kept_variables}
 
 -- ---- soundness
 
@@ -49,48 +64,81 @@ sound_signal first end end_of_part s sound = record {
   ticks = changes_end s.width end_of_part (λ t. signal_value s (first + t));
 }
 
-fewer_remain : {A : Type 0} (out : List Bool) (xs : List A) → length (remaining out xs) ≤ length xs
-fewer_remain [] xs = omega arith
-fewer_remain (b ∷ out) [] = omega arith
-fewer_remain (true ∷ out) (x ∷ xs) = omega (arith, fewer_remain out xs)
-fewer_remain (false ∷ out) (x ∷ xs) = omega (arith, fewer_remain out xs)
+one_test : (s : SignalContents) (t b : Bool) (xs ys : List SignalContents) → b ≡ not t → xs ≡ ys
+    → (if b then xs else s ∷ xs) ≡ cond t (s ∷ ys) ys
+one_test s true true xs ys is same = let both : true ≡ false = is in absurd (cc)
+one_test s true false xs ys is same = ap (λ zs. s ∷ zs) same
+one_test s false true xs ys is same = same
+one_test s false false xs ys is same = let both : false ≡ true = is in absurd (cc)
 
-all_remain : {A : Type 0} (P : A → Type 0) (out : List Bool) (xs : List A) → All P xs → All P (remaining out xs)
-all_remain P [] xs all = all
-all_remain P (b ∷ out) [] all = all
-all_remain P (true ∷ out) (x ∷ xs) all = all_remain P out xs (All-tail P x xs all)
-all_remain P (false ∷ out) (x ∷ xs) all =
-    All-cons P x (remaining out xs) (All-head P x xs all) (all_remain P out xs (All-tail P x xs all))
+-- the part by a list of tests is the part by the test that they are of
+filtered : (takes : SignalContents → Bool) (out : List Bool) (ss : List SignalContents)
+    → LeavesOut takes (map without_changes ss) out → remaining out ss ≡ filter (λ s. takes (without_changes s)) ss
+filtered takes [] [] leaves = refl
+filtered takes [] (s ∷ ss) leaves =
+    one_test s (takes (without_changes s)) false ss _ (leaves 0 (without_changes s) refl)
+    (filtered takes [] ss (λ position t at. leaves (suc position) t at))
+filtered takes (b ∷ out) [] leaves = refl
+filtered takes (b ∷ out) (s ∷ ss) leaves =
+    one_test s (takes (without_changes s)) b (remaining out ss) _ (leaves 0 (without_changes s) refl)
+    (filtered takes out ss (λ position t at. leaves (suc position) t at))
+
+pub part_is_meant : (takes : SignalContents → Bool) (answers : Answers) (bytes : List ℕ) (loaded : Loaded)
+    (asked : Asked) → MeansListed asked bytes loaded → IsAnswered takes answers asked
+    → PartMeans takes answers bytes loaded
+part_is_meant takes answers bytes loaded asked means answered =
+    let whole = means.whole in
+    let part = asked.part in
+    let signals = filtered takes part.left_out.items whole.signals
+    (subst (λ ss. LeavesOut takes ss part.left_out.items) (sym means.signals) answered.leaves) in
+    record {
+      whole = whole;
+      means = means.means;
+      ticks = ticks_of part;
+      answered = subst (λ ss. answers whole.timescale ss (Some (ticks_of part))) (sym means.signals)
+          (subst (λ t. answers t asked.signals (Some (ticks_of part))) (sym means.timescale) answered.answered);
+      is = means.is ∙ ap (λ ss. record whole {
+        end = min part.last whole.end - part.first;
+        signals = map (part_of_signal part.first (min part.last whole.end - part.first)) ss;
+      }) signals;
+      end = means.end;
+      count = means.count;
+    }
+
+fewer_pass : {A : Type 0} (p : A → Bool) (xs : List A) → length (filter p xs) ≤ length xs
+fewer_pass p xs = omega (arith, length-filter p xs, count_by-le-length p xs)
 
 -- a part of a sound capture is sound
-pub part_is_sound : (part : Part) (c : Contents) → IsSound c → IsSound (part_of part c)
-part_is_sound part c sound = record {
-  header = sound.header;
-  timescale = sound.timescale;
-  end = omega (arith, sound.end);
-  few = omega (
-    arith,
-    sound.few,
-    fewer_remain part.left_out.items c.signals,
-    length-map (remaining part.left_out.items c.signals)
-        (part_of_signal part.first (min part.last c.end - part.first)),
-  );
-  signals = All-map (IsSoundSignal (min part.last c.end - part.first))
-      (part_of_signal part.first (min part.last c.end - part.first)) (remaining part.left_out.items c.signals)
-      (λ k d within. sound_signal part.first c.end (min part.last c.end - part.first) _
-      (all_remain (IsSoundSignal c.end) part.left_out.items c.signals sound.signals k d within));
-}
+pub part_is_sound : (takes : SignalContents → Bool) (ticks : TickRange) (c : Contents) → IsSound c
+    → IsSound (part_of takes ticks c)
+part_is_sound takes ticks c sound =
+    let end = min ticks.last c.end - ticks.first in
+    let taken : SignalContents → Bool = λ s. takes (without_changes s) in
+    record {
+      header = sound.header;
+      timescale = sound.timescale;
+      end = omega (arith, sound.end);
+      few = omega (
+        arith,
+        sound.few,
+        fewer_pass taken c.signals,
+        length-map (filter taken c.signals) (part_of_signal ticks.first end),
+      );
+      signals = All-map (IsSoundSignal end) (part_of_signal ticks.first end) (filter taken c.signals)
+          (λ k d within. sound_signal ticks.first c.end end _
+          (All-filter taken (IsSoundSignal c.end) c.signals sound.signals k d within));
+    }
 
 -- the meaning of a file is sound
 file_is_sound : (file : List ℕ) (c : Contents) (skipped : ℕ) → FileMeans file c skipped → IsSound c
 file_is_sound file c skipped means =
     subst IsSound (sym means.means) (meaning_is_sound file means.state means.accepted)
 
-pub part_means_sound : (part : Part) (file : List ℕ) (c : Contents) (skipped : ℕ) → PartMeans part file c skipped
-    → IsSound c
-part_means_sound part file c skipped means =
+pub part_means_sound : (takes : SignalContents → Bool) (answers : Answers) (file : List ℕ) (loaded : Loaded)
+    → PartMeans takes answers file loaded → IsSound (contents loaded.capture)
+part_means_sound takes answers file loaded means =
     subst IsSound (sym means.is)
-    (part_is_sound part means.whole (file_is_sound file means.whole skipped means.means))
+    (part_is_sound takes means.ticks means.whole (file_is_sound file means.whole loaded.skipped means.means))
 
 -- ---- the whole
 
@@ -108,19 +156,55 @@ same_signals first end (s ∷ ss) none all =
     let tail = same_signals first end ss none (All-tail (IsSoundSignal end) s ss all) in
     λ i. head i ∷ tail i
 
-whole_is : (part : Part) (c : Contents) → IsWhole part → IsSound c → part_of part c ≡ c
-whole_is part c whole sound =
-    let end : min part.last c.end - part.first ≡ c.end = omega (arith, whole.first, whole.last, sound.end) in
-    let signals = ap (λ out. map (part_of_signal part.first (min part.last c.end - part.first))
-    (remaining out c.signals)) whole.signals
-    ∙ ap (λ n. map (part_of_signal part.first n) c.signals) end
-    ∙ same_signals part.first c.end c.signals whole.first sound.signals in
+all_pass : {A : Type 0} (xs : List A) → filter (λ _. true) xs ≡ xs
+all_pass [] = refl
+all_pass (x ∷ xs) = ap (λ ys. x ∷ ys) (all_pass xs)
+
+-- the part of all signals and all ticks is the capture
+pub whole_is : (takes : SignalContents → Bool) (ticks : TickRange) (c : Contents) →
+    ((s : SignalContents) → takes s ≡ true)
+    → ticks.first ≡ 0 → c.end ≤ ticks.last → All (IsSoundSignal c.end) c.signals → part_of takes ticks c ≡ c
+whole_is takes ticks c all first last sound =
+    let end : min ticks.last c.end - ticks.first ≡ c.end = omega (arith, first, last) in
+    let signals = ap (λ (p : SignalContents → Bool). map
+    (part_of_signal ticks.first (min ticks.last c.end - ticks.first))
+    (filter p c.signals)) (λ i s. all (without_changes s) i)
+    ∙ ap (map (part_of_signal ticks.first (min ticks.last c.end - ticks.first))) (all_pass c.signals)
+    ∙ ap (λ n. map (part_of_signal ticks.first n) c.signals) end
+    ∙ same_signals ticks.first c.end c.signals first sound in
     λ i. record c { end = end i; signals = signals i }
 
-pub whole_means : (coming : Option (List ℕ)) (part : Part) (c : Contents) (skipped : ℕ) → IsWhole part
-    → IfSome coming (λ file. (length file ≤ FILE_LIMIT) × PartMeans part file c skipped)
-    → IfSome coming (λ file. (length file ≤ FILE_LIMIT) × FileMeans file c skipped)
-whole_means None part c skipped whole means = means
-whole_means (Some file) part c skipped whole (short, means) =
-    let same = means.is ∙ whole_is part means.whole whole (file_is_sound file means.whole skipped means.means) in
-    (short, subst (λ d. FileMeans file d skipped) (sym same) means.means)
+pub whole_means : (coming : Option (List ℕ)) (answers : Answers) (loaded : Loaded)
+    → ((timescale : Option Timescale) (ss : List SignalContents) (ticks : TickRange)
+    → answers timescale ss (Some ticks) → ticks ≡ all_ticks)
+    → IfSome coming (λ file. (length file ≤ FILE_LIMIT) × PartMeans (λ _. true) answers file loaded)
+    → IfSome coming (λ file. (length file ≤ FILE_LIMIT) × FileMeans file (contents loaded.capture) loaded.skipped)
+whole_means None answers loaded all means = means
+whole_means (Some file) answers loaded all (short, means) =
+    let sound = file_is_sound file means.whole loaded.skipped means.means in
+    let ticks = all means.whole.timescale (map without_changes means.whole.signals) means.ticks means.answered in
+    let same = means.is ∙ whole_is (λ _. true) means.ticks means.whole (λ s. refl)
+    (ap (λ (t : TickRange). t.first) ticks)
+    (omega (arith, sound.end, ap (λ (t : TickRange). t.last) ticks)) sound.signals in
+    (short, subst (λ d. FileMeans file d loaded.skipped) (sym same) means.means)
+
+-- all signals of a file are few enough, and all ticks are answered
+pub no_part_refusal : (answers : Answers) (coming : Option (List ℕ)) (failed : Bool) (left : Option (List ℕ))
+    (e : ReadError) → ((timescale : Option Timescale) (ss : List SignalContents) → answers timescale ss None → ⊥)
+    → IfSome coming (λ file. IsPartRefusal (λ _. true) answers file failed left e)
+    → IfSome coming (λ file. IsRefusal file failed left e)
+no_part_refusal answers None failed left e some refused = tt
+no_part_refusal answers (Some file) failed left e some (inl refused) = refused
+no_part_refusal answers (Some file) failed left e some (inr (declined c has none fault)) =
+    absurd (some c.timescale (signals_of c) none)
+no_part_refusal answers (Some file) failed left e some (inr (too_many_remain c has many fault)) =
+    let few : KeepsFew c = subst KeepsFew has.state_is
+    (few_after initial_state (has.items ++ end_definitions ∷ []) has.allowed (omega arith)) in
+    absurd (omega (
+      arith,
+      many,
+      few,
+      fewer_pass (λ (s : SignalContents). true) (signals_of c),
+      length-map (meaning c).signals without_changes,
+      length-map (kept_variables c.declared) (declared_signal c.value_changes c.tick),
+    ))

@@ -1,4 +1,5 @@
 -- Lemmas of `reading/parser`.
+pub mod AskedParts
 pub mod NoWordLeft
 pub mod NextWord
 pub mod SkippedCount

@@ -1,4 +1,5 @@
 -- Lemmas of `reading/variables`.
+pub mod DeclaredLists
 pub mod ChangedVariable
 pub mod DeclaredVariable
 pub mod SignalsOfVariables

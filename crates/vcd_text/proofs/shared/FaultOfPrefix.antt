@@ -12,10 +12,10 @@ use Rattle.vcd_text.proofs.shared.ItemsInTurn.{shown_by}
 use Rattle.vcd_text.specs.Grammar.{state_after, initial_state}
 
 -- the first words of a list of words
-abbrev IsPrefix : List WordOnLine → List WordOnLine → Type 0
+abbrev pub IsPrefix : List WordOnLine → List WordOnLine → Type 0
 IsPrefix first all = (more : List WordOnLine) × (all ≡ first ++ more)
 
-complete_in_prefix : (end_counts : Bool) (begun : List ℕ) (line : ℕ) (prefix rest : List ℕ)
+pub complete_in_prefix : (end_counts : Bool) (begun : List ℕ) (line : ℕ) (prefix rest : List ℕ)
     → IsPrefix (words_from false begun line prefix) (words_from end_counts begun line (prefix ++ rest))
 unfolding words_from
 complete_in_prefix end_counts begun line [] rest = (words_from end_counts begun line rest, refl)

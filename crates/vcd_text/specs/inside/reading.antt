@@ -1,4 +1,5 @@
 -- Definitions that `reading` and its proofs cite.
+pub mod Choice
 pub mod DigitTests
 pub mod Part
 pub mod Log

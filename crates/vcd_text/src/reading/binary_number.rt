@@ -4,8 +4,8 @@ ghost use Rattle.std.specs.Prelude.{◌≡◌, ◌<◌, ◌≤◌, true, false, 
 ghost use Rattle.std.specs.Prelude.{MatchResult, IsTrue};
 ghost use Rattle.std.specs.List.{list_all};
 ghost use Rattle.vcd_core.specs.BlockRows.{letters_of};
-ghost use Rattle.vcd_text.specs.Letters.{is_binary_digit as digit_test, letters_of_digits};
-ghost use Rattle.vcd_text.specs.Letters.{value_of_digits as digits_value, extension};
+ghost use Rattle.vcd_text.specs.Letters as spec;
+ghost use Rattle.vcd_text.specs.Letters.{extension, is_binary_digit, letters_of_digits};
 ghost use Rattle.vcd_text.specs.inside.reading.BinaryNumber.{WritesValue, RefusesBinaryNumber};
 ghost use Rattle.vcd_text.specs.inside.reading.DigitBlocks.{digits_of};
 ghost use Rattle.vcd_text.specs.inside.reading.DigitTests.{is_binary_number};
@@ -46,7 +46,7 @@ pub fn read_letter_block(width: u64, digits: &[u8]) -> Result<LetterBlock, Fault
 pub fn value_of_digits(width: u64, digits: &[u8]) -> Option<Value>
     requires least { 1 ≤ width }
     requires most { width ≤ WIDTH_LIMIT }
-    ensures { result ≡ digits_value width digits.now }
+    ensures { result ≡ spec.value_of_digits width digits.now }
 {
     read_value(width, digits).ok()
 }
@@ -85,8 +85,8 @@ fn check_count(width: u64, digits: &[u8]) -> Result<(), Fault>
 fn extended_block(width: u64, digits: &[u8]) -> Option<LetterBlock>
     requires narrow { width ≤ 64 }
     requires fits { length digits.now ≤ width }
-    ensures { MatchOption result (list_all digit_test digits.now ≡ false) (λ block.
-        (list_all digit_test digits.now ≡ true) ×
+    ensures { MatchOption result (list_all is_binary_digit digits.now ≡ false) (λ block.
+        (list_all is_binary_digit digits.now ≡ true) ×
         (letters_of width (block ∷ [])
         ≡ extension width (letters_of_digits digits.now))) }
 {
@@ -99,8 +99,8 @@ fn extended_value(width: u64, digits: &[u8]) -> Option<Value>
     requires least { 1 ≤ width }
     requires most { width ≤ WIDTH_LIMIT }
     requires fits { length digits.now ≤ width }
-    ensures { MatchOption result (list_all digit_test digits.now ≡ false) (λ value.
-        (list_all digit_test digits.now ≡ true) ×
+    ensures { MatchOption result (list_all is_binary_digit digits.now ≡ false) (λ value.
+        (list_all is_binary_digit digits.now ≡ true) ×
         (value ≡ extension width (letters_of_digits digits.now))) }
 {
     let pad = pad_of(digits);

@@ -6,7 +6,8 @@
 
 ghost use Rattle.std.specs.Prelude.{◌≡◌, ◌<◌, ◌∷◌, ℕ, List, true, false, length, Ok, codes};
 ghost use Rattle.vcd_text.specs.Words.{word_on};
-ghost use Rattle.vcd_text.specs.Letters.{is_among, is_binary_digit as digit_test};
+ghost use Rattle.vcd_text.specs.Letters as spec;
+ghost use Rattle.vcd_text.specs.Letters.{is_among};
 ghost use Rattle.vcd_text.specs.Items.{is_command, vector_prefixes, real_or_string_prefixes};
 ghost use Rattle.vcd_text.specs.inside.reading.Parser.{IsUnderway, WordResult};
 ghost use Rattle.vcd_text.specs.declared.reading.parser.OpenItem.TheVariants as items;
@@ -104,7 +105,7 @@ impl Parser {
         requires between { self.old.item ≡ items.Nothing }
         requires in_body { self.old.in_body ≡ true }
         requires reading { IsUnderway self.old }
-        requires digit { digit_test digit ≡ true }
+        requires digit { spec.is_binary_digit digit ≡ true }
         ensures { (line : ℕ) →
             WordResult self.old (word_on (digit ∷ code.now) line) result self.new }
     {

@@ -5,14 +5,15 @@ ghost use Rattle.vcd_text.specs.Words.{word_on};
 ghost use Rattle.vcd_core.specs.Word.{is_one_of};
 ghost use Rattle.vcd_text.specs.Items.{end_word, is_end_word, declaration_words, header_words};
 ghost use Rattle.vcd_text.specs.Items.{begins_declaration};
-ghost use Rattle.vcd_text.specs.inside.reading.Parser.{IsUnderway, WordResult};
-ghost use Rattle.vcd_text.specs.inside.reading.OpenItems.{is_inside};
+ghost use Rattle.vcd_text.specs.inside.reading.Parser.{IsUnderway, WordResult, BeginsPart};
+ghost use Rattle.vcd_text.specs.inside.reading.OpenItems.{is_inside, is_end_definitions};
 ghost use Rattle.vcd_text.specs.inside.reading.Declarations.{Opens, keeps_words};
 ghost use Rattle.vcd_text.specs.declared.reading.parser.OpenItem.TheVariants as items;
 
 use crate::fault::Fault;
 use crate::reading::keywords::{is_command, is_dump_word};
 use crate::reading::parser::{OpenItem, Parser};
+use crate::reading::part::Part;
 use crate::reading::ticks_and_sizes::size_of;
 use crate::reading::timescale::timescale_in;
 use crate::reading::variables::silent_variables;
@@ -103,6 +104,7 @@ impl Parser {
     /// without a kind, and for a variable that of `Variables::declare`.
     pub fn close(&mut self, alloc: Global) -> Result<(), Fault>
         requires inside { is_inside self.old.item ≡ true }
+        requires no_end { is_end_definitions self.old.item ≡ false }
         requires reading { IsUnderway self.old }
         ensures { (line : ℕ) → WordResult self.old (word_on end_word line) result self.new }
     {
@@ -113,7 +115,6 @@ impl Parser {
             OpenItem::Upscope => self.close_upscope(),
             OpenItem::Variable => Err(Fault::BadVar),
             OpenItem::SizedVariable => self.close_variable(alloc),
-            OpenItem::EndDefinitions => self.close_definitions(alloc),
             _ => self.close_other(),
         }
     }
@@ -183,13 +184,15 @@ impl Parser {
         Ok(())
     }
 
-    /// Begins the changes.
-    fn close_definitions(&mut self, alloc: Global) -> Result<(), Fault>
+    /// Takes the `$end` of `$enddefinitions`. The changes of this part begin.
+    pub fn end_definitions(&mut self, part: Part) -> Result<(), NoMemory>
         requires { self.old.item ≡ items.EndDefinitions }
-        ensures { (line : ℕ) → WordResult self.old (word_on end_word line) result self.new }
+        ensures begins { OnOk result (BeginsPart self.old self.new) }
+        ensures part { OnOk result (self.new.part ≡ part) }
     {
-        let silent = silent_variables(self.variables.kept.as_slice(), &self.part.left_out)?;
+        let silent = silent_variables(self.variables.kept.as_slice(), &part.left_out)?;
         self.silent = silent;
+        self.part = part;
         self.in_body = true;
         self.item = OpenItem::Nothing;
         Ok(())

@@ -3,7 +3,7 @@
 ghost use Rattle.std.specs.Prelude.{◌≡◌, ◌≤◌, true, false, [], ◌∷◌, length, MatchOption};
 ghost use Rattle.std.specs.List.{list_all};
 ghost use Rattle.vcd_core.specs.BlockRows.{HoldsLetters};
-ghost use Rattle.vcd_text.specs.Letters.{is_binary_digit as digit_test, letters_of_digits};
+ghost use Rattle.vcd_text.specs.Letters.{is_binary_digit, letters_of_digits};
 ghost use Rattle.vcd_text.specs.inside.reading.DigitBlocks.{AddsLetters, is_two_state};
 
 use crate::reading::digits::{is_two_state, letter_of_digit, two_state_letter};
@@ -13,8 +13,8 @@ use vcd_core::{Bit, LetterBlock};
 /// digit.
 pub fn block_of_digits(pad: Bit, digits: &[u8]) -> Option<LetterBlock>
     requires { length digits.now ≤ 64 }
-    ensures { MatchOption result (list_all digit_test digits.now ≡ false) (λ block.
-        (list_all digit_test digits.now ≡ true) ×
+    ensures { MatchOption result (list_all is_binary_digit digits.now ≡ false) (λ block.
+        (list_all is_binary_digit digits.now ≡ true) ×
         HoldsLetters pad (letters_of_digits digits.now) 0 block) }
 {
     let mut block = LetterBlock::filled(pad);
@@ -27,8 +27,8 @@ pub fn block_of_digits(pad: Bit, digits: &[u8]) -> Option<LetterBlock>
 
 /// The block with the letters of eight digits added at its low end; none if one is no binary digit.
 fn with_eight_digits(block: LetterBlock, digits: &[u8; 8]) -> Option<LetterBlock>
-    ensures { MatchOption result (list_all digit_test digits.now ≡ false) (λ more.
-        (list_all digit_test digits.now ≡ true) ×
+    ensures { MatchOption result (list_all is_binary_digit digits.now ≡ false) (λ more.
+        (list_all is_binary_digit digits.now ≡ true) ×
         AddsLetters (letters_of_digits digits.now) block more) }
 {
     // nearly all digits of captures are 0 or 1: eight of these take one test and no branch
@@ -64,8 +64,8 @@ fn with_two_state_digits(block: LetterBlock, digits: &[u8; 8]) -> LetterBlock
 
 /// The block with the letters of the digits added at its low end; none if one is no binary digit.
 fn with_digits(block: LetterBlock, digits: &[u8]) -> Option<LetterBlock>
-    ensures { MatchOption result (list_all digit_test digits.now ≡ false) (λ more.
-        (list_all digit_test digits.now ≡ true) ×
+    ensures { MatchOption result (list_all is_binary_digit digits.now ≡ false) (λ more.
+        (list_all is_binary_digit digits.now ≡ true) ×
         AddsLetters (letters_of_digits digits.now) block more) }
 {
     let mut block = block;
@@ -77,8 +77,8 @@ fn with_digits(block: LetterBlock, digits: &[u8]) -> Option<LetterBlock>
 
 /// The block with the letter of a digit added at its low end; none if it is no binary digit.
 fn with_digit(block: LetterBlock, digit: u8) -> Option<LetterBlock>
-    ensures { MatchOption result (digit_test digit ≡ false) (λ more.
-        (digit_test digit ≡ true) ×
+    ensures { MatchOption result (is_binary_digit digit ≡ false) (λ more.
+        (is_binary_digit digit ≡ true) ×
         AddsLetters (letters_of_digits (digit ∷ [])) block more) }
 {
     if is_two_state(digit) {

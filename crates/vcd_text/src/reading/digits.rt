@@ -2,8 +2,8 @@
 
 ghost use Rattle.std.specs.Prelude.{◌≡◌, true, Some};
 ghost use Rattle.std.specs.List.{list_all};
-ghost use Rattle.vcd_text.specs.Letters.{letter_of_digit, is_binary_digit as digit_test};
-ghost use Rattle.vcd_text.specs.Letters.{letters_of_digits, pad_letter};
+ghost use Rattle.vcd_text.specs.Letters as spec;
+ghost use Rattle.vcd_text.specs.Letters.{letter_of_digit, letters_of_digits, pad_letter};
 ghost use Rattle.vcd_text.specs.inside.reading.DigitBlocks.{is_two_state};
 
 use vcd_core::Bit;
@@ -23,14 +23,14 @@ pub fn letter_of_digit(digit: u8) -> Option<Bit>
 
 /// Whether all bytes are binary digits.
 pub fn are_binary_digits(bytes: &[u8]) -> bool
-    ensures { result ≡ list_all digit_test bytes.now }
+    ensures { result ≡ list_all spec.is_binary_digit bytes.now }
 {
     bytes.iter().all(|byte| is_binary_digit(*byte))
 }
 
 /// Whether a byte is a binary digit.
 pub fn is_binary_digit(byte: u8) -> bool
-    ensures { result ≡ digit_test byte }
+    ensures { result ≡ spec.is_binary_digit byte }
 {
     // nearly all digits are 0 or 1
     is_two_state(byte) || letter_of_digit(byte).is_some()

@@ -1,30 +1,31 @@
 //! A file in chunks: the complete words of each chunk are taken before the next read.
 
-ghost use Rattle.std.specs.Prelude.{◌≡◌, ◌⊎◌, ◌∷◌, ◌+◌, ◌<◌, ◌≤◌, ℕ, true, false, not, List, []};
-ghost use Rattle.std.specs.Prelude.{◌++◌, length, take, drop, Option, IfOk, IfErr, IfSome, OnOk};
+ghost use Rattle.std.specs.Prelude.{◌≡◌, ◌∷◌, ◌+◌, ◌<◌, ◌≤◌, ℕ, true, false, not, List, []};
+ghost use Rattle.std.specs.Prelude.{length, map, take, drop, Option, IfOk, IfErr, IfSome, OnOk};
 ghost use Rattle.std.specs.List.{list_all};
-ghost use Rattle.std.specs.Io.KnownBytes.{Consumes, Keeps, IsAtEnd};
-ghost use Rattle.vcd_core.specs.Word.{is_white_space as white};
+ghost use Rattle.std.specs.Io.KnownBytes.{IsAtEnd};
+ghost use Rattle.vcd_core.specs.Word as spec;
 ghost use Rattle.vcd_core.specs.CaptureContents.{contents};
 ghost use Rattle.vcd_core.specs.Sound.{IsSound};
-ghost use Rattle.vcd_text.specs.Words.{words_from, WordOnLine as WordInFile};
+ghost use Rattle.vcd_text.specs.Words.{word_on, WordOnLine as WordInFile};
 ghost use Rattle.vcd_text.specs.LentWords.{words_left};
-ghost use Rattle.vcd_text.specs.Parts.{PartMeans};
-ghost use Rattle.vcd_text.specs.declared.reading.part.Part.{Part as ReadPart};
-ghost use Rattle.vcd_text.specs.FoundFaults.{IsFoundFault};
-ghost use Rattle.vcd_text.specs.Refusals.{IsRefusal};
-ghost use Rattle.vcd_text.specs.MemoryErrors.{memory_error};
+ghost use Rattle.vcd_text.specs.Grammar.{ParseState, kept_variables};
+ghost use Rattle.vcd_text.specs.Parts.{PartMeans, IsPartRefusal, told};
 ghost use Rattle.vcd_text.specs.inside.Words.{has_complete_words, line_feeds_in};
-ghost use Rattle.vcd_text.specs.inside.reading.Parser.{HasTakenWords, WordCountFits};
-ghost use Rattle.vcd_text.specs.inside.reading.Parser.{AllWordsResult};
-ghost use Rattle.vcd_text.specs.inside.reading.Parser.{is_complete};
+ghost use Rattle.vcd_text.specs.inside.reading.Part.{Asked, undriven};
+ghost use Rattle.vcd_text.specs.inside.reading.Variables.{VariablesMatch};
+ghost use Rattle.vcd_text.specs.inside.reading.Parser.{HasTakenWords, BeginsPart, is_complete};
+ghost use Rattle.vcd_text.specs.inside.reading.Choice.{HasTakenFrom, IsAnswered, RefusesSignals};
+ghost use Rattle.vcd_text.specs.inside.reading.Choice.{CanTake, TakesWord, AllWordsResult};
+ghost use Rattle.vcd_text.specs.inside.reading.Choice.{RefusesFile};
 ghost use Rattle.vcd_text.specs.inside.reading.FileReader.{HasReadBytes, FileReaderMatches};
 ghost use Rattle.vcd_text.specs.inside.reading.FileReader.{HasUntakenChunk};
 ghost use Rattle.vcd_text.specs.inside.reading.FileReader.{TakesChunk};
+ghost use Rattle.vcd_text.specs.declared.reading.parser.OpenItem.TheVariants as items;
 
 use crate::fault::{Fault, ReadError};
+use crate::reading::choice::{Choice, chosen_part};
 use crate::reading::parser::Parser;
-use crate::reading::part::Part;
 use crate::reading::read_buffer::ReadBuffer;
 use crate::reading::{FILE_LIMIT, Loaded};
 use crate::words::Words;
@@ -46,11 +47,12 @@ pub struct FileReader {
 
 impl FileReader {
     /// The progress before the first read.
-    pub fn new(alloc: Global, part: Part) -> FileReader
-        ensures { HasReadBytes part result [] }
+    pub fn new(alloc: Global) -> FileReader
+        ensures read_bytes { (asked : Asked) → HasReadBytes (HasTakenWords asked) result [] }
+        ensures in_body { result.parser.in_body ≡ false }
     {
         FileReader {
-            parser: Parser::new(alloc, part),
+            parser: Parser::new(alloc),
             buffer: ReadBuffer::new(alloc),
             line_feeds: 0,
             bytes_left: FILE_LIMIT,
@@ -59,23 +61,29 @@ impl FileReader {
 
     /// Reads a chunk and takes the words that are then complete. Returns whether the source gave a
     /// byte.
-    pub fn take_chunk<R: Source>(
+    pub fn take_chunk<R: Source, C: Choice>(
         &mut self,
         alloc: Global,
         source: &mut R,
+        choice: &mut C,
     ) -> Result<bool, ReadError>
         requires ready { R.has_failed source.old ≡ false }
-        requires read_bytes { (part : ReadPart) × (bytes : List ℕ) × HasReadBytes part self.old bytes }
-        ensures taken { OnOk result ((part : ReadPart) (coming : Option (List ℕ)) →
-            FileReaderMatches part coming (R.coming source.old) self.old →
-            FileReaderMatches part coming (R.coming source.new) self.new) }
+        requires read_bytes { (first : C) × (bytes : List ℕ)
+            × HasReadBytes (HasTakenFrom C.takes C.answers first choice.old) self.old bytes }
+        ensures taken { OnOk result ((first : C) (coming : Option (List ℕ)) →
+            FileReaderMatches (HasTakenFrom C.takes C.answers first choice.old) coming
+            (R.coming source.old) self.old →
+            FileReaderMatches (HasTakenFrom C.takes C.answers first choice.new) coming
+            (R.coming source.new) self.new) }
         ensures not_failed { OnOk result (R.has_failed source.new ≡ false) }
         ensures ended { IfOk result (λ more. more ≡ false → IsAtEnd (R.coming source.new)) }
         ensures fewer { IfOk result (λ more. more ≡ true
             → self.new.bytes_left < self.old.bytes_left) }
-        ensures refused { IfErr result (λ e. (part : ReadPart) (coming : Option (List ℕ)) →
-            FileReaderMatches part coming (R.coming source.old) self.old → IfSome coming (λ file.
-            IsRefusal file (R.has_failed source.new) (R.coming source.new) e)) }
+        ensures refused { IfErr result (λ e. (first : C) (coming : Option (List ℕ)) →
+            FileReaderMatches (HasTakenFrom C.takes C.answers first choice.old) coming
+            (R.coming source.old) self.old →
+            IfSome coming (λ file. IsPartRefusal (C.takes first) (told C.answers first choice.new)
+            file (R.has_failed source.new) (R.coming source.new) e)) }
         ensures failed { IfErr result (λ e. e.fault ≡ Fault.ReadFault →
             R.has_failed source.new ≡ true) }
         ensures too_large { IfErr result (λ e. e.fault ≡ Fault.TooLarge →
@@ -90,15 +98,24 @@ impl FileReader {
             return Err(ReadError::at(self.line_feeds + 1, Fault::TooLarge));
         }
         self.bytes_left -= count;
-        self.take_words(alloc, unfinished_len)?;
+        self.take_words(alloc, choice, unfinished_len)?;
         Ok(count > 0)
     }
 
     /// Takes the complete words. The first `unfinished_len` bytes of the buffer are no white space.
-    fn take_words(&mut self, alloc: Global, unfinished_len: usize) -> Result<(), ReadError>
-        requires { (part : ReadPart) × (bytes : List ℕ) × HasUntakenChunk part self.old unfinished_len bytes }
-        ensures taken { (part : ReadPart) (bytes : List ℕ) →
-            HasUntakenChunk part self.old unfinished_len bytes → TakesChunk part bytes result self.new }
+    fn take_words<C: Choice>(
+        &mut self,
+        alloc: Global,
+        choice: &mut C,
+        unfinished_len: usize,
+    ) -> Result<(), ReadError>
+        requires { (first : C) × (bytes : List ℕ)
+            × HasUntakenChunk (HasTakenFrom C.takes C.answers first choice.old) self.old
+            unfinished_len bytes }
+        ensures taken { (first : C) (bytes : List ℕ) →
+            HasUntakenChunk (HasTakenFrom C.takes C.answers first choice.old) self.old
+            unfinished_len bytes →
+            TakesChunk C.takes C.answers first choice.new bytes result self.new }
         ensures bytes_left { self.new.bytes_left ≡ self.old.bytes_left }
     {
         let len = complete_words_len(self.buffer.as_slice(), unfinished_len);
@@ -106,22 +123,23 @@ impl FileReader {
             rest: &self.buffer.as_slice()[..len],
             line_feeds: self.line_feeds,
         };
-        self.line_feeds = read_words(&mut self.parser, alloc, complete)?;
+        self.line_feeds = read_words(&mut self.parser, alloc, choice, complete)?;
         self.buffer.remove_prefix(len);
         Ok(())
     }
 
-    /// Takes the word that the file's end completes, if there is one. The result is the meaning of
-    /// the file, or its fault.
-    pub fn finish(self, alloc: Global) -> Result<Loaded, ReadError>
-        requires { (part : ReadPart) × (bytes : List ℕ) × HasReadBytes part self bytes }
-        ensures means { IfOk result (λ loaded. (part : ReadPart) (bytes : List ℕ) →
-            HasReadBytes part self bytes →
-            PartMeans part bytes (contents loaded.capture) loaded.skipped) }
+    /// Takes the word that the file's end completes, if there is one. The result is the part of
+    /// what the file means, or its fault.
+    pub fn finish<C: Choice>(self, alloc: Global, choice: &mut C) -> Result<Loaded, ReadError>
+        requires { (first : C) × (bytes : List ℕ)
+            × HasReadBytes (HasTakenFrom C.takes C.answers first choice.old) self bytes }
+        ensures means { IfOk result (λ loaded. (first : C) (bytes : List ℕ) →
+            HasReadBytes (HasTakenFrom C.takes C.answers first choice.old) self bytes →
+            PartMeans (C.takes first) (told C.answers first choice.new) bytes loaded) }
         ensures sound { IfOk result (λ loaded. IsSound (contents loaded.capture)) }
-        ensures fault { IfErr result (λ e. (part : ReadPart) (bytes : List ℕ) →
-            HasReadBytes part self bytes →
-            (e ≡ memory_error) ⊎ IsFoundFault bytes e.line e.fault) }
+        ensures fault { IfErr result (λ e. (first : C) (bytes : List ℕ) →
+            HasReadBytes (HasTakenFrom C.takes C.answers first choice.old) self bytes →
+            RefusesFile (C.takes first) (told C.answers first choice.new) bytes e) }
     {
         let FileReader {
             mut parser,
@@ -133,7 +151,7 @@ impl FileReader {
             rest: buffer.as_slice(),
             line_feeds,
         };
-        read_words(&mut parser, alloc, word)?;
+        read_words(&mut parser, alloc, choice, word)?;
         check_complete(&parser, line_feeds + 1)?;
         Ok(parser.into_loaded(alloc)?)
     }
@@ -155,10 +173,11 @@ fn check_complete(parser: &Parser, line: u64) -> Result<(), ReadError>
 /// have none.
 fn complete_words_len(bytes: &[u8], unfinished_len: usize) -> usize
     requires within { unfinished_len ≤ length bytes.now }
-    requires no_space { list_all (λ b. not (white b)) (take unfinished_len bytes.now) ≡ true }
+    requires no_space { list_all (λ b. not (spec.is_white_space b)) (take unfinished_len bytes.now)
+        ≡ true }
     ensures within { result ≤ length bytes.now }
     ensures complete { has_complete_words (take result bytes.now) ≡ true }
-    ensures no_space { list_all (λ b. not (white b)) (drop result bytes.now) ≡ true }
+    ensures no_space { list_all (λ b. not (spec.is_white_space b)) (drop result bytes.now) ≡ true }
 {
     let mut len = bytes.len();
     while len > unfinished_len {
@@ -172,16 +191,72 @@ fn complete_words_len(bytes: &[u8], unfinished_len: usize) -> usize
 
 /// Takes words one after another, up to the first that shows a fault. Returns the number of line
 /// feeds before the end of their text.
-fn read_words(parser: &mut Parser, alloc: Global, words: Words) -> Result<u64, ReadError>
-    requires { WordCountFits parser.old (words_left words) }
-    ensures words { (part : ReadPart) (words_so_far : List WordInFile) →
-        HasTakenWords part parser.old words_so_far → AllWordsResult part words_so_far (words_left words.entry) result parser.new }
+fn read_words<C: Choice>(
+    parser: &mut Parser,
+    alloc: Global,
+    choice: &mut C,
+    words: Words,
+) -> Result<u64, ReadError>
+    requires { (first : C) × CanTake C.takes C.answers first choice.old parser.old
+        (words_left words) }
+    ensures words { (first : C) (words_so_far : List WordInFile) →
+        HasTakenFrom C.takes C.answers first choice.old parser.old words_so_far →
+        AllWordsResult C.takes C.answers first choice.new words_so_far (words_left words.entry)
+        result parser.new }
     ensures line_feeds { IfOk result (λ line_feeds.
         line_feeds ≡ words.entry.line_feeds + line_feeds_in words.entry.rest.now) }
 {
     let mut left = words;
     while let Some(word) = left.next_word() {
-        parser.take_word(alloc, word.text, word.line)?;
+        take_word(parser, alloc, choice, word.text, word.line)?;
     }
     Ok(left.line_feeds)
+}
+
+/// Takes a word, which is on this line. If it ends the declarations, the part is chosen.
+fn take_word<C: Choice>(
+    parser: &mut Parser,
+    alloc: Global,
+    choice: &mut C,
+    text: &[u8],
+    line: u64,
+) -> Result<(), ReadError>
+    requires reading { (first : C) × CanTake C.takes C.answers first choice.old parser.old
+        (word_on text.now line ∷ []) }
+    requires word { 0 < length text.now }
+    ensures { (first : C) (words_so_far : List WordInFile) →
+        HasTakenFrom C.takes C.answers first choice.old parser.old words_so_far →
+        TakesWord C.takes C.answers first choice.new words_so_far (word_on text.now line) result
+        parser.new }
+{
+    if !parser.ends_definitions(text) {
+        return parser.take_word(alloc, text, line);
+    }
+    match begin_part(parser, alloc, choice) {
+        Ok(()) => Ok(()),
+        Err(fault) => Err(ReadError::at(line, fault)),
+    }
+}
+
+/// Takes the `$end` of `$enddefinitions`. The choice is asked for the part that is read.
+fn begin_part<C: Choice>(parser: &mut Parser, alloc: Global, choice: &mut C) -> Result<(), Fault>
+    requires item { parser.old.item ≡ items.EndDefinitions }
+    requires known { (c : ParseState) × VariablesMatch parser.old.variables c }
+    ensures begins { OnOk result (BeginsPart parser.old parser.new) }
+    ensures answered { OnOk result ((c : ParseState) → VariablesMatch parser.old.variables c →
+        IsAnswered (C.takes choice.old) (told C.answers choice.old choice.new) (record {
+          timescale = parser.old.timescale;
+          signals = map undriven (kept_variables c.declared);
+          part = parser.new.part;
+        })) }
+    ensures refused { IfErr result (λ fault. (c : ParseState) →
+        VariablesMatch parser.old.variables c →
+        RefusesSignals (C.takes choice.old) (told C.answers choice.old choice.new)
+        parser.old.timescale
+        (map undriven (kept_variables c.declared)) fault) }
+{
+    let signals = parser.variables.declared_signals();
+    let part = chosen_part(alloc, choice, parser.timescale, &signals)?;
+    parser.end_definitions(part)?;
+    Ok(())
 }

@@ -1,21 +1,21 @@
 //! The parser, which takes one word after another.
 
-ghost use Rattle.std.specs.Prelude.{◌≡◌, ◌<◌, ◌∷◌, [], true, length, IfOk};
+ghost use Rattle.std.specs.Prelude.{◌≡◌, ◌<◌, ◌∷◌, [], true, false, length, IfOk, OnOk};
 ghost use Rattle.vcd_text.specs.Grammar.{ParseState};
 ghost use Rattle.vcd_text.specs.inside.reading.Variables.{VariablesMatch};
-ghost use Rattle.vcd_core.specs.CaptureContents.{contents};
 ghost use Rattle.vcd_text.specs.Words.{word_on};
 ghost use Rattle.vcd_text.specs.inside.reading.OpenItems.{item_fault_line};
+ghost use Rattle.vcd_text.specs.inside.reading.Part.{Asked};
 ghost use Rattle.vcd_text.specs.inside.reading.Parser.{HasTakenWords, IsUnderway, WordResult};
 ghost use Rattle.vcd_text.specs.inside.reading.Parser.{WordsResult};
-ghost use Rattle.vcd_text.specs.inside.reading.Parser.{is_complete, Means};
+ghost use Rattle.vcd_text.specs.inside.reading.Parser.{ends_definitions, is_complete, Means};
 
 use crate::fault::{Fault, ReadError};
 use crate::reading::Loaded;
 use crate::reading::part::Part;
 use crate::reading::variables::{Variables, remaining_signals};
 use std::alloc::Global;
-use vcd_core::{Capture, Header, HeaderKind, NoMemory, Timescale, Word};
+use vcd_core::{Capture, END_LIMIT, Header, HeaderKind, NoMemory, Timescale, Word};
 
 /// The open item, whose words are not all there yet.
 #[derive(Clone, Copy, Debug, PartialEq, Eq)]
@@ -59,7 +59,7 @@ pub struct Parser {
     pub digits: Vec<u8>,
     /// The line of the open change.
     pub line: u64,
-    /// The part of the capture that is read.
+    /// The part of the capture that is read. It is chosen at the end of the declarations.
     pub part: Part,
     /// Whether no change is kept of a variable, by the position of the first one of its code. A
     /// variable past the end of the list keeps its changes.
@@ -68,8 +68,9 @@ pub struct Parser {
 
 impl Parser {
     /// A parser before the first word. It takes no memory.
-    pub fn new(alloc: Global, part: Part) -> Parser
-        ensures { HasTakenWords part result [] }
+    pub fn new(alloc: Global) -> Parser
+        ensures words { (asked : Asked) → HasTakenWords asked result [] }
+        ensures in_body { result.in_body ≡ false }
     {
         Parser {
             header: Vec::new(alloc),
@@ -82,16 +83,29 @@ impl Parser {
             size: 0,
             digits: Vec::new(alloc),
             line: 0,
-            part,
+            part: Part {
+                left_out: Vec::new(alloc),
+                first: 0,
+                last: END_LIMIT,
+            },
             silent: Vec::new(alloc),
         }
     }
 
-    /// Takes the next word of the file, which is on this line.
+    /// Whether a word ends the declarations. The part is then to be chosen.
+    pub fn ends_definitions(&self, text: &[u8]) -> bool
+        ensures { result ≡ ends_definitions self.now text.now }
+    {
+        self.item == OpenItem::EndDefinitions && text == b"$end".as_slice()
+    }
+
+    /// Takes the next word of the file, which is on this line. It does not end the declarations.
     pub fn take_word(&mut self, alloc: Global, text: &[u8], line: u64) -> Result<(), ReadError>
         requires reading { IsUnderway self.old }
         requires word { 0 < length text.now }
-        ensures { WordsResult self.old (word_on text.now line ∷ []) result self.new }
+        requires no_end { ends_definitions self.old text.now ≡ false }
+        ensures words { WordsResult self.old (word_on text.now line ∷ []) result self.new }
+        ensures in_body { OnOk result (self.new.in_body ≡ self.old.in_body) }
     {
         let shown = self.item_fault_line(line);
         match self.take(alloc, text, line) {
@@ -114,6 +128,7 @@ impl Parser {
     fn take(&mut self, alloc: Global, text: &[u8], line: u64) -> Result<(), Fault>
         requires reading { IsUnderway self.old }
         requires word { 0 < length text.now }
+        requires no_end { ends_definitions self.old text.now ≡ false }
         ensures { WordResult self.old (word_on text.now line) result self.new }
     {
         match self.item {
@@ -137,7 +152,7 @@ impl Parser {
     pub fn into_loaded(self, alloc: Global) -> Result<Loaded, NoMemory>
         requires complete { is_complete self ≡ true }
         requires known { (c : ParseState) × VariablesMatch self.variables c }
-        ensures { IfOk result (λ loaded. Means self (contents loaded.capture) loaded.skipped) }
+        ensures { IfOk result (λ loaded. Means self loaded) }
     {
         let Parser {
             header,
@@ -149,8 +164,14 @@ impl Parser {
         } = self;
         let skipped = variables.skipped;
         let all = variables.into_signals(alloc)?;
+        let count = all.len();
         let signals = remaining_signals(alloc, all, part.left_out.as_slice())?;
         let capture = Capture::new(header, timescale, part.seen_tick(tick), signals);
-        Ok(Loaded { capture, skipped })
+        Ok(Loaded {
+            capture,
+            skipped,
+            end: tick,
+            signals: count,
+        })
     }
 }

@@ -1,10 +1,7 @@
-//! The part of a capture that is read.
+//! The part of a capture that is read, as the parser has it.
 
 ghost use Rattle.std.specs.Prelude.{◌≡◌, false, slice_index_or};
-ghost use Rattle.vcd_text.specs.inside.reading.Part.{seen_tick, is_late, IsWhole};
-
-use std::alloc::Global;
-use vcd_core::END_LIMIT;
+ghost use Rattle.vcd_text.specs.inside.reading.Part.{seen_tick, is_late};
 
 /// A part of a capture: some of its signals, and some of its time.
 #[derive(Drop)]
@@ -19,17 +16,6 @@ pub struct Part {
 }
 
 impl Part {
-    /// All signals, at all ticks. It takes no memory.
-    pub fn whole(alloc: Global) -> Part
-        ensures { IsWhole result }
-    {
-        Part {
-            left_out: Vec::new(alloc),
-            first: 0,
-            last: END_LIMIT,
-        }
-    }
-
     /// Whether a tick is past the part.
     pub fn is_late(&self, tick: u64) -> bool
         ensures { result ≡ is_late self.now tick }

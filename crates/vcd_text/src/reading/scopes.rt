@@ -35,8 +35,9 @@ pub struct Scopes {
 
 impl Scopes {
     ghost use Rattle.std.specs.Prelude.{◌-◌, ◌++◌, ◌∷◌, [], take, IfOk, OnOk};
-    ghost use Rattle.vcd_text.specs.inside.reading.Scopes.{chains_of, open_scopes, IsPlaced};
-    ghost use Rattle.vcd_text.specs.inside.reading.Scopes.{KeepsPlaces};
+    ghost use Rattle.vcd_text.specs.inside.reading.Scopes.{chains_of, chain_at, open_scopes};
+    ghost use Rattle.vcd_text.specs.inside.reading.Scopes.{IsPlaced};
+    ghost use Rattle.vcd_text.specs.inside.reading.Scopes.{IsWithin, KeepsPlaces};
 
     /// No scopes. It takes no memory.
     pub fn new(alloc: Global) -> Scopes
@@ -99,6 +100,17 @@ impl Scopes {
         ensures places { KeepsPlaces self.old self.new }
     {
         self.depth = self.depth.saturating_sub(1);
+    }
+
+    /// The scopes of a place, outermost first.
+    pub fn at(&self, place: ScopePlace) -> &[ScopeName]
+        requires { IsWithin (chains_of self.now) place }
+        ensures { result.now ≡ take place.count (chain_at (chains_of self.now) place.chain) }
+    {
+        if place.chain < self.chains.len() {
+            return &self.chains[place.chain].as_slice()[..place.count];
+        }
+        &self.chain[..place.count]
     }
 
     /// The place of a variable in the open scopes.

@@ -1,7 +1,9 @@
 //! The variables that a file declares, with their waves so far.
 
-ghost use Rattle.std.specs.Prelude.{◌≡◌, ◌≤◌, ◌+◌, false, length, IsOk, OnOk, All};
-ghost use Rattle.vcd_text.specs.Grammar.{initial_state};
+ghost use Rattle.std.specs.Prelude.{◌≡◌, ◌≤◌, ◌+◌, false, length, map, IsOk, OnOk, All};
+ghost use Rattle.vcd_text.specs.Grammar.{ParseState, initial_state, kept_variables};
+ghost use Rattle.vcd_text.specs.AsDeclared.{declared_contents};
+ghost use Rattle.vcd_text.specs.inside.reading.Part.{undriven};
 ghost use Rattle.vcd_text.specs.inside.reading.Log.{AppliesToVariable, HasExactRoom};
 ghost use Rattle.vcd_text.specs.inside.reading.Log.{counted_variable};
 ghost use Rattle.vcd_text.specs.inside.reading.Variables.{VariablesMatch};
@@ -12,6 +14,7 @@ mod declaring;
 mod finishing;
 
 use crate::reading::code_targets::CodeTargets;
+use crate::reading::declared_signals::Declarations;
 use crate::reading::log::{ExpectedRoom, LoggedChange};
 use crate::reading::scopes::{ScopePlace, Scopes};
 pub use choosing::{remaining_signals, silent_variables};
@@ -89,6 +92,18 @@ impl Variables {
             code_targets: CodeTargets::new(alloc),
             skipped: 0,
             log: Vec::new(alloc),
+        }
+    }
+
+    /// The kept variables as they are declared.
+    pub fn declared_signals(&self) -> Declarations
+        requires { (c : ParseState) × VariablesMatch self.now c }
+        ensures { (c : ParseState) → VariablesMatch self.now c
+            → declared_contents result ≡ map undriven (kept_variables c.declared) }
+    {
+        Declarations {
+            scopes: &self.scopes,
+            kept: self.kept.as_slice(),
         }
     }
 }

@@ -44,7 +44,7 @@ use Rattle.vcd_text.specs.declared.reading.variables.Variables.{Variables}
 use Rattle.vcd_text.proofs.reading.variables.VariablesMatch.{knows_further}
 use Rattle.vcd_text.proofs.reading.declarations.DeclarationWords.{agrees_by, agrees_as}
 use Rattle.vcd_text.proofs.reading.changes.PartChanges.{agrees_changed, refuses_file, seen_at}
-use Rattle.vcd_text.specs.declared.reading.part.Part.{Part}
+use Rattle.vcd_text.specs.inside.reading.Part.{Asked}
 use Rattle.vcd_text.specs.inside.reading.Part.{seen_state, seen_tick, PartChange}
 
 -- ---- between two changes
@@ -60,42 +60,42 @@ none_begun m begun between taken = subst (IsBegun m begun) between taken
 -- a word that is a whole item
 whole_item : (old new : Parser) (w : WordOnLine) (i : Item) → old.item ≡ items.Nothing → new.item ≡ items.Nothing
     → spelling i ≡ w.text ∷ []
-    → ((part : Part) (c : ParseState) → ParserMatches part old c
-    → Allows c i × ParserMatches part new (state_after_item c i))
+    → ((asked : Asked) (c : ParseState) → ParserMatches asked old c
+    → Allows c i × ParserMatches asked new (state_after_item c i))
     → WordResult old w (Ok tt) new
-whole_item old new w i between closed spelled item part c begun (agrees, taken) =
+whole_item old new w i between closed spelled item asked c begun (agrees, taken) =
     let none = none_begun old begun between taken in
-    ends_item i (spelled ∙ ap (λ bs. word_texts (bs ++ w ∷ [])) (sym none)) (item part c agrees).0 (
-      (item part c agrees).1,
+    ends_item i (spelled ∙ ap (λ bs. word_texts (bs ++ w ∷ [])) (sym none)) (item asked c agrees).0 (
+      (item asked c agrees).1,
       subst (IsBegun new []) (sym closed) refl,
     )
 
 -- a first word that shows a fault
-shown_at : (part : Part) (m : Parser) (c : ParseState) (begun : List WordOnLine) (w : WordOnLine) (fault : Fault)
-    → m.item ≡ items.Nothing → m.in_body ≡ true → IsAtState part m c begun
+shown_at : (asked : Asked) (m : Parser) (c : ParseState) (begun : List WordOnLine) (w : WordOnLine) (fault : Fault)
+    → m.item ≡ items.Nothing → m.in_body ≡ true → IsAtState asked m c begun
     → (IsTrue c.in_body → WordShows c [] w.text fault)
     → (fault ≡ NoMemory) ⊎ WordShows c (word_texts begun) w.text fault
-shown_at part m c begun w fault between in_body (agrees, taken) shown =
+shown_at asked m c begun w fault between in_body (agrees, taken) shown =
     inr (subst (λ bs. WordShows c (word_texts bs) w.text fault) (sym (none_begun m begun between taken))
     (shown (sym agrees.in_body ∙ in_body)))
 
 shows : (old new : Parser) (w : WordOnLine) (fault : Fault) → old.item ≡ items.Nothing → old.in_body ≡ true
-    → ((part : Part) (c : ParseState) → ParserMatches part old c → IsTrue c.in_body → WordShows c [] w.text fault)
+    → ((asked : Asked) (c : ParseState) → ParserMatches asked old c → IsTrue c.in_body → WordShows c [] w.text fault)
     → WordResult old w (Err fault) new
-shows old new w fault between in_body shown part c begun at =
-    shown_at part old c begun w fault between in_body at (shown part c at.0)
+shows old new w fault between in_body shown asked c begun at =
+    shown_at asked old c begun w fault between in_body at (shown asked c at.0)
 
 -- the state does not depend on the open item
-agrees_still : (part : Part) (m : Parser) (c : ParseState) (item : OpenItem) (line : ℕ) → ParserMatches part m c
-    → ParserMatches part (record m { item = item; line = line }) c
-agrees_still part m c item line agrees = agrees_as part m _ c agrees refl refl refl refl refl refl refl
+agrees_still : (asked : Asked) (m : Parser) (c : ParseState) (item : OpenItem) (line : ℕ) → ParserMatches asked m c
+    → ParserMatches asked (record m { item = item; line = line }) c
+agrees_still asked m c item line agrees = agrees_as asked m _ c agrees refl refl refl refl refl refl refl
 
 -- ---- stamps
 
 pub no_stamp : (m new : Parser) (digits : List ℕ) (line : ℕ) → m.item ≡ items.Nothing → m.in_body ≡ true
     → is_tick digits ≡ false → WordResult m (word_on (35 ∷ digits) line) (Err BadTime) new
 no_stamp m new digits line between in_body isnt =
-    shows m new (word_on (35 ∷ digits) line) BadTime between in_body (λ part c agrees in_it.
+    shows m new (word_on (35 ∷ digits) line) BadTime between in_body (λ asked c agrees in_it.
     test_fails (stamp digits) in_it refl
     (failed BadTime (is_tick digits) ((TimeBackwards unless nat_le c.tick (number_of digits)) ∷ []) isnt))
 
@@ -104,7 +104,7 @@ pub stamp_goes_back : (m new : Parser) (digits : List ℕ) (line tick : ℕ) →
     → WordResult m (word_on (35 ∷ digits) line) (Err TimeBackwards) new
 stamp_goes_back m new digits line tick between in_body is number back =
     shows m new (word_on (35 ∷ digits) line) TimeBackwards between in_body
-    (λ part c agrees in_it. test_fails (stamp digits) in_it refl
+    (λ asked c agrees in_it. test_fails (stamp digits) in_it refl
     (failed_later BadTime TimeBackwards (is_tick digits) ((TimeBackwards unless nat_le c.tick (number_of digits)) ∷ [])
     is (failed TimeBackwards (nat_le c.tick (number_of digits)) [] (lt-leb _ _ (omega (arith, agrees.tick))))))
 
@@ -113,13 +113,14 @@ pub takes_stamp : (m : Parser) (digits : List ℕ) (line tick : ℕ) → m.item 
     → WordResult m (word_on (35 ∷ digits) line) (Ok tt) (record m { tick = tick })
 takes_stamp m digits line tick between in_body is number later =
     whole_item m (record m { tick = tick }) (word_on (35 ∷ digits) line) (stamp digits) between between refl
-    (λ part c agrees.
+    (λ asked c agrees.
     let after : c.tick ≤ number_of digits = omega (arith, agrees.tick) in (
       allows_stamp c digits (sym agrees.in_body ∙ in_body) is after,
-      agrees_by part _ _ agrees.seen agrees.header agrees.timescale agrees.in_body number agrees.part_is
-          (knows_further m.variables (seen_state part c agrees.seen) c.header c.timescale c.in_body
-          (seen_tick part (number_of digits)) (omega (arith, after)) agrees.variables)
-          agrees.no_early_change agrees.none_seen agrees.tells agrees.hears,
+      agrees_by asked _ _ agrees.seen agrees.header agrees.timescale agrees.in_body number
+          (knows_further m.variables (seen_state m.part c agrees.seen) c.header c.timescale c.in_body
+          (seen_tick m.part (number_of digits)) (omega (arith, after)) agrees.variables)
+          (λ early. not_both (sym agrees.in_body ∙ in_body) early)
+          agrees.no_early_change agrees.none_seen agrees.tells agrees.hears agrees.part_is agrees.is_asked_of,
     ))
 
 -- ---- commands
@@ -128,21 +129,21 @@ pub takes_dump_word : (m : Parser) (text : List ℕ) (line : ℕ) → m.item ≡
     → is_one_of dump_words text ≡ true → WordResult m (word_on text line) (Ok tt) m
 takes_dump_word m text line between in_body is =
     whole_item m m (word_on text line) (dump_word text) between between refl
-    (λ part c agrees. (allows_dump_word c text (sym agrees.in_body ∙ in_body) is, agrees))
+    (λ asked c agrees. (allows_dump_word c text (sym agrees.in_body ∙ in_body) is, agrees))
 
 pub declares_late : (m new : Parser) (text : List ℕ) (line : ℕ) → m.item ≡ items.Nothing → m.in_body ≡ true
     → is_one_of declaration_words text ≡ true → WordResult m (word_on text line) (Err UnexpectedWord) new
 declares_late m new text line between in_body is =
     shows m new (word_on text line) UnexpectedWord between in_body
-    (λ part c agrees in_it. declaration_late c text in_it is)
+    (λ asked c agrees in_it. declaration_late c text in_it is)
 
 pub passes_over : (m : Parser) (text : List ℕ) (line : ℕ) → m.item ≡ items.Nothing → m.in_body ≡ true
     → is_command text ≡ true → is_one_of dump_words text ≡ false → is_one_of declaration_words text ≡ false
     → WordResult m (word_on text line) (Ok tt) (record m { item = items.Other })
-passes_over m text line between in_body command dump declaring part c begun (agrees, taken) =
+passes_over m text line between in_body command dump declaring asked c begun (agrees, taken) =
     let none = none_begun m begun between taken in
     goes_on (
-      agrees_still part m c items.Other m.line agrees,
+      agrees_still asked m c items.Other m.line agrees,
       record {
         keyword = text;
         words = [];
@@ -158,7 +159,7 @@ pub no_code : (m new : Parser) (letter : ℕ) (code : List ℕ) (line : ℕ) →
     → is_binary_digit letter ≡ true → length code ≡ 0 → WordResult m (word_on (letter ∷ code) line) (Err BadChange) new
 no_code m new letter code line between in_body is none =
     shows m new (word_on (letter ∷ code) line) BadChange between in_body
-    (λ part c agrees in_it. subst (λ cs. WordShows c [] (letter ∷ cs) BadChange) (sym (nil_from_length code none))
+    (λ asked c agrees in_it. subst (λ cs. WordShows c [] (letter ∷ cs) BadChange) (sym (nil_from_length code none))
     (missing_code c letter in_it is))
 
 pub begins_nothing : (m new : Parser) (first : ℕ) (text : List ℕ) (line : ℕ) → m.item ≡ items.Nothing
@@ -167,7 +168,7 @@ pub begins_nothing : (m new : Parser) (first : ℕ) (text : List ℕ) (line : �
     → is_among real_or_string_prefixes first ≡ false → WordResult m (word_on (first ∷ text) line) (Err BadChange) new
 begins_nothing m new first text line between in_body no_command no_letter no_vector no_real_or_string =
     shows m new (word_on (first ∷ text) line) BadChange between in_body
-    (λ part c agrees in_it. begins_no_change c first text in_it no_letter no_command no_vector no_real_or_string)
+    (λ asked c agrees in_it. begins_no_change c first text in_it no_letter no_command no_vector no_real_or_string)
 
 -- some variable accepts the digits
 taken_by_some : (o : Option VariableDeclaration) (digits : List ℕ)
@@ -197,17 +198,17 @@ pub sets_bit : (m : Parser) (vs : Variables) (letter : ℕ) (code : List ℕ) (l
     → WordResult m (word_on (letter ∷ code) line) r (record m { variables = vs })
 sets_bit m vs letter code line (Ok x) between in_body is some takes =
     whole_item m (record m { variables = vs }) (word_on (letter ∷ code) line) (scalar letter code) between between refl
-    (λ part c agrees.
-    let change = takes (seen_state part c agrees.seen) (seen_at part m c agrees) agrees.variables in (
+    (λ asked c agrees.
+    let change = takes (seen_state m.part c agrees.seen) (seen_at asked m c agrees) agrees.variables in (
       allows_scalar c letter code (sym agrees.in_body ∙ in_body) is some
           (taken_by_some (variable_of c code) (letter ∷ []) change.0),
-      agrees_changed part m c vs code (letter ∷ []) m.item agrees in_body change,
+      agrees_changed asked m c vs code (letter ∷ []) m.item agrees in_body change,
     ))
-sets_bit m vs letter code line (Err fault) between in_body is some takes = λ part c begun at.
-    elim (takes (seen_state part c at.0.seen) (seen_at part m c at.0) at.0.variables) [
+sets_bit m vs letter code line (Err fault) between in_body is some takes = λ asked c begun at.
+    elim (takes (seen_state m.part c at.0.seen) (seen_at asked m c at.0) at.0.variables) [
       | inl memory ↦ inl memory
-      | inr row ↦ shown_at part m c begun (word_on (letter ∷ code) line) fault between in_body at
-          (bit_shows c letter code fault is some (refuses_file part c at.0.seen code (letter ∷ []) fault row))
+      | inr row ↦ shown_at asked m c begun (word_on (letter ∷ code) line) fault between in_body at
+          (bit_shows c letter code fault is some (refuses_file m.part c at.0.seen code (letter ∷ []) fault row))
     ]
 
 -- ---- changes of two words
@@ -216,10 +217,10 @@ pub begins_real_or_string : (m : Parser) (first : ℕ) (text : List ℕ) (line :
     → m.in_body ≡ true
     → is_among real_or_string_prefixes first ≡ true
     → WordResult m (word_on (first ∷ text) line) (Ok tt) (record m { item = items.RealOrString; line = line })
-begins_real_or_string m first text line between in_body is part c begun (agrees, taken) =
+begins_real_or_string m first text line between in_body is asked c begun (agrees, taken) =
     let none = none_begun m begun between taken in
     goes_on (
-      agrees_still part m c items.RealOrString line agrees,
+      agrees_still asked m c items.RealOrString line agrees,
       (
         text,
         record {
@@ -254,13 +255,13 @@ digits_fail c digits code fault (variables.too_long d found keeps value long whi
     ap (λ d. first_fault (digit_tests digits d)) found ∙ refuses_length digits d keeps value long ∙ ap Some (sym which)
 
 -- all words of a change by a binary number have been taken
-pub whole_vector : (part : Part) (m : Parser) (c : ParseState) (vs : Variables) (item : OpenItem) (words : List WordOnLine)
-    (letter : ℕ) (digits code : List ℕ) → ParserMatches part m c → m.in_body ≡ true
+pub whole_vector : (asked : Asked) (m : Parser) (c : ParseState) (vs : Variables) (item : OpenItem) (words : List WordOnLine)
+    (letter : ℕ) (digits code : List ℕ) → ParserMatches asked m c → m.in_body ≡ true
     → item ≡ items.Nothing → is_among vector_prefixes letter ≡ true → (letter ∷ digits) ∷ code ∷ [] ≡ word_texts words
     → IsSomeAnd (variable_of c code) (λ d. IsTrue (takes_binary_number d digits))
-    → ParserMatches part (record m { variables = vs; item = item }) (state_after_item c (vector letter digits code))
-    → WordStep part c words (record m { variables = vs; item = item })
-whole_vector part m c vs item words letter digits code agrees in_body closed is spelled takes changed =
+    → ParserMatches asked (record m { variables = vs; item = item }) (state_after_item c (vector letter digits code))
+    → WordStep asked c words (record m { variables = vs; item = item })
+whole_vector asked m c vs item words letter digits code agrees in_body closed is spelled takes changed =
     ends_item (vector letter digits code) spelled
     (allows_vector c letter digits code (sym agrees.in_body ∙ in_body) is takes) (
       changed,
@@ -268,10 +269,10 @@ whole_vector part m c vs item words letter digits code agrees in_body closed is 
     )
 
 -- the code of a change by a binary number shows a fault
-pub vector_shown : (part : Part) (m : Parser) (c : ParseState) (letter : ℕ) (digits code : List ℕ) (fault : Fault) → ParserMatches part m c
+pub vector_shown : (asked : Asked) (m : Parser) (c : ParseState) (letter : ℕ) (digits code : List ℕ) (fault : Fault) → ParserMatches asked m c
     → m.in_body ≡ true → is_among vector_prefixes letter ≡ true → RefusesChange c code digits fault
     → WordShows c ((letter ∷ digits) ∷ []) code fault
-vector_shown part m c letter digits code fault agrees in_body is row =
+vector_shown asked m c letter digits code fault agrees in_body is row =
     test_fails (vector letter digits code) (and_from _ _ (sym agrees.in_body ∙ in_body) is) refl
     (digits_fail c digits code fault row)
 
@@ -280,45 +281,45 @@ pub ends_vector : (m : Parser) (vs : Variables) (code : List ℕ) (line : ℕ) (
     → ((c : ParseState) → c.tick ≡ seen_tick m.part m.tick → VariablesMatch m.variables c
     → PartChange m.part m.silent.items m.tick c code m.digits.items m.variables r vs)
     → WordResult m (word_on code line) r (record m { variables = vs; item = items.Nothing })
-ends_vector m vs code line (Ok x) item takes = λ part c begun (agrees, taken).
+ends_vector m vs code line (Ok x) item takes = λ asked c begun (agrees, taken).
     let b : AwaitsCode m begun vector_prefixes m.digits.items = subst (IsBegun m begun) item taken in
-    let change = takes (seen_state part c agrees.seen) (seen_at part m c agrees) agrees.variables in
-    whole_vector part m c vs items.Nothing (begun ++ word_on code line ∷ []) b.letter m.digits.items code agrees b.in_body
+    let change = takes (seen_state m.part c agrees.seen) (seen_at asked m c agrees) agrees.variables in
+    whole_vector asked m c vs items.Nothing (begun ++ word_on code line ∷ []) b.letter m.digits.items code agrees b.in_body
     refl
     b.among
     (texts_whole m begun vector_prefixes m.digits.items code line b) change.0
-    (agrees_changed part m c vs code m.digits.items items.Nothing agrees b.in_body change)
-ends_vector m vs code line (Err fault) item takes = λ part c begun (agrees, taken).
+    (agrees_changed asked m c vs code m.digits.items items.Nothing agrees b.in_body change)
+ends_vector m vs code line (Err fault) item takes = λ asked c begun (agrees, taken).
     let b : AwaitsCode m begun vector_prefixes m.digits.items = subst (IsBegun m begun) item taken in
-    elim (takes (seen_state part c agrees.seen) (seen_at part m c agrees) agrees.variables) [
+    elim (takes (seen_state m.part c agrees.seen) (seen_at asked m c agrees) agrees.variables) [
       | inl memory ↦ inl memory
       | inr row ↦ inr (subst (λ ts. WordShows c ts code fault)
           (sym (texts_begun m begun vector_prefixes m.digits.items b))
-          (vector_shown part m c b.letter m.digits.items code fault agrees b.in_body b.among
-          (refuses_file part c agrees.seen code m.digits.items fault row)))
+          (vector_shown asked m c b.letter m.digits.items code fault agrees b.in_body b.among
+          (refuses_file m.part c agrees.seen code m.digits.items fault row)))
     ]
 
 pub ends_real_or_string : (m : Parser) (code : List ℕ) (line : ℕ) → m.item ≡ items.RealOrString
     → ((c : ParseState) → VariablesMatch m.variables c → is_some (variable_of c code) ≡ true)
     → WordResult m (word_on code line) (Ok tt) (record m { item = items.Nothing })
-ends_real_or_string m code line item declared part c begun (agrees, taken) =
+ends_real_or_string m code line item declared asked c begun (agrees, taken) =
     let at : (text : List ℕ) × AwaitsCode m begun real_or_string_prefixes text = subst (IsBegun m begun) item taken in
     let text = at.0 in
     let b = at.1 in
     ends_item (real_or_string b.letter text code) (texts_whole m begun real_or_string_prefixes text code line b)
     (allows_real_or_string c b.letter text code (sym agrees.in_body ∙ b.in_body) b.among
-    (declared (seen_state part c agrees.seen) agrees.variables)) (
-      agrees_still part m c items.Nothing m.line agrees,
+    (declared (seen_state m.part c agrees.seen) agrees.variables)) (
+      agrees_still asked m c items.Nothing m.line agrees,
       refl,
     )
 
 pub unknown_real_or_string : (m new : Parser) (code : List ℕ) (line : ℕ) → m.item ≡ items.RealOrString
     → ((c : ParseState) → VariablesMatch m.variables c → is_some (variable_of c code) ≡ false)
     → WordResult m (word_on code line) (Err UnknownCode) new
-unknown_real_or_string m new code line item unknown part c begun (agrees, taken) =
+unknown_real_or_string m new code line item unknown asked c begun (agrees, taken) =
     let at : (text : List ℕ) × AwaitsCode m begun real_or_string_prefixes text = subst (IsBegun m begun) item taken in
     let text = at.0 in
     let b = at.1 in
     inr (subst (λ ts. WordShows c ts code UnknownCode) (sym (texts_begun m begun real_or_string_prefixes text b))
     (test_fails (real_or_string b.letter text code) (and_from _ _ (sym agrees.in_body ∙ b.in_body) b.among) refl
-    (failed UnknownCode (is_some (variable_of c code)) [] (unknown (seen_state part c agrees.seen) agrees.variables))))
+    (failed UnknownCode (is_some (variable_of c code)) [] (unknown (seen_state m.part c agrees.seen) agrees.variables))))

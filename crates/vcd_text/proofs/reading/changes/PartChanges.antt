@@ -20,7 +20,7 @@ use Rattle.vcd_text.specs.declared.reading.variables.Variables.{Variables}
 use Rattle.vcd_text.specs.inside.reading.CodeTargets.{code_target}
 use Rattle.vcd_text.specs.inside.reading.Variables.{target_of, VariablesMatch, RefusesChange, unknown, no_value}
 use Rattle.vcd_text.specs.inside.reading.Variables.{too_long}
-use Rattle.vcd_text.specs.inside.reading.Part.{seen_tick, is_late, seen_state, Remains, TellsPart, IsPassedOver}
+use Rattle.vcd_text.specs.inside.reading.Part.{seen_tick, is_late, seen_state, Remains, TellsPart, IsPassedOver, Asked}
 use Rattle.vcd_text.specs.inside.reading.Part.{PartChange}
 use Rattle.vcd_text.specs.inside.reading.Parser.{ParserMatches}
 use Rattle.vcd_text.proofs.reading.variables.ChangedVariable.{value_with}
@@ -39,9 +39,9 @@ refuses_file part c seen code digits fault (too_long d found keeps value long wh
     too_long d found keeps value long which
 
 -- the tick of the state that is kept
-pub seen_at : (part : Part) (m : Parser) (c : ParseState) (a : ParserMatches part m c)
-    → (seen_state part c a.seen).tick ≡ seen_tick m.part m.tick
-seen_at part m c a = (λ i. seen_tick (sym a.part_is i) (sym a.tick i))
+pub seen_at : (asked : Asked) (m : Parser) (c : ParseState) (a : ParserMatches asked m c)
+    → (seen_state m.part c a.seen).tick ≡ seen_tick m.part m.tick
+seen_at asked m c a = ap (seen_tick m.part) (sym a.tick)
 
 -- ---- ticks
 
@@ -64,7 +64,12 @@ late_past : (part : Part) (tick t : ℕ) → IsTrue (is_late part tick) → t �
     → nat_le tick (part.first + t) ≡ false
 late_past part tick t is within =
     let both = and_parts (nat_lt part.last tick) (nat_lt part.first tick) is in
-    lt-leb tick (part.first + t) (omega (arith, ltb-true part.last tick both.0, ltb-true part.first tick both.1, within))
+    lt-leb tick (part.first + t) (omega (
+      arith,
+      ltb-true part.last tick both.0,
+      ltb-true part.first tick both.1,
+      within,
+    ))
 
 -- ---- one value change more
 
@@ -137,30 +142,32 @@ false_second false b is = refl
 
 -- ---- the parser after a change
 
-module _ (part : Part) (m : Parser) (c : ParseState) (vs : Variables) (code digits : List ℕ) (item : OpenItem)
-    (a : ParserMatches part m c) (in_body : m.in_body ≡ true) where
+module _ (asked : Asked) (m : Parser) (c : ParseState) (vs : Variables) (code digits : List ℕ) (item : OpenItem)
+    (a : ParserMatches asked m c) (in_body : m.in_body ≡ true) where
   abbrev letters : List Bit
   letters = letters_of_digits digits
 
   abbrev changed_state : ParseState
   changed_state = with_value_change c code letters
 
-  matches : (seen : List ValueChange) → VariablesMatch vs (seen_state part changed_state seen)
-      → TellsPart part changed_state seen → vs.code_targets ≡ m.variables.code_targets
-      → ParserMatches part (record m { variables = vs; item = item }) changed_state
+  matches : (seen : List ValueChange) → VariablesMatch vs (seen_state m.part changed_state seen)
+      → TellsPart m.part changed_state seen → vs.code_targets ≡ m.variables.code_targets
+      → ParserMatches asked (record m { variables = vs; item = item }) changed_state
   matches seen variables tells same =
-      agrees_by part (record m { variables = vs; item = item }) changed_state seen a.header a.timescale a.in_body a.tick
-      a.part_is variables
+      agrees_by asked (record m { variables = vs; item = item }) changed_state seen a.header a.timescale a.in_body
+      a.tick
+      variables
+      (λ early. not_both (sym a.in_body ∙ in_body) early)
       (λ early. not_both (sym a.in_body ∙ in_body) early) (λ early. not_both (sym a.in_body ∙ in_body) early) tells
       (λ in_it position d remains width first target. a.hears in_it position d remains width first
-      (ap (λ targets. code_target targets d.code) (sym same) ∙ target))
+      (ap (λ targets. code_target targets d.code) (sym same) ∙ target)) a.part_is a.is_asked_of
 
   -- a change that is passed over is unseen
-  unseen : IsPassedOver part m.silent.items m.variables c.tick code → (position : ℕ) (d : VariableDeclaration)
-      → Remains part c position d → (t : ℕ) → t ≤ part.last - part.first
-      → (bytes_eq code d.code && nat_le c.tick (part.first + t)) ≡ false
+  unseen : IsPassedOver m.part m.silent.items m.variables c.tick code → (position : ℕ) (d : VariableDeclaration)
+      → Remains m.part c position d → (t : ℕ) → t ≤ m.part.last - m.part.first
+      → (bytes_eq code d.code && nat_le c.tick (m.part.first + t)) ≡ false
   unseen (inl late) position d remains t within =
-      false_second (bytes_eq code d.code) _ (late_past part c.tick t late within)
+      false_second (bytes_eq code d.code) _ (late_past m.part c.tick t late within)
   unseen (inr (width, first, target, silent)) position d remains t within =
       elim (cases_Bool (bytes_eq code d.code)) [
         | inl same ↦ not_both silent (a.hears (sym a.in_body ∙ in_body) position d remains width first
@@ -168,22 +175,21 @@ module _ (part : Part) (m : Parser) (c : ParseState) (vs : Variables) (code digi
         | inr other ↦ false_first (bytes_eq code d.code) _ other
       ]
 
-  pub agrees_changed : PartChange m.part m.silent.items m.tick (seen_state part c a.seen) code digits m.variables
-      (Ok tt) vs → ParserMatches part (record m { variables = vs; item = item }) changed_state
+  pub agrees_changed : PartChange m.part m.silent.items m.tick (seen_state m.part c a.seen) code digits m.variables
+      (Ok tt) vs → ParserMatches asked (record m { variables = vs; item = item }) changed_state
   agrees_changed (takes, same, inl (in_time, variables)) =
-      matches (a.seen ++ value_changes_after (seen_state part c a.seen) code letters (variable_of c code)) variables
-      (λ position d remains t within. told_kept part c a.seen code letters d t within
+      matches (a.seen ++ value_changes_after (seen_state m.part c a.seen) code letters (variable_of c code)) variables
+      (λ position d remains t within. told_kept m.part c a.seen code letters d t within
       (a.tells position d remains t within)
-      (subst (λ (p : Part). IsFalse (is_late p c.tick)) a.part_is
-      (subst (λ n. IsFalse (is_late m.part n)) a.tick in_time)) (variable_of c code)) same
+      (subst (λ n. IsFalse (is_late m.part n)) a.tick in_time) (variable_of c code)) same
   agrees_changed (takes, same, inr (variables, inl skipped)) =
       matches a.seen variables
-      (λ position d remains t within. told_skipped part c a.seen code letters d t within
+      (λ position d remains t within. told_skipped m.part c a.seen code letters d t within
       (a.tells position d remains t within) (variable_of c code) skipped) same
   agrees_changed (takes, same, inr (variables, inr passed)) =
       matches a.seen variables
-      (λ position d remains t within. told_same part c a.seen code letters d t within
+      (λ position d remains t within. told_same m.part c a.seen code letters d t within
       (a.tells position d remains t within)
-      (unseen (subst (λ (p : Part). IsPassedOver p m.silent.items m.variables c.tick code) a.part_is
-      (subst (λ n. IsPassedOver m.part m.silent.items m.variables n code) a.tick passed)) position d remains t within)
+      (unseen (subst (λ n. IsPassedOver m.part m.silent.items m.variables n code) a.tick passed)
+      position d remains t within)
       (variable_of c code)) same

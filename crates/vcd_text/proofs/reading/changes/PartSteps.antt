@@ -36,5 +36,6 @@ pub kept_in_time : (part : Part) (silent : List Bool) (tick : ℕ) (c : ParseSta
     (old new : Variables) (result : Result (Unit {0}) Fault) → IsFalse (is_late part tick)
     → new.code_targets ≡ old.code_targets → ChangeResult c code digits result new
     → PartChange part silent tick c code digits old result new
-kept_in_time part silent tick c code digits old new (Ok x) in_time same change = (change.0, same, inl (in_time, change.1))
+kept_in_time part silent tick c code digits old new (Ok x) in_time same change =
+    (change.0, same, inl (in_time, change.1))
 kept_in_time part silent tick c code digits old new (Err fault) in_time same change = change

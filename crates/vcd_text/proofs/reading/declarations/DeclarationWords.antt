@@ -29,12 +29,13 @@ use Rattle.vcd_text.specs.inside.reading.Scopes.{open_scopes, KeepsPlaces}
 use Rattle.vcd_text.specs.inside.reading.Variables.{VariablesMatch, Declares, DeclaresWords}
 use Rattle.vcd_text.specs.inside.reading.Parser.{ParserMatches, Collects, CollectsVariable, PassesOver, IsBegun}
 use Rattle.vcd_text.specs.inside.reading.Parser.{IsAtState}
-use Rattle.vcd_text.specs.inside.reading.Parser.{WordStep, goes_on}
+use Rattle.vcd_text.specs.inside.reading.Parser.{WordStep, goes_on, BeginsPart, asked_of}
 use Rattle.vcd_text.specs.inside.reading.Parser.{ends_item, WordResult}
 use Rattle.vcd_text.specs.declared.reading.parser.Parser.{Parser}
 use Rattle.vcd_text.specs.declared.reading.parser.OpenItem.TheVariants as items
 use Rattle.vcd_text.specs.declared.reading.scopes.Scopes.{Scopes}
 use Rattle.vcd_text.specs.declared.reading.part.Part.{Part}
+use Rattle.vcd_text.specs.inside.reading.Part.{Asked, IsAskedOf, seen_tick}
 use Rattle.vcd_text.specs.inside.reading.Part.{seen_state, TellsPart, HearsPart, HearsVariables}
 use Rattle.vcd_text.specs.Grammar.{ValueChange, kept_variables}
 use Rattle.vcd_text.specs.Meaning.{latest_value}
@@ -63,24 +64,28 @@ still_known vs c header unit in_body k = knows_further vs c header unit in_body 
 -- ---- the end of an item
 
 -- the parser matches a state, part by part
-pub agrees_by : (part : Part) (m : Parser) (c : ParseState) (seen : List ValueChange)
+pub agrees_by : (asked : Asked) (m : Parser) (c : ParseState) (seen : List ValueChange)
     → m.header.items ≡ c.header → m.timescale ≡ c.timescale
-    → m.in_body ≡ c.in_body → m.tick ≡ c.tick → m.part ≡ part
-    → VariablesMatch m.variables (seen_state part c seen) → (IsFalse c.in_body → c.value_changes ≡ [])
-    → (IsFalse c.in_body → seen ≡ []) → TellsPart part c seen
-    → (IsTrue c.in_body → HearsPart part m.silent.items m.variables c) → ParserMatches part m c
-agrees_by part m c seen header time in_body tick is variables no_early_change none tells hears = record {
+    → m.in_body ≡ c.in_body → m.tick ≡ c.tick
+    → VariablesMatch m.variables (seen_state m.part c seen) → (IsFalse c.in_body → c.tick ≡ 0)
+    → (IsFalse c.in_body → c.value_changes ≡ [])
+    → (IsFalse c.in_body → seen ≡ []) → TellsPart m.part c seen
+    → (IsTrue c.in_body → HearsPart m.part m.silent.items m.variables c)
+    → (IsTrue c.in_body → m.part ≡ asked.part) → (IsTrue c.in_body → IsAskedOf asked c) → ParserMatches asked m c
+agrees_by asked m c seen header time in_body tick variables no_tick no_early_change none tells hears is asks = record {
   header = header;
   timescale = time;
   in_body = in_body;
   tick = tick;
-  part_is = is;
   seen = seen;
   variables = variables;
+  no_early_tick = no_tick;
   no_early_change = no_early_change;
   none_seen = none;
   tells = tells;
   hears = hears;
+  part_is = is;
+  is_asked_of = asks;
 }
 
 -- before the first change nothing is to be told
@@ -96,34 +101,38 @@ hears_none : {A : Type 0} (b : Bool) → IsFalse b → IsTrue b → A
 hears_none b isnt is = let both : true ≡ false = sym is ∙ isnt in absurd (cc)
 
 -- the parser matches a state among the declarations
-agrees_early : (part : Part) (m : Parser) (c : ParseState) (seen : List ValueChange)
+agrees_early : (asked : Asked) (m : Parser) (c : ParseState) (seen : List ValueChange)
     → m.header.items ≡ c.header → m.timescale ≡ c.timescale
-    → m.in_body ≡ c.in_body → m.tick ≡ c.tick → m.part ≡ part
-    → VariablesMatch m.variables (seen_state part c seen) → c.value_changes ≡ [] → seen ≡ [] → IsFalse c.in_body
-    → ParserMatches part m c
-agrees_early part m c seen header time in_body tick is variables none none_seen early =
-    agrees_by part m c seen header time in_body tick is variables (λ _. none) (λ _. none_seen)
-    (tells_nothing part c seen none none_seen) (λ in_it. hears_none c.in_body early in_it)
+    → m.in_body ≡ c.in_body → m.tick ≡ c.tick
+    → VariablesMatch m.variables (seen_state m.part c seen) → c.tick ≡ 0 → c.value_changes ≡ [] → seen ≡ []
+    → IsFalse c.in_body → ParserMatches asked m c
+agrees_early asked m c seen header time in_body tick variables no_tick none none_seen early =
+    agrees_by asked m c seen header time in_body tick variables (λ _. no_tick) (λ _. none) (λ _. none_seen)
+    (tells_nothing m.part c seen none none_seen) (λ in_it. hears_none c.in_body early in_it)
+    (λ in_it. hears_none c.in_body early in_it) (λ in_it. hears_none c.in_body early in_it)
 
 -- a parser that differs only in the open item matches the same state
-pub agrees_as : (part : Part) (m new : Parser) (c : ParseState) → ParserMatches part m c → new.header ≡ m.header
+pub agrees_as : (asked : Asked) (m new : Parser) (c : ParseState) → ParserMatches asked m c → new.header ≡ m.header
     → new.timescale ≡ m.timescale → new.in_body ≡ m.in_body → new.tick ≡ m.tick → new.part ≡ m.part
-    → new.variables ≡ m.variables → new.silent ≡ m.silent → ParserMatches part new c
-agrees_as part m new c a header time in_body tick is variables silent =
-    agrees_by part new c a.seen (ap (λ (v : Vec Header). v.items) header ∙ a.header) (time ∙ a.timescale)
-    (in_body ∙ a.in_body)
-    (tick ∙ a.tick) (is ∙ a.part_is) (subst (λ vs. VariablesMatch vs (seen_state part c a.seen)) (sym variables)
-    a.variables)
-    a.no_early_change a.none_seen a.tells
-    (λ in_it. subst (λ (s : Vec Bool). HearsPart part s.items new.variables c) (sym silent)
-    (subst (λ vs. HearsPart part m.silent.items vs c) (sym variables) (a.hears in_it)))
+    → new.variables ≡ m.variables → new.silent ≡ m.silent → ParserMatches asked new c
+agrees_as asked m new c a header time in_body tick part variables silent =
+    agrees_by asked new c a.seen (ap (λ (v : Vec Header). v.items) header ∙ a.header) (time ∙ a.timescale)
+    (in_body ∙ a.in_body) (tick ∙ a.tick)
+    (subst (λ vs. VariablesMatch vs (seen_state new.part c a.seen)) (sym variables)
+    (subst (λ (p : Part). VariablesMatch m.variables (seen_state p c a.seen)) (sym part) a.variables))
+    a.no_early_tick a.no_early_change a.none_seen
+    (subst (λ (p : Part). TellsPart p c a.seen) (sym part) a.tells)
+    (λ in_it. subst (λ (s : Vec Bool). HearsPart new.part s.items new.variables c) (sym silent)
+    (subst (λ vs. HearsPart new.part m.silent.items vs c) (sym variables)
+    (subst (λ (p : Part). HearsPart p m.silent.items m.variables c) (sym part) (a.hears in_it))))
+    (λ in_it. part ∙ a.part_is in_it) a.is_asked_of
 
 -- if the conditions of the open item hold, its `$end` ends it
-ends_here : (part : Part) (new : Parser) (c : ParseState) (begun : List WordOnLine) (line : ℕ) (i : Item) (words : List (List ℕ))
+ends_here : (asked : Asked) (new : Parser) (c : ParseState) (begun : List WordOnLine) (line : ℕ) (i : Item) (words : List (List ℕ))
     → word_texts begun ≡ words → spelling i ≡ words ++ end_word ∷ [] → Allows c i
-    → ParserMatches part new (state_after_item c i) → new.item ≡ items.Nothing
-    → WordStep part c (begun ++ word_on end_word line ∷ []) new
-ends_here part new c begun line i words spelled whole allows agrees closed =
+    → ParserMatches asked new (state_after_item c i) → new.item ≡ items.Nothing
+    → WordStep asked c (begun ++ word_on end_word line ∷ []) new
+ends_here asked new c begun line i words spelled whole allows agrees closed =
     ends_item i (whole ∙ (grind (arith, texts_more))) allows
     (agrees, subst (IsBegun new []) (sym closed) refl)
 
@@ -131,44 +140,44 @@ ends_here part new c begun line i words spelled whole allows agrees closed =
 pub closes_entry : (m new : Parser) (kind : HeaderKind) → m.item ≡ items.Entry kind
     → new.header.items ≡ m.header.items ++ record { kind = kind; words = m.words.items } ∷ []
     → new ≡ record m { header = new.header; words = new.words; item = items.Nothing }
-    → (line : ℕ) (part : Part) (c : ParseState) (begun : List WordOnLine) → IsAtState part m c begun
-    → WordStep part c (begun ++ word_on end_word line ∷ []) new
-closes_entry m new kind is pushed others line part c begun at =
+    → (line : ℕ) (asked : Asked) (c : ParseState) (begun : List WordOnLine) → IsAtState asked m c begun
+    → WordStep asked c (begun ++ word_on end_word line ∷ []) new
+closes_entry m new kind is pushed others line asked c begun at =
     let a = at.0 in
     let b : Collects m begun (header_word kind) = subst (IsBegun m begun) is at.1 in
     let early : IsFalse c.in_body = sym a.in_body ∙ b.declares in
     let i : Item = entry kind m.words.items in
-    subst (WordStep part c (begun ++ word_on end_word line ∷ [])) (sym others)
-    (ends_here part (record m { header = new.header; words = new.words; item = items.Nothing }) c begun line i
+    subst (WordStep asked c (begun ++ word_on end_word line ∷ [])) (sym others)
+    (ends_here asked (record m { header = new.header; words = new.words; item = items.Nothing }) c begun line i
     (header_word kind ∷ m.words.items)
     b.spelled refl (allows_entry c kind m.words.items early b.no_end)
-    (agrees_early part _ _ a.seen (pushed ∙ ap (λ h. h ++ record { kind = kind; words = m.words.items } ∷ []) a.header)
-    a.timescale a.in_body a.tick a.part_is
-    (still_known m.variables (seen_state part c a.seen) (state_after_item c i).header c.timescale c.in_body
-    a.variables) (a.no_early_change early) (a.none_seen early) early) refl)
+    (agrees_early asked _ _ a.seen (pushed ∙ ap (λ h. h ++ record { kind = kind; words = m.words.items } ∷ []) a.header)
+    a.timescale a.in_body a.tick
+    (still_known m.variables (seen_state m.part c a.seen) (state_after_item c i).header c.timescale c.in_body
+    a.variables) (a.no_early_tick early) (a.no_early_change early) (a.none_seen early) early) refl)
 
 -- a timescale replaces the one before
 pub closes_timescale : (m : Parser) (found : Timescale) → m.item ≡ items.Timescale
     → timescale_of m.words.items ≡ Some found
-    → (line : ℕ) (part : Part) (c : ParseState) (begun : List WordOnLine) → IsAtState part m c begun
-    → WordStep part c (begun ++ word_on end_word line ∷ []) (record m { timescale = Some found; item = items.Nothing })
-closes_timescale m found is some line part c begun at =
+    → (line : ℕ) (asked : Asked) (c : ParseState) (begun : List WordOnLine) → IsAtState asked m c begun
+    → WordStep asked c (begun ++ word_on end_word line ∷ []) (record m { timescale = Some found; item = items.Nothing })
+closes_timescale m found is some line asked c begun at =
     let a = at.0 in
     let b : Collects m begun (codes "$timescale") = subst (IsBegun m begun) is at.1 in
     let early : IsFalse c.in_body = sym a.in_body ∙ b.declares in
     let i : Item = timescale m.words.items in
-    ends_here part (record m { timescale = Some found; item = items.Nothing }) c begun line i
+    ends_here asked (record m { timescale = Some found; item = items.Nothing }) c begun line i
     (codes "$timescale" ∷ m.words.items)
     b.spelled refl (allows_timescale c m.words.items early b.no_end (subst IsSome (sym some) refl))
-    (agrees_early part _ _ a.seen a.header (sym some) a.in_body a.tick a.part_is
-    (still_known m.variables (seen_state part c a.seen) c.header (timescale_of m.words.items) c.in_body a.variables)
-    (a.no_early_change early) (a.none_seen early) early) refl
+    (agrees_early asked _ _ a.seen a.header (sym some) a.in_body a.tick
+    (still_known m.variables (seen_state m.part c a.seen) c.header (timescale_of m.words.items) c.in_body a.variables)
+    (a.no_early_tick early) (a.no_early_change early) (a.none_seen early) early) refl
 
 -- the words spell no timescale
 pub shows_no_timescale : (m : Parser) → m.item ≡ items.Timescale → timescale_of m.words.items ≡ None
-    → (part : Part) (c : ParseState) (begun : List WordOnLine) → IsAtState part m c begun
+    → (asked : Asked) (c : ParseState) (begun : List WordOnLine) → IsAtState asked m c begun
     → WordShows c (word_texts begun) end_word faults.BadTimescale
-shows_no_timescale m is none part c begun at =
+shows_no_timescale m is none asked c begun at =
     let b : Collects m begun (codes "$timescale") = subst (IsBegun m begun) is at.1 in
     test_fails (timescale m.words.items)
     (fits_in_words c m.words.items (sym at.0.in_body ∙ b.declares) b.no_end)
@@ -179,19 +188,19 @@ shows_no_timescale m is none part c begun at =
 pub closes_scope : (m : Parser) (scopes : Scopes) (rest : Vec (List ℕ)) (s : ScopeName) → m.item ≡ items.Scope
     → m.words.items ≡ s.kind ∷ s.words → open_scopes scopes ≡ open_scopes m.variables.scopes ++ s ∷ []
     → KeepsPlaces m.variables.scopes scopes
-    → (line : ℕ) (part : Part) (c : ParseState) (begun : List WordOnLine) → IsAtState part m c begun
-    → WordStep part c (begun ++ word_on end_word line ∷ [])
+    → (line : ℕ) (asked : Asked) (c : ParseState) (begun : List WordOnLine) → IsAtState asked m c begun
+    → WordStep asked c (begun ++ word_on end_word line ∷ [])
     (record m { variables = record m.variables { scopes = scopes }; words = rest; item = items.Nothing })
-closes_scope m scopes rest s is words pushed keeps line part c begun at =
+closes_scope m scopes rest s is words pushed keeps line asked c begun at =
     let a = at.0 in
     let b : Collects m begun (codes "$scope") = subst (IsBegun m begun) is at.1 in
     let early : IsFalse c.in_body = sym a.in_body ∙ b.declares in
-    ends_here part _ c begun line (scope s.kind s.words) (codes "$scope" ∷ s.kind ∷ s.words)
+    ends_here asked _ c begun line (scope s.kind s.words) (codes "$scope" ∷ s.kind ∷ s.words)
     (b.spelled ∙ ap (λ ws. codes "$scope" ∷ ws) words) refl
     (allows_scope c s.kind s.words early (ap has_no_end_word (sym words) ∙ b.no_end))
-    (agrees_early part _ _ a.seen a.header a.timescale a.in_body a.tick a.part_is
-    (scopes_moved m.variables scopes (seen_state part c a.seen) (c.scopes ++ s ∷ [])
-    (pushed ∙ ap (λ ss. ss ++ s ∷ []) a.variables.opened) keeps a.variables) (a.no_early_change early) (a.none_seen early) early) refl
+    (agrees_early asked _ _ a.seen a.header a.timescale a.in_body a.tick
+    (scopes_moved m.variables scopes (seen_state m.part c a.seen) (c.scopes ++ s ∷ [])
+    (pushed ∙ ap (λ ss. ss ++ s ∷ []) a.variables.opened) keeps a.variables) (a.no_early_tick early) (a.no_early_change early) (a.none_seen early) early) refl
 
 -- as many scopes are open as in the state
 pub so_deep : (vs : Variables) (c : ParseState) → VariablesMatch vs c → length c.scopes ≡ vs.scopes.depth
@@ -202,21 +211,21 @@ so_deep vs c k = ap (length {A = ScopeName}) (sym k.opened)
 pub closes_upscope : (m : Parser) (scopes : Scopes) → m.item ≡ items.Upscope
     → open_scopes scopes ≡ take (length (open_scopes m.variables.scopes) - 1) (open_scopes m.variables.scopes)
     → KeepsPlaces m.variables.scopes scopes
-    → (line : ℕ) (part : Part) (c : ParseState) (begun : List WordOnLine) → IsAtState part m c begun
-    → WordStep part c (begun ++ word_on end_word line ∷ [])
+    → (line : ℕ) (asked : Asked) (c : ParseState) (begun : List WordOnLine) → IsAtState asked m c begun
+    → WordStep asked c (begun ++ word_on end_word line ∷ [])
     (record m { variables = record m.variables { scopes = scopes }; item = items.Nothing })
-closes_upscope m scopes is popped keeps line part c begun at =
+closes_upscope m scopes is popped keeps line asked c begun at =
     let a = at.0 in
     let b : IsFalse m.in_body × (word_texts begun ≡ codes "$upscope" ∷ []) × (0 < m.variables.scopes.depth) =
     grind arith in
     let early : IsFalse c.in_body = sym a.in_body ∙ b.0 in
-    ends_here part _ c begun line upscope (codes "$upscope" ∷ [])
+    ends_here asked _ c begun line upscope (codes "$upscope" ∷ [])
     b.1 refl (allows_upscope c early
-    (omega (arith, so_deep m.variables (seen_state part c a.seen) a.variables, b.2)))
-    (agrees_early part _ _ a.seen a.header a.timescale a.in_body a.tick a.part_is
-    (scopes_moved m.variables scopes (seen_state part c a.seen) (take (length c.scopes - 1) c.scopes)
+    (omega (arith, so_deep m.variables (seen_state m.part c a.seen) a.variables, b.2)))
+    (agrees_early asked _ _ a.seen a.header a.timescale a.in_body a.tick
+    (scopes_moved m.variables scopes (seen_state m.part c a.seen) (take (length c.scopes - 1) c.scopes)
     (popped ∙ ap (λ (ss : List ScopeName). take (length ss - 1) ss) a.variables.opened) keeps a.variables)
-    (a.no_early_change early) (a.none_seen early) early) refl
+    (a.no_early_tick early) (a.no_early_change early) (a.none_seen early) early) refl
 
 -- the codes of the variables that remain are heard
 heard_codes : (part : Part) (vs : Variables) (c : ParseState) (seen : List ValueChange) (silent : List Bool)
@@ -236,38 +245,43 @@ heard_codes part vs c seen silent k hears position d (declared, remains) width f
       ))
     ]
 
--- the changes begin
-pub closes_definitions : (m : Parser) (silent : Vec Bool) → m.item ≡ items.EndDefinitions
-    → HearsVariables m.variables.kept.items m.part.left_out.items silent.items
-    → (line : ℕ) (part : Part) (c : ParseState) (begun : List WordOnLine) → IsAtState part m c begun
-    → WordStep part c (begun ++ word_on end_word line ∷ [])
-    (record m { silent = silent; in_body = true; item = items.Nothing })
-closes_definitions m silent is hears line part c begun at =
-    let a = at.0 in
-    let b : IsFalse m.in_body × (word_texts begun ≡ codes "$enddefinitions" ∷ []) =
-    subst (IsBegun m begun) is at.1 in
-    let early : IsFalse c.in_body = sym a.in_body ∙ b.0 in
-    ends_here part (record m { silent = silent; in_body = true; item = items.Nothing }) c begun line
-    end_definitions
-    (codes "$enddefinitions" ∷ [])
-    b.1 refl (allows_end_definitions c early)
-    (agrees_by part _ _ a.seen a.header a.timescale refl a.tick a.part_is
-    (still_known m.variables (seen_state part c a.seen) c.header c.timescale true a.variables)
-    (λ _. a.no_early_change early) (λ _. a.none_seen early) a.tells
-    (λ _. heard_codes part m.variables c a.seen silent.items a.variables
-    (subst (λ (q : Part). HearsVariables m.variables.kept.items q.left_out.items silent.items) a.part_is hears))) refl
+-- the changes of a part begin
+pub begins_part : (m : Parser) (part : Part) (silent : Vec Bool) → m.item ≡ items.EndDefinitions
+    → HearsVariables m.variables.kept.items part.left_out.items silent.items
+    → BeginsPart m (record m { silent = silent; part = part; in_body = true; item = items.Nothing })
+begins_part m part silent is hears = (
+  refl,
+  λ line asked c begun at.
+      let a = at.0 in
+      let b : IsFalse m.in_body × (word_texts begun ≡ codes "$enddefinitions" ∷ []) =
+      subst (IsBegun m begun) is at.1 in
+      let early : IsFalse c.in_body = sym a.in_body ∙ b.0 in
+      let vs : VariablesMatch m.variables (seen_state part c a.seen) =
+      knows_further m.variables (seen_state m.part c a.seen) c.header c.timescale c.in_body (seen_tick part c.tick)
+      (omega (arith, a.no_early_tick early)) a.variables in
+      ends_here (asked_of part c) (record m { silent = silent; part = part; in_body = true; item = items.Nothing }) c
+      begun
+      line end_definitions (codes "$enddefinitions" ∷ [])
+      b.1 refl (allows_end_definitions c early)
+      (agrees_by (asked_of part c) _ _ a.seen a.header a.timescale refl a.tick
+      (still_known m.variables (seen_state part c a.seen) c.header c.timescale true vs)
+      (λ _. a.no_early_tick early) (λ _. a.no_early_change early) (λ _. a.none_seen early)
+      (tells_nothing part (record c { in_body = true }) a.seen (a.no_early_change early) (a.none_seen early))
+      (λ _. heard_codes part m.variables c a.seen silent.items vs hears)
+      (λ _. refl) (λ _. (refl, refl))) refl,
+)
 
 -- another command changes nothing
 pub closes_other : (m : Parser) → m.item ≡ items.Other
-    → (line : ℕ) (part : Part) (c : ParseState) (begun : List WordOnLine) → IsAtState part m c begun
-    → WordStep part c (begun ++ word_on end_word line ∷ []) (record m { item = items.Nothing })
-closes_other m is line part c begun at =
+    → (line : ℕ) (asked : Asked) (c : ParseState) (begun : List WordOnLine) → IsAtState asked m c begun
+    → WordStep asked c (begun ++ word_on end_word line ∷ []) (record m { item = items.Nothing })
+closes_other m is line asked c begun at =
     let a = at.0 in
     let b : PassesOver m begun = subst (IsBegun m begun) is at.1 in
-    ends_here part (record m { item = items.Nothing }) c begun line (other b.keyword b.words) (b.keyword ∷ b.words)
+    ends_here asked (record m { item = items.Nothing }) c begun line (other b.keyword b.words) (b.keyword ∷ b.words)
     b.spelled refl (allows_other c b.keyword b.words
     (ap (λ in_body. is_other in_body b.keyword) (sym a.in_body) ∙ b.other) b.no_end)
-    (agrees_as part m _ c a refl refl refl refl refl refl refl) refl
+    (agrees_as asked m _ c a refl refl refl refl refl refl refl) refl
 
 -- ---- variables
 
@@ -281,7 +295,7 @@ short_words c (kind ∷ size ∷ words) short = absurd (omega (arith, short))
 -- a variable that ends before its size
 pub ends_early : (m new : Parser) → m.item ≡ items.Variable → (line : ℕ)
     → WordResult m (word_on end_word line) (Err faults.BadVar) new
-ends_early m new is line part c begun at =
+ends_early m new is line asked c begun at =
     let b : Collects m begun (codes "$var") × (length m.words.items ≤ 1) = subst (IsBegun m begun) is at.1 in
     let short = short_words c m.words.items b.1 in
     inr (test_fails (variable m.words.items)
@@ -292,21 +306,21 @@ ends_early m new is line part c begun at =
 -- the variables have the declaration
 pub closes_variable : (m : Parser) (variables : Variables) (words : List (List ℕ)) (rest : Vec (List ℕ))
     → words ≡ m.words.items → DeclaresWords words m.size m.variables (Ok tt) variables
-    → m.item ≡ items.SizedVariable → (line : ℕ) (part : Part) (c : ParseState) (begun : List WordOnLine) → IsAtState part m c begun
-    → WordStep part c (begun ++ word_on end_word line ∷ [])
+    → m.item ≡ items.SizedVariable → (line : ℕ) (asked : Asked) (c : ParseState) (begun : List WordOnLine) → IsAtState asked m c begun
+    → WordStep asked c (begun ++ word_on end_word line ∷ [])
     (record m { variables = variables; words = rest; item = items.Nothing })
-closes_variable m variables words rest spelled declare is line part c begun at =
+closes_variable m variables words rest spelled declare is line asked c begun at =
     let a = at.0 in
     let b : CollectsVariable m begun = subst (IsBegun m begun) is at.1 in
     let declares : IsFalse c.in_body = sym a.in_body ∙ b.declares in
     let all : List (List ℕ) = b.kind ∷ b.word ∷ b.following in
-    let d : Declares (seen_state part c a.seen) all (Ok tt) variables =
-    declare (seen_state part c a.seen) b.kind b.word b.following (spelled ∙ b.words) b.size (a.none_seen declares)
+    let d : Declares (seen_state m.part c a.seen) all (Ok tt) variables =
+    declare (seen_state m.part c a.seen) b.kind b.word b.following (spelled ∙ b.words) b.size (a.none_seen declares)
     a.variables in
-    ends_here part _ c begun line (variable all) (codes "$var" ∷ all)
+    ends_here asked _ c begun line (variable all) (codes "$var" ∷ all)
     b.spelled refl (allows_variable c all declares b.no_end b.number d.0)
-    (agrees_early part _ _ a.seen a.header a.timescale a.in_body a.tick a.part_is d.1
-    (a.no_early_change declares) (a.none_seen declares) declares) refl
+    (agrees_early asked _ _ a.seen a.header a.timescale a.in_body a.tick d.1
+    (a.no_early_tick declares) (a.no_early_change declares) (a.none_seen declares) declares) refl
 
 -- the words declare no variable that is allowed here
 pub shows_no_variable : (m new : Parser) (result : Result (Unit {0}) Fault) (fault : Fault) (variables : Variables)
@@ -315,12 +329,12 @@ pub shows_no_variable : (m new : Parser) (result : Result (Unit {0}) Fault) (fau
     → IsErrAnd result (λ e. e ≡ fault) → (line : ℕ) → WordResult m (word_on end_word line) result new
 shows_no_variable m new (Ok x) fault variables words spelled declare is failed line = absurd failed
 shows_no_variable m new (Err e) fault variables words spelled declare is failed line =
-    λ part c begun at.
+    λ asked c begun at.
     let a = at.0 in
     let b : CollectsVariable m begun = subst (IsBegun m begun) is at.1 in
     let declares : IsFalse c.in_body = sym a.in_body ∙ b.declares in
-    let d : Declares (seen_state part c a.seen) (b.kind ∷ b.word ∷ b.following) (Err fault) variables =
-    declare (seen_state part c a.seen) b.kind b.word b.following (spelled ∙ b.words) b.size (a.none_seen declares)
+    let d : Declares (seen_state m.part c a.seen) (b.kind ∷ b.word ∷ b.following) (Err fault) variables =
+    declare (seen_state m.part c a.seen) b.kind b.word b.following (spelled ∙ b.words) b.size (a.none_seen declares)
     a.variables in
     subst (λ f. (f ≡ faults.NoMemory) ⊎ WordShows c (word_texts begun) end_word f) (sym failed)
     (elim d [
@@ -339,9 +353,9 @@ one_word (kind ∷ size ∷ words) one none = absurd (omega arith)
 
 -- a size that is no number
 pub shows_no_size : (m : Parser) (text : List ℕ) → m.item ≡ items.Variable → 0 < length m.words.items
-    → is_number text ≡ false → (part : Part) (c : ParseState) (begun : List WordOnLine) → IsAtState part m c begun
+    → is_number text ≡ false → (asked : Asked) (c : ParseState) (begun : List WordOnLine) → IsAtState asked m c begun
     → WordShows c (word_texts begun) text faults.BadVar
-shows_no_size m text is some isnt part c begun at =
+shows_no_size m text is some isnt asked c begun at =
     let b : Collects m begun (codes "$var") × (length m.words.items ≤ 1) = subst (IsBegun m begun) is at.1 in
     let k = one_word m.words.items (omega (arith, some, b.1)) b.0.no_end in
     subst (λ ws. WordShows c ws text faults.BadVar) (sym (b.0.spelled ∙ ap (λ ws. codes "$var" ∷ ws) k.1))
@@ -352,14 +366,14 @@ shows_no_size m text is some isnt part c begun at =
 -- the size of a variable
 pub takes_size : (m : Parser) (text : List ℕ) (size : ℕ) → m.item ≡ items.Variable → 0 < length m.words.items
     → is_number text ≡ true → size ≡ min (number_of text) (WIDTH_LIMIT + 1) → IsFalse (is_end_word text)
-    → (line : ℕ) (part : Part) (c : ParseState) (begun : List WordOnLine) → IsAtState part m c begun
-    → WordStep part c (begun ++ word_on text line ∷ []) (record m { size = size; item = items.SizedVariable })
-takes_size m text size is some number read isnt line part c begun at =
+    → (line : ℕ) (asked : Asked) (c : ParseState) (begun : List WordOnLine) → IsAtState asked m c begun
+    → WordStep asked c (begun ++ word_on text line ∷ []) (record m { size = size; item = items.SizedVariable })
+takes_size m text size is some number read isnt line asked c begun at =
     let a = at.0 in
     let b : Collects m begun (codes "$var") × (length m.words.items ≤ 1) = subst (IsBegun m begun) is at.1 in
     let k = one_word m.words.items (omega (arith, some, b.1)) b.0.no_end in
     goes_on (
-      agrees_as part m _ c a refl refl refl refl refl refl refl,
+      agrees_as asked m _ c a refl refl refl refl refl refl refl,
       record {
         kind = k.0;
         word = text;
@@ -377,13 +391,13 @@ takes_size m text size is some number read isnt line part c begun at =
 -- a word of a variable after its size
 pub continues_variable : (m : Parser) (words : Vec (List ℕ)) (text : List ℕ) → m.item ≡ items.SizedVariable
     → words.items ≡ m.words.items ++ text ∷ [] → IsFalse (is_end_word text)
-    → (line : ℕ) (part : Part) (c : ParseState) (begun : List WordOnLine) → IsAtState part m c begun
-    → WordStep part c (begun ++ word_on text line ∷ []) (record m { words = words })
-continues_variable m words text is pushed isnt line part c begun at =
+    → (line : ℕ) (asked : Asked) (c : ParseState) (begun : List WordOnLine) → IsAtState asked m c begun
+    → WordStep asked c (begun ++ word_on text line ∷ []) (record m { words = words })
+continues_variable m words text is pushed isnt line asked c begun at =
     let a = at.0 in
     let b : CollectsVariable m begun = subst (IsBegun m begun) is at.1 in
     goes_on (
-      agrees_as part m _ c a refl refl refl refl refl refl refl,
+      agrees_as asked m _ c a refl refl refl refl refl refl refl,
       subst (IsBegun (record m { words = words }) (begun ++ word_on text line ∷ [])) (sym is) (record {
         kind = b.kind;
         word = b.word;
@@ -399,9 +413,9 @@ continues_variable m words text is pushed isnt line part c begun at =
 
 -- a word of another command
 pub passes_over : (m : Parser) (text : List ℕ) → m.item ≡ items.Other → IsFalse (is_end_word text)
-    → (line : ℕ) (part : Part) (c : ParseState) (begun : List WordOnLine) → IsAtState part m c begun
-    → WordStep part c (begun ++ word_on text line ∷ []) m
-passes_over m text is isnt line part c begun at =
+    → (line : ℕ) (asked : Asked) (c : ParseState) (begun : List WordOnLine) → IsAtState asked m c begun
+    → WordStep asked c (begun ++ word_on text line ∷ []) m
+passes_over m text is isnt line asked c begun at =
     let b : PassesOver m begun = subst (IsBegun m begun) is at.1 in
     goes_on (
       at.0,
@@ -425,7 +439,7 @@ shown_after c begun texts word fault is shown = inr (subst (λ ts. WordShows c t
 pub shows_no_declaration : (m new : Parser) (text : List ℕ) → m.item ≡ items.Nothing → IsFalse m.in_body
     → IsFalse (begins_declaration text) → (line : ℕ)
     → WordResult m (word_on text line) (Err faults.UnexpectedWord) new
-shows_no_declaration m new text is declares isnt line part c begun at =
+shows_no_declaration m new text is declares isnt line asked c begun at =
     let none : begun ≡ [] = subst (IsBegun m begun) is at.1 in
     shown_after c begun [] text faults.UnexpectedWord (ap word_texts none)
     (begins_no_declaration c text (sym at.0.in_body ∙ declares) isnt)
@@ -434,25 +448,25 @@ shows_no_declaration m new text is declares isnt line part c begun at =
 pub shows_upscope_at_top : (m new : Parser) (text : List ℕ) → m.item ≡ items.Nothing → IsFalse m.in_body
     → text ≡ codes "$upscope" → m.variables.scopes.depth ≡ 0 → (line : ℕ)
     → WordResult m (word_on text line) (Err faults.UpscopeAtTop) new
-shows_upscope_at_top m new text is declares word top line part c begun at =
+shows_upscope_at_top m new text is declares word top line asked c begun at =
     let a = at.0 in
     let none : begun ≡ [] = subst (IsBegun m begun) is at.1 in
     shown_after c begun [] text faults.UpscopeAtTop (ap word_texts none)
     (subst (λ w. WordShows c [] w faults.UpscopeAtTop) (sym word)
     (upscope_at_top c (sym a.in_body ∙ declares)
-    (nil_from_length c.scopes (so_deep m.variables (seen_state part c a.seen) a.variables ∙ top))))
+    (nil_from_length c.scopes (so_deep m.variables (seen_state m.part c a.seen) a.variables ∙ top))))
 
 -- a word other than `$end` after `$upscope` or `$enddefinitions`
 pub shows_no_end : (m new : Parser) (text : List ℕ) → (m.item ≡ items.Upscope) ⊎ (m.item ≡ items.EndDefinitions)
     → IsFalse (is_end_word text) → (line : ℕ) → WordResult m (word_on text line) (Err faults.UnexpectedWord) new
-shows_no_end m new text (inl is) isnt line part c begun at =
+shows_no_end m new text (inl is) isnt line asked c begun at =
     let a = at.0 in
     let b : IsFalse m.in_body × (word_texts begun ≡ codes "$upscope" ∷ []) × (0 < m.variables.scopes.depth) =
     subst (IsBegun m begun) is at.1 in
     shown_after c begun (codes "$upscope" ∷ []) text faults.UnexpectedWord b.1
     (upscope_goes_on c text (sym a.in_body ∙ b.0) isnt
-    (omega (arith, so_deep m.variables (seen_state part c a.seen) a.variables, b.2)))
-shows_no_end m new text (inr is) isnt line part c begun at =
+    (omega (arith, so_deep m.variables (seen_state m.part c a.seen) a.variables, b.2)))
+shows_no_end m new text (inr is) isnt line asked c begun at =
     let b : IsFalse m.in_body × (word_texts begun ≡ codes "$enddefinitions" ∷ []) = subst (IsBegun m begun) is at.1 in
     shown_after c begun (codes "$enddefinitions" ∷ []) text faults.UnexpectedWord b.1
     (definitions_go_on c text (sym at.0.in_body ∙ b.0) isnt)
@@ -460,7 +474,7 @@ shows_no_end m new text (inr is) isnt line part c begun at =
 -- a scope without a kind
 pub shows_missing_kind : (m new : Parser) → m.item ≡ items.Scope → m.words.items ≡ [] → (line : ℕ)
     → WordResult m (word_on end_word line) (Err faults.BadScope) new
-shows_missing_kind m new is none line part c begun at =
+shows_missing_kind m new is none line asked c begun at =
     let b : Collects m begun (codes "$scope") = subst (IsBegun m begun) is at.1 in
     shown_after c begun (codes "$scope" ∷ []) end_word faults.BadScope
     (b.spelled ∙ ap (λ ws. codes "$scope" ∷ ws) none) (missing_kind c (sym at.0.in_body ∙ b.declares))

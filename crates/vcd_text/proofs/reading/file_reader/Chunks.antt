@@ -2,7 +2,7 @@
 use Rattle.std.proofs.Common.{◌≡◌, ◌⊎◌, inl, inr, ℕ, zero, suc, ◌+◌, ◌-◌, ◌<◌, ◌≤◌, Bool, true}
 use Rattle.std.proofs.Common.{false, not, cond}
 use Rattle.std.proofs.Common.{List, [], ◌∷◌, ◌++◌, length, take, drop, get_or, Option, Some, None}
-use Rattle.std.proofs.Common.{IfSome, sym}
+use Rattle.std.proofs.Common.{IfSome, refl, sym}
 use Rattle.std.proofs.Common.{ap, subst, ◌∙◌, arith, append_assoc, length-append}
 use Rattle.std.specs.Prelude.{IsTrue, IsFalse}
 use Rattle.std.specs.List.{list_all}
@@ -29,14 +29,19 @@ use Rattle.vcd_text.specs.MemoryErrors.{memory_error}
 use Rattle.vcd_text.specs.inside.Words.{line_feeds_in, has_complete_words}
 use Rattle.vcd_text.specs.inside.reading.Parser.{HasTakenWords}
 use Rattle.vcd_text.specs.inside.reading.FileReader.{HasTaken, HasUntakenChunk, HasReadBytes}
-use Rattle.vcd_text.proofs.reading.parser.NoWordLeft.{no_fault as shows_none}
 use Rattle.vcd_text.proofs.reading.file_reader.PrefixResults.{larger, failing}
-use Rattle.vcd_text.proofs.shared.FaultOfPrefix.{longer_prefix_fault}
+use Rattle.vcd_text.proofs.shared.FaultOfPrefix.{longer_prefix_fault, complete_in_prefix}
 use Rattle.vcd_text.proofs.shared.FoundFault.{file_fault, prefix_fault_stays}
 use Rattle.vcd_text.proofs.words.WordsInTurn.{line_feeds_of_both, no_line_feeds, word_part}
 use Rattle.vcd_text.specs.inside.reading.ReadBuffer.{ReadBufferView}
 use Rattle.std.proofs.lemmas.Grind.{common_steps}
-use Rattle.vcd_text.specs.declared.reading.part.Part.{Part}
+use Rattle.vcd_core.specs.Contents.{SignalContents}
+use Rattle.vcd_text.specs.Parts.{ChoiceAnswers, Answers, RefusesPart, too_many_remain, declined, IsPartRefusal}
+use Rattle.vcd_core.specs.declared.capture.Timescale.{Timescale}
+use Rattle.vcd_text.specs.declared.reading.choice.TickRange.{TickRange}
+use Rattle.vcd_text.specs.inside.reading.Part.{Asked}
+use Rattle.vcd_text.specs.inside.reading.Choice.{HasTakenFrom, RefusesWords, RefusesFile, ShowsNone}
+use Rattle.vcd_text.proofs.reading.parser.AskedParts.{declares_further, nothing_asked}
 
 -- ---- line feeds
 
@@ -82,7 +87,8 @@ words_complete end_counts line (b ∷ bs) rest complete = complete_first end_cou
 
 -- ---- one more chunk
 
-module _ (part : Part) (p : FileReader) (from len : ℕ) (bytes complete_text : List ℕ) (come : HasUntakenChunk part p from bytes)
+module _ (taken_by : Parser → List WordOnLine → Type 0) (p : FileReader) (from len : ℕ) (bytes complete_text : List ℕ)
+    (come : HasUntakenChunk taken_by p from bytes)
     (ends : has_complete_words (take len p.buffer.bytes) ≡ true)
     (no_space : list_all (λ b. not (is_white_space b)) (drop len p.buffer.bytes) ≡ true)
     (prefix : complete_text ≡ take len p.buffer.bytes) where
@@ -114,9 +120,10 @@ module _ (part : Part) (p : FileReader) (from len : ℕ) (bytes complete_text : 
       ∙ ap (λ words. complete_words come.before ++ words) (append-nil complete)
 
   -- the complete words have been taken
-  pub now_taken : (new : Parser) → HasTakenWords part new (complete_words come.before ++ complete)
-      → HasTaken part new back (p.line_feeds + line_feeds_in complete_text) p.bytes_left bytes
-  now_taken new reads =
+  pub now_taken : (later : Parser → List WordOnLine → Type 0) (new : Parser)
+      → later new (complete_words come.before ++ complete)
+      → HasTaken later new back (p.line_feeds + line_feeds_in complete_text) p.bytes_left bytes
+  now_taken later new reads =
       grind (
         arith,
         common_steps,
@@ -129,38 +136,62 @@ module _ (part : Part) (p : FileReader) (from len : ℕ) (bytes complete_text : 
         no_line_feeds,
       )
 
-  -- or one of them shows a fault
-  pub now_shown : (e : ReadError)
-      → (e ≡ memory_error) ⊎ ShowsFault (complete_words come.before ++ complete) e.line e.fault
-      → (e ≡ memory_error) ⊎ PrefixShows bytes e.line e.fault
-  now_shown e (inl none) = inl none
-  now_shown e (inr shows) = inr (subst (λ words. ShowsFault words e.line e.fault) (sym closed_now) shows)
+  -- or one of them is refused
+  pub now_refused : (takes : SignalContents → Bool) (answers : Answers) (e : ReadError)
+      → RefusesWords takes answers (complete_words come.before ++ complete) e
+      → RefusesWords takes answers (complete_words bytes) e
+  now_refused takes answers e refused =
+      subst (λ words. RefusesWords takes answers words e) (sym closed_now) refused
 
 -- ---- nothing has been read, or all has been
 
-pub nothing_taken : (part : Part) (m : Parser) (word : List ℕ) → word ≡ [] → HasTakenWords part m [] → HasTaken part m word 0 FILE_LIMIT []
+pub nothing_taken : (taken_by : Parser → List WordOnLine → Type 0) (m : Parser) (word : List ℕ) → word ≡ [] →
+    taken_by m [] → HasTaken taken_by m word 0 FILE_LIMIT []
 unfolding words_from
-nothing_taken part m word none reads = grind arith
+nothing_taken taken_by m word none reads = grind arith
+
+pub asked_nothing : {C : Type 0} (takes : C → SignalContents → Bool)
+    (answers : ChoiceAnswers C) (first : C) (p : FileReader)
+    (asked : Asked) (bytes : List ℕ) → HasReadBytes (HasTakenWords asked) p bytes → p.parser.in_body ≡ false
+    → HasReadBytes (HasTakenFrom takes answers first first) p bytes
+asked_nothing takes answers first p asked bytes taken early = record {
+  taken_words = nothing_asked takes answers first p.parser asked (complete_words bytes) taken.taken_words early;
+  words = taken.words;
+  no_space = taken.no_space;
+  short = taken.short;
+  lines = taken.lines;
+  size = taken.size;
+}
+
+pub consumes_none : (coming : Option (List ℕ)) → Consumes coming coming []
+consumes_none None = tt
+consumes_none (Some xs) = refl
 
 -- the words so far, and the last one
-all_words : (part : Part) (p : FileReader) (text bytes : List ℕ) → HasReadBytes part p bytes → text ≡ p.buffer.bytes
+all_words : (taken_by : Parser → List WordOnLine → Type 0) (p : FileReader) (text bytes : List ℕ) →
+    HasReadBytes taken_by p bytes → text ≡ p.buffer.bytes
     → complete_words bytes ++ words_from true [] (p.line_feeds + 1) text ≡ words_of bytes
-all_words part p text bytes taken is =
+all_words taken_by p text bytes taken is =
     ap (λ word. complete_words bytes ++ words_from true [] (p.line_feeds + 1) word) (is ∙ sym (append-nil p.buffer.bytes))
     ∙ sym (taken.words true []) ∙ ap (words_from true [] 1) (append-nil bytes)
 
--- so all words of the bytes have been taken, or one shows a fault
-pub last_taken : (part : Part) (p : FileReader) (new : Parser) (text bytes : List ℕ) → HasReadBytes part p bytes → text ≡ p.buffer.bytes
-    → HasTakenWords part new (complete_words bytes ++ words_from true [] (p.line_feeds + 1) text)
-    → HasTakenWords part new (words_of bytes)
-last_taken part p new text bytes taken is reads = subst (HasTakenWords part new) (all_words part p text bytes taken is) reads
+-- so all words of the bytes have been taken, or one is refused
+pub last_taken : (taken_by later : Parser → List WordOnLine → Type 0) (p : FileReader) (new : Parser)
+    (text bytes : List ℕ) → HasReadBytes taken_by p bytes → text ≡ p.buffer.bytes
+    → later new (complete_words bytes ++ words_from true [] (p.line_feeds + 1) text) → later new (words_of bytes)
+last_taken taken_by later p new text bytes taken is reads =
+    subst (later new) (all_words taken_by p text bytes taken is) reads
 
-pub last_shown : (part : Part) (p : FileReader) (text bytes : List ℕ) (e : ReadError) → HasReadBytes part p bytes → text ≡ p.buffer.bytes
-    → (e ≡ memory_error) ⊎ ShowsFault (complete_words bytes ++ words_from true [] (p.line_feeds + 1) text) e.line e.fault
-    → (e ≡ memory_error) ⊎ IsFoundFault bytes e.line e.fault
-last_shown part p text bytes e taken is (inl none) = inl none
-last_shown part p text bytes e taken is (inr shows) =
-    inr (word_shows (subst (λ words. ShowsFault words e.line e.fault) (all_words part p text bytes taken is) shows))
+pub last_refused : (taken_by : Parser → List WordOnLine → Type 0) (takes : SignalContents → Bool) (answers : Answers)
+    (p : FileReader) (text bytes : List ℕ) (e : ReadError) → HasReadBytes taken_by p bytes → text ≡ p.buffer.bytes
+    → RefusesWords takes answers (complete_words bytes ++ words_from true [] (p.line_feeds + 1) text) e
+    → RefusesFile takes answers bytes e
+last_refused taken_by takes answers p text bytes e taken is (inl none) = inl none
+last_refused taken_by takes answers p text bytes e taken is (inr (inl shows)) =
+    inr (inl (word_shows (subst (λ words. ShowsFault words e.line e.fault) (all_words taken_by p text bytes taken is)
+    shows)))
+last_refused taken_by takes answers p text bytes e taken is (inr (inr refused)) =
+    inr (inr (subst (λ words. RefusesPart takes answers words e) (all_words taken_by p text bytes taken is) refused))
 
 -- ---- results for a file of which these bytes have come
 
@@ -190,17 +221,50 @@ shown_early (Some xs) (Some ys) failed bytes e ready consumes within (inr shows)
           (prefix_fault_stays bytes ys e.line e.fault shows))
     ]
 
+-- a part is refused for the words of a longer list as well
+refuses_further : (takes : SignalContents → Bool) (answers : Answers) (words more all : List WordOnLine) (e : ReadError)
+    → all ≡ words ++ more → RefusesPart takes answers words e → RefusesPart takes answers all e
+refuses_further takes answers words more all e is (too_many_remain c has many fault) =
+    too_many_remain c (declares_further words more all e.line c is has) many fault
+refuses_further takes answers words more all e is (declined c has none fault) =
+    declined c (declares_further words more all e.line c is has) none fault
+
+pub as_part : (takes : SignalContents → Bool) (answers : Answers) (coming left : Option (List ℕ)) (failed : Bool)
+    (e : ReadError) → IfSome coming (λ file. IsRefusal file failed left e)
+    → IfSome coming (λ file. IsPartRefusal takes answers file failed left e)
+as_part takes answers None left failed e refused = tt
+as_part takes answers (Some file) left failed e refused = inl refused
+
+-- a complete word is refused
+pub refused_early : (takes : SignalContents → Bool) (answers : Answers) (coming left : Option (List ℕ)) (failed : Bool)
+    (bytes : List ℕ) (e : ReadError) → IsFalse failed
+    → Consumes coming left bytes → length bytes ≤ FILE_LIMIT
+    → RefusesWords takes answers (complete_words bytes) e
+    → IfSome coming (λ file. IsPartRefusal takes answers file failed left e)
+refused_early takes answers coming left failed bytes e ready consumes within (inl none) =
+    as_part takes answers coming left failed e (shown_early coming left failed bytes e ready consumes within (inl none))
+refused_early takes answers coming left failed bytes e ready consumes within (inr (inl shows)) =
+    as_part takes answers coming left failed e (shown_early coming left failed bytes e ready consumes within
+    (inr shows))
+refused_early takes answers None left failed bytes e ready consumes within (inr (inr refused)) = tt
+refused_early takes answers (Some xs) None failed bytes e ready consumes within (inr (inr refused)) = absurd consumes
+refused_early takes answers (Some xs) (Some ys) failed bytes e ready consumes within (inr (inr refused)) =
+    let prefix = complete_in_prefix true [] 1 bytes ys in
+    inr (refuses_further takes answers (complete_words bytes) prefix.0 (words_of xs) e
+    (ap words_of consumes ∙ prefix.1) refused)
+
 -- the file has more bytes than the limit
-pub full : (part : Part) (coming middle left : Option (List ℕ)) (failed : Bool) (p : FileReader)
+pub full : (taken_by : Parser → List WordOnLine → Type 0) (coming middle left : Option (List ℕ)) (failed : Bool)
+    (p : FileReader)
     (bytes chunk : List ℕ) (e : ReadError)
     → IsFalse failed → Consumes coming middle bytes → Consumes middle left chunk → 0 < length chunk → p.bytes_left ≡ 0
-    → HasReadBytes part p bytes
+    → HasReadBytes taken_by p bytes → ShowsNone (complete_words bytes)
     → e ≡ record { line = p.line_feeds + 1; fault = faults.TooLarge }
     → IfSome coming (λ file. IsRefusal file failed left e)
-full part coming middle left failed p bytes chunk e ready first second some none taken is =
+full taken_by coming middle left failed p bytes chunk e ready first second some none taken silent is =
     larger coming left failed bytes e ready
     (over coming left (Consumes-trans coming middle left bytes chunk first second))
-    (inr (none_shown (shows_none part p.parser (complete_words bytes) taken.taken_words)
+    (inr (none_shown silent
     (ap (λ (e : ReadError). e.line) is ∙ sym taken.lines) (ap (λ (e : ReadError). e.fault) is)))
   where
     over : (coming left : Option (List ℕ)) → Consumes coming left (bytes ++ chunk)
@@ -222,55 +286,75 @@ full part coming middle left failed p bytes chunk e ready first second some none
     )
 
 -- the reader failed
-pub broken : (part : Part) (coming middle left : Option (List ℕ)) (failed : Bool) (p : FileReader) (bytes : List ℕ) (e : ReadError)
-    → IsTrue failed → Consumes coming middle bytes → Keeps middle left → HasReadBytes part p bytes
-    → e ≡ record { line = p.line_feeds + 1; fault = faults.ReadFault }
+pub broken : (taken_by : Parser → List WordOnLine → Type 0) (coming middle left : Option (List ℕ)) (failed : Bool)
+    (p : FileReader) (bytes : List ℕ) (e : ReadError)
+    → IsTrue failed → Consumes coming middle bytes → Keeps middle left → HasReadBytes taken_by p bytes
+    → ShowsNone (complete_words bytes) → e ≡ record { line = p.line_feeds + 1; fault = faults.ReadFault }
     → IfSome coming (λ file. IsRefusal file failed left e)
-broken part coming middle left failed p bytes e has consumes keeps taken is =
+broken taken_by coming middle left failed p bytes e has consumes keeps taken silent is =
     failing coming left failed bytes e has (Consumes-kept coming middle left bytes consumes keeps)
     (omega (arith, taken.size))
-    (inr (none_shown (shows_none part p.parser (complete_words bytes) taken.taken_words)
+    (inr (none_shown silent
     (ap (λ (e : ReadError). e.line) is ∙ sym taken.lines) (ap (λ (e : ReadError). e.fault) is)))
 
 -- the whole file came
-pub at_end : (coming left : Option (List ℕ)) (failed : Bool) (bytes : List ℕ) (e : ReadError) → IsFalse failed
+pub at_end : (takes : SignalContents → Bool) (answers : Answers) (coming left : Option (List ℕ)) (failed : Bool)
+    (bytes : List ℕ) (e : ReadError) → IsFalse failed
     → Consumes coming left bytes → IsAtEnd left → length bytes ≤ FILE_LIMIT
-    → (e ≡ memory_error) ⊎ IsFoundFault bytes e.line e.fault → IfSome coming (λ file. IsRefusal file failed left e)
-at_end None left failed bytes e ready consumes ends within answer = tt
-at_end (Some xs) None failed bytes e ready consumes ends within answer = absurd consumes
-at_end (Some xs) (Some ys) failed bytes e ready consumes ends within (inl none) = no_memory none
-at_end (Some xs) (Some ys) failed bytes e ready consumes ends within (inr fault) =
+    → RefusesFile takes answers bytes e → IfSome coming (λ file. IsPartRefusal takes answers file failed left e)
+at_end takes answers None left failed bytes e ready consumes ends within answer = tt
+at_end takes answers (Some xs) None failed bytes e ready consumes ends within answer = absurd consumes
+at_end takes answers (Some xs) (Some ys) failed bytes e ready consumes ends within (inl none) = inl (no_memory none)
+at_end takes answers (Some xs) (Some ys) failed bytes e ready consumes ends within (inr (inl fault)) =
     let all : bytes ≡ xs = sym (consumes ∙ ap (λ ys. bytes ++ ys) ends ∙ append-nil bytes) in
-    has_fault ready (omega (arith, within, ap (length {A = ℕ}) all))
-    (file_fault xs e.line e.fault (subst (λ file. IsFoundFault file e.line e.fault) all fault))
+    inl (has_fault ready (omega (arith, within, ap (length {A = ℕ}) all))
+    (file_fault xs e.line e.fault (subst (λ file. IsFoundFault file e.line e.fault) all fault)))
+at_end takes answers (Some xs) (Some ys) failed bytes e ready consumes ends within (inr (inr refused)) =
+    let all : bytes ≡ xs = sym (consumes ∙ ap (λ ys. bytes ++ ys) ends ∙ append-nil bytes) in
+    inr (subst (λ file. RefusesPart takes answers (words_of file) e) all refused)
 
 -- a fact about the bytes is one about the file
 pub of_all : (coming left : Option (List ℕ)) (bytes : List ℕ) (P : List ℕ → Type 0) → Consumes coming left bytes
     → IsAtEnd left → P bytes → IfSome coming P
 of_all coming left bytes P h4 h5 h6 = grind (arith, append-nil)
 
-pub is_no_failure : (bytes : List ℕ) (e : ReadError) → (e ≡ memory_error) ⊎ PrefixShows bytes e.line e.fault
-    → e.fault ≡ faults.ReadFault → ⊥
-is_no_failure bytes e (inl none) is = grind arith
-is_no_failure bytes e (inr shows) is = grind arith
+no_part_failure : (takes : SignalContents → Bool) (answers : Answers) (words : List WordOnLine) (e : ReadError)
+    → RefusesPart takes answers words e → e.fault ≡ faults.ReadFault → ⊥
+no_part_failure takes answers words e (too_many_remain c has many fault) is = grind arith
+no_part_failure takes answers words e (declined c has none fault) is = grind arith
 
-pub is_no_file_failure : (bytes : List ℕ) (e : ReadError) → (e ≡ memory_error) ⊎ IsFoundFault bytes e.line e.fault
-    → e.fault ≡ faults.ReadFault → ⊥
-is_no_file_failure bytes e h2 h3 = grind arith
+pub is_no_failure : (takes : SignalContents → Bool) (answers : Answers) (bytes : List ℕ) (e : ReadError)
+    → RefusesWords takes answers (complete_words bytes) e → e.fault ≡ faults.ReadFault → ⊥
+is_no_failure takes answers bytes e (inl none) is = grind arith
+is_no_failure takes answers bytes e (inr (inl shows)) is = grind arith
+is_no_failure takes answers bytes e (inr (inr refused)) is =
+    no_part_failure takes answers (complete_words bytes) e refused is
+
+no_found_failure : (bytes : List ℕ) (e : ReadError) → IsFoundFault bytes e.line e.fault → e.fault ≡ faults.ReadFault → ⊥
+no_found_failure bytes e found is = grind arith
+
+pub is_no_file_failure : (takes : SignalContents → Bool) (answers : Answers) (bytes : List ℕ) (e : ReadError)
+    → RefusesFile takes answers bytes e → e.fault ≡ faults.ReadFault → ⊥
+is_no_file_failure takes answers bytes e (inl none) is = grind arith
+is_no_file_failure takes answers bytes e (inr (inl found)) is = no_found_failure bytes e found is
+is_no_file_failure takes answers bytes e (inr (inr refused)) is =
+    no_part_failure takes answers (words_of bytes) e refused is
 
 -- ---- a chunk after the bytes taken
 
 -- the chunk came after the word that can go on
-pub has_come : (part : Part) (p : FileReader) (buffer : ReadBufferView) (from count : ℕ) (before word chunk : List ℕ)
-    → HasReadBytes part p before
+pub has_come : (taken_by : Parser → List WordOnLine → Type 0) (p : FileReader) (buffer : ReadBufferView)
+    (from count : ℕ) (before word chunk : List ℕ)
+    → HasReadBytes taken_by p before
     → buffer.bytes ≡ word ++ chunk → word ≡ p.buffer.bytes → count ≡ length chunk → count ≤ p.bytes_left
     → from ≡ length word
-    → HasUntakenChunk part (record p { buffer = buffer; bytes_left = p.bytes_left - count }) from (before ++ chunk)
-has_come part p buffer from count before word chunk taken text same many within len = grind arith
+    → HasUntakenChunk taken_by (record p { buffer = buffer; bytes_left = p.bytes_left - count }) from (before ++ chunk)
+has_come taken_by p buffer from count before word chunk taken text same many within len = grind arith
 
 -- the first bytes of the text are those of the word that can go on
-pub word_is_first : (part : Part) (p : FileReader) (from : ℕ) (bytes : List ℕ) → HasUntakenChunk part p from bytes
+pub word_is_first : (taken_by : Parser → List WordOnLine → Type 0) (p : FileReader) (from : ℕ) (bytes : List ℕ) →
+    HasUntakenChunk taken_by p from bytes
     → (from ≤ length p.buffer.bytes) × (list_all (λ b. not (is_white_space b)) (take from p.buffer.bytes) ≡ true)
     × (length bytes + p.bytes_left ≡ FILE_LIMIT) × (length p.buffer.bytes ≤ length bytes)
     × (p.line_feeds ≤ length bytes)
-word_is_first part p from bytes come = grind (arith, length-append, count_by-le-length, take-append_seam)
+word_is_first taken_by p from bytes come = grind (arith, length-append, count_by-le-length, take-append_seam)

@@ -25,13 +25,14 @@ use Rattle.vcd_text.specs.declared.reading.parser.OpenItem.TheVariants as items
 use Rattle.vcd_text.specs.declared.reading.parser.Parser.{Parser}
 use Rattle.vcd_text.proofs.shared.ItemsInTurn.{reaches_both, reaches_one, shown_by}
 use Rattle.vcd_text.proofs.shared.ResultExists.{spelled_more}
-use Rattle.vcd_text.specs.declared.reading.part.Part.{Part}
+use Rattle.vcd_text.specs.inside.reading.Part.{Asked}
 
 -- words that go on with the open item, or end it
-pub words_taken : (part : Part) (old new : Parser) (words_so_far words : List WordOnLine) (r : HasTakenWords part old words_so_far)
-    → WordStep part r.state (r.begun ++ words) new → HasTakenWords part new (words_so_far ++ words)
-words_taken part old new words_so_far words r (goes_on at) = grind (arith, append_assoc)
-words_taken part old new words_so_far words r (ends_item i spelled allows at) =
+pub words_taken : (asked later : Asked) (old new : Parser) (words_so_far words : List WordOnLine)
+    (r : HasTakenWords asked old words_so_far) → WordStep later r.state (r.begun ++ words) new
+    → HasTakenWords later new (words_so_far ++ words)
+words_taken asked later old new words_so_far words r (goes_on at) = grind (arith, append_assoc)
+words_taken asked later old new words_so_far words r (ends_item i spelled allows at) =
     let leads = reaches_both initial_state r.state (state_after_item r.state i) r.items (i ∷ [])
     (record { allowed = r.allowed; state_is = r.state_is })
     (reaches_one r.state (state_after_item r.state i) i allows refl) in
@@ -55,36 +56,36 @@ error_shown words line fault (inr shows) = grind arith
 
 -- ---- lines
 
-declaring : (part : Part) (m : Parser) (c : ParseState) (begun : List WordOnLine) (w : WordOnLine) → ParserMatches part m c
+declaring : (asked : Asked) (m : Parser) (c : ParseState) (begun : List WordOnLine) (w : WordOnLine) → ParserMatches asked m c
     → IsFalse m.in_body → w.line ≡ fault_line c.in_body begun w
-declaring part m c begun w agrees none = sym (ap (λ b. fault_line b begun w) (sym agrees.in_body ∙ none))
+declaring asked m c begun w agrees none = sym (ap (λ b. fault_line b begun w) (sym agrees.in_body ∙ none))
 
 -- the line that is shown is that of the definition
-pub line_shown : (part : Part) (m : Parser) (c : ParseState) (begun : List WordOnLine) (w : WordOnLine) (fault : Fault)
-    (item : OpenItem) → ParserMatches part m c → IsBegun m begun item → WordShows c (word_texts begun) w.text fault
+pub line_shown : (asked : Asked) (m : Parser) (c : ParseState) (begun : List WordOnLine) (w : WordOnLine) (fault : Fault)
+    (item : OpenItem) → ParserMatches asked m c → IsBegun m begun item → WordShows c (word_texts begun) w.text fault
     → item_fault_line item m.line w.line ≡ fault_line c.in_body begun w
-line_shown part m c begun w fault items.Nothing agrees none decided = grind arith
-line_shown part m c begun w fault (items.Entry kind) agrees is decided = declaring part m c begun w agrees is.declares
-line_shown part m c begun w fault items.Timescale agrees is decided = declaring part m c begun w agrees is.declares
-line_shown part m c begun w fault items.Scope agrees is decided = declaring part m c begun w agrees is.declares
-line_shown part m c begun w fault items.Upscope agrees is decided = declaring part m c begun w agrees is.0
-line_shown part m c begun w fault items.Variable agrees is decided = declaring part m c begun w agrees is.0.declares
-line_shown part m c begun w fault items.SizedVariable agrees is decided = declaring part m c begun w agrees is.declares
-line_shown part m c begun w fault items.EndDefinitions agrees is decided = declaring part m c begun w agrees is.0
-line_shown part m c begun w fault items.Other agrees is decided =
+line_shown asked m c begun w fault items.Nothing agrees none decided = grind arith
+line_shown asked m c begun w fault (items.Entry kind) agrees is decided = declaring asked m c begun w agrees is.declares
+line_shown asked m c begun w fault items.Timescale agrees is decided = declaring asked m c begun w agrees is.declares
+line_shown asked m c begun w fault items.Scope agrees is decided = declaring asked m c begun w agrees is.declares
+line_shown asked m c begun w fault items.Upscope agrees is decided = declaring asked m c begun w agrees is.0
+line_shown asked m c begun w fault items.Variable agrees is decided = declaring asked m c begun w agrees is.0.declares
+line_shown asked m c begun w fault items.SizedVariable agrees is decided = declaring asked m c begun w agrees is.declares
+line_shown asked m c begun w fault items.EndDefinitions agrees is decided = declaring asked m c begun w agrees is.0
+line_shown asked m c begun w fault items.Other agrees is decided =
     absurd (passed_over c is.keyword is.words w.text fault
     (subst (λ b. IsTrue (is_other b is.keyword)) agrees.in_body is.other) is.no_end
     (subst (λ ts. WordShows c ts w.text fault) is.spelled decided))
-line_shown part m c begun w fault items.Vector agrees is decided = grind arith
-line_shown part m c begun w fault items.RealOrString agrees (text, is) decided = grind arith
+line_shown asked m c begun w fault items.Vector agrees is decided = grind arith
+line_shown asked m c begun w fault items.RealOrString agrees (text, is) decided = grind arith
 
 -- the fault of a word is that of the definition, with its line, whatever follows
-pub one_shown : (part : Part) (old : Parser) (words_so_far more : List WordOnLine) (w : WordOnLine)
-    (r : HasTakenWords part old words_so_far) (fault : Fault)
+pub one_shown : (asked : Asked) (old : Parser) (words_so_far more : List WordOnLine) (w : WordOnLine)
+    (r : HasTakenWords asked old words_so_far) (fault : Fault)
     → (fault ≡ NoMemory) ⊎ WordShows r.state (word_texts r.begun) w.text fault
     → (let e : ReadError = error_at (item_fault_line old.item old.line w.line) fault in
     (e ≡ memory_error) ⊎ ShowsFault (words_so_far ++ w ∷ more) e.line e.fault)
-one_shown part old words_so_far more w r fault refused =
+one_shown asked old words_so_far more w r fault refused =
     let line = item_fault_line old.item old.line w.line in
     let words : List WordOnLine = words_so_far ++ w ∷ more in
     let parts : words ≡ r.whole ++ (r.begun ++ w ∷ more) = ap (λ ws. ws ++ w ∷ more) r.parts
@@ -93,5 +94,5 @@ one_shown part old words_so_far more w r fault refused =
       | inl memory ↦ inl memory
       | inr row ↦ inr (shown_by words r.whole r.begun more w r.items r.state line fault
           (record { allowed = r.allowed; state_is = r.state_is }) parts r.spelled row
-          (line_shown part old r.state r.begun w fault old.item r.at.0 r.at.1 row))
+          (line_shown asked old r.state r.begun w fault old.item r.at.0 r.at.1 row))
     ])

@@ -25,75 +25,75 @@ use Rattle.vcd_text.specs.declared.reading.parser.OpenItem.{OpenItem}
 use Rattle.vcd_text.specs.declared.reading.parser.OpenItem.TheVariants as items
 use Rattle.vcd_text.proofs.reading.declarations.DeclarationWords.{so_deep, short_words}
 use Rattle.vcd_text.proofs.shared.ResultIsUnique.{accepted-not_refused, stopped-not_refused}
-use Rattle.vcd_text.specs.declared.reading.part.Part.{Part}
+use Rattle.vcd_text.specs.inside.reading.Part.{Asked}
 
-collecting : (part : Part) (m : Parser) (c : ParseState) (begun : List WordOnLine) (keyword : List ℕ) → ParserMatches part m c
+collecting : (asked : Asked) (m : Parser) (c : ParseState) (begun : List WordOnLine) (keyword : List ℕ) → ParserMatches asked m c
     → Collects m begun keyword → IsTrue (is_one_of (codes "$timescale" ∷ codes "$scope" ∷ header_words) keyword)
     → IsUnfinished c (word_texts begun)
-collecting part m c begun keyword agrees is among =
+collecting asked m c begun keyword agrees is among =
     rw is.spelled (words_due c keyword m.words.items (sym agrees.in_body ∙ is.declares) among is.no_end)
 
-awaiting : (part : Part) (m : Parser) (c : ParseState) (begun : List WordOnLine) (letters text : List ℕ) → ParserMatches part m c
+awaiting : (asked : Asked) (m : Parser) (c : ParseState) (begun : List WordOnLine) (letters text : List ℕ) → ParserMatches asked m c
     → AwaitsCode m begun letters text
     → ((b : ℕ) → IsTrue c.in_body → IsTrue (is_among letters b) → IsUnfinished c ((b ∷ text) ∷ []))
     → IsUnfinished c (word_texts begun)
-awaiting part m c begun letters text agrees is due =
+awaiting asked m c begun letters text agrees is due =
     subst (IsUnfinished c) (sym (ap word_texts is.is ∙ ap (λ t. t ∷ []) is.spelled))
     (due is.letter (sym agrees.in_body ∙ is.in_body) is.among)
 
 -- a word must follow words that are no whole file
-unfinished : (part : Part) (m : Parser) (c : ParseState) (begun : List WordOnLine) (item : OpenItem) → ParserMatches part m c
+unfinished : (asked : Asked) (m : Parser) (c : ParseState) (begun : List WordOnLine) (item : OpenItem) → ParserMatches asked m c
     → IsBegun m begun item → IsFalse (m.in_body && is_nothing item) → IsUnfinished c (word_texts begun)
-unfinished part m c begun items.Nothing agrees none no_end =
+unfinished asked m c begun items.Nothing agrees none no_end =
     rw none (declaration_due c (grind arith))
-unfinished part m c begun (items.Entry kind) agrees is no_end =
-    collecting part m c begun (header_word kind) agrees is (grind arith)
-unfinished part m c begun items.Timescale agrees is no_end = collecting part m c begun (codes "$timescale") agrees is refl
-unfinished part m c begun items.Scope agrees is no_end = collecting part m c begun (codes "$scope") agrees is refl
-unfinished part m c begun items.Upscope agrees is no_end =
+unfinished asked m c begun (items.Entry kind) agrees is no_end =
+    collecting asked m c begun (header_word kind) agrees is (grind arith)
+unfinished asked m c begun items.Timescale agrees is no_end = collecting asked m c begun (codes "$timescale") agrees is refl
+unfinished asked m c begun items.Scope agrees is no_end = collecting asked m c begun (codes "$scope") agrees is refl
+unfinished asked m c begun items.Upscope agrees is no_end =
     rw is.1 (upscope_due c (sym agrees.in_body ∙ is.0)
-    (omega (arith, so_deep m.variables (seen_state part c agrees.seen) agrees.variables, is.2)))
-unfinished part m c begun items.Variable agrees is no_end =
+    (omega (arith, so_deep m.variables (seen_state m.part c agrees.seen) agrees.variables, is.2)))
+unfinished asked m c begun items.Variable agrees is no_end =
     rw is.0.spelled (variable_due c m.words.items (sym agrees.in_body ∙ is.0.declares) is.0.no_end
     (short_words c m.words.items is.1).0)
-unfinished part m c begun items.SizedVariable agrees is no_end =
+unfinished asked m c begun items.SizedVariable agrees is no_end =
     rw is.spelled (variable_due c (is.kind ∷ is.word ∷ is.following) (sym agrees.in_body ∙ is.declares) is.no_end
     is.number)
-unfinished part m c begun items.EndDefinitions agrees is no_end =
+unfinished asked m c begun items.EndDefinitions agrees is no_end =
     rw is.1 (definitions_due c (sym agrees.in_body ∙ is.0))
-unfinished part m c begun items.Other agrees is no_end =
+unfinished asked m c begun items.Other agrees is no_end =
     rw is.spelled (other_due c is.keyword is.words
     (subst (λ b. IsTrue (is_other b is.keyword)) agrees.in_body is.other) is.no_end)
-unfinished part m c begun items.Vector agrees is no_end =
-    awaiting part m c begun vector_prefixes m.digits.items agrees is (λ b. vector_due c b m.digits.items)
-unfinished part m c begun items.RealOrString agrees (text, is) no_end =
-    awaiting part m c begun real_or_string_prefixes text agrees is (λ b. real_or_string_due c b text)
+unfinished asked m c begun items.Vector agrees is no_end =
+    awaiting asked m c begun vector_prefixes m.digits.items agrees is (λ b. vector_due c b m.digits.items)
+unfinished asked m c begun items.RealOrString agrees (text, is) no_end =
+    awaiting asked m c begun real_or_string_prefixes text agrees is (λ b. real_or_string_due c b text)
 
-texts_are : (part : Part) (m : Parser) (words : List WordOnLine) (r : HasTakenWords part m words)
+texts_are : (asked : Asked) (m : Parser) (words : List WordOnLine) (r : HasTakenWords asked m words)
     → word_texts words ≡ spellings r.items ++ word_texts r.begun
-texts_are part m words r = grind (arith, map-append)
+texts_are asked m words r = grind (arith, map-append)
 
 -- words that are no whole file end too early
-pub stops : (part : Part) (m : Parser) (words : List WordOnLine) → HasTakenWords part m words → is_complete m ≡ false → Stops words
-stops part m words r incomplete = record {
+pub stops : (asked : Asked) (m : Parser) (words : List WordOnLine) → HasTakenWords asked m words → is_complete m ≡ false → Stops words
+stops asked m words r incomplete = record {
   items = r.items;
   begun = word_texts r.begun;
-  spelled = texts_are part m words r;
+  spelled = texts_are asked m words r;
   allowed = r.allowed;
   unfinished = subst (λ c. IsUnfinished c (word_texts r.begun)) (sym r.state_is)
-      (unfinished part m r.state r.begun m.item r.at.0 r.at.1 incomplete);
+      (unfinished asked m r.state r.begun m.item r.at.0 r.at.1 incomplete);
 }
 
 -- words that are a whole file are accepted
-pub accepts : (part : Part) (m : Parser) (words : List WordOnLine) (r : HasTakenWords part m words) → is_complete m ≡ true
+pub accepts : (asked : Asked) (m : Parser) (words : List WordOnLine) (r : HasTakenWords asked m words) → is_complete m ≡ true
     → Accepts words r.state
-accepts part m words r complete = grind (arith, and_parts, texts_are, append-nil)
+accepts asked m words r complete = grind (arith, and_parts, texts_are, append-nil)
 
 -- words that have been taken show no fault
-pub no_fault : (part : Part) (m : Parser) (words : List WordOnLine) → HasTakenWords part m words → (line : ℕ) (fault : Fault)
+pub no_fault : (asked : Asked) (m : Parser) (words : List WordOnLine) → HasTakenWords asked m words → (line : ℕ) (fault : Fault)
     → ShowsFault words line fault → ⊥
-no_fault part m words r line fault refuses = by_test (is_complete m) refl
+no_fault asked m words r line fault refuses = by_test (is_complete m) refl
   where
     by_test : (b : Bool) → is_complete m ≡ b → ⊥
-    by_test true complete = accepted-not_refused words r.state line fault (accepts part m words r complete) refuses
-    by_test false incomplete = stopped-not_refused words line fault (stops part m words r incomplete) refuses
+    by_test true complete = accepted-not_refused words r.state line fault (accepts asked m words r complete) refuses
+    by_test false incomplete = stopped-not_refused words line fault (stops asked m words r incomplete) refuses

@@ -15,6 +15,11 @@ abbrev pub is_nothing : OpenItem → Bool
 is_nothing items.Nothing = true
 is_nothing item = false
 
+-- whether the open item is `$enddefinitions`
+abbrev pub is_end_definitions : OpenItem → Bool
+is_end_definitions items.EndDefinitions = true
+is_end_definitions item = false
+
 -- the line of a fault that a word shows: that of the first word if a change of two words is open,
 -- else its own
 abbrev pub item_fault_line : OpenItem → (first own : ℕ) → ℕ

@@ -1,28 +1,32 @@
 -- The state of the parser between two words: the state after the whole items, and the words of the
 -- open item.
 use Rattle.std.specs.Prelude.{◌≡◌, ◌⊎◌, ℕ, ◌+◌, ◌<◌, ◌^◌, Bool, true, false, ◌&&◌, List, [], ◌∷◌}
-use Rattle.std.specs.Prelude.{◌++◌, length, ◌≤◌, min}
+use Rattle.std.specs.Prelude.{◌++◌, length, map, ◌≤◌, min}
 use Rattle.std.specs.Prelude.{if◌then◌else◌, IsTrue, IsFalse, Result, Ok, Err, codes}
 use Rattle.vcd_text.specs.declared.fault.Fault.{Fault}
 use Rattle.vcd_text.specs.declared.fault.Fault.TheVariants.{NoMemory}
 use Rattle.vcd_text.specs.declared.fault.ReadError.{ReadError}
 use Rattle.vcd_core.specs.Contents.{Contents}
-use Rattle.vcd_text.specs.Words.{WordOnLine, words_of}
-use Rattle.vcd_text.specs.Parts.{PartMeans}
-use Rattle.vcd_text.specs.inside.reading.OpenItems.{is_nothing}
+use Rattle.vcd_text.specs.Words.{WordOnLine, words_of, word_on}
+use Rattle.vcd_text.specs.Parts.{without_changes}
+use Rattle.vcd_text.specs.Meaning.{FileMeans}
+use Rattle.vcd_core.specs.CaptureContents.{contents}
+use Rattle.vcd_text.specs.declared.reading.Loaded.{Loaded}
+use Rattle.vcd_text.specs.inside.reading.OpenItems.{is_nothing, is_end_definitions}
 use Rattle.vcd_text.specs.Letters.{is_among}
-use Rattle.vcd_text.specs.Items.{Item, spelling, spellings, has_no_end_word, header_word, is_other}
+use Rattle.vcd_text.specs.Items.{Item, spelling, spellings, has_no_end_word, end_word, is_end_word}
+use Rattle.vcd_text.specs.Items.{header_word, is_other}
 use Rattle.vcd_text.specs.Items.{vector_prefixes, real_or_string_prefixes}
 use Rattle.vcd_text.specs.Grammar.{ParseState, AllowsAll, state_after, state_after_item}
 use Rattle.vcd_text.specs.Grammar.{Allows}
-use Rattle.vcd_text.specs.Grammar.{initial_state, ValueChange}
+use Rattle.vcd_text.specs.Grammar.{initial_state, ValueChange, kept_variables}
 use Rattle.vcd_text.specs.declared.reading.part.Part.{Part}
-use Rattle.vcd_text.specs.inside.reading.Part.{seen_state, TellsPart, HearsPart}
+use Rattle.vcd_text.specs.inside.reading.Part.{seen_state, TellsPart, HearsPart, Asked, IsAskedOf}
+use Rattle.vcd_text.specs.inside.reading.Part.{undriven, listed_part}
 use Rattle.vcd_text.specs.Grammar.{word_texts}
 use Rattle.vcd_core.specs.declared.value.TheConstants.{WIDTH_LIMIT}
 use Rattle.vcd_core.specs.Decimal.{is_number, number_of}
-use Rattle.vcd_text.specs.Faults.{ShowsFault}
-use Rattle.vcd_text.specs.Faults.{WordShows}
+use Rattle.vcd_text.specs.Faults.{ShowsFault, WordShows}
 use Rattle.vcd_text.specs.MemoryErrors.{memory_error}
 use Rattle.vcd_text.specs.inside.reading.Variables.{VariablesMatch}
 use Rattle.vcd_text.specs.declared.reading.parser.Parser.{Parser}
@@ -32,18 +36,20 @@ use Rattle.vcd_text.specs.declared.reading.parser.OpenItem.TheVariants as items
 -- ---- the state
 
 -- the parser has the state after the items
-pub record ParserMatches (part : Part) (m : Parser) (c : ParseState) : Type 0 where
+pub record ParserMatches (asked : Asked) (m : Parser) (c : ParseState) : Type 0 where
   pub header : m.header.items ≡ c.header
   pub timescale : m.timescale ≡ c.timescale
   pub in_body : m.in_body ≡ c.in_body
   pub tick : m.tick ≡ c.tick
-  pub part_is : m.part ≡ part
   pub seen : List ValueChange
-  pub variables : VariablesMatch m.variables (seen_state part c seen)
+  pub variables : VariablesMatch m.variables (seen_state m.part c seen)
+  pub no_early_tick : IsFalse c.in_body → c.tick ≡ 0
   pub no_early_change : IsFalse c.in_body → c.value_changes ≡ []
   pub none_seen : IsFalse c.in_body → seen ≡ []
-  pub tells : TellsPart part c seen
-  pub hears : IsTrue c.in_body → HearsPart part m.silent.items m.variables c
+  pub tells : TellsPart m.part c seen
+  pub hears : IsTrue c.in_body → HearsPart m.part m.silent.items m.variables c
+  pub part_is : IsTrue c.in_body → m.part ≡ asked.part
+  pub is_asked_of : IsTrue c.in_body → IsAskedOf asked c
 
 -- a declaration is open, and the parser keeps its words after the keyword
 pub record Collects (m : Parser) (begun : List WordOnLine) (keyword : List ℕ) : Type 0 where
@@ -99,30 +105,32 @@ IsBegun m begun items.RealOrString = (text : List ℕ)
     × AwaitsCode m begun real_or_string_prefixes text
 
 -- the whole items gave this state, and these words of an open item have been taken
-abbrev pub IsAtState : Part → Parser → ParseState → List WordOnLine → Type 0
-IsAtState part m c begun = ParserMatches part m c × IsBegun m begun m.item
+abbrev pub IsAtState : Asked → Parser → ParseState → List WordOnLine → Type 0
+IsAtState asked m c begun = ParserMatches asked m c × IsBegun m begun m.item
 
 -- ---- one word
 
 -- a word goes on with the open item, or ends it, and its conditions hold
-pub data WordStep (part : Part) (c : ParseState) (begun : List WordOnLine) (new : Parser) : Type 0 where
-  goes_on : IsAtState part new c begun → WordStep part c begun new
-  ends_item : (i : Item) → spelling i ≡ word_texts begun → Allows c i
-      → IsAtState part new (state_after_item c i) []
-      → WordStep part c begun new
+pub data WordStep (asked : Asked) (c : ParseState) (begun : List WordOnLine) (new : Parser) : Type 0
+  where
+    goes_on : IsAtState asked new c begun → WordStep asked c begun new
+    ends_item : (i : Item) → spelling i ≡ word_texts begun → Allows c i
+        → IsAtState asked new (state_after_item c i) []
+        → WordStep asked c begun new
 
 -- the result of a word: it is taken, or shows a fault, or memory runs out
 abbrev pub WordResult : Parser → WordOnLine → Result (Unit {0}) Fault → Parser → Type 0
-WordResult old w (Ok x) new = (part : Part) (c : ParseState) (begun : List WordOnLine) → IsAtState part old c begun
-    → WordStep part c (begun ++ w ∷ []) new
-WordResult old w (Err fault) new = (part : Part) (c : ParseState) (begun : List WordOnLine)
-    → IsAtState part old c begun
+WordResult old w (Ok x) new = (asked : Asked) (c : ParseState) (begun : List WordOnLine) →
+    IsAtState asked old c begun
+    → WordStep asked c (begun ++ w ∷ []) new
+WordResult old w (Err fault) new = (asked : Asked) (c : ParseState) (begun : List WordOnLine)
+    → IsAtState asked old c begun
     → (fault ≡ NoMemory) ⊎ WordShows c (word_texts begun) w.text fault
 
 -- ---- the words from the first
 
 -- all these words have been taken
-pub record HasTakenWords (part : Part) (m : Parser) (words : List WordOnLine) : Type 0 where
+pub record HasTakenWords (asked : Asked) (m : Parser) (words : List WordOnLine) : Type 0 where
   pub items : List Item
   pub whole : List WordOnLine
   pub begun : List WordOnLine
@@ -131,13 +139,13 @@ pub record HasTakenWords (part : Part) (m : Parser) (words : List WordOnLine) : 
   pub spelled : word_texts whole ≡ spellings items
   pub allowed : AllowsAll initial_state items
   pub state_is : state_after initial_state items ≡ state
-  pub at : IsAtState part m state begun
+  pub at : IsAtState asked m state begun
 
 -- some words have been taken, fewer than 2 ^ 63
 pub record IsUnderway (m : Parser) : Type 0 where
-  pub part : Part
+  pub asked : Asked
   pub words : List WordOnLine
-  pub taken_words : HasTakenWords part m words
+  pub taken_words : HasTakenWords asked m words
   pub few : length words < 2 ^ 63
 
 -- whether a fault is out of memory
@@ -153,28 +161,47 @@ error_at line fault = if is_no_memory fault then memory_error
 -- these further words have been taken, or one of them shows a fault whatever follows, or memory has
 -- run out
 abbrev pub WordsResult : Parser → List WordOnLine → Result (Unit {0}) ReadError → Parser → Type 0
-WordsResult old words (Ok x) new = (part : Part) (words_so_far : List WordOnLine)
-    → HasTakenWords part old words_so_far → HasTakenWords part new (words_so_far ++ words)
-WordsResult old words (Err e) new = (part : Part) (words_so_far more : List WordOnLine)
-    → HasTakenWords part old words_so_far
+WordsResult old words (Ok x) new = (asked : Asked) (words_so_far : List WordOnLine)
+    → HasTakenWords asked old words_so_far → HasTakenWords asked new (words_so_far ++ words)
+WordsResult old words (Err e) new = (asked : Asked) (words_so_far more : List WordOnLine)
+    → HasTakenWords asked old words_so_far
     → (e ≡ memory_error) ⊎ ShowsFault (words_so_far ++ (words ++ more)) e.line e.fault
-
--- these words can be taken after those before
-abbrev pub WordCountFits : Parser → List WordOnLine → Type 0
-WordCountFits m words = (part : Part) × (words_so_far : List WordOnLine) × HasTakenWords part m words_so_far
-    × (length words_so_far + length words < 2 ^ 63)
-
--- all words of a list have been taken after others, or one shows a fault, or memory has run out
-abbrev pub AllWordsResult : Part → List WordOnLine → List WordOnLine → Result ℕ ReadError → Parser → Type 0
-AllWordsResult part words_so_far words (Ok line_feeds) new = HasTakenWords part new (words_so_far ++ words)
-AllWordsResult part words_so_far words (Err e) new = (e ≡ memory_error)
-    ⊎ ShowsFault (words_so_far ++ words) e.line e.fault
 
 -- nothing is open, and `$enddefinitions $end` has come
 abbrev pub is_complete : Parser → Bool
 is_complete m = m.in_body && is_nothing m.item
 
--- the file whose words have been taken means these contents, with this number of skipped variables
-pub record Means (m : Parser) (contents : Contents) (skipped : ℕ) : Type 0 where
-  pub means : (part : Part) (bytes : List ℕ) → HasTakenWords part m (words_of bytes)
-      → PartMeans part bytes contents skipped
+-- whether the word ends the declarations
+abbrev pub ends_definitions : Parser → List ℕ → Bool
+ends_definitions m text = is_end_definitions m.item && is_end_word text
+
+-- what is asked of a state, for this part
+abbrev pub asked_of : Part → ParseState → Asked
+asked_of part c =
+    record {
+      timescale = c.timescale;
+      signals = map undriven (kept_variables c.declared);
+      part =
+          part;
+    }
+
+-- the `$end` of `$enddefinitions` is taken, and a part begins
+abbrev pub BeginsPart : (old new : Parser) → Type 0
+BeginsPart old new = IsTrue new.in_body
+    × ((line : ℕ) (asked : Asked) (c : ParseState) (begun : List WordOnLine)
+    → IsAtState asked old c begun
+    → WordStep (asked_of new.part c) c (begun ++ word_on end_word line ∷ []) new)
+
+-- the file whose words have been taken means this, apart from what was chosen
+pub record MeansListed (asked : Asked) (bytes : List ℕ) (loaded : Loaded) : Type 0 where
+  pub whole : Contents
+  pub means : FileMeans bytes whole loaded.skipped
+  pub timescale : whole.timescale ≡ asked.timescale
+  pub signals : map without_changes whole.signals ≡ asked.signals
+  pub is : contents loaded.capture ≡ listed_part asked.part whole
+  pub end : loaded.end ≡ whole.end
+  pub count : loaded.signals ≡ length whole.signals
+
+pub record Means (m : Parser) (loaded : Loaded) : Type 0 where
+  pub means : (asked : Asked) (bytes : List ℕ) → HasTakenWords asked m (words_of bytes)
+      → MeansListed asked bytes loaded

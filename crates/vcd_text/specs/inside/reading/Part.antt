@@ -2,7 +2,11 @@
 use Rattle.std.specs.Prelude.{◌≡◌, ◌⊎◌, ℕ, ◌+◌, ◌-◌, ◌≤◌, Bool, false, ◌&&◌, nat_lt, min, List, []}
 use Rattle.std.specs.Prelude.{Some, Ok, Err, Result, IsTrue, IsFalse, IsSomeAnd, slice_get}
 use Rattle.std.specs.Prelude.{slice_index_or}
+use Rattle.std.specs.Prelude.{◌∷◌, map, if◌then◌else◌, Option}
 use Rattle.vcd_core.specs.Value.{all_x}
+use Rattle.vcd_core.specs.Contents.{Contents, SignalContents}
+use Rattle.vcd_core.specs.declared.capture.Timescale.{Timescale}
+use Rattle.vcd_text.specs.Parts.{part_of_signal}
 use Rattle.vcd_core.specs.declared.capture.TheConstants.{END_LIMIT}
 use Rattle.vcd_text.specs.Grammar.{VariableDeclaration, ValueChange, ParseState, kept_variables}
 use Rattle.vcd_text.specs.Meaning.{latest_value}
@@ -13,9 +17,47 @@ use Rattle.vcd_text.specs.inside.reading.DigitTests.{takes_binary_number}
 use Rattle.vcd_text.specs.declared.fault.Fault.{Fault}
 use Rattle.vcd_text.specs.declared.fault.Fault.TheVariants as faults
 use Rattle.vcd_text.specs.declared.reading.part.Part.{Part}
+use Rattle.vcd_text.specs.declared.reading.choice.TickRange.{TickRange}
 use Rattle.vcd_text.specs.declared.reading.code_targets.CodeTarget.TheVariants.{Kept}
 use Rattle.vcd_text.specs.declared.reading.variables.Variable.{Variable}
 use Rattle.vcd_text.specs.declared.reading.variables.Variables.{Variables}
+
+-- the items that a list of tests does not leave out, by position; those past its end remain
+abbrev pub remaining : {A : Type 0} → List Bool → List A → List A
+remaining [] xs = xs
+remaining (out ∷ left_out) [] = []
+remaining (out ∷ left_out) (x ∷ xs) =
+    if out then remaining left_out xs else x ∷ remaining left_out xs
+
+-- the part of a capture by a list of tests
+abbrev pub listed_part : Part → Contents → Contents
+listed_part part c = record c {
+  end = min part.last c.end - part.first;
+  signals = map (part_of_signal part.first (min part.last c.end - part.first))
+      (remaining part.left_out.items c.signals);
+}
+
+-- a variable as the signal that it declares
+abbrev pub undriven : VariableDeclaration → SignalContents
+undriven d = record {
+  scopes = d.scopes;
+  kind = d.kind;
+  words = d.words;
+  width = d.size;
+  changes =
+      [];
+}
+
+-- what was asked at the end of the declarations, and the part that was answered
+pub record Asked : Type 0 where
+  pub timescale : Option Timescale
+  pub signals : List SignalContents
+  pub part : Part
+
+-- the state is one with the timescale and the signals that were asked about
+abbrev pub IsAskedOf : Asked → ParseState → Type 0
+IsAskedOf asked c = (c.timescale ≡ asked.timescale)
+    × (map undriven (kept_variables c.declared) ≡ asked.signals)
 
 -- the tick of the part at a tick of the file, up to its end
 abbrev pub seen_tick : Part → ℕ → ℕ
@@ -55,7 +97,8 @@ IsPassedOver part silent vs tick code = IsTrue (is_late part tick)
 
 -- the first variable of the code of each one that remains is heard
 abbrev pub HearsVariables : List Variable → (left_out silent : List Bool) → Type 0
-HearsVariables kept left_out silent = (position : ℕ) (v : Variable) → slice_get kept position ≡ Some v
+HearsVariables kept left_out silent = (position : ℕ) (v : Variable) →
+    slice_get kept position ≡ Some v
     → IsFalse (slice_index_or left_out position false)
     → IsFalse (slice_index_or silent v.first false)
 
@@ -74,8 +117,6 @@ PartChange part silent tick c code digits old (Ok x) new =
 PartChange part silent tick c code digits old (Err fault) new = (fault ≡ faults.NoMemory)
     ⊎ RefusesChange c code digits fault
 
--- all signals, at all ticks
-pub record IsWhole (part : Part) : Type 0 where
-  pub signals : part.left_out.items ≡ []
-  pub first : part.first ≡ 0
-  pub last : part.last ≡ END_LIMIT
+-- all ticks
+abbrev pub all_ticks : TickRange
+all_ticks = record { first = 0; last = END_LIMIT }

@@ -79,7 +79,8 @@ impl Variables {
         requires known { (c : ParseState) × (code : List ℕ) × VariablesMatch self.old c
             × (c.tick ≤ tick)
             × (target_of self.old code ≡ Kept width first) }
-        ensures changed { (c : ParseState) (code : List ℕ) → c.tick ≡ tick → VariablesMatch self.old c →
+        ensures changed { (c : ParseState) (code : List ℕ) → c.tick ≡ tick →
+            VariablesMatch self.old c →
             target_of self.old code ≡ Kept width first →
             ChangeResult c code digits.now result self.new }
         ensures targets { self.new.code_targets ≡ self.old.code_targets }

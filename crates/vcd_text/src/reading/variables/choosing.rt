@@ -4,7 +4,7 @@ ghost use Rattle.std.specs.Prelude.{◌≡◌, ◌==◌, ◌∷◌, List, ℕ, f
 ghost use Rattle.std.specs.Prelude.{map, IfOk};
 ghost use Rattle.vcd_core.specs.CaptureContents.{signal_contents};
 ghost use Rattle.vcd_core.specs.Contents.{SignalContents};
-ghost use Rattle.vcd_text.specs.Parts.{remaining};
+ghost use Rattle.vcd_text.specs.inside.reading.Part.{remaining};
 ghost use Rattle.vcd_text.specs.inside.reading.Part.{HearsVariables};
 
 use crate::reading::part::is_set;

@@ -3,7 +3,7 @@
 ghost use Rattle.std.specs.Prelude.{◌≡◌, ◌≤◌, ◌<◌, ◌+◌, ◌^◌, ◌==◌, ◌||◌, nat_lt, []};
 ghost use Rattle.std.specs.Prelude.{IsTrue, IsFalse, IfOk, IfErr};
 ghost use Rattle.vcd_core.specs.declared.value.TheConstants.{WIDTH_LIMIT};
-ghost use Rattle.vcd_core.specs.Word.{is_skipped_kind as skips_kind};
+ghost use Rattle.vcd_core.specs.Word as spec;
 ghost use Rattle.vcd_text.specs.Grammar.{ParseState, VariableDeclaration, is_skipped};
 ghost use Rattle.vcd_text.specs.inside.reading.Scopes.{open_scopes, IsPlaced};
 ghost use Rattle.vcd_text.specs.inside.reading.Variables.{declaration_of_parts, declaration_in};
@@ -125,7 +125,7 @@ impl Variables {
 
 /// Whether a variable of this kind and size is skipped.
 fn is_skipped(kind: &[u8], size: u64) -> bool
-    ensures { result ≡ (skips_kind kind.now || (size == 0 || nat_lt WIDTH_LIMIT size)) }
+    ensures { result ≡ (spec.is_skipped_kind kind.now || (size == 0 || nat_lt WIDTH_LIMIT size)) }
 {
     is_skipped_kind(kind) || size == 0 || size > WIDTH_LIMIT
 }

@@ -1,13 +1,12 @@
-use Rattle.std.proofs.Common.{◌≡◌, ◌⊎◌, Err, List, [], ◌∷◌, ◌++◌, length, sym, ap, subst, ◌∙◌}
+use Rattle.std.proofs.Common.{◌≡◌, Err, List, [], ◌∷◌, ◌++◌, length, sym, ap, subst, ◌∙◌}
 use Rattle.std.proofs.Common.{arith, append_assoc}
 use Rattle.std.proofs.Common.{append-nil, length-append, refl}
 use Rattle.std.proofs.lemmas.Result.{err_from_is_err_and}
 use Rattle.vcd_text.specs.declared.fault.ReadError.{ReadError}
 use Rattle.vcd_text.specs.Words.{WordOnLine}
 use Rattle.vcd_text.specs.LentWords.{word_contents, words_left}
-use Rattle.vcd_text.specs.Faults.{ShowsFault}
-use Rattle.vcd_text.specs.MemoryErrors.{memory_error}
-use Rattle.vcd_text.specs.inside.reading.Parser.{HasTakenWords, AllWordsResult}
+use Rattle.vcd_text.specs.Parts.{told}
+use Rattle.vcd_text.specs.inside.reading.Choice.{HasTakenFrom, AllWordsResult, RefusesWords}
 use Rattle.vcd_text.proofs.reading.file_reader.read_words.Goals as goal
 
 -- the words so far, this word, and the words left
@@ -16,47 +15,56 @@ in_turn : (all came words left : List WordOnLine) (word : WordOnLine) → all �
 in_turn all came words left word parts next = grind (arith, append_assoc)
 
 pub loop-word-init : goal.loop-word-init
-loop-word-init c = (
-  ([], refl, λ part words_so_far reads. subst (HasTakenWords part c.args.parser.now) (sym (append-nil words_so_far)) reads),
+loop-word-init g c = (
+  (
+    [],
+    refl,
+    λ first words_so_far reads. subst (HasTakenFrom g.C.Choice.takes g.C.Choice.answers first c.args.choice.now
+        c.args.parser.now) (sym (append-nil words_so_far)) reads,
+  ),
   refl,
 )
 
 pub take_word-requires-clause-reading : goal.take_word-requires-clause-reading
-take_word-requires-clause-reading c =
+take_word-requires-clause-reading g c =
     let came = c.loop-word.invariant.0.0 in
-    let (part, words_so_far, reads, few) = c.requires in
-    record {
-      part = part;
-      words = words_so_far ++ came;
-      taken_words = c.loop-word.invariant.0.2 part words_so_far reads;
-      few = omega (
-        arith,
-        few,
-        length-append words_so_far came,
-        length-append came (words_left c.loop-word.left),
-        ap (length {A = WordOnLine}) c.loop-word.invariant.0.1,
-      );
-    }
+    let (first, (words_so_far, reads, few)) = c.requires in (
+      first,
+      (
+        words_so_far ++ came,
+        c.loop-word.invariant.0.2 first words_so_far reads,
+        omega (
+          arith,
+          few,
+          length-append words_so_far came,
+          length-append came (words_left c.loop-word.left),
+          ap (length {A = WordOnLine}) c.loop-word.invariant.0.1,
+          ap (length {A = WordOnLine}) c.in-Some.ensures.words,
+        ),
+      ),
+    )
 
 pub loop-word-smaller : goal.loop-word-smaller
-loop-word-smaller c = grind (arith, length-append)
+loop-word-smaller g c = grind (arith, length-append)
 
 pub loop-word-preserved : goal.loop-word-preserved
-loop-word-preserved c =
+loop-word-preserved g c =
     let came = c.loop-word.invariant.0.0 in
     let word = word_contents c.in-Some.word in (
       (
         came ++ word ∷ [],
         in_turn (words_left c.args.words) came (words_left c.loop-word.left) (words_left c.next_word.new.self) word
             c.loop-word.invariant.0.1 c.in-Some.ensures.words,
-        λ part words_so_far reads. subst (HasTakenWords part c.take_word.new.self) (append_assoc words_so_far came (word ∷ []))
-            (c.in_ok-take_word.ensures part (words_so_far ++ came) (c.loop-word.invariant.0.2 part words_so_far reads)),
+        λ first words_so_far reads. subst (HasTakenFrom g.C.Choice.takes g.C.Choice.answers first
+            c.take_word.new.choice c.take_word.new.parser) (append_assoc words_so_far came (word ∷ []))
+            (c.in_ok-take_word.ensures first (words_so_far ++ came)
+            (c.loop-word.invariant.0.2 first words_so_far reads)),
       ),
       c.in-Some.ensures.line_feeds ∙ c.loop-word.invariant.1,
     )
 
 pub returns-in_err-take_word-clause-words : goal.returns-in_err-take_word-clause-words
-returns-in_err-take_word-clause-words c = λ part words_so_far reads.
+returns-in_err-take_word-clause-words g c = λ first words_so_far reads.
     let came = c.loop-word.invariant.0.0 in
     let refused = err_from_is_err_and c.from_residual.result c.from_residual.ensures.1 in
     let word = word_contents c.in-Some.word in
@@ -66,7 +74,18 @@ returns-in_err-take_word-clause-words c = λ part words_so_far reads.
     (sym (append_assoc came (word ∷ []) more) ∙ sym (in_turn (words_left c.args.words) came
     (words_left c.loop-word.left) more word c.loop-word.invariant.0.1 c.in-Some.ensures.words)) in
     let e : ReadError = c.in_err-take_word.field-0.0 in
-    subst (λ r. AllWordsResult part words_so_far (words_left c.args.words) r c.take_word.new.self)
+    subst (λ r. AllWordsResult g.C.Choice.takes g.C.Choice.answers first c.take_word.new.choice words_so_far
+    (words_left c.args.words) r c.take_word.new.parser)
     (sym (refused.1 ∙ ap Err refused.2))
-    (subst (λ words. (e ≡ memory_error) ⊎ ShowsFault words e.line e.fault) all
-    (c.in_err-take_word.ensures part (words_so_far ++ came) more (c.loop-word.invariant.0.2 part words_so_far reads)))
+    (subst (λ words. RefusesWords (g.C.Choice.takes first)
+    (told g.C.Choice.answers first c.take_word.new.choice) words e) all
+    (c.in_err-take_word.ensures first (words_so_far ++ came) (c.loop-word.invariant.0.2 first words_so_far reads)
+    more))
+
+pub returns-clause-words : goal.returns-clause-words
+returns-clause-words g c = λ first words_so_far reads.
+    let came = c.loop-word.invariant.0.0 in
+    let all : came ≡ words_left c.args.words =
+    sym (c.loop-word.invariant.0.1 ∙ ap (λ ws. came ++ ws) c.in_default.ensures.words ∙ append-nil came) in
+    subst (λ ws. HasTakenFrom g.C.Choice.takes g.C.Choice.answers first c.loop-word.choice c.loop-word.parser
+    (words_so_far ++ ws)) all (c.loop-word.invariant.0.2 first words_so_far reads)

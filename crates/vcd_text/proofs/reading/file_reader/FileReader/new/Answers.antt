@@ -1,5 +1,8 @@
+use Rattle.vcd_text.specs.inside.reading.Parser.{HasTakenWords}
 use Rattle.vcd_text.proofs.reading.file_reader.Chunks.{nothing_taken}
 use Rattle.vcd_text.proofs.reading.file_reader.FileReader.new.Goals as goal
 
-pub returns : goal.returns
-returns c = nothing_taken _ c.new.result c.new-2.result.bytes c.new-2.ensures c.new.ensures
+pub returns-clause-read_bytes : goal.returns-clause-read_bytes
+returns-clause-read_bytes c = λ asked. nothing_taken (HasTakenWords asked) c.new.result c.new-2.result.bytes
+    c.new-2.ensures
+    (c.new.ensures.words asked)

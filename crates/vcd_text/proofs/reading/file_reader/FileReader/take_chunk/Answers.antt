@@ -5,39 +5,52 @@ use Rattle.std.proofs.lemmas.Result.{err_from_is_err_and}
 use Rattle.std.proofs.lemmas.List.{length-append}
 use Rattle.vcd_text.specs.declared.fault.Fault.TheVariants as faults
 use Rattle.vcd_text.specs.declared.fault.ReadError.{ReadError}
-use Rattle.vcd_text.specs.Refusals.{IsRefusal}
+use Rattle.vcd_text.specs.Words.{complete_words}
 use Rattle.vcd_text.specs.inside.reading.FileReader.{FileReaderMatches}
-use Rattle.vcd_text.specs.declared.reading.part.Part.{Part}
-use Rattle.vcd_text.proofs.reading.file_reader.Chunks.{has_come, shown_early, is_no_failure, full, broken}
+use Rattle.vcd_text.specs.Parts.{told, IsPartRefusal}
+use Rattle.vcd_text.specs.inside.reading.Choice.{HasTakenFrom}
+use Rattle.vcd_text.proofs.reading.parser.AskedParts.{silent_words}
+use Rattle.vcd_text.proofs.reading.file_reader.Chunks.{has_come, as_part, refused_early, is_no_failure, full, broken}
 use Rattle.vcd_text.proofs.reading.file_reader.FileReader.take_chunk.Goals as goal
 
 pub returns-in_default-clause-refused : goal.returns-in_default-clause-refused
-returns-in_default-clause-refused g c = λ part coming stands.
+returns-in_default-clause-refused g c = λ first coming stands.
     let p = c.args.self.now in
     let source = c.read_from.new.source in
-    let (bytes, first, taken) = stands in
-    broken part coming (g.R.Source.coming c.args.source.now) (g.R.Source.coming source) (g.R.Source.has_failed source)
-    p bytes c.at.result c.in_default.ensures.failed first c.in_default.ensures.coming taken c.at.ensures
+    let (bytes, came, taken) = stands in
+    as_part (g.C.Choice.takes first) (told g.C.Choice.answers first c.args.choice.now) coming
+    (g.R.Source.coming source) (g.R.Source.has_failed source) c.at.result
+    (broken (HasTakenFrom g.C.Choice.takes g.C.Choice.answers first c.args.choice.now) coming
+    (g.R.Source.coming c.args.source.now) (g.R.Source.coming source) (g.R.Source.has_failed source)
+    p bytes c.at.result c.in_default.ensures.failed came c.in_default.ensures.coming taken
+    (silent_words g.C.Choice.takes g.C.Choice.answers first c.args.choice.now p.parser (complete_words bytes)
+    taken.taken_words) c.at.ensures)
 
 pub returns-then-count-self-clause-refused : goal.returns-then-count-self-clause-refused
-returns-then-count-self-clause-refused g c = λ part coming stands.
+returns-then-count-self-clause-refused g c = λ first coming stands.
     let p = c.args.self.now in
     let source = c.read_from.new.source in
-    let (bytes, first, taken) = stands in
+    let (bytes, came, taken) = stands in
     let (chunk, second, text, count) = c.in-Ok.ensures.more in
-    full part coming (g.R.Source.coming c.args.source.now) (g.R.Source.coming source) (g.R.Source.has_failed source) p bytes
-    chunk c.at-then-count-self.result c.in-Ok.ensures.not_failed first second
+    as_part (g.C.Choice.takes first) (told g.C.Choice.answers first c.args.choice.now) coming
+    (g.R.Source.coming source) (g.R.Source.has_failed source) c.at-then-count-self.result
+    (full (HasTakenFrom g.C.Choice.takes g.C.Choice.answers first c.args.choice.now) coming
+    (g.R.Source.coming c.args.source.now) (g.R.Source.coming source) (g.R.Source.has_failed source) p bytes
+    chunk c.at-then-count-self.result c.in-Ok.ensures.not_failed came second
     (omega (arith, count, c.if-count-self.true))
-    (c.in-Ok.ensures.within c.if-count-self.true) taken c.at-then-count-self.ensures
+    (c.in-Ok.ensures.within c.if-count-self.true) taken
+    (silent_words g.C.Choice.takes g.C.Choice.answers first c.args.choice.now p.parser (complete_words bytes)
+    taken.taken_words) c.at-then-count-self.ensures)
 
 pub take_words-requires : goal.take_words-requires
 take_words-requires g c =
     let p = c.args.self.now in
-    let (part, bytes, taken) = c.requires.read_bytes in
+    let (first, bytes, taken) = c.requires.read_bytes in
     let (chunk, consumes, text, count) = c.in-Ok.ensures.more in (
-      part,
+      first,
       bytes ++ chunk,
-      has_come part p c.read_from.new.self c.len-unfinished_len.result c.in-Ok.count bytes c.make_room.new.self.bytes chunk
+      has_come (HasTakenFrom g.C.Choice.takes g.C.Choice.answers first c.args.choice.now) p c.read_from.new.self
+          c.len-unfinished_len.result c.in-Ok.count bytes c.make_room.new.self.bytes chunk
           taken text
           c.in_ok-make_room.ensures.same count (omega (arith, c.if-count-self.false)) c.len-unfinished_len.ensures,
     )
@@ -49,28 +62,34 @@ returns-in_err-take_words-clause-refused g c =
     let refused = err_from_is_err_and c.from_residual-in_err-take_words.result
     c.from_residual-in_err-take_words.ensures.1 in
     let source = c.read_from.new.source in
-    subst (λ r. IfErr r (λ (e : ReadError). (part : Part) (coming : Option (List ℕ))
-    → FileReaderMatches part coming (g.R.Source.coming c.args.source.now) p
-    → IfSome coming (λ file. IsRefusal file (g.R.Source.has_failed source) (g.R.Source.coming source) e)))
+    let choice = c.take_words.new.choice in
+    subst (λ r. IfErr r (λ (e : ReadError). (first : g.row.C.Denot) (coming : Option (List ℕ))
+    → FileReaderMatches (HasTakenFrom g.C.Choice.takes g.C.Choice.answers first c.args.choice.now) coming
+    (g.R.Source.coming c.args.source.now) p
+    → IfSome coming (λ file. IsPartRefusal (g.C.Choice.takes first) (told g.C.Choice.answers first choice) file
+    (g.R.Source.has_failed source) (g.R.Source.coming source) e)))
     (sym (refused.1 ∙ ap Err refused.2))
-    (λ part coming stands.
-    let (bytes, first, taken) = stands in
-    let come = has_come part p c.read_from.new.self c.len-unfinished_len.result c.in-Ok.count bytes
+    (λ first coming stands.
+    let (bytes, came, taken) = stands in
+    let come = has_come (HasTakenFrom g.C.Choice.takes g.C.Choice.answers first c.args.choice.now) p
+    c.read_from.new.self c.len-unfinished_len.result c.in-Ok.count bytes
     c.make_room.new.self.bytes chunk
     taken text c.in_ok-make_room.ensures.same count (omega (arith, c.if-count-self.false))
     c.len-unfinished_len.ensures in
-    shown_early coming (g.R.Source.coming source) (g.R.Source.has_failed source) (bytes ++ chunk)
+    refused_early (g.C.Choice.takes first) (told g.C.Choice.answers first choice) coming (g.R.Source.coming source)
+    (g.R.Source.has_failed source) (bytes ++ chunk)
     c.in_err-take_words.field-0.0 c.in-Ok.ensures.not_failed
-    (Consumes-trans coming (g.R.Source.coming c.args.source.now) (g.R.Source.coming source) bytes chunk first second)
+    (Consumes-trans coming (g.R.Source.coming c.args.source.now) (g.R.Source.coming source) bytes chunk came second)
     (omega (arith, length-append bytes chunk, count, c.if-count-self.false, taken.size))
-    (c.in_err-take_words.ensures.taken part (bytes ++ chunk) come))
+    (c.in_err-take_words.ensures.taken first (bytes ++ chunk) come))
 
 pub returns-in_err-take_words-clause-failed : goal.returns-in_err-take_words-clause-failed
 returns-in_err-take_words-clause-failed g c =
     let p = c.args.self.now in
-    let (part, bytes, taken) = c.requires.read_bytes in
+    let (first, bytes, taken) = c.requires.read_bytes in
     let (chunk, second, text, count) = c.in-Ok.ensures.more in
-    let come = has_come part p c.read_from.new.self c.len-unfinished_len.result c.in-Ok.count bytes
+    let come = has_come (HasTakenFrom g.C.Choice.takes g.C.Choice.answers first c.args.choice.now) p
+    c.read_from.new.self c.len-unfinished_len.result c.in-Ok.count bytes
     c.make_room.new.self.bytes chunk
     taken text c.in_ok-make_room.ensures.same count (omega (arith, c.if-count-self.false))
     c.len-unfinished_len.ensures in
@@ -78,20 +97,22 @@ returns-in_err-take_words-clause-failed g c =
     c.from_residual-in_err-take_words.ensures.1 in
     subst (λ r. IfErr r (λ (e : ReadError). e.fault ≡ faults.ReadFault
     → g.R.Source.has_failed c.read_from.new.source ≡ true)) (sym (refused.1 ∙ ap Err refused.2))
-    (λ is. absurd (is_no_failure (bytes ++ chunk) c.in_err-take_words.field-0.0
-    (c.in_err-take_words.ensures.taken part (bytes ++ chunk) come) is))
+    (λ is. absurd (is_no_failure (g.C.Choice.takes first)
+    (told g.C.Choice.answers first c.take_words.new.choice) (bytes ++ chunk) c.in_err-take_words.field-0.0
+    (c.in_err-take_words.ensures.taken first (bytes ++ chunk) come) is))
 
 pub returns-clause-taken : goal.returns-clause-taken
-returns-clause-taken g c = λ part coming stands.
+returns-clause-taken g c = λ first coming stands.
     let p = c.args.self.now in
-    let (bytes, first, taken) = stands in
+    let (bytes, came, taken) = stands in
     let (chunk, second, text, count) = c.in-Ok.ensures.more in
-    let come = has_come part p c.read_from.new.self c.len-unfinished_len.result c.in-Ok.count bytes
+    let come = has_come (HasTakenFrom g.C.Choice.takes g.C.Choice.answers first c.args.choice.now) p
+    c.read_from.new.self c.len-unfinished_len.result c.in-Ok.count bytes
     c.make_room.new.self.bytes chunk
     taken text c.in_ok-make_room.ensures.same count (omega (arith, c.if-count-self.false))
     c.len-unfinished_len.ensures in (
       bytes ++ chunk,
       Consumes-trans coming (g.R.Source.coming c.args.source.now) (g.R.Source.coming c.read_from.new.source) bytes chunk
-          first second,
-      c.in_ok-take_words.ensures.taken part (bytes ++ chunk) come,
+          came second,
+      c.in_ok-take_words.ensures.taken first (bytes ++ chunk) come,
     )

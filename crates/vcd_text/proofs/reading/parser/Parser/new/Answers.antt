@@ -1,13 +1,13 @@
 use Rattle.std.proofs.Common.{[], None, false, refl, arith}
 use Rattle.vcd_text.proofs.reading.variables.VariablesMatch.{knows_further}
 use Rattle.vcd_text.proofs.reading.declarations.DeclarationWords.{tells_nothing}
-use Rattle.vcd_text.specs.inside.reading.Part.{seen_tick}
+use Rattle.vcd_core.specs.declared.capture.TheConstants.{END_LIMIT}
 use Rattle.std.proofs.lemmas.Bool.{false≢true}
 use Rattle.vcd_text.specs.Grammar.{initial_state}
 use Rattle.vcd_text.proofs.reading.parser.Parser.new.Goals as goal
 
-pub returns : goal.returns
-returns c = record {
+pub returns-clause-words : goal.returns-clause-words
+returns-clause-words c = λ asked. record {
   items = [];
   whole = [];
   begun = [];
@@ -22,14 +22,17 @@ returns c = record {
       timescale = refl;
       in_body = refl;
       tick = refl;
-      part_is = refl;
       seen = [];
-      variables = knows_further c.new-2.result initial_state [] None false (seen_tick c.args.part 0) (omega arith)
+      variables = knows_further c.new-2.result initial_state [] None false _ (omega arith)
           c.new-2.ensures;
+      no_early_tick = λ _. refl;
       no_early_change = λ _. refl;
       none_seen = λ _. refl;
-      tells = tells_nothing c.args.part initial_state [] refl refl;
-      hears = λ early. absurd (false≢true early);
+      tells = tells_nothing (record { left_out = c.new-5.result; first = 0; last = END_LIMIT }) initial_state [] refl
+          refl;
+      hears = λ late. absurd (false≢true late);
+      part_is = λ late. absurd (false≢true late);
+      is_asked_of = λ late. absurd (false≢true late);
     },
     refl,
   );

@@ -1,7 +1,7 @@
 use Rattle.std.proofs.Common.{◌++◌, map, sym, ap, ◌∙◌, arith}
 use Rattle.std.proofs.lemmas.List.{append-nil, nil_from_length}
 use Rattle.vcd_core.specs.CaptureContents.{signal_contents}
-use Rattle.vcd_text.specs.Parts.{remaining}
+use Rattle.vcd_text.specs.inside.reading.Part.{remaining}
 use Rattle.vcd_text.proofs.part.PartMeanings.{none_remains}
 use Rattle.vcd_text.proofs.reading.variables.choosing.remaining_signals.Goals as goal
 

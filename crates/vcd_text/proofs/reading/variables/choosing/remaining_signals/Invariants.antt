@@ -1,6 +1,6 @@
 use Rattle.std.proofs.Common.{◌≡◌, ◌++◌, map}
 use Rattle.vcd_core.specs.CaptureContents.{signal_contents}
-use Rattle.vcd_text.specs.Parts.{remaining}
+use Rattle.vcd_text.specs.inside.reading.Part.{remaining}
 use Rattle.vcd_text.proofs.reading.variables.choosing.remaining_signals.Given as goal
 
 abbrev pub invariant-loop-signal : goal.invariant-loop-signal

@@ -1,0 +1,10 @@
+use Rattle.vcd_text.proofs.part.PartOfPart.{part_of_part}
+use Rattle.std.proofs.Common.{refl}
+use Rattle.vcd_text.proofs.part.WholeParts.{whole_is}
+use Rattle.vcd_text.proofs.laws.parts_agree.Goals as goal
+
+pub returns-clause-part_of_part : goal.returns-clause-part_of_part
+returns-clause-part_of_part c = part_of_part
+
+pub returns-clause-all : goal.returns-clause-all
+returns-clause-all c = λ ticks d sound first last. whole_is _ ticks d (λ s. refl) first last sound

@@ -1,0 +1,262 @@
+-- The end of the declarations: the choice is asked, and the part begins or is refused.
+use Rattle.std.proofs.Common.{◌≡◌, ◌⊎◌, inl, inr, ℕ, Bool, true, false, ◌&&◌, List, [], ◌∷◌, ◌++◌, map, length}
+use Rattle.std.proofs.Common.{Option, Some, None, Result, Ok, Err, OnOk, refl, sym, ap, subst, ◌∙◌, arith, append_assoc}
+use Rattle.std.specs.Prelude.{IsTrue, IsFalse, codes, filter, ◌<◌}
+use Rattle.vcd_core.specs.declared.capture.TheConstants.{SIGNAL_LIMIT}
+use Rattle.std.proofs.lemmas.List.{append-nil, map-append}
+use Rattle.vcd_core.specs.Contents.{SignalContents}
+use Rattle.vcd_core.specs.declared.capture.Timescale.{Timescale}
+use Rattle.vcd_text.specs.declared.fault.Fault.{Fault}
+use Rattle.vcd_text.specs.declared.fault.Fault.TheVariants as faults
+use Rattle.vcd_text.specs.declared.fault.ReadError.{ReadError}
+use Rattle.vcd_text.specs.Words.{WordOnLine, word_on}
+use Rattle.vcd_text.specs.Items.{Item, entry, timescale, scope, upscope, variable, end_definitions, stamp, scalar}
+use Rattle.vcd_text.specs.Items.{vector, real_or_string, dump_word, other, spelling, spellings, end_word, is_end_word}
+use Rattle.vcd_text.specs.Grammar.{ParseState, VariableDeclaration, ValueChange, initial_state, state_after_item}
+use Rattle.vcd_text.specs.Grammar.{Allows}
+use Rattle.vcd_text.proofs.shared.ItemTests.{allows_end_definitions}
+use Rattle.vcd_text.specs.Grammar.{kept_variables, word_texts}
+use Rattle.vcd_text.specs.Meaning.{declared_signal}
+use Rattle.vcd_text.specs.Parts.{ChoiceAnswers, Answers, HasDeclarations, RefusesPart, too_many_remain, declined}
+use Rattle.vcd_text.specs.Parts.{signals_of, told}
+use Rattle.vcd_text.specs.Parts.{without_changes}
+use Rattle.vcd_text.specs.MemoryErrors.{memory_error}
+use Rattle.vcd_text.specs.inside.reading.OpenItems.{is_end_definitions}
+use Rattle.vcd_text.specs.inside.reading.Part.{Asked, undriven}
+use Rattle.vcd_text.specs.inside.reading.Parser.{HasTakenWords, IsAtState, IsBegun, WordStep, goes_on, ends_item}
+use Rattle.vcd_text.specs.inside.reading.Parser.{BeginsPart}
+use Rattle.vcd_text.specs.inside.reading.Parser.{asked_of, ends_definitions, error_at, WordsResult}
+use Rattle.vcd_text.specs.inside.reading.Choice.{HasTakenFrom, IsAnswered, RefusesSignals, RefusesWords, ShowsNone}
+use Rattle.vcd_text.specs.inside.reading.Choice.{TakesWord}
+use Rattle.vcd_text.specs.declared.reading.choice.TickRange.{TickRange}
+use Rattle.vcd_text.specs.declared.reading.part.Part.{Part}
+use Rattle.vcd_text.specs.declared.reading.parser.Parser.{Parser}
+use Rattle.vcd_text.specs.declared.reading.parser.OpenItem.{OpenItem}
+use Rattle.vcd_text.specs.declared.reading.parser.OpenItem.TheVariants as items
+use Rattle.vcd_text.proofs.shared.ItemsInTurn.{reaches_both, reaches_one}
+use Rattle.vcd_text.proofs.shared.ResultExists.{spelled_more}
+use Rattle.vcd_text.proofs.reading.parser.NextWord.{words_taken}
+use Rattle.vcd_text.proofs.reading.parser.NoWordLeft.{no_fault}
+
+-- ---- declarations
+
+-- declarations are those of a longer list of words as well
+pub declares_further : (words more all : List WordOnLine) (line : ℕ) (c : ParseState) → all ≡ words ++ more
+    → HasDeclarations words line c → HasDeclarations all line c
+declares_further words more all line c is has = record {
+  items = has.items;
+  before = has.before;
+  last = has.last;
+  more = has.more ++ more;
+  parts = is ∙ ap (λ ws. ws ++ more) has.parts ∙ append_assoc has.before (has.last ∷ has.more) more;
+  spelled = has.spelled;
+  allowed = has.allowed;
+  state_is = has.state_is;
+  at = has.at;
+}
+
+-- the signals of variables as they are declared
+pub undriven_signals : (changes : List ValueChange) (end : ℕ) (ds : List VariableDeclaration)
+    → map without_changes (map (declared_signal changes end) ds) ≡ map undriven ds
+undriven_signals changes end [] = refl
+undriven_signals changes end (d ∷ ds) = ap (λ ss. undriven d ∷ ss) (undriven_signals changes end ds)
+
+-- ---- a word that does not end the declarations
+
+-- of the words of an item, `$enddefinitions` alone is one of the end of the declarations
+only_end : (m : Parser) (begun : List WordOnLine) (item : OpenItem) → IsBegun m begun item → IsFalse m.in_body
+    → word_texts begun ≡ codes "$enddefinitions" ∷ [] → is_end_definitions item ≡ true
+only_end m begun item is early texts = grind arith
+
+pub end_is_early : (m : Parser) (begun : List WordOnLine) (item : OpenItem) → IsBegun m begun item
+    → is_end_definitions item ≡ true → IsFalse m.in_body
+end_is_early m begun item is ends = grind arith
+
+body_item : (c : ParseState) (i : Item) → (i ≡ end_definitions → ⊥) → (state_after_item c i).in_body ≡ c.in_body
+body_item c (entry kind words) isnt = refl
+body_item c (timescale words) isnt = refl
+body_item c (scope kind words) isnt = refl
+body_item c upscope isnt = refl
+body_item c (variable words) isnt = refl
+body_item c end_definitions isnt = absurd (isnt refl)
+body_item c (stamp digits) isnt = refl
+body_item c (scalar digit code) isnt = refl
+body_item c (vector first digits code) isnt = refl
+body_item c (real_or_string first text code) isnt = refl
+body_item c (dump_word word) isnt = refl
+body_item c (other word words) isnt = refl
+
+-- a word that does not end the declarations neither begins nor ends the changes
+pub step_in_body : (asked : Asked) (m new : Parser) (c : ParseState) (begun : List WordOnLine) (w : WordOnLine)
+    → IsAtState asked m c begun → ends_definitions m w.text ≡ false → WordStep asked c (begun ++ w ∷ []) new
+    → new.in_body ≡ m.in_body
+step_in_body asked m new c begun w at isnt (goes_on after) = after.0.in_body ∙ sym at.0.in_body
+step_in_body asked m new c begun w at isnt (ends_item i spelled allows after) =
+    after.0.in_body ∙ body_item c i (λ is. ends c i spelled allows is) ∙ sym at.0.in_body
+  where
+    last_two : (xs : List WordOnLine) → word_texts (xs ++ w ∷ []) ≡ codes "$enddefinitions" ∷ end_word ∷ []
+        → (word_texts xs ≡ codes "$enddefinitions" ∷ []) × (w.text ≡ end_word)
+    last_two [] is = absurd (grind arith)
+    last_two (x ∷ []) is = grind arith
+    last_two (x ∷ y ∷ []) is = absurd (grind arith)
+    last_two (x ∷ y ∷ z ∷ xs) is = absurd (grind arith)
+
+    ends : (c : ParseState) (i : Item) → spelling i ≡ word_texts (begun ++ w ∷ []) → Allows c i → i ≡ end_definitions →
+        ⊥
+    ends c i spelled allows is =
+        let two = last_two begun (sym spelled ∙ ap spelling is) in
+        let early : IsFalse m.in_body = grind arith in
+        let ended = only_end m begun m.item at.1 early two.0 in
+        let both : ends_definitions m w.text ≡ true = grind arith in
+        let no : true ≡ false = sym both ∙ isnt in absurd (cc)
+
+-- ---- what became of the choice
+
+module _ {C : Type 0} (takes : C → SignalContents → Bool)
+    (answers : ChoiceAnswers C) (first old_choice : C)
+    (old : Parser) (words : List WordOnLine) (r : HasTakenFrom takes answers first old_choice old words) where
+  -- a word that does not end the declarations
+  pub taken_further : (new : Parser) (now : C) (w : WordOnLine) → HasTakenWords r.asked new (words ++ w ∷ [])
+      → new.in_body ≡ old.in_body → now ≡ old_choice
+      → HasTakenFrom takes answers first now new (words ++ w ∷ [])
+  taken_further new now w reads same still = record {
+    asked = r.asked;
+    taken_words = reads;
+    unasked = λ early. still ∙ r.unasked (sym same ∙ early);
+    answered = λ late. subst (λ n. IsAnswered (takes first) (told answers first n) r.asked) (sym still)
+        (r.answered (sym same ∙ late));
+  }
+
+  -- so is its result
+  pub word_result : (new : Parser) (w : WordOnLine) (result : Result (Unit {0}) ReadError)
+      → WordsResult old (w ∷ []) result new → OnOk result (new.in_body ≡ old.in_body)
+      → TakesWord takes answers first old_choice words w result new
+  word_result new w (Ok x) taken same = taken_further new old_choice w (taken r.asked words r.taken_words) same refl
+  word_result new w (Err e) taken same = λ more. elim (taken r.asked words more r.taken_words) [
+    | inl memory ↦ inl memory
+    | inr shows ↦ inr (inl shows)
+  ]
+
+  -- the word that ends them
+  pub taken_part : (new : Parser) (now : C) (line : ℕ) → IsFalse old.in_body → BeginsPart old new
+      → IsAnswered (takes old_choice) (told answers old_choice now) (record {
+        timescale = old.timescale;
+        signals = map undriven (kept_variables r.taken_words.state.declared);
+        part = new.part;
+      })
+      → HasTakenFrom takes answers first now new (words ++ word_on end_word line ∷ [])
+  taken_part new now line early begins answered = record {
+    asked = asked_of new.part r.taken_words.state;
+    taken_words = words_taken r.asked (asked_of new.part r.taken_words.state) old new words
+        (word_on end_word line ∷ []) r.taken_words
+        (begins.1 line r.asked r.taken_words.state r.taken_words.begun r.taken_words.at);
+    unasked = λ isnt. let both : true ≡ false = sym begins.0 ∙ isnt in absurd (cc);
+    answered = λ late. subst (λ t. IsAnswered (takes first) (told answers first now) (record {
+      timescale = t;
+      signals = map undriven (kept_variables r.taken_words.state.declared);
+      part = new.part;
+    })) r.taken_words.at.0.timescale
+        (subst (λ n. IsAnswered (takes n) (told answers n now) (record {
+          timescale = old.timescale;
+          signals = map undriven (kept_variables r.taken_words.state.declared);
+          part = new.part;
+        })) (r.unasked early) answered);
+  }
+
+-- words that have been taken show no fault
+pub silent_words : {C : Type 0} (takes : C → SignalContents → Bool)
+    (answers : ChoiceAnswers C) (first now : C)
+    (m : Parser) (words : List WordOnLine) → HasTakenFrom takes answers first now m words → ShowsNone words
+silent_words takes answers first now m words r = no_fault r.asked m words r.taken_words
+
+-- ---- a part that is refused
+
+-- the declarations end with this word
+declares : (asked : Asked) (m : Parser) (words more : List WordOnLine) (line : ℕ) (r : HasTakenWords asked m words)
+    → IsFalse m.in_body → is_end_definitions m.item ≡ true
+    → HasDeclarations (words ++ word_on end_word line ∷ more) line (state_after_item r.state end_definitions)
+declares asked m words more line r early is =
+    let begun = open_end m r.begun m.item r.at.1 is in
+    let leads = reaches_both initial_state r.state (state_after_item r.state end_definitions) r.items
+    (end_definitions ∷ []) (record { allowed = r.allowed; state_is = r.state_is })
+    (reaches_one r.state (state_after_item r.state end_definitions) end_definitions
+    (allows_end_definitions r.state (sym r.at.0.in_body ∙ early)) refl)
+    in
+    record {
+      items = r.items;
+      before = words;
+      last = word_on end_word line;
+      more = more;
+      parts = refl;
+      spelled = ap (λ ws. word_texts (ws ++ word_on end_word line ∷ [])) r.parts
+          ∙ ap word_texts (append_assoc r.whole r.begun (word_on end_word line ∷ []))
+          ∙ map-append _ r.whole (r.begun ++ word_on end_word line ∷ [])
+          ∙ ap (λ ts. ts ++ word_texts (r.begun ++ word_on end_word line ∷ [])) r.spelled
+          ∙ ap (λ ts. spellings r.items ++ ts) (map-append _ r.begun (word_on end_word line ∷ [])
+          ∙ ap (λ ts. ts ++ end_word ∷ []) begun)
+          ∙ sym (spelled_more r.items end_definitions);
+      allowed = leads.allowed;
+      state_is = leads.state_is;
+      at = refl;
+    }
+  where
+    open_end : (m : Parser) (begun : List WordOnLine) (item : OpenItem) → IsBegun m begun item
+        → is_end_definitions item ≡ true → word_texts begun ≡ codes "$enddefinitions" ∷ []
+    open_end m begun item is ends = grind arith
+
+pub part_refused : (asked : Asked) (m : Parser) (words more : List WordOnLine) (line : ℕ)
+    (takes : SignalContents → Bool) (answers : Answers) (fault : Fault) (r : HasTakenWords asked m words)
+    → IsFalse m.in_body → is_end_definitions m.item ≡ true
+    → RefusesSignals takes answers m.timescale (map undriven (kept_variables r.state.declared)) fault
+    → RefusesWords takes answers (words ++ word_on end_word line ∷ more) (error_at line fault)
+part_refused asked m words more line takes answers fault r early is (inl memory) = inl (ap (error_at line) memory)
+part_refused asked m words more line takes answers fault r early is (inr (inl (many, long))) =
+    let signals : signals_of (state_after_item r.state end_definitions) ≡ map undriven (kept_variables r.state.declared)
+    =
+    undriven_signals r.state.value_changes r.state.tick (kept_variables r.state.declared) in
+    rw many (inr (inr (too_many_remain (state_after_item r.state end_definitions)
+    (declares asked m words more line r early is)
+    (subst (λ ss. SIGNAL_LIMIT < length (filter takes ss)) (sym signals) long) refl)))
+part_refused asked m words more line takes answers fault r early is (inr (inr (none, answer))) =
+    let signals : signals_of (state_after_item r.state end_definitions) ≡ map undriven (kept_variables r.state.declared)
+    =
+    undriven_signals r.state.value_changes r.state.tick (kept_variables r.state.declared) in
+    rw none (inr (inr (declined (state_after_item r.state end_definitions)
+    (declares asked m words more line r early is)
+    (subst (λ ss. answers r.state.timescale ss None) (sym signals)
+    (subst (λ t. answers t (map undriven (kept_variables r.state.declared)) None) r.at.0.timescale answer)) refl)))
+
+pub refused_part : {C : Type 0} (takes : C → SignalContents → Bool)
+    (answers : ChoiceAnswers C) (first old_choice now : C)
+    (old : Parser) (words more : List WordOnLine) (line : ℕ) (fault : Fault)
+    (r : HasTakenFrom takes answers first old_choice old words) → IsFalse old.in_body
+    → is_end_definitions old.item ≡ true
+    → RefusesSignals (takes old_choice) (told answers old_choice now) old.timescale
+    (map undriven (kept_variables r.taken_words.state.declared)) fault
+    → RefusesWords (takes first) (told answers first now) (words ++ word_on end_word line ∷ more) (error_at line fault)
+refused_part takes answers first old_choice now old words more line fault r early is refuses =
+    part_refused r.asked old words more line (takes first) (told answers first now) fault r.taken_words early is
+    (subst (λ n. RefusesSignals (takes n) (told answers n now) old.timescale
+    (map undriven (kept_variables r.taken_words.state.declared)) fault) (r.unasked early) refuses)
+
+-- before the changes nothing was asked
+pub nothing_asked : {C : Type 0} (takes : C → SignalContents → Bool)
+    (answers : ChoiceAnswers C) (first : C) (m : Parser)
+    (asked : Asked) (words : List WordOnLine) → HasTakenWords asked m words → m.in_body ≡ false
+    → HasTakenFrom takes answers first first m words
+nothing_asked takes answers first m asked words reads early = record {
+  asked = asked;
+  taken_words = reads;
+  unasked = λ _. refl;
+  answered = λ late. let both : true ≡ false = sym late ∙ early in absurd (cc);
+}
+
+-- an answer for signals and a part is one for the same signals and part
+pub answered_signals : (takes : SignalContents → Bool) (answers : Answers) (unit : Option Timescale)
+    (ss signals : List SignalContents) (part new : Part) → ss ≡ signals → new ≡ part
+    → IsAnswered takes answers (record { timescale = unit; signals = ss; part = part })
+    → IsAnswered takes answers (record { timescale = unit; signals = signals; part = new })
+answered_signals takes answers unit ss signals part new same is answered =
+    subst (λ (p : Part). IsAnswered takes answers (record { timescale = unit; signals = signals; part = p }))
+    (sym is)
+    (subst (λ s. IsAnswered takes answers (record { timescale = unit; signals = s; part = part })) same answered)

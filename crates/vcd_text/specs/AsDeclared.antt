@@ -1,0 +1,28 @@
+-- What a file declares of its signals: all but their changes.
+use Rattle.std.specs.Prelude.{List, [], map, take}
+use Rattle.vcd_core.specs.Contents.{SignalContents}
+use Rattle.vcd_text.specs.declared.reading.declared_signals.DeclaredSignal.{DeclaredSignal}
+use Rattle.vcd_text.specs.declared.reading.declared_signals.Declarations.{Declarations}
+use Rattle.vcd_text.specs.declared.reading.variables.Variable.{Variable}
+use Rattle.vcd_text.specs.inside.reading.Scopes.{chain_at, chains_of}
+
+-- a signal as it is declared
+abbrev pub signal_declared : DeclaredSignal → SignalContents
+signal_declared d = record {
+  scopes = d.scopes.now;
+  kind = d.kind.now;
+  words = d.words.now;
+  width = d.width;
+  changes = [];
+}
+
+-- the signals that are declared, in their order
+abbrev pub declared_contents : Declarations → List SignalContents
+declared_contents d =
+    map (λ (v : Variable). record {
+      scopes = take v.place.count (chain_at (chains_of d.scopes.now) v.place.chain);
+      kind = v.kind;
+      words = v.words;
+      width = v.wave.width;
+      changes = [];
+    }) d.kept.now
