@@ -5,7 +5,8 @@ use Rattle.clap.specs.declared.error.kind.ErrorKind.{ErrorKind}
 use Rattle.clap.specs.declared.error.kind.ErrorKind.TheVariants.{DisplayHelp, DisplayVersion}
 use Rattle.clap.specs.declared.error.kind.ErrorKind.TheVariants.{OutOfMemory}
 use Rattle.vcd_shell.specs.declared.words.WithoutRun.{WithoutRun}
-use Rattle.vcd_shell.specs.declared.words.WithoutRun.TheVariants.{Shown, NotShown, Refused, NoMemory}
+use Rattle.vcd_shell.specs.declared.words.WithoutRun.TheVariants.{Shown, NotShown, Refused}
+use Rattle.vcd_shell.specs.declared.words.WithoutRun.TheVariants.{NoMemory}
 
 -- the words ask for help or the version, by the kind of `clap`'s answer
 abbrev pub asks_for_text : ErrorKind → Bool

@@ -2,6 +2,7 @@
 pub mod Unfinished
 pub mod ItemTests
 pub mod ItemFaults
+pub mod BoundedNumbers
 pub mod SoundMeaning
 pub mod ResultExists
 pub mod ResultIsUnique

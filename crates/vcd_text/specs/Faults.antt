@@ -38,8 +38,8 @@ misfit_fault true begun word =
 -- `$upscope` while no scope is open, or a word that begins no declaration
 misfit_fault false [] word =
     if bytes_eq word (codes "$upscope") then UpscopeAtTop else UnexpectedWord
--- `$end` in the place of a scope's kind, a size that is no number, or a word other than `$end` after
--- `$upscope` or `$enddefinitions`
+-- `$end` in the place of a scope's kind, a size that is no number, or a word other than `$end`
+-- after `$upscope` or `$enddefinitions`
 misfit_fault false (keyword ∷ words) word =
     if bytes_eq keyword (codes "$scope") then BadScope
     else (if bytes_eq keyword (codes "$var") then BadVar else UnexpectedWord)

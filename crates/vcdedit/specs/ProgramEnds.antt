@@ -55,7 +55,8 @@ IsOutcomeOn path outcome depth capture script = (replies : DeviceEnd) × (output
 
 -- the outcome is that of a run with these options, or the run does not begin
 abbrev pub IsOutcomeOfOptions : AskedOptions → Result Summary RunError → Type 0
-IsOutcomeOfOptions options outcome = ((e : RunError) × IsFaultBeforeRun options e × (outcome ≡ Err e))
+IsOutcomeOfOptions options outcome = ((e : RunError) × IsFaultBeforeRun options e
+    × (outcome ≡ Err e))
     ⊎ ((capture : DeviceEnd) × (script : DeviceEnd)
     × IsOutcomeOn options.output outcome options.depth capture script)
 

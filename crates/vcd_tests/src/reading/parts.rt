@@ -9,7 +9,7 @@ use std::alloc::Global;
 use std::process::Abort;
 use std::test::Fail;
 use vcd_core::{NoMemory, Timescale};
-use vcd_text::{Choice, DeclaredSignal, Declarations, TickRange, read_part};
+use vcd_text::{Choice, Declarations, DeclaredSignal, TickRange, read_part};
 
 /// The signals of one kind, at some ticks.
 #[derive(Drop)]
@@ -62,8 +62,8 @@ b01 ! b1 \" b1 # #2 b10 ! b0 \" #4 b11 ! bz1 \" #6 b10 ! #8 b0 \" b0 # b01 ! #9 
 $var reg 2 ! a $end|$var reg 70 \" b $end|$enddefinitions $end|#0|$dumpvars|b10 !|bz1 \"|$end|#2|\
 b1 !|b0 \"|#3|
 -- no signal of the kind
-tri 0 5: $var wire 1 ! a $end $enddefinitions $end #3 1! #9 => 9 1 $enddefinitions $end|#0|$dumpvars|\
-$end|#5|
+tri 0 5: $var wire 1 ! a $end $enddefinitions $end #3 1! #9 => 9 1 $enddefinitions $end|#0|\
+$dumpvars|$end|#5|
 -- a first tick past the end, one past the last one, and the end as the first one
 wire 20 30: $var wire 1 ! a $end $enddefinitions $end #3 1! #9 0! => 9 1 $var wire 1 ! a $end|\
 $enddefinitions $end|#0|$dumpvars|0!|$end|

@@ -5,3 +5,4 @@ pub mod DeclaredVariable
 pub mod SignalsOfVariables
 pub mod VariablesMatch
 pub mod TicksAndWidths
+pub mod OpenedScope

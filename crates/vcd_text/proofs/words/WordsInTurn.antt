@@ -115,7 +115,8 @@ unfolding words_from
 no_word end_counts line n text h4 h5 h6 = grind arith
 
 -- a word that is not complete does not count
-pub word_part : (line : ℕ) (w : List ℕ) → list_all (λ b. not (is_white_space b)) w ≡ true → words_from false [] line w ≡ []
+pub word_part : (line : ℕ) (w : List ℕ) → list_all (λ b. not (is_white_space b)) w ≡ true →
+    words_from false [] line w ≡ []
 unfolding words_from
 word_part line w no_space =
     ap (words_from false [] line) (sym (append-nil w)) ∙ goes_on false [] line w [] no_space

@@ -255,7 +255,8 @@ digits_fail c digits code fault (variables.too_long d found keeps value long whi
     ap (λ d. first_fault (digit_tests digits d)) found ∙ refuses_length digits d keeps value long ∙ ap Some (sym which)
 
 -- all words of a change by a binary number have been taken
-pub whole_vector : (asked : Asked) (m : Parser) (c : ParseState) (vs : Variables) (item : OpenItem) (words : List WordOnLine)
+pub whole_vector : (asked : Asked) (m : Parser) (c : ParseState) (vs : Variables) (item : OpenItem)
+    (words : List WordOnLine)
     (letter : ℕ) (digits code : List ℕ) → ParserMatches asked m c → m.in_body ≡ true
     → item ≡ items.Nothing → is_among vector_prefixes letter ≡ true → (letter ∷ digits) ∷ code ∷ [] ≡ word_texts words
     → IsSomeAnd (variable_of c code) (λ d. IsTrue (takes_binary_number d digits))
@@ -269,7 +270,8 @@ whole_vector asked m c vs item words letter digits code agrees in_body closed is
     )
 
 -- the code of a change by a binary number shows a fault
-pub vector_shown : (asked : Asked) (m : Parser) (c : ParseState) (letter : ℕ) (digits code : List ℕ) (fault : Fault) → ParserMatches asked m c
+pub vector_shown : (asked : Asked) (m : Parser) (c : ParseState) (letter : ℕ) (digits code : List ℕ) (fault : Fault) →
+    ParserMatches asked m c
     → m.in_body ≡ true → is_among vector_prefixes letter ≡ true → RefusesChange c code digits fault
     → WordShows c ((letter ∷ digits) ∷ []) code fault
 vector_shown asked m c letter digits code fault agrees in_body is row =
@@ -284,7 +286,8 @@ pub ends_vector : (m : Parser) (vs : Variables) (code : List ℕ) (line : ℕ) (
 ends_vector m vs code line (Ok x) item takes = λ asked c begun (agrees, taken).
     let b : AwaitsCode m begun vector_prefixes m.digits.items = subst (IsBegun m begun) item taken in
     let change = takes (seen_state m.part c agrees.seen) (seen_at asked m c agrees) agrees.variables in
-    whole_vector asked m c vs items.Nothing (begun ++ word_on code line ∷ []) b.letter m.digits.items code agrees b.in_body
+    whole_vector asked m c vs items.Nothing (begun ++ word_on code line ∷ []) b.letter m.digits.items code agrees
+    b.in_body
     refl
     b.among
     (texts_whole m begun vector_prefixes m.digits.items code line b) change.0
@@ -322,4 +325,5 @@ unknown_real_or_string m new code line item unknown asked c begun (agrees, taken
     let b = at.1 in
     inr (subst (λ ts. WordShows c ts code UnknownCode) (sym (texts_begun m begun real_or_string_prefixes text b))
     (test_fails (real_or_string b.letter text code) (and_from _ _ (sym agrees.in_body ∙ b.in_body) b.among) refl
-    (failed UnknownCode (is_some (variable_of c code)) [] (unknown (seen_state m.part c agrees.seen) agrees.variables))))
+    (failed UnknownCode (is_some (variable_of c code)) []
+    (unknown (seen_state m.part c agrees.seen) agrees.variables))))

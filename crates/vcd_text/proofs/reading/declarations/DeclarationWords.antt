@@ -128,7 +128,8 @@ agrees_as asked m new c a header time in_body tick part variables silent =
     (λ in_it. part ∙ a.part_is in_it) a.is_asked_of
 
 -- if the conditions of the open item hold, its `$end` ends it
-ends_here : (asked : Asked) (new : Parser) (c : ParseState) (begun : List WordOnLine) (line : ℕ) (i : Item) (words : List (List ℕ))
+ends_here : (asked : Asked) (new : Parser) (c : ParseState) (begun : List WordOnLine) (line : ℕ) (i : Item)
+    (words : List (List ℕ))
     → word_texts begun ≡ words → spelling i ≡ words ++ end_word ∷ [] → Allows c i
     → ParserMatches asked new (state_after_item c i) → new.item ≡ items.Nothing
     → WordStep asked c (begun ++ word_on end_word line ∷ []) new
@@ -200,7 +201,8 @@ closes_scope m scopes rest s is words pushed keeps line asked c begun at =
     (allows_scope c s.kind s.words early (ap has_no_end_word (sym words) ∙ b.no_end))
     (agrees_early asked _ _ a.seen a.header a.timescale a.in_body a.tick
     (scopes_moved m.variables scopes (seen_state m.part c a.seen) (c.scopes ++ s ∷ [])
-    (pushed ∙ ap (λ ss. ss ++ s ∷ []) a.variables.opened) keeps a.variables) (a.no_early_tick early) (a.no_early_change early) (a.none_seen early) early) refl
+    (pushed ∙ ap (λ ss. ss ++ s ∷ []) a.variables.opened) keeps a.variables) (a.no_early_tick early)
+    (a.no_early_change early) (a.none_seen early) early) refl
 
 -- as many scopes are open as in the state
 pub so_deep : (vs : Variables) (c : ParseState) → VariablesMatch vs c → length c.scopes ≡ vs.scopes.depth
@@ -306,7 +308,8 @@ ends_early m new is line asked c begun at =
 -- the variables have the declaration
 pub closes_variable : (m : Parser) (variables : Variables) (words : List (List ℕ)) (rest : Vec (List ℕ))
     → words ≡ m.words.items → DeclaresWords words m.size m.variables (Ok tt) variables
-    → m.item ≡ items.SizedVariable → (line : ℕ) (asked : Asked) (c : ParseState) (begun : List WordOnLine) → IsAtState asked m c begun
+    → m.item ≡ items.SizedVariable → (line : ℕ) (asked : Asked) (c : ParseState) (begun : List WordOnLine) →
+    IsAtState asked m c begun
     → WordStep asked c (begun ++ word_on end_word line ∷ [])
     (record m { variables = variables; words = rest; item = items.Nothing })
 closes_variable m variables words rest spelled declare is line asked c begun at =

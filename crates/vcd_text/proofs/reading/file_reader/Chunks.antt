@@ -172,7 +172,8 @@ all_words : (taken_by : Parser → List WordOnLine → Type 0) (p : FileReader) 
     HasReadBytes taken_by p bytes → text ≡ p.buffer.bytes
     → complete_words bytes ++ words_from true [] (p.line_feeds + 1) text ≡ words_of bytes
 all_words taken_by p text bytes taken is =
-    ap (λ word. complete_words bytes ++ words_from true [] (p.line_feeds + 1) word) (is ∙ sym (append-nil p.buffer.bytes))
+    ap (λ word. complete_words bytes ++ words_from true [] (p.line_feeds + 1) word)
+    (is ∙ sym (append-nil p.buffer.bytes))
     ∙ sym (taken.words true []) ∙ ap (words_from true [] 1) (append-nil bytes)
 
 -- so all words of the bytes have been taken, or one is refused

@@ -56,12 +56,14 @@ error_shown words line fault (inr shows) = grind arith
 
 -- ---- lines
 
-declaring : (asked : Asked) (m : Parser) (c : ParseState) (begun : List WordOnLine) (w : WordOnLine) → ParserMatches asked m c
+declaring : (asked : Asked) (m : Parser) (c : ParseState) (begun : List WordOnLine) (w : WordOnLine) →
+    ParserMatches asked m c
     → IsFalse m.in_body → w.line ≡ fault_line c.in_body begun w
 declaring asked m c begun w agrees none = sym (ap (λ b. fault_line b begun w) (sym agrees.in_body ∙ none))
 
 -- the line that is shown is that of the definition
-pub line_shown : (asked : Asked) (m : Parser) (c : ParseState) (begun : List WordOnLine) (w : WordOnLine) (fault : Fault)
+pub line_shown : (asked : Asked) (m : Parser) (c : ParseState) (begun : List WordOnLine) (w : WordOnLine)
+    (fault : Fault)
     (item : OpenItem) → ParserMatches asked m c → IsBegun m begun item → WordShows c (word_texts begun) w.text fault
     → item_fault_line item m.line w.line ≡ fault_line c.in_body begun w
 line_shown asked m c begun w fault items.Nothing agrees none decided = grind arith
@@ -70,7 +72,8 @@ line_shown asked m c begun w fault items.Timescale agrees is decided = declaring
 line_shown asked m c begun w fault items.Scope agrees is decided = declaring asked m c begun w agrees is.declares
 line_shown asked m c begun w fault items.Upscope agrees is decided = declaring asked m c begun w agrees is.0
 line_shown asked m c begun w fault items.Variable agrees is decided = declaring asked m c begun w agrees is.0.declares
-line_shown asked m c begun w fault items.SizedVariable agrees is decided = declaring asked m c begun w agrees is.declares
+line_shown asked m c begun w fault items.SizedVariable agrees is decided =
+    declaring asked m c begun w agrees is.declares
 line_shown asked m c begun w fault items.EndDefinitions agrees is decided = declaring asked m c begun w agrees is.0
 line_shown asked m c begun w fault items.Other agrees is decided =
     absurd (passed_over c is.keyword is.words w.text fault

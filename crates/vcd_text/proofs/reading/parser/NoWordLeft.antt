@@ -27,13 +27,15 @@ use Rattle.vcd_text.proofs.reading.declarations.DeclarationWords.{so_deep, short
 use Rattle.vcd_text.proofs.shared.ResultIsUnique.{accepted-not_refused, stopped-not_refused}
 use Rattle.vcd_text.specs.inside.reading.Part.{Asked}
 
-collecting : (asked : Asked) (m : Parser) (c : ParseState) (begun : List WordOnLine) (keyword : List ℕ) → ParserMatches asked m c
+collecting : (asked : Asked) (m : Parser) (c : ParseState) (begun : List WordOnLine) (keyword : List ℕ) →
+    ParserMatches asked m c
     → Collects m begun keyword → IsTrue (is_one_of (codes "$timescale" ∷ codes "$scope" ∷ header_words) keyword)
     → IsUnfinished c (word_texts begun)
 collecting asked m c begun keyword agrees is among =
     rw is.spelled (words_due c keyword m.words.items (sym agrees.in_body ∙ is.declares) among is.no_end)
 
-awaiting : (asked : Asked) (m : Parser) (c : ParseState) (begun : List WordOnLine) (letters text : List ℕ) → ParserMatches asked m c
+awaiting : (asked : Asked) (m : Parser) (c : ParseState) (begun : List WordOnLine) (letters text : List ℕ) →
+    ParserMatches asked m c
     → AwaitsCode m begun letters text
     → ((b : ℕ) → IsTrue c.in_body → IsTrue (is_among letters b) → IsUnfinished c ((b ∷ text) ∷ []))
     → IsUnfinished c (word_texts begun)
@@ -42,13 +44,15 @@ awaiting asked m c begun letters text agrees is due =
     (due is.letter (sym agrees.in_body ∙ is.in_body) is.among)
 
 -- a word must follow words that are no whole file
-unfinished : (asked : Asked) (m : Parser) (c : ParseState) (begun : List WordOnLine) (item : OpenItem) → ParserMatches asked m c
+unfinished : (asked : Asked) (m : Parser) (c : ParseState) (begun : List WordOnLine) (item : OpenItem) →
+    ParserMatches asked m c
     → IsBegun m begun item → IsFalse (m.in_body && is_nothing item) → IsUnfinished c (word_texts begun)
 unfinished asked m c begun items.Nothing agrees none no_end =
     rw none (declaration_due c (grind arith))
 unfinished asked m c begun (items.Entry kind) agrees is no_end =
     collecting asked m c begun (header_word kind) agrees is (grind arith)
-unfinished asked m c begun items.Timescale agrees is no_end = collecting asked m c begun (codes "$timescale") agrees is refl
+unfinished asked m c begun items.Timescale agrees is no_end =
+    collecting asked m c begun (codes "$timescale") agrees is refl
 unfinished asked m c begun items.Scope agrees is no_end = collecting asked m c begun (codes "$scope") agrees is refl
 unfinished asked m c begun items.Upscope agrees is no_end =
     rw is.1 (upscope_due c (sym agrees.in_body ∙ is.0)
@@ -74,7 +78,8 @@ texts_are : (asked : Asked) (m : Parser) (words : List WordOnLine) (r : HasTaken
 texts_are asked m words r = grind (arith, map-append)
 
 -- words that are no whole file end too early
-pub stops : (asked : Asked) (m : Parser) (words : List WordOnLine) → HasTakenWords asked m words → is_complete m ≡ false → Stops words
+pub stops : (asked : Asked) (m : Parser) (words : List WordOnLine) → HasTakenWords asked m words → is_complete m ≡ false
+    → Stops words
 stops asked m words r incomplete = record {
   items = r.items;
   begun = word_texts r.begun;
@@ -85,12 +90,14 @@ stops asked m words r incomplete = record {
 }
 
 -- words that are a whole file are accepted
-pub accepts : (asked : Asked) (m : Parser) (words : List WordOnLine) (r : HasTakenWords asked m words) → is_complete m ≡ true
+pub accepts : (asked : Asked) (m : Parser) (words : List WordOnLine) (r : HasTakenWords asked m words) →
+    is_complete m ≡ true
     → Accepts words r.state
 accepts asked m words r complete = grind (arith, and_parts, texts_are, append-nil)
 
 -- words that have been taken show no fault
-pub no_fault : (asked : Asked) (m : Parser) (words : List WordOnLine) → HasTakenWords asked m words → (line : ℕ) (fault : Fault)
+pub no_fault : (asked : Asked) (m : Parser) (words : List WordOnLine) → HasTakenWords asked m words →
+    (line : ℕ) (fault : Fault)
     → ShowsFault words line fault → ⊥
 no_fault asked m words r line fault refuses = by_test (is_complete m) refl
   where

@@ -5,7 +5,8 @@ use Rattle.vcd_text.proofs.words.after_space.Given as goal
 
 abbrev pub invariant-loop-byte : goal.invariant-loop-byte
 invariant-loop-byte l =
-    ((end_counts : Bool) → words_from end_counts [] (l.lines + 1) l.rest ≡ words_from end_counts [] (l.line_feeds + 1) l.text)
+    ((end_counts : Bool) → words_from end_counts [] (l.lines + 1) l.rest ≡ words_from end_counts [] (l.line_feeds + 1)
+    l.text)
     × (l.lines + length l.rest ≤ l.line_feeds + length l.text)
     × (l.lines + line_feeds_in l.rest ≡ l.line_feeds + line_feeds_in l.text)
 

@@ -20,7 +20,8 @@ stage_of_line (suc before) = Line (suc before)
 -- the refusal for an error, with the replies that were written, or `empty` if they may be cut
 -- anywhere; a device in memory fails for memory alone
 abbrev pub run_refusal : RunError → (replies empty : Vec ℕ) → RunRefusal
-run_refusal (run_errors.Capture e) replies empty = if is_no_memory e.fault then NoMemory Inputs empty
+run_refusal (run_errors.Capture e) replies empty =
+    if is_no_memory e.fault then NoMemory Inputs empty
     else Capture e
 run_refusal run_errors.ScriptTooLarge replies empty = ScriptTooLarge
 run_refusal (run_errors.NoMemory line) replies empty = NoMemory (stage_of_line line) replies

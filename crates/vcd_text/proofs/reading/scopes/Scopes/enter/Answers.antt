@@ -1,5 +1,5 @@
 use Rattle.std.proofs.Common.{refl}
-use Rattle.vcd_text.proofs.reading.scopes.OpenedScope.{scope_pushed}
+use Rattle.vcd_text.proofs.reading.variables.OpenedScope.{scope_pushed}
 use Rattle.vcd_text.proofs.reading.scopes.Scopes.enter.Goals as goal
 
 pub returns-clause-places : goal.returns-clause-places

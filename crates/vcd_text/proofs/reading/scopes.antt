@@ -1,2 +1,0 @@
--- Lemmas of `reading/scopes`.
-pub mod OpenedScope

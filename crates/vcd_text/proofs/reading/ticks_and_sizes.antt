@@ -1,2 +1,0 @@
--- Lemmas of `reading/ticks_and_sizes`.
-pub mod BoundedNumbers
