@@ -10,6 +10,7 @@ ghost use Rattle.vcd_text.specs.WriteEnds.{TookBefore};
 mod codes;
 mod cursors;
 mod declarations;
+mod first_values;
 mod lines;
 mod output;
 mod stamps;
@@ -19,8 +20,8 @@ mod window;
 
 use crate::fault::WriteError;
 use declarations::write_declarations;
+use first_values::write_first_values;
 use output::{Output, empty_buffer, flush, send_buffer};
-use stamps::write_first_values;
 use std::alloc::Global;
 use transitions::write_transitions;
 use vcd_core::{Capture, Sink};

@@ -1,6 +1,6 @@
 //! Printed values: one letter, or `b` and the short form.
 
-ghost use Rattle.std.specs.Prelude.{◌≡◌, ◌<◌, ◌≤◌, ◌+◌, ◌-◌, ◌*◌, ◌^◌, ◌∷◌, ◌++◌, [], ℕ, true};
+ghost use Rattle.std.specs.Prelude.{◌≡◌, ◌<◌, ◌≤◌, ◌+◌, ◌-◌, ◌*◌, ◌∷◌, ◌++◌, [], ℕ, true};
 ghost use Rattle.std.specs.Prelude.{false, if◌then◌else◌, length, drop, slice_index};
 ghost use Rattle.std.specs.Int.{bit_at};
 ghost use Rattle.vcd_core.specs.Value.{printed_letter, same_letter};
@@ -158,7 +158,8 @@ fn short_form_len_of_block(count: u64, block: LetterBlock) -> u64
     requires most { count ≤ 64 }
     ensures { IsShortFormLen count block result }
 {
-    let needed = needed_letters(block.low, block.high) & ones(count - 1);
+    let mask = (1 << (count - 1)) - 1;
+    let needed = needed_letters(block.low, block.high) & mask;
     65 - needed.leading_zeros() as u64
 }
 
@@ -173,14 +174,6 @@ fn needed_letters(low: u64, high: u64) -> u64
     let next_low = low >> 1;
     let next_high = high >> 1;
     (next_high ^ high) | (next_low & !next_high) | (next_high & (next_low ^ low))
-}
-
-/// A word whose `count` lowest bits are set.
-fn ones(count: u64) -> u64
-    requires { count < 64 }
-    ensures { result ≡ 2 ^ count - 1 }
-{
-    (1 << count) - 1
 }
 
 /// Whether the extension restores this letter from the next one.

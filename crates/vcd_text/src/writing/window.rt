@@ -14,11 +14,10 @@ ghost use Rattle.vcd_text.specs.inside.writing.Window.{IsKey, IsReady, transitio
 use super::cursors::{Cursor, first_changes, following_change};
 use std::alloc::Global;
 use std::mem::swap;
-use vcd_core::{NoMemory, Signal, Wave};
+use vcd_core::{NoMemory, SIGNAL_LIMIT, Signal, Wave};
 
-/// The limit of the positions in a key, which is `SIGNAL_LIMIT`. Positions and ticks fit together
-/// in 64 bits.
-pub const POSITIONS: u64 = 65536;
+/// The limit of the positions in a key. Positions and ticks fit together in 64 bits.
+pub const POSITIONS: u64 = SIGNAL_LIMIT as u64;
 
 /// The limit of the ticks in a key.
 pub const TICKS_IN_KEY: u64 = u64::MAX / POSITIONS;

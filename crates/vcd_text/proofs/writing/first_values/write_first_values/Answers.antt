@@ -2,7 +2,7 @@
 use Rattle.std.proofs.Common.{arith}
 use Rattle.std.proofs.lemmas.Grind.{flat_map-append}
 use Rattle.vcd_text.proofs.writing.output.Pieces.{writes_as, writes_both}
-use Rattle.vcd_text.proofs.writing.stamps.write_first_values.Goals as goal
+use Rattle.vcd_text.proofs.writing.first_values.write_first_values.Goals as goal
 
 pub returns : goal.returns
 returns g c =

@@ -7,7 +7,7 @@ use Rattle.vcd_core.specs.CaptureContents.{signal_contents}
 use Rattle.vcd_core.specs.Wave.{value_at}
 use Rattle.vcd_text.specs.Text.{code_of, item_line, value_item, value_items}
 use Rattle.vcd_text.proofs.writing.output.Pieces.{prefix_grows, prefix_whole}
-use Rattle.vcd_text.proofs.writing.stamps.write_all_values.Goals as goal
+use Rattle.vcd_text.proofs.writing.first_values.write_all_values.Goals as goal
 
 -- the lines of the signals from a position on
 abbrev values_from : ℕ → List Signal → List ℕ
