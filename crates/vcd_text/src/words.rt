@@ -5,7 +5,8 @@ ghost use Rattle.std.specs.Prelude.{length, take, drop, MatchOption, IfSome, IfN
 ghost use Rattle.std.specs.List.{list_all};
 ghost use Rattle.vcd_core.specs.Word as spec;
 ghost use Rattle.vcd_text.specs.Words.{words_from, words_of};
-ghost use Rattle.vcd_text.specs.inside.Words.{begins_with_space, ends_before, line_feeds_in};
+ghost use Rattle.vcd_text.specs.inside.Words.{begins_with_space, ends_before};
+ghost use Rattle.vcd_text.specs.LentWords.{line_feeds_in};
 
 use vcd_core::is_white_space;
 

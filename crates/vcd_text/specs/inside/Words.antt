@@ -1,5 +1,5 @@
 -- The state of the walk over a text: at white space, or at a word.
-use Rattle.std.specs.Prelude.{ℕ, ◌==◌, Bool, true, false, List, [], ◌∷◌, count_by}
+use Rattle.std.specs.Prelude.{ℕ, Bool, true, false, List, [], ◌∷◌}
 use Rattle.vcd_core.specs.Word.{is_white_space}
 
 -- whether a text begins with white space
@@ -18,7 +18,3 @@ abbrev pub has_complete_words : List ℕ → Bool
 has_complete_words [] = true
 has_complete_words (b ∷ []) = is_white_space b
 has_complete_words (b ∷ c ∷ bs) = has_complete_words (c ∷ bs)
-
--- the number of line feeds
-abbrev pub line_feeds_in : List ℕ → ℕ
-line_feeds_in bytes = count_by (λ b. b == 10) bytes
