@@ -21,7 +21,7 @@ use Rattle.vcd_edit.specs.AppliedRecords.{apply_record, with_pieces, with_first_
 use Rattle.vcd_edit.specs.AppliedRecords.{with_piece, changes_with_piece, signal_with_changes}
 use Rattle.vcd_edit.specs.AppliedRecords.{with_signal_in_out, PutsInOrKeepsNames}
 use Rattle.vcd_edit.specs.AppliedRecords.{PutsNoSignalIn, SignalFits, Fits, HasOneKindOfPart}
-use Rattle.vcd_edit.specs.declared.reverting.Kept.{Kept}
+use Rattle.vcd_edit.specs.declared.exchange.records.Kept.{Kept}
 use Rattle.vcd_edit.proofs.exchange.OppositePieces.{counts_kept}
 use Rattle.vcd_edit.proofs.exchange.OppositeRecords.{parts, signals_of_end, no_pieces_at_word}
 use Rattle.vcd_edit.proofs.exchange.OppositeRecords.{no_pieces_at_signal}
