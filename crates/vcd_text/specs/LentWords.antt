@@ -1,5 +1,5 @@
 -- Words whose texts are borrowed: one word, and those of a text that are still to come.
-use Rattle.std.specs.Prelude.{ℕ, ◌+◌, ◌==◌, List, [], true, count_by}
+use Rattle.std.specs.Prelude.{ℕ, ◌+◌, List, [], true}
 use Rattle.vcd_text.specs.Words.{WordOnLine, word_on, words_from}
 use Rattle.vcd_text.specs.Grammar.{word_texts}
 use Rattle.vcd_text.specs.declared.words.WordOnLine.{WordOnLine as LentWord}
@@ -16,7 +16,3 @@ words_left w = words_from true [] (w.line_feeds + 1) w.rest.now
 -- their texts
 abbrev pub texts_left : Words → List (List ℕ)
 texts_left w = word_texts (words_left w)
-
--- the number of line feeds
-abbrev pub line_feeds_in : List ℕ → ℕ
-line_feeds_in bytes = count_by (λ b. b == 10) bytes

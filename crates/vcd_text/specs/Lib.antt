@@ -12,6 +12,7 @@ pub mod AsDeclared
 pub mod Text
 pub mod Laws
 pub mod LentWords
+pub mod LineFeeds
 pub mod MemoryErrors
 pub mod Refusals
 pub mod Parts

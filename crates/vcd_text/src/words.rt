@@ -6,7 +6,7 @@ ghost use Rattle.std.specs.List.{list_all};
 ghost use Rattle.vcd_core.specs.Word as spec;
 ghost use Rattle.vcd_text.specs.Words.{words_from, words_of};
 ghost use Rattle.vcd_text.specs.inside.Words.{begins_with_space, ends_before};
-ghost use Rattle.vcd_text.specs.LentWords.{line_feeds_in};
+ghost use Rattle.vcd_text.specs.LineFeeds.{line_feeds_in};
 
 use vcd_core::is_white_space;
 

@@ -12,7 +12,7 @@ ghost use Rattle.vcd_text.specs.LentWords.{words_left};
 ghost use Rattle.vcd_text.specs.Grammar.{ParseState, kept_variables};
 ghost use Rattle.vcd_text.specs.Parts.{PartMeans, IsPartRefusal, told};
 ghost use Rattle.vcd_text.specs.inside.Words.{has_complete_words};
-ghost use Rattle.vcd_text.specs.LentWords.{line_feeds_in};
+ghost use Rattle.vcd_text.specs.LineFeeds.{line_feeds_in};
 ghost use Rattle.vcd_text.specs.inside.reading.Part.{Asked, undriven};
 ghost use Rattle.vcd_text.specs.inside.reading.Variables.{VariablesMatch};
 ghost use Rattle.vcd_text.specs.inside.reading.Parser.{HasTakenWords, BeginsPart, is_complete};

@@ -27,7 +27,7 @@ use Rattle.vcd_text.specs.Faults.{IsPrefixAnswer}
 use Rattle.vcd_text.specs.Refusals.{IsRefusal, has_fault, too_large, no_memory}
 use Rattle.vcd_text.specs.MemoryErrors.{memory_error}
 use Rattle.vcd_text.specs.inside.Words.{has_complete_words}
-use Rattle.vcd_text.specs.LentWords.{line_feeds_in}
+use Rattle.vcd_text.specs.LineFeeds.{line_feeds_in}
 use Rattle.vcd_text.specs.inside.reading.Parser.{HasTakenWords}
 use Rattle.vcd_text.specs.inside.reading.FileReader.{HasTaken, HasUntakenChunk, HasReadBytes}
 use Rattle.vcd_text.proofs.reading.file_reader.PrefixResults.{larger, failing}

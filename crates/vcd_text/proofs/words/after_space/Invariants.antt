@@ -1,6 +1,6 @@
 use Rattle.std.proofs.Common.{◌≡◌, ◌+◌, ◌≤◌, Bool, [], length}
 use Rattle.vcd_text.specs.Words.{words_from}
-use Rattle.vcd_text.specs.LentWords.{line_feeds_in}
+use Rattle.vcd_text.specs.LineFeeds.{line_feeds_in}
 use Rattle.vcd_text.proofs.words.after_space.Given as goal
 
 abbrev pub invariant-loop-byte : goal.invariant-loop-byte

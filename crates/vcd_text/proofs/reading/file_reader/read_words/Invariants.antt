@@ -2,7 +2,7 @@ use Rattle.std.proofs.Common.{◌≡◌, ◌+◌, List, ◌++◌, length}
 use Rattle.vcd_text.specs.Words.{WordOnLine}
 use Rattle.vcd_text.specs.inside.reading.Choice.{HasTakenFrom}
 use Rattle.vcd_text.specs.LentWords.{words_left}
-use Rattle.vcd_text.specs.LentWords.{line_feeds_in}
+use Rattle.vcd_text.specs.LineFeeds.{line_feeds_in}
 use Rattle.vcd_text.proofs.reading.file_reader.read_words.Given as goal
 
 abbrev pub invariant-loop-word : goal.invariant-loop-word
