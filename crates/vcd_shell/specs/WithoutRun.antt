@@ -1,5 +1,5 @@
 -- What words of the command line get that ask for no run: the project's own.
-use Rattle.std.specs.Prelude.{◌≡◌, ◌⊎◌, ℕ, Bool, true, false}
+use Rattle.std.specs.Prelude.{◌≡◌, ◌≢◌, ◌⊎◌, ℕ, Bool, true, false}
 use Rattle.clap.specs.Words.{Kinds, IsAmong}
 use Rattle.clap.specs.declared.error.kind.ErrorKind.{ErrorKind}
 use Rattle.clap.specs.declared.error.kind.ErrorKind.TheVariants.{DisplayHelp, DisplayVersion}
@@ -19,7 +19,7 @@ asks_for_text _ = false
 abbrev pub IsWithoutRun : ErrorKind → WithoutRun → Type 0
 IsWithoutRun kind Shown = asks_for_text kind ≡ true
 IsWithoutRun kind (NotShown written) = asks_for_text kind ≡ true
-IsWithoutRun kind (Refused text) = asks_for_text kind ≡ false
+IsWithoutRun kind (Refused text) = (asks_for_text kind ≡ false) × (kind ≢ OutOfMemory)
 IsWithoutRun kind NoMemory = Unit {0}
 
 -- words with these faults get this, for one of them; asking for help or the version is one

@@ -6,7 +6,6 @@ use Rattle.std.specs.Prelude.{take, Option, Some}
 use Rattle.std.specs.Prelude.{◌^◌, None, Result, Ok, Err, IfSome, IsSomeAnd}
 use Rattle.std.specs.List.{concat}
 use Rattle.std.specs.Borrow.{MutBor}
-use Rattle.std.specs.Io.KnownBytes.{Keeps}
 use Rattle.vcd_core.specs.Contents.{Contents}
 use Rattle.vcd_text.specs.Meaning.{FileMeans}
 use Rattle.vcd_text.specs.Refusals.{IsRefusal, IsOnlyRefusal}
@@ -105,7 +104,7 @@ module _ (depth : ℕ) (capture script : DeviceEnd) where
     -- memory ran out for the output: all replies are written, and none of the output
     RunEnds (Err (Write write_errors.NoMemory)) = IsAccepted capture × IsRead SCRIPT_LIMIT script
         × (replies.has_failed ≡ false)
-        × IsSomeAnd output (λ out. Keeps out.before out.after × (out.has_failed ≡ false))
+        × IsSomeAnd output IsUntouched
         × ForRun (λ written. HasText replies (concat written.replies))
     -- the writer of the output failed: it took exactly `count` bytes of the output, if a `u128` can
     -- count these; all replies are written
