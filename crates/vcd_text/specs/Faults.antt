@@ -64,7 +64,8 @@ fault_line true [] word = word.line
 fault_line true (first ∷ begun) word = first.line
 
 -- a word shows this fault, at this line; `whole` are the words of the items before it
-pub record ShowsFault (words : List WordOnLine) (line : ℕ) (fault : Fault) : Type 0 where
+pub record ShowsFault (limit : ℕ) (words : List WordOnLine) (line : ℕ) (fault : Fault)
+    : Type 0 where
   pub items : List Item
   pub whole : List WordOnLine
   pub begun : List WordOnLine
@@ -72,25 +73,27 @@ pub record ShowsFault (words : List WordOnLine) (line : ℕ) (fault : Fault) : T
   pub more : List WordOnLine
   pub parts : words ≡ whole ++ (begun ++ word ∷ more)
   pub spelled : word_texts whole ≡ spellings items
-  pub allowed : AllowsAll initial_state items
-  pub decided : WordShows (state_after initial_state items) (word_texts begun) word.text fault
-  pub at : line ≡ fault_line (state_after initial_state items).in_body begun word
+  pub allowed : AllowsAll (initial_state limit) items
+  pub decided : WordShows (state_after (initial_state limit) items) (word_texts begun) word.text
+      fault
+  pub at : line ≡ fault_line (state_after (initial_state limit) items).in_body begun word
 
 -- the fault of a file with these words: the one that a word shows; if none shows one, `otherwise`
 -- at the last line (where the file only ends too early: law `has_an_answer`)
-pub data HasFault (words : List WordOnLine) (last : ℕ) (otherwise : Fault) (line : ℕ)
+pub data HasFault (limit : ℕ) (words : List WordOnLine) (last : ℕ) (otherwise : Fault) (line : ℕ)
     (fault : Fault) : Type 0 where
-  shown : ShowsFault words line fault → HasFault words last otherwise line fault
-  none_shown : ((at : ℕ) (other : Fault) → ShowsFault words at other → ⊥) → line ≡ last
-      → fault ≡ otherwise → HasFault words last otherwise line fault
+  shown : ShowsFault limit words line fault → HasFault limit words last otherwise line fault
+  none_shown : ((at : ℕ) (other : Fault) → ShowsFault limit words at other → ⊥) → line ≡ last
+      → fault ≡ otherwise → HasFault limit words last otherwise line fault
 
 -- only this prefix of a file was read, for this reason: the fault of its complete words, or the
 -- reason at its last line
-abbrev pub IsPrefixAnswer : (prefix : List ℕ) → (reason : Fault) → ReadError → Type 0
-IsPrefixAnswer prefix reason e =
-    HasFault (complete_words prefix) (last_line prefix) reason e.line e.fault
+abbrev pub IsPrefixAnswer : ℕ → (prefix : List ℕ) → (reason : Fault) → ReadError → Type 0
+IsPrefixAnswer limit prefix reason e =
+    HasFault limit (complete_words prefix) (last_line prefix) reason e.line e.fault
 
 -- the file has no meaning, and this fault, at this line
-abbrev pub IsFileFault : List ℕ → ℕ → Fault → Type 0
-IsFileFault bytes line fault = ((c : Contents) (skipped : ℕ) → FileMeans bytes c skipped → ⊥)
-    × HasFault (words_of bytes) (last_line bytes) Truncated line fault
+abbrev pub IsFileFault : ℕ → List ℕ → ℕ → Fault → Type 0
+IsFileFault limit bytes line fault =
+    ((c : Contents) (skipped : ℕ) → FileMeans limit bytes c skipped → ⊥)
+    × HasFault limit (words_of bytes) (last_line bytes) Truncated line fault

@@ -16,24 +16,24 @@ IsUnfinished c begun = IsTrue (not c.in_body || nat_lt 0 (length begun))
     × ((next : List ℕ) × GoesOn c begun next)
 
 -- the words end too early, and no word shows a fault
-pub record Stops (words : List WordOnLine) : Type 0 where
+pub record Stops (limit : ℕ) (words : List WordOnLine) : Type 0 where
   pub items : List Item
   pub begun : List (List ℕ)
   pub spelled : word_texts words ≡ spellings items ++ begun
-  pub allowed : AllowsAll initial_state items
-  pub unfinished : IsUnfinished (state_after initial_state items) begun
+  pub allowed : AllowsAll (initial_state limit) items
+  pub unfinished : IsUnfinished (state_after (initial_state limit) items) begun
 
 -- the fault of a file, at this line: a word shows it, or the words end too early
-pub data IsFoundFault (bytes : List ℕ) (line : ℕ) (fault : Fault) : Type 0 where
-  word_shows : ShowsFault (words_of bytes) line fault → IsFoundFault bytes line fault
-  too_early : Stops (words_of bytes) → line ≡ last_line bytes → fault ≡ Truncated
-      → IsFoundFault bytes line fault
+pub data IsFoundFault (limit : ℕ) (bytes : List ℕ) (line : ℕ) (fault : Fault) : Type 0 where
+  word_shows : ShowsFault limit (words_of bytes) line fault → IsFoundFault limit bytes line fault
+  too_early : Stops limit (words_of bytes) → line ≡ last_line bytes → fault ≡ Truncated
+      → IsFoundFault limit bytes line fault
 
 -- a complete word of this prefix of a file shows this fault, at this line, whatever follows the
 -- prefix
-abbrev pub PrefixShows : List ℕ → ℕ → Fault → Type 0
-PrefixShows bytes line fault = ShowsFault (complete_words bytes) line fault
+abbrev pub PrefixShows : ℕ → List ℕ → ℕ → Fault → Type 0
+PrefixShows limit bytes line fault = ShowsFault limit (complete_words bytes) line fault
 
 -- no complete word of this prefix shows a fault
-abbrev pub PrefixShowsNone : List ℕ → Type 0
-PrefixShowsNone bytes = (line : ℕ) (fault : Fault) → PrefixShows bytes line fault → ⊥
+abbrev pub PrefixShowsNone : ℕ → List ℕ → Type 0
+PrefixShowsNone limit bytes = (line : ℕ) (fault : Fault) → PrefixShows limit bytes line fault → ⊥

@@ -11,7 +11,7 @@ use Rattle.vcd_core.specs.declared.capture.Header.{Header}
 use Rattle.vcd_core.specs.declared.capture.Timescale.{Timescale}
 use Rattle.vcd_core.specs.declared.capture.ScopeName.{ScopeName}
 use Rattle.vcd_core.specs.declared.value.TheConstants.{WIDTH_LIMIT}
-use Rattle.vcd_core.specs.declared.capture.TheConstants.{END_LIMIT, SIGNAL_LIMIT}
+use Rattle.vcd_core.specs.declared.capture.TheConstants.{END_LIMIT}
 use Rattle.vcd_core.specs.Word.{is_skipped_kind, is_one_of}
 use Rattle.vcd_core.specs.Tests.{Test, ◌unless◌, first_fault}
 use Rattle.vcd_text.specs.declared.fault.Fault.{Fault}
@@ -45,7 +45,7 @@ pub record ValueChange : Type 0 where
   pub letters : List Bit
 
 -- the state after the items so far: the open scopes, outermost first; the last stamp, or 0; whether
--- `$enddefinitions $end` has come
+-- `$enddefinitions $end` has come; the most variables that may be kept
 pub record ParseState : Type 0 where
   pub header : List Header
   pub timescale : Option Timescale
@@ -54,10 +54,11 @@ pub record ParseState : Type 0 where
   pub in_body : Bool
   pub value_changes : List ValueChange
   pub tick : ℕ
+  pub limit : ℕ
 
 -- the state before the first item
-abbrev pub initial_state : ParseState
-initial_state =
+abbrev pub initial_state : ℕ → ParseState
+initial_state limit =
     record {
       header = [];
       timescale = None;
@@ -66,6 +67,7 @@ initial_state =
       in_body = false;
       value_changes = [];
       tick = 0;
+      limit = limit;
     }
 
 -- ---- variables
@@ -109,9 +111,9 @@ may_have_code (Some a) b =
     (is_skipped a && is_skipped b)
     || (not (is_skipped a) && not (is_skipped b) && (a.size == b.size))
 
--- whether a variable is skipped, or the signals are below their limit
-abbrev pub is_within_limit : List VariableDeclaration → VariableDeclaration → Bool
-is_within_limit declared d = is_skipped d || nat_lt (length (kept_variables declared)) SIGNAL_LIMIT
+-- whether a variable is skipped, or those that are kept are below their limit
+abbrev pub is_within_limit : (limit : ℕ) → List VariableDeclaration → VariableDeclaration → Bool
+is_within_limit limit declared d = is_skipped d || nat_lt (length (kept_variables declared)) limit
 
 -- ---- the conditions of an item
 
@@ -136,7 +138,7 @@ abbrev pub variable_tests : ParseState → Option VariableDeclaration → List (
 variable_tests c None = (BadVar unless false) ∷ []
 variable_tests c (Some d) =
     (MixedCode unless may_have_code (variable_of c d.code) d)
-    ∷ (TooManySignals unless is_within_limit c.declared d)
+    ∷ (TooManySignals unless is_within_limit c.limit c.declared d)
     ∷ []
 
 -- the tests of digits for the variable of a code: a skipped one takes any, a kept one a value that
@@ -218,9 +220,9 @@ word_texts words = map (λ word. word.text) words
 
 -- the words are accepted with this state: they spell items, with `$enddefinitions $end` among them,
 -- whose conditions hold
-pub record Accepts (words : List WordOnLine) (state : ParseState) : Type 0 where
+pub record Accepts (limit : ℕ) (words : List WordOnLine) (state : ParseState) : Type 0 where
   pub items : List Item
   pub spelled : word_texts words ≡ spellings items
-  pub allowed : AllowsAll initial_state items
-  pub state_is : state_after initial_state items ≡ state
+  pub allowed : AllowsAll (initial_state limit) items
+  pub state_is : state_after (initial_state limit) items ≡ state
   pub definitions_ended : IsTrue state.in_body

@@ -39,8 +39,8 @@ meaning c = record {
 }
 
 -- the file is accepted and means these contents, with this number of skipped variables
-pub record FileMeans (bytes : List ℕ) (contents : Contents) (skipped : ℕ) : Type 0 where
+pub record FileMeans (limit : ℕ) (bytes : List ℕ) (contents : Contents) (skipped : ℕ) : Type 0 where
   pub state : ParseState
-  pub accepted : Accepts (words_of bytes) state
+  pub accepted : Accepts limit (words_of bytes) state
   pub means : contents ≡ meaning state
   pub left_out : skipped ≡ count_by is_skipped state.declared

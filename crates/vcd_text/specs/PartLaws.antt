@@ -2,7 +2,6 @@
 use Rattle.std.specs.Prelude.{◌≡◌, ◌+◌, ◌-◌, ◌≤◌, min, Bool, true, ◌&&◌, All}
 use Rattle.vcd_core.specs.Contents.{Contents, SignalContents}
 use Rattle.vcd_core.specs.Sound.{IsSoundSignal}
-use Rattle.vcd_core.specs.declared.capture.TheConstants.{END_LIMIT}
 use Rattle.vcd_text.specs.declared.reading.choice.TickRange.{TickRange}
 use Rattle.vcd_text.specs.Parts.{part_of}
 

@@ -51,10 +51,11 @@ abbrev pub told : {C : Type 0} → ChoiceAnswers C → (old new : C) → Answers
 told answers old new timescale signals answer = answers old timescale signals answer new
 
 -- the file is accepted, and what is loaded is this part of what it means
-pub record PartMeans (takes : SignalContents → Bool) (answers : Answers) (bytes : List ℕ)
+pub record PartMeans (limit : ℕ) (takes : SignalContents → Bool) (answers : Answers)
+    (bytes : List ℕ)
     (loaded : Loaded) : Type 0 where
   pub whole : Contents
-  pub means : FileMeans bytes whole loaded.skipped
+  pub means : FileMeans limit bytes whole loaded.skipped
   pub ticks : TickRange
   pub answered : answers whole.timescale (map without_changes whole.signals) (Some ticks)
   pub is : contents loaded.capture ≡ part_of takes ticks whole
@@ -65,15 +66,16 @@ pub record PartMeans (takes : SignalContents → Bool) (answers : Answers) (byte
 
 -- the words begin with declarations that are accepted with this state, up to `$enddefinitions $end`
 -- on this line
-pub record HasDeclarations (words : List WordOnLine) (line : ℕ) (state : ParseState) : Type 0 where
+pub record HasDeclarations (limit : ℕ) (words : List WordOnLine) (line : ℕ) (state : ParseState) :
+    Type 0 where
   pub items : List Item
   pub before : List WordOnLine
   pub last : WordOnLine
   pub more : List WordOnLine
   pub parts : words ≡ before ++ last ∷ more
   pub spelled : word_texts (before ++ last ∷ []) ≡ spellings (items ++ end_definitions ∷ [])
-  pub allowed : AllowsAll initial_state (items ++ end_definitions ∷ [])
-  pub state_is : state_after initial_state (items ++ end_definitions ∷ []) ≡ state
+  pub allowed : AllowsAll (initial_state limit) (items ++ end_definitions ∷ [])
+  pub state_is : state_after (initial_state limit) (items ++ end_definitions ∷ []) ≡ state
   pub at : line ≡ last.line
 
 -- the signals of a state as they are declared
@@ -82,17 +84,19 @@ signals_of c = map without_changes (meaning c).signals
 
 -- why no part is read of a file with these words: its declarations are accepted, but more signals
 -- remain than a capture can have, or the choice does not answer
-pub data RefusesPart (takes : SignalContents → Bool) (answers : Answers) (words : List WordOnLine)
+pub data RefusesPart (limit : ℕ) (takes : SignalContents → Bool) (answers : Answers)
+    (words : List WordOnLine)
     (e : ReadError) : Type 0 where
-  too_many_remain : (c : ParseState) → HasDeclarations words e.line c
+  too_many_remain : (c : ParseState) → HasDeclarations limit words e.line c
       → SIGNAL_LIMIT < length (filter takes (signals_of c)) → e.fault ≡ faults.TooManyRemain
-      → RefusesPart takes answers words e
-  declined : (c : ParseState) → HasDeclarations words e.line c
+      → RefusesPart limit takes answers words e
+  declined : (c : ParseState) → HasDeclarations limit words e.line c
       → answers c.timescale (signals_of c) None → e.fault ≡ faults.Declined
-      → RefusesPart takes answers words e
+      → RefusesPart limit takes answers words e
 
 -- the fault of reading a part of a file: one of reading the file, or no part of it is read
-abbrev pub IsPartRefusal : (takes : SignalContents → Bool) → Answers → (file : List ℕ)
+abbrev pub IsPartRefusal : (limit most : ℕ) → (takes : SignalContents → Bool) → Answers
+    → (file : List ℕ)
     → (failed : Bool) → (left : Option (List ℕ)) → ReadError → Type 0
-IsPartRefusal takes answers file failed left e =
-    IsRefusal file failed left e ⊎ RefusesPart takes answers (words_of file) e
+IsPartRefusal limit most takes answers file failed left e =
+    IsRefusal limit most file failed left e ⊎ RefusesPart limit takes answers (words_of file) e

@@ -20,8 +20,8 @@ pub use laws::{
     prefix_has_one_fault, text_is_read_back,
 };
 pub use reading::{
-    Choice, Declarations, DeclaredSignal, FILE_LIMIT, Loaded, TickRange, read, read_part,
-    value_of_digits,
+    Choice, Declarations, DeclaredSignal, FILE_LIMIT, LONG_FILE_LIMIT, Loaded, TickRange,
+    VARIABLE_LIMIT, read, read_part, value_of_digits,
 };
 pub use words::{WordOnLine, Words};
 pub use writing::write;

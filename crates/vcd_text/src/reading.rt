@@ -3,7 +3,8 @@
 //! The file comes in chunks. A `Parser` takes its words one after another. Every step follows the
 //! grammar. The parser holds the state after the whole items, and the words of the open item.
 
-ghost use Rattle.std.specs.Prelude.{◌≡◌, ◌≤◌, true, false, length, IfOk, IfErr, IfSome, OnOk};
+ghost use Rattle.std.specs.Prelude.{◌≡◌, ◌<◌, ◌≤◌, ◌^◌, true, false, length, IfOk, IfErr, IfSome};
+ghost use Rattle.std.specs.Prelude.{OnOk};
 ghost use Rattle.std.specs.Io.KnownBytes.{IsAtEnd};
 ghost use Rattle.vcd_core.specs.CaptureContents.{contents};
 ghost use Rattle.vcd_core.specs.Sound.{IsSound};
@@ -38,10 +39,16 @@ pub use binary_number::value_of_digits;
 pub use choice::{Choice, TickRange};
 pub use declared_signals::{Declarations, DeclaredSignal};
 use std::alloc::Global;
-use vcd_core::{Capture, Source};
+use vcd_core::{Capture, SIGNAL_LIMIT, Source};
 
 /// The greatest size of a capture file, in bytes: 4 GiB.
 pub const FILE_LIMIT: usize = 4_294_967_296;
+
+/// The greatest number of kept variables of a file of which a part is read.
+pub const VARIABLE_LIMIT: u32 = 4_294_967_295;
+
+/// The greatest size of a file of which a part is read, in bytes: 4 EiB, less one byte.
+pub const LONG_FILE_LIMIT: usize = 4_611_686_018_427_387_903;
 
 /// What a file gives.
 #[derive(Drop)]
@@ -77,19 +84,20 @@ pub struct Loaded {
 pub fn read<R: Source>(alloc: Global, reader: &mut R) -> Result<Loaded, ReadError>
     requires ready { R.has_failed reader.old ≡ false }
     ensures means { IfOk result (λ loaded. IfSome (R.coming reader.old) (λ file.
-        (length file ≤ FILE_LIMIT) × FileMeans file (contents loaded.capture) loaded.skipped)) }
+        (length file ≤ FILE_LIMIT) × FileMeans SIGNAL_LIMIT file (contents loaded.capture)
+        loaded.skipped)) }
     ensures sound { IfOk result (λ loaded. IsSound (contents loaded.capture)) }
     ensures not_failed { OnOk result (R.has_failed reader.new ≡ false) }
     ensures ended { OnOk result (IsAtEnd (R.coming reader.new)) }
     ensures refused { IfErr result (λ e. IfSome (R.coming reader.old) (λ file.
-        IsRefusal file (R.has_failed reader.new) (R.coming reader.new) e)) }
+        IsRefusal SIGNAL_LIMIT FILE_LIMIT file (R.has_failed reader.new) (R.coming reader.new) e)) }
     ensures failed { IfErr result (λ e. e.fault ≡ Fault.ReadFault →
         R.has_failed reader.new ≡ true) }
     ensures too_large { IfErr result (λ e. e.fault ≡ Fault.TooLarge →
         R.has_failed reader.new ≡ false) }
 {
     let mut whole = Whole;
-    read_part(alloc, reader, &mut whole)
+    read_within(alloc, reader, &mut whole, SIGNAL_LIMIT as u32, FILE_LIMIT)
 }
 
 /// Reads a part of a capture file, which a choice takes of the signals and ticks that the file
@@ -109,20 +117,49 @@ pub fn read_part<R: Source, C: Choice>(
 ) -> Result<Loaded, ReadError>
     requires ready { R.has_failed reader.old ≡ false }
     ensures means { IfOk result (λ loaded. IfSome (R.coming reader.old) (λ file.
-        (length file ≤ FILE_LIMIT) ×
-        PartMeans (C.takes choice.old) (told C.answers choice.old choice.new) file loaded)) }
+        (length file ≤ LONG_FILE_LIMIT) ×
+        PartMeans VARIABLE_LIMIT (C.takes choice.old) (told C.answers choice.old choice.new) file
+        loaded)) }
     ensures sound { IfOk result (λ loaded. IsSound (contents loaded.capture)) }
     ensures not_failed { OnOk result (R.has_failed reader.new ≡ false) }
     ensures ended { OnOk result (IsAtEnd (R.coming reader.new)) }
     ensures refused { IfErr result (λ e. IfSome (R.coming reader.old) (λ file.
-        IsPartRefusal (C.takes choice.old) (told C.answers choice.old choice.new) file
+        IsPartRefusal VARIABLE_LIMIT LONG_FILE_LIMIT (C.takes choice.old)
+        (told C.answers choice.old choice.new) file
         (R.has_failed reader.new) (R.coming reader.new) e)) }
     ensures failed { IfErr result (λ e. e.fault ≡ Fault.ReadFault →
         R.has_failed reader.new ≡ true) }
     ensures too_large { IfErr result (λ e. e.fault ≡ Fault.TooLarge →
         R.has_failed reader.new ≡ false) }
 {
-    let mut progress = FileReader::new(alloc);
+    read_within(alloc, reader, choice, VARIABLE_LIMIT, LONG_FILE_LIMIT)
+}
+
+/// Reads a part of a capture file with at most `limit` kept variables, and at most `most` bytes.
+fn read_within<R: Source, C: Choice>(
+    alloc: Global,
+    reader: &mut R,
+    choice: &mut C,
+    limit: u32,
+    most: usize,
+) -> Result<Loaded, ReadError>
+    requires small { most < 2 ^ 62 }
+    requires ready { R.has_failed reader.old ≡ false }
+    ensures means { IfOk result (λ loaded. IfSome (R.coming reader.old) (λ file.
+        (length file ≤ most) ×
+        PartMeans limit (C.takes choice.old) (told C.answers choice.old choice.new) file loaded)) }
+    ensures sound { IfOk result (λ loaded. IsSound (contents loaded.capture)) }
+    ensures not_failed { OnOk result (R.has_failed reader.new ≡ false) }
+    ensures ended { OnOk result (IsAtEnd (R.coming reader.new)) }
+    ensures refused { IfErr result (λ e. IfSome (R.coming reader.old) (λ file.
+        IsPartRefusal limit most (C.takes choice.old) (told C.answers choice.old choice.new) file
+        (R.has_failed reader.new) (R.coming reader.new) e)) }
+    ensures failed { IfErr result (λ e. e.fault ≡ Fault.ReadFault →
+        R.has_failed reader.new ≡ true) }
+    ensures too_large { IfErr result (λ e. e.fault ≡ Fault.TooLarge →
+        R.has_failed reader.new ≡ false) }
+{
+    let mut progress = FileReader::new(alloc, limit, most);
     while progress.take_chunk(alloc, reader, choice)? {}
     progress.finish(alloc, choice)
 }

@@ -1,6 +1,7 @@
 -- Laws of runs, said of the files' bytes: the contracts of the functions of `laws`.
 use Rattle.std.specs.Prelude.{◌≡◌, ℕ, ◌-◌, ◌<◌, ◌≤◌, List, length, Result, Ok, Err}
 use Rattle.vcd_core.specs.Contents.{Contents}
+use Rattle.vcd_core.specs.declared.capture.TheConstants.{SIGNAL_LIMIT}
 use Rattle.vcd_text.specs.Meaning.{FileMeans}
 use Rattle.vcd_text.specs.Text.{text}
 use Rattle.vcd_edit.specs.declared.edit.Edit.TheVariants.{Cut}
@@ -17,8 +18,8 @@ use Rattle.vcdedit.specs.RunOnBytes.{RunGives}
 abbrev pub CutFileIsReadAgain : Type 0
 CutFileIsReadAgain =
     (file : List ℕ) (c d : Contents) (skipped left_out from k t : ℕ)
-    → FileMeans file c skipped → 0 < from → from ≤ c.end
-    → FileMeans (text (effect (Cut 0 from) c)) d left_out
+    → FileMeans SIGNAL_LIMIT file c skipped → 0 < from → from ≤ c.end
+    → FileMeans SIGNAL_LIMIT (text (effect (Cut 0 from) c)) d left_out
     → k < length c.signals → from ≤ t → t ≤ c.end
     → value_of d k (t - from) ≡ value_of c k t
 

@@ -5,6 +5,7 @@ use Rattle.std.specs.Prelude.{get_or, map, fold, count_by, Result, Ok, is_err}
 use Rattle.std.specs.List.{enumerate_from}
 use Rattle.vcd_core.specs.Contents.{Contents}
 use Rattle.vcd_core.specs.Sound.{IsSound}
+use Rattle.vcd_core.specs.declared.capture.TheConstants.{SIGNAL_LIMIT}
 use Rattle.vcd_text.specs.Meaning.{FileMeans}
 use Rattle.vcd_text.specs.Text.{text}
 use Rattle.vcd_edit.specs.declared.edit.Edit.{Edit}
@@ -102,17 +103,17 @@ module _ (c : Contents) (skipped depth : ℕ) (lines : List (List ℕ)) where
         × ((history_at number).edits ≡ (history_at (i - 1)).edits)
         × (capture_at number ≡ capture_at (i - 1))
     -- the output, read again, means the last capture, with nothing left out
-    pub read_again : FileMeans outcome.output (capture_at (length lines)) 0
+    pub read_again : FileMeans SIGNAL_LIMIT outcome.output (capture_at (length lines)) 0
     -- the output means nothing else
-    pub nothing_else : (d : Contents) (count : ℕ) → FileMeans outcome.output d count
+    pub nothing_else : (d : Contents) (count : ℕ) → FileMeans SIGNAL_LIMIT outcome.output d count
         → (d ≡ capture_at (length lines)) × (count ≡ 0)
 
 -- what is written if the lines of a script are run on what a capture file means
 pub record IsRun (file script : List ℕ) (depth : ℕ) (written : RunOutcome) : Type 0 where
   pub contents : Contents
   pub skipped : ℕ
-  pub means : FileMeans file contents skipped
+  pub means : FileMeans SIGNAL_LIMIT file contents skipped
   -- the file means nothing else
-  pub only : (d : Contents) (count : ℕ) → FileMeans file d count
+  pub only : (d : Contents) (count : ℕ) → FileMeans SIGNAL_LIMIT file d count
       → (d ≡ contents) × (count ≡ skipped)
   pub run : written ≡ outcome contents skipped depth (script_lines script)

@@ -7,6 +7,7 @@ use Rattle.std.specs.Prelude.{◌^◌, None, Result, Ok, Err, IfSome, IsSomeAnd}
 use Rattle.std.specs.List.{concat}
 use Rattle.std.specs.Borrow.{MutBor}
 use Rattle.vcd_core.specs.Contents.{Contents}
+use Rattle.vcd_core.specs.declared.capture.TheConstants.{SIGNAL_LIMIT}
 use Rattle.vcd_text.specs.Meaning.{FileMeans}
 use Rattle.vcd_text.specs.Refusals.{IsRefusal, IsOnlyRefusal}
 use Rattle.vcd_text.specs.declared.fault.Fault.TheVariants as faults
@@ -27,7 +28,8 @@ use Rattle.vcdedit.specs.Run.{RunOutcome, IsRun}
 -- the capture read is within the limit and has a meaning
 abbrev pub IsAccepted : DeviceEnd → Type 0
 IsAccepted r = IsRead FILE_LIMIT r
-    × IfSome r.before (λ file. (c : Contents) × (skipped : ℕ) × FileMeans file c skipped)
+    × IfSome r.before (λ file. (c : Contents) × (skipped : ℕ)
+    × FileMeans SIGNAL_LIMIT file c skipped)
 
 -- an `Option<&mut D>` as a call gives it back: none, one, or (never) a third variant
 abbrev pub Returned : Type 0 → Type 0
@@ -80,8 +82,9 @@ module _ (depth : ℕ) (capture script : DeviceEnd) where
         × IfSome output (λ out. HasText out written.output) × (summary.refused ≡ written.refused))
     -- the capture is refused for a fault, its length, its source or memory: the script is unread
     RunEnds (Err (Capture e)) =
-        IfSome capture.before (λ file. IsRefusal file capture.has_failed capture.after e
-        × IsOnlyRefusal file capture.has_failed capture.after e)
+        IfSome capture.before (λ file. IsRefusal SIGNAL_LIMIT FILE_LIMIT file capture.has_failed
+        capture.after e
+        × IsOnlyRefusal SIGNAL_LIMIT FILE_LIMIT file capture.has_failed capture.after e)
         × (e.fault ≡ faults.ReadFault → capture.has_failed ≡ true)
         × (e.fault ≡ faults.TooLarge → capture.has_failed ≡ false)
         × IsUntouched script × IsUnwritten

@@ -4,6 +4,7 @@ use Rattle.std.specs.Prelude.{◌≡◌, ◌<◌, ◌≤◌, ℕ, zero, suc, Lis
 use Rattle.std.specs.Prelude.{Err}
 use Rattle.std.specs.List.{concat}
 use Rattle.vcd_core.specs.Contents.{Contents}
+use Rattle.vcd_core.specs.declared.capture.TheConstants.{SIGNAL_LIMIT}
 use Rattle.vcd_text.specs.Faults.{IsFileFault, IsPrefixAnswer}
 use Rattle.vcd_text.specs.Meaning.{FileMeans}
 use Rattle.vcd_text.specs.declared.fault.Fault.TheVariants as faults
@@ -21,13 +22,15 @@ use Rattle.vcdedit.specs.Run.{RunOutcome, IsRun}
 
 -- why a capture file is refused: for its fault, or its length
 pub data IsRefusedFile (file : List ℕ) (e : ReadError) : Type 0 where
-  has_fault : length file ≤ FILE_LIMIT → IsFileFault file e.line e.fault → IsRefusedFile file e
-  too_large : FILE_LIMIT < length file → IsPrefixAnswer (take FILE_LIMIT file) faults.TooLarge e
+  has_fault : length file ≤ FILE_LIMIT → IsFileFault SIGNAL_LIMIT file e.line e.fault →
+      IsRefusedFile file e
+  too_large : FILE_LIMIT < length file → IsPrefixAnswer SIGNAL_LIMIT (take FILE_LIMIT file)
+      faults.TooLarge e
       → IsRefusedFile file e
 
 -- the capture file has a meaning
 abbrev pub HasMeaning : (file : List ℕ) → Type 0
-HasMeaning file = (c : Contents) × (skipped : ℕ) × FileMeans file c skipped
+HasMeaning file = (c : Contents) × (skipped : ℕ) × FileMeans SIGNAL_LIMIT file c skipped
 
 -- both files are within their limits, and a run of them writes this
 abbrev pub IsRunWithin : (file script : List ℕ) → (depth : ℕ) → RunOutcome → Type 0

@@ -4,11 +4,11 @@ ghost use Rattle.std.specs.Prelude.{◌≡◌};
 
 use super::PIECES;
 use crate::fake_devices::{FakeReader, source_of};
-use crate::fixtures::{check_holds, file_of, text_of};
+use crate::fixtures::{append_copies, check_holds, file_of, text_of};
 use std::alloc::Global;
 use std::process::Abort;
 use std::test::Fail;
-use vcd_core::{NoMemory, Timescale};
+use vcd_core::{NoMemory, SIGNAL_LIMIT, Timescale};
 use vcd_text::{Choice, Declarations, DeclaredSignal, TickRange, read_part};
 
 /// The signals of one kind, at some ticks.
@@ -62,8 +62,8 @@ b01 ! b1 \" b1 # #2 b10 ! b0 \" #4 b11 ! bz1 \" #6 b10 ! #8 b0 \" b0 # b01 ! #9 
 $var reg 2 ! a $end|$var reg 70 \" b $end|$enddefinitions $end|#0|$dumpvars|b10 !|bz1 \"|$end|#2|\
 b1 !|b0 \"|#3|
 -- no signal of the kind
-tri 0 5: $var wire 1 ! a $end $enddefinitions $end #3 1! #9 => 9 1 $enddefinitions $end|#0|\
-$dumpvars|$end|#5|
+tri 0 5: $var wire 1 ! a $end $enddefinitions $end #3 1! #9 => 9 1 \
+$enddefinitions $end|#0|$dumpvars|$end|#5|
 -- a first tick past the end, one past the last one, and the end as the first one
 wire 20 30: $var wire 1 ! a $end $enddefinitions $end #3 1! #9 0! => 9 1 $var wire 1 ! a $end|\
 $enddefinitions $end|#0|$dumpvars|0!|$end|
@@ -113,21 +113,35 @@ fn answer_of(
     }
 }
 
+/// Stops unless a file has this answer for the signals of a kind at some ticks.
+fn check_answer(
+    rt: &impl Abort,
+    alloc: Global,
+    file: &[u8],
+    piece: usize,
+    asked: (&str, Option<TickRange>),
+    answer: &str,
+) -> Result<(), Fail> {
+    let (kind, ticks) = asked;
+    let mut choice = OfKind {
+        kind: kind.as_bytes(),
+        ticks,
+    };
+    let found = answer_of(alloc, file, piece, &mut choice)?;
+    let wanted = file_of(alloc, answer)?;
+    check_holds(rt, found.as_bytes() == wanted.as_slice(), answer);
+    Ok(())
+}
+
 /// Stops unless a row's file has its part.
 fn check_part(rt: &impl Abort, alloc: Global, row: &str) -> Result<(), Fail> {
     let (asked, texts) = row.split_once(": ").ok_or("no kind")?;
     let (kind, ticks) = asked.split_once(' ').ok_or("no ticks")?;
     let (file, answer) = texts.split_once(" => ").ok_or("no text")?;
     let file = file_of(alloc, file)?;
-    let answer = file_of(alloc, answer)?;
     let ticks = ticks_of(ticks)?;
     for piece in PIECES {
-        let mut choice = OfKind {
-            kind: kind.as_bytes(),
-            ticks,
-        };
-        let found = answer_of(alloc, file.as_slice(), piece, &mut choice)?;
-        check_holds(rt, found.as_bytes() == answer.as_slice(), row);
+        check_answer(rt, alloc, file.as_slice(), piece, (kind, ticks), answer)?;
     }
     Ok(())
 }
@@ -140,4 +154,23 @@ fn parts_of_files(rt: HostRuntime) -> Result<(), Fail> {
         }
     }
     Ok(())
+}
+
+#[test]
+fn more_signals_than_a_capture_may_have(rt: HostRuntime) -> Result<(), Fail> {
+    let mut file = Vec::new(rt.alloc());
+    append_copies(&mut file, b"$var wire 1 ! a $end\n", SIGNAL_LIMIT + 1)?;
+    file.extend_from_slice(b"$var reg 1 ! b $end\n$enddefinitions $end\n1!")?;
+    let all = Some(TickRange { first: 0, last: 9 });
+    let refused = "65539 TooManyRemain";
+    check_answer(
+        &rt,
+        rt.alloc(),
+        file.as_slice(),
+        4096,
+        ("wire", all),
+        refused,
+    )?;
+    let one = "0 65538 $var reg 1 ! b $end|$enddefinitions $end|#0|$dumpvars|1!|$end|";
+    check_answer(&rt, rt.alloc(), file.as_slice(), 4096, ("reg", all), one)
 }

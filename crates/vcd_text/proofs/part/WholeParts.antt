@@ -11,7 +11,7 @@ use Rattle.vcd_core.specs.Contents.{Contents, SignalContents, signal_value}
 use Rattle.vcd_core.specs.Sound.{IsSound, IsSoundSignal}
 use Rattle.vcd_core.proofs.shared.Waves.{wave_is, changes_rise, changes_end}
 use Rattle.vcd_text.specs.Meaning.{FileMeans}
-use Rattle.std.proofs.Common.{suc, not, cond, ◌++◌, ◌<◌, ◌⊎◌, inl, inr}
+use Rattle.std.proofs.Common.{suc, not, cond, ◌++◌, inl, inr}
 use Rattle.std.specs.Prelude.{filter}
 use Rattle.std.proofs.lemmas.List.Sums.{length-filter, count_by-le-length}
 use Rattle.vcd_core.specs.CaptureContents.{contents}
@@ -28,9 +28,10 @@ use Rattle.vcd_text.specs.declared.fault.ReadError.{ReadError}
 use Rattle.vcd_text.specs.declared.reading.Loaded.{Loaded}
 use Rattle.vcd_text.specs.declared.reading.choice.TickRange.{TickRange}
 use Rattle.vcd_text.specs.declared.reading.TheConstants.{FILE_LIMIT}
-use Rattle.vcd_text.proofs.shared.SoundMeaning.{meaning_is_sound}
-use Rattle.vcd_text.proofs.part.FewSignals.{KeepsFew, few_after}
-use Rattle.vcd_text.specs.Grammar.{initial_state, kept_variables}
+use Rattle.vcd_text.proofs.shared.SoundMeaning.{IsSoundBut, meaning_is_sound_but}
+use Rattle.vcd_text.proofs.part.FewSignals.{KeepsFew, few_after, same_limit}
+use Rattle.vcd_text.specs.Grammar.{ParseState, initial_state, kept_variables}
+use Rattle.vcd_core.specs.declared.capture.TheConstants.{SIGNAL_LIMIT}
 
 -- ---- soundness
 
@@ -83,10 +84,11 @@ filtered takes (b ∷ out) (s ∷ ss) leaves =
     one_test s (takes (without_changes s)) b (remaining out ss) _ (leaves 0 (without_changes s) refl)
     (filtered takes out ss (λ position t at. leaves (suc position) t at))
 
-pub part_is_meant : (takes : SignalContents → Bool) (answers : Answers) (bytes : List ℕ) (loaded : Loaded)
-    (asked : Asked) → MeansListed asked bytes loaded → IsAnswered takes answers asked
-    → PartMeans takes answers bytes loaded
-part_is_meant takes answers bytes loaded asked means answered =
+pub part_is_meant : (limit : ℕ) (takes : SignalContents → Bool) (answers : Answers) (bytes : List ℕ)
+    (loaded : Loaded)
+    (asked : Asked) → MeansListed limit asked bytes loaded → IsAnswered takes answers asked
+    → PartMeans limit takes answers bytes loaded
+part_is_meant limit takes answers bytes loaded asked means answered =
     let whole = means.whole in
     let part = asked.part in
     let signals = filtered takes part.left_out.items whole.signals
@@ -108,37 +110,54 @@ part_is_meant takes answers bytes loaded asked means answered =
 fewer_pass : {A : Type 0} (p : A → Bool) (xs : List A) → length (filter p xs) ≤ length xs
 fewer_pass p xs = omega (arith, length-filter p xs, count_by-le-length p xs)
 
--- a part of a sound capture is sound
-pub part_is_sound : (takes : SignalContents → Bool) (ticks : TickRange) (c : Contents) → IsSound c
-    → IsSound (part_of takes ticks c)
-part_is_sound takes ticks c sound =
+-- a part of a sound capture is sound, if few signals remain
+pub part_is_sound : (takes : SignalContents → Bool) (ticks : TickRange) (c : Contents) → IsSoundBut c
+    → length (filter (λ s. takes (without_changes s)) c.signals) ≤ SIGNAL_LIMIT → IsSound (part_of takes ticks c)
+part_is_sound takes ticks c sound few =
     let end = min ticks.last c.end - ticks.first in
     let taken : SignalContents → Bool = λ s. takes (without_changes s) in
     record {
       header = sound.header;
       timescale = sound.timescale;
       end = omega (arith, sound.end);
-      few = omega (
-        arith,
-        sound.few,
-        fewer_pass taken c.signals,
-        length-map (filter taken c.signals) (part_of_signal ticks.first end),
-      );
+      few = omega (arith, few, length-map (filter taken c.signals) (part_of_signal ticks.first end));
       signals = All-map (IsSoundSignal end) (part_of_signal ticks.first end) (filter taken c.signals)
           (λ k d within. sound_signal ticks.first c.end end _
           (All-filter taken (IsSoundSignal c.end) c.signals sound.signals k d within));
     }
 
 -- the meaning of a file is sound
-file_is_sound : (file : List ℕ) (c : Contents) (skipped : ℕ) → FileMeans file c skipped → IsSound c
-file_is_sound file c skipped means =
-    subst IsSound (sym means.means) (meaning_is_sound file means.state means.accepted)
+file_is_sound : (limit : ℕ) (file : List ℕ) (c : Contents) (skipped : ℕ) → FileMeans limit file c skipped
+    → IsSoundBut c
+file_is_sound limit file c skipped means =
+    subst IsSoundBut (sym means.means) (meaning_is_sound_but limit file means.state means.accepted)
 
-pub part_means_sound : (takes : SignalContents → Bool) (answers : Answers) (file : List ℕ) (loaded : Loaded)
-    → PartMeans takes answers file loaded → IsSound (contents loaded.capture)
-part_means_sound takes answers file loaded means =
-    subst IsSound (sym means.is)
-    (part_is_sound takes means.ticks means.whole (file_is_sound file means.whole loaded.skipped means.means))
+-- as many signals are taken as are taken of them without changes
+taken_long : (takes : SignalContents → Bool) (ss : List SignalContents)
+    → length (filter (λ s. takes (without_changes s)) ss) ≡ length (filter takes (map without_changes ss))
+taken_long takes [] = refl
+taken_long takes (s ∷ ss) = one_long (takes (without_changes s)) _ _ (taken_long takes ss)
+  where
+    one_long : (b : Bool) (xs ys : List SignalContents) → length xs ≡ length ys
+        → length (cond b (s ∷ xs) xs) ≡ length (cond b (without_changes s ∷ ys) ys)
+    one_long true xs ys same = omega (arith, same)
+    one_long false xs ys same = same
+
+pub meant_is_sound : (limit : ℕ) (takes : SignalContents → Bool) (answers : Answers) (file : List ℕ)
+    (loaded : Loaded) (asked : Asked) → MeansListed limit asked file loaded → IsAnswered takes answers asked
+    → IsSound (contents loaded.capture)
+unfolding part_is_meant
+meant_is_sound limit takes answers file loaded asked means answered =
+    let part = part_is_meant limit takes answers file loaded asked means answered in
+    subst IsSound (sym part.is)
+    (part_is_sound takes part.ticks means.whole
+    (file_is_sound limit file means.whole loaded.skipped means.means)
+    (omega (
+      arith,
+      answered.few,
+      taken_long takes means.whole.signals,
+      ap (λ ss. length (filter takes ss)) means.signals,
+    )))
 
 -- ---- the whole
 
@@ -174,36 +193,42 @@ whole_is takes ticks c all first last sound =
     ∙ same_signals ticks.first c.end c.signals first sound in
     λ i. record c { end = end i; signals = signals i }
 
-pub whole_means : (coming : Option (List ℕ)) (answers : Answers) (loaded : Loaded)
+pub whole_means_of_read : (coming : Option (List ℕ)) (answers : Answers) (loaded : Loaded)
     → ((timescale : Option Timescale) (ss : List SignalContents) (ticks : TickRange)
     → answers timescale ss (Some ticks) → ticks ≡ all_ticks)
-    → IfSome coming (λ file. (length file ≤ FILE_LIMIT) × PartMeans (λ _. true) answers file loaded)
-    → IfSome coming (λ file. (length file ≤ FILE_LIMIT) × FileMeans file (contents loaded.capture) loaded.skipped)
-whole_means None answers loaded all means = means
-whole_means (Some file) answers loaded all (short, means) =
-    let sound = file_is_sound file means.whole loaded.skipped means.means in
+    → IfSome coming (λ file. (length file ≤ FILE_LIMIT) × PartMeans SIGNAL_LIMIT (λ _. true) answers file loaded)
+    → IfSome coming (λ file. (length file ≤ FILE_LIMIT)
+    × FileMeans SIGNAL_LIMIT file (contents loaded.capture) loaded.skipped)
+whole_means_of_read None answers loaded all means = means
+whole_means_of_read (Some file) answers loaded all (short, means) =
+    let sound = file_is_sound SIGNAL_LIMIT file means.whole loaded.skipped means.means in
     let ticks = all means.whole.timescale (map without_changes means.whole.signals) means.ticks means.answered in
     let same = means.is ∙ whole_is (λ _. true) means.ticks means.whole (λ s. refl)
     (ap (λ (t : TickRange). t.first) ticks)
     (omega (arith, sound.end, ap (λ (t : TickRange). t.last) ticks)) sound.signals in
-    (short, subst (λ d. FileMeans file d loaded.skipped) (sym same) means.means)
+    (short, subst (λ d. FileMeans SIGNAL_LIMIT file d loaded.skipped) (sym same) means.means)
 
 -- all signals of a file are few enough, and all ticks are answered
-pub no_part_refusal : (answers : Answers) (coming : Option (List ℕ)) (failed : Bool) (left : Option (List ℕ))
-    (e : ReadError) → ((timescale : Option Timescale) (ss : List SignalContents) → answers timescale ss None → ⊥)
-    → IfSome coming (λ file. IsPartRefusal (λ _. true) answers file failed left e)
-    → IfSome coming (λ file. IsRefusal file failed left e)
-no_part_refusal answers None failed left e some refused = tt
-no_part_refusal answers (Some file) failed left e some (inl refused) = refused
-no_part_refusal answers (Some file) failed left e some (inr (declined c has none fault)) =
+pub no_part_refusal_of_read : (answers : Answers) (coming : Option (List ℕ)) (failed : Bool)
+    (left : Option (List ℕ)) (e : ReadError)
+    → ((timescale : Option Timescale) (ss : List SignalContents) → answers timescale ss None → ⊥)
+    → IfSome coming (λ file. IsPartRefusal SIGNAL_LIMIT FILE_LIMIT (λ _. true) answers file failed left e)
+    → IfSome coming (λ file. IsRefusal SIGNAL_LIMIT FILE_LIMIT file failed left e)
+no_part_refusal_of_read answers None failed left e some refused = tt
+no_part_refusal_of_read answers (Some file) failed left e some (inl refused) = refused
+no_part_refusal_of_read answers (Some file) failed left e some (inr (declined c has none fault)) =
     absurd (some c.timescale (signals_of c) none)
-no_part_refusal answers (Some file) failed left e some (inr (too_many_remain c has many fault)) =
+no_part_refusal_of_read answers (Some file) failed left e some (inr (too_many_remain c has many fault)) =
+    let items = has.items ++ end_definitions ∷ [] in
     let few : KeepsFew c = subst KeepsFew has.state_is
-    (few_after initial_state (has.items ++ end_definitions ∷ []) has.allowed (omega arith)) in
+    (few_after (initial_state SIGNAL_LIMIT) items has.allowed (omega arith)) in
+    let limit : c.limit ≡ SIGNAL_LIMIT = ap (λ (d : ParseState). d.limit) (sym has.state_is)
+    ∙ same_limit (initial_state SIGNAL_LIMIT) items in
     absurd (omega (
       arith,
       many,
       few,
+      limit,
       fewer_pass (λ (s : SignalContents). true) (signals_of c),
       length-map (meaning c).signals without_changes,
       length-map (kept_variables c.declared) (declared_signal c.value_changes c.tick),

@@ -99,7 +99,7 @@ variable_leads h t ds end k s sound few at below =
     (grind (arith, and_parts, words_have_no_end, and_from, decimal_no_end, not_from_false, code_no_end))
     (decimal_is_number s.width (omega arith))
     (subst (λ o. IsSomeAnd o (λ d. IsTrue (may_have_code (variable_of before d.code) d)
-    × IsTrue (is_within_limit ds d)))
+    × IsTrue (is_within_limit SIGNAL_LIMIT ds d)))
     (sym declares) (fresh, (grind (arith, length-filter, count_by-le-length, or_right, lt-ltb)))))
     (ap (λ o. declaring h t s.scopes (ds ++ option_to_list o)) declares)
 
@@ -129,7 +129,8 @@ abbrev pub declaration_items : Contents → List Item
 declaration_items c = header_items c.header ++ timescale_items c.timescale ++ signal_items [] 0 c.signals
     ++ end_definitions ∷ []
 
-pub declarations_lead : (c : Contents) → IsSound c → Reaches initial_state (declaration_items c) (declared_state c)
+pub declarations_lead : (c : Contents) → IsSound c → Reaches (initial_state SIGNAL_LIMIT) (declaration_items c)
+    (declared_state c)
 declarations_lead c sound =
     let few : length c.signals ≤ SIGNAL_LIMIT = sound.few in
     let prefix : List Item = header_items c.header ++ timescale_items c.timescale in

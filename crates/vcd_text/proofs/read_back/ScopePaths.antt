@@ -17,6 +17,7 @@ use Rattle.vcd_core.specs.declared.capture.ScopeName.{ScopeName}
 use Rattle.vcd_core.specs.Word.{is_word}
 use Rattle.vcd_core.specs.Sound.{is_sound_scope}
 use Rattle.vcd_text.specs.Items.{scope, upscope, is_end_word, has_no_end_word}
+use Rattle.vcd_core.specs.declared.capture.TheConstants.{SIGNAL_LIMIT}
 use Rattle.vcd_text.specs.Grammar.{ParseState, VariableDeclaration}
 use Rattle.vcd_text.specs.Text.{same_scope, scope_items}
 use Rattle.vcd_text.proofs.writing.SharedScopes.{all_closed}
@@ -37,6 +38,7 @@ declaring header timescale scopes declared =
       in_body = false;
       value_changes = [];
       tick = 0;
+      limit = SIGNAL_LIMIT;
     }
 
 -- scopes that compare as the same are one

@@ -3,6 +3,7 @@ use Rattle.std.proofs.Common.{arith}
 use Rattle.std.proofs.Common.{refl}
 use Rattle.vcd_core.specs.Contents.{Contents}
 use Rattle.vcd_core.specs.Sound.{IsSound}
+use Rattle.vcd_core.specs.declared.capture.TheConstants.{SIGNAL_LIMIT}
 use Rattle.vcd_text.specs.Grammar.{initial_state}
 use Rattle.vcd_text.specs.Meaning.{FileMeans}
 use Rattle.vcd_text.specs.Text.{items_of, text}
@@ -14,11 +15,12 @@ use Rattle.vcd_text.proofs.read_back.Meaning.{text_means, text_skips_nothing}
 
 -- the items of a sound capture's text are allowed in turn, and give the value changes of its
 -- signals
-items_lead : (c : Contents) → IsSound c → Reaches initial_state (items_of c) (state_at c (value_changes_of c) c.end)
+items_lead : (c : Contents) → IsSound c → Reaches (initial_state SIGNAL_LIMIT) (items_of c)
+    (state_at c (value_changes_of c) c.end)
 items_lead c sound = search (arith, items_in_two, reaches_both, declarations_lead, changes_lead)
 
 -- the text means the capture
-pub read_back : (c : Contents) → IsSound c → FileMeans (text c) c 0
+pub read_back : (c : Contents) → IsSound c → FileMeans SIGNAL_LIMIT (text c) c 0
 read_back c sound =
     let all = items_lead c sound in
     record {

@@ -29,23 +29,26 @@ complete_in_prefix end_counts begun line (b ∷ prefix) rest =
     )
 
 -- a fault that words show is shown whatever words follow
-shown_further : (words all : List WordOnLine) (line : ℕ) (fault : Fault) → IsPrefix words all
-    → ShowsFault words line fault → ShowsFault all line fault
-shown_further words all line fault prefix s =
-    shown_by all s.whole s.begun (s.more ++ prefix.0) s.word s.items (state_after initial_state s.items) line fault
+shown_further : (limit : ℕ) (words all : List WordOnLine) (line : ℕ) (fault : Fault) → IsPrefix words all
+    → ShowsFault limit words line fault → ShowsFault limit all line fault
+shown_further limit words all line fault prefix s =
+    shown_by limit all s.whole s.begun (s.more ++ prefix.0) s.word s.items (state_after (initial_state limit) s.items)
+    line fault
     (record { allowed = s.allowed; state_is = refl })
     (prefix.1 ∙ ap (λ ws. ws ++ prefix.0) s.parts ∙ append_assoc s.whole (s.begun ++ s.word ∷ s.more) prefix.0
     ∙ ap (λ ws. s.whole ++ ws) (append_assoc s.begun (s.word ∷ s.more) prefix.0)) s.spelled s.decided s.at
 
-pub prefix_fault_found : (prefix rest : List ℕ) (line : ℕ) (fault : Fault) → PrefixShows prefix line fault
-    → IsFoundFault (prefix ++ rest) line fault
-prefix_fault_found prefix rest line fault s =
-    word_shows (shown_further (complete_words prefix) (words_of (prefix ++ rest)) line fault
+pub prefix_fault_found : (limit : ℕ) (prefix rest : List ℕ) (line : ℕ) (fault : Fault) →
+    PrefixShows limit prefix line fault
+    → IsFoundFault limit (prefix ++ rest) line fault
+prefix_fault_found limit prefix rest line fault s =
+    word_shows (shown_further limit (complete_words prefix) (words_of (prefix ++ rest)) line fault
     (complete_in_prefix true [] 1 prefix rest) s)
 
 -- the fault of a prefix is that of a longer prefix as well
-pub longer_prefix_fault : (prefix rest : List ℕ) (line : ℕ) (fault : Fault) → PrefixShows prefix line fault
-    → PrefixShows (prefix ++ rest) line fault
-longer_prefix_fault prefix rest line fault s =
-    shown_further (complete_words prefix) (complete_words (prefix ++ rest)) line fault
+pub longer_prefix_fault : (limit : ℕ) (prefix rest : List ℕ) (line : ℕ) (fault : Fault) →
+    PrefixShows limit prefix line fault
+    → PrefixShows limit (prefix ++ rest) line fault
+longer_prefix_fault limit prefix rest line fault s =
+    shown_further limit (complete_words prefix) (complete_words (prefix ++ rest)) line fault
     (complete_in_prefix false [] 1 prefix rest) s

@@ -87,16 +87,16 @@ pub allows_upscope : (c : ParseState) → IsFalse c.in_body → 0 < length c.sco
 allows_upscope c declares some = (fits_upscope c declares some, refl)
 
 variable_passes : (c : ParseState) (o : Option VariableDeclaration)
-    → IsSomeAnd o (λ d. IsTrue (may_have_code (variable_of c d.code) d) × IsTrue (is_within_limit c.declared d))
+    → IsSomeAnd o (λ d. IsTrue (may_have_code (variable_of c d.code) d) × IsTrue (is_within_limit c.limit c.declared d))
     → first_fault (variable_tests c o) ≡ None
 variable_passes c None h = absurd h
 variable_passes c (Some d) h =
-    passes MixedCode _ ((TooManySignals unless is_within_limit c.declared d) ∷ []) h.0
+    passes MixedCode _ ((TooManySignals unless is_within_limit c.limit c.declared d) ∷ []) h.0
     (passes TooManySignals _ [] h.1 refl)
 
 pub allows_variable : (c : ParseState) (words : List (List ℕ)) → IsFalse c.in_body → IsTrue (has_no_end_word words)
     → IsTrue (has_good_size words) → IsSomeAnd (declaration_of c words) (λ d.
-    IsTrue (may_have_code (variable_of c d.code) d) × IsTrue (is_within_limit c.declared d))
+    IsTrue (may_have_code (variable_of c d.code) d) × IsTrue (is_within_limit c.limit c.declared d))
     → Allows c (variable words)
 allows_variable c words declares no_end good may =
     (fits_variable c words declares no_end good, variable_passes c (declaration_of c words) may)
@@ -172,16 +172,16 @@ pub has_timescale : (c : ParseState) (words : List (List ℕ)) → Allows c (tim
 has_timescale c words (f, t) = (passed BadTimescale (is_some (timescale_of words)) [] t).0
 
 passed_variable : (c : ParseState) (o : Option VariableDeclaration) → first_fault (variable_tests c o) ≡ None
-    → IsSomeAnd o (λ d. IsTrue (may_have_code (variable_of c d.code) d) × IsTrue (is_within_limit c.declared d))
+    → IsSomeAnd o (λ d. IsTrue (may_have_code (variable_of c d.code) d) × IsTrue (is_within_limit c.limit c.declared d))
 passed_variable c None h = absurd (cc h)
 passed_variable c (Some d) h =
     let p = passed MixedCode (may_have_code (variable_of c d.code) d)
-    ((TooManySignals unless is_within_limit c.declared d) ∷ []) h in
-    (p.0, (passed TooManySignals (is_within_limit c.declared d) [] p.1).0)
+    ((TooManySignals unless is_within_limit c.limit c.declared d) ∷ []) h in
+    (p.0, (passed TooManySignals (is_within_limit c.limit c.declared d) [] p.1).0)
 
 pub has_declaration : (c : ParseState) (words : List (List ℕ)) → Allows c (variable words)
     → IsSomeAnd (declaration_of c words) (λ d. IsTrue (may_have_code (variable_of c d.code) d)
-    × IsTrue (is_within_limit c.declared d))
+    × IsTrue (is_within_limit c.limit c.declared d))
 has_declaration c words (f, t) = passed_variable c (declaration_of c words) t
 
 pub has_tick : (c : ParseState) (digits : List ℕ) → Allows c (stamp digits)

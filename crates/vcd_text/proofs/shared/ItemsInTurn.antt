@@ -39,11 +39,12 @@ pub reaches_same : (c d e : ParseState) (is : List Item) → Reaches c is d → 
 reaches_same c d e is leads same = record { allowed = leads.allowed; state_is = leads.state_is ∙ same }
 
 -- after the words of these items a word shows a fault, whatever follows it
-pub shown_by : (words whole begun more : List WordOnLine) (w : WordOnLine) (items : List Item) (c : ParseState)
-    (line : ℕ) (fault : Fault) → Reaches initial_state items c → words ≡ whole ++ (begun ++ w ∷ more)
+pub shown_by : (limit : ℕ) (words whole begun more : List WordOnLine) (w : WordOnLine) (items : List Item)
+    (c : ParseState)
+    (line : ℕ) (fault : Fault) → Reaches (initial_state limit) items c → words ≡ whole ++ (begun ++ w ∷ more)
     → word_texts whole ≡ spellings items → WordShows c (word_texts begun) w.text fault
-    → line ≡ fault_line c.in_body begun w → ShowsFault words line fault
-shown_by words whole begun more w items c line fault leads parts spelled decided at = record {
+    → line ≡ fault_line c.in_body begun w → ShowsFault limit words line fault
+shown_by limit words whole begun more w items c line fault leads parts spelled decided at = record {
   items = items;
   whole = whole;
   begun = begun;

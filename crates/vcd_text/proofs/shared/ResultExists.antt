@@ -19,19 +19,19 @@ use Rattle.vcd_text.proofs.shared.Unfinished.{declaration_due}
 use Rattle.vcd_text.proofs.shared.WordOutcomes.{beginning, last_word, shows_fault, whole_item, goes_on}
 
 -- the result of all words of a file
-data AnswerTo (words : List WordOnLine) : Type 0 where
-  is_accepted : (state : ParseState) → Accepts words state → AnswerTo words
-  stops_early : Stops words → AnswerTo words
-  is_refused : (line : ℕ) (fault : Fault) → ShowsFault words line fault → AnswerTo words
+data AnswerTo (limit : ℕ) (words : List WordOnLine) : Type 0 where
+  is_accepted : (state : ParseState) → Accepts limit words state → AnswerTo limit words
+  stops_early : Stops limit words → AnswerTo limit words
+  is_refused : (line : ℕ) (fault : Fault) → ShowsFault limit words line fault → AnswerTo limit words
 
 -- the words are those of whole items, and those to come
-record WordsSoFar (words rest : List WordOnLine) : Type 0 where
+record WordsSoFar (limit : ℕ) (words rest : List WordOnLine) : Type 0 where
   items : List Item
   whole : List WordOnLine
   state : ParseState
   parts : words ≡ whole ++ rest
   spelled : word_texts whole ≡ spellings items
-  leads : Reaches initial_state items state
+  leads : Reaches (initial_state limit) items state
 
 -- ---- texts of words
 
@@ -68,26 +68,29 @@ in_parts (w ∷ ws) (x ∷ xs) ys e =
 -- ---- what the words to come begin with
 
 -- a word of them shows a fault
-refused : (words rest begun more : List WordOnLine) (w : WordOnLine) (fault : Fault) (u : WordsSoFar words rest)
-    → rest ≡ begun ++ w ∷ more → WordShows u.state (word_texts begun) w.text fault → AnswerTo words
-refused words rest begun more w fault u parts shown =
+refused : (limit : ℕ) (words rest begun more : List WordOnLine) (w : WordOnLine) (fault : Fault)
+    (u : WordsSoFar limit words rest)
+    → rest ≡ begun ++ w ∷ more → WordShows u.state (word_texts begun) w.text fault → AnswerTo limit words
+refused limit words rest begun more w fault u parts shown =
     is_refused (fault_line u.state.in_body begun w) fault
-    (shown_by words u.whole begun more w u.items u.state _ fault u.leads
+    (shown_by limit words u.whole begun more w u.items u.state _ fault u.leads
     (u.parts ∙ ap (λ ws. u.whole ++ ws) parts) u.spelled shown refl)
 
-refused_at : (words rest begun found : List WordOnLine) (word : List ℕ) (more : List (List ℕ)) (fault : Fault)
-    (u : WordsSoFar words rest) → rest ≡ begun ++ found → word_texts found ≡ word ∷ more
-    → WordShows u.state (word_texts begun) word fault → AnswerTo words
-refused_at words rest begun [] word more fault u parts is shown = absurd (cc is)
-refused_at words rest begun (w ∷ ws) word more fault u parts is shown =
+refused_at : (limit : ℕ) (words rest begun found : List WordOnLine) (word : List ℕ) (more : List (List ℕ))
+    (fault : Fault)
+    (u : WordsSoFar limit words rest) → rest ≡ begun ++ found → word_texts found ≡ word ∷ more
+    → WordShows u.state (word_texts begun) word fault → AnswerTo limit words
+refused_at limit words rest begun [] word more fault u parts is shown = absurd (cc is)
+refused_at limit words rest begun (w ∷ ws) word more fault u parts is shown =
     let here : w.text ≡ word = cc is in
-    refused words rest begun ws w fault u parts
+    refused limit words rest begun ws w fault u parts
     (subst (λ t. WordShows u.state (word_texts begun) t fault) (sym here) shown)
 
 -- they begin with a whole item
-with_item : (words rest : List WordOnLine) (u : WordsSoFar words rest) (i : Item) (more : List (List ℕ))
-    → Allows u.state i → (p : InParts rest (spelling i) more) → WordsSoFar words p.rest
-with_item words rest u i more allows p = record {
+with_item : (limit : ℕ) (words rest : List WordOnLine) (u : WordsSoFar limit words rest) (i : Item)
+    (more : List (List ℕ))
+    → Allows u.state i → (p : InParts rest (spelling i) more) → WordsSoFar limit words p.rest
+with_item limit words rest u i more allows p = record {
   items = u.items ++ i ∷ [];
   whole = u.whole ++ p.first;
   state = state_after_item u.state i;
@@ -95,7 +98,7 @@ with_item words rest u i more allows p = record {
   spelled =
       map-append (λ (v : WordOnLine). v.text) u.whole p.first ∙ ap (λ ws. ws ++ word_texts p.first) u.spelled
       ∙ ap (λ ws. spellings u.items ++ ws) p.first_texts ∙ sym (spelled_more u.items i);
-  leads = reaches_both initial_state u.state (state_after_item u.state i) u.items (i ∷ []) u.leads
+  leads = reaches_both (initial_state limit) u.state (state_after_item u.state i) u.items (i ∷ []) u.leads
       (reaches_one u.state (state_after_item u.state i) i allows refl);
 }
 
@@ -112,9 +115,10 @@ fewer_left rest i more p =
     )
 
 -- a word must follow them
-stops_here : (words rest : List WordOnLine) (u : WordsSoFar words rest) → IsUnfinished u.state (word_texts rest)
-    → AnswerTo words
-stops_here words rest u due = stops_early (record {
+stops_here : (limit : ℕ) (words rest : List WordOnLine) (u : WordsSoFar limit words rest) →
+    IsUnfinished u.state (word_texts rest)
+    → AnswerTo limit words
+stops_here limit words rest u due = stops_early (record {
   items = u.items;
   begun = word_texts rest;
   spelled = ap word_texts u.parts ∙ map-append (λ (v : WordOnLine). v.text) u.whole rest
@@ -124,8 +128,9 @@ stops_here words rest u due = stops_early (record {
 })
 
 -- no word is left
-accepts_here : (words : List WordOnLine) (u : WordsSoFar words []) → IsTrue u.state.in_body → AnswerTo words
-accepts_here words u in_body = is_accepted u.state (record {
+accepts_here : (limit : ℕ) (words : List WordOnLine) (u : WordsSoFar limit words []) → IsTrue u.state.in_body →
+    AnswerTo limit words
+accepts_here limit words u in_body = is_accepted u.state (record {
   items = u.items;
   spelled = ap word_texts (u.parts ∙ append-nil u.whole) ∙ u.spelled;
   allowed = u.leads.allowed;
@@ -133,47 +138,48 @@ accepts_here words u in_body = is_accepted u.state (record {
   definitions_ended = in_body;
 })
 
-at_end : (words : List WordOnLine) (u : WordsSoFar words []) → AnswerTo words
-at_end words u =
+at_end : (limit : ℕ) (words : List WordOnLine) (u : WordsSoFar limit words []) → AnswerTo limit words
+at_end limit words u =
     elim (cases_Bool u.state.in_body) [
-      | inl in_body ↦ accepts_here words u in_body
-      | inr declares ↦ stops_here words [] u (declaration_due u.state declares)
+      | inl in_body ↦ accepts_here limit words u in_body
+      | inr declares ↦ stops_here limit words [] u (declaration_due u.state declares)
     ]
 
 -- ---- all words
 
-answer_after : (count : ℕ) (words rest : List WordOnLine) → length rest ≤ count → WordsSoFar words rest → AnswerTo words
-answer_after count words [] few u = at_end words u
-answer_after zero words (w ∷ ws) few u = absurd (omega (arith, few))
-answer_after (suc count) words (w ∷ ws) few u =
+answer_after : (limit : ℕ) (count : ℕ) (words rest : List WordOnLine) → length rest ≤ count →
+    WordsSoFar limit words rest → AnswerTo limit words
+answer_after limit count words [] few u = at_end limit words u
+answer_after limit zero words (w ∷ ws) few u = absurd (omega (arith, few))
+answer_after limit (suc count) words (w ∷ ws) few u =
     elim (beginning u.state w.text (word_texts ws)) [
       | shows_fault begun word more fault is shown ↦
           let p = in_parts (w ∷ ws) begun (word ∷ more) is in
-          refused_at words (w ∷ ws) p.first p.rest word more fault u p.parts p.rest_texts
+          refused_at limit words (w ∷ ws) p.first p.rest word more fault u p.parts p.rest_texts
           (subst (λ ts. WordShows u.state ts word fault) (sym p.first_texts) shown)
       | whole_item i more is allows ↦
           let p = in_parts (w ∷ ws) (spelling i) more is in
-          answer_after count words p.rest (omega (arith, few, fewer_left (w ∷ ws) i more p))
-          (with_item words (w ∷ ws) u i more allows p)
-      | goes_on due ↦ stops_here words (w ∷ ws) u due
+          answer_after limit count words p.rest (omega (arith, few, fewer_left (w ∷ ws) i more p))
+          (with_item limit words (w ∷ ws) u i more allows p)
+      | goes_on due ↦ stops_here limit words (w ∷ ws) u due
     ]
 
 -- before the first word
-nothing_taken : (words : List WordOnLine) → WordsSoFar words words
-nothing_taken words = record {
+nothing_taken : (limit : ℕ) (words : List WordOnLine) → WordsSoFar limit words words
+nothing_taken limit words = record {
   items = [];
   whole = [];
-  state = initial_state;
+  state = (initial_state limit);
   parts = refl;
   spelled = refl;
-  leads = reaches_none initial_state;
+  leads = reaches_none (initial_state limit);
 }
 
-pub a_found_answer : (bytes : List ℕ) → ((c : Contents) × (n : ℕ) × FileMeans bytes c n)
-    ⊎ ((line : ℕ) × (fault : Fault) × IsFoundFault bytes line fault)
-a_found_answer bytes =
-    elim (answer_after (length (words_of bytes)) (words_of bytes) (words_of bytes) (omega arith)
-    (nothing_taken (words_of bytes))) [
+pub a_found_answer : (limit : ℕ) (bytes : List ℕ) → ((c : Contents) × (n : ℕ) × FileMeans limit bytes c n)
+    ⊎ ((line : ℕ) × (fault : Fault) × IsFoundFault limit bytes line fault)
+a_found_answer limit bytes =
+    elim (answer_after limit (length (words_of bytes)) (words_of bytes) (words_of bytes) (omega arith)
+    (nothing_taken limit (words_of bytes))) [
       | is_accepted state accepts ↦
           inl (
             meaning state,

@@ -1,5 +1,5 @@
 -- A file has one result: its meaning, or its one fault with the line.
-use Rattle.std.proofs.Common.{◌≡◌, ℕ, true, false, not, ◌||◌, List, [], ◌∷◌, ◌++◌, length, Some, None}
+use Rattle.std.proofs.Common.{◌≡◌, ℕ, true, not, ◌||◌, List, [], ◌∷◌, ◌++◌, length, Some, None}
 use Rattle.std.proofs.Common.{IsTrue}
 use Rattle.std.proofs.Common.{inl, inr, refl, sym, ap, subst, ◌∙◌, append_assoc, arith, drop}
 use Rattle.std.specs.Prelude.{nat_lt}
@@ -203,23 +203,25 @@ same_end c (i ∷ is) (j ∷ js) r s e a b p q =
     (ap (λ x. x ∷ is) one ∙ ap (λ x. j ∷ x) more.0, more.1)
 
 -- the words are read up to a rest that does not begin with a whole item
-record Ends (words : List (List ℕ)) (state : ParseState) (rest : List (List ℕ)) : Type 0 where
+record Ends (limit : ℕ) (words : List (List ℕ)) (state : ParseState) (rest : List (List ℕ)) : Type 0 where
   items : List Item
   spelled : words ≡ spellings items ++ rest
-  allowed : AllowsAll initial_state items
-  state_is : state_after initial_state items ≡ state
+  allowed : AllowsAll (initial_state limit) items
+  state_is : state_after (initial_state limit) items ≡ state
   begins_none : BeginsNone state rest
 
-one_end : (words : List (List ℕ)) (c d : ParseState) (r s : List (List ℕ)) → Ends words c r → Ends words d s
+one_end : (limit : ℕ) (words : List (List ℕ)) (c d : ParseState) (r s : List (List ℕ)) → Ends limit words c r →
+    Ends limit words d s
     → (c ≡ d) × (r ≡ s)
-one_end words c d r s a b =
-    let e = same_end initial_state a.items b.items r s (sym a.spelled ∙ b.spelled) a.allowed b.allowed
+one_end limit words c d r s a b =
+    let e = same_end (initial_state limit) a.items b.items r s (sym a.spelled ∙ b.spelled) a.allowed b.allowed
     (subst (λ c. BeginsNone c r) (sym a.state_is) a.begins_none)
     (subst (λ d. BeginsNone d s) (sym b.state_is) b.begins_none) in
-    (sym a.state_is ∙ ap (state_after initial_state) e.0 ∙ b.state_is, e.1)
+    (sym a.state_is ∙ ap (state_after (initial_state limit)) e.0 ∙ b.state_is, e.1)
 
-accepts_ends : (words : List WordOnLine) (state : ParseState) → Accepts words state → Ends (word_texts words) state []
-accepts_ends words state a = record {
+accepts_ends : (limit : ℕ) (words : List WordOnLine) (state : ParseState) → Accepts limit words state →
+    Ends limit (word_texts words) state []
+accepts_ends limit words state a = record {
   items = a.items;
   spelled = a.spelled ∙ sym (append-nil (spellings a.items));
   allowed = a.allowed;
@@ -227,21 +229,23 @@ accepts_ends words state a = record {
   begins_none = no_words state;
 }
 
-stops_ends : (words : List WordOnLine) (s : Stops words)
-    → Ends (word_texts words) (state_after initial_state s.items) s.begun
-stops_ends words s = record {
+stops_ends : (limit : ℕ) (words : List WordOnLine) (s : Stops limit words)
+    → Ends limit (word_texts words) (state_after (initial_state limit) s.items) s.begun
+stops_ends limit words s = record {
   items = s.items;
   spelled = s.spelled;
   allowed = s.allowed;
   state_is = refl;
-  begins_none = λ i rest allows is. goes_past (state_after initial_state s.items) s.begun s.unfinished.1.0 i rest
+  begins_none = λ i rest allows is. goes_past (state_after (initial_state limit) s.items) s.begun s.unfinished.1.0 i
+      rest
       s.unfinished.1.1 allows.0 is;
 }
 
-refuses_ends : (words : List WordOnLine) (line : ℕ) (fault : Fault) (r : ShowsFault words line fault)
-    → Ends (word_texts words) (state_after initial_state r.items)
+refuses_ends : (limit : ℕ) (words : List WordOnLine) (line : ℕ) (fault : Fault)
+    (r : ShowsFault limit words line fault)
+    → Ends limit (word_texts words) (state_after (initial_state limit) r.items)
     (word_texts r.begun ++ r.word.text ∷ word_texts r.more)
-refuses_ends words line fault r = record {
+refuses_ends limit words line fault r = record {
   items = r.items;
   spelled =
       ap word_texts r.parts ∙ map-append (λ (v : WordOnLine). v.text) r.whole (r.begun ++ r.word ∷ r.more)
@@ -249,7 +253,7 @@ refuses_ends words line fault r = record {
       ∙ ap (λ ws. spellings r.items ++ ws) (map-append (λ (v : WordOnLine). v.text) r.begun (r.word ∷ r.more));
   allowed = r.allowed;
   state_is = refl;
-  begins_none = shown_begins_none (state_after initial_state r.items) (word_texts r.begun) r.word.text
+  begins_none = shown_begins_none (state_after (initial_state limit) r.items) (word_texts r.begun) r.word.text
       (word_texts r.more) fault r.decided;
 }
 
@@ -261,9 +265,10 @@ same_rest words a b r s p q e =
 
 -- ---- one answer for the words
 
-pub one_telling : (words : List WordOnLine) (a b : ParseState) → Accepts words a → Accepts words b → a ≡ b
-one_telling words a b p q =
-    (one_end (word_texts words) a b [] [] (accepts_ends words a p) (accepts_ends words b q)).0
+pub one_telling : (limit : ℕ) (words : List WordOnLine) (a b : ParseState) → Accepts limit words a →
+    Accepts limit words b → a ≡ b
+one_telling limit words a b p q =
+    (one_end limit (word_texts words) a b [] [] (accepts_ends limit words a p) (accepts_ends limit words b q)).0
 
 text_count : (words more : List WordOnLine) (w : WordOnLine)
     → length (word_texts words ++ w.text ∷ word_texts more) ≡ length (words ++ w ∷ more)
@@ -271,13 +276,14 @@ text_count words more w =
     ap length (sym (map-append (λ (v : WordOnLine). v.text) words (w ∷ more)))
     ∙ length-map (words ++ w ∷ more) (λ (v : WordOnLine). v.text)
 
-pub one_fault : (words : List WordOnLine) (line other_line : ℕ) (fault other_fault : Fault)
-    → ShowsFault words line fault → ShowsFault words other_line other_fault
+pub one_fault : (limit : ℕ) (words : List WordOnLine) (line other_line : ℕ) (fault other_fault : Fault)
+    → ShowsFault limit words line fault → ShowsFault limit words other_line other_fault
     → (line ≡ other_line) × (fault ≡ other_fault)
-one_fault words line other_line fault other_fault p q =
-    let e = one_end (word_texts words) _ _ _ _ (refuses_ends words line fault p)
-    (refuses_ends words other_line other_fault q) in
-    let place = one_place (state_after initial_state p.items) (word_texts p.begun) p.word.text (word_texts p.more)
+one_fault limit words line other_line fault other_fault p q =
+    let e = one_end limit (word_texts words) _ _ _ _ (refuses_ends limit words line fault p)
+    (refuses_ends limit words other_line other_fault q) in
+    let place = one_place (state_after (initial_state limit) p.items) (word_texts p.begun) p.word.text
+    (word_texts p.more)
     (word_texts q.begun) q.word.text (word_texts q.more) fault other_fault p.decided
     (subst (λ c. WordShows c (word_texts q.begun) q.word.text other_fault) (sym e.0) q.decided) e.1 in
     let rests : p.begun ++ p.word ∷ p.more ≡ q.begun ++ q.word ∷ q.more =
@@ -287,37 +293,42 @@ one_fault words line other_line fault other_fault p q =
     (sym (length-map p.begun (λ (v : WordOnLine). v.text)) ∙ ap length place.0
     ∙ length-map q.begun (λ (v : WordOnLine). v.text)) in (
       p.at ∙ ap (λ c. fault_line c.in_body p.begun p.word) e.0
-          ∙ ap (λ ws. fault_line (state_after initial_state q.items).in_body ws p.word) here.0
-          ∙ ap (fault_line (state_after initial_state q.items).in_body q.begun) here.1 ∙ sym q.at,
+          ∙ ap (λ ws. fault_line (state_after (initial_state limit) q.items).in_body ws p.word) here.0
+          ∙ ap (fault_line (state_after (initial_state limit) q.items).in_body q.begun) here.1 ∙ sym q.at,
       place.2,
     )
 
-pub accepted-not_refused : (words : List WordOnLine) (state : ParseState) (line : ℕ) (fault : Fault)
-    → Accepts words state → ShowsFault words line fault → ⊥
-accepted-not_refused words state line fault p q =
+pub accepted-not_refused : (limit : ℕ) (words : List WordOnLine) (state : ParseState) (line : ℕ) (fault : Fault)
+    → Accepts limit words state → ShowsFault limit words line fault → ⊥
+accepted-not_refused limit words state line fault p q =
     not_none (word_texts q.begun) q.word.text (word_texts q.more)
-    (one_end (word_texts words) _ _ _ _ (accepts_ends words state p) (refuses_ends words line fault q)).1
+    (one_end limit (word_texts words) _ _ _ _ (accepts_ends limit words state p)
+    (refuses_ends limit words line fault q)).1
 
-pub accepted-not_stopped : (words : List WordOnLine) (state : ParseState) → Accepts words state → Stops words → ⊥
-accepted-not_stopped words state p q =
-    let e = one_end (word_texts words) _ _ _ _ (accepts_ends words state p) (stops_ends words q) in
+pub accepted-not_stopped : (limit : ℕ) (words : List WordOnLine) (state : ParseState) → Accepts limit words state
+    → Stops limit words → ⊥
+accepted-not_stopped limit words state p q =
+    let e = one_end limit (word_texts words) _ _ _ _ (accepts_ends limit words state p) (stops_ends limit words q) in
     let due : (not state.in_body || nat_lt 0 (length {A = List ℕ} [])) ≡ true =
     ap (λ c. not c.in_body || nat_lt 0 (length {A = List ℕ} [])) e.0
-    ∙ ap (λ ws. not (state_after initial_state q.items).in_body || nat_lt 0 (length ws)) e.1 ∙ q.unfinished.0 in
+    ∙ ap (λ ws. not (state_after (initial_state limit) q.items).in_body || nat_lt 0 (length ws)) e.1
+    ∙ q.unfinished.0 in
     let none : (not true || nat_lt 0 (length {A = List ℕ} [])) ≡ true =
     ap (λ b. not b || nat_lt 0 (length {A = List ℕ} [])) (sym p.definitions_ended) ∙ due in
     absurd (false≢true none)
 
-pub stopped-not_refused : (words : List WordOnLine) (line : ℕ) (fault : Fault) → Stops words
-    → ShowsFault words line fault → ⊥
-stopped-not_refused words line fault p q =
-    let e = one_end (word_texts words) _ _ _ _ (stops_ends words p) (refuses_ends words line fault q) in
+pub stopped-not_refused : (limit : ℕ) (words : List WordOnLine) (line : ℕ) (fault : Fault) → Stops limit words
+    → ShowsFault limit words line fault → ⊥
+stopped-not_refused limit words line fault p q =
+    let e = one_end limit (word_texts words) _ _ _ _ (stops_ends limit words p)
+    (refuses_ends limit words line fault q) in
     let (next, (i, more, fit, spelled)) = (subst (λ c. IsUnfinished c p.begun) e.0 p.unfinished).1 in
     let begun = word_texts q.begun in
     let all : spelling i ≡ begun ++ q.word.text ∷ (word_texts q.more ++ next ∷ more) =
     spelled ∙ ap (λ ws. ws ++ next ∷ more) e.1
     ∙ append_assoc begun (q.word.text ∷ word_texts q.more) (next ∷ more) in
-    let ends = shown_item (state_after initial_state q.items) begun q.word.text (word_texts q.more ++ next ∷ more) fault
+    let ends = shown_item (state_after (initial_state limit) q.items) begun q.word.text
+    (word_texts q.more ++ next ∷ more) fault
     i [] q.decided fit (sym all ∙ sym (append-nil (spelling i))) in
     let none = append_cancel_left begun (q.word.text ∷ []) (q.word.text ∷ (word_texts q.more ++ next ∷ more))
     (sym ends.0 ∙ all) in
@@ -325,25 +336,29 @@ stopped-not_refused words line fault p q =
 
 -- ---- one answer for a file
 
-pub one_meaning : (bytes : List ℕ) (c d : Contents) (m n : ℕ) → FileMeans bytes c m → FileMeans bytes d n
+pub one_meaning : (limit : ℕ) (bytes : List ℕ) (c d : Contents) (m n : ℕ) → FileMeans limit bytes c m →
+    FileMeans limit bytes d n
     → (c ≡ d) × (m ≡ n)
-one_meaning bytes c d m n p q =
-    let e = one_telling (words_of bytes) p.state q.state p.accepted q.accepted in
+one_meaning limit bytes c d m n p q =
+    let e = one_telling limit (words_of bytes) p.state q.state p.accepted q.accepted in
     (p.means ∙ ap meaning e ∙ sym q.means, p.left_out ∙ ap skipped_count e ∙ sym q.left_out)
 
-pub one_found_fault : (bytes : List ℕ) (line other_line : ℕ) (fault other_fault : Fault) → IsFoundFault bytes line fault
-    → IsFoundFault bytes other_line other_fault → (line ≡ other_line) × (fault ≡ other_fault)
-one_found_fault bytes line other_line fault other_fault (word_shows p) (word_shows q) =
-    one_fault (words_of bytes) line other_line fault other_fault p q
-one_found_fault bytes line other_line fault other_fault (word_shows p) (too_early q l f) =
-    absurd (stopped-not_refused (words_of bytes) line fault q p)
-one_found_fault bytes line other_line fault other_fault (too_early p l f) (word_shows q) =
-    absurd (stopped-not_refused (words_of bytes) other_line other_fault p q)
-one_found_fault bytes line other_line fault other_fault (too_early p l f) (too_early q m g) = (l ∙ sym m, f ∙ sym g)
+pub one_found_fault : (limit : ℕ) (bytes : List ℕ) (line other_line : ℕ) (fault other_fault : Fault) →
+    IsFoundFault limit bytes line fault
+    → IsFoundFault limit bytes other_line other_fault → (line ≡ other_line) × (fault ≡ other_fault)
+one_found_fault limit bytes line other_line fault other_fault (word_shows p) (word_shows q) =
+    one_fault limit (words_of bytes) line other_line fault other_fault p q
+one_found_fault limit bytes line other_line fault other_fault (word_shows p) (too_early q l f) =
+    absurd (stopped-not_refused limit (words_of bytes) line fault q p)
+one_found_fault limit bytes line other_line fault other_fault (too_early p l f) (word_shows q) =
+    absurd (stopped-not_refused limit (words_of bytes) other_line other_fault p q)
+one_found_fault limit bytes line other_line fault other_fault (too_early p l f) (too_early q m g) =
+    (l ∙ sym m, f ∙ sym g)
 
-pub meaning-no_found_fault : (bytes : List ℕ) (c : Contents) (n line : ℕ) (fault : Fault) → FileMeans bytes c n
-    → IsFoundFault bytes line fault → ⊥
-meaning-no_found_fault bytes c n line fault p (word_shows q) =
-    accepted-not_refused (words_of bytes) p.state line fault p.accepted q
-meaning-no_found_fault bytes c n line fault p (too_early q l f) =
-    accepted-not_stopped (words_of bytes) p.state p.accepted q
+pub meaning-no_found_fault : (limit : ℕ) (bytes : List ℕ) (c : Contents) (n line : ℕ) (fault : Fault) →
+    FileMeans limit bytes c n
+    → IsFoundFault limit bytes line fault → ⊥
+meaning-no_found_fault limit bytes c n line fault p (word_shows q) =
+    accepted-not_refused limit (words_of bytes) p.state line fault p.accepted q
+meaning-no_found_fault limit bytes c n line fault p (too_early q l f) =
+    accepted-not_stopped limit (words_of bytes) p.state p.accepted q

@@ -7,13 +7,13 @@ use Rattle.std.specs.Prelude.{find, bytes_eq, ◌==◌, nat_le}
 use Rattle.std.specs.List.{list_all}
 use Rattle.std.proofs.lemmas.Bool.{and_parts, and_from, or_parts, false≢true, not-true, eqb-true}
 use Rattle.std.proofs.lemmas.Bool.{eqb-false, leb-true}
-use Rattle.std.proofs.lemmas.Bool.{ltb-true, ltb-false}
+use Rattle.std.proofs.lemmas.Bool.{ltb-false}
 use Rattle.std.proofs.lemmas.Slice.Eq.{bytes_eq-Decides}
 use Rattle.std.proofs.lemmas.List.{append-nil, length-append, length-map, length-replicate}
 use Rattle.std.proofs.lemmas.List.{take-append-drop}
 use Rattle.std.proofs.lemmas.List.Elements.{All-nil, All-head, All-tail, All-push, All-map}
 use Rattle.std.proofs.lemmas.List.Elements.{All-weaker, All-filter}
-use Rattle.std.proofs.lemmas.List.Elements.{filter_passes, filter-append}
+use Rattle.std.proofs.lemmas.List.Elements.{filter_passes}
 use Rattle.std.proofs.lemmas.List.Folds.{list_all-append}
 use Rattle.vcd_core.specs.declared.bit.Bit.{Bit}
 use Rattle.vcd_core.specs.declared.capture.Header.{Header}
@@ -22,6 +22,7 @@ use Rattle.vcd_core.specs.declared.capture.Timescale.{Timescale}
 use Rattle.vcd_core.specs.declared.value.TheConstants.{WIDTH_LIMIT}
 use Rattle.vcd_core.specs.declared.capture.TheConstants.{END_LIMIT, SIGNAL_LIMIT}
 use Rattle.vcd_core.specs.Word.{is_word, is_skipped_kind}
+use Rattle.vcd_core.specs.Contents.{Contents}
 use Rattle.vcd_core.specs.Sound.{IsSound, IsSoundSignal, is_sound_header, is_sound_scope}
 use Rattle.vcd_core.specs.Sound.{is_sound_timescale}
 use Rattle.vcd_core.proofs.shared.Waves.{changes_rise, changes_end}
@@ -38,13 +39,14 @@ use Rattle.vcd_text.specs.Grammar.{Allows}
 use Rattle.vcd_text.specs.Grammar.{AllowsAll}
 use Rattle.vcd_text.proofs.shared.ItemTests.{has_timescale, has_declaration, has_tick, knows_code, takes_digits}
 use Rattle.vcd_text.specs.Grammar.{state_after, state_after_item, is_skipped, kept_variables}
-use Rattle.vcd_text.specs.Grammar.{variable_of}
+use Rattle.vcd_text.specs.Grammar.{variable_of, initial_state}
 use Rattle.vcd_text.specs.Grammar.{may_have_code, is_within_limit, value_changes_after}
 use Rattle.vcd_text.specs.Grammar.{with_value_change}
 use Rattle.vcd_text.specs.inside.reading.DigitTests.{takes_binary_number}
 use Rattle.vcd_text.proofs.words.WordsInTurn.{by_test, is_run_text, texts_are_runs, run_is_word}
 use Rattle.vcd_text.specs.Meaning.{meaning, declared_signal, latest_value}
 use Rattle.std.proofs.lemmas.List.Folds.{find-append}
+use Rattle.vcd_text.proofs.part.FewSignals.{KeepsFew, few_after, same_limit}
 
 -- ---- words
 
@@ -108,7 +110,6 @@ record IsClean (c : ParseState) : Type 0 where
   scopes : list_all is_sound_scope c.scopes ≡ true
   declared : All IsCleanDeclaration c.declared
   agree : All (IsAgreed c) c.declared
-  few : length (kept_variables c.declared) ≤ SIGNAL_LIMIT
   fit : All (Fits c) c.value_changes
   no_early_change : c.in_body ≡ false → c.value_changes ≡ []
   tick : c.tick ≤ END_LIMIT
@@ -144,7 +145,6 @@ clean_value_change c code letters clean in_body fits = record {
   scopes = clean.scopes;
   declared = clean.declared;
   agree = clean.agree;
-  few = clean.few;
   fit = more (variable_of c code) refl fits;
   no_early_change = λ no_more. absurd (false≢true (sym no_more ∙ in_body));
   tick = clean.tick;
@@ -167,7 +167,7 @@ both_kept false e h = (h, refl)
 
 -- one more variable
 clean_declared : (c : ParseState) (d : VariableDeclaration) → IsClean c → IsFalse c.in_body → IsCleanDeclaration d
-    → IsTrue (may_have_code (variable_of c d.code) d) → IsTrue (is_within_limit c.declared d)
+    → IsTrue (may_have_code (variable_of c d.code) d) → IsTrue (is_within_limit c.limit c.declared d)
     → IsClean (record c { declared = c.declared ++ d ∷ [] })
 clean_declared c d clean declaring is shares room =
     let e : ParseState = record c { declared = c.declared ++ d ∷ [] } in
@@ -182,7 +182,6 @@ clean_declared c d clean declaring is shares room =
           (λ x agrees keeps. found_further _ (λ y. bytes_eq x.code y.code) c.declared d (agrees keeps)) c.declared
           clean.agree)
           (λ keeps. first_or_same (variable_of c d.code) refl shares keeps);
-      few = counted;
       fit = subst (All (Fits e)) (sym (clean.no_early_change declaring)) (All-nil (Fits e));
       no_early_change = clean.no_early_change;
       tick = clean.tick;
@@ -200,9 +199,6 @@ clean_declared c d clean declaring is shares room =
         found_further _ (λ y. bytes_eq d.code y.code) c.declared d
         (subst (λ o. IsSomeAnd o (λ e. (e.size ≡ d.size) × (is_skipped e ≡ false))) (sym some)
         (eqb-true x.size d.size same.0, same.1))
-
-    counted : length (kept_variables (c.declared ++ d ∷ [])) ≤ SIGNAL_LIMIT
-    counted = grind (arith, filter-append, length-append, by_test, ltb-true)
 
 clean_variable : (c : ParseState) (words : List (List ℕ)) → IsClean c
     → list_all is_run_text (spelling (variable words)) ≡ true → Allows c (variable words)
@@ -234,6 +230,7 @@ clean_beside : (c : ParseState) (header : List Header) (time : Option Timescale)
     → list_all is_sound_header header ≡ true → IfSome time (λ t. is_sound_timescale t ≡ true)
     → list_all is_sound_scope scopes ≡ true → (in_body ≡ false → c.value_changes ≡ []) → tick ≤ END_LIMIT
     → IsClean (record {
+      limit = c.limit;
       header = header;
       timescale = time;
       scopes = scopes;
@@ -300,8 +297,16 @@ sound_signal : (c : ParseState) (d : VariableDeclaration) → IsClean c → IsCl
 sound_signal c d clean is agrees keeps =
     search (arith, kept_is, latest_length, length-replicate, bytes_eq-Decides, changes_rise, changes_end)
 
-pub meaning_is_sound : (bytes : List ℕ) (state : ParseState) → Accepts (words_of bytes) state → IsSound (meaning state)
-meaning_is_sound bytes state accepted =
+-- a capture is sound, apart from the number of its signals
+pub record IsSoundBut (c : Contents) : Type 0 where
+  pub header : IsTrue (list_all is_sound_header c.header)
+  pub timescale : IfSome c.timescale (λ t. IsTrue (is_sound_timescale t))
+  pub end : c.end ≤ END_LIMIT
+  pub signals : All (IsSoundSignal c.end) c.signals
+
+pub meaning_is_sound_but : (limit : ℕ) (bytes : List ℕ) (state : ParseState) → Accepts limit (words_of bytes) state
+    → IsSoundBut (meaning state)
+meaning_is_sound_but limit bytes state accepted =
     let clean : IsClean state = grind (arith, clean_items, texts_are_runs) in
     let declared = All-filter (λ d. not (is_skipped d)) IsCleanDeclaration state.declared clean.declared in
     let agree = All-filter (λ d. not (is_skipped d)) (IsAgreed state) state.declared clean.agree in
@@ -310,9 +315,29 @@ meaning_is_sound bytes state accepted =
       header = clean.header;
       timescale = clean.timescale;
       end = clean.tick;
-      few = grind (arith, length-map);
       signals = All-map (IsSoundSignal state.tick) (declared_signal state.value_changes state.tick)
           (kept_variables state.declared)
           (λ k d within. sound_signal state _ clean (declared k d within) (agree k d within)
           (not-true _ (keeps k d within)));
+    }
+
+pub meaning_is_sound : (bytes : List ℕ) (state : ParseState) → Accepts SIGNAL_LIMIT (words_of bytes) state
+    → IsSound (meaning state)
+meaning_is_sound bytes state accepted =
+    let sound = meaning_is_sound_but SIGNAL_LIMIT bytes state accepted in
+    let few : KeepsFew state = subst KeepsFew accepted.state_is
+    (few_after (initial_state SIGNAL_LIMIT) accepted.items accepted.allowed (omega arith)) in
+    let limit : state.limit ≡ SIGNAL_LIMIT = ap (λ (c : ParseState). c.limit) (sym accepted.state_is)
+    ∙ same_limit (initial_state SIGNAL_LIMIT) accepted.items in
+    record {
+      header = sound.header;
+      timescale = sound.timescale;
+      end = sound.end;
+      few = omega (
+        arith,
+        few,
+        limit,
+        length-map (kept_variables state.declared) (declared_signal state.value_changes state.tick),
+      );
+      signals = sound.signals;
     }

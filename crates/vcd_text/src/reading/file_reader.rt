@@ -1,6 +1,6 @@
 //! A file in chunks: the complete words of each chunk are taken before the next read.
 
-ghost use Rattle.std.specs.Prelude.{◌≡◌, ◌∷◌, ◌+◌, ◌<◌, ◌≤◌, ℕ, true, false, not, List, []};
+ghost use Rattle.std.specs.Prelude.{◌≡◌, ◌∷◌, ◌+◌, ◌<◌, ◌≤◌, ◌^◌, ℕ, true, false, not, List, []};
 ghost use Rattle.std.specs.Prelude.{length, map, take, drop, Option, IfOk, IfErr, IfSome, OnOk};
 ghost use Rattle.std.specs.List.{list_all};
 ghost use Rattle.std.specs.Io.KnownBytes.{IsAtEnd};
@@ -25,10 +25,10 @@ ghost use Rattle.vcd_text.specs.inside.reading.FileReader.{TakesChunk};
 ghost use Rattle.vcd_text.specs.declared.reading.parser.OpenItem.TheVariants as items;
 
 use crate::fault::{Fault, ReadError};
+use crate::reading::Loaded;
 use crate::reading::choice::{Choice, chosen_part};
 use crate::reading::parser::Parser;
 use crate::reading::read_buffer::ReadBuffer;
-use crate::reading::{FILE_LIMIT, Loaded};
 use crate::words::Words;
 use std::alloc::Global;
 use vcd_core::{Source, is_white_space};
@@ -48,15 +48,17 @@ pub struct FileReader {
 
 impl FileReader {
     /// The progress before the first read.
-    pub fn new(alloc: Global) -> FileReader
-        ensures read_bytes { (asked : Asked) → HasReadBytes (HasTakenWords asked) result [] }
+    pub fn new(alloc: Global, limit: u32, most: usize) -> FileReader
+        requires { most < 2 ^ 62 }
+        ensures read_bytes { (asked : Asked) →
+            HasReadBytes most (HasTakenWords limit asked) result [] }
         ensures in_body { result.parser.in_body ≡ false }
     {
         FileReader {
-            parser: Parser::new(alloc),
+            parser: Parser::new(alloc, limit),
             buffer: ReadBuffer::new(alloc),
             line_feeds: 0,
-            bytes_left: FILE_LIMIT,
+            bytes_left: most,
         }
     }
 
@@ -69,21 +71,24 @@ impl FileReader {
         choice: &mut C,
     ) -> Result<bool, ReadError>
         requires ready { R.has_failed source.old ≡ false }
-        requires read_bytes { (first : C) × (bytes : List ℕ)
-            × HasReadBytes (HasTakenFrom C.takes C.answers first choice.old) self.old bytes }
-        ensures taken { OnOk result ((first : C) (coming : Option (List ℕ)) →
-            FileReaderMatches (HasTakenFrom C.takes C.answers first choice.old) coming
+        requires read_bytes { (limit : ℕ) × (most : ℕ) × (first : C) × (bytes : List ℕ)
+            × HasReadBytes most (HasTakenFrom limit C.takes C.answers first choice.old) self.old
+            bytes }
+        ensures taken { OnOk result ((limit most : ℕ) (first : C) (coming : Option (List ℕ)) →
+            FileReaderMatches most (HasTakenFrom limit C.takes C.answers first choice.old) coming
             (R.coming source.old) self.old →
-            FileReaderMatches (HasTakenFrom C.takes C.answers first choice.new) coming
+            FileReaderMatches most (HasTakenFrom limit C.takes C.answers first choice.new) coming
             (R.coming source.new) self.new) }
         ensures not_failed { OnOk result (R.has_failed source.new ≡ false) }
         ensures ended { IfOk result (λ more. more ≡ false → IsAtEnd (R.coming source.new)) }
         ensures fewer { IfOk result (λ more. more ≡ true
             → self.new.bytes_left < self.old.bytes_left) }
-        ensures refused { IfErr result (λ e. (first : C) (coming : Option (List ℕ)) →
-            FileReaderMatches (HasTakenFrom C.takes C.answers first choice.old) coming
+        ensures refused { IfErr result (λ e. (limit most : ℕ) (first : C) (coming : Option (List ℕ))
+            →
+            FileReaderMatches most (HasTakenFrom limit C.takes C.answers first choice.old) coming
             (R.coming source.old) self.old →
-            IfSome coming (λ file. IsPartRefusal (C.takes first) (told C.answers first choice.new)
+            IfSome coming (λ file. IsPartRefusal limit most (C.takes first)
+            (told C.answers first choice.new)
             file (R.has_failed source.new) (R.coming source.new) e)) }
         ensures failed { IfErr result (λ e. e.fault ≡ Fault.ReadFault →
             R.has_failed source.new ≡ true) }
@@ -110,13 +115,13 @@ impl FileReader {
         choice: &mut C,
         unfinished_len: usize,
     ) -> Result<(), ReadError>
-        requires { (first : C) × (bytes : List ℕ)
-            × HasUntakenChunk (HasTakenFrom C.takes C.answers first choice.old) self.old
+        requires { (limit : ℕ) × (most : ℕ) × (first : C) × (bytes : List ℕ)
+            × HasUntakenChunk most (HasTakenFrom limit C.takes C.answers first choice.old) self.old
             unfinished_len bytes }
-        ensures taken { (first : C) (bytes : List ℕ) →
-            HasUntakenChunk (HasTakenFrom C.takes C.answers first choice.old) self.old
+        ensures taken { (limit most : ℕ) (first : C) (bytes : List ℕ) →
+            HasUntakenChunk most (HasTakenFrom limit C.takes C.answers first choice.old) self.old
             unfinished_len bytes →
-            TakesChunk C.takes C.answers first choice.new bytes result self.new }
+            TakesChunk limit most C.takes C.answers first choice.new bytes result self.new }
         ensures bytes_left { self.new.bytes_left ≡ self.old.bytes_left }
     {
         let len = complete_words_len(self.buffer.as_slice(), unfinished_len);
@@ -132,15 +137,15 @@ impl FileReader {
     /// Takes the word that the file's end completes, if there is one. The result is the part of
     /// what the file means, or its fault.
     pub fn finish<C: Choice>(self, alloc: Global, choice: &mut C) -> Result<Loaded, ReadError>
-        requires { (first : C) × (bytes : List ℕ)
-            × HasReadBytes (HasTakenFrom C.takes C.answers first choice.old) self bytes }
-        ensures means { IfOk result (λ loaded. (first : C) (bytes : List ℕ) →
-            HasReadBytes (HasTakenFrom C.takes C.answers first choice.old) self bytes →
-            PartMeans (C.takes first) (told C.answers first choice.new) bytes loaded) }
+        requires { (limit : ℕ) × (most : ℕ) × (first : C) × (bytes : List ℕ)
+            × HasReadBytes most (HasTakenFrom limit C.takes C.answers first choice.old) self bytes }
+        ensures means { IfOk result (λ loaded. (limit most : ℕ) (first : C) (bytes : List ℕ) →
+            HasReadBytes most (HasTakenFrom limit C.takes C.answers first choice.old) self bytes →
+            PartMeans limit (C.takes first) (told C.answers first choice.new) bytes loaded) }
         ensures sound { IfOk result (λ loaded. IsSound (contents loaded.capture)) }
-        ensures fault { IfErr result (λ e. (first : C) (bytes : List ℕ) →
-            HasReadBytes (HasTakenFrom C.takes C.answers first choice.old) self bytes →
-            RefusesFile (C.takes first) (told C.answers first choice.new) bytes e) }
+        ensures fault { IfErr result (λ e. (limit most : ℕ) (first : C) (bytes : List ℕ) →
+            HasReadBytes most (HasTakenFrom limit C.takes C.answers first choice.old) self bytes →
+            RefusesFile limit (C.takes first) (told C.answers first choice.new) bytes e) }
     {
         let FileReader {
             mut parser,
@@ -198,11 +203,13 @@ fn read_words<C: Choice>(
     choice: &mut C,
     words: Words,
 ) -> Result<u64, ReadError>
-    requires { (first : C) × CanTake C.takes C.answers first choice.old parser.old
+    requires { (limit : ℕ) × (first : C) × CanTake limit C.takes C.answers first choice.old
+        parser.old
         (words_left words) }
-    ensures words { (first : C) (words_so_far : List WordInFile) →
-        HasTakenFrom C.takes C.answers first choice.old parser.old words_so_far →
-        AllWordsResult C.takes C.answers first choice.new words_so_far (words_left words.entry)
+    ensures words { (limit : ℕ) (first : C) (words_so_far : List WordInFile) →
+        HasTakenFrom limit C.takes C.answers first choice.old parser.old words_so_far →
+        AllWordsResult limit C.takes C.answers first choice.new words_so_far
+        (words_left words.entry)
         result parser.new }
     ensures line_feeds { IfOk result (λ line_feeds.
         line_feeds ≡ words.entry.line_feeds + line_feeds_in words.entry.rest.now) }
@@ -222,12 +229,14 @@ fn take_word<C: Choice>(
     text: &[u8],
     line: u64,
 ) -> Result<(), ReadError>
-    requires reading { (first : C) × CanTake C.takes C.answers first choice.old parser.old
+    requires reading { (limit : ℕ) × (first : C)
+        × CanTake limit C.takes C.answers first choice.old parser.old
         (word_on text.now line ∷ []) }
     requires word { 0 < length text.now }
-    ensures { (first : C) (words_so_far : List WordInFile) →
-        HasTakenFrom C.takes C.answers first choice.old parser.old words_so_far →
-        TakesWord C.takes C.answers first choice.new words_so_far (word_on text.now line) result
+    ensures { (limit : ℕ) (first : C) (words_so_far : List WordInFile) →
+        HasTakenFrom limit C.takes C.answers first choice.old parser.old words_so_far →
+        TakesWord limit C.takes C.answers first choice.new words_so_far (word_on text.now line)
+        result
         parser.new }
 {
     if !parser.ends_definitions(text) {

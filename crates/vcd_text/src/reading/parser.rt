@@ -67,15 +67,16 @@ pub struct Parser {
 }
 
 impl Parser {
-    /// A parser before the first word. It takes no memory.
-    pub fn new(alloc: Global) -> Parser
-        ensures words { (asked : Asked) → HasTakenWords asked result [] }
+    /// A parser before the first word, of a file with at most so many kept variables. It takes no
+    /// memory.
+    pub fn new(alloc: Global, limit: u32) -> Parser
+        ensures words { (asked : Asked) → HasTakenWords limit asked result [] }
         ensures in_body { result.in_body ≡ false }
     {
         Parser {
             header: Vec::new(alloc),
             timescale: None,
-            variables: Variables::new(alloc),
+            variables: Variables::new(alloc, limit),
             in_body: false,
             tick: 0,
             item: OpenItem::Nothing,

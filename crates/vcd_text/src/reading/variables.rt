@@ -77,20 +77,23 @@ pub struct Variables {
     pub code_targets: CodeTargets,
     /// The number of skipped variables.
     pub skipped: u64,
+    /// The most variables that may be kept.
+    pub limit: u32,
     /// The changes that the waves of at most 64 bits do not have yet, in groups.
     pub log: Vec<Vec<LoggedChange>>,
 }
 
 impl Variables {
-    /// No variables. It takes no memory.
-    pub fn new(alloc: Global) -> Variables
-        ensures { VariablesMatch result initial_state }
+    /// No variables, of at most so many that may be kept. It takes no memory.
+    pub fn new(alloc: Global, limit: u32) -> Variables
+        ensures { VariablesMatch result (initial_state limit) }
     {
         Variables {
             scopes: Scopes::new(alloc),
             kept: Vec::new(alloc),
             code_targets: CodeTargets::new(alloc),
             skipped: 0,
+            limit,
             log: Vec::new(alloc),
         }
     }

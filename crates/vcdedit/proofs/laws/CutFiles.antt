@@ -4,6 +4,7 @@ use Rattle.std.proofs.Common.{arith}
 use Rattle.std.proofs.lemmas.Bool.{lt-ltb, le-leb}
 use Rattle.vcd_core.specs.Contents.{Contents}
 use Rattle.vcd_core.specs.Sound.{IsSound}
+use Rattle.vcd_core.specs.declared.capture.TheConstants.{SIGNAL_LIMIT}
 use Rattle.vcd_text.specs.Text.{text}
 use Rattle.vcd_text.proofs.shared.ResultIsUnique.{one_meaning}
 use Rattle.vcd_text.proofs.read_back.WholeText.{read_back}
@@ -25,7 +26,7 @@ pub cut_file_is_read_again : CutFileIsReadAgain
 cut_file_is_read_again file c d skipped left_out from k t means some ends again within late upto =
     let sound : IsSound c = subst IsSound (sym means.means) (meaning_is_sound file means.state means.accepted) in
     let written : Contents = effect (Cut 0 from) c in
-    let is : d ≡ written = (one_meaning (text written) d written left_out 0 again
+    let is : d ≡ written = (one_meaning SIGNAL_LIMIT (text written) d written left_out 0 again
     (read_back written (effect_is_sound (Cut 0 from) c sound (may_cut from c some ends)))).0 in
     ap (λ (e : Contents). value_of e k (t - from)) is
     ∙ ap (value_of written k) {x = t - from} {y = t - (from - 0)} (omega arith)

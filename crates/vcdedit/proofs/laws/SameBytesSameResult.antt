@@ -1,6 +1,7 @@
 -- But for memory, the bytes of two files and the depth have one result.
 use Rattle.std.proofs.Common.{◌≡◌, ◌≤◌, ℕ, List, length, Ok, Err, refl, sym, ap, ◌∙◌, arith}
 use Rattle.std.specs.List.{concat}
+use Rattle.vcd_core.specs.declared.capture.TheConstants.{SIGNAL_LIMIT}
 use Rattle.vcd_text.specs.declared.fault.ReadError.{ReadError}
 use Rattle.vcd_text.specs.declared.reading.TheConstants.{FILE_LIMIT}
 use Rattle.vcd_text.proofs.shared.FoundFault.{meaning-no_fault}
@@ -23,7 +24,8 @@ one_outcome file script depth one other run also =
 
 -- a file within the limit that has a meaning is not refused
 not_refused : (file : List ℕ) (e : ReadError) → length file ≤ FILE_LIMIT → HasMeaning file → IsRefusedFile file e → ⊥
-not_refused file e short has (has_fault also fault) = meaning-no_fault file has.0 has.1 e.line e.fault has.2 fault
+not_refused file e short has (has_fault also fault) = meaning-no_fault SIGNAL_LIMIT file has.0 has.1 e.line e.fault
+    has.2 fault
 not_refused file e short has (too_large long answer) = omega (arith, short, long)
 
 -- the file of a run has a meaning

@@ -8,6 +8,7 @@ use Rattle.std.proofs.Math.Seq.{take-length, take-append_seam}
 use Rattle.std.proofs.lemmas.List.{length-append}
 use Rattle.std.proofs.lemmas.List.Sums.{sum_by-cons, fold-append}
 use Rattle.vcd_core.specs.Contents.{Contents}
+use Rattle.vcd_core.specs.declared.capture.TheConstants.{SIGNAL_LIMIT}
 use Rattle.vcd_text.specs.Text.{text}
 use Rattle.vcd_text.specs.Meaning.{FileMeans}
 use Rattle.vcd_text.proofs.shared.ResultIsUnique.{one_meaning}
@@ -171,12 +172,12 @@ outcome_is c skipped depth lines =
     λ i. record { replies = replies i; output = text (last i); refused = refused i }
 
 -- what the equations say is what a run writes, as a file means one thing
-pub run_is : (file script : List ℕ) (depth : ℕ) (c : Contents) (skipped : ℕ) → FileMeans file c skipped
+pub run_is : (file script : List ℕ) (depth : ℕ) (c : Contents) (skipped : ℕ) → FileMeans SIGNAL_LIMIT file c skipped
     → IsRun file script depth (outcome c skipped depth (script_lines script))
 run_is file script depth c skipped means = record {
   contents = c;
   skipped = skipped;
   means = means;
-  only = λ d count also. one_meaning file d c count skipped also means;
+  only = λ d count also. one_meaning SIGNAL_LIMIT file d c count skipped also means;
   run = refl;
 }

@@ -6,6 +6,7 @@ use Rattle.std.specs.Prelude.{IfSome, IfErr, IsErrAnd}
 use Rattle.std.specs.List.{concat}
 use Rattle.std.specs.Io.KnownBytes.{Appends, Keeps, IsAtEnd}
 use Rattle.vcd_core.specs.Contents.{Contents}
+use Rattle.vcd_core.specs.declared.capture.TheConstants.{SIGNAL_LIMIT}
 use Rattle.vcd_text.specs.Meaning.{FileMeans}
 use Rattle.vcd_text.specs.Refusals.{IsRefusal, IsOnlyRefusal}
 use Rattle.vcd_text.proofs.shared.OneRefusal.{one_refusal}
@@ -36,24 +37,26 @@ use Rattle.vcdedit.proofs.running.LinesAndHistory.{outcome_is, run_is}
 
 -- what a file within the limit means
 pub file_means : (coming : Option (List ℕ)) (c : Contents) (skipped : ℕ)
-    → IfSome coming (λ f. (length f ≤ FILE_LIMIT) × FileMeans f c skipped) → IfSome coming (λ f. FileMeans f c skipped)
+    → IfSome coming (λ f. (length f ≤ FILE_LIMIT) × FileMeans SIGNAL_LIMIT f c skipped) →
+    IfSome coming (λ f. FileMeans SIGNAL_LIMIT f c skipped)
 file_means None c skipped read = tt
 file_means (Some f) c skipped read = read.1
 
 file_is_short : (coming : Option (List ℕ)) (c : Contents) (skipped : ℕ)
-    → IfSome coming (λ f. (length f ≤ FILE_LIMIT) × FileMeans f c skipped) → IfSome coming (λ f. length f ≤ FILE_LIMIT)
+    → IfSome coming (λ f. (length f ≤ FILE_LIMIT) × FileMeans SIGNAL_LIMIT f c skipped) →
+    IfSome coming (λ f. length f ≤ FILE_LIMIT)
 file_is_short None c skipped read = tt
 file_is_short (Some f) c skipped read = read.0
 
 file_has_meaning : (coming : Option (List ℕ)) (c : Contents) (skipped : ℕ)
-    → IfSome coming (λ f. (length f ≤ FILE_LIMIT) × FileMeans f c skipped) →
-    IfSome coming (λ f. (d : Contents) × (count : ℕ) × FileMeans f d count)
+    → IfSome coming (λ f. (length f ≤ FILE_LIMIT) × FileMeans SIGNAL_LIMIT f c skipped) →
+    IfSome coming (λ f. (d : Contents) × (count : ℕ) × FileMeans SIGNAL_LIMIT f d count)
 file_has_meaning None c skipped read = tt
 file_has_meaning (Some f) c skipped read = (c, skipped, read.1)
 
 -- a capture that was read to its end, within the limit, and means something
 pub is_accepted : (capture : DeviceEnd) (c : Contents) (skipped : ℕ) → capture.has_failed ≡ false
-    → IsAtEnd capture.after → IfSome capture.before (λ f. (length f ≤ FILE_LIMIT) × FileMeans f c skipped)
+    → IsAtEnd capture.after → IfSome capture.before (λ f. (length f ≤ FILE_LIMIT) × FileMeans SIGNAL_LIMIT f c skipped)
     → IsAccepted capture
 is_accepted capture c skipped ready ended read =
     ((ready, ended, file_is_short capture.before c skipped read), file_has_meaning capture.before c skipped read)
@@ -63,7 +66,8 @@ is_accepted capture c skipped ready ended read =
 -- the lines of the script, run from the capture that the file means
 script_gives : (file script : List ℕ) (depth skipped : ℕ) (c : Contents) (new : Machine) (count : ℕ)
     (before after : Option (List ℕ)) →
-    FileMeans file c skipped → RunsLines skipped (script_lines script) (initial_machine c depth) new count before after
+    FileMeans SIGNAL_LIMIT file c skipped → RunsLines skipped (script_lines script) (initial_machine c depth) new count
+    before after
     → ScriptGives file script depth count (Appends before after) new.now
 script_gives file script depth skipped c new count before after means ran =
     let here = ran.2 in
@@ -81,7 +85,7 @@ script_gives file script depth skipped c new count before after means ran =
 -- the same for a device that may not show its bytes
 pub script_gives_where_known : (coming script_coming : Option (List ℕ)) (script : List ℕ) (depth skipped : ℕ)
     (c : Contents) (new : Machine) (count : ℕ) (before after : Option (List ℕ)) →
-    IfSome coming (λ f. FileMeans f c skipped) → IfSome script_coming (λ s. script ≡ s)
+    IfSome coming (λ f. FileMeans SIGNAL_LIMIT f c skipped) → IfSome script_coming (λ s. script ≡ s)
     → RunsLines skipped (script_lines script) (initial_machine c depth) new count before after →
     IfSome coming (λ f. IfSome script_coming (λ s. ScriptGives f s depth count (Appends before after) new.now))
 script_gives_where_known None script_coming script depth skipped c new count before after means is ran = tt
@@ -92,7 +96,7 @@ script_gives_where_known (Some f) (Some s) script depth skipped c new count befo
 -- what holds of the outcome of the script on the capture file holds of what the run writes
 for_run : (coming script_coming : Option (List ℕ)) (script : List ℕ) (depth skipped : ℕ) (c : Contents)
     (property : RunOutcome → Type 0) →
-    IfSome coming (λ f. FileMeans f c skipped) → IfSome script_coming (λ s. script ≡ s)
+    IfSome coming (λ f. FileMeans SIGNAL_LIMIT f c skipped) → IfSome script_coming (λ s. script ≡ s)
     → property (outcome c skipped depth (script_lines script)) →
     IfSome coming (λ f. IfSome script_coming (λ s. (written : RunOutcome) × IsRun f s depth written
     × property written))
@@ -125,14 +129,19 @@ if_run_writes (Some f) (Some s) depth count took_replies now property ran follow
 
 -- a refused capture is refused for one fault
 refused_once : (coming left : Option (List ℕ)) (has_failed : Bool) (e : ReadError)
-    → IfSome coming (λ file. IsRefusal file has_failed left e)
-    → IfSome coming (λ file. IsRefusal file has_failed left e × IsOnlyRefusal file has_failed left e)
+    → IfSome coming (λ file. IsRefusal SIGNAL_LIMIT FILE_LIMIT file has_failed left e)
+    → IfSome coming (λ file. IsRefusal SIGNAL_LIMIT FILE_LIMIT file has_failed left e
+    × IsOnlyRefusal SIGNAL_LIMIT FILE_LIMIT file has_failed left e)
 refused_once None left has_failed e refused = tt
-refused_once (Some file) left has_failed e refused = (refused, one_refusal file has_failed left e refused)
+refused_once (Some file) left has_failed e refused = (
+  refused,
+  one_refusal SIGNAL_LIMIT FILE_LIMIT file has_failed left
+      e refused,
+)
 
 -- at a fault of the capture
 pub capture_ends : (capture script : DeviceEnd) (e : ReadError)
-    → IfSome capture.before (λ file. IsRefusal file capture.has_failed capture.after e) →
+    → IfSome capture.before (λ file. IsRefusal SIGNAL_LIMIT FILE_LIMIT file capture.has_failed capture.after e) →
     (e.fault ≡ faults.ReadFault → capture.has_failed ≡ true)
     → (e.fault ≡ faults.TooLarge → capture.has_failed ≡ false) → IsUntouched script
     → EndsBeforeReplies capture script (run_errors.Capture e)
@@ -155,7 +164,7 @@ session_ends capture script replies depth e none accepted untouched output kept 
 -- in the lines, given what was taken of the replies
 taken_end : (capture script replies : DeviceEnd) (bytes : List ℕ) (depth skipped : ℕ) (c : Contents)
     (e : RunError) (is_flushed : Bool) →
-    IsAccepted capture → IsRead SCRIPT_LIMIT script → IfSome capture.before (λ f. FileMeans f c skipped)
+    IsAccepted capture → IsRead SCRIPT_LIMIT script → IfSome capture.before (λ f. FileMeans SIGNAL_LIMIT f c skipped)
     → IfSome script.before (λ s. bytes ≡ s) →
     HasFailedAt replies.has_failed is_flushed e
     → StopsInReplies (outcome c skipped depth (script_lines bytes)).replies (Appends replies.before replies.after) e →
@@ -195,7 +204,7 @@ taken_end capture script replies bytes depth skipped c (run_errors.Write fault) 
 -- the same by the machine's replies
 pub lines_end : (capture script replies : DeviceEnd) (bytes : List ℕ) (depth skipped : ℕ) (c : Contents)
     (e : RunError) (is_flushed : Bool) →
-    IsAccepted capture → IsRead SCRIPT_LIMIT script → IfSome capture.before (λ f. FileMeans f c skipped)
+    IsAccepted capture → IsRead SCRIPT_LIMIT script → IfSome capture.before (λ f. FileMeans SIGNAL_LIMIT f c skipped)
     → IfSome script.before (λ s. bytes ≡ s) →
     HasFailedAt replies.has_failed is_flushed e
     → StopsInLines skipped (script_lines bytes) (initial_machine c depth) replies.before replies.after e →

@@ -2,6 +2,7 @@
 
 ghost use Rattle.std.specs.Prelude.{◌≡◌, ◌≤◌, ℕ, List};
 ghost use Rattle.vcd_core.specs.Contents.{Contents};
+ghost use Rattle.vcd_core.specs.declared.capture.TheConstants.{SIGNAL_LIMIT};
 ghost use Rattle.vcd_text.specs.Meaning.{FileMeans};
 ghost use Rattle.vcdedit.specs.Run.{RunLaws};
 ghost use Rattle.vcdedit.specs.Report.{run_refusal_name};
@@ -80,7 +81,7 @@ pub fn run_on_bytes(
     ensures headline { RunGives capture.now script.now depth result }
     // what follows from the equations of the headline, for any lines on what a file means
     ensures laws { (file : List ℕ) (c : Contents) (skipped : ℕ) (lines : List (List ℕ)) →
-        FileMeans file c skipped → RunLaws c skipped depth lines }
+        FileMeans SIGNAL_LIMIT file c skipped → RunLaws c skipped depth lines }
 {
     let mut replies = ToBytes::new(alloc);
     let mut output = ToBytes::new(alloc);

@@ -4,7 +4,7 @@ use Rattle.std.proofs.Common.{false, not, cond}
 use Rattle.std.proofs.Common.{List, [], ◌∷◌, ◌++◌, length, take, drop, get_or, Option, Some, None}
 use Rattle.std.proofs.Common.{IfSome, refl, sym}
 use Rattle.std.proofs.Common.{ap, subst, ◌∙◌, arith, append_assoc, length-append}
-use Rattle.std.specs.Prelude.{IsTrue, IsFalse}
+use Rattle.std.specs.Prelude.{◌^◌, IsTrue, IsFalse}
 use Rattle.std.specs.List.{list_all}
 use Rattle.std.specs.Io.KnownBytes.{Consumes, Keeps, IsAtEnd}
 use Rattle.std.proofs.KnownBytes.{Consumes-trans, Consumes-kept}
@@ -13,7 +13,6 @@ use Rattle.std.proofs.lemmas.List.{append-nil, take-append-drop}
 use Rattle.std.proofs.lemmas.List.Sums.{count_by-le-length}
 use Rattle.std.proofs.lemmas.Bool.{cases_lt}
 use Rattle.vcd_core.specs.Word.{is_white_space}
-use Rattle.vcd_text.specs.declared.reading.TheConstants.{FILE_LIMIT}
 use Rattle.vcd_text.specs.declared.fault.Fault.TheVariants as faults
 use Rattle.vcd_text.specs.declared.fault.ReadError.{ReadError}
 use Rattle.vcd_text.specs.declared.reading.file_reader.FileReader.{FileReader}
@@ -38,8 +37,6 @@ use Rattle.vcd_text.specs.inside.reading.ReadBuffer.{ReadBufferView}
 use Rattle.std.proofs.lemmas.Grind.{common_steps}
 use Rattle.vcd_core.specs.Contents.{SignalContents}
 use Rattle.vcd_text.specs.Parts.{ChoiceAnswers, Answers, RefusesPart, too_many_remain, declined, IsPartRefusal}
-use Rattle.vcd_core.specs.declared.capture.Timescale.{Timescale}
-use Rattle.vcd_text.specs.declared.reading.choice.TickRange.{TickRange}
 use Rattle.vcd_text.specs.inside.reading.Part.{Asked}
 use Rattle.vcd_text.specs.inside.reading.Choice.{HasTakenFrom, RefusesWords, RefusesFile, ShowsNone}
 use Rattle.vcd_text.proofs.reading.parser.AskedParts.{declares_further, nothing_asked}
@@ -88,8 +85,9 @@ words_complete end_counts line (b ∷ bs) rest complete = complete_first end_cou
 
 -- ---- one more chunk
 
-module _ (taken_by : Parser → List WordOnLine → Type 0) (p : FileReader) (from len : ℕ) (bytes complete_text : List ℕ)
-    (come : HasUntakenChunk taken_by p from bytes)
+module _ (limit most : ℕ) (taken_by : Parser → List WordOnLine → Type 0) (p : FileReader) (from len : ℕ)
+    (bytes complete_text : List ℕ)
+    (come : HasUntakenChunk most taken_by p from bytes)
     (ends : has_complete_words (take len p.buffer.bytes) ≡ true)
     (no_space : list_all (λ b. not (is_white_space b)) (drop len p.buffer.bytes) ≡ true)
     (prefix : complete_text ≡ take len p.buffer.bytes) where
@@ -123,7 +121,7 @@ module _ (taken_by : Parser → List WordOnLine → Type 0) (p : FileReader) (fr
   -- the complete words have been taken
   pub now_taken : (later : Parser → List WordOnLine → Type 0) (new : Parser)
       → later new (complete_words come.before ++ complete)
-      → HasTaken later new back (p.line_feeds + line_feeds_in complete_text) p.bytes_left bytes
+      → HasTaken most later new back (p.line_feeds + line_feeds_in complete_text) p.bytes_left bytes
   now_taken later new reads =
       grind (
         arith,
@@ -139,29 +137,39 @@ module _ (taken_by : Parser → List WordOnLine → Type 0) (p : FileReader) (fr
 
   -- or one of them is refused
   pub now_refused : (takes : SignalContents → Bool) (answers : Answers) (e : ReadError)
-      → RefusesWords takes answers (complete_words come.before ++ complete) e
-      → RefusesWords takes answers (complete_words bytes) e
+      → RefusesWords limit takes answers (complete_words come.before ++ complete) e
+      → RefusesWords limit takes answers (complete_words bytes) e
   now_refused takes answers e refused =
-      subst (λ words. RefusesWords takes answers words e) (sym closed_now) refused
+      subst (λ words. RefusesWords limit takes answers words e) (sym closed_now) refused
 
 -- ---- nothing has been read, or all has been
 
-pub nothing_taken : (taken_by : Parser → List WordOnLine → Type 0) (m : Parser) (word : List ℕ) → word ≡ [] →
-    taken_by m [] → HasTaken taken_by m word 0 FILE_LIMIT []
+pub nothing_taken : (most : ℕ) (taken_by : Parser → List WordOnLine → Type 0) (m : Parser) (word : List ℕ)
+    → word ≡ [] → most < 2 ^ 62 → taken_by m [] → HasTaken most taken_by m word 0 most []
 unfolding words_from
-nothing_taken taken_by m word none reads = grind arith
+nothing_taken most taken_by m word none small reads = record {
+  taken_words = reads;
+  words = λ end_counts rest. ap (λ w. words_from end_counts [] 1 (w ++ rest)) (sym none);
+  no_space = ap (list_all (λ b. not (is_white_space b))) none;
+  short = omega (arith, ap (length {A = ℕ}) none);
+  lines = refl;
+  size = omega arith;
+  small = small;
+}
 
-pub asked_nothing : {C : Type 0} (takes : C → SignalContents → Bool)
+pub asked_nothing : (limit most : ℕ) {C : Type 0} (takes : C → SignalContents → Bool)
     (answers : ChoiceAnswers C) (first : C) (p : FileReader)
-    (asked : Asked) (bytes : List ℕ) → HasReadBytes (HasTakenWords asked) p bytes → p.parser.in_body ≡ false
-    → HasReadBytes (HasTakenFrom takes answers first first) p bytes
-asked_nothing takes answers first p asked bytes taken early = record {
-  taken_words = nothing_asked takes answers first p.parser asked (complete_words bytes) taken.taken_words early;
+    (asked : Asked) (bytes : List ℕ) → HasReadBytes most (HasTakenWords limit asked) p bytes →
+    p.parser.in_body ≡ false
+    → HasReadBytes most (HasTakenFrom limit takes answers first first) p bytes
+asked_nothing limit most takes answers first p asked bytes taken early = record {
+  taken_words = nothing_asked limit takes answers first p.parser asked (complete_words bytes) taken.taken_words early;
   words = taken.words;
   no_space = taken.no_space;
   short = taken.short;
   lines = taken.lines;
   size = taken.size;
+  small = taken.small;
 }
 
 pub consumes_none : (coming : Option (List ℕ)) → Consumes coming coming []
@@ -169,31 +177,35 @@ consumes_none None = tt
 consumes_none (Some xs) = refl
 
 -- the words so far, and the last one
-all_words : (taken_by : Parser → List WordOnLine → Type 0) (p : FileReader) (text bytes : List ℕ) →
-    HasReadBytes taken_by p bytes → text ≡ p.buffer.bytes
+all_words : (most : ℕ) (taken_by : Parser → List WordOnLine → Type 0) (p : FileReader) (text bytes : List ℕ) →
+    HasReadBytes most taken_by p bytes → text ≡ p.buffer.bytes
     → complete_words bytes ++ words_from true [] (p.line_feeds + 1) text ≡ words_of bytes
-all_words taken_by p text bytes taken is =
+all_words most taken_by p text bytes taken is =
     ap (λ word. complete_words bytes ++ words_from true [] (p.line_feeds + 1) word)
     (is ∙ sym (append-nil p.buffer.bytes))
     ∙ sym (taken.words true []) ∙ ap (words_from true [] 1) (append-nil bytes)
 
 -- so all words of the bytes have been taken, or one is refused
-pub last_taken : (taken_by later : Parser → List WordOnLine → Type 0) (p : FileReader) (new : Parser)
-    (text bytes : List ℕ) → HasReadBytes taken_by p bytes → text ≡ p.buffer.bytes
+pub last_taken : (most : ℕ) (taken_by later : Parser → List WordOnLine → Type 0) (p : FileReader) (new : Parser)
+    (text bytes : List ℕ) → HasReadBytes most taken_by p bytes → text ≡ p.buffer.bytes
     → later new (complete_words bytes ++ words_from true [] (p.line_feeds + 1) text) → later new (words_of bytes)
-last_taken taken_by later p new text bytes taken is reads =
-    subst (later new) (all_words taken_by p text bytes taken is) reads
+last_taken most taken_by later p new text bytes taken is reads =
+    subst (later new) (all_words most taken_by p text bytes taken is) reads
 
-pub last_refused : (taken_by : Parser → List WordOnLine → Type 0) (takes : SignalContents → Bool) (answers : Answers)
-    (p : FileReader) (text bytes : List ℕ) (e : ReadError) → HasReadBytes taken_by p bytes → text ≡ p.buffer.bytes
-    → RefusesWords takes answers (complete_words bytes ++ words_from true [] (p.line_feeds + 1) text) e
-    → RefusesFile takes answers bytes e
-last_refused taken_by takes answers p text bytes e taken is (inl none) = inl none
-last_refused taken_by takes answers p text bytes e taken is (inr (inl shows)) =
-    inr (inl (word_shows (subst (λ words. ShowsFault words e.line e.fault) (all_words taken_by p text bytes taken is)
+pub last_refused : (limit most : ℕ) (taken_by : Parser → List WordOnLine → Type 0) (takes : SignalContents → Bool)
+    (answers : Answers)
+    (p : FileReader) (text bytes : List ℕ) (e : ReadError) → HasReadBytes most taken_by p bytes →
+    text ≡ p.buffer.bytes
+    → RefusesWords limit takes answers (complete_words bytes ++ words_from true [] (p.line_feeds + 1) text) e
+    → RefusesFile limit takes answers bytes e
+last_refused limit most taken_by takes answers p text bytes e taken is (inl none) = inl none
+last_refused limit most taken_by takes answers p text bytes e taken is (inr (inl shows)) =
+    inr (inl (word_shows (subst (λ words. ShowsFault limit words e.line e.fault)
+    (all_words most taken_by p text bytes taken is)
     shows)))
-last_refused taken_by takes answers p text bytes e taken is (inr (inr refused)) =
-    inr (inr (subst (λ words. RefusesPart takes answers words e) (all_words taken_by p text bytes taken is) refused))
+last_refused limit most taken_by takes answers p text bytes e taken is (inr (inr refused)) =
+    inr (inr (subst (λ words. RefusesPart limit takes answers words e)
+    (all_words most taken_by p text bytes taken is) refused))
 
 -- ---- results for a file of which these bytes have come
 
@@ -206,71 +218,82 @@ all_prefix : (n : ℕ) (xs ys : List ℕ) → length xs ≡ n → take n (xs ++ 
 all_prefix n xs ys is = ap (λ k. take k (xs ++ ys)) (sym is) ∙ take-append_seam xs ys
 
 -- a complete word shows a fault
-pub shown_early : (coming left : Option (List ℕ)) (failed : Bool) (bytes : List ℕ) (e : ReadError) → IsFalse failed
-    → Consumes coming left bytes → length bytes ≤ FILE_LIMIT
-    → (e ≡ memory_error) ⊎ PrefixShows bytes e.line e.fault → IfSome coming (λ file. IsRefusal file failed left e)
-shown_early None left failed bytes e ready consumes within answer = tt
-shown_early (Some xs) None failed bytes e ready consumes within answer = absurd consumes
-shown_early (Some xs) (Some ys) failed bytes e ready consumes within (inl none) = no_memory none
-shown_early (Some xs) (Some ys) failed bytes e ready consumes within (inr shows) =
-    elim (cases_lt FILE_LIMIT (length xs)) [
+pub shown_early : (limit most : ℕ) (coming left : Option (List ℕ)) (failed : Bool) (bytes : List ℕ) (e : ReadError) →
+    IsFalse failed
+    → Consumes coming left bytes → length bytes ≤ most
+    → (e ≡ memory_error) ⊎ PrefixShows limit bytes e.line e.fault →
+    IfSome coming (λ file. IsRefusal limit most file failed left e)
+shown_early limit most None left failed bytes e ready consumes within answer = tt
+shown_early limit most (Some xs) None failed bytes e ready consumes within answer = absurd consumes
+shown_early limit most (Some xs) (Some ys) failed bytes e ready consumes within (inl none) = no_memory none
+shown_early limit most (Some xs) (Some ys) failed bytes e ready consumes within (inr shows) =
+    elim (cases_lt most (length xs)) [
       | inl long ↦ too_large ready long
-          (subst (λ prefix. IsPrefixAnswer prefix faults.TooLarge e)
-          (sym (ap (take FILE_LIMIT) consumes ∙ prefix_of FILE_LIMIT bytes ys within))
-          (shown (longer_prefix_fault bytes (take (FILE_LIMIT - length bytes) ys) e.line e.fault shows)))
+          (subst (λ prefix. IsPrefixAnswer limit prefix faults.TooLarge e)
+          (sym (ap (take most) consumes ∙ prefix_of most bytes ys within))
+          (shown (longer_prefix_fault limit bytes (take (most - length bytes) ys) e.line e.fault shows)))
       | inr short ↦ has_fault ready short
-          (subst (λ file. IsFileFault file e.line e.fault) (sym consumes)
-          (prefix_fault_stays bytes ys e.line e.fault shows))
+          (subst (λ file. IsFileFault limit file e.line e.fault) (sym consumes)
+          (prefix_fault_stays limit bytes ys e.line e.fault shows))
     ]
 
 -- a part is refused for the words of a longer list as well
-refuses_further : (takes : SignalContents → Bool) (answers : Answers) (words more all : List WordOnLine) (e : ReadError)
-    → all ≡ words ++ more → RefusesPart takes answers words e → RefusesPart takes answers all e
-refuses_further takes answers words more all e is (too_many_remain c has many fault) =
-    too_many_remain c (declares_further words more all e.line c is has) many fault
-refuses_further takes answers words more all e is (declined c has none fault) =
-    declined c (declares_further words more all e.line c is has) none fault
+refuses_further : (limit : ℕ) (takes : SignalContents → Bool) (answers : Answers)
+    (words more all : List WordOnLine) (e : ReadError)
+    → all ≡ words ++ more → RefusesPart limit takes answers words e → RefusesPart limit takes answers all e
+refuses_further limit takes answers words more all e is (too_many_remain c has many fault) =
+    too_many_remain c (declares_further limit words more all e.line c is has) many fault
+refuses_further limit takes answers words more all e is (declined c has none fault) =
+    declined c (declares_further limit words more all e.line c is has) none fault
 
-pub as_part : (takes : SignalContents → Bool) (answers : Answers) (coming left : Option (List ℕ)) (failed : Bool)
-    (e : ReadError) → IfSome coming (λ file. IsRefusal file failed left e)
-    → IfSome coming (λ file. IsPartRefusal takes answers file failed left e)
-as_part takes answers None left failed e refused = tt
-as_part takes answers (Some file) left failed e refused = inl refused
+pub as_part : (limit most : ℕ) (takes : SignalContents → Bool) (answers : Answers) (coming left : Option (List ℕ))
+    (failed : Bool)
+    (e : ReadError) → IfSome coming (λ file. IsRefusal limit most file failed left e)
+    → IfSome coming (λ file. IsPartRefusal limit most takes answers file failed left e)
+as_part limit most takes answers None left failed e refused = tt
+as_part limit most takes answers (Some file) left failed e refused = inl refused
 
 -- a complete word is refused
-pub refused_early : (takes : SignalContents → Bool) (answers : Answers) (coming left : Option (List ℕ)) (failed : Bool)
+pub refused_early : (limit most : ℕ) (takes : SignalContents → Bool) (answers : Answers)
+    (coming left : Option (List ℕ)) (failed : Bool)
     (bytes : List ℕ) (e : ReadError) → IsFalse failed
-    → Consumes coming left bytes → length bytes ≤ FILE_LIMIT
-    → RefusesWords takes answers (complete_words bytes) e
-    → IfSome coming (λ file. IsPartRefusal takes answers file failed left e)
-refused_early takes answers coming left failed bytes e ready consumes within (inl none) =
-    as_part takes answers coming left failed e (shown_early coming left failed bytes e ready consumes within (inl none))
-refused_early takes answers coming left failed bytes e ready consumes within (inr (inl shows)) =
-    as_part takes answers coming left failed e (shown_early coming left failed bytes e ready consumes within
+    → Consumes coming left bytes → length bytes ≤ most
+    → RefusesWords limit takes answers (complete_words bytes) e
+    → IfSome coming (λ file. IsPartRefusal limit most takes answers file failed left e)
+refused_early limit most takes answers coming left failed bytes e ready consumes within (inl none) =
+    as_part limit most takes answers coming left failed e
+    (shown_early limit most coming left failed bytes e ready consumes
+    within (inl none))
+refused_early limit most takes answers coming left failed bytes e ready consumes within (inr (inl shows)) =
+    as_part limit most takes answers coming left failed e
+    (shown_early limit most coming left failed bytes e ready consumes
+    within
     (inr shows))
-refused_early takes answers None left failed bytes e ready consumes within (inr (inr refused)) = tt
-refused_early takes answers (Some xs) None failed bytes e ready consumes within (inr (inr refused)) = absurd consumes
-refused_early takes answers (Some xs) (Some ys) failed bytes e ready consumes within (inr (inr refused)) =
+refused_early limit most takes answers None left failed bytes e ready consumes within (inr (inr refused)) = tt
+refused_early limit most takes answers (Some xs) None failed bytes e ready consumes within (inr (inr refused)) =
+    absurd consumes
+refused_early limit most takes answers (Some xs) (Some ys) failed bytes e ready consumes within (inr (inr refused)) =
     let prefix = complete_in_prefix true [] 1 bytes ys in
-    inr (refuses_further takes answers (complete_words bytes) prefix.0 (words_of xs) e
+    inr (refuses_further limit takes answers (complete_words bytes) prefix.0 (words_of xs) e
     (ap words_of consumes ∙ prefix.1) refused)
 
 -- the file has more bytes than the limit
-pub full : (taken_by : Parser → List WordOnLine → Type 0) (coming middle left : Option (List ℕ)) (failed : Bool)
+pub full : (limit most : ℕ) (taken_by : Parser → List WordOnLine → Type 0) (coming middle left : Option (List ℕ))
+    (failed : Bool)
     (p : FileReader)
     (bytes chunk : List ℕ) (e : ReadError)
     → IsFalse failed → Consumes coming middle bytes → Consumes middle left chunk → 0 < length chunk → p.bytes_left ≡ 0
-    → HasReadBytes taken_by p bytes → ShowsNone (complete_words bytes)
+    → HasReadBytes most taken_by p bytes → ShowsNone limit (complete_words bytes)
     → e ≡ record { line = p.line_feeds + 1; fault = faults.TooLarge }
-    → IfSome coming (λ file. IsRefusal file failed left e)
-full taken_by coming middle left failed p bytes chunk e ready first second some none taken silent is =
-    larger coming left failed bytes e ready
+    → IfSome coming (λ file. IsRefusal limit most file failed left e)
+full limit most taken_by coming middle left failed p bytes chunk e ready first second some none taken silent is =
+    larger limit most coming left failed bytes e ready
     (over coming left (Consumes-trans coming middle left bytes chunk first second))
     (inr (none_shown silent
     (ap (λ (e : ReadError). e.line) is ∙ sym taken.lines) (ap (λ (e : ReadError). e.fault) is)))
   where
     over : (coming left : Option (List ℕ)) → Consumes coming left (bytes ++ chunk)
-        → IfSome coming (λ xs. (FILE_LIMIT < length xs) × (bytes ≡ take FILE_LIMIT xs))
+        → IfSome coming (λ xs. (most < length xs) × (bytes ≡ take most xs))
     over None left consumes = tt
     over (Some xs) None consumes = absurd consumes
     over (Some xs) (Some ys) consumes = (
@@ -283,80 +306,92 @@ full taken_by coming middle left failed p bytes chunk e ready first second some 
         none,
         some,
       ),
-      sym (ap (take FILE_LIMIT) (consumes ∙ append_assoc bytes chunk ys)
-          ∙ all_prefix FILE_LIMIT bytes (chunk ++ ys) (omega (arith, taken.size, none))),
+      sym (ap (take most) (consumes ∙ append_assoc bytes chunk ys)
+          ∙ all_prefix most bytes (chunk ++ ys) (omega (arith, taken.size, none))),
     )
 
 -- the reader failed
-pub broken : (taken_by : Parser → List WordOnLine → Type 0) (coming middle left : Option (List ℕ)) (failed : Bool)
+pub broken : (limit most : ℕ) (taken_by : Parser → List WordOnLine → Type 0) (coming middle left : Option (List ℕ))
+    (failed : Bool)
     (p : FileReader) (bytes : List ℕ) (e : ReadError)
-    → IsTrue failed → Consumes coming middle bytes → Keeps middle left → HasReadBytes taken_by p bytes
-    → ShowsNone (complete_words bytes) → e ≡ record { line = p.line_feeds + 1; fault = faults.ReadFault }
-    → IfSome coming (λ file. IsRefusal file failed left e)
-broken taken_by coming middle left failed p bytes e has consumes keeps taken silent is =
-    failing coming left failed bytes e has (Consumes-kept coming middle left bytes consumes keeps)
+    → IsTrue failed → Consumes coming middle bytes → Keeps middle left → HasReadBytes most taken_by p bytes
+    → ShowsNone limit (complete_words bytes) → e ≡ record { line = p.line_feeds + 1; fault = faults.ReadFault }
+    → IfSome coming (λ file. IsRefusal limit most file failed left e)
+broken limit most taken_by coming middle left failed p bytes e has consumes keeps taken silent is =
+    failing limit most coming left failed bytes e has (Consumes-kept coming middle left bytes consumes keeps)
     (omega (arith, taken.size))
     (inr (none_shown silent
     (ap (λ (e : ReadError). e.line) is ∙ sym taken.lines) (ap (λ (e : ReadError). e.fault) is)))
 
 -- the whole file came
-pub at_end : (takes : SignalContents → Bool) (answers : Answers) (coming left : Option (List ℕ)) (failed : Bool)
+pub at_end : (limit most : ℕ) (takes : SignalContents → Bool) (answers : Answers) (coming left : Option (List ℕ))
+    (failed : Bool)
     (bytes : List ℕ) (e : ReadError) → IsFalse failed
-    → Consumes coming left bytes → IsAtEnd left → length bytes ≤ FILE_LIMIT
-    → RefusesFile takes answers bytes e → IfSome coming (λ file. IsPartRefusal takes answers file failed left e)
-at_end takes answers None left failed bytes e ready consumes ends within answer = tt
-at_end takes answers (Some xs) None failed bytes e ready consumes ends within answer = absurd consumes
-at_end takes answers (Some xs) (Some ys) failed bytes e ready consumes ends within (inl none) = inl (no_memory none)
-at_end takes answers (Some xs) (Some ys) failed bytes e ready consumes ends within (inr (inl fault)) =
+    → Consumes coming left bytes → IsAtEnd left → length bytes ≤ most
+    → RefusesFile limit takes answers bytes e → IfSome coming
+    (λ file. IsPartRefusal limit most takes answers file failed left e)
+at_end limit most takes answers None left failed bytes e ready consumes ends within answer = tt
+at_end limit most takes answers (Some xs) None failed bytes e ready consumes ends within answer = absurd consumes
+at_end limit most takes answers (Some xs) (Some ys) failed bytes e ready consumes ends within (inl none) =
+    inl (no_memory none)
+at_end limit most takes answers (Some xs) (Some ys) failed bytes e ready consumes ends within (inr (inl fault)) =
     let all : bytes ≡ xs = sym (consumes ∙ ap (λ ys. bytes ++ ys) ends ∙ append-nil bytes) in
     inl (has_fault ready (omega (arith, within, ap (length {A = ℕ}) all))
-    (file_fault xs e.line e.fault (subst (λ file. IsFoundFault file e.line e.fault) all fault)))
-at_end takes answers (Some xs) (Some ys) failed bytes e ready consumes ends within (inr (inr refused)) =
+    (file_fault limit xs e.line e.fault (subst (λ file. IsFoundFault limit file e.line e.fault) all fault)))
+at_end limit most takes answers (Some xs) (Some ys) failed bytes e ready consumes ends within (inr (inr refused)) =
     let all : bytes ≡ xs = sym (consumes ∙ ap (λ ys. bytes ++ ys) ends ∙ append-nil bytes) in
-    inr (subst (λ file. RefusesPart takes answers (words_of file) e) all refused)
+    inr (subst (λ file. RefusesPart limit takes answers (words_of file) e) all refused)
 
 -- a fact about the bytes is one about the file
 pub of_all : (coming left : Option (List ℕ)) (bytes : List ℕ) (P : List ℕ → Type 0) → Consumes coming left bytes
     → IsAtEnd left → P bytes → IfSome coming P
 of_all coming left bytes P h4 h5 h6 = grind (arith, append-nil)
 
-no_part_failure : (takes : SignalContents → Bool) (answers : Answers) (words : List WordOnLine) (e : ReadError)
-    → RefusesPart takes answers words e → e.fault ≡ faults.ReadFault → ⊥
-no_part_failure takes answers words e (too_many_remain c has many fault) is = grind arith
-no_part_failure takes answers words e (declined c has none fault) is = grind arith
+no_part_failure : (limit : ℕ) (takes : SignalContents → Bool) (answers : Answers) (words : List WordOnLine)
+    (e : ReadError)
+    → RefusesPart limit takes answers words e → e.fault ≡ faults.ReadFault → ⊥
+no_part_failure limit takes answers words e (too_many_remain c has many fault) is = grind arith
+no_part_failure limit takes answers words e (declined c has none fault) is = grind arith
 
-pub is_no_failure : (takes : SignalContents → Bool) (answers : Answers) (bytes : List ℕ) (e : ReadError)
-    → RefusesWords takes answers (complete_words bytes) e → e.fault ≡ faults.ReadFault → ⊥
-is_no_failure takes answers bytes e (inl none) is = grind arith
-is_no_failure takes answers bytes e (inr (inl shows)) is = grind arith
-is_no_failure takes answers bytes e (inr (inr refused)) is =
-    no_part_failure takes answers (complete_words bytes) e refused is
+pub is_no_failure : (limit : ℕ) (takes : SignalContents → Bool) (answers : Answers) (bytes : List ℕ)
+    (e : ReadError)
+    → RefusesWords limit takes answers (complete_words bytes) e → e.fault ≡ faults.ReadFault → ⊥
+is_no_failure limit takes answers bytes e (inl none) is = grind arith
+is_no_failure limit takes answers bytes e (inr (inl shows)) is = grind arith
+is_no_failure limit takes answers bytes e (inr (inr refused)) is =
+    no_part_failure limit takes answers (complete_words bytes) e refused is
 
-no_found_failure : (bytes : List ℕ) (e : ReadError) → IsFoundFault bytes e.line e.fault → e.fault ≡ faults.ReadFault → ⊥
-no_found_failure bytes e found is = grind arith
+no_found_failure : (limit : ℕ) (bytes : List ℕ) (e : ReadError) → IsFoundFault limit bytes e.line e.fault →
+    e.fault ≡ faults.ReadFault → ⊥
+no_found_failure limit bytes e found is = grind arith
 
-pub is_no_file_failure : (takes : SignalContents → Bool) (answers : Answers) (bytes : List ℕ) (e : ReadError)
-    → RefusesFile takes answers bytes e → e.fault ≡ faults.ReadFault → ⊥
-is_no_file_failure takes answers bytes e (inl none) is = grind arith
-is_no_file_failure takes answers bytes e (inr (inl found)) is = no_found_failure bytes e found is
-is_no_file_failure takes answers bytes e (inr (inr refused)) is =
-    no_part_failure takes answers (words_of bytes) e refused is
+pub is_no_file_failure : (limit : ℕ) (takes : SignalContents → Bool) (answers : Answers) (bytes : List ℕ)
+    (e : ReadError)
+    → RefusesFile limit takes answers bytes e → e.fault ≡ faults.ReadFault → ⊥
+is_no_file_failure limit takes answers bytes e (inl none) is = grind arith
+is_no_file_failure limit takes answers bytes e (inr (inl found)) is = no_found_failure limit bytes e found is
+is_no_file_failure limit takes answers bytes e (inr (inr refused)) is =
+    no_part_failure limit takes answers (words_of bytes) e refused is
 
 -- ---- a chunk after the bytes taken
 
 -- the chunk came after the word that can go on
-pub has_come : (taken_by : Parser → List WordOnLine → Type 0) (p : FileReader) (buffer : ReadBufferView)
+pub has_come : (most : ℕ) (taken_by : Parser → List WordOnLine → Type 0) (p : FileReader)
+    (buffer : ReadBufferView)
     (from count : ℕ) (before word chunk : List ℕ)
-    → HasReadBytes taken_by p before
+    → HasReadBytes most taken_by p before
     → buffer.bytes ≡ word ++ chunk → word ≡ p.buffer.bytes → count ≡ length chunk → count ≤ p.bytes_left
     → from ≡ length word
-    → HasUntakenChunk taken_by (record p { buffer = buffer; bytes_left = p.bytes_left - count }) from (before ++ chunk)
-has_come taken_by p buffer from count before word chunk taken text same many within len = grind arith
+    → HasUntakenChunk most taken_by (record p { buffer = buffer; bytes_left = p.bytes_left - count }) from
+    (before ++ chunk)
+has_come most taken_by p buffer from count before word chunk taken text same many within len = grind arith
 
 -- the first bytes of the text are those of the word that can go on
-pub word_is_first : (taken_by : Parser → List WordOnLine → Type 0) (p : FileReader) (from : ℕ) (bytes : List ℕ) →
-    HasUntakenChunk taken_by p from bytes
+pub word_is_first : (most : ℕ) (taken_by : Parser → List WordOnLine → Type 0) (p : FileReader) (from : ℕ)
+    (bytes : List ℕ) →
+    HasUntakenChunk most taken_by p from bytes
     → (from ≤ length p.buffer.bytes) × (list_all (λ b. not (is_white_space b)) (take from p.buffer.bytes) ≡ true)
-    × (length bytes + p.bytes_left ≡ FILE_LIMIT) × (length p.buffer.bytes ≤ length bytes)
+    × (length bytes + p.bytes_left ≡ most) × (most < 2 ^ 62)
+    × (length p.buffer.bytes ≤ length bytes)
     × (p.line_feeds ≤ length bytes)
-word_is_first taken_by p from bytes come = grind (arith, length-append, count_by-le-length, take-append_seam)
+word_is_first most taken_by p from bytes come = grind (arith, length-append, count_by-le-length, take-append_seam)

@@ -233,6 +233,7 @@ module _ (old : Variables) (list : Vec Variable) (log : Vec (Vec LoggedChange)) 
     owners = k.owners;
     firsts = moved_firsts;
     few = omega (arith, moves_log.long, k.few);
+    limit = k.limit;
     grouped = subst (AreGrouped 0) (sym empty) tt;
     logs = λ position some. absurd (omega (arith, some, ap (λ gs. length (logged gs position)) empty));
   }

@@ -1,26 +1,24 @@
 -- The end of the declarations: the choice is asked, and the part begins or is refused.
-use Rattle.std.proofs.Common.{◌≡◌, ◌⊎◌, inl, inr, ℕ, Bool, true, false, ◌&&◌, List, [], ◌∷◌, ◌++◌, map, length}
-use Rattle.std.proofs.Common.{Option, Some, None, Result, Ok, Err, OnOk, refl, sym, ap, subst, ◌∙◌, arith, append_assoc}
-use Rattle.std.specs.Prelude.{IsTrue, IsFalse, codes, filter, ◌<◌}
+use Rattle.std.proofs.Common.{◌≡◌, inl, inr, ℕ, Bool, true, false, List, [], ◌∷◌, ◌++◌, map, length}
+use Rattle.std.proofs.Common.{Option, None, Result, Ok, Err, OnOk, refl, sym, ap, subst, ◌∙◌, arith, append_assoc}
+use Rattle.std.specs.Prelude.{IsFalse, codes, filter, ◌<◌}
 use Rattle.vcd_core.specs.declared.capture.TheConstants.{SIGNAL_LIMIT}
-use Rattle.std.proofs.lemmas.List.{append-nil, map-append}
+use Rattle.std.proofs.lemmas.List.{map-append}
 use Rattle.vcd_core.specs.Contents.{SignalContents}
 use Rattle.vcd_core.specs.declared.capture.Timescale.{Timescale}
 use Rattle.vcd_text.specs.declared.fault.Fault.{Fault}
-use Rattle.vcd_text.specs.declared.fault.Fault.TheVariants as faults
 use Rattle.vcd_text.specs.declared.fault.ReadError.{ReadError}
 use Rattle.vcd_text.specs.Words.{WordOnLine, word_on}
 use Rattle.vcd_text.specs.Items.{Item, entry, timescale, scope, upscope, variable, end_definitions, stamp, scalar}
-use Rattle.vcd_text.specs.Items.{vector, real_or_string, dump_word, other, spelling, spellings, end_word, is_end_word}
+use Rattle.vcd_text.specs.Items.{vector, real_or_string, dump_word, other, spelling, spellings, end_word}
 use Rattle.vcd_text.specs.Grammar.{ParseState, VariableDeclaration, ValueChange, initial_state, state_after_item}
 use Rattle.vcd_text.specs.Grammar.{Allows}
 use Rattle.vcd_text.proofs.shared.ItemTests.{allows_end_definitions}
 use Rattle.vcd_text.specs.Grammar.{kept_variables, word_texts}
 use Rattle.vcd_text.specs.Meaning.{declared_signal}
-use Rattle.vcd_text.specs.Parts.{ChoiceAnswers, Answers, HasDeclarations, RefusesPart, too_many_remain, declined}
+use Rattle.vcd_text.specs.Parts.{ChoiceAnswers, Answers, HasDeclarations, too_many_remain, declined}
 use Rattle.vcd_text.specs.Parts.{signals_of, told}
 use Rattle.vcd_text.specs.Parts.{without_changes}
-use Rattle.vcd_text.specs.MemoryErrors.{memory_error}
 use Rattle.vcd_text.specs.inside.reading.OpenItems.{is_end_definitions}
 use Rattle.vcd_text.specs.inside.reading.Part.{Asked, undriven}
 use Rattle.vcd_text.specs.inside.reading.Parser.{HasTakenWords, IsAtState, IsBegun, WordStep, goes_on, ends_item}
@@ -28,11 +26,9 @@ use Rattle.vcd_text.specs.inside.reading.Parser.{BeginsPart}
 use Rattle.vcd_text.specs.inside.reading.Parser.{asked_of, ends_definitions, error_at, WordsResult}
 use Rattle.vcd_text.specs.inside.reading.Choice.{HasTakenFrom, IsAnswered, RefusesSignals, RefusesWords, ShowsNone}
 use Rattle.vcd_text.specs.inside.reading.Choice.{TakesWord}
-use Rattle.vcd_text.specs.declared.reading.choice.TickRange.{TickRange}
 use Rattle.vcd_text.specs.declared.reading.part.Part.{Part}
 use Rattle.vcd_text.specs.declared.reading.parser.Parser.{Parser}
 use Rattle.vcd_text.specs.declared.reading.parser.OpenItem.{OpenItem}
-use Rattle.vcd_text.specs.declared.reading.parser.OpenItem.TheVariants as items
 use Rattle.vcd_text.proofs.shared.ItemsInTurn.{reaches_both, reaches_one}
 use Rattle.vcd_text.proofs.shared.ResultExists.{spelled_more}
 use Rattle.vcd_text.proofs.reading.parser.NextWord.{words_taken}
@@ -41,9 +37,10 @@ use Rattle.vcd_text.proofs.reading.parser.NoWordLeft.{no_fault}
 -- ---- declarations
 
 -- declarations are those of a longer list of words as well
-pub declares_further : (words more all : List WordOnLine) (line : ℕ) (c : ParseState) → all ≡ words ++ more
-    → HasDeclarations words line c → HasDeclarations all line c
-declares_further words more all line c is has = record {
+pub declares_further : (limit : ℕ) (words more all : List WordOnLine) (line : ℕ) (c : ParseState) →
+    all ≡ words ++ more
+    → HasDeclarations limit words line c → HasDeclarations limit all line c
+declares_further limit words more all line c is has = record {
   items = has.items;
   before = has.before;
   last = has.last;
@@ -112,13 +109,13 @@ step_in_body asked m new c begun w at isnt (ends_item i spelled allows after) =
 
 -- ---- what became of the choice
 
-module _ {C : Type 0} (takes : C → SignalContents → Bool)
+module _ (limit : ℕ) {C : Type 0} (takes : C → SignalContents → Bool)
     (answers : ChoiceAnswers C) (first old_choice : C)
-    (old : Parser) (words : List WordOnLine) (r : HasTakenFrom takes answers first old_choice old words) where
+    (old : Parser) (words : List WordOnLine) (r : HasTakenFrom limit takes answers first old_choice old words) where
   -- a word that does not end the declarations
-  pub taken_further : (new : Parser) (now : C) (w : WordOnLine) → HasTakenWords r.asked new (words ++ w ∷ [])
+  pub taken_further : (new : Parser) (now : C) (w : WordOnLine) → HasTakenWords limit r.asked new (words ++ w ∷ [])
       → new.in_body ≡ old.in_body → now ≡ old_choice
-      → HasTakenFrom takes answers first now new (words ++ w ∷ [])
+      → HasTakenFrom limit takes answers first now new (words ++ w ∷ [])
   taken_further new now w reads same still = record {
     asked = r.asked;
     taken_words = reads;
@@ -130,9 +127,10 @@ module _ {C : Type 0} (takes : C → SignalContents → Bool)
   -- so is its result
   pub word_result : (new : Parser) (w : WordOnLine) (result : Result (Unit {0}) ReadError)
       → WordsResult old (w ∷ []) result new → OnOk result (new.in_body ≡ old.in_body)
-      → TakesWord takes answers first old_choice words w result new
-  word_result new w (Ok x) taken same = taken_further new old_choice w (taken r.asked words r.taken_words) same refl
-  word_result new w (Err e) taken same = λ more. elim (taken r.asked words more r.taken_words) [
+      → TakesWord limit takes answers first old_choice words w result new
+  word_result new w (Ok x) taken same = taken_further new old_choice w (taken limit r.asked words r.taken_words) same
+      refl
+  word_result new w (Err e) taken same = λ more. elim (taken limit r.asked words more r.taken_words) [
     | inl memory ↦ inl memory
     | inr shows ↦ inr (inl shows)
   ]
@@ -144,10 +142,10 @@ module _ {C : Type 0} (takes : C → SignalContents → Bool)
         signals = map undriven (kept_variables r.taken_words.state.declared);
         part = new.part;
       })
-      → HasTakenFrom takes answers first now new (words ++ word_on end_word line ∷ [])
+      → HasTakenFrom limit takes answers first now new (words ++ word_on end_word line ∷ [])
   taken_part new now line early begins answered = record {
     asked = asked_of new.part r.taken_words.state;
-    taken_words = words_taken r.asked (asked_of new.part r.taken_words.state) old new words
+    taken_words = words_taken limit r.asked (asked_of new.part r.taken_words.state) old new words
         (word_on end_word line ∷ []) r.taken_words
         (begins.1 line r.asked r.taken_words.state r.taken_words.begun r.taken_words.at);
     unasked = λ isnt. let both : true ≡ false = sym begins.0 ∙ isnt in absurd (cc);
@@ -164,20 +162,22 @@ module _ {C : Type 0} (takes : C → SignalContents → Bool)
   }
 
 -- words that have been taken show no fault
-pub silent_words : {C : Type 0} (takes : C → SignalContents → Bool)
+pub silent_words : (limit : ℕ) {C : Type 0} (takes : C → SignalContents → Bool)
     (answers : ChoiceAnswers C) (first now : C)
-    (m : Parser) (words : List WordOnLine) → HasTakenFrom takes answers first now m words → ShowsNone words
-silent_words takes answers first now m words r = no_fault r.asked m words r.taken_words
+    (m : Parser) (words : List WordOnLine) → HasTakenFrom limit takes answers first now m words →
+    ShowsNone limit words
+silent_words limit takes answers first now m words r = no_fault limit r.asked m words r.taken_words
 
 -- ---- a part that is refused
 
 -- the declarations end with this word
-declares : (asked : Asked) (m : Parser) (words more : List WordOnLine) (line : ℕ) (r : HasTakenWords asked m words)
+declares : (limit : ℕ) (asked : Asked) (m : Parser) (words more : List WordOnLine) (line : ℕ)
+    (r : HasTakenWords limit asked m words)
     → IsFalse m.in_body → is_end_definitions m.item ≡ true
-    → HasDeclarations (words ++ word_on end_word line ∷ more) line (state_after_item r.state end_definitions)
-declares asked m words more line r early is =
+    → HasDeclarations limit (words ++ word_on end_word line ∷ more) line (state_after_item r.state end_definitions)
+declares limit asked m words more line r early is =
     let begun = open_end m r.begun m.item r.at.1 is in
-    let leads = reaches_both initial_state r.state (state_after_item r.state end_definitions) r.items
+    let leads = reaches_both (initial_state limit) r.state (state_after_item r.state end_definitions) r.items
     (end_definitions ∷ []) (record { allowed = r.allowed; state_is = r.state_is })
     (reaches_one r.state (state_after_item r.state end_definitions) end_definitions
     (allows_end_definitions r.state (sym r.at.0.in_body ∙ early)) refl)
@@ -204,47 +204,49 @@ declares asked m words more line r early is =
         → is_end_definitions item ≡ true → word_texts begun ≡ codes "$enddefinitions" ∷ []
     open_end m begun item is ends = grind arith
 
-pub part_refused : (asked : Asked) (m : Parser) (words more : List WordOnLine) (line : ℕ)
-    (takes : SignalContents → Bool) (answers : Answers) (fault : Fault) (r : HasTakenWords asked m words)
+pub part_refused : (limit : ℕ) (asked : Asked) (m : Parser) (words more : List WordOnLine) (line : ℕ)
+    (takes : SignalContents → Bool) (answers : Answers) (fault : Fault) (r : HasTakenWords limit asked m words)
     → IsFalse m.in_body → is_end_definitions m.item ≡ true
     → RefusesSignals takes answers m.timescale (map undriven (kept_variables r.state.declared)) fault
-    → RefusesWords takes answers (words ++ word_on end_word line ∷ more) (error_at line fault)
-part_refused asked m words more line takes answers fault r early is (inl memory) = inl (ap (error_at line) memory)
-part_refused asked m words more line takes answers fault r early is (inr (inl (many, long))) =
+    → RefusesWords limit takes answers (words ++ word_on end_word line ∷ more) (error_at line fault)
+part_refused limit asked m words more line takes answers fault r early is (inl memory) =
+    inl (ap (error_at line) memory)
+part_refused limit asked m words more line takes answers fault r early is (inr (inl (many, long))) =
     let signals : signals_of (state_after_item r.state end_definitions) ≡ map undriven (kept_variables r.state.declared)
     =
     undriven_signals r.state.value_changes r.state.tick (kept_variables r.state.declared) in
     rw many (inr (inr (too_many_remain (state_after_item r.state end_definitions)
-    (declares asked m words more line r early is)
+    (declares limit asked m words more line r early is)
     (subst (λ ss. SIGNAL_LIMIT < length (filter takes ss)) (sym signals) long) refl)))
-part_refused asked m words more line takes answers fault r early is (inr (inr (none, answer))) =
+part_refused limit asked m words more line takes answers fault r early is (inr (inr (none, answer))) =
     let signals : signals_of (state_after_item r.state end_definitions) ≡ map undriven (kept_variables r.state.declared)
     =
     undriven_signals r.state.value_changes r.state.tick (kept_variables r.state.declared) in
     rw none (inr (inr (declined (state_after_item r.state end_definitions)
-    (declares asked m words more line r early is)
+    (declares limit asked m words more line r early is)
     (subst (λ ss. answers r.state.timescale ss None) (sym signals)
     (subst (λ t. answers t (map undriven (kept_variables r.state.declared)) None) r.at.0.timescale answer)) refl)))
 
-pub refused_part : {C : Type 0} (takes : C → SignalContents → Bool)
+pub refused_part : (limit : ℕ) {C : Type 0} (takes : C → SignalContents → Bool)
     (answers : ChoiceAnswers C) (first old_choice now : C)
     (old : Parser) (words more : List WordOnLine) (line : ℕ) (fault : Fault)
-    (r : HasTakenFrom takes answers first old_choice old words) → IsFalse old.in_body
+    (r : HasTakenFrom limit takes answers first old_choice old words) → IsFalse old.in_body
     → is_end_definitions old.item ≡ true
     → RefusesSignals (takes old_choice) (told answers old_choice now) old.timescale
     (map undriven (kept_variables r.taken_words.state.declared)) fault
-    → RefusesWords (takes first) (told answers first now) (words ++ word_on end_word line ∷ more) (error_at line fault)
-refused_part takes answers first old_choice now old words more line fault r early is refuses =
-    part_refused r.asked old words more line (takes first) (told answers first now) fault r.taken_words early is
+    → RefusesWords limit (takes first) (told answers first now) (words ++ word_on end_word line ∷ more)
+    (error_at line fault)
+refused_part limit takes answers first old_choice now old words more line fault r early is refuses =
+    part_refused limit r.asked old words more line (takes first) (told answers first now) fault r.taken_words early is
     (subst (λ n. RefusesSignals (takes n) (told answers n now) old.timescale
     (map undriven (kept_variables r.taken_words.state.declared)) fault) (r.unasked early) refuses)
 
 -- before the changes nothing was asked
-pub nothing_asked : {C : Type 0} (takes : C → SignalContents → Bool)
+pub nothing_asked : (limit : ℕ) {C : Type 0} (takes : C → SignalContents → Bool)
     (answers : ChoiceAnswers C) (first : C) (m : Parser)
-    (asked : Asked) (words : List WordOnLine) → HasTakenWords asked m words → m.in_body ≡ false
-    → HasTakenFrom takes answers first first m words
-nothing_asked takes answers first m asked words reads early = record {
+    (asked : Asked) (words : List WordOnLine) → HasTakenWords limit asked m words → m.in_body ≡ false
+    → HasTakenFrom limit takes answers first first m words
+nothing_asked limit takes answers first m asked words reads early = record {
   asked = asked;
   taken_words = reads;
   unasked = λ _. refl;

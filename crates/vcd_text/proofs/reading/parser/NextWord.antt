@@ -28,12 +28,12 @@ use Rattle.vcd_text.proofs.shared.ResultExists.{spelled_more}
 use Rattle.vcd_text.specs.inside.reading.Part.{Asked}
 
 -- words that go on with the open item, or end it
-pub words_taken : (asked later : Asked) (old new : Parser) (words_so_far words : List WordOnLine)
-    (r : HasTakenWords asked old words_so_far) → WordStep later r.state (r.begun ++ words) new
-    → HasTakenWords later new (words_so_far ++ words)
-words_taken asked later old new words_so_far words r (goes_on at) = grind (arith, append_assoc)
-words_taken asked later old new words_so_far words r (ends_item i spelled allows at) =
-    let leads = reaches_both initial_state r.state (state_after_item r.state i) r.items (i ∷ [])
+pub words_taken : (limit : ℕ) (asked later : Asked) (old new : Parser) (words_so_far words : List WordOnLine)
+    (r : HasTakenWords limit asked old words_so_far) → WordStep later r.state (r.begun ++ words) new
+    → HasTakenWords limit later new (words_so_far ++ words)
+words_taken limit asked later old new words_so_far words r (goes_on at) = grind (arith, append_assoc)
+words_taken limit asked later old new words_so_far words r (ends_item i spelled allows at) =
+    let leads = reaches_both (initial_state limit) r.state (state_after_item r.state i) r.items (i ∷ [])
     (record { allowed = r.allowed; state_is = r.state_is })
     (reaches_one r.state (state_after_item r.state i) i allows refl) in
     record {
@@ -49,10 +49,12 @@ words_taken asked later old new words_so_far words r (ends_item i spelled allows
     }
 
 -- a fault with its line is shown; out of memory has none
-error_shown : (words : List WordOnLine) (line : ℕ) (fault : Fault) → (fault ≡ NoMemory) ⊎ ShowsFault words line fault
-    → (error_at line fault ≡ memory_error) ⊎ ShowsFault words (error_at line fault).line (error_at line fault).fault
-error_shown words line fault (inl none) = inl (ap (error_at line) none)
-error_shown words line fault (inr shows) = grind arith
+error_shown : (limit : ℕ) (words : List WordOnLine) (line : ℕ) (fault : Fault) → (fault ≡ NoMemory)
+    ⊎ ShowsFault limit words line fault
+    → (error_at line fault ≡ memory_error) ⊎ ShowsFault limit words (error_at line fault).line
+    (error_at line fault).fault
+error_shown limit words line fault (inl none) = inl (ap (error_at line) none)
+error_shown limit words line fault (inr shows) = grind arith
 
 -- ---- lines
 
@@ -83,19 +85,19 @@ line_shown asked m c begun w fault items.Vector agrees is decided = grind arith
 line_shown asked m c begun w fault items.RealOrString agrees (text, is) decided = grind arith
 
 -- the fault of a word is that of the definition, with its line, whatever follows
-pub one_shown : (asked : Asked) (old : Parser) (words_so_far more : List WordOnLine) (w : WordOnLine)
-    (r : HasTakenWords asked old words_so_far) (fault : Fault)
+pub one_shown : (limit : ℕ) (asked : Asked) (old : Parser) (words_so_far more : List WordOnLine) (w : WordOnLine)
+    (r : HasTakenWords limit asked old words_so_far) (fault : Fault)
     → (fault ≡ NoMemory) ⊎ WordShows r.state (word_texts r.begun) w.text fault
     → (let e : ReadError = error_at (item_fault_line old.item old.line w.line) fault in
-    (e ≡ memory_error) ⊎ ShowsFault (words_so_far ++ w ∷ more) e.line e.fault)
-one_shown asked old words_so_far more w r fault refused =
+    (e ≡ memory_error) ⊎ ShowsFault limit (words_so_far ++ w ∷ more) e.line e.fault)
+one_shown limit asked old words_so_far more w r fault refused =
     let line = item_fault_line old.item old.line w.line in
     let words : List WordOnLine = words_so_far ++ w ∷ more in
     let parts : words ≡ r.whole ++ (r.begun ++ w ∷ more) = ap (λ ws. ws ++ w ∷ more) r.parts
     ∙ append_assoc r.whole r.begun (w ∷ more) in
-    error_shown words line fault (elim refused [
+    error_shown limit words line fault (elim refused [
       | inl memory ↦ inl memory
-      | inr row ↦ inr (shown_by words r.whole r.begun more w r.items r.state line fault
+      | inr row ↦ inr (shown_by limit words r.whole r.begun more w r.items r.state line fault
           (record { allowed = r.allowed; state_is = r.state_is }) parts r.spelled row
           (line_shown asked old r.state r.begun w fault old.item r.at.0 r.at.1 row))
     ])

@@ -73,34 +73,37 @@ unfinished asked m c begun items.Vector agrees is no_end =
 unfinished asked m c begun items.RealOrString agrees (text, is) no_end =
     awaiting asked m c begun real_or_string_prefixes text agrees is (λ b. real_or_string_due c b text)
 
-texts_are : (asked : Asked) (m : Parser) (words : List WordOnLine) (r : HasTakenWords asked m words)
+texts_are : (limit : ℕ) (asked : Asked) (m : Parser) (words : List WordOnLine)
+    (r : HasTakenWords limit asked m words)
     → word_texts words ≡ spellings r.items ++ word_texts r.begun
-texts_are asked m words r = grind (arith, map-append)
+texts_are limit asked m words r = grind (arith, map-append)
 
 -- words that are no whole file end too early
-pub stops : (asked : Asked) (m : Parser) (words : List WordOnLine) → HasTakenWords asked m words → is_complete m ≡ false
-    → Stops words
-stops asked m words r incomplete = record {
+pub stops : (limit : ℕ) (asked : Asked) (m : Parser) (words : List WordOnLine) →
+    HasTakenWords limit asked m words → is_complete m ≡ false → Stops limit words
+stops limit asked m words r incomplete = record {
   items = r.items;
   begun = word_texts r.begun;
-  spelled = texts_are asked m words r;
+  spelled = texts_are limit asked m words r;
   allowed = r.allowed;
   unfinished = subst (λ c. IsUnfinished c (word_texts r.begun)) (sym r.state_is)
       (unfinished asked m r.state r.begun m.item r.at.0 r.at.1 incomplete);
 }
 
 -- words that are a whole file are accepted
-pub accepts : (asked : Asked) (m : Parser) (words : List WordOnLine) (r : HasTakenWords asked m words) →
-    is_complete m ≡ true
-    → Accepts words r.state
-accepts asked m words r complete = grind (arith, and_parts, texts_are, append-nil)
+pub accepts : (limit : ℕ) (asked : Asked) (m : Parser) (words : List WordOnLine)
+    (r : HasTakenWords limit asked m words) → is_complete m ≡ true
+    → Accepts limit words r.state
+accepts limit asked m words r complete = grind (arith, and_parts, texts_are limit, append-nil)
 
 -- words that have been taken show no fault
-pub no_fault : (asked : Asked) (m : Parser) (words : List WordOnLine) → HasTakenWords asked m words →
-    (line : ℕ) (fault : Fault)
-    → ShowsFault words line fault → ⊥
-no_fault asked m words r line fault refuses = by_test (is_complete m) refl
+pub no_fault : (limit : ℕ) (asked : Asked) (m : Parser) (words : List WordOnLine) →
+    HasTakenWords limit asked m words → (line : ℕ) (fault : Fault)
+    → ShowsFault limit words line fault → ⊥
+no_fault limit asked m words r line fault refuses = by_test (is_complete m) refl
   where
     by_test : (b : Bool) → is_complete m ≡ b → ⊥
-    by_test true complete = accepted-not_refused words r.state line fault (accepts asked m words r complete) refuses
-    by_test false incomplete = stopped-not_refused words line fault (stops asked m words r incomplete) refuses
+    by_test true complete = accepted-not_refused limit words r.state line fault
+        (accepts limit asked m words r complete) refuses
+    by_test false incomplete = stopped-not_refused limit words line fault (stops limit asked m words r incomplete)
+        refuses

@@ -1,4 +1,4 @@
-use Rattle.std.proofs.Common.{◌≤◌, true, length, IfSome, sym, ◌∙◌}
+use Rattle.std.proofs.Common.{◌≤◌, length, IfSome}
 use Rattle.std.proofs.lemmas.Option.{same_Some}
 use Rattle.std.proofs.lemmas.Result.{IfOk-weaker, IfErr-weaker}
 use Rattle.vcd_core.specs.CaptureContents.{contents}
@@ -6,25 +6,27 @@ use Rattle.vcd_text.specs.declared.fault.ReadError.{ReadError}
 use Rattle.vcd_text.specs.declared.reading.Loaded.{Loaded}
 use Rattle.vcd_text.specs.declared.reading.TheConstants.{FILE_LIMIT}
 use Rattle.vcd_text.specs.Meaning.{FileMeans}
+use Rattle.vcd_core.specs.declared.capture.TheConstants.{SIGNAL_LIMIT}
 use Rattle.vcd_text.specs.Refusals.{IsRefusal}
 use Rattle.vcd_text.specs.inside.reading.Part.{all_ticks}
-use Rattle.vcd_text.proofs.part.WholeParts.{whole_means, no_part_refusal}
+use Rattle.vcd_text.proofs.part.WholeParts.{whole_means_of_read, no_part_refusal_of_read}
 use Rattle.vcd_text.proofs.reading.read.Goals as goal
 
 pub returns-clause-means : goal.returns-clause-means
 returns-clause-means g c =
     let coming = g.R.Source.coming c.args.reader.now in
-    IfOk-weaker c.read_part.result _
+    IfOk-weaker c.read_within.result _
     (λ (loaded : Loaded). IfSome coming (λ file. (length file ≤ FILE_LIMIT)
-    × FileMeans file (contents loaded.capture) loaded.skipped))
-    (λ loaded. whole_means coming _ loaded (λ t ss ticks answer. same_Some ticks all_ticks answer))
-    c.read_part.ensures.means
+    × FileMeans SIGNAL_LIMIT file (contents loaded.capture) loaded.skipped))
+    (λ loaded. whole_means_of_read coming _ loaded (λ t ss ticks answer. same_Some ticks all_ticks answer))
+    c.read_within.ensures.means
 
 pub returns-clause-refused : goal.returns-clause-refused
 returns-clause-refused g c =
     let coming = g.R.Source.coming c.args.reader.now in
-    let left = g.R.Source.coming c.read_part.new.reader in
-    let failed = g.R.Source.has_failed c.read_part.new.reader in
-    IfErr-weaker c.read_part.result _ (λ (e : ReadError). IfSome coming (λ file. IsRefusal file failed left e))
-    (λ e. no_part_refusal _ coming failed left e (λ t ss answer. absurd (cc)))
-    c.read_part.ensures.refused
+    let left = g.R.Source.coming c.read_within.new.reader in
+    let failed = g.R.Source.has_failed c.read_within.new.reader in
+    IfErr-weaker c.read_within.result _ (λ (e : ReadError). IfSome coming
+    (λ file. IsRefusal SIGNAL_LIMIT FILE_LIMIT file failed left e))
+    (λ e. no_part_refusal_of_read _ coming failed left e (λ t ss answer. absurd (cc)))
+    c.read_within.ensures.refused

@@ -228,6 +228,7 @@ module _ (old : Variables) (list : Vec Variable) (log : Vec (Vec LoggedChange)) 
     owners = k.owners;
     firsts = changed_firsts;
     few = grind (arith, length-set);
+    limit = k.limit;
     grouped = grouped;
     logs = changed_logs;
   }

@@ -1,5 +1,5 @@
 -- The signals that a choice sees are the kept variables of the state.
-use Rattle.std.proofs.Common.{◌≡◌, ℕ, zero, suc, List, [], ◌∷◌, map, length, Some, None, refl, sym, ap, ◌∙◌, arith}
+use Rattle.std.proofs.Common.{◌≡◌, ℕ, suc, List, [], ◌∷◌, map, length, Some, refl, sym, ap, ◌∙◌, arith}
 use Rattle.std.proofs.Common.{take, Bool, true, false, not, cond, ◌+◌, ◌<◌, ◌≤◌, ◌++◌, inl, inr}
 use Rattle.std.specs.Prelude.{slice_get, slice_index_or, filter}
 use Rattle.std.proofs.lemmas.Bool.{cases_lt}

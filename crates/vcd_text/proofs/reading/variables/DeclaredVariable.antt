@@ -13,7 +13,6 @@ use Rattle.std.proofs.Common.{slice_index_or}
 use Rattle.std.proofs.lemmas.List.{append-nil, nil_from_length, map-append, length_push}
 use Rattle.std.proofs.lemmas.List.Elements.{filter-append}
 use Rattle.std.proofs.lemmas.Bool.{lt-ltb, le-ltb, ltb-false, cases_lt}
-use Rattle.vcd_core.specs.declared.capture.TheConstants.{SIGNAL_LIMIT}
 use Rattle.std.proofs.lemmas.List.Sums.{sum_by-append, sum_by-cons}
 use Rattle.std.proofs.lemmas.Option.{slice_get_within, same_Some}
 use Rattle.vcd_core.specs.Wave.{value_from}
@@ -176,7 +175,7 @@ module _ (old : Variables) (targets : CodeTargets) (c : ParseState) (d : Variabl
     pub skip_declares : (x : Unit {0}) → DeclaresAs c d (Ok x) (with_skipped old targets)
     skip_declares x = (
       skip_may (variable_of c d.code) (k.targets_agree d.code),
-      (λ i. skipped i || nat_lt (length (kept_variables c.declared)) SIGNAL_LIMIT),
+      (λ i. skipped i || nat_lt (length (kept_variables c.declared)) c.limit),
       record {
         opened = k.opened;
         kept = ap (map without_code) skip_kept ∙ k.kept;
@@ -186,6 +185,7 @@ module _ (old : Variables) (targets : CodeTargets) (c : ParseState) (d : Variabl
             (λ code width position is. k.owners code width position ((skip_positions code width position).0 is));
         firsts = skip_firsts;
         few = k.few;
+        limit = k.limit;
         grouped = k.grouped;
         logs = k.logs;
       },
@@ -204,12 +204,12 @@ module _ (old : Variables) (c : ParseState) (code : List ℕ) (v : Variable) (k 
   keep_may None stands = refl
   keep_may (Some e) stands = grind arith
 
-  has_room_is : (b : Bool) → nat_lt (length old.kept.items) SIGNAL_LIMIT ≡ b
-      → is_within_limit c.declared (declaration_in c.scopes code v) ≡ b
+  has_room_is : (b : Bool) → nat_lt (length old.kept.items) c.limit ≡ b
+      → is_within_limit c.limit c.declared (declaration_in c.scopes code v) ≡ b
   has_room_is b test = grind (arith, kept_long)
 
   -- it is not allowed if there are too many
-  pub keep_full : (new : Variables) → SIGNAL_LIMIT ≤ length old.kept.items
+  pub keep_full : (new : Variables) → c.limit ≤ length old.kept.items
       → DeclaresAs c (declaration_in c.scopes code v) (Err faults.TooManySignals) new
   keep_full new full = grind (arith, keep_may, has_room_is, le-ltb)
 
@@ -352,12 +352,12 @@ module _ (old : Variables) (c : ParseState) (code : List ℕ) (v : Variable) (k 
         ]
 
     -- it is declared
-    pub keep_declares : length old.kept.items < SIGNAL_LIMIT → (x : Unit {0})
+    pub keep_declares : length old.kept.items < c.limit → (x : Unit {0})
         → DeclaresAs c (declaration_in c.scopes code v) (Ok x) (with_kept old list targets)
     keep_declares room x =
         let d = declaration_in c.scopes code v in (
           keep_may (variable_of c code) (k.targets_agree code),
-          has_room_is true (lt-ltb (length old.kept.items) SIGNAL_LIMIT room),
+          has_room_is true (lt-ltb (length old.kept.items) c.limit room),
           record {
             opened = k.opened;
             kept = grind (arith, kept_more, map-append);
@@ -366,7 +366,8 @@ module _ (old : Variables) (c : ParseState) (code : List ℕ) (v : Variable) (k 
             owners = subst (HaveOwnCodes (with_kept old list targets)) (sym kept_more) keep_owners;
             firsts = subst (λ ds. (position : ℕ) (u : Variable) → slice_get list.items position ≡ Some u
                 → HasFirst (with_kept old list targets) ds position u) (sym kept_more) keep_firsts;
-            few = subst (λ vs. length vs ≤ SIGNAL_LIMIT) (sym items)
+            limit = k.limit;
+            few = subst (λ vs. length vs ≤ c.limit) (sym items)
                 (omega (arith, room, length_push old.kept.items v));
             grouped = k.grouped;
             logs = grind (arith, stays);
@@ -383,7 +384,7 @@ declares_names c kind size code [] result new some as_one = absurd (omega (arith
 declares_names c kind size code (name ∷ names) (Ok x) new some (may, room, knows) = ((may, room), knows)
 declares_names c kind size code (name ∷ names) (Err fault) new some as_one =
     let d = declaration_of_parts c kind (number_of size) code (name ∷ names) in
-    let last = (faults.TooManySignals unless is_within_limit c.declared d) ∷ [] in
+    let last = (faults.TooManySignals unless is_within_limit c.limit c.declared d) ∷ [] in
     elim as_one [
       | inl none ↦ inl none
       | inr (mixed may is) ↦ inr (failed faults.MixedCode _ last may ∙ ap Some (sym is))

@@ -64,6 +64,7 @@ knows_further vs c header timescale in_body tick later k = record {
   owners = k.owners;
   firsts = k.firsts;
   few = k.few;
+  limit = k.limit;
   grouped = k.grouped;
   logs = k.logs;
 }
@@ -84,6 +85,7 @@ scopes_moved vs scopes c opened are keeps k = record {
     no_later = first.no_later;
   };
   few = k.few;
+  limit = k.limit;
   grouped = k.grouped;
   logs = k.logs;
 }

@@ -45,48 +45,50 @@ pub record IsAnswered (takes : SignalContents → Bool) (answers : Answers) (ask
   pub few : length (filter takes asked.signals) ≤ SIGNAL_LIMIT
 
 -- all these words have been taken, and the choice was asked if the changes have begun
-pub record HasTakenFrom {C : Type 0} (takes : C → SignalContents → Bool)
+pub record HasTakenFrom (limit : ℕ) {C : Type 0} (takes : C → SignalContents → Bool)
     (answers : ChoiceAnswers C) (first now : C) (m : Parser) (words : List WordOnLine)
     : Type 0 where
   pub asked : Asked
-  pub taken_words : HasTakenWords asked m words
+  pub taken_words : HasTakenWords limit asked m words
   pub unasked : IsFalse m.in_body → now ≡ first
   pub answered : IsTrue m.in_body → IsAnswered (takes first) (told answers first now) asked
 
 -- these words can be taken after those before
-abbrev pub CanTake : {C : Type 0} → (C → SignalContents → Bool) → ChoiceAnswers C
+abbrev pub CanTake : {C : Type 0} → ℕ → (C → SignalContents → Bool) → ChoiceAnswers C
     → (first now : C) → Parser → List WordOnLine → Type 0
-CanTake takes answers first now m words = (words_so_far : List WordOnLine)
-    × HasTakenFrom takes answers first now m words_so_far
+CanTake limit takes answers first now m words = (words_so_far : List WordOnLine)
+    × HasTakenFrom limit takes answers first now m words_so_far
     × (length words_so_far + length words < 2 ^ 63)
 
 -- why words are not taken
-abbrev pub RefusesWords : (takes : SignalContents → Bool) → Answers → List WordOnLine → ReadError
-    → Type 0
-RefusesWords takes answers words e = (e ≡ memory_error) ⊎ ShowsFault words e.line e.fault
-    ⊎ RefusesPart takes answers words e
+abbrev pub RefusesWords : ℕ → (takes : SignalContents → Bool) → Answers → List WordOnLine
+    → ReadError → Type 0
+RefusesWords limit takes answers words e = (e ≡ memory_error)
+    ⊎ ShowsFault limit words e.line e.fault
+    ⊎ RefusesPart limit takes answers words e
 
 -- why a file is not read
-abbrev pub RefusesFile : (takes : SignalContents → Bool) → Answers → List ℕ → ReadError → Type 0
-RefusesFile takes answers bytes e = (e ≡ memory_error) ⊎ IsFoundFault bytes e.line e.fault
-    ⊎ RefusesPart takes answers (words_of bytes) e
+abbrev pub RefusesFile : ℕ → (takes : SignalContents → Bool) → Answers → List ℕ → ReadError → Type 0
+RefusesFile limit takes answers bytes e = (e ≡ memory_error)
+    ⊎ IsFoundFault limit bytes e.line e.fault
+    ⊎ RefusesPart limit takes answers (words_of bytes) e
 
 -- no word shows a fault
-abbrev pub ShowsNone : List WordOnLine → Type 0
-ShowsNone words = (line : ℕ) (fault : Fault) → ShowsFault words line fault → ⊥
+abbrev pub ShowsNone : ℕ → List WordOnLine → Type 0
+ShowsNone limit words = (line : ℕ) (fault : Fault) → ShowsFault limit words line fault → ⊥
 
 -- a further word has been taken, or it is refused whatever follows
-abbrev pub TakesWord : {C : Type 0} → (C → SignalContents → Bool) → ChoiceAnswers C
+abbrev pub TakesWord : {C : Type 0} → ℕ → (C → SignalContents → Bool) → ChoiceAnswers C
     → (first now : C) → List WordOnLine → WordOnLine → Result (Unit {0}) ReadError → Parser → Type 0
-TakesWord takes answers first now words_so_far w (Ok x) new =
-    HasTakenFrom takes answers first now new (words_so_far ++ w ∷ [])
-TakesWord takes answers first now words_so_far w (Err e) new = (more : List WordOnLine)
-    → RefusesWords (takes first) (told answers first now) (words_so_far ++ w ∷ more) e
+TakesWord limit takes answers first now words_so_far w (Ok x) new =
+    HasTakenFrom limit takes answers first now new (words_so_far ++ w ∷ [])
+TakesWord limit takes answers first now words_so_far w (Err e) new = (more : List WordOnLine)
+    → RefusesWords limit (takes first) (told answers first now) (words_so_far ++ w ∷ more) e
 
 -- all words of a list have been taken after others, or one is refused
-abbrev pub AllWordsResult : {C : Type 0} → (C → SignalContents → Bool) → ChoiceAnswers C
+abbrev pub AllWordsResult : {C : Type 0} → ℕ → (C → SignalContents → Bool) → ChoiceAnswers C
     → (first now : C) → List WordOnLine → List WordOnLine → Result ℕ ReadError → Parser → Type 0
-AllWordsResult takes answers first now words_so_far words (Ok line_feeds) new =
-    HasTakenFrom takes answers first now new (words_so_far ++ words)
-AllWordsResult takes answers first now words_so_far words (Err e) new =
-    RefusesWords (takes first) (told answers first now) (words_so_far ++ words) e
+AllWordsResult limit takes answers first now words_so_far words (Ok line_feeds) new =
+    HasTakenFrom limit takes answers first now new (words_so_far ++ words)
+AllWordsResult limit takes answers first now words_so_far words (Err e) new =
+    RefusesWords limit (takes first) (told answers first now) (words_so_far ++ words) e

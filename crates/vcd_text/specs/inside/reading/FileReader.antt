@@ -1,23 +1,22 @@
 -- The progress of reading a file in chunks: the complete words have been taken, and a word that can
 -- go on is kept.
-use Rattle.std.specs.Prelude.{◌≡◌, ℕ, ◌+◌, ◌≤◌, Bool, true, not, List, [], ◌++◌, length, Option}
+use Rattle.std.specs.Prelude.{◌≡◌, ℕ, ◌+◌, ◌<◌, ◌≤◌, ◌^◌, Bool, true, not, List, [], ◌++◌, length}
+use Rattle.std.specs.Prelude.{Option}
 use Rattle.std.specs.Prelude.{Result, Ok, Err}
 use Rattle.std.specs.List.{list_all}
 use Rattle.std.specs.Io.KnownBytes.{Consumes}
 use Rattle.vcd_core.specs.Word.{is_white_space}
 use Rattle.vcd_text.specs.declared.fault.ReadError.{ReadError}
-use Rattle.vcd_text.specs.declared.reading.TheConstants.{FILE_LIMIT}
 use Rattle.vcd_text.specs.declared.reading.file_reader.FileReader.{FileReader}
 use Rattle.vcd_text.specs.declared.reading.parser.Parser.{Parser}
 use Rattle.vcd_text.specs.Words.{WordOnLine, words_from, complete_words, last_line}
 use Rattle.vcd_core.specs.Contents.{SignalContents}
-use Rattle.vcd_core.specs.declared.capture.Timescale.{Timescale}
-use Rattle.vcd_text.specs.declared.reading.choice.TickRange.{TickRange}
 use Rattle.vcd_text.specs.Parts.{ChoiceAnswers, told}
 use Rattle.vcd_text.specs.inside.reading.Choice.{HasTakenFrom, RefusesWords}
 
 -- the complete words of these bytes have been taken; `word` is the unfinished rest
-pub record HasTaken (taken_by : Parser → List WordOnLine → Type 0) (m : Parser) (word : List ℕ)
+pub record HasTaken (most : ℕ) (taken_by : Parser → List WordOnLine → Type 0) (m : Parser)
+    (word : List ℕ)
     (line_feeds bytes_left : ℕ) (bytes : List ℕ)
     : Type 0 where
   pub taken_words : taken_by m (complete_words bytes)
@@ -27,35 +26,40 @@ pub record HasTaken (taken_by : Parser → List WordOnLine → Type 0) (m : Pars
   pub no_space : list_all (λ b. not (is_white_space b)) word ≡ true
   pub short : length word ≤ length bytes
   pub lines : last_line bytes ≡ line_feeds + 1
-  pub size : length bytes + bytes_left ≡ FILE_LIMIT
+  pub size : length bytes + bytes_left ≡ most
+  pub small : most < 2 ^ 62
 
 -- these bytes have been read so far
-abbrev pub HasReadBytes : (Parser → List WordOnLine → Type 0) → FileReader → List ℕ → Type 0
-HasReadBytes taken_by p bytes = HasTaken taken_by p.parser p.buffer.bytes p.line_feeds p.bytes_left
+abbrev pub HasReadBytes : ℕ → (Parser → List WordOnLine → Type 0) → FileReader → List ℕ → Type 0
+HasReadBytes most taken_by p bytes = HasTaken most taken_by p.parser p.buffer.bytes p.line_feeds
+    p.bytes_left
     bytes
 
 -- the source had `coming`, now has `coming_now`; the bytes between were read
-abbrev pub FileReaderMatches : (Parser → List WordOnLine → Type 0) → Option (List ℕ)
+abbrev pub FileReaderMatches : ℕ → (Parser → List WordOnLine → Type 0) → Option (List ℕ)
     → Option (List ℕ) → FileReader → Type 0
-FileReaderMatches taken_by coming coming_now p = (bytes : List ℕ) × Consumes coming coming_now bytes
-    × HasReadBytes taken_by p bytes
+FileReaderMatches most taken_by coming coming_now p = (bytes : List ℕ)
+    × Consumes coming coming_now bytes
+    × HasReadBytes most taken_by p bytes
 
 -- the buffer holds an unfinished word, then a chunk whose words are not taken; `bytes` are all
 -- bytes so far
-pub record HasUntakenChunk (taken_by : Parser → List WordOnLine → Type 0) (p : FileReader)
+pub record HasUntakenChunk (most : ℕ) (taken_by : Parser → List WordOnLine → Type 0)
+    (p : FileReader)
     (unfinished_len : ℕ) (bytes : List ℕ) : Type 0 where
   pub before : List ℕ
   pub word : List ℕ
   pub chunk : List ℕ
-  pub taken : HasTaken taken_by p.parser word p.line_feeds (p.bytes_left + length chunk) before
+  pub taken : HasTaken most taken_by p.parser word p.line_feeds (p.bytes_left + length chunk) before
   pub text : p.buffer.bytes ≡ word ++ chunk
   pub len : unfinished_len ≡ length word
   pub all : bytes ≡ before ++ chunk
 
 -- the words that are now complete have been taken, or one is refused
-abbrev pub TakesChunk : {C : Type 0} → (C → SignalContents → Bool) → ChoiceAnswers C
+abbrev pub TakesChunk : {C : Type 0} → (limit most : ℕ) → (C → SignalContents → Bool)
+    → ChoiceAnswers C
     → (first now : C) → List ℕ → Result (Unit {0}) ReadError → FileReader → Type 0
-TakesChunk takes answers first now bytes (Ok x) new =
-    HasReadBytes (HasTakenFrom takes answers first now) new bytes
-TakesChunk takes answers first now bytes (Err e) new =
-    RefusesWords (takes first) (told answers first now) (complete_words bytes) e
+TakesChunk limit most takes answers first now bytes (Ok x) new =
+    HasReadBytes most (HasTakenFrom limit takes answers first now) new bytes
+TakesChunk limit most takes answers first now bytes (Err e) new =
+    RefusesWords limit (takes first) (told answers first now) (complete_words bytes) e

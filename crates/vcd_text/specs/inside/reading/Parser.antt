@@ -130,22 +130,24 @@ WordResult old w (Err fault) new = (asked : Asked) (c : ParseState) (begun : Lis
 -- ---- the words from the first
 
 -- all these words have been taken
-pub record HasTakenWords (asked : Asked) (m : Parser) (words : List WordOnLine) : Type 0 where
+pub record HasTakenWords (limit : ℕ) (asked : Asked) (m : Parser) (words : List WordOnLine)
+    : Type 0 where
   pub items : List Item
   pub whole : List WordOnLine
   pub begun : List WordOnLine
   pub state : ParseState
   pub parts : words ≡ whole ++ begun
   pub spelled : word_texts whole ≡ spellings items
-  pub allowed : AllowsAll initial_state items
-  pub state_is : state_after initial_state items ≡ state
+  pub allowed : AllowsAll (initial_state limit) items
+  pub state_is : state_after (initial_state limit) items ≡ state
   pub at : IsAtState asked m state begun
 
 -- some words have been taken, fewer than 2 ^ 63
 pub record IsUnderway (m : Parser) : Type 0 where
+  pub limit : ℕ
   pub asked : Asked
   pub words : List WordOnLine
-  pub taken_words : HasTakenWords asked m words
+  pub taken_words : HasTakenWords limit asked m words
   pub few : length words < 2 ^ 63
 
 -- whether a fault is out of memory
@@ -161,11 +163,13 @@ error_at line fault = if is_no_memory fault then memory_error
 -- these further words have been taken, or one of them shows a fault whatever follows, or memory has
 -- run out
 abbrev pub WordsResult : Parser → List WordOnLine → Result (Unit {0}) ReadError → Parser → Type 0
-WordsResult old words (Ok x) new = (asked : Asked) (words_so_far : List WordOnLine)
-    → HasTakenWords asked old words_so_far → HasTakenWords asked new (words_so_far ++ words)
-WordsResult old words (Err e) new = (asked : Asked) (words_so_far more : List WordOnLine)
-    → HasTakenWords asked old words_so_far
-    → (e ≡ memory_error) ⊎ ShowsFault (words_so_far ++ (words ++ more)) e.line e.fault
+WordsResult old words (Ok x) new = (limit : ℕ) (asked : Asked) (words_so_far : List WordOnLine)
+    → HasTakenWords limit asked old words_so_far
+    → HasTakenWords limit asked new (words_so_far ++ words)
+WordsResult old words (Err e) new =
+    (limit : ℕ) (asked : Asked) (words_so_far more : List WordOnLine)
+    → HasTakenWords limit asked old words_so_far
+    → (e ≡ memory_error) ⊎ ShowsFault limit (words_so_far ++ (words ++ more)) e.line e.fault
 
 -- nothing is open, and `$enddefinitions $end` has come
 abbrev pub is_complete : Parser → Bool
@@ -177,13 +181,11 @@ ends_definitions m text = is_end_definitions m.item && is_end_word text
 
 -- what is asked of a state, for this part
 abbrev pub asked_of : Part → ParseState → Asked
-asked_of part c =
-    record {
-      timescale = c.timescale;
-      signals = map undriven (kept_variables c.declared);
-      part =
-          part;
-    }
+asked_of part c = record {
+  timescale = c.timescale;
+  signals = map undriven (kept_variables c.declared);
+  part = part;
+}
 
 -- the `$end` of `$enddefinitions` is taken, and a part begins
 abbrev pub BeginsPart : (old new : Parser) → Type 0
@@ -193,9 +195,9 @@ BeginsPart old new = IsTrue new.in_body
     → WordStep (asked_of new.part c) c (begun ++ word_on end_word line ∷ []) new)
 
 -- the file whose words have been taken means this, apart from what was chosen
-pub record MeansListed (asked : Asked) (bytes : List ℕ) (loaded : Loaded) : Type 0 where
+pub record MeansListed (limit : ℕ) (asked : Asked) (bytes : List ℕ) (loaded : Loaded) : Type 0 where
   pub whole : Contents
-  pub means : FileMeans bytes whole loaded.skipped
+  pub means : FileMeans limit bytes whole loaded.skipped
   pub timescale : whole.timescale ≡ asked.timescale
   pub signals : map without_changes whole.signals ≡ asked.signals
   pub is : contents loaded.capture ≡ listed_part asked.part whole
@@ -203,5 +205,6 @@ pub record MeansListed (asked : Asked) (bytes : List ℕ) (loaded : Loaded) : Ty
   pub count : loaded.signals ≡ length whole.signals
 
 pub record Means (m : Parser) (loaded : Loaded) : Type 0 where
-  pub means : (asked : Asked) (bytes : List ℕ) → HasTakenWords asked m (words_of bytes)
-      → MeansListed asked bytes loaded
+  pub means : (limit : ℕ) (asked : Asked) (bytes : List ℕ)
+      → HasTakenWords limit asked m (words_of bytes)
+      → MeansListed limit asked bytes loaded

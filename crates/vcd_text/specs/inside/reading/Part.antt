@@ -39,14 +39,8 @@ listed_part part c = record c {
 
 -- a variable as the signal that it declares
 abbrev pub undriven : VariableDeclaration → SignalContents
-undriven d = record {
-  scopes = d.scopes;
-  kind = d.kind;
-  words = d.words;
-  width = d.size;
-  changes =
-      [];
-}
+undriven d =
+    record { scopes = d.scopes; kind = d.kind; words = d.words; width = d.size; changes = [] }
 
 -- what was asked at the end of the declarations, and the part that was answered
 pub record Asked : Type 0 where

@@ -3,7 +3,6 @@ use Rattle.std.specs.Prelude.{◌≡◌, ◌⊎◌, ℕ, ◌<◌, ◌≤◌, if�
 use Rattle.std.specs.Prelude.{map, length, slice_get, take, ◌+◌, min}
 use Rattle.std.specs.Prelude.{count_by, All, Option, Some, None, IsTrue, IsFalse, IsSomeAnd, Result}
 use Rattle.std.specs.Prelude.{Ok, Err}
-use Rattle.vcd_core.specs.declared.capture.TheConstants.{SIGNAL_LIMIT}
 use Rattle.vcd_core.specs.declared.value.TheConstants.{WIDTH_LIMIT}
 use Rattle.vcd_core.specs.Decimal.{number_of}
 use Rattle.vcd_core.specs.declared.wave.Change.{Change}
@@ -119,7 +118,8 @@ pub record VariablesMatch (vs : Variables) (c : ParseState) : Type 0 where
   pub owners : HaveOwnCodes vs (kept_variables c.declared)
   pub firsts : (position : ℕ) (v : Variable) → slice_get vs.kept.items position ≡ Some v
       → HasFirst vs (kept_variables c.declared) position v
-  pub few : length vs.kept.items ≤ SIGNAL_LIMIT
+  pub few : length vs.kept.items ≤ c.limit
+  pub limit : vs.limit ≡ c.limit
   pub grouped : AreGrouped 0 vs.log.items
   pub logs : HasOnlyFirstVariables vs.kept.items (logged vs.log.items)
 
@@ -140,14 +140,15 @@ with_declaration c d = record c { declared = c.declared ++ d ∷ [] }
 pub data CannotDeclare (c : ParseState) (d : VariableDeclaration) (fault : Fault) : Type 0 where
   mixed : IsFalse (may_have_code (variable_of c d.code) d) → fault ≡ faults.MixedCode
       → CannotDeclare c d fault
-  many : IsTrue (may_have_code (variable_of c d.code) d) → IsFalse (is_within_limit c.declared d)
+  many : IsTrue (may_have_code (variable_of c d.code) d)
+      → IsFalse (is_within_limit c.limit c.declared d)
       → fault ≡ faults.TooManySignals → CannotDeclare c d fault
 
 -- the result of a declaration: it is added, or not allowed here, or memory runs out
 abbrev pub DeclaresAs : ParseState → VariableDeclaration → Result (Unit {0}) Fault → Variables
     → Type 0
 DeclaresAs c d (Ok x) new = IsTrue (may_have_code (variable_of c d.code) d)
-    × IsTrue (is_within_limit c.declared d)
+    × IsTrue (is_within_limit c.limit c.declared d)
     × VariablesMatch new (with_declaration c d)
 DeclaresAs c d (Err fault) new = (fault ≡ faults.NoMemory) ⊎ CannotDeclare c d fault
 
@@ -157,7 +158,7 @@ DeclaresAs c d (Err fault) new = (fault ≡ faults.NoMemory) ⊎ CannotDeclare c
 abbrev pub Declares : ParseState → List (List ℕ) → Result (Unit {0}) Fault → Variables → Type 0
 Declares c words (Ok x) new =
     IsSomeAnd (declaration_of c words) (λ d. IsTrue (may_have_code (variable_of c d.code) d)
-    × IsTrue (is_within_limit c.declared d))
+    × IsTrue (is_within_limit c.limit c.declared d))
     × VariablesMatch new (state_after_item c (variable words))
 Declares c words (Err fault) new = (fault ≡ faults.NoMemory)
     ⊎ (first_fault (variable_tests c (declaration_of c words)) ≡ Some fault)

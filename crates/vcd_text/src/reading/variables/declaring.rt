@@ -15,7 +15,7 @@ use crate::reading::code_targets::CodeTarget;
 use crate::reading::log::NOTHING_EXPECTED;
 use crate::reading::variables::{Variable, Variables};
 use std::alloc::Global;
-use vcd_core::{NameWords, SIGNAL_LIMIT, Seq, WIDTH_LIMIT, Wave, Word, is_skipped_kind};
+use vcd_core::{NameWords, Seq, WIDTH_LIMIT, Wave, Word, is_skipped_kind};
 
 impl Variables {
     /// Declares a variable in the open scopes, from its size and the other words of a `$var` after
@@ -110,7 +110,7 @@ impl Variables {
             DeclaresAs c d result self.new }
     {
         let position = self.kept.len();
-        if position >= SIGNAL_LIMIT {
+        if position >= self.limit as usize {
             return Err(Fault::TooManySignals);
         }
         if variable.first == position {

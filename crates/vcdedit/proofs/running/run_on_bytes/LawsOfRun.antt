@@ -10,6 +10,7 @@ use Rattle.std.proofs.lemmas.Bool.Decides.{nat_tests}
 use Rattle.std.proofs.lemmas.List.{length-append, length-take, length-drop}
 use Rattle.vcd_core.specs.Contents.{Contents}
 use Rattle.vcd_core.specs.Sound.{IsSound}
+use Rattle.vcd_core.specs.declared.capture.TheConstants.{SIGNAL_LIMIT}
 use Rattle.vcd_text.specs.Words.{words_from}
 use Rattle.vcd_text.specs.Text.{text}
 use Rattle.vcd_text.specs.Meaning.{FileMeans}
@@ -407,11 +408,11 @@ module _ (c : Contents) (skipped depth : ℕ) (lines : List (List ℕ)) where
             );
         read_again = read_back last (all_sound (length lines));
         nothing_else = λ d count means.
-            one_meaning (text last) d last count 0 means (read_back last (all_sound (length lines)));
+            one_meaning SIGNAL_LIMIT (text last) d last count 0 means (read_back last (all_sound (length lines)));
       }
 
 -- the laws of any lines on what a file means
 pub run_laws : (depth : ℕ) (file : List ℕ) (c : Contents) (skipped : ℕ) (lines : List (List ℕ))
-    → FileMeans file c skipped → RunLaws c skipped depth lines
+    → FileMeans SIGNAL_LIMIT file c skipped → RunLaws c skipped depth lines
 run_laws depth file c skipped lines means =
     laws c skipped depth lines (subst IsSound (sym means.means) (meaning_is_sound file means.state means.accepted))

@@ -4,6 +4,7 @@ use Rattle.std.proofs.Common.{sym, ◌∙◌}
 use Rattle.std.proofs.Common.{inl, inr, take, refl, arith}
 use Rattle.std.specs.List.{concat}
 use Rattle.std.specs.Global.{Vec}
+use Rattle.vcd_core.specs.declared.capture.TheConstants.{SIGNAL_LIMIT}
 use Rattle.vcd_text.specs.Refusals as refusals
 use Rattle.vcd_text.specs.inside.reading.Parser.{is_no_memory}
 use Rattle.vcd_text.proofs.shared.OneRefusal.{one_error, one_prefix_answer}
@@ -30,16 +31,16 @@ stage_at (suc before) other = refl
 -- a file is refused for one fault
 one_refused_file : (file : List ℕ) (e other : ReadError) → IsRefusedFile file e → IsRefusedFile file other → other ≡ e
 one_refused_file file e other (has_fault short fault) (has_fault also fault_too) =
-    one_error file other e fault_too fault
+    one_error SIGNAL_LIMIT file other e fault_too fault
 one_refused_file file e other (has_fault short fault) (too_large long answer) = absurd (omega (arith, short, long))
 one_refused_file file e other (too_large long answer) (has_fault short fault) = absurd (omega (arith, short, long))
 one_refused_file file e other (too_large long answer) (too_large also answer_too) =
-    one_prefix_answer (take FILE_LIMIT file) faults.TooLarge other e answer_too answer
+    one_prefix_answer SIGNAL_LIMIT (take FILE_LIMIT file) faults.TooLarge other e answer_too answer
 
 -- a refused file of which the source has not failed, by whether memory was refused
 refused_file : (file script : List ℕ) (depth : ℕ) (has_failed : Bool) (left : Option (List ℕ)) (e : ReadError)
     (made none : Vec ℕ) → has_failed ≡ false → none.items ≡ []
-    → refusals.IsRefusal file has_failed left e
+    → refusals.IsRefusal SIGNAL_LIMIT FILE_LIMIT file has_failed left e
     → (out_of_memory : Bool) → is_no_memory e.fault ≡ out_of_memory
     → RunGives file script depth (Err (run_refusal (run_errors.Capture e) made none))
 refused_file file script depth has_failed left e made none ready empty refused true is = rw is empty

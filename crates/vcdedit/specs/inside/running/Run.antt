@@ -2,6 +2,7 @@
 use Rattle.std.specs.Prelude.{◌≡◌, ℕ, List}
 use Rattle.std.specs.List.{concat}
 use Rattle.vcd_core.specs.Contents.{Contents}
+use Rattle.vcd_core.specs.declared.capture.TheConstants.{SIGNAL_LIMIT}
 use Rattle.vcd_text.specs.Meaning.{FileMeans}
 use Rattle.vcd_text.specs.Text.{text}
 use Rattle.vcdedit.specs.Script.{script_lines}
@@ -13,7 +14,7 @@ pub record ScriptGives (file script : List ℕ) (depth count : ℕ) (took : List
     (now : Contents) : Type 0 where
   pub contents : Contents
   pub skipped : ℕ
-  pub means : FileMeans file contents skipped
+  pub means : FileMeans SIGNAL_LIMIT file contents skipped
   pub replies : took (concat (outcome contents skipped depth (script_lines script)).replies)
   pub refused : (outcome contents skipped depth (script_lines script)).refused ≡ count
   pub output : (outcome contents skipped depth (script_lines script)).output ≡ text now

@@ -19,7 +19,8 @@ loop-word-init g c = (
   (
     [],
     refl,
-    λ first words_so_far reads. subst (HasTakenFrom g.C.Choice.takes g.C.Choice.answers first c.args.choice.now
+    λ limit first words_so_far reads. subst (HasTakenFrom limit g.C.Choice.takes g.C.Choice.answers first
+        c.args.choice.now
         c.args.parser.now) (sym (append-nil words_so_far)) reads,
   ),
   refl,
@@ -28,11 +29,12 @@ loop-word-init g c = (
 pub take_word-requires-clause-reading : goal.take_word-requires-clause-reading
 take_word-requires-clause-reading g c =
     let came = c.loop-word.invariant.0.0 in
-    let (first, (words_so_far, reads, few)) = c.requires in (
+    let (limit, first, (words_so_far, reads, few)) = c.requires in (
+      limit,
       first,
       (
         words_so_far ++ came,
-        c.loop-word.invariant.0.2 first words_so_far reads,
+        c.loop-word.invariant.0.2 limit first words_so_far reads,
         omega (
           arith,
           few,
@@ -55,16 +57,16 @@ loop-word-preserved g c =
         came ++ word ∷ [],
         in_turn (words_left c.args.words) came (words_left c.loop-word.left) (words_left c.next_word.new.self) word
             c.loop-word.invariant.0.1 c.in-Some.ensures.words,
-        λ first words_so_far reads. subst (HasTakenFrom g.C.Choice.takes g.C.Choice.answers first
+        λ limit first words_so_far reads. subst (HasTakenFrom limit g.C.Choice.takes g.C.Choice.answers first
             c.take_word.new.choice c.take_word.new.parser) (append_assoc words_so_far came (word ∷ []))
-            (c.in_ok-take_word.ensures first (words_so_far ++ came)
-            (c.loop-word.invariant.0.2 first words_so_far reads)),
+            (c.in_ok-take_word.ensures limit first (words_so_far ++ came)
+            (c.loop-word.invariant.0.2 limit first words_so_far reads)),
       ),
       c.in-Some.ensures.line_feeds ∙ c.loop-word.invariant.1,
     )
 
 pub returns-in_err-take_word-clause-words : goal.returns-in_err-take_word-clause-words
-returns-in_err-take_word-clause-words g c = λ first words_so_far reads.
+returns-in_err-take_word-clause-words g c = λ limit first words_so_far reads.
     let came = c.loop-word.invariant.0.0 in
     let refused = err_from_is_err_and c.from_residual.result c.from_residual.ensures.1 in
     let word = word_contents c.in-Some.word in
@@ -74,18 +76,19 @@ returns-in_err-take_word-clause-words g c = λ first words_so_far reads.
     (sym (append_assoc came (word ∷ []) more) ∙ sym (in_turn (words_left c.args.words) came
     (words_left c.loop-word.left) more word c.loop-word.invariant.0.1 c.in-Some.ensures.words)) in
     let e : ReadError = c.in_err-take_word.field-0.0 in
-    subst (λ r. AllWordsResult g.C.Choice.takes g.C.Choice.answers first c.take_word.new.choice words_so_far
+    subst (λ r. AllWordsResult limit g.C.Choice.takes g.C.Choice.answers first c.take_word.new.choice words_so_far
     (words_left c.args.words) r c.take_word.new.parser)
     (sym (refused.1 ∙ ap Err refused.2))
-    (subst (λ words. RefusesWords (g.C.Choice.takes first)
+    (subst (λ words. RefusesWords limit (g.C.Choice.takes first)
     (told g.C.Choice.answers first c.take_word.new.choice) words e) all
-    (c.in_err-take_word.ensures first (words_so_far ++ came) (c.loop-word.invariant.0.2 first words_so_far reads)
+    (c.in_err-take_word.ensures limit first (words_so_far ++ came)
+    (c.loop-word.invariant.0.2 limit first words_so_far reads)
     more))
 
 pub returns-clause-words : goal.returns-clause-words
-returns-clause-words g c = λ first words_so_far reads.
+returns-clause-words g c = λ limit first words_so_far reads.
     let came = c.loop-word.invariant.0.0 in
     let all : came ≡ words_left c.args.words =
     sym (c.loop-word.invariant.0.1 ∙ ap (λ ws. came ++ ws) c.in_default.ensures.words ∙ append-nil came) in
-    subst (λ ws. HasTakenFrom g.C.Choice.takes g.C.Choice.answers first c.loop-word.choice c.loop-word.parser
-    (words_so_far ++ ws)) all (c.loop-word.invariant.0.2 first words_so_far reads)
+    subst (λ ws. HasTakenFrom limit g.C.Choice.takes g.C.Choice.answers first c.loop-word.choice c.loop-word.parser
+    (words_so_far ++ ws)) all (c.loop-word.invariant.0.2 limit first words_so_far reads)

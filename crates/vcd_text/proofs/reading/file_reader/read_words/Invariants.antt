@@ -1,4 +1,4 @@
-use Rattle.std.proofs.Common.{◌≡◌, ◌+◌, List, ◌++◌, length}
+use Rattle.std.proofs.Common.{◌≡◌, ℕ, ◌+◌, List, ◌++◌, length}
 use Rattle.vcd_text.specs.Words.{WordOnLine}
 use Rattle.vcd_text.specs.inside.reading.Choice.{HasTakenFrom}
 use Rattle.vcd_text.specs.LentWords.{words_left}
@@ -8,9 +8,9 @@ use Rattle.vcd_text.proofs.reading.file_reader.read_words.Given as goal
 abbrev pub invariant-loop-word : goal.invariant-loop-word
 invariant-loop-word g l =
     ((came : List WordOnLine) × (words_left l.fn.words ≡ came ++ words_left l.left)
-    × ((first : g.row.C.Denot) (words_so_far : List WordOnLine)
-    → HasTakenFrom g.C.Choice.takes g.C.Choice.answers first l.fn.choice l.fn.parser words_so_far
-    → HasTakenFrom g.C.Choice.takes g.C.Choice.answers first l.choice l.parser (words_so_far ++ came)))
+    × ((limit : ℕ) (first : g.row.C.Denot) (words_so_far : List WordOnLine)
+    → HasTakenFrom limit g.C.Choice.takes g.C.Choice.answers first l.fn.choice l.fn.parser words_so_far
+    → HasTakenFrom limit g.C.Choice.takes g.C.Choice.answers first l.choice l.parser (words_so_far ++ came)))
     × (l.left.line_feeds + line_feeds_in l.left.rest.now
     ≡ l.fn.words.line_feeds + line_feeds_in l.fn.words.rest.now)
 

@@ -1,9 +1,9 @@
-use Rattle.std.proofs.Common.{◌≡◌, inr, inl, ℕ, List, Err, IfErr, sym, ap, subst, ◌∙◌, arith}
+use Rattle.std.proofs.Common.{inr, inl, ℕ, List, Err, IfErr, sym, ap, subst, ◌∙◌, arith}
 use Rattle.std.proofs.lemmas.Bool.{and_parts}
 use Rattle.std.proofs.lemmas.Result.{err_from_is_err_and}
 use Rattle.vcd_text.specs.inside.reading.OpenItems.{is_nothing}
 use Rattle.vcd_text.specs.declared.fault.ReadError.{ReadError}
-use Rattle.vcd_text.specs.Words.{complete_words, words_of}
+use Rattle.vcd_text.specs.Words.{complete_words}
 use Rattle.vcd_text.specs.FoundFaults.{too_early}
 use Rattle.vcd_text.specs.Parts.{told}
 use Rattle.vcd_text.specs.inside.reading.Choice.{HasTakenFrom, RefusesFile}
@@ -11,29 +11,30 @@ use Rattle.vcd_text.specs.inside.reading.FileReader.{HasReadBytes}
 use Rattle.vcd_text.specs.inside.reading.Part.{seen_state}
 use Rattle.vcd_text.proofs.reading.file_reader.Chunks.{last_taken, last_refused}
 use Rattle.vcd_text.proofs.reading.parser.NoWordLeft.{stops}
-use Rattle.vcd_text.proofs.part.WholeParts.{part_is_meant, part_means_sound}
+use Rattle.vcd_text.proofs.part.WholeParts.{part_is_meant, meant_is_sound}
 use Rattle.vcd_text.proofs.words.WordsInTurn.{words_are_few}
 use Rattle.vcd_text.proofs.reading.file_reader.FileReader.finish.Goals as goal
 
 pub read_words-requires : goal.read_words-requires
 read_words-requires g c =
-    let (first, bytes, taken) = c.requires in
-    (first, (complete_words bytes, taken.taken_words, grind (arith, words_are_few)))
+    let (limit, most, first, bytes, taken) = c.requires in
+    (limit, first, (complete_words bytes, taken.taken_words, grind (arith, words_are_few)))
 
 pub returns-in_err-read_words-clause-fault : goal.returns-in_err-read_words-clause-fault
 returns-in_err-read_words-clause-fault g c =
     let p = c.args.self in
     let refused = err_from_is_err_and c.from_residual.result c.from_residual.ensures.1 in
     let choice = c.read_words.new.choice in
-    subst (λ r. IfErr r (λ (e : ReadError). (first : g.row.C.Denot) (bytes : List ℕ)
-    → HasReadBytes (HasTakenFrom g.C.Choice.takes g.C.Choice.answers first c.args.choice.now) p bytes
-    → RefusesFile (g.C.Choice.takes first) (told g.C.Choice.answers first choice) bytes e))
+    subst (λ r. IfErr r (λ (e : ReadError). (limit most : ℕ) (first : g.row.C.Denot) (bytes : List ℕ)
+    → HasReadBytes most (HasTakenFrom limit g.C.Choice.takes g.C.Choice.answers first c.args.choice.now) p bytes
+    → RefusesFile limit (g.C.Choice.takes first) (told g.C.Choice.answers first choice) bytes e))
     (sym (refused.1 ∙ ap Err refused.2))
-    (λ first bytes taken.
-    last_refused (HasTakenFrom g.C.Choice.takes g.C.Choice.answers first c.args.choice.now) (g.C.Choice.takes first)
+    (λ limit most first bytes taken.
+    last_refused limit most (HasTakenFrom limit g.C.Choice.takes g.C.Choice.answers first c.args.choice.now)
+    (g.C.Choice.takes first)
     (told g.C.Choice.answers first choice) p c.as_slice.result.now bytes c.in_err-read_words.field-0.0 taken
     c.as_slice.ensures
-    (c.in_err-read_words.ensures.words first (complete_words bytes) taken.taken_words))
+    (c.in_err-read_words.ensures.words limit first (complete_words bytes) taken.taken_words))
 
 pub returns-in_err-check_complete-clause-fault : goal.returns-in_err-check_complete-clause-fault
 returns-in_err-check_complete-clause-fault g c =
@@ -43,49 +44,48 @@ returns-in_err-check_complete-clause-fault g c =
     let refused = err_from_is_err_and c.from_residual-in_err-check_complete.result
     c.from_residual-in_err-check_complete.ensures.1 in
     let (open_still, truncated) = c.in_err-check_complete.ensures.truncated in
-    subst (λ r. IfErr r (λ (e : ReadError). (first : g.row.C.Denot) (bytes : List ℕ)
-    → HasReadBytes (HasTakenFrom g.C.Choice.takes g.C.Choice.answers first c.args.choice.now) p bytes
-    → RefusesFile (g.C.Choice.takes first) (told g.C.Choice.answers first choice) bytes e))
+    subst (λ r. IfErr r (λ (e : ReadError). (limit most : ℕ) (first : g.row.C.Denot) (bytes : List ℕ)
+    → HasReadBytes most (HasTakenFrom limit g.C.Choice.takes g.C.Choice.answers first c.args.choice.now) p bytes
+    → RefusesFile limit (g.C.Choice.takes first) (told g.C.Choice.answers first choice) bytes e))
     (sym (refused.1 ∙ ap Err refused.2))
-    (λ first bytes taken.
-    let reads = last_taken (HasTakenFrom g.C.Choice.takes g.C.Choice.answers first c.args.choice.now)
-    (HasTakenFrom g.C.Choice.takes g.C.Choice.answers first choice) p m c.as_slice.result.now bytes taken
-    c.as_slice.ensures (c.in_ok-read_words.ensures.words first (complete_words bytes) taken.taken_words) in
-    inr (inl (too_early (stops reads.asked m _ reads.taken_words open_still)
+    (λ limit most first bytes taken.
+    let reads = last_taken most (HasTakenFrom limit g.C.Choice.takes g.C.Choice.answers first c.args.choice.now)
+    (HasTakenFrom limit g.C.Choice.takes g.C.Choice.answers first choice) p m c.as_slice.result.now bytes taken
+    c.as_slice.ensures (c.in_ok-read_words.ensures.words limit first (complete_words bytes) taken.taken_words) in
+    inr (inl (too_early (stops limit reads.asked m _ reads.taken_words open_still)
     (ap (λ (e : ReadError). e.line) truncated ∙ sym taken.lines) (ap (λ (e : ReadError). e.fault) truncated))))
 
 pub into_loaded-requires-clause-known : goal.into_loaded-requires-clause-known
 into_loaded-requires-clause-known g c =
-    let (first, bytes, taken) = c.requires in
+    let (limit, most, first, bytes, taken) = c.requires in
     let m = c.read_words.new.parser in
-    let reads = last_taken (HasTakenFrom g.C.Choice.takes g.C.Choice.answers first c.args.choice.now)
-    (HasTakenFrom g.C.Choice.takes g.C.Choice.answers first c.read_words.new.choice) c.args.self m
+    let reads = last_taken most (HasTakenFrom limit g.C.Choice.takes g.C.Choice.answers first c.args.choice.now)
+    (HasTakenFrom limit g.C.Choice.takes g.C.Choice.answers first c.read_words.new.choice) c.args.self m
     c.as_slice.result.now bytes taken
-    c.as_slice.ensures (c.in_ok-read_words.ensures.words first (complete_words bytes) taken.taken_words) in
+    c.as_slice.ensures (c.in_ok-read_words.ensures.words limit first (complete_words bytes) taken.taken_words) in
     (seen_state m.part reads.taken_words.state reads.taken_words.at.0.seen, reads.taken_words.at.0.variables)
 
 pub returns-clause-means : goal.returns-clause-means
-returns-clause-means g c = λ first bytes taken.
+returns-clause-means g c = λ limit most first bytes taken.
     let m = c.read_words.new.parser in
-    let reads = last_taken (HasTakenFrom g.C.Choice.takes g.C.Choice.answers first c.args.choice.now)
-    (HasTakenFrom g.C.Choice.takes g.C.Choice.answers first c.read_words.new.choice) c.args.self m
+    let reads = last_taken most (HasTakenFrom limit g.C.Choice.takes g.C.Choice.answers first c.args.choice.now)
+    (HasTakenFrom limit g.C.Choice.takes g.C.Choice.answers first c.read_words.new.choice) c.args.self m
     c.as_slice.result.now bytes taken
-    c.as_slice.ensures (c.in_ok-read_words.ensures.words first (complete_words bytes) taken.taken_words) in
-    part_is_meant (g.C.Choice.takes first) (told g.C.Choice.answers first c.read_words.new.choice) bytes
+    c.as_slice.ensures (c.in_ok-read_words.ensures.words limit first (complete_words bytes) taken.taken_words) in
+    part_is_meant limit (g.C.Choice.takes first) (told g.C.Choice.answers first c.read_words.new.choice) bytes
     c.in_ok-into_loaded.field-0 reads.asked
-    (c.in_ok-into_loaded.ensures.means reads.asked bytes reads.taken_words)
+    (c.in_ok-into_loaded.ensures.means limit reads.asked bytes reads.taken_words)
     (reads.answered (and_parts m.in_body (is_nothing m.item) c.in_ok-check_complete.ensures.complete).0)
 
 pub returns-clause-sound : goal.returns-clause-sound
 returns-clause-sound g c =
-    let (first, bytes, taken) = c.requires in
+    let (limit, most, first, bytes, taken) = c.requires in
     let m = c.read_words.new.parser in
-    let reads = last_taken (HasTakenFrom g.C.Choice.takes g.C.Choice.answers first c.args.choice.now)
-    (HasTakenFrom g.C.Choice.takes g.C.Choice.answers first c.read_words.new.choice) c.args.self m
+    let reads = last_taken most (HasTakenFrom limit g.C.Choice.takes g.C.Choice.answers first c.args.choice.now)
+    (HasTakenFrom limit g.C.Choice.takes g.C.Choice.answers first c.read_words.new.choice) c.args.self m
     c.as_slice.result.now bytes taken
-    c.as_slice.ensures (c.in_ok-read_words.ensures.words first (complete_words bytes) taken.taken_words) in
-    part_means_sound (g.C.Choice.takes first) (told g.C.Choice.answers first c.read_words.new.choice) bytes
-    c.in_ok-into_loaded.field-0 (part_is_meant (g.C.Choice.takes first)
-    (told g.C.Choice.answers first c.read_words.new.choice) bytes c.in_ok-into_loaded.field-0 reads.asked
-    (c.in_ok-into_loaded.ensures.means reads.asked bytes reads.taken_words)
-    (reads.answered (and_parts m.in_body (is_nothing m.item) c.in_ok-check_complete.ensures.complete).0))
+    c.as_slice.ensures (c.in_ok-read_words.ensures.words limit first (complete_words bytes) taken.taken_words) in
+    meant_is_sound limit (g.C.Choice.takes first) (told g.C.Choice.answers first c.read_words.new.choice) bytes
+    c.in_ok-into_loaded.field-0 reads.asked
+    (c.in_ok-into_loaded.ensures.means limit reads.asked bytes reads.taken_words)
+    (reads.answered (and_parts m.in_body (is_nothing m.item) c.in_ok-check_complete.ensures.complete).0)

@@ -14,42 +14,45 @@ use Rattle.vcd_text.proofs.reading.file_reader.Chunks.{has_come, as_part, refuse
 use Rattle.vcd_text.proofs.reading.file_reader.FileReader.take_chunk.Goals as goal
 
 pub returns-in_default-clause-refused : goal.returns-in_default-clause-refused
-returns-in_default-clause-refused g c = λ first coming stands.
+returns-in_default-clause-refused g c = λ limit most first coming stands.
     let p = c.args.self.now in
     let source = c.read_from.new.source in
     let (bytes, came, taken) = stands in
-    as_part (g.C.Choice.takes first) (told g.C.Choice.answers first c.args.choice.now) coming
+    as_part limit most (g.C.Choice.takes first) (told g.C.Choice.answers first c.args.choice.now) coming
     (g.R.Source.coming source) (g.R.Source.has_failed source) c.at.result
-    (broken (HasTakenFrom g.C.Choice.takes g.C.Choice.answers first c.args.choice.now) coming
+    (broken limit most (HasTakenFrom limit g.C.Choice.takes g.C.Choice.answers first c.args.choice.now) coming
     (g.R.Source.coming c.args.source.now) (g.R.Source.coming source) (g.R.Source.has_failed source)
     p bytes c.at.result c.in_default.ensures.failed came c.in_default.ensures.coming taken
-    (silent_words g.C.Choice.takes g.C.Choice.answers first c.args.choice.now p.parser (complete_words bytes)
+    (silent_words limit g.C.Choice.takes g.C.Choice.answers first c.args.choice.now p.parser (complete_words bytes)
     taken.taken_words) c.at.ensures)
 
 pub returns-then-count-self-clause-refused : goal.returns-then-count-self-clause-refused
-returns-then-count-self-clause-refused g c = λ first coming stands.
+returns-then-count-self-clause-refused g c = λ limit most first coming stands.
     let p = c.args.self.now in
     let source = c.read_from.new.source in
     let (bytes, came, taken) = stands in
     let (chunk, second, text, count) = c.in-Ok.ensures.more in
-    as_part (g.C.Choice.takes first) (told g.C.Choice.answers first c.args.choice.now) coming
+    as_part limit most (g.C.Choice.takes first) (told g.C.Choice.answers first c.args.choice.now) coming
     (g.R.Source.coming source) (g.R.Source.has_failed source) c.at-then-count-self.result
-    (full (HasTakenFrom g.C.Choice.takes g.C.Choice.answers first c.args.choice.now) coming
+    (full limit most (HasTakenFrom limit g.C.Choice.takes g.C.Choice.answers first c.args.choice.now) coming
     (g.R.Source.coming c.args.source.now) (g.R.Source.coming source) (g.R.Source.has_failed source) p bytes
     chunk c.at-then-count-self.result c.in-Ok.ensures.not_failed came second
     (omega (arith, count, c.if-count-self.true))
     (c.in-Ok.ensures.within c.if-count-self.true) taken
-    (silent_words g.C.Choice.takes g.C.Choice.answers first c.args.choice.now p.parser (complete_words bytes)
+    (silent_words limit g.C.Choice.takes g.C.Choice.answers first c.args.choice.now p.parser (complete_words bytes)
     taken.taken_words) c.at-then-count-self.ensures)
 
 pub take_words-requires : goal.take_words-requires
 take_words-requires g c =
     let p = c.args.self.now in
-    let (first, bytes, taken) = c.requires.read_bytes in
+    let (limit, most, first, bytes, taken) = c.requires.read_bytes in
     let (chunk, consumes, text, count) = c.in-Ok.ensures.more in (
+      limit,
+      most,
       first,
       bytes ++ chunk,
-      has_come (HasTakenFrom g.C.Choice.takes g.C.Choice.answers first c.args.choice.now) p c.read_from.new.self
+      has_come most (HasTakenFrom limit g.C.Choice.takes g.C.Choice.answers first c.args.choice.now) p
+          c.read_from.new.self
           c.len-unfinished_len.result c.in-Ok.count bytes c.make_room.new.self.bytes chunk
           taken text
           c.in_ok-make_room.ensures.same count (omega (arith, c.if-count-self.false)) c.len-unfinished_len.ensures,
@@ -63,32 +66,34 @@ returns-in_err-take_words-clause-refused g c =
     c.from_residual-in_err-take_words.ensures.1 in
     let source = c.read_from.new.source in
     let choice = c.take_words.new.choice in
-    subst (λ r. IfErr r (λ (e : ReadError). (first : g.row.C.Denot) (coming : Option (List ℕ))
-    → FileReaderMatches (HasTakenFrom g.C.Choice.takes g.C.Choice.answers first c.args.choice.now) coming
+    subst (λ r. IfErr r (λ (e : ReadError). (limit most : ℕ) (first : g.row.C.Denot) (coming : Option (List ℕ))
+    → FileReaderMatches most (HasTakenFrom limit g.C.Choice.takes g.C.Choice.answers first c.args.choice.now) coming
     (g.R.Source.coming c.args.source.now) p
-    → IfSome coming (λ file. IsPartRefusal (g.C.Choice.takes first) (told g.C.Choice.answers first choice) file
+    → IfSome coming (λ file. IsPartRefusal limit most (g.C.Choice.takes first) (told g.C.Choice.answers first choice)
+    file
     (g.R.Source.has_failed source) (g.R.Source.coming source) e)))
     (sym (refused.1 ∙ ap Err refused.2))
-    (λ first coming stands.
+    (λ limit most first coming stands.
     let (bytes, came, taken) = stands in
-    let come = has_come (HasTakenFrom g.C.Choice.takes g.C.Choice.answers first c.args.choice.now) p
+    let come = has_come most (HasTakenFrom limit g.C.Choice.takes g.C.Choice.answers first c.args.choice.now) p
     c.read_from.new.self c.len-unfinished_len.result c.in-Ok.count bytes
     c.make_room.new.self.bytes chunk
     taken text c.in_ok-make_room.ensures.same count (omega (arith, c.if-count-self.false))
     c.len-unfinished_len.ensures in
-    refused_early (g.C.Choice.takes first) (told g.C.Choice.answers first choice) coming (g.R.Source.coming source)
+    refused_early limit most (g.C.Choice.takes first) (told g.C.Choice.answers first choice) coming
+    (g.R.Source.coming source)
     (g.R.Source.has_failed source) (bytes ++ chunk)
     c.in_err-take_words.field-0.0 c.in-Ok.ensures.not_failed
     (Consumes-trans coming (g.R.Source.coming c.args.source.now) (g.R.Source.coming source) bytes chunk came second)
     (omega (arith, length-append bytes chunk, count, c.if-count-self.false, taken.size))
-    (c.in_err-take_words.ensures.taken first (bytes ++ chunk) come))
+    (c.in_err-take_words.ensures.taken limit most first (bytes ++ chunk) come))
 
 pub returns-in_err-take_words-clause-failed : goal.returns-in_err-take_words-clause-failed
 returns-in_err-take_words-clause-failed g c =
     let p = c.args.self.now in
-    let (first, bytes, taken) = c.requires.read_bytes in
+    let (limit, most, first, bytes, taken) = c.requires.read_bytes in
     let (chunk, second, text, count) = c.in-Ok.ensures.more in
-    let come = has_come (HasTakenFrom g.C.Choice.takes g.C.Choice.answers first c.args.choice.now) p
+    let come = has_come most (HasTakenFrom limit g.C.Choice.takes g.C.Choice.answers first c.args.choice.now) p
     c.read_from.new.self c.len-unfinished_len.result c.in-Ok.count bytes
     c.make_room.new.self.bytes chunk
     taken text c.in_ok-make_room.ensures.same count (omega (arith, c.if-count-self.false))
@@ -97,16 +102,16 @@ returns-in_err-take_words-clause-failed g c =
     c.from_residual-in_err-take_words.ensures.1 in
     subst (λ r. IfErr r (λ (e : ReadError). e.fault ≡ faults.ReadFault
     → g.R.Source.has_failed c.read_from.new.source ≡ true)) (sym (refused.1 ∙ ap Err refused.2))
-    (λ is. absurd (is_no_failure (g.C.Choice.takes first)
+    (λ is. absurd (is_no_failure limit (g.C.Choice.takes first)
     (told g.C.Choice.answers first c.take_words.new.choice) (bytes ++ chunk) c.in_err-take_words.field-0.0
-    (c.in_err-take_words.ensures.taken first (bytes ++ chunk) come) is))
+    (c.in_err-take_words.ensures.taken limit most first (bytes ++ chunk) come) is))
 
 pub returns-clause-taken : goal.returns-clause-taken
-returns-clause-taken g c = λ first coming stands.
+returns-clause-taken g c = λ limit most first coming stands.
     let p = c.args.self.now in
     let (bytes, came, taken) = stands in
     let (chunk, second, text, count) = c.in-Ok.ensures.more in
-    let come = has_come (HasTakenFrom g.C.Choice.takes g.C.Choice.answers first c.args.choice.now) p
+    let come = has_come most (HasTakenFrom limit g.C.Choice.takes g.C.Choice.answers first c.args.choice.now) p
     c.read_from.new.self c.len-unfinished_len.result c.in-Ok.count bytes
     c.make_room.new.self.bytes chunk
     taken text c.in_ok-make_room.ensures.same count (omega (arith, c.if-count-self.false))
@@ -114,5 +119,5 @@ returns-clause-taken g c = λ first coming stands.
       bytes ++ chunk,
       Consumes-trans coming (g.R.Source.coming c.args.source.now) (g.R.Source.coming c.read_from.new.source) bytes chunk
           came second,
-      c.in_ok-take_words.ensures.taken first (bytes ++ chunk) come,
+      c.in_ok-take_words.ensures.taken limit most first (bytes ++ chunk) come,
     )

@@ -14,48 +14,49 @@ use Rattle.vcd_text.proofs.reading.file_reader.FileReader.take_words.Goals as go
 
 pub read_words-requires : goal.read_words-requires
 read_words-requires g c =
-    let (first, bytes, come) = c.requires in (
+    let (limit, most, first, bytes, come) = c.requires in (
+      limit,
       first,
       (
         complete_words come.before,
         come.taken.taken_words,
-        grind (arith, word_is_first, length-append, length-take, words_are_few),
+        grind (arith, word_is_first most, length-append, length-take, words_are_few),
       ),
     )
 
 pub returns-in_err-self-clause-taken : goal.returns-in_err-self-clause-taken
-returns-in_err-self-clause-taken g c = λ first bytes come.
+returns-in_err-self-clause-taken g c = λ limit most first bytes come.
     let p = c.args.self.now in
     let len = c.complete_words_len-len.result in
     let value = c.as_slice.ensures in
     let prefix = c.as_slice-2.ensures in
     let refused = err_from_is_err_and c.from_residual.result c.from_residual.ensures.1 in
-    let old = HasTakenFrom g.C.Choice.takes g.C.Choice.answers first c.args.choice.now in
-    subst (λ r. TakesChunk g.C.Choice.takes g.C.Choice.answers first c.read_words.new.choice bytes r
+    let old = HasTakenFrom limit g.C.Choice.takes g.C.Choice.answers first c.args.choice.now in
+    subst (λ r. TakesChunk limit most g.C.Choice.takes g.C.Choice.answers first c.read_words.new.choice bytes r
     (record p { parser = c.read_words.new.parser })) (sym (refused.1 ∙ ap Err refused.2))
-    (now_refused old p c.args.unfinished_len len bytes (take len c.as_slice-2.result.now) come
+    (now_refused limit most old p c.args.unfinished_len len bytes (take len c.as_slice-2.result.now) come
     (ap (λ l. has_complete_words (take len l)) (sym value) ∙ c.complete_words_len-len.ensures.complete)
     (ap (λ l. list_all (λ b. not (is_white_space b)) (drop len l)) (sym value)
     ∙ c.complete_words_len-len.ensures.no_space)
     (ap (take len) prefix) (g.C.Choice.takes first) (told g.C.Choice.answers first c.read_words.new.choice)
     c.in_err-self.field-0.0
-    (c.in_err-self.ensures.words first (complete_words come.before) come.taken.taken_words))
+    (c.in_err-self.ensures.words limit first (complete_words come.before) come.taken.taken_words))
 
 pub returns-clause-taken : goal.returns-clause-taken
-returns-clause-taken g c = λ first bytes come.
+returns-clause-taken g c = λ limit most first bytes come.
     let p = c.args.self.now in
     let len = c.complete_words_len-len.result in
     let value = c.as_slice.ensures in
     let prefix = c.as_slice-2.ensures in
-    let old = HasTakenFrom g.C.Choice.takes g.C.Choice.answers first c.args.choice.now in
-    let now = HasTakenFrom g.C.Choice.takes g.C.Choice.answers first c.read_words.new.choice in
-    let taken = now_taken old p c.args.unfinished_len len bytes (take len c.as_slice-2.result.now) come
+    let old = HasTakenFrom limit g.C.Choice.takes g.C.Choice.answers first c.args.choice.now in
+    let now = HasTakenFrom limit g.C.Choice.takes g.C.Choice.answers first c.read_words.new.choice in
+    let taken = now_taken limit most old p c.args.unfinished_len len bytes (take len c.as_slice-2.result.now) come
     (ap (λ l. has_complete_words (take len l)) (sym value) ∙ c.complete_words_len-len.ensures.complete)
     (ap (λ l. list_all (λ b. not (is_white_space b)) (drop len l)) (sym value)
     ∙ c.complete_words_len-len.ensures.no_space)
     (ap (take len) prefix) now c.read_words.new.parser
-    (c.in_ok-self.ensures.words first (complete_words come.before) come.taken.taken_words) in
-    subst (λ word. HasTaken now c.read_words.new.parser word c.in_ok-self.field-0 p.bytes_left bytes)
+    (c.in_ok-self.ensures.words limit first (complete_words come.before) come.taken.taken_words) in
+    subst (λ word. HasTaken most now c.read_words.new.parser word c.in_ok-self.field-0 p.bytes_left bytes)
     (sym c.remove_prefix.ensures)
-    (subst (λ n. HasTaken now c.read_words.new.parser (drop len p.buffer.bytes) n p.bytes_left bytes)
+    (subst (λ n. HasTaken most now c.read_words.new.parser (drop len p.buffer.bytes) n p.bytes_left bytes)
     (sym c.in_ok-self.ensures.line_feeds) taken)

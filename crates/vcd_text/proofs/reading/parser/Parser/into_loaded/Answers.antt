@@ -23,13 +23,13 @@ returns c =
     let parts = c.new-capture.ensures in
     let self = c.args.self in
     let in_body = (and_parts self.in_body (is_nothing self.item) c.requires.complete).0 in
-    let same : (asked : Asked) (bytes : List ℕ) (r : HasTakenWords asked self (words_of bytes))
+    let same : (limit : ℕ) (asked : Asked) (bytes : List ℕ) (r : HasTakenWords limit asked self (words_of bytes))
     → contents capture ≡ listed_part self.part (meaning r.state) =
-    λ asked bytes r.
+    λ limit asked bytes r.
     let at = r.at.0 in
     let late : UpToTick r.state.tick r.state.value_changes =
     subst (λ d. UpToTick d.tick d.value_changes) r.state_is
-    (late_after initial_state r.items r.allowed (All-nil (λ (v : ValueChange). v.tick ≤ 0))) in
+    (late_after (initial_state limit) r.items r.allowed (All-nil (λ (v : ValueChange). v.tick ≤ 0))) in
     let signals = ap (map signal_contents) parts.signals ∙ c.in_ok-signals.ensures
     ∙ ap (remaining c.as_slice.result.now) (c.in_ok-all.ensures (seen_state self.part r.state at.seen) at.variables)
     ∙ ap (λ out. remaining out
@@ -43,14 +43,14 @@ returns c =
       signals = signals i;
     } in
     record {
-      means = λ asked bytes r.
+      means = λ limit asked bytes r.
           let at = r.at.0 in
           let late = sym at.in_body ∙ in_body in
           record {
             whole = meaning r.state;
             means = record {
               state = r.state;
-              accepted = accepts asked self (words_of bytes) r c.requires.complete;
+              accepted = accepts limit asked self (words_of bytes) r c.requires.complete;
               means = refl;
               left_out = at.variables.skipped;
             };
@@ -58,7 +58,7 @@ returns c =
             signals = undriven_signals r.state.value_changes r.state.tick (kept_variables r.state.declared)
                 ∙ (at.is_asked_of late).1;
             is = subst (λ (p : Part). contents capture ≡ listed_part p (meaning r.state)) (at.part_is late)
-                (same asked bytes r);
+                (same limit asked bytes r);
             end = at.tick;
             count = omega (
               arith,

@@ -11,7 +11,7 @@ returns-clause-words c = λ asked. record {
   items = [];
   whole = [];
   begun = [];
-  state = initial_state;
+  state = (initial_state c.args.limit);
   parts = refl;
   spelled = refl;
   allowed = tt;
@@ -23,12 +23,14 @@ returns-clause-words c = λ asked. record {
       in_body = refl;
       tick = refl;
       seen = [];
-      variables = knows_further c.new-2.result initial_state [] None false _ (omega arith)
+      variables = knows_further c.new-2.result (initial_state c.args.limit) [] None false _ (omega arith)
           c.new-2.ensures;
       no_early_tick = λ _. refl;
       no_early_change = λ _. refl;
       none_seen = λ _. refl;
-      tells = tells_nothing (record { left_out = c.new-5.result; first = 0; last = END_LIMIT }) initial_state [] refl
+      tells = tells_nothing (record { left_out = c.new-5.result; first = 0; last = END_LIMIT })
+          (initial_state c.args.limit)
+          [] refl
           refl;
       hears = λ late. absurd (false≢true late);
       part_is = λ late. absurd (false≢true late);

@@ -9,7 +9,8 @@ use Rattle.vcd_text.proofs.reading.parser.AskedParts.{step_in_body}
 use Rattle.vcd_text.proofs.reading.parser.Parser.take_word.Goals as goal
 
 pub returns-in-Ok-clause-words : goal.returns-in-Ok-clause-words
-returns-in-Ok-clause-words c = λ asked words_so_far r. words_taken asked asked c.args.self.now c.take.new.self
+returns-in-Ok-clause-words c = λ limit asked words_so_far r. words_taken limit asked asked c.args.self.now
+    c.take.new.self
     words_so_far (word_on c.args.text.now c.args.line ∷ []) r (c.in-Ok.ensures asked r.state r.begun r.at)
 
 pub returns-in-Ok-clause-in_body : goal.returns-in-Ok-clause-in_body
@@ -20,9 +21,9 @@ returns-in-Ok-clause-in_body c =
     (c.in-Ok.ensures c.requires.reading.asked r.state r.begun r.at)
 
 pub returns-in-Err-clause-words : goal.returns-in-Err-clause-words
-returns-in-Err-clause-words c = λ asked words_so_far more r.
+returns-in-Err-clause-words c = λ limit asked words_so_far more r.
     let w = word_on c.args.text.now c.args.line in
     let is = ap (λ line. error_at line c.in-Err.fault) (sym c.item_fault_line-shown.ensures) ∙ sym c.at.ensures in
-    subst (λ (e : ReadError). (e ≡ memory_error) ⊎ ShowsFault (words_so_far ++ w ∷ more) e.line e.fault) is
-    (one_shown asked c.args.self.now words_so_far more w r c.in-Err.fault
+    subst (λ (e : ReadError). (e ≡ memory_error) ⊎ ShowsFault limit (words_so_far ++ w ∷ more) e.line e.fault) is
+    (one_shown limit asked c.args.self.now words_so_far more w r c.in-Err.fault
     (c.in-Err.ensures asked r.state r.begun r.at))

@@ -1,5 +1,4 @@
 use Rattle.std.proofs.Common.{◌≡◌, ◌<◌, ◌++◌, ◌∷◌, [], length, Ok, inl, inr, refl, sym, subst, arith}
-use Rattle.vcd_core.specs.declared.capture.TheConstants.{SIGNAL_LIMIT}
 use Rattle.vcd_text.specs.inside.reading.Variables.{declaration_in, DeclaresAs}
 use Rattle.vcd_text.specs.declared.reading.code_targets.CodeTarget.TheVariants.{Kept}
 use Rattle.vcd_text.specs.declared.reading.variables.Variables.{Variables}
@@ -14,8 +13,8 @@ returns c = λ state k value_changes keeps.
     let code = c.args.code.now in
     let v = c.args.variable in
     let list = c.push.new.self in
-    let room : length old.kept.items < SIGNAL_LIMIT =
-    omega (arith, c.if-position-ge-SIGNAL_LIMIT.false, c.len-position.ensures, old.kept.ok.0) in
+    let room : length old.kept.items < state.limit =
+    omega (arith, c.if-position-self.false, c.len-position.ensures, old.kept.ok.0, k.limit) in
     let declared : Variables → Type 0 = λ vs. list.items ≡ vs.kept.items ++ v ∷ []
     → DeclaresAs state (declaration_in state.scopes code v) (Ok tt) (record vs { kept = list }) in
     let declares : declared c.if-variable-position.self = elim c.if-variable-position.branch [

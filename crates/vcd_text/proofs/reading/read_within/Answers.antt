@@ -3,12 +3,10 @@ use Rattle.std.proofs.lemmas.Result.{err_from_is_err_and, IfOk-weaker, IfErr-wea
 use Rattle.vcd_text.specs.declared.fault.Fault.TheVariants as faults
 use Rattle.vcd_text.specs.declared.fault.ReadError.{ReadError}
 use Rattle.vcd_text.specs.declared.reading.Loaded.{Loaded}
-use Rattle.vcd_text.specs.declared.reading.TheConstants.{FILE_LIMIT}
 use Rattle.vcd_text.specs.Parts.{PartMeans, IsPartRefusal, told}
-use Rattle.vcd_text.specs.inside.reading.Choice.{HasTakenFrom}
 use Rattle.vcd_text.specs.inside.reading.Part.{Asked}
 use Rattle.vcd_text.proofs.reading.file_reader.Chunks.{at_end, of_all, is_no_file_failure, asked_nothing, consumes_none}
-use Rattle.vcd_text.proofs.reading.read_part.Goals as goal
+use Rattle.vcd_text.proofs.reading.read_within.Goals as goal
 
 pub loop-progress-init : goal.loop-progress-init
 loop-progress-init g c =
@@ -22,7 +20,7 @@ loop-progress-init g c =
       (
         [],
         consumes_none coming,
-        asked_nothing g.C.Choice.takes g.C.Choice.answers first c.new-progress.result asked []
+        asked_nothing c.args.limit c.args.most g.C.Choice.takes g.C.Choice.answers first c.new-progress.result asked []
             (c.new-progress.ensures.read_bytes asked) c.new-progress.ensures.in_body,
       ),
       c.requires.ready,
@@ -35,16 +33,18 @@ returns-in_err-take_chunk-clause-refused g c =
     let failed = g.R.Source.has_failed c.take_chunk.new.source in
     let first = c.args.choice.now in
     let refused = err_from_is_err_and c.from_residual.result c.from_residual.ensures.1 in
-    subst (λ r. IfErr r (λ (e : ReadError). IfSome coming (λ file. IsPartRefusal (g.C.Choice.takes first)
+    subst (λ r. IfErr r (λ (e : ReadError). IfSome coming
+    (λ file. IsPartRefusal c.args.limit c.args.most (g.C.Choice.takes first)
     (told g.C.Choice.answers first c.take_chunk.new.choice) file failed left e)))
     (sym (refused.1 ∙ ap Err refused.2))
-    (c.in_err-take_chunk.ensures.refused first coming c.loop-progress.invariant.0)
+    (c.in_err-take_chunk.ensures.refused c.args.limit c.args.most first coming c.loop-progress.invariant.0)
 
 pub finish-requires : goal.finish-requires
 finish-requires g c =
-    let stands = c.in_ok-take_chunk.ensures.taken c.args.choice.now (g.R.Source.coming c.args.reader.now)
+    let stands = c.in_ok-take_chunk.ensures.taken c.args.limit c.args.most c.args.choice.now
+    (g.R.Source.coming c.args.reader.now)
     c.loop-progress.invariant.0 in
-    (c.args.choice.now, stands.0, stands.2)
+    (c.args.limit, c.args.most, c.args.choice.now, stands.0, stands.2)
 
 pub returns-clause-means : goal.returns-clause-means
 returns-clause-means g c =
@@ -53,12 +53,15 @@ returns-clause-means g c =
     let first = c.args.choice.now in
     let takes = g.C.Choice.takes first in
     let answers = told g.C.Choice.answers first c.finish.new.choice in
-    let (bytes, consumes, taken) = c.in_ok-take_chunk.ensures.taken first coming c.loop-progress.invariant.0 in
+    let (bytes, consumes, taken) = c.in_ok-take_chunk.ensures.taken c.args.limit c.args.most first coming
+    c.loop-progress.invariant.0 in
     IfOk-weaker c.finish.result _
-    (λ (loaded : Loaded). IfSome coming (λ file. (length file ≤ FILE_LIMIT) × PartMeans takes answers file loaded))
-    (λ loaded means. of_all coming left bytes (λ file. (length file ≤ FILE_LIMIT)
-    × PartMeans takes answers file loaded) consumes
-    (c.in_ok-take_chunk.ensures.ended c.if-branch.false) (omega (arith, taken.size), means first bytes taken))
+    (λ (loaded : Loaded). IfSome coming (λ file. (length file ≤ c.args.most)
+    × PartMeans c.args.limit takes answers file loaded))
+    (λ loaded means. of_all coming left bytes (λ file. (length file ≤ c.args.most)
+    × PartMeans c.args.limit takes answers file loaded) consumes
+    (c.in_ok-take_chunk.ensures.ended c.if-branch.false)
+    (omega (arith, taken.size), means c.args.limit c.args.most first bytes taken))
     c.finish.ensures.means
 
 pub returns-clause-refused : goal.returns-clause-refused
@@ -69,11 +72,15 @@ returns-clause-refused g c =
     let first = c.args.choice.now in
     let takes = g.C.Choice.takes first in
     let answers = told g.C.Choice.answers first c.finish.new.choice in
-    let (bytes, consumes, taken) = c.in_ok-take_chunk.ensures.taken first coming c.loop-progress.invariant.0 in
+    let (bytes, consumes, taken) = c.in_ok-take_chunk.ensures.taken c.args.limit c.args.most first coming
+    c.loop-progress.invariant.0 in
     IfErr-weaker c.finish.result _
-    (λ (e : ReadError). IfSome coming (λ file. IsPartRefusal takes answers file failed left e))
-    (λ e fault. at_end takes answers coming left failed bytes e c.in_ok-take_chunk.ensures.not_failed consumes
-    (c.in_ok-take_chunk.ensures.ended c.if-branch.false) (omega (arith, taken.size)) (fault first bytes taken))
+    (λ (e : ReadError). IfSome coming (λ file. IsPartRefusal c.args.limit c.args.most takes answers file failed left e))
+    (λ e fault. at_end c.args.limit c.args.most takes answers coming left failed bytes e
+    c.in_ok-take_chunk.ensures.not_failed
+    consumes
+    (c.in_ok-take_chunk.ensures.ended c.if-branch.false) (omega (arith, taken.size))
+    (fault c.args.limit c.args.most first bytes taken))
     c.finish.ensures.fault
 
 pub returns-clause-failed : goal.returns-clause-failed
@@ -81,7 +88,9 @@ returns-clause-failed g c =
     let failed = g.R.Source.has_failed c.take_chunk.new.source in
     let first = c.args.choice.now in
     let (bytes, consumes, taken) =
-    c.in_ok-take_chunk.ensures.taken first (g.R.Source.coming c.args.reader.now) c.loop-progress.invariant.0 in
+    c.in_ok-take_chunk.ensures.taken c.args.limit c.args.most first (g.R.Source.coming c.args.reader.now)
+    c.loop-progress.invariant.0 in
     IfErr-weaker c.finish.result _ (λ (e : ReadError). e.fault ≡ faults.ReadFault
-    → failed ≡ true) (λ e fault is. absurd (is_no_file_failure (g.C.Choice.takes first)
-    (told g.C.Choice.answers first c.finish.new.choice) bytes e (fault first bytes taken) is)) c.finish.ensures.fault
+    → failed ≡ true) (λ e fault is. absurd (is_no_file_failure c.args.limit (g.C.Choice.takes first)
+    (told g.C.Choice.answers first c.finish.new.choice) bytes e (fault c.args.limit c.args.most first bytes taken) is))
+    c.finish.ensures.fault
