@@ -2,21 +2,19 @@
 PREFIX ?= /usr/local
 ZSH_FOLDER ?= share/zsh/site-functions
 
-# What is installed below PREFIX: mode, file, place. Besides there are bin/vcdedit, which is made of launch/running.sh,
-# and share/doc/vcdedit.
+# What is installed below PREFIX: mode, file, place. Besides there are bin/vcdedit and bin/vcdedit-narrow, which are made of
+# launch/running.sh, and share/doc/vcdedit.
 define FILES
 755 crates/vcdedit/out/vcdedit libexec/vcdedit
+755 crates/vcdedit_narrow/out/vcdedit_narrow libexec/vcdedit-narrow
 755 tools/apply_script bin/vcdedit-apply
-755 tools/select_script bin/vcdedit-select
 755 tools/compare_captures bin/vcdedit-compare
-755 tools/narrow_capture bin/vcdedit-narrow
 755 tools/view_capture bin/vcdedit-view
 644 tools/vcd_files.py share/vcdedit/vcd_files.py
 644 tools/vcd_messages.py share/vcdedit/vcd_messages.py
 644 tools/messages.txt share/vcdedit/messages.txt
 644 docs/vcdedit.1 share/man/man1/vcdedit.1
 644 docs/vcdedit-apply.1 share/man/man1/vcdedit-apply.1
-644 docs/vcdedit-select.1 share/man/man1/vcdedit-select.1
 644 docs/vcdedit-compare.1 share/man/man1/vcdedit-compare.1
 644 docs/vcdedit-narrow.1 share/man/man1/vcdedit-narrow.1
 644 docs/vcdedit-view.1 share/man/man1/vcdedit-view.1
@@ -24,17 +22,16 @@ define FILES
 644 completions/_vcdedit $(ZSH_FOLDER)/_vcdedit
 644 completions/vcdedit.fish share/fish/vendor_completions.d/vcdedit.fish
 644 completions/tools.bash share/bash-completion/completions/vcdedit-apply
-644 completions/tools.bash share/bash-completion/completions/vcdedit-select
 644 completions/tools.bash share/bash-completion/completions/vcdedit-compare
 644 completions/tools.bash share/bash-completion/completions/vcdedit-narrow
 644 completions/tools.bash share/bash-completion/completions/vcdedit-view
 644 completions/_vcdedit_tools $(ZSH_FOLDER)/_vcdedit_tools
 644 completions/tools.fish share/fish/vendor_completions.d/vcdedit-apply.fish
-644 completions/tools.fish share/fish/vendor_completions.d/vcdedit-select.fish
 644 completions/tools.fish share/fish/vendor_completions.d/vcdedit-compare.fish
 644 completions/tools.fish share/fish/vendor_completions.d/vcdedit-narrow.fish
 644 completions/tools.fish share/fish/vendor_completions.d/vcdedit-view.fish
 endef
+PROGRAMS = vcdedit vcdedit-narrow
 DOCUMENTS = CHANGELOG.md docs/COOKBOOK.md docs/SCRIPT.md docs/FORMATS.md examples
 
 # Which folders install made, a line each, so that uninstall takes them away, too.
@@ -70,8 +67,9 @@ install: build
 	printf '%s\n' "$$FILES" | while read -r mode file place; do install -D -m "$$mode" "$$file" "$$root/$$place"; done; \
 	printf '%s\n' "$$made" >> "$$root/$(MADE)"; \
 	mkdir -p "$$root/bin" "$$root/share/doc/vcdedit"; \
-	{ printf '#!/bin/sh\nprogram="%s"\n' "$$prefix/libexec/vcdedit"; cat launch/running.sh; } > "$$root/bin/vcdedit"; \
-	chmod 755 "$$root/bin/vcdedit"; \
+	for name in $(PROGRAMS); do \
+	{ printf '#!/bin/sh\nprogram="%s"\n' "$$prefix/libexec/$$name"; cat launch/running.sh; } > "$$root/bin/$$name"; \
+	chmod 755 "$$root/bin/$$name"; done; \
 	cp -R $(DOCUMENTS) "$$root/share/doc/vcdedit"; \
 	sed 's|(\.\./docs/|(../|g' examples/README.md > "$$root/share/doc/vcdedit/examples/README.md"; \
 	echo "vcdedit is in $$root/bin, its documents are in $$root/share/doc/vcdedit"
@@ -80,7 +78,7 @@ uninstall:
 	@set -e; $(FOLDERS); \
 	made=$$(sort -ru "$$root/$(MADE)" 2> /dev/null || true); \
 	printf '%s\n' "$$FILES" | while read -r mode file place; do rm -f "$$root/$$place"; done; \
-	rm -f "$$root/bin/vcdedit" "$$root/$(MADE)"; \
+	for name in $(PROGRAMS); do rm -f "$$root/bin/$$name"; done; rm -f "$$root/$(MADE)"; \
 	rm -rf "$$root/share/doc/vcdedit"; \
 	printf '%s\n' "$$made" | while read -r folder; do [ ! -d "$$root/$$folder" ] || rmdir "$$(realpath "$$root/$$folder")" 2> /dev/null || true; done
 

@@ -74,6 +74,12 @@ def module_of(script):
     return module
 
 
+def narrow_of(program):
+    """The vcdedit-narrow that was built beside a vcdedit, in the tree of its crate, or else next to it."""
+    crates, name = os.path.split(program.removesuffix("/vcdedit/out/vcdedit"))
+    return os.path.join(crates, name, "vcdedit_narrow/out/vcdedit_narrow") if name == "crates" else program + "-narrow"
+
+
 def program_argument(usage, most=1):
     """The path of the program that a check is given, or the check's usage."""
     if not 2 <= len(sys.argv) <= 1 + most:

@@ -38,4 +38,4 @@ _vcdedit_names() {
         fi
     done
 }
-complete -F _vcdedit_tool vcdedit-apply vcdedit-select vcdedit-narrow vcdedit-compare vcdedit-view
+complete -F _vcdedit_tool vcdedit-apply vcdedit-narrow vcdedit-compare vcdedit-view

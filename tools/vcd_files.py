@@ -23,7 +23,6 @@ GREATEST_TICK = 9223372036854775807
 GREATEST_WIDTH = 1024
 SIGNAL_LIMIT = 65536
 SCRIPT_LIMIT = 1048576
-RATIO_LIMIT = 1000000000
 
 SKIPPED_KINDS = {b"real", b"realtime", b"real_parameter", b"shortreal", b"event", b"string"}
 DUMP_WORDS = {b"$dumpvars", b"$dumpall", b"$dumpon", b"$dumpoff", b"$end"}

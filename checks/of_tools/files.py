@@ -19,7 +19,6 @@ LIMITS = [
     (vcd_files.SIGNAL_LIMIT, "vcd_core/src/capture.rt", "SIGNAL_LIMIT"),
     (vcd_files.GREATEST_WIDTH, "vcd_core/src/value.rt", "WIDTH_LIMIT"),
     (vcd_files.SCRIPT_LIMIT, "vcdedit/src/running/script_input.rt", "SCRIPT_LIMIT"),
-    (vcd_files.RATIO_LIMIT, "vcd_decode/src/uart_setup.rt", "RATIO_LIMIT"),
 ]
 # Each set of words, the file of the code that compares a word with them, and the function that does.
 WORDS = [

@@ -4,7 +4,7 @@ import os
 import re
 import shutil
 
-from common import TOP, module_of, run, store, store_program, text_at
+from common import TOP, module_of, narrow_of, run, store, store_program, text_at
 
 PARTS = "vcdedit launch CHANGELOG.md Makefile crates.txt completions docs examples cases tools".split()
 SHELLS = {"completions/vcdedit.bash": "--%s", "completions/_vcdedit": "--%s", "completions/vcdedit.fish": "-l %s"}
@@ -45,8 +45,8 @@ RUN = [
     (["vcdedit-apply", "--version"], 0, r"^vcdedit-apply [0-9.]+\n"),
     (["vcdedit-apply", "--to", "/tmp", "/dev/null", "/dev/null"], 2, "is one of the captures"),
     (["vcdedit-apply", "--help"], 0, "Carries a script"),
-    (["vcdedit-select", "--from", "0", "/dev/null"], 3, "line 1: the file is empty"),
-    (["vcdedit-view", "/dev/null", "-o", "/tmp/none.vcd"], 3, "line 1: the file is empty"),
+    (["vcdedit-narrow", "/dev/null"], 3, "capture line 1: Truncated"),
+    (["vcdedit-view", "/dev/null", "-o", "none.vcd"], 3, "line 1: the file is empty"),
 ]
 COMPLETE = """source "$1"; shift; compopt() { :; }
 COMP_WORDS=(vcdedit "$@"); COMP_CWORD=$#; _vcdedit; printf '%s\\n' "${COMPREPLY[@]}" """
@@ -61,6 +61,9 @@ def lay_out(program, folder):
     built = os.path.join(folder, "crates/vcdedit/out/vcdedit")
     os.makedirs(os.path.dirname(built))
     shutil.copy(program, built)
+    narrow = os.path.join(folder, "crates/vcdedit_narrow/out/vcdedit_narrow")
+    os.makedirs(os.path.dirname(narrow))
+    shutil.copy(narrow_of(program), narrow)
     return folder
 
 
@@ -152,7 +155,7 @@ def tools_of_makefile():
 
 def explains_tools(program, folder):
     """Each option that a tool's help lists is in its page and completed, and no other is in the page."""
-    names = tools_of_makefile()
+    names = tools_of_makefile() + [(narrow_of(program), "vcdedit-narrow")]
     yield "there are tools", len(names) >= 2
     makefile = text_at("Makefile")
     for source, name in names:

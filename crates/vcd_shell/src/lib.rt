@@ -10,7 +10,7 @@ mod words;
 pub use late_file::LateFile;
 pub use opening::{Origin, open_capture};
 pub use reporting::{
-    capture_status, report, report_capture, report_no_memory, report_refusal, report_write,
-    write_status,
+    capture_status, report, report_capture, report_no_memory, report_refusal, report_with,
+    report_write, write_status,
 };
 pub use words::{WithoutRun, answer_bad_words, answer_error, words_after_name};

@@ -1,6 +1,6 @@
 //! The lines on standard error for faults that each program may meet, and their exit statuses.
 
-ghost use Rattle.std.specs.Prelude.{◌≡◌, ◌≤◌, false, true, OnOk, OnErr};
+ghost use Rattle.std.specs.Prelude.{◌≡◌, ◌≤◌, ◌++◌, false, true, OnOk, OnErr};
 ghost use Rattle.std.specs.Io.KnownBytes.{Appends};
 ghost use Rattle.vcd_shell.specs.Report.{IsReported, capture_line_report, capture_report};
 ghost use Rattle.vcd_shell.specs.Report.{capture_status, out_of_memory_report, report_of};
@@ -17,7 +17,17 @@ pub fn report<W: Sink>(program: &[u8], text: &[u8], writer: &mut W)
     ensures { IsReported (W.has_failed writer.new) (W.is_flushed writer.new)
         (W.taken writer.old) (W.taken writer.new) (report_of program.now text.now) }
 {
-    let _ = write_report(program, text, writer);
+    let _ = write_report(program, text, b"", writer);
+}
+
+/// Writes the line of a text and of what follows it, after the program's name, and flushes the
+/// writer. A fault of the writer is ignored. It takes no memory.
+pub fn report_with<W: Sink>(program: &[u8], text: &[u8], more: &[u8], writer: &mut W)
+    requires { W.has_failed writer.old ≡ false }
+    ensures { IsReported (W.has_failed writer.new) (W.is_flushed writer.new)
+        (W.taken writer.old) (W.taken writer.new) (report_of program.now (text.now ++ more.now)) }
+{
+    let _ = write_report(program, text, more, writer);
 }
 
 /// Writes the line for a fault of the capture after the program's name, and flushes the writer. A
@@ -96,18 +106,25 @@ pub fn write_status(error: &WriteError) -> u8
     }
 }
 
-/// Writes and flushes the line of a text after the program's name.
-fn write_report<W: Sink>(program: &[u8], text: &[u8], writer: &mut W) -> Result<(), ShortWrite>
+/// Writes and flushes the line of a text and of what follows it, after the program's name.
+fn write_report<W: Sink>(
+    program: &[u8],
+    text: &[u8],
+    more: &[u8],
+    writer: &mut W,
+) -> Result<(), ShortWrite>
     requires { W.has_failed writer.old ≡ false }
     ensures line { OnOk result (Appends (W.taken writer.old) (W.taken writer.new)
-        (report_of program.now text.now)) }
+        (report_of program.now (text.now ++ more.now))) }
     ensures flushed { OnOk result (W.is_flushed writer.new ≡ true) }
     ensures fault { OnErr result (W.has_failed writer.new ≡ true) }
 {
     write_all(writer, program)?;
     write_all(writer, b": ")?;
     write_all(writer, text)?;
-    write_and_flush(writer, b"\n")
+    write_all(writer, more)?;
+    write_and_flush(writer, b"\n")?;
+    Ok(())
 }
 
 /// Writes and flushes the line on a fault at a line of the capture.

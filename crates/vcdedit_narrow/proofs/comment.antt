@@ -1,0 +1,2 @@
+-- Lemmas of `comment`.
+pub mod SoundComments

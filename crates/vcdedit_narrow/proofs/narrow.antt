@@ -1,0 +1,4 @@
+-- Lemmas of `narrow`.
+pub mod DeclinedFaults
+pub mod Endings
+pub mod SoundParts

@@ -1,0 +1,2 @@
+-- Lemmas of `near`.
+pub mod NamesInTurn

@@ -1,0 +1,2 @@
+-- Lemmas of `request`.
+pub mod Decisions
