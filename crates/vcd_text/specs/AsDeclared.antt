@@ -4,7 +4,7 @@ use Rattle.vcd_core.specs.Contents.{SignalContents}
 use Rattle.vcd_text.specs.declared.reading.declared_signals.DeclaredSignal.{DeclaredSignal}
 use Rattle.vcd_text.specs.declared.reading.declared_signals.Declarations.{Declarations}
 use Rattle.vcd_text.specs.declared.reading.variables.Variable.{Variable}
-use Rattle.vcd_text.specs.inside.reading.Scopes.{chain_at, chains_of}
+use Rattle.vcd_text.specs.Chains.{chain_at, chains_of}
 
 -- a signal as it is declared
 abbrev pub signal_declared : DeclaredSignal → SignalContents

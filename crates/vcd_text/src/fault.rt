@@ -42,13 +42,13 @@ pub enum Fault {
     UnknownCode,
     /// More digits than the variable has bits.
     ValueTooLong,
-    /// More kept variables than the signals that a capture can have.
+    /// More kept variables than `SIGNAL_LIMIT`, or than `VARIABLE_LIMIT` if a part is read.
     TooManySignals,
     /// More signals remain in a part than a capture can have.
     TooManyRemain,
     /// The choice of a part refuses what the file declares.
     Declined,
-    /// The file has more than `FILE_LIMIT` bytes.
+    /// The file has more than `FILE_LIMIT` bytes, or than `LONG_FILE_LIMIT` if a part is read.
     TooLarge,
     /// The reader failed.
     ReadFault,

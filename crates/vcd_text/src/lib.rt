@@ -1,11 +1,11 @@
 //! The text of four-state value change dump files (IEEE 1364-2005, 18.2).
 //!
-//! `read` gives the capture that a file means, or the file's one fault with its line. `write`
-//! writes the text of a capture, which reads back as the same capture. `Words` are the words of a
-//! text, each with its line.
+//! `read` gives the capture that a file means, or the file's one fault with its line. `read_part`
+//! gives a part of it. `write` writes the text of a capture, which reads back as the same capture.
+//! `Words` are the words of a text, each with its line.
 //!
-//! The format is defined in `specs/`: `Words`, `Letters`, `Items`, `Grammar`, `Meaning`, `Faults`
-//! and `Text`.
+//! The format is defined in `specs/`: `Words`, `Letters`, `Items`, `Grammar`, `Meaning`, `Faults`,
+//! `Parts` and `Text`.
 #![tactic(auto)]
 
 mod fault;

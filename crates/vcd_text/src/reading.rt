@@ -59,7 +59,7 @@ pub struct Loaded {
     pub skipped: u64,
     /// The last tick of the file.
     pub end: u64,
-    /// The number of signals of the file.
+    /// The number of kept variables of the file.
     pub signals: usize,
 }
 
@@ -86,6 +86,9 @@ pub fn read<R: Source>(alloc: Global, reader: &mut R) -> Result<Loaded, ReadErro
     ensures means { IfOk result (λ loaded. IfSome (R.coming reader.old) (λ file.
         (length file ≤ FILE_LIMIT) × FileMeans SIGNAL_LIMIT file (contents loaded.capture)
         loaded.skipped)) }
+    ensures extent { IfOk result (λ loaded. IfSome (R.coming reader.old) (λ _.
+        (loaded.end ≡ (contents loaded.capture).end)
+        × (loaded.signals ≡ length (contents loaded.capture).signals))) }
     ensures sound { IfOk result (λ loaded. IsSound (contents loaded.capture)) }
     ensures not_failed { OnOk result (R.has_failed reader.new ≡ false) }
     ensures ended { OnOk result (IsAtEnd (R.coming reader.new)) }
@@ -94,6 +97,8 @@ pub fn read<R: Source>(alloc: Global, reader: &mut R) -> Result<Loaded, ReadErro
     ensures failed { IfErr result (λ e. e.fault ≡ Fault.ReadFault →
         R.has_failed reader.new ≡ true) }
     ensures too_large { IfErr result (λ e. e.fault ≡ Fault.TooLarge →
+        R.has_failed reader.new ≡ false) }
+    ensures unfailed { IfErr result (λ e. (e.fault ≡ Fault.ReadFault → ⊥) →
         R.has_failed reader.new ≡ false) }
 {
     let mut whole = Whole;
@@ -108,8 +113,11 @@ pub fn read<R: Source>(alloc: Global, reader: &mut R) -> Result<Loaded, ReadErro
 ///
 /// Time: as of `read`; a change outside the part is looked up and checked, and no more.
 ///
+/// A file has at most 2^62 - 1 bytes and 2^32 - 1 kept variables, of which at most `SIGNAL_LIMIT`
+/// remain.
+///
 /// Memory: as of `read`, but for the changes. Those of the part are held, and the last one before
-/// it of each signal that remains.
+/// it of each signal that remains. The names of all kept variables are held to the end.
 pub fn read_part<R: Source, C: Choice>(
     alloc: Global,
     reader: &mut R,
@@ -130,6 +138,8 @@ pub fn read_part<R: Source, C: Choice>(
     ensures failed { IfErr result (λ e. e.fault ≡ Fault.ReadFault →
         R.has_failed reader.new ≡ true) }
     ensures too_large { IfErr result (λ e. e.fault ≡ Fault.TooLarge →
+        R.has_failed reader.new ≡ false) }
+    ensures unfailed { IfErr result (λ e. (e.fault ≡ Fault.ReadFault → ⊥) →
         R.has_failed reader.new ≡ false) }
 {
     read_within(alloc, reader, choice, VARIABLE_LIMIT, LONG_FILE_LIMIT)
@@ -157,6 +167,8 @@ fn read_within<R: Source, C: Choice>(
     ensures failed { IfErr result (λ e. e.fault ≡ Fault.ReadFault →
         R.has_failed reader.new ≡ true) }
     ensures too_large { IfErr result (λ e. e.fault ≡ Fault.TooLarge →
+        R.has_failed reader.new ≡ false) }
+    ensures unfailed { IfErr result (λ e. (e.fault ≡ Fault.ReadFault → ⊥) →
         R.has_failed reader.new ≡ false) }
 {
     let mut progress = FileReader::new(alloc, limit, most);

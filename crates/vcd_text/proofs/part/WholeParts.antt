@@ -193,6 +193,18 @@ whole_is takes ticks c all first last sound =
     ∙ same_signals ticks.first c.end c.signals first sound in
     λ i. record c { end = end i; signals = signals i }
 
+-- what is loaded of all signals at all ticks is what the file means
+loaded_whole : (answers : Answers) (file : List ℕ) (loaded : Loaded)
+    → ((timescale : Option Timescale) (ss : List SignalContents) (ticks : TickRange)
+    → answers timescale ss (Some ticks) → ticks ≡ all_ticks)
+    → (means : PartMeans SIGNAL_LIMIT (λ _. true) answers file loaded) → contents loaded.capture ≡ means.whole
+loaded_whole answers file loaded all means =
+    let sound = file_is_sound SIGNAL_LIMIT file means.whole loaded.skipped means.means in
+    let ticks = all means.whole.timescale (map without_changes means.whole.signals) means.ticks means.answered in
+    means.is ∙ whole_is (λ _. true) means.ticks means.whole (λ s. refl)
+    (ap (λ (t : TickRange). t.first) ticks)
+    (omega (arith, sound.end, ap (λ (t : TickRange). t.last) ticks)) sound.signals
+
 pub whole_means_of_read : (coming : Option (List ℕ)) (answers : Answers) (loaded : Loaded)
     → ((timescale : Option Timescale) (ss : List SignalContents) (ticks : TickRange)
     → answers timescale ss (Some ticks) → ticks ≡ all_ticks)
@@ -200,13 +212,22 @@ pub whole_means_of_read : (coming : Option (List ℕ)) (answers : Answers) (load
     → IfSome coming (λ file. (length file ≤ FILE_LIMIT)
     × FileMeans SIGNAL_LIMIT file (contents loaded.capture) loaded.skipped)
 whole_means_of_read None answers loaded all means = means
-whole_means_of_read (Some file) answers loaded all (short, means) =
-    let sound = file_is_sound SIGNAL_LIMIT file means.whole loaded.skipped means.means in
-    let ticks = all means.whole.timescale (map without_changes means.whole.signals) means.ticks means.answered in
-    let same = means.is ∙ whole_is (λ _. true) means.ticks means.whole (λ s. refl)
-    (ap (λ (t : TickRange). t.first) ticks)
-    (omega (arith, sound.end, ap (λ (t : TickRange). t.last) ticks)) sound.signals in
-    (short, subst (λ d. FileMeans SIGNAL_LIMIT file d loaded.skipped) (sym same) means.means)
+whole_means_of_read (Some file) answers loaded all (short, means) = (
+  short,
+  subst (λ d. FileMeans SIGNAL_LIMIT file d loaded.skipped)
+      (sym (loaded_whole answers file loaded all means)) means.means,
+)
+
+pub whole_extent_of_read : (coming : Option (List ℕ)) (answers : Answers) (loaded : Loaded)
+    → ((timescale : Option Timescale) (ss : List SignalContents) (ticks : TickRange)
+    → answers timescale ss (Some ticks) → ticks ≡ all_ticks)
+    → IfSome coming (λ file. (length file ≤ FILE_LIMIT) × PartMeans SIGNAL_LIMIT (λ _. true) answers file loaded)
+    → IfSome coming (λ file. (loaded.end ≡ (contents loaded.capture).end)
+    × (loaded.signals ≡ length (contents loaded.capture).signals))
+whole_extent_of_read None answers loaded all means = tt
+whole_extent_of_read (Some file) answers loaded all (short, means) =
+    let same = sym (loaded_whole answers file loaded all means) in
+    (means.end ∙ ap (λ (c : Contents). c.end) same, means.count ∙ ap (λ (c : Contents). length c.signals) same)
 
 -- all signals of a file are few enough, and all ticks are answered
 pub no_part_refusal_of_read : (answers : Answers) (coming : Option (List ℕ)) (failed : Bool)

@@ -14,7 +14,8 @@ use crate::reading::part::Part;
 use std::alloc::Global;
 use vcd_core::{END_LIMIT, NoMemory, SIGNAL_LIMIT, Timescale};
 
-/// Some ticks of a capture: from the first to the last one.
+/// Some ticks of a capture: from the first to the last one, which both belong to it. If `last` is
+/// below `first`, or `first` is past the capture's end, there is one tick.
 #[derive(Clone, Copy, Debug, PartialEq, Eq)]
 pub struct TickRange {
     pub first: u64,

@@ -1,7 +1,8 @@
 //! The signals that a file declares, as a choice of a part sees them.
 
 ghost use Rattle.std.specs.Prelude.{◌≡◌, ◌<◌, ℕ, Some, length, slice_get};
-ghost use Rattle.vcd_text.specs.inside.reading.Scopes.{chains_of, IsWithin};
+ghost use Rattle.vcd_text.specs.Chains.{chains_of};
+ghost use Rattle.vcd_text.specs.inside.reading.Scopes.{IsWithin};
 ghost use Rattle.vcd_text.specs.declared.reading.variables.Variable.{Variable as KeptVariable};
 
 use crate::reading::scopes::Scopes;

@@ -94,6 +94,8 @@ impl FileReader {
             R.has_failed source.new ≡ true) }
         ensures too_large { IfErr result (λ e. e.fault ≡ Fault.TooLarge →
             R.has_failed source.new ≡ false) }
+        ensures unfailed { IfErr result (λ e. (e.fault ≡ Fault.ReadFault → ⊥) →
+            R.has_failed source.new ≡ false) }
     {
         self.buffer.make_room()?;
         let unfinished_len = self.buffer.len();

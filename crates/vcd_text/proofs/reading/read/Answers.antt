@@ -1,4 +1,4 @@
-use Rattle.std.proofs.Common.{◌≤◌, length, IfSome}
+use Rattle.std.proofs.Common.{◌≡◌, ◌≤◌, length, IfSome}
 use Rattle.std.proofs.lemmas.Option.{same_Some}
 use Rattle.std.proofs.lemmas.Result.{IfOk-weaker, IfErr-weaker}
 use Rattle.vcd_core.specs.CaptureContents.{contents}
@@ -9,7 +9,8 @@ use Rattle.vcd_text.specs.Meaning.{FileMeans}
 use Rattle.vcd_core.specs.declared.capture.TheConstants.{SIGNAL_LIMIT}
 use Rattle.vcd_text.specs.Refusals.{IsRefusal}
 use Rattle.vcd_text.specs.inside.reading.Part.{all_ticks}
-use Rattle.vcd_text.proofs.part.WholeParts.{whole_means_of_read, no_part_refusal_of_read}
+use Rattle.vcd_text.proofs.part.WholeParts.{whole_means_of_read, whole_extent_of_read}
+use Rattle.vcd_text.proofs.part.WholeParts.{no_part_refusal_of_read}
 use Rattle.vcd_text.proofs.reading.read.Goals as goal
 
 pub returns-clause-means : goal.returns-clause-means
@@ -19,6 +20,15 @@ returns-clause-means g c =
     (λ (loaded : Loaded). IfSome coming (λ file. (length file ≤ FILE_LIMIT)
     × FileMeans SIGNAL_LIMIT file (contents loaded.capture) loaded.skipped))
     (λ loaded. whole_means_of_read coming _ loaded (λ t ss ticks answer. same_Some ticks all_ticks answer))
+    c.read_within.ensures.means
+
+pub returns-clause-extent : goal.returns-clause-extent
+returns-clause-extent g c =
+    let coming = g.R.Source.coming c.args.reader.now in
+    IfOk-weaker c.read_within.result _
+    (λ (loaded : Loaded). IfSome coming (λ file. (loaded.end ≡ (contents loaded.capture).end)
+    × (loaded.signals ≡ length (contents loaded.capture).signals)))
+    (λ loaded. whole_extent_of_read coming _ loaded (λ t ss ticks answer. same_Some ticks all_ticks answer))
     c.read_within.ensures.means
 
 pub returns-clause-refused : goal.returns-clause-refused

@@ -10,7 +10,8 @@ use Rattle.std.proofs.lemmas.List.{take_all}
 use Rattle.std.proofs.Math.Seq.{get_or-append_seam}
 use Rattle.vcd_core.specs.Contents.{SignalContents}
 use Rattle.vcd_text.specs.Grammar.{VariableDeclaration, ParseState, kept_variables}
-use Rattle.vcd_text.specs.inside.reading.Scopes.{chains_of, chain_at, IsWithin}
+use Rattle.vcd_text.specs.Chains.{chains_of, chain_at}
+use Rattle.vcd_text.specs.inside.reading.Scopes.{IsWithin}
 use Rattle.vcd_text.specs.inside.reading.Part.{undriven}
 use Rattle.vcd_text.specs.inside.reading.Variables.{VariablesMatch, declaration, without_code}
 use Rattle.vcd_text.specs.declared.reading.variables.Variable.{Variable}

@@ -21,7 +21,8 @@ use Rattle.vcd_text.specs.Meaning.{latest_value, declared_signal}
 use Rattle.vcd_text.specs.inside.reading.Variables.{declaration, without_code, target_of}
 use Rattle.vcd_text.specs.inside.reading.Variables.{HasValueChanges}
 use Rattle.vcd_text.specs.inside.reading.Variables.{VariablesMatch, Finishes, FinishesWave}
-use Rattle.vcd_text.specs.inside.reading.Scopes.{chains_of, IsPlaced}
+use Rattle.vcd_text.specs.Chains.{chains_of}
+use Rattle.vcd_text.specs.inside.reading.Scopes.{IsPlaced}
 use Rattle.vcd_text.specs.declared.reading.code_targets.CodeTarget.TheVariants.{Kept}
 use Rattle.vcd_text.specs.declared.reading.variables.Variable.{Variable}
 use Rattle.vcd_text.specs.declared.reading.variables.Variables.{Variables}

@@ -26,7 +26,8 @@ use Rattle.vcd_text.specs.inside.reading.DigitTests.{takes_binary_number}
 use Rattle.vcd_text.specs.Meaning.{latest_value}
 use Rattle.vcd_text.specs.inside.reading.CodeTargets.{code_target}
 use Rattle.vcd_text.specs.inside.reading.Log.{GivesLoggedValues, logged, AreGrouped, IsSameVariable}
-use Rattle.vcd_text.specs.inside.reading.Scopes.{chain_at, open_scopes, IsPlaced}
+use Rattle.vcd_text.specs.Chains.{chain_at}
+use Rattle.vcd_text.specs.inside.reading.Scopes.{open_scopes, IsPlaced}
 use Rattle.vcd_text.specs.declared.reading.log.LoggedChange.{LoggedChange}
 use Rattle.vcd_text.specs.declared.reading.code_targets.CodeTarget.{CodeTarget}
 use Rattle.vcd_text.specs.declared.reading.code_targets.CodeTarget.TheVariants.{Undeclared, Skipped}
