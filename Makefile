@@ -2,7 +2,10 @@
 PREFIX ?= /usr/local
 ZSH_FOLDER ?= share/zsh/site-functions
 
-# What is installed below PREFIX: mode, file, place. Besides there are bin/vcdedit and bin/vcdedit-narrow, which are made of
+PROGRAMS = vcdedit vcdedit-narrow
+COMMANDS = $(PROGRAMS) vcdedit-apply vcdedit-compare vcdedit-view
+
+# What is installed below PREFIX: mode, file, place. Besides there are bin/NAME of each program, which is made of
 # launch/running.sh, and share/doc/vcdedit.
 define FILES
 755 crates/vcdedit/out/vcdedit libexec/vcdedit
@@ -13,25 +16,15 @@ define FILES
 644 tools/vcd_files.py share/vcdedit/vcd_files.py
 644 tools/vcd_messages.py share/vcdedit/vcd_messages.py
 644 tools/messages.txt share/vcdedit/messages.txt
-644 docs/vcdedit.1 share/man/man1/vcdedit.1
-644 docs/vcdedit-apply.1 share/man/man1/vcdedit-apply.1
-644 docs/vcdedit-compare.1 share/man/man1/vcdedit-compare.1
-644 docs/vcdedit-narrow.1 share/man/man1/vcdedit-narrow.1
-644 docs/vcdedit-view.1 share/man/man1/vcdedit-view.1
-644 completions/vcdedit.bash share/bash-completion/completions/vcdedit
-644 completions/_vcdedit $(ZSH_FOLDER)/_vcdedit
-644 completions/vcdedit.fish share/fish/vendor_completions.d/vcdedit.fish
-644 completions/tools.bash share/bash-completion/completions/vcdedit-apply
-644 completions/tools.bash share/bash-completion/completions/vcdedit-compare
-644 completions/tools.bash share/bash-completion/completions/vcdedit-narrow
-644 completions/tools.bash share/bash-completion/completions/vcdedit-view
-644 completions/_vcdedit_tools $(ZSH_FOLDER)/_vcdedit_tools
-644 completions/tools.fish share/fish/vendor_completions.d/vcdedit-apply.fish
-644 completions/tools.fish share/fish/vendor_completions.d/vcdedit-compare.fish
-644 completions/tools.fish share/fish/vendor_completions.d/vcdedit-narrow.fish
-644 completions/tools.fish share/fish/vendor_completions.d/vcdedit-view.fish
+$(foreach name,$(COMMANDS),$(FILES_OF_COMMAND))644 completions/_vcdedit $(ZSH_FOLDER)/_vcdedit
 endef
-PROGRAMS = vcdedit vcdedit-narrow
+# The same of each command.
+define FILES_OF_COMMAND
+644 docs/$(name).1 share/man/man1/$(name).1
+644 completions/vcdedit.bash share/bash-completion/completions/$(name)
+644 completions/vcdedit.fish share/fish/vendor_completions.d/$(name).fish
+
+endef
 DOCUMENTS = CHANGELOG.md docs/COOKBOOK.md docs/SCRIPT.md docs/FORMATS.md examples
 
 # Which folders install made, a line each, so that uninstall takes them away, too.

@@ -1,44 +1,31 @@
-# Completion of vcdedit's options and files for bash: `source completions/vcdedit.bash`, or as `make install` puts it.
+# Completion of vcdedit and the tools around it for bash: their options, as --help lists them, and names of signals. Files
+# are left to bash. `make install` puts it where bash looks for each command.
 _vcdedit() {
-    local word=${COMP_WORDS[COMP_CWORD]} before=${COMP_WORDS[COMP_CWORD - 1]} prefix=
-    # `--depth=10` is three words, or in one where COMP_WORDBREAKS has no `=`.
-    if [[ $word == = ]]; then
-        word=
-    elif [[ $before == = ]]; then
-        before=${COMP_WORDS[COMP_CWORD - 2]}
-    elif [[ $word == --*=* ]]; then
-        before=${word%%=*} prefix=${word%%=*}= word=${word#*=}
-    fi
+    local word=${COMP_WORDS[COMP_CWORD]} prefix=
     COMPREPLY=()
-    case $before in
-        -i | --input-file)
-            _vcdedit_files "$word" "$prefix" '!*.[vV][cC][dD]'
-            ;;
-        --script | -o | --output-file)
-            _vcdedit_files "$word" "$prefix"
-            ;;
-        --depth)
-            mapfile -t COMPREPLY < <(compgen -P "$prefix" -W "1 10 100 1000" -- "$word")
+    case ${COMP_WORDS[COMP_CWORD - 1]} in
+        --keep | --remove | --map)
+            # A `:` of a range parts words, and what is before it stays.
+            [[ $COMP_WORDBREAKS == *:* && $word == *:* ]] && prefix=${word%"${word##*:}"}
+            mapfile -t COMPREPLY < <(_vcdedit_names "${1%-*}" | grep -F -- "$word" | while IFS= read -r name; do
+                [[ $name == "$word"* ]] && printf '%q\n' "${name#"$prefix"}"
+            done)
             ;;
         *)
-            mapfile -t COMPREPLY < <(compgen -W "-i --input-file --script -o --output-file --depth -h --help -V --version" -- "$word")
+            [[ $word != -* ]] || mapfile -t COMPREPLY < <(compgen -W "$("$1" --help 2> /dev/null |
+                sed -nE 's/^ +(-[a-zA-Z])?( [A-Z]+)?(, )?(--[a-z-]+).*/\1 \4/p')" -- "$word")
             ;;
     esac
 }
 
-# Files and folders: without those that the filter names, as long as there are others. A word with quotes is left to
-# bash, which knows them.
-_vcdedit_files() {
-    if [[ $1 == *[\\\'\"\~\$]* ]]; then
-        compopt -o default
-        return
-    fi
-    compopt -o filenames
-    if [[ -n ${3-} ]]; then
-        mapfile -t COMPREPLY < <(compgen -P "$2" -f -X "$3" -- "$1"; compgen -P "$2" -d -- "$1")
-    fi
-    if ((${#COMPREPLY[@]} == 0)); then
-        mapfile -t COMPREPLY < <(compgen -P "$2" -f -- "$1")
-    fi
+# The names of the signals of the first capture on the line, if they are there within half a second.
+_vcdedit_names() { # PROGRAM
+    local path
+    for path in "${COMP_WORDS[@]:1}"; do
+        if [[ -f $path ]]; then
+            timeout 0.5 "$1" -i "$path" 2> /dev/null | sed -n 's/^@[0-9]* [0-9]* [^ ]* //p'
+            return
+        fi
+    done
 }
-complete -F _vcdedit vcdedit
+complete -o default -F _vcdedit vcdedit vcdedit-apply vcdedit-compare vcdedit-narrow vcdedit-view

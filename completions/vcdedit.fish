@@ -1,8 +1,30 @@
-# Completion of vcdedit's options and files for fish: `source completions/vcdedit.fish`, or as `make install` puts it.
-complete -c vcdedit -f
-complete -c vcdedit -s i -l input-file -x -a '(__fish_complete_suffix .vcd)' -d 'The capture to read'
-complete -c vcdedit -l script -r -F -d 'The script to carry out'
-complete -c vcdedit -s o -l output-file -r -F -d 'The VCD file to write'
-complete -c vcdedit -l depth -x -a '1 10 100 1000' -d 'How many edits can be undone'
-complete -c vcdedit -s h -l help -d 'Options and the commands of a script'
-complete -c vcdedit -s V -l version -d 'The version'
+# Completion of vcdedit and the tools around it for fish: their options, as --help lists them, names of signals and files.
+# `make install` puts it where fish looks for each command.
+function __vcdedit_names --description 'The names of the signals of the first capture on the line, if they are there within half a second'
+    set -l words (commandline -opc) (commandline -ct)
+    for path in $words[2..]
+        if test -f $path
+            timeout 0.5 (string replace -r -- '-[a-z]+$' '' $words[1]) -i $path 2>/dev/null | string replace -rf '^@\d+ \d+ \S+ ' ''
+            return
+        end
+    end
+end
+
+set -l tool (basename (status filename) .fish)
+for row in ($tool --help 2>/dev/null | string match -r -- '^ +(?:-\w(?: \S+)?, )?--[a-z-]+.*')
+    set -l option (string match -r -- '--([a-z-]+)(?: <?([A-Z=]+)>?)?' $row)
+    set -l about (string match -r -- '--[a-z-]+(?: [<A-Z=> ]+)?  +(\S.*)$' $row)[2]
+    set -l words -c $tool -l $option[2] -d "$about" (string replace -rf -- '^ +-(\w).*' '-s$1' $row)
+    switch "$option[2] $option[3]"
+        case '* PATTERN' '* NAME' '* OLD=NEW'
+            complete $words -x -a '(__vcdedit_names)'
+        case '* FOLDER'
+            complete $words -x -a '(__fish_complete_directories)'
+        case '* FILE' '* SCRIPT'
+            complete $words -r -F
+        case '* '
+            complete $words
+        case '*'
+            complete $words -x
+    end
+end

@@ -7,26 +7,9 @@ import shutil
 from common import TOP, module_of, narrow_of, run, store, store_program, text_at
 
 PARTS = "vcdedit launch CHANGELOG.md Makefile crates.txt completions docs examples cases tools".split()
-SHELLS = {"completions/vcdedit.bash": "--%s", "completions/_vcdedit": "--%s", "completions/vcdedit.fish": "-l %s"}
-
-# The words of a command line, of which the last is completed, and what comes of it.
-COMPLETED = [
-    (["-i", "o"], ["one.vcd"]),
-    (["-i", "tw"], ["two.VCD"]),
-    (["-i", "my"], ["my capture.vcd"]),
-    (["-i", "su"], ["sub"]),
-    (["-i", "sub/"], ["sub/three.vcd"]),
-    (["-i", "no"], ["notes.txt"]),
-    (["--script", "no"], ["notes.txt"]),
-    (["--input-file", "=", "o"], ["one.vcd"]),
-    (["--input-file=o"], ["--input-file=one.vcd"]),
-    (["--depth", "="], ["1", "10", "100", "1000"]),
-    (["--depth", "=", "100"], ["100", "1000"]),
-    (["--dep"], ["--depth"]),
-]
 # Half a second is not enough on a busy machine, so that a check of names waits longer.
-COMPLETE_TOOL = """source <(sed 's/timeout 0.5/timeout 20/' "$1"); shift; compopt() { :; }
-COMP_WORDS=("$@"); COMP_CWORD=$(($# - 1)); _vcdedit_tool "$1"; printf '%s\\n' "${COMPREPLY[@]}" """
+COMPLETE = """source <(sed 's/timeout 0.5/timeout 20/' "$1"); shift
+COMP_WORDS=("$@"); COMP_CWORD=$(($# - 1)); _vcdedit "$1"; printf '%s\n' "${COMPREPLY[@]}" """
 # The words of a command line, of which the last is completed, and what comes of it, where a capture has these signals.
 NAMED = """$scope module tb $end $var wire 1 ! clk $end $var wire 8 " q [7:0] $end $var wire 8 # a b [3:0] $end
 $upscope $end $enddefinitions $end"""
@@ -35,21 +18,21 @@ NAMES = [
     (["--map", "tb.q"], [r"tb.q\[7:0\]"]),
     (["--keep", "tb.q[7:"], [r"0\]"]),
     (["--keep", "clk"], [""]),
+    (["-i", "named"], [""]),
 ]
-# What is run after installing, in another folder: words, status and what is shown. Each tool calls the program next to it.
+# What is run after installing, in another folder: words, status and what is shown. Each tool calls the vcdedit next to it.
 RUN = [
-    (["vcdedit", "--version"], 0, r"^vcdedit [0-9.]+\n"),
     (["vcdedit-compare", "--help"], 0, "ompares"),
     (["vcdedit-compare", "/dev/null", "/dev/null"], 2, "line 1: the file is empty"),
-    (["vcdedit-compare", "--version"], 0, r"^vcdedit-compare [0-9.]+\n"),
-    (["vcdedit-apply", "--version"], 0, r"^vcdedit-apply [0-9.]+\n"),
     (["vcdedit-apply", "--to", "/tmp", "/dev/null", "/dev/null"], 2, "is one of the captures"),
     (["vcdedit-apply", "--help"], 0, "Carries a script"),
     (["vcdedit-narrow", "/dev/null"], 3, "capture line 1: Truncated"),
     (["vcdedit-view", "/dev/null", "-o", "none.vcd"], 3, "line 1: the file is empty"),
 ]
-COMPLETE = """source "$1"; shift; compopt() { :; }
-COMP_WORDS=(vcdedit "$@"); COMP_CWORD=$#; _vcdedit; printf '%s\\n' "${COMPREPLY[@]}" """
+COMMANDS = ["vcdedit", "vcdedit-apply", "vcdedit-compare", "vcdedit-narrow", "vcdedit-view"]
+# What is installed of each command, and of all.
+FILES = ["bin/%s", "man/man1/%s.1", "bash-completion/completions/%s", "fish/vendor_completions.d/%s.fish"]
+DOCUMENTS = ["CHANGELOG.md", "COOKBOOK.md", "SCRIPT.md", "FORMATS.md", "messages.txt", "_vcdedit"]
 
 
 def lay_out(program, folder):
@@ -90,8 +73,8 @@ def installs(program, folder):
         yield name + ": install", made[0] == 0 and len(launcher) == 1
         if name == "a relative PREFIX":
             yield from run_from_anywhere(os.path.dirname(launcher[0]))
-        wanted = ["CHANGELOG.md", "COOKBOOK.md", "SCRIPT.md", "FORMATS.md", "messages.txt", "vcdedit.1", "_vcdedit", "vcdedit.fish", "completions/vcdedit"]
-        yield name + ": documents and completions", all(any(path.endswith(end) for path in added) for end in wanted)
+        wanted = DOCUMENTS + [file % command for command in COMMANDS for file in FILES]
+        yield name + ": all is installed", all(any(path.endswith("/" + end) for path in added) for end in wanted)
         if name != "a relative PREFIX":
             yield from documents_stand_alone(os.path.dirname([path for path in added if path.endswith("/COOKBOOK.md")][0]))
             run(["make", "install", *words], cwd=tree)
@@ -143,60 +126,42 @@ def compares_decoders(program, folder):
 
 def run_from_anywhere(folder):
     """What is installed runs in another folder, and each tool finds its modules and the program next to it."""
+    version = run([os.path.join(folder, "vcdedit"), "--version"], cwd="/")[1].partition(" ")[2]
+    for command in COMMANDS:
+        said = run([os.path.join(folder, command), "--version"], cwd="/")
+        yield command + ": its version", said == (0, "%s %s" % (command, version), "") and version
     for words, status, wanted in RUN:
         done = run([os.path.join(folder, words[0]), *words[1:]], cwd="/", input="")
         yield "%s runs from anywhere" % " ".join(words), done[0] == status and re.search(wanted, done[1] + done[2])
 
 
-def tools_of_makefile():
-    """(source, name) of each tool."""
-    return re.findall(r"^755 (tools/\S+) bin/(\S+)$", text_at("Makefile"), flags=re.M)
-
-
 def explains_tools(program, folder):
-    """Each option that a tool's help lists is in its page and completed, and no other is in the page."""
-    names = tools_of_makefile() + [(narrow_of(program), "vcdedit-narrow")]
-    yield "there are tools", len(names) >= 2
-    makefile = text_at("Makefile")
-    for source, name in names:
-        status, shown, _ = run([os.path.join(TOP, source), "--help"])
+    """Each option that a help lists is in the page and completed, and no other is in the page."""
+    os.makedirs(folder)
+    sources = {name: os.path.join(TOP, path) for path, name in re.findall(r"^755 (tools/\S+) bin/(\S+)$", text_at("Makefile"), flags=re.M)}
+    sources.update({"vcdedit": program, "vcdedit-narrow": narrow_of(program)})
+    yield "the commands", sorted(sources) == COMMANDS
+
+    def completed(*words):
+        script = os.path.join(TOP, "completions/vcdedit.bash")
+        return run(["bash", "--norc", "-c", COMPLETE, "bash", script, *words], cwd=folder)[1].splitlines()
+
+    for name, source in sources.items():
+        os.symlink(source, os.path.join(folder, name))
+        status, shown, _ = run([source, "--help"])
         options = set(re.findall(r"^ +(?:-\w(?: \S+)?, )?--([a-z-]+)", shown, flags=re.M))
-        page = text_at("docs/%s.1" % name).replace("\\-", "-")
-        told = set(re.findall(r"^\.[BI]\w* .*?--([a-z-]+)", page.split(".SH OPTIONS")[-1].split(".SH EXIT")[0], flags=re.M))
-        yield name + ": help", status == 0 and shown != ""
-        yield name + ": options of the page", told - {"help"} == options - {"help"}
-        os.makedirs(folder, exist_ok=True)
-        os.symlink(os.path.join(TOP, source), os.path.join(folder, name))
-        words = ["bash", "--norc", "-c", COMPLETE_TOOL, "bash", os.path.join(TOP, "completions/tools.bash"), "./" + name, "--"]
-        found = run(words, cwd=folder)[1].split()
-        yield name + ": bash completes its options", {word[2:] for word in found} - {"help"} == options - {"help"}
-        for shell in ("bash-completion/completions/%s", "fish/vendor_completions.d/%s.fish", "man/man1/%s.1"):
-            yield name + ": installs " + shell % name, re.search(r"^644 \S+ share/%s$" % (shell % name), makefile, flags=re.M)
-        yield name + ": zsh knows it", name in text_at("completions/_vcdedit_tools").split("\n")[0].split()
+        page = text_at("docs/%s.1" % name).replace("\\-", "-").split(".SH OPTIONS")[-1]
+        told = set(re.findall(r"^\.[BI]\w* .*?--([a-z-]+)", re.split(r"^\.S[HS]", page, flags=re.M)[0], flags=re.M))
+        yield name + ": help", status == 0 and options >= {"help", "version"}
+        yield name + ": options of the page", told == options
+        yield name + ": bash completes its options", {word[2:] for word in completed("./" + name, "--")} == options
+        yield name + ": zsh knows it", name in text_at("completions/_vcdedit").split("\n")[0].split()
     store(folder, "named.vcd", text=NAMED)
-    os.symlink(program, os.path.join(folder, "vcdedit"))
     for words, wanted in NAMES:
-        words = ["bash", "--norc", "-c", COMPLETE_TOOL, "bash", os.path.join(TOP, "completions/tools.bash"), "./vcdedit-compare", "named.vcd", *words]
-        yield "bash completes %s" % words[-2:], run(words, cwd=folder)[1].splitlines() == wanted
-
-
-def completes(program, folder):
-    options = re.findall(r"^ .*--([a-z-]+)", run([program, "--help"])[1].split("Lines of a script")[0], flags=re.M)
-    yield "help has options", len(options) == 6
-    for path, form in SHELLS.items():
-        text = text_at(path)
-        for option in options:
-            yield "%s: --%s" % (path, option), form % option in text
-    for name in ("one.vcd", "two.VCD", "my capture.vcd", "notes.txt", "sub/three.vcd"):
-        store(folder, name, text="")
-    script = os.path.join(TOP, "completions/vcdedit.bash")
-    for words, wanted in COMPLETED:
-        found = run(["bash", "--norc", "-c", COMPLETE, "bash", script, *words], cwd=folder)
-        yield "bash completes " + " ".join(words), found == (0, "\n".join(wanted) + "\n", "")
+        yield "bash completes %s" % words, completed("./vcdedit-compare", "named.vcd", *words) == wanted
 
 
 def check(program, folder):
     yield from installs(program, os.path.join(folder, "tree"))
-    yield from completes(program, os.path.join(folder, "names"))
     yield from explains_tools(program, os.path.join(folder, "tools"))
     yield from compares_decoders(program, os.path.join(folder, "decoders"))
