@@ -1,5 +1,4 @@
-"""What the tools around vcdedit share: the program, the declarations of a capture, names, times, and files that are no
-plain VCD. docs/FORMATS.md has the rules; `checks/tools` compares limits and words with those of the program.
+"""What the tools around vcdedit share: the program, its listing, what it leaves out, times, files that are no VCD.
 
 Words, names and codes are bytes, as they stand in the file; `shown` makes text of them.
 """
@@ -9,7 +8,6 @@ import collections
 import fnmatch
 import fractions
 import itertools
-import mmap
 import os
 import re
 import shutil
@@ -19,16 +17,14 @@ import sys
 import tempfile
 
 VERSION = "1.0.0"
-GREATEST_TICK = 9223372036854775807
-GREATEST_WIDTH = 1024
-SIGNAL_LIMIT = 65536
 SCRIPT_LIMIT = 1048576
+WIDTH_LIMIT = 1024
 
-SKIPPED_KINDS = {b"real", b"realtime", b"real_parameter", b"shortreal", b"event", b"string"}
 DUMP_WORDS = {b"$dumpvars", b"$dumpall", b"$dumpon", b"$dumpoff", b"$end"}
 UNITS = {"s": 0, "ms": 3, "us": 6, "ns": 9, "ps": 12, "fs": 15}
 CHUNK = 65536
-SPACE = re.compile(rb"\s")
+# A piece of a file, up to its last blank, and the word that begins behind that.
+WORDS_AND_REST = re.compile(rb"(.*\s)?(\S*)", flags=re.S)
 # The first letters of changes.
 SCALARS, VECTORS, REALS = (frozenset(letters) for letters in (b"01lLhHxXuUwWzZ-", b"bB", b"rRsS"))
 STAMP, DOLLAR = b"#$"
@@ -58,24 +54,21 @@ OTHER_FILES = [
     (rb"META ", "begins with a line of sigrok-cli's own", "delete it: sed '/^META /d' FILE > NEW.vcd"),
 ]
 EXTENDED = re.compile(rb"\$var\s+port\s|\$dumpports")
-IS_EXTENDED = ("is extended VCD", "write four-state VCD ($dumpvars in place of $dumpports), or evcd2vcd FILE > NEW.vcd (GTKWave)")
-
-
-class Fault(Exception):
-    """A fault of a capture, by the program's name for it, and its line."""
-
-    def __init__(self, name, line):
-        super().__init__("line %d: %s" % (line, name))
-        self.name, self.line = name, line
+IS_EXTENDED = (
+    "is extended VCD",
+    "write four-state VCD ($dumpvars in place of $dumpports), or evcd2vcd FILE > NEW.vcd (GTKWave)",
+)
 
 
 class Trouble(Exception):
     """What a tool can't do, in words for its user."""
 
 
-# A variable as it is declared. `words` are those of its own name, `scopes` the names of its scopes, outermost first.
-Variable = collections.namedtuple("Variable", "kind size code words scopes")
-Declarations = collections.namedtuple("Declarations", "timescale variables line")
+# What `list` says: the timescale or `none`, the last tick, how many variables are skipped, and the signals.
+Listing = collections.namedtuple("Listing", "timescale end skipped signals")
+Signal = collections.namedtuple("Signal", "width kind name")
+# A variable as it is declared, with its full name.
+Variable = collections.namedtuple("Variable", "width kind name code")
 # A kind of what the written file lacks: how much, of what, by which variables, and whether values are lost by it.
 Loss = collections.namedtuple("Loss", "count what names is_of_values")
 
@@ -84,86 +77,66 @@ def shown(name):
     return name.decode("utf-8", "backslashreplace")
 
 
-def full_name(variable):
-    """The name as the listing shows it: scopes and words of the name, with the range."""
-    return b".".join([*variable.scopes, b"".join(variable.words)])
+def counted(count, what):
+    """`2 variables` of 2 and `variable%s`."""
+    return "%d %s" % (count, what % ("s" * (count != 1)))
 
 
-def is_kept(variable):
-    """Whether the program keeps the variable; it counts the others as skipped."""
-    return variable.kind not in SKIPPED_KINDS and 1 <= variable.size <= GREATEST_WIDTH
+def listing_of(lines):
+    """The listing that some lines begin with, of which no more are taken."""
+    lines = iter(lines)
+    head = [line.rstrip(b"\n").partition(b" ") for line in itertools.islice(lines, 4)]
+    if [word for word, _, _ in head] != [b"timescale", b"end", b"signals", b"skipped"]:
+        raise Trouble("%s is no vcdedit" % program())
+    timescale, end, count, skipped = (said for _, _, said in head)
+    rows = [line.rstrip(b"\n").split(b" ", 3) for line in itertools.islice(lines, int(count))]
+    return Listing(shown(timescale), int(end), int(skipped), [Signal(int(row[1]), *row[2:]) for row in rows])
 
 
-def words(file):
-    """(line, word) for each word of a file that is open for bytes; at the end (line, None)."""
-    line, prefix = 1, b""
-    for piece in iter(lambda: file.readline(CHUNK), b""):
-        piece = prefix + piece
-        found = piece.split()
-        prefix = b"" if piece[-1:].isspace() else found.pop()
-        for word in found:
-            yield line, word
-        line += piece.endswith(b"\n")
-    if prefix:
-        yield line, prefix
-    yield line, None
-
-
-def declarations_in(stream):
-    """(command, its words, the line of its `$end`) for each declaration that begins a stream of `words`, which is left
-    behind `$enddefinitions $end`."""
-    depth = 0
-    for line, word in stream:
-        if word is None:
-            raise Fault("Truncated", line)
-        if not word.startswith(b"$") or word in DUMP_WORDS:
-            raise Fault("UnexpectedWord", line)
-        if word == b"$upscope" and depth == 0:
-            raise Fault("UpscopeAtTop", line)
-        inner, line = words_up_to_end(stream, word)
-        if word == b"$scope" and not inner:
-            raise Fault("BadScope", line)
-        depth += (word == b"$scope") - (word == b"$upscope")
-        yield word, inner, line
-        if word == b"$enddefinitions":
-            return
-
-
-def read_declarations(stream):
-    """The declarations that begin a stream of `words`."""
-    timescale, variables, scopes, sizes = None, [], [], {}
-    for command, inner, line in declarations_in(stream):
-        if command == b"$scope":
-            scopes.append(b"".join(inner[1:]))
-        elif command == b"$upscope":
-            scopes.pop()
-        elif command == b"$var":
-            variables.append(variable_of(inner, scopes, line))
-            want_one_size(variables[-1], sizes, line)
-        elif command == b"$timescale":
-            timescale = timescale_of(inner, line)
-    return Declarations(timescale, variables, line)
-
-
-def want_one_size(variable, sizes, line):
-    """Refuses a code that is declared with two sizes; `sizes` has those of the codes before it."""
-    size = variable.size if is_kept(variable) else None
-    if sizes.setdefault(variable.code, size) != size:
-        raise Fault("MixedCode", line)
+def pieces(file):
+    """The bytes of a file, in pieces that end between words. Another process may read the file, too."""
+    place, begun = 0, []
+    for chunk in iter(lambda: os.pread(file.fileno(), CHUNK, place), b""):
+        place += len(chunk)
+        whole, rest = WORDS_AND_REST.fullmatch(chunk).groups()
+        if whole is not None:
+            yield b"".join([*begun, whole])
+            begun = []
+        begun.append(rest)
+    yield b"".join(begun)
 
 
 class Losses:
-    """Variables that are left out; of the others how many real and string changes, and how many changes that a later one of
-    the same tick replaces; and how many comments among the changes."""
+    """What the file that is written of a capture lacks, by one pass over a regular file that is open for bytes. These
+    are variables that are left out; of the others real and string changes, and changes that a later one of the same
+    tick replaces; and comments among the changes. The program tells faults, and which variables it keeps.
+    """
 
-    def __init__(self):
-        self.variables, self.kept = [], []
-        self.values, self.replaced, self.comments = collections.Counter(), collections.Counter(), 0
+    def __init__(self, file):
+        self.declared, self.comments = [], 0
+        self.values, self.replaced = collections.Counter(), collections.Counter()
+        words = itertools.chain.from_iterable(map(bytes.split, pieces(file)))
+        self.take_declarations(words)
+        self.take_changes(words)
 
-    def take_changes(self, each):
-        """Takes the words behind the declarations, up to the first that is no item: the program tells its fault."""
+    def take_declarations(self, words):
+        scopes = []
+        for command in words:
+            inner = list(itertools.takewhile(b"$end".__ne__, words))
+            if command == b"$scope":
+                scopes.append(b"".join(inner[1:]))
+            elif command == b"$upscope":
+                del scopes[-1:]
+            elif command == b"$var":
+                kind, width, code, *own = [*inner, b"", b"", b""]
+                self.declared.append(Variable(width.lstrip(b"0"), kind, b".".join([*scopes, b"".join(own)]), code))
+            elif command == b"$enddefinitions":
+                return
+
+    def take_changes(self, words):
+        """Takes the words behind the declarations, up to the first that is no item."""
         stamp, seen = b"#0", {}
-        for word in each:
+        for word in words:
             first = word[0]
             if first in SCALARS:
                 code = word[1:]
@@ -172,14 +145,14 @@ class Losses:
                     stamp, seen = word, {}
                 continue
             elif first in VECTORS:
-                code = next(each, None)
+                code = next(words, None)
             elif first in REALS:
-                self.values[next(each, None)] += 1
+                self.values[next(words, None)] += 1
                 continue
             elif first == DOLLAR:
                 if word not in DUMP_WORDS:
                     self.comments += word == b"$comment"
-                    collections.deque(itertools.takewhile(b"$end".__ne__, each), 0)
+                    collections.deque(itertools.takewhile(b"$end".__ne__, words), 0)
                 continue
             else:
                 return
@@ -187,72 +160,32 @@ class Losses:
                 self.replaced[code] += 1
                 seen[code] = word
 
-    def rows(self):
-        """Each kind of loss that there is."""
-        kept = {one.code: one for one in reversed(self.kept)}
-        skipped = [
-            "%s%s %s" % (
-                shown(one.kind),
-                "" if one.kind in SKIPPED_KINDS else " of %s bits" % one.size,
-                shown(full_name(one)),
-            )
-            for one in self.variables
-        ]
+    def rows(self, listing):
+        """Each kind of loss that there is. The signals of the listing are the variables that are kept, in order."""
+        signals, skipped, names = iter(listing.signals), [], {}
+        expected = next(signals, None)
+        for one in self.declared:
+            if expected and (one.width, one.kind, one.name) == (b"%d" % expected.width, *expected[1:]):
+                names.setdefault(one.code, shown(one.name))
+                expected = next(signals, None)
+            else:
+                skipped.append(" ".join([shown(one.kind), *told_width(one.width), shown(one.name)]))
+        if len(skipped) != listing.skipped:
+            raise Trouble("what vcdedit leaves out of it can't be named")
         found = [Loss(len(skipped), "variable%s", skipped, True)]
-        for counts, what in ((self.values, "real or string change%s"), (self.replaced, "change%s replaced within a tick")):
-            each = [(kept[code], count) for code, count in counts.items() if code in kept]
-            names = ["%s: %s" % (shown(full_name(one)), counted(count, what)) for one, count in each]
-            found.append(Loss(sum(count for _, count in each), what, names, counts is self.values))
+        for counts, what, is_of_values in (
+            (self.values, "real or string change%s", True),
+            (self.replaced, "change%s replaced within a tick", False),
+        ):
+            each = [(names[code], count) for code, count in counts.items() if code in names]
+            told = ["%s: %s" % (name, counted(count, what)) for name, count in each]
+            found.append(Loss(sum(count for _, count in each), what, told, is_of_values))
         return [loss for loss in [*found, Loss(self.comments, "comment%s among the changes", [], False)] if loss.count]
 
 
-def declared_in(file):
-    """The variables of a regular file that is open for bytes, its bytes, and where its changes begin. There are no variables
-    if the declarations have a fault: the program tells it."""
-    if os.fstat(file.fileno()).st_size == 0:
-        return [], b"", 0
-    text, place = mmap.mmap(file.fileno(), 0, access=mmap.ACCESS_READ), 0
-
-    def stream():
-        nonlocal place
-        for found in re.finditer(rb"\S+", text):
-            place = found.end()
-            yield 0, found.group()
-        yield 0, None
-
-    try:
-        return read_declarations(stream()).variables, text, place
-    except Fault:
-        return [], b"", 0
-
-
-def names_in(file):
-    """The full names of the signals of a capture."""
-    return [full_name(one) for one in declared_in(file)[0] if is_kept(one)]
-
-
-def losses_of(file):
-    """What the file that is written of a capture lacks: a Loss for each kind."""
-    losses = Losses()
-    declared, text, place = declared_in(file)
-    losses.variables = [one for one in declared if not is_kept(one)]
-    losses.kept = list(filter(is_kept, declared))
-    losses.take_changes(itertools.chain.from_iterable(piece.split() for piece in pieces(text, place)))
-    return losses.rows()
-
-
-def pieces(text, place):
-    """The rest of a text, in pieces that end between words."""
-    while place < len(text):
-        space = SPACE.search(text, place + CHUNK)
-        end = space.start() if space else len(text)
-        yield text[place:end]
-        place = end
-
-
-def counted(count, what):
-    """`2 variables` of 2 and `variable%s`."""
-    return "%d %s" % (count, what % ("s" * (count != 1)))
+def told_width(digits):
+    """The width of a variable that is skipped, if that is why."""
+    return [] if 1 <= int(digits[:9] or b"0") <= WIDTH_LIMIT else ["of %s bits" % (shown(digits) or "0")]
 
 
 def told_losses(losses):
@@ -264,85 +197,33 @@ def told_losses(losses):
     return phrase, names[:LINES_SHOWN] + ["and %d more" % more] * (more > 0)
 
 
-def words_up_to_end(stream, command):
-    """The words of a command up to its `$end`, and the line of that."""
-    inner = []
-    for line, word in stream:
-        if word is None:
-            raise Fault("Truncated", line)
-        if word == b"$end":
-            return inner, line
-        if command in (b"$upscope", b"$enddefinitions"):
-            raise Fault("UnexpectedWord", line)
-        if command == b"$var" and len(inner) == 1 and not is_number(word):
-            raise Fault("BadVar", line)
-        inner.append(word)
-
-
-def variable_of(inner, scopes, line):
-    if len(inner) < 4:
-        raise Fault("BadVar", line)
-    kind, size, code, *own = inner
-    # A size of many digits is more than any width; `int` refuses thousands of digits.
-    size = int(size) if len(size.lstrip(b"0")) < 20 else GREATEST_WIDTH + 1
-    return Variable(kind, size, code, own, tuple(scopes))
-
-
-def timescale_of(inner, line):
-    found = re.fullmatch(rb"(1|10|100)(s|ms|us|ns|ps|fs)", b"".join(inner))
-    if not found:
-        raise Fault("BadTimescale", line)
-    return "%s %s" % (found.group(1).decode(), found.group(2).decode())
-
-
-def is_number(word):
-    """Whether a word is decimal digits alone."""
-    return re.fullmatch(rb"[0-9]+", word) is not None
-
-
 def unit_ticks(unit, timescale):
     """How many ticks a second, ms, .. has at a timescale such as '10 ns': a fraction."""
-    found = re.fullmatch(r"(1|10|100) ?(s|ms|us|ns|ps|fs)", timescale)
-    if not found:
-        raise Trouble("%s is no timescale: write 1, 10 or 100 and s, ms, us, ns, ps or fs" % timescale)
-    return fractions.Fraction(10 ** UNITS[found.group(2)], 10 ** UNITS[unit] * int(found.group(1)))
+    number, of_tick = timescale.split(" ")
+    return fractions.Fraction(10 ** UNITS[of_tick], 10 ** UNITS[unit] * int(number))
 
 
 def ticks_of(text, timescale):
-    """The tick that a text names: a number of ticks, or a time with a unit, as 1.5ms. The timescale may be None."""
-    found = re.fullmatch(r"([0-9]+(?:\.[0-9]+)?) ?(s|ms|us|ns|ps|fs)|([0-9]+)", text, flags=re.ASCII)
+    """The tick that a text names: a number of ticks, or a time with a unit, as 1.5ms. The timescale may be `none`."""
+    found = re.fullmatch(r"([0-9]{1,19}(?:\.[0-9]{1,19})?) ?(s|ms|us|ns|ps|fs)|([0-9]{1,19})", text, flags=re.ASCII)
     if not found:
         raise Trouble("%s is no time: write ticks, or a number and s, ms, us, ns, ps or fs" % text)
     if found.group(3):
-        tick = int(found.group(3)) if len(text) <= CHUNK else GREATEST_TICK + 1
-    elif timescale is None:
+        return int(found.group(3))
+    if timescale == "none":
         raise Trouble("%s: the capture has no timescale: write ticks" % text)
-    else:
-        tick = fractions.Fraction(found.group(1)) * unit_ticks(found.group(2), timescale)
-        if tick.denominator != 1:
-            raise Trouble("%s is between tick %d and the next: write ticks" % (text, tick // 1))
-        tick = int(tick)
-    if tick > GREATEST_TICK:
-        raise Trouble("%s is past the greatest tick, %d" % (text, GREATEST_TICK))
-    return tick
+    tick = fractions.Fraction(found.group(1)) * unit_ticks(found.group(2), timescale)
+    if tick.denominator != 1:
+        raise Trouble("%s is between tick %d and the next: write ticks" % (text, tick // 1))
+    return int(tick)
 
 
-def matcher(pattern, extended=False):
-    """A test of full names: by a shell pattern, or by an expression that is found anywhere in the name. In a shell pattern
-    an index or a range, as [3] or [7:0], is meant as it stands."""
-    pattern = os.fsencode(pattern)
-    try:
-        found = re.compile(pattern if extended else expression_of(pattern))
-    except re.error as error:
-        raise Trouble("%s is no expression: %s" % (shown(pattern), error)) from None
-    test = found.search if extended else found.match
+def matcher(pattern):
+    """A test of full names by a shell pattern. An index or a range in it, as [3] or [7:0], is meant as it stands."""
+    with_ranges = re.sub(rb"\[(-?[0-9]+(?::-?[0-9]+)?)\]", rb"[[]\1]", os.fsencode(pattern))
+    # `fnmatch` gets a letter for each byte.
+    test = re.compile(fnmatch.translate(with_ranges.decode("latin-1")).encode("latin-1")).match
     return lambda name: test(name) is not None
-
-
-def expression_of(pattern):
-    """The expression of a shell pattern; `fnmatch` gets a letter for each byte."""
-    with_ranges = re.sub(rb"\[(-?[0-9]+(?::-?[0-9]+)?)\]", rb"[[]\1]", pattern)
-    return fnmatch.translate(with_ranges.decode("latin-1")).encode("latin-1")
 
 
 def what_else(prefix):
@@ -367,45 +248,40 @@ def program():
     return "vcdedit"
 
 
+def run(words, call=subprocess.run, **how):
+    """A run of the program, to its end; by `subprocess.Popen` it goes on."""
+    try:
+        return call([program(), *words], **how)
+    except OSError as error:
+        raise Trouble("there is no program %s (%s): say in VCDEDIT where it is" % (program(), error.strerror)) from None
+
+
 class Parser(argparse.ArgumentParser):
-    """It does not pass over a standard output that can't be written."""
+    """The options that each tool has. It does not pass over a standard output that can't be written."""
+
+    def __init__(self, name, usage, text, more):
+        form = argparse.RawDescriptionHelpFormatter
+        texts = {"prog": name, "usage": usage, "description": text, "epilog": more}
+        super().__init__(**texts, formatter_class=form, allow_abbrev=False)
+        self.add_argument("--version", action="version", version="%s %s" % (name, VERSION))
 
     def _print_message(self, message, file=None):
         (file or sys.stderr).write(message)
-
-
-def parser(name, usage, text, more):
-    """The options that each tool has."""
-    made = Parser(
-        prog=name,
-        usage=usage,
-        description=text,
-        epilog=more,
-        formatter_class=argparse.RawDescriptionHelpFormatter,
-        allow_abbrev=False,
-    )
-    made.add_argument("--version", action="version", version="%s %s" % (name, VERSION))
-    return made
 
 
 def reason_of(error):
     return REASONS.get(type(error), error.strerror or str(error))
 
 
-def want_standard_streams(name="vcdedit"):
-    """Ends where standard output or standard error is closed, and makes a closed standard input empty: else a file that is
-    opened would be in their place."""
+def end(name, main):
+    """Runs a tool and ends with its status. A standard output that can't be written has a line and status 4."""
+    # A file that is opened would be in the place of a stream that is closed.
     if sys.stdin is None:
         os.open(os.devnull, os.O_RDONLY)
     if sys.stderr is not None and sys.stdout is None:
         sys.stderr.write("%s: standard output is closed\n" % name)
     if sys.stdout is None or sys.stderr is None:
         sys.exit(4)
-
-
-def end(name, main):
-    """Runs a tool and ends with its status. A standard output that can't be written has a line and status 4."""
-    want_standard_streams(name)
     try:
         try:
             status = main(sys.argv[1:])
@@ -441,20 +317,3 @@ def in_memory(text):
     file.write(text)
     file.flush()
     return file
-
-
-def run(words_of_run, **how):
-    """A run of the program, which is looked for first."""
-    return looked_for(subprocess.run, words_of_run, how)
-
-
-def start(words_of_run, **how):
-    """The same, which goes on."""
-    return looked_for(subprocess.Popen, words_of_run, how)
-
-
-def looked_for(call, words_of_run, how):
-    try:
-        return call([program(), *words_of_run], **how)
-    except OSError as error:
-        raise Trouble("there is no program %s (%s): say in VCDEDIT where it is" % (program(), error.strerror)) from None

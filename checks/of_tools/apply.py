@@ -7,6 +7,7 @@ import gzip
 import os
 import pty
 import re
+import resource
 import signal
 import stat
 import subprocess
@@ -25,9 +26,13 @@ LOSSY = LINE.replace("$upscope", '$var real 64 # volts $end $var wire 2000 $ wid
 DROPPED = LINE + '$comment see ! $end #31 r1.5 ! b1 " sHigh ! S "\n'
 LIKE_DROPPED = LINE.replace('$upscope', '$var wire 1 #5 five $end $upscope').replace(' "', " s") + "$comment see ! $end\n"
 WRITTEN = "deglitch tb.rx 3\n"
+FILE_BYTES = 10000
+# The listing is the real program's.
 HALF = """#!/bin/sh
 while [ $# -gt 0 ]; do [ "$1" = -o ] && out=$2; shift; done
 printf 'half of it' > "$out"
+%s -i -
+echo 'line 2: refused: UnknownCommand'
 %s
 """
 # How a run fails, its status, and what is told.
@@ -39,7 +44,7 @@ FAILING = [
     ("exit 0", 4, "left lines of the script without a reply"),
     ("echo ok; echo ok; exit 0", 4, "answers what was not asked"),
     ("kill -XFSZ $$", 4, "ulimit -f"),
-    ("echo 'line 1: refused: NoSuchName'; exit 1", 1, "1 line refused"),
+    ("echo 'line 3: refused: NoSuchName'; exit 1", 1, "1 line refused"),
     ("echo ok; echo changed >> ../moved/A; exit 0", 4, "changed by another program"),
     ("echo ok; mv ../moved/A ../moved/away; cp ../moved/away ../moved/A; exit 0", 4, "changed by another program"),
 ]
@@ -198,15 +203,39 @@ def stays(program, folder):
         place.store("B", LINE)
         done = subprocess.run(words, cwd=place.folder, env=place.environment, stdout=subprocess.PIPE, stderr=full, text=True)
     yield "a full standard error", done.returncode == 1 and done.stdout.endswith("1 written, 1 not, status 1\n")
-    for words in (["--help"], ["--version"]):
-        yield "a full standard output: %s" % words, on_a_full_disc(place, *words) == (4, "standard output: No space left on device\n")
+    for words in (["--help"], ["--version"], ["script", "A", "B"]):
+        told = "vcdedit-apply: standard output: No space left on device\n"
+        yield "a full standard output: %s" % words, on_a_full_disc(place, "/dev/full", *words) == (4, told)
+    yield "nothing is written then", (place.load("A"), place.load("B")) == (LINE, LINE)
 
 
-def on_a_full_disc(place, *words):
-    """(status, what is told) of a run whose standard output is full."""
-    with open("/dev/full", "w") as full:
-        done = subprocess.run([APPLY, *words], cwd=place.folder, env=place.environment, stdout=full, stderr=subprocess.PIPE, text=True)
-    return done.returncode, done.stderr.partition("vcdedit-apply: ")[2]
+def on_a_full_disc(place, path, *words):
+    """(status, what is told) of a run whose standard output takes no byte behind the first FILE_BYTES of a file."""
+    def limit():
+        resource.setrlimit(resource.RLIMIT_FSIZE, (FILE_BYTES, FILE_BYTES))
+    with open(path, "a") as output:
+        how = {"cwd": place.folder, "env": place.environment, "stderr": subprocess.PIPE, "text": True}
+        done = subprocess.run([APPLY, *words], stdout=output, preexec_fn=limit, **how)
+    return done.returncode, done.stderr
+
+
+def goes_on(program, folder):
+    """If standard output is full behind A's line, A is written and no other. What is told goes on with the rest."""
+    command = "vcdedit-apply --backup .orig -- 'its script' B C"
+    told = ["standard output: File too large", "1 capture written. This goes on with the rest:\n    " + command]
+    for first, reply in (("", ""), ("value tb.rx 5\n", "%s:1: 0\n")):
+        place = Folder(program, "%s/goes on%d" % (folder, len(first)), A=LINE, B=LINE, C=LINE)
+        place.store("its script", first + WRITTEN)
+        lines = [(reply + "%s: written: 1 ok\n").replace("%s", name) for name in "ABC"]
+        output = store(folder, "output", text="-" * (FILE_BYTES - len(lines[0])))
+        found = on_a_full_disc(place, output, "--backup", ".orig", "its script", "A", "B", "C")
+        yield "%s" % (found,), found == (4, "".join("vcdedit-apply: %s\n" % line for line in told))
+        yield "its lines", load_if_there(output, default=b"").decode().lstrip("-") == lines[0]
+        written = place.load("A")
+        yield "no other is written", written != LINE == place.load("B") == place.load("C") and "B.orig" not in place.names()
+        done = run(["sh", "-c", command.replace("vcdedit-apply", APPLY)], cwd=place.folder, env=place.environment)
+        yield "the rest", done == (0, "".join([*lines[1:], "2 written, 0 not, status 0\n"]), "")
+        yield "all are the same", written == place.load("A") == place.load("B") == place.load("C")
 
 
 def answers(program, folder):
@@ -229,29 +258,33 @@ def answers(program, folder):
     place.store("B", LINE)
     place.store("bad", "#0\n")
     found = place.run("script", "A", "lossy", "bad", "B", "--dry-run", "--backup", ".orig", "--jobs", "4")
-    ends = ["A: would be written: 1 ok", "lossy: as it was: 2 variables would be lost", "bad: as it was: refused: line 1: UnexpectedWord"]
-    yield "a dry run", found[:2] == (3, [*ends, "B: would be written: 1 ok", "2 would be written, 2 not, status 3"])
+    ends = ["A: would be written: 1 ok", "B: would be written: 1 ok", "bad: as it was: refused: line 1: UnexpectedWord",
+            "lossy: as it was: 2 variables would be lost"]
+    yield "a dry run", (found[0], sorted(found[1][:4]), found[1][4:]) == (3, ends, ["2 would be written, 2 not, status 3"])
     place.store("refused", "invert tb.none\nvalue tb.rx 0\n")
     found = place.run("refused", "A", "--keep-going")
     yield "no edit is carried out", found[:2] == (1, ["A:2: 1", "A: as it was: no edit was carried out, 1 line refused"])
     yield "nothing is written", place.load("A") == LINE and place.names() == ["A", "B", "asks", "bad", "lossy", "refused", "script"]
-    told = "standard output: No space left on device. Written before, so run again without: %s\n"
-    yield "a full standard output", on_a_full_disc(place, "script", "A", "B") == (4, told % "A") and place.load("B") == LINE != place.load("A")
-    place.store("asks", "value tb.rx 5\n" + WRITTEN)
-    yield "a reply to a full disc", on_a_full_disc(place, "asks", "B") == (4, told % "none") and place.load("B") == LINE
     place.environment["VCDEDIT"] = "/bin/true"
     told = "B: as it was: /bin/true left lines of the script without a reply"
     yield "no vcdedit", place.run("script", "B") == (4, [told], "")
 
 
-def fails(folder):
+def fails(program, folder):
     for number, (failure, status, told) in enumerate(FAILING):
-        program = store_program(folder, "program%d" % number, text=HALF % failure)
-        place = Folder(program, "%s/fails%d/moved" % (folder, number), A=LINE)
+        failing = store_program(folder, "program%d" % number, text=HALF % (program, failure))
+        place = Folder(failing, "%s/fails%d/moved" % (folder, number), A=LINE)
         found = place.run("script", "A")
         begins = place.load("A").startswith(LINE)
         left = [name for name in place.names() if name not in ("A", "away", "script")]
         yield "after " + failure, (found[0], begins, left) == (status, True, []) and told in found[1][-1]
+
+
+    failing = store_program(folder, "makes_a_folder", text=HALF % (program, "echo ok; mkdir new/A; exit 0"))
+    place = Folder(failing, folder + "/renamed/moved", A=LINE)
+    found = place.run("script", "A", "--to", "new")
+    yield "a file that can't be renamed", found[0] == 4 and found[1][-1].startswith("A: not written: ") and place.names() == ["A", "new", "script"]
+    yield "no other file is there", os.listdir(place.folder + "/new") == ["A"]
 
 
 def is_running(number):
@@ -271,12 +304,13 @@ def wait_for(test):
 
 
 def end_of(tool):
-    """What a tool shows that ends soon."""
+    """What a tool shows that ends soon, and what it tells."""
     try:
-        return tool.communicate(timeout=20)[0].splitlines()
+        shown, told = tool.communicate(timeout=20)
+        return shown.splitlines(), told
     except subprocess.TimeoutExpired:
         tool.kill()
-        return []
+        return [], ""
 
 
 def default_signals():
@@ -285,29 +319,32 @@ def default_signals():
         signal.signal(number, signal.SIG_DFL)
 
 
-def interrupted(folder):
-    """A run that lasts is interrupted when it has written a part."""
+def interrupted(program, folder):
+    """The second capture's run lasts, and is interrupted when it has written a part."""
     waits = "echo $$ > ../number.new; mv ../number.new ../number; exec sleep 60"
-    program = store_program(folder, "lasting", text=HALF % waits)
+    first = '#!/bin/sh\n[ -e ../first ] || { : > ../first; exec %s "$@"; }\n' % program
+    lasting = store_program(folder, "lasting", text=first + HALF % (program, waits))
     for number in (signal.SIGINT, signal.SIGTERM, signal.SIGHUP, signal.SIGKILL):
-        place = Folder(program, "%s/%d/captures" % (folder, number), A=LINE, B=LINE)
-        how = {"cwd": place.folder, "env": place.environment, "preexec_fn": default_signals}
-        tool = subprocess.Popen([APPLY, "script", "A", "B"], stdout=subprocess.PIPE, text=True, **how)
+        place = Folder(lasting, "%s/%d/captures" % (folder, number), A=LINE, B=LINE, C=LINE)
+        how = {"cwd": place.folder, "env": place.environment, "preexec_fn": default_signals, "stderr": subprocess.PIPE}
+        tool = subprocess.Popen([APPLY, "script", "A", "B", "C"], stdout=subprocess.PIPE, text=True, **how)
         path = os.path.join(place.folder, "../number")
         began = wait_for(lambda: os.path.exists(path))
         tool.send_signal(number)
-        shown = end_of(tool)
-        left = [name for name in place.names() if name not in ("A", "B", "script")]
-        kept = (place.load("A"), place.load("B")) == (LINE, LINE)
+        shown, told = end_of(tool)
+        left = [name for name in place.names() if name not in ("A", "B", "C", "script")]
+        kept = place.load("A") != LINE == place.load("B") == place.load("C")
         with open(path) as file:
             child = int(file.read())
         if number == signal.SIGKILL:
-            seen = [re.fullmatch(r"A\.%d\.0\.unfinished" % tool.pid, name) is not None for name in left]
+            seen = [re.fullmatch(r"B\.%d\.1\.unfinished" % tool.pid, name) is not None for name in left]
             yield "what is left of a run that is killed", (began, kept, seen) == (True, True, [True])
             yield "its run ends", wait_for(lambda: not is_running(child))
         else:
-            ends = ["%s: as it was: interrupted" % name for name in "AB"] + ["0 written, 2 not, status %d" % (128 + number)]
+            ends = ["%s: as it was: interrupted" % name for name in "BC"] + ["1 written, 2 not, status %d" % (128 + number)]
+            ends.insert(0, "A: written: 1 ok")
             yield "signal %d" % number, (began, kept, left, shown, tool.returncode) == (True, True, [], ends, 128 + number)
+            yield "signal %d: what goes on" % number, told.endswith(" with the rest:\n    vcdedit-apply -- script B C\n")
             yield "signal %d ends the run" % number, wait_for(lambda: not is_running(child))
 
 
@@ -326,6 +363,7 @@ def check(program, folder):
     yield from writes(program, folder)
     yield from stays(program, folder)
     yield from answers(program, folder)
-    yield from fails(folder)
-    yield from interrupted(folder)
+    yield from goes_on(program, folder)
+    yield from fails(program, folder)
+    yield from interrupted(program, folder)
     yield from on_a_terminal(program, folder)

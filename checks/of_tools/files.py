@@ -1,4 +1,4 @@
-"""What the tools share: declarations as the program reads them, limits, times, names and files that are no plain VCD."""
+"""What the tools share: what is left out, limits, times, names and files that are no plain VCD."""
 
 import bz2
 import glob
@@ -10,26 +10,19 @@ import re
 import zipfile
 
 import vcd_files
-from common import TOP, run, text_at
+from common import TOP, run, store, text_at
 
 CAPTURES = ["examples/*/capture.vcd", "cases/captures/*.vcd", "cases/captures/*", "cases/*/capture.vcd"]
 # Each limit, the file of the code that has it, and its name there.
 LIMITS = [
-    (vcd_files.GREATEST_TICK, "vcd_core/src/capture.rt", "END_LIMIT"),
-    (vcd_files.SIGNAL_LIMIT, "vcd_core/src/capture.rt", "SIGNAL_LIMIT"),
-    (vcd_files.GREATEST_WIDTH, "vcd_core/src/value.rt", "WIDTH_LIMIT"),
+    (vcd_files.WIDTH_LIMIT, "vcd_core/src/value.rt", "WIDTH_LIMIT"),
     (vcd_files.SCRIPT_LIMIT, "vcdedit/src/running/script_input.rt", "SCRIPT_LIMIT"),
-]
-# Each set of words, the file of the code that compares a word with them, and the function that does.
-WORDS = [
-    (vcd_files.SKIPPED_KINDS, "vcd_core/src/word.rt", "is_skipped_kind"),
-    (vcd_files.DUMP_WORDS, "vcd_text/src/reading/keywords.rt", "is_dump_word"),
 ]
 # A text, a timescale, and the tick, or None where it is refused.
 TIMES = [
-    ("9223372036854775807", None, 9223372036854775807),
-    ("9223372036854775808", None, None),
-    ("1us", None, None),
+    ("9223372036854775807", "none", 9223372036854775807),
+    ("92233720368547758070", "none", None),
+    ("1us", "none", None),
     ("1.5us", "1 ps", 1500000),
     ("1.0001 us", "1 ns", None),
     ("922337203685.4775807s", "100 ns", 9223372036854775807),
@@ -39,26 +32,39 @@ TIMES = [
     ("1e3", "1 ns", None),
     ("\N{ARABIC-INDIC DIGIT ONE}", "1 ns", None),
 ]
-# A pattern, whether it is an expression, a name, and whether it is meant.
+# A pattern, a name, and whether it is meant.
 MATCHES = [
-    ("tb.q[7:0]", False, b"tb.q[7:0]", True),
-    ("tb.q[7:0]", False, b"tb.q7", False),
-    ("tb.q[7]*", False, b"tb.q[7][1:0]", True),
-    ("tb.q[7]*", False, b"tb.q7", False),
-    ("tb.q[0-9]", False, b"tb.q7", True),
-    ("tb.[!q]", False, b"tb.q", False),
-    ("tb.[!q]", False, b"tb.r", True),
-    ("*[-1:0]", False, b"tb.q[-1:0]", True),
-    ("tb.q", False, b"tb.q[7:0]", False),
-    ("tb.q*", False, b"tb.q[7:0]", True),
-    ("tb.?", False, b"tb.\xff", True),
-    ("TB.*", False, b"tb.q", False),
-    ("q", False, b"tb.q", False),
-    ("q", True, b"tb.q", True),
-    (r"^tb\.(q|r)\[", True, b"tb.q[7:0]", True),
-    (r"^q", True, b"tb.q", False),
+    ("tb.q[7:0]", b"tb.q[7:0]", True),
+    ("tb.q[7:0]", b"tb.q7", False),
+    ("tb.q[7]*", b"tb.q[7][1:0]", True),
+    ("tb.q[7]*", b"tb.q7", False),
+    ("tb.q[0-9]", b"tb.q7", True),
+    ("tb.[!q]", b"tb.q", False),
+    ("tb.[!q]", b"tb.r", True),
+    ("*[-1:0]", b"tb.q[-1:0]", True),
+    ("tb.q", b"tb.q[7:0]", False),
+    ("tb.q*", b"tb.q[7:0]", True),
+    ("tb.?", b"tb.\xff", True),
+    ("TB.*", b"tb.q", False),
+    ("q", b"tb.q", False),
 ]
 DECLARED = b"$var wire 1 ! a $end $enddefinitions $end #0 1! #5\n"
+# What follows declarations of the kept `!` and `"` and of the skipped `#`, and how often each kind of loss is in it.
+LOST = [
+    (b'0! b1 " #5 0! #6 1!', {}),
+    (b"0! 1! 0! #5 x! #5 z! #05 0!", {"change": 3}),
+    (b'b1 " b10 " b10 " #1 b1 " b01 "', {"change": 2}),
+    (b"r1.5 ! sx ! r2 # S #", {"real": 2}),
+    (b"$comment 0! r1 ! $end $dumpvars 0! $end $attrbegin r1 ! $end $comment $end", {"comment": 2}),
+    (b"$comment\n" + b"x" * 3 * vcd_files.CHUNK + b" y $end 0! 1!", {"change": 1, "comment": 1}),
+    (b"0! 1!" + b"\n#1 0!\n#2 1! 0!\n" * 9000, {"change": 9001}),
+    (b"0! 1! $comment", {"change": 1, "comment": 1}),
+    (b"0! frob 1! 0!", {}),
+]
+NAMED = b"""$scope module t $end $var wire 1 ! a $end $scope begin u v $end $var reg 8 " b [7:0] $end $upscope $end
+$var real 1 # c $end $comment $var wire 1 $ no $end $var wire 0 % d $end $var wire 01025 & e f $end $upscope $end
+$var event 1 ' g $end $enddefinitions $end\n"""
+SKIPPED = ["real t.c", "wire of 0 bits t.d", "wire of 1025 bits t.ef", "event g"]
 
 
 def zipped(text):
@@ -98,46 +104,39 @@ def refused(call, *words):
         return None
 
 
-def declared(program, path):
-    """Whether a capture's declarations are read as the program reads them: its listing, or its fault."""
-    status, listing, errors = run([program, "-i", path], errors="surrogateescape")
+def rows_of(path, listing):
+    """What is left out of a capture that has this listing."""
     with open(path, "rb") as file:
-        try:
-            found = vcd_files.read_declarations(vcd_files.words(file))
-        except vcd_files.Fault as fault:
-            return errors == "vcdedit: capture line %d: %s\n" % (fault.line, fault.name)
-    if status == 3:
-        return int(re.search(r"line (\d+)", errors).group(1)) >= found.line
-    kept = [variable for variable in found.variables if vcd_files.is_kept(variable)]
-    rows = [
-        "@%d %d %s %s" % (place, variable.size, os.fsdecode(variable.kind), os.fsdecode(vcd_files.full_name(variable)))
-        for place, variable in enumerate(kept)
-    ]
-    first, _, *others = listing.splitlines()
-    skipped = len(found.variables) - len(kept)
-    wanted = ["timescale %s" % (found.timescale or "none"), "signals %d" % len(kept), "skipped %d" % skipped, *rows]
-    return [first, *others] == wanted
+        return vcd_files.Losses(file).rows(listing)
+
+
+def listed(program, path):
+    """The listing of a capture, or None where the program refuses it."""
+    status, lines, _ = run([program, "-i", path], text=False)
+    return vcd_files.listing_of(lines.splitlines()) if status == 0 else None
 
 
 def check(program, folder):
     paths = {path for pattern in CAPTURES for path in glob.glob(os.path.join(TOP, pattern)) if os.path.isfile(path)}
     yield "captures to read", len(paths) > 60
     for path in sorted(paths):
-        yield "declarations of " + os.path.relpath(path, TOP), declared(program, path)
+        listing = listed(program, path)
+        yield "what is left out of " + os.path.relpath(path, TOP), listing is None or refused(rows_of, path, listing) is not None
+    path = store(folder, "named", text=NAMED)
+    listing = listed(program, path)
+    yield "names of what is left out", rows_of(path, listing)[0].names == SKIPPED
+    yield "another count than the program's", refused(rows_of, path, listing._replace(skipped=3)) is None
+    for text, wanted in LOST:
+        rows = rows_of(store(folder, "lost", text=NAMED + text), listing)[1:]
+        found = {row.what.split("%")[0].split()[0]: row.count for row in rows}
+        yield "lost of %s: %s" % (text[:40], found), found == wanted
     for limit, path, name in LIMITS:
         said = re.search(r"const %s: \w+ = ([0-9_]+);" % name, text_at("crates/" + path)).group(1)
         yield "limit " + name, limit == int(said.replace("_", ""))
-    for words, path, name in WORDS:
-        body = re.search(r"fn %s\(.*?^}" % name, text_at("crates/" + path), flags=re.M | re.S).group()
-        yield "the words of " + name, words == {word.encode() for word in re.findall(r'b"(\S+)"', body)}
     for text, timescale, tick in TIMES:
         yield "the time %s at %s" % (text, timescale), refused(vcd_files.ticks_of, text, timescale) == tick
-    for pattern, extended, name, meant in MATCHES:
-        yield "the pattern %s" % pattern, vcd_files.matcher(pattern, extended)(name) == meant
-    yield "an expression that is none", refused(vcd_files.matcher, "(", True) is None
+    for pattern, name, meant in MATCHES:
+        yield "the pattern %s" % pattern, vcd_files.matcher(pattern)(name) == meant
     for text, what in OTHERS:
         found = vcd_files.what_else(text[: vcd_files.CHUNK])
         yield "a file that is %s" % what, found is None if what is None else found is not None and what in found[0]
-    long = b"$comment " + b"x" * 3 * vcd_files.CHUNK + b" y\n z"
-    words = [(line, word[:1]) for line, word in vcd_files.words(io.BytesIO(long)) if word]
-    yield "words over a block", words == [(1, b"$"), (1, b"x"), (1, b"y"), (2, b"z")]
