@@ -266,7 +266,19 @@ class Parser(argparse.ArgumentParser):
         self.add_argument("--version", action="version", version="%s %s" % (name, VERSION))
 
     def _print_message(self, message, file=None):
-        (file or sys.stderr).write(message)
+        if file is sys.stdout:
+            file.write(message)
+        else:
+            tell(message)
+
+
+def tell(text):
+    """Writes to standard error. If that can't be written, the status tells the rest."""
+    try:
+        sys.stderr.buffer.write(os.fsencode(text))
+        sys.stderr.buffer.flush()
+    except OSError:
+        pass
 
 
 def reason_of(error):
@@ -276,11 +288,10 @@ def reason_of(error):
 def end(name, main):
     """Runs a tool and ends with its status. A standard output that can't be written has a line and status 4."""
     # A file that is opened would be in the place of a stream that is closed.
-    if sys.stdin is None:
-        os.open(os.devnull, os.O_RDONLY)
-    if sys.stderr is not None and sys.stdout is None:
-        sys.stderr.write("%s: standard output is closed\n" % name)
-    if sys.stdout is None or sys.stderr is None:
+    sys.stdin = sys.stdin or open(os.devnull)
+    sys.stderr = sys.stderr or open(os.devnull, "w")
+    if sys.stdout is None:
+        tell("%s: standard output is closed\n" % name)
         sys.exit(4)
     try:
         try:
@@ -292,7 +303,7 @@ def end(name, main):
         status = 128 + signal.SIGINT
     except OSError as error:
         os.dup2(os.open(os.devnull, os.O_WRONLY), 1)
-        sys.stderr.write("%s: %s: %s\n" % (name, error.filename or "standard output", reason_of(error)))
+        tell("%s: %s: %s\n" % (name, error.filename or "standard output", reason_of(error)))
         status = 4
     sys.exit(status)
 
@@ -314,6 +325,10 @@ def opened(path):
 def in_memory(text):
     """A file without a name, which each run opens anew."""
     file = os.fdopen(os.memfd_create("script"), "w+b") if hasattr(os, "memfd_create") else tempfile.TemporaryFile()
-    file.write(text)
-    file.flush()
+    try:
+        file.write(text)
+        file.flush()
+    except OSError as error:
+        error.filename = "the script"
+        raise
     return file

@@ -194,7 +194,7 @@ def stays(program, folder):
         (["script", "A", "--backup", "/b"], 2),
     ):
         yield "refused: " + " ".join(words), place.run(*words)[0] == status and place.load("A") == LINE
-    for closed, status, told in ((">&-", 4, "vcdedit-apply: standard output is closed\n"), ("2>&-", 4, ""), ("<&-", 0, "")):
+    for closed, status, told in ((">&-", 4, "vcdedit-apply: standard output is closed\n"), ("2>&-", 0, ""), ("<&-", 0, "")):
         words = ["sh", "-c", 'exec "$@" %s' % closed, "sh", APPLY, "script", "A", "--to", "closed"]
         done = run(words, cwd=place.folder, env=place.environment)
         yield "closed: " + closed, done[0] == status and done[2] == told

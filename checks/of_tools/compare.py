@@ -131,8 +131,8 @@ def text(declared, changes):
 def check(program, folder):
     environment = {**os.environ, "VCDEDIT": program}
 
-    def compare(*words, given=None):
-        return run([TOOL, *words], cwd=folder, env=environment, input=given)
+    def compare(*words, given=None, before=()):
+        return run([*before, TOOL, *words], cwd=folder, env=environment, input=given)
 
     yield from pairs(folder, compare)
     yield from skipped(folder, compare)
@@ -212,6 +212,9 @@ def paths(folder, compare):
         for words in (*others, ["--", name, "A"], ["-", "./" + name], ["./" + name, "-"], ["--strict", "--", name, name]):
             yield "paths: %s" % words, compare(*words, given=capture) == same
     yield "an option behind the captures", compare("A", "A", "--strict") == same
+    for closed, words, status in (("<&-", ["-", "A"], 2), ("2>&-", ["A", "A"], 0), ("2>/dev/full", ["none", "A"], 2), ("2>/dev/full", [], 2)):
+        done = compare(*words, before=["sh", "-c", 'exec "$@" %s' % closed, "sh"])
+        yield "streams: %s: %s" % (closed, done), done[0] == status and "Traceback" not in done[2]
     for words in ([], ["A"], ["A", "A", "A"], ["-", "-"], ["--strict", "A"], ["A", "A", "--frob"]):
         status, shown, errors = compare(*words, given=capture)
         yield "words: %s" % words, (status, shown) == (2, "") and "vcdedit-compare: error: " in errors
