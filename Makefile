@@ -88,8 +88,6 @@ check:
 BENCH_FOLDER ?= out/bench
 MEGABYTES ?= 10
 bench: build
-	@mkdir -p "$(BENCH_FOLDER)"
-	@bench/make_captures "$(BENCH_FOLDER)" $(MEGABYTES)
 	@GLIBC_TUNABLES=glibc.malloc.hugetlb=1 bench/compare crates/vcdedit/out/vcdedit "$(BENCH_FOLDER)" $(MEGABYTES)
 	@bench/edits crates/vcdedit/out/vcdedit
 

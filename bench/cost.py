@@ -6,6 +6,8 @@ import subprocess
 import sys
 import time
 
+NO_MEMORY = 5
+
 
 class Cost:
     """What one work took: seconds of CPU, seconds of the clock, bytes of memory."""
@@ -20,31 +22,18 @@ class Cost:
         return Cost(min(self.cpu, other.cpu), min(self.wall, other.wall), max(self.memory, other.memory))
 
 
-NO_MEMORY = 5
-
-
-def measured(command, **how):
-    """Runs one command to its end: its cost, and its status."""
+def cost_of(command, most=None):
+    """What a command costs that ends well, or None if `most` bytes are too little memory for a vcdedit."""
+    limit = resource.RLIM_INFINITY if most is None else int(most)
     start = time.monotonic()
-    process = subprocess.Popen(command, stdin=subprocess.DEVNULL, stdout=subprocess.DEVNULL, **how)
+    process = subprocess.Popen(
+        command, stdin=subprocess.DEVNULL, stdout=subprocess.DEVNULL, stderr=subprocess.DEVNULL if most else None,
+        preexec_fn=lambda: resource.setrlimit(resource.RLIMIT_AS, (limit, limit)),
+    )
     _, status, used = os.wait4(process.pid, 0)
     process.returncode = os.waitstatus_to_exitcode(status)
-    return Cost(used.ru_utime + used.ru_stime, time.monotonic() - start, used.ru_maxrss * 1024), process.returncode
-
-
-def cost_of(command):
-    """What a command costs, which ends well."""
-    cost, status = measured(command)
-    if status != 0:
-        sys.exit("status %d: %s" % (status, " ".join(command)))
-    return cost
-
-
-def limited(command, most):
-    """What a vcdedit costs that may take so many bytes, or None if that is too little."""
-    cost, status = measured(
-        command, stderr=subprocess.DEVNULL, preexec_fn=lambda: resource.setrlimit(resource.RLIMIT_AS, (int(most), int(most)))
-    )
-    if status not in (0, NO_MEMORY):
-        sys.exit("status %d: %s" % (status, " ".join(command)))
-    return cost if status == 0 else None
+    if most is not None and process.returncode == NO_MEMORY:
+        return None
+    if process.returncode != 0:
+        sys.exit("status %d: %s" % (process.returncode, " ".join(command)))
+    return Cost(used.ru_utime + used.ru_stime, time.monotonic() - start, used.ru_maxrss * 1024)

@@ -53,8 +53,7 @@ def table(program, folder, module):
     commands = counts(folder)
     yield "commands that count", len(commands) == 2
     for (name, text, times), shape in zip(rows, SHAPES.values()):
-        path = os.path.join(folder, shape)
-        module.make(path, shape, {**module.SHAPES, **module.DENSE}[shape], SIZE)
+        path = module.make(folder, shape, SIZE / 1e6)
         size, changes, memory = os.path.getsize(path), changes_in(path), peak(program, path, "--script", "/dev/null")
         yield "%s: %.1f bytes of text a change" % (name, size / changes), is_near(size / changes, float(text))
         yield "%s: %.1f times the file" % (name, memory / size), is_near(memory / size, float(times))
