@@ -22,12 +22,8 @@ answer_from_the_tree() { # WORD
 
 # Whether a program is missing, or older than a source of it.
 is_old() { # PROGRAM
-    [[ ! -x "$1" || -n "$(newer_source "$1")" ]]
-}
-
-newer_source() { # PROGRAM
-    find "$top/crates.txt" "$top/crates" -name out -prune -o \
-        \( -name '*.rt' -o -name '*.antt' -o -name crates.txt \) -newer "$1" -print -quit
+    [[ ! -x "$1" || -n "$(find "$top/crates.txt" "$top/crates" -name out -prune -o \
+        \( -name '*.rt' -o -name '*.antt' -o -name crates.txt \) -newer "$1" -print -quit)" ]]
 }
 
 # Ends where the toolchain is not there.
@@ -73,13 +69,8 @@ finish() { # LOG
     return "$status"
 }
 
-# Seconds as a reader takes them.
 duration() { # SECONDS
-    if (($1 < 60)); then
-        echo "$1 s"
-    else
-        echo "$(($1 / 60)) min $(($1 % 60)) s"
-    fi
+    echo "$(($1 / 60)) min $(($1 % 60)) s"
 }
 
 # How far the prover is, by its log: of each crate that it works on, how many functions are checked of all.

@@ -16,14 +16,16 @@ NAMES_SHOWN = 3
 NAMES_COMPARED = 20000
 
 
-def messages_at(path):
-    """The faults and refusals of a file: kind, name, what it means, what to do, and what the line of a fault is that of."""
-    with open(path, encoding="utf-8") as file:
-        blocks = [block.splitlines() for block in file.read().strip().split("\n\n")[1:]]
-    return [Message(*head.split(" "), means, remedy, *(line or [None])) for head, means, remedy, *line in blocks]
-
-
+# A fault or a refusal, what it means, what to do, and what the line of a fault is that of.
 Message = collections.namedtuple("Message", "kind name means remedy line")
+MESSAGE = re.compile(r"^(fault|refusal) (\w+): (.*)\n    (.*)\n(?:    (.*)\n)?", flags=re.M)
+
+
+def messages_at(path):
+    with open(path, encoding="utf-8") as file:
+        return [Message(*found) for found in MESSAGE.findall(file.read())]
+
+
 MESSAGES = messages_at(os.path.join(os.path.dirname(os.path.realpath(__file__)), "messages.txt"))
 # What each fault of a capture and each refusal of a line means, and on a further line what to do.
 FAULTS, REFUSALS = (
@@ -106,7 +108,8 @@ def named(words, rows):
 def told_names(words, names):
     """A line about each name that the capture has not; or else about those that it had before the lines above."""
     unknown = [word for word in words if word not in names and not is_position(word, names)]
-    had = ["%s is in the capture: was it renamed or removed by a line above?" % shown(word) for word in words if word in names]
+    told = "%s is in the capture: was it renamed or removed by a line above?"
+    had = [told % shown(word) for word in words if word in names]
     return [line for word in unknown for line in told_name(word, names)] if unknown else had
 
 
