@@ -59,6 +59,17 @@ def told_fault(file, name, line):
     return ["%s: %s" % (short(line_of(file, line)), name), FAULTS.get(name, "")]
 
 
+def told_end(errors, file):
+    """Lines about a run that did not end well, by its line on standard error."""
+    fault = re.fullmatch(r"vcdedit: capture line ([0-9]+): (\w+)", errors)
+    if fault:
+        first, *others = told_fault(file, fault.group(2), int(fault.group(1)))
+        return ["line %s: %s" % (fault.group(1), first), *others]
+    if errors == "vcdedit: out of memory":
+        return ["out of memory", FAULTS["NoMemory"]]
+    return [ENDINGS.get(errors) or errors.partition("\n")[0] or "vcdedit does not say why it ended"]
+
+
 def line_of(file, number):
     """The beginning of a line of a file."""
     file.seek(0)
