@@ -121,7 +121,8 @@ def check(program, folder):
     yield "captures to read", len(paths) > 60
     for path in sorted(paths):
         listing = listed(program, path)
-        yield "what is left out of " + os.path.relpath(path, TOP), listing is None or refused(rows_of, path, listing) is not None
+        is_named = listing is None or refused(rows_of, path, listing) is not None
+        yield "what is left out of " + os.path.relpath(path, TOP), is_named
     path = store(folder, "named", text=NAMED)
     listing = listed(program, path)
     yield "names of what is left out", rows_of(path, listing)[0].names == SKIPPED

@@ -39,7 +39,7 @@ def changes_in(path):
 def counts(folder):
     """The commands of the cookbook that count changes, each with its file replaced."""
     found = re.findall(r"^    \$ ((?:grep -c|tr) .*)$", text_at("docs/COOKBOOK.md"), flags=re.M)
-    return [re.sub(r"examples/\S+|\| awk.*", lambda word: '"$1"' if word.group().startswith("ex") else "", line) for line in found]
+    return [re.sub(r"examples/\S+", '"$1"', line.partition("| awk")[0]) for line in found]
 
 
 def counted(command, path):
@@ -49,7 +49,7 @@ def counted(command, path):
 def table(program, folder, module):
     """Each row of the cookbook's table, by a smaller capture of its kind."""
     rows = re.findall(ROW, text_at("docs/COOKBOOK.md"), flags=re.M)
-    yield "rows of the table", [[shape for word, shape in SHAPES.items() if word in row[0]] for row in rows] == [[shape] for shape in SHAPES.values()]
+    yield "rows of the table", len(rows) == len(SHAPES) and all(word in row[0] for word, row in zip(SHAPES, rows))
     commands = counts(folder)
     yield "commands that count", len(commands) == 2
     for (name, text, times), shape in zip(rows, SHAPES.values()):
@@ -72,33 +72,14 @@ def signals(program, folder, module):
     """What a signal takes without changes, and with a code that all share."""
     for shared in (False, True):
         count = 60000
-        names = "".join(module.variable("wire", 1, "!" if shared else module.code(k), "signal%d" % k) for k in range(count))
+        codes = ["!" if shared else module.code(k) for k in range(count)]
+        names = "".join(module.variable("wire", 1, code, "signal%d" % k) for k, code in enumerate(codes))
         path = store(folder, "signals", text=names + "$enddefinitions $end\n#0\n#5\n")
         each = peak(program, path, "--script", "/dev/null") / count
         yield "%.0f bytes a signal" % each, is_near(each, BYTES_OF_SIGNAL, 0.2)
-
-
-def history(program, folder, module):
-    """What edits hold that can be undone: 272 bytes for each change that they replaced, of each variable for itself."""
-    edges, edits, variables = 10000, 40, 100
-    path = os.path.join(folder, "clock")
-    names = "".join(module.variable("wire", 1, "!", "v%d" % k) for k in range(variables))
-    with open(path, "w") as file:
-        file.writelines(module.of_one_code(names, edges))
-    held = BYTES_OF_CHANGE * edges
-    least = peak(program, path, "--script", "/dev/null")
-    inverts = store(folder, "inverts", text="invert v0\n" * edits)
-    all_held, one_held = (peak(program, path, "--script", inverts, "--depth", depth) - least for depth in ("100", "1"))
-    yield "%d inverts hold %d bytes" % (edits, all_held), is_near(all_held, (edits + 1) * held)
-    yield "with a depth of 1 %d" % one_held, one_held < 4 * held
-    cut = store(folder, "cut", text="cut %d %d\n" % (edges // 2, edges))
-    cut_held = peak(program, path, "--script", cut) - least
-    # what is left is shared; of each variable the half that was cut out is held
-    yield "a cut of shared changes takes %d bytes" % cut_held, is_near(cut_held, variables * held / 2, 0.2)
 
 
 def check(program, folder):
     module = module_of("bench/make_captures")
     yield from table(program, folder, module)
     yield from signals(program, folder, module)
-    yield from history(program, folder, module)

@@ -4,7 +4,7 @@ import os
 import re
 import shutil
 
-from common import TOP, module_of, narrow_of, run, store, store_program, text_at
+from common import TOP, module_of, narrow_of, run, store, text_at
 
 PARTS = "vcdedit launch CHANGELOG.md Makefile crates.txt completions docs examples cases tools".split()
 # Half a second is not enough on a busy machine, so that a check of names waits longer.
@@ -76,7 +76,8 @@ def installs(program, folder):
         wanted = DOCUMENTS + [file % command for command in COMMANDS for file in FILES]
         yield name + ": all is installed", all(any(path.endswith("/" + end) for path in added) for end in wanted)
         if name != "a relative PREFIX":
-            yield from documents_stand_alone(os.path.dirname([path for path in added if path.endswith("/COOKBOOK.md")][0]))
+            book, = [path for path in added if path.endswith("/COOKBOOK.md")]
+            yield from documents_stand_alone(os.path.dirname(book))
             run(["make", "install", *words], cwd=tree)
         run(["make", "uninstall", *words], cwd=tree)
         yield name + ": uninstall", files_in(tree) == before
@@ -97,31 +98,10 @@ def documents_stand_alone(folder):
     for page in pages:
         text = module.read(page)
         lost = module.lost_links(page, text) + module.lost_paths(text) + re.findall(r"\bREADME\b|repository", text)
-        lost += [path for path in re.findall(r"^    \$ (?:.* )?((?:tools|docs|crates|cases|checks)/\S+)", text, flags=re.M)]
+        lost += re.findall(r"^    \$ (?:.* )?((?:tools|docs|crates|cases|checks)/\S+)", text, flags=re.M)
         if lost:
             print("package: %s: %s" % (page, "; ".join(lost)))
         yield page + " stands alone", not lost
-
-
-def compares_decoders(program, folder):
-    """`examples/compare_decoders` takes a name on the path, and says in a line what is missing or does not end well."""
-    os.makedirs(folder)
-    script = os.path.join(TOP, "examples/compare_decoders")
-    os.symlink(program, os.path.join(folder, "vcdedit"))
-    os.symlink(shutil.which("python3"), os.path.join(folder, "python3"))
-    fake = os.path.join(folder, "sigrok-cli")
-    words, environment = [shutil.which("python3"), script, "vcdedit"], {**os.environ, "PATH": folder}
-    for name, text, status, wanted in (
-        ("no sigrok-cli", None, 1, "there is no program sigrok-cli\n"),
-        ("a sigrok-cli that fails", "#!/bin/sh\necho no >&2; exit 3\n", 1, "sigrok-cli ended with status 3: no\n"),
-        ("a sigrok-cli with other lines", "#!/bin/sh\necho odd\n", 1, ""),
-    ):
-        if text:
-            store_program(fake, text=text)
-        done = run(words, env=environment, cwd="/")
-        yield name, done[0] == status and done[2].endswith(wanted) and "Traceback" not in done[2]
-    words[2] = "no-such-program"
-    yield "no such program", run(words, env=environment)[2] == "compare_decoders: there is no program no-such-program\n"
 
 
 def run_from_anywhere(folder):
@@ -138,7 +118,8 @@ def run_from_anywhere(folder):
 def explains_tools(program, folder):
     """Each option that a help lists is in the page and completed, and no other is in the page."""
     os.makedirs(folder)
-    sources = {name: os.path.join(TOP, path) for path, name in re.findall(r"^755 (tools/\S+) bin/(\S+)$", text_at("Makefile"), flags=re.M)}
+    tools = re.findall(r"^755 (tools/\S+) bin/(\S+)$", text_at("Makefile"), flags=re.M)
+    sources = {name: os.path.join(TOP, path) for path, name in tools}
     sources.update({"vcdedit": program, "vcdedit-narrow": narrow_of(program)})
     yield "the commands", sorted(sources) == COMMANDS
 
@@ -164,4 +145,3 @@ def explains_tools(program, folder):
 def check(program, folder):
     yield from installs(program, os.path.join(folder, "tree"))
     yield from explains_tools(program, os.path.join(folder, "tools"))
-    yield from compares_decoders(program, os.path.join(folder, "decoders"))

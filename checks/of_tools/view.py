@@ -4,10 +4,8 @@ import os
 import re
 import shutil
 import sys
-import time
 
 from common import EXAMPLES, TOP, load, load_if_there, run, store, store_program
-from of_tools.memory import PEAK
 
 TOOL = os.path.join(TOP, "tools/view_capture")
 I2C, I2C_LINE = os.path.join(EXAMPLES, "i2c/capture.vcd"), "i2c bench.scl bench.sda"
@@ -212,19 +210,6 @@ def viewers(folder, view):
     yield "nothing is left", not os.listdir(os.path.join(folder, "tmp"))
 
 
-def sizes(folder, view):
-    """Time and memory are linear, up to 10,000 annotations."""
-    costs = []
-    for count in (2500, 10000):
-        frames = "\n".join("#%d\n0!\n#%d\n1!" % (20 * k + 10, 20 * k + 28) for k in range(count))
-        capture = store(folder, "c.vcd", text=text("r", "1!") + frames + "\n#%d\n" % (20 * count + 20))
-        begun = time.monotonic()
-        memory = int(run([sys.executable, "-S", "-c", PEAK, TOOL, capture, "uart r 2 8 none 1", "-o", os.path.join(folder, "v.vcd")])[1])
-        costs.append((time.monotonic() - begun, memory))
-        yield "%d annotations" % count, rows_in(os.path.join(folder, "v.vcd"))["uart"].count("byte_0x00") == count
-    yield "linear: %s" % costs, costs[1][0] < 8 * costs[0][0] and costs[1][1] < 5 * costs[0][1]
-
-
 def check(program, folder):
     os.mkdir(os.path.join(folder, "tmp"))
     os.environ.update(VCDEDIT=program, TMPDIR=os.path.join(folder, "tmp"))
@@ -237,6 +222,6 @@ def check(program, folder):
     def view(*words, given=None, **more):
         return run([sys.executable, TOOL, *words], cwd=folder, input=given, env={**os.environ, "PATH": without, **more})
 
-    for part in (rows, settings, refusals, viewers, sizes):
+    for part in (rows, settings, refusals, viewers):
         yield from part(folder, view)
     yield from examples(program, folder, view)
