@@ -16,7 +16,8 @@ EDITED = [
     ("", ["the same: 18 signals up to tick 221008847"]),
     ("invert tb.clk", ["tb.clk: 1 difference, first at tick 0: 0, 1", "lines that differ: 1"]),
     ("force tb.q[7:0] 0 2 z", ["tb.q[7:0]: 1 difference, first at tick 0: xxxxxxxx, zzzzzzzz", "lines that differ: 1"]),
-    ("force tb.tx 100000000 100000001 x", ["tb.tx: 1 difference, first at tick 100000000: 0, x", "lines that differ: 1"]),
+    ("force tb.tx 100000000 100000001 x",
+     ["tb.tx: 1 difference, first at tick 100000000: 0, x", "lines that differ: 1"]),
     ("remove tb.u.clk", ["tb.u.clk: only in A", "lines that differ: 1"]),
     ("derive odd bit tb.q[7:0] 0", ["tb.odd: only in B", "lines that differ: 1"]),
     ("cut 221008846 221008847", ["end: 221008847, 221008846 (compared up to the smaller)", "lines that differ: 1"]),
@@ -43,9 +44,11 @@ PAIRS = {
     "the second of a name": ((TWO, '0! 0" #3 1" #9'), (TWO, '0! 0" #9'), "a (2): 1 difference, first at tick 3: 1, 0"),
     "the first of a name": ((TWO, '0! 0" #3 1! #9'), (TWO, '0! 0" #9'), "a: 1 difference, first at tick 3: 1, 0"),
     "a name twice": ((TWO, '0! 0" #9'), (ONE, "0! #9"), "a (2): only in A"),
-    "ticks above 2^53": ((ONE, "#9007199254740992 1! #9007199254740994"), (ONE, "#9007199254740993 1! #9007199254740994"),
+    "ticks above 2^53": (
+        (ONE, "#9007199254740992 1! #9007199254740994"), (ONE, "#9007199254740993 1! #9007199254740994"),
         "a: 1 difference, first at tick 9007199254740992: 1, x"),
-    "the greatest ticks": ((ONE, "0! #9223372036854775806 1! #9223372036854775807"), (ONE, "0! #9223372036854775807 1!"),
+    "the greatest ticks": (
+        (ONE, "0! #9223372036854775806 1! #9223372036854775807"), (ONE, "0! #9223372036854775807 1!"),
         "a: 1 difference, first at tick 9223372036854775806: 1, 0"),
     "ends above 2^53": ((ONE, "0! #9007199254740992"), (ONE, "0! #9007199254740993"),
         "end: 9007199254740992, 9007199254740993 (compared up to the smaller)"),
@@ -66,41 +69,49 @@ REAL, PLAIN = (ONE + "|real 64 r|event 1 e", '0! r1.5 " #9'), (ONE, "0! #9")
 # Changes of a kept variable that are left out too, which --strict alone counts.
 LOST = (ONE, "0! 1! 0! r1.5 ! $comment see $end sHigh ! #9")
 LEFT_OUT = "%s: not compared: 2 variables"
-LOST_LINES = ["%s: not compared: 2 real or string changes, 2 changes replaced within a tick and 1 comment among the changes",
-              "    a: 2 real or string changes", "    a: 2 changes replaced within a tick"]
+LOST_LINES = [
+    "A: not compared: 2 real or string changes, 2 changes replaced within a tick and 1 comment among the changes",
+    "    a: 2 real or string changes", "    a: 2 changes replaced within a tick",
+]
 SKIPPED_LINES = [LEFT_OUT, "    real r", "    event e"]
 # Two captures, and which of them have variables that are left out.
 SKIPPED = [(REAL, PLAIN, "A"), (PLAIN, REAL, "B"), (REAL, REAL, "AB"), (PLAIN, PLAIN, "")]
-CLOCK = "0! #10 1! #11 0! #20 1! #30 0! #50"
+CLOCK = (ONE, "0! #10 1! #11 0! #20 1! #30 0! #50")
+FINER = "timescale: 1 ns, 100 ps (ticks are those of 100 ps)|the same: 1 signal up to tick 90"
 NAMES = "wire 1 tb.u.a|wire 1 tb.u.b|wire 4 tb.q[3:0]"
+
+
+def edited(old, new):
+    return ONE, CLOCK[1].replace(old, new)
+
+
 # Options, two captures, the status, and what is said.
 OPTIONS = [
-    (["--within", "2"], (ONE, CLOCK), (ONE, CLOCK.replace("#20", "#22")), 0, ["the same: 1 signal up to tick 50"]),
-    (["--within", "2"], (ONE, CLOCK), (ONE, CLOCK.replace("#20", "#23")), 1, ["a: 1 difference, first at tick 20: 1, 0"]),
-    (["--within", "9"], (ONE, CLOCK), (ONE, CLOCK.replace("#10 1! #11 0! ", "")), 1, ["a: 1 difference, first at tick 10: 1, 0"]),
-    (["--within", "9"], (ONE, CLOCK), (ONE, CLOCK.replace("#10 1! #11 0! ", "#14 1! #15 0! ")), 0, ["the same: 1 signal up to tick 50"]),
-    (["--within", "2"], (ONE, "0! #9 1! #10"), (ONE, "0! #12 1!"), 1, ["a: 1 difference, first at tick 9: 1, 0"]),
-    (["--within", "2"], (ONE, "0! #9 1! #10"), (ONE, "0! #11 1! #12"), 0, ["the same: 1 signal up to tick 10"]),
-    (["--within", "2"], (ONE, "0! #9"), (ONE, "0! #10 1! #11"), 0, ["the same: 1 signal up to tick 9"]),
-    (["--from", "12", "--to", "40"], (ONE, CLOCK), (ONE, "0! #20 1! #30 0! #41 1! #60"), 0, ["the same: 1 signal from tick 12 to 40"]),
-    (["--from", "12"], (ONE, CLOCK), (ONE, CLOCK.replace("#11 0! ", "")), 1, ["a: 1 difference, first at tick 12: 0, 1"]),
-    (["--from", "11"], (ONE, CLOCK), (ONE, "1! #11 0! #20 1! #30 0! #50"), 0, ["the same: 1 signal from tick 11 to 50"]),
-    (["--to", "19"], (ONE, CLOCK), (ONE, "0! #10 1! #11 0! #19"), 0, ["the same: 1 signal up to tick 19"]),
-    (["--from", "60"], (ONE, CLOCK), (ONE, CLOCK), 2, "tick 60 is past"),
-    ([], ("1 ns|" + ONE, "0! #3 1! #9"), ("100 ps|" + ONE, "0! #30 1! #90"), 0,
-     ["timescale: 1 ns, 100 ps (ticks are those of 100 ps)", "the same: 1 signal up to tick 90"]),
-    (["--within", "200ps"], ("1 ns|" + ONE, "0! #3 1! #9"), ("100 ps|" + ONE, "0! #32 1! #91"), 0,
-     ["timescale: 1 ns, 100 ps (ticks are those of 100 ps)", "the same: 1 signal up to tick 90"]),
-    (["--within", "1ns"], (ONE, CLOCK), (ONE, CLOCK), 2, "no timescale"),
-    (["--map", "tb.u=top"], (NAMES, "#9"), (NAMES.replace("tb.u", "top"), "#9"), 0, ["the same: 3 signals up to tick 9"]),
-    (["--map", "tb.q=tb.d"], (NAMES, "#9"), (NAMES.replace("tb.q", "tb.d"), "#9"), 0, ["the same: 3 signals up to tick 9"]),
-    (["--map", "tb.u.a=tb.u.b", "--map", "tb.u.b=tb.u.a"], (NAMES, "0! #9"), (NAMES, '0" #9'), 0, ["the same: 3 signals up to tick 9"]),
-    (["--map", "tb=top"], (NAMES, "#9"), (NAMES, "#9"), 1, None),
-    (["--map", "t=top"], (NAMES, "#9"), (NAMES, "#9"), 2, "no signal of A has this name"),
-    (["--map", "top"], (NAMES, "#9"), (NAMES, "#9"), 2, "write OLD=NEW"),
-    (["--keep", "tb.u.*"], (NAMES, "#9"), (NAMES, "b1 # #9"), 0, ["the same: 2 signals up to tick 9"]),
-    (["--keep", "*.q[3:0]"], (NAMES, "#9"), (NAMES, "b1 # #9"), 1, ["tb.q[3:0]: 1 difference, first at tick 0: xxxx, 0001"]),
-    (["--keep", "u*"], (NAMES, "#9"), (NAMES, "#9"), 2, "no signal has a name like u*"),
+    ("--within 2", CLOCK, edited("#20", "#22"), 0, "the same: 1 signal up to tick 50"),
+    ("--within 2", CLOCK, edited("#20", "#23"), 1, "a: 1 difference, first at tick 20: 1, 0"),
+    ("--within 9", CLOCK, edited("#10 1! #11 0! ", ""), 1, "a: 1 difference, first at tick 10: 1, 0"),
+    ("--within 9", CLOCK, edited("#10 1! #11 0! ", "#14 1! #15 0! "), 0, "the same: 1 signal up to tick 50"),
+    ("--within 2", (ONE, "0! #9 1! #10"), (ONE, "0! #12 1!"), 1, "a: 1 difference, first at tick 9: 1, 0"),
+    ("--within 2", (ONE, "0! #9 1! #10"), (ONE, "0! #11 1! #12"), 0, "the same: 1 signal up to tick 10"),
+    ("--within 2", (ONE, "0! #9"), (ONE, "0! #10 1! #11"), 0, "the same: 1 signal up to tick 9"),
+    ("--from 12 --to 40", CLOCK, (ONE, "0! #20 1! #30 0! #41 1! #60"), 0, "the same: 1 signal from tick 12 to 40"),
+    ("--from 12", CLOCK, edited("#11 0! ", ""), 1, "a: 1 difference, first at tick 12: 0, 1"),
+    ("--from 11", CLOCK, (ONE, "1! #11 0! #20 1! #30 0! #50"), 0, "the same: 1 signal from tick 11 to 50"),
+    ("--to 19", CLOCK, (ONE, "0! #10 1! #11 0! #19"), 0, "the same: 1 signal up to tick 19"),
+    ("--from 60", CLOCK, CLOCK, 2, "tick 60 is past"),
+    ("", ("1 ns|" + ONE, "0! #3 1! #9"), ("100 ps|" + ONE, "0! #30 1! #90"), 0, FINER),
+    ("--within 200ps", ("1 ns|" + ONE, "0! #3 1! #9"), ("100 ps|" + ONE, "0! #32 1! #91"), 0, FINER),
+    ("--within 1ns", CLOCK, CLOCK, 2, "no timescale"),
+    ("--map tb.u=top", (NAMES, "#9"), (NAMES.replace("tb.u", "top"), "#9"), 0, "the same: 3 signals up to tick 9"),
+    ("--map tb.q=tb.d", (NAMES, "#9"), (NAMES.replace("tb.q", "tb.d"), "#9"), 0, "the same: 3 signals up to tick 9"),
+    ("--map tb.u.a=tb.u.b --map tb.u.b=tb.u.a", (NAMES, "0! #9"), (NAMES, '0" #9'), 0,
+     "the same: 3 signals up to tick 9"),
+    ("--map tb=top", (NAMES, "#9"), (NAMES, "#9"), 1, None),
+    ("--map t=top", (NAMES, "#9"), (NAMES, "#9"), 2, "no signal of A has this name"),
+    ("--map top", (NAMES, "#9"), (NAMES, "#9"), 2, "write OLD=NEW"),
+    ("--keep tb.u.*", (NAMES, "#9"), (NAMES, "b1 # #9"), 0, "the same: 2 signals up to tick 9"),
+    ("--keep *.q[3:0]", (NAMES, "#9"), (NAMES, "b1 # #9"), 1, "tb.q[3:0]: 1 difference, first at tick 0: xxxx, 0001"),
+    ("--keep u*", (NAMES, "#9"), (NAMES, "#9"), 2, "no signal has a name like u*"),
 ]
 # Files that are no capture, and what is said of them.
 FAULTY = [
@@ -113,7 +124,8 @@ def text(declared, changes):
     """A capture. Its declarations are parted by `|`; the first may be a timescale."""
     parts = declared.split("|") if declared else []
     scale = "$timescale %s $end\n" % parts.pop(0) if parts and parts[0].endswith("s") else ""
-    declarations = ["$var %s %s %s $end\n" % (*part.split(" ")[:2], "!\"#"[at] + " " + part.split(" ")[2]) for at, part in enumerate(parts)]
+    words = [(*part.split(" "), code) for part, code in zip(parts, '!"#')]
+    declarations = ["$var %s %s %s %s $end\n" % (kind, width, code, name) for kind, width, name, code in words]
     return scale + "".join(declarations) + "$enddefinitions $end\n" + changes.replace(" ", "\n") + "\n"
 
 
@@ -147,9 +159,9 @@ def check(program, folder):
     for words, first, second, status, wanted in OPTIONS:
         store(folder, "A", text=text(*first))
         store(folder, "B", text=text(*second))
-        found = compare(*words, "A", "B")
+        found = compare(*words.split(), "A", "B")
         lines = found[1].splitlines()[: None if status == 0 else -1]
-        right = lines == wanted if isinstance(wanted, list) else wanted is None or wanted in found[2]
+        right = wanted is None or (wanted in found[2] if status == 2 else lines == wanted.split("|"))
         yield "%s: %s" % (words, found), (found[0], right) == (status, True)
 
 
@@ -191,7 +203,7 @@ def skipped(folder, compare):
         yield "left out, strict and another value: %s" % sides, found[0] == 1 and "first at tick 0: 0, 1" in found[1]
     store(folder, "A", text=text(*LOST))
     store(folder, "B", text=text(*PLAIN))
-    wanted = [LOST_LINES[0] % "A", *LOST_LINES[1:], "the same as far as compared: 1 signal up to tick 9"]
+    wanted = [*LOST_LINES, "the same as far as compared: 1 signal up to tick 9"]
     yield "changes that are left out", compare("A", "B", "--strict") == (3, "\n".join([*wanted, ""]), "")
     yield "changes that are not counted", compare("A", "B") == (0, "the same: 1 signal up to tick 9\n", "")
 
@@ -205,12 +217,14 @@ def paths(folder, compare):
     same = (0, "the same: 1 signal up to tick 9\n", "")
     for name in names[1:]:
         others = [["A", name]] if not name.startswith("-") else []
-        for words in (*others, ["--", name, "A"], ["-", "./" + name], ["./" + name, "-"], ["--strict", "--", name, name]):
+        path = "./" + name
+        for words in (*others, ["--", name, "A"], ["-", path], [path, "-"], ["--strict", "--", name, name]):
             yield "paths: %s" % words, compare(*words, given=capture) == same
     yield "an option behind the captures", compare("A", "A", "--strict") == same
-    for closed, words, status in (("<&-", ["-", "A"], 2), ("2>&-", ["A", "A"], 0), ("2>/dev/full", ["none", "A"], 2), ("2>/dev/full", [], 2)):
-        done = compare(*words, before=["sh", "-c", 'exec "$@" %s' % closed, "sh"])
-        yield "streams: %s: %s" % (closed, done), done[0] == status and "Traceback" not in done[2]
+    full = "2>/dev/full"
+    for stream, words, status in (("<&-", "- A", 2), ("2>&-", "A A", 0), (full, "none A", 2), (full, "", 2)):
+        done = compare(*words.split(), before=["sh", "-c", 'exec "$@" %s' % stream, "sh"])
+        yield "streams: %s: %s" % (stream, done), done[0] == status and "Traceback" not in done[2]
     for words in ([], ["A"], ["A", "A", "A"], ["-", "-"], ["--strict", "A"], ["A", "A", "--frob"]):
         status, shown, errors = compare(*words, given=capture)
         yield "words: %s" % words, (status, shown) == (2, "") and "vcdedit-compare: error: " in errors

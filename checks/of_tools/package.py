@@ -20,7 +20,7 @@ NAMES = [
     (["--keep", "clk"], [""]),
     (["-i", "named"], [""]),
 ]
-# What is run after installing, in another folder: words, status and what is shown. Each tool calls the vcdedit next to it.
+# What is run after installing, in another folder: words, status and what is shown. Each calls the vcdedit next to it.
 RUN = [
     (["vcdedit-compare", "--help"], 0, "ompares"),
     (["vcdedit-compare", "/dev/null", "/dev/null"], 2, "line 1: the file is empty"),
