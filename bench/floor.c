@@ -1,7 +1,7 @@
 /* floor FILE OUT: how fast a capture is read into lists of changes of 272 bytes, one for each code, and written again.
 
-   bench/compare compares vcdedit with it. It takes time for nothing else: it refuses nothing, proves nothing and keeps no
-   names. So it reads only captures of make_captures: values of at most 64 bits, codes of at most three bytes. The
+   bench/compare compares vcdedit with it. It takes time for nothing else: it refuses nothing, proves nothing and keeps
+   no names. So it reads only captures of make_captures: values of at most 64 bits, codes of at most three bytes. The
    declarations are left out of what it writes; the rest is vcdedit's text, byte for byte. */
 #define _GNU_SOURCE
 #include <fcntl.h>

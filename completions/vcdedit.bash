@@ -1,5 +1,5 @@
-# Completion of vcdedit and the tools around it for bash: their options, as --help lists them, and names of signals. Files
-# are left to bash. `make install` puts it where bash looks for each command.
+# Completion of vcdedit and its tools for bash: their options, as --help lists them, and names of signals. Files are left
+# to bash. `make install` puts it where bash looks for each command.
 _vcdedit() {
     local word=${COMP_WORDS[COMP_CWORD]} prefix=
     COMPREPLY=()

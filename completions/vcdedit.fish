@@ -1,10 +1,12 @@
-# Completion of vcdedit and the tools around it for fish: their options, as --help lists them, names of signals and files.
+# Completion of vcdedit and its tools for fish: their options, as --help lists them, names of signals and files.
 # `make install` puts it where fish looks for each command.
-function __vcdedit_names --description 'The names of the signals of the first capture on the line, if they are there within half a second'
+# The names of the signals of the first capture on the line, if they are there within half a second.
+function __vcdedit_names
     set -l words (commandline -opc) (commandline -ct)
     for path in $words[2..]
         if test -f $path
-            timeout 0.5 (string replace -r -- '-[a-z]+$' '' $words[1]) -i $path 2>/dev/null | string replace -rf '^@\d+ \d+ \S+ ' ''
+            timeout 0.5 (string replace -r -- '-[a-z]+$' '' $words[1]) -i $path 2>/dev/null |
+                string replace -rf '^@\d+ \d+ \S+ ' ''
             return
         end
     end

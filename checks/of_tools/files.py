@@ -57,14 +57,14 @@ LOST = [
     (b"r1.5 ! sx ! r2 # S #", {"real": 2}),
     (b"$comment 0! r1 ! $end $dumpvars 0! $end $attrbegin r1 ! $end $comment $end", {"comment": 2}),
     (b"$comment\n" + b"x" * 3 * vcd_files.CHUNK + b" y $end 0! 1!", {"change": 1, "comment": 1}),
-    (b"0! 1!" + b"\n#1 0!\n#2 1! 0!\n" * 9000, {"change": 9001}),
+    *((b" " * more + b"0! 1!" + b"\n#1 0!\n#2 1! 0!\n" * 9000, {"change": 9001}) for more in range(3)),
     (b"0! 1! $comment", {"change": 1, "comment": 1}),
     (b"0! frob 1! 0!", {}),
 ]
-NAMED = b"""$scope module t $end $var wire 1 ! a $end $scope begin u v $end $var reg 8 " b [7:0] $end $upscope $end
+NAMED = b"""$scope module t $end $var real 1 $ a $end $var wire 1 ! a $end $scope begin u v $end $var reg 8 " b [7:0] $end $upscope $end
 $var real 1 # c $end $comment $var wire 1 $ no $end $var wire 0 % d $end $var wire 01025 & e f $end $upscope $end
 $var event 1 ' g $end $enddefinitions $end\n"""
-SKIPPED = ["real t.c", "wire of 0 bits t.d", "wire of 1025 bits t.ef", "event g"]
+SKIPPED = ["real t.a", "real t.c", "wire of 0 bits t.d", "wire of 1025 bits t.ef", "event g"]
 
 
 def zipped(text):

@@ -68,7 +68,8 @@ ROWS = {
 NAMES = {
     "wire 1 ! q [3]": "q[3]", "wire 1 ! r q s": "rqs", "wire 1 ! u [2:2]": "u[2]", "wire 1 ! t[5]": "t[5]",
     "wire 4 ! w": "w[3:0]", "reg 4 ! v [4:1]": "v[4:1]", "reg 4 ! a [2] [3:0]": "a[2][3:0]",
-    "integer 32 ! i [31:0]": "i", "reg 8 ! s [3:-4]": "s[3:-4]", "reg 4 ! m [-1:-4]": "m[3:0]", "wire 1 ! n[-1:-1]": "n",
+    "integer 32 ! i [31:0]": "i", "reg 8 ! s [3:-4]": "s[3:-4]", "reg 4 ! m [-1:-4]": "m[3:0]",
+    "wire 1 ! n[-1:-1]": "n",
 }
 # Lines on the capture of a UART, and what GTKWave is to show of it: without --before, and with it.
 BEFORE = {
