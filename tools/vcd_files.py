@@ -85,12 +85,13 @@ def counted(count, what):
 def listing_of(lines):
     """The listing that some lines begin with, of which no more are taken."""
     lines = iter(lines)
-    head = [line.rstrip(b"\n").partition(b" ") for line in itertools.islice(lines, 4)]
-    if [word for word, _, _ in head] != [b"timescale", b"end", b"signals", b"skipped"]:
-        raise Trouble("%s is no vcdedit" % program())
-    timescale, end, count, skipped = (said for _, _, said in head)
-    rows = [line.rstrip(b"\n").split(b" ", 3) for line in itertools.islice(lines, int(count))]
-    return Listing(shown(timescale), int(end), int(skipped), [Signal(int(row[1]), *row[2:]) for row in rows])
+    try:
+        head = dict(line.rstrip(b"\n").split(b" ", 1) for line in itertools.islice(lines, 4))
+        rows = [line.rstrip(b"\n").split(b" ", 3) for line in itertools.islice(lines, int(head[b"signals"]))]
+        signals = [Signal(int(width), kind, name) for _, width, kind, name in rows]
+        return Listing(shown(head[b"timescale"]), int(head[b"end"]), int(head[b"skipped"]), signals)
+    except (KeyError, ValueError):
+        raise Trouble("%s is no vcdedit" % program()) from None
 
 
 def pieces(file):
