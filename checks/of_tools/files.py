@@ -59,6 +59,7 @@ LOST = [
     (b"$comment\n" + b"x" * 3 * vcd_files.CHUNK + b" y $end 0! 1!", {"change": 1, "comment": 1}),
     *((b" " * more + b"0! 1!" + b"\n#1 0!\n#2 1! 0!\n" * 9000, {"change": 9001}) for more in range(3)),
     (b"0! 1! $comment", {"change": 1, "comment": 1}),
+    (b"0! $dumpoff 1! $end 0!", {"change": 2}),
     (b"0! frob 1! 0!", {}),
 ]
 NAMED = b"""$scope module t $end $var real 1 $ a $end $var wire 1 ! a $end $scope begin u v $end $var reg 8 " b [7:0] $end $upscope $end
