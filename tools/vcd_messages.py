@@ -35,9 +35,10 @@ FAULTS, REFUSALS = (
 
 # What other lines on standard error mean.
 ENDINGS = {
-    "vcdedit: output: write fault": "the new capture can't be written: is the disc full?",
-    "vcdedit: replies: write fault": "the replies can't be written",
-    "vcdedit: capture: read fault": "it can't be read to its end: check the disc",
+    "vcdedit: output: write fault": ["the new capture can't be written: is the disc full?"],
+    "vcdedit: replies: write fault": ["the replies can't be written"],
+    "vcdedit: capture: read fault": ["it can't be read to its end: check the disc"],
+    "vcdedit: out of memory": ["out of memory", FAULTS["NoMemory"]],
 }
 
 # The words of a command's usage that stand for a signal.
@@ -60,14 +61,14 @@ def told_fault(file, name, line):
 
 
 def told_end(errors, file):
-    """Lines about a run that did not end well, by its line on standard error."""
-    fault = re.fullmatch(r"vcdedit: capture line ([0-9]+): (\w+)", errors)
+    """Lines about a run that did not end well, by its standard error. Other lines may stand before the reason."""
+    lines = errors.splitlines() or ["vcdedit does not say why it ended"]
+    reason = next((line for line in lines if line.startswith("error: ")), lines[-1])
+    fault = re.fullmatch(r"vcdedit: capture line ([0-9]+): (\w+)", reason)
     if fault:
         first, *others = told_fault(file, fault.group(2), int(fault.group(1)))
         return ["line %s: %s" % (fault.group(1), first), *others]
-    if errors == "vcdedit: out of memory":
-        return ["out of memory", FAULTS["NoMemory"]]
-    return [ENDINGS.get(errors) or errors.partition("\n")[0] or "vcdedit does not say why it ended"]
+    return ENDINGS.get(reason, [reason])
 
 
 def line_of(file, number):
