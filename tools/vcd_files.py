@@ -294,6 +294,8 @@ def end(name, main):
     if sys.stdout is None:
         tell("%s: standard output is closed\n" % name)
         sys.exit(4)
+    # Without a buffer (PYTHONUNBUFFERED) a write that takes only a part would be passed over.
+    sys.stdout = open(1, "w", encoding=sys.stdout.encoding, errors=sys.stdout.errors, closefd=False)
     try:
         try:
             status = main(sys.argv[1:])

@@ -207,23 +207,25 @@ def on_a_full_disc(place, path, *words):
     def limit():
         resource.setrlimit(resource.RLIMIT_FSIZE, (FILE_BYTES, FILE_BYTES))
     with open(path, "a") as output:
-        how = {"cwd": place.folder, "env": place.environment, "stderr": subprocess.PIPE, "text": True}
+        environment = {**place.environment, "PYTHONUNBUFFERED": "1"}
+        how = {"cwd": place.folder, "env": environment, "stderr": subprocess.PIPE, "text": True}
         done = subprocess.run([APPLY, *words], stdout=output, preexec_fn=limit, **how)
     return done.returncode, done.stderr
 
 
 def goes_on(program, folder):
-    """If standard output is full behind A's line, A is written and no other. What is told goes on with the rest."""
+    """If standard output is full within B's line, A is written and no other. What is told goes on with the rest."""
     command = "vcdedit-apply --backup .orig -- 'its script' B C"
     told = ["standard output: File too large", "1 capture written. This goes on with the rest:\n    " + command]
     for first, reply in (("", ""), ("value tb.rx 5\n", "%s:1: 0\n")):
         place = Folder(program, "%s/goes on%d" % (folder, len(first)), A=LINE, B=LINE, C=LINE)
         place.store("its script", first + WRITTEN)
         lines = [(reply + "%s: written: 1 ok\n").replace("%s", name) for name in "ABC"]
-        output = store(folder, "output", text="-" * (FILE_BYTES - len(lines[0])))
+        room = len(lines[0]) + 5
+        output = store(folder, "output", text="-" * (FILE_BYTES - room))
         found = on_a_full_disc(place, output, "--backup", ".orig", "its script", "A", "B", "C")
         yield "%s" % (found,), found == (4, "".join("vcdedit-apply: %s\n" % line for line in told))
-        yield "its lines", load_if_there(output, default=b"").decode().lstrip("-") == lines[0]
+        yield "its lines", load_if_there(output, default=b"").decode().lstrip("-") == "".join(lines)[:room]
         written = place.load("A")
         kept = ["A", "A.orig", "B", "C", "its script", "script"]
         yield "no other is written", written != LINE == place.load("B") == place.load("C") and place.names() == kept

@@ -62,7 +62,8 @@ LOST = [
     (b"0! $dumpoff 1! $end 0!", {"change": 2}),
     (b"0! frob 1! 0!", {}),
 ]
-NAMED = b"""$scope module t $end $var real 1 $ a $end $var wire 1 ! a $end $scope begin u v $end $var reg 8 " b [7:0] $end $upscope $end
+NAMED = b"""$scope module t $end $var real 1 $ a $end $var wire 1 ! a $end
+$scope begin u v $end $var reg 8 " b [7:0] $end $upscope $end
 $var real 1 # c $end $comment $var wire 1 $ no $end $var wire 0 % d $end $var wire 01025 & e f $end $upscope $end
 $var event 1 ' g $end $enddefinitions $end\n"""
 SKIPPED = ["real t.a", "real t.c", "wire of 0 bits t.d", "wire of 1025 bits t.ef", "event g"]
