@@ -4,7 +4,6 @@ import gzip
 import os
 import re
 import shutil
-import subprocess
 
 from common import TOP, run, store
 
@@ -16,11 +15,7 @@ EDITED = [
     ("", ["the same: 18 signals up to tick 221008847"]),
     ("invert tb.clk", ["tb.clk: 1 difference, first at tick 0: 0, 1", "lines that differ: 1"]),
     ("force tb.q[7:0] 0 2 z", ["tb.q[7:0]: 1 difference, first at tick 0: xxxxxxxx, zzzzzzzz", "lines that differ: 1"]),
-    ("force tb.tx 100000000 100000001 x",
-     ["tb.tx: 1 difference, first at tick 100000000: 0, x", "lines that differ: 1"]),
     ("remove tb.u.clk", ["tb.u.clk: only in A", "lines that differ: 1"]),
-    ("derive odd bit tb.q[7:0] 0", ["tb.odd: only in B", "lines that differ: 1"]),
-    ("cut 221008846 221008847", ["end: 221008847, 221008846 (compared up to the smaller)", "lines that differ: 1"]),
 ]
 
 ONE = "wire 1 a"
@@ -44,16 +39,9 @@ PAIRS = {
     "the second of a name": ((TWO, '0! 0" #3 1" #9'), (TWO, '0! 0" #9'), "a (2): 1 difference, first at tick 3: 1, 0"),
     "the first of a name": ((TWO, '0! 0" #3 1! #9'), (TWO, '0! 0" #9'), "a: 1 difference, first at tick 3: 1, 0"),
     "a name twice": ((TWO, '0! 0" #9'), (ONE, "0! #9"), "a (2): only in A"),
-    "ticks above 2^53": (
-        (ONE, "#9007199254740992 1! #9007199254740994"), (ONE, "#9007199254740993 1! #9007199254740994"),
-        "a: 1 difference, first at tick 9007199254740992: 1, x"),
     "the greatest ticks": (
         (ONE, "0! #9223372036854775806 1! #9223372036854775807"), (ONE, "0! #9223372036854775807 1!"),
         "a: 1 difference, first at tick 9223372036854775806: 1, 0"),
-    "ends above 2^53": ((ONE, "0! #9007199254740992"), (ONE, "0! #9007199254740993"),
-        "end: 9007199254740992, 9007199254740993 (compared up to the smaller)"),
-    "ticks of 2 and 3 digits": ((ONE, "0! #20 1! #100 0! #200"), (ONE, "0! #20 1! #99 0! #200"),
-        "a: 1 difference, first at tick 99: 1, 0"),
     "two places": (("wire 4 a", "b1 ! #3 bz1 ! #5 b1 ! #9"), ("wire 4 a", "b1 ! #4 bx ! #9"),
         "a: 1 difference, first at tick 3: zzz1, 0001"),
     "three places": ((ONE, "0! #3 1! #4 0! #5 1! #6 0! #7 1! #9"), (ONE, "0! #9"),
@@ -113,6 +101,9 @@ OPTIONS = [
     ("--keep *.q[3:0]", (NAMES, "#9"), (NAMES, "b1 # #9"), 1, "tb.q[3:0]: 1 difference, first at tick 0: xxxx, 0001"),
     ("--keep u*", (NAMES, "#9"), (NAMES, "#9"), 2, "no signal has a name like u*"),
 ]
+# A standard stream that is closed or full, words, and the status.
+STREAMS = [("<&-", "- A", 2), ("2>&-", "A A", 0), ("2>/dev/full", "none A", 2), ("2>/dev/full", "", 2),
+           (">/dev/full", "A A", 4), (">/dev/full", "--help", 4), (">/dev/full", "--version", 4)]
 # Files that are no capture, and what is said of them.
 FAULTY = [
     (b"no capture\n", ["line 1: no capture: UnexpectedWord", "the file is not VCD"]),
@@ -149,11 +140,6 @@ def check(program, folder):
             status, shown, errors = compare(*pair)
             right = errors.startswith("vcdedit-compare: bad: ") and all(word in errors for word in told)
             yield "comparing with a refused capture: %s" % told, (status, shown, right) == (2, "", True)
-    for words in (["A", "A"], ["--help"], ["--version"]):
-        with open("/dev/full", "w") as full:
-            done = subprocess.run([TOOL, *words], cwd=folder, env=environment, stdout=full, stderr=subprocess.PIPE)
-        told = b"vcdedit-compare: standard output: No space left on device\n"
-        yield "a full standard output: %s" % words, (done.returncode, done.stderr) == (4, told)
     done = run([TOOL, "A", "A"], cwd=folder, env={**environment, "VCDEDIT": "/bin/true"})
     yield "no vcdedit", done == (2, "", "vcdedit-compare: /bin/true is no vcdedit\n")
     for words, first, second, status, wanted in OPTIONS:
@@ -221,10 +207,11 @@ def paths(folder, compare):
         for words in (*others, ["--", name, "A"], ["-", path], [path, "-"], ["--strict", "--", name, name]):
             yield "paths: %s" % words, compare(*words, given=capture) == same
     yield "an option behind the captures", compare("A", "A", "--strict") == same
-    full = "2>/dev/full"
-    for stream, words, status in (("<&-", "- A", 2), ("2>&-", "A A", 0), (full, "none A", 2), (full, "", 2)):
+    for stream, words, status in STREAMS:
         done = compare(*words.split(), before=["sh", "-c", 'exec "$@" %s' % stream, "sh"])
-        yield "streams: %s: %s" % (stream, done), done[0] == status and "Traceback" not in done[2]
+        told = "vcdedit-compare: standard output: No space left on device\n"
+        right = done[0] == status and (done[2] == told if stream == ">/dev/full" else "Traceback" not in done[2])
+        yield "streams: %s %s: %s" % (stream, words, done), right
     for words in ([], ["A"], ["A", "A", "A"], ["-", "-"], ["--strict", "A"], ["A", "A", "--frob"]):
         status, shown, errors = compare(*words, given=capture)
         yield "words: %s" % words, (status, shown) == (2, "") and "vcdedit-compare: error: " in errors
