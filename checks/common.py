@@ -3,6 +3,7 @@
 import importlib.machinery
 import importlib.util
 import os
+import re
 import subprocess
 import sys
 
@@ -102,16 +103,20 @@ class Report:
             print(failure, flush=True)
         return bool(holds)
 
-    def check_wrong(self, wrong):
-        """Counts one check by a line on what is wrong, or None."""
-        return self.check(wrong is None, wrong)
-
     def count(self, checks, failures):
         """Counts so many checks, of which these failed."""
         for failure in failures:
             print(failure, flush=True)
         self.passed += max(0, checks - len(failures))
         self.failed += len(failures)
+
+    def add(self, name, status, shown):
+        """Adds what another check counted, by the last line that it printed. Its status must say the same."""
+        counts = re.search(r"^(\d+) passed, (\d+) failed\n\Z", shown, re.M)
+        passed, failed = map(int, counts.groups()) if counts else (0, 0)
+        self.passed, self.failed = self.passed + passed, self.failed + failed
+        if counts is None or (status != 0) != (failed != 0):
+            self.check(False, "%s: it ended with status %d" % (name, status))
 
     def end(self):
         """Says how many there were, and ends the check."""

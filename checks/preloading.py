@@ -1,51 +1,57 @@
-"""C files of this folder, which are built to be preloaded, and what refuses memory by them."""
+"""Runs of programs whose memory, readers and writers are hostile: devices.c is preloaded over them."""
 
+import itertools
 import os
 import shutil
 import subprocess
+import sys
 
-from common import CHECKS, Report
+from common import CHECKS, load_if_there, run
 
 NO_COMPILER = "no C compiler was found: install cc or clang, name one by CC, or put the Rattle kit's rt into PATH"
 
 
-def kit():
-    """The toolchain of the Rattle kit whose rt is in PATH, or None."""
-    command = shutil.which("rt")
-    folder = command and os.path.join(os.path.dirname(os.path.realpath(command)), os.pardir, "toolchain")
-    return folder if folder and os.path.exists(os.path.join(folder, "bin", "clang")) else None
-
-
-def kit_command(folder, shared):
-    """The kit's clang, which has neither headers nor a system's C library, with what it links."""
-    command = [os.path.join(folder, "bin", "clang"), "-fuse-ld=lld", "-nostdlib"]
-    if shared:
-        return command
-    parts = ["Scrt1.o", "crti.o", "libc.so.6", "libc_nonshared.a", "crtn.o"]
-    loader = "-Wl,--dynamic-linker=/lib64/ld-linux-x86-64.so.2"
-    return command + ["-pie", loader, "-Wl,--allow-shlib-undefined"] + [os.path.join(folder, "lib", part) for part in parts]
-
-
-def compiler(shared=False):
-    """The command of a C compiler, that of the kit where there is no other, or None."""
+def compiler():
+    """The command of a C compiler; where there is no other, that of the Rattle kit, which has no C library to link."""
     found = os.environ.get("CC") or shutil.which("cc") or shutil.which("clang")
     if found:
         return [found]
-    folder = kit()
-    return kit_command(folder, shared) if folder else None
+    kit = os.path.join(os.path.dirname(os.path.realpath(shutil.which("rt") or "")), os.pardir, "toolchain")
+    clang = os.path.join(kit, "bin", "clang")
+    return [clang, "-fuse-ld=lld", "-nostdlib"] if os.path.exists(clang) else sys.exit(NO_COMPILER)
 
 
-def stop_without_compiler():
-    """Ends a check that has no C compiler as one that failed."""
-    if compiler() is None:
-        report = Report()
-        report.check(False, NO_COMPILER)
-        report.end()
+def pieces_of(count):
+    """The settings for reads and writes of at most so many bytes."""
+    return {"READ_AT_MOST": count, "WRITE_AT_MOST": count}
 
 
-def build(work, source, shared=False):
-    """Compiles a C file of this folder, and gives the path of what was made."""
-    made = os.path.join(work, os.path.splitext(source)[0])
-    flags = ["-O2", "-fno-builtin", "-fPIC", *(["-shared"] if shared else []), "-o", made, os.path.join(CHECKS, source)]
-    subprocess.run(compiler(shared) + flags, check=True)
-    return made
+class Devices:
+    """devices.c as it was built in a folder. Settings are those at its head."""
+
+    def __init__(self, work):
+        self.library, self.told = os.path.join(work, "devices.so"), os.path.join(work, "told")
+        flags = ["-O2", "-fno-builtin", "-fPIC", "-shared", "-o", self.library, os.path.join(CHECKS, "devices.c")]
+        subprocess.run(compiler() + flags, check=True)
+
+    def run(self, words, settings, **how):
+        """(status, standard output, standard error) of a program, as bytes. Without settings nothing is preloaded."""
+        environment = {name: str(value) for name, value in settings.items()}
+        preloaded = {"LD_PRELOAD": self.library, **environment} if settings else {}
+        return run(words, text=False, env={**os.environ, **preloaded}, **how)
+
+    def run_told(self, words, settings, **how):
+        """The same, and the lines that were told of the run."""
+        ending = self.run(words, {**settings, "TOLD": self.told}, **how)
+        told = load_if_there(self.told, default=b"").decode().splitlines()
+        if told:
+            os.remove(self.told)
+        return ending, told
+
+    def refusals(self, words, settings={}, **how):
+        """(N, how the program ends if its growth N is refused), for N = 1, 2, .. until a run has fewer growths."""
+        for number in itertools.count(1):
+            ending, told = self.run_told(words, {**settings, "GROWTH_REFUSED": number}, **how)
+            if "refused" not in told:
+                return
+            yield number, ending
