@@ -66,8 +66,8 @@ impl Variables {
     }
 
     /// Appends a change of the variable of this width at a position, the first of its code. One of
-    /// at most 64 bits gets it in the log, a wider one in its wave. While the log is empty, a change
-    /// before the part (`early`) goes to the wave at once.
+    /// at most 64 bits gets it in the log, a wider one in its wave. While the log is empty, a
+    /// change before the part (`early`) goes to the wave at once.
     fn change_at(
         &mut self,
         alloc: Global,
