@@ -1,5 +1,7 @@
 -- The definitions of what the programs share.
 pub mod Devices
 pub mod Opening
+pub mod Options
 pub mod Report
 pub mod WithoutRun
+pub mod Endings

@@ -2,10 +2,12 @@
 
 ghost use Rattle.std.specs.Prelude.{◌≡◌, ◌≤◌, ◌++◌, false, true, OnOk, OnErr};
 ghost use Rattle.std.specs.Io.KnownBytes.{Appends};
-ghost use Rattle.vcd_shell.specs.Report.{IsReported, capture_line_report, capture_report};
+ghost use Rattle.vcd_shell.specs.Report.{IsReported, IsTold, capture_line_report, capture_report};
 ghost use Rattle.vcd_shell.specs.Report.{capture_status, out_of_memory_report, report_of};
 ghost use Rattle.vcd_shell.specs.Report.{write_report, write_status};
+ghost use Rattle.vcd_shell.specs.WithoutRun.{without_run_status, without_run_text};
 
+use crate::words::WithoutRun;
 use itoa::Buffer;
 use vcd_core::{ShortWrite, Sink, write_all, write_and_flush};
 use vcd_text::{Fault, ReadError, WriteError};
@@ -13,27 +15,26 @@ use vcd_text::{Fault, ReadError, WriteError};
 /// Writes the line of a text after the program's name, and flushes the writer. A fault of the
 /// writer is ignored. It takes no memory.
 pub fn report<W: Sink>(program: &[u8], text: &[u8], writer: &mut W)
-    requires { W.has_failed writer.old ≡ false }
     ensures { IsReported (W.has_failed writer.new) (W.is_flushed writer.new)
         (W.taken writer.old) (W.taken writer.new) (report_of program.now text.now) }
 {
-    let _ = write_report(program, text, b"", writer);
+    report_with(program, text, b"", writer);
 }
 
 /// Writes the line of a text and of what follows it, after the program's name, and flushes the
 /// writer. A fault of the writer is ignored. It takes no memory.
 pub fn report_with<W: Sink>(program: &[u8], text: &[u8], more: &[u8], writer: &mut W)
-    requires { W.has_failed writer.old ≡ false }
     ensures { IsReported (W.has_failed writer.new) (W.is_flushed writer.new)
         (W.taken writer.old) (W.taken writer.new) (report_of program.now (text.now ++ more.now)) }
 {
-    let _ = write_report(program, text, more, writer);
+    if !writer.failed() {
+        let _ = write_report(program, text, more, writer);
+    }
 }
 
 /// Writes the line for a fault of the capture after the program's name, and flushes the writer. A
 /// fault of the writer is ignored. It takes no memory.
 pub fn report_capture<W: Sink>(program: &[u8], error: &ReadError, writer: &mut W)
-    requires { W.has_failed writer.old ≡ false }
     ensures { IsReported (W.has_failed writer.new) (W.is_flushed writer.new)
         (W.taken writer.old) (W.taken writer.new)
         (capture_report program.now error.now.fault error.now.line) }
@@ -41,16 +42,13 @@ pub fn report_capture<W: Sink>(program: &[u8], error: &ReadError, writer: &mut W
     match error.fault {
         Fault::ReadFault => report(program, b"capture: read fault", writer),
         Fault::NoMemory => report_no_memory(program, writer),
-        _ => {
-            let _ = write_capture_line(program, error, writer);
-        }
+        _ => report_capture_line(program, error, writer),
     }
 }
 
 /// Writes the line for a fault of the output after the program's name, and flushes the writer. A
 /// fault of the writer is ignored. It takes no memory.
 pub fn report_write<W: Sink>(program: &[u8], error: &WriteError, writer: &mut W)
-    requires { W.has_failed writer.old ≡ false }
     ensures { IsReported (W.has_failed writer.new) (W.is_flushed writer.new)
         (W.taken writer.old) (W.taken writer.new) (write_report program.now error.now) }
 {
@@ -63,23 +61,52 @@ pub fn report_write<W: Sink>(program: &[u8], error: &WriteError, writer: &mut W)
 /// Writes the line if memory ran out after the program's name, and flushes the writer. A fault of
 /// the writer is ignored. It takes no memory.
 pub fn report_no_memory<W: Sink>(program: &[u8], writer: &mut W)
-    requires { W.has_failed writer.old ≡ false }
     ensures { IsReported (W.has_failed writer.new) (W.is_flushed writer.new)
         (W.taken writer.old) (W.taken writer.new) (out_of_memory_report program.now) }
 {
     report(program, b"out of memory", writer);
 }
 
-/// Writes the text that says why the words of the command line are refused, flushes the writer, and
-/// returns the exit status. A fault of the writer is ignored. It takes no memory.
-pub fn report_refusal<W: Sink>(text: &str, writer: &mut W) -> u8
-    requires { W.has_failed writer.old ≡ false }
-    ensures status { result ≡ 2 }
-    ensures text { IsReported (W.has_failed writer.new) (W.is_flushed writer.new)
+/// Writes the text for words that ask for no run, flushes the writer, and returns the exit status.
+/// If standard output failed, the line says `write_fault` after the program's name. A fault of the
+/// writer is ignored. It takes no memory.
+pub fn report_without_run<W: Sink>(
+    program: &[u8],
+    write_fault: &[u8],
+    answer: &WithoutRun,
+    writer: &mut W,
+) -> u8
+    ensures most { result ≤ 5 }
+    ensures status { result ≡ without_run_status answer.now }
+    ensures text { IsTold (W.has_failed writer.new) (W.is_flushed writer.new)
+        (W.taken writer.old) (W.taken writer.new)
+        (without_run_text program.now write_fault.now answer.now) }
+{
+    match answer {
+        WithoutRun::Shown => 0,
+        WithoutRun::NotShown => {
+            report(program, write_fault, writer);
+            4
+        }
+        WithoutRun::Refused(text) => {
+            report_refusal(text.as_str(), writer);
+            2
+        }
+        WithoutRun::NoMemory => {
+            report_no_memory(program, writer);
+            5
+        }
+    }
+}
+
+/// Writes the text that says why the words of the command line are refused, and flushes the writer.
+fn report_refusal<W: Sink>(text: &str, writer: &mut W)
+    ensures { IsReported (W.has_failed writer.new) (W.is_flushed writer.new)
         (W.taken writer.old) (W.taken writer.new) text.now }
 {
-    let _ = write_and_flush(writer, text.as_bytes());
-    2
+    if !writer.failed() {
+        let _ = write_and_flush(writer, text.as_bytes());
+    }
 }
 
 /// The exit status for a fault of the capture: 3 for its text, 4 for its source, 5 if memory ran
@@ -125,6 +152,18 @@ fn write_report<W: Sink>(
     write_all(writer, more)?;
     write_and_flush(writer, b"\n")?;
     Ok(())
+}
+
+/// Writes and flushes the line on a fault at a line of the capture. A fault of the writer is
+/// ignored.
+fn report_capture_line<W: Sink>(program: &[u8], error: &ReadError, writer: &mut W)
+    ensures { IsReported (W.has_failed writer.new) (W.is_flushed writer.new)
+        (W.taken writer.old) (W.taken writer.new)
+        (capture_line_report program.now error.now.fault error.now.line) }
+{
+    if !writer.failed() {
+        let _ = write_capture_line(program, error, writer);
+    }
 }
 
 /// Writes and flushes the line on a fault at a line of the capture.

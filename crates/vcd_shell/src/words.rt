@@ -18,8 +18,8 @@ use vcd_core::{ToWrite, write_and_flush};
 pub enum WithoutRun {
     /// They asked for help or the version, and it was shown.
     Shown,
-    /// It could not be shown: standard output took its first `written` bytes.
-    NotShown { written: u128 },
+    /// It could not be shown whole: standard output failed.
+    NotShown,
     /// They are refused, and this text says why.
     Refused(String),
     /// Memory ran out.
@@ -36,8 +36,7 @@ pub fn words_after_name(alloc: Global, words: Args) -> Result<Vec<String>, Alloc
 /// What words get that `clap` does not accept. Help and the version are shown on standard output;
 /// other words are refused, with `clap`'s text of the error.
 pub fn answer_error<R: Runtime + AllocGlobal>(rt: &R, error: &Error) -> WithoutRun
-    ensures kind { IsWithoutRun (kind_of error.now) result }
-    ensures no_memory { kind_of error.now ≡ ErrorKind.OutOfMemory → result ≡ WithoutRun.NoMemory }
+    ensures { IsWithoutRun (kind_of error.now) result }
 {
     if error.kind() == ErrorKind::OutOfMemory {
         return WithoutRun::NoMemory;
@@ -92,8 +91,6 @@ fn show_text<R: Runtime>(rt: &R, text: &str) -> WithoutRun
 {
     match write_and_flush(&mut ToWrite::new(io::writer(rt)), text.as_bytes()) {
         Ok(()) => WithoutRun::Shown,
-        Err(short) => WithoutRun::NotShown {
-            written: short.written,
-        },
+        Err(_) => WithoutRun::NotShown,
     }
 }

@@ -2,37 +2,20 @@
 use Rattle.std.specs.Prelude.{ℕ, List, [], ◌∷◌, codes, true, if◌then◌else◌, Option, Some, None}
 use Rattle.std.specs.Option.{option_copied}
 use Rattle.std.specs.Str.Parse.{digits_value, without_leading_plus}
-use Rattle.clap.specs.Words.{App, Rule, Text, first_of, matches_of, new_app, new_rule, one_of}
+use Rattle.clap.specs.Words.{App, Rule, Text, first_of, matches_of, new_app, one_of}
 use Rattle.clap.specs.Simple.{new_shape}
 use Rattle.clap.specs.ValueTests.{is_unsigned_in}
 use Rattle.clap.specs.declared.builder.action.ArgAction.TheVariants.{Set}
 use Rattle.clap.specs.declared.builder.value_parser.ValueParser.TheVariants as parsers
 use Rattle.vcd_journal.specs.declared.step.TheConstants.{DEPTH_LIMIT}
+use Rattle.vcd_shell.specs.Options.{input_option, output_option, value_option}
 use Rattle.vcdedit.specs.declared.shell.command_line.Options.{Options}
-
--- `-i FILE` or `--input-file FILE`, where 105 is the letter `i`
-abbrev pub input_option : Rule
-input_option = record
-    (new_rule (codes "input-file"))
-    { long = Some (codes "input-file"); short = Some 105; value_names = 1 }
-
--- `--script FILE`
-abbrev pub script_option : Rule
-script_option = record (new_rule (codes "script")) { long = Some (codes "script"); value_names = 1 }
-
--- `-o FILE` or `--output-file FILE`, where 111 is the letter `o`
-abbrev pub output_option : Rule
-output_option = record
-    (new_rule (codes "output-file"))
-    { long = Some (codes "output-file"); short = Some 111; value_names = 1 }
 
 -- `--depth N`, a number from 1 to the limit, by default 100
 abbrev pub depth_option : Rule
 depth_option = record
-    (new_rule (codes "depth")) {
-      long = Some (codes "depth");
+    (value_option (codes "depth")) {
       action = Some Set;
-      value_names = 1;
       defaults = codes "100" ∷ [];
       parser = Some (parsers.Unsigned 1 DEPTH_LIMIT);
     }
@@ -41,7 +24,7 @@ depth_option = record
 abbrev pub option_app : App
 option_app = record (new_app (codes "vcdedit")) {
   top = record (new_shape (codes "vcdedit")) {
-    rules = input_option ∷ script_option ∷ output_option ∷ depth_option ∷ [];
+    rules = input_option ∷ value_option (codes "script") ∷ output_option ∷ depth_option ∷ [];
     no_binary_name = true;
     has_version = true;
   };

@@ -1,9 +1,8 @@
 //! `vcdedit`: edits four-state value change dump files (IEEE 1364-2005, 18.2) by script.
 //!
 //! It reads a capture and a script, answers with replies, and writes the edited capture. `run` does
-//! all that with devices that it is given; `status_of_program` opens files for it, and its ending
-//! is one that the words of the command line can have. `script` reads what a line asks for, and
-//! `replies` makes the reply to it.
+//! all that with devices that it is given; `Vcdedit` opens files for it, and says how words of the
+//! command line may end. `script` reads what a line asks for, and `replies` makes the reply to it.
 #![tactic(auto)]
 
 mod laws;
@@ -19,12 +18,14 @@ pub use running::{
     RunError, RunRefusal, RunTexts, SCRIPT_LIMIT, Stage, Summary, run, run_on_bytes,
 };
 pub use script::{Command, LineError, parse_line};
-pub use shell::{report, status_of_program};
+pub use shell::{Vcdedit, report};
 use std::env;
 use std::process::ExitCode;
 use vcd_core::ToWrite;
+use vcd_shell::status_of_program;
 
 fn main(rt: HostRuntime) -> ExitCode {
     let words = env::args(&rt);
-    ExitCode::from(status_of_program(&rt, words, &mut ToWrite::new(rt.stderr())))
+    let mut errors = ToWrite::new(rt.stderr());
+    ExitCode::from(status_of_program::<Vcdedit, _, _>(&rt, words, &mut errors))
 }

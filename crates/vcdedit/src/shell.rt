@@ -2,10 +2,9 @@
 //! error.
 
 mod command_line;
-mod ending;
 mod opening;
 mod program;
 mod reporting;
 
-pub use program::status_of_program;
+pub use program::Vcdedit;
 pub use reporting::report;

@@ -5,24 +5,13 @@ use Rattle.clap.specs.Words.{App, Rule, Text, all_of, first_of, matches_of, new_
 use Rattle.clap.specs.Words.{with_rule}
 use Rattle.clap.specs.Simple.{new_shape}
 use Rattle.clap.specs.declared.builder.action.ArgAction.TheVariants.{Append}
+use Rattle.vcd_shell.specs.Options.{input_option, output_option, value_option}
 use Rattle.vcdedit_narrow.specs.declared.command_line.Options.{Options}
 use Rattle.vcdedit_narrow.specs.Requests.{texts}
-
--- `--NAME VALUE`
-abbrev pub value_option : Text → Rule
-value_option name = record (new_rule name) { long = Some name; value_names = 1 }
 
 -- `--NAME VALUE`, any number of times
 abbrev pub list_option : Text → Rule
 list_option name = record (value_option name) { action = Some Append }
-
--- `-i FILE` or `--input-file FILE`, where 105 is the letter `i`
-abbrev pub input_option : Rule
-input_option = record (value_option (codes "input-file")) { short = Some 105 }
-
--- `-o FILE` or `--output-file FILE`, where 111 is the letter `o`
-abbrev pub output_option : Rule
-output_option = record (value_option (codes "output-file")) { short = Some 111 }
 
 -- `CAPTURE`, without an option
 abbrev pub capture_argument : Rule

@@ -1,10 +1,11 @@
 -- How narrowing ends: for each ending, the state of the source and of the writer. The rules are the
 -- project's own.
-use Rattle.std.specs.Prelude.{◌≡◌, ◌⊎◌, ℕ, ◌<◌, ◌≤◌, false, true, List, ◌++◌, length, map, decimal}
-use Rattle.std.specs.Prelude.{Result, Ok, Err, IfSome}
+use Rattle.std.specs.Prelude.{◌≡◌, ◌⊎◌, ℕ, ◌<◌, ◌≤◌, ◌^◌, false, true, List, ◌++◌, length, map}
+use Rattle.std.specs.Prelude.{decimal, Result, Ok, Err, IfSome}
 use Rattle.vcd_core.specs.Contents.{Contents}
 use Rattle.vcd_text.specs.declared.fault.Fault.TheVariants as faults
 use Rattle.vcd_text.specs.declared.fault.ReadError.{ReadError}
+use Rattle.vcd_text.specs.declared.fault.WriteError.TheVariants as write_errors
 use Rattle.vcd_text.specs.declared.reading.TheConstants.{LONG_FILE_LIMIT, VARIABLE_LIMIT}
 use Rattle.vcd_core.specs.declared.capture.TheConstants.{SIGNAL_LIMIT}
 use Rattle.vcd_text.specs.declared.reading.choice.TickRange.{TickRange}
@@ -14,8 +15,7 @@ use Rattle.vcd_text.specs.Parts.{HasDeclarations, IsPartRefusal, signals_of}
 use Rattle.vcd_text.specs.Parts.{without_changes}
 use Rattle.vcd_text.specs.Text.{text}
 use Rattle.vcd_text.specs.Words.{words_of}
-use Rattle.vcd_text.specs.WriteEnds.{TookBefore}
-use Rattle.vcd_shell.specs.Devices.{DeviceEnd, HasText, IsRead, IsUntouched}
+use Rattle.vcd_shell.specs.Devices.{DeviceEnd, HasPrefix, HasText, IsRead, IsUntouched}
 use Rattle.vcdedit_narrow.specs.declared.narrow_error.NarrowError.{NarrowError}
 use Rattle.vcdedit_narrow.specs.declared.narrow_error.NarrowError.TheVariants as errors
 use Rattle.vcdedit_narrow.specs.declared.narrow_error.Narrowed.{Narrowed}
@@ -92,7 +92,13 @@ module _ (r : Request) (capture out : DeviceEnd) where
   NarrowEnds (Err (errors.Refused refusal said)) = IsUntouched out
       × IfSome capture.before (λ file. IsRefused r file refusal said.items
       ⊎ IsPastEnd r file refusal said.items)
-  -- the writer of the output failed, or memory ran out before the first byte
-  NarrowEnds (Err (errors.Write e)) = IsRead LONG_FILE_LIMIT capture
+  -- memory ran out for the output: none of it is written
+  NarrowEnds (Err (errors.Write write_errors.NoMemory)) = IsRead LONG_FILE_LIMIT capture
+      × IsUntouched out
+      × IfSome capture.before (λ file. (c : Contents) × (skipped : ℕ) × IsNarrowed r file skipped c)
+  -- the writer of the output failed: it took exactly `count` bytes of the output, if a `u128` can
+  -- count these
+  NarrowEnds (Err (errors.Write (write_errors.WriteFault count))) =
+      IsRead LONG_FILE_LIMIT capture × (out.has_failed ≡ true)
       × IfSome capture.before (λ file. (c : Contents) × (skipped : ℕ)
-      × IsNarrowed r file skipped c × TookBefore (text c) out.before out.after out.has_failed e)
+      × IsNarrowed r file skipped c × (length (text c) < 2 ^ 128 → HasPrefix out count (text c)))

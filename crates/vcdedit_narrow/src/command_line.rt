@@ -1,13 +1,12 @@
 //! The words of the command line, as `clap` reads them.
 
-ghost use Rattle.std.specs.Prelude.{◌≡◌, ℕ, false, List, Some, map, IfOk};
-ghost use Rattle.std.specs.String.{string_bytes};
-ghost use Rattle.clap.specs.Words.{FailsBy, app_of, fault_of, found_of, matches_of, new_rule};
-ghost use Rattle.clap.specs.Words.{rows_of, rule_of};
+ghost use Rattle.std.specs.Prelude.{◌≡◌, ℕ, false, List, IfOk};
+ghost use Rattle.clap.specs.Words.{app_of, found_of, matches_of, rows_of, rule_of};
 ghost use Rattle.vcdedit_narrow.specs.CommandLine as spec;
 
-use clap::{Arg, ArgAction, ArgMatches, Command, Error};
+use clap::{Arg, ArgAction, ArgMatches, Command};
 use std::alloc::{AllocError, Global};
+use vcd_shell::{input_option, output_option, value_option};
 
 const VERSION: &str = "1.0.0";
 
@@ -64,19 +63,6 @@ pub struct Options<'m, 'a> {
     pub to: Option<&'a str>,
 }
 
-/// Reads the words after the program's name.
-///
-/// Refused words, and words that ask for help or the version, are an error with `clap`'s text.
-pub fn parse_words<'a>(alloc: Global, words: &'a [String]) -> Result<ArgMatches<'a>, Error>
-    ensures asked { IfOk result (λ m. rows_of (found_of m)
-        ≡ matches_of spec.option_app (map string_bytes words.now)) }
-    ensures faults { FailsBy (fault_of spec.option_app (map string_bytes words.now)) result }
-{
-    let command = command_line(alloc)?;
-    let matches = command.try_get_matches_from(words)?;
-    Ok(matches)
-}
-
 /// The options of accepted words.
 pub fn options_of<'m, 'a>(matches: &'m ArgMatches<'a>) -> Options<'m, 'a>
     ensures { (words : List (List ℕ)) →
@@ -112,7 +98,7 @@ fn with_files<'a>(program: Command<'a>, alloc: Global) -> Result<Command<'a>, Al
 {
     program
         .arg(input_option(alloc))?
-        .arg(output_option(alloc))?
+        .arg(output_option(alloc, OUTPUT_HELP))?
         .arg(capture_argument(alloc))
 }
 
@@ -127,25 +113,7 @@ fn with_window<'a>(program: Command<'a>, alloc: Global) -> Result<Command<'a>, A
         .arg(value_option(alloc, "to", "TIME", TO_HELP))
 }
 
-const INPUT_HELP: &str = "The capture to read; without it, or as `-`, standard input";
-
-/// `-i FILE` or `--input-file FILE`.
-fn input_option<'a>(alloc: Global) -> Arg<'a>
-    ensures rule { rule_of result ≡ spec.input_option }
-    ensures local { result.global ≡ false }
-{
-    value_option(alloc, "input-file", "FILE", INPUT_HELP).short('i')
-}
-
 const OUTPUT_HELP: &str = "The VCD file to write; without it, standard output";
-
-/// `-o FILE` or `--output-file FILE`.
-fn output_option<'a>(alloc: Global) -> Arg<'a>
-    ensures rule { rule_of result ≡ spec.output_option }
-    ensures local { result.global ≡ false }
-{
-    value_option(alloc, "output-file", "FILE", OUTPUT_HELP).short('o')
-}
 
 const CAPTURE_HELP: &str = "The same, without -i";
 
@@ -174,14 +142,3 @@ fn list_option<'a>(alloc: Global, name: &'a str, help: &'a str) -> Arg<'a>
 const FROM_HELP: &str = "The first tick of the window; without it the capture's";
 
 const TO_HELP: &str = "The last tick of the window; without it the capture's";
-
-/// An option that takes a value.
-fn value_option<'a>(alloc: Global, name: &'a str, value: &'a str, help: &'a str) -> Arg<'a>
-    ensures rule { rule_of result ≡ spec.value_option name.now }
-    ensures local { result.global ≡ false }
-{
-    Arg::new(alloc, name)
-        .long(name)
-        .value_name(value)
-        .help(help)
-}

@@ -1,80 +1,70 @@
-//! The program: words in, files opened, a status out.
+//! The program: the capture and the output are opened, and the capture is narrowed.
 
-ghost use Rattle.std.specs.Prelude.{◌≡◌, ◌≤◌, ◌∷◌, [], false, map, drop, IfOk, IfErr, Some, None};
+ghost use Rattle.std.specs.Prelude.{◌≡◌, false, IfOk, IfErr, Some, None};
 ghost use Rattle.std.specs.Option.{option_copied};
-ghost use Rattle.std.specs.String.{string_bytes};
-ghost use Rattle.std.specs.Vec.Iter.{into_iter_items};
-ghost use Rattle.clap.specs.Words.{fault_of};
-ghost use Rattle.clap.specs.declared.error.kind.ErrorKind.TheVariants.{ValueValidation};
 ghost use Rattle.vcd_shell.specs.Devices.{DeviceEnd, device_end};
-ghost use Rattle.vcd_shell.specs.Report.{IsTold};
-ghost use Rattle.vcdedit_narrow.specs.CommandLine.{option_app, options_in};
+ghost use Rattle.vcdedit_narrow.specs.CommandLine.{options_in};
 ghost use Rattle.vcdedit_narrow.specs.NarrowEnds.{NarrowEnds};
-ghost use Rattle.vcdedit_narrow.specs.ProgramEnds.{HasEnding, IsEndingOf, IsEndingWithoutRun};
-ghost use Rattle.vcdedit_narrow.specs.ProgramEnds.{IsOutcomeOf, IsRequest, program_status};
-ghost use Rattle.vcdedit_narrow.specs.ProgramEnds.{program_text, time_asked, words_fault};
+ghost use Rattle.vcdedit_narrow.specs.ProgramEnds.{IsOutcomeOf, IsRequest, time_asked, words_fault};
 
-use crate::command_line::{Options, command_line, options_of, parse_words};
-use crate::ending::{Ending, ending_without_run, report_ending};
+use crate::command_line::{Options, command_line, options_of};
 use crate::narrow::narrow;
-use crate::narrow_error::{NarrowError, Narrowed, WordsFault, no_memory, not_opened};
+use crate::narrow_error::{NarrowError, Narrowed, WordsFault, not_opened};
+use crate::reporting::{PROGRAM, report};
 use crate::request::Request;
 use crate::time::{Time, time_of};
-use std::env::Args;
+use clap::{ArgMatches, Command};
+use std::alloc::{AllocError, Global};
 use std::io;
 use std::rt::Runtime;
 use vcd_core::{END_LIMIT, FromRead, Sink, Source, ToWrite};
-use vcd_shell::{LateFile, answer_bad_words, answer_error, open_capture, words_after_name};
+use vcd_shell::{LateFile, Program, open_capture};
 
-/// Runs the program on the words of its command line, and gives its exit status. What it says of
-/// its run goes to `errors`.
-///
-/// The words are the result of `std::env::args`: the first is the program's name.
-pub fn status_of_program<R: Runtime + AllocGlobal, E: Sink>(
-    rt: &R,
-    words: io::Result<Args>,
-    errors: &mut E,
-) -> u8
-    requires { E.has_failed errors.old ≡ false }
-    ensures most { result ≤ 5 }
-    // the status and the text are those of one ending, which is that of the words
-    ensures reported { (ending : Ending) ×
-        IfOk words (λ args. HasEnding (map string_bytes (drop 1 (into_iter_items args))) ending) ×
-        IfErr words (λ _. IsEndingWithoutRun (ValueValidation ∷ []) ending) ×
-        (result ≡ program_status ending) ×
-        IsTold (E.has_failed errors.new) (E.is_flushed errors.new)
-        (E.taken errors.old) (E.taken errors.new) (program_text ending) }
-{
-    match words {
-        Ok(words) => report_ending(ending_of_words(rt, words), errors),
-        Err(error) => report_ending(ending_of_bad_words(rt, &error), errors),
+/// The program `vcdedit-narrow`.
+pub struct VcdeditNarrow;
+
+impl Program for VcdeditNarrow {
+    ghost use Rattle.std.specs.Prelude.{codes, refl};
+    ghost use Rattle.vcdedit_narrow.specs.CommandLine.{asked_options, option_app};
+    ghost use Rattle.vcdedit_narrow.specs.Report.{status_of, text_of};
+
+    type Outcome = Result<Narrowed, NarrowError>;
+
+    ghost name = { codes "vcdedit-narrow" };
+
+    ghost write_fault = { codes "output: write fault" };
+
+    ghost options = { option_app };
+
+    ghost can_end = { λ words. IsOutcomeOf (asked_options words) };
+
+    ghost status = { status_of };
+
+    ghost text = { text_of };
+
+    ghost is_free = { refl };
+
+    fn name() -> &'static [u8] {
+        PROGRAM
     }
-}
 
-/// The ending if the words could not be read: memory ran out, or one of them is no text.
-fn ending_of_bad_words<R: Runtime + AllocGlobal>(rt: &R, error: &io::Error) -> Ending
-    ensures { IsEndingWithoutRun (ValueValidation ∷ []) result }
-{
-    ending_without_run(answer_bad_words(rt, error, command_line(rt.alloc())))
-}
+    fn write_fault() -> &'static [u8] {
+        b"output: write fault"
+    }
 
-/// Does what the words after the program's name ask for. If they ask for no run, nothing is opened.
-fn ending_of_words<R: Runtime + AllocGlobal>(rt: &R, words: Args) -> Ending
-    // words without a fault are carried out
-    ensures of_run { fault_of option_app (map string_bytes (drop 1 (into_iter_items words))) ≡ [] →
-        IsEndingOf (map string_bytes (drop 1 (into_iter_items words))) result }
-    // and others are not
-    ensures without_run { (fault_of option_app (map string_bytes (drop 1 (into_iter_items words)))
-        ≡ [] → ⊥) →
-        IsEndingWithoutRun (fault_of option_app (map string_bytes (drop 1 (into_iter_items words))))
-        result }
-{
-    let Ok(words) = words_after_name(rt.alloc(), words) else {
-        return Ending::Ended(Err(no_memory()));
-    };
-    match parse_words(rt.alloc(), words.as_slice()) {
-        Ok(matches) => Ending::Ended(narrow_options(rt, &options_of(&matches))),
-        Err(error) => ending_without_run(answer_error(rt, &error)),
+    fn command_line<'a>(alloc: Global) -> Result<Command<'a>, AllocError> {
+        command_line(alloc)
+    }
+
+    fn carry_out<R: Runtime + AllocGlobal>(
+        rt: &R,
+        matches: &ArgMatches<'_>,
+    ) -> Result<Narrowed, NarrowError> {
+        narrow_options(rt, &options_of(matches))
+    }
+
+    fn report<W: Sink>(outcome: &Result<Narrowed, NarrowError>, writer: &mut W) -> u8 {
+        report(outcome, writer)
     }
 }
 

@@ -1,6 +1,6 @@
 //! The exit status of narrowing, and its text on standard error.
 
-ghost use Rattle.std.specs.Prelude.{◌≡◌, ◌≤◌, false};
+ghost use Rattle.std.specs.Prelude.{◌≡◌, ◌≤◌};
 ghost use Rattle.vcd_shell.specs.Report.{IsReported, IsTold};
 ghost use Rattle.vcdedit_narrow.specs.Report as spec;
 
@@ -9,12 +9,11 @@ use itoa::Buffer;
 use vcd_core::Sink;
 
 /// The program's name, as its lines on standard error begin.
-const PROGRAM: &[u8] = b"vcdedit-narrow";
+pub const PROGRAM: &[u8] = b"vcdedit-narrow";
 
 /// Writes what is said of narrowing to standard error, flushes it, and returns the exit status. A
 /// fault of the writer is ignored. It takes no memory.
 pub fn report<W: Sink>(ended: &Result<Narrowed, NarrowError>, writer: &mut W) -> u8
-    requires { W.has_failed writer.old ≡ false }
     ensures most { result ≤ 5 }
     ensures status { result ≡ spec.status_of ended.now }
     ensures text { IsTold (W.has_failed writer.new) (W.is_flushed writer.new)
@@ -34,7 +33,6 @@ pub fn report<W: Sink>(ended: &Result<Narrowed, NarrowError>, writer: &mut W) ->
 
 /// Writes how many variables are left out of any capture, if there are some.
 fn report_skipped<W: Sink>(skipped: u64, writer: &mut W)
-    requires { W.has_failed writer.old ≡ false }
     ensures { IsTold (W.has_failed writer.new) (W.is_flushed writer.new)
         (W.taken writer.old) (W.taken writer.new) (spec.skipped_text skipped) }
 {
@@ -50,7 +48,6 @@ fn report_skipped<W: Sink>(skipped: u64, writer: &mut W)
 
 /// Writes why a capture was not narrowed.
 fn report_error<W: Sink>(error: &NarrowError, writer: &mut W)
-    requires { W.has_failed writer.old ≡ false }
     ensures { IsReported (W.has_failed writer.new) (W.is_flushed writer.new)
         (W.taken writer.old) (W.taken writer.new) (spec.error_text error.now) }
 {

@@ -1,16 +1,15 @@
 //! The words of the command line, as `clap` reads them.
 
-ghost use Rattle.std.specs.Prelude.{◌≡◌, ◌≤◌, ℕ, false, codes, List, Some, map, IfOk};
-ghost use Rattle.std.specs.String.{string_bytes};
-ghost use Rattle.clap.specs.Words.{FailsBy, app_of, fault_of, found_of, matches_of};
-ghost use Rattle.clap.specs.Words.{new_rule, one_text, rows_of, rule_of};
-ghost use Rattle.vcdedit.specs.CommandLine.{asked_options, depth_asked, depth_option, input_option};
-ghost use Rattle.vcdedit.specs.CommandLine.{option_app, options_in, output_option, script_option};
+ghost use Rattle.std.specs.Prelude.{◌≡◌, ◌≤◌, ℕ, false, codes, List, IfOk};
+ghost use Rattle.clap.specs.Words.{app_of, found_of, matches_of, one_text, rows_of, rule_of};
+ghost use Rattle.vcdedit.specs.CommandLine.{asked_options, depth_asked, depth_option, option_app};
+ghost use Rattle.vcdedit.specs.CommandLine.{options_in};
 
 use clap::builder::ValueParser;
-use clap::{Arg, ArgAction, ArgMatches, Command, Error};
+use clap::{Arg, ArgAction, ArgMatches, Command};
 use std::alloc::{AllocError, Global};
 use vcd_journal::DEPTH_LIMIT;
+use vcd_shell::{input_option, output_option, value_option};
 
 const VERSION: &str = "1.0.0";
 
@@ -86,23 +85,8 @@ pub struct Options<'a> {
     pub depth: u64,
 }
 
-/// Reads the words after the program's name.
-///
-/// Refused words, and words that ask for help or the version, are an error with `clap`'s text.
-pub fn parse_words<'a>(alloc: Global, words: &'a [String]) -> Result<Options<'a>, Error>
-    ensures asked { IfOk result (λ o.
-        options_in o ≡ asked_options (map string_bytes words.now)) }
-    ensures faults { FailsBy (fault_of option_app (map string_bytes words.now)) result }
-    ensures depth_least { IfOk result (λ o. 1 ≤ o.depth) }
-    ensures depth_most { IfOk result (λ o. o.depth ≤ DEPTH_LIMIT) }
-{
-    let command = command_line(alloc)?;
-    let matches = command.try_get_matches_from(words)?;
-    Ok(options_of(&matches))
-}
-
 /// The options of accepted words.
-fn options_of<'a>(matches: &ArgMatches<'a>) -> Options<'a>
+pub fn options_of<'a>(matches: &ArgMatches<'a>) -> Options<'a>
     ensures asked { (words : List (List ℕ)) →
         rows_of (found_of matches.now) ≡ matches_of option_app words →
         options_in result ≡ asked_options words }
@@ -141,53 +125,15 @@ pub fn command_line<'a>(alloc: Global) -> Result<Command<'a>, AllocError>
         .after_help(AFTER_HELP);
     program
         .arg(input_option(alloc))?
-        .arg(script_option(alloc))?
-        .arg(output_option(alloc))?
+        .arg(value_option(alloc, "script", "FILE", SCRIPT_HELP))?
+        .arg(output_option(alloc, OUTPUT_HELP))?
         .arg(depth_option(alloc))
-}
-
-const INPUT_HELP: &str = "The capture to read; without it, or as `-`, standard input";
-
-/// `-i FILE` or `--input-file FILE`.
-fn input_option<'a>(alloc: Global) -> Arg<'a>
-    ensures rule { rule_of result ≡ input_option }
-    ensures local { result.global ≡ false }
-{
-    file_option(alloc, "input-file", INPUT_HELP).short('i')
 }
 
 const SCRIPT_HELP: &str = "The script to carry out; without it, the one line `list`";
 
-/// `--script FILE`.
-fn script_option<'a>(alloc: Global) -> Arg<'a>
-    ensures rule { rule_of result ≡ script_option }
-    ensures local { result.global ≡ false }
-{
-    file_option(alloc, "script", SCRIPT_HELP)
-}
-
 const OUTPUT_HELP: &str =
     "The VCD file to write when the script has run; without it none is written";
-
-/// `-o FILE` or `--output-file FILE`.
-fn output_option<'a>(alloc: Global) -> Arg<'a>
-    ensures rule { rule_of result ≡ output_option }
-    ensures local { result.global ≡ false }
-{
-    file_option(alloc, "output-file", OUTPUT_HELP).short('o')
-}
-
-/// An option that takes a path.
-fn file_option<'a>(alloc: Global, name: &'a str, help: &'a str) -> Arg<'a>
-    ensures rule { rule_of result ≡ record (new_rule name.now)
-        { long = Some name.now; value_names = 1 } }
-    ensures local { result.global ≡ false }
-{
-    Arg::new(alloc, name)
-        .long(name)
-        .value_name("FILE")
-        .help(help)
-}
 
 /// `--depth N`, a number from 1 to the limit. Without it the depth is 100.
 fn depth_option<'a>(alloc: Global) -> Arg<'a>

@@ -1,9 +1,9 @@
 //! The script that the command line names.
 
-ghost use Rattle.std.specs.Prelude.{IfOk, IfErr, IsSome};
-ghost use Rattle.vcdedit.specs.Opening.{ScriptComesFrom};
+ghost use Rattle.std.specs.Prelude.{◌≡◌, Some, None, IfOk, IfErr, IsSome};
+ghost use Rattle.vcdedit.specs.Opening.{ScriptComesFrom, default_script};
 
-use std::io::Input;
+use std::io::{Input, Read};
 use std::rt::Files;
 use std::{fs, io};
 use vcd_shell::Origin;
@@ -17,6 +17,8 @@ pub fn open_script<R: Files + Input>(
     path: Option<&str>,
 ) -> io::Result<Origin<R::Reader, R::File>>
     ensures origin { IfOk result (ScriptComesFrom path.entry) }
+    ensures default { path.entry ≡ None → IfOk result (λ script.
+        ⟦<Origin<R::Reader, R::File> as Read>⟧.remaining script ≡ Some default_script) }
     ensures named { IfErr result (λ _. IsSome path.entry) }
 {
     match path {

@@ -1,30 +1,23 @@
-//! The program: words in, files opened, a status out.
+//! The program: its inputs and its output are opened, and the script is run.
 
-ghost use Rattle.std.specs.Prelude.{◌≡◌, ◌≤◌, ◌⊎◌, ◌∷◌, false, [], Option, is_some, map, drop, Err};
-ghost use Rattle.std.specs.Prelude.{IfOk, IfErr};
-ghost use Rattle.std.specs.String.{string_bytes};
-ghost use Rattle.std.specs.Vec.Iter.{into_iter_items};
-ghost use Rattle.clap.specs.Words.{fault_of};
-ghost use Rattle.vcdedit.specs.CommandLine.{option_app, options_in};
-ghost use Rattle.clap.specs.declared.error.kind.ErrorKind.TheVariants.{ValueValidation};
-ghost use Rattle.vcd_shell.specs.Report.{IsTold};
-ghost use Rattle.vcdedit.specs.ProgramEnds.{HasEnding, IsEndingOf, IsEndingWithoutRun, ending_of};
-ghost use Rattle.vcdedit.specs.ProgramEnds.{IsOutcomeOn, IsOutcomeOfOptions};
-ghost use Rattle.vcdedit.specs.ProgramEnds.{program_status, program_text};
+ghost use Rattle.std.specs.Prelude.{◌≡◌, ◌≤◌, ◌⊎◌, false, Option, is_some, Err};
 ghost use Rattle.vcd_shell.specs.Devices.{DeviceEnd, device_end};
+ghost use Rattle.vcdedit.specs.CommandLine.{options_in};
+ghost use Rattle.vcdedit.specs.ProgramEnds.{IsOutcomeOn, IsOutcomeOfOptions};
 ghost use Rattle.vcdedit.specs.RunEnds.{RunEnds};
 
 use crate::running::{RunError, Summary, run};
-use crate::shell::command_line::{Options, command_line, parse_words};
-use crate::shell::ending::{Ending, NO_MEMORY, ending_without_run, report_ending};
+use crate::shell::command_line::{Options, command_line, options_of};
 use crate::shell::opening::open_script;
-use std::env::Args;
+use crate::shell::reporting::{PROGRAM, report, status_when_done};
+use clap::{ArgMatches, Command};
+use std::alloc::{AllocError, Global};
 use std::io;
 use std::io::BufWriter;
 use std::rt::Runtime;
 use vcd_core::{FromRead, Sink, Source, ToWrite};
 use vcd_journal::DEPTH_LIMIT;
-use vcd_shell::{LateFile, answer_bad_words, answer_error, open_capture, words_after_name};
+use vcd_shell::{LateFile, Program, open_capture};
 use vcd_text::{Fault, ReadError};
 
 /// How many bytes of replies are buffered before they are written.
@@ -36,65 +29,57 @@ const NOT_OPENED: RunError = RunError::Capture(ReadError {
     fault: Fault::ReadFault,
 });
 
-/// Runs the program on the words of its command line, and gives its exit status. If it fails, the
-/// text that says why goes to `errors`.
-///
-/// The words are the result of `std::env::args`: the first is the program's name.
-pub fn status_of_program<R: Runtime + AllocGlobal, E: Sink>(
-    rt: &R,
-    words: io::Result<Args>,
-    errors: &mut E,
-) -> u8
-    requires { E.has_failed errors.old ≡ false }
-    ensures most { result ≤ 5 }
-    // the status and the text are those of one ending, which is that of the words
-    ensures reported { (ending : Ending) ×
-        IfOk words (λ args. HasEnding (map string_bytes (drop 1 (into_iter_items args))) ending) ×
-        IfErr words (λ _. IsEndingWithoutRun (ValueValidation ∷ []) ending) ×
-        (result ≡ program_status ending) ×
-        IsTold (E.has_failed errors.new) (E.is_flushed errors.new)
-        (E.taken errors.old) (E.taken errors.new) (program_text ending) }
-{
-    match words {
-        Ok(words) => report_ending(ending_of_words(rt, words), errors),
-        Err(error) => report_ending(ending_of_bad_words(rt, &error), errors),
+/// Memory ran out before the run began.
+const NO_MEMORY: RunError = RunError::NoMemory { line: 0 };
+
+/// The program `vcdedit`.
+pub struct Vcdedit;
+
+impl Program for Vcdedit {
+    ghost use Rattle.std.specs.Prelude.{codes, refl};
+    ghost use Rattle.vcdedit.specs.CommandLine.{asked_options, option_app};
+    ghost use Rattle.vcdedit.specs.ProgramEnds.{outcome_status, outcome_text};
+
+    type Outcome = Result<Summary, RunError>;
+
+    ghost name = { codes "vcdedit" };
+
+    ghost write_fault = { codes "replies: write fault" };
+
+    ghost options = { option_app };
+
+    ghost can_end = { λ words. IsOutcomeOfOptions (asked_options words) };
+
+    ghost status = { outcome_status };
+
+    ghost text = { outcome_text };
+
+    ghost is_free = { refl };
+
+    fn name() -> &'static [u8] {
+        PROGRAM
     }
-}
 
-/// The ending if the words could not be read: memory ran out, or one of them is no text.
-fn ending_of_bad_words<R: Runtime + AllocGlobal>(rt: &R, error: &io::Error) -> Ending
-    ensures { IsEndingWithoutRun (ValueValidation ∷ []) result }
-{
-    ending_without_run(answer_bad_words(rt, error, command_line(rt.alloc())))
-}
-
-/// Does what the words after the program's name ask for. If they ask for no run, nothing is opened.
-fn ending_of_words<R: Runtime + AllocGlobal>(rt: &R, words: Args) -> Ending
-    // words without a fault are run
-    ensures of_run { fault_of option_app (map string_bytes (drop 1 (into_iter_items words))) ≡ [] →
-        IsEndingOf (map string_bytes (drop 1 (into_iter_items words))) result }
-    // and others are not
-    ensures without_run { (fault_of option_app (map string_bytes (drop 1 (into_iter_items words)))
-        ≡ [] → ⊥) →
-        IsEndingWithoutRun (fault_of option_app (map string_bytes (drop 1 (into_iter_items words))))
-        result }
-{
-    let Ok(words) = words_after_name(rt.alloc(), words) else {
-        return Ending::Failed(NO_MEMORY);
-    };
-    match parse_words(rt.alloc(), words.as_slice()) {
-        Ok(options) => ending_of_run(run_options(rt, &options)),
-        Err(error) => ending_without_run(answer_error(rt, &error)),
+    fn write_fault() -> &'static [u8] {
+        b"replies: write fault"
     }
-}
 
-/// The ending that the outcome of a run gives.
-fn ending_of_run(outcome: Result<Summary, RunError>) -> Ending
-    ensures { result ≡ ending_of outcome }
-{
-    match outcome {
-        Ok(summary) => Ending::Done(summary),
-        Err(error) => Ending::Failed(error),
+    fn command_line<'a>(alloc: Global) -> Result<Command<'a>, AllocError> {
+        command_line(alloc)
+    }
+
+    fn carry_out<R: Runtime + AllocGlobal>(
+        rt: &R,
+        matches: &ArgMatches<'_>,
+    ) -> Result<Summary, RunError> {
+        run_options(rt, &options_of(matches))
+    }
+
+    fn report<W: Sink>(outcome: &Result<Summary, RunError>, writer: &mut W) -> u8 {
+        match outcome {
+            Ok(summary) => status_when_done(summary),
+            Err(error) => report(error, writer),
+        }
     }
 }
 

@@ -1,6 +1,6 @@
 //! The report of a run: its exit status, and the line on standard error.
 
-ghost use Rattle.std.specs.Prelude.{◌≡◌, ◌≤◌, false};
+ghost use Rattle.std.specs.Prelude.{◌≡◌, ◌≤◌};
 ghost use Rattle.vcd_shell.specs.Report.{IsReported};
 ghost use Rattle.vcdedit.specs.Report.{done_status, error_report, error_status};
 
@@ -8,12 +8,11 @@ use crate::running::{RunError, Summary};
 use vcd_core::Sink;
 
 /// The program's name, as its lines on standard error begin.
-const PROGRAM: &[u8] = b"vcdedit";
+pub const PROGRAM: &[u8] = b"vcdedit";
 
 /// Writes the line that says what ended a run, flushes the writer, and returns the exit status. A
 /// fault of the writer is ignored. It takes no memory.
 pub fn report<W: Sink>(error: &RunError, writer: &mut W) -> u8
-    requires { W.has_failed writer.old ≡ false }
     ensures most { result ≤ 5 }
     ensures status { result ≡ error_status error.now }
     ensures line { IsReported (W.has_failed writer.new) (W.is_flushed writer.new)
@@ -46,7 +45,6 @@ fn error_status(error: &RunError) -> u8
 
 /// Writes and flushes the line on what ended a run.
 fn report_error<W: Sink>(error: &RunError, writer: &mut W)
-    requires { W.has_failed writer.old ≡ false }
     ensures { IsReported (W.has_failed writer.new) (W.is_flushed writer.new)
         (W.taken writer.old) (W.taken writer.new) (error_report error.now) }
 {

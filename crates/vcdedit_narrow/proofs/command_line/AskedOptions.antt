@@ -1,17 +1,11 @@
 -- The getters read from the matches what the words ask for.
-use Rattle.std.proofs.Common.{◌≡◌, ◌∙◌, List, Option, refl, true}
+use Rattle.std.proofs.Common.{◌≡◌, ◌∙◌, List, Option, refl}
 use Rattle.std.specs.Prelude.{option_map}
 use Rattle.std.specs.Borrow.{Bor}
-use Rattle.clap.specs.Words.{Text, first_of, first_value, found_of, is_simple, is_simple_and_free, rows_of}
+use Rattle.clap.specs.Words.{Text, first_of, first_value, found_of, rows_of}
 use Rattle.clap.specs.declared.parser.matches.ArgMatches.{ArgMatches}
 use Rattle.clap.proofs.WalkLemmas.{first_value-rows}
-use Rattle.vcdedit_narrow.specs.CommandLine.{AskedOptions, option_app}
-
-pub simple : is_simple option_app ≡ true
-simple = refl
-
-pub free : is_simple_and_free option_app ≡ true
-free = refl
+use Rattle.vcdedit_narrow.specs.CommandLine.{AskedOptions}
 
 -- a getter of one value reads it of the rows
 pub value_read : (m : ArgMatches) (r : Option (Bor Text)) (id : Text) → option_map (λ s. s.now) r ≡ first_value

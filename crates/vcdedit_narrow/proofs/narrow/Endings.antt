@@ -10,6 +10,7 @@ use Rattle.vcd_core.specs.CaptureContents.{contents}
 use Rattle.vcd_text.specs.declared.fault.Fault.TheVariants as faults
 use Rattle.vcd_text.specs.declared.fault.ReadError.{ReadError}
 use Rattle.vcd_text.specs.declared.fault.WriteError.{WriteError}
+use Rattle.vcd_text.specs.declared.fault.WriteError.TheVariants as write_errors
 use Rattle.vcd_text.specs.declared.reading.Loaded.{Loaded}
 use Rattle.vcd_text.specs.declared.reading.TheConstants.{LONG_FILE_LIMIT, VARIABLE_LIMIT}
 use Rattle.vcd_core.specs.declared.capture.TheConstants.{SIGNAL_LIMIT}
@@ -256,7 +257,18 @@ pub not_written : (r : Request) (capture out : DeviceEnd) (c : Contents) (skippe
     → IsToWrite r capture c skipped → TookBefore (text c) out.before out.after out.has_failed e
     → NarrowEnds r capture out (Err (errors.Write e))
 unfolding NarrowEnds
-not_written r capture out c skipped e ready took = (
+not_written r capture out c skipped write_errors.NoMemory ready took = (
   ready.0,
-  if_some capture.before _ _ (λ file is. (c, skipped, is, took)) ready.1,
+  took,
+  if_some capture.before _ _ (λ file is. (c, skipped, is)) ready.1,
+)
+not_written r capture out c skipped (write_errors.WriteFault count) ready took = (
+  ready.0,
+  took.1,
+  if_some capture.before _ _ (λ file is. (
+    c,
+    skipped,
+    is,
+    λ few. let some = took.0 few in (some.1, some.0),
+  )) ready.1,
 )

@@ -1,5 +1,5 @@
 -- The five pieces, one after another, are the line.
-use Rattle.std.proofs.Common.{◌++◌, append_assoc, subst, ap, codes, List, ℕ}
+use Rattle.std.proofs.Common.{◌++◌, append_assoc, subst, codes}
 use Rattle.std.specs.Io.KnownBytes.{Appends}
 use Rattle.std.proofs.KnownBytes.{Appends-trans}
 use Rattle.vcd_shell.proofs.reporting.write_report.Goals as goal

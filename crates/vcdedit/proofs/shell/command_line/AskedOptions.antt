@@ -1,19 +1,12 @@
 -- The getters read from the matches what the words ask for.
-use Rattle.std.proofs.Common.{◌≡◌, ◌∙◌, ap, ap₂, ℕ, List, Option, refl, true, codes}
+use Rattle.std.proofs.Common.{◌≡◌, ◌∙◌, ap, ap₂, ℕ, List, Option, codes}
 use Rattle.std.specs.Prelude.{option_map}
 use Rattle.std.specs.Borrow.{Bor}
-use Rattle.clap.specs.Words.{Text, first_of, first_value, found_of, is_simple, is_simple_and_free}
-use Rattle.clap.specs.Words.{matches_of, one_of}
-use Rattle.clap.specs.Words.{one_text, rows_of}
+use Rattle.clap.specs.Words.{Text, first_of, first_value, found_of, matches_of, one_of, one_text}
+use Rattle.clap.specs.Words.{rows_of}
 use Rattle.clap.specs.declared.parser.matches.ArgMatches.{ArgMatches}
 use Rattle.clap.proofs.WalkLemmas.{first_value-rows, one_text-rows}
 use Rattle.vcdedit.specs.CommandLine.{asked_options, depth_asked, option_app, options_in}
-
-pub simple : is_simple option_app ≡ true
-simple = refl
-
-pub free : is_simple_and_free option_app ≡ true
-free = refl
 
 -- the options that the getters read
 pub read_options : (m : ArgMatches) (words : List Text) (input script output : Option (Bor Text)) (depth : ℕ)

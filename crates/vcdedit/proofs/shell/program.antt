@@ -1,2 +1,0 @@
--- Lemmas of `shell/program`.
-pub mod EndingOfWords

@@ -1,2 +1,0 @@
--- Lemmas of `program`.
-pub mod Refused
