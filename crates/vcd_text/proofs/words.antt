@@ -1,2 +1,3 @@
 -- Lemmas of `words`.
 pub mod WordsInTurn
+pub mod WordsByBytes

@@ -4,7 +4,7 @@ use Rattle.std.specs.Prelude.{◌≡◌, ℕ, ◌-◌, Bool, true, false, not, �
 use Rattle.std.specs.Prelude.{nat_lt, nat_le, []}
 use Rattle.std.specs.Prelude.{if◌then◌else◌, List, ◌∷◌, ◌++◌, map, length, take, filter, find}
 use Rattle.std.specs.Prelude.{Option, Some, None, is_some}
-use Rattle.std.specs.Prelude.{IsTrue, option_to_list, bytes_eq}
+use Rattle.std.specs.Prelude.{IsTrue, option_to_list, bytes_eq, codes, fold}
 use Rattle.std.specs.List.{list_all}
 use Rattle.vcd_core.specs.declared.bit.Bit.{Bit}
 use Rattle.vcd_core.specs.declared.capture.Header.{Header}
@@ -26,7 +26,7 @@ use Rattle.vcd_text.specs.Items.{Item, entry, timescale, scope, upscope, variabl
 use Rattle.vcd_text.specs.Items.{stamp, scalar}
 use Rattle.vcd_text.specs.Items.{vector, real_or_string, dump_word, other, spellings}
 use Rattle.vcd_text.specs.Items.{has_no_end_word, dump_words}
-use Rattle.vcd_text.specs.Items.{is_other, timescale_of, vector_prefixes, real_or_string_prefixes}
+use Rattle.vcd_text.specs.Items.{is_other, timescale_of}
 
 -- ---- the state of a file
 
@@ -72,8 +72,7 @@ initial_state limit =
 
 -- ---- variables
 
--- whether a variable is skipped: for its kind, or because it has no bit or too many (the project's
--- own)
+-- whether a variable is skipped (the project's own): for its kind, or for no bit or too many
 abbrev pub is_skipped : VariableDeclaration → Bool
 is_skipped d = is_skipped_kind d.kind || (d.size == 0 || nat_lt WIDTH_LIMIT d.size)
 
@@ -86,8 +85,7 @@ abbrev pub has_good_size : List (List ℕ) → Bool
 has_good_size (kind ∷ size ∷ words) = is_number size
 has_good_size words = true
 
--- the variable that the words of a `$var` declare: kind, size, code, and one or more words of the
--- name
+-- the variable that the words of a `$var` declare: kind, size, code, and the words of its name
 abbrev pub declaration_of : ParseState → List (List ℕ) → Option VariableDeclaration
 declaration_of c (kind ∷ size ∷ code ∷ name ∷ names) =
     Some (record {
@@ -111,10 +109,6 @@ may_have_code (Some a) b =
     (is_skipped a && is_skipped b)
     || (not (is_skipped a) && not (is_skipped b) && (a.size == b.size))
 
--- whether a variable is skipped, or those that are kept are below their limit
-abbrev pub is_within_limit : (limit : ℕ) → List VariableDeclaration → VariableDeclaration → Bool
-is_within_limit limit declared d = is_skipped d || nat_lt (length (kept_variables declared)) limit
-
 -- ---- the conditions of an item
 
 -- whether an item can stand here, whatever its tests give: what is decided before its last word. A
@@ -128,8 +122,8 @@ fits c (variable words) = not c.in_body && (has_no_end_word words && has_good_si
 fits c end_definitions = not c.in_body
 fits c (stamp digits) = c.in_body
 fits c (scalar digit code) = c.in_body && (is_binary_digit digit && nat_lt 0 (length code))
-fits c (vector first digits code) = c.in_body && is_among vector_prefixes first
-fits c (real_or_string first text code) = c.in_body && is_among real_or_string_prefixes first
+fits c (vector first digits code) = c.in_body && is_among (codes "bB") first
+fits c (real_or_string first text code) = c.in_body && is_among (codes "rRsS") first
 fits c (dump_word word) = c.in_body && is_one_of dump_words word
 fits c (other word words) = is_other c.in_body word && has_no_end_word words
 
@@ -138,7 +132,7 @@ abbrev pub variable_tests : ParseState → Option VariableDeclaration → List (
 variable_tests c None = (BadVar unless false) ∷ []
 variable_tests c (Some d) =
     (MixedCode unless may_have_code (variable_of c d.code) d)
-    ∷ (TooManySignals unless is_within_limit c.limit c.declared d)
+    ∷ (TooManySignals unless (is_skipped d || nat_lt (length (kept_variables c.declared)) c.limit))
     ∷ []
 
 -- the tests of digits for the variable of a code: a skipped one takes any, a kept one a value that
@@ -204,8 +198,7 @@ state_after_item c item = c
 
 -- the state after a list of items
 abbrev pub state_after : ParseState → List Item → ParseState
-state_after c [] = c
-state_after c (i ∷ is) = state_after (state_after_item c i) is
+state_after c items = fold state_after_item c items
 
 -- the conditions of each item hold in turn
 abbrev pub AllowsAll : ParseState → List Item → Type 0

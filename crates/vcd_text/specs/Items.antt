@@ -19,13 +19,9 @@ use Rattle.vcd_core.specs.declared.capture.TimeUnit.TheVariants.{Picosecond, Fem
 abbrev pub end_word : List ℕ
 end_word = codes "$end"
 
--- whether a word is `$end`
-abbrev pub is_end_word : List ℕ → Bool
-is_end_word word = bytes_eq word end_word
-
 -- whether none of the words is `$end`
 abbrev pub has_no_end_word : List (List ℕ) → Bool
-has_no_end_word words = list_all (λ word. not (is_end_word word)) words
+has_no_end_word words = list_all (λ word. not (bytes_eq word end_word)) words
 
 -- the words of the changes alone: those of a dump, which `$end` closes
 abbrev pub dump_words : List (List ℕ)
@@ -43,10 +39,6 @@ header_word Date = codes "$date"
 header_word Version = codes "$version"
 header_word Comment = codes "$comment"
 
--- the keywords of header entries
-abbrev pub header_words : List (List ℕ)
-header_words = map header_word (Date ∷ Version ∷ Comment ∷ [])
-
 -- whether a word begins with `$`
 abbrev pub is_command : List ℕ → Bool
 is_command [] = false
@@ -61,15 +53,7 @@ begins_declaration word = is_command word && not (is_one_of dump_words word)
 abbrev pub is_other : (in_body : Bool) → List ℕ → Bool
 is_other in_body word =
     begins_declaration word && not (is_one_of declaration_words word)
-    && (in_body || not (is_one_of header_words word))
-
--- the first bytes of a change by a binary number
-abbrev pub vector_prefixes : List ℕ
-vector_prefixes = codes "bB"
-
--- the first bytes of changes of real numbers and strings
-abbrev pub real_or_string_prefixes : List ℕ
-real_or_string_prefixes = codes "rRsS"
+    && (in_body || not (is_one_of (map header_word (Date ∷ Version ∷ Comment ∷ [])) word))
 
 -- ---- timescales
 
@@ -130,5 +114,4 @@ spelling (other word words) = word ∷ words ++ end_word ∷ []
 
 -- the words of items in a row
 abbrev pub spellings : List Item → List (List ℕ)
-spellings [] = []
-spellings (i ∷ is) = spelling i ++ spellings is
+spellings items = flat_map spelling items

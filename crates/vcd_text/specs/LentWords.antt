@@ -1,6 +1,7 @@
 -- Words whose texts are borrowed: one word, and those of a text that are still to come.
 use Rattle.std.specs.Prelude.{ℕ, ◌+◌, List, [], true}
-use Rattle.vcd_text.specs.Words.{WordOnLine, word_on, words_from}
+use Rattle.vcd_text.specs.Words.{WordOnLine, word_on}
+use Rattle.vcd_text.specs.inside.Words.{words_from}
 use Rattle.vcd_text.specs.Grammar.{word_texts}
 use Rattle.vcd_text.specs.declared.words.WordOnLine.{WordOnLine as LentWord}
 use Rattle.vcd_text.specs.declared.words.Words.{Words}

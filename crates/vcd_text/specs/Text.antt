@@ -5,6 +5,7 @@ use Rattle.std.specs.Prelude.{false, List}
 use Rattle.std.specs.Prelude.{◌∷◌, ◌++◌, length, map, drop, replicate, Option, Some, None, codes}
 use Rattle.std.specs.Prelude.{[]}
 use Rattle.std.specs.List.{filter, flat_map, enumerate_from, join_with_byte, common_prefix_len}
+use Rattle.std.specs.List.{range_with_len}
 use Rattle.std.specs.Str.{bytes_eq}
 use Rattle.std.specs.Cmp.Lexicographic.{pointwise}
 use Rattle.std.specs.Fmt.{decimal}
@@ -25,10 +26,6 @@ abbrev pub item_line : Item → List ℕ
 item_line item = join_with_byte 32 (spelling item) ++ 10 ∷ []
 
 -- ---- declarations
-
--- the header entries (18.2)
-abbrev pub header_items : List Header → List Item
-header_items header = map (λ h. entry h.kind h.words) header
 
 -- the timescale, if there is one: its number and its unit are two words (18.2)
 abbrev pub timescale_items : Option Timescale → List Item
@@ -87,34 +84,27 @@ value_items t positioned = map (λ p. value_item (code_of p.0) (signal_value p.1
 abbrev pub differing : List SignalContents → ℕ → List (ℕ × SignalContents)
 differing signals t = filter (λ p. differs_at t p.1) (enumerate_from 0 signals)
 
--- the stamp of a tick (18.2)
-abbrev pub stamp_of : ℕ → Item
-stamp_of t = stamp (decimal t)
-
 -- the stamp of a tick before its values; without values the end alone has a stamp
 abbrev pub with_stamp : (is_end : Bool) → ℕ → List Item → List Item
 with_stamp false t [] = []
-with_stamp is_end t values = stamp_of t ∷ values
+with_stamp is_end t values = stamp (decimal t) ∷ values
 
 -- the values at tick 0, between `$dumpvars` and `$end` (18.2)
 abbrev pub first_items : List SignalContents → List Item
-first_items signals = stamp_of 0 ∷ dump_word (codes "$dumpvars")
+first_items signals = stamp (decimal 0) ∷ dump_word (codes "$dumpvars")
     ∷ (value_items 0 (enumerate_from 0 signals) ++ dump_word end_word ∷ [])
 
--- the values that differ at each of n ticks, from t on
-unfoldable pub tick_items : List SignalContents → (end : ℕ) → ℕ → ℕ → List Item
-tick_items signals end t zero = []
-tick_items signals end t (suc n) =
-    with_stamp (t == end) t (value_items t (differing signals t))
-    ++ tick_items signals end (suc t) n
+-- the values that differ at a tick past 0, after its stamp (18.2)
+abbrev pub tick_items : List SignalContents → (end : ℕ) → ℕ → List Item
+tick_items signals end t = with_stamp (t == end) t (value_items t (differing signals t))
 
 -- ---- files
 
--- the items of a capture: header, timescale, declarations, the values at tick 0, and those that
--- change later, up to the end
+-- the items of a capture: header, timescale, declarations, the values at tick 0, and later ones
 unfoldable pub items_of : Contents → List Item
-items_of c = header_items c.header ++ timescale_items c.timescale ++ signal_items [] 0 c.signals
-    ++ end_definitions ∷ first_items c.signals ++ tick_items c.signals c.end 1 c.end
+items_of c = map (λ h. entry h.kind h.words) c.header ++ timescale_items c.timescale
+    ++ signal_items [] 0 c.signals ++ end_definitions ∷ first_items c.signals
+    ++ flat_map (tick_items c.signals c.end) (range_with_len 1 c.end)
 
 -- the text of a capture, byte for byte
 unfoldable pub text : Contents → List ℕ

@@ -4,7 +4,8 @@ ghost use Rattle.std.specs.Prelude.{◌≡◌, ◌+◌, ◌<◌, ◌≤◌, ◌^
 ghost use Rattle.std.specs.Prelude.{length, take, drop, MatchOption, IfSome, IfNone};
 ghost use Rattle.std.specs.List.{list_all};
 ghost use Rattle.vcd_core.specs.Word as spec;
-ghost use Rattle.vcd_text.specs.Words.{words_from, words_of};
+ghost use Rattle.vcd_text.specs.Words.{words_of};
+ghost use Rattle.vcd_text.specs.inside.Words.{words_from};
 ghost use Rattle.vcd_text.specs.inside.Words.{begins_with_space, ends_before};
 ghost use Rattle.vcd_text.specs.LineFeeds.{line_feeds_in};
 

@@ -2,6 +2,7 @@
 use Rattle.std.specs.Prelude.{ℕ, ◌+◌, ◌==◌, if◌then◌else◌, List, take, drop, Option, Some, None}
 use Rattle.std.specs.Prelude.{Result, Ok, Err, codes}
 use Rattle.std.specs.List.{position}
+use Rattle.std.specs.Option.{option_map_or}
 use Rattle.std.specs.Str.{bytes_eq}
 use Rattle.vcd_core.specs.Contents.{Contents}
 use Rattle.vcd_decode.specs.declared.setup_error.SetupError.{SetupError}
@@ -9,16 +10,11 @@ use Rattle.vcd_decode.specs.declared.spi_setup.BitOrder.{BitOrder}
 use Rattle.vcd_decode.specs.declared.spi_setup.BitOrder.TheVariants.{Msb, Lsb}
 use Rattle.vcd_decode.specs.declared.uart_setup.Parity.{Parity}
 use Rattle.vcd_decode.specs.declared.uart_setup.Parity.TheVariants as parities
-use Rattle.vcd_decode.specs.UartSetup.{UartSetup}
-use Rattle.vcd_decode.specs.SpiSetup.{SpiSetup}
-use Rattle.vcd_decode.specs.SetupFaults.{uart_fault, spi_fault}
 use Rattle.vcd_edit.specs.EditFaults.{is_scalar}
 use Rattle.vcdedit.specs.declared.script.line_error.LineError.{LineError}
 use Rattle.vcdedit.specs.declared.script.line_error.LineError.TheVariants.{BadOption, NotScalar}
 use Rattle.vcdedit.specs.declared.script.line_error.LineError.TheVariants.{Setup}
 use Rattle.vcdedit.specs.ScriptWords.{◌>>=◌, signal_of_name, number_of_word}
-
--- ---- words
 
 -- the numbers of a ratio, given the index of the first `/`; without one the second number is 1
 abbrev pub ratio_at : List ℕ → Option ℕ → Result (ℕ × ℕ) LineError
@@ -30,13 +26,9 @@ ratio_at word (Some index) = do
   denominator ← number_of_word (drop (index + 1) word)
   Ok (numerator, denominator)
 
--- the index of the first `/` (47) of a word
-abbrev pub slash_index : List ℕ → Option ℕ
-slash_index word = position (λ b. b == 47) word
-
--- the ratio that a word writes: `N/D`, or `N`
+-- the ratio that a word writes: `N/D`, or `N` without a `/` (47)
 abbrev pub ratio_of_word : List ℕ → Result (ℕ × ℕ) LineError
-ratio_of_word word = ratio_at word (slash_index word)
+ratio_of_word word = ratio_at word (position (λ b. b == 47) word)
 
 -- the parity bit that a word names
 abbrev pub parity_of_word : List ℕ → Result Parity LineError
@@ -61,8 +53,6 @@ signal_or_absent c word =
       k ← signal_of_name c word
       Ok (Some k))
 
--- ---- the tests after the words are read
-
 -- a decoder's signal, which must have one bit
 abbrev pub one_bit_signal : Contents → ℕ → Result ℕ LineError
 one_bit_signal c k = if is_scalar c k then Ok k else Err NotScalar
@@ -74,15 +64,6 @@ one_bit_signal_or_absent c (Some k) = do
   there ← one_bit_signal c k
   Ok (Some there)
 
--- a setup, or its fault
-abbrev pub faultless_setup : {S : Type 0} → Option SetupError → S → Result S LineError
-faultless_setup None setup = Ok setup
-faultless_setup (Some fault) setup = Err (Setup fault)
-
--- the setup of a UART line, or its fault
-abbrev pub faultless_uart : UartSetup → Result UartSetup LineError
-faultless_uart setup = faultless_setup (uart_fault setup) setup
-
--- the setup of a serial peripheral interface, or its fault
-abbrev pub faultless_spi : SpiSetup → Result SpiSetup LineError
-faultless_spi setup = faultless_setup (spi_fault setup) setup
+-- a setup, or the fault that this finds in it
+abbrev pub faultless : {S : Type 0} → (S → Option SetupError) → S → Result S LineError
+faultless fault_of setup = option_map_or (λ e. Err (Setup e)) (fault_of setup) (Ok setup)

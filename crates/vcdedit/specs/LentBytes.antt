@@ -1,5 +1,4 @@
--- The words of an edit are borrowed bytes, as `Edit` is a type of the code. Their address has no
--- meaning.
+-- The words of an edit are borrowed bytes, as `Edit` is a type of the code.
 use Rattle.std.specs.Prelude.{ℕ, List}
 use Rattle.std.specs.Borrow.{Bor}
 

@@ -9,8 +9,6 @@ use Rattle.vcd_core.specs.Names.{full_name}
 use Rattle.vcd_core.specs.TimeUnits.{unit_text}
 use Rattle.vcd_text.specs.Letters.{printed_letters}
 
--- ---- `list`
-
 -- `timescale 1 ns`, with its number and its unit, or `timescale none`
 abbrev pub timescale_line : Option Timescale → List ℕ
 timescale_line None = codes "timescale none"
@@ -27,8 +25,6 @@ abbrev pub listing : Contents → (skipped : ℕ) → List (List ℕ)
 listing c skipped = timescale_line c.timescale ∷ (codes "end " ++ decimal c.end)
     ∷ (codes "signals " ++ decimal (length c.signals)) ∷ (codes "skipped " ++ decimal skipped)
     ∷ map (λ p. signal_line p.0 p.1) (enumerate_from 0 c.signals)
-
--- ---- `changes`
 
 -- a change: its tick and its value, most significant letter first
 abbrev pub change_line : Change → List ℕ

@@ -72,8 +72,7 @@ unfoldable pub line_reply : List ℕ → Contents → (skipped undoable redoable
 line_reply line c skipped undoable redoable =
     command_reply (command_of_line c line) c skipped undoable redoable
 
--- the reply to the line of this number, as it is written: its lines, or the name of the refusal;
--- each line ends with a line feed (10)
+-- the text of a reply to the line of this number; each of its lines ends with a line feed (10)
 abbrev pub reply_text : ℕ → LineReply → List ℕ
 reply_text number (Ok lines) = flat_map (λ line. line ++ 10 ∷ []) lines
 reply_text number (Err name) =

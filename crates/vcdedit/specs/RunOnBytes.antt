@@ -1,5 +1,4 @@
--- What a run over bytes in memory gives: the headline without devices. The rules are the project's
--- own.
+-- What a run over bytes in memory gives, the headline without devices: the project's own.
 use Rattle.std.specs.Prelude.{◌≡◌, ◌<◌, ◌≤◌, ℕ, zero, suc, List, [], length, take, Result, Ok}
 use Rattle.std.specs.Prelude.{Err}
 use Rattle.std.specs.List.{concat}

@@ -27,7 +27,8 @@ use Rattle.vcdedit.specs.ScriptWords.{◌>>=◌, signal_of_name, number_of_word,
 use Rattle.vcdedit.specs.ScriptWords.{value_of_word}
 use Rattle.vcdedit.specs.DecoderWords.{ratio_of_word, parity_of_word, order_of_word}
 use Rattle.vcdedit.specs.DecoderWords.{signal_or_absent, one_bit_signal}
-use Rattle.vcdedit.specs.DecoderWords.{one_bit_signal_or_absent, faultless_uart, faultless_spi}
+use Rattle.vcdedit.specs.DecoderWords.{one_bit_signal_or_absent, faultless}
+use Rattle.vcd_decode.specs.SetupFaults.{uart_fault, spi_fault}
 
 -- ---- the first word
 
@@ -96,8 +97,7 @@ rule_of c word operands =
     else (if bytes_eq word (codes "bit") then bit_rule c operands
     else Err BadOption))))
 
--- what the words after a keyword ask for, if there are as many as here; the first fault counts, in
--- the order in which they are read here
+-- what the words after a keyword ask for; they are read in this order, and the first fault counts
 abbrev pub command_of : Contents → Keyword → List (List ℕ) → Result Command LineError
 command_of c keywords.Rename (name ∷ word ∷ []) = do
   k ← signal_of_name c name
@@ -149,7 +149,7 @@ command_of c keywords.Uart (name ∷ bit ∷ count ∷ parity ∷ stop ∷ []) =
   parity_bit ← parity_of_word parity
   stop_bits ← number_of_word stop
   line ← one_bit_signal c k
-  setup ← faultless_uart (uart_setup ratio.0 ratio.1 data_bits parity_bit stop_bits)
+  setup ← faultless uart_fault (uart_setup ratio.0 ratio.1 data_bits parity_bit stop_bits)
   Ok (commands.Uart line setup)
 command_of c keywords.Spi (clk ∷ mosi ∷ miso ∷ cs ∷ mode ∷ bits ∷ order ∷ []) = do
   clk_named ← signal_of_name c clk
@@ -163,7 +163,7 @@ command_of c keywords.Spi (clk ∷ mosi ∷ miso ∷ cs ∷ mode ∷ bits ∷ or
   mosi_line ← one_bit_signal_or_absent c mosi_named
   miso_line ← one_bit_signal_or_absent c miso_named
   cs_line ← one_bit_signal_or_absent c cs_named
-  setup ← faultless_spi (spi_setup number word_bits bit_order)
+  setup ← faultless spi_fault (spi_setup number word_bits bit_order)
   Ok (commands.Spi clk_line mosi_line miso_line cs_line setup)
 command_of c keywords.I2c (scl ∷ sda ∷ []) = do
   scl_named ← signal_of_name c scl

@@ -12,8 +12,7 @@ use Rattle.vcdedit.specs.declared.script.line_error.LineError.{LineError}
 use Rattle.vcdedit.specs.declared.script.line_error.LineError.TheVariants.{NoSuchName, BadNumber}
 use Rattle.vcdedit.specs.declared.script.line_error.LineError.TheVariants.{BadValueText}
 
--- words are read from the left, up to the first fault: what the next reading makes of this one, or
--- the fault of this one
+-- words are read from the left: what the next reading makes of this one, or the fault of this one
 infixl 10 ◌>>=◌
 abbrev pub ◌>>=◌ : {A B : Type 0} → Result A LineError → (A → Result B LineError)
     → Result B LineError

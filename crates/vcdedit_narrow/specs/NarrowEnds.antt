@@ -41,6 +41,7 @@ pub record IsNarrowed (r : Request) (file : List ℕ) (skipped : ℕ) (c : Conte
   pub whole : Contents
   pub window : HasWindow r file skipped ticks whole
   pub within : ticks.first ≤ whole.end
+  -- as many as a capture can have: with more of them its text would mean nothing
   pub few : length (narrowed r ticks whole).signals ≤ SIGNAL_LIMIT
   pub is : c ≡ narrowed r ticks whole
 

@@ -9,7 +9,7 @@ use Rattle.vcd_text.specs.Items.{Item, entry, timescale, scope, upscope, variabl
 use Rattle.vcd_text.specs.Items.{vector, real_or_string, dump_word, other}
 use Rattle.vcd_text.specs.Grammar.{VariableDeclaration, ParseState, AllowsAll, state_after, state_after_item}
 use Rattle.vcd_text.specs.Grammar.{is_skipped, kept_variables, declaration_of, variable_of, may_have_code}
-use Rattle.vcd_text.specs.Grammar.{is_within_limit}
+use Rattle.vcd_text.specs.inside.reading.Variables.{is_within_limit}
 use Rattle.vcd_text.specs.Grammar.{Allows}
 use Rattle.vcd_text.proofs.shared.ItemTests.{has_declaration}
 

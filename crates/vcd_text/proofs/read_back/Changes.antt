@@ -18,8 +18,9 @@ use Rattle.vcd_text.specs.Letters.{short_form}
 use Rattle.vcd_text.specs.Items.{Item, dump_word, dump_words, end_word}
 use Rattle.vcd_text.specs.Grammar.{ValueChange, ParseState, is_skipped}
 use Rattle.vcd_text.specs.Text.{code_of, differing, differs_at, first_items}
-use Rattle.vcd_text.specs.Text.{stamp_of}
-use Rattle.vcd_text.specs.Text.{with_stamp, tick_items, value_item, value_items}
+use Rattle.vcd_text.specs.inside.writing.Transitions.{stamp_of}
+use Rattle.vcd_text.specs.Text.{with_stamp, value_item, value_items}
+use Rattle.vcd_text.specs.inside.writing.Transitions.{items_of_ticks}
 use Rattle.vcd_text.proofs.read_back.CodesDiffer.{code_not_empty}
 use Rattle.vcd_text.proofs.read_back.Decimals.{decimal_is_number, number_of-decimal}
 use Rattle.vcd_text.proofs.read_back.DeclaredSignals.{declared_as, declared_state, declared_of, found_by_code}
@@ -135,13 +136,13 @@ one_tick c e value_changes u t false (p ∷ ps) rest later within all go =
 -- the ticks from t on, up to the end
 ticks_lead : (c : Contents) (n : ℕ) (value_changes : List ValueChange) (u t : ℕ) → u < t → t + n ≡ suc c.end
     → (n ≡ 0 → u ≡ c.end) → c.end ≤ END_LIMIT → All (IsFoundByCode c) (enumerate_from 0 c.signals)
-    → Reaches (state_at c value_changes u) (tick_items c.signals c.end t n)
+    → Reaches (state_at c value_changes u) (items_of_ticks c.signals c.end t n)
     (state_at c (value_changes ++ tick_value_changes c.signals t n) c.end)
-unfolding tick_items tick_value_changes
+unfolding items_of_ticks tick_value_changes
 ticks_lead c zero value_changes u t later at last within all = grind (arith, reaches_same, reaches_none, append-nil)
 ticks_lead c (suc n) value_changes u t later at last within all =
     let here = map (value_change_of t) (differing c.signals t) in
-    one_tick c _ value_changes u t (t == c.end) (differing c.signals t) (tick_items c.signals c.end (suc t) n)
+    one_tick c _ value_changes u t (t == c.end) (differing c.signals t) (items_of_ticks c.signals c.end (suc t) n)
     (omega arith) (omega arith) (All-filter (λ p. differs_at t p.1) (IsFoundByCode c) (enumerate_from 0 c.signals) all)
     (λ v le ends. reaches_same _ _ _ _
     (ticks_lead c n (value_changes ++ here) v (suc t) (omega arith) (omega arith)
@@ -170,10 +171,10 @@ all_found_by_code c sound k d within =
 
 -- the changes are allowed after the declarations, and give these value changes up to the end
 pub changes_lead : (c : Contents) → IsSound c
-    → Reaches (declared_state c) (first_items c.signals ++ tick_items c.signals c.end 1 c.end)
+    → Reaches (declared_state c) (first_items c.signals ++ items_of_ticks c.signals c.end 1 c.end)
     (state_at c (value_changes_of c) c.end)
 changes_lead c sound =
     let positioned = all_found_by_code c sound in
-    reaches_both _ _ _ (first_items c.signals) (tick_items c.signals c.end 1 c.end) (first_leads c positioned)
+    reaches_both _ _ _ (first_items c.signals) (items_of_ticks c.signals c.end 1 c.end) (first_leads c positioned)
     (ticks_lead c c.end (map (value_change_of 0) (enumerate_from 0 c.signals)) 0 1 (omega arith) (omega arith)
     (λ none. sym none) sound.end positioned)

@@ -8,7 +8,7 @@ use Rattle.std.proofs.lemmas.Bool.{lt-leb, leb-true, ne_eqb}
 use Rattle.std.proofs.lemmas.Slice.Eq.{bytes_eq-Decides}
 use Rattle.vcd_core.specs.declared.capture.TheConstants.{SIGNAL_LIMIT}
 use Rattle.vcd_core.specs.Word.{is_white_space}
-use Rattle.vcd_text.specs.Items.{is_end_word}
+use Rattle.vcd_text.specs.inside.reading.Declarations.{is_end_word}
 use Rattle.vcd_text.specs.Text.{code_digits, code_of}
 use Rattle.vcd_text.proofs.writing.CodeDigits.{next_digit}
 use Rattle.vcd_text.proofs.shared.WeakerTests.{all_weaker}

@@ -23,13 +23,18 @@ use Rattle.vcd_core.specs.Contents.{Contents, SignalContents}
 use Rattle.vcd_core.specs.Sound.{is_sound_header, is_sound_timescale, IsSoundSignal, IsSound}
 use Rattle.std.specs.Char.{is_ascii_digit}
 use Rattle.vcd_core.specs.Decimal.{number_of}
-use Rattle.vcd_text.specs.Items.{Item, entry, variable, end_definitions, is_end_word}
+use Rattle.vcd_text.specs.Items.{Item, entry, variable, end_definitions}
+use Rattle.vcd_text.specs.inside.reading.Declarations.{is_end_word}
 use Rattle.vcd_text.specs.Grammar.{ParseState, VariableDeclaration, initial_state, declaration_of}
 use Rattle.vcd_text.specs.Grammar.{variable_of}
-use Rattle.vcd_text.specs.Grammar.{may_have_code, is_within_limit}
-use Rattle.vcd_text.specs.Text.{header_items, timescale_items, scope_items, code_of, variable_item}
+use Rattle.vcd_text.specs.Grammar.{may_have_code}
+use Rattle.vcd_text.specs.inside.reading.Variables.{is_within_limit}
+use Rattle.vcd_text.specs.Text.{timescale_items, scope_items, code_of, variable_item}
+use Rattle.vcd_text.specs.inside.writing.Declarations.{header_items}
 use Rattle.vcd_text.specs.Text.{signal_items}
-use Rattle.vcd_text.specs.Text.{first_items, tick_items, items_of}
+use Rattle.vcd_text.specs.Text.{first_items, items_of}
+use Rattle.vcd_text.specs.inside.writing.Transitions.{items_of_ticks}
+use Rattle.vcd_text.proofs.writing.TextParts.{ticks_in_turn}
 use Rattle.vcd_text.proofs.read_back.CodesDiffer.{codes_differ, code_no_end}
 use Rattle.vcd_text.proofs.read_back.Decimals.{decimal_digits, decimal_is_number, number_of-decimal}
 use Rattle.vcd_text.proofs.read_back.DeclaredSignals.{declared_as, declared_state, declared_of}
@@ -144,6 +149,6 @@ declarations_lead c sound =
 
 -- the declarations, and the items after them
 pub items_in_two : (c : Contents) → items_of c ≡ declaration_items c
-    ++ (first_items c.signals ++ tick_items c.signals c.end 1 c.end)
+    ++ (first_items c.signals ++ items_of_ticks c.signals c.end 1 c.end)
 unfolding items_of
-items_in_two c = grind (arith, append_assoc)
+items_in_two c = grind (arith, append_assoc, ticks_in_turn c.signals c.end 1 c.end)

@@ -16,7 +16,8 @@ use Rattle.vcd_core.specs.declared.capture.Timescale.{Timescale}
 use Rattle.vcd_core.specs.declared.capture.ScopeName.{ScopeName}
 use Rattle.vcd_core.specs.Word.{is_word}
 use Rattle.vcd_core.specs.Sound.{is_sound_scope}
-use Rattle.vcd_text.specs.Items.{scope, upscope, is_end_word, has_no_end_word}
+use Rattle.vcd_text.specs.Items.{scope, upscope, has_no_end_word}
+use Rattle.vcd_text.specs.inside.reading.Declarations.{is_end_word}
 use Rattle.vcd_core.specs.declared.capture.TheConstants.{SIGNAL_LIMIT}
 use Rattle.vcd_text.specs.Grammar.{ParseState, VariableDeclaration}
 use Rattle.vcd_text.specs.Text.{same_scope, scope_items}

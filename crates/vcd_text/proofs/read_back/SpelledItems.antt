@@ -1,7 +1,7 @@
 -- Every word of a capture's text has a byte and no white space.
 use Rattle.std.proofs.Common.{◌≡◌, ◌<◌, ◌≤◌, ◌+◌, ◌-◌, ◌^◌, ℕ, zero, suc, Bool, true, not, List, []}
 use Rattle.std.proofs.Common.{◌∷◌, ◌++◌, map, length, drop, replicate, Option, Some, None, IfSome}
-use Rattle.std.proofs.Common.{IsTrue, refl, arith}
+use Rattle.std.proofs.Common.{IsTrue, refl, ap, sym, subst, ◌∙◌, arith}
 use Rattle.std.proofs.Common.{decimal}
 use Rattle.std.specs.List.{list_all, AllByRecursion, common_prefix_len}
 use Rattle.std.proofs.lemmas.Bool.{and_from, and_parts, and_right, or_from}
@@ -24,16 +24,20 @@ use Rattle.vcd_text.specs.Letters.{printed_letters, short_form}
 use Rattle.vcd_text.specs.Items.{Item, scope, upscope, vector, end_definitions}
 use Rattle.vcd_text.specs.Items.{end_word, spellings}
 use Rattle.vcd_text.specs.Grammar.{word_texts}
-use Rattle.vcd_text.specs.Text.{header_items, timescale_items, same_scope, scope_items, code_of}
+use Rattle.vcd_text.specs.Text.{timescale_items, same_scope, scope_items, code_of}
+use Rattle.vcd_text.specs.inside.writing.Declarations.{header_items}
 use Rattle.vcd_text.specs.Text.{variable_item}
 use Rattle.vcd_text.specs.Text.{signal_items, value_items}
-use Rattle.vcd_text.specs.Text.{with_stamp, first_items, tick_items, items_of, text}
+use Rattle.vcd_text.specs.Text.{with_stamp, first_items, items_of, text}
+use Rattle.vcd_text.specs.inside.writing.Transitions.{items_of_ticks}
 use Rattle.vcd_text.proofs.read_back.CodesDiffer.{code_no_space, code_not_empty}
 use Rattle.vcd_text.proofs.read_back.Decimals.{decimal_digits, decimal_not_empty}
 use Rattle.vcd_text.proofs.read_back.Timescale.{sound_count, count_small}
 use Rattle.vcd_text.proofs.shared.WeakerTests.{all_weaker}
+use Rattle.vcd_text.proofs.words.WordsByBytes.{words_by_bytes}
 use Rattle.vcd_text.proofs.read_back.Words.{is_unbroken, is_spelled, words_of_lines}
 use Rattle.vcd_text.proofs.writing.SharedScopes.{all_closed}
+use Rattle.vcd_text.proofs.writing.TextParts.{ticks_in_turn}
 use Rattle.vcd_text.proofs.read_back.ScopePaths.{later_scopes}
 
 -- ---- words
@@ -104,8 +108,8 @@ stamped_spelled is_end t items small spelled =
     grind (arith, and_from, one_word, longer_unbroken, decimal_no_space)
 
 ticks_spelled : (signals : List SignalContents) (end t n : ℕ) → t + n ≤ 2 ^ 64
-    → list_all is_spelled (tick_items signals end t n) ≡ true
-unfolding tick_items
+    → list_all is_spelled (items_of_ticks signals end t n) ≡ true
+unfolding items_of_ticks
 ticks_spelled signals end t zero small = refl
 ticks_spelled signals end t (suc n) small =
     grind (arith, both_spelled, stamped_spelled, values_spelled, ticks_spelled signals end (suc t) n (omega arith))
@@ -156,7 +160,9 @@ items_spelled c sound =
     let end : c.end ≤ END_LIMIT = sound.end in
     let prefix : List Item = header_items c.header ++ timescale_items c.timescale in
     let declared : List Item = prefix ++ signal_items [] 0 c.signals in
-    both_spelled (declared ++ end_definitions ∷ first_items c.signals) (tick_items c.signals c.end 1 c.end)
+    subst (λ ticks. list_all is_spelled (declared ++ end_definitions ∷ first_items c.signals ++ ticks) ≡ true)
+    (sym (ticks_in_turn c.signals c.end 1 c.end))
+    (both_spelled (declared ++ end_definitions ∷ first_items c.signals) (items_of_ticks c.signals c.end 1 c.end)
     (both_spelled declared (end_definitions ∷ first_items c.signals)
     (both_spelled prefix (signal_items [] 0 c.signals)
     (both_spelled (header_items c.header) (timescale_items c.timescale) (header_spelled c.header sound.header)
@@ -164,9 +170,10 @@ items_spelled c sound =
     (signals_spelled c.end [] 0 c.signals (recursion_from_All (IsSoundSignal c.end) c.signals sound.signals)))
     (and_from (is_spelled end_definitions) (list_all is_spelled (first_items c.signals)) refl
     (grind (arith, both_spelled, and_from, one_word, longer_unbroken, decimal_no_space, values_spelled))))
-    (ticks_spelled c.signals c.end 1 c.end (omega arith))
+    (ticks_spelled c.signals c.end 1 c.end (omega arith)))
 
 -- the words of a sound capture's text
 pub words_of_text : (c : Contents) → IsSound c → word_texts (words_of (text c)) ≡ spellings (items_of c)
 unfolding text
-words_of_text c sound = words_of_lines 1 (items_of c) (items_spelled c sound)
+words_of_text c sound =
+    ap word_texts (words_by_bytes (text c)) ∙ words_of_lines 1 (items_of c) (items_spelled c sound)

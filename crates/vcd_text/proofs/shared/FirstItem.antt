@@ -9,8 +9,11 @@ use Rattle.vcd_core.specs.declared.capture.HeaderKind.TheVariants.{Date, Version
 use Rattle.vcd_text.specs.Letters.{is_among, is_binary_digit}
 use Rattle.vcd_text.specs.Items.{Item, entry, timescale, scope, upscope, variable, end_definitions}
 use Rattle.vcd_text.specs.Items.{stamp, scalar, vector, real_or_string, dump_word, other, spelling}
-use Rattle.vcd_text.specs.Items.{end_word, is_end_word, has_no_end_word, dump_words, declaration_words, header_words}
-use Rattle.vcd_text.specs.Items.{is_other, vector_prefixes, real_or_string_prefixes}
+use Rattle.vcd_text.specs.Items.{end_word, has_no_end_word, dump_words, declaration_words}
+use Rattle.vcd_text.specs.inside.reading.Declarations.{header_words}
+use Rattle.vcd_text.specs.inside.reading.Declarations.{is_end_word}
+use Rattle.vcd_text.specs.Items.{is_other}
+use Rattle.vcd_text.specs.inside.reading.DigitTests.{vector_prefixes, real_or_string_prefixes}
 use Rattle.vcd_text.specs.Grammar.{ParseState, fits}
 use Rattle.vcd_text.specs.Faults.{GoesOn}
 use Rattle.vcd_text.proofs.shared.OneOf.{by_among, by_one_of}

@@ -13,8 +13,11 @@ use Rattle.vcd_text.specs.declared.fault.Fault.TheVariants.{UnexpectedWord, BadS
 use Rattle.vcd_text.specs.Letters.{is_among, is_binary_digit}
 use Rattle.vcd_text.specs.Items.{scope, upscope, variable, end_definitions, stamp, scalar}
 use Rattle.vcd_text.specs.Items.{real_or_string, other}
-use Rattle.vcd_text.specs.Items.{end_word, is_end_word, begins_declaration}
-use Rattle.vcd_text.specs.Items.{declaration_words, header_words, vector_prefixes, real_or_string_prefixes}
+use Rattle.vcd_text.specs.Items.{end_word, begins_declaration}
+use Rattle.vcd_text.specs.inside.reading.Declarations.{is_end_word}
+use Rattle.vcd_text.specs.Items.{declaration_words}
+use Rattle.vcd_text.specs.inside.reading.DigitTests.{vector_prefixes, real_or_string_prefixes}
+use Rattle.vcd_text.specs.inside.reading.Declarations.{header_words}
 use Rattle.vcd_text.specs.Grammar.{ParseState, fits}
 use Rattle.vcd_text.specs.Faults.{GoesOn, misfit_fault, WordShows, test_fails, misfits}
 use Rattle.vcd_text.proofs.shared.OneOf.{by_one_of}

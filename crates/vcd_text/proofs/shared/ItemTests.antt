@@ -15,11 +15,12 @@ use Rattle.vcd_text.specs.declared.fault.Fault.TheVariants.{TimeBackwards, BadCh
 use Rattle.vcd_text.specs.declared.fault.Fault.TheVariants.{TooManySignals}
 use Rattle.vcd_text.specs.Letters.{is_among, is_binary_digit}
 use Rattle.vcd_text.specs.Items.{timescale_of, has_no_end_word, dump_words, is_other}
-use Rattle.vcd_text.specs.Items.{vector_prefixes, real_or_string_prefixes}
+use Rattle.vcd_text.specs.inside.reading.DigitTests.{vector_prefixes, real_or_string_prefixes}
 use Rattle.vcd_text.specs.Items.{entry, timescale, scope, upscope, variable, end_definitions}
 use Rattle.vcd_text.specs.Items.{stamp, scalar, vector, real_or_string, dump_word, other}
 use Rattle.vcd_text.specs.Grammar.{ParseState, VariableDeclaration, is_skipped, has_good_size, declaration_of}
-use Rattle.vcd_text.specs.Grammar.{variable_of, may_have_code, is_within_limit}
+use Rattle.vcd_text.specs.Grammar.{variable_of, may_have_code}
+use Rattle.vcd_text.specs.inside.reading.Variables.{is_within_limit}
 use Rattle.vcd_text.specs.Grammar.{fits, variable_tests, digit_tests, Allows}
 use Rattle.vcd_text.specs.inside.reading.DigitTests.{is_tick, is_binary_number, takes_binary_number}
 

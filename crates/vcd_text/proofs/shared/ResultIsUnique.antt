@@ -10,7 +10,8 @@ use Rattle.vcd_core.specs.Contents.{Contents}
 use Rattle.vcd_core.specs.Tests.{first_fault}
 use Rattle.vcd_text.specs.declared.fault.Fault.{Fault}
 use Rattle.vcd_text.specs.Words.{WordOnLine, words_of}
-use Rattle.vcd_text.specs.Items.{Item, other, spelling, spellings, end_word, is_end_word, has_no_end_word, is_other}
+use Rattle.vcd_text.specs.Items.{Item, other, spelling, spellings, end_word, has_no_end_word, is_other}
+use Rattle.vcd_text.specs.inside.reading.Declarations.{is_end_word}
 use Rattle.vcd_text.specs.Grammar.{ParseState, fits, item_tests, Allows, AllowsAll, Accepts, state_after}
 use Rattle.vcd_text.specs.Grammar.{state_after_item, initial_state, word_texts}
 use Rattle.vcd_text.specs.Faults.{GoesOn, WordShows, test_fails, misfits, misfit_fault, ShowsFault, fault_line}

@@ -33,17 +33,20 @@ use Rattle.vcd_text.specs.Items.{Item, entry, timescale, scope, upscope, variabl
 use Rattle.vcd_text.specs.Items.{stamp, scalar}
 use Rattle.vcd_text.specs.Items.{vector, real_or_string, dump_word, other, spelling, spellings}
 use Rattle.vcd_text.specs.Items.{end_word}
-use Rattle.vcd_text.specs.Items.{is_end_word, has_no_end_word}
+use Rattle.vcd_text.specs.Items.{has_no_end_word}
+use Rattle.vcd_text.specs.inside.reading.Declarations.{is_end_word}
 use Rattle.vcd_text.specs.Grammar.{ParseState, VariableDeclaration, ValueChange, Accepts}
 use Rattle.vcd_text.specs.Grammar.{Allows}
 use Rattle.vcd_text.specs.Grammar.{AllowsAll}
 use Rattle.vcd_text.proofs.shared.ItemTests.{has_timescale, has_declaration, has_tick, knows_code, takes_digits}
 use Rattle.vcd_text.specs.Grammar.{state_after, state_after_item, is_skipped, kept_variables}
 use Rattle.vcd_text.specs.Grammar.{variable_of, initial_state}
-use Rattle.vcd_text.specs.Grammar.{may_have_code, is_within_limit, value_changes_after}
+use Rattle.vcd_text.specs.Grammar.{may_have_code, value_changes_after}
+use Rattle.vcd_text.specs.inside.reading.Variables.{is_within_limit}
 use Rattle.vcd_text.specs.Grammar.{with_value_change}
 use Rattle.vcd_text.specs.inside.reading.DigitTests.{takes_binary_number}
-use Rattle.vcd_text.proofs.words.WordsInTurn.{by_test, is_run_text, texts_are_runs, run_is_word}
+use Rattle.vcd_text.proofs.words.WordsInTurn.{by_test, is_run_text, run_is_word}
+use Rattle.vcd_text.proofs.words.WordsByBytes.{texts_of_file_are_runs}
 use Rattle.vcd_text.specs.Meaning.{meaning, declared_signal, latest_value}
 use Rattle.std.proofs.lemmas.List.Folds.{find-append}
 use Rattle.vcd_text.proofs.part.FewSignals.{KeepsFew, few_after, same_limit}
@@ -307,7 +310,7 @@ pub record IsSoundBut (c : Contents) : Type 0 where
 pub meaning_is_sound_but : (limit : ℕ) (bytes : List ℕ) (state : ParseState) → Accepts limit (words_of bytes) state
     → IsSoundBut (meaning state)
 meaning_is_sound_but limit bytes state accepted =
-    let clean : IsClean state = grind (arith, clean_items, texts_are_runs) in
+    let clean : IsClean state = grind (arith, clean_items, texts_of_file_are_runs) in
     let declared = All-filter (λ d. not (is_skipped d)) IsCleanDeclaration state.declared clean.declared in
     let agree = All-filter (λ d. not (is_skipped d)) (IsAgreed state) state.declared clean.agree in
     let keeps = filter_passes (λ d. not (is_skipped d)) state.declared in

@@ -8,8 +8,10 @@ use Rattle.vcd_core.specs.declared.capture.HeaderKind.{HeaderKind}
 use Rattle.vcd_core.specs.declared.capture.HeaderKind.TheVariants.{Date, Version, Comment}
 use Rattle.vcd_text.specs.Letters.{is_among}
 use Rattle.vcd_text.specs.Items.{Item, entry, timescale, scope, upscope, variable, end_definitions, vector}
-use Rattle.vcd_text.specs.Items.{real_or_string, other, spelling, end_word, has_no_end_word, header_word, header_words}
-use Rattle.vcd_text.specs.Items.{is_other, vector_prefixes, real_or_string_prefixes}
+use Rattle.vcd_text.specs.Items.{real_or_string, other, spelling, end_word, has_no_end_word, header_word}
+use Rattle.vcd_text.specs.inside.reading.Declarations.{header_words}
+use Rattle.vcd_text.specs.Items.{is_other}
+use Rattle.vcd_text.specs.inside.reading.DigitTests.{vector_prefixes, real_or_string_prefixes}
 use Rattle.vcd_text.specs.Grammar.{ParseState, fits, has_good_size}
 use Rattle.vcd_text.specs.FoundFaults.{IsUnfinished}
 use Rattle.vcd_text.proofs.shared.OneOf.{by_one_of}

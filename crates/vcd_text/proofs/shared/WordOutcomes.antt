@@ -14,8 +14,11 @@ use Rattle.vcd_text.specs.declared.fault.Fault.{Fault}
 use Rattle.vcd_text.specs.Letters.{is_among, is_binary_digit}
 use Rattle.vcd_text.specs.Items.{Item, entry, timescale, scope, upscope, variable, end_definitions}
 use Rattle.vcd_text.specs.Items.{stamp, scalar, vector, real_or_string, dump_word, other, spelling}
-use Rattle.vcd_text.specs.Items.{end_word, is_end_word, has_no_end_word, dump_words, declaration_words, header_words}
-use Rattle.vcd_text.specs.Items.{begins_declaration, header_word, is_other, vector_prefixes, real_or_string_prefixes}
+use Rattle.vcd_text.specs.Items.{end_word, has_no_end_word, dump_words, declaration_words}
+use Rattle.vcd_text.specs.inside.reading.Declarations.{header_words}
+use Rattle.vcd_text.specs.inside.reading.Declarations.{is_end_word}
+use Rattle.vcd_text.specs.Items.{begins_declaration, header_word, is_other}
+use Rattle.vcd_text.specs.inside.reading.DigitTests.{vector_prefixes, real_or_string_prefixes}
 use Rattle.vcd_text.specs.Grammar.{ParseState, has_good_size, fits, item_tests, Allows}
 use Rattle.vcd_text.specs.Faults.{WordShows, test_fails}
 use Rattle.vcd_text.specs.FoundFaults.{IsUnfinished}

@@ -10,11 +10,13 @@ use Rattle.std.proofs.lemmas.Bool.Decides.{Decides-eqb}
 use Rattle.std.proofs.lemmas.Bool.{ne_eqb}
 use Rattle.std.proofs.lemmas.List.Folds.{list_all-append}
 use Rattle.vcd_core.specs.Word.{is_word, is_white_space}
-use Rattle.vcd_text.specs.Items.{is_end_word}
+use Rattle.vcd_text.specs.inside.reading.Declarations.{is_end_word}
 use Rattle.vcd_text.specs.inside.Words.{begins_with_space, ends_before}
 use Rattle.vcd_text.specs.LineFeeds.{line_feeds_in}
-use Rattle.vcd_text.specs.Words.{line_after, WordOnLine}
-use Rattle.vcd_text.specs.Words.{word_on, word_of, words_from}
+use Rattle.vcd_text.specs.Words.{WordOnLine}
+use Rattle.vcd_text.specs.inside.Words.{line_after}
+use Rattle.vcd_text.specs.Words.{word_on}
+use Rattle.vcd_text.specs.inside.Words.{word_of, words_from}
 use Rattle.std.proofs.lemmas.Bool.{and_parts, not-true}
 use Rattle.std.proofs.lemmas.Grind.{common_steps}
 

@@ -8,7 +8,9 @@ ghost use Rattle.std.specs.Prelude.{◌≡◌, ◌<◌, ◌∷◌, ℕ, List, tr
 ghost use Rattle.vcd_text.specs.Words.{word_on};
 ghost use Rattle.vcd_text.specs.Letters as spec;
 ghost use Rattle.vcd_text.specs.Letters.{is_among};
-ghost use Rattle.vcd_text.specs.Items.{is_command, vector_prefixes, real_or_string_prefixes};
+ghost use Rattle.vcd_text.specs.Items.{is_command};
+ghost use Rattle.vcd_text.specs.inside.reading.DigitTests.{vector_prefixes};
+ghost use Rattle.vcd_text.specs.inside.reading.DigitTests.{real_or_string_prefixes};
 ghost use Rattle.vcd_text.specs.inside.reading.Parser.{IsUnderway, WordResult};
 ghost use Rattle.vcd_text.specs.declared.reading.parser.OpenItem.TheVariants as items;
 

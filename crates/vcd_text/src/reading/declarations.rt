@@ -3,7 +3,9 @@
 ghost use Rattle.std.specs.Prelude.{◌≡◌, ◌∷◌, ◌++◌, ℕ, [], true, false, IsFalse, MatchOption, OnOk};
 ghost use Rattle.vcd_text.specs.Words.{word_on};
 ghost use Rattle.vcd_core.specs.Word.{is_one_of};
-ghost use Rattle.vcd_text.specs.Items.{end_word, is_end_word, declaration_words, header_words};
+ghost use Rattle.vcd_text.specs.Items.{end_word, declaration_words};
+ghost use Rattle.vcd_text.specs.inside.reading.Declarations.{header_words};
+ghost use Rattle.vcd_text.specs.inside.reading.Declarations.{is_end_word};
 ghost use Rattle.vcd_text.specs.Items.{begins_declaration};
 ghost use Rattle.vcd_text.specs.inside.reading.Parser.{IsUnderway, WordResult, BeginsPart};
 ghost use Rattle.vcd_text.specs.inside.reading.OpenItems.{is_inside, is_end_definitions};

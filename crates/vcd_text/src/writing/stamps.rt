@@ -2,7 +2,8 @@
 
 ghost use Rattle.std.specs.Prelude.{◌≡◌};
 ghost use Rattle.std.specs.List.{flat_map};
-ghost use Rattle.vcd_text.specs.Text.{item_line, stamp_of};
+ghost use Rattle.vcd_text.specs.Text.{item_line};
+ghost use Rattle.vcd_text.specs.inside.writing.Transitions.{stamp_of};
 ghost use Rattle.vcd_text.specs.inside.writing.Transitions.{new_stamp};
 ghost use Rattle.vcd_text.specs.inside.writing.Output.{Emits};
 

@@ -8,7 +8,8 @@ ghost use Rattle.vcd_text.specs.inside.writing.Transitions.{last_tick, transitio
 ghost use Rattle.vcd_text.specs.inside.writing.Window.{IsKey, IsReady, transitions_of};
 ghost use Rattle.vcd_text.specs.inside.writing.Output.{Emits};
 ghost use Rattle.vcd_text.specs.declared.writing.window.TheConstants.{POSITIONS};
-ghost use Rattle.vcd_text.specs.Text.{item_line, tick_items};
+ghost use Rattle.vcd_text.specs.Text.{item_line};
+ghost use Rattle.vcd_text.specs.inside.writing.Transitions.{items_of_ticks};
 
 use super::cursors::{Cursor, tick_at_index};
 use super::output::Output;
@@ -28,7 +29,7 @@ pub fn write_transitions<W: Sink>(
     requires ready { IsReady end 1 signals.now window.old }
     requires end { end ≤ END_LIMIT }
     ensures { Emits W.Sink output.old output.new
-        (flat_map item_line (tick_items (map signal_contents signals.now) end 1 end)) }
+        (flat_map item_line (items_of_ticks (map signal_contents signals.now) end 1 end)) }
 {
     let mut last = 0;
     let mut from = 1;

@@ -1,9 +1,11 @@
 //! The words of a decoder's line, one by one.
 
-ghost use Rattle.std.specs.Prelude.{◌≡◌, ◌<◌, Some, IfSome, IfOk, length};
+ghost use Rattle.std.specs.Prelude.{◌≡◌, ◌<◌, ◌==◌, Some, IfSome, IfOk, length};
+ghost use Rattle.std.specs.List.{position};
 ghost use Rattle.vcd_core.specs.CaptureContents.{contents};
 ghost use Rattle.vcd_decode.specs.UartSetup.{uart_setup};
 ghost use Rattle.vcd_decode.specs.SpiSetup.{spi_setup};
+ghost use Rattle.vcd_decode.specs.SetupFaults.{uart_fault, spi_fault};
 ghost use Rattle.vcdedit.specs.CommandSignals.{IsScalarAt};
 ghost use Rattle.vcdedit.specs.DecoderWords as spec;
 
@@ -25,7 +27,7 @@ pub fn ratio_of_word(word: &[u8]) -> Result<(u64, u64), LineError>
 
 /// The index of the first `/` of a word.
 fn slash_index(word: &[u8]) -> Option<usize>
-    ensures index { result ≡ spec.slash_index word.now }
+    ensures index { result ≡ position (λ b. b == 47) word.now }
     ensures within { IfSome result (λ index. index < length word.now) }
 {
     word.iter().position(|byte| *byte == b'/')
@@ -118,7 +120,8 @@ pub fn uart_of(
     parity: Parity,
     stop_bits: u64,
 ) -> Result<Uart, LineError>
-    ensures { result ≡ spec.faultless_uart (uart_setup ratio.0 ratio.1 data_bits parity stop_bits) }
+    ensures { result ≡ spec.faultless uart_fault
+        (uart_setup ratio.0 ratio.1 data_bits parity stop_bits) }
 {
     match Uart::new(ratio.0, ratio.1, data_bits, parity, stop_bits) {
         Ok(setup) => Ok(setup),
@@ -128,7 +131,7 @@ pub fn uart_of(
 
 /// The setup of a serial peripheral interface, or its first fault.
 pub fn spi_of(mode: u64, bits: u64, order: BitOrder) -> Result<Spi, LineError>
-    ensures { result ≡ spec.faultless_spi (spi_setup mode bits order) }
+    ensures { result ≡ spec.faultless spi_fault (spi_setup mode bits order) }
 {
     match Spi::new(mode, bits, order) {
         Ok(setup) => Ok(setup),

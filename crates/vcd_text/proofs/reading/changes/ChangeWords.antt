@@ -17,8 +17,9 @@ use Rattle.vcd_core.specs.Word.{is_one_of}
 use Rattle.vcd_text.specs.Letters.{is_among, is_binary_digit}
 use Rattle.vcd_text.specs.Items.{Item, stamp, scalar, vector, real_or_string, dump_word, spelling}
 use Rattle.vcd_text.specs.Items.{is_command}
-use Rattle.vcd_text.specs.Items.{dump_words, declaration_words, vector_prefixes}
-use Rattle.vcd_text.specs.Items.{real_or_string_prefixes}
+use Rattle.vcd_text.specs.Items.{dump_words, declaration_words}
+use Rattle.vcd_text.specs.inside.reading.DigitTests.{vector_prefixes}
+use Rattle.vcd_text.specs.inside.reading.DigitTests.{real_or_string_prefixes}
 use Rattle.vcd_text.specs.Grammar.{ParseState, VariableDeclaration}
 use Rattle.vcd_text.specs.Grammar.{Allows}
 use Rattle.vcd_text.specs.Grammar.{state_after_item, word_texts}

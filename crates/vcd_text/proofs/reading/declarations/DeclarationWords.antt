@@ -17,7 +17,8 @@ use Rattle.vcd_core.specs.Decimal.{is_number, number_of}
 use Rattle.vcd_core.specs.declared.value.TheConstants.{WIDTH_LIMIT}
 use Rattle.vcd_text.specs.Items.{Item, entry, timescale, scope, upscope, variable, end_definitions}
 use Rattle.vcd_text.specs.Items.{other, spelling}
-use Rattle.vcd_text.specs.Items.{end_word, is_end_word, has_no_end_word, header_word, is_other}
+use Rattle.vcd_text.specs.Items.{end_word, has_no_end_word, header_word, is_other}
+use Rattle.vcd_text.specs.inside.reading.Declarations.{is_end_word}
 use Rattle.vcd_text.specs.Items.{timescale_of, begins_declaration}
 use Rattle.vcd_text.specs.Grammar.{ParseState, state_after_item, word_texts}
 use Rattle.vcd_text.specs.Grammar.{Allows}

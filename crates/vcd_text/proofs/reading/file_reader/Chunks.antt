@@ -17,7 +17,8 @@ use Rattle.vcd_text.specs.declared.fault.Fault.TheVariants as faults
 use Rattle.vcd_text.specs.declared.fault.ReadError.{ReadError}
 use Rattle.vcd_text.specs.declared.reading.file_reader.FileReader.{FileReader}
 use Rattle.vcd_text.specs.declared.reading.parser.Parser.{Parser}
-use Rattle.vcd_text.specs.Words.{WordOnLine, line_after, word_of, words_from}
+use Rattle.vcd_text.specs.Words.{WordOnLine}
+use Rattle.vcd_text.specs.inside.Words.{line_after, word_of, words_from}
 use Rattle.vcd_text.specs.Words.{words_of, complete_words}
 use Rattle.vcd_text.specs.Faults.{IsFileFault, ShowsFault, shown, none_shown}
 use Rattle.vcd_text.specs.FoundFaults.{IsFoundFault, word_shows}
@@ -30,9 +31,10 @@ use Rattle.vcd_text.specs.LineFeeds.{line_feeds_in}
 use Rattle.vcd_text.specs.inside.reading.Parser.{HasTakenWords}
 use Rattle.vcd_text.specs.inside.reading.FileReader.{HasTaken, HasUntakenChunk, HasReadBytes}
 use Rattle.vcd_text.proofs.reading.file_reader.PrefixResults.{larger, failing}
-use Rattle.vcd_text.proofs.shared.FaultOfPrefix.{longer_prefix_fault, complete_in_prefix}
+use Rattle.vcd_text.proofs.shared.FaultOfPrefix.{longer_prefix_fault, complete_in_file}
 use Rattle.vcd_text.proofs.shared.FoundFault.{file_fault, prefix_fault_stays}
 use Rattle.vcd_text.proofs.words.WordsInTurn.{line_feeds_of_both, no_line_feeds, word_part}
+use Rattle.vcd_text.proofs.words.WordsByBytes.{words_by_bytes, complete_by_bytes}
 use Rattle.vcd_text.specs.inside.reading.ReadBuffer.{ReadBufferView}
 use Rattle.std.proofs.lemmas.Grind.{common_steps}
 use Rattle.vcd_core.specs.Contents.{SignalContents}
@@ -110,7 +112,7 @@ module _ (limit most : ℕ) (taken_by : Parser → List WordOnLine → Type 0) (
 
   closed_now : complete_words bytes ≡ complete_words come.before ++ complete
   closed_now =
-      ap (words_from false [] 1) (sym (append-nil bytes)) ∙ words_now false []
+      complete_by_bytes bytes ∙ ap (words_from false [] 1) (sym (append-nil bytes)) ∙ words_now false []
       ∙ ap (λ text. complete_words come.before
       ++ (complete ++ words_from false [] ((p.line_feeds + line_feeds_in complete_text) + 1) text))
       (append-nil back)
@@ -146,7 +148,7 @@ module _ (limit most : ℕ) (taken_by : Parser → List WordOnLine → Type 0) (
 
 pub nothing_taken : (most : ℕ) (taken_by : Parser → List WordOnLine → Type 0) (m : Parser) (word : List ℕ)
     → word ≡ [] → most < 2 ^ 62 → taken_by m [] → HasTaken most taken_by m word 0 most []
-unfolding words_from
+unfolding words_from words_of complete_words
 nothing_taken most taken_by m word none small reads = record {
   taken_words = reads;
   words = λ end_counts rest. ap (λ w. words_from end_counts [] 1 (w ++ rest)) (sym none);
@@ -183,7 +185,7 @@ all_words : (most : ℕ) (taken_by : Parser → List WordOnLine → Type 0) (p :
 all_words most taken_by p text bytes taken is =
     ap (λ word. complete_words bytes ++ words_from true [] (p.line_feeds + 1) word)
     (is ∙ sym (append-nil p.buffer.bytes))
-    ∙ sym (taken.words true []) ∙ ap (words_from true [] 1) (append-nil bytes)
+    ∙ sym (taken.words true []) ∙ ap (words_from true [] 1) (append-nil bytes) ∙ sym (words_by_bytes bytes)
 
 -- so all words of the bytes have been taken, or one is refused
 pub last_taken : (most : ℕ) (taken_by later : Parser → List WordOnLine → Type 0) (p : FileReader) (new : Parser)
@@ -273,7 +275,7 @@ refused_early limit most takes answers None left failed bytes e ready consumes w
 refused_early limit most takes answers (Some xs) None failed bytes e ready consumes within (inr (inr refused)) =
     absurd consumes
 refused_early limit most takes answers (Some xs) (Some ys) failed bytes e ready consumes within (inr (inr refused)) =
-    let prefix = complete_in_prefix true [] 1 bytes ys in
+    let prefix = complete_in_file bytes ys in
     inr (refuses_further limit takes answers (complete_words bytes) prefix.0 (words_of xs) e
     (ap words_of consumes ∙ prefix.1) refused)
 

@@ -9,8 +9,9 @@ use Rattle.vcd_text.specs.declared.fault.Fault.{Fault}
 use Rattle.vcd_text.specs.Words.{WordOnLine}
 use Rattle.vcd_text.specs.Letters.{is_among}
 use Rattle.vcd_core.specs.Word.{is_one_of}
-use Rattle.vcd_text.specs.Items.{spellings, header_word, header_words, is_other}
-use Rattle.vcd_text.specs.Items.{vector_prefixes, real_or_string_prefixes}
+use Rattle.vcd_text.specs.Items.{spellings, header_word, is_other}
+use Rattle.vcd_text.specs.inside.reading.Declarations.{header_words}
+use Rattle.vcd_text.specs.inside.reading.DigitTests.{vector_prefixes, real_or_string_prefixes}
 use Rattle.vcd_text.specs.Grammar.{ParseState, Accepts, word_texts}
 use Rattle.vcd_text.specs.Faults.{ShowsFault}
 use Rattle.vcd_text.specs.FoundFaults.{Stops, IsUnfinished}

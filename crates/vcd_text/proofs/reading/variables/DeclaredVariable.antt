@@ -23,7 +23,8 @@ use Rattle.vcd_core.specs.Decimal.{number_of}
 use Rattle.vcd_core.specs.Word.{is_skipped_kind}
 use Rattle.vcd_text.specs.Grammar.{VariableDeclaration, ValueChange, ParseState, is_skipped}
 use Rattle.vcd_text.specs.Grammar.{kept_variables}
-use Rattle.vcd_text.specs.Grammar.{variable_of, may_have_code, is_within_limit, declaration_of}
+use Rattle.vcd_text.specs.Grammar.{variable_of, may_have_code, declaration_of}
+use Rattle.vcd_text.specs.inside.reading.Variables.{is_within_limit}
 use Rattle.vcd_text.specs.Meaning.{latest_value}
 use Rattle.vcd_text.specs.inside.reading.Log.{logged}
 use Rattle.vcd_text.specs.declared.reading.log.LoggedChange.{LoggedChange}

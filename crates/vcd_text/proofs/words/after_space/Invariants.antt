@@ -1,5 +1,5 @@
 use Rattle.std.proofs.Common.{◌≡◌, ◌+◌, ◌≤◌, Bool, [], length}
-use Rattle.vcd_text.specs.Words.{words_from}
+use Rattle.vcd_text.specs.inside.Words.{words_from}
 use Rattle.vcd_text.specs.LineFeeds.{line_feeds_in}
 use Rattle.vcd_text.proofs.words.after_space.Given as goal
 

@@ -12,7 +12,8 @@ use Rattle.vcd_core.specs.Contents.{SignalContents, no_signal}
 use Rattle.vcd_text.specs.Items.{Item}
 use Rattle.vcd_text.specs.inside.writing.Transitions.{Transition, transition_of}
 use Rattle.vcd_text.specs.inside.writing.Transitions.{last_tick, new_stamp, transition_items, transitions_from}
-use Rattle.vcd_text.specs.Text.{differing, differs_at, item_line, with_stamp, tick_items}
+use Rattle.vcd_text.specs.Text.{differing, differs_at, item_line, with_stamp}
+use Rattle.vcd_text.specs.inside.writing.Transitions.{items_of_ticks}
 use Rattle.vcd_text.specs.Text.{value_items}
 
 -- the items of transitions after the stamp of a tick, and the stamp of the end
@@ -78,8 +79,8 @@ end_tick signals last t (p ∷ ps) later all =
 -- ---- all ticks
 
 ticks_left : (signals : List SignalContents) (n end last t : ℕ) → last < t → t + n ≡ end
-    → items_left signals end last (transitions_from 0 signals t (suc n)) ≡ tick_items signals end t (suc n)
-unfolding transitions_from tick_items
+    → items_left signals end last (transitions_from 0 signals t (suc n)) ≡ items_of_ticks signals end t (suc n)
+unfolding transitions_from items_of_ticks
 ticks_left signals zero end last t later at =
     let here : t ≡ end = omega arith in
     let stamp = eq-eqb t end here in
@@ -89,19 +90,19 @@ ticks_left signals (suc n) end last t later at =
     inner_tick signals end last t (differing signals t) (transitions_from 0 signals (suc t) (suc n)) _ later
     (all_differing signals t) (ticks_left signals n end last (suc t) (omega arith) (omega arith))
     (ticks_left signals n end t (suc t) (omega arith) (omega arith))
-    ∙ ap (λ b. with_stamp b t (value_items t (differing signals t)) ++ tick_items signals end (suc t) (suc n))
+    ∙ ap (λ b. with_stamp b t (value_items t (differing signals t)) ++ items_of_ticks signals end (suc t) (suc n))
     (sym stamp)
 
 ticks_from_one : (signals : List SignalContents) (end : ℕ)
-    → items_left signals end 0 (transitions_from 0 signals 1 end) ≡ tick_items signals end 1 end
-unfolding transitions_from tick_items transition_items last_tick
+    → items_left signals end 0 (transitions_from 0 signals 1 end) ≡ items_of_ticks signals end 1 end
+unfolding transitions_from items_of_ticks transition_items last_tick
 ticks_from_one signals zero = refl
 ticks_from_one signals (suc n) = ticks_left signals n (suc n) 0 1 (omega arith) (omega arith)
 
 -- the lines of all ticks past 0
 pub all_left : (signals : List SignalContents) (end : ℕ)
     → flat_map item_line (items_left signals end 0 (transitions_from 0 signals 1 (end + 1 - 1)))
-    ≡ flat_map item_line (tick_items signals end 1 end)
+    ≡ flat_map item_line (items_of_ticks signals end 1 end)
 all_left signals end = grind (arith, ticks_from_one)
 
 -- ---- windows one after another

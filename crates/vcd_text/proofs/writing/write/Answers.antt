@@ -10,7 +10,8 @@ use Rattle.vcd_core.specs.Contents.{Contents}
 use Rattle.vcd_core.specs.CaptureContents.{contents, signal_contents}
 use Rattle.vcd_core.specs.declared.device.Sink as sinks
 use Rattle.vcd_text.specs.declared.writing.output.Output.{Output}
-use Rattle.vcd_text.specs.Text.{first_items, item_line, text, tick_items}
+use Rattle.vcd_text.specs.Text.{first_items, item_line, text}
+use Rattle.vcd_text.specs.inside.writing.Transitions.{items_of_ticks}
 use Rattle.vcd_text.specs.inside.writing.Declarations.{declarations_text}
 use Rattle.vcd_text.specs.inside.writing.Output.{HasEmitted, Emits}
 use Rattle.vcd_text.proofs.writing.TextParts.{whole_text}
@@ -22,14 +23,14 @@ all_written : {W : Type 0} {sink : sinks.Ghosts W} {o0 o1 o2 o3 o4 : Output W} (
     (end : ℕ) → map signal_contents signals ≡ c.signals → end ≡ c.end → o0.unsent.items ≡ [] → o0.sent_count ≡ 0
     → Emits sink o0 o1 (declarations_text c)
     → Emits sink o1 o2 (flat_map item_line (first_items (map signal_contents signals)))
-    → Emits sink o2 o3 (flat_map item_line (tick_items (map signal_contents signals) end 1 end))
+    → Emits sink o2 o3 (flat_map item_line (items_of_ticks (map signal_contents signals) end 1 end))
     → Emits sink o3 o4 [] → HasEmitted sink (sink.taken o0.writer.now) o4 (text c)
 all_written c signals end same at empty none declarations first later sent =
     whole_written empty none
     (writes_as (append-nil _ ∙ ap (λ ss. declarations_text c ++ (flat_map item_line (first_items ss)
-    ++ flat_map item_line (tick_items ss end 1 end))) same
+    ++ flat_map item_line (items_of_ticks ss end 1 end))) same
     ∙ ap (λ e. declarations_text c ++ (flat_map item_line (first_items c.signals)
-    ++ flat_map item_line (tick_items c.signals e 1 e))) at
+    ++ flat_map item_line (items_of_ticks c.signals e 1 e))) at
     ∙ whole_text c)
     (writes_both (writes_both declarations (writes_both first later)) sent))
 

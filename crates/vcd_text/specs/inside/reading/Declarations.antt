@@ -1,8 +1,18 @@
--- The item that a word opens among the declarations.
+-- The words of declarations, and the item that a word opens among them.
 use Rattle.std.specs.Prelude.{◌≡◌, ℕ, Bool, true, false, List, IsTrue, codes}
-use Rattle.vcd_text.specs.Items.{header_word, is_other}
+use Rattle.std.specs.Prelude.{[], ◌∷◌, map, bytes_eq}
+use Rattle.vcd_core.specs.declared.capture.HeaderKind.TheVariants.{Date, Version, Comment}
+use Rattle.vcd_text.specs.Items.{end_word, header_word, is_other}
 use Rattle.vcd_text.specs.declared.reading.parser.OpenItem.{OpenItem}
 use Rattle.vcd_text.specs.declared.reading.parser.OpenItem.TheVariants as items
+
+-- whether a word is `$end`
+abbrev pub is_end_word : List ℕ → Bool
+is_end_word word = bytes_eq word end_word
+
+-- the keywords of header entries
+abbrev pub header_words : List (List ℕ)
+header_words = map header_word (Date ∷ Version ∷ Comment ∷ [])
 
 -- the word opens this item among the declarations
 abbrev pub Opens : OpenItem → List ℕ → Type 0

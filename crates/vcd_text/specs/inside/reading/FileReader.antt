@@ -9,7 +9,8 @@ use Rattle.vcd_core.specs.Word.{is_white_space}
 use Rattle.vcd_text.specs.declared.fault.ReadError.{ReadError}
 use Rattle.vcd_text.specs.declared.reading.file_reader.FileReader.{FileReader}
 use Rattle.vcd_text.specs.declared.reading.parser.Parser.{Parser}
-use Rattle.vcd_text.specs.Words.{WordOnLine, words_from, complete_words, last_line}
+use Rattle.vcd_text.specs.Words.{WordOnLine, complete_words, last_line}
+use Rattle.vcd_text.specs.inside.Words.{words_from}
 use Rattle.vcd_core.specs.Contents.{SignalContents}
 use Rattle.vcd_text.specs.Parts.{ChoiceAnswers, told}
 use Rattle.vcd_text.specs.inside.reading.Choice.{HasTakenFrom, RefusesWords}

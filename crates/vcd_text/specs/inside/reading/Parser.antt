@@ -14,9 +14,10 @@ use Rattle.vcd_core.specs.CaptureContents.{contents}
 use Rattle.vcd_text.specs.declared.reading.Loaded.{Loaded}
 use Rattle.vcd_text.specs.inside.reading.OpenItems.{is_nothing, is_end_definitions}
 use Rattle.vcd_text.specs.Letters.{is_among}
-use Rattle.vcd_text.specs.Items.{Item, spelling, spellings, has_no_end_word, end_word, is_end_word}
+use Rattle.vcd_text.specs.Items.{Item, spelling, spellings, has_no_end_word, end_word}
+use Rattle.vcd_text.specs.inside.reading.Declarations.{is_end_word}
 use Rattle.vcd_text.specs.Items.{header_word, is_other}
-use Rattle.vcd_text.specs.Items.{vector_prefixes, real_or_string_prefixes}
+use Rattle.vcd_text.specs.inside.reading.DigitTests.{vector_prefixes, real_or_string_prefixes}
 use Rattle.vcd_text.specs.Grammar.{ParseState, AllowsAll, state_after, state_after_item}
 use Rattle.vcd_text.specs.Grammar.{Allows}
 use Rattle.vcd_text.specs.Grammar.{initial_state, ValueChange, kept_variables}

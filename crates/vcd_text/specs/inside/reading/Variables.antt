@@ -1,7 +1,8 @@
 -- The variables of the parser, compared with the state of a file.
 use Rattle.std.specs.Prelude.{◌≡◌, ◌⊎◌, ℕ, ◌<◌, ◌≤◌, if◌then◌else◌, nat_le, List, [], ◌∷◌, ◌++◌}
 use Rattle.std.specs.Prelude.{map, length, slice_get, take, ◌+◌, min}
-use Rattle.std.specs.Prelude.{count_by, All, Option, Some, None, IsTrue, IsFalse, IsSomeAnd, Result}
+use Rattle.std.specs.Prelude.{Bool, ◌||◌, nat_lt, count_by, All, Option, Some, None, IsTrue}
+use Rattle.std.specs.Prelude.{IsFalse, IsSomeAnd, Result}
 use Rattle.std.specs.Prelude.{Ok, Err}
 use Rattle.vcd_core.specs.declared.value.TheConstants.{WIDTH_LIMIT}
 use Rattle.vcd_core.specs.Decimal.{number_of}
@@ -17,7 +18,7 @@ use Rattle.vcd_text.specs.Letters.{letters_of_digits, extension}
 use Rattle.vcd_text.specs.Items.{variable}
 use Rattle.vcd_text.specs.Grammar.{VariableDeclaration, ValueChange, ParseState, is_skipped}
 use Rattle.vcd_text.specs.Grammar.{kept_variables}
-use Rattle.vcd_text.specs.Grammar.{declaration_of, variable_of, may_have_code, is_within_limit}
+use Rattle.vcd_text.specs.Grammar.{declaration_of, variable_of, may_have_code}
 use Rattle.vcd_text.specs.Grammar.{variable_tests}
 use Rattle.vcd_core.specs.Tests.{first_fault}
 use Rattle.vcd_text.specs.inside.reading.DigitTests.{is_binary_number}
@@ -132,6 +133,10 @@ abbrev pub IsFree : Variables → (code : List ℕ) → (width first : ℕ) → 
 IsFree vs code width first =
     ((target_of vs code ≡ Undeclared) × (first ≡ length vs.kept.items))
     ⊎ (target_of vs code ≡ Kept width first)
+
+-- whether a variable is skipped, or those that are kept are below their limit
+abbrev pub is_within_limit : (limit : ℕ) → List VariableDeclaration → VariableDeclaration → Bool
+is_within_limit limit declared d = is_skipped d || nat_lt (length (kept_variables declared)) limit
 
 -- the state with this declaration added last
 abbrev pub with_declaration : ParseState → VariableDeclaration → ParseState

@@ -4,11 +4,12 @@ use Rattle.std.specs.Prelude.{ℕ, zero, suc, ◌+◌, ◌==◌, if◌then◌els
 use Rattle.std.specs.Prelude.{◌&&◌, Bool, nat_le}
 use Rattle.std.specs.Prelude.{nat_lt, slice_index_or}
 use Rattle.std.specs.List.{filter, enumerate_from}
+use Rattle.std.specs.Prelude.{decimal}
 use Rattle.vcd_core.specs.declared.bit.Bit.{Bit}
 use Rattle.vcd_core.specs.declared.wave.Change.{Change}
 use Rattle.vcd_core.specs.Contents.{SignalContents, no_signal, signal_value}
-use Rattle.vcd_text.specs.Items.{Item}
-use Rattle.vcd_text.specs.Text.{code_of, differs_at, stamp_of, value_item}
+use Rattle.vcd_text.specs.Items.{Item, stamp}
+use Rattle.vcd_text.specs.Text.{code_of, differs_at, tick_items, value_item}
 
 -- a signal changes at a tick
 pub record Transition : Type 0 where
@@ -49,6 +50,16 @@ unsorted_window from to position (s ∷ ss) =
 -- the value that a signal changes to
 abbrev pub transition_value : List SignalContents → Transition → List Bit
 transition_value signals m = signal_value (slice_index_or signals m.position no_signal) m.tick
+
+-- the stamp of a tick
+abbrev pub stamp_of : ℕ → Item
+stamp_of t = stamp (decimal t)
+
+-- the values that differ at each of n ticks, from t on
+unfoldable pub items_of_ticks : List SignalContents → (end : ℕ) → ℕ → ℕ → List Item
+items_of_ticks signals end t zero = []
+items_of_ticks signals end t (suc n) =
+    tick_items signals end t ++ items_of_ticks signals end (suc t) n
 
 -- the stamp of a tick, if it differs from the one before
 abbrev pub new_stamp : ℕ → ℕ → List Item

@@ -11,7 +11,7 @@ use Rattle.std.proofs.lemmas.List.{length-append, length-take, length-drop}
 use Rattle.vcd_core.specs.Contents.{Contents}
 use Rattle.vcd_core.specs.Sound.{IsSound}
 use Rattle.vcd_core.specs.declared.capture.TheConstants.{SIGNAL_LIMIT}
-use Rattle.vcd_text.specs.Words.{words_from}
+use Rattle.vcd_text.specs.Words.{words_of}
 use Rattle.vcd_text.specs.Text.{text}
 use Rattle.vcd_text.specs.Meaning.{FileMeans}
 use Rattle.vcd_text.proofs.shared.ResultIsUnique.{one_meaning}
@@ -130,7 +130,7 @@ module _ (c : Contents) (skipped depth : ℕ) (lines : List (List ℕ)) where
   next_from : (h : History) (left : List (List ℕ)) (count : ℕ) →
       fold (history_after_line c skipped) h (take (suc count) left)
       ≡ history_after_line c skipped (fold (history_after_line c skipped) h (take count left)) (get_or left count [])
-  unfolding line_reply command_of_line words_from
+  unfolding line_reply command_of_line words_of
   next_from h [] zero = refl
   next_from h [] (suc count) = refl
   next_from h (line ∷ left) zero = refl

@@ -9,7 +9,8 @@ use Rattle.vcdedit.specs.declared.script.decoders.SpiLines.{SpiLines}
 use Rattle.vcdedit.specs.declared.script.line_error.LineError.{LineError}
 use Rattle.vcdedit.specs.ScriptWords.{◌>>=◌, number_of_word}
 use Rattle.vcdedit.specs.DecoderWords.{order_of_word, one_bit_signal}
-use Rattle.vcdedit.specs.DecoderWords.{one_bit_signal_or_absent, faultless_spi}
+use Rattle.vcdedit.specs.DecoderWords.{one_bit_signal_or_absent, faultless}
+use Rattle.vcd_decode.specs.SetupFaults.{spi_fault}
 
 -- the command of `spi` for these signals and numbers, which are tested
 abbrev pub checked_spi_command : Contents → SpiLines → ℕ → ℕ → BitOrder → Result Command LineError
@@ -18,7 +19,7 @@ checked_spi_command c lines mode bits order = do
   out_line ← one_bit_signal_or_absent c lines.mosi
   in_line ← one_bit_signal_or_absent c lines.miso
   select_line ← one_bit_signal_or_absent c lines.cs
-  setup ← faultless_spi (spi_setup mode bits order)
+  setup ← faultless spi_fault (spi_setup mode bits order)
   Ok (commands.Spi clock out_line in_line select_line setup)
 
 -- `MODE BITS ORDER` after these signals

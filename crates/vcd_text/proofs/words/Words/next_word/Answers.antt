@@ -1,6 +1,6 @@
 use Rattle.std.proofs.Common.{arith}
 use Rattle.std.proofs.lemmas.Bool.{eqb-true, eqb-false}
-use Rattle.vcd_text.specs.Words.{words_from}
+use Rattle.vcd_text.specs.inside.Words.{words_from}
 use Rattle.vcd_text.proofs.words.WordsInTurn.{word_split, no_word, line_feeds_after}
 use Rattle.vcd_text.proofs.words.Words.next_word.Goals as goal
 

@@ -4,7 +4,8 @@ use Rattle.std.specs.List.{flat_map}
 use Rattle.vcd_core.specs.declared.capture.Header.{Header}
 use Rattle.vcd_core.specs.declared.capture.Signal.{Signal}
 use Rattle.vcd_core.specs.CaptureContents.{signal_contents}
-use Rattle.vcd_text.specs.Text.{header_items, item_line, signal_items, timescale_items}
+use Rattle.vcd_text.specs.Text.{item_line, signal_items, timescale_items}
+use Rattle.vcd_text.specs.inside.writing.Declarations.{header_items}
 use Rattle.vcd_text.proofs.writing.output.Pieces.{writes_as, writes_both}
 use Rattle.vcd_text.proofs.writing.declarations.write_declarations.Goals as goal
 

@@ -2,7 +2,8 @@
 use Rattle.std.proofs.Common.{◌≤◌, ◌+◌, ◌-◌, map}
 use Rattle.std.specs.List.{flat_map}
 use Rattle.vcd_core.specs.CaptureContents.{signal_contents}
-use Rattle.vcd_text.specs.Text.{item_line, tick_items}
+use Rattle.vcd_text.specs.Text.{item_line}
+use Rattle.vcd_text.specs.inside.writing.Transitions.{items_of_ticks}
 use Rattle.vcd_text.specs.inside.writing.Transitions.{transitions_from}
 use Rattle.vcd_text.specs.inside.writing.Window.{IsReady}
 use Rattle.vcd_text.proofs.writing.transitions.ItemsOfTicks.{items_left}
@@ -15,7 +16,7 @@ invariant-loop-from g l =
       text : WritesPrefix g.W.Sink l.initial.output l.output
           (flat_map item_line (items_left (map signal_contents l.signals) l.end l.last
           (transitions_from 0 (map signal_contents l.signals) l.from (l.end + 1 - l.from))))
-          (flat_map item_line (tick_items (map signal_contents l.signals) l.end 1 l.end));
+          (flat_map item_line (items_of_ticks (map signal_contents l.signals) l.end 1 l.end));
       ready : IsReady l.end l.from l.signals l.window;
       within : l.from ≤ l.end + 1;
       some : 1 ≤ l.most;

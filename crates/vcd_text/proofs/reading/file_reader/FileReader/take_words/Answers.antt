@@ -10,6 +10,7 @@ use Rattle.vcd_text.specs.inside.reading.Choice.{HasTakenFrom}
 use Rattle.vcd_text.specs.inside.reading.FileReader.{TakesChunk, HasTaken}
 use Rattle.vcd_text.proofs.reading.file_reader.Chunks.{now_taken, now_refused, word_is_first}
 use Rattle.vcd_text.proofs.words.WordsInTurn.{words_are_few}
+use Rattle.vcd_text.proofs.words.WordsByBytes.{complete_are_few}
 use Rattle.vcd_text.proofs.reading.file_reader.FileReader.take_words.Goals as goal
 
 pub read_words-requires : goal.read_words-requires
@@ -20,7 +21,7 @@ read_words-requires g c =
       (
         complete_words come.before,
         come.taken.taken_words,
-        grind (arith, word_is_first most, length-append, length-take, words_are_few),
+        grind (arith, word_is_first most, length-append, length-take, words_are_few, complete_are_few),
       ),
     )
 
