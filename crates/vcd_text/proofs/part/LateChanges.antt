@@ -1,20 +1,18 @@
 -- No value change of an accepted file is past its last tick.
 use Rattle.std.proofs.Common.{◌≡◌, ℕ, ◌≤◌, Bool, true, false, if◌then◌else◌, ◌&&◌, nat_le, List, [], ◌∷◌, ◌++◌, All}
 use Rattle.std.proofs.Common.{arith}
-use Rattle.std.proofs.Common.{Option, Some, None, refl, sym, ap, subst, ◌∙◌}
+use Rattle.std.proofs.Common.{Option, Some, None, refl, sym, ap, ◌∙◌}
 use Rattle.std.specs.Prelude.{bytes_eq}
 use Rattle.std.proofs.lemmas.Bool.{le-leb}
 use Rattle.std.proofs.lemmas.List.{append-nil}
-use Rattle.std.proofs.lemmas.List.Elements.{All-head, All-tail, All-push, All-weaker}
+use Rattle.std.proofs.lemmas.List.Elements.{All-head, All-tail, All-push}
 use Rattle.vcd_core.specs.declared.bit.Bit.{Bit}
-use Rattle.vcd_core.specs.Decimal.{number_of}
 use Rattle.vcd_text.specs.Letters.{extension}
-use Rattle.vcd_text.specs.Items.{Item, entry, timescale, scope, upscope, variable, end_definitions, stamp, scalar}
-use Rattle.vcd_text.specs.Items.{vector, real_or_string, dump_word, other}
+use Rattle.vcd_text.specs.Items.{Item}
 use Rattle.vcd_text.specs.Grammar.{VariableDeclaration, ValueChange, ParseState, AllowsAll, state_after}
 use Rattle.vcd_text.specs.Grammar.{Allows}
 use Rattle.vcd_text.proofs.shared.ItemTests.{has_tick}
-use Rattle.vcd_text.specs.Grammar.{state_after_item, is_skipped, variable_of, value_changes_after}
+use Rattle.vcd_text.specs.Grammar.{state_after_item, is_skipped, value_changes_after}
 use Rattle.vcd_text.specs.Meaning.{latest_value}
 
 -- no value change is past the tick
@@ -24,40 +22,25 @@ UpToTick tick rs = All (λ (r : ValueChange). r.tick ≤ tick) rs
 -- ---- items
 
 one_more : (c : ParseState) (code : List ℕ) (letters : List Bit) (o : Option VariableDeclaration)
-    → UpToTick c.tick c.value_changes
-    → UpToTick c.tick (c.value_changes ++ value_changes_after c code letters o)
-one_more c code letters None late = subst (UpToTick c.tick) (sym (append-nil c.value_changes)) late
+    → UpToTick c.tick c.value_changes → UpToTick c.tick (c.value_changes ++ value_changes_after c code letters o)
+one_more c code letters None late = rw (append-nil c.value_changes) late
 one_more c code letters (Some d) late = choose (is_skipped d)
   where
     r : ValueChange
     r = record { tick = c.tick; code = code; letters = letters }
 
     choose : (b : Bool) → UpToTick c.tick (c.value_changes ++ (if b then [] else r ∷ []))
-    choose true = subst (UpToTick c.tick) (sym (append-nil c.value_changes)) late
+    choose true = rw (append-nil c.value_changes) late
     choose false = All-push (λ (r : ValueChange). r.tick ≤ c.tick) c.value_changes r late (omega arith)
 
 late_after_item : (c : ParseState) (i : Item) → Allows c i → UpToTick c.tick c.value_changes
     → UpToTick (state_after_item c i).tick (state_after_item c i).value_changes
-late_after_item c (entry kind words) allows late = late
-late_after_item c (timescale words) allows late = late
-late_after_item c (scope kind words) allows late = late
-late_after_item c upscope allows late = late
-late_after_item c (variable words) allows late = late
-late_after_item c end_definitions allows late = late
-late_after_item c (stamp digits) allows late =
-    All-weaker (λ (r : ValueChange). r.tick ≤ c.tick) (λ (r : ValueChange). r.tick ≤ number_of digits)
-    (λ r le. omega (arith, le, (has_tick c digits allows).1)) c.value_changes late
-late_after_item c (scalar digit code) allows late = one_more c code _ (variable_of c code) late
-late_after_item c (vector first digits code) allows late = one_more c code _ (variable_of c code) late
-late_after_item c (real_or_string first text code) allows late = late
-late_after_item c (dump_word word) allows late = late
-late_after_item c (other word words) allows late = late
+late_after_item c i allows late = grind (arith, has_tick, one_more)
 
 pub late_after : (c : ParseState) (is : List Item) → AllowsAll c is → UpToTick c.tick c.value_changes
     → UpToTick (state_after c is).tick (state_after c is).value_changes
 late_after c [] allows late = late
-late_after c (i ∷ is) (allows, rest) late =
-    late_after (state_after_item c i) is rest (late_after_item c i allows late)
+late_after c (i ∷ is) (allows, rest) late = late_after (state_after_item c i) is rest (late_after_item c i allows late)
 
 -- ---- values
 

@@ -1,15 +1,14 @@
 -- The capture of a part: what the value changes that were kept mean.
-use Rattle.std.proofs.Common.{◌≡◌, ℕ, suc, ◌+◌, ◌≤◌, Bool, true, false, if◌then◌else◌, List, []}
-use Rattle.std.proofs.Common.{◌∷◌, map, Some, inl, inr, refl, sym, ap, ◌∙◌, arith}
+use Rattle.std.proofs.Common.{◌≡◌, ℕ, suc, ◌≤◌, Bool, true, false, if◌then◌else◌, List, []}
+use Rattle.std.proofs.Common.{◌∷◌, map, Some, refl, arith}
 use Rattle.std.specs.Prelude.{IsFalse, nat_le, slice_get, slice_index_or}
 use Rattle.std.proofs.lemmas.Bool.{cases_lt, le-leb}
 use Rattle.vcd_core.specs.declared.bit.Bit.{Bit}
 use Rattle.vcd_core.specs.declared.wave.Change.{Change}
-use Rattle.vcd_core.specs.Value.{all_x}
-use Rattle.vcd_core.specs.Wave.{value_from, value_at, changes_of, AllUpTo}
+use Rattle.vcd_core.specs.Wave.{value_from, AllUpTo}
 use Rattle.vcd_core.proofs.shared.Waves.{changes_same, value_at-changes_of, changes_end}
 use Rattle.vcd_text.specs.Grammar.{VariableDeclaration, ValueChange, ParseState, kept_variables}
-use Rattle.vcd_text.specs.Meaning.{latest_value, declared_signal, meaning}
+use Rattle.vcd_text.specs.Meaning.{declared_signal, meaning}
 use Rattle.vcd_text.specs.Parts.{part_of_signal}
 use Rattle.vcd_text.specs.declared.reading.part.Part.{Part}
 use Rattle.vcd_text.specs.inside.reading.Part.{seen_tick, TellsPart, remaining, listed_part}
@@ -47,28 +46,10 @@ pub value_stays : (end t : ℕ) (before : List Bit) (cs : List Change) → end �
 unfolding value_from
 value_stays end t before [] past upto = refl
 value_stays end t before (c ∷ cs) past (here, rest) =
-    ap (λ b. value_from (if b then c.value else before) cs t)
-    (le-leb c.tick t (omega (arith, here, past)) ∙ sym (le-leb c.tick end here))
-    ∙ value_stays end t (if nat_le c.tick end then c.value else before) cs past rest
+    grind (arith, le-leb, value_stays end t (if nat_le c.tick end then c.value else before) cs past rest)
 
 module _ (part : Part) (c : ParseState) (seen : List ValueChange) (tells : TellsPart part c seen)
     (late : UpToTick c.tick c.value_changes) where
-  -- the value in the file, and in its meaning
-  file_value : (d : VariableDeclaration) (t : ℕ)
-      → latest_value d.size d.code t (all_x d.size) c.value_changes
-      ≡ value_at d.size (changes_of d.size c.tick
-      (λ u. latest_value d.size d.code u (all_x d.size) c.value_changes)) t
-  file_value d t =
-      let f : ℕ → List Bit = λ u. latest_value d.size d.code u (all_x d.size) c.value_changes in
-      elim (cases_lt c.tick t) [
-        | inl past ↦
-            latest_past d.size d.code c.tick t (all_x d.size) c.value_changes (omega (arith, past)) late
-            ∙ sym (value_at-changes_of d.size c.tick c.tick f (omega arith))
-            ∙ sym (value_stays c.tick t (all_x d.size) (changes_of d.size c.tick f) (omega (arith, past))
-            (changes_end d.size c.tick f))
-        | inr within ↦ sym (value_at-changes_of d.size c.tick t f within)
-      ]
-
   -- the signal of a variable that remains
   signal_of_part : (position : ℕ) (d : VariableDeclaration)
       → slice_get (kept_variables c.declared) position ≡ Some d
@@ -76,24 +57,10 @@ module _ (part : Part) (c : ParseState) (seen : List ValueChange) (tells : Tells
       → declared_signal seen (seen_tick part c.tick) d
       ≡ part_of_signal part.first (seen_tick part c.tick) (declared_signal c.value_changes c.tick d)
   signal_of_part position d at remains =
-      let changes = changes_same d.size (seen_tick part c.tick)
-      (λ t. latest_value d.size d.code t (all_x d.size) seen)
-      (λ t. value_at d.size (changes_of d.size c.tick
-      (λ u. latest_value d.size d.code u (all_x d.size) c.value_changes)) (part.first + t))
-      (λ t within. tells position d (at, remains) t (omega (arith, within))
-      ∙ file_value d (part.first + t)) in
-      λ i. record {
-        scopes = d.scopes;
-        kind = d.kind;
-        words = d.words;
-        width = d.size;
-        changes = changes i;
-      }
+      grind (arith, changes_same, cases_lt, latest_past, value_at-changes_of, value_stays, changes_end)
 
   -- the signals of a part
   pub signals_of_part : remaining part.left_out.items
       (map (declared_signal seen (seen_tick part c.tick)) (kept_variables c.declared))
       ≡ (listed_part part (meaning c)).signals
-  signals_of_part =
-      same_remaining (declared_signal seen (seen_tick part c.tick)) (declared_signal c.value_changes c.tick)
-      (part_of_signal part.first (seen_tick part c.tick)) part.left_out.items (kept_variables c.declared) signal_of_part
+  signals_of_part = grind (arith, same_remaining, signal_of_part)

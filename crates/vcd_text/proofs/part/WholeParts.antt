@@ -5,110 +5,62 @@ use Rattle.std.proofs.lemmas.List.{length-map, length-replicate}
 use Rattle.std.proofs.lemmas.List.Elements.{All-head, All-tail, All-map, All-filter}
 use Rattle.vcd_core.specs.declared.bit.Bit.{Bit}
 use Rattle.vcd_core.specs.declared.wave.Change.{Change}
-use Rattle.vcd_core.specs.Value.{all_x}
-use Rattle.vcd_core.specs.Wave.{value_from, value_at, AreChangesFrom}
-use Rattle.vcd_core.specs.Contents.{Contents, SignalContents, signal_value}
+use Rattle.vcd_core.specs.Wave.{value_from, AreChangesFrom}
+use Rattle.vcd_core.specs.Contents.{Contents, SignalContents}
 use Rattle.vcd_core.specs.Sound.{IsSound, IsSoundSignal}
 use Rattle.vcd_core.proofs.shared.Waves.{wave_is, changes_rise, changes_end}
 use Rattle.vcd_text.specs.Meaning.{FileMeans}
-use Rattle.std.proofs.Common.{suc, not, cond, ◌++◌, inl, inr}
+use Rattle.std.proofs.Common.{suc, not, cond, inl, inr}
 use Rattle.std.specs.Prelude.{filter}
 use Rattle.std.proofs.lemmas.List.Sums.{length-filter, count_by-le-length}
 use Rattle.vcd_core.specs.CaptureContents.{contents}
 use Rattle.vcd_core.specs.declared.capture.Timescale.{Timescale}
-use Rattle.vcd_text.specs.Meaning.{meaning, declared_signal}
 use Rattle.vcd_text.specs.Refusals.{IsRefusal}
-use Rattle.vcd_text.specs.Items.{end_definitions}
 use Rattle.vcd_text.specs.Parts.{Answers, without_changes, part_of_signal, part_of, PartMeans, IsPartRefusal}
-use Rattle.vcd_text.specs.Parts.{signals_of, too_many_remain, declined}
+use Rattle.vcd_text.specs.Parts.{too_many_remain, declined}
 use Rattle.vcd_text.specs.inside.reading.Part.{Asked, remaining, all_ticks}
 use Rattle.vcd_text.specs.inside.reading.Parser.{MeansListed}
-use Rattle.vcd_text.specs.inside.reading.Choice.{IsAnswered, LeavesOut, ticks_of}
+use Rattle.vcd_text.specs.inside.reading.Choice.{IsAnswered, LeavesOut}
 use Rattle.vcd_text.specs.declared.fault.ReadError.{ReadError}
 use Rattle.vcd_text.specs.declared.reading.Loaded.{Loaded}
 use Rattle.vcd_text.specs.declared.reading.choice.TickRange.{TickRange}
 use Rattle.vcd_text.specs.declared.reading.TheConstants.{FILE_LIMIT}
 use Rattle.vcd_text.proofs.shared.SoundMeaning.{IsSoundBut, meaning_is_sound_but}
-use Rattle.vcd_text.proofs.part.FewSignals.{KeepsFew, few_after, same_limit}
-use Rattle.vcd_text.specs.Grammar.{ParseState, initial_state, kept_variables}
+use Rattle.vcd_text.proofs.part.FewSignals.{few_after, same_limit}
 use Rattle.vcd_core.specs.declared.capture.TheConstants.{SIGNAL_LIMIT}
 
 -- ---- soundness
-
-wide_choice : (width : ℕ) (b : Bool) (u v : List Bit) → length u ≡ width → length v ≡ width
-    → length (if b then u else v) ≡ width
-wide_choice width true u v wide_u wide_v = wide_u
-wide_choice width false u v wide_u wide_v = wide_v
 
 -- each value of a wave has its width
 values_wide : (width floor t : ℕ) (before last : List Bit) (cs : List Change) → length before ≡ width
     → length last ≡ width → AreChangesFrom floor last cs → length (value_from before cs t) ≡ width
 unfolding value_from
 values_wide width floor t before last [] wide wide_last rise = wide
-values_wide width floor t before last (c ∷ cs) wide wide_last (from, differs, long, rest) =
-    values_wide width (c.tick + 1) t (if nat_le c.tick t then c.value else before) c.value cs
-    (wide_choice width (nat_le c.tick t) c.value before (long ∙ wide_last) wide) (long ∙ wide_last) rest
+values_wide width floor t before last (c ∷ cs) wide wide_last (from, differs, long, rest) = values_wide width
+    (c.tick + 1) t (if nat_le c.tick t then c.value else before) c.value cs (grind arith) (long ∙ wide_last) rest
 
 sound_signal : (first end end_of_part : ℕ) (s : SignalContents) → IsSoundSignal end s
     → IsSoundSignal end_of_part (part_of_signal first end_of_part s)
-sound_signal first end end_of_part s sound = record {
-  scopes = sound.scopes;
-  kind = sound.kind;
-  kept = sound.kept;
-  named = sound.named;
-  words = sound.words;
-  least = sound.least;
-  most = sound.most;
-  wave = changes_rise s.width end_of_part (λ t. signal_value s (first + t))
-      (λ t. values_wide s.width 0 (first + t) (all_x s.width) (all_x s.width) s.changes (length-replicate s.width _)
-      (length-replicate s.width _) sound.wave.rise);
-  ticks = changes_end s.width end_of_part (λ t. signal_value s (first + t));
-}
+sound_signal first end end_of_part s sound = search (arith, changes_rise, values_wide, length-replicate, changes_end)
 
 one_test : (s : SignalContents) (t b : Bool) (xs ys : List SignalContents) → b ≡ not t → xs ≡ ys
     → (if b then xs else s ∷ xs) ≡ cond t (s ∷ ys) ys
-one_test s true true xs ys is same = let both : true ≡ false = is in absurd (cc)
-one_test s true false xs ys is same = ap (λ zs. s ∷ zs) same
-one_test s false true xs ys is same = same
-one_test s false false xs ys is same = let both : false ≡ true = is in absurd (cc)
+one_test s t b xs ys is same = grind arith
 
 -- the part by a list of tests is the part by the test that they are of
 filtered : (takes : SignalContents → Bool) (out : List Bool) (ss : List SignalContents)
     → LeavesOut takes (map without_changes ss) out → remaining out ss ≡ filter (λ s. takes (without_changes s)) ss
 filtered takes [] [] leaves = refl
-filtered takes [] (s ∷ ss) leaves =
-    one_test s (takes (without_changes s)) false ss _ (leaves 0 (without_changes s) refl)
-    (filtered takes [] ss (λ position t at. leaves (suc position) t at))
+filtered takes [] (s ∷ ss) leaves = one_test s (takes (without_changes s)) false ss _
+    (leaves 0 (without_changes s) refl) (filtered takes [] ss (λ position t at. leaves (suc position) t at))
 filtered takes (b ∷ out) [] leaves = refl
-filtered takes (b ∷ out) (s ∷ ss) leaves =
-    one_test s (takes (without_changes s)) b (remaining out ss) _ (leaves 0 (without_changes s) refl)
-    (filtered takes out ss (λ position t at. leaves (suc position) t at))
+filtered takes (b ∷ out) (s ∷ ss) leaves = one_test s (takes (without_changes s)) b (remaining out ss) _
+    (leaves 0 (without_changes s) refl) (filtered takes out ss (λ position t at. leaves (suc position) t at))
 
-pub part_is_meant : (limit : ℕ) (takes : SignalContents → Bool) (answers : Answers) (bytes : List ℕ)
-    (loaded : Loaded)
+pub part_is_meant : (limit : ℕ) (takes : SignalContents → Bool) (answers : Answers) (bytes : List ℕ) (loaded : Loaded)
     (asked : Asked) → MeansListed limit asked bytes loaded → IsAnswered takes answers asked
     → PartMeans limit takes answers bytes loaded
-part_is_meant limit takes answers bytes loaded asked means answered =
-    let whole = means.whole in
-    let part = asked.part in
-    let signals = filtered takes part.left_out.items whole.signals
-    (subst (λ ss. LeavesOut takes ss part.left_out.items) (sym means.signals) answered.leaves) in
-    record {
-      whole = whole;
-      means = means.means;
-      ticks = ticks_of part;
-      answered = subst (λ ss. answers whole.timescale ss (Some (ticks_of part))) (sym means.signals)
-          (subst (λ t. answers t asked.signals (Some (ticks_of part))) (sym means.timescale) answered.answered);
-      is = means.is ∙ ap (λ ss. record whole {
-        end = min part.last whole.end - part.first;
-        signals = map (part_of_signal part.first (min part.last whole.end - part.first)) ss;
-      }) signals;
-      end = means.end;
-      count = means.count;
-    }
-
-fewer_pass : {A : Type 0} (p : A → Bool) (xs : List A) → length (filter p xs) ≤ length xs
-fewer_pass p xs = omega (arith, length-filter p xs, count_by-le-length p xs)
+part_is_meant limit takes answers bytes loaded asked means answered = grind (arith, filtered)
 
 -- a part of a sound capture is sound, if few signals remain
 pub part_is_sound : (takes : SignalContents → Bool) (ticks : TickRange) (c : Contents) → IsSoundBut c
@@ -127,21 +79,14 @@ part_is_sound takes ticks c sound few =
     }
 
 -- the meaning of a file is sound
-file_is_sound : (limit : ℕ) (file : List ℕ) (c : Contents) (skipped : ℕ) → FileMeans limit file c skipped
-    → IsSoundBut c
-file_is_sound limit file c skipped means =
-    subst IsSoundBut (sym means.means) (meaning_is_sound_but limit file means.state means.accepted)
+file_is_sound : (limit : ℕ) (file : List ℕ) (c : Contents) (skipped : ℕ) → FileMeans limit file c skipped → IsSoundBut c
+file_is_sound limit file c skipped means = rw means.means (meaning_is_sound_but limit file means.state means.accepted)
 
 -- as many signals are taken as are taken of them without changes
 taken_long : (takes : SignalContents → Bool) (ss : List SignalContents)
     → length (filter (λ s. takes (without_changes s)) ss) ≡ length (filter takes (map without_changes ss))
 taken_long takes [] = refl
-taken_long takes (s ∷ ss) = one_long (takes (without_changes s)) _ _ (taken_long takes ss)
-  where
-    one_long : (b : Bool) (xs ys : List SignalContents) → length xs ≡ length ys
-        → length (cond b (s ∷ xs) xs) ≡ length (cond b (without_changes s ∷ ys) ys)
-    one_long true xs ys same = omega (arith, same)
-    one_long false xs ys same = same
+taken_long takes (s ∷ ss) = grind (arith, taken_long takes ss)
 
 pub meant_is_sound : (limit : ℕ) (takes : SignalContents → Bool) (answers : Answers) (file : List ℕ)
     (loaded : Loaded) (asked : Asked) → MeansListed limit asked file loaded → IsAnswered takes answers asked
@@ -149,8 +94,7 @@ pub meant_is_sound : (limit : ℕ) (takes : SignalContents → Bool) (answers : 
 unfolding part_is_meant
 meant_is_sound limit takes answers file loaded asked means answered =
     let part = part_is_meant limit takes answers file loaded asked means answered in
-    subst IsSound (sym part.is)
-    (part_is_sound takes part.ticks means.whole
+    rw part.is (part_is_sound takes part.ticks means.whole
     (file_is_sound limit file means.whole loaded.skipped means.means)
     (omega (
       arith,
@@ -162,10 +106,7 @@ meant_is_sound limit takes answers file loaded asked means answered =
 -- ---- the whole
 
 same_signal : (first end : ℕ) (s : SignalContents) → first ≡ 0 → IsSoundSignal end s → part_of_signal first end s ≡ s
-same_signal first end s none sound =
-    let changes = wave_is s.width end s.changes (λ t. signal_value s (first + t)) sound.wave sound.ticks
-    (λ t within. let at : t ≡ first + t = omega (arith, none) in ap (value_at s.width s.changes) at) in
-    λ i. record s { changes = sym changes i }
+same_signal first end s none sound = grind (arith, wave_is)
 
 same_signals : (first end : ℕ) (ss : List SignalContents) → first ≡ 0 → All (IsSoundSignal end) ss
     → map (part_of_signal first end) ss ≡ ss
@@ -185,12 +126,10 @@ pub whole_is : (takes : SignalContents → Bool) (ticks : TickRange) (c : Conten
     → ticks.first ≡ 0 → c.end ≤ ticks.last → All (IsSoundSignal c.end) c.signals → part_of takes ticks c ≡ c
 whole_is takes ticks c all first last sound =
     let end : min ticks.last c.end - ticks.first ≡ c.end = omega (arith, first, last) in
-    let signals = ap (λ (p : SignalContents → Bool). map
-    (part_of_signal ticks.first (min ticks.last c.end - ticks.first))
-    (filter p c.signals)) (λ i s. all (without_changes s) i)
-    ∙ ap (map (part_of_signal ticks.first (min ticks.last c.end - ticks.first))) (all_pass c.signals)
-    ∙ ap (λ n. map (part_of_signal ticks.first n) c.signals) end
-    ∙ same_signals ticks.first c.end c.signals first sound in
+    let signals = ap (λ (p : SignalContents → Bool). map (part_of_signal ticks.first
+    (min ticks.last c.end - ticks.first)) (filter p c.signals)) (λ i s. all (without_changes s) i) ∙ ap (map
+    (part_of_signal ticks.first (min ticks.last c.end - ticks.first))) (all_pass c.signals) ∙ ap (λ n. map
+    (part_of_signal ticks.first n) c.signals) end ∙ same_signals ticks.first c.end c.signals first sound in
     λ i. record c { end = end i; signals = signals i }
 
 -- what is loaded of all signals at all ticks is what the file means
@@ -230,27 +169,12 @@ whole_extent_of_read (Some file) answers loaded all (short, means) =
     (means.end ∙ ap (λ (c : Contents). c.end) same, means.count ∙ ap (λ (c : Contents). length c.signals) same)
 
 -- all signals of a file are few enough, and all ticks are answered
-pub no_part_refusal_of_read : (answers : Answers) (coming : Option (List ℕ)) (failed : Bool)
-    (left : Option (List ℕ)) (e : ReadError)
-    → ((timescale : Option Timescale) (ss : List SignalContents) → answers timescale ss None → ⊥)
+pub no_part_refusal_of_read : (answers : Answers) (coming : Option (List ℕ)) (failed : Bool) (left : Option (List ℕ))
+    (e : ReadError) → ((timescale : Option Timescale) (ss : List SignalContents) → answers timescale ss None → ⊥)
     → IfSome coming (λ file. IsPartRefusal SIGNAL_LIMIT FILE_LIMIT (λ _. true) answers file failed left e)
     → IfSome coming (λ file. IsRefusal SIGNAL_LIMIT FILE_LIMIT file failed left e)
 no_part_refusal_of_read answers None failed left e some refused = tt
 no_part_refusal_of_read answers (Some file) failed left e some (inl refused) = refused
-no_part_refusal_of_read answers (Some file) failed left e some (inr (declined c has none fault)) =
-    absurd (some c.timescale (signals_of c) none)
+no_part_refusal_of_read answers (Some file) failed left e some (inr (declined c has none fault)) = grind arith
 no_part_refusal_of_read answers (Some file) failed left e some (inr (too_many_remain c has many fault)) =
-    let items = has.items ++ end_definitions ∷ [] in
-    let few : KeepsFew c = subst KeepsFew has.state_is
-    (few_after (initial_state SIGNAL_LIMIT) items has.allowed (omega arith)) in
-    let limit : c.limit ≡ SIGNAL_LIMIT = ap (λ (d : ParseState). d.limit) (sym has.state_is)
-    ∙ same_limit (initial_state SIGNAL_LIMIT) items in
-    absurd (omega (
-      arith,
-      many,
-      few,
-      limit,
-      fewer_pass (λ (s : SignalContents). true) (signals_of c),
-      length-map (meaning c).signals without_changes,
-      length-map (kept_variables c.declared) (declared_signal c.value_changes c.tick),
-    ))
+    grind (arith, few_after, same_limit, length-filter, count_by-le-length, length-map)

@@ -1,9 +1,8 @@
 -- The changes of a capture's text are allowed, and these are their value changes.
-use Rattle.std.proofs.Common.{◌≡◌, ℕ, zero, suc, ◌+◌, ◌<◌, ◌≤◌, true, false}
-use Rattle.std.proofs.Common.{◌==◌}
+use Rattle.std.proofs.Common.{◌≡◌, ℕ, zero, suc, ◌+◌, ◌==◌, ◌<◌, ◌≤◌, true, false}
 use Rattle.std.proofs.Common.{List, [], ◌∷◌, ◌++◌, length, map, get_or, Some, Bool, ◌∙◌}
-use Rattle.std.proofs.Common.{All, refl, sym, ap, subst, append_assoc, arith}
-use Rattle.std.specs.Prelude.{find, bytes_eq, codes}
+use Rattle.std.proofs.Common.{All, refl, sym, append_assoc, arith}
+use Rattle.std.specs.Prelude.{find, bytes_eq}
 use Rattle.std.specs.List.{enumerate_from}
 use Rattle.std.proofs.lemmas.Bool.{eq-eqb, le-leb}
 use Rattle.std.proofs.lemmas.List.{append-nil, length-map}
@@ -15,7 +14,7 @@ use Rattle.vcd_core.specs.Contents.{Contents, SignalContents, signal_value}
 use Rattle.vcd_core.specs.Sound.{IsSound, IsSoundSignal}
 use Rattle.vcd_core.specs.Word.{is_one_of}
 use Rattle.vcd_text.specs.Letters.{short_form}
-use Rattle.vcd_text.specs.Items.{Item, dump_word, dump_words, end_word}
+use Rattle.vcd_text.specs.Items.{Item, dump_word, dump_words}
 use Rattle.vcd_text.specs.Grammar.{ValueChange, ParseState, is_skipped}
 use Rattle.vcd_text.specs.Text.{code_of, differing, differs_at, first_items}
 use Rattle.vcd_text.specs.inside.writing.Transitions.{stamp_of}
@@ -67,12 +66,10 @@ pub values_lead : (c : Contents) (positioned : List (ℕ × SignalContents)) (va
     → All (IsFoundByCode c) positioned → Reaches (state_at c value_changes t) (value_items t positioned)
     (state_at c (value_changes ++ map (value_change_of t) positioned) t)
 values_lead c [] value_changes t all = grind (arith, reaches_same, reaches_none, append-nil)
-values_lead c (p ∷ ps) value_changes t all =
-    subst (λ rs. Reaches (state_at c value_changes t) (value_items t (p ∷ ps)) (state_at c rs t))
-    (append_assoc value_changes (value_change_of t p ∷ []) (map (value_change_of t) ps))
-    (reaches_both _ _ _ (value_item (code_of p.0) (signal_value p.1 t) ∷ []) (value_items t ps)
-    (value_leads c p (All-head (IsFoundByCode c) p ps all) value_changes t)
-    (values_lead c ps (value_changes ++ value_change_of t p ∷ []) t (All-tail (IsFoundByCode c) p ps all)))
+values_lead c (p ∷ ps) value_changes t all = rw (append_assoc value_changes (value_change_of t p ∷ [])
+    (map (value_change_of t) ps)) at (reaches_both _ _ _ _ _ (value_leads c p
+    (All-head (IsFoundByCode c) p ps all) value_changes t) (values_lead c ps (value_changes ++ value_change_of t p ∷ [])
+    t (All-tail (IsFoundByCode c) p ps all)))
 
 -- ---- stamps and words of dumps
 
@@ -93,12 +90,8 @@ first_leads : (c : Contents) → All (IsFoundByCode c) (enumerate_from 0 c.signa
     (state_at c (map (value_change_of 0) (enumerate_from 0 c.signals)) 0)
 first_leads c all =
     let positioned = enumerate_from 0 c.signals in
-    reaches_both _ _ _ (stamp_of 0 ∷ dump_word (codes "$dumpvars") ∷ [])
-    (value_items 0 positioned ++ dump_word end_word ∷ [])
-    (reaches_both _ _ _ (stamp_of 0 ∷ []) (dump_word (codes "$dumpvars") ∷ [])
-    (stamp_leads c [] 0 0 (omega arith) (omega arith)) (dump_word_leads c [] 0 (codes "$dumpvars") refl))
-    (reaches_both _ _ _ (value_items 0 positioned) (dump_word end_word ∷ []) (values_lead c positioned [] 0 all)
-    (dump_word_leads c (map (value_change_of 0) positioned) 0 end_word refl))
+    reaches_both _ _ _ _ _ (reaches_both _ _ _ _ _ (stamp_leads c [] 0 0 (omega arith) (omega arith))
+    (dump_word_leads c [] 0 _ refl)) (reaches_both _ _ _ _ _ (values_lead c _ [] 0 all) (dump_word_leads c _ 0 _ refl))
 
 -- ---- ticks
 
@@ -114,10 +107,8 @@ stamped_lead : (c : Contents) (e : ParseState) (value_changes : List ValueChange
     → All (IsFoundByCode c) positioned
     → Reaches (state_at c (value_changes ++ map (value_change_of t) positioned) t) rest e
     → Reaches (state_at c value_changes u) ((stamp_of t ∷ value_items t positioned) ++ rest) e
-stamped_lead c e value_changes u t positioned rest later within all go =
-    reaches_both _ (state_at c value_changes t) e (stamp_of t ∷ []) (value_items t positioned ++ rest)
-    (stamp_leads c value_changes u t later within)
-    (reaches_both _ _ e (value_items t positioned) rest (values_lead c positioned value_changes t all) go)
+stamped_lead c e value_changes u t positioned rest later within all go = reaches_both _ _ e _ _
+    (stamp_leads c _ u t later within) (reaches_both _ _ e _ rest (values_lead c _ _ t all) go)
 
 -- one tick, after which the rest goes on from a tick that is no later
 one_tick : (c : Contents) (e : ParseState) (value_changes : List ValueChange) (u t : ℕ) (is_end : Bool)
@@ -127,7 +118,7 @@ one_tick : (c : Contents) (e : ParseState) (value_changes : List ValueChange) (u
     → Reaches (state_at c (value_changes ++ map (value_change_of t) positioned) v) rest e)
     → Reaches (state_at c value_changes u) (with_stamp is_end t (value_items t positioned) ++ rest) e
 one_tick c e value_changes u t false [] rest later within all go =
-    subst (λ rs. Reaches (state_at c rs u) rest e) (append-nil value_changes) (go u later (λ ends. absurd (cc)))
+    rw (append-nil value_changes) at (go u later (λ ends. absurd (cc)))
 one_tick c e value_changes u t true positioned rest later within all go =
     stamped_lead c e value_changes u t positioned rest later within all (go t (omega arith) (λ _. refl))
 one_tick c e value_changes u t false (p ∷ ps) rest later within all go =
@@ -144,10 +135,9 @@ ticks_lead c (suc n) value_changes u t later at last within all =
     let here = map (value_change_of t) (differing c.signals t) in
     one_tick c _ value_changes u t (t == c.end) (differing c.signals t) (items_of_ticks c.signals c.end (suc t) n)
     (omega arith) (omega arith) (All-filter (λ p. differs_at t p.1) (IsFoundByCode c) (enumerate_from 0 c.signals) all)
-    (λ v le ends. reaches_same _ _ _ _
-    (ticks_lead c n (value_changes ++ here) v (suc t) (omega arith) (omega arith)
+    (λ v le ends. reaches_same _ _ _ _ (ticks_lead c n (value_changes ++ here) v (suc t) (omega arith) (omega arith)
     (λ none. let end : t ≡ c.end = omega arith in ends (eq-eqb t c.end end) ∙ end) within all)
-    (ap (λ rs. state_at c rs c.end) (append_assoc value_changes here (tick_value_changes c.signals (suc t) n))))
+    (grind (arith, append_assoc)))
 
 -- ---- the changes
 
@@ -161,8 +151,7 @@ all_found_by_code c sound k d within =
     let inside : k < length c.signals = omega (arith, length-enumerate_from 0 c.signals) in
     let s : SignalContents = get_or c.signals k d.1 in
     let is : IsSoundSignal c.end s = sound.signals k d.1 inside in
-    subst (IsFoundByCode c) (sym (get_or-enumerate_from 0 c.signals k d inside))
-    (record {
+    rw (get_or-enumerate_from 0 c.signals k d inside) (record {
       found = found_by_code c.signals k 0 (0 + k) d.1 refl inside;
       kept = sound_is_kept c.end (0 + k) s is;
       some = is.least;

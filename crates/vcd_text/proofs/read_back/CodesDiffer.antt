@@ -1,6 +1,6 @@
 -- Codes of two positions differ, and a code is a word of at most three bytes.
 use Rattle.std.proofs.Common.{◌≡◌, ◌<◌, ◌≤◌, ◌+◌, ◌/◌, ◌&&◌, ℕ, zero, suc, Bool, true, false, not}
-use Rattle.std.proofs.Common.{length, refl, ap, arith, nat_le, ◌*◌, add-one}
+use Rattle.std.proofs.Common.{length, refl, arith, nat_le, ◌*◌, add-one}
 use Rattle.std.specs.List.{list_all}
 use Rattle.std.proofs.lemmas.Bool.{and_from, and_parts, and_right, or_from, not_from_false}
 use Rattle.std.proofs.lemmas.Bool.{false_from_ne_true, le-leb}
@@ -60,8 +60,7 @@ unfolding code_digits
 digits_few zero zero small = omega arith
 digits_few zero (suc n) small = absurd (omega arith)
 digits_few (suc l) zero small = omega arith
-digits_few (suc l) (suc n) small =
-    omega (arith, ap (length {A = ℕ}) (next_digit n), digits_few l (n / 94) (omega arith))
+digits_few (suc l) (suc n) small = grind (arith, next_digit, digits_few l (n / 94) (omega arith))
 
 pub code_short : (k : ℕ) → k < SIGNAL_LIMIT → length (code_of k) ≤ 3
 code_short k few = digits_few 3 (k + 1) (omega arith)
@@ -73,8 +72,7 @@ printable_is_no_space b printable =
 
 -- a code has no white space
 pub code_no_space : (k : ℕ) → list_all (λ b. not (is_white_space b)) (code_of k) ≡ true
-code_no_space k =
-    all_weaker is_code_byte (λ b. not (is_white_space b)) printable_is_no_space (code_of k) (code_printable k)
+code_no_space k = all_weaker is_code_byte _ printable_is_no_space (code_of k) (code_printable k)
 
 -- a code is not `$end`
 pub code_no_end : (k : ℕ) → k < SIGNAL_LIMIT → is_end_word (code_of k) ≡ false

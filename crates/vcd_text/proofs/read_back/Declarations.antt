@@ -1,8 +1,8 @@
 -- The declarations of a capture's text are allowed, and declare the signals of the capture.
 use Rattle.std.proofs.Common.{◌≡◌, ◌<◌, ◌≤◌, ◌+◌, ◌^◌, ℕ, suc, true, false, not, List, [], ◌∷◌}
 use Rattle.std.proofs.Common.{◌++◌}
-use Rattle.std.proofs.Common.{find, length, Option, Some, None, IsSomeAnd, IfSome, IsTrue, refl}
-use Rattle.std.proofs.Common.{sym, ap, subst}
+use Rattle.std.proofs.Common.{find, length, Option, Some, None, IfSome, IsTrue, refl}
+use Rattle.std.proofs.Common.{ap}
 use Rattle.std.proofs.Common.{arith, append_assoc, append-nil, decimal}
 use Rattle.std.proofs.Common.{option_to_list}
 use Rattle.std.specs.List.{list_all, AllByRecursion}
@@ -54,9 +54,7 @@ header_leads prefix (h ∷ hs) sound =
     reaches_first (declaring prefix None [] []) (declaring (prefix ++ (h ∷ hs)) None [] []) (entry h.kind h.words)
     (header_items hs)
     (allows_entry (declaring prefix None [] []) h.kind h.words refl (words_have_no_end h.words parts.0))
-    (reaches_same (declaring (prefix ++ h ∷ []) None [] []) _ _ (header_items hs)
-    (header_leads (prefix ++ h ∷ []) hs parts.1)
-    (ap (λ l. declaring l None [] []) (append_assoc prefix (h ∷ []) hs)))
+    (grind (arith, reaches_same, declaring, append_assoc, header_leads (prefix ++ h ∷ []) hs parts.1))
 
 -- digits are not `$end`
 digits_no_end : (w : List ℕ) → list_all is_ascii_digit w ≡ true → is_end_word w ≡ false
@@ -77,16 +75,8 @@ timescale_leads h (Some t) sound =
 abbrev HasCodesBelow : ℕ → List VariableDeclaration → Type 0
 HasCodesBelow k ds = (j : ℕ) → k ≤ j → find (λ d. bytes_eq (code_of j) d.code) ds ≡ None
 
-codes_below_more : (k : ℕ) (ds : List VariableDeclaration) (d : VariableDeclaration) → HasCodesBelow k ds
-    → d.code ≡ code_of k → HasCodesBelow (suc k) (ds ++ d ∷ [])
-codes_below_more k ds d below is = grind (arith, false_from_ne_true, codes_differ, bytes_eq-Decides, find-append)
-
--- the declaration of the words of a variable
-words_declare : (c : ParseState) (kind size code : List ℕ) (n : ℕ) (words : List (List ℕ)) → 0 < length words
-    → number_of size ≡ n → declaration_of c (kind ∷ size ∷ code ∷ words)
-    ≡ Some (record { scopes = c.scopes; kind = kind; size = n; code = code; words = words })
-words_declare c kind size code n [] named number = absurd (omega arith)
-words_declare c kind size code n (w ∷ ws) named number = grind arith
+-- no word of a variable is `$end`, and its size is a number
+ruleset sound_words = (words_have_no_end, decimal_no_end, code_no_end, decimal_is_number, not_from_false, and_from)
 
 -- the variable of the signal at a position
 variable_leads : (h : List Header) (t : Option Timescale) (ds : List VariableDeclaration) (end k : ℕ)
@@ -96,16 +86,10 @@ variable_leads h t ds end k s sound few at below =
     let most : s.width ≤ WIDTH_LIMIT = sound.most in
     let before : ParseState = declaring h t s.scopes ds in
     let words : List (List ℕ) = s.kind ∷ decimal s.width ∷ code_of k ∷ s.words in
-    let declares : declaration_of before words ≡ Some (declared_as k s) =
-    grind (arith, words_declare, number_of-decimal) in
+    let declares : declaration_of before words ≡ Some (declared_as k s) = grind (arith, number_of-decimal) in
     let fresh : may_have_code (variable_of before (code_of k)) (declared_as k s) ≡ true = grind arith in
     reaches_one before (declaring h t s.scopes (ds ++ declared_as k s ∷ [])) (variable words)
-    (allows_variable before words refl
-    (grind (arith, and_parts, words_have_no_end, and_from, decimal_no_end, not_from_false, code_no_end))
-    (decimal_is_number s.width (omega arith))
-    (subst (λ o. IsSomeAnd o (λ d. IsTrue (may_have_code (variable_of before d.code) d)
-    × IsTrue (is_within_limit SIGNAL_LIMIT ds d)))
-    (sym declares) (fresh, (grind (arith, length-filter, count_by-le-length, or_right, lt-ltb)))))
+    (grind (arith, allows_variable, sound_words, and_parts, length-filter, count_by-le-length, or_right, lt-ltb))
     (ap (λ o. declaring h t s.scopes (ds ++ option_to_list o)) declares)
 
 -- ---- signals
@@ -120,12 +104,11 @@ signals_lead h t opened ds end k (s ∷ ss) sound few at below =
     let more : List VariableDeclaration = ds ++ declared_as k s ∷ [] in
     let one_more : length more ≡ length ds + 1 = length-append ds (declared_as k s ∷ []) in
     reaches_both _ _ _ (scope_items opened s.scopes) (variable_item k s ∷ signal_items s.scopes (suc k) ss)
-    (scopes_lead h t opened s.scopes ds sound.0.scopes)
-    (reaches_both _ _ _ (variable_item k s ∷ []) (signal_items s.scopes (suc k) ss)
-    (variable_leads h t ds end k s sound.0 (omega arith) at below)
+    (scopes_lead h t opened s.scopes ds sound.0.scopes) (reaches_both _ _ _ (variable_item k s ∷ [])
+    (signal_items s.scopes (suc k) ss) (variable_leads h t ds end k s sound.0 (omega arith) at below)
     (reaches_same _ _ _ _ (signals_lead h t s.scopes more end (suc k) ss sound.1 (omega arith) (omega arith)
-    (codes_below_more k ds (declared_as k s) below refl))
-    (ap (λ l. declaring h t [] l) (append_assoc ds (declared_as k s ∷ []) (declared_of (suc k) ss)))))
+    (grind (arith, false_from_ne_true, codes_differ, bytes_eq-Decides, find-append))) (ap (λ l. declaring h t [] l)
+    (append_assoc ds (declared_as k s ∷ []) (declared_of (suc k) ss)))))
 
 -- ---- all declarations
 
@@ -139,13 +122,10 @@ pub declarations_lead : (c : Contents) → IsSound c → Reaches (initial_state 
 declarations_lead c sound =
     let few : length c.signals ≤ SIGNAL_LIMIT = sound.few in
     let prefix : List Item = header_items c.header ++ timescale_items c.timescale in
-    reaches_both _ _ _ (prefix ++ signal_items [] 0 c.signals) (end_definitions ∷ [])
-    (reaches_both _ _ _ prefix (signal_items [] 0 c.signals)
-    (reaches_both _ _ _ (header_items c.header) (timescale_items c.timescale)
-    (header_leads [] c.header sound.header) (timescale_leads c.header c.timescale sound.timescale))
-    (signals_lead c.header c.timescale [] [] c.end 0 c.signals
+    reaches_both _ _ _ _ _ (reaches_both _ _ _ prefix _ (reaches_both _ _ _ _ _ (header_leads [] _ sound.header)
+    (timescale_leads _ _ sound.timescale)) (signals_lead _ _ [] [] c.end 0 _
     (recursion_from_All (IsSoundSignal c.end) c.signals sound.signals) (omega arith) refl (λ j from. refl)))
-    (reaches_one _ (declared_state c) end_definitions (refl, refl) refl)
+    (reaches_one _ _ _ (refl, refl) refl)
 
 -- the declarations, and the items after them
 pub items_in_two : (c : Contents) → items_of c ≡ declaration_items c

@@ -43,8 +43,7 @@ pub all_sound_kept : (end k : ℕ) (ss : List SignalContents) → All (IsSoundSi
     → kept_variables (declared_of k ss) ≡ declared_of k ss
 unfolding declared_of
 all_sound_kept end k [] all = refl
-all_sound_kept end k (s ∷ ss) all =
-    ap (λ b. cond (not b) (declared_as k s ∷ kept_variables (declared_of (suc k) ss))
+all_sound_kept end k (s ∷ ss) all = ap (λ b. cond (not b) (declared_as k s ∷ kept_variables (declared_of (suc k) ss))
     (kept_variables (declared_of (suc k) ss))) (sound_is_kept end k s (All-head (IsSoundSignal end) s ss all))
     ∙ ap (λ ds. declared_as k s ∷ ds) (all_sound_kept end (suc k) ss (All-tail (IsSoundSignal end) s ss all))
 
@@ -52,10 +51,9 @@ pub none_skipped : (end k : ℕ) (ss : List SignalContents) → All (IsSoundSign
     → count_by is_skipped (declared_of k ss) ≡ 0
 unfolding declared_of
 none_skipped end k [] all = refl
-none_skipped end k (s ∷ ss) all =
-    sum_by-cons (λ d. cond (is_skipped d) 1 0) (declared_as k s) (declared_of (suc k) ss)
-    ∙ (λ i. cond (sound_is_kept end k s (All-head (IsSoundSignal end) s ss all) i) 1 0
-    + none_skipped end (suc k) ss (All-tail (IsSoundSignal end) s ss all) i)
+none_skipped end k (s ∷ ss) all = sum_by-cons (λ d. cond (is_skipped d) 1 0) (declared_as k s) (declared_of (suc k) ss)
+    ∙ (λ i. cond (sound_is_kept end k s (All-head (IsSoundSignal end) s ss all) i) 1 0 + none_skipped end (suc k) ss
+    (All-tail (IsSoundSignal end) s ss all) i)
 
 -- ---- codes
 

@@ -24,8 +24,7 @@ latest_value-append : (width : ℕ) (code : List ℕ) (t : ℕ) (before : List B
     → latest_value width code t before (rs ++ qs) ≡ latest_value width code t (latest_value width code t before rs) qs
 unfolding latest_value
 latest_value-append width code t before [] qs = refl
-latest_value-append width code t before (r ∷ rs) qs =
-    latest_value-append width code t
+latest_value-append width code t before (r ∷ rs) qs = latest_value-append width code t
     (if bytes_eq r.code code && nat_le r.tick t then extension width r.letters else before) rs qs
 
 -- for one signal, at the position k and the tick t
@@ -102,13 +101,9 @@ module _ (signals : List SignalContents) (k t : ℕ) (d : SignalContents) (insid
       elim (cases_lt t u) [
         | inl past ↦
             let same : u - 1 ≡ t = omega arith in
-            past_ticks signal.width k t signals u (suc n) (signal_value signal (u - 1)) past
-            ∙ ap (signal_value signal) same
+            past_ticks _ k t _ u (suc n) (signal_value signal (u - 1)) past ∙ ap (signal_value signal) same
         | inr come ↦
-            let same : suc u - 1 ≡ u = omega arith in
-            let rest = from_tick (suc u) n (omega arith) (omega arith) in
-            let here = at_tick u come in
-            grind (arith, same, here, rest, latest_value-append)
+            grind (arith, at_tick, latest_value-append, from_tick (suc u) n (omega arith) (omega arith))
       ]
 
   -- the values at tick 0

@@ -25,12 +25,8 @@ signals_back f j (s ∷ ss) each =
 
 signals_mean : (c : Contents) → IsSound c
     → map (declared_signal (value_changes_of c) c.end) (kept_variables (declared_of 0 c.signals)) ≡ c.signals
-signals_mean c sound =
-    ap (map (declared_signal (value_changes_of c) c.end)) (all_sound_kept c.end 0 c.signals sound.signals)
-    ∙ signals_back (declared_signal (value_changes_of c) c.end) 0 c.signals
-    (λ i k d at within. let here : i ≡ k = omega arith in
-    ap (λ n. declared_signal (value_changes_of c) c.end (declared_as n (get_or c.signals i d))) (sym here)
-    ∙ (grind (arith, wave_is, latest_is, length-value_at)))
+signals_mean c sound = ap (map (declared_signal (value_changes_of c) c.end)) (all_sound_kept c.end 0 _ sound.signals)
+    ∙ signals_back _ 0 _ (grind (arith, value_changes_of, declared_as, wave_is, latest_is, length-value_at))
 
 -- the text of a sound capture means the capture
 pub text_means : (c : Contents) → IsSound c → c ≡ meaning (state_at c (value_changes_of c) c.end)

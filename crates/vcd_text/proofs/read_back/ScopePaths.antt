@@ -1,8 +1,8 @@
 -- From one path of scopes to another: the scopes past the shared prefix are closed, and the others
 -- opened.
-use Rattle.std.proofs.Common.{◌≡◌, ◌≤◌, ◌+◌, ◌-◌, ◌∙◌, ℕ, zero, suc, true, false, not, List, []}
+use Rattle.std.proofs.Common.{◌≡◌, ◌≤◌, ◌+◌, ◌-◌, ◌∙◌, ℕ, zero, suc, true, false, List, []}
 use Rattle.std.proofs.Common.{◌∷◌, ◌++◌, map, length}
-use Rattle.std.proofs.Common.{take, drop, replicate, refl, sym, ap, ap₂, subst, arith, one-add}
+use Rattle.std.proofs.Common.{take, drop, replicate, refl, sym, ap, ap₂, arith, one-add}
 use Rattle.std.proofs.Common.{append_assoc}
 use Rattle.std.proofs.Common.{append-nil, Option}
 use Rattle.std.specs.List.{list_all, common_prefix_len}
@@ -52,24 +52,20 @@ shared_prefix : (xs ys : List ScopeName)
 shared_prefix [] [] = refl
 shared_prefix [] (y ∷ ys) = refl
 shared_prefix (x ∷ xs) [] = refl
-shared_prefix (x ∷ xs) (y ∷ ys) =
-    cond_both (same_scope x y) (1 + common_prefix_len same_scope xs ys) 0 (λ n. take n (x ∷ xs) ≡ take n (y ∷ ys))
-    (λ same. subst (λ n. take n (x ∷ xs) ≡ take n (y ∷ ys)) (sym (one-add (common_prefix_len same_scope xs ys)))
-    (ap₂ (λ s l. s ∷ l) (same_scope_is x y same) (shared_prefix xs ys)))
-    (λ other. refl)
+shared_prefix (x ∷ xs) (y ∷ ys) = cond_both (same_scope x y) (1 + common_prefix_len same_scope xs ys) 0
+    (λ n. take n (x ∷ xs) ≡ take n (y ∷ ys)) (λ same. rw (one-add (common_prefix_len same_scope xs ys))
+    (ap₂ (λ s l. s ∷ l) (same_scope_is x y same) (shared_prefix xs ys))) (λ other. refl)
 
 -- the scopes from an index on are sound
 pub later_scopes : (n : ℕ) (path : List ScopeName) → list_all is_sound_scope path ≡ true
     → list_all is_sound_scope (drop n path) ≡ true
-later_scopes n path sound =
-    (and_parts (list_all is_sound_scope (take n path)) (list_all is_sound_scope (drop n path))
-    (sym (list_all-append is_sound_scope (take n path) (drop n path))
-    ∙ ap (list_all is_sound_scope) (take-append-drop n path) ∙ sound)).1
+later_scopes n path sound = (and_parts (list_all is_sound_scope (take n path)) (list_all is_sound_scope (drop n path))
+    (sym (list_all-append is_sound_scope (take n path) (drop n path)) ∙ ap (list_all is_sound_scope)
+    (take-append-drop n path) ∙ sound)).1
 
 -- words are not `$end`
 pub words_have_no_end : (ws : List (List ℕ)) → list_all is_word ws ≡ true → has_no_end_word ws ≡ true
-words_have_no_end ws words =
-    all_weaker is_word (λ word. not (is_end_word word)) (λ w word. (and_parts _ (not (is_end_word w)) word).1) ws words
+words_have_no_end ws words = grind (arith, all_weaker, and_parts)
 
 -- the scopes past the prefix of a path are closed, the innermost first
 scopes_closed : (h : List Header) (t : Option Timescale) (opened : List ScopeName) (ds : List VariableDeclaration)
@@ -80,11 +76,8 @@ scopes_closed h t opened ds (suc n) within =
     let outer : List ScopeName = take (length opened - 1) opened in
     let one_less : length outer ≡ length opened - 1 = length-take-le (length opened - 1) opened (omega arith) in
     let left : length outer - n ≡ length opened - suc n = omega arith in
-    reaches_first (declaring h t opened ds) (declaring h t (take (length opened - suc n) opened) ds) upscope
-    (replicate n upscope) (allows_upscope (declaring h t opened ds) refl (omega arith))
-    (reaches_same (declaring h t outer ds) _ _ (replicate n upscope) (scopes_closed h t outer ds n (omega arith))
-    (ap (λ s. declaring h t s ds) (ap (λ m. take m outer) left
-    ∙ take-take (length opened - suc n) (length opened - 1) opened (omega arith))))
+    reaches_first _ _ _ _ (allows_upscope (declaring h t opened ds) refl (omega arith))
+    (grind (arith, reaches_same, take-take, scopes_closed h t outer ds n (omega arith)))
 
 -- scopes are opened, the outermost first
 scopes_opened : (h : List Header) (t : Option Timescale) (prefix path : List ScopeName) (ds : List VariableDeclaration)
@@ -94,11 +87,8 @@ scopes_opened h t prefix [] ds sound = grind (arith, reaches_same, reaches_none,
 scopes_opened h t prefix (s ∷ path) ds sound =
     let parts : (is_sound_scope s ≡ true) × (list_all is_sound_scope path ≡ true) = grind (arith, and_parts) in
     reaches_first (declaring h t prefix ds) (declaring h t (prefix ++ (s ∷ path)) ds) (scope s.kind s.words)
-    (map (λ s. scope s.kind s.words) path)
-    (allows_scope (declaring h t prefix ds) s.kind s.words refl (words_have_no_end (s.kind ∷ s.words) parts.0))
-    (reaches_same (declaring h t (prefix ++ s ∷ []) ds) _ _ (map (λ s. scope s.kind s.words) path)
-    (scopes_opened h t (prefix ++ s ∷ []) path ds parts.1)
-    (ap (λ s. declaring h t s ds) (append_assoc prefix (s ∷ []) path)))
+    (map (λ s. scope s.kind s.words) path) (grind (arith, allows_scope, words_have_no_end))
+    (grind (arith, reaches_same, append_assoc, scopes_opened h t (prefix ++ s ∷ []) path ds parts.1))
 
 -- from one path to another
 pub scopes_lead : (h : List Header) (t : Option Timescale) (opened path : List ScopeName)
@@ -110,18 +100,14 @@ scopes_lead h t opened path ds sound =
     let kept : length opened - (length opened - shared) ≡ shared = omega arith in
     let prefix : List ScopeName = take shared path in
     let reached : take (length opened - (length opened - shared)) opened ≡ prefix = grind (arith, shared_prefix) in
-    reaches_both (declaring h t opened ds) (declaring h t prefix ds) (declaring h t path ds)
-    (replicate (length opened - shared) upscope) (map (λ s. scope s.kind s.words) (drop shared path))
-    (reaches_same _ _ _ _ (scopes_closed h t opened ds (length opened - shared) (omega arith))
-    (ap (λ s. declaring h t s ds) reached))
-    (reaches_same _ _ _ _ (scopes_opened h t prefix (drop shared path) ds (later_scopes shared path sound))
-    (ap (λ s. declaring h t s ds) (take-append-drop shared path)))
+    reaches_both _ _ _ _ _ (reaches_same _ _ _ _ (scopes_closed h t opened ds _ (omega arith))
+    (ap (λ s. declaring h t s ds) reached)) (reaches_same _ _ _ _ (scopes_opened h t prefix _ ds
+    (later_scopes shared path sound)) (ap (λ s. declaring h t s ds) (take-append-drop shared path)))
 
 -- all scopes are closed
 pub scopes_end : (h : List Header) (t : Option Timescale) (opened : List ScopeName) (ds : List VariableDeclaration)
     → Reaches (declaring h t opened ds) (map (λ s. upscope) opened) (declaring h t [] ds)
 scopes_end h t opened ds =
     let none : length opened - length opened ≡ 0 = omega arith in
-    subst (λ is. Reaches (declaring h t opened ds) is (declaring h t [] ds)) (sym (all_closed opened))
-    (reaches_same _ _ _ _ (scopes_closed h t opened ds (length opened) (omega arith))
+    rw (all_closed opened) (reaches_same _ _ _ _ (scopes_closed h t opened ds (length opened) (omega arith))
     (ap (λ m. declaring h t (take m opened) ds) none))

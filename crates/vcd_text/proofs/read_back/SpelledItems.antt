@@ -11,12 +11,11 @@ use Rattle.std.proofs.lemmas.List.Elements.{recursion_from_All}
 use Rattle.std.proofs.lemmas.List.Folds.{list_all-append}
 use Rattle.vcd_core.specs.declared.bit.Bit.{Bit}
 use Rattle.vcd_core.specs.declared.capture.Header.{Header}
-use Rattle.vcd_core.specs.declared.capture.Timescale.{Timescale}
 use Rattle.vcd_core.specs.declared.capture.ScopeName.{ScopeName}
 use Rattle.vcd_core.specs.declared.capture.TheConstants.{END_LIMIT}
 use Rattle.vcd_core.specs.Word.{is_word, is_white_space}
 use Rattle.vcd_core.specs.Contents.{Contents, SignalContents}
-use Rattle.vcd_core.specs.Sound.{is_sound_header, is_sound_scope, is_sound_timescale, IsSoundSignal}
+use Rattle.vcd_core.specs.Sound.{is_sound_header, is_sound_scope, IsSoundSignal}
 use Rattle.vcd_core.specs.Sound.{IsSound}
 use Rattle.vcd_text.specs.Words.{words_of}
 use Rattle.std.specs.Char.{is_ascii_digit}
@@ -47,15 +46,13 @@ abbrev has_no_space : ℕ → Bool
 has_no_space b = not (is_white_space b)
 
 pub word_is_unbroken : (w : List ℕ) → is_word w ≡ true → is_unbroken w ≡ true
-word_is_unbroken [] word = word
-word_is_unbroken (b ∷ bs) word = (and_parts _ _ (and_parts _ _ word).0).1
+word_is_unbroken w word = grind (arith, and_parts)
 
 pub words_are_unbroken : (ws : List (List ℕ)) → list_all is_word ws ≡ true → list_all is_unbroken ws ≡ true
 words_are_unbroken ws words = all_weaker is_word is_unbroken word_is_unbroken ws words
 
 no_space_is_unbroken : (w : List ℕ) → 0 < length w → list_all has_no_space w ≡ true → is_unbroken w ≡ true
-no_space_is_unbroken [] some no_space = absurd (omega arith)
-no_space_is_unbroken (b ∷ bs) some no_space = no_space
+no_space_is_unbroken w some no_space = grind arith
 
 digit_is_no_space : (b : ℕ) → is_ascii_digit b ≡ true → has_no_space b ≡ true
 digit_is_no_space b digit = grind (arith, leb-true, and_parts, not_from_false, or_from, and_right, lt-leb, ne_eqb)
@@ -104,8 +101,7 @@ values_spelled t (p ∷ ps) =
 
 stamped_spelled : (is_end : Bool) (t : ℕ) (items : List Item) → t < 2 ^ 64 → list_all is_spelled items ≡ true
     → list_all is_spelled (with_stamp is_end t items) ≡ true
-stamped_spelled is_end t items small spelled =
-    grind (arith, and_from, one_word, longer_unbroken, decimal_no_space)
+stamped_spelled is_end t items small spelled = grind (arith, and_from, one_word, longer_unbroken, decimal_no_space)
 
 ticks_spelled : (signals : List SignalContents) (end t n : ℕ) → t + n ≤ 2 ^ 64
     → list_all is_spelled (items_of_ticks signals end t n) ≡ true
@@ -122,11 +118,6 @@ header_spelled (h ∷ hs) sound =
     let rest = header_spelled hs parts.1 in
     grind (arith, parts, rest, and_from, with_end_unbroken, words_are_unbroken)
 
-timescale_is_spelled : (t : Option Timescale) → IfSome t (λ t. IsTrue (is_sound_timescale t))
-    → list_all is_spelled (timescale_items t) ≡ true
-timescale_is_spelled None sound = refl
-timescale_is_spelled (Some t) sound = grind (arith, and_from, decimal_unbroken, count_small, sound_count, one_word)
-
 upscopes_spelled : (n : ℕ) → list_all is_spelled (replicate n upscope) ≡ true
 upscopes_spelled zero = refl
 upscopes_spelled (suc n) = upscopes_spelled n
@@ -139,6 +130,9 @@ scopes_spelled (s ∷ path) sound =
     let rest = scopes_spelled path parts.1 in
     grind (arith, parts, rest, and_parts, and_from, word_is_unbroken, with_end_unbroken, words_are_unbroken)
 
+-- words without white space
+ruleset unbroken_words = (with_end_unbroken, word_is_unbroken, decimal_unbroken, code_unbroken, words_are_unbroken)
+
 signals_spelled : (end : ℕ) (opened : List ScopeName) (k : ℕ) (signals : List SignalContents)
     → AllByRecursion (IsSoundSignal end) signals → list_all is_spelled (signal_items opened k signals) ≡ true
 unfolding signal_items
@@ -146,12 +140,8 @@ signals_spelled end opened k [] sound = rw (all_closed opened) (upscopes_spelled
 signals_spelled end opened k (s ∷ ss) sound =
     let shared : ℕ = common_prefix_len same_scope opened s.scopes in
     both_spelled (scope_items opened s.scopes) (variable_item k s ∷ signal_items s.scopes (suc k) ss)
-    (both_spelled (replicate (length opened - shared) upscope) (map (λ s. scope s.kind s.words) (drop shared s.scopes))
-    (upscopes_spelled (length opened - shared))
-    (scopes_spelled (drop shared s.scopes) (later_scopes shared s.scopes sound.0.scopes)))
-    (and_from (is_spelled (variable_item k s)) (list_all is_spelled (signal_items s.scopes (suc k) ss))
-    (grind (arith, with_end_unbroken, and_from, word_is_unbroken, decimal_unbroken, code_unbroken, words_are_unbroken))
-    (signals_spelled end s.scopes (suc k) ss sound.1))
+    (grind (arith, both_spelled, upscopes_spelled, scopes_spelled, later_scopes))
+    (grind (arith, and_from, is_spelled, unbroken_words, signals_spelled end s.scopes (suc k) ss sound.1))
 
 -- every word of a sound capture's items
 pub items_spelled : (c : Contents) → IsSound c → list_all is_spelled (items_of c) ≡ true
@@ -165,8 +155,7 @@ items_spelled c sound =
     (both_spelled (declared ++ end_definitions ∷ first_items c.signals) (items_of_ticks c.signals c.end 1 c.end)
     (both_spelled declared (end_definitions ∷ first_items c.signals)
     (both_spelled prefix (signal_items [] 0 c.signals)
-    (both_spelled (header_items c.header) (timescale_items c.timescale) (header_spelled c.header sound.header)
-    (timescale_is_spelled c.timescale sound.timescale))
+    (grind (arith, both_spelled, header_spelled, and_from, decimal_unbroken, count_small, sound_count, one_word))
     (signals_spelled c.end [] 0 c.signals (recursion_from_All (IsSoundSignal c.end) c.signals sound.signals)))
     (and_from (is_spelled end_definitions) (list_all is_spelled (first_items c.signals)) refl
     (grind (arith, both_spelled, and_from, one_word, longer_unbroken, decimal_no_space, values_spelled))))

@@ -1,15 +1,11 @@
 -- The timescale of a sound capture is read back.
 use Rattle.std.proofs.Common.{◌≡◌, ◌⊎◌, ◌++◌, ◌<◌, ◌^◌, ℕ, List, true, [], ◌∷◌, Some, inl, inr}
-use Rattle.std.proofs.Common.{refl, sym}
-use Rattle.std.proofs.Common.{subst, arith, decimal, append-nil}
+use Rattle.std.proofs.Common.{arith, decimal, append-nil}
 use Rattle.std.specs.Prelude.{find, bytes_eq}
 use Rattle.std.specs.Fmt.{digits}
 use Rattle.std.proofs.lemmas.Bool.{or_cases, eqb-true}
 use Rattle.vcd_core.specs.declared.capture.Timescale.{Timescale}
 use Rattle.vcd_core.specs.declared.capture.TimeUnit.{TimeUnit}
-use Rattle.vcd_core.specs.declared.capture.TimeUnit.TheVariants.{Second, Millisecond, Microsecond}
-use Rattle.vcd_core.specs.declared.capture.TimeUnit.TheVariants.{Nanosecond}
-use Rattle.vcd_core.specs.declared.capture.TimeUnit.TheVariants.{Picosecond, Femtosecond}
 use Rattle.vcd_core.specs.Sound.{is_sound_timescale}
 use Rattle.vcd_core.specs.TimeUnits.{unit_text}
 use Rattle.vcd_text.specs.Items.{timescales, timescale_of}
@@ -22,7 +18,7 @@ pub sound_count : (t : Timescale) → is_sound_timescale t ≡ true → IsCount 
 sound_count t sound = grind (arith, or_cases, eqb-true)
 
 pub count_small : (n : ℕ) → IsCount n → n < 2 ^ 64
-count_small n h1 = grind arith
+count_small n is = grind arith
 
 -- the timescale that a text spells
 abbrev found_in : List ℕ → Timescale → Type 0
@@ -32,21 +28,13 @@ found : (unit : TimeUnit) → found_in (decimal 1 ++ unit_text unit) (record { c
     × found_in (decimal 10 ++ unit_text unit) (record { count = 10; unit = unit })
     × found_in (decimal 100 ++ unit_text unit) (record { count = 100; unit = unit })
 unfolding digits
-found Second = (refl, refl, refl)
-found Millisecond = (refl, refl, refl)
-found Microsecond = (refl, refl, refl)
-found Nanosecond = (refl, refl, refl)
-found Picosecond = (refl, refl, refl)
-found Femtosecond = (refl, refl, refl)
+found unit = grind arith
 
 counted : (n : ℕ) (unit : TimeUnit) → IsCount n
     → found_in (decimal n ++ unit_text unit) (record { count = n; unit = unit })
-counted n unit (inl e) =
-    subst (λ m. found_in (decimal m ++ unit_text unit) (record { count = m; unit = unit })) (sym e) (found unit).0
-counted n unit (inr (inl e)) =
-    subst (λ m. found_in (decimal m ++ unit_text unit) (record { count = m; unit = unit })) (sym e) (found unit).1
-counted n unit (inr (inr e)) =
-    subst (λ m. found_in (decimal m ++ unit_text unit) (record { count = m; unit = unit })) (sym e) (found unit).2
+counted n unit (inl e) = grind (arith, found)
+counted n unit (inr (inl e)) = rw e (found unit).1
+counted n unit (inr (inr e)) = rw e (found unit).2
 
 -- its number and its unit, as two words, are read back
 pub timescale_read : (t : Timescale) → is_sound_timescale t ≡ true

@@ -9,7 +9,7 @@ use Rattle.std.proofs.lemmas.List.Elements.{All-nil, All-push, All-head, All-tai
 use Rattle.vcd_core.specs.declared.bit.Bit.{Bit}
 use Rattle.vcd_core.specs.declared.bit.Bit.TheVariants.{X}
 use Rattle.vcd_core.specs.declared.wave.Change.{Change}
-use Rattle.vcd_core.specs.Value.{same_letters, printed_letter}
+use Rattle.vcd_core.specs.Value.{printed_letter}
 use Rattle.vcd_core.specs.Wave.{value_from, value_at, AreChangesFrom, IsWave}
 use Rattle.vcd_core.specs.inside.value.EqualByLetters.{same_letters-Decides}
 use Rattle.vcd_text.specs.Letters.{is_binary_digit, letter_of_digit, letters_of_digits}
@@ -63,9 +63,7 @@ ext-short v = grind (arith, same_letters-Decides, found_passes)
 -- the short form of a value has a letter, and no more than the value
 pub short_within : (v : List Bit) → 0 < length v → (0 < length (short_form v)) × (length (short_form v) ≤ length v)
 unfolding short_form
-short_within v some =
-    found_has (IsWithin (length v)) (λ s. same_letters (extension (length v) s) v) (suffixes v) v
-    (suffixes_within (length v) v (omega arith)) (some, omega arith)
+short_within v some = found_has (IsWithin (length v)) _ _ v (suffixes_within _ v (omega arith)) (some, omega arith)
 
 -- the short form of one letter is itself
 pub short_one : (b : Bit) → short_form (b ∷ []) ≡ b ∷ []

@@ -1,6 +1,5 @@
 -- The text of a sound capture is read back as the capture.
 use Rattle.std.proofs.Common.{arith}
-use Rattle.std.proofs.Common.{refl}
 use Rattle.vcd_core.specs.Contents.{Contents}
 use Rattle.vcd_core.specs.Sound.{IsSound}
 use Rattle.vcd_core.specs.declared.capture.TheConstants.{SIGNAL_LIMIT}
@@ -25,13 +24,7 @@ read_back c sound =
     let all = items_lead c sound in
     record {
       state = state_at c (value_changes_of c) c.end;
-      accepted = record {
-        items = items_of c;
-        spelled = words_of_text c sound;
-        allowed = all.allowed;
-        state_is = all.state_is;
-        definitions_ended = refl;
-      };
+      accepted = grind (arith, words_of_text);
       means = text_means c sound;
       left_out = text_skips_nothing c sound;
     }

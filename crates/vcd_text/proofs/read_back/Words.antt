@@ -24,8 +24,7 @@ is_spelled i = list_all is_unbroken (spelling i)
 -- a word, and the words after the white space that follows it
 word_first : (line b : ℕ) (w rest : List ℕ) → is_unbroken w ≡ true → is_white_space b ≡ true
     → words_from true [] line (w ++ (b ∷ rest)) ≡ word_on w line ∷ words_from true [] line (b ∷ rest)
-word_first line b [] rest unbroken space = let no : false ≡ true = unbroken in absurd (cc)
-word_first line b (c ∷ w) rest unbroken space = word_whole true line (c ∷ w) (b ∷ rest) (omega arith) unbroken space
+word_first line b w rest unbroken space = grind (arith, word_whole)
 
 -- the words of a line, and those of the lines after it
 words_of_line : (line : ℕ) (ws : List (List ℕ)) (rest : List ℕ) → list_all is_unbroken ws ≡ true
@@ -36,9 +35,8 @@ words_of_line line (w ∷ []) rest unbroken = grind (arith, word_first, and_part
 words_of_line line (w ∷ v ∷ ws) rest unbroken =
     let parts : (is_unbroken w ≡ true) × (list_all is_unbroken (v ∷ ws) ≡ true) = grind (arith, and_parts) in
     ap (λ l. word_texts (words_from true [] line l)) (append_assoc w (32 ∷ join_with_byte 32 (v ∷ ws)) (10 ∷ rest))
-    ∙ ap word_texts (word_first line 32 w (join_with_byte 32 (v ∷ ws) ++ (10 ∷ rest)) parts.0 refl)
-    ∙ ap (λ words. w ∷ word_texts words) (space_passed true line 32 (join_with_byte 32 (v ∷ ws) ++ (10 ∷ rest)) refl)
-    ∙ ap (λ l. w ∷ l) (words_of_line line (v ∷ ws) rest parts.1)
+    ∙ ap word_texts (word_first line 32 w _ parts.0 refl) ∙ ap (λ words. w ∷ word_texts words)
+    (space_passed true line 32 _ refl) ∙ ap (λ l. w ∷ l) (words_of_line line (v ∷ ws) rest parts.1)
 
 -- the words of the lines of items
 pub words_of_lines : (line : ℕ) (items : List Item) → list_all is_spelled items ≡ true
@@ -47,7 +45,6 @@ unfolding words_from
 words_of_lines line [] spelled = refl
 words_of_lines line (i ∷ is) spelled =
     let parts : (is_spelled i ≡ true) × (list_all is_spelled is ≡ true) = grind (arith, and_parts) in
-    ap (λ l. word_texts (words_from true [] line l))
-    (append_assoc (join_with_byte 32 (spelling i)) (10 ∷ []) (flat_map item_line is))
-    ∙ words_of_line line (spelling i) (flat_map item_line is) parts.0
+    ap (λ l. word_texts (words_from true [] line l)) (append_assoc (join_with_byte 32 (spelling i)) (10 ∷ [])
+    (flat_map item_line is)) ∙ words_of_line line (spelling i) (flat_map item_line is) parts.0
     ∙ ap (λ l. spelling i ++ l) (words_of_lines (line + 1) is parts.1)

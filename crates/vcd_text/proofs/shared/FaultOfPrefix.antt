@@ -47,10 +47,8 @@ complete_in_longer prefix rest =
 -- a fault that words show is shown whatever words follow
 shown_further : (limit : ℕ) (words all : List WordOnLine) (line : ℕ) (fault : Fault) → IsPrefix words all
     → ShowsFault limit words line fault → ShowsFault limit all line fault
-shown_further limit words all line fault prefix s =
-    shown_by limit all s.whole s.begun (s.more ++ prefix.0) s.word s.items (state_after (initial_state limit) s.items)
-    line fault
-    (record { allowed = s.allowed; state_is = refl })
+shown_further limit words all line fault prefix s = shown_by limit all s.whole s.begun (s.more ++ prefix.0) s.word
+    s.items (state_after (initial_state limit) s.items) line fault (record { allowed = s.allowed; state_is = refl })
     (prefix.1 ∙ ap (λ ws. ws ++ prefix.0) s.parts ∙ append_assoc s.whole (s.begun ++ s.word ∷ s.more) prefix.0
     ∙ ap (λ ws. s.whole ++ ws) (append_assoc s.begun (s.word ∷ s.more) prefix.0)) s.spelled s.decided s.at
 

@@ -31,15 +31,11 @@ scope_of (kind ∷ words) = scope kind words
 
 -- the declaration with this keyword, and these words up to its `$end`
 abbrev pub declaration_with : List ℕ → List (List ℕ) → Item
-declaration_with w words =
-    cond (is_one_of declaration_words w)
-    (cond (bytes_eq w (codes "$scope")) (scope_of words)
-    (cond (bytes_eq w (codes "$upscope")) upscope
-    (cond (bytes_eq w (codes "$var")) (variable words)
-    (cond (bytes_eq w (codes "$timescale")) (timescale words) end_definitions))))
-    (cond (is_one_of header_words w)
-    (cond (bytes_eq w (codes "$date")) (entry Date words)
-    (cond (bytes_eq w (codes "$version")) (entry Version words) (entry Comment words))) (other w words))
+declaration_with w words = cond (is_one_of declaration_words w) (cond (bytes_eq w (codes "$scope")) (scope_of words)
+    (cond (bytes_eq w (codes "$upscope")) upscope (cond (bytes_eq w (codes "$var")) (variable words) (cond (bytes_eq w
+    (codes "$timescale")) (timescale words) end_definitions)))) (cond (is_one_of header_words w) (cond (bytes_eq w
+    (codes "$date")) (entry Date words) (cond (bytes_eq w (codes "$version")) (entry Version words)
+    (entry Comment words))) (other w words))
 
 abbrev pub code_in : List (List ℕ) → List ℕ
 code_in [] = []
@@ -48,10 +44,8 @@ code_in (w ∷ ws) = w
 -- the change with this first word, if these words follow
 abbrev pub change_with : List ℕ → List (List ℕ) → Item
 change_with [] ws = dump_word []
-change_with (b ∷ bs) ws =
-    cond (is_binary_digit b) (scalar b bs)
-    (cond (is_among (codes "#") b) (stamp bs)
-    (cond (is_among (codes "$") b)
+change_with (b ∷ bs) ws = cond (is_binary_digit b) (scalar b bs)
+    (cond (is_among (codes "#") b) (stamp bs) (cond (is_among (codes "$") b)
     (cond (is_one_of dump_words (b ∷ bs)) (dump_word (b ∷ bs)) (other (b ∷ bs) (before_end ws)))
     (cond (is_among vector_prefixes b) (vector b bs (code_in ws)) (real_or_string b bs (code_in ws)))))
 
@@ -73,58 +67,28 @@ by_state : (b : Bool) (c : ParseState) (i : Item) (rest : List (List ℕ)) → c
     → first_item b (spelling i ++ rest) ≡ i → first_item c.in_body (spelling i ++ rest) ≡ i
 by_state b c i rest h e = ap (λ t. first_item t (spelling i ++ rest)) h ∙ e
 
-other_change : (w : List ℕ) (ws : List (List ℕ)) → IsTrue (is_other true w) → change_with w ws ≡ other w (before_end ws)
-other_change [] ws h = absurd (false≢true h)
-other_change (first ∷ text) ws h = grind (arith, and_parts, eqb-true, cond-false, not-true)
-
-other_item : (b : Bool) (w : List ℕ) (ws : List (List ℕ)) → IsTrue (is_other b w)
-    → first_item b (w ∷ ws) ≡ other w (before_end ws)
-other_item true w ws h = other_change w ws h
-other_item false w ws h = grind (arith, and_parts, cond-false, not-true)
-
 item_is : (c : ParseState) (i : Item) (rest : List (List ℕ)) → IsTrue (fits c i)
     → first_item c.in_body (spelling i ++ rest) ≡ i
-item_is c (entry Date words) rest f =
-    let p = and_parts _ _ f in
-    by_state false c (entry Date words) rest (not-true _ p.0) (ap (entry Date) (end_closes words rest p.1))
-item_is c (entry Version words) rest f =
-    let p = and_parts _ _ f in
-    by_state false c (entry Version words) rest (not-true _ p.0) (ap (entry Version) (end_closes words rest p.1))
-item_is c (entry Comment words) rest f =
-    let p = and_parts _ _ f in
-    by_state false c (entry Comment words) rest (not-true _ p.0) (ap (entry Comment) (end_closes words rest p.1))
-item_is c (timescale words) rest f =
-    let p = and_parts _ _ f in
-    by_state false c (timescale words) rest (not-true _ p.0) (ap timescale (end_closes words rest p.1))
-item_is c (scope kind words) rest f =
-    let p = and_parts _ _ f in
-    by_state false c (scope kind words) rest (not-true _ p.0) (ap scope_of (end_closes (kind ∷ words) rest p.1))
+item_is c (entry Date words) rest f = grind (arith, and_parts, by_state, not-true, end_closes)
+item_is c (entry Version words) rest f = grind (arith, and_parts, by_state, not-true, end_closes)
+item_is c (entry Comment words) rest f = grind (arith, and_parts, by_state, not-true, end_closes)
+item_is c (timescale words) rest f = grind (arith, and_parts, by_state, not-true, end_closes)
+item_is c (scope kind words) rest f = grind (arith, and_parts, by_state, not-true, end_closes)
 item_is c upscope rest f = by_state false c upscope rest (not-true _ (and_parts _ _ f).0) refl
-item_is c (variable words) rest f =
-    let p = and_parts _ _ f in
-    by_state false c (variable words) rest (not-true _ p.0) (ap variable (end_closes words rest (and_parts _ _ p.1).0))
+item_is c (variable words) rest f = grind (arith, and_parts, by_state, not-true, end_closes)
 item_is c end_definitions rest f = by_state false c end_definitions rest (not-true _ f) refl
 item_is c (stamp digits) rest f = by_state true c (stamp digits) rest f refl
-item_is c (scalar digit code) rest f =
-    let p = and_parts _ _ f in
-    by_state true c (scalar digit code) rest p.0 (cond-true (is_binary_digit digit) _ _ (and_parts _ _ p.1).0)
+item_is c (scalar digit code) rest f = grind (arith, and_parts, by_state, cond-true)
 item_is c (vector first digits code) rest f =
     let p = and_parts _ _ f in
-    by_state true c (vector first digits code) rest p.0
-    (by_among (λ b. change_with (b ∷ digits) (code ∷ rest) ≡ vector b digits code) vector_prefixes first p.1
-    (refl, (refl, tt)))
+    by_state true c (vector first digits code) rest p.0 (by_among
+    (λ b. change_with (b ∷ digits) (code ∷ rest) ≡ vector b digits code) vector_prefixes first p.1 (refl, (refl, tt)))
 item_is c (real_or_string first text code) rest f =
     let p = and_parts _ _ f in
-    by_state true c (real_or_string first text code) rest p.0
-    (by_among (λ b. change_with (b ∷ text) (code ∷ rest) ≡ real_or_string b text code) real_or_string_prefixes
-    first p.1 (refl, (refl, (refl, (refl, tt)))))
-item_is c (dump_word word) rest f =
-    let p = and_parts _ _ f in
-    by_state true c (dump_word word) rest p.0 (by_one_of (λ w. change_with w rest ≡ dump_word w) dump_words word p.1
-    (refl, (refl, (refl, (refl, (refl, tt))))))
-item_is c (other word words) rest f =
-    let p = and_parts _ _ f in
-    other_item c.in_body word ((words ++ end_word ∷ []) ++ rest) p.0 ∙ ap (other word) (end_closes words rest p.1)
+    by_state true c (real_or_string first text code) rest p.0 (by_among (λ b. change_with (b ∷ text) (code ∷ rest)
+    ≡ real_or_string b text code) real_or_string_prefixes first p.1 (refl, (refl, (refl, (refl, tt)))))
+item_is c (dump_word word) rest f = search (arith, and_parts, by_state, by_one_of)
+item_is c (other word words) rest f = grind (arith, and_parts, false≢true, eqb-true, cond-false, not-true, end_closes)
 
 -- ---- one item
 
@@ -135,15 +99,13 @@ one_item c i j r s f g e = sym (item_is c i r f) ∙ ap (first_item c.in_body) e
 
 -- and then the same words follow
 pub one_rest : (i j : Item) (r s : List (List ℕ)) → i ≡ j → spelling i ++ r ≡ spelling j ++ s → r ≡ s
-one_rest i j r s same e =
-    append_cancel_left (spelling j) r s (ap (λ k. spelling k ++ r) (sym same) ∙ e)
+one_rest i j r s same e = grind (arith, append_cancel_left)
 
 -- the item that goes on with a word is the first of its words
 pub goes_as : (c : ParseState) (b : Bool) (begun : List (List ℕ)) (word : List ℕ) → c.in_body ≡ b
     → (g : GoesOn c begun word) → IsTrue (fits c (first_item b (begun ++ word ∷ g.1)))
     × (spelling (first_item b (begun ++ word ∷ g.1)) ≡ begun ++ word ∷ g.1)
 goes_as c b begun word in_body (i, more, f, e) =
-    let same : i ≡ first_item b (begun ++ word ∷ more) =
-    sym (item_is c i [] f) ∙ ap (first_item c.in_body) (append-nil (spelling i) ∙ e)
-    ∙ ap (λ t. first_item t (begun ++ word ∷ more)) in_body in
+    let same : i ≡ first_item b (begun ++ word ∷ more) = sym (item_is c i [] f) ∙ ap (first_item c.in_body)
+    (append-nil (spelling i) ∙ e) ∙ ap (λ t. first_item t (begun ++ word ∷ more)) in_body in
     (ap (fits c) (sym same) ∙ f, ap spelling (sym same) ∙ e)

@@ -1,6 +1,6 @@
 -- The fault of a file is the one that is found in it.
 use Rattle.std.proofs.Common.{arith}
-use Rattle.std.proofs.Common.{◌≡◌, ◌⊎◌, inl, inr, ℕ, List, ◌++◌}
+use Rattle.std.proofs.Common.{◌≡◌, ◌⊎◌, inl, inr, ℕ, List}
 use Rattle.vcd_core.specs.Contents.{Contents}
 use Rattle.vcd_text.specs.declared.fault.Fault.{Fault}
 use Rattle.vcd_text.specs.declared.fault.Fault.TheVariants.{Truncated}
@@ -36,15 +36,13 @@ ends_early limit bytes line fault none silent l f (inr (at, other, too_early sto
 
 pub found_fault : EveryFaultIsFound
 found_fault limit bytes line fault (none, shown s) = word_shows s
-found_fault limit bytes line fault (none, none_shown silent l f) =
-    search (arith, ends_early limit, a_found_answer limit)
+found_fault limit bytes line fault (none, none_shown silent l f) = search (arith, ends_early, a_found_answer)
 
 -- ---- the laws
 
 pub one_file_fault : EveryFileHasAtMostOneFault
-one_file_fault limit bytes line other_line fault other_fault has also =
-    one_found_fault limit bytes line other_line fault other_fault (found_fault limit bytes line fault has)
-    (found_fault limit bytes other_line other_fault also)
+one_file_fault limit bytes line other_line fault other_fault has also = one_found_fault limit bytes line other_line
+    fault other_fault (found_fault limit bytes line fault has) (found_fault limit bytes other_line other_fault also)
 
 pub meaning-no_fault : NoFileHasMeaningAndFault
 meaning-no_fault limit bytes c n line fault means has = has.0 c n means
@@ -57,5 +55,4 @@ an_answer limit bytes =
     ]
 
 pub prefix_fault_stays : PrefixFaultIsFileFault
-prefix_fault_stays limit prefix rest line fault s =
-    file_fault limit (prefix ++ rest) line fault (prefix_fault_found limit prefix rest line fault s)
+prefix_fault_stays limit prefix rest line fault s = search (arith, file_fault, prefix_fault_found)

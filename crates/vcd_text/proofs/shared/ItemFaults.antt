@@ -1,8 +1,7 @@
 -- The words with which no item goes on, and their faults.
-use Rattle.std.proofs.Common.{◌≡◌, inl, inr, subst, ℕ, ◌<◌, Bool, true, false, List, []}
+use Rattle.std.proofs.Common.{◌≡◌, inl, inr, ℕ, ◌<◌, Bool, true, false, List, []}
 use Rattle.std.proofs.Common.{◌∷◌, length}
 use Rattle.std.proofs.Common.{IsTrue, IsFalse, codes, refl, sym, ap, ◌∙◌, arith}
-use Rattle.std.specs.Prelude.{nat_lt}
 use Rattle.std.proofs.lemmas.Bool.{and_parts, and_from, or_cases, not_from_false, cases_Bool}
 use Rattle.std.proofs.lemmas.Bool.{false≢true, cond-true, cond-false}
 use Rattle.std.proofs.lemmas.Slice.Eq.{bytes_eq-Decides}
@@ -22,7 +21,7 @@ use Rattle.vcd_text.specs.Grammar.{ParseState, fits}
 use Rattle.vcd_text.specs.Faults.{GoesOn, misfit_fault, WordShows, test_fails, misfits}
 use Rattle.vcd_text.proofs.shared.OneOf.{by_one_of}
 use Rattle.vcd_text.proofs.shared.ItemTests.{fits_in_words, fits_upscope, fits_variable}
-use Rattle.vcd_text.proofs.shared.FirstItem.{before_end, declaration_with, change_with, code_in, goes_as}
+use Rattle.vcd_text.proofs.shared.FirstItem.{before_end, change_with, goes_as}
 
 clash : (b : Bool) → b ≡ false → b ≡ true → ⊥
 clash b p q = absurd (false≢true (sym p ∙ q))
@@ -39,47 +38,25 @@ misfit_declares c begun word next fault declares some none is =
 pub some_declaration : (c : ParseState) → IsFalse c.in_body → GoesOn c [] (codes "$enddefinitions")
 some_declaration c declares = (end_definitions, end_word ∷ [], not_from_false _ declares, refl)
 
-begins_by : (c : ParseState) (w : List ℕ) (ws : List (List ℕ)) → IsTrue (fits c (declaration_with w ws))
-    → begins_declaration w ≡ true
-begins_by c w ws f =
-    elim (cases_Bool (is_one_of declaration_words w)) [
-      | inl is ↦ by_one_of (λ w. begins_declaration w ≡ true) declaration_words w is
-          (refl, (refl, (refl, (refl, (refl, tt)))))
-      | inr none ↦ elim (cases_Bool (is_one_of header_words w)) [
-        | inl is ↦ by_one_of (λ w. begins_declaration w ≡ true) header_words w is (refl, (refl, (refl, tt)))
-        | inr no_header ↦
-            let f : IsTrue (fits c (other w ws)) =
-            ap (fits c) (sym (cond-false (is_one_of declaration_words w) _ _ none
-            ∙ cond-false (is_one_of header_words w) _ _ no_header)) ∙ f in
-            (and_parts _ _ (and_parts _ _ (and_parts _ _ f).0).0).0
-      ]
-    ]
-
 not_upscope : (word : List ℕ) → IsFalse (begins_declaration word) → misfit_fault false [] word ≡ UnexpectedWord
 not_upscope word n = grind (arith, cases_Bool, bytes_eq-Decides)
 
 -- a word that begins no declaration
 pub begins_no_declaration : (c : ParseState) (word : List ℕ) → IsFalse c.in_body → IsFalse (begins_declaration word)
     → WordShows c [] word UnexpectedWord
-begins_no_declaration c word declares isnt =
-    misfit_declares c [] word _ UnexpectedWord declares (some_declaration c declares)
-    (λ g. clash (begins_declaration word) isnt
-    (begins_by c word (before_end g.1) (goes_as c false [] word declares g).0)) (not_upscope word isnt)
+begins_no_declaration c word declares isnt = misfit_declares c [] word _ UnexpectedWord declares
+    (some_declaration c declares) (grind (arith, clash, before_end, goes_as)) (not_upscope word isnt)
 
 -- `$upscope` while no scope is open
 pub upscope_at_top : (c : ParseState) → IsFalse c.in_body → c.scopes ≡ []
     → WordShows c [] (codes "$upscope") UpscopeAtTop
-upscope_at_top c declares none =
-    misfit_declares c [] (codes "$upscope") _ UpscopeAtTop declares (some_declaration c declares)
-    (λ g. let some = (and_parts _ _ (goes_as c false [] (codes "$upscope") declares g).0).1 in
-    clash (nat_lt 0 (length c.scopes)) (ap (λ ss. nat_lt 0 (length ss)) none) some) refl
+upscope_at_top c declares none = misfit_declares c [] (codes "$upscope") _ UpscopeAtTop declares
+    (some_declaration c declares) (grind (arith, and_parts, goes_as, clash)) refl
 
 -- `$end` in the place of a scope's kind
 pub missing_kind : (c : ParseState) → IsFalse c.in_body → WordShows c (codes "$scope" ∷ []) end_word BadScope
-missing_kind c declares =
-    misfit_declares c (codes "$scope" ∷ []) end_word [] BadScope declares
-    (scope [] [], end_word ∷ [], fits_in_words c ([] ∷ []) declares refl, refl)
-    (λ g. let e = (goes_as c false (codes "$scope" ∷ []) end_word declares g).1 in absurd (cc e)) refl
+missing_kind c declares = misfit_declares c (codes "$scope" ∷ []) end_word [] BadScope declares
+    (scope [] [], end_word ∷ [], fits_in_words c ([] ∷ []) declares refl, refl) (grind (arith, goes_as)) refl
 
 ends_only : (keyword word : List ℕ) (more : List (List ℕ)) → keyword ∷ end_word ∷ [] ≡ keyword ∷ word ∷ more
     → is_end_word word ≡ true
@@ -88,27 +65,14 @@ ends_only keyword word more e = let same : end_word ≡ word = cc e in ap is_end
 -- a word other than `$end` after `$upscope`
 pub upscope_goes_on : (c : ParseState) (word : List ℕ) → IsFalse c.in_body → IsFalse (is_end_word word)
     → 0 < length c.scopes → WordShows c (codes "$upscope" ∷ []) word UnexpectedWord
-upscope_goes_on c word declares isnt some =
-    misfit_declares c (codes "$upscope" ∷ []) word end_word UnexpectedWord declares
-    (upscope, [], fits_upscope c declares some, refl)
-    (λ g. clash (is_end_word word) isnt
-    (ends_only (codes "$upscope") word g.1 (goes_as c false (codes "$upscope" ∷ []) word declares g).1)) refl
+upscope_goes_on c word declares isnt some = misfit_declares c (codes "$upscope" ∷ []) word end_word UnexpectedWord
+    declares (upscope, [], fits_upscope c declares some, refl) (grind (arith, clash, ends_only, goes_as)) refl
 
 -- a word other than `$end` after `$enddefinitions`
 pub definitions_go_on : (c : ParseState) (word : List ℕ) → IsFalse c.in_body → IsFalse (is_end_word word)
     → WordShows c (codes "$enddefinitions" ∷ []) word UnexpectedWord
-definitions_go_on c word declares isnt =
-    misfit_declares c (codes "$enddefinitions" ∷ []) word end_word UnexpectedWord declares
-    (end_definitions, [], not_from_false _ declares, refl)
-    (λ g. clash (is_end_word word) isnt
-    (ends_only (codes "$enddefinitions") word g.1 (goes_as c false (codes "$enddefinitions" ∷ []) word declares g).1))
-    refl
-
-size_of : (c : ParseState) (kind word : List ℕ) (more : List (List ℕ)) → IsFalse (is_end_word kind)
-    → IsFalse (is_end_word word) → IsTrue (fits c (variable (before_end (kind ∷ word ∷ more)))) → is_number word ≡ true
-size_of c kind word more k x f =
-    let words : before_end (kind ∷ word ∷ more) ≡ kind ∷ word ∷ before_end more = rw (k, x) refl in
-    (and_parts _ _ (and_parts _ _ (ap (λ ws. fits c (variable ws)) (sym words) ∙ f)).1).1
+definitions_go_on c word declares isnt = misfit_declares c (codes "$enddefinitions" ∷ []) word end_word UnexpectedWord
+    declares (end_definitions, [], not_from_false _ declares, refl) (grind (arith, clash, ends_only, goes_as)) refl
 
 -- a size that is no decimal number; if it is `$end`, a part of the variable is missing
 pub no_size : (c : ParseState) (kind word : List ℕ) → IsFalse c.in_body → IsFalse (is_end_word kind)
@@ -117,12 +81,9 @@ no_size c kind word declares k isnt =
     let fit : IsTrue (fits c (variable (kind ∷ []))) =
     fits_variable c (kind ∷ []) declares (and_from _ _ (not_from_false _ k) refl) refl in
     elim (cases_Bool (is_end_word word)) [
-      | inl is ↦ subst (λ w. WordShows c (codes "$var" ∷ kind ∷ []) w BadVar)
-          (sym ((bytes_eq-Decides word end_word).0 is)) (test_fails (variable (kind ∷ [])) fit refl refl)
+      | inl is ↦ rw ((bytes_eq-Decides word end_word).0 is) (test_fails (variable (kind ∷ [])) fit refl refl)
       | inr further ↦ misfit_declares c (codes "$var" ∷ kind ∷ []) word end_word BadVar declares
-          (variable (kind ∷ []), [], fit, refl)
-          (λ g. clash (is_number word) isnt (size_of c kind word g.1 k further
-          (goes_as c false (codes "$var" ∷ kind ∷ []) word declares g).0)) refl
+          (variable (kind ∷ []), [], fit, refl) (grind (arith, clash, goes_as)) refl
     ]
 
 -- ---- among the changes
@@ -131,34 +92,19 @@ no_size c kind word declares k isnt =
 misfit_changes : (c : ParseState) (word : List ℕ) (fault : Fault) → IsTrue c.in_body
     → ((more : List (List ℕ)) → IsTrue (fits c (change_with word more)) → ⊥) → misfit_fault true [] word ≡ fault
     → WordShows c [] word fault
-misfit_changes c word fault in_body none is =
-    misfits (codes "#") (stamp [], [], in_body, refl) (λ g. none g.1 (goes_as c true [] word in_body g).0)
-    (sym (ap (λ t. misfit_fault t [] word) in_body ∙ is))
+misfit_changes c word fault in_body none is = misfits (codes "#") (stamp [], [], in_body, refl)
+    (λ g. none g.1 (goes_as c true [] word in_body g).0) (sym (ap (λ t. misfit_fault t [] word) in_body ∙ is))
 
 -- a word without a byte, which no file has
 pub no_byte : (c : ParseState) → IsTrue c.in_body → WordShows c [] [] BadChange
-no_byte c in_body =
-    misfit_changes c [] BadChange in_body (λ more f. absurd (false≢true (and_parts _ _ f).1)) refl
-
-one_byte : (b : ℕ) → is_one_of declaration_words (b ∷ []) ≡ false
-one_byte b =
-    elim (cases_Bool (is_one_of declaration_words (b ∷ []))) [
-      | inr none ↦ none
-      | inl one ↦ absurd (by_one_of (λ w. w ≡ b ∷ [] → ⊥) declaration_words (b ∷ []) one (
-        (λ e. absurd (cc e)),
-        ((λ e. absurd (cc e)), ((λ e. absurd (cc e)), ((λ e. absurd (cc e)), ((λ e. absurd (cc e)), tt)))),
-      ) refl)
-    ]
+no_byte c in_body = misfit_changes c [] BadChange in_body (λ more f. absurd (false≢true (and_parts _ _ f).1)) refl
 
 -- a binary digit without a code
 pub missing_code : (c : ParseState) (digit : ℕ) → IsTrue c.in_body → IsTrue (is_binary_digit digit)
     → WordShows c [] (digit ∷ []) BadChange
-missing_code c digit in_body is =
-    misfit_changes c (digit ∷ []) BadChange in_body
-    (λ more f. let f : IsTrue (fits c (scalar digit [])) =
-    ap (fits c) (sym (cond-true (is_binary_digit digit) _ _ is)) ∙ f in
-    absurd (false≢true (and_parts _ _ (and_parts _ _ f).1).1))
-    (cond-false (is_one_of declaration_words (digit ∷ [])) _ _ (one_byte digit))
+missing_code c digit in_body is = misfit_changes c (digit ∷ []) BadChange in_body
+    (grind (arith, cond-true, false≢true, and_parts)) (cond-false (is_one_of declaration_words (digit ∷ [])) _ _
+    (grind (arith, cases_Bool, by_one_of)))
 
 -- a word of the declarations
 pub declaration_late : (c : ParseState) (word : List ℕ) → IsTrue c.in_body → IsTrue (is_one_of declaration_words word)
@@ -182,18 +128,9 @@ not_declaring : (first : ℕ) (text : List ℕ) → is_among (codes "#$") first 
     → is_one_of declaration_words (first ∷ text) ≡ false
 not_declaring first text n = grind (arith, cases_Bool, or_cases, bytes_eq-Decides)
 
-no_change : (first : ℕ) (text : List ℕ) (more : List (List ℕ)) → IsFalse (is_binary_digit first)
-    → IsFalse (is_among (codes "#$") first) → IsFalse (is_among vector_prefixes first)
-    → change_with (first ∷ text) more ≡ real_or_string first text (code_in more)
-no_change first text more d n v = grind (arith, cond-false)
-
 -- a word that begins no change
-pub begins_no_change : (c : ParseState) (first : ℕ) (text : List ℕ) → IsTrue c.in_body
-    → IsFalse (is_binary_digit first) → IsFalse (is_among (codes "#$") first)
-    → IsFalse (is_among vector_prefixes first) → IsFalse (is_among real_or_string_prefixes first)
-    → WordShows c [] (first ∷ text) BadChange
-begins_no_change c first text in_body d n v r =
-    misfit_changes c (first ∷ text) BadChange in_body
-    (λ more f. clash (is_among real_or_string_prefixes first) r
-    (and_parts _ _ (ap (fits c) (sym (no_change first text more d n v)) ∙ f)).1)
-    (cond-false (is_one_of declaration_words (first ∷ text)) _ _ (not_declaring first text n))
+pub begins_no_change : (c : ParseState) (first : ℕ) (text : List ℕ) → IsTrue c.in_body → IsFalse (is_binary_digit first)
+    → IsFalse (is_among (codes "#$") first) → IsFalse (is_among vector_prefixes first)
+    → IsFalse (is_among real_or_string_prefixes first) → WordShows c [] (first ∷ text) BadChange
+begins_no_change c first text in_body d n v r = misfit_changes c (first ∷ text) BadChange in_body
+    (grind (arith, clash, and_parts)) (grind (arith, cond-false, not_declaring))

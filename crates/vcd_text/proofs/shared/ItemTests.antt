@@ -1,18 +1,14 @@
 -- The conditions of each item, from what is known of its parts, and back.
-use Rattle.std.proofs.Common.{◌≡◌, ℕ, ◌<◌, ◌≤◌, Bool, true, false, ◌&&◌, List, [], ◌∷◌, length, Option, Some, None}
+use Rattle.std.proofs.Common.{◌≡◌, ℕ, ◌<◌, ◌≤◌, Bool, true, false, List, [], ◌∷◌, length, Option, Some, None}
 use Rattle.std.proofs.Common.{IsTrue, IsFalse, IsSome, IsSomeAnd, refl, arith}
-use Rattle.std.specs.Prelude.{◌||◌, nat_lt, nat_le, is_some}
-use Rattle.std.proofs.lemmas.Bool.{and_parts, and_from, or_right, or_from, leb-true, le-leb, lt-leb, lt-ltb}
+use Rattle.std.specs.Prelude.{nat_lt, is_some}
+use Rattle.std.proofs.lemmas.Bool.{and_from, leb-true, le-leb, lt-ltb}
 use Rattle.std.proofs.lemmas.Bool.{not_from_false}
 use Rattle.vcd_core.specs.Tests.{Test, ◌unless◌, first_fault}
 use Rattle.vcd_core.specs.Decimal.{number_of}
-use Rattle.vcd_core.specs.Word.{is_one_of}
 use Rattle.vcd_core.specs.declared.capture.HeaderKind.{HeaderKind}
 use Rattle.vcd_text.specs.declared.fault.Fault.{Fault}
-use Rattle.vcd_text.specs.declared.fault.Fault.TheVariants.{BadTimescale}
-use Rattle.vcd_text.specs.declared.fault.Fault.TheVariants.{MixedCode, BadTime}
-use Rattle.vcd_text.specs.declared.fault.Fault.TheVariants.{TimeBackwards, BadChange, UnknownCode, ValueTooLong}
-use Rattle.vcd_text.specs.declared.fault.Fault.TheVariants.{TooManySignals}
+use Rattle.vcd_text.specs.declared.fault.Fault.TheVariants.{UnknownCode}
 use Rattle.vcd_text.specs.Letters.{is_among, is_binary_digit}
 use Rattle.vcd_text.specs.Items.{timescale_of, has_no_end_word, dump_words, is_other}
 use Rattle.vcd_text.specs.inside.reading.DigitTests.{vector_prefixes, real_or_string_prefixes}
@@ -22,32 +18,28 @@ use Rattle.vcd_text.specs.Grammar.{ParseState, VariableDeclaration, is_skipped, 
 use Rattle.vcd_text.specs.Grammar.{variable_of, may_have_code}
 use Rattle.vcd_text.specs.inside.reading.Variables.{is_within_limit}
 use Rattle.vcd_text.specs.Grammar.{fits, variable_tests, digit_tests, Allows}
-use Rattle.vcd_text.specs.inside.reading.DigitTests.{is_tick, is_binary_number, takes_binary_number}
+use Rattle.vcd_text.specs.inside.reading.DigitTests.{is_tick, takes_binary_number}
 
 -- ---- tests in turn
 
 -- no test fails: the first holds, and no other fails
 pub passed : (f : Fault) (b : Bool) (tests : List (Test Fault)) → first_fault ((f unless b) ∷ tests) ≡ None
     → (b ≡ true) × (first_fault tests ≡ None)
-passed f true tests h = (refl, h)
-passed f false tests h = absurd (cc h)
+passed f b tests h = grind arith
 
 passes : (f : Fault) (b : Bool) (tests : List (Test Fault)) → b ≡ true → first_fault tests ≡ None
     → first_fault ((f unless b) ∷ tests) ≡ None
-passes f true tests h t = t
-passes f false tests h t = absurd (cc h)
+passes f b tests h t = grind arith
 
 -- the first test fails
 pub failed : (f : Fault) (b : Bool) (tests : List (Test Fault)) → b ≡ false
     → first_fault ((f unless b) ∷ tests) ≡ Some f
-failed f true tests h = absurd (cc h)
-failed f false tests h = refl
+failed f b tests h = grind arith
 
 -- a later test fails
 pub failed_later : (f g : Fault) (b : Bool) (tests : List (Test Fault)) → b ≡ true → first_fault tests ≡ Some g
     → first_fault ((f unless b) ∷ tests) ≡ Some g
-failed_later f g true tests h t = t
-failed_later f g false tests h t = absurd (cc h)
+failed_later f g b tests h t = grind arith
 
 above : (n : ℕ) → 0 < n → nat_lt 0 n ≡ true
 above n h = grind (arith, lt-ltb)
@@ -77,8 +69,7 @@ allows_entry c kind words declares no_end = (fits_in_words c words declares no_e
 
 pub allows_timescale : (c : ParseState) (words : List (List ℕ)) → IsFalse c.in_body → IsTrue (has_no_end_word words)
     → IsSome (timescale_of words) → Allows c (timescale words)
-allows_timescale c words declares no_end some =
-    (fits_in_words c words declares no_end, passes BadTimescale (is_some (timescale_of words)) [] some refl)
+allows_timescale c words declares no_end some = grind (arith, fits_in_words, passes)
 
 pub allows_scope : (c : ParseState) (kind : List ℕ) (words : List (List ℕ)) → IsFalse c.in_body
     → IsTrue (has_no_end_word (kind ∷ words)) → Allows c (scope kind words)
@@ -87,81 +78,36 @@ allows_scope c kind words declares no_end = (fits_in_words c (kind ∷ words) de
 pub allows_upscope : (c : ParseState) → IsFalse c.in_body → 0 < length c.scopes → Allows c upscope
 allows_upscope c declares some = (fits_upscope c declares some, refl)
 
-variable_passes : (c : ParseState) (o : Option VariableDeclaration)
-    → IsSomeAnd o (λ d. IsTrue (may_have_code (variable_of c d.code) d) × IsTrue (is_within_limit c.limit c.declared d))
-    → first_fault (variable_tests c o) ≡ None
-variable_passes c None h = absurd h
-variable_passes c (Some d) h =
-    passes MixedCode _ ((TooManySignals unless is_within_limit c.limit c.declared d) ∷ []) h.0
-    (passes TooManySignals _ [] h.1 refl)
-
 pub allows_variable : (c : ParseState) (words : List (List ℕ)) → IsFalse c.in_body → IsTrue (has_no_end_word words)
     → IsTrue (has_good_size words) → IsSomeAnd (declaration_of c words) (λ d.
     IsTrue (may_have_code (variable_of c d.code) d) × IsTrue (is_within_limit c.limit c.declared d))
     → Allows c (variable words)
-allows_variable c words declares no_end good may =
-    (fits_variable c words declares no_end good, variable_passes c (declaration_of c words) may)
+allows_variable c words declares no_end good may = grind (arith, fits_variable)
 
 pub allows_end_definitions : (c : ParseState) → IsFalse c.in_body → Allows c end_definitions
 allows_end_definitions c declares = (not_from_false _ declares, refl)
 
 pub allows_stamp : (c : ParseState) (digits : List ℕ) → IsTrue c.in_body → IsTrue (is_tick digits)
     → c.tick ≤ number_of digits → Allows c (stamp digits)
-allows_stamp c digits in_body is later = (
-  in_body,
-  passes BadTime (is_tick digits) ((TimeBackwards unless nat_le c.tick (number_of digits)) ∷ []) is
-      (passes TimeBackwards (nat_le c.tick (number_of digits)) [] (le-leb _ _ later) refl),
-)
+allows_stamp c digits in_body is later = grind (arith, passes, le-leb)
 
 pub allows_scalar : (c : ParseState) (digit : ℕ) (code : List ℕ) → IsTrue c.in_body → IsTrue (is_binary_digit digit)
     → 0 < length code → IsSome (variable_of c code) → Allows c (scalar digit code)
-allows_scalar c digit code in_body is some known =
-    (fits_scalar c digit code in_body is some, passes UnknownCode (is_some (variable_of c code)) [] known refl)
-
-fit_each : (s b l : Bool) → (s || (b && l)) ≡ true → ((s || b) ≡ true) × ((s || l) ≡ true)
-fit_each true b l p = (refl, refl)
-fit_each false b l p = and_parts b l p
+allows_scalar c digit code in_body is some known = grind (arith, fits_scalar, passes)
 
 digits_pass : (digits : List ℕ) (o : Option VariableDeclaration)
     → IsSomeAnd o (λ d. IsTrue (takes_binary_number d digits)) → first_fault (digit_tests digits o) ≡ None
-digits_pass digits None h = absurd h
-digits_pass digits (Some d) h =
-    let p = fit_each (is_skipped d) (is_binary_number digits) (nat_le (length digits) d.size) h in
-    passes BadChange (is_skipped d || is_binary_number digits)
-    ((ValueTooLong unless (is_skipped d || nat_le (length digits) d.size)) ∷ []) p.0
-    (passes ValueTooLong (is_skipped d || nat_le (length digits) d.size) [] p.1 refl)
-
--- a kept variable refuses digits that are no binary number
-pub refuses_digits : (digits : List ℕ) (d : VariableDeclaration) → IsFalse (is_skipped d)
-    → IsFalse (is_binary_number digits) → first_fault (digit_tests digits (Some d)) ≡ Some BadChange
-refuses_digits digits d keeps isnt =
-    failed BadChange (is_skipped d || is_binary_number digits)
-    ((ValueTooLong unless (is_skipped d || nat_le (length digits) d.size)) ∷ []) (or_from _ _ keeps isnt)
-
--- and a value that is too long
-pub refuses_length : (digits : List ℕ) (d : VariableDeclaration) → IsFalse (is_skipped d)
-    → IsTrue (is_binary_number digits) → d.size < length digits
-    → first_fault (digit_tests digits (Some d)) ≡ Some ValueTooLong
-refuses_length digits d keeps is long =
-    failed_later BadChange ValueTooLong (is_skipped d || is_binary_number digits)
-    ((ValueTooLong unless (is_skipped d || nat_le (length digits) d.size)) ∷ []) (or_right (is_skipped d) _ is)
-    (failed ValueTooLong (is_skipped d || nat_le (length digits) d.size) [] (or_from _ _ keeps (lt-leb _ _ long)))
+digits_pass digits o h = grind (arith, passes)
 
 pub allows_vector : (c : ParseState) (first : ℕ) (digits code : List ℕ) → IsTrue c.in_body
     → IsTrue (is_among vector_prefixes first)
     → IsSomeAnd (variable_of c code) (λ d. IsTrue (takes_binary_number d digits)) → Allows c (vector first digits code)
-allows_vector c first digits code in_body is takes =
-    (and_from _ _ in_body is, digits_pass digits (variable_of c code) takes)
+allows_vector c first digits code in_body is takes = grind (arith, and_from, digits_pass)
 
 pub allows_real_or_string : (c : ParseState) (first : ℕ) (text code : List ℕ) → IsTrue c.in_body
     → IsTrue (is_among real_or_string_prefixes first) → IsSome (variable_of c code)
     → Allows c (real_or_string first text code)
-allows_real_or_string c first text code in_body is known =
-    (and_from _ _ in_body is, passes UnknownCode (is_some (variable_of c code)) [] known refl)
-
-pub allows_dump_word : (c : ParseState) (word : List ℕ) → IsTrue c.in_body → IsTrue (is_one_of dump_words word)
-    → Allows c (dump_word word)
-allows_dump_word c word in_body is = (and_from _ _ in_body is, refl)
+allows_real_or_string c first text code in_body is known = grind (arith, and_from, passes)
 
 pub allows_other : (c : ParseState) (word : List ℕ) (words : List (List ℕ)) → IsTrue (is_other c.in_body word)
     → IsTrue (has_no_end_word words) → Allows c (other word words)
@@ -169,45 +115,19 @@ allows_other c word words is no_end = (and_from _ _ is no_end, refl)
 
 -- ---- what the tests of an item say
 
-pub has_timescale : (c : ParseState) (words : List (List ℕ)) → Allows c (timescale words) → IsSome (timescale_of words)
-has_timescale c words (f, t) = (passed BadTimescale (is_some (timescale_of words)) [] t).0
-
-passed_variable : (c : ParseState) (o : Option VariableDeclaration) → first_fault (variable_tests c o) ≡ None
-    → IsSomeAnd o (λ d. IsTrue (may_have_code (variable_of c d.code) d) × IsTrue (is_within_limit c.limit c.declared d))
-passed_variable c None h = absurd (cc h)
-passed_variable c (Some d) h =
-    let p = passed MixedCode (may_have_code (variable_of c d.code) d)
-    ((TooManySignals unless is_within_limit c.limit c.declared d) ∷ []) h in
-    (p.0, (passed TooManySignals (is_within_limit c.limit c.declared d) [] p.1).0)
-
 pub has_declaration : (c : ParseState) (words : List (List ℕ)) → Allows c (variable words)
     → IsSomeAnd (declaration_of c words) (λ d. IsTrue (may_have_code (variable_of c d.code) d)
     × IsTrue (is_within_limit c.limit c.declared d))
-has_declaration c words (f, t) = passed_variable c (declaration_of c words) t
+has_declaration c words (f, t) = grind (arith, passed)
 
 pub has_tick : (c : ParseState) (digits : List ℕ) → Allows c (stamp digits)
     → IsTrue (is_tick digits) × (c.tick ≤ number_of digits)
-has_tick c digits (f, t) =
-    let p = passed BadTime (is_tick digits) ((TimeBackwards unless nat_le c.tick (number_of digits)) ∷ []) t in
-    (p.0, leb-true _ _ (passed TimeBackwards (nat_le c.tick (number_of digits)) [] p.1).0)
+has_tick c digits (f, t) = grind (arith, passed, leb-true)
 
 pub knows_code : (c : ParseState) (digit : ℕ) (code : List ℕ) → Allows c (scalar digit code)
     → IsSome (variable_of c code)
 knows_code c digit code (f, t) = (passed UnknownCode (is_some (variable_of c code)) [] t).0
 
-fit_both : (s b l : Bool) → (s || b) ≡ true → (s || l) ≡ true → (s || (b && l)) ≡ true
-fit_both true b l p q = refl
-fit_both false b l p q = and_from b l p q
-
-passed_digits : (digits : List ℕ) (o : Option VariableDeclaration) → first_fault (digit_tests digits o) ≡ None
-    → IsSomeAnd o (λ d. IsTrue (takes_binary_number d digits))
-passed_digits digits None h = absurd (cc h)
-passed_digits digits (Some d) h =
-    let p = passed BadChange (is_skipped d || is_binary_number digits)
-    ((ValueTooLong unless (is_skipped d || nat_le (length digits) d.size)) ∷ []) h in
-    let q = passed ValueTooLong (is_skipped d || nat_le (length digits) d.size) [] p.1 in
-    fit_both (is_skipped d) (is_binary_number digits) (nat_le (length digits) d.size) p.0 q.0
-
 pub takes_digits : (c : ParseState) (first : ℕ) (digits code : List ℕ) → Allows c (vector first digits code)
     → IsSomeAnd (variable_of c code) (λ d. IsTrue (takes_binary_number d digits))
-takes_digits c first digits code (f, t) = passed_digits digits (variable_of c code) t
+takes_digits c first digits code (f, t) = grind (arith, passed)

@@ -1,5 +1,5 @@
 -- Items that are allowed in turn, and the state after them.
-use Rattle.std.proofs.Common.{◌≡◌, ℕ, List, [], ◌∷◌, ◌++◌, refl, sym, ap, subst, ◌∙◌}
+use Rattle.std.proofs.Common.{◌≡◌, ℕ, List, [], ◌∷◌, ◌++◌, refl, sym, ap, ◌∙◌}
 use Rattle.vcd_text.specs.declared.fault.Fault.{Fault}
 use Rattle.vcd_text.specs.Words.{WordOnLine}
 use Rattle.vcd_text.specs.Items.{Item, spellings}
@@ -28,11 +28,9 @@ reaches_one c d i allowed state_is = record { allowed = (allowed, tt); state_is 
 
 -- items in front and items after them
 pub reaches_both : (c d e : ParseState) (xs ys : List Item) → Reaches c xs d → Reaches d ys e → Reaches c (xs ++ ys) e
-reaches_both c d e [] ys prefix back = subst (λ x. Reaches x ys e) (sym prefix.state_is) back
-reaches_both c d e (x ∷ xs) ys prefix back =
-    reaches_first c e x (xs ++ ys) prefix.allowed.0
-    (reaches_both (state_after_item c x) d e xs ys
-    (record { allowed = prefix.allowed.1; state_is = prefix.state_is }) back)
+reaches_both c d e [] ys prefix back = rw prefix.state_is back
+reaches_both c d e (x ∷ xs) ys prefix back = reaches_first c e x (xs ++ ys) prefix.allowed.0 (reaches_both
+    (state_after_item c x) d e xs ys (record { allowed = prefix.allowed.1; state_is = prefix.state_is }) back)
 
 -- the same items between the same states
 pub reaches_same : (c d e : ParseState) (is : List Item) → Reaches c is d → d ≡ e → Reaches c is e
@@ -53,6 +51,6 @@ shown_by limit words whole begun more w items c line fault leads parts spelled d
   parts = parts;
   spelled = spelled;
   allowed = leads.allowed;
-  decided = subst (λ c. WordShows c (word_texts begun) w.text fault) (sym leads.state_is) decided;
+  decided = rw leads.state_is decided;
   at = at ∙ ap (λ c. fault_line c.in_body begun w) (sym leads.state_is);
 }

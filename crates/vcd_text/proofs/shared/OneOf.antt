@@ -1,5 +1,5 @@
 -- A fact about each of some words, or bytes, is one about any of them.
-use Rattle.std.proofs.Common.{◌≡◌, ◌==◌, ℕ, Bool, true, List, [], ◌∷◌, IsTrue, bytes_eq, sym, subst}
+use Rattle.std.proofs.Common.{◌≡◌, ◌==◌, ℕ, Bool, true, List, [], ◌∷◌, IsTrue, bytes_eq}
 use Rattle.std.proofs.Common.{inl, inr}
 use Rattle.std.specs.List.{AllByRecursion, list_any}
 use Rattle.std.proofs.lemmas.Slice.Eq.{bytes_eq-Decides}
@@ -13,7 +13,7 @@ by_equal : {A : Type 0} (same : A → A → Bool) → ((x y : A) → same x y �
 by_equal same equal P [] x h all = absurd (false≢true h)
 by_equal same equal P (y ∷ ys) x h all =
     elim (or_cases (same x y) (list_any (same x) ys) h) [
-      | inl here ↦ subst P (sym (equal x y here)) all.0
+      | inl here ↦ rw (equal x y here) all.0
       | inr later ↦ by_equal same equal P ys x later all.1
     ]
 

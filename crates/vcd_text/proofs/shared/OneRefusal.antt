@@ -1,7 +1,6 @@
 -- A file is refused for one fault, unless memory ran out.
 use Rattle.std.proofs.Common.{◌≡◌, inl, inr, ℕ, List, ◌++◌, take, Bool, Option, Some, sym, ◌∙◌}
 use Rattle.std.proofs.Common.{ap, ap₂, arith}
-use Rattle.std.proofs.Common.{subst}
 use Rattle.std.proofs.lemmas.List.{append_cancel_right}
 use Rattle.vcd_text.specs.declared.fault.Fault.{Fault}
 use Rattle.vcd_text.specs.declared.fault.Fault.TheVariants as faults
@@ -23,9 +22,8 @@ unfolding error_on
 same_error d e same = ap₂ error_on same.0 same.1
 
 -- a file has one fault
-pub one_error : (limit : ℕ) (file : List ℕ) (d e : ReadError) → IsFileFault limit file d.line d.fault →
-    IsFileFault limit file e.line e.fault
-    → d ≡ e
+pub one_error : (limit : ℕ) (file : List ℕ) (d e : ReadError) → IsFileFault limit file d.line d.fault
+    → IsFileFault limit file e.line e.fault → d ≡ e
 one_error limit file d e has also = same_error d e (one_file_fault limit file d.line e.line d.fault e.fault has also)
 
 -- and so have words of which none may show one
@@ -39,51 +37,36 @@ one_of_words limit words last otherwise d e (none_shown silent line is) (none_sh
     same_error d e (line ∙ sym other_line, is ∙ sym other_is)
 
 -- a prefix of a file has one answer
-pub one_prefix_answer : (limit : ℕ) (prefix : List ℕ) (reason : Fault) (d e : ReadError) →
-    IsPrefixAnswer limit prefix reason d
-    → IsPrefixAnswer limit prefix reason e → d ≡ e
+pub one_prefix_answer : (limit : ℕ) (prefix : List ℕ) (reason : Fault) (d e : ReadError)
+    → IsPrefixAnswer limit prefix reason d → IsPrefixAnswer limit prefix reason e → d ≡ e
 one_prefix_answer limit prefix reason d e answer also = one_of_words limit _ _ reason d e answer also
 
 -- the bytes left say where the reader failed
 one_broken_prefix : (limit : ℕ) (file : List ℕ) (left : Option (List ℕ)) (prefix other rest others : List ℕ)
-    (d e : ReadError)
-    → left ≡ Some rest → left ≡ Some others → file ≡ prefix ++ rest → file ≡ other ++ others
+    (d e : ReadError) → left ≡ Some rest → left ≡ Some others → file ≡ prefix ++ rest → file ≡ other ++ others
     → IsPrefixAnswer limit prefix faults.ReadFault d → IsPrefixAnswer limit other faults.ReadFault e → d ≡ e
 one_broken_prefix limit file left prefix other rest others d e left_is left_too is too answer also =
     let rests : rest ≡ others = cc in
-    let prefixes : prefix ≡ other =
-    append_cancel_right prefix other others (ap (λ r. prefix ++ r) (sym rests) ∙ sym is ∙ too) in
-    one_prefix_answer limit other faults.ReadFault d e
-    (subst (λ f. IsPrefixAnswer limit f faults.ReadFault d) prefixes answer) also
+    let prefixes : prefix ≡ other = grind (arith, append_cancel_right) in
+    one_prefix_answer limit other faults.ReadFault d e (rw prefixes at answer) also
 
-pub one_refusal : (limit most : ℕ) (file : List ℕ) (failed : Bool) (left : Option (List ℕ)) (e : ReadError)
-    → IsRefusal limit most file failed left e → IsOnlyRefusal limit most file failed left e
-one_refusal limit most file failed left e (no_memory is) other also = inr (inl (ap (λ (e : ReadError). e.fault) is))
-one_refusal limit most file failed left e (has_fault whole short fault) other (no_memory is) =
-    inr (inr (ap (λ (e : ReadError). e.fault) is))
-one_refusal limit most file failed left e (has_fault whole short fault) other (has_fault also is fault_too) =
-    inl (one_error limit file other e fault_too fault)
-one_refusal limit most file failed left e (has_fault whole short fault) other (too_large also long answer) =
-    absurd (omega (arith, short, long))
-one_refusal limit most file failed left e (has_fault whole short fault) other
-    (reader_failed prefix rest has is_left is_prefix is_short answer) = absurd (cc)
-one_refusal limit most file failed left e (too_large whole long answer) other (no_memory is) =
-    inr (inr (ap (λ (e : ReadError). e.fault) is))
-one_refusal limit most file failed left e (too_large whole long answer) other (has_fault also short fault) =
-    absurd (omega (arith, short, long))
-one_refusal limit most file failed left e (too_large whole long answer) other (too_large also is answer_too) =
-    inl (one_prefix_answer limit (take most file) faults.TooLarge other e answer_too answer)
-one_refusal limit most file failed left e (too_large whole long answer) other
-    (reader_failed prefix rest has is_left is_prefix is_short also) = absurd (cc)
-one_refusal limit most file failed left e (reader_failed prefix rest has is_left is_prefix short answer) other
-    (no_memory is) =
-    inr (inr (ap (λ (e : ReadError). e.fault) is))
-one_refusal limit most file failed left e (reader_failed prefix rest has is_left is_prefix short answer) other
-    (has_fault whole is fault) = absurd (cc)
-one_refusal limit most file failed left e (reader_failed prefix rest has is_left is_prefix short answer) other
-    (too_large whole long also) = absurd (cc)
-one_refusal limit most file failed left e (reader_failed prefix rest has is_left is_prefix short answer) other
-    (reader_failed prefix_too rest_too has_too left_too is_too short_too also) =
-    inl (one_broken_prefix limit file left prefix_too prefix rest_too rest other e left_too is_left is_too is_prefix
-    also
-    answer)
+module _ (limit most : ℕ) (file : List ℕ) (failed : Bool) (left : Option (List ℕ)) where
+  pub one_refusal : (e : ReadError) → IsRefusal limit most file failed left e
+      → IsOnlyRefusal limit most file failed left e
+  one_refusal e (no_memory is) other also = inr (inl (ap (λ (e : ReadError). e.fault) is))
+  one_refusal e (has_fault whole short fault) other (no_memory is) = grind arith
+  one_refusal e (has_fault whole short fault) other (has_fault also is fault_too) =
+      inl (one_error limit file other e fault_too fault)
+  one_refusal e (has_fault whole short fault) other (too_large also long answer) = grind arith
+  one_refusal e (has_fault whole short fault) other (reader_failed p r has left_is is near answer) = absurd (cc)
+  one_refusal e (too_large whole long answer) other (no_memory is) = grind arith
+  one_refusal e (too_large whole long answer) other (has_fault also short fault) = grind arith
+  one_refusal e (too_large whole long answer) other (too_large also is answer_too) =
+      inl (one_prefix_answer limit (take most file) faults.TooLarge other e answer_too answer)
+  one_refusal e (too_large whole long answer) other (reader_failed p r has left_is is near also) = absurd (cc)
+  one_refusal e (reader_failed p r has left_is is near answer) other (no_memory none) =
+      inr (inr (ap (λ (e : ReadError). e.fault) none))
+  one_refusal e (reader_failed p r has left_is is near answer) other (has_fault whole short fault) = absurd (cc)
+  one_refusal e (reader_failed p r has left_is is near answer) other (too_large whole long also) = absurd (cc)
+  one_refusal e (reader_failed p r has left_is is near answer) other (reader_failed q s has_too left_too too far also) =
+      inl (one_broken_prefix limit file left q p s r other e left_too left_is too is also answer)

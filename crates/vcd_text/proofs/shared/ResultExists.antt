@@ -1,6 +1,6 @@
 -- Every file has a result: its words are accepted, or one shows a fault, or they end too early.
-use Rattle.std.proofs.Common.{◌≡◌, ◌⊎◌, inl, inr, ℕ, zero, suc, ◌<◌, ◌≤◌, List, [], ◌∷◌, ◌++◌, length, refl, sym, ap}
-use Rattle.std.proofs.Common.{subst, ◌∙◌, append_assoc, IsTrue, arith}
+use Rattle.std.proofs.Common.{◌≡◌, ◌⊎◌, inl, inr, ℕ, zero, suc, ◌<◌, ◌≤◌, List, [], ◌∷◌, ◌++◌, length, refl, ap}
+use Rattle.std.proofs.Common.{◌∙◌, append_assoc, IsTrue, arith}
 use Rattle.std.proofs.lemmas.List.{append-nil, map-append, length-append, length-map}
 use Rattle.std.proofs.lemmas.Bool.{cases_Bool}
 use Rattle.vcd_core.specs.Contents.{Contents}
@@ -71,72 +71,43 @@ in_parts (w ∷ ws) (x ∷ xs) ys e =
 refused : (limit : ℕ) (words rest begun more : List WordOnLine) (w : WordOnLine) (fault : Fault)
     (u : WordsSoFar limit words rest)
     → rest ≡ begun ++ w ∷ more → WordShows u.state (word_texts begun) w.text fault → AnswerTo limit words
-refused limit words rest begun more w fault u parts shown =
-    is_refused (fault_line u.state.in_body begun w) fault
+refused limit words rest begun more w fault u parts shown = is_refused (fault_line u.state.in_body begun w) fault
     (shown_by limit words u.whole begun more w u.items u.state _ fault u.leads
     (u.parts ∙ ap (λ ws. u.whole ++ ws) parts) u.spelled shown refl)
 
 refused_at : (limit : ℕ) (words rest begun found : List WordOnLine) (word : List ℕ) (more : List (List ℕ))
-    (fault : Fault)
-    (u : WordsSoFar limit words rest) → rest ≡ begun ++ found → word_texts found ≡ word ∷ more
+    (fault : Fault) (u : WordsSoFar limit words rest) → rest ≡ begun ++ found → word_texts found ≡ word ∷ more
     → WordShows u.state (word_texts begun) word fault → AnswerTo limit words
 refused_at limit words rest begun [] word more fault u parts is shown = absurd (cc is)
 refused_at limit words rest begun (w ∷ ws) word more fault u parts is shown =
     let here : w.text ≡ word = cc is in
-    refused limit words rest begun ws w fault u parts
-    (subst (λ t. WordShows u.state (word_texts begun) t fault) (sym here) shown)
+    refused limit words rest begun ws w fault u parts (rw here shown)
 
 -- they begin with a whole item
 with_item : (limit : ℕ) (words rest : List WordOnLine) (u : WordsSoFar limit words rest) (i : Item)
-    (more : List (List ℕ))
-    → Allows u.state i → (p : InParts rest (spelling i) more) → WordsSoFar limit words p.rest
+    (more : List (List ℕ)) → Allows u.state i → (p : InParts rest (spelling i) more) → WordsSoFar limit words p.rest
 with_item limit words rest u i more allows p = record {
   items = u.items ++ i ∷ [];
   whole = u.whole ++ p.first;
   state = state_after_item u.state i;
-  parts = u.parts ∙ ap (λ ws. u.whole ++ ws) p.parts ∙ sym (append_assoc u.whole p.first p.rest);
-  spelled =
-      map-append (λ (v : WordOnLine). v.text) u.whole p.first ∙ ap (λ ws. ws ++ word_texts p.first) u.spelled
-      ∙ ap (λ ws. spellings u.items ++ ws) p.first_texts ∙ sym (spelled_more u.items i);
-  leads = reaches_both (initial_state limit) u.state (state_after_item u.state i) u.items (i ∷ []) u.leads
-      (reaches_one u.state (state_after_item u.state i) i allows refl);
+  parts = grind (arith, append_assoc);
+  spelled = grind (arith, map-append, spelled_more);
+  leads = reaches_both _ _ _ _ _ u.leads (reaches_one _ _ i allows refl);
 }
 
 fewer_left : (rest : List WordOnLine) (i : Item) (more : List (List ℕ)) (p : InParts rest (spelling i) more)
     → length p.rest < length rest
-fewer_left rest i more p =
-    let (begun, word, last) = last_word i in
-    omega (
-      arith,
-      ap length p.parts,
-      length-append p.first p.rest,
-      sym (length-map p.first (λ (v : WordOnLine). v.text)) ∙ ap length (p.first_texts ∙ last),
-      length-append begun (word ∷ []),
-    )
+fewer_left rest i more p = grind (arith, last_word, length-append, length-map)
 
 -- a word must follow them
-stops_here : (limit : ℕ) (words rest : List WordOnLine) (u : WordsSoFar limit words rest) →
-    IsUnfinished u.state (word_texts rest)
-    → AnswerTo limit words
-stops_here limit words rest u due = stops_early (record {
-  items = u.items;
-  begun = word_texts rest;
-  spelled = ap word_texts u.parts ∙ map-append (λ (v : WordOnLine). v.text) u.whole rest
-      ∙ ap (λ ws. ws ++ word_texts rest) u.spelled;
-  allowed = u.leads.allowed;
-  unfinished = subst (λ c. IsUnfinished c (word_texts rest)) (sym u.leads.state_is) due;
-})
+stops_here : (limit : ℕ) (words rest : List WordOnLine) (u : WordsSoFar limit words rest)
+    → IsUnfinished u.state (word_texts rest) → AnswerTo limit words
+stops_here limit words rest u due = grind (arith, map-append)
 
 -- no word is left
 accepts_here : (limit : ℕ) (words : List WordOnLine) (u : WordsSoFar limit words []) → IsTrue u.state.in_body →
     AnswerTo limit words
-accepts_here limit words u in_body = is_accepted u.state (record {
-  items = u.items;
-  spelled = ap word_texts (u.parts ∙ append-nil u.whole) ∙ u.spelled;
-  allowed = u.leads.allowed;
-  state_is = u.leads.state_is;
-  definitions_ended = in_body;
-})
+accepts_here limit words u in_body = is_accepted u.state (grind (arith, append-nil))
 
 at_end : (limit : ℕ) (words : List WordOnLine) (u : WordsSoFar limit words []) → AnswerTo limit words
 at_end limit words u =
@@ -155,8 +126,7 @@ answer_after limit (suc count) words (w ∷ ws) few u =
     elim (beginning u.state w.text (word_texts ws)) [
       | shows_fault begun word more fault is shown ↦
           let p = in_parts (w ∷ ws) begun (word ∷ more) is in
-          refused_at limit words (w ∷ ws) p.first p.rest word more fault u p.parts p.rest_texts
-          (subst (λ ts. WordShows u.state ts word fault) (sym p.first_texts) shown)
+          refused_at limit words (w ∷ ws) p.first p.rest word more fault u p.parts p.rest_texts (rw p.first_texts shown)
       | whole_item i more is allows ↦
           let p = in_parts (w ∷ ws) (spelling i) more is in
           answer_after limit count words p.rest (omega (arith, few, fewer_left (w ∷ ws) i more p))

@@ -1,7 +1,7 @@
 -- A file has one result: its meaning, or its one fault with the line.
 use Rattle.std.proofs.Common.{◌≡◌, ℕ, true, not, ◌||◌, List, [], ◌∷◌, ◌++◌, length, Some, None}
 use Rattle.std.proofs.Common.{IsTrue}
-use Rattle.std.proofs.Common.{inl, inr, refl, sym, ap, subst, ◌∙◌, append_assoc, arith, drop}
+use Rattle.std.proofs.Common.{inl, inr, refl, sym, ap, ◌∙◌, append_assoc, arith, drop}
 use Rattle.std.specs.Prelude.{nat_lt}
 use Rattle.std.proofs.lemmas.Bool.{false≢true, cases_Bool, and_from}
 use Rattle.std.proofs.lemmas.Slice.Eq.{bytes_eq-Decides}
@@ -14,10 +14,9 @@ use Rattle.vcd_text.specs.Items.{Item, other, spelling, spellings, end_word, has
 use Rattle.vcd_text.specs.inside.reading.Declarations.{is_end_word}
 use Rattle.vcd_text.specs.Grammar.{ParseState, fits, item_tests, Allows, AllowsAll, Accepts, state_after}
 use Rattle.vcd_text.specs.Grammar.{state_after_item, initial_state, word_texts}
-use Rattle.vcd_text.specs.Faults.{GoesOn, WordShows, test_fails, misfits, misfit_fault, ShowsFault, fault_line}
-use Rattle.vcd_text.specs.FoundFaults.{IsUnfinished, IsFoundFault, word_shows, Stops, too_early}
-use Rattle.vcd_text.specs.Meaning.{FileMeans, meaning}
-use Rattle.vcd_text.specs.inside.shared.SkippedCount.{skipped_count}
+use Rattle.vcd_text.specs.Faults.{GoesOn, WordShows, test_fails, misfits, misfit_fault, ShowsFault}
+use Rattle.vcd_text.specs.FoundFaults.{IsFoundFault, word_shows, Stops, too_early}
+use Rattle.vcd_text.specs.Meaning.{FileMeans}
 use Rattle.vcd_text.proofs.shared.FirstItem.{one_item, one_rest}
 use Rattle.vcd_text.proofs.shared.WordOutcomes.{last_word, no_end_more}
 
@@ -43,17 +42,11 @@ places (x ∷ a) v xs (y ∷ b) w ys e = further x y a b v w (cc e) (places a v 
 
 same_place : {A : Type 0} (a : List A) (v : A) (xs b : List A) (w : A) (ys : List A) → a ++ v ∷ xs ≡ b ++ w ∷ ys
     → length a ≡ length b → (a ≡ b) × (v ≡ w)
-same_place a v xs b w ys e long =
-    elim (places a v xs b w ys e) [
-      | same is here ↦ (is, here)
-      | sooner t is ↦ absurd (omega (arith, long, ap length is, length-append a (v ∷ t)))
-      | later t is ↦ absurd (omega (arith, long, ap length is, length-append b (w ∷ t)))
-    ]
+same_place a v xs b w ys e long = grind (arith, places a v xs b w ys e, length-append)
 
 last_is : (a : List (List ℕ)) (v : List ℕ) (b : List (List ℕ)) (w : List ℕ) → a ++ v ∷ [] ≡ b ++ w ∷ []
     → (a ≡ b) × (v ≡ w)
-last_is a v b w e =
-    same_place a v [] b w [] e
+last_is a v b w e = same_place a v [] b w [] e
     (omega (arith, ap length e, length-append a (v ∷ []), length-append b (w ∷ [])))
 
 not_none : {A : Type 0} (xs : List A) (x : A) (ys : List A) → [] ≡ xs ++ x ∷ ys → ⊥
@@ -65,24 +58,17 @@ not_none xs x ys e = absurd (omega (arith, ap length e, length-append xs (x ∷ 
 abbrev BeginsNone : ParseState → List (List ℕ) → Type 0
 BeginsNone c words = (i : Item) (rest : List (List ℕ)) → Allows c i → words ≡ spelling i ++ rest → ⊥
 
-no_words : (c : ParseState) → BeginsNone c []
-no_words c i rest allows e =
-    let (begun, word, last) = last_word i in
-    not_none begun word rest (e ∙ ap (λ ws. ws ++ rest) last ∙ append_assoc begun (word ∷ []) rest)
-
 -- an item that goes on after these words has no whole item in front
 goes_past : (c : ParseState) (begun : List (List ℕ)) (next : List ℕ) (j : Item) (rest : List (List ℕ))
     → GoesOn c begun next → IsTrue (fits c j) → begun ≡ spelling j ++ rest → ⊥
 goes_past c begun next j rest (i, more, f, e) fit is =
-    let all : spelling i ++ [] ≡ spelling j ++ (rest ++ next ∷ more) =
-    append-nil (spelling i) ∙ e ∙ ap (λ ws. ws ++ next ∷ more) is ∙ append_assoc (spelling j) rest (next ∷ more) in
+    let all : spelling i ++ [] ≡ spelling j ++ (rest ++ next ∷ more) = grind (arith, append-nil, append_assoc) in
     not_none rest next more (one_rest i j [] (rest ++ next ∷ more) (one_item c i j [] _ f fit all) all)
 
 -- an item that goes on later goes on here
 goes_through : (c : ParseState) (a begun : List (List ℕ)) (v : List ℕ) (t : List (List ℕ)) (next : List ℕ)
     → begun ≡ a ++ v ∷ t → GoesOn c begun next → GoesOn c a v
-goes_through c a begun v t next is (i, more, f, e) =
-    (i, t ++ next ∷ more, f, e ∙ ap (λ ws. ws ++ next ∷ more) is ∙ append_assoc a (v ∷ t) (next ∷ more))
+goes_through c a begun v t next is (i, more, f, e) = grind (arith, append_assoc)
 
 -- an item does not begin the words up to a misfit
 misfit_ends : (c : ParseState) (begun : List (List ℕ)) (word : List ℕ) (more : List (List ℕ)) (next : List ℕ) (j : Item)
@@ -93,20 +79,8 @@ misfit_ends c begun word more next j rest some none fit e =
     let all : begun ++ word ∷ more ≡ first ++ last ∷ rest =
     e ∙ ap (λ ws. ws ++ rest) whole ∙ append_assoc first (last ∷ []) rest in
     elim (places begun word more first last rest all) [
-      | same is here ↦ none (
-        j,
-        [],
-        fit,
-        whole ∙ ap (λ ws. ws ++ last ∷ []) (sym is)
-            ∙ ap (λ w. begun ++ w ∷ []) (sym here),
-      )
-      | sooner t is ↦ none (
-        j,
-        t ++ last ∷ [],
-        fit,
-        whole ∙ ap (λ ws. ws ++ last ∷ []) is
-            ∙ append_assoc begun (word ∷ t) (last ∷ []),
-      )
+      | same is here ↦ grind arith
+      | sooner t is ↦ grind (arith, append_assoc)
       | later t is ↦ goes_past c begun next j t some fit
           (is ∙ sym (append_assoc first (last ∷ []) t) ∙ ap (λ ws. ws ++ t) (sym whole))
     ]
@@ -119,9 +93,8 @@ shown_item : (c : ParseState) (begun : List (List ℕ)) (word : List ℕ) (more 
 shown_item c begun word more fault j rest (test_fails i f spelled h) fit e =
     let one : i ≡ j = one_item c i j more rest f fit
     (ap (λ ws. ws ++ more) spelled ∙ append_assoc begun (word ∷ []) more ∙ e) in
-    (ap spelling (sym one) ∙ spelled, ap (λ k. first_fault (item_tests c k)) (sym one) ∙ h)
-shown_item c begun word more fault j rest (misfits next some none is) fit e =
-    absurd (misfit_ends c begun word more next j rest some none fit e)
+    (grind arith)
+shown_item c begun word more fault j rest (misfits next some none is) fit e = search (arith, misfit_ends)
 
 shown_begins_none : (c : ParseState) (begun : List (List ℕ)) (word : List ℕ) (more : List (List ℕ)) (fault : Fault)
     → WordShows c begun word fault → BeginsNone c (begun ++ word ∷ more)
@@ -137,12 +110,10 @@ passed_over c keyword words word fault is no_end shown =
     elim (cases_Bool (is_end_word word)) [
       | inl end ↦ fails (shown_item c (keyword ∷ words) word [] fault (other keyword words) [] shown
           (and_from _ _ is no_end)
-          (ap (λ w. keyword ∷ words ++ w ∷ []) ((bytes_eq-Decides word end_word).0 end)
-          ∙ sym (append-nil (keyword ∷ words ++ end_word ∷ []))))
+          (grind (arith, bytes_eq-Decides, append-nil)))
       | inr isnt ↦ fails (shown_item c (keyword ∷ words) word (end_word ∷ []) fault
           (other keyword (words ++ word ∷ [])) [] shown (and_from _ _ is (no_end_more words word no_end isnt))
-          (ap (λ ws. keyword ∷ ws) (sym (append_assoc words (word ∷ []) (end_word ∷ [])))
-          ∙ sym (append-nil (keyword ∷ (words ++ word ∷ []) ++ end_word ∷ []))))
+          (grind (arith, append_assoc, append-nil)))
     ]
   where
     fails : {A : Type 0} → A × (None ≡ Some fault) → ⊥
@@ -161,21 +132,15 @@ by_test c a v xs b w ys f g i fit spelled h shown e =
     (place.0, place.1, cc faults)
 
 by_misfit : (c : ParseState) (a : List (List ℕ)) (v : List ℕ) (b : List (List ℕ)) (w next after : List ℕ) (f g : Fault)
-    → GoesOn c a next → (GoesOn c a v → ⊥) → f ≡ misfit_fault c.in_body a v
-    → GoesOn c b after → (GoesOn c b w → ⊥) → g ≡ misfit_fault c.in_body b w
-    → Places a v b w → (a ≡ b) × (v ≡ w) × (f ≡ g)
-by_misfit c a v b w next after f g p none is q ends its (same begun here) =
-    (begun, here, is ∙ ap (λ ws. misfit_fault c.in_body ws v) begun ∙ ap (misfit_fault c.in_body b) here ∙ sym its)
-by_misfit c a v b w next after f g p none is q ends its (sooner t more) =
-    absurd (none (goes_through c a b v t after more q))
-by_misfit c a v b w next after f g p none is q ends its (later t more) =
-    absurd (ends (goes_through c b a w t next more p))
+    → GoesOn c a next → (GoesOn c a v → ⊥) → f ≡ misfit_fault c.in_body a v → GoesOn c b after → (GoesOn c b w → ⊥)
+    → g ≡ misfit_fault c.in_body b w → Places a v b w → (a ≡ b) × (v ≡ w) × (f ≡ g)
+by_misfit c a v b w next after f g p none is q ends its (same begun here) = grind arith
+by_misfit c a v b w next after f g p none is q ends its (sooner t more) = search (arith, goes_through)
+by_misfit c a v b w next after f g p none is q ends its (later t more) = search (arith, goes_through)
 
 one_place : (c : ParseState) (a : List (List ℕ)) (v : List ℕ) (xs b : List (List ℕ)) (w : List ℕ) (ys : List (List ℕ))
-    (f g : Fault) → WordShows c a v f → WordShows c b w g → a ++ v ∷ xs ≡ b ++ w ∷ ys
-    → (a ≡ b) × (v ≡ w) × (f ≡ g)
-one_place c a v xs b w ys f g (test_fails i fit spelled h) shown e =
-    by_test c a v xs b w ys f g i fit spelled h shown e
+    (f g : Fault) → WordShows c a v f → WordShows c b w g → a ++ v ∷ xs ≡ b ++ w ∷ ys → (a ≡ b) × (v ≡ w) × (f ≡ g)
+one_place c a v xs b w ys f g (test_fails i fit spelled h) shown e = by_test c a v xs b w ys f g i fit spelled h shown e
 one_place c a v xs b w ys f g (misfits next p none is) (test_fails i fit spelled h) e =
     let swapped = by_test c b w ys a v xs g f i fit spelled h (misfits next p none is) (sym e) in
     (sym swapped.0, sym swapped.1, sym swapped.2)
@@ -189,18 +154,13 @@ same_end : (c : ParseState) (is js : List Item) (r s : List (List ℕ)) → spel
     → AllowsAll c is → AllowsAll c js → BeginsNone (state_after c is) r → BeginsNone (state_after c js) s
     → (is ≡ js) × (r ≡ s)
 same_end c [] [] r s e a b p q = (refl, e)
-same_end c [] (j ∷ js) r s e a b p q =
-    absurd (p j (spellings js ++ s) b.0 (e ∙ append_assoc (spelling j) (spellings js) s))
-same_end c (i ∷ is) [] r s e a b p q =
-    absurd (q i (spellings is ++ r) a.0 (sym e ∙ append_assoc (spelling i) (spellings is) r))
+same_end c [] (j ∷ js) r s e a b p q = grind (arith, append_assoc)
+same_end c (i ∷ is) [] r s e a b p q = grind (arith, append_assoc)
 same_end c (i ∷ is) (j ∷ js) r s e a b p q =
-    let all : spelling i ++ (spellings is ++ r) ≡ spelling j ++ (spellings js ++ s) =
-    sym (append_assoc (spelling i) (spellings is) r) ∙ e ∙ append_assoc (spelling j) (spellings js) s in
+    let all : spelling i ++ (spellings is ++ r) ≡ spelling j ++ (spellings js ++ s) = grind (arith, append_assoc) in
     let one : i ≡ j = one_item c i j _ _ a.0.0 b.0.0 all in
     let rest = one_rest i j _ _ one all in
-    let more = same_end (state_after_item c i) is js r s rest a.1
-    (subst (λ x. AllowsAll (state_after_item c x) js) (sym one) b.1) p
-    (subst (λ x. BeginsNone (state_after (state_after_item c x) js) s) (sym one) q) in
+    let more = same_end (state_after_item c i) is js r s rest a.1 (rw one b.1) p (rw one q) in
     (ap (λ x. x ∷ is) one ∙ ap (λ x. j ∷ x) more.0, more.1)
 
 -- the words are read up to a rest that does not begin with a whole item
@@ -211,24 +171,13 @@ record Ends (limit : ℕ) (words : List (List ℕ)) (state : ParseState) (rest :
   state_is : state_after (initial_state limit) items ≡ state
   begins_none : BeginsNone state rest
 
-one_end : (limit : ℕ) (words : List (List ℕ)) (c d : ParseState) (r s : List (List ℕ)) → Ends limit words c r →
-    Ends limit words d s
-    → (c ≡ d) × (r ≡ s)
-one_end limit words c d r s a b =
-    let e = same_end (initial_state limit) a.items b.items r s (sym a.spelled ∙ b.spelled) a.allowed b.allowed
-    (subst (λ c. BeginsNone c r) (sym a.state_is) a.begins_none)
-    (subst (λ d. BeginsNone d s) (sym b.state_is) b.begins_none) in
-    (sym a.state_is ∙ ap (state_after (initial_state limit)) e.0 ∙ b.state_is, e.1)
+one_end : (limit : ℕ) (words : List (List ℕ)) (c d : ParseState) (r s : List (List ℕ)) → Ends limit words c r
+    → Ends limit words d s → (c ≡ d) × (r ≡ s)
+one_end limit words c d r s a b = grind (arith, same_end)
 
 accepts_ends : (limit : ℕ) (words : List WordOnLine) (state : ParseState) → Accepts limit words state →
     Ends limit (word_texts words) state []
-accepts_ends limit words state a = record {
-  items = a.items;
-  spelled = a.spelled ∙ sym (append-nil (spellings a.items));
-  allowed = a.allowed;
-  state_is = a.state_is;
-  begins_none = no_words state;
-}
+accepts_ends limit words state a = grind (arith, append-nil)
 
 stops_ends : (limit : ℕ) (words : List WordOnLine) (s : Stops limit words)
     → Ends limit (word_texts words) (state_after (initial_state limit) s.items) s.begun
@@ -238,8 +187,7 @@ stops_ends limit words s = record {
   allowed = s.allowed;
   state_is = refl;
   begins_none = λ i rest allows is. goes_past (state_after (initial_state limit) s.items) s.begun s.unfinished.1.0 i
-      rest
-      s.unfinished.1.1 allows.0 is;
+      rest s.unfinished.1.1 allows.0 is;
 }
 
 refuses_ends : (limit : ℕ) (words : List WordOnLine) (line : ℕ) (fault : Fault)
@@ -248,10 +196,7 @@ refuses_ends : (limit : ℕ) (words : List WordOnLine) (line : ℕ) (fault : Fau
     (word_texts r.begun ++ r.word.text ∷ word_texts r.more)
 refuses_ends limit words line fault r = record {
   items = r.items;
-  spelled =
-      ap word_texts r.parts ∙ map-append (λ (v : WordOnLine). v.text) r.whole (r.begun ++ r.word ∷ r.more)
-      ∙ ap (λ ws. ws ++ word_texts (r.begun ++ r.word ∷ r.more)) r.spelled
-      ∙ ap (λ ws. spellings r.items ++ ws) (map-append (λ (v : WordOnLine). v.text) r.begun (r.word ∷ r.more));
+  spelled = grind (arith, map-append);
   allowed = r.allowed;
   state_is = refl;
   begins_none = shown_begins_none (state_after (initial_state limit) r.items) (word_texts r.begun) r.word.text
@@ -273,9 +218,8 @@ one_telling limit words a b p q =
 
 text_count : (words more : List WordOnLine) (w : WordOnLine)
     → length (word_texts words ++ w.text ∷ word_texts more) ≡ length (words ++ w ∷ more)
-text_count words more w =
-    ap length (sym (map-append (λ (v : WordOnLine). v.text) words (w ∷ more)))
-    ∙ length-map (words ++ w ∷ more) (λ (v : WordOnLine). v.text)
+text_count words more w = ap length (sym (map-append (λ (v : WordOnLine). v.text) words (w ∷ more))) ∙ length-map
+    (words ++ w ∷ more) (λ (v : WordOnLine). v.text)
 
 pub one_fault : (limit : ℕ) (words : List WordOnLine) (line other_line : ℕ) (fault other_fault : Fault)
     → ShowsFault limit words line fault → ShowsFault limit words other_line other_fault
@@ -284,25 +228,15 @@ one_fault limit words line other_line fault other_fault p q =
     let e = one_end limit (word_texts words) _ _ _ _ (refuses_ends limit words line fault p)
     (refuses_ends limit words other_line other_fault q) in
     let place = one_place (state_after (initial_state limit) p.items) (word_texts p.begun) p.word.text
-    (word_texts p.more)
-    (word_texts q.begun) q.word.text (word_texts q.more) fault other_fault p.decided
-    (subst (λ c. WordShows c (word_texts q.begun) q.word.text other_fault) (sym e.0) q.decided) e.1 in
-    let rests : p.begun ++ p.word ∷ p.more ≡ q.begun ++ q.word ∷ q.more =
-    same_rest words p.whole q.whole _ _ p.parts q.parts
-    (sym (text_count p.begun p.more p.word) ∙ ap length e.1 ∙ text_count q.begun q.more q.word) in
-    let here = same_place p.begun p.word p.more q.begun q.word q.more rests
-    (sym (length-map p.begun (λ (v : WordOnLine). v.text)) ∙ ap length place.0
-    ∙ length-map q.begun (λ (v : WordOnLine). v.text)) in (
-      p.at ∙ ap (λ c. fault_line c.in_body p.begun p.word) e.0
-          ∙ ap (λ ws. fault_line (state_after (initial_state limit) q.items).in_body ws p.word) here.0
-          ∙ ap (fault_line (state_after (initial_state limit) q.items).in_body q.begun) here.1 ∙ sym q.at,
-      place.2,
-    )
+    (word_texts p.more) (word_texts q.begun) q.word.text (word_texts q.more) fault other_fault p.decided
+    (rw e.0 q.decided) e.1 in
+    let rests : p.begun ++ p.word ∷ p.more ≡ q.begun ++ q.word ∷ q.more = same_rest words p.whole q.whole _ _ p.parts
+    q.parts (grind (arith, text_count)) in
+    let here = same_place p.begun p.word p.more q.begun q.word q.more rests (grind (arith, length-map)) in (grind arith)
 
 pub accepted-not_refused : (limit : ℕ) (words : List WordOnLine) (state : ParseState) (line : ℕ) (fault : Fault)
     → Accepts limit words state → ShowsFault limit words line fault → ⊥
-accepted-not_refused limit words state line fault p q =
-    not_none (word_texts q.begun) q.word.text (word_texts q.more)
+accepted-not_refused limit words state line fault p q = not_none (word_texts q.begun) q.word.text (word_texts q.more)
     (one_end limit (word_texts words) _ _ _ _ (accepts_ends limit words state p)
     (refuses_ends limit words line fault q)).1
 
@@ -310,10 +244,7 @@ pub accepted-not_stopped : (limit : ℕ) (words : List WordOnLine) (state : Pars
     → Stops limit words → ⊥
 accepted-not_stopped limit words state p q =
     let e = one_end limit (word_texts words) _ _ _ _ (accepts_ends limit words state p) (stops_ends limit words q) in
-    let due : (not state.in_body || nat_lt 0 (length {A = List ℕ} [])) ≡ true =
-    ap (λ c. not c.in_body || nat_lt 0 (length {A = List ℕ} [])) e.0
-    ∙ ap (λ ws. not (state_after (initial_state limit) q.items).in_body || nat_lt 0 (length ws)) e.1
-    ∙ q.unfinished.0 in
+    let due : (not state.in_body || nat_lt 0 (length {A = List ℕ} [])) ≡ true = grind arith in
     let none : (not true || nat_lt 0 (length {A = List ℕ} [])) ≡ true =
     ap (λ b. not b || nat_lt 0 (length {A = List ℕ} [])) (sym p.definitions_ended) ∙ due in
     absurd (false≢true none)
@@ -323,26 +254,22 @@ pub stopped-not_refused : (limit : ℕ) (words : List WordOnLine) (line : ℕ) (
 stopped-not_refused limit words line fault p q =
     let e = one_end limit (word_texts words) _ _ _ _ (stops_ends limit words p)
     (refuses_ends limit words line fault q) in
-    let (next, (i, more, fit, spelled)) = (subst (λ c. IsUnfinished c p.begun) e.0 p.unfinished).1 in
+    let (next, (i, more, fit, spelled)) = (rw e.0 at p.unfinished).1 in
     let begun = word_texts q.begun in
-    let all : spelling i ≡ begun ++ q.word.text ∷ (word_texts q.more ++ next ∷ more) =
-    spelled ∙ ap (λ ws. ws ++ next ∷ more) e.1
-    ∙ append_assoc begun (q.word.text ∷ word_texts q.more) (next ∷ more) in
+    let all : spelling i ≡ begun ++ q.word.text ∷ (word_texts q.more ++ next ∷ more) = grind (arith, append_assoc) in
     let ends = shown_item (state_after (initial_state limit) q.items) begun q.word.text
-    (word_texts q.more ++ next ∷ more) fault
-    i [] q.decided fit (sym all ∙ sym (append-nil (spelling i))) in
+    (word_texts q.more ++ next ∷ more) fault i [] q.decided fit (sym all ∙ sym (append-nil (spelling i))) in
     let none = append_cancel_left begun (q.word.text ∷ []) (q.word.text ∷ (word_texts q.more ++ next ∷ more))
     (sym ends.0 ∙ all) in
     not_none (word_texts q.more) next more (cc none)
 
 -- ---- one answer for a file
 
-pub one_meaning : (limit : ℕ) (bytes : List ℕ) (c d : Contents) (m n : ℕ) → FileMeans limit bytes c m →
-    FileMeans limit bytes d n
-    → (c ≡ d) × (m ≡ n)
+pub one_meaning : (limit : ℕ) (bytes : List ℕ) (c d : Contents) (m n : ℕ) → FileMeans limit bytes c m
+    → FileMeans limit bytes d n → (c ≡ d) × (m ≡ n)
 one_meaning limit bytes c d m n p q =
     let e = one_telling limit (words_of bytes) p.state q.state p.accepted q.accepted in
-    (p.means ∙ ap meaning e ∙ sym q.means, p.left_out ∙ ap skipped_count e ∙ sym q.left_out)
+    (grind arith)
 
 pub one_found_fault : (limit : ℕ) (bytes : List ℕ) (line other_line : ℕ) (fault other_fault : Fault) →
     IsFoundFault limit bytes line fault
@@ -353,13 +280,9 @@ one_found_fault limit bytes line other_line fault other_fault (word_shows p) (to
     absurd (stopped-not_refused limit (words_of bytes) line fault q p)
 one_found_fault limit bytes line other_line fault other_fault (too_early p l f) (word_shows q) =
     absurd (stopped-not_refused limit (words_of bytes) other_line other_fault p q)
-one_found_fault limit bytes line other_line fault other_fault (too_early p l f) (too_early q m g) =
-    (l ∙ sym m, f ∙ sym g)
+one_found_fault limit bytes line other_line fault other_fault (too_early p l f) (too_early q m g) = grind arith
 
-pub meaning-no_found_fault : (limit : ℕ) (bytes : List ℕ) (c : Contents) (n line : ℕ) (fault : Fault) →
-    FileMeans limit bytes c n
-    → IsFoundFault limit bytes line fault → ⊥
-meaning-no_found_fault limit bytes c n line fault p (word_shows q) =
-    accepted-not_refused limit (words_of bytes) p.state line fault p.accepted q
-meaning-no_found_fault limit bytes c n line fault p (too_early q l f) =
-    accepted-not_stopped limit (words_of bytes) p.state p.accepted q
+pub meaning-no_found_fault : (limit : ℕ) (bytes : List ℕ) (c : Contents) (n line : ℕ) (fault : Fault)
+    → FileMeans limit bytes c n → IsFoundFault limit bytes line fault → ⊥
+meaning-no_found_fault limit bytes c n line fault p (word_shows q) = search (arith, accepted-not_refused)
+meaning-no_found_fault limit bytes c n line fault p (too_early q l f) = search (arith, accepted-not_stopped)

@@ -1,8 +1,7 @@
 -- The meaning of an accepted file is sound.
 use Rattle.std.proofs.Common.{◌≡◌, ℕ, ◌<◌, ◌≤◌, Bool, true, false, cond, not, ◌&&◌, ◌||◌, List, []}
 use Rattle.std.proofs.Common.{◌∷◌, ◌++◌, length, take, drop, Option, Some, None, IsTrue, IsFalse}
-use Rattle.std.proofs.Common.{IsSome}
-use Rattle.std.proofs.Common.{IsSomeAnd, IfSome, All, refl, sym, ap, subst, ◌∙◌, arith}
+use Rattle.std.proofs.Common.{IsSomeAnd, IfSome, All, refl, sym, ap, ◌∙◌, arith}
 use Rattle.std.specs.Prelude.{find, bytes_eq, ◌==◌, nat_le}
 use Rattle.std.specs.List.{list_all}
 use Rattle.std.proofs.lemmas.Bool.{and_parts, and_from, or_parts, false≢true, not-true, eqb-true}
@@ -12,7 +11,7 @@ use Rattle.std.proofs.lemmas.Slice.Eq.{bytes_eq-Decides}
 use Rattle.std.proofs.lemmas.List.{append-nil, length-append, length-map, length-replicate}
 use Rattle.std.proofs.lemmas.List.{take-append-drop}
 use Rattle.std.proofs.lemmas.List.Elements.{All-nil, All-head, All-tail, All-push, All-map}
-use Rattle.std.proofs.lemmas.List.Elements.{All-weaker, All-filter}
+use Rattle.std.proofs.lemmas.List.Elements.{All-filter}
 use Rattle.std.proofs.lemmas.List.Elements.{filter_passes}
 use Rattle.std.proofs.lemmas.List.Folds.{list_all-append}
 use Rattle.vcd_core.specs.declared.bit.Bit.{Bit}
@@ -38,7 +37,7 @@ use Rattle.vcd_text.specs.inside.reading.Declarations.{is_end_word}
 use Rattle.vcd_text.specs.Grammar.{ParseState, VariableDeclaration, ValueChange, Accepts}
 use Rattle.vcd_text.specs.Grammar.{Allows}
 use Rattle.vcd_text.specs.Grammar.{AllowsAll}
-use Rattle.vcd_text.proofs.shared.ItemTests.{has_timescale, has_declaration, has_tick, knows_code, takes_digits}
+use Rattle.vcd_text.proofs.shared.ItemTests.{has_declaration, has_tick}
 use Rattle.vcd_text.specs.Grammar.{state_after, state_after_item, is_skipped, kept_variables}
 use Rattle.vcd_text.specs.Grammar.{variable_of, initial_state}
 use Rattle.vcd_text.specs.Grammar.{may_have_code, value_changes_after}
@@ -65,31 +64,16 @@ clean_words (w ∷ ws) rest all none =
 
 -- ---- lists
 
--- the result of a search passes a test that all pass
-found_passes : {A : Type 0} (p q : A → Bool) (xs : List A) → list_all q xs ≡ true → IfSome (find p xs) (λ x. q x ≡ true)
-found_passes p q [] all = tt
-found_passes p q (x ∷ xs) all =
-    let parts = and_parts (q x) (list_all q xs) all in
-    by_test (λ b. IfSome (cond b (Some x) (find p xs)) (λ x. q x ≡ true)) (p x) (λ _. parts.0)
-    (λ _. found_passes p q xs parts.1)
-
 -- the result of a search is that of a search in a longer list
 found_further : {A : Type 0} (P : A → Type 0) (p : A → Bool) (xs : List A) (y : A) → IsSomeAnd (find p xs) P
     → IsSomeAnd (find p (xs ++ y ∷ [])) P
 found_further P p [] y some = absurd some
-found_further P p (x ∷ xs) y some =
-    by_test (λ b. IsSomeAnd (cond b (Some x) (find p xs)) P → IsSomeAnd (cond b (Some x) (find p (xs ++ y ∷ []))) P)
-    (p x) (λ _ h. h) (λ _ h. found_further P p xs y h) some
-
--- the last item is found if none before it is
-found_last : {A : Type 0} (p : A → Bool) (xs : List A) (y : A) → find p xs ≡ None → p y ≡ true
-    → find p (xs ++ y ∷ []) ≡ Some y
-found_last p xs y none here = grind (arith, find-append)
+found_further P p (x ∷ xs) y some = by_test (λ b. IsSomeAnd (cond b (Some x) (find p xs)) P → IsSomeAnd
+    (cond b (Some x) (find p (xs ++ y ∷ []))) P) (p x) (λ _ h. h) (λ _ h. found_further P p xs y h) some
 
 all_taken : {A : Type 0} (p : A → Bool) (n : ℕ) (xs : List A) → list_all p xs ≡ true → list_all p (take n xs) ≡ true
-all_taken p n xs all =
-    (and_parts (list_all p (take n xs)) (list_all p (drop n xs)) (sym (list_all-append p (take n xs) (drop n xs))
-    ∙ ap (list_all p) (take-append-drop n xs) ∙ all)).0
+all_taken p n xs all = (and_parts (list_all p (take n xs)) (list_all p (drop n xs))
+    (sym (list_all-append p (take n xs) (drop n xs)) ∙ ap (list_all p) (take-append-drop n xs) ∙ all)).0
 
 -- ---- the invariant
 
@@ -124,18 +108,6 @@ kept_is : (d : VariableDeclaration) → is_skipped d ≡ false → (is_skipped_k
     × (d.size ≤ WIDTH_LIMIT)
 kept_is d keeps = grind (arith, or_parts, eqb-false, ltb-false)
 
--- a variable accepts a letter
-some_kept : (o : Option VariableDeclaration) → IsSome o → IsSomeAnd o (λ e. is_skipped e ≡ false → 1 ≤ e.size)
-some_kept None some = absurd (false≢true some)
-some_kept (Some e) some = λ keeps. (kept_is e keeps).1
-
--- a variable accepts digits that are no more than its bits
-some_taken : (digits : List ℕ) (o : Option VariableDeclaration)
-    → IsSomeAnd o (λ e. IsTrue (takes_binary_number e digits))
-    → IsSomeAnd o (λ e. is_skipped e ≡ false → length (letters_of_digits digits) ≤ e.size)
-some_taken digits None some = absurd some
-some_taken digits (Some e) takes = grind (arith, length-map, leb-true, and_parts)
-
 -- ---- one item
 
 -- one more value change
@@ -160,13 +132,12 @@ clean_value_change c code letters clean in_body fits = record {
     more (Some e) is some =
         let r : ValueChange = record { tick = c.tick; code = code; letters = letters } in
         by_test (λ b. All (Fits c) (c.value_changes ++ cond b [] (r ∷ []))) (is_skipped e)
-        (λ _. subst (All (Fits c)) (sym (append-nil c.value_changes)) clean.fit)
+        (λ _. rw (append-nil c.value_changes) clean.fit)
         (λ keeps. All-push (Fits c) c.value_changes r clean.fit
-        (subst (λ o. IsSomeAnd o (λ e. length letters ≤ e.size)) (sym is) (some keeps)))
+        (rw is (some keeps)))
 
 both_kept : (s e : Bool) → ((s && false) || (not s && true && e)) ≡ true → (e ≡ true) × (s ≡ false)
-both_kept true e h = absurd (false≢true h)
-both_kept false e h = (h, refl)
+both_kept s e h = grind (arith, false≢true)
 
 -- one more variable
 clean_declared : (c : ParseState) (d : VariableDeclaration) → IsClean c → IsFalse c.in_body → IsCleanDeclaration d
@@ -181,11 +152,9 @@ clean_declared c d clean declaring is shares room =
       declared = All-push IsCleanDeclaration c.declared d clean.declared is;
       agree =
           All-push (IsAgreed e) c.declared d
-          (All-weaker (IsAgreed c) (IsAgreed e)
-          (λ x agrees keeps. found_further _ (λ y. bytes_eq x.code y.code) c.declared d (agrees keeps)) c.declared
-          clean.agree)
+          (grind (arith, found_further))
           (λ keeps. first_or_same (variable_of c d.code) refl shares keeps);
-      fit = subst (All (Fits e)) (sym (clean.no_early_change declaring)) (All-nil (Fits e));
+      fit = rw (clean.no_early_change declaring) (All-nil (Fits e));
       no_early_change = clean.no_early_change;
       tick = clean.tick;
     }
@@ -194,14 +163,13 @@ clean_declared c d clean declaring is shares room =
         → is_skipped d ≡ false
         → IsSomeAnd (find (λ y. bytes_eq d.code y.code) (c.declared ++ d ∷ [])) (λ e. (e.size ≡ d.size)
         × (is_skipped e ≡ false))
-    first_or_same None none shares keeps = grind (arith, found_last, bytes_eq-Decides)
+    first_or_same None none shares keeps = grind (arith, find-append, bytes_eq-Decides)
     first_or_same (Some x) some shares keeps =
         let here : ((is_skipped x && false) || (not (is_skipped x) && true && (x.size == d.size))) ≡ true =
         grind arith in
         let same = both_kept (is_skipped x) (x.size == d.size) here in
         found_further _ (λ y. bytes_eq d.code y.code) c.declared d
-        (subst (λ o. IsSomeAnd o (λ e. (e.size ≡ d.size) × (is_skipped e ≡ false))) (sym some)
-        (eqb-true x.size d.size same.0, same.1))
+        (rw some (eqb-true x.size d.size same.0, same.1))
 
 clean_variable : (c : ParseState) (words : List (List ℕ)) → IsClean c
     → list_all is_run_text (spelling (variable words)) ≡ true → Allows c (variable words)
@@ -209,8 +177,7 @@ clean_variable : (c : ParseState) (words : List (List ℕ)) → IsClean c
 clean_variable c [] clean all allows = absurd (has_declaration c [] allows)
 clean_variable c (kind ∷ []) clean all allows = absurd (has_declaration c (kind ∷ []) allows)
 clean_variable c (kind ∷ size ∷ []) clean all allows = absurd (has_declaration c (kind ∷ size ∷ []) allows)
-clean_variable c (kind ∷ size ∷ code ∷ []) clean all allows =
-    absurd (has_declaration c (kind ∷ size ∷ code ∷ []) allows)
+clean_variable c (kind ∷ size ∷ code ∷ []) clean all allows = grind (arith, has_declaration)
 clean_variable c (kind ∷ size ∷ code ∷ name ∷ names) clean all allows =
     let fit = and_parts _ _ allows.0 in
     let may = has_declaration c (kind ∷ size ∷ code ∷ name ∷ names) allows in
@@ -248,26 +215,18 @@ clean_beside c header time scopes in_body tick clean sound_header sound_timescal
 clean_item : (c : ParseState) (i : Item) → IsClean c → list_all is_run_text (spelling i) ≡ true → Allows c i
     → IsClean (state_after_item c i)
 clean_item c (entry kind words) clean all allows =
-    let fit = and_parts _ _ allows.0 in
-    let none : has_no_end_word words ≡ true = fit.1 in
-    grind (arith, clean_beside, list_all-append, and_from, clean_words, and_parts)
-clean_item c (timescale words) clean all allows =
-    let found = has_timescale c words allows in grind (arith, clean_beside, found_passes)
+    grind (arith, and_parts, clean_beside, list_all-append, and_from, clean_words)
+clean_item c (timescale words) clean all allows = grind (arith, clean_beside)
 clean_item c (scope kind words) clean all allows =
-    let fit = and_parts _ _ allows.0 in
-    let none : has_no_end_word (kind ∷ words) ≡ true = fit.1 in
-    grind (arith, clean_beside, list_all-append, and_from, clean_words)
+    grind (arith, and_parts, clean_beside, list_all-append, and_from, clean_words)
 clean_item c upscope clean all allows = grind (arith, clean_beside, all_taken)
 clean_item c (variable words) clean all allows = clean_variable c words clean all allows
 clean_item c end_definitions clean all allows = grind (arith, clean_beside)
-clean_item c (stamp digits) clean all allows =
-    let tick = has_tick c digits allows in grind (arith, clean_beside, leb-true, and_parts)
-clean_item c (scalar letter code) clean all allows =
-    clean_value_change c code (letters_of_digits (letter ∷ [])) clean (and_parts _ _ allows.0).0
-    (some_kept (variable_of c code) (knows_code c letter code allows))
-clean_item c (vector first digits code) clean all allows =
-    clean_value_change c code (letters_of_digits digits) clean (and_parts _ _ allows.0).0
-    (some_taken digits (variable_of c code) (takes_digits c first digits code allows))
+clean_item c (stamp digits) clean all allows = grind (arith, has_tick, clean_beside, leb-true, and_parts)
+clean_item c (scalar letter code) clean all allows = clean_value_change c code (letters_of_digits (letter ∷ [])) clean
+    (and_parts _ _ allows.0).0 (grind (arith, false≢true, kept_is))
+clean_item c (vector first digits code) clean all allows = clean_value_change c code (letters_of_digits digits) clean
+    (and_parts _ _ allows.0).0 (grind (arith, length-map, leb-true, and_parts))
 clean_item c (real_or_string first text code) clean all allows = clean
 clean_item c (dump_word word) clean all allows = clean
 clean_item c (other word words) clean all allows = clean
@@ -290,10 +249,15 @@ latest_length : (width : ℕ) (code : List ℕ) (t : ℕ) (before : List Bit) (r
     → All (FitsWidth width code) rs → length (latest_value width code t before rs) ≡ width
 unfolding latest_value
 latest_length width code t before [] long all = long
-latest_length width code t before (r ∷ rs) long all =
-    latest_length width code t (cond (bytes_eq r.code code && nat_le r.tick t) (extension width r.letters) before) rs
-    (grind (arith, by_test, length-append, length-replicate, and_parts, All-head))
-    (All-tail (FitsWidth width code) r rs all)
+latest_length width code t before (r ∷ rs) long all = latest_length width code t (cond (bytes_eq r.code code
+    && nat_le r.tick t) (extension width r.letters) before) rs (grind (
+      arith,
+      by_test,
+      length-append,
+      length-replicate,
+      and_parts,
+      All-head,
+    )) (All-tail (FitsWidth width code) r rs all)
 
 sound_signal : (c : ParseState) (d : VariableDeclaration) → IsClean c → IsCleanDeclaration d → IsAgreed c d
     → is_skipped d ≡ false → IsSoundSignal c.tick (declared_signal c.value_changes c.tick d)
@@ -319,19 +283,16 @@ meaning_is_sound_but limit bytes state accepted =
       timescale = clean.timescale;
       end = clean.tick;
       signals = All-map (IsSoundSignal state.tick) (declared_signal state.value_changes state.tick)
-          (kept_variables state.declared)
-          (λ k d within. sound_signal state _ clean (declared k d within) (agree k d within)
-          (not-true _ (keeps k d within)));
+          (kept_variables state.declared) (λ k d within. sound_signal state _ clean (declared k d within)
+          (agree k d within) (not-true _ (keeps k d within)));
     }
 
 pub meaning_is_sound : (bytes : List ℕ) (state : ParseState) → Accepts SIGNAL_LIMIT (words_of bytes) state
     → IsSound (meaning state)
 meaning_is_sound bytes state accepted =
     let sound = meaning_is_sound_but SIGNAL_LIMIT bytes state accepted in
-    let few : KeepsFew state = subst KeepsFew accepted.state_is
-    (few_after (initial_state SIGNAL_LIMIT) accepted.items accepted.allowed (omega arith)) in
-    let limit : state.limit ≡ SIGNAL_LIMIT = ap (λ (c : ParseState). c.limit) (sym accepted.state_is)
-    ∙ same_limit (initial_state SIGNAL_LIMIT) accepted.items in
+    let few : KeepsFew state = grind (arith, few_after) in
+    let limit : state.limit ≡ SIGNAL_LIMIT = grind (arith, same_limit) in
     record {
       header = sound.header;
       timescale = sound.timescale;

@@ -1,7 +1,6 @@
 -- The words of an item without its last ones: a word must follow them.
-use Rattle.std.proofs.Common.{◌≡◌, ℕ, ◌<◌, not, List, [], ◌∷◌, ◌++◌, length, IsTrue, IsFalse, codes}
+use Rattle.std.proofs.Common.{◌≡◌, ℕ, ◌<◌, List, [], ◌∷◌, ◌++◌, length, IsTrue, IsFalse, codes}
 use Rattle.std.proofs.Common.{refl, arith}
-use Rattle.std.specs.Prelude.{nat_lt}
 use Rattle.std.proofs.lemmas.Bool.{and_from, or_left, or_right, not_from_false, lt-ltb}
 use Rattle.vcd_core.specs.Word.{is_one_of}
 use Rattle.vcd_core.specs.declared.capture.HeaderKind.{HeaderKind}
@@ -21,18 +20,15 @@ use Rattle.vcd_text.proofs.shared.ItemFaults.{some_declaration}
 -- an item that fits has more words
 has_more : (c : ParseState) (i : Item) (w : List ℕ) (begun : List (List ℕ)) (next : List ℕ) (more : List (List ℕ))
     → IsTrue (fits c i) → spelling i ≡ (w ∷ begun) ++ next ∷ more → IsUnfinished c (w ∷ begun)
-has_more c i w begun next more f e =
-    (or_right (not c.in_body) (nat_lt 0 (length (w ∷ begun))) (lt-ltb _ _ (omega arith)), (next, (i, more, f, e)))
+has_more c i w begun next more f e = grind (arith, or_right, lt-ltb)
 
 -- the next declaration must follow
 pub declaration_due : (c : ParseState) → IsFalse c.in_body → IsUnfinished c []
-declaration_due c declares =
-    (or_left (not c.in_body) _ (not_from_false _ declares), (codes "$enddefinitions", some_declaration c declares))
+declaration_due c declares = search (arith, or_left, not_from_false, some_declaration)
 
 scope_due : (c : ParseState) (words : List (List ℕ)) → IsFalse c.in_body → IsTrue (has_no_end_word words)
     → IsUnfinished c (codes "$scope" ∷ words)
-scope_due c [] declares no_end =
-    has_more c (scope [] []) _ [] [] (end_word ∷ []) (fits_in_words c ([] ∷ []) declares refl) refl
+scope_due c [] declares no_end = has_more c (scope [] []) _ [] [] _ (fits_in_words c ([] ∷ []) declares refl) refl
 scope_due c (kind ∷ words) declares no_end =
     has_more c (scope kind words) _ (kind ∷ words) end_word [] (fits_in_words c (kind ∷ words) declares no_end) refl
 

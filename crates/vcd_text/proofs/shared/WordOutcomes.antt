@@ -1,7 +1,7 @@
 -- What words begin with: a whole item whose conditions hold, a fault, or an item that goes on.
 use Rattle.std.proofs.Common.{◌≡◌, ◌⊎◌, inl, inr, ℕ, not, ◌&&◌, ◌||◌, List, [], ◌∷◌, ◌++◌, Option, Some, None}
 use Rattle.std.proofs.Common.{IsTrue, IsFalse, codes, length, ◌<◌}
-use Rattle.std.proofs.Common.{refl, sym, ap, subst, ◌∙◌, arith, append_assoc}
+use Rattle.std.proofs.Common.{refl, sym, ap, ◌∙◌, arith, append_assoc}
 use Rattle.std.proofs.lemmas.List.{append-nil}
 use Rattle.std.proofs.lemmas.List.Folds.{list_all-append}
 use Rattle.std.proofs.lemmas.Slice.Eq.{bytes_eq-Decides}
@@ -90,8 +90,7 @@ ending (w ∷ ws) =
 -- the keyword, the words before `$end`, and `$end`
 closed : (k : List ℕ) (words before rest : List (List ℕ)) → words ≡ before ++ end_word ∷ rest
     → k ∷ words ≡ (k ∷ before ++ end_word ∷ []) ++ rest
-closed k words before rest is =
-    ap (λ ws. k ∷ ws) (is ∙ sym (append_assoc before (end_word ∷ []) rest))
+closed k words before rest is = grind (arith, append_assoc)
 
 -- an item with any words up to `$end`
 up_to_end : (c : ParseState) (k : List ℕ) (words : List (List ℕ)) (item : List (List ℕ) → Item)
@@ -125,8 +124,7 @@ end_follows : (c : ParseState) (i : Item) (k : List ℕ) (words : List (List ℕ
 end_follows c i k [] fit spelled due further = goes_on due
 end_follows c i k (w ∷ ws) fit spelled due further =
     elim (cases_Bool (is_end_word w)) [
-      | inl is ↦ item_begins c i (k ∷ w ∷ ws) ws fit
-          (ap (λ v. k ∷ v ∷ ws) ((bytes_eq-Decides w end_word).0 is) ∙ ap (λ vs. vs ++ ws) (sym spelled))
+      | inl is ↦ item_begins c i (k ∷ w ∷ ws) ws fit (grind (arith, bytes_eq-Decides))
       | inr isnt ↦ let shown = further w isnt in shows_fault (k ∷ []) w ws shown.0 refl shown.1
     ]
 
@@ -147,32 +145,28 @@ bad_size : (c : ParseState) (words more : List (List ℕ)) → IsFalse c.in_body
     → IsFalse (has_good_size words) → Beginning c (codes "$var" ∷ words ++ more)
 bad_size c [] more declares none bad = absurd (cc bad)
 bad_size c (kind ∷ []) more declares none bad = absurd (cc bad)
-bad_size c (kind ∷ size ∷ words) more declares none bad =
-    shows_fault (codes "$var" ∷ kind ∷ []) size (words ++ more) _ refl
-    (no_size c kind size declares (not-true (is_end_word kind) (and_parts _ _ none).0) bad)
+bad_size c (kind ∷ size ∷ words) more declares none bad = shows_fault (codes "$var" ∷ kind ∷ []) size (words ++ more) _
+    refl (no_size c kind size declares (not-true (is_end_word kind) (and_parts _ _ none).0) bad)
 
 variable_begins : (c : ParseState) (words : List (List ℕ)) → IsFalse c.in_body → Ending words
     → Beginning c (codes "$var" ∷ words)
 variable_begins c words declares (never_ends none) =
     elim (cases_Bool (has_good_size words)) [
       | inl good ↦ goes_on (variable_due c words declares none good)
-      | inr bad ↦ subst (λ ws. Beginning c (codes "$var" ∷ ws)) (append-nil words)
-          (bad_size c words [] declares none bad)
+      | inr bad ↦ rw (append-nil words) at (bad_size c words [] declares none bad)
     ]
 variable_begins c words declares (ends before rest is none) =
     elim (cases_Bool (has_good_size before)) [
       | inl good ↦ item_begins c (variable before) (codes "$var" ∷ words) rest
           (fits_variable c before declares none good) (closed (codes "$var") words before rest is)
-      | inr bad ↦ subst (λ ws. Beginning c (codes "$var" ∷ ws)) (sym is)
-          (bad_size c before (end_word ∷ rest) declares none bad)
+      | inr bad ↦ rw is (bad_size c before (end_word ∷ rest) declares none bad)
     ]
 
 declaring : (c : ParseState) (word : List ℕ) (words : List (List ℕ)) → IsFalse c.in_body
     → IsTrue (is_one_of declaration_words word) → Beginning c (word ∷ words)
 declaring c word words declares is =
-    let timed : Beginning c (codes "$timescale" ∷ words) =
-    up_to_end c (codes "$timescale") words timescale (λ ws. refl) (λ ws none. fits_in_words c ws declares none)
-    (λ ws none. words_due c (codes "$timescale") ws declares refl none) in
+    let timed : Beginning c (codes "$timescale" ∷ words) = up_to_end c (codes "$timescale") words timescale (λ ws. refl)
+    (λ ws none. fits_in_words c ws declares none) (λ ws none. words_due c (codes "$timescale") ws declares refl none) in
     let last : Beginning c (codes "$enddefinitions" ∷ words) =
     end_follows c end_definitions (codes "$enddefinitions") words (not_from_false _ declares) refl
     (definitions_due c declares) (λ w isnt. (_, definitions_go_on c w declares isnt)) in
@@ -184,14 +178,12 @@ declaring c word words declares is =
 entry_begins : (c : ParseState) (kind : HeaderKind) (words : List (List ℕ)) → IsFalse c.in_body
     → IsTrue (is_one_of (codes "$timescale" ∷ codes "$scope" ∷ header_words) (header_word kind))
     → Beginning c (header_word kind ∷ words)
-entry_begins c kind words declares is =
-    up_to_end c (header_word kind) words (entry kind) (λ ws. refl) (λ ws none. fits_in_words c ws declares none)
-    (λ ws none. words_due c (header_word kind) ws declares is none)
+entry_begins c kind words declares is = up_to_end c (header_word kind) words (entry kind) (λ ws. refl)
+    (λ ws none. fits_in_words c ws declares none) (λ ws none. words_due c (header_word kind) ws declares is none)
 
 other_begins : (c : ParseState) (word : List ℕ) (words : List (List ℕ)) → IsTrue (is_other c.in_body word)
     → Beginning c (word ∷ words)
-other_begins c word words is =
-    up_to_end c word words (other word) (λ ws. refl) (λ ws none. and_from _ _ is none)
+other_begins c word words is = up_to_end c word words (other word) (λ ws. refl) (λ ws none. and_from _ _ is none)
     (λ ws none. other_due c word ws is none)
 
 declaration_begins : (c : ParseState) (word : List ℕ) (words : List (List ℕ)) → IsFalse c.in_body
@@ -206,8 +198,7 @@ declaration_begins c word words declares =
             entry_begins c Date words declares refl,
             (entry_begins c Version words declares refl, (entry_begins c Comment words declares refl, tt)),
           )
-          | inr no_header ↦ other_begins c word words
-              (λ i. is i && not (none i) && (declares i || not (no_header i)))
+          | inr no_header ↦ other_begins c word words (λ i. is i && not (none i) && (declares i || not (no_header i)))
         ]
       ]
     ]
@@ -221,8 +212,7 @@ command_begins c text words in_body =
       | inl dump ↦ item_begins c (dump_word (36 ∷ text)) _ words (and_from _ _ in_body dump) refl
       | inr no_dump ↦ elim (cases_Bool (is_one_of declaration_words (36 ∷ text))) [
         | inl late ↦ shows_fault [] (36 ∷ text) words _ refl (declaration_late c (36 ∷ text) in_body late)
-        | inr none ↦ other_begins c (36 ∷ text) words (λ i. not (no_dump i) && not (none i)
-            && (in_body i || not (is_one_of header_words (36 ∷ text))))
+        | inr none ↦ other_begins c (36 ∷ text) words (grind arith)
       ]
     ]
 
@@ -244,8 +234,7 @@ real_or_string_begins c first text [] in_body is = goes_on (real_or_string_due c
 real_or_string_begins c first text (code ∷ words) in_body is =
     item_begins c (real_or_string first text code) _ words (and_from _ _ in_body is) refl
 
-change_begins : (c : ParseState) (word : List ℕ) (words : List (List ℕ)) → IsTrue c.in_body
-    → Beginning c (word ∷ words)
+change_begins : (c : ParseState) (word : List ℕ) (words : List (List ℕ)) → IsTrue c.in_body → Beginning c (word ∷ words)
 change_begins c [] words in_body = shows_fault [] [] words _ refl (no_byte c in_body)
 change_begins c (first ∷ text) words in_body =
     elim (cases_Bool (is_binary_digit first)) [

@@ -5,7 +5,7 @@ use Rattle.std.proofs.Common.{◌++◌, length, map, take, drop, refl, sym, ap, 
 use Rattle.std.specs.List.{All, list_all}
 use Rattle.std.proofs.lemmas.List.{append-nil, length-append, take-append-drop}
 use Rattle.std.proofs.lemmas.List.Sums.{sum_by-append}
-use Rattle.std.proofs.lemmas.List.Elements.{All-nil, All-cons, All-append, All-head, All-tail}
+use Rattle.std.proofs.lemmas.List.Elements.{All-nil, All-head, All-tail}
 use Rattle.std.proofs.lemmas.Bool.Decides.{Decides-eqb}
 use Rattle.std.proofs.lemmas.Bool.{ne_eqb}
 use Rattle.std.proofs.lemmas.List.Folds.{list_all-append}
@@ -22,8 +22,7 @@ use Rattle.std.proofs.lemmas.Grind.{common_steps}
 
 -- a fact of a test, in both cases
 pub by_test : (P : Bool → Type 0) (b : Bool) → (b ≡ true → P true) → (b ≡ false → P false) → P b
-by_test P true t f = t refl
-by_test P false t f = f refl
+by_test P b t f = grind arith
 
 -- a byte that is no white space is no line feed
 pub no_space_is_no_feed : (b : ℕ) → is_white_space b ≡ false → (b == 10) ≡ false
@@ -46,18 +45,16 @@ pub no_line_feeds : (word : List ℕ) → list_all (λ b. not (is_white_space b)
 no_line_feeds [] no_space = refl
 no_line_feeds (b ∷ bs) no_space =
     let parts = and_parts (not (is_white_space b)) (list_all (λ b. not (is_white_space b)) bs) no_space in
-    other_first b bs (b ∷ bs) refl (no_space_is_no_feed b (not-true (is_white_space b) parts.0))
-    ∙ no_line_feeds bs parts.1
+    other_first b bs _ refl (no_space_is_no_feed b (not-true (is_white_space b) parts.0)) ∙ no_line_feeds bs parts.1
 
 pub line_feeds_after : (n : ℕ) (text : List ℕ) → list_all (λ b. not (is_white_space b)) (take n text) ≡ true
     → line_feeds_in (drop n text) ≡ line_feeds_in text
-line_feeds_after n text no_space =
-    omega (
-      arith,
-      ap line_feeds_in (take-append-drop n text),
-      line_feeds_of_both (take n text) (drop n text),
-      no_line_feeds (take n text) no_space,
-    )
+line_feeds_after n text no_space = omega (
+  arith,
+  ap line_feeds_in (take-append-drop n text),
+  line_feeds_of_both (take n text) (drop n text),
+  no_line_feeds (take n text) no_space,
+)
 
 -- ---- words at the front
 
@@ -69,40 +66,34 @@ goes_on : (end_counts : Bool) (begun : List ℕ) (line : ℕ) (w rest : List ℕ
     → list_all (λ b. not (is_white_space b)) w ≡ true
     → words_from end_counts begun line (w ++ rest) ≡ words_from end_counts (begun ++ w) line rest
 unfolding words_from
-goes_on end_counts begun line [] rest no_space =
-    ap (λ ws. words_from end_counts ws line rest) (sym (append-nil begun))
+goes_on end_counts begun line [] rest no_space = grind (arith, append-nil)
 goes_on end_counts begun line (b ∷ w) rest no_space =
     let parts = and_parts _ _ no_space in
     let here : is_white_space b ≡ false = not-true _ parts.0 in
     ap (λ t. cond t (word_of begun line) [] ++ words_from end_counts (cond t [] (begun ++ b ∷ [])) (line_after b line)
-    (w ++ rest)) here
-    ∙ ap (λ n. words_from end_counts (begun ++ b ∷ []) n (w ++ rest)) (same_line b line here)
-    ∙ goes_on end_counts (begun ++ b ∷ []) line w rest parts.1
-    ∙ ap (λ ws. words_from end_counts ws line rest) (append_assoc begun (b ∷ []) w)
+    (w ++ rest)) here ∙ ap (λ n. words_from end_counts (begun ++ b ∷ []) n (w ++ rest)) (same_line b line here)
+    ∙ goes_on end_counts (begun ++ b ∷ []) line w rest parts.1 ∙ ap (λ ws. words_from end_counts ws line rest)
+    (append_assoc begun (b ∷ []) w)
 
 -- the end of a word
 ends_here : (end_counts : Bool) (begun : List ℕ) (line : ℕ) (rest : List ℕ) → 0 < length begun
     → ends_before end_counts rest ≡ true
     → words_from end_counts begun line rest ≡ word_on begun line ∷ words_from end_counts [] line rest
 unfolding words_from
-ends_here end_counts [] line rest some ends = absurd (omega arith)
-ends_here end_counts (x ∷ xs) line [] some ends = rw ends refl
-ends_here end_counts (x ∷ xs) line (b ∷ rest) some ends = grind arith
+ends_here end_counts begun line rest some ends = grind arith
 
 -- the words of a text that begins with a word
 pub word_whole : (end_counts : Bool) (line : ℕ) (w rest : List ℕ) → 0 < length w
     → list_all (λ b. not (is_white_space b)) w ≡ true → ends_before end_counts rest ≡ true
     → words_from end_counts [] line (w ++ rest) ≡ word_on w line ∷ words_from end_counts [] line rest
-word_whole end_counts line w rest some no_space ends =
-    goes_on end_counts [] line w rest no_space ∙ ends_here end_counts w line rest some ends
+word_whole end_counts line w rest some no_space ends = grind (arith, goes_on, ends_here)
 
 -- the same at an index of the text
 pub word_split : (end_counts : Bool) (line n : ℕ) (text : List ℕ) → 0 < length (take n text)
     → list_all (λ b. not (is_white_space b)) (take n text) ≡ true → ends_before end_counts (drop n text) ≡ true
     → words_from end_counts [] line text ≡ word_on (take n text) line ∷ words_from end_counts [] line (drop n text)
-word_split end_counts line n text some no_space ends =
-    ap (words_from end_counts [] line) (sym (take-append-drop n text))
-    ∙ word_whole end_counts line (take n text) (drop n text) some no_space ends
+word_split end_counts line n text some no_space ends = ap (words_from end_counts [] line)
+    (sym (take-append-drop n text)) ∙ word_whole end_counts line (take n text) (drop n text) some no_space ends
 
 -- white space at the front
 pub space_passed : (end_counts : Bool) (line b : ℕ) (bs : List ℕ) → is_white_space b ≡ true
@@ -121,8 +112,7 @@ no_word end_counts line n text h4 h5 h6 = grind arith
 pub word_part : (line : ℕ) (w : List ℕ) → list_all (λ b. not (is_white_space b)) w ≡ true →
     words_from false [] line w ≡ []
 unfolding words_from
-word_part line w no_space =
-    ap (words_from false [] line) (sym (append-nil w)) ∙ goes_on false [] line w [] no_space
+word_part line w no_space = ap (words_from false [] line) (sym (append-nil w)) ∙ goes_on false [] line w [] no_space
 
 -- ---- the form of words
 
@@ -132,10 +122,7 @@ is_run text = (0 < length text) × (list_all (λ b. not (is_white_space b)) text
 
 run_of : (begun : List ℕ) (line : ℕ) → list_all (λ b. not (is_white_space b)) begun ≡ true
     → All (λ (w : WordOnLine). is_run w.text) (word_of begun line)
-run_of [] line no_space = All-nil (λ (w : WordOnLine). is_run w.text)
-run_of (b ∷ bs) line no_space =
-    All-cons (λ (w : WordOnLine). is_run w.text) (word_on (b ∷ bs) line) [] (omega arith, no_space)
-    (All-nil (λ (w : WordOnLine). is_run w.text))
+run_of begun line no_space = grind arith
 
 runs_from : (end_counts : Bool) (begun : List ℕ) (line : ℕ) (bytes : List ℕ)
     → list_all (λ b. not (is_white_space b)) begun ≡ true
@@ -143,18 +130,10 @@ runs_from : (end_counts : Bool) (begun : List ℕ) (line : ℕ) (bytes : List �
 unfolding words_from
 runs_from false begun line [] no_space = All-nil (λ (w : WordOnLine). is_run w.text)
 runs_from true begun line [] no_space = run_of begun line no_space
-runs_from end_counts begun line (b ∷ bs) no_space =
-    by_test (λ t. All (λ (w : WordOnLine). is_run w.text) (cond t (word_of begun line) []
-    ++ words_from end_counts (cond t [] (begun ++ b ∷ [])) (line_after b line) bs)) (is_white_space b)
-    (λ _. All-append (λ (w : WordOnLine). is_run w.text) (word_of begun line)
-    (words_from end_counts [] (line_after b line) bs) (run_of begun line no_space)
-    (runs_from end_counts [] (line_after b line) bs refl))
+runs_from end_counts begun line (b ∷ bs) no_space = by_test (λ t. All (λ (w : WordOnLine). is_run w.text)
+    (cond t (word_of begun line) [] ++ words_from end_counts (cond t [] (begun ++ b ∷ [])) (line_after b line) bs))
+    (is_white_space b) (grind (arith, run_of, runs_from end_counts [] (line_after b line) bs refl))
     (λ isnt. runs_from end_counts (begun ++ b ∷ []) (line_after b line) bs (grind (arith, list_all-append)))
-
--- each word is such a run
-pub words_are_words : (end_counts : Bool) (line : ℕ) (bytes : List ℕ)
-    → All (λ (w : WordOnLine). is_run w.text) (words_from end_counts [] line bytes)
-words_are_words end_counts line bytes = runs_from end_counts [] line bytes refl
 
 -- as tests: a run of bytes other than white space
 abbrev pub is_run_text : List ℕ → Bool
@@ -166,15 +145,13 @@ run_passes text (some, no_space) = rw (ne_eqb (length text) 0 (λ none. absurd (
 texts_pass : (ws : List WordOnLine) → All (λ (w : WordOnLine). is_run w.text) ws
     → list_all is_run_text (map (λ (w : WordOnLine). w.text) ws) ≡ true
 texts_pass [] runs = refl
-texts_pass (w ∷ ws) runs =
-    ap (λ t. t && list_all is_run_text (map (λ (w : WordOnLine). w.text) ws))
-    (run_passes w.text (All-head (λ (w : WordOnLine). is_run w.text) w ws runs))
-    ∙ texts_pass ws (All-tail (λ (w : WordOnLine). is_run w.text) w ws runs)
+texts_pass (w ∷ ws) runs = ap (λ t. t && list_all is_run_text (map (λ (w : WordOnLine). w.text) ws))
+    (run_passes w.text (All-head (λ (w : WordOnLine). is_run w.text) w ws runs)) ∙ texts_pass ws
+    (All-tail (λ (w : WordOnLine). is_run w.text) w ws runs)
 
 pub texts_are_runs : (end_counts : Bool) (line : ℕ) (bytes : List ℕ)
     → list_all is_run_text (map (λ (w : WordOnLine). w.text) (words_from end_counts [] line bytes)) ≡ true
-texts_are_runs end_counts line bytes =
-    texts_pass (words_from end_counts [] line bytes) (words_are_words end_counts line bytes)
+texts_are_runs end_counts line bytes = search (arith, texts_pass, runs_from)
 
 -- a run that is not `$end` is a word that a header entry, a name or a kind can have
 pub run_is_word : (text : List ℕ) → is_run_text text ≡ true → is_end_word text ≡ false → is_word text ≡ true
@@ -182,25 +159,21 @@ run_is_word text run other = ap (λ t. t && not (is_end_word text)) run ∙ ap n
 
 -- there are no more words than bytes
 one_at_most : (begun : List ℕ) (line : ℕ) → length (word_of begun line) ≤ length begun
-one_at_most [] line = omega arith
-one_at_most (b ∷ bs) line = omega arith
+one_at_most begun line = grind arith
 
 few_from : (end_counts : Bool) (begun : List ℕ) (line : ℕ) (bytes : List ℕ)
     → length (words_from end_counts begun line bytes) ≤ length begun + length bytes
 unfolding words_from
 few_from false begun line [] = omega arith
 few_from true begun line [] = omega (arith, one_at_most begun line)
-few_from end_counts begun line (b ∷ bs) =
-    by_test (λ t. length (cond t (word_of begun line) []
-    ++ words_from end_counts (cond t [] (begun ++ b ∷ [])) (line_after b line) bs) ≤ length begun + length (b ∷ bs))
-    (is_white_space b)
-    (λ _. omega (
-      arith,
-      length-append (word_of begun line) (words_from end_counts [] (line_after b line) bs),
-      one_at_most begun line,
-      few_from end_counts [] (line_after b line) bs,
-    ))
-    (λ _. omega (arith, length-append begun (b ∷ []), few_from end_counts (begun ++ b ∷ []) (line_after b line) bs))
+few_from end_counts begun line (b ∷ bs) = grind (
+  arith,
+  by_test,
+  length-append,
+  one_at_most,
+  few_from end_counts [] (line_after b line) bs,
+  few_from end_counts (begun ++ b ∷ []) (line_after b line) bs,
+)
 
 pub words_are_few : (end_counts : Bool) (line : ℕ) (bytes : List ℕ)
     → length (words_from end_counts [] line bytes) ≤ length bytes

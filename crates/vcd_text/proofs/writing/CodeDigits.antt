@@ -24,5 +24,4 @@ lowest_digit (suc n) above = grind (arith, next_digit)
 
 pub no_digits : (n : ℕ) → n ≤ 0 → code_digits n n ≡ []
 unfolding code_digits
-no_digits zero none = refl
-no_digits (suc n) none = absurd (omega arith)
+no_digits n none = grind arith

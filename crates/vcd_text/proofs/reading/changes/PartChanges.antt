@@ -1,23 +1,21 @@
 -- A change, for the part that is kept.
-use Rattle.std.proofs.Common.{◌≡◌, inl, inr, ℕ, ◌+◌, ◌-◌, ◌≤◌, Bool, true, false, nat_le, List, [], ◌∷◌}
-use Rattle.std.proofs.Common.{◌++◌, ◌&&◌, if◌then◌else◌, Option, Some, None, Ok, refl, sym, ap, subst}
+use Rattle.std.proofs.Common.{◌≡◌, inl, inr, ℕ, ◌+◌, ◌-◌, ◌≤◌, Bool, true, false, nat_le, List}
+use Rattle.std.proofs.Common.{◌++◌, ◌&&◌, Option, Ok, sym, ap}
 use Rattle.std.proofs.Common.{◌∙◌, arith}
-use Rattle.std.specs.Prelude.{IsTrue, IsFalse, IsSomeAnd, bytes_eq, nat_lt}
+use Rattle.std.specs.Prelude.{IsTrue, IsFalse, IsSomeAnd, bytes_eq}
 use Rattle.std.proofs.lemmas.List.{append-nil}
-use Rattle.std.proofs.lemmas.Bool.{cases_Bool, and_parts, ltb-true, le-leb, lt-leb, lt-ltb}
-use Rattle.std.proofs.lemmas.Bool.{cases_lt}
+use Rattle.std.proofs.lemmas.Bool.{cases_Bool}
 use Rattle.vcd_core.specs.declared.bit.Bit.{Bit}
 use Rattle.vcd_core.specs.Value.{all_x}
-use Rattle.vcd_text.specs.Letters.{letters_of_digits, extension}
+use Rattle.vcd_text.specs.Letters.{letters_of_digits}
 use Rattle.vcd_text.specs.Grammar.{VariableDeclaration, ValueChange, ParseState, is_skipped}
-use Rattle.vcd_text.specs.Grammar.{variable_of, with_value_change, value_changes_after}
+use Rattle.vcd_text.specs.Grammar.{with_value_change, value_changes_after}
 use Rattle.vcd_text.specs.Meaning.{latest_value}
 use Rattle.vcd_text.specs.declared.fault.Fault.{Fault}
 use Rattle.vcd_text.specs.declared.reading.part.Part.{Part}
 use Rattle.vcd_text.specs.declared.reading.parser.Parser.{Parser}
 use Rattle.vcd_text.specs.declared.reading.parser.OpenItem.{OpenItem}
 use Rattle.vcd_text.specs.declared.reading.variables.Variables.{Variables}
-use Rattle.vcd_text.specs.inside.reading.CodeTargets.{code_target}
 use Rattle.vcd_text.specs.inside.reading.Variables.{target_of, VariablesMatch, RefusesChange, unknown, no_value}
 use Rattle.vcd_text.specs.inside.reading.Variables.{too_long}
 use Rattle.vcd_text.specs.inside.reading.Part.{seen_tick, is_late, seen_state, Remains, TellsPart, IsPassedOver, Asked}
@@ -27,7 +25,8 @@ use Rattle.vcd_text.proofs.reading.variables.ChangedVariable.{value_with}
 use Rattle.vcd_text.proofs.reading.code_targets.Targets.{same_code}
 use Rattle.vcd_text.proofs.reading.declarations.DeclarationWords.{agrees_by}
 
-not_both : {A : Type 0} {b : Bool} → b ≡ true → b ≡ false → A
+-- a test that is both true and false
+pub not_both : {A : Type 0} {b : Bool} → b ≡ true → b ≡ false → A
 not_both is isnt = let both : true ≡ false = sym is ∙ isnt in absurd (cc)
 
 -- a fault in the state that is kept is one in the state of the file
@@ -44,32 +43,6 @@ pub seen_at : (asked : Asked) (m : Parser) (c : ParseState) (a : ParserMatches a
 seen_at asked m c a = ap (seen_tick m.part) (sym a.tick)
 
 -- ---- ticks
-
--- a tick that is not late comes as early in the part as in the file
-same_time : (part : Part) (tick t : ℕ) → IsFalse (is_late part tick) → t ≤ part.last - part.first
-    → nat_le (seen_tick part tick) t ≡ nat_le tick (part.first + t)
-same_time part tick t isnt within =
-    elim (cases_lt (part.first + t) tick) [
-      | inl later ↦
-          let early : tick ≤ part.last = elim (cases_lt part.last tick) [
-            | inl past ↦ not_both (grind (arith, lt-ltb)) isnt
-            | inr come ↦ come
-          ] in
-          lt-leb (seen_tick part tick) t (omega (arith, later, early)) ∙ sym (lt-leb tick (part.first + t) later)
-      | inr come ↦ le-leb (seen_tick part tick) t (omega (arith, come)) ∙ sym (le-leb tick (part.first + t) come)
-    ]
-
--- a late tick is past the part
-late_past : (part : Part) (tick t : ℕ) → IsTrue (is_late part tick) → t ≤ part.last - part.first
-    → nat_le tick (part.first + t) ≡ false
-late_past part tick t is within =
-    let both = and_parts (nat_lt part.last tick) (nat_lt part.first tick) is in
-    lt-leb tick (part.first + t) (omega (
-      arith,
-      ltb-true part.last tick both.0,
-      ltb-true part.first tick both.1,
-      within,
-    ))
 
 -- ---- one value change more
 
@@ -90,55 +63,20 @@ module _ (part : Part) (c : ParseState) (seen : List ValueChange) (code : List �
   abbrev file_change : ValueChange
   file_change = record { tick = c.tick; code = code; letters = letters }
 
-  told_one : IsFalse (is_late part c.tick) → kept_value (seen ++ kept_change ∷ [])
-      ≡ file_value (c.value_changes ++ file_change ∷ [])
-  told_one in_time =
-      value_with d.size d.code t (all_x d.size) seen kept_change
-      ∙ ap (λ b. if bytes_eq code d.code && b then extension d.size letters else kept_value seen)
-      (same_time part c.tick t in_time within)
-      ∙ ap (λ v. if bytes_eq code d.code && nat_le c.tick (part.first + t) then extension d.size letters else v) told
-      ∙ sym (value_with d.size d.code (part.first + t) (all_x d.size) c.value_changes file_change)
-
   -- a change that is kept
   told_kept : IsFalse (is_late part c.tick) → (o : Option VariableDeclaration)
       → kept_value (seen ++ value_changes_after (seen_state part c seen) code letters o)
       ≡ file_value (c.value_changes ++ value_changes_after c code letters o)
-  told_kept in_time None = ap kept_value (append-nil seen) ∙ told ∙ sym (ap file_value (append-nil c.value_changes))
-  told_kept in_time (Some e) = choose (is_skipped e)
-    where
-      choose : (b : Bool) → kept_value (seen ++ (if b then [] else kept_change ∷ []))
-          ≡ file_value (c.value_changes ++ (if b then [] else file_change ∷ []))
-      choose true = ap kept_value (append-nil seen) ∙ told ∙ sym (ap file_value (append-nil c.value_changes))
-      choose false = told_one in_time
-
-  -- a change that is not, if it is unseen
-  told_same : (bytes_eq code d.code && nat_le c.tick (part.first + t)) ≡ false → (o : Option VariableDeclaration)
-      → kept_value seen ≡ file_value (c.value_changes ++ value_changes_after c code letters o)
-  told_same unseen None = told ∙ sym (ap file_value (append-nil c.value_changes))
-  told_same unseen (Some e) = choose (is_skipped e)
-    where
-      choose : (b : Bool) → kept_value seen ≡ file_value (c.value_changes ++ (if b then [] else file_change ∷ []))
-      choose true = told ∙ sym (ap file_value (append-nil c.value_changes))
-      choose false = told ∙ sym (
-          value_with d.size d.code (part.first + t) (all_x d.size) c.value_changes file_change
-          ∙ ap (λ b. if b then extension d.size letters else file_value c.value_changes) unseen
-          )
+  told_kept in_time o = grind (arith, append-nil, value_with)
 
   -- nor one of a skipped variable
   told_skipped : (o : Option VariableDeclaration) → IsSomeAnd o (λ e. IsTrue (is_skipped e))
       → kept_value seen ≡ file_value (c.value_changes ++ value_changes_after c code letters o)
-  told_skipped None is = absurd is
-  told_skipped (Some e) is =
-      told ∙ sym (ap file_value (ap (λ b. c.value_changes ++ (if b then [] else file_change ∷ [])) is
-      ∙ append-nil c.value_changes))
+  told_skipped o is = grind (arith, append-nil)
 
 -- a condition is false if its first part is, or its second
 false_first : (a b : Bool) → a ≡ false → (a && b) ≡ false
 false_first a b is = ap (λ x. x && b) is
-
-false_second : (a b : Bool) → b ≡ false → (a && b) ≡ false
-false_second true b is = is
-false_second false b is = refl
 
 -- ---- the parser after a change
 
@@ -153,21 +91,13 @@ module _ (asked : Asked) (m : Parser) (c : ParseState) (vs : Variables) (code di
   matches : (seen : List ValueChange) → VariablesMatch vs (seen_state m.part changed_state seen)
       → TellsPart m.part changed_state seen → vs.code_targets ≡ m.variables.code_targets
       → ParserMatches asked (record m { variables = vs; item = item }) changed_state
-  matches seen variables tells same =
-      agrees_by asked (record m { variables = vs; item = item }) changed_state seen a.header a.timescale a.in_body
-      a.tick
-      variables
-      (λ early. not_both (sym a.in_body ∙ in_body) early)
-      (λ early. not_both (sym a.in_body ∙ in_body) early) (λ early. not_both (sym a.in_body ∙ in_body) early) tells
-      (λ in_it position d remains width first target. a.hears in_it position d remains width first
-      (ap (λ targets. code_target targets d.code) (sym same) ∙ target)) a.part_is a.is_asked_of
+  matches seen variables tells same = grind (arith, agrees_by, not_both)
 
   -- a change that is passed over is unseen
   unseen : IsPassedOver m.part m.silent.items m.variables c.tick code → (position : ℕ) (d : VariableDeclaration)
       → Remains m.part c position d → (t : ℕ) → t ≤ m.part.last - m.part.first
       → (bytes_eq code d.code && nat_le c.tick (m.part.first + t)) ≡ false
-  unseen (inl late) position d remains t within =
-      false_second (bytes_eq code d.code) _ (late_past m.part c.tick t late within)
+  unseen (inl late) position d remains t within = grind arith
   unseen (inr (width, first, target, silent)) position d remains t within =
       elim (cases_Bool (bytes_eq code d.code)) [
         | inl same ↦ not_both silent (a.hears (sym a.in_body ∙ in_body) position d remains width first
@@ -177,19 +107,7 @@ module _ (asked : Asked) (m : Parser) (c : ParseState) (vs : Variables) (code di
 
   pub agrees_changed : PartChange m.part m.silent.items m.tick (seen_state m.part c a.seen) code digits m.variables
       (Ok tt) vs → ParserMatches asked (record m { variables = vs; item = item }) changed_state
-  agrees_changed (takes, same, inl (in_time, variables)) =
-      matches (a.seen ++ value_changes_after (seen_state m.part c a.seen) code letters (variable_of c code)) variables
-      (λ position d remains t within. told_kept m.part c a.seen code letters d t within
-      (a.tells position d remains t within)
-      (subst (λ n. IsFalse (is_late m.part n)) a.tick in_time) (variable_of c code)) same
-  agrees_changed (takes, same, inr (variables, inl skipped)) =
-      matches a.seen variables
-      (λ position d remains t within. told_skipped m.part c a.seen code letters d t within
-      (a.tells position d remains t within) (variable_of c code) skipped) same
-  agrees_changed (takes, same, inr (variables, inr passed)) =
-      matches a.seen variables
-      (λ position d remains t within. told_same m.part c a.seen code letters d t within
-      (a.tells position d remains t within)
-      (unseen (subst (λ n. IsPassedOver m.part m.silent.items m.variables n code) a.tick passed)
-      position d remains t within)
-      (variable_of c code)) same
+  agrees_changed (takes, same, inl (in_time, variables)) = grind (arith, matches, told_kept)
+  agrees_changed (takes, same, inr (variables, inl skipped)) = search (arith, matches, told_skipped)
+  agrees_changed (takes, same, inr (variables, inr passed)) = matches a.seen variables
+      (grind (arith, append-nil, value_with, unseen)) same

@@ -1,10 +1,9 @@
 -- The result of a change of a variable, for the part that is kept.
-use Rattle.std.proofs.Common.{◌≡◌, inl, inr, ℕ, ◌≤◌, Bool, List, length, Result, Ok, Err, refl, sym, subst, arith}
-use Rattle.std.specs.Prelude.{IsTrue, IsFalse, IsSomeAnd, MatchResult}
+use Rattle.std.proofs.Common.{◌≡◌, inr, ℕ, ◌≤◌, Bool, List, length, Result, Ok, Err, arith}
+use Rattle.std.specs.Prelude.{IsTrue, IsFalse, MatchResult}
 use Rattle.std.proofs.lemmas.Bool.{and_from, or_right, le-leb}
 use Rattle.vcd_text.specs.Grammar.{ParseState}
-use Rattle.vcd_text.specs.inside.reading.DigitTests.{takes_binary_number, is_binary_number}
-use Rattle.vcd_text.specs.Grammar.{is_skipped}
+use Rattle.vcd_text.specs.inside.reading.DigitTests.{is_binary_number}
 use Rattle.vcd_text.specs.declared.fault.Fault.{Fault}
 use Rattle.vcd_text.specs.declared.reading.part.Part.{Part}
 use Rattle.vcd_text.specs.declared.reading.code_targets.CodeTarget.TheVariants.{Kept}
@@ -21,13 +20,7 @@ pub checked : (part : Part) (silent : List Bool) (tick : ℕ) (c : ParseState) (
     (λ fault. RefusesBinaryNumber width digits fault)
     → IsPassedOver part silent vs tick code → PartChange part silent tick c code digits vs result vs
 checked part silent tick c code digits width first vs (Ok x) k had (value, fits) passed =
-    let own = own_wave vs c code digits width first k had in (
-      subst (λ o. IsSomeAnd o (λ d. IsTrue (takes_binary_number d digits))) (sym own.1)
-          (or_right (is_skipped own.0) _ (and_from (is_binary_number digits) _ value
-          (le-leb (length digits) own.0.size (omega (arith, fits, own.3))))),
-      refl,
-      inr (k, inr passed),
-    )
+    grind (arith, own_wave, or_right, and_from, le-leb)
 checked part silent tick c code digits width first vs (Err fault) k had refuses passed =
     inr (refused vs c code digits width first k had fault refuses)
 
@@ -36,6 +29,4 @@ pub kept_in_time : (part : Part) (silent : List Bool) (tick : ℕ) (c : ParseSta
     (old new : Variables) (result : Result (Unit {0}) Fault) → IsFalse (is_late part tick)
     → new.code_targets ≡ old.code_targets → ChangeResult c code digits result new
     → PartChange part silent tick c code digits old result new
-kept_in_time part silent tick c code digits old new (Ok x) in_time same change =
-    (change.0, same, inl (in_time, change.1))
-kept_in_time part silent tick c code digits old new (Err fault) in_time same change = change
+kept_in_time part silent tick c code digits old new result in_time same change = grind arith

@@ -1,6 +1,6 @@
 -- Each index in the table of short codes is that of one code.
 use Rattle.std.proofs.Common.{◌≡◌, ℕ, ◌+◌, ◌*◌, ◌<◌, ◌==◌, false, true, List, [], ◌∷◌, Option, None}
-use Rattle.std.proofs.Common.{Some, refl, sym, ap, subst, ◌∙◌, arith, if◌then◌else◌, inl, inr}
+use Rattle.std.proofs.Common.{Some, refl, sym, ap, ◌∙◌, arith, if◌then◌else◌, inl, inr}
 use Rattle.std.specs.Prelude.{codes, bytes_eq, slice_index_or}
 use Rattle.std.specs.Global.{Vec}
 use Rattle.std.proofs.lemmas.Bool.{cases_eq, eq-eqb, ne_eqb}
@@ -24,7 +24,7 @@ one_spelled (a ∷ xs) [] index (some, few, (rest, following, is)) there = absur
 one_spelled (a ∷ xs) (b ∷ bs) index (some, few, (rest, following, is)) (some_b, few_b, (rest_b, after_b, is_b)) =
     let first : a ≡ b = omega (arith, few, few_b, is, is_b) in
     let same : rest_b ≡ rest = omega (arith, few, few_b, is, is_b) in
-    let others = one_spelled xs bs rest following (subst (IsSpelled bs) same after_b) in
+    let others = one_spelled xs bs rest following (rw same at after_b) in
     λ i. first i ∷ others i
 
 spelled : (code : List ℕ) (index : ℕ) → index_of_code code ≡ Some index → IsSpelled code index
@@ -44,8 +44,7 @@ module _ (old : CodeTargets) (table : Vec CodeTarget) (code : List ℕ) (index :
     (puts : (i : ℕ) → slice_index_or table.items i Undeclared
     ≡ (if i == index then target else slice_index_or old.short.items i Undeclared)) where
   put_here : code_target (record old { short = table }) code ≡ target
-  put_here = ap (target_at_index (record old { short = table }) code) has ∙ puts index
-      ∙ ap (λ b. if b then target else slice_index_or old.short.items index Undeclared) (eq-eqb index index refl)
+  put_here = grind (arith, eq-eqb)
 
   put_elsewhere : (key : List ℕ) → bytes_eq key code ≡ false → (o : Option ℕ) → index_of_code key ≡ o
       → target_at_index (record old { short = table }) key o ≡ target_at_index old key o
@@ -54,18 +53,15 @@ module _ (old : CodeTargets) (table : Vec CodeTarget) (code : List ℕ) (index :
     | inl same ↦
         let is : key ≡ code = one_code key code index (at ∙ ap (λ n. Some n) same) has in
         let both : true ≡ false = sym (own_code code) ∙ ap (λ k. bytes_eq k code) (sym is) ∙ other in absurd (cc)
-    | inr apart ↦ puts i ∙ ap (λ b. if b then target else slice_index_or old.short.items i Undeclared)
-        (ne_eqb i index apart)
+    | inr apart ↦ grind (arith, ne_eqb)
   ]
 
   -- then it has its new target, and the others keep theirs
   pub short_put : (key : List ℕ) → code_target (record old { short = table }) key
       ≡ (if bytes_eq key code then target else code_target old key)
-  short_put key =
-      by_code (λ b. code_target (record old { short = table }) key
-      ≡ (if b then target else code_target old key)) key code
-      (λ same. ap (code_target (record old { short = table })) same ∙ put_here)
-      (λ other. put_elsewhere key other (index_of_code key) refl)
+  short_put key = by_code (λ b. code_target (record old { short = table }) key
+      ≡ (if b then target else code_target old key)) key code (λ same. ap (code_target (record old { short = table }))
+      same ∙ put_here) (λ other. put_elsewhere key other (index_of_code key) refl)
 
 -- worked cases: 33 for `!`, and 33 + 128 * 34 for `!"`; none for no byte, and for four
 one_byte : index_of_code (codes "!") ≡ Some 33

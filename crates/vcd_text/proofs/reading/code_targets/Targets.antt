@@ -42,8 +42,7 @@ module _ {S : Type 0} (old new : IndexMap (Vec ℕ) CodeTarget S) (k : Vec ℕ) 
 
   -- then it has its new target, and the others keep theirs
   pub target_put : (key : List ℕ) → in_map new key ≡ (if bytes_eq key k.items then w else in_map old key)
-  target_put key =
-      by_code (λ b. in_map new key ≡ (if b then w else in_map old key)) key k.items
+  target_put key = by_code (λ b. in_map new key ≡ (if b then w else in_map old key)) key k.items
       (λ same. ap (in_map new) same ∙ ap (λ o. unwrap_or o Undeclared) puts.1) (put_elsewhere key)
 
 -- ---- a code against the variables that were declared
@@ -55,8 +54,7 @@ module _ (vs : List Variable) (log : ℕ → List LoggedChange) (value_changes :
       → TargetMatches vs log value_changes tick code (Kept width position) declared
       → (d : VariableDeclaration) × (declared ≡ Some d) × (is_skipped d ≡ false) × (d.size ≡ width)
       × HasValueChanges vs log position code width value_changes tick
-  stands_kept None width position s = absurd s
-  stands_kept (Some d) width position s = (d, refl, s.0, s.1, s.2)
+  stands_kept declared width position s = grind arith
 
 -- a fact about the waves in one list is one about another
 pub stands_moved : (vs ws : List Variable) (log rest : ℕ → List LoggedChange) (rs ss : List ValueChange)

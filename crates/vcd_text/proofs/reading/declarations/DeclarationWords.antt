@@ -1,7 +1,7 @@
 -- A declaration after the next of its words.
-use Rattle.std.proofs.Common.{◌≡◌, ℕ, ◌-◌, ◌<◌, ◌≤◌, ◌+◌, ◌&&◌, not, min, Bool, true, false, List, [], ◌∷◌, ◌++◌}
+use Rattle.std.proofs.Common.{◌≡◌, ℕ, ◌-◌, ◌<◌, ◌≤◌, ◌+◌, min, Bool, true, false, List, [], ◌∷◌, ◌++◌}
 use Rattle.std.proofs.Common.{length, take}
-use Rattle.std.proofs.Common.{Option, Some, None, is_some, IsSome, IsTrue, IsFalse, Result, Ok, Err, IsErrAnd}
+use Rattle.std.proofs.Common.{Option, Some, None, IsTrue, IsFalse, Result, Ok, Err, IsErrAnd}
 use Rattle.std.proofs.Common.{◌⊎◌, codes, refl, sym, ap, subst, ◌∙◌, arith, inl, inr}
 use Rattle.std.proofs.lemmas.Bool.{and_parts}
 use Rattle.std.proofs.lemmas.List.{length-take-le, nil_from_length}
@@ -36,12 +36,10 @@ use Rattle.vcd_text.specs.declared.reading.parser.Parser.{Parser}
 use Rattle.vcd_text.specs.declared.reading.parser.OpenItem.TheVariants as items
 use Rattle.vcd_text.specs.declared.reading.scopes.Scopes.{Scopes}
 use Rattle.vcd_text.specs.declared.reading.part.Part.{Part}
-use Rattle.vcd_text.specs.inside.reading.Part.{Asked, IsAskedOf, seen_tick}
+use Rattle.vcd_text.specs.inside.reading.Part.{Asked, IsAskedOf}
 use Rattle.vcd_text.specs.inside.reading.Part.{seen_state, TellsPart, HearsPart, HearsVariables}
 use Rattle.vcd_text.specs.Grammar.{ValueChange, kept_variables}
 use Rattle.vcd_text.specs.Meaning.{latest_value}
-use Rattle.vcd_core.specs.Value.{all_x}
-use Rattle.std.specs.Prelude.{slice_index_or}
 use Rattle.std.proofs.lemmas.Option.{slice_get_cases, slice_get_within}
 use Rattle.vcd_text.proofs.reading.variables.DeclaredVariable.{one_position}
 use Rattle.vcd_text.proofs.reading.variables.VariablesMatch.{kept_long}
@@ -65,115 +63,68 @@ still_known vs c header unit in_body k = knows_further vs c header unit in_body 
 -- ---- the end of an item
 
 -- the parser matches a state, part by part
-pub agrees_by : (asked : Asked) (m : Parser) (c : ParseState) (seen : List ValueChange)
-    → m.header.items ≡ c.header → m.timescale ≡ c.timescale
-    → m.in_body ≡ c.in_body → m.tick ≡ c.tick
+pub agrees_by : (asked : Asked) (m : Parser) (c : ParseState) (seen : List ValueChange) → m.header.items ≡ c.header
+    → m.timescale ≡ c.timescale → m.in_body ≡ c.in_body → m.tick ≡ c.tick
     → VariablesMatch m.variables (seen_state m.part c seen) → (IsFalse c.in_body → c.tick ≡ 0)
-    → (IsFalse c.in_body → c.value_changes ≡ [])
-    → (IsFalse c.in_body → seen ≡ []) → TellsPart m.part c seen
-    → (IsTrue c.in_body → HearsPart m.part m.silent.items m.variables c)
-    → (IsTrue c.in_body → m.part ≡ asked.part) → (IsTrue c.in_body → IsAskedOf asked c) → ParserMatches asked m c
-agrees_by asked m c seen header time in_body tick variables no_tick no_early_change none tells hears is asks = record {
-  header = header;
-  timescale = time;
-  in_body = in_body;
-  tick = tick;
-  seen = seen;
-  variables = variables;
-  no_early_tick = no_tick;
-  no_early_change = no_early_change;
-  none_seen = none;
-  tells = tells;
-  hears = hears;
-  part_is = is;
-  is_asked_of = asks;
-}
+    → (IsFalse c.in_body → c.value_changes ≡ []) → (IsFalse c.in_body → seen ≡ []) → TellsPart m.part c seen
+    → (IsTrue c.in_body → HearsPart m.part m.silent.items m.variables c) → (IsTrue c.in_body → m.part ≡ asked.part)
+    → (IsTrue c.in_body → IsAskedOf asked c) → ParserMatches asked m c
+agrees_by asked m c seen header time in_body tick variables no_tick no_early_change none tells hears is asks =
+    grind arith
 
 -- before the first change nothing is to be told
 pub tells_nothing : (part : Part) (c : ParseState) (seen : List ValueChange) → c.value_changes ≡ [] → seen ≡ []
     → TellsPart part c seen
 unfolding latest_value
-tells_nothing part c seen none none_seen position d remains t within =
-    ap (latest_value d.size d.code t (all_x d.size)) none_seen
-    ∙ sym (ap (latest_value d.size d.code (part.first + t) (all_x d.size)) none)
-
--- among the declarations no code need be heard
-hears_none : {A : Type 0} (b : Bool) → IsFalse b → IsTrue b → A
-hears_none b isnt is = let both : true ≡ false = sym is ∙ isnt in absurd (cc)
+tells_nothing part c seen none none_seen position d remains t within = grind arith
 
 -- the parser matches a state among the declarations
-agrees_early : (asked : Asked) (m : Parser) (c : ParseState) (seen : List ValueChange)
-    → m.header.items ≡ c.header → m.timescale ≡ c.timescale
-    → m.in_body ≡ c.in_body → m.tick ≡ c.tick
+agrees_early : (asked : Asked) (m : Parser) (c : ParseState) (seen : List ValueChange) → m.header.items ≡ c.header
+    → m.timescale ≡ c.timescale → m.in_body ≡ c.in_body → m.tick ≡ c.tick
     → VariablesMatch m.variables (seen_state m.part c seen) → c.tick ≡ 0 → c.value_changes ≡ [] → seen ≡ []
     → IsFalse c.in_body → ParserMatches asked m c
 agrees_early asked m c seen header time in_body tick variables no_tick none none_seen early =
-    agrees_by asked m c seen header time in_body tick variables (λ _. no_tick) (λ _. none) (λ _. none_seen)
-    (tells_nothing m.part c seen none none_seen) (λ in_it. hears_none c.in_body early in_it)
-    (λ in_it. hears_none c.in_body early in_it) (λ in_it. hears_none c.in_body early in_it)
+    grind (arith, agrees_by, tells_nothing)
 
 -- a parser that differs only in the open item matches the same state
 pub agrees_as : (asked : Asked) (m new : Parser) (c : ParseState) → ParserMatches asked m c → new.header ≡ m.header
     → new.timescale ≡ m.timescale → new.in_body ≡ m.in_body → new.tick ≡ m.tick → new.part ≡ m.part
     → new.variables ≡ m.variables → new.silent ≡ m.silent → ParserMatches asked new c
-agrees_as asked m new c a header time in_body tick part variables silent =
-    agrees_by asked new c a.seen (ap (λ (v : Vec Header). v.items) header ∙ a.header) (time ∙ a.timescale)
-    (in_body ∙ a.in_body) (tick ∙ a.tick)
-    (subst (λ vs. VariablesMatch vs (seen_state new.part c a.seen)) (sym variables)
-    (subst (λ (p : Part). VariablesMatch m.variables (seen_state p c a.seen)) (sym part) a.variables))
-    a.no_early_tick a.no_early_change a.none_seen
-    (subst (λ (p : Part). TellsPart p c a.seen) (sym part) a.tells)
-    (λ in_it. subst (λ (s : Vec Bool). HearsPart new.part s.items new.variables c) (sym silent)
-    (subst (λ vs. HearsPart new.part m.silent.items vs c) (sym variables)
-    (subst (λ (p : Part). HearsPart p m.silent.items m.variables c) (sym part) (a.hears in_it))))
-    (λ in_it. part ∙ a.part_is in_it) a.is_asked_of
+agrees_as asked m new c a header time in_body tick part variables silent = grind (arith, agrees_by)
 
 -- if the conditions of the open item hold, its `$end` ends it
 ends_here : (asked : Asked) (new : Parser) (c : ParseState) (begun : List WordOnLine) (line : ℕ) (i : Item)
-    (words : List (List ℕ))
-    → word_texts begun ≡ words → spelling i ≡ words ++ end_word ∷ [] → Allows c i
+    (words : List (List ℕ)) → word_texts begun ≡ words → spelling i ≡ words ++ end_word ∷ [] → Allows c i
     → ParserMatches asked new (state_after_item c i) → new.item ≡ items.Nothing
     → WordStep asked c (begun ++ word_on end_word line ∷ []) new
-ends_here asked new c begun line i words spelled whole allows agrees closed =
-    ends_item i (whole ∙ (grind (arith, texts_more))) allows
-    (agrees, subst (IsBegun new []) (sym closed) refl)
+ends_here asked new c begun line i words spelled whole allows agrees closed = ends_item i
+    (whole ∙ (grind (arith, texts_more))) allows (agrees, rw closed refl)
 
 -- a header entry is the last of the header
 pub closes_entry : (m new : Parser) (kind : HeaderKind) → m.item ≡ items.Entry kind
     → new.header.items ≡ m.header.items ++ record { kind = kind; words = m.words.items } ∷ []
     → new ≡ record m { header = new.header; words = new.words; item = items.Nothing }
-    → (line : ℕ) (asked : Asked) (c : ParseState) (begun : List WordOnLine) → IsAtState asked m c begun
-    → WordStep asked c (begun ++ word_on end_word line ∷ []) new
+    → (line : ℕ) → WordResult m (word_on end_word line) (Ok tt) new
 closes_entry m new kind is pushed others line asked c begun at =
     let a = at.0 in
     let b : Collects m begun (header_word kind) = subst (IsBegun m begun) is at.1 in
     let early : IsFalse c.in_body = sym a.in_body ∙ b.declares in
     let i : Item = entry kind m.words.items in
-    subst (WordStep asked c (begun ++ word_on end_word line ∷ [])) (sym others)
-    (ends_here asked (record m { header = new.header; words = new.words; item = items.Nothing }) c begun line i
-    (header_word kind ∷ m.words.items)
-    b.spelled refl (allows_entry c kind m.words.items early b.no_end)
-    (agrees_early asked _ _ a.seen (pushed ∙ ap (λ h. h ++ record { kind = kind; words = m.words.items } ∷ []) a.header)
-    a.timescale a.in_body a.tick
-    (still_known m.variables (seen_state m.part c a.seen) (state_after_item c i).header c.timescale c.in_body
-    a.variables) (a.no_early_tick early) (a.no_early_change early) (a.none_seen early) early) refl)
+    rw others (ends_here asked _ c begun line i _ b.spelled refl (allows_entry c kind m.words.items early b.no_end)
+    (grind (arith, agrees_early, still_known)) refl)
 
 -- a timescale replaces the one before
 pub closes_timescale : (m : Parser) (found : Timescale) → m.item ≡ items.Timescale
     → timescale_of m.words.items ≡ Some found
-    → (line : ℕ) (asked : Asked) (c : ParseState) (begun : List WordOnLine) → IsAtState asked m c begun
-    → WordStep asked c (begun ++ word_on end_word line ∷ []) (record m { timescale = Some found; item = items.Nothing })
+    → (line : ℕ) → WordResult m (word_on end_word line) (Ok tt)
+    (record m { timescale = Some found; item = items.Nothing })
 closes_timescale m found is some line asked c begun at =
     let a = at.0 in
     let b : Collects m begun (codes "$timescale") = subst (IsBegun m begun) is at.1 in
     let early : IsFalse c.in_body = sym a.in_body ∙ b.declares in
     let i : Item = timescale m.words.items in
-    ends_here asked (record m { timescale = Some found; item = items.Nothing }) c begun line i
-    (codes "$timescale" ∷ m.words.items)
-    b.spelled refl (allows_timescale c m.words.items early b.no_end (subst IsSome (sym some) refl))
-    (agrees_early asked _ _ a.seen a.header (sym some) a.in_body a.tick
-    (still_known m.variables (seen_state m.part c a.seen) c.header (timescale_of m.words.items) c.in_body a.variables)
-    (a.no_early_tick early) (a.no_early_change early) (a.none_seen early) early) refl
+    ends_here asked _ c begun line i _ b.spelled refl (allows_timescale c m.words.items early b.no_end (rw some refl))
+    (grind (arith, agrees_early, still_known)) refl
 
 -- the words spell no timescale
 pub shows_no_timescale : (m : Parser) → m.item ≡ items.Timescale → timescale_of m.words.items ≡ None
@@ -181,54 +132,40 @@ pub shows_no_timescale : (m : Parser) → m.item ≡ items.Timescale → timesca
     → WordShows c (word_texts begun) end_word faults.BadTimescale
 shows_no_timescale m is none asked c begun at =
     let b : Collects m begun (codes "$timescale") = subst (IsBegun m begun) is at.1 in
-    test_fails (timescale m.words.items)
-    (fits_in_words c m.words.items (sym at.0.in_body ∙ b.declares) b.no_end)
-    (ap (λ ws. ws ++ end_word ∷ []) (sym b.spelled))
-    (failed faults.BadTimescale (is_some (timescale_of m.words.items)) [] (ap is_some none))
+    test_fails (timescale m.words.items) (fits_in_words c m.words.items (sym at.0.in_body ∙ b.declares) b.no_end)
+    (ap (λ ws. ws ++ end_word ∷ []) (sym b.spelled)) (grind (arith, failed))
 
 -- a scope is the innermost
 pub closes_scope : (m : Parser) (scopes : Scopes) (rest : Vec (List ℕ)) (s : ScopeName) → m.item ≡ items.Scope
     → m.words.items ≡ s.kind ∷ s.words → open_scopes scopes ≡ open_scopes m.variables.scopes ++ s ∷ []
     → KeepsPlaces m.variables.scopes scopes
-    → (line : ℕ) (asked : Asked) (c : ParseState) (begun : List WordOnLine) → IsAtState asked m c begun
-    → WordStep asked c (begun ++ word_on end_word line ∷ [])
+    → (line : ℕ) → WordResult m (word_on end_word line) (Ok tt)
     (record m { variables = record m.variables { scopes = scopes }; words = rest; item = items.Nothing })
 closes_scope m scopes rest s is words pushed keeps line asked c begun at =
     let a = at.0 in
     let b : Collects m begun (codes "$scope") = subst (IsBegun m begun) is at.1 in
     let early : IsFalse c.in_body = sym a.in_body ∙ b.declares in
     ends_here asked _ c begun line (scope s.kind s.words) (codes "$scope" ∷ s.kind ∷ s.words)
-    (b.spelled ∙ ap (λ ws. codes "$scope" ∷ ws) words) refl
-    (allows_scope c s.kind s.words early (ap has_no_end_word (sym words) ∙ b.no_end))
-    (agrees_early asked _ _ a.seen a.header a.timescale a.in_body a.tick
-    (scopes_moved m.variables scopes (seen_state m.part c a.seen) (c.scopes ++ s ∷ [])
-    (pushed ∙ ap (λ ss. ss ++ s ∷ []) a.variables.opened) keeps a.variables) (a.no_early_tick early)
-    (a.no_early_change early) (a.none_seen early) early) refl
+    (b.spelled ∙ ap (λ ws. codes "$scope" ∷ ws) words) refl (allows_scope c s.kind s.words early
+    (ap has_no_end_word (sym words) ∙ b.no_end)) (grind (arith, agrees_early, scopes_moved)) refl
 
 -- as many scopes are open as in the state
 pub so_deep : (vs : Variables) (c : ParseState) → VariablesMatch vs c → length c.scopes ≡ vs.scopes.depth
-so_deep vs c k = ap (length {A = ScopeName}) (sym k.opened)
-    ∙ length-take-le vs.scopes.depth vs.scopes.chain.items vs.scopes.within
+so_deep vs c k = grind (arith, length-take-le)
 
 -- the innermost scope is closed
 pub closes_upscope : (m : Parser) (scopes : Scopes) → m.item ≡ items.Upscope
     → open_scopes scopes ≡ take (length (open_scopes m.variables.scopes) - 1) (open_scopes m.variables.scopes)
     → KeepsPlaces m.variables.scopes scopes
-    → (line : ℕ) (asked : Asked) (c : ParseState) (begun : List WordOnLine) → IsAtState asked m c begun
-    → WordStep asked c (begun ++ word_on end_word line ∷ [])
+    → (line : ℕ) → WordResult m (word_on end_word line) (Ok tt)
     (record m { variables = record m.variables { scopes = scopes }; item = items.Nothing })
 closes_upscope m scopes is popped keeps line asked c begun at =
     let a = at.0 in
     let b : IsFalse m.in_body × (word_texts begun ≡ codes "$upscope" ∷ []) × (0 < m.variables.scopes.depth) =
     grind arith in
     let early : IsFalse c.in_body = sym a.in_body ∙ b.0 in
-    ends_here asked _ c begun line upscope (codes "$upscope" ∷ [])
-    b.1 refl (allows_upscope c early
-    (omega (arith, so_deep m.variables (seen_state m.part c a.seen) a.variables, b.2)))
-    (agrees_early asked _ _ a.seen a.header a.timescale a.in_body a.tick
-    (scopes_moved m.variables scopes (seen_state m.part c a.seen) (take (length c.scopes - 1) c.scopes)
-    (popped ∙ ap (λ (ss : List ScopeName). take (length ss - 1) ss) a.variables.opened) keeps a.variables)
-    (a.no_early_tick early) (a.no_early_change early) (a.none_seen early) early) refl
+    ends_here asked _ c begun line upscope (codes "$upscope" ∷ []) b.1 refl (grind (arith, allows_upscope, so_deep))
+    (grind (arith, agrees_early, scopes_moved)) refl
 
 -- the codes of the variables that remain are heard
 heard_codes : (part : Part) (vs : Variables) (c : ParseState) (seen : List ValueChange) (silent : List Bool)
@@ -237,9 +174,7 @@ heard_codes : (part : Part) (vs : Variables) (c : ParseState) (seen : List Value
 heard_codes part vs c seen silent k hears position d (declared, remains) width first target =
     elim (slice_get_cases vs.kept.items position).1 [
       | inl (v, within, at, read) ↦
-          let same = one_position width v.wave.width first v.first
-          (sym target ∙ (k.firsts position v at).owned d declared) in
-          subst (λ n. slice_index_or silent n false ≡ false) (sym same) (hears position v at remains)
+          grind (arith, one_position)
       | inr (past, at) ↦ absurd (omega (
         arith,
         past,
@@ -256,44 +191,33 @@ begins_part m part silent is hears = (
   refl,
   λ line asked c begun at.
       let a = at.0 in
-      let b : IsFalse m.in_body × (word_texts begun ≡ codes "$enddefinitions" ∷ []) =
-      subst (IsBegun m begun) is at.1 in
+      let b : IsFalse m.in_body × (word_texts begun ≡ codes "$enddefinitions" ∷ []) = rw is at at.1 in
       let early : IsFalse c.in_body = sym a.in_body ∙ b.0 in
-      let vs : VariablesMatch m.variables (seen_state part c a.seen) =
-      knows_further m.variables (seen_state m.part c a.seen) c.header c.timescale c.in_body (seen_tick part c.tick)
-      (omega (arith, a.no_early_tick early)) a.variables in
+      let vs : VariablesMatch m.variables (seen_state part c a.seen) = grind (arith, knows_further) in
       ends_here (asked_of part c) (record m { silent = silent; part = part; in_body = true; item = items.Nothing }) c
-      begun
-      line end_definitions (codes "$enddefinitions" ∷ [])
-      b.1 refl (allows_end_definitions c early)
+      begun line end_definitions (codes "$enddefinitions" ∷ []) b.1 refl (allows_end_definitions c early)
       (agrees_by (asked_of part c) _ _ a.seen a.header a.timescale refl a.tick
-      (still_known m.variables (seen_state part c a.seen) c.header c.timescale true vs)
-      (λ _. a.no_early_tick early) (λ _. a.no_early_change early) (λ _. a.none_seen early)
-      (tells_nothing part (record c { in_body = true }) a.seen (a.no_early_change early) (a.none_seen early))
-      (λ _. heard_codes part m.variables c a.seen silent.items vs hears)
-      (λ _. refl) (λ _. (refl, refl))) refl,
+      (still_known m.variables (seen_state part c a.seen) c.header c.timescale true vs) (λ _. a.no_early_tick early)
+      (λ _. a.no_early_change early) (λ _. a.none_seen early) (grind (arith, tells_nothing))
+      (λ _. heard_codes part m.variables c a.seen silent.items vs hears) (λ _. refl) (λ _. (refl, refl))) refl,
 )
 
 -- another command changes nothing
 pub closes_other : (m : Parser) → m.item ≡ items.Other
-    → (line : ℕ) (asked : Asked) (c : ParseState) (begun : List WordOnLine) → IsAtState asked m c begun
-    → WordStep asked c (begun ++ word_on end_word line ∷ []) (record m { item = items.Nothing })
+    → (line : ℕ) → WordResult m (word_on end_word line) (Ok tt) (record m { item = items.Nothing })
 closes_other m is line asked c begun at =
     let a = at.0 in
     let b : PassesOver m begun = subst (IsBegun m begun) is at.1 in
     ends_here asked (record m { item = items.Nothing }) c begun line (other b.keyword b.words) (b.keyword ∷ b.words)
-    b.spelled refl (allows_other c b.keyword b.words
-    (ap (λ in_body. is_other in_body b.keyword) (sym a.in_body) ∙ b.other) b.no_end)
-    (agrees_as asked m _ c a refl refl refl refl refl refl refl) refl
+    b.spelled refl (allows_other c b.keyword b.words (ap (λ in_body. is_other in_body b.keyword) (sym a.in_body)
+    ∙ b.other) b.no_end) (agrees_as asked m _ c a refl refl refl refl refl refl refl) refl
 
 -- ---- variables
 
 -- one word at most is no variable yet
 pub short_words : (c : ParseState) (words : List (List ℕ)) → length words ≤ 1
     → IsTrue (has_good_size words) × (declaration_of c words ≡ None)
-short_words c [] short = (refl, refl)
-short_words c (kind ∷ []) short = (refl, refl)
-short_words c (kind ∷ size ∷ words) short = absurd (omega (arith, short))
+short_words c words short = grind arith
 
 -- a variable that ends before its size
 pub ends_early : (m new : Parser) → m.item ≡ items.Variable → (line : ℕ)
@@ -301,30 +225,24 @@ pub ends_early : (m new : Parser) → m.item ≡ items.Variable → (line : ℕ)
 ends_early m new is line asked c begun at =
     let b : Collects m begun (codes "$var") × (length m.words.items ≤ 1) = subst (IsBegun m begun) is at.1 in
     let short = short_words c m.words.items b.1 in
-    inr (test_fails (variable m.words.items)
-    (fits_variable c m.words.items (sym at.0.in_body ∙ b.0.declares) b.0.no_end short.0)
-    (ap (λ ws. ws ++ end_word ∷ []) (sym b.0.spelled))
+    inr (test_fails (variable m.words.items) (fits_variable c m.words.items
+    (sym at.0.in_body ∙ b.0.declares) b.0.no_end short.0) (ap (λ ws. ws ++ end_word ∷ []) (sym b.0.spelled))
     (ap (λ d. first_fault (variable_tests c d)) short.1))
 
 -- the variables have the declaration
 pub closes_variable : (m : Parser) (variables : Variables) (words : List (List ℕ)) (rest : Vec (List ℕ))
     → words ≡ m.words.items → DeclaresWords words m.size m.variables (Ok tt) variables
-    → m.item ≡ items.SizedVariable → (line : ℕ) (asked : Asked) (c : ParseState) (begun : List WordOnLine) →
-    IsAtState asked m c begun
-    → WordStep asked c (begun ++ word_on end_word line ∷ [])
+    → m.item ≡ items.SizedVariable → (line : ℕ) → WordResult m (word_on end_word line) (Ok tt)
     (record m { variables = variables; words = rest; item = items.Nothing })
 closes_variable m variables words rest spelled declare is line asked c begun at =
     let a = at.0 in
     let b : CollectsVariable m begun = subst (IsBegun m begun) is at.1 in
     let declares : IsFalse c.in_body = sym a.in_body ∙ b.declares in
     let all : List (List ℕ) = b.kind ∷ b.word ∷ b.following in
-    let d : Declares (seen_state m.part c a.seen) all (Ok tt) variables =
-    declare (seen_state m.part c a.seen) b.kind b.word b.following (spelled ∙ b.words) b.size (a.none_seen declares)
-    a.variables in
-    ends_here asked _ c begun line (variable all) (codes "$var" ∷ all)
-    b.spelled refl (allows_variable c all declares b.no_end b.number d.0)
-    (agrees_early asked _ _ a.seen a.header a.timescale a.in_body a.tick d.1
-    (a.no_early_tick declares) (a.no_early_change declares) (a.none_seen declares) declares) refl
+    let d : Declares (seen_state m.part c a.seen) all (Ok tt) variables = declare (seen_state m.part c a.seen) b.kind
+    b.word b.following (spelled ∙ b.words) b.size (a.none_seen declares) a.variables in
+    ends_here asked _ c begun line (variable all) (codes "$var" ∷ all) b.spelled refl
+    (allows_variable c all declares b.no_end b.number d.0) (grind (arith, agrees_early)) refl
 
 -- the words declare no variable that is allowed here
 pub shows_no_variable : (m new : Parser) (result : Result (Unit {0}) Fault) (fault : Fault) (variables : Variables)
@@ -332,16 +250,14 @@ pub shows_no_variable : (m new : Parser) (result : Result (Unit {0}) Fault) (fau
     → m.item ≡ items.SizedVariable
     → IsErrAnd result (λ e. e ≡ fault) → (line : ℕ) → WordResult m (word_on end_word line) result new
 shows_no_variable m new (Ok x) fault variables words spelled declare is failed line = absurd failed
-shows_no_variable m new (Err e) fault variables words spelled declare is failed line =
-    λ asked c begun at.
+shows_no_variable m new (Err e) fault variables words spelled declare is failed line = λ asked c begun at.
     let a = at.0 in
     let b : CollectsVariable m begun = subst (IsBegun m begun) is at.1 in
     let declares : IsFalse c.in_body = sym a.in_body ∙ b.declares in
     let d : Declares (seen_state m.part c a.seen) (b.kind ∷ b.word ∷ b.following) (Err fault) variables =
     declare (seen_state m.part c a.seen) b.kind b.word b.following (spelled ∙ b.words) b.size (a.none_seen declares)
     a.variables in
-    subst (λ f. (f ≡ faults.NoMemory) ⊎ WordShows c (word_texts begun) end_word f) (sym failed)
-    (elim d [
+    rw failed (elim d [
       | inl memory ↦ inl memory
       | inr fails ↦ let all : List (List ℕ) = b.kind ∷ b.word ∷ b.following in
           inr (test_fails (variable all) (fits_variable c all declares b.no_end b.number)
@@ -362,68 +278,30 @@ pub shows_no_size : (m : Parser) (text : List ℕ) → m.item ≡ items.Variable
 shows_no_size m text is some isnt asked c begun at =
     let b : Collects m begun (codes "$var") × (length m.words.items ≤ 1) = subst (IsBegun m begun) is at.1 in
     let k = one_word m.words.items (omega (arith, some, b.1)) b.0.no_end in
-    subst (λ ws. WordShows c ws text faults.BadVar) (sym (b.0.spelled ∙ ap (λ ws. codes "$var" ∷ ws) k.1))
-    (no_size c k.0 text (sym at.0.in_body ∙ b.0.declares) k.2 isnt)
+    rw (b.0.spelled ∙ ap (λ ws. codes "$var" ∷ ws) k.1) (no_size c k.0 text (sym at.0.in_body ∙ b.0.declares) k.2 isnt)
 
 -- ---- a word that goes on
 
 -- the size of a variable
 pub takes_size : (m : Parser) (text : List ℕ) (size : ℕ) → m.item ≡ items.Variable → 0 < length m.words.items
     → is_number text ≡ true → size ≡ min (number_of text) (WIDTH_LIMIT + 1) → IsFalse (is_end_word text)
-    → (line : ℕ) (asked : Asked) (c : ParseState) (begun : List WordOnLine) → IsAtState asked m c begun
-    → WordStep asked c (begun ++ word_on text line ∷ []) (record m { size = size; item = items.SizedVariable })
-takes_size m text size is some number read isnt line asked c begun at =
-    let a = at.0 in
-    let b : Collects m begun (codes "$var") × (length m.words.items ≤ 1) = subst (IsBegun m begun) is at.1 in
-    let k = one_word m.words.items (omega (arith, some, b.1)) b.0.no_end in
-    goes_on (
-      agrees_as asked m _ c a refl refl refl refl refl refl refl,
-      record {
-        kind = k.0;
-        word = text;
-        following = [];
-        declares = b.0.declares;
-        spelled = texts_more begun (word_on text line)
-            ∙ ap (λ ts. ts ++ text ∷ []) (b.0.spelled ∙ ap (λ ws. codes "$var" ∷ ws) k.1);
-        no_end = λ i. not (k.2 i) && (not (isnt i) && true);
-        words = k.1;
-        number = number;
-        size = read;
-      },
-    )
+    → (line : ℕ) → WordResult m (word_on text line) (Ok tt) (record m { size = size; item = items.SizedVariable })
+takes_size m text size is some number read isnt line asked c begun at = grind (arith, one_word, agrees_as, texts_more)
 
 -- a word of a variable after its size
 pub continues_variable : (m : Parser) (words : Vec (List ℕ)) (text : List ℕ) → m.item ≡ items.SizedVariable
     → words.items ≡ m.words.items ++ text ∷ [] → IsFalse (is_end_word text)
-    → (line : ℕ) (asked : Asked) (c : ParseState) (begun : List WordOnLine) → IsAtState asked m c begun
-    → WordStep asked c (begun ++ word_on text line ∷ []) (record m { words = words })
-continues_variable m words text is pushed isnt line asked c begun at =
-    let a = at.0 in
-    let b : CollectsVariable m begun = subst (IsBegun m begun) is at.1 in
-    goes_on (
-      agrees_as asked m _ c a refl refl refl refl refl refl refl,
-      subst (IsBegun (record m { words = words }) (begun ++ word_on text line ∷ [])) (sym is) (record {
-        kind = b.kind;
-        word = b.word;
-        following = b.following ++ text ∷ [];
-        declares = b.declares;
-        spelled = texts_more begun (word_on text line) ∙ ap (λ ts. ts ++ text ∷ []) b.spelled;
-        no_end = no_end_more (b.kind ∷ b.word ∷ b.following) text b.no_end isnt;
-        words = pushed ∙ ap (λ ws. ws ++ text ∷ []) b.words;
-        number = b.number;
-        size = b.size;
-      }),
-    )
+    → (line : ℕ) → WordResult m (word_on text line) (Ok tt) (record m { words = words })
+continues_variable m words text is pushed isnt line asked c begun at = grind (arith, agrees_as, texts_more, no_end_more)
 
 -- a word of another command
 pub passes_over : (m : Parser) (text : List ℕ) → m.item ≡ items.Other → IsFalse (is_end_word text)
-    → (line : ℕ) (asked : Asked) (c : ParseState) (begun : List WordOnLine) → IsAtState asked m c begun
-    → WordStep asked c (begun ++ word_on text line ∷ []) m
+    → (line : ℕ) → WordResult m (word_on text line) (Ok tt) m
 passes_over m text is isnt line asked c begun at =
     let b : PassesOver m begun = subst (IsBegun m begun) is at.1 in
     goes_on (
       at.0,
-      subst (IsBegun m (begun ++ word_on text line ∷ [])) (sym is) (record {
+      rw is (record {
         keyword = b.keyword;
         words = b.words ++ text ∷ [];
         spelled = texts_more begun (word_on text line) ∙ ap (λ ts. ts ++ text ∷ []) b.spelled;
@@ -437,16 +315,14 @@ passes_over m text is isnt line asked c begun at =
 shown_after : (c : ParseState) (begun : List WordOnLine) (texts : List (List ℕ)) (word : List ℕ) (fault : Fault)
     → word_texts begun ≡ texts → WordShows c texts word fault
     → (fault ≡ faults.NoMemory) ⊎ WordShows c (word_texts begun) word fault
-shown_after c begun texts word fault is shown = inr (subst (λ ts. WordShows c ts word fault) (sym is) shown)
+shown_after c begun texts word fault is shown = inr (rw is shown)
 
 -- a word that begins no declaration
 pub shows_no_declaration : (m new : Parser) (text : List ℕ) → m.item ≡ items.Nothing → IsFalse m.in_body
-    → IsFalse (begins_declaration text) → (line : ℕ)
-    → WordResult m (word_on text line) (Err faults.UnexpectedWord) new
+    → IsFalse (begins_declaration text) → (line : ℕ) → WordResult m (word_on text line) (Err faults.UnexpectedWord) new
 shows_no_declaration m new text is declares isnt line asked c begun at =
-    let none : begun ≡ [] = subst (IsBegun m begun) is at.1 in
-    shown_after c begun [] text faults.UnexpectedWord (ap word_texts none)
-    (begins_no_declaration c text (sym at.0.in_body ∙ declares) isnt)
+    let none : begun ≡ [] = rw is at at.1 in
+    shown_after c begun [] text _ (ap word_texts none) (begins_no_declaration c text (sym at.0.in_body ∙ declares) isnt)
 
 -- `$upscope` while no scope is open
 pub shows_upscope_at_top : (m new : Parser) (text : List ℕ) → m.item ≡ items.Nothing → IsFalse m.in_body
@@ -454,11 +330,9 @@ pub shows_upscope_at_top : (m new : Parser) (text : List ℕ) → m.item ≡ ite
     → WordResult m (word_on text line) (Err faults.UpscopeAtTop) new
 shows_upscope_at_top m new text is declares word top line asked c begun at =
     let a = at.0 in
-    let none : begun ≡ [] = subst (IsBegun m begun) is at.1 in
+    let none : begun ≡ [] = rw is at at.1 in
     shown_after c begun [] text faults.UpscopeAtTop (ap word_texts none)
-    (subst (λ w. WordShows c [] w faults.UpscopeAtTop) (sym word)
-    (upscope_at_top c (sym a.in_body ∙ declares)
-    (nil_from_length c.scopes (so_deep m.variables (seen_state m.part c a.seen) a.variables ∙ top))))
+    (rw word (upscope_at_top c (sym a.in_body ∙ declares) (grind (arith, nil_from_length, so_deep))))
 
 -- a word other than `$end` after `$upscope` or `$enddefinitions`
 pub shows_no_end : (m new : Parser) (text : List ℕ) → (m.item ≡ items.Upscope) ⊎ (m.item ≡ items.EndDefinitions)
@@ -466,14 +340,12 @@ pub shows_no_end : (m new : Parser) (text : List ℕ) → (m.item ≡ items.Upsc
 shows_no_end m new text (inl is) isnt line asked c begun at =
     let a = at.0 in
     let b : IsFalse m.in_body × (word_texts begun ≡ codes "$upscope" ∷ []) × (0 < m.variables.scopes.depth) =
-    subst (IsBegun m begun) is at.1 in
-    shown_after c begun (codes "$upscope" ∷ []) text faults.UnexpectedWord b.1
-    (upscope_goes_on c text (sym a.in_body ∙ b.0) isnt
-    (omega (arith, so_deep m.variables (seen_state m.part c a.seen) a.variables, b.2)))
+    rw is at at.1 in
+    shown_after c begun (codes "$upscope" ∷ []) text faults.UnexpectedWord b.1 (upscope_goes_on c text (sym a.in_body
+    ∙ b.0) isnt (omega (arith, so_deep m.variables (seen_state m.part c a.seen) a.variables, b.2)))
 shows_no_end m new text (inr is) isnt line asked c begun at =
-    let b : IsFalse m.in_body × (word_texts begun ≡ codes "$enddefinitions" ∷ []) = subst (IsBegun m begun) is at.1 in
-    shown_after c begun (codes "$enddefinitions" ∷ []) text faults.UnexpectedWord b.1
-    (definitions_go_on c text (sym at.0.in_body ∙ b.0) isnt)
+    let b : IsFalse m.in_body × (word_texts begun ≡ codes "$enddefinitions" ∷ []) = rw is at at.1 in
+    shown_after c begun _ text _ b.1 (definitions_go_on c text (sym at.0.in_body ∙ b.0) isnt)
 
 -- a scope without a kind
 pub shows_missing_kind : (m new : Parser) → m.item ≡ items.Scope → m.words.items ≡ [] → (line : ℕ)

@@ -37,9 +37,6 @@ in_text pad s i within = ap (λ b. if b then letter_at s i else pad) (lt-ltb i (
 past_text : (pad : Bit) (s : List Bit) (i : ℕ) → length s ≤ i → letter_or pad s i ≡ pad
 past_text pad s i past = ap (λ b. if b then letter_at s i else pad) (le-ltb i (length s) past)
 
-last_letter : (pad : Bit) (s : List Bit) (b : Bit) → letter_or pad (s ++ b ∷ []) 0 ≡ b
-last_letter pad s b = grind (arith, length-append, in_text, get_or-append_right)
-
 other_letter : (pad : Bit) (s : List Bit) (b : Bit) (i : ℕ) → letter_or pad (s ++ b ∷ []) (i + 1) ≡ letter_or pad s i
 other_letter pad s b i = grind (arith, length-append, cases_lt, in_text, get_or_append_left, past_text)
 
@@ -60,7 +57,7 @@ adds_one b old new first rest = λ pad s holds. holds_each pad (s ++ b ∷ []) n
   where
     each : (pad : Bit) (s : List Bit) → HoldsLetters pad s 0 old → (i : ℕ) → i < 64
         → letter_in new i ≡ letter_or pad (s ++ b ∷ []) i
-    each pad s holds zero inside = first ∙ sym (last_letter pad s b)
+    each pad s holds zero inside = first ∙ sym (grind (arith, length-append, in_text, get_or-append_right))
     each pad s holds (suc i) inside =
         let more : i + 1 ≡ suc i = add-one i in
         ap (letter_in new) (sym more) ∙ rest i (omega arith) ∙ held pad s old holds i (omega arith)
@@ -112,15 +109,8 @@ part_letter pad digits k i inside =
     let long : length (take (end - from) (drop from s)) ≡ end - from = grind (arith, length-take-le, length-drop) in
     ap (λ l. letter_or pad l i) part ∙ elim (cases_lt i (end - from)) [
       | inl within ↦
-          let index : length (take (end - from) (drop from s)) - 1 - i ≡ end - from - 1 - i = omega (arith, long) in
-          let at : from + (end - from - 1 - i) ≡ length s - 1 - (64 * k + i) = omega (arith, all) in
-          in_text pad (take (end - from) (drop from s)) i (omega (arith, long))
-          ∙ ap (λ n. get_or (take (end - from) (drop from s)) n X) index
-          ∙ get_or-take (end - from) (drop from s) (end - from - 1 - i) X (omega arith)
-          ∙ get_or-drop from s (end - from - 1 - i) X
-          ∙ ap (λ n. get_or s n X) at ∙ sym (in_text pad s (64 * k + i) (omega (arith, all)))
-      | inr past ↦ past_text pad (take (end - from) (drop from s)) i (omega (arith, long))
-          ∙ sym (past_text pad s (64 * k + i) (omega (arith, all)))
+          grind (arith, in_text, get_or-take, get_or-drop)
+      | inr past ↦ grind (arith, past_text)
     ]
 
 pub row_more : (pad : Bit) (digits : List ℕ) (blocks : List LetterBlock) (k : ℕ) (block : LetterBlock)
@@ -130,14 +120,8 @@ pub row_more : (pad : Bit) (digits : List ℕ) (blocks : List LetterBlock) (k : 
 row_more pad digits blocks k block within before holds = record {
   each = λ i below. elim (cases_eq (i / 64) k) [
     | inl here ↦
-        let index : 64 * k + i % 64 ≡ i = omega arith in
-        ap (λ j. letter_in (block_at (set blocks k block) j) (i % 64)) here
-        ∙ ap (λ (w : LetterBlock). letter_in w (i % 64)) (get_or-set_same blocks k block no_block within)
-        ∙ held pad _ block holds (i % 64) (omega arith) ∙ part_letter pad digits k (i % 64) (omega arith)
-        ∙ ap (letter_or pad (letters_of_digits digits)) index
-    | inr elsewhere ↦ ap (λ (w : LetterBlock). letter_in w (i % 64))
-        (get_or-set_other blocks k (i / 64) block no_block elsewhere)
-        ∙ before.each i (omega arith)
+        grind (arith, get_or-set_same, held, part_letter)
+    | inr elsewhere ↦ grind (arith, get_or-set_other)
   ];
 }
   where
@@ -160,15 +144,13 @@ letters_more digits k following here =
 -- if not all bytes after an index, or before it, are digits, not all are
 pub not_all_after : (n : ℕ) (digits : List ℕ) → list_all is_binary_digit (drop n digits) ≡ false
     → list_all is_binary_digit digits ≡ false
-not_all_after n digits none =
-    ap (list_all is_binary_digit) (sym (take-append-drop n digits))
-    ∙ list_all-append is_binary_digit (take n digits) (drop n digits) ∙ and_right _ _ none
+not_all_after n digits none = ap (list_all is_binary_digit) (sym (take-append-drop n digits)) ∙ list_all-append
+    is_binary_digit (take n digits) (drop n digits) ∙ and_right _ _ none
 
 pub not_all_before : (n : ℕ) (digits : List ℕ) → list_all is_binary_digit (take n digits) ≡ false
     → list_all is_binary_digit digits ≡ false
-not_all_before n digits none =
-    ap (list_all is_binary_digit) (sym (take-append-drop n digits))
-    ∙ list_all-append is_binary_digit (take n digits) (drop n digits) ∙ and_left _ _ none
+not_all_before n digits none = ap (list_all is_binary_digit) (sym (take-append-drop n digits)) ∙ list_all-append
+    is_binary_digit (take n digits) (drop n digits) ∙ and_left _ _ none
 
 -- if a byte of a word is no digit, not all are
 pub no_letter : (digits : List ℕ) (k : ℕ) → list_all is_binary_digit (digits_of digits k) ≡ false
@@ -177,24 +159,18 @@ no_letter digits k none = grind (arith, not_all_after, not_all_before)
 
 -- ---- all blocks
 
--- the letter at a bit of an extension
-extension_letter : (width : ℕ) (s : List Bit) (i : ℕ) → length s ≤ width → i < width
-    → letter_at (extension width s) i ≡ letter_or (pad_letter s) s i
-extension_letter width s i fits inside =
-    let pads = length-replicate (width - length s) (pad_letter s) in
-    grind (arith, pads, length-append, cases_lt, get_or-append_right, get_or_append_left, get_or-replicate)
+-- the letter at a place of joined lists
+ruleset letter_places = (letter_at-letters_of, get_or-append_right, get_or_append_left, get_or-replicate)
 
 -- a row that holds all letters is the extension
 pub row_is_extension : (width count : ℕ) (s : List Bit) (blocks : List LetterBlock) → length s ≤ width
     → width ≤ 64 * count → RowHolds (pad_letter s) s count blocks → letters_of width blocks ≡ extension width s
 row_is_extension width count s blocks fits covers row =
     let long = length-letters_of width blocks in
-    grind (arith, long, length-append, length-replicate, same_letter_at, letter_at-letters_of, extension_letter)
+    grind (arith, long, length-append, length-replicate, same_letter_at, cases_lt, letter_places)
 
 -- a block that holds all letters is the extension, if the width is at most 64
 pub block_is_extension : (width : ℕ) (s : List Bit) (block : LetterBlock) → length s ≤ width → width ≤ 64
     → HoldsLetters (pad_letter s) s 0 block → letters_of width (block ∷ []) ≡ extension width s
 block_is_extension width s block fits narrow holds =
-    row_is_extension width 1 s (block ∷ []) fits (omega arith) (record {
-      each = λ i inside. one_block block i (omega arith) ∙ held (pad_letter s) s block holds i (omega arith);
-    })
+    row_is_extension width 1 s (block ∷ []) fits (omega arith) (grind (arith, one_block, held))

@@ -3,11 +3,11 @@ use Rattle.std.proofs.Common.{◌≡◌, ◌⊎◌, inl, inr, ℕ, zero, suc, �
 use Rattle.std.proofs.Common.{false, not, cond}
 use Rattle.std.proofs.Common.{List, [], ◌∷◌, ◌++◌, length, take, drop, get_or, Option, Some, None}
 use Rattle.std.proofs.Common.{IfSome, refl, sym}
-use Rattle.std.proofs.Common.{ap, subst, ◌∙◌, arith, append_assoc, length-append}
+use Rattle.std.proofs.Common.{ap, ◌∙◌, arith, append_assoc, length-append}
 use Rattle.std.specs.Prelude.{◌^◌, IsTrue, IsFalse}
 use Rattle.std.specs.List.{list_all}
 use Rattle.std.specs.Io.KnownBytes.{Consumes, Keeps, IsAtEnd}
-use Rattle.std.proofs.KnownBytes.{Consumes-trans, Consumes-kept}
+use Rattle.std.proofs.KnownBytes.{Consumes-trans}
 use Rattle.std.proofs.Math.Seq.{take-append-add, take-append_seam}
 use Rattle.std.proofs.lemmas.List.{append-nil, take-append-drop}
 use Rattle.std.proofs.lemmas.List.Sums.{count_by-le-length}
@@ -20,11 +20,9 @@ use Rattle.vcd_text.specs.declared.reading.parser.Parser.{Parser}
 use Rattle.vcd_text.specs.Words.{WordOnLine}
 use Rattle.vcd_text.specs.inside.Words.{line_after, word_of, words_from}
 use Rattle.vcd_text.specs.Words.{words_of, complete_words}
-use Rattle.vcd_text.specs.Faults.{IsFileFault, ShowsFault, shown, none_shown}
-use Rattle.vcd_text.specs.FoundFaults.{IsFoundFault, word_shows}
+use Rattle.vcd_text.specs.FoundFaults.{word_shows}
 use Rattle.vcd_text.specs.FoundFaults.{PrefixShows}
-use Rattle.vcd_text.specs.Faults.{IsPrefixAnswer}
-use Rattle.vcd_text.specs.Refusals.{IsRefusal, has_fault, too_large, no_memory}
+use Rattle.vcd_text.specs.Refusals.{IsRefusal, has_fault, no_memory}
 use Rattle.vcd_text.specs.MemoryErrors.{memory_error}
 use Rattle.vcd_text.specs.inside.Words.{has_complete_words}
 use Rattle.vcd_text.specs.LineFeeds.{line_feeds_in}
@@ -41,7 +39,7 @@ use Rattle.vcd_core.specs.Contents.{SignalContents}
 use Rattle.vcd_text.specs.Parts.{ChoiceAnswers, Answers, RefusesPart, too_many_remain, declined, IsPartRefusal}
 use Rattle.vcd_text.specs.inside.reading.Part.{Asked}
 use Rattle.vcd_text.specs.inside.reading.Choice.{HasTakenFrom, RefusesWords, RefusesFile, ShowsNone}
-use Rattle.vcd_text.proofs.reading.parser.AskedParts.{declares_further, nothing_asked}
+use Rattle.vcd_text.proofs.reading.parser.AskedParts.{declares_further}
 
 -- ---- line feeds
 
@@ -124,25 +122,23 @@ module _ (limit most : ℕ) (taken_by : Parser → List WordOnLine → Type 0) (
   pub now_taken : (later : Parser → List WordOnLine → Type 0) (new : Parser)
       → later new (complete_words come.before ++ complete)
       → HasTaken most later new back (p.line_feeds + line_feeds_in complete_text) p.bytes_left bytes
-  now_taken later new reads =
-      grind (
-        arith,
-        common_steps,
-        length-append,
-        in_two,
-        line_feeds_of_both,
-        closed_now,
-        words_now,
-        append_assoc,
-        no_line_feeds,
-      )
+  now_taken later new reads = grind (
+    arith,
+    common_steps,
+    length-append,
+    in_two,
+    line_feeds_of_both,
+    closed_now,
+    words_now,
+    append_assoc,
+    no_line_feeds,
+  )
 
   -- or one of them is refused
   pub now_refused : (takes : SignalContents → Bool) (answers : Answers) (e : ReadError)
       → RefusesWords limit takes answers (complete_words come.before ++ complete) e
       → RefusesWords limit takes answers (complete_words bytes) e
-  now_refused takes answers e refused =
-      subst (λ words. RefusesWords limit takes answers words e) (sym closed_now) refused
+  now_refused takes answers e refused = grind (arith, closed_now)
 
 -- ---- nothing has been read, or all has been
 
@@ -159,24 +155,14 @@ nothing_taken most taken_by m word none small reads = record {
   small = small;
 }
 
-pub asked_nothing : (limit most : ℕ) {C : Type 0} (takes : C → SignalContents → Bool)
-    (answers : ChoiceAnswers C) (first : C) (p : FileReader)
-    (asked : Asked) (bytes : List ℕ) → HasReadBytes most (HasTakenWords limit asked) p bytes →
-    p.parser.in_body ≡ false
+pub asked_nothing : (limit most : ℕ) {C : Type 0} (takes : C → SignalContents → Bool) (answers : ChoiceAnswers C)
+    (first : C) (p : FileReader) (asked : Asked) (bytes : List ℕ)
+    → HasReadBytes most (HasTakenWords limit asked) p bytes → p.parser.in_body ≡ false
     → HasReadBytes most (HasTakenFrom limit takes answers first first) p bytes
-asked_nothing limit most takes answers first p asked bytes taken early = record {
-  taken_words = nothing_asked limit takes answers first p.parser asked (complete_words bytes) taken.taken_words early;
-  words = taken.words;
-  no_space = taken.no_space;
-  short = taken.short;
-  lines = taken.lines;
-  size = taken.size;
-  small = taken.small;
-}
+asked_nothing limit most takes answers first p asked bytes taken early = grind arith
 
 pub consumes_none : (coming : Option (List ℕ)) → Consumes coming coming []
-consumes_none None = tt
-consumes_none (Some xs) = refl
+consumes_none coming = grind arith
 
 -- the words so far, and the last one
 all_words : (most : ℕ) (taken_by : Parser → List WordOnLine → Type 0) (p : FileReader) (text bytes : List ℕ) →
@@ -192,22 +178,18 @@ pub last_taken : (most : ℕ) (taken_by later : Parser → List WordOnLine → T
     (text bytes : List ℕ) → HasReadBytes most taken_by p bytes → text ≡ p.buffer.bytes
     → later new (complete_words bytes ++ words_from true [] (p.line_feeds + 1) text) → later new (words_of bytes)
 last_taken most taken_by later p new text bytes taken is reads =
-    subst (later new) (all_words most taken_by p text bytes taken is) reads
+    rw (all_words most taken_by p text bytes taken is) at reads
 
 pub last_refused : (limit most : ℕ) (taken_by : Parser → List WordOnLine → Type 0) (takes : SignalContents → Bool)
-    (answers : Answers)
-    (p : FileReader) (text bytes : List ℕ) (e : ReadError) → HasReadBytes most taken_by p bytes →
-    text ≡ p.buffer.bytes
+    (answers : Answers) (p : FileReader) (text bytes : List ℕ) (e : ReadError) → HasReadBytes most taken_by p bytes
+    → text ≡ p.buffer.bytes
     → RefusesWords limit takes answers (complete_words bytes ++ words_from true [] (p.line_feeds + 1) text) e
     → RefusesFile limit takes answers bytes e
 last_refused limit most taken_by takes answers p text bytes e taken is (inl none) = inl none
 last_refused limit most taken_by takes answers p text bytes e taken is (inr (inl shows)) =
-    inr (inl (word_shows (subst (λ words. ShowsFault limit words e.line e.fault)
-    (all_words most taken_by p text bytes taken is)
-    shows)))
+    inr (inl (word_shows (rw (all_words most taken_by p text bytes taken is) at shows)))
 last_refused limit most taken_by takes answers p text bytes e taken is (inr (inr refused)) =
-    inr (inr (subst (λ words. RefusesPart limit takes answers words e)
-    (all_words most taken_by p text bytes taken is) refused))
+    inr (inr (rw (all_words most taken_by p text bytes taken is) at refused))
 
 -- ---- results for a file of which these bytes have come
 
@@ -220,23 +202,17 @@ all_prefix : (n : ℕ) (xs ys : List ℕ) → length xs ≡ n → take n (xs ++ 
 all_prefix n xs ys is = ap (λ k. take k (xs ++ ys)) (sym is) ∙ take-append_seam xs ys
 
 -- a complete word shows a fault
-pub shown_early : (limit most : ℕ) (coming left : Option (List ℕ)) (failed : Bool) (bytes : List ℕ) (e : ReadError) →
-    IsFalse failed
-    → Consumes coming left bytes → length bytes ≤ most
-    → (e ≡ memory_error) ⊎ PrefixShows limit bytes e.line e.fault →
-    IfSome coming (λ file. IsRefusal limit most file failed left e)
+pub shown_early : (limit most : ℕ) (coming left : Option (List ℕ)) (failed : Bool) (bytes : List ℕ) (e : ReadError)
+    → IsFalse failed → Consumes coming left bytes → length bytes ≤ most
+    → (e ≡ memory_error) ⊎ PrefixShows limit bytes e.line e.fault
+    → IfSome coming (λ file. IsRefusal limit most file failed left e)
 shown_early limit most None left failed bytes e ready consumes within answer = tt
 shown_early limit most (Some xs) None failed bytes e ready consumes within answer = absurd consumes
 shown_early limit most (Some xs) (Some ys) failed bytes e ready consumes within (inl none) = no_memory none
 shown_early limit most (Some xs) (Some ys) failed bytes e ready consumes within (inr shows) =
     elim (cases_lt most (length xs)) [
-      | inl long ↦ too_large ready long
-          (subst (λ prefix. IsPrefixAnswer limit prefix faults.TooLarge e)
-          (sym (ap (take most) consumes ∙ prefix_of most bytes ys within))
-          (shown (longer_prefix_fault limit bytes (take (most - length bytes) ys) e.line e.fault shows)))
-      | inr short ↦ has_fault ready short
-          (subst (λ file. IsFileFault limit file e.line e.fault) (sym consumes)
-          (prefix_fault_stays limit bytes ys e.line e.fault shows))
+      | inl long ↦ grind (arith, prefix_of, longer_prefix_fault)
+      | inr short ↦ has_fault ready short (rw consumes (prefix_fault_stays limit bytes ys e.line e.fault shows))
     ]
 
 -- a part is refused for the words of a longer list as well
@@ -249,28 +225,20 @@ refuses_further limit takes answers words more all e is (declined c has none fau
     declined c (declares_further limit words more all e.line c is has) none fault
 
 pub as_part : (limit most : ℕ) (takes : SignalContents → Bool) (answers : Answers) (coming left : Option (List ℕ))
-    (failed : Bool)
-    (e : ReadError) → IfSome coming (λ file. IsRefusal limit most file failed left e)
+    (failed : Bool) (e : ReadError) → IfSome coming (λ file. IsRefusal limit most file failed left e)
     → IfSome coming (λ file. IsPartRefusal limit most takes answers file failed left e)
 as_part limit most takes answers None left failed e refused = tt
 as_part limit most takes answers (Some file) left failed e refused = inl refused
 
 -- a complete word is refused
-pub refused_early : (limit most : ℕ) (takes : SignalContents → Bool) (answers : Answers)
-    (coming left : Option (List ℕ)) (failed : Bool)
-    (bytes : List ℕ) (e : ReadError) → IsFalse failed
-    → Consumes coming left bytes → length bytes ≤ most
+pub refused_early : (limit most : ℕ) (takes : SignalContents → Bool) (answers : Answers) (coming left : Option (List ℕ))
+    (failed : Bool) (bytes : List ℕ) (e : ReadError) → IsFalse failed → Consumes coming left bytes → length bytes ≤ most
     → RefusesWords limit takes answers (complete_words bytes) e
     → IfSome coming (λ file. IsPartRefusal limit most takes answers file failed left e)
 refused_early limit most takes answers coming left failed bytes e ready consumes within (inl none) =
-    as_part limit most takes answers coming left failed e
-    (shown_early limit most coming left failed bytes e ready consumes
-    within (inl none))
+    grind (arith, as_part, shown_early)
 refused_early limit most takes answers coming left failed bytes e ready consumes within (inr (inl shows)) =
-    as_part limit most takes answers coming left failed e
-    (shown_early limit most coming left failed bytes e ready consumes
-    within
-    (inr shows))
+    grind (arith, as_part, shown_early)
 refused_early limit most takes answers None left failed bytes e ready consumes within (inr (inr refused)) = tt
 refused_early limit most takes answers (Some xs) None failed bytes e ready consumes within (inr (inr refused)) =
     absurd consumes
@@ -281,18 +249,15 @@ refused_early limit most takes answers (Some xs) (Some ys) failed bytes e ready 
 
 -- the file has more bytes than the limit
 pub full : (limit most : ℕ) (taken_by : Parser → List WordOnLine → Type 0) (coming middle left : Option (List ℕ))
-    (failed : Bool)
-    (p : FileReader)
-    (bytes chunk : List ℕ) (e : ReadError)
-    → IsFalse failed → Consumes coming middle bytes → Consumes middle left chunk → 0 < length chunk → p.bytes_left ≡ 0
+    (failed : Bool) (p : FileReader) (bytes chunk : List ℕ) (e : ReadError) → IsFalse failed
+    → Consumes coming middle bytes → Consumes middle left chunk → 0 < length chunk → p.bytes_left ≡ 0
     → HasReadBytes most taken_by p bytes → ShowsNone limit (complete_words bytes)
     → e ≡ record { line = p.line_feeds + 1; fault = faults.TooLarge }
     → IfSome coming (λ file. IsRefusal limit most file failed left e)
 full limit most taken_by coming middle left failed p bytes chunk e ready first second some none taken silent is =
     larger limit most coming left failed bytes e ready
     (over coming left (Consumes-trans coming middle left bytes chunk first second))
-    (inr (none_shown silent
-    (ap (λ (e : ReadError). e.line) is ∙ sym taken.lines) (ap (λ (e : ReadError). e.fault) is)))
+    (grind arith)
   where
     over : (coming left : Option (List ℕ)) → Consumes coming left (bytes ++ chunk)
         → IfSome coming (λ xs. (most < length xs) × (bytes ≡ take most xs))
@@ -314,35 +279,26 @@ full limit most taken_by coming middle left failed p bytes chunk e ready first s
 
 -- the reader failed
 pub broken : (limit most : ℕ) (taken_by : Parser → List WordOnLine → Type 0) (coming middle left : Option (List ℕ))
-    (failed : Bool)
-    (p : FileReader) (bytes : List ℕ) (e : ReadError)
-    → IsTrue failed → Consumes coming middle bytes → Keeps middle left → HasReadBytes most taken_by p bytes
-    → ShowsNone limit (complete_words bytes) → e ≡ record { line = p.line_feeds + 1; fault = faults.ReadFault }
+    (failed : Bool) (p : FileReader) (bytes : List ℕ) (e : ReadError) → IsTrue failed → Consumes coming middle bytes
+    → Keeps middle left → HasReadBytes most taken_by p bytes → ShowsNone limit (complete_words bytes)
+    → e ≡ record { line = p.line_feeds + 1; fault = faults.ReadFault }
     → IfSome coming (λ file. IsRefusal limit most file failed left e)
 broken limit most taken_by coming middle left failed p bytes e has consumes keeps taken silent is =
-    failing limit most coming left failed bytes e has (Consumes-kept coming middle left bytes consumes keeps)
-    (omega (arith, taken.size))
-    (inr (none_shown silent
-    (ap (λ (e : ReadError). e.line) is ∙ sym taken.lines) (ap (λ (e : ReadError). e.fault) is)))
+    grind (arith, failing)
 
 -- the whole file came
 pub at_end : (limit most : ℕ) (takes : SignalContents → Bool) (answers : Answers) (coming left : Option (List ℕ))
-    (failed : Bool)
-    (bytes : List ℕ) (e : ReadError) → IsFalse failed
-    → Consumes coming left bytes → IsAtEnd left → length bytes ≤ most
-    → RefusesFile limit takes answers bytes e → IfSome coming
-    (λ file. IsPartRefusal limit most takes answers file failed left e)
+    (failed : Bool) (bytes : List ℕ) (e : ReadError) → IsFalse failed → Consumes coming left bytes → IsAtEnd left
+    → length bytes ≤ most → RefusesFile limit takes answers bytes e
+    → IfSome coming (λ file. IsPartRefusal limit most takes answers file failed left e)
 at_end limit most takes answers None left failed bytes e ready consumes ends within answer = tt
 at_end limit most takes answers (Some xs) None failed bytes e ready consumes ends within answer = absurd consumes
-at_end limit most takes answers (Some xs) (Some ys) failed bytes e ready consumes ends within (inl none) =
-    inl (no_memory none)
+at_end limit most takes answers (Some xs) (Some ys) failed bytes e ready consumes ends within (inl none) = grind arith
 at_end limit most takes answers (Some xs) (Some ys) failed bytes e ready consumes ends within (inr (inl fault)) =
-    let all : bytes ≡ xs = sym (consumes ∙ ap (λ ys. bytes ++ ys) ends ∙ append-nil bytes) in
-    inl (has_fault ready (omega (arith, within, ap (length {A = ℕ}) all))
-    (file_fault limit xs e.line e.fault (subst (λ file. IsFoundFault limit file e.line e.fault) all fault)))
+    grind (arith, append-nil, file_fault)
 at_end limit most takes answers (Some xs) (Some ys) failed bytes e ready consumes ends within (inr (inr refused)) =
     let all : bytes ≡ xs = sym (consumes ∙ ap (λ ys. bytes ++ ys) ends ∙ append-nil bytes) in
-    inr (subst (λ file. RefusesPart limit takes answers (words_of file) e) all refused)
+    inr (rw all at refused)
 
 -- a fact about the bytes is one about the file
 pub of_all : (coming left : Option (List ℕ)) (bytes : List ℕ) (P : List ℕ → Type 0) → Consumes coming left bytes
@@ -350,30 +306,16 @@ pub of_all : (coming left : Option (List ℕ)) (bytes : List ℕ) (P : List ℕ 
 of_all coming left bytes P h4 h5 h6 = grind (arith, append-nil)
 
 no_part_failure : (limit : ℕ) (takes : SignalContents → Bool) (answers : Answers) (words : List WordOnLine)
-    (e : ReadError)
-    → RefusesPart limit takes answers words e → e.fault ≡ faults.ReadFault → ⊥
-no_part_failure limit takes answers words e (too_many_remain c has many fault) is = grind arith
-no_part_failure limit takes answers words e (declined c has none fault) is = grind arith
+    (e : ReadError) → RefusesPart limit takes answers words e → e.fault ≡ faults.ReadFault → ⊥
+no_part_failure limit takes answers words e refused is = grind arith
 
-pub is_no_failure : (limit : ℕ) (takes : SignalContents → Bool) (answers : Answers) (bytes : List ℕ)
-    (e : ReadError)
+pub is_no_failure : (limit : ℕ) (takes : SignalContents → Bool) (answers : Answers) (bytes : List ℕ) (e : ReadError)
     → RefusesWords limit takes answers (complete_words bytes) e → e.fault ≡ faults.ReadFault → ⊥
-is_no_failure limit takes answers bytes e (inl none) is = grind arith
-is_no_failure limit takes answers bytes e (inr (inl shows)) is = grind arith
-is_no_failure limit takes answers bytes e (inr (inr refused)) is =
-    no_part_failure limit takes answers (complete_words bytes) e refused is
-
-no_found_failure : (limit : ℕ) (bytes : List ℕ) (e : ReadError) → IsFoundFault limit bytes e.line e.fault →
-    e.fault ≡ faults.ReadFault → ⊥
-no_found_failure limit bytes e found is = grind arith
+is_no_failure limit takes answers bytes e refused is = search (arith, no_part_failure)
 
 pub is_no_file_failure : (limit : ℕ) (takes : SignalContents → Bool) (answers : Answers) (bytes : List ℕ)
-    (e : ReadError)
-    → RefusesFile limit takes answers bytes e → e.fault ≡ faults.ReadFault → ⊥
-is_no_file_failure limit takes answers bytes e (inl none) is = grind arith
-is_no_file_failure limit takes answers bytes e (inr (inl found)) is = no_found_failure limit bytes e found is
-is_no_file_failure limit takes answers bytes e (inr (inr refused)) is =
-    no_part_failure limit takes answers (words_of bytes) e refused is
+    (e : ReadError) → RefusesFile limit takes answers bytes e → e.fault ≡ faults.ReadFault → ⊥
+is_no_file_failure limit takes answers bytes e refused is = search (arith, no_part_failure)
 
 -- ---- a chunk after the bytes taken
 

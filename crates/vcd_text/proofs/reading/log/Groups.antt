@@ -7,7 +7,7 @@ use Rattle.std.specs.Global.{Vec}
 use Rattle.std.proofs.lemmas.Bool.{eqb-true, cases_Bool}
 use Rattle.std.proofs.lemmas.List.{append-nil, append_assoc}
 use Rattle.std.proofs.lemmas.Option.{same_Some}
-use Rattle.std.proofs.lemmas.List.Elements.{filter-append, All-nil, All-cons, All-head, All-tail}
+use Rattle.std.proofs.lemmas.List.Elements.{filter-append, All-nil, All-head, All-tail}
 use Rattle.vcd_text.specs.inside.reading.Log.{changes_of_position, logged, AreGrouped}
 use Rattle.vcd_text.specs.declared.reading.log.LoggedChange.{LoggedChange}
 use Rattle.vcd_text.specs.declared.reading.log.TheConstants.{GROUPS}
@@ -40,10 +40,8 @@ none_at index (e ∷ es) position apart are =
 none_after : (index : ℕ) (gs : List (Vec LoggedChange)) (position : ℕ) → position % GROUPS < index → AreGrouped index gs
     → logged gs position ≡ []
 none_after index [] position early are = refl
-none_after index (g ∷ gs) position early (here, are) =
-    ap (λ es. es ++ logged gs position)
-    (none_at index g.items position (λ same. absurd (omega (arith, early, same))) here)
-    ∙ none_after (index + 1) gs position (omega (arith, early)) are
+none_after index (g ∷ gs) position early (here, are) = ap (λ es. es ++ logged gs position) (none_at index _ _
+    (λ same. absurd (omega (arith, early, same))) here) ∙ none_after (index + 1) gs position (omega (arith, early)) are
 
 module _ (e : LoggedChange) (h : Vec LoggedChange) where
   -- the change comes after the others of its position
@@ -70,14 +68,10 @@ module _ (e : LoggedChange) (h : Vec LoggedChange) where
       ≡ (if e.position == position then logged gs position ++ e ∷ [] else logged gs position)
   logged_with gs g position at more are = grind (arith, cases_Bool, eqb-true, here_with, there_with)
 
-  all_more : (P : LoggedChange → Type 0) (es : List LoggedChange) → All P es → P e → All P (es ++ e ∷ [])
-  all_more P [] all is = All-cons P e [] is (All-nil P)
-  all_more P (x ∷ es) all is = grind (arith, All-cons, All-head, All-tail, all_more P es (All-tail P x es all) is)
-
   pub grouped_with : (index : ℕ) (gs : List (Vec LoggedChange)) (i : ℕ) (g : Vec LoggedChange) → slice_get gs i ≡ Some g
       → h.items ≡ g.items ++ e ∷ []
       → e.position % GROUPS ≡ index + i → AreGrouped index gs → AreGrouped index (set gs i h)
   grouped_with index [] i g at more of are = tt
-  grouped_with index (x ∷ gs) zero g at more of (here, are) = grind (arith, common_steps, same_Some, all_more)
+  grouped_with index (x ∷ gs) zero g at more of (here, are) = grind (arith, common_steps, same_Some)
   grouped_with index (x ∷ gs) (suc i) g at more of (here, are) =
       grind (arith, common_steps, grouped_with (index + 1) gs i g at more (omega (arith, of)) are)

@@ -1,11 +1,10 @@
 -- A wave followed by changes of the log.
 use Rattle.std.proofs.Common.{◌≡◌, ℕ, ◌<◌, ◌≤◌, if◌then◌else◌, nat_le, List, [], ◌∷◌, ◌++◌, All}
 use Rattle.std.proofs.Common.{refl, ap, ◌∙◌, arith, ◌⊎◌, inl, inr}
-use Rattle.std.proofs.lemmas.List.Elements.{All-nil, All-weaker}
+use Rattle.std.proofs.lemmas.List.Elements.{All-weaker}
 use Rattle.vcd_core.specs.declared.bit.Bit.{Bit}
 use Rattle.vcd_core.specs.declared.wave.Change.{Change}
-use Rattle.vcd_core.specs.Value.{all_x}
-use Rattle.vcd_core.specs.Wave.{value_from, value_at}
+use Rattle.vcd_core.specs.Wave.{value_at}
 use Rattle.vcd_text.specs.inside.reading.Log.{logged_letters, value_after_changes, RisesTo}
 use Rattle.vcd_text.specs.inside.reading.Log.{GivesLoggedValues}
 use Rattle.vcd_text.specs.declared.reading.log.LoggedChange.{LoggedChange}
@@ -95,8 +94,3 @@ module _ (width tick : ℕ) (f : ℕ → List Bit) (cs : List Change) where
       → ((t : ℕ) → value_at width ds t ≡ (if nat_le e.tick t then logged_letters width e else value_at width cs t))
       → GivesLoggedValues width tick f cs (e ∷ es) → GivesLoggedValues width tick f ds es
   gives_moved ds e es ended values g = grind arith
-
--- a wave with no change, if the log has none for it
-pub gives_nothing : (width tick : ℕ) → GivesLoggedValues width tick (λ t. all_x width) [] []
-unfolding value_from
-gives_nothing width tick = grind (arith, All-nil)

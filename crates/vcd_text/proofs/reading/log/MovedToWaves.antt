@@ -1,5 +1,5 @@
 -- Variables that take their changes of the log.
-use Rattle.std.proofs.Common.{◌≡◌, ℕ, suc, ◌<◌, true, false, ◌==◌, cond, List, [], ◌∷◌, ◌++◌}
+use Rattle.std.proofs.Common.{◌≡◌, ℕ, suc, ◌<◌, true, ◌==◌, List, [], ◌∷◌, ◌++◌}
 use Rattle.std.proofs.Common.{length, map, set}
 use Rattle.std.proofs.Common.{All, Option, Some, inl, inr, refl, sym, ap, subst, ◌∙◌, arith}
 use Rattle.std.specs.Prelude.{slice_get}
@@ -11,13 +11,13 @@ use Rattle.std.proofs.lemmas.List.Elements.{All-nil, All-cons}
 use Rattle.std.proofs.lemmas.Option.{same_Some, slice_get_within, slice_get_cases}
 use Rattle.vcd_core.specs.declared.bit.Bit.{Bit}
 use Rattle.vcd_core.specs.Value.{all_x}
-use Rattle.vcd_text.specs.Grammar.{ParseState, kept_variables}
+use Rattle.vcd_text.specs.Grammar.{ParseState}
 use Rattle.vcd_text.specs.Meaning.{latest_value}
-use Rattle.vcd_text.specs.inside.reading.Log.{GivesLoggedValues, changes_of_position, logged}
-use Rattle.vcd_text.specs.inside.reading.Log.{AreGrouped, CanTake}
+use Rattle.vcd_text.specs.inside.reading.Log.{changes_of_position, logged}
+use Rattle.vcd_text.specs.inside.reading.Log.{CanTake}
 use Rattle.vcd_text.specs.inside.reading.Log.{AppliesLogged, CanMoveLog, MovesChanges, MovesLog}
-use Rattle.vcd_text.specs.inside.reading.Log.{counted_variable, counted, room_with}
-use Rattle.vcd_text.specs.inside.reading.Variables.{target_of, HasValueChanges, HasFirst, VariablesMatch}
+use Rattle.vcd_text.specs.inside.reading.Log.{counted_variable, counted}
+use Rattle.vcd_text.specs.inside.reading.Variables.{target_of, HasValueChanges, VariablesMatch}
 use Rattle.vcd_text.specs.declared.reading.code_targets.CodeTarget.TheVariants.{Kept}
 use Rattle.vcd_text.specs.declared.reading.log.LoggedChange.{LoggedChange}
 use Rattle.vcd_text.specs.declared.reading.variables.Variable.{Variable}
@@ -54,24 +54,11 @@ module _ (e : LoggedChange) (es : List LoggedChange) (rest : ℕ → List Logged
     long = ap (length {A = Variable}) takes.others ∙ length-set old e.position takes.after;
     each = λ position v at. elim (cases_Bool (e.position == position)) [
       | inl same ↦
-          let here : e.position ≡ position = eqb-true e.position position same in
-          let is : takes.before ≡ v = same_Some takes.before v (sym takes.at_position ∙ ap (slice_get old) here
-          ∙ at) in (
-            takes.after,
-            ap (λ vs. slice_get vs position) takes.others ∙ ap (slice_get (set old e.position takes.after)) (sym here)
-                ∙ set_here old e.position takes.before takes.after takes.at_position,
-            subst (λ b. MovesChanges v takes.after
-                (cond b (e ∷ changes_of_position position es) (changes_of_position position es) ++ rest position)
-                (changes_of_position position es ++ rest position)) (sym same) (grind (arith, gives_moved)),
-          )
+          grind (arith, eqb-true, same_Some, set_here, gives_moved)
       | inr other ↦ (
         v,
-        ap (λ vs. slice_get vs position) takes.others
-            ∙ set_there old e.position position takes.after (λ same. let both : true ≡ false = sym own_position
-            ∙ ap (λ p. e.position == p) same ∙ other in absurd (cc))
-            ∙ at,
-        subst (λ b. MovesChanges v v (cond b (e ∷ changes_of_position position es) (changes_of_position position es)
-            ++ rest position) (changes_of_position position es ++ rest position)) (sym other) (grind arith),
+        ap (λ vs. slice_get vs position) takes.others ∙ set_there old _ _ _ (grind (arith, own_position)) ∙ at,
+        rw other (grind arith),
       )
     ];
   }
@@ -89,13 +76,6 @@ more_left e es rest position some = grind arith
 
 -- ---- changes that are counted
 
--- the first change of a group has its position
-some_here : (e : LoggedChange) (es rest : List LoggedChange)
-    → 0 < length (changes_of_position e.position (e ∷ es) ++ rest)
-some_here e es rest =
-    subst (λ b. 0 < length (cond b (e ∷ changes_of_position e.position es) (changes_of_position e.position es) ++ rest))
-    (sym (own_position e es (λ _. rest))) (grind arith)
-
 -- each change is one of a variable
 pub all_within : (kept : List Variable) (es : List LoggedChange) (rest : ℕ → List LoggedChange)
     → ((position : ℕ) → 0 < length (changes_of_position position es ++ rest position)
@@ -103,24 +83,17 @@ pub all_within : (kept : List Variable) (es : List LoggedChange) (rest : ℕ →
     → All (λ (e : LoggedChange). e.position < length kept) es
 all_within kept [] rest has = grind (arith, All-nil)
 all_within kept (e ∷ es) rest has =
-    let here = has e.position (some_here e es (rest e.position)) in
-    All-cons (λ (x : LoggedChange). x.position < length kept) e es
-    (slice_get_within kept e.position here.0 here.1)
+    let here = has e.position (grind (arith, own_position)) in
+    All-cons (λ (x : LoggedChange). x.position < length kept) e es (slice_get_within kept e.position here.0 here.1)
     (all_within kept es rest (λ position some. has position (more_left e es (rest position) position some)))
 
 -- nothing but the expected room changes
 hinted : (v : Variable) (room : ExpectedRoom) (log : List LoggedChange)
     → MovesChanges v (record v { expected_room = room }) log log
-hinted v room log = record {
-  same = record { place = refl; kind = refl; words = refl; width = refl; first = refl };
-  gives = λ tick f gives. gives;
-}
+hinted v room log = grind arith
 
 none_taken : (kept : List Variable) (log : ℕ → List LoggedChange) → MovesLog kept kept log log
-none_taken kept log = record {
-  long = refl;
-  each = λ position v at. (v, at, hinted v v.expected_room (log position));
-}
+none_taken kept log = grind (arith, hinted)
 
 counted_next : (kept : List Variable) (e : LoggedChange) (log : ℕ → List LoggedChange)
     → MovesLog kept (counted kept e) log log
@@ -129,33 +102,30 @@ counted_next kept e log =
     λ o. option_map_or (λ (v : Variable). set kept e.position (counted_variable v e)) o kept in
     elim (slice_get_cases kept e.position).1 [
       | inl (v, within, at, read) ↦
-          subst (λ vs. MovesLog kept vs log log) (sym (ap with_hint at)) (record {
+          rw (ap with_hint at) (record {
             long = length-set kept e.position (counted_variable v e);
             each = λ position u there. elim (cases_eq e.position position) [
               | inl same ↦
                   let is : v ≡ u = same_Some v u (sym at ∙ ap (slice_get kept) same ∙ there) in (
                     counted_variable v e,
-                    ap (slice_get (set kept e.position (counted_variable v e))) (sym same)
-                        ∙ set_here kept e.position v (counted_variable v e) at,
-                    subst (λ x. MovesChanges x (counted_variable v e) (log position) (log position)) is
-                        (hinted v (room_with v.expected_room e) (log position)),
+                    ap (slice_get (set kept e.position (counted_variable v e))) (sym same) ∙ set_here kept _ v _ at,
+                    subst (λ x. MovesChanges x (counted_variable v e) (log position) (log position)) is (hinted v _ _),
                   )
               | inr other ↦ (
                 u,
-                set_there kept e.position position (counted_variable v e) other ∙ there,
-                hinted u u.expected_room (log position),
+                set_there kept _ _ _ other ∙ there,
+                hinted u _ _,
               )
             ];
           })
-      | inr (past, none) ↦ subst (λ vs. MovesLog kept vs log log) (sym (ap with_hint none)) (none_taken kept log)
+      | inr (past, none) ↦ rw (ap with_hint none) (none_taken kept log)
     ]
 
 pub all_counted : (es : List LoggedChange) (kept : List Variable) (log : ℕ → List LoggedChange)
     → MovesLog kept (fold counted kept es) log log
 all_counted [] kept log = none_taken kept log
-all_counted (e ∷ es) kept log =
-    moves_then kept (counted kept e) (fold counted (counted kept e) es) log log log (counted_next kept e log)
-    (all_counted es (counted kept e) log)
+all_counted (e ∷ es) kept log = moves_then kept (counted kept e) (fold counted (counted kept e) es) log log log
+    (counted_next kept e log) (all_counted es (counted kept e) log)
 
 -- ---- the variables of a parser
 
@@ -173,8 +143,7 @@ variables_can_move vs c k = λ position some.
       wave.at_position,
       c.tick,
       f,
-      subst (λ n. GivesLoggedValues n c.tick f wave.first.wave.changes (logged vs.log.items position))
-          (sym wave.sized) wave.gives,
+      rw wave.sized wave.gives,
     )
 
 same_all : {B : Type 0} (f : Variable → B) (vs ws : List Variable) → length ws ≡ length vs
@@ -199,11 +168,7 @@ module _ (old : Variables) (list : Vec Variable) (log : Vec (Vec LoggedChange)) 
       × MovesChanges v w (logged old.log.items position) []
   stood position w at = elim (slice_get_cases old.kept.items position).1 [
     | inl (v, within, there, read) ↦
-        let u = moves_log.each position v there in (
-          v,
-          there,
-          subst (λ x. MovesChanges v x (logged old.log.items position) []) (same_Some u.0 w (sym u.1 ∙ at)) u.2,
-        )
+        grind (arith, same_Some)
     | inr (past, none) ↦ absurd (omega (arith, past, moves_log.long, slice_get_within list.items position w at))
   ]
 
@@ -212,28 +177,6 @@ module _ (old : Variables) (list : Vec Variable) (log : Vec (Vec LoggedChange)) 
       → HasValueChanges list.items (logged log.items) position code size c.value_changes c.tick
   moved_wave position code size wave = grind arith
 
-  moved_firsts : (position : ℕ) (w : Variable) → slice_get list.items position ≡ Some w
-      → HasFirst (with_changes old list log) (kept_variables c.declared) position w
-  moved_firsts position w at =
-      let v = stood position w at in
-      let before = k.firsts position v.0 v.1 in
-      record {
-        owned = grind arith;
-        placed = grind arith;
-        no_later = omega (arith, v.2.same.first, before.no_later);
-      }
-
   -- the waves have the changes of the log
   pub moved_match : VariablesMatch (with_changes old list log) c
-  moved_match = record {
-    opened = k.opened;
-    kept = grind (arith, same_all, same_declaration);
-    skipped = k.skipped;
-    targets_agree = grind (arith, stands_moved, moved_wave);
-    owners = k.owners;
-    firsts = moved_firsts;
-    few = omega (arith, moves_log.long, k.few);
-    limit = k.limit;
-    grouped = subst (AreGrouped 0) (sym empty) tt;
-    logs = λ position some. absurd (omega (arith, some, ap (λ gs. length (logged gs position)) empty));
-  }
+  moved_match = grind (arith, same_all, same_declaration, stands_moved, moved_wave, stood)

@@ -1,16 +1,15 @@
 -- The end of the declarations: the choice is asked, and the part begins or is refused.
-use Rattle.std.proofs.Common.{◌≡◌, inl, inr, ℕ, Bool, true, false, List, [], ◌∷◌, ◌++◌, map, length}
-use Rattle.std.proofs.Common.{Option, None, Result, Ok, Err, OnOk, refl, sym, ap, subst, ◌∙◌, arith, append_assoc}
-use Rattle.std.specs.Prelude.{IsFalse, codes, filter, ◌<◌}
-use Rattle.vcd_core.specs.declared.capture.TheConstants.{SIGNAL_LIMIT}
+use Rattle.std.proofs.Common.{◌≡◌, inl, inr, ℕ, Bool, true, false, List, [], ◌∷◌, ◌++◌, map}
+use Rattle.std.proofs.Common.{Option, Result, Ok, Err, OnOk, refl, sym, ap, ◌∙◌, arith, append_assoc}
+use Rattle.std.specs.Prelude.{IsFalse, codes}
 use Rattle.std.proofs.lemmas.List.{map-append}
 use Rattle.vcd_core.specs.Contents.{SignalContents}
 use Rattle.vcd_core.specs.declared.capture.Timescale.{Timescale}
 use Rattle.vcd_text.specs.declared.fault.Fault.{Fault}
 use Rattle.vcd_text.specs.declared.fault.ReadError.{ReadError}
 use Rattle.vcd_text.specs.Words.{WordOnLine, word_on}
-use Rattle.vcd_text.specs.Items.{Item, entry, timescale, scope, upscope, variable, end_definitions, stamp, scalar}
-use Rattle.vcd_text.specs.Items.{vector, real_or_string, dump_word, other, spelling, spellings, end_word}
+use Rattle.vcd_text.specs.Items.{Item, end_definitions}
+use Rattle.vcd_text.specs.Items.{spelling, end_word}
 use Rattle.vcd_text.specs.Grammar.{ParseState, VariableDeclaration, ValueChange, initial_state, state_after_item}
 use Rattle.vcd_text.specs.Grammar.{Allows}
 use Rattle.vcd_text.proofs.shared.ItemTests.{allows_end_definitions}
@@ -37,20 +36,9 @@ use Rattle.vcd_text.proofs.reading.parser.NoWordLeft.{no_fault}
 -- ---- declarations
 
 -- declarations are those of a longer list of words as well
-pub declares_further : (limit : ℕ) (words more all : List WordOnLine) (line : ℕ) (c : ParseState) →
-    all ≡ words ++ more
+pub declares_further : (limit : ℕ) (words more all : List WordOnLine) (line : ℕ) (c : ParseState) → all ≡ words ++ more
     → HasDeclarations limit words line c → HasDeclarations limit all line c
-declares_further limit words more all line c is has = record {
-  items = has.items;
-  before = has.before;
-  last = has.last;
-  more = has.more ++ more;
-  parts = is ∙ ap (λ ws. ws ++ more) has.parts ∙ append_assoc has.before (has.last ∷ has.more) more;
-  spelled = has.spelled;
-  allowed = has.allowed;
-  state_is = has.state_is;
-  at = has.at;
-}
+declares_further limit words more all line c is has = grind (arith, append_assoc)
 
 -- the signals of variables as they are declared
 pub undriven_signals : (changes : List ValueChange) (end : ℕ) (ds : List VariableDeclaration)
@@ -70,18 +58,7 @@ pub end_is_early : (m : Parser) (begun : List WordOnLine) (item : OpenItem) → 
 end_is_early m begun item is ends = grind arith
 
 body_item : (c : ParseState) (i : Item) → (i ≡ end_definitions → ⊥) → (state_after_item c i).in_body ≡ c.in_body
-body_item c (entry kind words) isnt = refl
-body_item c (timescale words) isnt = refl
-body_item c (scope kind words) isnt = refl
-body_item c upscope isnt = refl
-body_item c (variable words) isnt = refl
-body_item c end_definitions isnt = absurd (isnt refl)
-body_item c (stamp digits) isnt = refl
-body_item c (scalar digit code) isnt = refl
-body_item c (vector first digits code) isnt = refl
-body_item c (real_or_string first text code) isnt = refl
-body_item c (dump_word word) isnt = refl
-body_item c (other word words) isnt = refl
+body_item c i isnt = grind arith
 
 -- a word that does not end the declarations neither begins nor ends the changes
 pub step_in_body : (asked : Asked) (m new : Parser) (c : ParseState) (begun : List WordOnLine) (w : WordOnLine)
@@ -114,22 +91,19 @@ module _ (limit : ℕ) {C : Type 0} (takes : C → SignalContents → Bool)
     (old : Parser) (words : List WordOnLine) (r : HasTakenFrom limit takes answers first old_choice old words) where
   -- a word that does not end the declarations
   pub taken_further : (new : Parser) (now : C) (w : WordOnLine) → HasTakenWords limit r.asked new (words ++ w ∷ [])
-      → new.in_body ≡ old.in_body → now ≡ old_choice
-      → HasTakenFrom limit takes answers first now new (words ++ w ∷ [])
+      → new.in_body ≡ old.in_body → now ≡ old_choice → HasTakenFrom limit takes answers first now new (words ++ w ∷ [])
   taken_further new now w reads same still = record {
     asked = r.asked;
     taken_words = reads;
     unasked = λ early. still ∙ r.unasked (sym same ∙ early);
-    answered = λ late. subst (λ n. IsAnswered (takes first) (told answers first n) r.asked) (sym still)
-        (r.answered (sym same ∙ late));
+    answered = λ late. rw still (r.answered (sym same ∙ late));
   }
 
   -- so is its result
   pub word_result : (new : Parser) (w : WordOnLine) (result : Result (Unit {0}) ReadError)
       → WordsResult old (w ∷ []) result new → OnOk result (new.in_body ≡ old.in_body)
       → TakesWord limit takes answers first old_choice words w result new
-  word_result new w (Ok x) taken same = taken_further new old_choice w (taken limit r.asked words r.taken_words) same
-      refl
+  word_result new w (Ok x) taken same = search (arith, taken_further)
   word_result new w (Err e) taken same = λ more. elim (taken limit r.asked words more r.taken_words) [
     | inl memory ↦ inl memory
     | inr shows ↦ inr (inl shows)
@@ -145,42 +119,29 @@ module _ (limit : ℕ) {C : Type 0} (takes : C → SignalContents → Bool)
       → HasTakenFrom limit takes answers first now new (words ++ word_on end_word line ∷ [])
   taken_part new now line early begins answered = record {
     asked = asked_of new.part r.taken_words.state;
-    taken_words = words_taken limit r.asked (asked_of new.part r.taken_words.state) old new words
-        (word_on end_word line ∷ []) r.taken_words
-        (begins.1 line r.asked r.taken_words.state r.taken_words.begun r.taken_words.at);
+    taken_words = words_taken limit r.asked (asked_of new.part r.taken_words.state) old new words (word_on end_word line
+        ∷ []) r.taken_words (begins.1 line r.asked r.taken_words.state r.taken_words.begun r.taken_words.at);
     unasked = λ isnt. let both : true ≡ false = sym begins.0 ∙ isnt in absurd (cc);
-    answered = λ late. subst (λ t. IsAnswered (takes first) (told answers first now) (record {
-      timescale = t;
-      signals = map undriven (kept_variables r.taken_words.state.declared);
-      part = new.part;
-    })) r.taken_words.at.0.timescale
-        (subst (λ n. IsAnswered (takes n) (told answers n now) (record {
-          timescale = old.timescale;
-          signals = map undriven (kept_variables r.taken_words.state.declared);
-          part = new.part;
-        })) (r.unasked early) answered);
+    answered = λ late. rw r.taken_words.at.0.timescale at (rw (r.unasked early) at answered);
   }
 
 -- words that have been taken show no fault
-pub silent_words : (limit : ℕ) {C : Type 0} (takes : C → SignalContents → Bool)
-    (answers : ChoiceAnswers C) (first now : C)
-    (m : Parser) (words : List WordOnLine) → HasTakenFrom limit takes answers first now m words →
-    ShowsNone limit words
+pub silent_words : (limit : ℕ) {C : Type 0} (takes : C → SignalContents → Bool) (answers : ChoiceAnswers C)
+    (first now : C) (m : Parser) (words : List WordOnLine) → HasTakenFrom limit takes answers first now m words
+    → ShowsNone limit words
 silent_words limit takes answers first now m words r = no_fault limit r.asked m words r.taken_words
 
 -- ---- a part that is refused
 
 -- the declarations end with this word
 declares : (limit : ℕ) (asked : Asked) (m : Parser) (words more : List WordOnLine) (line : ℕ)
-    (r : HasTakenWords limit asked m words)
-    → IsFalse m.in_body → is_end_definitions m.item ≡ true
+    (r : HasTakenWords limit asked m words) → IsFalse m.in_body → is_end_definitions m.item ≡ true
     → HasDeclarations limit (words ++ word_on end_word line ∷ more) line (state_after_item r.state end_definitions)
 declares limit asked m words more line r early is =
     let begun = open_end m r.begun m.item r.at.1 is in
     let leads = reaches_both (initial_state limit) r.state (state_after_item r.state end_definitions) r.items
     (end_definitions ∷ []) (record { allowed = r.allowed; state_is = r.state_is })
-    (reaches_one r.state (state_after_item r.state end_definitions) end_definitions
-    (allows_end_definitions r.state (sym r.at.0.in_body ∙ early)) refl)
+    (grind (arith, reaches_one, allows_end_definitions))
     in
     record {
       items = r.items;
@@ -188,13 +149,7 @@ declares limit asked m words more line r early is =
       last = word_on end_word line;
       more = more;
       parts = refl;
-      spelled = ap (λ ws. word_texts (ws ++ word_on end_word line ∷ [])) r.parts
-          ∙ ap word_texts (append_assoc r.whole r.begun (word_on end_word line ∷ []))
-          ∙ map-append _ r.whole (r.begun ++ word_on end_word line ∷ [])
-          ∙ ap (λ ts. ts ++ word_texts (r.begun ++ word_on end_word line ∷ [])) r.spelled
-          ∙ ap (λ ts. spellings r.items ++ ts) (map-append _ r.begun (word_on end_word line ∷ [])
-          ∙ ap (λ ts. ts ++ end_word ∷ []) begun)
-          ∙ sym (spelled_more r.items end_definitions);
+      spelled = grind (arith, append_assoc, map-append, spelled_more);
       allowed = leads.allowed;
       state_is = leads.state_is;
       at = refl;
@@ -209,23 +164,17 @@ pub part_refused : (limit : ℕ) (asked : Asked) (m : Parser) (words more : List
     → IsFalse m.in_body → is_end_definitions m.item ≡ true
     → RefusesSignals takes answers m.timescale (map undriven (kept_variables r.state.declared)) fault
     → RefusesWords limit takes answers (words ++ word_on end_word line ∷ more) (error_at line fault)
-part_refused limit asked m words more line takes answers fault r early is (inl memory) =
-    inl (ap (error_at line) memory)
+part_refused limit asked m words more line takes answers fault r early is (inl memory) = grind arith
 part_refused limit asked m words more line takes answers fault r early is (inr (inl (many, long))) =
     let signals : signals_of (state_after_item r.state end_definitions) ≡ map undriven (kept_variables r.state.declared)
-    =
-    undriven_signals r.state.value_changes r.state.tick (kept_variables r.state.declared) in
+    = grind (arith, undriven_signals) in
     rw many (inr (inr (too_many_remain (state_after_item r.state end_definitions)
-    (declares limit asked m words more line r early is)
-    (subst (λ ss. SIGNAL_LIMIT < length (filter takes ss)) (sym signals) long) refl)))
+    (declares limit asked m words more line r early is) (rw signals long) refl)))
 part_refused limit asked m words more line takes answers fault r early is (inr (inr (none, answer))) =
     let signals : signals_of (state_after_item r.state end_definitions) ≡ map undriven (kept_variables r.state.declared)
-    =
-    undriven_signals r.state.value_changes r.state.tick (kept_variables r.state.declared) in
+    = grind (arith, undriven_signals) in
     rw none (inr (inr (declined (state_after_item r.state end_definitions)
-    (declares limit asked m words more line r early is)
-    (subst (λ ss. answers r.state.timescale ss None) (sym signals)
-    (subst (λ t. answers t (map undriven (kept_variables r.state.declared)) None) r.at.0.timescale answer)) refl)))
+    (declares limit asked m words more line r early is) (rw signals (rw r.at.0.timescale at answer)) refl)))
 
 pub refused_part : (limit : ℕ) {C : Type 0} (takes : C → SignalContents → Bool)
     (answers : ChoiceAnswers C) (first old_choice now : C)
@@ -238,27 +187,11 @@ pub refused_part : (limit : ℕ) {C : Type 0} (takes : C → SignalContents → 
     (error_at line fault)
 refused_part limit takes answers first old_choice now old words more line fault r early is refuses =
     part_refused limit r.asked old words more line (takes first) (told answers first now) fault r.taken_words early is
-    (subst (λ n. RefusesSignals (takes n) (told answers n now) old.timescale
-    (map undriven (kept_variables r.taken_words.state.declared)) fault) (r.unasked early) refuses)
-
--- before the changes nothing was asked
-pub nothing_asked : (limit : ℕ) {C : Type 0} (takes : C → SignalContents → Bool)
-    (answers : ChoiceAnswers C) (first : C) (m : Parser)
-    (asked : Asked) (words : List WordOnLine) → HasTakenWords limit asked m words → m.in_body ≡ false
-    → HasTakenFrom limit takes answers first first m words
-nothing_asked limit takes answers first m asked words reads early = record {
-  asked = asked;
-  taken_words = reads;
-  unasked = λ _. refl;
-  answered = λ late. let both : true ≡ false = sym late ∙ early in absurd (cc);
-}
+    (rw (r.unasked early) at refuses)
 
 -- an answer for signals and a part is one for the same signals and part
 pub answered_signals : (takes : SignalContents → Bool) (answers : Answers) (unit : Option Timescale)
     (ss signals : List SignalContents) (part new : Part) → ss ≡ signals → new ≡ part
     → IsAnswered takes answers (record { timescale = unit; signals = ss; part = part })
     → IsAnswered takes answers (record { timescale = unit; signals = signals; part = new })
-answered_signals takes answers unit ss signals part new same is answered =
-    subst (λ (p : Part). IsAnswered takes answers (record { timescale = unit; signals = signals; part = p }))
-    (sym is)
-    (subst (λ s. IsAnswered takes answers (record { timescale = unit; signals = s; part = part })) same answered)
+answered_signals takes answers unit ss signals part new same is answered = grind arith

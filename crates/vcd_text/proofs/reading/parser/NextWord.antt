@@ -1,16 +1,15 @@
 -- One more word, from the first word of the file on.
 use Rattle.std.proofs.Common.{arith}
-use Rattle.std.specs.Prelude.{IsFalse, IsTrue}
-use Rattle.std.proofs.Common.{◌≡◌, ◌⊎◌, inl, inr, List, [], ◌∷◌, ◌++◌, refl, sym, ap, subst}
+use Rattle.std.specs.Prelude.{IsFalse}
+use Rattle.std.proofs.Common.{◌≡◌, ◌⊎◌, inl, inr, List, [], ◌∷◌, ◌++◌, refl, sym, ap}
 use Rattle.std.proofs.Common.{◌∙◌, append_assoc}
 use Rattle.std.proofs.lemmas.List.{append-nil, map-append}
 use Rattle.std.specs.Prelude.{ℕ}
 use Rattle.vcd_text.specs.declared.fault.Fault.{Fault}
 use Rattle.vcd_text.specs.declared.fault.ReadError.{ReadError}
 use Rattle.vcd_text.specs.Words.{WordOnLine}
-use Rattle.vcd_text.specs.Items.{is_other}
 use Rattle.vcd_text.specs.Grammar.{ParseState, state_after_item}
-use Rattle.vcd_text.specs.Grammar.{initial_state, word_texts}
+use Rattle.vcd_text.specs.Grammar.{word_texts}
 use Rattle.vcd_text.specs.Faults.{WordShows}
 use Rattle.vcd_text.proofs.shared.ResultIsUnique.{passed_over}
 use Rattle.vcd_text.specs.Faults.{ShowsFault, fault_line}
@@ -33,9 +32,8 @@ pub words_taken : (limit : ℕ) (asked later : Asked) (old new : Parser) (words_
     → HasTakenWords limit later new (words_so_far ++ words)
 words_taken limit asked later old new words_so_far words r (goes_on at) = grind (arith, append_assoc)
 words_taken limit asked later old new words_so_far words r (ends_item i spelled allows at) =
-    let leads = reaches_both (initial_state limit) r.state (state_after_item r.state i) r.items (i ∷ [])
-    (record { allowed = r.allowed; state_is = r.state_is })
-    (reaches_one r.state (state_after_item r.state i) i allows refl) in
+    let leads = reaches_both _ _ _ _ _ (record { allowed = r.allowed; state_is = r.state_is })
+    (reaches_one _ _ i allows refl) in
     record {
       items = r.items ++ i ∷ [];
       whole = words_so_far ++ words;
@@ -53,36 +51,30 @@ error_shown : (limit : ℕ) (words : List WordOnLine) (line : ℕ) (fault : Faul
     ⊎ ShowsFault limit words line fault
     → (error_at line fault ≡ memory_error) ⊎ ShowsFault limit words (error_at line fault).line
     (error_at line fault).fault
-error_shown limit words line fault (inl none) = inl (ap (error_at line) none)
-error_shown limit words line fault (inr shows) = grind arith
+error_shown limit words line fault refused = grind arith
 
 -- ---- lines
 
-declaring : (asked : Asked) (m : Parser) (c : ParseState) (begun : List WordOnLine) (w : WordOnLine) →
-    ParserMatches asked m c
-    → IsFalse m.in_body → w.line ≡ fault_line c.in_body begun w
-declaring asked m c begun w agrees none = sym (ap (λ b. fault_line b begun w) (sym agrees.in_body ∙ none))
+module _ (asked : Asked) (m : Parser) (c : ParseState) (begun : List WordOnLine) (w : WordOnLine) where
+  declaring : ParserMatches asked m c → IsFalse m.in_body → w.line ≡ fault_line c.in_body begun w
+  declaring agrees none = sym (ap (λ b. fault_line b begun w) (sym agrees.in_body ∙ none))
 
--- the line that is shown is that of the definition
-pub line_shown : (asked : Asked) (m : Parser) (c : ParseState) (begun : List WordOnLine) (w : WordOnLine)
-    (fault : Fault)
-    (item : OpenItem) → ParserMatches asked m c → IsBegun m begun item → WordShows c (word_texts begun) w.text fault
-    → item_fault_line item m.line w.line ≡ fault_line c.in_body begun w
-line_shown asked m c begun w fault items.Nothing agrees none decided = grind arith
-line_shown asked m c begun w fault (items.Entry kind) agrees is decided = declaring asked m c begun w agrees is.declares
-line_shown asked m c begun w fault items.Timescale agrees is decided = declaring asked m c begun w agrees is.declares
-line_shown asked m c begun w fault items.Scope agrees is decided = declaring asked m c begun w agrees is.declares
-line_shown asked m c begun w fault items.Upscope agrees is decided = declaring asked m c begun w agrees is.0
-line_shown asked m c begun w fault items.Variable agrees is decided = declaring asked m c begun w agrees is.0.declares
-line_shown asked m c begun w fault items.SizedVariable agrees is decided =
-    declaring asked m c begun w agrees is.declares
-line_shown asked m c begun w fault items.EndDefinitions agrees is decided = declaring asked m c begun w agrees is.0
-line_shown asked m c begun w fault items.Other agrees is decided =
-    absurd (passed_over c is.keyword is.words w.text fault
-    (subst (λ b. IsTrue (is_other b is.keyword)) agrees.in_body is.other) is.no_end
-    (subst (λ ts. WordShows c ts w.text fault) is.spelled decided))
-line_shown asked m c begun w fault items.Vector agrees is decided = grind arith
-line_shown asked m c begun w fault items.RealOrString agrees (text, is) decided = grind arith
+  -- the line that is shown is that of the definition
+  pub line_shown : (fault : Fault) (item : OpenItem) → ParserMatches asked m c → IsBegun m begun item
+      → WordShows c (word_texts begun) w.text fault
+      → item_fault_line item m.line w.line ≡ fault_line c.in_body begun w
+  line_shown fault items.Nothing agrees none decided = grind arith
+  line_shown fault (items.Entry kind) agrees is decided = declaring agrees is.declares
+  line_shown fault items.Timescale agrees is decided = declaring agrees is.declares
+  line_shown fault items.Scope agrees is decided = declaring agrees is.declares
+  line_shown fault items.Upscope agrees is decided = declaring agrees is.0
+  line_shown fault items.Variable agrees is decided = declaring agrees is.0.declares
+  line_shown fault items.SizedVariable agrees is decided = declaring agrees is.declares
+  line_shown fault items.EndDefinitions agrees is decided = declaring agrees is.0
+  line_shown fault items.Other agrees is decided = absurd (passed_over c is.keyword is.words w.text fault
+      (rw agrees.in_body at is.other) is.no_end (rw is.spelled at decided))
+  line_shown fault items.Vector agrees is decided = grind arith
+  line_shown fault items.RealOrString agrees (text, is) decided = grind arith
 
 -- the fault of a word is that of the definition, with its line, whatever follows
 pub one_shown : (limit : ℕ) (asked : Asked) (old : Parser) (words_so_far more : List WordOnLine) (w : WordOnLine)

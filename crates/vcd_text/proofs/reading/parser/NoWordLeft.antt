@@ -1,6 +1,5 @@
 -- Facts if no word is left.
-use Rattle.std.proofs.Common.{◌≡◌, ℕ, Bool, true, false, ◌&&◌, List, [], ◌∷◌, ◌++◌, refl, sym, ap}
-use Rattle.std.proofs.Common.{subst}
+use Rattle.std.proofs.Common.{◌≡◌, ℕ, Bool, true, false, ◌&&◌, List, [], ◌∷◌, ◌++◌, refl, sym}
 use Rattle.std.proofs.Common.{◌∙◌, arith}
 use Rattle.std.specs.Prelude.{IsTrue, IsFalse, codes}
 use Rattle.std.proofs.lemmas.List.{append-nil, map-append}
@@ -28,54 +27,38 @@ use Rattle.vcd_text.proofs.reading.declarations.DeclarationWords.{so_deep, short
 use Rattle.vcd_text.proofs.shared.ResultIsUnique.{accepted-not_refused, stopped-not_refused}
 use Rattle.vcd_text.specs.inside.reading.Part.{Asked}
 
-collecting : (asked : Asked) (m : Parser) (c : ParseState) (begun : List WordOnLine) (keyword : List ℕ) →
-    ParserMatches asked m c
-    → Collects m begun keyword → IsTrue (is_one_of (codes "$timescale" ∷ codes "$scope" ∷ header_words) keyword)
-    → IsUnfinished c (word_texts begun)
-collecting asked m c begun keyword agrees is among =
-    rw is.spelled (words_due c keyword m.words.items (sym agrees.in_body ∙ is.declares) among is.no_end)
+module _ (asked : Asked) (m : Parser) (c : ParseState) (begun : List WordOnLine) where
+  collecting : (keyword : List ℕ) → ParserMatches asked m c → Collects m begun keyword
+      → IsTrue (is_one_of (codes "$timescale" ∷ codes "$scope" ∷ header_words) keyword)
+      → IsUnfinished c (word_texts begun)
+  collecting keyword agrees is among =
+      rw is.spelled (words_due c keyword m.words.items (sym agrees.in_body ∙ is.declares) among is.no_end)
 
-awaiting : (asked : Asked) (m : Parser) (c : ParseState) (begun : List WordOnLine) (letters text : List ℕ) →
-    ParserMatches asked m c
-    → AwaitsCode m begun letters text
-    → ((b : ℕ) → IsTrue c.in_body → IsTrue (is_among letters b) → IsUnfinished c ((b ∷ text) ∷ []))
-    → IsUnfinished c (word_texts begun)
-awaiting asked m c begun letters text agrees is due =
-    subst (IsUnfinished c) (sym (ap word_texts is.is ∙ ap (λ t. t ∷ []) is.spelled))
-    (due is.letter (sym agrees.in_body ∙ is.in_body) is.among)
+  awaiting : (letters text : List ℕ) → ParserMatches asked m c → AwaitsCode m begun letters text
+      → ((b : ℕ) → IsTrue c.in_body → IsTrue (is_among letters b) → IsUnfinished c ((b ∷ text) ∷ []))
+      → IsUnfinished c (word_texts begun)
+  awaiting letters text agrees is due = grind arith
 
--- a word must follow words that are no whole file
-unfinished : (asked : Asked) (m : Parser) (c : ParseState) (begun : List WordOnLine) (item : OpenItem) →
-    ParserMatches asked m c
-    → IsBegun m begun item → IsFalse (m.in_body && is_nothing item) → IsUnfinished c (word_texts begun)
-unfinished asked m c begun items.Nothing agrees none no_end =
-    rw none (declaration_due c (grind arith))
-unfinished asked m c begun (items.Entry kind) agrees is no_end =
-    collecting asked m c begun (header_word kind) agrees is (grind arith)
-unfinished asked m c begun items.Timescale agrees is no_end =
-    collecting asked m c begun (codes "$timescale") agrees is refl
-unfinished asked m c begun items.Scope agrees is no_end = collecting asked m c begun (codes "$scope") agrees is refl
-unfinished asked m c begun items.Upscope agrees is no_end =
-    rw is.1 (upscope_due c (sym agrees.in_body ∙ is.0)
-    (omega (arith, so_deep m.variables (seen_state m.part c agrees.seen) agrees.variables, is.2)))
-unfinished asked m c begun items.Variable agrees is no_end =
-    rw is.0.spelled (variable_due c m.words.items (sym agrees.in_body ∙ is.0.declares) is.0.no_end
-    (short_words c m.words.items is.1).0)
-unfinished asked m c begun items.SizedVariable agrees is no_end =
-    rw is.spelled (variable_due c (is.kind ∷ is.word ∷ is.following) (sym agrees.in_body ∙ is.declares) is.no_end
-    is.number)
-unfinished asked m c begun items.EndDefinitions agrees is no_end =
-    rw is.1 (definitions_due c (sym agrees.in_body ∙ is.0))
-unfinished asked m c begun items.Other agrees is no_end =
-    rw is.spelled (other_due c is.keyword is.words
-    (subst (λ b. IsTrue (is_other b is.keyword)) agrees.in_body is.other) is.no_end)
-unfinished asked m c begun items.Vector agrees is no_end =
-    awaiting asked m c begun vector_prefixes m.digits.items agrees is (λ b. vector_due c b m.digits.items)
-unfinished asked m c begun items.RealOrString agrees (text, is) no_end =
-    awaiting asked m c begun real_or_string_prefixes text agrees is (λ b. real_or_string_due c b text)
+  -- a word must follow words that are no whole file
+  unfinished : (item : OpenItem) → ParserMatches asked m c → IsBegun m begun item
+      → IsFalse (m.in_body && is_nothing item) → IsUnfinished c (word_texts begun)
+  unfinished items.Nothing agrees none no_end = rw none (declaration_due c (grind arith))
+  unfinished (items.Entry kind) agrees is no_end = collecting (header_word kind) agrees is (grind arith)
+  unfinished items.Timescale agrees is no_end = search (arith, collecting)
+  unfinished items.Scope agrees is no_end = collecting (codes "$scope") agrees is refl
+  unfinished items.Upscope agrees is no_end = rw is.1 (upscope_due c (sym agrees.in_body ∙ is.0)
+      (omega (arith, so_deep m.variables (seen_state m.part c agrees.seen) agrees.variables, is.2)))
+  unfinished items.Variable agrees is no_end = rw is.0.spelled (variable_due c m.words.items
+      (sym agrees.in_body ∙ is.0.declares) is.0.no_end (short_words c m.words.items is.1).0)
+  unfinished items.SizedVariable agrees is no_end = rw is.spelled (variable_due c (is.kind ∷ is.word ∷ is.following)
+      (sym agrees.in_body ∙ is.declares) is.no_end is.number)
+  unfinished items.EndDefinitions agrees is no_end = rw is.1 (definitions_due c (sym agrees.in_body ∙ is.0))
+  unfinished items.Other agrees is no_end =
+      rw is.spelled (other_due c is.keyword is.words (rw agrees.in_body at is.other) is.no_end)
+  unfinished items.Vector agrees is no_end = search (arith, awaiting, vector_due)
+  unfinished items.RealOrString agrees (text, is) no_end = search (arith, awaiting, real_or_string_due)
 
-texts_are : (limit : ℕ) (asked : Asked) (m : Parser) (words : List WordOnLine)
-    (r : HasTakenWords limit asked m words)
+texts_are : (limit : ℕ) (asked : Asked) (m : Parser) (words : List WordOnLine) (r : HasTakenWords limit asked m words)
     → word_texts words ≡ spellings r.items ++ word_texts r.begun
 texts_are limit asked m words r = grind (arith, map-append)
 
@@ -87,20 +70,17 @@ stops limit asked m words r incomplete = record {
   begun = word_texts r.begun;
   spelled = texts_are limit asked m words r;
   allowed = r.allowed;
-  unfinished = subst (λ c. IsUnfinished c (word_texts r.begun)) (sym r.state_is)
-      (unfinished asked m r.state r.begun m.item r.at.0 r.at.1 incomplete);
+  unfinished = rw r.state_is (unfinished asked m r.state r.begun m.item r.at.0 r.at.1 incomplete);
 }
 
 -- words that are a whole file are accepted
-pub accepts : (limit : ℕ) (asked : Asked) (m : Parser) (words : List WordOnLine)
-    (r : HasTakenWords limit asked m words) → is_complete m ≡ true
-    → Accepts limit words r.state
+pub accepts : (limit : ℕ) (asked : Asked) (m : Parser) (words : List WordOnLine) (r : HasTakenWords limit asked m words)
+    → is_complete m ≡ true → Accepts limit words r.state
 accepts limit asked m words r complete = grind (arith, and_parts, texts_are limit, append-nil)
 
 -- words that have been taken show no fault
-pub no_fault : (limit : ℕ) (asked : Asked) (m : Parser) (words : List WordOnLine) →
-    HasTakenWords limit asked m words → (line : ℕ) (fault : Fault)
-    → ShowsFault limit words line fault → ⊥
+pub no_fault : (limit : ℕ) (asked : Asked) (m : Parser) (words : List WordOnLine) → HasTakenWords limit asked m words
+    → (line : ℕ) (fault : Fault) → ShowsFault limit words line fault → ⊥
 no_fault limit asked m words r line fault refuses = by_test (is_complete m) refl
   where
     by_test : (b : Bool) → is_complete m ≡ b → ⊥

@@ -16,11 +16,9 @@ use Rattle.vcd_text.proofs.reading.read.Goals as goal
 pub returns-clause-means : goal.returns-clause-means
 returns-clause-means g c =
     let coming = g.R.Source.coming c.args.reader.now in
-    IfOk-weaker c.read_within.result _
-    (λ (loaded : Loaded). IfSome coming (λ file. (length file ≤ FILE_LIMIT)
-    × FileMeans SIGNAL_LIMIT file (contents loaded.capture) loaded.skipped))
-    (λ loaded. whole_means_of_read coming _ loaded (λ t ss ticks answer. same_Some ticks all_ticks answer))
-    c.read_within.ensures.means
+    IfOk-weaker c.read_within.result _ (λ (loaded : Loaded). IfSome coming (λ file. (length file ≤ FILE_LIMIT)
+    × FileMeans SIGNAL_LIMIT file (contents loaded.capture) loaded.skipped)) (λ loaded. whole_means_of_read coming _
+    loaded (λ t ss ticks answer. same_Some ticks all_ticks answer)) c.read_within.ensures.means
 
 pub returns-clause-extent : goal.returns-clause-extent
 returns-clause-extent g c =
@@ -38,5 +36,4 @@ returns-clause-refused g c =
     let failed = g.R.Source.has_failed c.read_within.new.reader in
     IfErr-weaker c.read_within.result _ (λ (e : ReadError). IfSome coming
     (λ file. IsRefusal SIGNAL_LIMIT FILE_LIMIT file failed left e))
-    (λ e. no_part_refusal_of_read _ coming failed left e (λ t ss answer. absurd (cc)))
-    c.read_within.ensures.refused
+    (λ e. no_part_refusal_of_read _ coming failed left e (λ t ss answer. absurd (cc))) c.read_within.ensures.refused

@@ -1,4 +1,4 @@
-use Rattle.std.proofs.Common.{◌≡◌, ◌≤◌, true, [], None, length, IfSome, IfErr, Err, sym, ap, subst, ◌∙◌, arith}
+use Rattle.std.proofs.Common.{◌≡◌, ◌≤◌, true, [], None, length, IfSome, Err, ap, ◌∙◌, arith}
 use Rattle.std.proofs.lemmas.Result.{err_from_is_err_and, IfOk-weaker, IfErr-weaker}
 use Rattle.vcd_text.specs.declared.fault.Fault.TheVariants as faults
 use Rattle.vcd_text.specs.declared.fault.ReadError.{ReadError}
@@ -33,17 +33,13 @@ returns-in_err-take_chunk-clause-refused g c =
     let failed = g.R.Source.has_failed c.take_chunk.new.source in
     let first = c.args.choice.now in
     let refused = err_from_is_err_and c.from_residual.result c.from_residual.ensures.1 in
-    subst (λ r. IfErr r (λ (e : ReadError). IfSome coming
-    (λ file. IsPartRefusal c.args.limit c.args.most (g.C.Choice.takes first)
-    (told g.C.Choice.answers first c.take_chunk.new.choice) file failed left e)))
-    (sym (refused.1 ∙ ap Err refused.2))
+    rw (refused.1 ∙ ap Err refused.2)
     (c.in_err-take_chunk.ensures.refused c.args.limit c.args.most first coming c.loop-progress.invariant.0)
 
 pub finish-requires : goal.finish-requires
 finish-requires g c =
     let stands = c.in_ok-take_chunk.ensures.taken c.args.limit c.args.most c.args.choice.now
-    (g.R.Source.coming c.args.reader.now)
-    c.loop-progress.invariant.0 in
+    (g.R.Source.coming c.args.reader.now) c.loop-progress.invariant.0 in
     (c.args.limit, c.args.most, c.args.choice.now, stands.0, stands.2)
 
 pub returns-clause-means : goal.returns-clause-means
@@ -87,9 +83,8 @@ pub returns-clause-failed : goal.returns-clause-failed
 returns-clause-failed g c =
     let failed = g.R.Source.has_failed c.take_chunk.new.source in
     let first = c.args.choice.now in
-    let (bytes, consumes, taken) =
-    c.in_ok-take_chunk.ensures.taken c.args.limit c.args.most first (g.R.Source.coming c.args.reader.now)
-    c.loop-progress.invariant.0 in
+    let (bytes, consumes, taken) = c.in_ok-take_chunk.ensures.taken c.args.limit c.args.most first
+    (g.R.Source.coming c.args.reader.now) c.loop-progress.invariant.0 in
     IfErr-weaker c.finish.result _ (λ (e : ReadError). e.fault ≡ faults.ReadFault
     → failed ≡ true) (λ e fault is. absurd (is_no_file_failure c.args.limit (g.C.Choice.takes first)
     (told g.C.Choice.answers first c.finish.new.choice) bytes e (fault c.args.limit c.args.most first bytes taken) is))

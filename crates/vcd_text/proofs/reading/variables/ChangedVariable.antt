@@ -3,7 +3,7 @@ use Rattle.std.proofs.Common.{◌≡◌, ◌≢◌, ◌⊎◌, ℕ, zero, suc, �
 use Rattle.std.proofs.Common.{false, ◌&&◌}
 use Rattle.std.proofs.Common.{if◌then◌else◌, nat_le, List, [], ◌∷◌, ◌++◌, length, map, set, get_or}
 use Rattle.std.proofs.Common.{None, Some, Result}
-use Rattle.std.proofs.Common.{Ok, Err, OnOk, IfErr, inl, inr, refl, sym, ap, subst, ◌∙◌, arith}
+use Rattle.std.proofs.Common.{Ok, Err, OnOk, IfErr, inl, inr, refl, sym, ap, ◌∙◌, arith}
 use Rattle.std.specs.Prelude.{bytes_eq, slice_get, IsSomeAnd, IsTrue}
 use Rattle.std.specs.Global.{Vec}
 use Rattle.std.proofs.lemmas.Bool.{cases_Bool, cases_eq, le-leb}
@@ -71,13 +71,7 @@ pub same_itself : (v : Variable) → IsSameVariable v v
 same_itself v = record { place = refl; kind = refl; words = refl; width = refl; first = refl }
 
 pub same_declaration : (v w : Variable) → IsSameVariable v w → declaration w ≡ declaration v
-same_declaration v w same = λ i. record {
-  scopes = [];
-  kind = same.kind i;
-  size = same.width i;
-  code = [];
-  words = same.words i;
-}
+same_declaration v w same = grind arith
 
 -- ---- a value change more
 
@@ -109,8 +103,7 @@ module _ (old : Variables) (c : ParseState) (code digits : List ℕ) (width firs
   -- no change of its wave is past the tick
   pub wave_late : All (λ (change : Change). change.tick ≤ c.tick) own_wave.4.first.wave.changes
   wave_late = gives_late width c.tick (λ t. latest_value width code t (all_x width) c.value_changes)
-      own_wave.4.first.wave.changes
-      (logged old.log.items first) own_wave.4.gives
+      own_wave.4.first.wave.changes (logged old.log.items first) own_wave.4.gives
 
   -- digits that it refuses are a fault
   pub refused : (fault : Fault) → RefusesBinaryNumber width digits fault → RefusesChange c code digits fault
@@ -137,8 +130,7 @@ module _ (old : Variables) (list : Vec Variable) (log : Vec (Vec LoggedChange)) 
   stood = (own_wave old c code digits width first k had).4.at_position ∙ ap Some (sym is_first)
 
   sized : v.wave.width ≡ (own_wave old c code digits width first k had).0.size
-  sized = ap (λ (u : Variable). u.wave.width) is_first ∙ (own_wave old c code digits width first k had).4.sized
-      ∙ sym (own_wave old c code digits width first k had).3
+  sized = grind (arith, own_wave)
 
   -- the variables of the new list are those of the old one, but for the wave
   following : (position : ℕ) (u : Variable) → slice_get list.items position ≡ Some u
@@ -163,9 +155,8 @@ module _ (old : Variables) (list : Vec Variable) (log : Vec (Vec LoggedChange)) 
       let before : ℕ → List Bit = λ t. latest_value size key t (all_x size) c.value_changes in
       let had_values : GivesLoggedValues v.wave.width c.tick before v.wave.changes
       (logged old.log.items first) = grind arith in
-      let has_values : GivesLoggedValues size c.tick
-      (λ t. if nat_le c.tick t then extension size (letters_of_digits digits) else before t) w.wave.changes
-      (logged log.items position) = grind arith in
+      let has_values : GivesLoggedValues size c.tick (λ t. if nat_le c.tick t then extension size
+      (letters_of_digits digits) else before t) w.wave.changes (logged log.items position) = grind arith in
       record {
         first = w;
         at_position = grind (arith, set_here, stood);
@@ -181,31 +172,21 @@ module _ (old : Variables) (list : Vec Variable) (log : Vec (Vec LoggedChange)) 
   unfolding new_value_change
   wave_kept key size position other owned wave =
       let apart : first ≢ position = λ same.
-      let both : true ≡ false = sym (own_code code)
-      ∙ ap (bytes_eq code) (one_owner old (kept_variables c.declared) k.owners code key width size position
-      (had ∙ ap (Kept width) same) owned) ∙ other in absurd (cc) in
+      let both : true ≡ false = sym (own_code code) ∙ ap (bytes_eq code)
+      (one_owner old _ k.owners code key width size _ (had ∙ ap (Kept width) same) owned) ∙ other in absurd (cc) in
       grind (arith, set_there, gives_as, value_with)
 
   changed_firsts : (position : ℕ) (u : Variable) → slice_get list.items position ≡ Some u
       → HasFirst (with_changes old list log) (kept_variables c.declared) position u
-  changed_firsts position u at =
-      let t = following position u at in
-      let before = k.firsts position t.0 t.1 in
-      record {
-        owned = grind arith;
-        placed = grind arith;
-        no_later = omega (arith, t.2.first, before.no_later);
-      }
+  changed_firsts position u at = grind (arith, following)
 
   changed_stands : (key : List ℕ)
       → TargetMatches list.items (logged log.items) (c.value_changes ++ new_value_change ∷ []) c.tick key
       (target_of old key) (variable_of c key)
-  changed_stands key =
-      stands_moved old.kept.items list.items (logged old.log.items) (logged log.items) c.value_changes
-      (c.value_changes ++ new_value_change ∷ []) c.tick c.tick key (target_of old key) (variable_of c key)
+  changed_stands key = stands_moved _ _ _ _ _ _ c.tick c.tick key _ _
       (λ size position owned wave. elim (cases_Bool (bytes_eq code key)) [
-        | inl equal ↦ wave_changed key size position (same_code code key equal) owned wave
-        | inr other ↦ wave_kept key size position other owned wave
+        | inl equal ↦ wave_changed key size _ (same_code code key equal) owned wave
+        | inr other ↦ wave_kept key size _ other owned wave
       ]) (k.targets_agree key)
 
   told_are : value_changes_after c code (letters_of_digits digits) (variable_of c code) ≡ new_value_change ∷ []
@@ -218,20 +199,17 @@ module _ (old : Variables) (list : Vec Variable) (log : Vec (Vec LoggedChange)) 
 
   -- the variables have the value change
   changed_knows : VariablesMatch (with_changes old list log) (with_value_change c code (letters_of_digits digits))
-  changed_knows = record {
-    opened = k.opened;
-    kept = k.kept ∙ sym (ap (map declaration) items
-        ∙ same_map declaration old.kept.items first v w stood (same_declaration v w same));
-    skipped = k.skipped;
-    targets_agree = λ key. subst (λ rs. TargetMatches list.items (logged log.items) (c.value_changes ++ rs) c.tick key
-        (target_of old key) (variable_of c key)) (sym told_are) (changed_stands key);
-    owners = k.owners;
-    firsts = changed_firsts;
-    few = grind (arith, length-set);
-    limit = k.limit;
-    grouped = grouped;
-    logs = changed_logs;
-  }
+  changed_knows = search (
+    arith,
+    same_map,
+    stood,
+    same_declaration,
+    told_are,
+    changed_stands,
+    changed_firsts,
+    length-set,
+    changed_logs,
+  )
 
   -- its variable accepts the digits
   changed_takes : IsSomeAnd (variable_of c code) (λ d. IsTrue (takes_binary_number d digits))
@@ -253,20 +231,16 @@ wide_changes old list c code digits width first v w (Ok x) k had read wide items
     let size = ap (λ (u : Variable). u.wave.width) is ∙ (own_wave old c code digits width first k had).4.sized in
     changed old list old.log c code digits width first v w k had is items sets.same sets.value sets.fits k.grouped
     (λ f g. gives_pushed v.wave.width c.tick f v.wave.changes
-    (extension v.wave.width (letters_of_digits digits)) w.wave.changes
-    (logged old.log.items first)
-    (elim wide [
+    (extension v.wave.width (letters_of_digits digits)) w.wave.changes (logged old.log.items first) (elim wide [
       | inl more ↦ inl (omega (arith, more, size))
       | inr none ↦ inr (ap (λ l. logged l first) none)
-    ]) sets.ticks
-    (λ t. ap (λ n. value_at n w.wave.changes t) (sym sets.same.width)
-    ∙ sets.values t) g)
+    ]) sets.ticks (λ t. ap (λ n. value_at n w.wave.changes t) (sym sets.same.width) ∙ sets.values t) g)
     (λ position _. refl) x
 wide_changes old list c code digits width first v w (Err fault) k had read wide items sets (inl none) = inl none
 wide_changes old list c code digits width first v w (Err fault) k had read wide items sets (inr refuses) =
-    inr (refused old c code digits width first k had fault (subst (λ n. RefusesBinaryNumber n digits fault)
-    (ap (λ (u : Variable). u.wave.width) (read_is old c code digits width first k had v read)
-    ∙ (own_wave old c code digits width first k had).4.sized) refuses))
+    inr (refused old c code digits width first k had fault (rw (ap (λ (u : Variable). u.wave.width)
+    (read_is old c code digits width first k had v read) ∙ (own_wave old c code digits width first k had).4.sized)
+    at refuses))
 
 -- the result of a change of another variable, which goes to the log
 pub narrow_changes : (old : Variables) (log : Vec (Vec LoggedChange)) (c : ParseState) (code digits : List ℕ)
@@ -280,20 +254,10 @@ narrow_changes old log c code digits width first e k had narrow at_tick at write
     let v : Variable = (own_wave old c code digits width first k had).4.first in
     let size : v.wave.width ≡ width = (own_wave old c code digits width first k had).4.sized in
     let here : (e.position == first) ≡ true = eq-eqb e.position first at in
-    changed old old.kept log c code digits width first v v k had refl
-    (same_set old.kept.items first v (own_wave old c code digits width first k had).4.at_position) (same_itself v)
-    writes.0 (omega (arith, writes.1, size)) grouped
-    (λ f g.
-    subst (GivesLoggedValues v.wave.width c.tick
-    (λ t. if nat_le c.tick t then extension v.wave.width (letters_of_digits digits) else f t)
-    v.wave.changes)
-    (sym (more first ∙ ap (λ b. if b then logged old.log.items first
-    ++ e ∷ [] else logged old.log.items first) here))
-    (gives_appended v.wave.width c.tick f v.wave.changes
-    (extension v.wave.width (letters_of_digits digits)) (logged old.log.items first) e at_tick
-    (omega (arith, narrow, size))
-    (subst (λ n. logged_letters n e ≡ extension n (letters_of_digits digits)) (sym size) writes.2) g))
-    (λ position apart.
-    more position ∙ ap (λ b. if b then logged old.log.items position
-    ++ e ∷ [] else logged old.log.items position)
-    (ne_eqb e.position position (λ equal. apart (sym at ∙ equal)))) x
+    changed old old.kept log c code digits width first v v k had refl (same_set old.kept.items first v
+    (own_wave old c code digits width first k had).4.at_position) (same_itself v) writes.0 (omega
+    (arith, writes.1, size)) grouped (λ f g. rw (more first ∙ ap (λ b. if b then logged old.log.items first ++ e
+    ∷ [] else logged old.log.items first) here) (gives_appended v.wave.width c.tick f v.wave.changes (extension
+    v.wave.width (letters_of_digits digits)) (logged old.log.items first) e at_tick (omega (arith, narrow, size))
+    (rw size writes.2) g)) (λ position apart. more position ∙ ap (λ b. if b then logged old.log.items position ++ e ∷ []
+    else logged old.log.items position) (ne_eqb e.position position (λ equal. apart (sym at ∙ equal)))) x

@@ -1,19 +1,18 @@
 -- The signals that a choice sees are the kept variables of the state.
-use Rattle.std.proofs.Common.{◌≡◌, ℕ, suc, List, [], ◌∷◌, map, length, Some, refl, sym, ap, ◌∙◌, arith}
-use Rattle.std.proofs.Common.{take, Bool, true, false, not, cond, ◌+◌, ◌<◌, ◌≤◌, ◌++◌, inl, inr}
+use Rattle.std.proofs.Common.{◌≡◌, ℕ, suc, List, [], ◌∷◌, map, length, Some, refl, ap, ◌∙◌, arith}
+use Rattle.std.proofs.Common.{take, Bool, false, not, cond, ◌+◌, ◌<◌, ◌≤◌, ◌++◌}
 use Rattle.std.specs.Prelude.{slice_get, slice_index_or, filter}
 use Rattle.std.proofs.lemmas.Bool.{cases_lt}
 use Rattle.std.proofs.lemmas.Option.{same_Some, slice_get_within, get_or_from_slice_get}
 use Rattle.std.proofs.lemmas.List.Filters.{length-filter_more}
 use Rattle.std.proofs.Math.ListN.{get_or-append}
-use Rattle.std.proofs.lemmas.List.{take_all}
 use Rattle.std.proofs.Math.Seq.{get_or-append_seam}
 use Rattle.vcd_core.specs.Contents.{SignalContents}
 use Rattle.vcd_text.specs.Grammar.{VariableDeclaration, ParseState, kept_variables}
 use Rattle.vcd_text.specs.Chains.{chains_of, chain_at}
 use Rattle.vcd_text.specs.inside.reading.Scopes.{IsWithin}
 use Rattle.vcd_text.specs.inside.reading.Part.{undriven}
-use Rattle.vcd_text.specs.inside.reading.Variables.{VariablesMatch, declaration, without_code}
+use Rattle.vcd_text.specs.inside.reading.Variables.{VariablesMatch}
 use Rattle.vcd_text.specs.declared.reading.variables.Variable.{Variable}
 use Rattle.vcd_text.specs.declared.reading.variables.Variables.{Variables}
 use Rattle.vcd_text.proofs.reading.variables.VariablesMatch.{declared_at, kept_long}
@@ -41,40 +40,24 @@ module _ (takes : SignalContents → Bool) (signals : List SignalContents) where
       → (k : ℕ) (s : SignalContents) → k < n + 1 → slice_get signals k ≡ Some s
       → slice_index_or (out ++ b ∷ []) k false ≡ not (takes s)
   pushed_test out b n x long at is before k s within here =
-      elim (cases_lt k n) [
-        | inl earlier ↦ get_or-append out (b ∷ []) false k (omega (arith, earlier, long)) ∙ before k s earlier here
-        | inr last ↦
-            let same : k ≡ length out = omega (arith, last, long, within) in
-            let one : x ≡ s = same_Some x s (sym at ∙ ap (slice_get signals) (sym long ∙ sym same) ∙ here) in
-            ap (λ n. slice_index_or (out ++ b ∷ []) n false) same ∙ get_or-append_seam out b [] false ∙ is
-            ∙ ap (λ s. not (takes s)) one
-      ]
+      grind (arith, cases_lt k n, get_or-append, same_Some, get_or-append_seam)
 
   -- one more signal is counted
   pub one_more : (n : ℕ) (x : SignalContents) → slice_get signals n ≡ Some x
-      → length (filter takes (take (n + 1) signals))
-      ≡ length (filter takes (take n signals)) + cond (takes x) 1 0
-  one_more n x at =
-      length-filter_more takes signals n x (slice_get_within signals n x at)
+      → length (filter takes (take (n + 1) signals)) ≡ length (filter takes (take n signals)) + cond (takes x) 1 0
+  one_more n x at = length-filter_more takes signals n x (slice_get_within signals n x at)
       ∙ ap (λ s. length (filter takes (take n signals)) + cond (takes s) 1 0) (get_or_from_slice_get signals n x x at)
 
   -- a count of one signal
   pub one_or_none : (b : Bool) → cond b 1 0 ≤ 1
-  one_or_none true = omega arith
-  one_or_none false = omega arith
-
-  -- at the end all signals are counted
-  pub all_taken : (n : ℕ) → length signals ≤ n → filter takes (take n signals) ≡ filter takes signals
-  all_taken n past = ap (filter takes) (take_all n signals past)
+  one_or_none b = grind arith
 
 -- ---- the kept variables
 
 -- each variable has its place in one of the chains
 pub placed_variables : (vs : Variables) (c : ParseState) → VariablesMatch vs c → (position : ℕ) (v : Variable)
     → slice_get vs.kept.items position ≡ Some v → IsWithin (chains_of vs.scopes) v.place
-placed_variables vs c k position v at =
-    let d = declared_at vs c k position v at in
-    ((k.firsts position v at).placed d.0 d.1).within
+placed_variables vs c k position v at = grind (arith, declared_at)
 
 -- a variable of the parser as a signal
 abbrev pub listed_signal : Variables → Variable → SignalContents
@@ -88,17 +71,4 @@ listed_signal vs v = record {
 
 pub declared_as_undriven : (vs : Variables) (c : ParseState) → VariablesMatch vs c
     → map (listed_signal vs) vs.kept.items ≡ map undriven (kept_variables c.declared)
-declared_as_undriven vs c k =
-    same_lists (listed_signal vs) undriven vs.kept.items (kept_variables c.declared) (sym (kept_long vs c k))
-    (λ position v d at here.
-    let own = declared_at vs c k position v at in
-    let same : own.0 ≡ d = same_Some own.0 d (sym own.1 ∙ here) in
-    let scopes = ((k.firsts position v at).placed d here).scopes_are in
-    let parts : without_code d ≡ declaration v = ap without_code (sym same) ∙ own.2 in
-    λ i. record {
-      scopes = scopes i;
-      kind = sym (ap (λ (e : VariableDeclaration). e.kind) parts) i;
-      words = sym (ap (λ (e : VariableDeclaration). e.words) parts) i;
-      width = sym (ap (λ (e : VariableDeclaration). e.size) parts) i;
-      changes = [];
-    })
+declared_as_undriven vs c k = grind (arith, same_lists, kept_long, declared_at, same_Some)

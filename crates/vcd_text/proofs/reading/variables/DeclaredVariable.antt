@@ -3,7 +3,7 @@ use Rattle.std.proofs.Common.{◌≡◌, ◌⊎◌, ℕ, zero, suc, ◌+◌, ◌
 use Rattle.std.proofs.Common.{◌==◌}
 use Rattle.std.proofs.Common.{cond, if◌then◌else◌, nat_lt, List, [], ◌∷◌, ◌++◌, length, map}
 use Rattle.std.proofs.Common.{Option, None}
-use Rattle.std.proofs.Common.{Some, Result, Ok, Err, inl, inr, refl, sym, ap, subst}
+use Rattle.std.proofs.Common.{Some, Result, Ok, inl, inr, refl, sym, ap, subst}
 use Rattle.std.proofs.Common.{◌∙◌, arith}
 use Rattle.std.specs.Prelude.{bytes_eq, slice_get, count_by}
 use Rattle.std.specs.Global.{Vec}
@@ -12,12 +12,11 @@ use Rattle.std.specs.List.{remove}
 use Rattle.std.proofs.Common.{slice_index_or}
 use Rattle.std.proofs.lemmas.List.{append-nil, nil_from_length, map-append, length_push}
 use Rattle.std.proofs.lemmas.List.Elements.{filter-append}
-use Rattle.std.proofs.lemmas.Bool.{lt-ltb, le-ltb, ltb-false, cases_lt}
+use Rattle.std.proofs.lemmas.Bool.{lt-ltb, ltb-false, cases_lt}
 use Rattle.std.proofs.lemmas.List.Sums.{sum_by-append, sum_by-cons}
 use Rattle.std.proofs.lemmas.Option.{slice_get_within, same_Some}
 use Rattle.vcd_core.specs.Wave.{value_from}
 use Rattle.vcd_text.specs.declared.fault.Fault.{Fault}
-use Rattle.vcd_text.specs.declared.fault.Fault.TheVariants as faults
 use Rattle.vcd_core.specs.declared.value.TheConstants.{WIDTH_LIMIT}
 use Rattle.vcd_core.specs.Decimal.{number_of}
 use Rattle.vcd_core.specs.Word.{is_skipped_kind}
@@ -28,15 +27,12 @@ use Rattle.vcd_text.specs.inside.reading.Variables.{is_within_limit}
 use Rattle.vcd_text.specs.Meaning.{latest_value}
 use Rattle.vcd_text.specs.inside.reading.Log.{logged}
 use Rattle.vcd_text.specs.declared.reading.log.LoggedChange.{LoggedChange}
-use Rattle.vcd_text.proofs.reading.log.LoggedValues.{gives_as, gives_nothing}
+use Rattle.vcd_text.proofs.reading.log.LoggedValues.{gives_as}
 use Rattle.vcd_text.specs.inside.reading.Variables.{TargetAgrees, declaration_in, without_code, target_of}
 use Rattle.vcd_text.specs.inside.reading.Variables.{HasValueChanges, TargetMatches, HasFirst, HaveOwnCodes}
 use Rattle.vcd_text.specs.inside.reading.Variables.{VariablesMatch, IsFree, declaration_of_parts}
 use Rattle.vcd_text.specs.inside.reading.Scopes.{open_scopes, IsPlaced}
-use Rattle.vcd_text.specs.inside.reading.Variables.{with_declaration, mixed, many, DeclaresAs, Declares}
-use Rattle.vcd_core.specs.Tests.{◌unless◌}
-use Rattle.vcd_text.specs.declared.fault.Fault.TheVariants as faults
-use Rattle.vcd_text.proofs.shared.ItemTests.{failed, failed_later}
+use Rattle.vcd_text.specs.inside.reading.Variables.{with_declaration, DeclaresAs, Declares}
 use Rattle.vcd_text.specs.declared.reading.code_targets.CodeTargets.{CodeTargets}
 use Rattle.vcd_text.specs.declared.reading.code_targets.CodeTarget.{CodeTarget}
 use Rattle.vcd_text.specs.declared.reading.code_targets.CodeTarget.TheVariants.{Undeclared, Skipped, Kept}
@@ -46,10 +42,6 @@ use Rattle.vcd_text.proofs.reading.code_targets.Targets.{own_code, by_code, stan
 use Rattle.vcd_text.proofs.reading.variables.VariablesMatch.{kept_long}
 
 -- ---- lists with one item more
-
-kept_kept : (ds : List VariableDeclaration) (d : VariableDeclaration) → is_skipped d ≡ false
-    → kept_variables (ds ++ d ∷ []) ≡ kept_variables ds ++ d ∷ []
-kept_kept ds d keeps = grind (arith, filter-append)
 
 count_with : (ds : List VariableDeclaration) (d : VariableDeclaration) (b : Bool) → is_skipped d ≡ b
     → count_by is_skipped (ds ++ d ∷ []) ≡ count_by is_skipped ds + cond b 1 0
@@ -87,8 +79,7 @@ module _ (log : ℕ → List LoggedChange) (value_changes : List ValueChange) (t
   stands_still : (vs : List Variable) (code : List ℕ) (target : CodeTarget)
       (declared : Option VariableDeclaration) → TargetMatches vs log value_changes tick code target declared
       → TargetMatches vs log value_changes tick code target (option_or declared None)
-  stands_still vs code target None s = s
-  stands_still vs code target (Some d) s = s
+  stands_still vs code target declared s = grind arith
 
 pub one_position : (v w i j : ℕ) → Kept v i ≡ Kept w j → i ≡ j
 one_position v w i j same = grind arith
@@ -119,21 +110,13 @@ module _ (old : Variables) (targets : CodeTargets) (c : ParseState) (d : Variabl
   where
     skip_here : (v : Option VariableDeclaration) → TargetAgrees old c d.code (target_of old d.code) v
         → TargetAgrees old c d.code Skipped (option_or v (Some d))
-    skip_here None s = skipped
-    skip_here (Some e) s = grind arith
+    skip_here v s = grind arith
 
     skip_stands : (key : List ℕ)
         → TargetAgrees old c key (target_of (with_skipped old targets) key) (variable_of (with_declaration c d) key)
-    skip_stands key =
-        subst (λ o. TargetAgrees old c key o (variable_of (with_declaration c d) key)) (sym (puts key))
-        (subst (TargetAgrees old c key (if bytes_eq key d.code then Skipped else target_of old key))
-        (sym (found_with key c.declared d))
-        (by_code (λ b. TargetAgrees old c key (if b then Skipped else target_of old key)
-        (option_or (variable_of c key) (if b then Some d else None))) key d.code
-        (λ is. subst (λ code. TargetAgrees old c code Skipped (option_or (variable_of c code) (Some d))) (sym is)
-        (skip_here (variable_of c d.code) (k.targets_agree d.code)))
-        (λ _. stands_still (logged old.log.items) c.value_changes c.tick old.kept.items key (target_of old key)
-        (variable_of c key) (k.targets_agree key))))
+    skip_stands key = rw (puts key) (rw (found_with key c.declared d) (by_code (λ b. TargetAgrees old c key
+        (if b then Skipped else target_of old key) (option_or (variable_of c key) (if b then Some d else None))) key
+        d.code (λ is. rw is (skip_here (variable_of c d.code) (k.targets_agree d.code))) (grind (arith, stands_still))))
 
     skip_kept : kept_variables (c.declared ++ d ∷ []) ≡ kept_variables c.declared
     skip_kept = grind (arith, filter-append, append-nil)
@@ -143,17 +126,11 @@ module _ (old : Variables) (targets : CodeTargets) (c : ParseState) (d : Variabl
         → (target_of (with_skipped old targets) key ≡ Kept width position → target_of old key ≡ Kept width position)
         × (target_of old key ≡ Kept width position → target_of (with_skipped old targets) key ≡ Kept width position)
     skip_positions key width position = (
-      λ is. by_code (λ b. (if b then Skipped else target_of old key) ≡ Kept width position
-          → target_of old key ≡ Kept width position) key d.code
-          (λ same none. let never : Skipped ≡ Kept width position = none in absurd (cc))
-          (λ _ had. had) (sym (puts key) ∙ is),
+      λ is. by_code (λ b. (if b then Skipped else target_of old key) ≡ Kept width position → target_of old key
+          ≡ Kept width position) key d.code (λ same none. let never : Skipped ≡ Kept width position = none in absurd
+          (cc)) (λ _ had. had) (sym (puts key) ∙ is),
       λ had. puts key ∙ by_code (λ b. (if b then Skipped else target_of old key) ≡ Kept width position)
-          key d.code (λ same. elim free [
-            | inl none ↦ let never : Undeclared ≡ Kept width position = sym none ∙ ap (target_of old) (sym same)
-                ∙ had in absurd (cc)
-            | inr left ↦ let never : Skipped ≡ Kept width position = sym left ∙ ap (target_of old) (sym same)
-                ∙ had in absurd (cc)
-          ]) (λ _. had),
+          key d.code (grind arith) (λ _. had),
     )
 
     skip_firsts : (position : ℕ) (v : Variable) → slice_get old.kept.items position ≡ Some v
@@ -163,14 +140,13 @@ module _ (old : Variables) (targets : CodeTargets) (c : ParseState) (d : Variabl
         record {
           owned = λ e declared. (skip_positions e.code v.wave.width v.first).1 (before.owned e
               (ap (λ ds. slice_get ds position) (sym skip_kept) ∙ declared));
-          placed = λ e declared. before.placed e (ap (λ ds. slice_get ds position) (sym skip_kept) ∙ declared);
+          placed = grind (arith, skip_kept);
           no_later = before.no_later;
         }
 
     skip_may : (v : Option VariableDeclaration) → TargetAgrees old c d.code (target_of old d.code) v
         → may_have_code v d ≡ true
-    skip_may None s = refl
-    skip_may (Some e) s = grind arith
+    skip_may v s = grind arith
 
     -- it is declared
     pub skip_declares : (x : Unit {0}) → DeclaresAs c d (Ok x) (with_skipped old targets)
@@ -182,8 +158,8 @@ module _ (old : Variables) (targets : CodeTargets) (c : ParseState) (d : Variabl
         kept = ap (map without_code) skip_kept ∙ k.kept;
         skipped = ap (λ n. n + 1) k.skipped ∙ sym (count_with c.declared d true skipped);
         targets_agree = skip_stands;
-        owners = subst (HaveOwnCodes (with_skipped old targets)) (sym skip_kept)
-            (λ code width position is. k.owners code width position ((skip_positions code width position).0 is));
+        owners = rw skip_kept (λ code width position is. k.owners code width position
+            ((skip_positions code width position).0 is));
         firsts = skip_firsts;
         few = k.few;
         limit = k.limit;
@@ -202,17 +178,11 @@ module _ (old : Variables) (c : ParseState) (code : List ℕ) (v : Variable) (k 
     (keeps : is_skipped (declaration_in c.scopes code v) ≡ false) (free : IsFree old code v.wave.width v.first) where
   keep_may : (o : Option VariableDeclaration) → TargetAgrees old c code (target_of old code) o
       → may_have_code o (declaration_in c.scopes code v) ≡ true
-  keep_may None stands = refl
-  keep_may (Some e) stands = grind arith
+  keep_may o stands = grind arith
 
   has_room_is : (b : Bool) → nat_lt (length old.kept.items) c.limit ≡ b
       → is_within_limit c.limit c.declared (declaration_in c.scopes code v) ≡ b
   has_room_is b test = grind (arith, kept_long)
-
-  -- it is not allowed if there are too many
-  pub keep_full : (new : Variables) → c.limit ≤ length old.kept.items
-      → DeclaresAs c (declaration_in c.scopes code v) (Err faults.TooManySignals) new
-  keep_full new full = grind (arith, keep_may, has_room_is, le-ltb)
 
   first_within : v.first ≤ length old.kept.items
   first_within = grind (arith, stands_kept, slice_get_within)
@@ -225,12 +195,7 @@ module _ (old : Variables) (c : ParseState) (code : List ℕ) (v : Variable) (k 
         v.wave.width
         c.value_changes c.tick
     unfolding latest_value value_from
-    silent_wave = record {
-      first = v;
-      at_position = middle_of old.kept.items [] v;
-      sized = refl;
-      gives = grind (arith, cases_lt, slice_get_within, nil_from_length, gives_as, gives_nothing);
-    }
+    silent_wave = search (arith, middle_of, cases_lt, slice_get_within, nil_from_length, gives_as)
 
     keep_stands : (key : List ℕ) → TargetAgrees (with_kept old list targets) c key
         (target_of (with_kept old list targets) key)
@@ -238,39 +203,22 @@ module _ (old : Variables) (c : ParseState) (code : List ℕ) (v : Variable) (k 
     keep_stands key =
         let all = old.kept.items ++ v ∷ [] in
         let d = declaration_in c.scopes code v in
-        let both =
-        by_code (λ b. TargetMatches all (logged old.log.items) c.value_changes c.tick key
+        let both = by_code (λ b. TargetMatches all (logged old.log.items) c.value_changes c.tick key
         (if b then Kept v.wave.width v.first else target_of old key)
         (option_or (variable_of c key) (if b then Some d else None))) key code
-        (λ is. subst (λ name. TargetMatches all (logged old.log.items) c.value_changes c.tick name
-        (Kept v.wave.width v.first) (option_or (variable_of c name) (Some d))) (sym is)
-        (grind (arith, silent_wave, stands_longer)))
-        (λ _. stands_still (logged old.log.items) c.value_changes c.tick all key (target_of old key)
-        (variable_of c key)
-        (stands_longer (logged old.log.items) c.value_changes c.tick old.kept.items (v ∷ [])
-        key (target_of old key) (variable_of c key) (k.targets_agree key))) in
-        subst (λ (vs : List Variable). TargetMatches vs (logged old.log.items) c.value_changes c.tick key
-        (target_of (with_kept old list targets) key) (variable_of (with_declaration c d) key)) (sym items)
-        (subst (λ o. TargetMatches all (logged old.log.items) c.value_changes c.tick key o
-        (variable_of (with_declaration c d) key)) (sym (puts key))
-        (subst (TargetMatches all (logged old.log.items) c.value_changes c.tick key
-        (if bytes_eq key code then Kept v.wave.width v.first else target_of old key))
-        (sym (found_with key c.declared d)) both))
+        (λ is. rw is (grind (arith, silent_wave, stands_longer))) (grind (arith, stands_still, stands_longer)) in
+        rw items (rw (puts key) (rw (found_with key c.declared d) both))
 
     kept_more : kept_variables (c.declared ++ declaration_in c.scopes code v ∷ [])
         ≡ kept_variables c.declared ++ declaration_in c.scopes code v ∷ []
-    kept_more = kept_kept c.declared (declaration_in c.scopes code v) keeps
+    kept_more = grind (arith, filter-append)
 
     -- a code with a position keeps it
     still_owned : (key : List ℕ) (width position : ℕ) → target_of old key ≡ Kept width position
         → target_of (with_kept old list targets) key ≡ Kept width position
     still_owned key width position had =
         puts key ∙ by_code (λ b. (if b then Kept v.wave.width v.first else target_of old key) ≡ Kept width position)
-        key code (λ same. elim free [
-          | inl (none, end) ↦ let never : Undeclared ≡ Kept width position = sym none ∙ ap (target_of old) (sym same)
-              ∙ had in absurd (cc)
-          | inr has ↦ sym has ∙ ap (target_of old) (sym same) ∙ had
-        ]) (λ _. had)
+        key code (grind arith) (λ _. had)
 
     -- the variables before it have the positions of their first ones
     keep_earlier : (position : ℕ) (u : Variable) → slice_get old.kept.items position ≡ Some u
@@ -279,10 +227,8 @@ module _ (old : Variables) (c : ParseState) (code : List ℕ) (v : Variable) (k 
     keep_earlier position u at =
         let before = k.firsts position u at in
         let within : position < length old.kept.items = slice_get_within old.kept.items position u at in
-        let stood : (e : VariableDeclaration)
-        → slice_get (kept_variables c.declared ++ declaration_in c.scopes code v ∷ []) position ≡ Some e
-        → slice_get (kept_variables c.declared) position ≡ Some e =
-        λ e declared.
+        let stood : (e : VariableDeclaration) → slice_get (kept_variables c.declared ++ declaration_in c.scopes code v
+        ∷ []) position ≡ Some e → slice_get (kept_variables c.declared) position ≡ Some e = λ e declared.
         elim (either_of (kept_variables c.declared) (declaration_in c.scopes code v) position e declared) [
           | inl there ↦ there
           | inr (end, is) ↦ absurd (omega (arith, within, end, kept_long old c k))
@@ -306,9 +252,7 @@ module _ (old : Variables) (c : ParseState) (code : List ℕ) (v : Variable) (k 
         (λ same here. elim free [
           | inl (none, end) ↦ (
             d,
-            ap (slice_get (ds ++ d ∷ [])) (one_position width v.wave.width position v.first (sym here) ∙ end
-                ∙ sym (kept_long old c k))
-                ∙ middle_of ds [] d,
+            ap (slice_get (ds ++ d ∷ [])) (grind (arith, one_position, kept_long)) ∙ middle_of ds [] d,
             sym same,
           )
           | inr had ↦ stayed (ap (target_of old) same ∙ had ∙ here)
@@ -318,10 +262,8 @@ module _ (old : Variables) (c : ParseState) (code : List ℕ) (v : Variable) (k 
     keep_last : HasFirst (with_kept old list targets)
         (kept_variables c.declared ++ declaration_in c.scopes code v ∷ []) (length old.kept.items) v
     keep_last =
-        let is : (e : VariableDeclaration)
-        → slice_get (kept_variables c.declared ++ declaration_in c.scopes code v ∷ []) (length old.kept.items) ≡ Some e
-        → declaration_in c.scopes code v ≡ e =
-        λ e declared.
+        let is : (e : VariableDeclaration) → slice_get (kept_variables c.declared ++ declaration_in c.scopes code v
+        ∷ []) (length old.kept.items) ≡ Some e → declaration_in c.scopes code v ≡ e = λ e declared.
         elim (either_of (kept_variables c.declared) (declaration_in c.scopes code v) (length old.kept.items) e
         declared) [
           | inl stood ↦ absurd (omega (
@@ -332,11 +274,8 @@ module _ (old : Variables) (c : ParseState) (code : List ℕ) (v : Variable) (k 
           | inr (last, same) ↦ same
         ] in
         record {
-          owned = λ e declared. ap (λ (x : VariableDeclaration). target_of (with_kept old list targets) x.code)
-              (sym (is e declared)) ∙ puts code
-              ∙ ap (λ b. if b then Kept v.wave.width v.first else target_of old code) (own_code code);
-          placed = λ e declared. subst (IsPlaced old.scopes v.place)
-              (k.opened ∙ ap (λ (x : VariableDeclaration). x.scopes) (is e declared)) placed;
+          owned = grind (arith, own_code);
+          placed = grind arith;
           no_later = first_within;
         }
 
@@ -344,12 +283,9 @@ module _ (old : Variables) (c : ParseState) (code : List ℕ) (v : Variable) (k 
         → HasFirst (with_kept old list targets) (kept_variables c.declared ++ declaration_in c.scopes code v ∷ [])
         position u
     keep_firsts position u at =
-        elim (either_of old.kept.items v position u (subst (λ vs. slice_get vs position ≡ Some u) items at)) [
+        elim (either_of old.kept.items v position u (rw items at at)) [
           | inl stood ↦ keep_earlier position u stood
-          | inr (end, is) ↦ subst (λ n. HasFirst (with_kept old list targets)
-              (kept_variables c.declared ++ declaration_in c.scopes code v ∷ []) n u) (sym end)
-              (subst (HasFirst (with_kept old list targets)
-              (kept_variables c.declared ++ declaration_in c.scopes code v ∷ []) (length old.kept.items)) is keep_last)
+          | inr (end, is) ↦ grind (arith, keep_last)
         ]
 
     -- it is declared
@@ -364,12 +300,10 @@ module _ (old : Variables) (c : ParseState) (code : List ℕ) (v : Variable) (k 
             kept = grind (arith, kept_more, map-append);
             skipped = k.skipped ∙ omega arith ∙ sym (count_with c.declared d false keeps);
             targets_agree = keep_stands;
-            owners = subst (HaveOwnCodes (with_kept old list targets)) (sym kept_more) keep_owners;
-            firsts = subst (λ ds. (position : ℕ) (u : Variable) → slice_get list.items position ≡ Some u
-                → HasFirst (with_kept old list targets) ds position u) (sym kept_more) keep_firsts;
+            owners = rw kept_more keep_owners;
+            firsts = rw kept_more keep_firsts;
             limit = k.limit;
-            few = subst (λ vs. length vs ≤ c.limit) (sym items)
-                (omega (arith, room, length_push old.kept.items v));
+            few = rw items (omega (arith, room, length_push old.kept.items v));
             grouped = k.grouped;
             logs = grind (arith, stays);
           },
@@ -377,34 +311,15 @@ module _ (old : Variables) (c : ParseState) (code : List ℕ) (v : Variable) (k 
 
 -- ---- the words of a declaration
 
-declares_names : (c : ParseState) (kind size code : List ℕ) (names : List (List ℕ)) (result : Result (Unit {0}) Fault)
-    (new : Variables) → 0 < length names
-    → DeclaresAs c (declaration_of_parts c kind (number_of size) code names) result new
-    → Declares c (kind ∷ size ∷ code ∷ names) result new
-declares_names c kind size code [] result new some as_one = absurd (omega (arith, some))
-declares_names c kind size code (name ∷ names) (Ok x) new some (may, room, knows) = ((may, room), knows)
-declares_names c kind size code (name ∷ names) (Err fault) new some as_one =
-    let d = declaration_of_parts c kind (number_of size) code (name ∷ names) in
-    let last = (faults.TooManySignals unless is_within_limit c.limit c.declared d) ∷ [] in
-    elim as_one [
-      | inl none ↦ inl none
-      | inr (mixed may is) ↦ inr (failed faults.MixedCode _ last may ∙ ap Some (sym is))
-      | inr (many may room is) ↦ inr (failed_later faults.MixedCode faults.TooManySignals _ last may
-          (failed faults.TooManySignals _ [] room) ∙ ap Some (sym is))
-    ]
-
 -- the prefix of a list, and the rest
 pub prefix_removed : (xs ys : List (List ℕ)) (x : List ℕ) → 0 < length xs → x ≡ slice_index_or xs 0 x → ys ≡ remove xs 0
     → xs ≡ x ∷ ys
-prefix_removed [] ys x some prefix rest = absurd (omega arith)
-prefix_removed (x' ∷ xs) ys x some prefix rest = (λ i. sym prefix i ∷ sym rest i)
+prefix_removed xs ys x some prefix rest = grind arith
 
 -- too few words for a variable
 pub too_few : (c : ParseState) (kind size : List ℕ) (words : List (List ℕ)) → length words < 2
     → declaration_of c (kind ∷ size ∷ words) ≡ None
-too_few c kind size [] few = refl
-too_few c kind size (code ∷ []) few = refl
-too_few c kind size (code ∷ name ∷ names) few = absurd (omega (arith, few))
+too_few c kind size words few = grind arith
 
 -- words with the size of a variable after the first
 abbrev with_size : List ℕ → List (List ℕ) → List (List ℕ)
@@ -413,9 +328,8 @@ with_size size (kind ∷ words) = kind ∷ size ∷ words
 
 -- so the result of the words is that of their parts, which are removed from their front
 pub declares_parts : (c : ParseState) (words rest names following : List (List ℕ)) (kind code first word : List ℕ)
-    (result : Result (Unit {0}) Fault) (new : Variables) → 3 ≤ length words
-    → kind ≡ slice_index_or words 0 kind → rest ≡ remove words 0
-    → code ≡ slice_index_or rest 0 code → names ≡ remove rest 0 → words ≡ first ∷ following
+    (result : Result (Unit {0}) Fault) (new : Variables) → 3 ≤ length words → kind ≡ slice_index_or words 0 kind
+    → rest ≡ remove words 0 → code ≡ slice_index_or rest 0 code → names ≡ remove rest 0 → words ≡ first ∷ following
     → DeclaresAs c (declaration_of_parts c kind (number_of word) code names) result new
     → Declares c (first ∷ word ∷ following) result new
 declares_parts c words rest names following kind code first word result new long is_kind left is_code left_names are
@@ -424,8 +338,7 @@ declares_parts c words rest names following kind code first word result new long
     let second = prefix_removed rest names code (omega (arith, long, ap (length {A = List ℕ}) head)) is_code
     left_names in
     let whole : words ≡ kind ∷ code ∷ names = head ∙ ap (λ ws. kind ∷ ws) second in
-    subst (λ ws. Declares c (with_size word ws) result new) (sym whole ∙ are)
-    (declares_names c kind word code names result new (omega (arith, long, ap (length {A = List ℕ}) whole)) as_one)
+    subst (λ ws. Declares c (with_size word ws) result new) (sym whole ∙ are) (grind arith)
 
 -- ---- sizes that are read up to a bound
 

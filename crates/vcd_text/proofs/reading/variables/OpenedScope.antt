@@ -1,5 +1,5 @@
 -- The places of variables, as a scope is opened.
-use Rattle.std.proofs.Common.{◌≡◌, ℕ, ◌<◌, List, [], ◌∷◌, ◌++◌, length, inl, inr, arith}
+use Rattle.std.proofs.Common.{◌≡◌, ℕ, List, [], ◌∷◌, ◌++◌, length, arith}
 use Rattle.std.proofs.lemmas.Bool.{cases_lt}
 use Rattle.std.proofs.lemmas.List.{length_push, take-append-le, get_or_append_left}
 use Rattle.std.proofs.Math.Seq.{get_or-append_seam}
@@ -8,18 +8,12 @@ use Rattle.vcd_text.specs.Chains.{chain_at}
 use Rattle.vcd_text.specs.inside.reading.Scopes.{KeepsPlaces}
 use Rattle.vcd_text.specs.declared.reading.scopes.Scopes.{Scopes}
 
--- a chain before the last
-earlier_chain : (cs : List (List ScopeName)) (c : List ScopeName) (k : ℕ) → k < length cs
-    → chain_at (cs ++ c ∷ []) k ≡ chain_at cs k
-earlier_chain cs c k within = grind (arith, get_or_append_left)
-
 last_chain : (cs : List (List ScopeName)) (c : List ScopeName) (k : ℕ) → k ≡ length cs → chain_at (cs ++ c ∷ []) k ≡ c
 last_chain cs c k is = grind (arith, get_or-append_seam)
 
 -- a scope more at the end of the last chain
 pub scope_pushed : (old new : Scopes) (s : ScopeName) → new.chains.items ≡ old.chains.items
     → new.chain.items ≡ old.chain.items ++ s ∷ [] → new.reach ≡ old.reach → KeepsPlaces old new
-scope_pushed old new s chains chain reach p scopes h = elim (cases_lt p.chain (length old.chains.items)) [
-  | inl before ↦ grind (arith, earlier_chain, length_push)
-  | inr after ↦ grind (arith, last_chain, length_push, take-append-le)
-]
+scope_pushed old new s chains chain reach p scopes h =
+    let place = cases_lt p.chain (length old.chains.items) in
+    grind (arith, place, get_or_append_left, length_push, last_chain, take-append-le)

@@ -1,14 +1,13 @@
 -- The parser's variables, compared with the state of a file.
 use Rattle.std.proofs.Common.{arith, ◌≡◌, ℕ, ◌≤◌, Bool, List, sym, ap, ◌∙◌, length, option_map}
-use Rattle.std.proofs.Common.{Option, Some, None, refl}
+use Rattle.std.proofs.Common.{Option, Some}
 use Rattle.std.specs.Prelude.{slice_get}
 use Rattle.std.proofs.lemmas.List.{length-map}
 use Rattle.std.proofs.lemmas.Option.{same_Some, slice_get-map}
 use Rattle.vcd_core.specs.declared.capture.Header.{Header}
 use Rattle.vcd_core.specs.declared.capture.Timescale.{Timescale}
 use Rattle.vcd_core.specs.declared.capture.ScopeName.{ScopeName}
-use Rattle.vcd_text.specs.Grammar.{VariableDeclaration, ParseState, kept_variables, variable_of}
-use Rattle.vcd_text.specs.inside.reading.Log.{logged}
+use Rattle.vcd_text.specs.Grammar.{VariableDeclaration, ParseState, kept_variables}
 use Rattle.vcd_text.proofs.reading.log.LoggedValues.{gives_further}
 use Rattle.vcd_text.specs.inside.reading.Scopes.{open_scopes, KeepsPlaces}
 use Rattle.vcd_text.specs.inside.reading.Variables.{declaration, without_code, target_of, HaveOwnCodes}
@@ -26,28 +25,21 @@ kept_long vs c k = grind (arith, length-map)
 
 mapped_from : (o : Option VariableDeclaration) (e : VariableDeclaration) → option_map without_code o ≡ Some e
     → (d : VariableDeclaration) × (o ≡ Some d) × (without_code d ≡ e)
-mapped_from None e is = let never : None ≡ Some e = is in absurd (cc)
-mapped_from (Some d) e is = (d, refl, same_Some (without_code d) e is)
+mapped_from o e is = grind (arith, same_Some)
 
 -- the declaration of a kept variable
 pub declared_at : (vs : Variables) (c : ParseState) → VariablesMatch vs c → (position : ℕ) (v : Variable)
     → slice_get vs.kept.items position ≡ Some v
     → (d : VariableDeclaration) × (slice_get (kept_variables c.declared) position ≡ Some d)
     × (without_code d ≡ declaration v)
-declared_at vs c k position v at =
-    mapped_from (slice_get (kept_variables c.declared) position) (declaration v)
-    (sym (slice_get-map without_code (kept_variables c.declared) position)
-    ∙ ap (λ (ds : List VariableDeclaration). slice_get ds position) k.kept
+declared_at vs c k position v at = mapped_from _ _ (sym (slice_get-map without_code
+    (kept_variables c.declared) position) ∙ ap (λ (ds : List VariableDeclaration). slice_get ds position) k.kept
     ∙ slice_get-map declaration vs.kept.items position ∙ ap (option_map declaration) at)
 
 -- a position is the target of one code alone
-pub one_owner : (vs : Variables) (declared : List VariableDeclaration) → HaveOwnCodes vs declared
-    → (a b : List ℕ) (wide width position : ℕ) → target_of vs a ≡ Kept wide position
-    → target_of vs b ≡ Kept width position → a ≡ b
-one_owner vs declared owners a b wide width position had has =
-    let x = owners a wide position had in
-    let y = owners b width position has in
-    sym x.2 ∙ ap (λ (d : VariableDeclaration). d.code) (same_Some x.0 y.0 (sym x.1 ∙ y.1)) ∙ y.2
+pub one_owner : (vs : Variables) (declared : List VariableDeclaration) → HaveOwnCodes vs declared → (a b : List ℕ)
+    (wide width position : ℕ) → target_of vs a ≡ Kept wide position → target_of vs b ≡ Kept width position → a ≡ b
+one_owner vs declared owners a b wide width position had has = search (arith, same_Some)
 
 -- variables that match a state match it at a later tick too
 pub knows_further : (vs : Variables) (c : ParseState) (header : List Header) (timescale : Option Timescale)
@@ -57,9 +49,7 @@ knows_further vs c header timescale in_body tick later k = record {
   opened = k.opened;
   kept = k.kept;
   skipped = k.skipped;
-  targets_agree = λ code.
-      stands_moved vs.kept.items vs.kept.items (logged vs.log.items) (logged vs.log.items) c.value_changes
-      c.value_changes c.tick tick code (target_of vs code) (variable_of c code)
+  targets_agree = λ code. stands_moved _ _ _ _ _ _ c.tick tick code _ _
       (λ width position _ wave. (grind (arith, gives_further))) (k.targets_agree code);
   owners = k.owners;
   firsts = k.firsts;

@@ -1,7 +1,7 @@
 -- The next change of a wave from a tick on.
 use Rattle.std.proofs.Common.{◌≡◌, ◌<◌, ◌≤◌, ◌+◌, ◌-◌, ◌^◌, inl, inr, ℕ, zero, suc, List, []}
 use Rattle.std.proofs.Common.{◌∷◌}
-use Rattle.std.proofs.Common.{length, take, drop, get_or, All, refl, sym, ap, subst, ◌∙◌}
+use Rattle.std.proofs.Common.{length, take, drop, get_or, All, refl, sym, ap, ◌∙◌}
 use Rattle.std.proofs.Common.{arith}
 use Rattle.std.proofs.Math.ListN.{set}
 use Rattle.std.proofs.lemmas.Bool.{cases_eq, cases_lt}
@@ -43,34 +43,23 @@ rising width cs k is early = later_tick 0 (all_x width) cs k is.rise early
 -- one change further on
 pub goes_on : (width from to : ℕ) (cs : List Change) (n m : Cursor) → IsWave width cs → IsNext from to cs n
     → n.tick < to → to ≤ END_LIMIT + 1 → m.index ≡ n.index + 1 → m.tick ≡ n.following_tick
-    → m.following_tick ≡ tick_at cs (n.index + 2)
-    → IsNext from to cs m
+    → m.following_tick ≡ tick_at cs (n.index + 2) → IsNext from to cs m
 goes_on width from to cs n m rise is early end index tick following_tick =
     let d = change 0 [] in
     let known : tick_at cs n.index < 2 ^ 64 - 1 = omega (arith, is.tick, early, end) in
-    let inside = tick_inside cs n.index known in
-    let here : (get_or cs n.index d).tick < to = omega (arith, is.tick, tick_is cs n.index d inside, early) in
+    let inside = tick_inside cs _ known in
+    let here : (get_or cs n.index d).tick < to = omega (arith, is.tick, tick_is cs _ d inside, early) in
     let sum : n.index + 2 ≡ m.index + 1 = omega (arith, index) in
     record {
-      passed =
-          subst (λ k. All (λ (c : Change). c.tick < to) (take k cs)) (sym index)
-          (subst (All (λ (c : Change). c.tick < to)) (sym (take_more cs n.index d inside))
-          (All-push (λ (c : Change). c.tick < to) (take n.index cs) (get_or cs n.index d) is.passed here));
-      not_earlier = omega (
-        arith,
-        is.not_earlier,
-        is.tick,
-        is.following_tick,
-        tick,
-        rising width cs n.index rise known,
-      );
+      passed = rw index (rw (take_more cs n.index d inside) (All-push (λ (c : Change). c.tick < to) (take n.index cs)
+          (get_or cs n.index d) is.passed here));
+      not_earlier = omega (arith, is.not_earlier, is.tick, is.following_tick, tick, rising width cs _ rise known);
       tick = tick ∙ is.following_tick ∙ ap (tick_at cs) (sym index);
       following_tick = following_tick ∙ ap (tick_at cs) sum;
     }
 
 -- before a later tick
-pub goes_to : (from to : ℕ) (cs : List Change) (n : Cursor) → from ≤ to → IsNext from from cs n
-    → IsNext from to cs n
+pub goes_to : (from to : ℕ) (cs : List Change) (n : Cursor) → from ≤ to → IsNext from from cs n → IsNext from to cs n
 goes_to from to cs n up is = grind arith
 
 -- ---- a window of one wave
@@ -128,6 +117,5 @@ pub passed_next : (from p : ℕ) (signals : List Signal) (cursors : List Cursor)
 passed_next from p signals cursors there next inside all is holds before k s n less =
     elim (cases_eq k p) [
       | inl at ↦ (grind (arith, get_or_default, get_or-set_same))
-      | inr apart ↦ subst (λ (x : Cursor). IsNext from from (get_or signals k s).wave.changes x)
-          (sym (get_or-set_other cursors p k next n apart)) (before k s n (omega arith))
+      | inr apart ↦ rw (get_or-set_other cursors p k next n apart) (before k s n (omega arith))
     ]

@@ -19,11 +19,9 @@ joined w (v ∷ ws) = ap (λ l. w ++ (32 ∷ l)) (joined v ws)
 pub writes_words : {W : Type 0} {sink : sinks.Ghosts W} {o0 o1 o2 : Output W}
     (prefix back : List (List ℕ)) → Emits sink o0 o1 (spaced_words prefix) → Emits sink o1 o2 (spaced_words back)
     → Emits sink o0 o2 (spaced_words (prefix ++ back))
-writes_words prefix back first second =
-    writes_as (sym (flat_map-append (λ w. 32 ∷ w) prefix back)) (writes_both first second)
+writes_words prefix back first second = search (arith, writes_as, flat_map-append, writes_both)
 
 pub writes_line : {W : Type 0} {sink : sinks.Ghosts W} {o0 o1 o2 o3 : Output W} (w : List ℕ)
     (ws : List (List ℕ)) → Emits sink o0 o1 w → Emits sink o1 o2 (spaced_words ws) → Emits sink o2 o3 (codes " $end\n")
     → Emits sink o0 o3 (join_with_byte 32 (w ∷ (ws ++ end_word ∷ [])) ++ 10 ∷ [])
-writes_line w ws first middle last =
-    writes_as (grind (arith, append_assoc, joined, flat_map-append)) (writes_both (writes_both first middle) last)
+writes_line w ws first middle last = grind (arith, writes_as, append_assoc, joined, flat_map-append, writes_both)

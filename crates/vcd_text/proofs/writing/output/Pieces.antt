@@ -1,7 +1,7 @@
 -- Pieces that are written one after another, through a buffer.
 use Rattle.std.proofs.Common.{◌≡◌, ◌<◌, ◌≤◌, ◌+◌, ◌-◌, ◌^◌, ℕ, Bool, true, false, List, [], ◌++◌}
-use Rattle.std.proofs.Common.{length, take, drop, min, refl, sym, ap, subst, ◌∙◌, arith, append_assoc, ◌∷◌, get_or}
-use Rattle.std.specs.Prelude.{Option, Some, None, Result, Ok, Err, OnOk, OnErr, IfErr}
+use Rattle.std.proofs.Common.{length, take, drop, min, sym, ap, ◌∙◌, arith, append_assoc, ◌∷◌, get_or}
+use Rattle.std.specs.Prelude.{Option, Result, Ok, Err, OnOk, OnErr, IfErr}
 use Rattle.std.specs.Io.KnownBytes.{Appends, Keeps}
 use Rattle.std.proofs.KnownBytes.{Appends-trans}
 use Rattle.std.proofs.Math.Seq.{take-add}
@@ -60,13 +60,11 @@ pub prefix_whole : {W : Type 0} {sink : sinks.Ghosts W} {o0 o1 : Output W} {left
 prefix_whole {left = left} {whole = whole} prefix none = search (arith, writes_as, append-nil)
 
 -- the items before one of a list are written, and then that item
-pub prefix_item : {W : Type 0} {sink : sinks.Ghosts W} {o0 o1 o2 : Output W} {X : Type 0}
-    (F : List X → List ℕ) (xs : List X) (k : ℕ) (x : X) {part whole : List ℕ}
-    → WritesPrefix sink o0 o1 (F (drop k xs)) whole → Emits sink o1 o2 part → k < length xs
-    → x ≡ get_or xs k x → F (x ∷ drop (k + 1) xs) ≡ part ++ F (drop (k + 1) xs)
+pub prefix_item : {W : Type 0} {sink : sinks.Ghosts W} {o0 o1 o2 : Output W} {X : Type 0} (F : List X → List ℕ)
+    (xs : List X) (k : ℕ) (x : X) {part whole : List ℕ} → WritesPrefix sink o0 o1 (F (drop k xs)) whole
+    → Emits sink o1 o2 part → k < length xs → x ≡ get_or xs k x → F (x ∷ drop (k + 1) xs) ≡ part ++ F (drop (k + 1) xs)
     → WritesPrefix sink o0 o2 (F (drop (k + 1) xs)) whole
-prefix_item F xs k x prefix more within is split =
-    prefix_grows _ prefix more (ap F (drop_more xs k x within ∙ ap (λ y. y ∷ drop (k + 1) xs) (sym is)) ∙ split)
+prefix_item F xs k x prefix more within is split = grind (arith, prefix_grows, drop_more)
 
 -- ---- the buffer
 
@@ -77,18 +75,10 @@ sent_bytes : (before t0 t1 : Option (List ℕ)) (f0 : Bool) (n k : ℕ) (text by
 sent_bytes before t0 t1 false n k text bytes is none prefix more = grind (arith, take-add, Appends-trans)
 sent_bytes before t0 t1 true n k text bytes is none prefix more = grind (arith, append-nil, Appends-trans)
 
--- the bytes sent before and now are within the text
-within_whole : (f0 : Bool) (n k : ℕ) (text part bytes : List ℕ) → n ≤ length text
-    → (f0 ≡ false → drop n (text ++ part) ≡ bytes) → (f0 ≡ true → k ≡ 0) → k ≤ length bytes
-    → n + k ≤ length (text ++ part)
-within_whole true n k text part bytes within is none few = omega (arith, none refl, within, length-append text part)
-within_whole false n k text part bytes within is none few = grind (arith, length-drop, length-append)
-
 -- nothing is left after the bytes sent
 none_left : (f0 f1 : Bool) (n k : ℕ) (whole bytes : List ℕ) → (f0 ≡ false → drop n whole ≡ bytes)
     → (f0 ≡ true → f1 ≡ true) → (f1 ≡ false → k ≡ length bytes) → f1 ≡ false → drop (n + k) whole ≡ []
-none_left true f1 n k whole bytes is stays all ready = absurd (cc (stays refl, ready))
-none_left false f1 n k whole bytes is stays all ready = grind (arith, drop_all, length-drop)
+none_left f0 f1 n k whole bytes is stays all ready = grind (arith, drop_all, length-drop)
 
 -- bytes are sent that are the rest of the text with the part
 pub bytes_sent : {W : Type 0} (sink : sinks.Ghosts W) (old new : Output W) (k : ℕ) (part bytes : List ℕ)
@@ -106,11 +96,10 @@ bytes_sent sink old new k part bytes same left more few all none stays counted e
       let is : failed ≡ false → drop n (text ++ part) ≡ bytes =
       λ ready. left n text stands.within (stands.rest ready) in
       let held : Appends before (sink.taken old.writer.now) (take n (text ++ part)) =
-      subst (Appends before (sink.taken old.writer.now)) (sym (take-append-le n text part stands.within))
-      stands.prefix in
+      rw (take-append-le n text part stands.within) stands.prefix in
       record {
         sent = n + k;
-        within = within_whole failed n k text part bytes stands.within is none few;
+        within = grind (arith, length-append, length-drop);
         counted = omega (arith, counted, stands.counted);
         prefix = sent_bytes before _ _ failed n k (text ++ part) bytes is none held more;
         rest = λ ready. none_left failed _ n k (text ++ part) bytes is stays all ready ∙ sym empty;
@@ -119,23 +108,11 @@ bytes_sent sink old new k part bytes same left more few all none stays counted e
 
 -- ---- the whole
 
--- no text was written yet
-nothing_taken : (t : Option (List ℕ)) → Appends t t []
-nothing_taken None = tt
-nothing_taken (Some xs) = sym (append-nil xs)
-
 -- the text since the buffer was empty
-pub whole_written : {W : Type 0} {sink : sinks.Ghosts W} {old new : Output W} {whole : List ℕ}
-    → old.unsent.items ≡ [] → old.sent_count ≡ 0 → Emits sink old new whole
-    → HasEmitted sink (sink.taken old.writer.now) new whole
+pub whole_written : {W : Type 0} {sink : sinks.Ghosts W} {old new : Output W} {whole : List ℕ} → old.unsent.items ≡ []
+    → old.sent_count ≡ 0 → Emits sink old new whole → HasEmitted sink (sink.taken old.writer.now) new whole
 whole_written {sink = sink} {old = old} empty none writes =
-    writes.appends (sink.taken old.writer.now) [] (record {
-      sent = 0;
-      within = omega arith;
-      counted = none;
-      prefix = nothing_taken (sink.taken old.writer.now);
-      rest = λ _. sym empty;
-    })
+    writes.appends (sink.taken old.writer.now) [] (grind (arith, append-nil))
 
 -- ---- the end
 
@@ -144,29 +121,13 @@ pub all_taken : {W : Type 0} {sink : sinks.Ghosts W} {before : Option (List ℕ)
     {text : List ℕ} → sink.has_failed output.writer.now ≡ false → output.unsent.items ≡ []
     → HasEmitted sink before output text → Appends before (sink.taken output.writer.now) text
 all_taken {sink = sink} {before = before} {output = output} {text = text} ready empty stands =
-    subst (Appends before (sink.taken output.writer.now)) (take_all stands.sent text (omega (
-      arith,
-      ap (length {A = ℕ}) (stands.rest ready ∙ empty),
-      length-drop stands.sent text,
-    ))) stands.prefix
-
--- the count is that of the bytes sent, if the text can be counted
-pub counted_prefix : {W : Type 0} {sink : sinks.Ghosts W} {before : Option (List ℕ)} {output : Output W}
-    {text : List ℕ} → HasEmitted sink before output text → length text < 2 ^ 128
-    → Appends before (sink.taken output.writer.now) (take output.sent_count text) × (output.sent_count ≤ length text)
-counted_prefix {sink = sink} {before = before} {output = output} {text = text} stands small =
-    let exact : stands.sent ≡ output.sent_count = omega (arith, stands.counted, stands.within, small) in (
-      subst (λ n. Appends before (sink.taken output.writer.now) (take n text)) exact stands.prefix,
-      omega (arith, exact, stands.within),
-    )
+    rw (take_all stands.sent text
+    (omega (arith, ap (length {A = ℕ}) (stands.rest ready ∙ empty), length-drop stands.sent text))) at stands.prefix
 
 -- a flush takes no byte
 pub appends_kept : (before after later : Option (List ℕ)) (text : List ℕ) → Appends before after text
     → Keeps after later → Appends before later text
-appends_kept None after later text took kept = tt
-appends_kept (Some xs) None later text took kept = absurd took
-appends_kept (Some xs) (Some ys) None text took kept = absurd kept
-appends_kept (Some xs) (Some ys) (Some zs) text took kept = kept ∙ took
+appends_kept before after later text took kept = grind arith
 
 -- after the buffer was sent and the writer flushed, the writer took the whole text
 pub flushed_whole : {W T : Type 0} {sink : sinks.Ghosts W} {before : Option (List ℕ)} {output : Output W}
@@ -183,11 +144,4 @@ pub failed_prefix : {W T : Type 0} {sink : sinks.Ghosts W} {before : Option (Lis
     → Keeps (sink.taken output.writer.now) (sink.taken later) → IfErr r (λ e. e ≡ WriteFault output.sent_count)
     → OnErr r (sink.has_failed later ≡ true)
     → IfErr r (TookBefore text before (sink.taken later) (sink.has_failed later))
-failed_prefix later (Ok x) stands kept is failed = tt
-failed_prefix {sink = sink} {before = before} {text = text} later (Err e) stands kept is failed =
-    subst (TookBefore text before (sink.taken later) (sink.has_failed later)) (sym is) (
-      λ small.
-          let prefix = counted_prefix stands small in
-          (appends_kept before _ _ _ prefix.0 kept, prefix.1),
-      failed,
-    )
+failed_prefix later r stands kept is failed = grind (arith, appends_kept)

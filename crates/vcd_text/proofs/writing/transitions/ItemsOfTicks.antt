@@ -1,7 +1,7 @@
 -- The transitions of ticks are written as the items of these ticks.
 use Rattle.std.proofs.Common.{◌≡◌, ◌<◌, ◌≤◌, ◌+◌, ◌-◌, ℕ, zero, suc, true, false}
-use Rattle.std.proofs.Common.{List, [], ◌∷◌, ◌++◌, length, map, get_or, refl, sym, ap}
-use Rattle.std.proofs.Common.{subst, ◌∙◌, arith, All, append_assoc, eq-eqb}
+use Rattle.std.proofs.Common.{List, [], ◌∷◌, ◌++◌, map, get_or, refl, sym, ap}
+use Rattle.std.proofs.Common.{◌∙◌, arith, All, append_assoc, eq-eqb}
 use Rattle.std.specs.List.{flat_map, enumerate_from}
 use Rattle.std.proofs.lemmas.Bool.{ne_eqb}
 use Rattle.std.proofs.lemmas.Grind.{flat_map-append}
@@ -18,8 +18,7 @@ use Rattle.vcd_text.specs.Text.{value_items}
 
 -- the items of transitions after the stamp of a tick, and the stamp of the end
 abbrev pub items_left : List SignalContents → ℕ → ℕ → List Transition → List Item
-items_left signals end last ms =
-    transition_items signals last ms ++ new_stamp (last_tick last ms) end
+items_left signals end last ms = transition_items signals last ms ++ new_stamp (last_tick last ms) end
 
 -- ---- one tick
 
@@ -32,11 +31,7 @@ abbrev IsAtPosition : List SignalContents → ℕ × SignalContents → Type 0
 IsAtPosition signals p = get_or signals p.0 no_signal ≡ p.1
 
 all_at_positions : (signals : List SignalContents) → All (IsAtPosition signals) (enumerate_from 0 signals)
-all_at_positions signals k d within =
-    let inside : k < length signals = omega (arith, length-enumerate_from 0 signals) in
-    let here : 0 + k ≡ k = omega arith in
-    subst (IsAtPosition signals) (sym (get_or-enumerate_from 0 signals k d inside))
-    (ap (λ i. get_or signals i no_signal) here ∙ get_or_default signals k no_signal d.1 inside)
+all_at_positions signals k d within = grind (arith, length-enumerate_from, get_or-enumerate_from, get_or_default)
 
 all_differing : (signals : List SignalContents) (t : ℕ) → All (IsAtPosition signals) (differing signals t)
 all_differing signals t =

@@ -6,11 +6,6 @@ use Rattle.vcd_text.specs.Letters.{printed_letters, short_form}
 use Rattle.vcd_text.specs.Text.{item_line, value_item}
 use Rattle.vcd_text.specs.inside.writing.Values.{value_before_code}
 
--- digits, a space and a code, after `b`
-many : (digits code : List ℕ) → ((98 ∷ []) ++ (digits ++ 32 ∷ [])) ++ (code ++ 10 ∷ []) ≡ ((98 ∷ digits) ++ (32 ∷ code))
-    ++ 10 ∷ []
-many digits code = grind (arith, append_assoc)
-
 pub bit_before_code : (v : List Bit) → length v ≡ 1 → value_before_code v ≡ printed_letter (letter_at v 0) ∷ []
 bit_before_code v h1 = grind arith
 
@@ -21,4 +16,4 @@ bits_before_code v h1 = grind arith
 -- the line
 pub line_of_value : (v : List Bit) (code : List ℕ) → value_before_code v ++ (code ++ 10 ∷ [])
     ≡ item_line (value_item code v)
-line_of_value v code = grind (arith, many)
+line_of_value v code = grind (arith, append_assoc)

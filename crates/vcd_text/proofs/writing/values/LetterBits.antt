@@ -2,8 +2,8 @@
 use Rattle.std.proofs.Common.{◌≡◌, ℕ, zero, suc, ◌+◌, ◌-◌, ◌*◌, ◌/◌, ◌%◌, ◌^◌, ◌<◌, ◌≤◌, min, max}
 use Rattle.std.proofs.Common.{Bool, true, false}
 use Rattle.std.proofs.Common.{List, [], ◌∷◌, ◌++◌, length, drop, get_or, slice_range, if◌then◌else◌}
-use Rattle.std.proofs.Common.{pow-suc, refl, sym}
-use Rattle.std.proofs.Common.{ap, ◌∙◌, arith, inl, inr}
+use Rattle.std.proofs.Common.{pow-suc, sym}
+use Rattle.std.proofs.Common.{ap, ◌∙◌, arith}
 use Rattle.std.specs.Int.{bit_at, bit_not}
 use lib.Bits.{and_le_r}
 use Rattle.std.specs.Int.Bits.{bit_and, bit_or, bit_xor}
@@ -51,9 +51,8 @@ lowest n v = drop (length v - n) v
 
 -- two more letters, before those at the end of a row
 pub pair_written : (f : ℕ → ℕ) (row : List ℕ) (k a b : ℕ) → length row ≡ 64 → k < 32
-    → ((i : ℕ) → i < 2 * k → get_or row (63 - i) 0 ≡ f i)
-    → a ≡ f (2 * k + 1) → b ≡ f (2 * k + 0) → (i : ℕ) → i < 2 * (k + 1)
-    → get_or (set (set row (62 - 2 * k) a) (63 - 2 * k) b) (63 - i) 0 ≡ f i
+    → ((i : ℕ) → i < 2 * k → get_or row (63 - i) 0 ≡ f i) → a ≡ f (2 * k + 1) → b ≡ f (2 * k + 0) → (i : ℕ)
+    → i < 2 * (k + 1) → get_or (set (set row (62 - 2 * k) a) (63 - 2 * k) b) (63 - i) 0 ≡ f i
 pair_written f row k a b long inside written upper lower i within =
     grind (arith, length-set, cases_lt, get_or-set_other, cases_eq, get_or-set_same)
 
@@ -72,7 +71,7 @@ row_end row count block long fits written =
     let index : 64 - count + i ≡ 63 - k = omega (arith, inside, fits) in
     let back : length v - 1 - k ≡ i = omega (arith, inside, few) in
     get_or-drop (64 - count) row i 0 ∙ ap (λ n. get_or row n 0) index ∙ written k (omega (arith, inside))
-    ∙ ap printed_letter (sym (given_letter count block k fits (omega (arith, inside))) ∙ ap (λ n. get_or v n X) back)
+    ∙ ap printed_letter (grind (arith, given_letter))
     ∙ sym (get_or-map printed_letter v i X 0 (omega (arith, inside, few))))
 
 -- the letters of a block of a value are before the lower ones
@@ -130,20 +129,15 @@ needed_bit low high i small_low small_high inside =
     let l = halved low i in
     let other : bit_at (bit_xor (high / 2) high) i ≡ (bit_at high (i + 1) + bit_at high i) % 2 =
     bit_at_xor (high / 2) high i ∙ ap (λ n. (n + bit_at high i) % 2) h in
-    let one : bit_at (bit_and (low / 2) (bit_not w64 (high / 2))) i
-    ≡ min (bit_at low (i + 1)) (1 - bit_at high (i + 1)) =
-    bit_at_and (low / 2) (bit_not w64 (high / 2)) i ∙ ap (λ n. min n (bit_at (bit_not w64 (high / 2)) i)) l
-    ∙ ap (min (bit_at low (i + 1))) (bit_at_not w64 (high / 2) i (omega (arith, small_high)) inside
-    ∙ ap (λ n. 1 - n) h) in
+    let one : bit_at (bit_and (low / 2) (bit_not w64 (high / 2))) i ≡ min (bit_at low (i + 1)) (1 - bit_at high (i + 1))
+    = bit_at_and (low / 2) (bit_not w64 (high / 2)) i ∙ ap (λ n. min n (bit_at (bit_not w64 (high / 2)) i)) l ∙ ap (min
+    (bit_at low (i + 1))) (bit_at_not w64 (high / 2) i (omega (arith, small_high)) inside ∙ ap (λ n. 1 - n) h) in
     let both : bit_at (bit_and (high / 2) (bit_xor (low / 2) low)) i
     ≡ min (bit_at high (i + 1)) ((bit_at low (i + 1) + bit_at low i) % 2) = grind (arith, bit_at_and, bit_at_xor) in
-    bit_at_or (bit_or (bit_xor (high / 2) high) (bit_and (low / 2) (bit_not w64 (high / 2))))
-    (bit_and (high / 2) (bit_xor (low / 2) low)) i
-    ∙ ap (λ n. max n (bit_at (bit_and (high / 2) (bit_xor (low / 2) low)) i))
-    (bit_at_or (bit_xor (high / 2) high) (bit_and (low / 2) (bit_not w64 (high / 2))) i)
-    ∙ (λ p. max (max (other p) (one p)) (both p))
-    ∙ mark_is (bit_at high (i + 1)) (bit_at high i) (bit_at low (i + 1)) (bit_at low i) (bit_at-lt _ _) (bit_at-lt _ _)
-    (bit_at-lt _ _) (bit_at-lt _ _)
+    bit_at_or (bit_or (bit_xor (high / 2) high) (bit_and (low / 2) (bit_not w64 (high / 2)))) (bit_and (high / 2)
+    (bit_xor (low / 2) low)) i ∙ ap (λ n. max n (bit_at (bit_and (high / 2) (bit_xor (low / 2) low)) i)) (bit_at_or
+    (bit_xor (high / 2) high) (bit_and (low / 2) (bit_not w64 (high / 2))) i) ∙ (λ p. max (max (other p) (one p))
+    (both p)) ∙ mark_is _ _ _ _ (bit_at-lt _ _) (bit_at-lt _ _) (bit_at-lt _ _) (bit_at-lt _ _)
 
 -- ---- the highest set bit
 
@@ -177,12 +171,10 @@ has_length m small =
 
 -- the remaining letters, by the leading zeros
 redundant_where_none : (b : Bool) (n : ℕ) → n ≡ (if b then 0 else 1) → n ≡ 0 → b ≡ true
-redundant_where_none true n is none = refl
-redundant_where_none false n is none = absurd (omega arith)
+redundant_where_none b n is none = grind arith
 
 needed_where_one : (b : Bool) (n : ℕ) → n ≡ (if b then 0 else 1) → n ≡ 1 → b ≡ false
-needed_where_one true n is one = absurd (omega arith)
-needed_where_one false n is one = refl
+needed_where_one b n is one = grind arith
 
 pub short_form_len_is : (count : ℕ) (block : LetterBlock) (marks mask : ℕ) → 1 ≤ count → count ≤ 64 → mask < 2 ^ 64
     → mask ≡ 2 ^ (count - 1) - 1 → ((i : ℕ) → i < 64 → bit_at marks i ≡ (if is_redundant_above block i then 0 else 1))
@@ -203,11 +195,7 @@ short_form_len_is count block marks mask least most fits is_mask marks_are =
     (omega (arith, one, of_two, small_mark, small_mask), omega (arith, one, of_two, small_mark, small_mask)) in
     record {
       least = omega (arith, kept);
-      most = elim (cases_lt n count) [
-        | inl below ↦ omega (arith, kept, below)
-        | inr beyond ↦ let none = bit_at_ones_above (count - 1) (n - 1) (omega arith) in
-            absurd (omega (arith, (both (omega arith)).1, none))
-      ];
+      most = grind (arith, cases_lt n count, bit_at_ones_above);
       redundant = λ i above within. redundant_where_none _ _ (marks_are i (omega arith)) (omega (
         arith,
         masked i,

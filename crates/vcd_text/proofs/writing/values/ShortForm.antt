@@ -97,8 +97,7 @@ last_kept v k last =
 left_out : (v : List Bit) (len more left : ℕ) → 1 ≤ len → left ≡ len + more → left ≤ length v
     → ((i : ℕ) → len ≤ i + 1 → i + 1 < left → is_redundant_in v i ≡ true)
     → shortened (lowest left v) ≡ shortened (lowest len v)
-left_out v len zero left least is within redundant =
-    ap (λ n. shortened (lowest n v)) (let e : left ≡ len = omega arith in e)
+left_out v len zero left least is within redundant = grind (arith, lowest)
 left_out v len (suc more) left least is within redundant =
     let k : ℕ = length v - left in
     let here : length v - 1 - (left - 2 + 1) ≡ k = omega arith in
@@ -119,16 +118,14 @@ pub short_rest : (v : List Bit) (len : ℕ) → 1 ≤ len → len ≤ length v
     → (1 < len → is_redundant_in v (len - 2) ≡ false) → lowest len v ≡ short_form v
 short_rest v len least within redundant needed =
     let all : length v - length v ≡ 0 = omega arith in
-    sym (stays v len least within needed)
-    ∙ sym (left_out v len (length v - len) (length v) least (omega arith) (omega arith) redundant)
-    ∙ ap (λ n. shortened (drop n v)) all ∙ sym (short_is v)
+    sym (stays v len least within needed) ∙ sym (left_out v len (length v - len) (length v) least (omega arith)
+    (omega arith) redundant) ∙ ap (λ n. shortened (drop n v)) all ∙ sym (short_is v)
 
 -- the letters of a block that are left out, after those above them
 pub more_redundant : (v : List Bit) (from : ℕ) (block : LetterBlock) (left len rest : ℕ)
-    → HoldsLetters Zero v from block
-    → from < left → left ≤ from + 64 → IsShortFormLen (left - from) block len → rest ≡ from + len
-    → ((i : ℕ) → left ≤ i + 1 → i + 1 < length v → is_redundant_in v i ≡ true)
-    → (i : ℕ) → rest ≤ i + 1 → i + 1 < length v → is_redundant_in v i ≡ true
+    → HoldsLetters Zero v from block → from < left → left ≤ from + 64 → IsShortFormLen (left - from) block len
+    → rest ≡ from + len → ((i : ℕ) → left ≤ i + 1 → i + 1 < length v → is_redundant_in v i ≡ true) → (i : ℕ)
+    → rest ≤ i + 1 → i + 1 < length v → is_redundant_in v i ≡ true
 more_redundant v from block left len rest holds some near is at above i past within =
     let index : from + (i - from) ≡ i = omega (arith, is.least) in
     grind (arith, index, cases_lt, redundant_held)
@@ -137,9 +134,7 @@ more_redundant v from block left len rest holds some near is at above i past wit
 pub first_needed : (v : List Bit) (from : ℕ) (block : LetterBlock) (count len rest : ℕ) → HoldsLetters Zero v from block
     → count ≤ 64 → from + count ≤ length v → IsShortFormLen count block len → rest ≡ from + len → 1 < len
     → is_redundant_in v (rest - 2) ≡ false
-first_needed v from block count len rest holds near within is at more =
-    let index : from + (len - 2) ≡ rest - 2 = omega (arith, more) in
-    grind (arith, index, redundant_held)
+first_needed v from block count len rest holds near within is at more = grind (arith, redundant_held)
 
 -- the state after a test of two letters
 pub state_at : (v : List Bit) (k : ℕ) (letter next : Bit) (r b : Bool) → 1 ≤ k → letter ≡ letter_at v k

@@ -59,8 +59,7 @@ none_late : (from to j t m : ℕ) (before : List Bit) (f : ℕ → List Bit) →
 unfolding changes_from
 none_late from to j t zero before f late = refl
 none_late from to j t (suc m) before f late =
-    let rest = none_late from to j (suc t) m (f t) f (omega arith) in
-    grind (arith, after_window, rest)
+    grind (arith, after_window, none_late from to j (suc t) m (f t) f (omega arith))
 
 -- the changes of a signal's values are the ticks at which it differs, from the first of the window
 -- on
@@ -68,14 +67,10 @@ window_rest : (s : SignalContents) (from to j t n m : ℕ) → from ≤ suc t �
     → window_of_signal from to j (changes_from (signal_value s t) (suc t) m (signal_value s))
     ≡ transitions_from j (s ∷ []) (suc t) n
 unfolding changes_from transitions_from
-window_rest s from to j t zero m low all few =
-    none_late from to j (suc t) m (signal_value s t) (signal_value s) (omega arith)
+window_rest s from to j t zero m low all few = grind (arith, none_late)
 window_rest s from to j t (suc n) zero low all few = absurd (omega arith)
 window_rest s from to j t (suc n) (suc m) low all few =
-    let rest = window_rest s from to j (suc t) n m (omega arith) (omega arith) (omega arith) in
-    let inside = in_window from to (suc t) (omega arith) (omega arith) in
-    let before : suc t - 1 ≡ t = omega arith in
-    grind (arith, rest, inside, before)
+    grind (arith, in_window, window_rest s from to j (suc t) n m (omega arith) (omega arith) (omega arith))
 
 -- a change before it is passed over
 passed_over : (from to j t m : ℕ) (before : List Bit) (f : ℕ → List Bit) → t < from
@@ -87,15 +82,10 @@ passed_over from to j t m before f early = grind (arith, before_window)
 window_all : (s : SignalContents) (from to j n d t m : ℕ) (before : List Bit) → suc t + d ≡ from → from + n ≡ to
     → d + n ≤ m
     → window_of_signal from to j (changes_from before t (suc m) (signal_value s)) ≡ transitions_from j (s ∷ []) from n
-window_all s from to j n zero t m before at all few =
-    let here : suc t ≡ from = omega arith in
-    passed_over from to j t m before (signal_value s) (omega arith)
-    ∙ window_rest s from to j t n m (omega arith) (omega arith) (omega arith)
-    ∙ ap (λ u. transitions_from j (s ∷ []) u n) here
+window_all s from to j n zero t m before at all few = grind (arith, passed_over, window_rest)
 window_all s from to j n (suc d) t zero before at all few = absurd (omega arith)
 window_all s from to j n (suc d) t (suc m) before at all few =
-    passed_over from to j t (suc m) before (signal_value s) (omega arith)
-    ∙ window_all s from to j n d (suc t) m (signal_value s t) (omega arith) all (omega arith)
+    grind (arith, passed_over, window_all s from to j n d (suc t) m (signal_value s t) (omega arith) all (omega arith))
 
 up_to_later : (end later : ℕ) (cs : List Change) → end ≤ later → AllUpTo end cs → AllUpTo later cs
 up_to_later end later [] more upto = tt
@@ -128,14 +118,13 @@ pub same_times : (end from n j : ℕ) (ss : List SignalContents) → 1 ≤ from 
     → times t k (unsorted_window from (from + n) j ss) ≡ times t k (transitions_from j ss from n)
 unfolding unsorted_window
 same_times end from n j [] some sound t k = sym (none_of_none t k j from n)
-same_times end from n j (s ∷ ss) some sound t k =
-    omega (
-      arith,
-      times-append t k (window_of_signal from (from + n) j s.changes) (unsorted_window from (from + n) (j + 1) ss),
-      ap (times t k) (window_is end from n j s some (All-head (IsSoundSignal end) s ss sound)),
-      one_more t k j from n s ss,
-      same_times end from n (j + 1) ss some (All-tail (IsSoundSignal end) s ss sound) t k,
-    )
+same_times end from n j (s ∷ ss) some sound t k = omega (
+  arith,
+  times-append t k (window_of_signal from (from + n) j s.changes) (unsorted_window from (from + n) (j + 1) ss),
+  ap (times t k) (window_is end from n j s some (All-head (IsSoundSignal end) s ss sound)),
+  one_more t k j from n s ss,
+  same_times end from n (j + 1) ss some (All-tail (IsSoundSignal end) s ss sound) t k,
+)
 
 -- ---- one tick
 
@@ -148,11 +137,10 @@ pub one_tick_within : (end t j : ℕ) (ss : List SignalContents) → 1 ≤ t →
     → length (unsorted_window t (t + 1) j ss) ≤ length ss
 unfolding unsorted_window
 one_tick_within end t j [] some sound = omega arith
-one_tick_within end t j (s ∷ ss) some sound =
-    omega (
-      arith,
-      length-append (window_of_signal t (t + 1) j s.changes) (unsorted_window t (t + 1) (j + 1) ss),
-      ap (length {A = Transition}) (window_is end t 1 j s some (All-head (IsSoundSignal end) s ss sound)),
-      one_of_signal s t j,
-      one_tick_within end t (j + 1) ss some (All-tail (IsSoundSignal end) s ss sound),
-    )
+one_tick_within end t j (s ∷ ss) some sound = omega (
+  arith,
+  length-append (window_of_signal t (t + 1) j s.changes) (unsorted_window t (t + 1) (j + 1) ss),
+  ap (length {A = Transition}) (window_is end t 1 j s some (All-head (IsSoundSignal end) s ss sound)),
+  one_of_signal s t j,
+  one_tick_within end t (j + 1) ss some (All-tail (IsSoundSignal end) s ss sound),
+)

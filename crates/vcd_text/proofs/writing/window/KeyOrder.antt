@@ -1,7 +1,7 @@
 -- The order of keys is that of their transitions: by tick, then by position.
 use Rattle.std.proofs.Common.{◌≡◌, ◌<◌, ◌≤◌, ◌+◌, ◌*◌, ◌/◌, ◌%◌, ℕ, suc, false}
 use Rattle.std.proofs.Common.{List, [], ◌∷◌, ◌++◌, length, drop, get_or, All, ap}
-use Rattle.std.proofs.Common.{subst, ◌∙◌}
+use Rattle.std.proofs.Common.{◌∙◌}
 use Rattle.std.proofs.Common.{arith}
 use Rattle.std.proofs.Common.{◌-◌, append_assoc}
 use Rattle.std.specs.List.{flat_map}
@@ -38,9 +38,8 @@ rises_after : (from key : ℕ) (keys : List ℕ) → ((k d : ℕ) → k + 1 < le
 rises_after from key [] up = tt
 rises_after from key (next ∷ keys) up = (
   not_below from key next (not_less key next (up 0 0 (omega arith))),
-  rises_after from next keys (λ k d within. subst (λ i. is_lt (nat_cmp (get_or (key ∷ next ∷ keys) i d)
-      (get_or (next ∷ keys) k d)) ≡ false) (let e : suc k + 1 ≡ suc (k + 1) = omega arith in e)
-      (up (suc k) d (omega arith))),
+  rises_after from next keys (λ k d within. rw (let e : suc k + 1 ≡ suc (k + 1) =
+      omega arith in e) at (up (suc k) d (omega arith))),
 )
 
 keys_rise : (from : ℕ) (keys : List ℕ) → IsSorted nat_cmp keys → RisesFrom 0 0 (transitions_of from keys)
@@ -51,12 +50,9 @@ keys_rise from (key ∷ keys) up = grind (arith, cases_lt, rises_after)
 pub ordered_are : (end from n : ℕ) (ss : List SignalContents) (keys sorted : List ℕ) → 1 ≤ from
     → transitions_of from keys ≡ unsorted_window from (from + n) 0 ss → IsPermutation keys sorted
     → IsSorted nat_cmp sorted → All (IsSoundSignal end) ss → transitions_of from sorted ≡ transitions_from 0 ss from n
-ordered_are end from n ss keys sorted some listed moved up sound =
-    same_transitions (transitions_of from sorted) (transitions_from 0 ss from n) 0 0 from 0
-    (keys_rise from sorted up) (rises_from 0 ss from n)
-    (λ t k. times_permuted t k (transitions_of from keys) (transitions_of from sorted)
-    (IsPermutation-map (transition_of_key from) keys sorted moved) ∙ ap (times t k) listed
-    ∙ same_times end from n 0 ss some sound t k)
+ordered_are end from n ss keys sorted some listed moved up sound = same_transitions _ _ 0 0 from 0
+    (keys_rise from sorted up) (rises_from 0 ss from n) (λ t k. times_permuted t k _ _ (IsPermutation-map
+    (transition_of_key from) keys sorted moved) ∙ ap (times t k) listed ∙ same_times end from n 0 ss some sound t k)
 
 -- ---- one key
 

@@ -31,8 +31,7 @@ pub longer_than : (from to k : ℕ) (signals : List Signal) (s : Signal) (out wh
     → out ++ unsorted_window from to k (map signal_contents (drop k signals)) ≡ whole
     → length out + length (filter (λ (c : Change). is_in_window from to c.tick) s.wave.changes) ≤ length whole
 longer_than from to k signals s out whole within at all =
-    let grown = one_listed from to k signals s out (out ++ window_of_signal from to k s.wave.changes) whole within at
-    refl all in
+    let grown = one_listed from to k _ s out _ whole within at refl all in
     grind (arith, grown, length-append, length-map)
 
 -- the value of a transition is that in the wave of its signal

@@ -53,8 +53,7 @@ before_move : (u j t k : ℕ) (m : Transition) → Before u j t k → AtLeast t 
 before_move u j t k m h5 h6 = grind arith
 
 not_before : (u j : ℕ) (m : Transition) → Before u j m.tick m.position → once u j m ≡ 0
-not_before u j m (inl a) = ap (λ b. counted (b && (m.position == j))) (ne_eqb m.tick u (omega arith))
-not_before u j m (inr (a, d)) = grind (arith, ne_eqb)
+not_before u j m before = grind (arith, ne_eqb)
 
 -- a transition before the first is not in the list
 none_before : (u j t k : ℕ) (ms : List Transition) → RisesFrom t k ms → Before u j t k → times u j ms ≡ 0

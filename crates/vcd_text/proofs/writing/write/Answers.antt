@@ -1,8 +1,5 @@
 -- The parts in a row are the text.
-use Rattle.std.proofs.Common.{◌≡◌, ◌++◌, ℕ, List, [], map, ap, refl, subst, ◌∙◌, rules}
-use Rattle.std.specs.Prelude.{OnOk, IfErr}
-use Rattle.std.specs.Io.KnownBytes.{Appends}
-use Rattle.vcd_text.specs.WriteEnds.{TookBefore}
+use Rattle.std.proofs.Common.{◌≡◌, ◌++◌, ℕ, List, [], map, ap, refl, ◌∙◌, rules}
 use Rattle.std.specs.List.{flat_map}
 use Rattle.std.proofs.lemmas.List.{append-nil}
 use Rattle.vcd_core.specs.declared.capture.Signal.{Signal}
@@ -25,8 +22,7 @@ all_written : {W : Type 0} {sink : sinks.Ghosts W} {o0 o1 o2 o3 o4 : Output W} (
     → Emits sink o1 o2 (flat_map item_line (first_items (map signal_contents signals)))
     → Emits sink o2 o3 (flat_map item_line (items_of_ticks (map signal_contents signals) end 1 end))
     → Emits sink o3 o4 [] → HasEmitted sink (sink.taken o0.writer.now) o4 (text c)
-all_written c signals end same at empty none declarations first later sent =
-    whole_written empty none
+all_written c signals end same at empty none declarations first later sent = whole_written empty none
     (writes_as (append-nil _ ∙ ap (λ ss. declarations_text c ++ (flat_map item_line (first_items ss)
     ++ flat_map item_line (items_of_ticks ss end 1 end))) same
     ∙ ap (λ e. declarations_text c ++ (flat_map item_line (first_items c.signals)
@@ -37,23 +33,17 @@ all_written c signals end same at empty none declarations first later sent =
 pub returns-clause-written : goal.returns-clause-written
 returns-clause-written g c =
     let same : c.flush.new.writer ≡ c.writer-1.given.0 = search rules in
-    subst (λ w. OnOk c.flush.result (Appends (g.W.Sink.taken c.args.writer.now) (g.W.Sink.taken w)
-    (text (contents c.args.capture.now)))) same
-    (flushed_whole c.flush.new.writer c.flush.result
-    (all_written (contents c.args.capture.now)
-    c.signals-signals.result.now c.end-end.result (ap (map signal_contents) c.signals-signals.ensures) c.end-end.ensures
-    c.in_ok-unsent.ensures.empty refl c.write_declarations.ensures c.write_first_values.ensures
-    c.write_transitions.ensures c.send_buffer.ensures.written)
+    rw same at (flushed_whole c.flush.new.writer c.flush.result
+    (all_written (contents c.args.capture.now) c.signals-signals.result.now c.end-end.result
+    (ap (map signal_contents) c.signals-signals.ensures) c.end-end.ensures c.in_ok-unsent.ensures.empty refl
+    c.write_declarations.ensures c.write_first_values.ensures c.write_transitions.ensures c.send_buffer.ensures.written)
     c.send_buffer.ensures.empty c.flush.ensures.kept c.flush.ensures.was_ready)
 
 pub returns-clause-failed : goal.returns-clause-failed
 returns-clause-failed g c =
     let same : c.flush.new.writer ≡ c.writer-1.given.0 = search rules in
-    subst (λ w. IfErr c.flush.result (TookBefore (text (contents c.args.capture.now)) (g.W.Sink.taken c.args.writer.now)
-    (g.W.Sink.taken w) (g.W.Sink.has_failed w))) same
-    (failed_prefix c.flush.new.writer c.flush.result
-    (all_written (contents c.args.capture.now)
-    c.signals-signals.result.now c.end-end.result (ap (map signal_contents) c.signals-signals.ensures) c.end-end.ensures
-    c.in_ok-unsent.ensures.empty refl c.write_declarations.ensures c.write_first_values.ensures
-    c.write_transitions.ensures c.send_buffer.ensures.written)
+    rw same at (failed_prefix c.flush.new.writer c.flush.result
+    (all_written (contents c.args.capture.now) c.signals-signals.result.now c.end-end.result
+    (ap (map signal_contents) c.signals-signals.ensures) c.end-end.ensures c.in_ok-unsent.ensures.empty refl
+    c.write_declarations.ensures c.write_first_values.ensures c.write_transitions.ensures c.send_buffer.ensures.written)
     c.flush.ensures.kept c.flush.ensures.fault c.flush.ensures.failed)

@@ -12,19 +12,16 @@ loop-position-preserved g c =
     let takes = g.C.Choice.takes c.args.choice.now in
     let x = signal_declared c.get.result in
     let pushed = c.in_ok-push.ensures.items in
-    let counted : c.from-count.result ≡ cond (takes x) 1 0 =
-    grind arith in (
+    let counted : c.from-count.result ≡ cond (takes x) 1 0 = grind arith in (
       omega (
         arith,
         ap (length {A = Bool}) pushed,
-        length-append c.loop-position.left_out.items
-            (not c.takes-takes.result ∷ []),
+        length-append c.loop-position.left_out.items (not c.takes-takes.result ∷ []),
         inv.0,
       ),
-      λ k s within at. ap (λ xs. slice_index_or xs k false) pushed
-          ∙ pushed_test takes signals c.loop-position.left_out.items (not c.takes-takes.result) c.loop-position.position
-          x
-          inv.0 c.get.ensures (ap not c.takes-takes.ensures) inv.1 k s within at,
+      λ k s within at. ap (λ xs. slice_index_or xs k false) pushed ∙ pushed_test takes signals
+          c.loop-position.left_out.items (not c.takes-takes.result) c.loop-position.position x inv.0 c.get.ensures
+          (ap not c.takes-takes.ensures) inv.1 k s within at,
       omega (arith, inv.2, counted, one_or_none takes signals (takes x)),
       (λ i. inv.3 i + counted i) ∙ sym (one_more takes signals c.loop-position.position x c.get.ensures),
     )

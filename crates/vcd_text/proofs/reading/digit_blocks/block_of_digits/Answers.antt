@@ -1,6 +1,6 @@
 use Rattle.std.proofs.Common.{◌≡◌, ◌+◌, ◌*◌, ◌/◌, ◌<◌, true, false, ℕ, [], List, Option, Some, None}
 use Rattle.std.proofs.Common.{length, take, drop}
-use Rattle.std.proofs.Common.{get_or, rules, sym, ap, subst, ◌∙◌, arith}
+use Rattle.std.proofs.Common.{get_or, rules, sym, ap, ◌∙◌, arith}
 use Rattle.std.specs.Prelude.{MatchOption}
 use Rattle.std.specs.List.{list_all}
 use Rattle.std.specs.Simd.{first_chunks}
@@ -27,9 +27,8 @@ returns-in_err-block c =
     let i = c.loop-eight.eight-index in
     let at = eight_digits digits _ i c.as_chunks.ensures.front
     (omega (arith, c.loop-eight-test.true, c.as_chunks.ensures.front_len)) in
-    let none : list_all is_binary_digit digits ≡ false =
-    not_all_after (8 * i) digits (not_all_before 8 (drop (8 * i) digits) (sym (ap (list_all is_binary_digit) at)
-    ∙ c.in_err-block.ensures)) in
+    let none : list_all is_binary_digit digits ≡ false = not_all_after (8 * i) digits
+    (not_all_before 8 (drop (8 * i) digits) (sym (ap (list_all is_binary_digit) at) ∙ c.in_err-block.ensures)) in
     search rules
 
 pub loop-eight-preserved : goal.loop-eight-preserved
@@ -42,11 +41,9 @@ loop-eight-preserved c =
     let block = c.in_ok-block.block in
     record {
       holds = holds_both c.args.pad (take (8 * i) digits) eight (take (8 * (i + 1)) digits) _ block
-          (eight_more digits i) c.loop-eight.invariant.holds
-          (subst (λ l. AddsLetters (letters_of_digits l) c.loop-eight.block block) at c.in_ok-block.ensures.1);
+          (eight_more digits i) c.loop-eight.invariant.holds (rw at at c.in_ok-block.ensures.1);
       letters = both_are_digits (take (8 * i) digits) eight (take (8 * (i + 1)) digits) (eight_more digits i)
-          c.loop-eight.invariant.letters
-          (sym (ap (list_all is_binary_digit) at) ∙ c.in_ok-block.ensures.0);
+          c.loop-eight.invariant.letters (sym (ap (list_all is_binary_digit) at) ∙ c.in_ok-block.ensures.0);
     }
 
 -- the letters of the eights, and of the rest after them
@@ -69,7 +66,4 @@ returns c =
     omega (arith, c.loop-eight-test.false, c.as_chunks.ensures.front_len) in
     let back = c.as_chunks.ensures.back ∙ ap (λ n. drop n digits) end in
     of_the_rest c.args.pad digits (8 * c.loop-eight.eight-index) _ c.with_digits.result c.loop-eight.invariant.letters
-    c.loop-eight.invariant.holds
-    (subst (λ l. MatchOption c.with_digits.result (list_all is_binary_digit l ≡ false)
-    (λ w. (list_all is_binary_digit l ≡ true)
-    × AddsLetters (letters_of_digits l) c.loop-eight.block w)) back c.with_digits.ensures)
+    c.loop-eight.invariant.holds (rw back at c.with_digits.ensures)

@@ -1,12 +1,10 @@
-use Rattle.std.proofs.Common.{◌≡◌, Err, List, [], ◌∷◌, ◌++◌, length, sym, ap, subst, ◌∙◌}
+use Rattle.std.proofs.Common.{◌≡◌, Err, List, [], ◌∷◌, ◌++◌, length, sym, ap, ◌∙◌}
 use Rattle.std.proofs.Common.{arith, append_assoc}
 use Rattle.std.proofs.Common.{append-nil, length-append, refl}
 use Rattle.std.proofs.lemmas.Result.{err_from_is_err_and}
 use Rattle.vcd_text.specs.declared.fault.ReadError.{ReadError}
 use Rattle.vcd_text.specs.Words.{WordOnLine}
 use Rattle.vcd_text.specs.LentWords.{word_contents, words_left}
-use Rattle.vcd_text.specs.Parts.{told}
-use Rattle.vcd_text.specs.inside.reading.Choice.{HasTakenFrom, AllWordsResult, RefusesWords}
 use Rattle.vcd_text.proofs.reading.file_reader.read_words.Goals as goal
 
 -- the words so far, this word, and the words left
@@ -19,9 +17,7 @@ loop-word-init g c = (
   (
     [],
     refl,
-    λ limit first words_so_far reads. subst (HasTakenFrom limit g.C.Choice.takes g.C.Choice.answers first
-        c.args.choice.now
-        c.args.parser.now) (sym (append-nil words_so_far)) reads,
+    λ limit first words_so_far reads. rw (append-nil words_so_far) reads,
   ),
   refl,
 )
@@ -57,9 +53,8 @@ loop-word-preserved g c =
         came ++ word ∷ [],
         in_turn (words_left c.args.words) came (words_left c.loop-word.left) (words_left c.next_word.new.self) word
             c.loop-word.invariant.0.1 c.in-Some.ensures.words,
-        λ limit first words_so_far reads. subst (HasTakenFrom limit g.C.Choice.takes g.C.Choice.answers first
-            c.take_word.new.choice c.take_word.new.parser) (append_assoc words_so_far came (word ∷ []))
-            (c.in_ok-take_word.ensures limit first (words_so_far ++ came)
+        λ limit first words_so_far reads. rw (append_assoc words_so_far came (word ∷ []))
+            at (c.in_ok-take_word.ensures limit first (words_so_far ++ came)
             (c.loop-word.invariant.0.2 limit first words_so_far reads)),
       ),
       c.in-Some.ensures.line_feeds ∙ c.loop-word.invariant.1,
@@ -76,19 +71,12 @@ returns-in_err-take_word-clause-words g c = λ limit first words_so_far reads.
     (sym (append_assoc came (word ∷ []) more) ∙ sym (in_turn (words_left c.args.words) came
     (words_left c.loop-word.left) more word c.loop-word.invariant.0.1 c.in-Some.ensures.words)) in
     let e : ReadError = c.in_err-take_word.field-0.0 in
-    subst (λ r. AllWordsResult limit g.C.Choice.takes g.C.Choice.answers first c.take_word.new.choice words_so_far
-    (words_left c.args.words) r c.take_word.new.parser)
-    (sym (refused.1 ∙ ap Err refused.2))
-    (subst (λ words. RefusesWords limit (g.C.Choice.takes first)
-    (told g.C.Choice.answers first c.take_word.new.choice) words e) all
-    (c.in_err-take_word.ensures limit first (words_so_far ++ came)
-    (c.loop-word.invariant.0.2 limit first words_so_far reads)
-    more))
+    rw (refused.1 ∙ ap Err refused.2) (rw all at (c.in_err-take_word.ensures limit first (words_so_far ++ came)
+    (c.loop-word.invariant.0.2 limit first words_so_far reads) more))
 
 pub returns-clause-words : goal.returns-clause-words
 returns-clause-words g c = λ limit first words_so_far reads.
     let came = c.loop-word.invariant.0.0 in
     let all : came ≡ words_left c.args.words =
     sym (c.loop-word.invariant.0.1 ∙ ap (λ ws. came ++ ws) c.in_default.ensures.words ∙ append-nil came) in
-    subst (λ ws. HasTakenFrom limit g.C.Choice.takes g.C.Choice.answers first c.loop-word.choice c.loop-word.parser
-    (words_so_far ++ ws)) all (c.loop-word.invariant.0.2 limit first words_so_far reads)
+    rw all at (c.loop-word.invariant.0.2 limit first words_so_far reads)

@@ -1,4 +1,4 @@
-use Rattle.std.proofs.Common.{◌≡◌, ◌∷◌, ◌++◌, [], sym, subst, arith}
+use Rattle.std.proofs.Common.{◌≡◌, arith}
 use Rattle.std.proofs.lemmas.Bool.{and_parts}
 use Rattle.vcd_text.specs.Words.{word_on}
 use Rattle.vcd_text.specs.Items.{end_word}
@@ -6,9 +6,7 @@ use Rattle.vcd_text.specs.inside.reading.Declarations.{is_end_word}
 use Rattle.vcd_text.specs.Parts.{told}
 use Rattle.vcd_text.specs.declared.fault.ReadError.{ReadError}
 use Rattle.vcd_text.specs.inside.reading.OpenItems.{is_end_definitions}
-use Rattle.vcd_text.specs.inside.reading.Parser.{error_at}
 use Rattle.vcd_text.specs.inside.reading.Part.{seen_state}
-use Rattle.vcd_text.specs.inside.reading.Choice.{HasTakenFrom, RefusesWords}
 use Rattle.vcd_text.proofs.reading.code_targets.Targets.{same_code}
 use Rattle.vcd_text.proofs.reading.parser.AskedParts.{end_is_early, word_result, taken_part, refused_part}
 use Rattle.vcd_text.proofs.reading.file_reader.take_word.Goals as goal
@@ -21,15 +19,13 @@ take_word-requires-clause-reading g c =
       asked = reads.asked;
       words = words;
       taken_words = reads.taken_words;
-      few =
-          omega (arith, few);
+      few = omega (arith, few);
     }
 
 pub returns-then-not-ends_definitions : goal.returns-then-not-ends_definitions
-returns-then-not-ends_definitions g c = λ limit first words r.
-    word_result limit g.C.Choice.takes g.C.Choice.answers first c.args.choice.now c.args.parser.now words r
-    c.take_word.new.self (word_on c.args.text.now c.args.line) c.take_word.result c.take_word.ensures.words
-    c.take_word.ensures.in_body
+returns-then-not-ends_definitions g c = λ limit first words r. word_result limit g.C.Choice.takes g.C.Choice.answers
+    first c.args.choice.now c.args.parser.now words r c.take_word.new.self (word_on c.args.text.now c.args.line)
+    c.take_word.result c.take_word.ensures.words c.take_word.ensures.in_body
 
 pub returns-in-Ok : goal.returns-in-Ok
 returns-in-Ok g c = λ limit first words r.
@@ -37,9 +33,7 @@ returns-in-Ok g c = λ limit first words r.
     let ends = and_parts (is_end_definitions old.item) (is_end_word c.args.text.now) (grind arith) in
     let at = r.taken_words.at in
     let word : c.args.text.now ≡ end_word = same_code c.args.text.now end_word ends.1 in
-    subst (λ t. HasTakenFrom limit g.C.Choice.takes g.C.Choice.answers first c.begin_part.new.choice
-    c.begin_part.new.parser (words ++ word_on t c.args.line ∷ [])) (sym word)
-    (taken_part limit g.C.Choice.takes g.C.Choice.answers first c.args.choice.now old words r
+    rw word (taken_part limit g.C.Choice.takes g.C.Choice.answers first c.args.choice.now old words r
     c.begin_part.new.parser c.begin_part.new.choice c.args.line
     (end_is_early old r.taken_words.begun old.item at.1 ends.0) c.in-Ok.ensures.begins
     (c.in-Ok.ensures.answered (seen_state old.part r.taken_words.state at.0.seen) at.0.variables))
@@ -50,13 +44,8 @@ returns-in-Err g c = λ limit first words r more.
     let ends = and_parts (is_end_definitions old.item) (is_end_word c.args.text.now) (grind arith) in
     let at = r.taken_words.at in
     let word : c.args.text.now ≡ end_word = same_code c.args.text.now end_word ends.1 in
-    subst (λ (e : ReadError). RefusesWords limit (g.C.Choice.takes first)
-    (told g.C.Choice.answers first c.begin_part.new.choice) (words ++ word_on c.args.text.now c.args.line ∷ more) e)
-    (sym c.at.ensures)
-    (subst (λ t. RefusesWords limit (g.C.Choice.takes first)
-    (told g.C.Choice.answers first c.begin_part.new.choice) (words ++ word_on t c.args.line ∷ more)
-    (error_at c.args.line c.in-Err.fault)) (sym word)
-    (refused_part limit g.C.Choice.takes g.C.Choice.answers first c.args.choice.now c.begin_part.new.choice old words
+    rw c.at.ensures (rw word (refused_part limit g.C.Choice.takes g.C.Choice.answers first c.args.choice.now
+    c.begin_part.new.choice old words
     more
     c.args.line c.in-Err.fault r (end_is_early old r.taken_words.begun old.item at.1 ends.0) ends.0
     (c.in-Err.ensures.refused (seen_state old.part r.taken_words.state at.0.seen) at.0.variables)))

@@ -1,6 +1,6 @@
-use Rattle.std.proofs.Common.{◌+◌, ◌++◌, ◌<◌, length, drop, get_or, List, subst, sym, arith}
+use Rattle.std.proofs.Common.{◌+◌, ◌++◌, drop, get_or, arith}
 use Rattle.std.proofs.lemmas.List.{drop_more, drop_all}
-use Rattle.vcd_text.specs.inside.reading.Log.{changes_of_position, CanMoveLog, MovesLog}
+use Rattle.vcd_text.specs.inside.reading.Log.{changes_of_position}
 use Rattle.vcd_text.specs.declared.reading.log.LoggedChange.{LoggedChange}
 use Rattle.vcd_text.proofs.reading.log.MovedToWaves.{can_take, moves_one, moves_then, can_still}
 use Rattle.vcd_text.proofs.reading.log.MovedToWaves.{more_left}
@@ -14,9 +14,7 @@ move_change-requires c =
     let e = get_or group i none in
     let (rest, can) = c.loop-change.invariant.0 in
     can_take e (drop (i + 1) group) rest c.loop-change.kept.items
-    (subst (λ (es : List LoggedChange). CanMoveLog c.loop-change.kept.items (λ position. changes_of_position position es
-    ++ rest position))
-    (drop_more group i none c.loop-change-test.true) can)
+    (rw (drop_more group i none c.loop-change-test.true) at can)
 
 pub loop-change-preserved : goal.loop-change-preserved
 loop-change-preserved c =
@@ -33,28 +31,16 @@ loop-change-preserved c =
       (
         after,
         can_still now new (λ position. changes_of_position position (drop i group) ++ after position)
-            (λ position. changes_of_position position left ++ after position)
-            (λ position some.
-            subst (λ (es : List LoggedChange). 0 < length (changes_of_position position es ++ after position))
-            (sym more) (more_left e left (after position) position some))
-            (subst (λ (es : List LoggedChange). MovesLog now new (λ position. changes_of_position position es
-            ++ after position) (λ position. changes_of_position position left ++ after position)) (sym more)
-            (moves_one e left after now new takes)) can,
+            (λ position. changes_of_position position left ++ after position) (λ position some. rw more
+            (more_left e left (after position) position some)) (rw more (moves_one e left after now new takes)) can,
       ),
-      λ rest.
-          moves_then c.args.kept.now.items now new (λ position. changes_of_position position group ++ rest position)
+      λ rest. moves_then c.args.kept.now.items now new (λ position. changes_of_position position group ++ rest position)
           (λ position. changes_of_position position (drop i group) ++ rest position)
-          (λ position. changes_of_position position left ++ rest position)
-          (c.loop-change.invariant.1 rest)
-          (subst (λ (es : List LoggedChange). MovesLog now new (λ position. changes_of_position position es
-          ++ rest position) (λ position. changes_of_position position left ++ rest position)) (sym more)
-          (moves_one e left rest now new takes)),
+          (λ position. changes_of_position position left ++ rest position) (c.loop-change.invariant.1 rest)
+          (rw more (moves_one e left rest now new takes)),
     )
 
 pub returns : goal.returns
 returns c = λ rest.
-    subst (λ (es : List LoggedChange). MovesLog c.args.kept.now.items c.loop-change.kept.items
-    (λ position. changes_of_position position c.args.group.now ++ rest position)
-    (λ position. changes_of_position position es ++ rest position))
-    (drop_all c.loop-change.change-index c.args.group.now (omega (arith, c.loop-change-test.false)))
-    (c.loop-change.invariant.1 rest)
+    rw (drop_all c.loop-change.change-index c.args.group.now (omega (arith, c.loop-change-test.false)))
+    at (c.loop-change.invariant.1 rest)

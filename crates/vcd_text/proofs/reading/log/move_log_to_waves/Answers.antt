@@ -1,4 +1,4 @@
-use Rattle.std.proofs.Common.{◌≡◌, ◌++◌, ◌∷◌, ◌<◌, ℕ, List, length, subst, sym, arith}
+use Rattle.std.proofs.Common.{◌≡◌, ◌++◌, ◌∷◌, ℕ, List, arith}
 use Rattle.std.specs.Global.{Vec}
 use Rattle.std.proofs.lemmas.List.{length-append}
 use Rattle.vcd_text.specs.inside.reading.Log.{changes_of_position, logged, CanMoveLog, MovesLog}
@@ -12,14 +12,11 @@ module _ (kept : List Variable) (groups rest : List (Vec LoggedChange)) (group :
     (changes : List LoggedChange) (are : groups ≡ group ∷ rest) (is : changes ≡ group.items) where
   can_move_next : CanMoveLog kept (logged groups)
       → CanMoveLog kept (λ position. changes_of_position position changes ++ logged rest position)
-  can_move_next can =
-      subst (λ (es : List LoggedChange). CanMoveLog kept (λ position. changes_of_position position es
-      ++ logged rest position)) (sym is) (subst (λ (gs : List (Vec LoggedChange)). CanMoveLog kept (logged gs)) are can)
+  can_move_next can = rw is (rw are at can)
 
 pub count_changes-requires : goal.count_changes-requires
-count_changes-requires c =
-    all_within c.loop-group.kept.items c.as_slice-changes.result.now (logged c.next.new.self.rest.items)
-    (λ position some.
+count_changes-requires c = all_within c.loop-group.kept.items c.as_slice-changes.result.now
+    (logged c.next.new.self.rest.items) (λ position some.
     let v = can_move_next c.loop-group.kept.items _ c.next.new.self.rest.items c.in-Some.group
     c.as_slice-changes.result.now c.in-Some.ensures.steps.0 c.as_slice-changes.ensures.value c.loop-group.invariant.0
     position some in (v.0, v.1))
@@ -31,9 +28,8 @@ move_group-requires c =
     let changes = c.as_slice-changes.result.now in
     let log : ℕ → List LoggedChange = λ position. changes_of_position position changes ++ logged rest position in (
       logged rest,
-      can_still kept c.count_changes.new.kept.items log log (λ position some. some)
-          (subst (λ vs. MovesLog kept vs log log) (sym c.count_changes.ensures) (all_counted changes kept log))
-          (can_move_next kept _ rest c.in-Some.group changes c.in-Some.ensures.steps.0
+      can_still kept c.count_changes.new.kept.items log log (λ position some. some) (rw c.count_changes.ensures
+          (all_counted changes kept log)) (can_move_next kept _ rest c.in-Some.group changes c.in-Some.ensures.steps.0
           c.as_slice-changes.ensures.value c.loop-group.invariant.0),
     )
 
@@ -46,19 +42,12 @@ loop-group-preserved c =
     let all = c.loop-group.group-iterator.rest.items in
     let changes = c.as_slice-changes.result.now in
     let log : ℕ → List LoggedChange = λ position. changes_of_position position changes ++ logged rest position in
-    let step : MovesLog kept new (logged all) (logged rest) =
-    subst (λ (gs : List (Vec LoggedChange)). MovesLog kept new (logged gs) (logged rest))
-    (sym c.in-Some.ensures.steps.0)
-    (subst (λ (es : List LoggedChange). MovesLog kept new (λ position. changes_of_position position es
-    ++ logged rest position) (logged rest)) c.as_slice-changes.ensures.value
-    (moves_then kept c.count_changes.new.kept.items new log log (logged rest)
-    (subst (λ vs. MovesLog kept vs log log) (sym c.count_changes.ensures) (all_counted changes kept log))
-    (c.in_ok-move_group.ensures (logged rest)))) in (
-      can_still kept new (logged all) (logged rest)
-          (λ position some.
-          subst (λ (gs : List (Vec LoggedChange)). 0 < length (logged gs position)) (sym c.in-Some.ensures.steps.0)
-          (omega (arith, some, length-append (changes_of_position position group) (logged rest position))))
-          step c.loop-group.invariant.0,
+    let step : MovesLog kept new (logged all) (logged rest) = rw c.in-Some.ensures.steps.0
+    (rw c.as_slice-changes.ensures.value at (moves_then kept c.count_changes.new.kept.items new log log (logged rest)
+    (rw c.count_changes.ensures (all_counted changes kept log)) (c.in_ok-move_group.ensures (logged rest)))) in (
+      can_still kept new (logged all) (logged rest) (λ position some. rw c.in-Some.ensures.steps.0
+          (omega (arith, some, length-append (changes_of_position position group) (logged rest position)))) step
+          c.loop-group.invariant.0,
       moves_then c.args.kept.now.items kept new (logged c.args.groups.items) (logged all) (logged rest)
           c.loop-group.invariant.1 step,
     )

@@ -13,16 +13,14 @@ pub returns-in-Some-strip_prefix : goal.returns-in-Some-strip_prefix
 returns-in-Some-strip_prefix c =
     let prefix : c.args.text.now ≡ 49 ∷ 48 ∷ c.in-Some-strip_prefix.unit.now = search rules in
     let other : bytes_eq (take 3 c.args.text.now) (49 ∷ 48 ∷ 48 ∷ []) ≡ false = c.in_default.ensures.cases in
-    c.timescale_with-in-Some-strip_prefix.ensures
-    ∙ sym (ap timescale_spelled prefix
+    c.timescale_with-in-Some-strip_prefix.ensures ∙ sym (ap timescale_spelled prefix
     ∙ ten c.in-Some-strip_prefix.unit.now (ap (λ t. bytes_eq (take 3 t) (49 ∷ 48 ∷ 48 ∷ [])) (sym prefix) ∙ other))
 
 pub returns-in-Some-strip_prefix-2 : goal.returns-in-Some-strip_prefix-2
 returns-in-Some-strip_prefix-2 c =
     let prefix : c.args.text.now ≡ 49 ∷ c.in-Some-strip_prefix-2.unit.now = search rules in
     let other : bytes_eq (take 2 c.args.text.now) (49 ∷ 48 ∷ []) ≡ false = c.in_default-strip_prefix.ensures.cases in
-    c.timescale_with-in-Some-strip_prefix-2.ensures
-    ∙ sym (ap timescale_spelled prefix
+    c.timescale_with-in-Some-strip_prefix-2.ensures ∙ sym (ap timescale_spelled prefix
     ∙ one c.in-Some-strip_prefix-2.unit.now (ap (λ t. bytes_eq (take 2 t) (49 ∷ 48 ∷ [])) (sym prefix) ∙ other))
 
 pub returns : goal.returns

@@ -1,6 +1,6 @@
 -- Each turn adds the first change of one signal.
-use Rattle.std.proofs.Common.{◌≡◌, ◌<◌, ◌+◌, inl, inr, ℕ, List, [], ◌∷◌, ◌++◌, length, get_or, sym}
-use Rattle.std.proofs.Common.{ap, subst}
+use Rattle.std.proofs.Common.{◌≡◌, ◌<◌, ◌+◌, inl, inr, ℕ, List, [], ◌∷◌, ◌++◌, length, get_or}
+use Rattle.std.proofs.Common.{ap}
 use Rattle.std.proofs.Common.{◌∙◌, arith}
 use Rattle.std.proofs.lemmas.Bool.{cases_eq}
 use Rattle.std.proofs.lemmas.List.{get_or_append_left, get_or_default, get_or_push, length_push}
@@ -9,18 +9,16 @@ use Rattle.vcd_text.specs.declared.writing.cursors.Cursor.{Cursor}
 use Rattle.vcd_text.specs.inside.writing.Cursors.{IsNext}
 use Rattle.vcd_text.proofs.writing.cursors.first_changes.Goals as goal
 
-one_more : (p : ℕ) (signals : List Signal) (cursors : List Cursor) (there : Signal) (next : Cursor)
-    → p < length signals → length cursors ≡ p → there ≡ get_or signals p there → IsNext 1 1 there.wave.changes next
-    → ((k : ℕ) (s : Signal) (n : Cursor) → k < p
-    → IsNext 1 1 (get_or signals k s).wave.changes (get_or cursors k n))
+one_more : (p : ℕ) (signals : List Signal) (cursors : List Cursor) (there : Signal) (next : Cursor) → p < length signals
+    → length cursors ≡ p → there ≡ get_or signals p there → IsNext 1 1 there.wave.changes next
+    → ((k : ℕ) (s : Signal) (n : Cursor) → k < p → IsNext 1 1 (get_or signals k s).wave.changes (get_or cursors k n))
     → (k : ℕ) (s : Signal) (n : Cursor) → k < p + 1
     → IsNext 1 1 (get_or signals k s).wave.changes (get_or (cursors ++ next ∷ []) k n)
 one_more p signals cursors there next inside all is holds before k s n less =
     elim (cases_eq k p) [
       | inl at ↦ (grind (arith, get_or_default, get_or_push))
       | inr apart ↦
-          subst (λ (x : Cursor). IsNext 1 1 (get_or signals k s).wave.changes x)
-          (sym (get_or_append_left cursors (next ∷ []) n k (omega (arith, all)))) (before k s n (omega arith))
+          rw (get_or_append_left cursors (next ∷ []) n k (omega (arith, all))) (before k s n (omega arith))
     ]
 
 pub loop-signal-preserved : goal.loop-signal-preserved
@@ -30,11 +28,9 @@ loop-signal-preserved c =
     let cursors = c.loop-signal.cursors.items in
     let grown = c.in_ok-push.ensures.items in
     record {
-      all = ap (length {A = Cursor}) grown ∙ length_push cursors c.first_change.result
-          ∙ ap (λ n. n + 1) kept.all;
-      each = λ k s n less. subst (λ (l : List Cursor). IsNext 1 1 (get_or c.args.signals.now k s).wave.changes
-          (get_or l k n)) (sym grown)
-          (one_more p c.args.signals.now cursors c.signal-item.result c.first_change.result (omega arith) kept.all
+      all = ap (length {A = Cursor}) grown ∙ length_push cursors c.first_change.result ∙ ap (λ n. n + 1) kept.all;
+      each = λ k s n less. rw grown (one_more p c.args.signals.now cursors c.signal-item.result c.first_change.result
+          (omega arith) kept.all
           c.signal-item.is c.first_change.ensures kept.each k s n less);
     }
 

@@ -15,7 +15,6 @@ returns g c =
     c.write_header.ensures in
     let timescale = writes_as (ap (λ o. flat_map item_line (timescale_items o)) c.timescale.ensures)
     c.write_timescale.ensures in
-    let signals = writes_as
-    (ap (λ (l : List Signal). flat_map item_line (signal_items [] 0 (map signal_contents l))) c.signals.ensures)
-    c.write_signals.ensures in
+    let signals = writes_as (ap (λ (l : List Signal). flat_map item_line
+    (signal_items [] 0 (map signal_contents l))) c.signals.ensures) c.write_signals.ensures in
     writes_both (writes_both (writes_both header timescale) signals) c.write_bytes.ensures.written

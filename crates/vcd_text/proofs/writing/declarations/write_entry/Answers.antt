@@ -7,7 +7,6 @@ use Rattle.vcd_text.proofs.writing.output.Pieces.{writes_as}
 use Rattle.vcd_text.proofs.writing.declarations.write_entry.Goals as goal
 
 pub returns : goal.returns
-returns g c =
-    writes_line (header_word c.args.header.now.kind) c.args.header.now.words
+returns g c = writes_line (header_word c.args.header.now.kind) c.args.header.now.words
     (writes_as (c.as_bytes.ensures.value ∙ c.header_keyword.ensures) c.write_bytes.ensures.written)
     (writes_as (ap spaced_words c.as_slice.ensures) c.write_words.ensures) c.write_end.ensures

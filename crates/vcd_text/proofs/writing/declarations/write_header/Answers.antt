@@ -8,7 +8,6 @@ use Rattle.vcd_text.proofs.writing.output.Pieces.{prefix_item}
 use Rattle.vcd_text.proofs.writing.declarations.write_header.Goals as goal
 
 pub loop-one-preserved : goal.loop-one-preserved
-loop-one-preserved g c =
-    prefix_item (λ (hs : List Header). flat_map item_line (header_items hs)) c.args.header.now c.loop-one.one-index
-    c.one-item.result c.loop-one.invariant
-    c.write_entry.ensures c.loop-one-test.true c.one-item.is refl
+loop-one-preserved g c = prefix_item (λ (hs : List Header). flat_map item_line (header_items hs)) c.args.header.now
+    c.loop-one.one-index c.one-item.result c.loop-one.invariant c.write_entry.ensures c.loop-one-test.true c.one-item.is
+    refl

@@ -6,6 +6,5 @@ use Rattle.vcd_text.proofs.writing.output.Pieces.{writes_as, writes_both}
 use Rattle.vcd_text.proofs.writing.declarations.write_scope_changes.Goals as goal
 
 pub returns : goal.returns
-returns g c =
-    writes_as (grind (arith, take_all, length-drop, flat_map-append))
+returns g c = writes_as (grind (arith, take_all, length-drop, flat_map-append))
     (writes_both c.write_upscopes.ensures c.write_scopes.ensures)

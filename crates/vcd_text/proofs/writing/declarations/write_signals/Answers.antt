@@ -15,6 +15,5 @@ loop-position-preserved g c =
     (omega arith) c.index-signals-position.is c.as_slice-path.ensures)
 
 pub returns : goal.returns
-returns g c =
-    prefix_whole (prefix_grows _ c.loop-position.invariant c.write_upscopes.ensures
+returns g c = prefix_whole (prefix_grows _ c.loop-position.invariant c.write_upscopes.ensures
     (all_declared c.loop-position.opened.now c.loop-position.position c.args.signals.now (omega arith))) refl

@@ -12,8 +12,7 @@ loop-closed-init g c = let all : c.args.count - 0 ≡ c.args.count = omega arith
     prefix_begun (ap (λ (n : ℕ). flat_map item_line (replicate n upscope)) all)
 
 pub loop-closed-preserved : goal.loop-closed-preserved
-loop-closed-preserved g c =
-    prefix_grows _ c.loop-closed.invariant c.write_bytes.ensures.written
+loop-closed-preserved g c = prefix_grows _ c.loop-closed.invariant c.write_bytes.ensures.written
     (one_closed c.args.count c.loop-closed._closed (omega arith))
 
 pub returns : goal.returns

@@ -19,7 +19,6 @@ returns g c =
     let index = writes_as (ap (λ l. 32 ∷ l) (sym (append-nil code)))
     (writes_both c.write_byte.ensures.written c.write_code.ensures) in
     let words = writes_as (ap spaced_words c.as_slice-2.ensures) c.write_words.ensures in
-    writes_line (codes "$var") (signal.kind ∷ width ∷ code ∷ signal.words) c.write_bytes.ensures.written
-    (writes_words (signal.kind ∷ width ∷ code ∷ []) signal.words
-    (writes_words (signal.kind ∷ width ∷ []) (code ∷ [])
-    (writes_words (signal.kind ∷ []) (width ∷ []) kind size) index) words) c.write_end.ensures
+    writes_line (codes "$var") (signal.kind ∷ width ∷ code ∷ signal.words) c.write_bytes.ensures.written (writes_words
+    (signal.kind ∷ width ∷ code ∷ []) signal.words (writes_words (signal.kind ∷ width ∷ []) (code ∷ []) (writes_words
+    (signal.kind ∷ []) (width ∷ []) kind size) index) words) c.write_end.ensures

@@ -19,10 +19,9 @@ constant_piece : (k : ℕ) (signals : List Signal) (s : Signal) → k < length s
 constant_piece k signals s within at = grind (arith, drop_more)
 
 pub loop-position-preserved : goal.loop-position-preserved
-loop-position-preserved g c =
-    prefix_grows _ c.loop-position.invariant c.write_value_near.ensures
-    (constant_piece c.loop-position.position c.args.signals.now c.index-signals-position.result (omega arith)
-    c.index-signals-position.is)
+loop-position-preserved g c = prefix_grows _ c.loop-position.invariant c.write_value_near.ensures
+    (constant_piece c.loop-position.position c.args.signals.now c.index-signals-position.result
+    (omega arith) c.index-signals-position.is)
 
 pub returns : goal.returns
 returns g c = prefix_whole c.loop-position.invariant (grind (arith, drop_all))

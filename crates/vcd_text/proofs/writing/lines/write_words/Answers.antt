@@ -6,8 +6,7 @@ use Rattle.vcd_text.proofs.writing.output.Pieces.{prefix_item, writes_as}
 use Rattle.vcd_text.proofs.writing.lines.write_words.Goals as goal
 
 pub loop-word-preserved : goal.loop-word-preserved
-loop-word-preserved g c =
-    prefix_item spaced_words c.args.words.now c.loop-word.word-index c.word-item.result c.loop-word.invariant
-    (writes_as (ap (λ l. spaced_words (l ∷ [])) c.as_slice.ensures) c.write_word.ensures)
-    c.loop-word-test.true c.word-item.is
-    (flat_map-append (λ w. 32 ∷ w) (c.word-item.result ∷ []) (drop (c.loop-word.word-index + 1) c.args.words.now))
+loop-word-preserved g c = prefix_item spaced_words c.args.words.now c.loop-word.word-index c.word-item.result
+    c.loop-word.invariant (writes_as (ap (λ l. spaced_words (l ∷ [])) c.as_slice.ensures) c.write_word.ensures)
+    c.loop-word-test.true c.word-item.is (flat_map-append (λ w. 32 ∷ w) (c.word-item.result ∷ [])
+    (drop (c.loop-word.word-index + 1) c.args.words.now))

@@ -40,20 +40,17 @@ loop-k-preserved g c =
     let value = value_there signals s (key % POSITIONS) (c.args.from + key / POSITIONS) there
     (get_or_default signals (key % POSITIONS) c.index-signals-position.result s there) in
     record {
-      text = prefix_grows _ kept.text (writes_both c.write_new_stamp.ensures
-          (writes_as (ap (λ v. item_line (value_item (code_of (key % POSITIONS)) v)) (sym value))
-          c.write_value_near.ensures))
-          (one_written (map signal_contents signals) c.args.from c.loop-k.last k keys inside);
+      text = prefix_grows _ kept.text (writes_both c.write_new_stamp.ensures (writes_as (ap (λ v. item_line (value_item
+          (code_of (key % POSITIONS)) v)) (sym value)) c.write_value_near.ensures)) (one_written (map signal_contents
+          signals) c.args.from c.loop-k.last k keys inside);
       last = one_later c.args.from c.loop-k.last k _ keys inside kept.last;
       start_cursors = length-set c.prefetch_changes.new.start_cursors (key % POSITIONS) _ ∙ c.prefetch_changes.ensures
           ∙ kept.start_cursors;
     }
 
 pub returns-clause-text : goal.returns-clause-text
-returns-clause-text g c =
-    prefix_whole c.loop-k.invariant.text
-    (none_written (map signal_contents c.args.signals.now) c.args.from c.loop-k.last c.loop-k.k c.args.keys.now
-    (omega arith))
+returns-clause-text g c = prefix_whole c.loop-k.invariant.text (none_written
+    (map signal_contents c.args.signals.now) c.args.from c.loop-k.last c.loop-k.k c.args.keys.now (omega arith))
 
 pub returns-clause-last : goal.returns-clause-last
 returns-clause-last g c = grind (arith, last_written)

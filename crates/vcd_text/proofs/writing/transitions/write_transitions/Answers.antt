@@ -38,7 +38,5 @@ loop-from-preserved g c =
     }
 
 pub returns : goal.returns
-returns g c =
-    prefix_whole (prefix_grows _ c.loop-from.invariant.text c.write_new_stamp.ensures
-    (end_left (map signal_contents c.args.signals.now) c.args.end c.loop-from.last c.loop-from.from
-    (omega arith))) refl
+returns g c = prefix_whole (prefix_grows _ c.loop-from.invariant.text c.write_new_stamp.ensures
+    (end_left (map signal_contents c.args.signals.now) c.args.end c.loop-from.last c.loop-from.from (omega arith))) refl

@@ -1,8 +1,7 @@
 -- A letter that is not redundant begins the short form; so does the last.
-use Rattle.std.proofs.Common.{◌≡◌, ◌+◌, ◌-◌, ◌*◌, ◌/◌, ◌≤◌, ℕ, ap, subst, sym}
+use Rattle.std.proofs.Common.{◌≡◌, ◌+◌, ◌-◌, ◌*◌, ◌/◌, ◌≤◌, ℕ, ap}
 use Rattle.std.proofs.Common.{◌∙◌, arith, inl, inr}
 use Rattle.std.proofs.lemmas.Bool.{cases_eq}
-use Rattle.vcd_text.specs.inside.writing.Values.{IsShortFormLen}
 use Rattle.vcd_text.proofs.writing.values.LetterBits.{is_redundant_in}
 use Rattle.vcd_text.proofs.writing.values.ShortForm.{first_needed, more_redundant, short_rest, state_at}
 use Rattle.vcd_text.proofs.writing.values.short_form_len.Goals as goal
@@ -14,10 +13,9 @@ returns-then-len-gt1-clause-rest c =
     let kept = c.loop-left.invariant in
     let is = c.short_form_len_of_block-len.ensures in
     short_rest v _ (omega (arith, is.least)) (omega (arith, is.most, kept.within))
-    (more_redundant v below _ c.loop-left.left _ _ c.block.ensures (omega arith) (omega arith) is (omega arith)
-    kept.redundant)
-    (λ _. first_needed v below _ _ _ _ c.block.ensures (omega arith) (omega (arith, kept.within)) is (omega arith)
-    c.if-len-gt1.true)
+    (more_redundant v below _ c.loop-left.left _ _ c.block.ensures (omega arith) (omega arith) is
+    (omega arith) kept.redundant) (λ _. first_needed v below _ _ _ _ c.block.ensures (omega arith)
+    (omega (arith, kept.within)) is (omega arith) c.if-len-gt1.true)
 
 pub returns-then-not-is_redundant-clause-rest : goal.returns-then-not-is_redundant-clause-rest
 returns-then-not-is_redundant-clause-rest c =
@@ -62,7 +60,6 @@ returns-clause-rest c =
     let is = c.short_form_len_of_block.ensures in
     let whole : left - 0 ≡ left = omega arith in
     let narrow : left ≤ 64 = omega (arith, c.loop-left-test.false) in
-    short_rest v _ is.least (omega (arith, is.most, kept.within))
-    (more_redundant v 0 _ left len len c.block-2.ensures (omega (arith, kept.least)) (omega (arith, narrow))
-    (subst (λ n. IsShortFormLen n c.block-2.result len) (sym whole) is) (omega arith) kept.redundant)
-    (first_needed v 0 _ left len len c.block-2.ensures narrow (omega (arith, kept.within)) is (omega arith))
+    short_rest v _ is.least (omega (arith, is.most, kept.within)) (more_redundant v 0 _ left len len c.block-2.ensures
+    (omega (arith, kept.least)) (omega (arith, narrow)) (rw whole is) (omega arith) kept.redundant) (first_needed v 0 _
+    left len len c.block-2.ensures narrow (omega (arith, kept.within)) is (omega arith))

@@ -5,6 +5,5 @@ use Rattle.vcd_text.proofs.writing.output.Pieces.{writes_as, writes_both}
 use Rattle.vcd_text.proofs.writing.values.write_value.Goals as goal
 
 pub returns : goal.returns
-returns g c =
-    writes_as (line_of_value c.args.value.now (code_of c.args.position))
+returns g c = writes_as (line_of_value c.args.value.now (code_of c.args.position))
     (writes_both c.write_value_prefix.ensures (writes_both c.write_code.ensures c.write_byte.ensures.written))

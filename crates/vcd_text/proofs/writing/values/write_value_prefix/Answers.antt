@@ -19,6 +19,5 @@ pub returns : goal.returns
 returns g c =
     let more : length c.args.value.now ≢ 1 = omega (arith, c.width.ensures.width) in
     writes_as (ap (λ digits. (98 ∷ []) ++ (printed_letters digits ++ 32 ∷ [])) c.short_form_len.ensures.rest
-    ∙ sym (bits_before_code c.args.value.now more))
-    (writes_both c.write_byte-2.ensures.written
+    ∙ sym (bits_before_code c.args.value.now more)) (writes_both c.write_byte-2.ensures.written
     (writes_both c.write_lowest.ensures c.write_byte-3.ensures.written))

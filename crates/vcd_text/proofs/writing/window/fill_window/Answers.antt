@@ -1,10 +1,9 @@
 -- The sorted keys list the transitions of all signals by tick. A window of one tick has room, so
 -- more than one was tried.
-use Rattle.std.proofs.Common.{◌≢◌, ◌<◌, ◌+◌, inl, inr, length, map, subst, arith, vec_capacity}
+use Rattle.std.proofs.Common.{◌≢◌, inl, inr, map, arith}
 use Rattle.std.proofs.lemmas.List.{length-map, with_items_is}
 use Rattle.std.proofs.lemmas.List.Sorted.{All-permutation}
 use Rattle.vcd_core.specs.CaptureContents.{signal_contents}
-use Rattle.vcd_text.specs.inside.writing.Transitions.{unsorted_window}
 use Rattle.vcd_text.specs.inside.writing.Window.{IsKey}
 use Rattle.vcd_text.proofs.writing.window.ChangeCounts.{one_tick_within}
 use Rattle.vcd_text.proofs.writing.window.KeyOrder.{ordered_are}
@@ -20,8 +19,7 @@ loop-count-preserved c =
       | inl far ↦ omega (arith, far, only)
       | inr full ↦ omega (
         arith,
-        subst (λ n. vec_capacity c.loop-count.window.keys
-            < length (unsorted_window c.args.from (c.args.from + n) 0 signals)) only full,
+        rw only at full,
         one,
         length-map c.args.signals.now signal_contents,
         ready.room,
@@ -37,9 +35,8 @@ loop-count-preserved c =
     }
 
 pub returns-clause-all : goal.returns-clause-all
-returns-clause-all c =
-    ordered_are c.args.end c.args.from c.loop-count.count (map signal_contents c.args.signals.now) _ _
-    c.requires.ready.some (c.list_window.ensures.all c.loop-count-test.false) c.sort_unstable.ensures.permutation
+returns-clause-all c = ordered_are c.args.end c.args.from c.loop-count.count (map signal_contents c.args.signals.now) _
+    _ c.requires.ready.some (c.list_window.ensures.all c.loop-count-test.false) c.sort_unstable.ensures.permutation
     c.sort_unstable.ensures.sorted c.requires.ready.sound
 
 pub returns-clause-keys : goal.returns-clause-keys

@@ -1,7 +1,6 @@
 -- Each turn lists the key of the next change, which is in the window.
-use Rattle.std.proofs.Common.{◌<◌, ◌+◌, ◌++◌, inr, length, drop, sym, ap, subst, ◌∙◌, arith}
+use Rattle.std.proofs.Common.{◌<◌, ◌+◌, ◌++◌, inr, length, drop, sym, ap, ◌∙◌, arith}
 use Rattle.std.proofs.lemmas.List.{append-nil, length-append, length-map}
-use Rattle.vcd_core.specs.Wave.{IsWave}
 use Rattle.vcd_text.specs.inside.writing.Cursors.{tick_at}
 use Rattle.vcd_text.specs.inside.writing.Transitions.{Transition, window_of_signal}
 use Rattle.vcd_text.specs.inside.writing.Window.{transition_of_key, transitions_of}
@@ -29,7 +28,7 @@ loop-next-preserved c =
     let early : next.tick < c.args.to = omega arith in
     record {
       next = goes_on _ c.args.from c.args.to cs next c.following_change-next.result
-          (subst (IsWave _) c.changes-changes.ensures.changes c.changes-changes.ensures.form) kept.next early
+          (rw c.changes-changes.ensures.changes at c.changes-changes.ensures.form) kept.next early
           c.requires.end more.index more.tick
           (more.following_tick ∙ ap (λ l. tick_at l (next.index + 2)) c.changes-changes.ensures.changes);
       all =

@@ -1,10 +1,8 @@
 -- Each turn lists the keys of one signal.
-use Rattle.std.proofs.Common.{◌<◌, List, length, get_or, sym, ap, ◌∙◌, subst, arith}
+use Rattle.std.proofs.Common.{◌<◌, length, sym, ap, ◌∙◌, arith}
 use Rattle.std.proofs.lemmas.List.{length-map, length-set}
 use Rattle.vcd_core.specs.declared.capture.Signal.{Signal}
-use Rattle.vcd_core.specs.declared.wave.Change.{Change}
 use Rattle.vcd_text.specs.declared.writing.cursors.Cursor.{Cursor}
-use Rattle.vcd_text.specs.inside.writing.Cursors.{IsNext}
 use Rattle.vcd_text.proofs.writing.window.ListedBySignal.{one_listed, all_listed, longer_than}
 use Rattle.vcd_text.proofs.writing.cursors.NextChange.{passed_next}
 use Rattle.vcd_text.proofs.writing.window.list_window.Goals as goal
@@ -13,9 +11,8 @@ pub list_signal-requires-clause-next : goal.list_signal-requires-clause-next
 list_signal-requires-clause-next c =
     let k = c.loop-position.position in
     let none : Cursor = record { index = 0; tick = 0; following_tick = 0 } in
-    subst (λ (l : List Change). IsNext c.args.from c.args.from l (get_or c.args.start_cursors.now k none))
-    (ap (λ (x : Signal). x.wave.changes) (sym c.index-signals-position.is))
-    (c.requires.start_cursors.each k c.index-signals-position.result none (omega arith))
+    rw (ap (λ (x : Signal). x.wave.changes) (sym c.index-signals-position.is))
+    at (c.requires.start_cursors.each k c.index-signals-position.result none (omega arith))
 
 pub returns-in-None-clause-keys : goal.returns-in-None-clause-keys
 returns-in-None-clause-keys c =
@@ -28,9 +25,8 @@ returns-clause-next c = λ _. record {
 }
 
 pub returns-clause-all : goal.returns-clause-all
-returns-clause-all c = λ all.
-    all_listed c.args.from c.args.to c.loop-position.position c.args.signals.now _ _ (omega arith)
-    c.loop-position.invariant.all
+returns-clause-all c = λ all. all_listed c.args.from c.args.to c.loop-position.position c.args.signals.now _ _
+    (omega arith) c.loop-position.invariant.all
 
 pub returns-in-None-clause-no_room_or_too_far : goal.returns-in-None-clause-no_room_or_too_far
 returns-in-None-clause-no_room_or_too_far c = grind (arith, longer_than, length-map)

@@ -1,4 +1,4 @@
-use Rattle.std.proofs.Common.{inr, inl, ℕ, List, Err, IfErr, sym, ap, subst, ◌∙◌, arith}
+use Rattle.std.proofs.Common.{inr, inl, Err, sym, ap, ◌∙◌, arith}
 use Rattle.std.proofs.lemmas.Bool.{and_parts}
 use Rattle.std.proofs.lemmas.Result.{err_from_is_err_and}
 use Rattle.vcd_text.specs.inside.reading.OpenItems.{is_nothing}
@@ -6,8 +6,7 @@ use Rattle.vcd_text.specs.declared.fault.ReadError.{ReadError}
 use Rattle.vcd_text.specs.Words.{complete_words}
 use Rattle.vcd_text.specs.FoundFaults.{too_early}
 use Rattle.vcd_text.specs.Parts.{told}
-use Rattle.vcd_text.specs.inside.reading.Choice.{HasTakenFrom, RefusesFile}
-use Rattle.vcd_text.specs.inside.reading.FileReader.{HasReadBytes}
+use Rattle.vcd_text.specs.inside.reading.Choice.{HasTakenFrom}
 use Rattle.vcd_text.specs.inside.reading.Part.{seen_state}
 use Rattle.vcd_text.proofs.reading.file_reader.Chunks.{last_taken, last_refused}
 use Rattle.vcd_text.proofs.reading.parser.NoWordLeft.{stops}
@@ -26,16 +25,10 @@ returns-in_err-read_words-clause-fault g c =
     let p = c.args.self in
     let refused = err_from_is_err_and c.from_residual.result c.from_residual.ensures.1 in
     let choice = c.read_words.new.choice in
-    subst (λ r. IfErr r (λ (e : ReadError). (limit most : ℕ) (first : g.row.C.Denot) (bytes : List ℕ)
-    → HasReadBytes most (HasTakenFrom limit g.C.Choice.takes g.C.Choice.answers first c.args.choice.now) p bytes
-    → RefusesFile limit (g.C.Choice.takes first) (told g.C.Choice.answers first choice) bytes e))
-    (sym (refused.1 ∙ ap Err refused.2))
-    (λ limit most first bytes taken.
-    last_refused limit most (HasTakenFrom limit g.C.Choice.takes g.C.Choice.answers first c.args.choice.now)
-    (g.C.Choice.takes first)
+    rw (refused.1 ∙ ap Err refused.2) (λ limit most first bytes taken. last_refused limit most
+    (HasTakenFrom limit g.C.Choice.takes g.C.Choice.answers first c.args.choice.now) (g.C.Choice.takes first)
     (told g.C.Choice.answers first choice) p c.as_slice.result.now bytes c.in_err-read_words.field-0.0 taken
-    c.as_slice.ensures
-    (c.in_err-read_words.ensures.words limit first (complete_words bytes) taken.taken_words))
+    c.as_slice.ensures (c.in_err-read_words.ensures.words limit first (complete_words bytes) taken.taken_words))
 
 pub returns-in_err-check_complete-clause-fault : goal.returns-in_err-check_complete-clause-fault
 returns-in_err-check_complete-clause-fault g c =
@@ -45,11 +38,7 @@ returns-in_err-check_complete-clause-fault g c =
     let refused = err_from_is_err_and c.from_residual-in_err-check_complete.result
     c.from_residual-in_err-check_complete.ensures.1 in
     let (open_still, truncated) = c.in_err-check_complete.ensures.truncated in
-    subst (λ r. IfErr r (λ (e : ReadError). (limit most : ℕ) (first : g.row.C.Denot) (bytes : List ℕ)
-    → HasReadBytes most (HasTakenFrom limit g.C.Choice.takes g.C.Choice.answers first c.args.choice.now) p bytes
-    → RefusesFile limit (g.C.Choice.takes first) (told g.C.Choice.answers first choice) bytes e))
-    (sym (refused.1 ∙ ap Err refused.2))
-    (λ limit most first bytes taken.
+    rw (refused.1 ∙ ap Err refused.2) (λ limit most first bytes taken.
     let reads = last_taken most (HasTakenFrom limit g.C.Choice.takes g.C.Choice.answers first c.args.choice.now)
     (HasTakenFrom limit g.C.Choice.takes g.C.Choice.answers first choice) p m c.as_slice.result.now bytes taken
     c.as_slice.ensures (c.in_ok-read_words.ensures.words limit first (complete_words bytes) taken.taken_words) in

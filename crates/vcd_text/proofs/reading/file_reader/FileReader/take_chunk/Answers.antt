@@ -1,13 +1,10 @@
-use Rattle.std.proofs.Common.{◌≡◌, ℕ, true, List, ◌++◌, Err, Option, IfErr, IfSome, sym, ap, subst}
+use Rattle.std.proofs.Common.{◌++◌, Err, ap}
 use Rattle.std.proofs.Common.{◌∙◌, arith}
 use Rattle.std.proofs.KnownBytes.{Consumes-trans}
 use Rattle.std.proofs.lemmas.Result.{err_from_is_err_and}
 use Rattle.std.proofs.lemmas.List.{length-append}
-use Rattle.vcd_text.specs.declared.fault.Fault.TheVariants as faults
-use Rattle.vcd_text.specs.declared.fault.ReadError.{ReadError}
 use Rattle.vcd_text.specs.Words.{complete_words}
-use Rattle.vcd_text.specs.inside.reading.FileReader.{FileReaderMatches}
-use Rattle.vcd_text.specs.Parts.{told, IsPartRefusal}
+use Rattle.vcd_text.specs.Parts.{told}
 use Rattle.vcd_text.specs.inside.reading.Choice.{HasTakenFrom}
 use Rattle.vcd_text.proofs.reading.parser.AskedParts.{silent_words}
 use Rattle.vcd_text.proofs.reading.file_reader.Chunks.{has_come, as_part, refused_early, is_no_failure, full, broken}
@@ -52,10 +49,8 @@ take_words-requires g c =
       first,
       bytes ++ chunk,
       has_come most (HasTakenFrom limit g.C.Choice.takes g.C.Choice.answers first c.args.choice.now) p
-          c.read_from.new.self
-          c.len-unfinished_len.result c.in-Ok.count bytes c.make_room.new.self.bytes chunk
-          taken text
-          c.in_ok-make_room.ensures.same count (omega (arith, c.if-count-self.false)) c.len-unfinished_len.ensures,
+          c.read_from.new.self c.len-unfinished_len.result c.in-Ok.count bytes c.make_room.new.self.bytes chunk taken
+          text c.in_ok-make_room.ensures.same count (omega (arith, c.if-count-self.false)) c.len-unfinished_len.ensures,
     )
 
 pub returns-in_err-take_words-clause-refused : goal.returns-in_err-take_words-clause-refused
@@ -66,20 +61,11 @@ returns-in_err-take_words-clause-refused g c =
     c.from_residual-in_err-take_words.ensures.1 in
     let source = c.read_from.new.source in
     let choice = c.take_words.new.choice in
-    subst (λ r. IfErr r (λ (e : ReadError). (limit most : ℕ) (first : g.row.C.Denot) (coming : Option (List ℕ))
-    → FileReaderMatches most (HasTakenFrom limit g.C.Choice.takes g.C.Choice.answers first c.args.choice.now) coming
-    (g.R.Source.coming c.args.source.now) p
-    → IfSome coming (λ file. IsPartRefusal limit most (g.C.Choice.takes first) (told g.C.Choice.answers first choice)
-    file
-    (g.R.Source.has_failed source) (g.R.Source.coming source) e)))
-    (sym (refused.1 ∙ ap Err refused.2))
-    (λ limit most first coming stands.
+    rw (refused.1 ∙ ap Err refused.2) (λ limit most first coming stands.
     let (bytes, came, taken) = stands in
     let come = has_come most (HasTakenFrom limit g.C.Choice.takes g.C.Choice.answers first c.args.choice.now) p
-    c.read_from.new.self c.len-unfinished_len.result c.in-Ok.count bytes
-    c.make_room.new.self.bytes chunk
-    taken text c.in_ok-make_room.ensures.same count (omega (arith, c.if-count-self.false))
-    c.len-unfinished_len.ensures in
+    c.read_from.new.self c.len-unfinished_len.result c.in-Ok.count bytes c.make_room.new.self.bytes chunk taken text
+    c.in_ok-make_room.ensures.same count (omega (arith, c.if-count-self.false)) c.len-unfinished_len.ensures in
     refused_early limit most (g.C.Choice.takes first) (told g.C.Choice.answers first choice) coming
     (g.R.Source.coming source)
     (g.R.Source.has_failed source) (bytes ++ chunk)
@@ -94,15 +80,11 @@ returns-in_err-take_words-clause-failed g c =
     let (limit, most, first, bytes, taken) = c.requires.read_bytes in
     let (chunk, second, text, count) = c.in-Ok.ensures.more in
     let come = has_come most (HasTakenFrom limit g.C.Choice.takes g.C.Choice.answers first c.args.choice.now) p
-    c.read_from.new.self c.len-unfinished_len.result c.in-Ok.count bytes
-    c.make_room.new.self.bytes chunk
-    taken text c.in_ok-make_room.ensures.same count (omega (arith, c.if-count-self.false))
-    c.len-unfinished_len.ensures in
+    c.read_from.new.self c.len-unfinished_len.result c.in-Ok.count bytes c.make_room.new.self.bytes chunk taken text
+    c.in_ok-make_room.ensures.same count (omega (arith, c.if-count-self.false)) c.len-unfinished_len.ensures in
     let refused = err_from_is_err_and c.from_residual-in_err-take_words.result
     c.from_residual-in_err-take_words.ensures.1 in
-    subst (λ r. IfErr r (λ (e : ReadError). e.fault ≡ faults.ReadFault
-    → g.R.Source.has_failed c.read_from.new.source ≡ true)) (sym (refused.1 ∙ ap Err refused.2))
-    (λ is. absurd (is_no_failure limit (g.C.Choice.takes first)
+    rw (refused.1 ∙ ap Err refused.2) (λ is. absurd (is_no_failure limit (g.C.Choice.takes first)
     (told g.C.Choice.answers first c.take_words.new.choice) (bytes ++ chunk) c.in_err-take_words.field-0.0
     (c.in_err-take_words.ensures.taken limit most first (bytes ++ chunk) come) is))
 
@@ -112,10 +94,8 @@ returns-clause-taken g c = λ limit most first coming stands.
     let (bytes, came, taken) = stands in
     let (chunk, second, text, count) = c.in-Ok.ensures.more in
     let come = has_come most (HasTakenFrom limit g.C.Choice.takes g.C.Choice.answers first c.args.choice.now) p
-    c.read_from.new.self c.len-unfinished_len.result c.in-Ok.count bytes
-    c.make_room.new.self.bytes chunk
-    taken text c.in_ok-make_room.ensures.same count (omega (arith, c.if-count-self.false))
-    c.len-unfinished_len.ensures in (
+    c.read_from.new.self c.len-unfinished_len.result c.in-Ok.count bytes c.make_room.new.self.bytes chunk taken text
+    c.in_ok-make_room.ensures.same count (omega (arith, c.if-count-self.false)) c.len-unfinished_len.ensures in (
       bytes ++ chunk,
       Consumes-trans coming (g.R.Source.coming c.args.source.now) (g.R.Source.coming c.read_from.new.source) bytes chunk
           came second,

@@ -1,4 +1,4 @@
-use Rattle.std.proofs.Common.{not, Err, take, drop, sym, ap, subst, ◌∙◌, arith}
+use Rattle.std.proofs.Common.{not, Err, take, drop, sym, ap, ◌∙◌, arith}
 use Rattle.std.specs.List.{list_all}
 use Rattle.std.proofs.lemmas.Result.{err_from_is_err_and}
 use Rattle.std.proofs.lemmas.List.{length-take, length-append}
@@ -7,7 +7,6 @@ use Rattle.vcd_text.specs.Words.{complete_words}
 use Rattle.vcd_text.specs.inside.Words.{has_complete_words}
 use Rattle.vcd_text.specs.Parts.{told}
 use Rattle.vcd_text.specs.inside.reading.Choice.{HasTakenFrom}
-use Rattle.vcd_text.specs.inside.reading.FileReader.{TakesChunk, HasTaken}
 use Rattle.vcd_text.proofs.reading.file_reader.Chunks.{now_taken, now_refused, word_is_first}
 use Rattle.vcd_text.proofs.words.WordsInTurn.{words_are_few}
 use Rattle.vcd_text.proofs.words.WordsByBytes.{complete_are_few}
@@ -33,14 +32,11 @@ returns-in_err-self-clause-taken g c = λ limit most first bytes come.
     let prefix = c.as_slice-2.ensures in
     let refused = err_from_is_err_and c.from_residual.result c.from_residual.ensures.1 in
     let old = HasTakenFrom limit g.C.Choice.takes g.C.Choice.answers first c.args.choice.now in
-    subst (λ r. TakesChunk limit most g.C.Choice.takes g.C.Choice.answers first c.read_words.new.choice bytes r
-    (record p { parser = c.read_words.new.parser })) (sym (refused.1 ∙ ap Err refused.2))
-    (now_refused limit most old p c.args.unfinished_len len bytes (take len c.as_slice-2.result.now) come
-    (ap (λ l. has_complete_words (take len l)) (sym value) ∙ c.complete_words_len-len.ensures.complete)
-    (ap (λ l. list_all (λ b. not (is_white_space b)) (drop len l)) (sym value)
-    ∙ c.complete_words_len-len.ensures.no_space)
-    (ap (take len) prefix) (g.C.Choice.takes first) (told g.C.Choice.answers first c.read_words.new.choice)
-    c.in_err-self.field-0.0
+    rw (refused.1 ∙ ap Err refused.2) (now_refused limit most old p c.args.unfinished_len len bytes
+    (take len c.as_slice-2.result.now) come (ap (λ l. has_complete_words (take len l)) (sym value)
+    ∙ c.complete_words_len-len.ensures.complete) (ap (λ l. list_all (λ b. not (is_white_space b)) (drop len l))
+    (sym value) ∙ c.complete_words_len-len.ensures.no_space) (ap (take len) prefix) (g.C.Choice.takes first)
+    (told g.C.Choice.answers first c.read_words.new.choice) c.in_err-self.field-0.0
     (c.in_err-self.ensures.words limit first (complete_words come.before) come.taken.taken_words))
 
 pub returns-clause-taken : goal.returns-clause-taken
@@ -54,10 +50,6 @@ returns-clause-taken g c = λ limit most first bytes come.
     let taken = now_taken limit most old p c.args.unfinished_len len bytes (take len c.as_slice-2.result.now) come
     (ap (λ l. has_complete_words (take len l)) (sym value) ∙ c.complete_words_len-len.ensures.complete)
     (ap (λ l. list_all (λ b. not (is_white_space b)) (drop len l)) (sym value)
-    ∙ c.complete_words_len-len.ensures.no_space)
-    (ap (take len) prefix) now c.read_words.new.parser
+    ∙ c.complete_words_len-len.ensures.no_space) (ap (take len) prefix) now c.read_words.new.parser
     (c.in_ok-self.ensures.words limit first (complete_words come.before) come.taken.taken_words) in
-    subst (λ word. HasTaken most now c.read_words.new.parser word c.in_ok-self.field-0 p.bytes_left bytes)
-    (sym c.remove_prefix.ensures)
-    (subst (λ n. HasTaken most now c.read_words.new.parser (drop len p.buffer.bytes) n p.bytes_left bytes)
-    (sym c.in_ok-self.ensures.line_feeds) taken)
+    rw c.remove_prefix.ensures (rw c.in_ok-self.ensures.line_feeds taken)

@@ -7,6 +7,5 @@ pub returns : goal.returns
 returns c =
     let m = c.args.self.now in
     closes_entry m (record m { header = c.push.new.self; words = c.words_out_of-words.new.words; item = items.Nothing })
-    c.args.kind c.requires
-    (c.in_ok-push.ensures.items
-    ∙ ap (λ ws. m.header.items ++ record { kind = c.args.kind; words = ws } ∷ []) c.words_out_of-words.ensures) refl
+    c.args.kind c.requires (c.in_ok-push.ensures.items ∙ ap (λ ws. m.header.items
+    ++ record { kind = c.args.kind; words = ws } ∷ []) c.words_out_of-words.ensures) refl

@@ -1,4 +1,4 @@
-use Rattle.std.proofs.Common.{◌≡◌, ◌≤◌, ℕ, List, map, length, refl, sym, ap, subst, ◌∙◌, arith}
+use Rattle.std.proofs.Common.{◌≡◌, ◌≤◌, ℕ, List, map, length, refl, sym, ap, ◌∙◌, arith}
 use Rattle.std.proofs.lemmas.Bool.{and_parts}
 use Rattle.std.proofs.lemmas.List.{length-map}
 use Rattle.std.proofs.lemmas.List.Elements.{All-nil}
@@ -7,7 +7,6 @@ use Rattle.vcd_core.specs.Contents.{SignalContents}
 use Rattle.vcd_text.specs.Words.{words_of}
 use Rattle.vcd_text.specs.Grammar.{ValueChange, initial_state, kept_variables}
 use Rattle.vcd_text.specs.Meaning.{meaning, declared_signal}
-use Rattle.vcd_text.specs.declared.reading.part.Part.{Part}
 use Rattle.vcd_text.specs.inside.reading.OpenItems.{is_nothing}
 use Rattle.vcd_text.specs.inside.reading.Part.{Asked, seen_state, seen_tick, remaining, listed_part}
 use Rattle.vcd_text.specs.inside.reading.Parser.{HasTakenWords}
@@ -24,18 +23,15 @@ returns c =
     let self = c.args.self in
     let in_body = (and_parts self.in_body (is_nothing self.item) c.requires.complete).0 in
     let same : (limit : ℕ) (asked : Asked) (bytes : List ℕ) (r : HasTakenWords limit asked self (words_of bytes))
-    → contents capture ≡ listed_part self.part (meaning r.state) =
-    λ limit asked bytes r.
+    → contents capture ≡ listed_part self.part (meaning r.state) = λ limit asked bytes r.
     let at = r.at.0 in
     let late : UpToTick r.state.tick r.state.value_changes =
-    subst (λ d. UpToTick d.tick d.value_changes) r.state_is
-    (late_after (initial_state limit) r.items r.allowed (All-nil (λ (v : ValueChange). v.tick ≤ 0))) in
+    rw r.state_is at (late_after (initial_state limit) r.items r.allowed (All-nil (λ (v : ValueChange). v.tick ≤ 0))) in
     let signals = ap (map signal_contents) parts.signals ∙ c.in_ok-signals.ensures
     ∙ ap (remaining c.as_slice.result.now) (c.in_ok-all.ensures (seen_state self.part r.state at.seen) at.variables)
-    ∙ ap (λ out. remaining out
-    (map (declared_signal at.seen (seen_tick self.part r.state.tick)) (kept_variables r.state.declared)))
-    c.as_slice.ensures.value
-    ∙ signals_of_part self.part r.state at.seen at.tells late in
+    ∙ ap (λ out. remaining out (map (declared_signal at.seen (seen_tick self.part r.state.tick))
+    (kept_variables r.state.declared))) c.as_slice.ensures.value ∙ signals_of_part self.part r.state at.seen at.tells
+    late in
     λ i. record {
       header = (parts.header ∙ at.header) i;
       timescale = (parts.timescale ∙ at.timescale) i;
@@ -57,8 +53,7 @@ returns c =
             timescale = (at.is_asked_of late).0;
             signals = undriven_signals r.state.value_changes r.state.tick (kept_variables r.state.declared)
                 ∙ (at.is_asked_of late).1;
-            is = subst (λ (p : Part). contents capture ≡ listed_part p (meaning r.state)) (at.part_is late)
-                (same limit asked bytes r);
+            is = rw (at.part_is late) at (same limit asked bytes r);
             end = at.tick;
             count = omega (
               arith,

@@ -1,9 +1,6 @@
-use Rattle.std.proofs.Common.{◌≡◌, ◌∷◌, ◌++◌, ◌⊎◌, [], ap, sym, subst, ◌∙◌}
+use Rattle.std.proofs.Common.{◌∷◌, [], ap, sym, ◌∙◌}
 use Rattle.vcd_text.specs.Words.{word_on}
 use Rattle.vcd_text.specs.inside.reading.Parser.{error_at}
-use Rattle.vcd_text.specs.MemoryErrors.{memory_error}
-use Rattle.vcd_text.specs.Faults.{ShowsFault}
-use Rattle.vcd_text.specs.declared.fault.ReadError.{ReadError}
 use Rattle.vcd_text.proofs.reading.parser.NextWord.{words_taken, one_shown}
 use Rattle.vcd_text.proofs.reading.parser.AskedParts.{step_in_body}
 use Rattle.vcd_text.proofs.reading.parser.Parser.take_word.Goals as goal
@@ -24,6 +21,5 @@ pub returns-in-Err-clause-words : goal.returns-in-Err-clause-words
 returns-in-Err-clause-words c = λ limit asked words_so_far more r.
     let w = word_on c.args.text.now c.args.line in
     let is = ap (λ line. error_at line c.in-Err.fault) (sym c.item_fault_line-shown.ensures) ∙ sym c.at.ensures in
-    subst (λ (e : ReadError). (e ≡ memory_error) ⊎ ShowsFault limit (words_so_far ++ w ∷ more) e.line e.fault) is
-    (one_shown limit asked c.args.self.now words_so_far more w r c.in-Err.fault
+    rw is at (one_shown limit asked c.args.self.now words_so_far more w r c.in-Err.fault
     (c.in-Err.ensures asked r.state r.begun r.at))

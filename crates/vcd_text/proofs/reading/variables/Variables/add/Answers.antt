@@ -1,4 +1,4 @@
-use Rattle.std.proofs.Common.{◌≡◌, ◌<◌, ◌++◌, ◌∷◌, [], length, Ok, inl, inr, refl, sym, subst, arith}
+use Rattle.std.proofs.Common.{◌≡◌, ◌<◌, ◌++◌, ◌∷◌, [], length, Ok, inl, inr, refl, arith}
 use Rattle.vcd_text.specs.inside.reading.Variables.{declaration_in, DeclaresAs}
 use Rattle.vcd_text.specs.declared.reading.code_targets.CodeTarget.TheVariants.{Kept}
 use Rattle.vcd_text.specs.declared.reading.variables.Variables.{Variables}
@@ -21,20 +21,14 @@ returns c = λ state k value_changes keeps.
       | then-variable-position+in_ok-insert w ↦
           let puts : Puts old (with_kept old list w.insert.new.self) code (Kept v.wave.width v.first) =
           λ key. grind arith in
-          subst declared (sym w.self-is) (λ items.
+          rw w.self-is (λ items.
           keep_declares old state code v k keeps c.requires.free list w.insert.new.self value_changes
           c.requires.silent c.requires.placed items puts room tt)
       | else-variable-position w ↦ elim c.requires.free [
-        | inl (none, end) ↦ absurd (omega (
-          arith,
-          end,
-          w.if-variable-position.false,
-          c.len-position.ensures,
-          old.kept.ok.0,
-        ))
-        | inr had ↦ subst declared (sym w.self-is) (λ items.
-            keep_declares old state code v k keeps (inr had) list old.code_targets value_changes
-            c.requires.silent c.requires.placed items
+        | inl (none, end) ↦
+            absurd (omega (arith, end, w.if-variable-position.false, c.len-position.ensures, old.kept.ok.0))
+        | inr had ↦ rw w.self-is (λ items. keep_declares old state code v k keeps
+            (inr had) list old.code_targets value_changes c.requires.silent c.requires.placed items
             (puts_same old (with_kept old list old.code_targets) code (Kept v.wave.width v.first) refl had) room tt)
       ]
     ] in

@@ -4,20 +4,16 @@ use Rattle.vcd_text.proofs.reading.changes.PartSteps.{checked, kept_in_time}
 use Rattle.vcd_text.proofs.reading.variables.Variables.change.Goals as goal
 
 pub returns-then-is_late : goal.returns-then-is_late
-returns-then-is_late c = λ state at k.
-    checked c.args.part.now c.args.silent.now c.args.tick state c.args.code.now c.args.digits.now c.from-width.result
-    c.in-Kept.first c.args.self.now c.check_digits.result k
+returns-then-is_late c = λ state at k. checked c.args.part.now c.args.silent.now c.args.tick state c.args.code.now
+    c.args.digits.now c.from-width.result c.in-Kept.first c.args.self.now c.check_digits.result k
     (sym c.get.ensures ∙ c.in-Kept.is ∙ ap (λ n. Kept n c.in-Kept.first) (sym c.from-width.ensures))
-    c.check_digits.ensures
-    (inl (sym c.is_late.ensures ∙ c.if-is_late.true))
+    c.check_digits.ensures (inl (sym c.is_late.ensures ∙ c.if-is_late.true))
 
 pub returns-then-is_set : goal.returns-then-is_set
-returns-then-is_set c = λ state at k.
-    checked c.args.part.now c.args.silent.now c.args.tick state c.args.code.now c.args.digits.now c.from-width.result
-    c.in-Kept.first c.args.self.now c.check_digits-then-is_set.result k
+returns-then-is_set c = λ state at k. checked c.args.part.now c.args.silent.now c.args.tick state c.args.code.now
+    c.args.digits.now c.from-width.result c.in-Kept.first c.args.self.now c.check_digits-then-is_set.result k
     (sym c.get.ensures ∙ c.in-Kept.is ∙ ap (λ n. Kept n c.in-Kept.first) (sym c.from-width.ensures))
-    c.check_digits-then-is_set.ensures
-    (inr (
+    c.check_digits-then-is_set.ensures (inr (
       c.from-width.result,
       c.in-Kept.first,
       sym c.get.ensures ∙ c.in-Kept.is ∙ ap (λ n. Kept n c.in-Kept.first) (sym c.from-width.ensures),

@@ -1,13 +1,11 @@
-use Rattle.std.proofs.Common.{◌≤◌, Err, OnOk, All, inl, inr, refl, sym, ap, subst, ◌∙◌, arith}
+use Rattle.std.proofs.Common.{◌≤◌, Err, inl, inr, refl, sym, ap, ◌∙◌, arith}
 use Rattle.std.proofs.lemmas.Bool.{eqb-true}
 use Rattle.std.proofs.lemmas.List.{nil_from_length}
 use Rattle.std.specs.Vec.{with_item}
 use Rattle.std.proofs.lemmas.Result.{err_from_is_err_and}
 use Rattle.std.proofs.lemmas.List.Elements.{All-weaker}
 use Rattle.vcd_core.specs.declared.wave.Change.{Change}
-use Rattle.vcd_text.specs.inside.reading.Variables.{HasValueFrom, ChangeResult}
 use Rattle.vcd_text.specs.declared.reading.log.LoggedChange.{LoggedChange}
-use Rattle.vcd_text.specs.declared.reading.variables.Variable.{Variable}
 use Rattle.vcd_text.proofs.reading.variables.ChangedVariable.{own_wave, read_is, wave_late, refused}
 use Rattle.vcd_text.proofs.reading.variables.ChangedVariable.{wide_changes, narrow_changes}
 use Rattle.vcd_text.proofs.reading.variables.Variables.change_at.Goals as goal
@@ -20,8 +18,7 @@ change_wave-requires c =
     let v = c.index_mut.result.now in
     let wave = (own_wave old state code digits c.args.width c.args.first k had).4.first.wave.changes in
     record {
-      none_later = subst (λ (u : Variable). All (λ (e : Change). e.tick ≤ c.args.tick) u.wave.changes)
-          (sym (read_is old state code digits c.args.width c.args.first k had v c.index_mut.ensures.value))
+      none_later = rw (read_is old state code digits c.args.width c.args.first k had v c.index_mut.ensures.value)
           (All-weaker (λ (e : Change). e.tick ≤ state.tick) (λ (e : Change). e.tick ≤ c.args.tick)
           (λ e le. omega (arith, le, later)) wave (wave_late old state code digits c.args.width c.args.first k had));
     }
@@ -31,28 +28,24 @@ returns-then-width-gt64-clause-changed c = λ state code tick k had.
     let old = c.args.self.now in
     let digits = c.args.digits.now in
     let v = c.index_mut.result.now in
-    wide_changes old (with_item old.kept c.args.first c.change_wave.new.self) state code digits
-    c.args.width c.args.first v c.change_wave.new.self c.change_wave.result k had
-    c.index_mut.ensures.value (inl c.if-width-gt64.true) refl
-    (subst (λ t. OnOk c.change_wave.result (HasValueFrom t digits v c.change_wave.new.self)) (sym tick)
-    c.change_wave.ensures.values)
-    c.change_wave.ensures.refuses
+    wide_changes old (with_item old.kept c.args.first c.change_wave.new.self) state code digits c.args.width
+    c.args.first v c.change_wave.new.self c.change_wave.result k had c.index_mut.ensures.value
+    (inl c.if-width-gt64.true) refl (rw tick c.change_wave.ensures.values) c.change_wave.ensures.refuses
 
 pub returns-in_err-block-clause-changed : goal.returns-in_err-block-clause-changed
 returns-in_err-block-clause-changed c = λ state code tick k had.
     let old = c.args.self.now in
     let digits = c.args.digits.now in
     let failed = err_from_is_err_and c.from_residual.result c.from_residual.ensures.1 in
-    subst (λ r. ChangeResult state code digits r old) (sym (failed.1 ∙ ap Err failed.2))
-    (inr (refused old state code digits c.args.width c.args.first k had c.in_err-block.field-0.0
+    rw (failed.1 ∙ ap Err failed.2) (inr (refused old state code digits c.args.width c.args.first k had
+    c.in_err-block.field-0.0
     c.in_err-block.ensures))
 
 pub returns-clause-changed : goal.returns-clause-changed
 returns-clause-changed c = λ state code tick k had.
     let e : LoggedChange =
     record { tick = c.args.tick; position = c.args.first; block = c.in_ok-block.block } in
-    narrow_changes c.args.self.now c.append.new.groups state code c.args.digits.now c.args.width c.args.first
-    e k had
+    narrow_changes c.args.self.now c.append.new.groups state code c.args.digits.now c.args.width c.args.first e k had
     (omega (arith, c.if-width-gt64.false)) (sym tick) refl c.in_ok-block.ensures c.in_ok-append.ensures.grouped
     c.in_ok-append.ensures.appended tt
 
@@ -64,9 +57,8 @@ change_wave-requires-then-is_empty c =
     let v = c.index_mut-then-is_empty.result.now in
     let wave = (own_wave old state code digits c.args.width c.args.first k had).4.first.wave.changes in
     record {
-      none_later = subst (λ (u : Variable). All (λ (e : Change). e.tick ≤ c.args.tick) u.wave.changes)
-          (sym (read_is old state code digits c.args.width c.args.first k had v
-          c.index_mut-then-is_empty.ensures.value))
+      none_later = rw (read_is old state code digits c.args.width c.args.first k had v
+          c.index_mut-then-is_empty.ensures.value)
           (All-weaker (λ (e : Change). e.tick ≤ state.tick) (λ (e : Change). e.tick ≤ c.args.tick)
           (λ e le. omega (arith, le, later)) wave (wave_late old state code digits c.args.width c.args.first k had));
     }
@@ -78,13 +70,8 @@ returns-then-is_empty-clause-changed c = λ state code tick k had.
     let v = c.index_mut-then-is_empty.result.now in
     wide_changes old (with_item old.kept c.args.first c.change_wave-then-is_empty.new.self) state code digits
     c.args.width c.args.first v c.change_wave-then-is_empty.new.self c.change_wave-then-is_empty.result k had
-    c.index_mut-then-is_empty.ensures.value
-    (inr (nil_from_length old.log.items (omega (
+    c.index_mut-then-is_empty.ensures.value (inr (nil_from_length old.log.items (omega (
       arith,
       eqb-true old.log.len 0 (sym c.is_empty.ensures ∙ c.if-is_empty.true),
       old.log.ok.0,
-    )))) refl
-    (subst (λ t. OnOk c.change_wave-then-is_empty.result
-    (HasValueFrom t digits v c.change_wave-then-is_empty.new.self)) (sym tick)
-    c.change_wave-then-is_empty.ensures.values)
-    c.change_wave-then-is_empty.ensures.refuses
+    )))) refl (rw tick c.change_wave-then-is_empty.ensures.values) c.change_wave-then-is_empty.ensures.refuses

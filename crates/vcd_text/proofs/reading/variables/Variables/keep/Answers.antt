@@ -1,7 +1,7 @@
-use Rattle.std.proofs.Common.{◌≡◌, ◌∙◌, Err, inr, refl, sym, ap, subst}
+use Rattle.std.proofs.Common.{◌≡◌, ◌∙◌, Err, inr, refl, ap}
 use Rattle.std.proofs.lemmas.Result.{err_from_is_err_and}
-use Rattle.vcd_text.specs.Grammar.{VariableDeclaration, is_skipped}
-use Rattle.vcd_text.specs.inside.reading.Variables.{declaration_of_parts, declaration_in, DeclaresAs}
+use Rattle.vcd_text.specs.Grammar.{is_skipped}
+use Rattle.vcd_text.specs.inside.reading.Variables.{declaration_of_parts, declaration_in}
 use Rattle.vcd_text.specs.declared.reading.log.TheConstants.{NOTHING_EXPECTED}
 use Rattle.vcd_text.specs.declared.reading.variables.Variable.{Variable}
 use Rattle.vcd_text.proofs.reading.variables.VariablesMatch.{scopes_moved}
@@ -11,8 +11,7 @@ pub returns-in_err-first : goal.returns-in_err-first
 returns-in_err-first c = λ state k value_changes keeps.
     let d = declaration_of_parts state c.args.kind c.args.width c.args.code.now c.args.name.items in
     let failed = err_from_is_err_and c.from_residual.result c.from_residual.ensures.1 in
-    subst (λ r. DeclaresAs state d r c.args.self.now) (sym (failed.1 ∙ ap Err failed.2))
-    (inr (c.in_err-first.ensures.mixed state d k refl refl keeps))
+    rw (failed.1 ∙ ap Err failed.2) (inr (c.in_err-first.ensures.mixed state d k refl refl keeps))
 
 pub returns : goal.returns
 returns c = λ state k value_changes keeps.
@@ -25,10 +24,7 @@ returns c = λ state k value_changes keeps.
       first = c.in_ok-first.first;
       expected_room = NOTHING_EXPECTED;
     } in
-    let same : declaration_in state.scopes c.args.code.now v ≡ d =
-    λ i. declaration_of_parts state c.args.kind (c.new-2.ensures.width i) c.args.code.now
-    ((c.new.ensures ∙ c.from_vec.ensures) i) in
-    subst (λ (e : VariableDeclaration). DeclaresAs state e c.add.result c.add.new.self) same
-    (c.add.ensures state
-    (scopes_moved c.args.self.now c.place.new.self state state.scopes (c.place.ensures.opened ∙ k.opened)
-    c.place.ensures.places k) value_changes (ap is_skipped same ∙ keeps))
+    let same : declaration_in state.scopes c.args.code.now v ≡ d = λ i. declaration_of_parts state c.args.kind
+    (c.new-2.ensures.width i) c.args.code.now ((c.new.ensures ∙ c.from_vec.ensures) i) in
+    rw same at (c.add.ensures state (scopes_moved c.args.self.now c.place.new.self state state.scopes
+    (c.place.ensures.opened ∙ k.opened) c.place.ensures.places k) value_changes (ap is_skipped same ∙ keeps))

@@ -1,8 +1,7 @@
 use Rattle.std.proofs.Common.{arith}
-use Rattle.std.proofs.Common.{[], ap, subst, ◌∙◌}
+use Rattle.std.proofs.Common.{ap, ◌∙◌}
 use Rattle.std.specs.Global.{Vec}
 use Rattle.std.proofs.lemmas.Result.{on_ok_weaker}
-use Rattle.vcd_text.specs.inside.reading.Log.{logged, MovesLog}
 use Rattle.vcd_text.specs.declared.reading.log.LoggedChange.{LoggedChange}
 use Rattle.vcd_text.proofs.reading.log.MovedToWaves.{variables_can_move, moved_match}
 use Rattle.vcd_text.proofs.reading.variables.Variables.move_log.Goals as goal
@@ -16,5 +15,4 @@ returns-clause-same c =
     (λ d state k.
     moved_match c.args.self.now c.move_log_to_waves.new.kept c.replace-groups.new.dest state k
     (ap (λ (gs : Vec (Vec LoggedChange)). gs.items) c.replace-groups.ensures.after ∙ c.new.ensures.items)
-    (subst (λ (gs : Vec (Vec LoggedChange)). MovesLog c.args.self.now.kept.items c.move_log_to_waves.new.kept.items
-    (logged gs.items) (λ _. [])) c.replace-groups.ensures.value d)) c.move_log_to_waves.ensures
+    (rw c.replace-groups.ensures.value at d)) c.move_log_to_waves.ensures

@@ -1,4 +1,4 @@
-use Rattle.std.proofs.Common.{◌∙◌, ◌+◌, ap, sym, subst, refl, inl, inr, if◌then◌else◌, Ok}
+use Rattle.std.proofs.Common.{◌∙◌, ◌+◌, ap, sym, refl, inl, inr, if◌then◌else◌, Ok}
 use Rattle.std.proofs.Common.{List, ℕ}
 use Rattle.std.specs.Prelude.{bytes_eq}
 use Rattle.vcd_text.specs.inside.reading.Variables.{target_of, DeclaresAs}
@@ -16,12 +16,11 @@ returns c = λ state d k coded skipped.
     let result = λ (vs : Variables). DeclaresAs state d (Ok tt) (record vs { skipped = vs.skipped + 1 }) in
     elim c.match-get.branch [
       | in-Undeclared+in_ok-insert-in-Undeclared w ↦
-          subst result (sym w.self-is)
-          (skip_declares old w.insert.new.self state d k skipped (inl (stood ∙ w.in-Undeclared.is))
+          rw w.self-is (skip_declares old w.insert.new.self state d k skipped (inl (stood ∙ w.in-Undeclared.is))
           (λ key. w.in_ok-insert-in-Undeclared.ensures key
           ∙ ap (λ (code : List ℕ). if bytes_eq key code then Skipped else target_of old key) (sym coded)) tt)
       | in-Skipped w ↦
           let had = stood ∙ w.in-Skipped.is in
-          subst result (sym w.self-is) (skip_declares old old.code_targets state d k skipped (inr had)
+          rw w.self-is (skip_declares old old.code_targets state d k skipped (inr had)
           (puts_same old (with_skipped old old.code_targets) d.code Skipped refl had) tt)
     ]

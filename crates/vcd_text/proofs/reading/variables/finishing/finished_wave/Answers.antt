@@ -19,9 +19,8 @@ returns-then-first-before-clause-contents c =
       changes = c.share.ensures.kept_changes i;
     } in
     map-set signal_contents before first (record item { wave = c.share.new.self })
-    ∙ ap (set (map signal_contents before) first)
-    (same ∙ sym (get_or-map signal_contents before first old (signal_contents old) c.if-first-before.true))
-    ∙ set-get_or (map signal_contents before) first (signal_contents old)
+    ∙ ap (set (map signal_contents before) first) (same ∙ sym (get_or-map signal_contents before first old
+    (signal_contents old) c.if-first-before.true)) ∙ set-get_or (map signal_contents before) first (signal_contents old)
 
 pub returns-clause-finished : goal.returns-clause-finished
 returns-clause-finished c = grind (arith, slice_get_cases)
