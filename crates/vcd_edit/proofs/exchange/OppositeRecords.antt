@@ -1,10 +1,10 @@
 -- The record of the opposite step: it undoes the step, it fits, and it stores touched changes only.
-use Rattle.std.proofs.Common.{◌≡◌, ◌≢◌, ℕ, zero, suc, ◌+◌, ◌^◌, ◌<◌, ◌≤◌, ℤ, neg_ℤ, List, [], ◌∷◌}
+use Rattle.std.proofs.Common.{◌≡◌, ℕ, zero, suc, ◌+◌, ◌^◌, ◌<◌, ◌≤◌, ℤ, neg_ℤ, List, [], ◌∷◌}
 use Rattle.std.proofs.Common.{◌++◌, length, take}
 use Rattle.std.proofs.Common.{drop, map, get_or, set, slice_index_or, All, Option, Some}
 use Rattle.std.proofs.Common.{None, refl, sym, ap}
 use Rattle.std.proofs.Common.{subst, ◌∙◌, arith}
-use Rattle.std.specs.List.{insert, remove, sum_by}
+use Rattle.std.specs.List.{insert, remove}
 use Rattle.std.proofs.lemmas.List.{length-set, length-map, length-append, length-take-le}
 use Rattle.std.proofs.lemmas.List.{get_or-set_same, get_or_at}
 use Rattle.std.proofs.lemmas.List.{set-set, set-get_or, drop_more, append_assoc, get_or-append-add}
@@ -32,9 +32,9 @@ use Rattle.vcd_edit.specs.Touched.{pairing_at}
 use Rattle.vcd_edit.specs.Touched.{stored_changes}
 use Rattle.vcd_edit.specs.Touched.{change_count}
 use Rattle.vcd_edit.specs.inside.exchange.Pieces.{PieceReadyIn, AreOppositePieces}
-use Rattle.vcd_edit.specs.inside.exchange.Opposites.{opposite_word, removed_signal, opposite_signal}
+use Rattle.vcd_edit.specs.inside.exchange.Opposites.{opposite_word, removed_signal}
 use Rattle.vcd_edit.specs.inside.exchange.Opposites.{opposite_end}
-use Rattle.vcd_edit.specs.inside.exchange.Opposites.{opposite_record, AreNamed, IsNamedAt, IsOppositeRecord}
+use Rattle.vcd_edit.specs.inside.exchange.Opposites.{opposite_record, IsNamedAt, IsOppositeRecord}
 use Rattle.vcd_edit.proofs.exchange.OppositePieces.{all_back, rise_back, back_fits_all, counts_kept}
 use Rattle.vcd_edit.proofs.exchange.OppositePieces.{pieces_reach}
 use Rattle.vcd_edit.proofs.shared.StoredAtMostTouched.{touched_at_least, stored_within}
@@ -150,143 +150,56 @@ signal_back None c k o may =
 signal_back (Some e) c k o may =
     λ i. record { header = c.header; timescale = c.timescale; end = c.end; signals = signals_back c k o may i }
 
--- ---- any step
-
-pub no_pieces_back : (c : Contents) (ps qs : List PieceView) → AreOppositePieces c ps qs → ps ≡ [] → qs ≡ []
-no_pieces_back c ps [] lead none = refl
-no_pieces_back c [] (q ∷ qs) lead none = absurd lead
-no_pieces_back c (p ∷ ps) (q ∷ qs) lead none = absurd (cc)
-
-pub none_put : (c : Contents) (ps : List PieceView) → ps ≡ [] → with_pieces c ps ≡ c
-unfolding with_pieces
-none_put c [] none = refl
-none_put c (p ∷ ps) none = absurd (cc)
-
-Some≢None : {X : Type 0} (x : X) → Some x ≢ None
-Some≢None x same = absurd (cc)
+-- ---- the kinds of records
 
 -- a record of these parts
-abbrev pub parts : List PieceView → Option (ℕ × List ℕ) → Option (ℕ × Option SignalContents) → Option ℕ → RecordView
+abbrev parts : List PieceView → Option (ℕ × List ℕ) → Option (ℕ × Option SignalContents) → Option ℕ → RecordView
 parts ps w m e = record { pieces = ps; word = w; signal = m; other_end = e }
 
-pub no_pieces_at_word : (ps : List PieceView) (w : ℕ × List ℕ) (m : Option (ℕ × Option SignalContents)) (e : Option ℕ)
-    → HasOneKindOfPart (parts ps (Some w) m e) → ps ≡ []
-no_pieces_at_word ps w m e one = one.word_alone (Some≢None w)
-
-pub no_pieces_at_signal : (ps : List PieceView) (w : Option (ℕ × List ℕ)) (m : ℕ × Option SignalContents) (e : Option ℕ)
-    → HasOneKindOfPart (parts ps w (Some m) e) → ps ≡ []
-no_pieces_at_signal ps w m e one = (one.signal_alone (Some≢None m)).0
-
-pub no_word_at_signal : (ps : List PieceView) (w : ℕ × List ℕ) (m : ℕ × Option SignalContents) (e : Option ℕ)
-    → HasOneKindOfPart (parts ps (Some w) (Some m) e) → ⊥
-no_word_at_signal ps w m e one = Some≢None w (one.signal_alone (Some≢None m)).1
-
-leads_back : (c : Contents) (ps qs : List PieceView) (w : Option (ℕ × List ℕ)) (m : Option (ℕ × Option SignalContents))
-    (e : Option ℕ)
-    → HasOneKindOfPart (parts ps w m e) → WordFits c w → SignalFits c m → AreNamed c → AreOppositePieces c ps qs
-    → apply_record (opposite_record (parts ps w m e) qs c) (apply_record (parts ps w m e) c) ≡ c
-unfolding apply_record
-leads_back c ps qs None None e one word signal named lead = pieces_back e c ps qs one.rise lead
-leads_back c ps qs (Some w) None e one word signal named lead =
-    let none = no_pieces_at_word ps w None e one in
-    let there = with_end e (with_first_word (Some w) (with_pieces c ps)) in
-    ap (λ x. with_end (opposite_end e c) (with_first_word (opposite_word (Some w) c) x))
-    (none_put there qs (no_pieces_back c ps qs lead none)
-    ∙ ap (λ x. with_end e (with_first_word (Some w) x)) (none_put c ps none))
-    ∙ word_back e c w.0 w.1 word (named w.0 word)
-leads_back c ps qs None (Some m) e one word signal named lead =
-    let none = no_pieces_at_signal ps None m e one in
-    let there = with_end e (with_signal_in_out (Some m) (with_pieces c ps)) in
-    ap (λ x. with_end (opposite_end e c) (with_signal_in_out (opposite_signal (Some m) c) x))
-    (none_put there qs (no_pieces_back c ps qs lead none)
-    ∙ ap (λ x. with_end e (with_signal_in_out (Some m) x)) (none_put c ps none))
-    ∙ signal_back e c m.0 m.1 signal
-leads_back c ps qs (Some w) (Some m) e one word signal named lead = absurd (no_word_at_signal ps w m e one)
-
-pieces_fit_back : (c : Contents) (ps qs : List PieceView) (w : Option (ℕ × List ℕ))
-    (m : Option (ℕ × Option SignalContents)) (e : Option ℕ)
-    → HasOneKindOfPart (parts ps w m e) → AreOppositePieces c ps qs
-    → All (PieceFits (apply_record (parts ps w m e) c)) qs
-unfolding apply_record
-pieces_fit_back c ps qs None None e one lead = pieces_fit e c ps qs one.rise lead
-pieces_fit_back c ps qs (Some w) m e one lead =
-    subst (All (PieceFits (apply_record (parts ps (Some w) m e) c)))
-    (sym (no_pieces_back c ps qs lead (no_pieces_at_word ps w m e one)))
-    (All-nil (PieceFits (apply_record (parts ps (Some w) m e) c)))
-pieces_fit_back c ps qs None (Some m) e one lead =
-    subst (All (PieceFits (apply_record (parts ps None (Some m) e) c)))
-    (sym (no_pieces_back c ps qs lead (no_pieces_at_signal ps None m e one)))
-    (All-nil (PieceFits (apply_record (parts ps None (Some m) e) c)))
-
-word_fits_back : (c : Contents) (ps : List PieceView) (w : Option (ℕ × List ℕ)) (m : Option (ℕ × Option SignalContents))
-    (e : Option ℕ)
-    → HasOneKindOfPart (parts ps w m e) → WordFits c w → WordFits (apply_record (parts ps w m e) c) (opposite_word w c)
-unfolding apply_record
-word_fits_back c ps None m e one word = tt
-word_fits_back c ps (Some w) None e one word =
-    omega (
-      arith,
-      word,
-      ap length (signals_of_end e (with_first_word (Some w) (with_pieces c ps))),
-      length-set (with_pieces c ps).signals w.0 (renamed_signal w.1 (signal_at (with_pieces c ps) w.0)),
-      counts_kept c ps,
-    )
-word_fits_back c ps (Some w) (Some m) e one word = absurd (no_word_at_signal ps w m e one)
-
-signal_fits_back : (c : Contents) (ps : List PieceView) (w : Option (ℕ × List ℕ))
-    (m : Option (ℕ × Option SignalContents))
-    (e : Option ℕ)
-    → HasOneKindOfPart (parts ps w m e) → SignalFits c m
-    → SignalFits (apply_record (parts ps w m e) c) (opposite_signal m c)
-unfolding apply_record
-signal_fits_back c ps w None e one signal = tt
-signal_fits_back c ps None (Some m) e one signal =
-    may_be_opposite c (with_end e (with_signal_in_out (Some m) (with_pieces c ps))) m.0 m.1 signal
-    (signals_of_end e (with_signal_in_out (Some m) (with_pieces c ps))
-    ∙ ap (λ (x : Contents). signals_with_one_in_out m.0 m.1 x.signals)
-    (none_put c ps (no_pieces_at_signal ps None m e one)))
-signal_fits_back c ps (Some w) (Some m) e one signal = absurd (no_word_at_signal ps w m e one)
-
--- ---- the opposite is a record, and fits
-
-alone_back : (c : Contents) (ps qs : List PieceView) (w : Option (ℕ × List ℕ)) (m : Option (ℕ × Option SignalContents))
-    (e : Option ℕ)
-    → HasOneKindOfPart (parts ps w m e) → AreOppositePieces c ps qs
-    → HasOneKindOfPart (opposite_record (parts ps w m e) qs c)
-alone_back c ps qs w m e one lead =
-    record { rise = rise_back c ps qs 0 lead one.rise; word_alone = at_word w one; signal_alone = at_signal w m one }
+-- what holds of records with pieces, with a word, and with a signal, holds of each record
+pub by_kind : (P : RecordView → Type 0)
+    → ((ps : List PieceView) (e : Option ℕ) → RiseFrom 0 ps → P (parts ps None None e))
+    → ((w : ℕ × List ℕ) (e : Option ℕ) → P (parts [] (Some w) None e))
+    → ((m : ℕ × Option SignalContents) (e : Option ℕ) → P (parts [] None (Some m) e))
+    → (r : RecordView) → HasOneKindOfPart r → P r
+by_kind P pieces word signal r one = of_parts r.word r.signal one
   where
-    at_word : (w : Option (ℕ × List ℕ)) → HasOneKindOfPart (parts ps w m e) → opposite_word w c ≢ None → qs ≡ []
-    at_word None one some = absurd (some refl)
-    at_word (Some v) one some = no_pieces_back c ps qs lead (no_pieces_at_word ps v m e one)
+    of_parts : (w : Option (ℕ × List ℕ)) (m : Option (ℕ × Option SignalContents))
+        → HasOneKindOfPart (parts r.pieces w m r.other_end) → P (parts r.pieces w m r.other_end)
+    of_parts None None one = pieces r.pieces r.other_end one.rise
+    of_parts (Some w) None one = subst (λ ps. P (parts ps (Some w) None r.other_end))
+        (sym (one.word_alone (λ none. absurd (cc)))) (word w r.other_end)
+    of_parts None (Some m) one = subst (λ ps. P (parts ps None (Some m) r.other_end))
+        (sym (one.signal_alone (λ none. absurd (cc))).0) (signal m r.other_end)
+    of_parts (Some w) (Some m) one =
+        let both : Some w ≡ None = (one.signal_alone (λ none. absurd (cc))).1 in absurd (cc)
 
-    at_signal : (w : Option (ℕ × List ℕ)) (m : Option (ℕ × Option SignalContents)) → HasOneKindOfPart (parts ps w m e)
-        → opposite_signal m c ≢ None → (qs ≡ []) × (opposite_word w c ≡ None)
-    at_signal w None one some = absurd (some refl)
-    at_signal None (Some n) one some =
-        (no_pieces_back c ps qs lead (no_pieces_at_signal ps None n e one), refl)
-    at_signal (Some v) (Some n) one some = absurd (no_word_at_signal ps v n e one)
+-- nothing undoes no pieces
+none_back : (c : Contents) (P : List PieceView → Type 0) → P [] → (qs : List PieceView) → AreOppositePieces c [] qs
+    → P qs
+none_back c P here [] lead = here
+none_back c P here (q ∷ qs) lead = absurd lead
 
-pub are_named : (c : Contents) → IsSound c → AreNamed c
-are_named c sound k within = (All-get_or (IsSoundSignal c.end) c.signals k no_signal within sound.signals).named
+pub no_pieces_back : (c : Contents) (ps qs : List PieceView) → AreOppositePieces c ps qs → ps ≡ [] → qs ≡ []
+no_pieces_back c ps qs lead none =
+    none_back c (λ l. l ≡ []) refl qs (subst (λ l. AreOppositePieces c l qs) none lead)
 
-module _ (c : Contents) (r : RecordView) (qs : List PieceView) (one : HasOneKindOfPart r)
-    (lead : AreOppositePieces c r.pieces qs) where
-  pub opposite_is_record : HasOneKindOfPart (opposite_record r qs c)
-  opposite_is_record = alone_back c r.pieces qs r.word r.signal r.other_end one lead
+-- ---- the opposite of any step is a record
 
-  pub opposite_back : Fits r c → IsSound c → apply_record (opposite_record r qs c) (apply_record r c) ≡ c
-  opposite_back fits sound =
-      leads_back c r.pieces qs r.word r.signal r.other_end one fits.word fits.signal (are_named c sound) lead
-
-  pub opposite_fits : Fits r c → IsSound c → Fits (opposite_record r qs c) (apply_record r c)
-  opposite_fits fits sound =
-      record {
-        pieces = pieces_fit_back c r.pieces qs r.word r.signal r.other_end one lead;
-        word = word_fits_back c r.pieces r.word r.signal r.other_end one fits.word;
-        signal = signal_fits_back c r.pieces r.word r.signal r.other_end one fits.signal;
-        sound = subst IsSound (sym (opposite_back fits sound)) sound;
-      }
+pub opposite_is_record : (c : Contents) (r : RecordView) → HasOneKindOfPart r → (qs : List PieceView)
+    → AreOppositePieces c r.pieces qs → HasOneKindOfPart (opposite_record r qs c)
+opposite_is_record c r one =
+    let Held : RecordView → List PieceView → Type 0 = λ r qs. HasOneKindOfPart (opposite_record r qs c) in
+    by_kind (λ r. (qs : List PieceView) → AreOppositePieces c r.pieces qs → Held r qs)
+    (λ ps e rise qs lead. record {
+      rise = rise_back c ps qs 0 lead rise;
+      word_alone = λ some. absurd (some refl);
+      signal_alone = λ some. absurd (some refl);
+    })
+    (λ w e. none_back c (Held (parts [] (Some w) None e))
+    (record { rise = tt; word_alone = λ some. refl; signal_alone = λ some. absurd (some refl) }))
+    (λ m e. none_back c (Held (parts [] None (Some m) e))
+    (record { rise = tt; word_alone = λ some. absurd (some refl); signal_alone = λ some. (refl, refl) })) r one
 
 -- ---- what the opposite stores
 
@@ -310,58 +223,67 @@ signal_stores advance c k None after may is =
           (omega (arith, may, count, length-insert (map Some after) k None (omega (arith, may, count)))),
     )
 
-nothing_stored : (qs : List PieceView) → qs ≡ [] → sum_by (λ (p : PieceView). length p.changes) qs ≡ 0
-nothing_stored qs none = ap (sum_by (λ (p : PieceView). length p.changes)) none
+-- what undoes a step also fits
+undoes : (c : Contents) (r q : RecordView) → IsSound c → apply_record q (apply_record r c) ≡ c
+    → All (PieceFits (apply_record r c)) q.pieces → WordFits (apply_record r c) q.word
+    → SignalFits (apply_record r c) q.signal
+    → ((advance : ℕ → ℤ) → All (λ p. advance p.signal ≡ neg_ℤ p.by) r.pieces
+    → stored_changes q ≤ touched_from advance 0 c.signals (partners (record_pairing r.signal) (apply_record r c).signals))
+    → IsOppositeRecord c r q
+undoes c r q sound leads pieces word signal stored = record {
+  fits = record { pieces = pieces; word = word; signal = signal; sound = subst IsSound (sym leads) sound };
+  leads = leads;
+  stored = stored;
+}
 
-stores_back : (advance : ℕ → ℤ) (c : Contents) (ps qs : List PieceView) (w : Option (ℕ × List ℕ))
-    (m : Option (ℕ × Option SignalContents)) (e : Option ℕ)
-    → HasOneKindOfPart (parts ps w m e) → SignalFits c m → AreOppositePieces c ps qs
-    → All (λ p. advance p.signal ≡ neg_ℤ p.by) ps
-    → stored_changes (opposite_record (parts ps w m e) qs c) ≤ touched_from advance 0 c.signals
-    (partners (record_pairing m) (apply_record (parts ps w m e) c).signals)
-unfolding apply_record
-stores_back advance c ps qs None None e one signal lead opposite =
-    omega (
+named : (c : Contents) (k : ℕ) → IsSound c → k < length c.signals → 0 < length (signal_at c k).words
+named c k sound within = (All-get_or (IsSoundSignal c.end) c.signals k no_signal within sound.signals).named
+
+pub leads_other_way : (c : Contents) (r : RecordView) → HasOneKindOfPart r → IsSound c → WordFits c r.word
+    → SignalFits c r.signal → (qs : List PieceView) → AreOppositePieces c r.pieces qs
+    → IsOppositeRecord c r (opposite_record r qs c)
+unfolding apply_record with_pieces
+leads_other_way c r one sound =
+    let Undone : RecordView → List PieceView → Type 0 = λ r qs. IsOppositeRecord c r (opposite_record r qs c) in
+    by_kind (λ r. WordFits c r.word → SignalFits c r.signal → (qs : List PieceView) → AreOppositePieces c r.pieces qs
+    → Undone r qs)
+    (λ ps e rise word signal qs lead. undoes c (parts ps None None e) (opposite_record (parts ps None None e) qs c) sound
+    (pieces_back e c ps qs rise lead) (pieces_fit e c ps qs rise lead) tt tt
+    (λ advance opposite. omega (
       arith,
-      stored_within advance c ps qs 0 one.rise lead opposite,
+      stored_within advance c ps qs 0 rise lead opposite,
       ap (λ ss. touched_from advance 0 c.signals (map Some ss)) (signals_of_end e (with_pieces c ps)),
-    )
-stores_back advance c ps qs (Some w) None e one signal lead opposite =
-    omega (arith, nothing_stored qs (no_pieces_back c ps qs lead (no_pieces_at_word ps w None e one)))
-stores_back advance c ps qs None (Some m) e one signal lead opposite =
-    omega (
+    )))
+    (λ w e word signal. none_back c (Undone (parts [] (Some w) None e))
+    (undoes c (parts [] (Some w) None e) (opposite_record (parts [] (Some w) None e) [] c) sound
+    (word_back e c w.0 w.1 word (named c w.0 sound word))
+    (All-nil (PieceFits (apply_record (parts [] (Some w) None e) c)))
+    (omega (
       arith,
-      nothing_stored qs (no_pieces_back c ps qs lead (no_pieces_at_signal ps None m e one)),
-      signal_stores advance c m.0 m.1 (with_end e (with_signal_in_out (Some m) (with_pieces c ps))).signals signal
-          (signals_of_end e (with_signal_in_out (Some m) (with_pieces c ps))
-          ∙ ap (λ (x : Contents). signals_with_one_in_out m.0 m.1 x.signals)
-          (none_put c ps (no_pieces_at_signal ps None m e one))),
-    )
-stores_back advance c ps qs (Some w) (Some m) e one signal lead opposite = absurd (no_word_at_signal ps w m e one)
-
--- with the opposite offsets
-pub opposite_stores : (advance : ℕ → ℤ) (c : Contents) (r : RecordView) (qs : List PieceView) → HasOneKindOfPart r
-    → Fits r c
-    → AreOppositePieces c r.pieces qs → All (λ p. advance p.signal ≡ neg_ℤ p.by) r.pieces
-    → stored_changes (opposite_record r qs c) ≤ touched_from advance 0 c.signals
-    (partners (record_pairing r.signal) (apply_record r c).signals)
-opposite_stores advance c r qs one fits lead opposite =
-    stores_back advance c r.pieces qs r.word r.signal r.other_end one fits.signal lead opposite
+      word,
+      ap length (signals_of_end e (with_first_word (Some w) c)),
+      length-set c.signals w.0 (renamed_signal w.1 (signal_at c w.0)),
+    ))
+    tt (λ advance opposite. omega arith)))
+    (λ m e word signal. none_back c (Undone (parts [] None (Some m) e))
+    (let is = signals_of_end e (with_signal_in_out (Some m) c) in
+    let after = with_end e (with_signal_in_out (Some m) c) in
+    undoes c (parts [] None (Some m) e) (opposite_record (parts [] None (Some m) e) [] c) sound
+    (signal_back e c m.0 m.1 signal) (All-nil (PieceFits after)) tt (may_be_opposite c after m.0 m.1 signal is)
+    (λ advance opposite. omega (arith, signal_stores advance c m.0 m.1 after.signals signal is)))) r one
 
 -- ---- pieces of a record that fits are ready
 
 within_all : (c : Contents) (ps : List PieceView) → All (PieceFits c) ps → All (λ p. p.signal < length c.signals) ps
 within_all c ps fits = λ k d less. (fits k d less).signal
 
-pieces_alone : (c : Contents) (ps : List PieceView) (w : Option (ℕ × List ℕ)) (m : Option (ℕ × Option SignalContents))
-    (e : Option ℕ)
-    → HasOneKindOfPart (parts ps w m e) → 0 < length ps
-    → (apply_record (parts ps w m e) c).signals ≡ (with_pieces c ps).signals
+pieces_alone : (c : Contents) (r : RecordView) → HasOneKindOfPart r → 0 < length r.pieces
+    → (apply_record r c).signals ≡ (with_pieces c r.pieces).signals
 unfolding apply_record
-pieces_alone c ps None None e one some = signals_of_end e (with_pieces c ps)
-pieces_alone c ps (Some w) m e one some = absurd (omega (arith, some, ap length (no_pieces_at_word ps w m e one)))
-pieces_alone c ps None (Some m) e one some =
-    absurd (omega (arith, some, ap length (no_pieces_at_signal ps None m e one)))
+pieces_alone c =
+    by_kind (λ r. 0 < length r.pieces → (apply_record r c).signals ≡ (with_pieces c r.pieces).signals)
+    (λ ps e rise some. signals_of_end e (with_pieces c ps)) (λ w e some. absurd (omega arith))
+    (λ m e some. absurd (omega arith))
 
 upto_end : (end : ℕ) (cs : List Change) → end ≤ END_LIMIT → AllUpTo end cs → All (λ c. c.tick ≤ END_LIMIT) cs
 upto_end end cs small upto =
@@ -394,7 +316,7 @@ pieces_ready c r fits one sound = λ k d less.
     let old = signal_at c p.signal in
     let new = signal_with_changes old (changes_with_piece p old.changes) in
     let same : (apply_record r c).signals ≡ (with_pieces c r.pieces).signals =
-    pieces_alone c r.pieces r.word r.signal r.other_end one (omega (arith, less)) in
+    pieces_alone c r one (omega (arith, less)) in
     let reached : signal_at (apply_record r c) p.signal ≡ new =
     ap (λ l. get_or l p.signal no_signal) same
     ∙ pieces_reach c r.pieces 0 one.rise (within_all c r.pieces fits.pieces) k d less in
@@ -421,114 +343,55 @@ pieces_ready c r fits one sound = λ k d less.
       };
     }
 
-pub leads_other_way : (c : Contents) (r : RecordView) (qs : List PieceView) → HasOneKindOfPart r → Fits r c → IsSound c
-    → AreOppositePieces c r.pieces qs → IsOppositeRecord c r (opposite_record r qs c)
-leads_other_way c r qs one fits sound lead =
-    record {
-      fits = opposite_fits c r qs one lead fits sound;
-      leads = opposite_back c r qs one lead fits sound;
-      stored = λ advance opposite. opposite_stores advance c r qs one fits lead opposite;
-    }
-
 -- ---- the order of the exchange: the signal, the pieces, the word, the end
 
-module _ (c : Contents) (ps qs : List PieceView) where
-  in_order_of : (w : Option (ℕ × List ℕ)) (m : Option (ℕ × Option SignalContents)) (e : Option ℕ)
-      → HasOneKindOfPart (parts ps w m e)
-      → with_end e (with_first_word w (with_pieces (with_signal_in_out m c) ps)) ≡ apply_record (parts ps w m e) c
-  unfolding apply_record
-  in_order_of w None e one = refl
-  in_order_of None (Some m) e one =
-      let none = no_pieces_at_signal ps None m e one in
-      ap (with_end e) (none_put (with_signal_in_out (Some m) c) ps none
-      ∙ ap (with_signal_in_out (Some m)) (sym (none_put c ps none)))
-  in_order_of (Some w) (Some m) e one = absurd (no_word_at_signal ps w m e one)
+module _ (c : Contents) where
+  -- the capture after the signal and the pieces
+  abbrev exchanged : RecordView → Contents
+  exchanged r = with_pieces (with_signal_in_out r.signal c) r.pieces
 
-  ready_moved_of : (w : Option (ℕ × List ℕ)) (m : Option (ℕ × Option SignalContents)) (e : Option ℕ)
-      → HasOneKindOfPart (parts ps w m e)
-      → All (PieceReadyIn c) ps → All (PieceReadyIn (with_signal_in_out m c)) ps
-  ready_moved_of w None e one ready = ready
-  ready_moved_of w (Some m) e one ready =
-      subst (All (PieceReadyIn (with_signal_in_out (Some m) c))) (sym (no_pieces_at_signal ps w m e one))
-      (All-nil (PieceReadyIn (with_signal_in_out (Some m) c)))
+  pub in_order : (r : RecordView) → HasOneKindOfPart r
+      → with_end r.other_end (with_first_word r.word (exchanged r)) ≡ apply_record r c
+  unfolding apply_record with_pieces
+  in_order = by_kind (λ r. with_end r.other_end (with_first_word r.word (exchanged r)) ≡ apply_record r c)
+      (λ ps e rise. refl) (λ w e. refl) (λ m e. refl)
 
-  lead_anywhere : (d : Contents) → ps ≡ [] → AreOppositePieces d ps qs → AreOppositePieces c ps qs
-  lead_anywhere d none lead =
-      subst (λ l. AreOppositePieces c l qs) (sym none) (nothing qs (subst (λ l. AreOppositePieces d l qs) none lead))
-    where
-      nothing : (qs : List PieceView) → AreOppositePieces d [] qs → AreOppositePieces c [] qs
-      nothing [] lead = tt
-      nothing (q ∷ qs) lead = absurd lead
+  pub ready_moved : (r : RecordView) → HasOneKindOfPart r → All (PieceReadyIn c) r.pieces
+      → All (PieceReadyIn (with_signal_in_out r.signal c)) r.pieces
+  ready_moved =
+      by_kind (λ r. All (PieceReadyIn c) r.pieces → All (PieceReadyIn (with_signal_in_out r.signal c)) r.pieces)
+      (λ ps e rise ready. ready) (λ w e ready. ready)
+      (λ m e ready. All-nil (PieceReadyIn (with_signal_in_out (Some m) c)))
 
-  lead_moved_of : (w : Option (ℕ × List ℕ)) (m : Option (ℕ × Option SignalContents)) (e : Option ℕ)
-      → HasOneKindOfPart (parts ps w m e) → AreOppositePieces (with_signal_in_out m c) ps qs → AreOppositePieces c ps qs
-  lead_moved_of w None e one lead = lead
-  lead_moved_of w (Some m) e one lead =
-      lead_anywhere (with_signal_in_out (Some m) c) (no_pieces_at_signal ps w m e one) lead
+  pub lead_moved : (qs : List PieceView) (r : RecordView) → HasOneKindOfPart r
+      → AreOppositePieces (with_signal_in_out r.signal c) r.pieces qs → AreOppositePieces c r.pieces qs
+  lead_moved qs =
+      by_kind (λ r. AreOppositePieces (with_signal_in_out r.signal c) r.pieces qs → AreOppositePieces c r.pieces qs)
+      (λ ps e rise lead. lead) (λ w e lead. lead)
+      (λ m e. none_back (with_signal_in_out (Some m) c) (AreOppositePieces c []) tt qs)
 
-  -- if there is a word, the capture is as before
-  before_word_of : (w : ℕ × List ℕ) (m : Option (ℕ × Option SignalContents)) (e : Option ℕ)
-      → HasOneKindOfPart (parts ps (Some w) m e) → with_pieces (with_signal_in_out m c) ps ≡ c
-  before_word_of w None e one = none_put c ps (no_pieces_at_word ps w None e one)
-  before_word_of w (Some m) e one = absurd (no_word_at_signal ps w m e one)
+  pub word_fits : (r : RecordView) → HasOneKindOfPart r → WordFits c r.word → WordFits (exchanged r) r.word
+  unfolding with_pieces
+  word_fits = by_kind (λ r. WordFits c r.word → WordFits (exchanged r) r.word)
+      (λ ps e rise word. tt) (λ w e word. word) (λ m e word. tt)
 
-  word_fits_of : (w : Option (ℕ × List ℕ)) (m : Option (ℕ × Option SignalContents)) (e : Option ℕ)
-      → HasOneKindOfPart (parts ps w m e) → WordFits c w → WordFits (with_pieces (with_signal_in_out m c) ps) w
-  word_fits_of None m e one word = tt
-  word_fits_of (Some w) m e one word =
-      subst (λ (x : Contents). w.0 < length x.signals) (sym (before_word_of w m e one)) word
+  pub word_named : IsSound c → (r : RecordView) → HasOneKindOfPart r → WordFits c r.word → IsNamedAt (exchanged r) r.word
+  unfolding with_pieces
+  word_named sound = by_kind (λ r. WordFits c r.word → IsNamedAt (exchanged r) r.word)
+      (λ ps e rise word. tt) (λ w e word. named c w.0 sound word) (λ m e word. tt)
 
-  word_named_of : (w : Option (ℕ × List ℕ)) (m : Option (ℕ × Option SignalContents)) (e : Option ℕ)
-      → HasOneKindOfPart (parts ps w m e) → WordFits c w → AreNamed c
-      → IsNamedAt (with_pieces (with_signal_in_out m c) ps) w
-  word_named_of None m e one word named = tt
-  word_named_of (Some w) m e one word named =
-      subst (λ (x : Contents). 0 < length (signal_at x w.0).words) (sym (before_word_of w m e one)) (named w.0 word)
+  pub word_same : (r : RecordView) → HasOneKindOfPart r → opposite_word r.word (exchanged r) ≡ opposite_word r.word c
+  unfolding with_pieces
+  word_same = by_kind (λ r. opposite_word r.word (exchanged r) ≡ opposite_word r.word c)
+      (λ ps e rise. refl) (λ w e. refl) (λ m e. refl)
 
-  word_same_of : (w : Option (ℕ × List ℕ)) (m : Option (ℕ × Option SignalContents)) (e : Option ℕ)
-      → HasOneKindOfPart (parts ps w m e)
-      → opposite_word w (with_pieces (with_signal_in_out m c) ps) ≡ opposite_word w c
-  word_same_of None m e one = refl
-  word_same_of (Some w) m e one = ap (opposite_word (Some w)) (before_word_of w m e one)
+  same_end : (e : Option ℕ) (d : Contents) → d.end ≡ c.end → opposite_end e d ≡ opposite_end e c
+  same_end None d same = refl
+  same_end (Some e) d same = ap Some same
 
-  end_of_word : (w : Option (ℕ × List ℕ)) (x : Contents) → (with_first_word w x).end ≡ x.end
-  end_of_word None x = refl
-  end_of_word (Some w) x = refl
-
-  end_of_signal : (m : Option (ℕ × Option SignalContents)) (x : Contents) → (with_signal_in_out m x).end ≡ x.end
-  end_of_signal None x = refl
-  end_of_signal (Some m) x = refl
-
-  end_same_of : (w : Option (ℕ × List ℕ)) (m : Option (ℕ × Option SignalContents)) (e : Option ℕ)
-      → opposite_end e (with_first_word w (with_pieces (with_signal_in_out m c) ps)) ≡ opposite_end e c
-  end_same_of w m None = refl
-  end_same_of w m (Some e) =
-      ap Some (end_of_word w (with_pieces (with_signal_in_out m c) ps) ∙ end_kept (with_signal_in_out m c) ps
-      ∙ end_of_signal m c)
-
-module _ (c : Contents) (r : RecordView) (one : HasOneKindOfPart r) where
-  pub in_order : with_end r.other_end (with_first_word r.word (with_pieces (with_signal_in_out r.signal c) r.pieces))
-      ≡ apply_record r c
-  in_order = in_order_of c r.pieces [] r.word r.signal r.other_end one
-
-  pub ready_moved : All (PieceReadyIn c) r.pieces → All (PieceReadyIn (with_signal_in_out r.signal c)) r.pieces
-  ready_moved ready = ready_moved_of c r.pieces [] r.word r.signal r.other_end one ready
-
-  pub lead_moved : (qs : List PieceView) → AreOppositePieces (with_signal_in_out r.signal c) r.pieces qs
-      → AreOppositePieces c r.pieces qs
-  lead_moved qs lead = lead_moved_of c r.pieces qs r.word r.signal r.other_end one lead
-
-  pub word_fits : WordFits c r.word → WordFits (with_pieces (with_signal_in_out r.signal c) r.pieces) r.word
-  word_fits word = word_fits_of c r.pieces [] r.word r.signal r.other_end one word
-
-  pub word_named : WordFits c r.word → IsSound c
-      → IsNamedAt (with_pieces (with_signal_in_out r.signal c) r.pieces) r.word
-  word_named word sound = word_named_of c r.pieces [] r.word r.signal r.other_end one word (are_named c sound)
-
-  pub word_same : opposite_word r.word (with_pieces (with_signal_in_out r.signal c) r.pieces) ≡ opposite_word r.word c
-  word_same = word_same_of c r.pieces [] r.word r.signal r.other_end one
-
-  pub end_same : opposite_end r.other_end
-      (with_first_word r.word (with_pieces (with_signal_in_out r.signal c) r.pieces))
-      ≡ opposite_end r.other_end c
-  end_same = end_same_of c r.pieces [] r.word r.signal r.other_end
+  pub end_same : (r : RecordView) → HasOneKindOfPart r
+      → opposite_end r.other_end (with_first_word r.word (exchanged r)) ≡ opposite_end r.other_end c
+  unfolding with_pieces
+  end_same = by_kind (λ r. opposite_end r.other_end (with_first_word r.word (exchanged r)) ≡ opposite_end r.other_end c)
+      (λ ps e rise. same_end e (with_pieces c ps) (end_kept c ps)) (λ w e. same_end e (with_first_word (Some w) c) refl)
+      (λ m e. same_end e (with_signal_in_out (Some m) c) refl)

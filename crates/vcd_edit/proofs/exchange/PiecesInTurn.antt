@@ -1,5 +1,5 @@
 -- Walks over the pieces of a record: what holds after one more piece.
-use Rattle.std.proofs.Common.{◌-◌, ◌≡◌, ◌≢◌, ℕ, zero, suc, refl, vec_capacity, ◌+◌, ◌<◌, ◌≤◌}
+use Rattle.std.proofs.Common.{◌-◌, ◌≡◌, ◌≢◌, ℕ, suc, refl, vec_capacity, ◌+◌, ◌<◌, ◌≤◌}
 use Rattle.std.proofs.Common.{List, [], ◌∷◌, ◌++◌, length, take, drop, map}
 use Rattle.std.proofs.Common.{get_or, set, All, Option, Some, None, sym, ap, subst, ◌∙◌, inl, inr}
 use Rattle.std.proofs.Common.{arith}
@@ -113,14 +113,6 @@ module _ (ss tt' : List Signal) (ps : List Piece) (comings : List (Option WaveVi
         | inr other ↦ subst (HasRoomForPiece tt' (get_or (set ps n y) k d)) (sym (others k other))
             (still_have_room n (omega arith) k d from (omega (arith, to, other)))
       ]
-
--- after no wave there is none
-pub none_after : (comings : List (Option WaveView)) (k : ℕ)
-    → get_or (comings ++ None ∷ []) k None ≡ get_or comings k None
-none_after [] zero = refl
-none_after [] (suc k) = refl
-none_after (x ∷ comings) zero = refl
-none_after (x ∷ comings) (suc k) = none_after comings k
 
 -- one of pieces that are all ready
 pub ready_at : (c : Contents) (ps : List Piece) (i : ℕ) (x : Piece) → i < length ps → x ≡ get_or ps i x

@@ -7,7 +7,7 @@ use Rattle.std.specs.Option.{unwrap_or}
 use Rattle.std.specs.List.{insert, remove, list_all}
 use Rattle.std.proofs.lemmas.List.{length-set, length-map}
 use Rattle.std.proofs.lemmas.List.Elements.{All-nil}
-use Rattle.std.proofs.lemmas.List.Edits.{length-insert, length-remove}
+use Rattle.std.proofs.lemmas.List.Edits.{length-insert}
 use Rattle.vcd_core.specs.declared.capture.Header.{Header}
 use Rattle.vcd_core.specs.declared.capture.Signal.{Signal}
 use Rattle.vcd_core.specs.declared.capture.Timescale.{Timescale}
@@ -24,9 +24,7 @@ use Rattle.vcd_edit.specs.AppliedRecords.{HasOneKindOfPart}
 use Rattle.vcd_edit.specs.inside.fitting.TestsOfParts.{AreSoundSignals, PartsFit, KindFits, HasSoundMetadata}
 use Rattle.vcd_edit.proofs.plans.EffectOfRecord.{contents_at}
 use Rattle.vcd_edit.proofs.fitting.AllElements.{with_other, other_there, with_one_more, one_more_there}
-use Rattle.vcd_edit.proofs.exchange.OppositeRecords.{parts, none_put, no_pieces_at_word, no_pieces_at_signal}
-use Rattle.vcd_edit.proofs.exchange.OppositeRecords.{no_word_at_signal}
-use Rattle.vcd_edit.proofs.exchange.OppositeRecords.{signals_of_end, end_kept}
+use Rattle.vcd_edit.proofs.exchange.OppositeRecords.{by_kind, signals_of_end, end_kept}
 
 -- ---- a word
 
@@ -62,9 +60,6 @@ module _ (end : ℕ) (c : Contents) (k : ℕ) (word : List ℕ) (signals : List 
   pub word_within : WordIsFit → k < length signals
   word_within (within, (few, sound)) = omega (arith, within, count)
 
-  pub word_few : WordIsFit → length signals ≤ SIGNAL_LIMIT
-  word_few (within, (few, sound)) = omega (arith, few, count, length-set c.signals k renamed)
-
   pub word_here : WordIsFit → (s : Signal) → s ≡ get_or signals k s
       → IsSoundSignal end (renamed_signal word (signal_contents s))
   word_here (within, (few, sound)) s is =
@@ -98,67 +93,37 @@ module _ (end at : ℕ) (s : SignalContents) (signals : List Signal) where
   put_by_tests within few here all =
       (within, (omega (arith, few, count_put within), with_one_more (IsSoundSignal end) ss at s here all))
 
-  pub put_few : MayPut → length signals < SIGNAL_LIMIT
-  put_few (within, (few, sound)) = omega (arith, few, count_put within)
-
   pub put_parts : MayPut → IsSoundSignal end s × All (IsSoundSignal end) ss
   put_parts (within, (few, sound)) = one_more_there (IsSoundSignal end) ss at s sound
-
-module _ (end at : ℕ) (signals : List Signal) where
-  pub count_taken : at < length signals → length (remove (map signal_contents signals) at) + 1 ≡ length signals
-  count_taken within = omega (
-    arith,
-    within,
-    length-map signals signal_contents,
-    length-remove (map signal_contents signals) at (omega (arith, within, length-map signals signal_contents)),
-  )
 
 -- ---- the kinds
 
 -- a record fits by its kind
-pub kinds_tell : (end : ℕ) (c : Contents) (ps : List PieceView) (w : Option (ℕ × List ℕ))
-    (m : Option (ℕ × Option SignalContents)) (e : Option ℕ) → HasOneKindOfPart (parts ps w m e)
-    → KindFits end c ps w m ↔ PartsFit end (parts ps w m e) c
-unfolding apply_record
-kinds_tell end c ps None None e one =
-    let same = signals_of_end e (with_pieces c ps) in (
+kinds_tell : (end : ℕ) (c : Contents) (r : RecordView) → HasOneKindOfPart r
+    → KindFits end c r.pieces r.word r.signal ↔ PartsFit end r c
+unfolding apply_record with_pieces
+kinds_tell end c =
+    by_kind (λ r. KindFits end c r.pieces r.word r.signal ↔ PartsFit end r c)
+    (λ ps e rise. let same = signals_of_end e (with_pieces c ps) in (
       (λ k. (k.0, tt, tt, subst (AreSoundSignals end) (sym same) k.1)),
       (λ p. (p.0, subst (AreSoundSignals end) same p.3)),
-    )
-kinds_tell end c ps (Some w) None e one =
-    let none = no_pieces_at_word ps w None e one in
-    let same = signals_of_end e (with_first_word (Some w) (with_pieces c ps))
-    ∙ ap (λ (x : Contents). (with_first_word (Some w) x).signals) (none_put c ps none) in (
-      (λ k. (
-        subst (All (PieceFits c)) (sym none) (All-nil (PieceFits c)),
-        k.0,
-        tt,
-        subst (AreSoundSignals end) (sym same) k.1,
-      )),
+    ))
+    (λ w e. let same = signals_of_end e (with_first_word (Some w) c) in (
+      (λ k. (All-nil (PieceFits c), k.0, tt, subst (AreSoundSignals end) (sym same) k.1)),
       (λ p. (p.1, subst (AreSoundSignals end) same p.3)),
-    )
-kinds_tell end c ps None (Some m) e one =
-    let none = no_pieces_at_signal ps None m e one in
-    let same = signals_of_end e (with_signal_in_out (Some m) (with_pieces c ps))
-    ∙ ap (λ (x : Contents). (with_signal_in_out (Some m) x).signals) (none_put c ps none) in (
-      (λ k. (
-        subst (All (PieceFits c)) (sym none) (All-nil (PieceFits c)),
-        tt,
-        k.0,
-        subst (AreSoundSignals end) (sym same) k.1,
-      )),
+    ))
+    (λ m e. let same = signals_of_end e (with_signal_in_out (Some m) c) in (
+      (λ k. (All-nil (PieceFits c), tt, k.0, subst (AreSoundSignals end) (sym same) k.1)),
       (λ p. (p.2, subst (AreSoundSignals end) same p.3)),
-    )
-kinds_tell end c ps (Some w) (Some m) e one = absurd (no_word_at_signal ps w m e one)
+    ))
 
 module _ (end : ℕ) (c : Contents) (r : RecordView) (e : Option ℕ) (one : HasOneKindOfPart r) where
-  by_kind : (w : Option (ℕ × List ℕ)) (m : Option (ℕ × Option SignalContents)) → r.word ≡ w → r.signal ≡ m
+  by_kind_of : (w : Option (ℕ × List ℕ)) (m : Option (ℕ × Option SignalContents)) → r.word ≡ w → r.signal ≡ m
       → (test : Bool) → IsTrue test ↔ KindFits end c r.pieces w m
       → IsTrue test ↔ PartsFit end (record r { other_end = e }) c
-  by_kind w m word signal test tells =
-      let one_now : HasOneKindOfPart (parts r.pieces r.word r.signal e) =
-      record { rise = one.rise; word_alone = one.word_alone; signal_alone = one.signal_alone } in
-      let kinds = kinds_tell end c r.pieces r.word r.signal e one_now in
+  by_kind_of w m word signal test tells =
+      let kinds = kinds_tell end c (record r { other_end = e })
+      (record { rise = one.rise; word_alone = one.word_alone; signal_alone = one.signal_alone }) in
       let same : KindFits end c r.pieces r.word r.signal ≡ KindFits end c r.pieces w m =
       λ i. KindFits end c r.pieces (word i) (signal i) in (
         (λ yes. kinds.0 (subst (λ (t : Type 0). t) (sym same) (tells.0 yes))),
@@ -168,17 +133,17 @@ module _ (end : ℕ) (c : Contents) (r : RecordView) (e : Option ℕ) (one : Has
   pub parts_by_signal : (m : ℕ × Option SignalContents) → r.signal ≡ Some m → (test : Bool)
       → IsTrue test ↔ (MayPutInOrTakeOut c m.0 m.1 × AreSoundSignals end (with_signal_in_out (Some m) c).signals)
       → IsTrue test ↔ PartsFit end (record r { other_end = e }) c
-  parts_by_signal m signal test tells = by_kind r.word (Some m) refl signal test tells
+  parts_by_signal m signal test tells = by_kind_of r.word (Some m) refl signal test tells
 
   pub parts_by_word : (w : ℕ × List ℕ) → r.signal ≡ None → r.word ≡ Some w → (test : Bool)
       → IsTrue test ↔ ((w.0 < length c.signals) × AreSoundSignals end (with_first_word (Some w) c).signals)
       → IsTrue test ↔ PartsFit end (record r { other_end = e }) c
-  parts_by_word w signal word test tells = by_kind (Some w) None word signal test tells
+  parts_by_word w signal word test tells = by_kind_of (Some w) None word signal test tells
 
   pub parts_by_pieces : r.signal ≡ None → r.word ≡ None → (test : Bool)
       → IsTrue test ↔ (All (PieceFits c) r.pieces × AreSoundSignals end (with_pieces c r.pieces).signals)
       → IsTrue test ↔ PartsFit end (record r { other_end = e }) c
-  parts_by_pieces signal word test tells = by_kind None None word signal test tells
+  parts_by_pieces signal word test tells = by_kind_of None None word signal test tells
 
 -- ---- the whole record
 

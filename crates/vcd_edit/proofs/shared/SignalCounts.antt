@@ -1,7 +1,7 @@
 -- How many signals a record or an edit leaves, and with which names.
 use Rattle.std.proofs.Common.{◌≡◌, ℕ, ◌≤◌, ◌-◌, List, [], ◌∷◌, length, Option, Some, None, refl}
 use Rattle.std.proofs.Common.{◌∙◌, ap, arith, inl, inr, Result, Ok, Err}
-use Rattle.std.specs.Prelude.{◌⊎◌, IsOk, OnErr}
+use Rattle.std.specs.Prelude.{IsOk, OnErr}
 use Rattle.std.proofs.Math.Seq.{map-set_same}
 use Rattle.std.proofs.lemmas.Bool.{false≢true}
 use Rattle.std.proofs.lemmas.List.{length-set, length-map, length_push}
@@ -17,22 +17,12 @@ use Rattle.vcd_edit.specs.Effect.{effect, with_values, with_wave, renamed_signal
 use Rattle.vcd_edit.specs.Effect.{signal_after_cut}
 use Rattle.vcd_edit.specs.Effect.{inverse_value, shift_value, steady_value, force_value}
 use Rattle.vcd_edit.specs.TouchedByEdit.{IsRemove}
-use Rattle.vcd_edit.specs.AppliedRecords.{apply_record, with_pieces, with_first_word}
+use Rattle.vcd_edit.specs.AppliedRecords.{apply_record, with_pieces}
 use Rattle.vcd_edit.specs.AppliedRecords.{with_piece, changes_with_piece, signal_with_changes}
-use Rattle.vcd_edit.specs.AppliedRecords.{with_signal_in_out, PutsInOrKeepsNames}
+use Rattle.vcd_edit.specs.AppliedRecords.{with_end, with_signal_in_out, PutsInOrKeepsNames}
 use Rattle.vcd_edit.specs.AppliedRecords.{PutsNoSignalIn, SignalFits, Fits, HasOneKindOfPart}
 use Rattle.vcd_edit.specs.declared.exchange.records.Kept.{Kept}
-use Rattle.vcd_edit.proofs.exchange.OppositePieces.{counts_kept}
-use Rattle.vcd_edit.proofs.exchange.OppositeRecords.{parts, signals_of_end, no_pieces_at_word}
-use Rattle.vcd_edit.proofs.exchange.OppositeRecords.{no_pieces_at_signal}
-
--- pieces and a word leave as many signals
-word_count : (c : Contents) (ps : List PieceView) (w : Option (ℕ × List ℕ))
-    → length (with_first_word w (with_pieces c ps)).signals ≡ length c.signals
-word_count c ps None = counts_kept c ps
-word_count c ps (Some w) =
-    let d = with_pieces c ps in
-    length-set d.signals w.0 (renamed_signal w.1 (signal_at d w.0)) ∙ counts_kept c ps
+use Rattle.vcd_edit.proofs.exchange.OppositeRecords.{by_kind, signals_of_end}
 
 -- pieces leave all names
 names_kept : (c : Contents) (ps : List PieceView) → full_names (with_pieces c ps).signals ≡ full_names c.signals
@@ -42,26 +32,25 @@ names_kept c (p ∷ ps) = names_kept (with_piece c p) ps
     ∙ map-set_same full_name c.signals p.signal
     (signal_with_changes (signal_at c p.signal) (changes_with_piece p (signal_at c p.signal).changes)) no_signal refl
 
+-- a signal is put in, unless one is taken out
+signal_needs : (c : Contents) (m : ℕ × Option SignalContents) (e : Option ℕ) → SignalFits c (Some m)
+    → (PutsNoSignalIn (Some m) → ⊥) → PutsInOrKeepsNames c (with_end e (with_signal_in_out (Some m) c))
+signal_needs c (k, None) e fits never = absurd (never refl)
+signal_needs c (k, Some s) e fits never = inl (omega (
+  arith,
+  ap length (signals_of_end e (with_signal_in_out (Some (k, Some s)) c)),
+  length-insert c.signals k s fits,
+))
+
 -- a record has neither pieces nor a signal to put in, or it puts one in, or it leaves all names
-parts_need : (c : Contents) (ps : List PieceView) (w : Option (ℕ × List ℕ)) (m : Option (ℕ × Option SignalContents))
-    (e : Option ℕ)
-    → HasOneKindOfPart (parts ps w m e) → SignalFits c m
-    → ((ps ≡ []) × PutsNoSignalIn m) ⊎ PutsInOrKeepsNames c (apply_record (parts ps w m e) c)
-unfolding apply_record
-parts_need c ps None None e one fits =
-    inr (inr (ap full_names (signals_of_end e (with_pieces c ps)) ∙ names_kept c ps))
-parts_need c ps (Some w) None e one fits = inl (no_pieces_at_word ps w None e one, tt)
-parts_need c ps w (Some (k, None)) e one fits = inl (no_pieces_at_signal ps w (k, None) e one, refl)
-parts_need c ps w (Some (k, Some s)) e one fits =
-    let d = with_first_word w (with_pieces c ps) in
-    let count = word_count c ps w in
-    let within : k ≤ length d.signals = omega (arith, fits, count) in
-    inr (inl (omega (
-      arith,
-      ap length (signals_of_end e (with_signal_in_out (Some (k, Some s)) d)),
-      length-insert d.signals k s within,
-      count,
-    )))
+record_needs : (c : Contents) (r : RecordView) → HasOneKindOfPart r → SignalFits c r.signal
+    → (r.pieces ≡ [] → PutsNoSignalIn r.signal → ⊥) → PutsInOrKeepsNames c (apply_record r c)
+unfolding apply_record with_pieces
+record_needs c =
+    by_kind (λ r. SignalFits c r.signal → (r.pieces ≡ [] → PutsNoSignalIn r.signal → ⊥)
+    → PutsInOrKeepsNames c (apply_record r c))
+    (λ ps e rise fits never. inr (ap full_names (signals_of_end e (with_pieces c ps)) ∙ names_kept c ps))
+    (λ w e fits never. absurd (never refl tt)) (λ m e fits never. signal_needs c m e fits (never refl))
 
 -- a step by a record that is refused only if it needs memory
 pub refused_where : {T : Type 0} (result : Result T Kept) (r : RecordView) (c : Contents) → HasOneKindOfPart r
@@ -69,12 +58,7 @@ pub refused_where : {T : Type 0} (result : Result T Kept) (r : RecordView) (c : 
     → OnErr result (PutsInOrKeepsNames c (apply_record r c))
 refused_where (Ok done) r c one fits never = tt
 refused_where (Err kept) r c one fits never =
-    needs (parts_need c r.pieces r.word r.signal r.other_end one fits.signal)
-  where
-    needs : ((r.pieces ≡ []) × PutsNoSignalIn r.signal) ⊎ PutsInOrKeepsNames c (apply_record r c)
-        → PutsInOrKeepsNames c (apply_record r c)
-    needs (inl none) = absurd (false≢true (never none.0 none.1))
-    needs (inr more) = more
+    record_needs c r one fits.signal (λ none alone. false≢true (never none alone))
 
 -- another wave of a signal leaves as many
 wave_keeps : (c : Contents) (k : ℕ) (f : ℕ → List Bit) → length c.signals ≤ length (with_wave c k f).signals

@@ -1,8 +1,7 @@
 -- A record was exchanged with a capture, part by part.
-use Rattle.std.proofs.Common.{◌≡◌, ◌≢◌, ℕ, Option, Some, None, refl, List, map, All, arith, sym}
+use Rattle.std.proofs.Common.{◌≡◌, ◌≢◌, ℕ, Option, Some, None, refl, List, All, arith, sym}
 use Rattle.std.proofs.Common.{ap, subst, ◌∙◌}
 use Rattle.std.proofs.lemmas.Option.{none-some}
-use Rattle.std.proofs.lemmas.List.{get_or-map, length-map}
 use Rattle.vcd_core.specs.Contents.{Contents}
 use Rattle.vcd_core.specs.Sound.{IsSound}
 use Rattle.vcd_core.specs.WaveView.{WaveView}
@@ -10,10 +9,10 @@ use Rattle.vcd_core.specs.declared.capture.Signal.{Signal}
 use Rattle.vcd_edit.specs.RecordView.{PieceView, RecordView}
 use Rattle.vcd_edit.specs.AppliedRecords.{with_pieces, with_first_word, with_signal_in_out}
 use Rattle.vcd_edit.specs.AppliedRecords.{with_end, apply_record}
-use Rattle.vcd_edit.specs.AppliedRecords.{PieceFits, WordFits, Fits, RiseFrom}
+use Rattle.vcd_edit.specs.AppliedRecords.{WordFits, Fits}
 use Rattle.vcd_edit.specs.AppliedRecords.{HasOneKindOfPart, HasNeitherPiecesNorSignal}
 use Rattle.vcd_edit.specs.declared.record.Piece.{Piece}
-use Rattle.vcd_edit.specs.Records.{piece_view, signal_view}
+use Rattle.vcd_edit.specs.Records.{signal_view}
 use Rattle.vcd_edit.specs.inside.exchange.Pieces.{PieceReadyIn, AreOppositePieces, HaveRoom}
 use Rattle.vcd_edit.specs.inside.exchange.Opposites.{opposite_word, opposite_signal, opposite_end}
 use Rattle.vcd_edit.specs.inside.exchange.Opposites.{opposite_record, IsNamedAt}
@@ -21,12 +20,6 @@ use Rattle.vcd_edit.specs.inside.exchange.Opposites.{IsOppositeRecord}
 use Rattle.vcd_edit.proofs.exchange.OppositeRecords.{pieces_ready, opposite_is_record, leads_other_way}
 use Rattle.vcd_edit.proofs.exchange.OppositeRecords.{in_order, ready_moved, no_pieces_back}
 use Rattle.vcd_edit.proofs.exchange.OppositeRecords.{lead_moved, word_fits, word_named, word_same, end_same}
-
--- each piece of a record that fits
-pub fits_each : (c : Contents) (l : List Piece) → All (PieceFits c) (map piece_view l)
-    → All (λ p. PieceFits c (piece_view p)) l
-fits_each c l all = λ k d less. subst (PieceFits c) (get_or-map piece_view l k d (piece_view d) less)
-    (all k (piece_view d) (omega (arith, less, length-map l piece_view)))
 
 -- a record that puts a signal in or takes one out has no pieces
 pub room_then : (signal : Option (ℕ × Option Signal)) (n : ℕ) (ss tt' : List Signal) (l : List Piece)
@@ -46,9 +39,6 @@ module _ (c : Contents) (r : RecordView) (fits : Fits r c) (one : HasOneKindOfPa
       (subst (λ x. All (PieceReadyIn x) r.pieces) (sym to_moved)
       (ready_moved c r one (pieces_ready c r fits one sound)))
 
-  pub rise_then : RiseFrom 0 l
-  rise_then = subst (RiseFrom 0) (sym whole) one.rise
-
   -- after the pieces, before the word
   module _ (spliced : Contents) (to_spliced : spliced ≡ with_pieces moved l) where
     spliced_is : spliced ≡ with_pieces (with_signal_in_out r.signal c) r.pieces
@@ -58,7 +48,7 @@ module _ (c : Contents) (r : RecordView) (fits : Fits r c) (one : HasOneKindOfPa
     word_fits_then = subst (λ x. WordFits x r.word) (sym spliced_is) (word_fits c r one fits.word)
 
     pub word_named_then : IsNamedAt spliced r.word
-    word_named_then = subst (λ x. IsNamedAt x r.word) (sym spliced_is) (word_named c r one fits.word sound)
+    word_named_then = subst (λ x. IsNamedAt x r.word) (sym spliced_is) (word_named c sound r one fits.word)
 
     -- after the word and the end
     module _ (named end : Contents) (to_named : named ≡ with_first_word r.word spliced)
@@ -72,7 +62,7 @@ module _ (c : Contents) (r : RecordView) (fits : Fits r c) (one : HasOneKindOfPa
           (signal : q.signal ≡ opposite_signal r.signal c) (other_end : q.other_end ≡ opposite_end r.other_end named)
         where
           lead_is : AreOppositePieces c r.pieces qs
-          lead_is = lead_moved c r one qs
+          lead_is = lead_moved c qs r one
               (subst (λ x. AreOppositePieces x r.pieces qs) to_moved
               (subst (λ xs. AreOppositePieces moved xs qs) whole lead))
 
@@ -84,7 +74,7 @@ module _ (c : Contents) (r : RecordView) (fits : Fits r c) (one : HasOneKindOfPa
               λ i. record { pieces = pieces i; word = word_is i; signal = signal i; other_end = end_is i }
 
           pub is_record_then : HasOneKindOfPart q
-          is_record_then = subst HasOneKindOfPart (sym other_way) (opposite_is_record c r qs one lead_is)
+          is_record_then = subst HasOneKindOfPart (sym other_way) (opposite_is_record c r one qs lead_is)
 
           pub neither_then : HasNeitherPiecesNorSignal r → HasNeitherPiecesNorSignal q
           neither_then none = (
@@ -93,4 +83,4 @@ module _ (c : Contents) (r : RecordView) (fits : Fits r c) (one : HasOneKindOfPa
           )
 
           pub leads_then : IsOppositeRecord c r q
-          leads_then = subst (IsOppositeRecord c r) (sym other_way) (leads_other_way c r qs one fits sound lead_is)
+          leads_then = subst (IsOppositeRecord c r) (sym other_way) (leads_other_way c r one sound fits.word fits.signal qs lead_is)
