@@ -59,8 +59,7 @@ only_there : (c : Contents) (a : ℕ) → IsTrue (list_all (is_signal c) (a ∷ 
 only_there c a all = position_below c a (and_parts (is_signal c a) true all).0
 
 both_there : (c : Contents) (a b : ℕ) → IsTrue (list_all (is_signal c) (a ∷ b ∷ []))
-    → IsTrue (list_all (is_scalar c) (a ∷ b ∷ []))
-    → (a < length c.signals) × (b < length c.signals)
+    → IsTrue (list_all (is_scalar c) (a ∷ b ∷ [])) → (a < length c.signals) × (b < length c.signals)
     × ((signal_at c a).width ≡ 1) × ((signal_at c b).width ≡ 1)
 both_there c a b all scalars =
     let there = pair_holds (is_signal c) a b all in

@@ -68,8 +68,7 @@ contents_kept c k s w within is kept =
     (changes_written c.signals k s w s.wave.changes within is kept.width kept.changes
     ∙ ap (λ cs. set (map signal_contents c.signals) k
     (signal_with_changes (slice_index_or (map signal_contents c.signals) k no_signal) cs))
-    (ap (λ (t : SignalContents). t.changes) (sym at))
-    ∙ set-get_or (map signal_contents c.signals) k no_signal)
+    (ap (λ (t : SignalContents). t.changes) (sym at)) ∙ set-get_or (map signal_contents c.signals) k no_signal)
 
 pub wave_there : (signals : List Signal) (k : ℕ) (s : Signal) (w : WaveView) → k < length signals
     → wave_at (set signals k (record s { wave = w })) k ≡ w

@@ -17,8 +17,7 @@ use Rattle.vcd_edit.specs.inside.exchange.Pieces.{AreOppositePieces}
 -- ---- one piece
 
 -- the signal of the piece
-pub signal_here : (c : Contents) (p : PieceView) → p.signal < length c.signals
-    → signal_at (with_piece c p) p.signal
+pub signal_here : (c : Contents) (p : PieceView) → p.signal < length c.signals → signal_at (with_piece c p) p.signal
     ≡ signal_with_changes (signal_at c p.signal) (changes_with_piece p (signal_at c p.signal).changes)
 signal_here c p within =
     get_or-set_same c.signals p.signal
@@ -110,15 +109,13 @@ signal_kept c (p ∷ ps) k j less (from, rise) =
     ∙ signal_elsewhere c p k (λ same. absurd (omega (arith, less, from, same)))
 
 pub AreOppositePieces-push : (c : Contents) (ps qs : List PieceView) (p q : PieceView) → AreOppositePieces c ps qs
-    → p.signal < length (with_pieces c ps).signals
-    → IsOppositePiece (signal_at (with_pieces c ps) p.signal).changes p q
+    → p.signal < length (with_pieces c ps).signals → IsOppositePiece (signal_at (with_pieces c ps) p.signal).changes p q
     → AreOppositePieces c (ps ++ p ∷ []) (qs ++ q ∷ [])
 unfolding with_pieces
 AreOppositePieces-push c [] [] p q lead within leads = (within, leads, tt)
-AreOppositePieces-push c [] (y ∷ qs) p q lead within leads = absurd lead
-AreOppositePieces-push c (x ∷ ps) [] p q lead within leads = absurd lead
 AreOppositePieces-push c (x ∷ ps) (y ∷ qs) p q (first, one, lead) within leads =
     (first, one, AreOppositePieces-push (with_piece c x) ps qs p q lead within leads)
+AreOppositePieces-push c ps qs p q lead within leads = absurd lead
 
 -- ---- pieces for several signals
 
@@ -130,12 +127,11 @@ all_from j (p ∷ ps) (from, rise) =
 pub rise_back : (c : Contents) (ps qs : List PieceView) (j : ℕ) → AreOppositePieces c ps qs → RiseFrom j ps
     → RiseFrom j qs
 rise_back c [] [] j lead rise = tt
-rise_back c [] (q ∷ qs) j lead rise = absurd lead
-rise_back c (p ∷ ps) [] j lead rise = absurd lead
 rise_back c (p ∷ ps) (q ∷ qs) j (within, leads, lead) (from, rise) = (
   omega (arith, from, leads.signal),
   subst (λ k. RiseFrom (suc k) qs) (sym leads.signal) (rise_back (with_piece c p) ps qs (suc p.signal) lead rise),
 )
+rise_back c ps qs j lead rise = absurd lead
 
 -- pieces for two signals, in either order
 either_first : (c : Contents) (p q : PieceView) → p.signal ≢ q.signal
@@ -164,8 +160,6 @@ before_all c q (p ∷ ps) j less (from, rise) =
 undone_before : (c : Contents) (p : PieceView) (ps qs : List PieceView) (j : ℕ) → p.signal < j → RiseFrom j ps
     → AreOppositePieces (with_piece c p) ps qs → AreOppositePieces c ps qs
 undone_before c p [] [] j less rise lead = tt
-undone_before c p [] (y ∷ qs) j less rise lead = absurd lead
-undone_before c p (x ∷ ps) [] j less rise lead = absurd lead
 undone_before c p (x ∷ ps) (y ∷ qs) j less (from, rise) (within, leads, lead) =
     let other : p.signal ≢ x.signal = λ same. absurd (omega (arith, less, from, same)) in (
       omega (arith, within, count_kept c p),
@@ -174,19 +168,19 @@ undone_before c p (x ∷ ps) (y ∷ qs) j less (from, rise) (within, leads, lead
       undone_before (with_piece c x) p ps qs (suc x.signal) (omega (arith, less, from)) rise
           (subst (λ d. AreOppositePieces d ps qs) (either_first c p x other) lead),
     )
+undone_before c p ps qs j less rise lead = absurd lead
 
 -- all opposite pieces
 pub all_back : (c : Contents) (ps qs : List PieceView) (j : ℕ) → RiseFrom j ps → AreOppositePieces c ps qs
     → with_pieces (with_pieces c ps) qs ≡ c
 unfolding with_pieces
 all_back c [] [] j rise lead = refl
-all_back c [] (q ∷ qs) j rise lead = absurd lead
-all_back c (p ∷ ps) [] j rise lead = absurd lead
 all_back c (p ∷ ps) (q ∷ qs) j (from, rise) (within, leads, lead) =
     ap (λ d. with_pieces d qs)
     (before_all (with_piece c p) q ps (suc p.signal) (omega (arith, leads.signal)) rise
     ∙ ap (λ d. with_pieces d ps) (back_one c p q within leads))
     ∙ all_back c ps qs (suc p.signal) rise (undone_before c p ps qs (suc p.signal) (omega arith) rise lead)
+all_back c ps qs j rise lead = absurd lead
 
 -- ---- the opposite pieces fit
 
@@ -194,8 +188,6 @@ pub back_fits_all : (c : Contents) (ps qs : List PieceView) (j : ℕ) → RiseFr
     → All (PieceFits (with_pieces c ps)) qs
 unfolding with_pieces
 back_fits_all c [] [] j rise lead = All-nil (PieceFits c)
-back_fits_all c [] (q ∷ qs) j rise lead = absurd lead
-back_fits_all c (p ∷ ps) [] j rise lead = absurd lead
 back_fits_all c (p ∷ ps) (q ∷ qs) j (from, rise) (within, leads, lead) =
     let here : PieceFits (with_pieces (with_piece c p) ps) q =
     fits_elsewhere (with_piece c p) (with_pieces (with_piece c p) ps) q (counts_kept (with_piece c p) ps)
@@ -203,12 +195,12 @@ back_fits_all c (p ∷ ps) (q ∷ qs) j (from, rise) (within, leads, lead) =
     (back_fits_one c p q within leads) in
     All-cons (PieceFits (with_pieces (with_piece c p) ps)) q qs here
     (back_fits_all (with_piece c p) ps qs (suc p.signal) rise lead)
+back_fits_all c ps qs j rise lead = absurd lead
 
 -- ---- what the pieces make of their signals
 
 pub pieces_reach : (c : Contents) (ps : List PieceView) (j : ℕ) → RiseFrom j ps
-    → All (λ p. p.signal < length c.signals) ps
-    → All (λ p. signal_at (with_pieces c ps) p.signal
+    → All (λ p. p.signal < length c.signals) ps → All (λ p. signal_at (with_pieces c ps) p.signal
     ≡ signal_with_changes (signal_at c p.signal) (changes_with_piece p (signal_at c p.signal).changes)) ps
 unfolding with_pieces
 pieces_reach c [] j rise within = λ k d less. absurd (omega arith)

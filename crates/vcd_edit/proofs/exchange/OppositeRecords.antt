@@ -55,8 +55,7 @@ end_back (Some e) c d same =
 
 fits_at_end : (e : Option ℕ) (c : Contents) (p : PieceView) → PieceFits c p → PieceFits (with_end e c) p
 fits_at_end None c p fits = fits
-fits_at_end (Some e) c p fits =
-    record { signal = fits.signal; ordered = fits.ordered; within = fits.within; ticks = fits.ticks }
+fits_at_end (Some e) c p fits = assumption
 
 pub end_kept : (c : Contents) (ps : List PieceView) → (with_pieces c ps).end ≡ c.end
 unfolding with_pieces
@@ -138,8 +137,7 @@ pub word_back : (e : Option ℕ) (c : Contents) (k : ℕ) (word : List ℕ) → 
 word_back e c k word within named =
     ap (with_end (opposite_end e c))
     (word_of_end e k (slice_index_or (signal_at c k).words 0 []) (with_first_word (Some (k, word)) c)
-    ∙ ap (with_end e) (word_back_at c k word within named))
-    ∙ end_back e c c refl
+    ∙ ap (with_end e) (word_back_at c k word within named)) ∙ end_back e c c refl
 
 -- only a signal put in or taken out, and perhaps an end
 pub signal_back : (e : Option ℕ) (c : Contents) (k : ℕ) (o : Option SignalContents) → MayPutInOrTakeOut c k o
@@ -153,7 +151,7 @@ signal_back (Some e) c k o may =
 -- ---- the kinds of records
 
 -- a record of these parts
-abbrev parts : List PieceView → Option (ℕ × List ℕ) → Option (ℕ × Option SignalContents) → Option ℕ → RecordView
+abbrev pub parts : List PieceView → Option (ℕ × List ℕ) → Option (ℕ × Option SignalContents) → Option ℕ → RecordView
 parts ps w m e = record { pieces = ps; word = w; signal = m; other_end = e }
 
 -- what holds of records with pieces, with a word, and with a signal, holds of each record
@@ -181,8 +179,7 @@ none_back c P here [] lead = here
 none_back c P here (q ∷ qs) lead = absurd lead
 
 pub no_pieces_back : (c : Contents) (ps qs : List PieceView) → AreOppositePieces c ps qs → ps ≡ [] → qs ≡ []
-no_pieces_back c ps qs lead none =
-    none_back c (λ l. l ≡ []) refl qs (subst (λ l. AreOppositePieces c l qs) none lead)
+no_pieces_back c ps qs lead none = none_back c (λ l. l ≡ []) refl qs (subst (λ l. AreOppositePieces c l qs) none lead)
 
 -- ---- the opposite of any step is a record
 
@@ -226,9 +223,9 @@ signal_stores advance c k None after may is =
 -- what undoes a step also fits
 undoes : (c : Contents) (r q : RecordView) → IsSound c → apply_record q (apply_record r c) ≡ c
     → All (PieceFits (apply_record r c)) q.pieces → WordFits (apply_record r c) q.word
-    → SignalFits (apply_record r c) q.signal
-    → ((advance : ℕ → ℤ) → All (λ p. advance p.signal ≡ neg_ℤ p.by) r.pieces
-    → stored_changes q ≤ touched_from advance 0 c.signals (partners (record_pairing r.signal) (apply_record r c).signals))
+    → SignalFits (apply_record r c) q.signal → ((advance : ℕ → ℤ) → All (λ p. advance p.signal ≡ neg_ℤ p.by) r.pieces
+    → stored_changes q ≤ touched_from advance 0 c.signals
+    (partners (record_pairing r.signal) (apply_record r c).signals))
     → IsOppositeRecord c r q
 undoes c r q sound leads pieces word signal stored = record {
   fits = record { pieces = pieces; word = word; signal = signal; sound = subst IsSound (sym leads) sound };
@@ -247,8 +244,8 @@ leads_other_way c r one sound =
     let Undone : RecordView → List PieceView → Type 0 = λ r qs. IsOppositeRecord c r (opposite_record r qs c) in
     by_kind (λ r. WordFits c r.word → SignalFits c r.signal → (qs : List PieceView) → AreOppositePieces c r.pieces qs
     → Undone r qs)
-    (λ ps e rise word signal qs lead. undoes c (parts ps None None e) (opposite_record (parts ps None None e) qs c) sound
-    (pieces_back e c ps qs rise lead) (pieces_fit e c ps qs rise lead) tt tt
+    (λ ps e rise word signal qs lead. undoes c (parts ps None None e) (opposite_record (parts ps None None e) qs c)
+    sound (pieces_back e c ps qs rise lead) (pieces_fit e c ps qs rise lead) tt tt
     (λ advance opposite. omega (
       arith,
       stored_within advance c ps qs 0 rise lead opposite,
@@ -375,7 +372,8 @@ module _ (c : Contents) where
   word_fits = by_kind (λ r. WordFits c r.word → WordFits (exchanged r) r.word)
       (λ ps e rise word. tt) (λ w e word. word) (λ m e word. tt)
 
-  pub word_named : IsSound c → (r : RecordView) → HasOneKindOfPart r → WordFits c r.word → IsNamedAt (exchanged r) r.word
+  pub word_named : IsSound c → (r : RecordView) → HasOneKindOfPart r → WordFits c r.word
+      → IsNamedAt (exchanged r) r.word
   unfolding with_pieces
   word_named sound = by_kind (λ r. WordFits c r.word → IsNamedAt (exchanged r) r.word)
       (λ ps e rise word. tt) (λ w e word. named c w.0 sound word) (λ m e word. tt)

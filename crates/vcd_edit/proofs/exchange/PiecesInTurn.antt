@@ -8,7 +8,7 @@ use Rattle.std.proofs.lemmas.List.{map-set, map-append}
 use Rattle.std.specs.Option.{unwrap_or}
 use Rattle.std.specs.Prelude.{MatchOption}
 use Rattle.std.proofs.lemmas.Bool.{cases_eq}
-use Rattle.std.proofs.lemmas.List.{get_or-set_same, get_or-set_other}
+use Rattle.std.proofs.lemmas.List.{get_or_default, get_or-set_same, get_or-set_other}
 use Rattle.std.proofs.lemmas.List.{drop-set-lt, drop-drop, drop_more, take_more, take_more_set}
 use Rattle.std.proofs.lemmas.List.Elements.{All-head, All-tail}
 use Rattle.vcd_core.specs.declared.capture.Signal.{Signal}
@@ -33,10 +33,8 @@ use Rattle.vcd_edit.proofs.exchange.ContentsAfterPiece.{contents_at, wave_is_the
 pub views_kept : (ps : List Piece) (i : ℕ) (x y : Piece) → i < length ps → x ≡ get_or ps i x
     → piece_view y ≡ piece_view x → map piece_view (set ps i y) ≡ map piece_view ps
 views_kept ps i x y within is same =
-    map-set piece_view ps i y
-    ∙ ap (set (map piece_view ps) i) (same ∙ ap piece_view is
-    ∙ sym (get_or-map piece_view ps i x (piece_view x) within))
-    ∙ set-get_or (map piece_view ps) i (piece_view x)
+    map-set piece_view ps i y ∙ ap (set (map piece_view ps) i) (same ∙ ap piece_view is
+    ∙ sym (get_or-map piece_view ps i x (piece_view x) within)) ∙ set-get_or (map piece_view ps) i (piece_view x)
 
 module _ (old new : List Piece) (i : ℕ) (x y : Piece) (within : i < length new) (is : x ≡ get_or new i x)
     (rest : drop i new ≡ drop i old) where
@@ -70,8 +68,7 @@ pub same_coming : (v w : WaveView) (p q : Piece) → p.from ≡ q.from → p.to 
 same_coming v w p q from to by items width changes coming is =
     record {
       width = is.width ∙ sym width;
-      changes =
-          is.changes ∙ sym (λ i. spliced_changes (changes i) (from i) (to i) (items i) (by i));
+      changes = is.changes ∙ sym (λ i. spliced_changes (changes i) (from i) (to i) (items i) (by i));
     }
 
 -- a wave that can come still can, and room elsewhere is no less
@@ -124,8 +121,7 @@ ready_at c ps i x within is ready =
 -- and its signal is there
 pub signal_is_there : (c : Contents) (signals : List Signal) (x : Piece) → c.signals ≡ map signal_contents signals
     → PieceReadyIn c (piece_view x) → x.signal < length signals
-signal_is_there c signals x is ready =
-    omega (arith, ready.signal, ap length is, length-map signals signal_contents)
+signal_is_there c signals x is ready = omega (arith, ready.signal, ap length is, length-map signals signal_contents)
 
 -- the wave that comes for the next piece
 pub next_coming : (comings left later : List (Option WaveView)) (i n m : ℕ) (next : Option (Option WaveView))
@@ -147,9 +143,14 @@ next_coming comings left later i n m next is count later_count step =
     taken [] (x ∷ later) None count later_count step = absurd (omega (arith, later_count, step.1))
     taken (x ∷ left) later None count later_count step = absurd (omega (arith, count, step.0))
 
-module _ (before : Contents) (old new : List Piece) (i : ℕ) (x : Piece) (c : Capture)
-    (comings : List (Option WaveView)) (within : i < length new) (is : x ≡ get_or new i x)
-    (far : ExchangedSoFar before old i new (contents c) c.signals comings) where
+module _ {before : Contents} {old new : List Piece} {i : ℕ} {comings : List (Option WaveView)} (d : Piece) (c : Capture)
+    (far : ExchangedSoFar before old i new (contents c) c.signals comings) (within : i < length new) where
+  abbrev x : Piece
+  x = get_or new i d
+
+  is : x ≡ get_or new i x
+  is = get_or_default new i d x within
+
   begins : drop i old ≡ x ∷ drop (i + 1) old
   begins = rest_begins old new i x x within is far.rest
 

@@ -30,8 +30,7 @@ rise_split floor before (x ∷ xs) ys (from, other, wide, rest) =
     let parts = rise_split (x.tick + 1) x.value xs ys rest in ((from, other, wide, parts.0), parts.1)
 
 pub rise_join : (floor : ℕ) (before : List Bit) (xs ys : List Change) → AreChangesFrom floor before xs
-    → AreChangesFrom (floor_after floor xs) (last_value before xs) ys
-    → AreChangesFrom floor before (xs ++ ys)
+    → AreChangesFrom (floor_after floor xs) (last_value before xs) ys → AreChangesFrom floor before (xs ++ ys)
 unfolding floor_after last_value
 rise_join floor before [] ys first second = second
 rise_join floor before (x ∷ xs) ys (from, other, wide, rest) second =
@@ -49,8 +48,7 @@ upto_join end (x ∷ xs) ys (first, rest) second = (first, upto_join end xs ys r
 
 -- ---- changes that follow one another
 
-pub follow_tells : (by : ℤ) (end floor : ℕ) (before : List Bit) (cs : List Change)
-    → MayFollow by end floor before cs
+pub follow_tells : (by : ℤ) (end floor : ℕ) (before : List Bit) (cs : List Change) → MayFollow by end floor before cs
     ↔ (AllTicksFit by cs × AreChangesFrom floor before (map (moved_change by) cs)
     × AllUpTo end (map (moved_change by) cs))
 unfolding MayFollow moved_change
@@ -118,8 +116,7 @@ module _ (by : ℤ) (end floor : ℕ) (before : List Bit) (cs : List Change) (i 
   begins : drop i cs ≡ x ∷ drop (i + 1) cs
   begins = drop_more cs i x within ∙ ap (λ c. c ∷ drop (i + 1) cs) (sym is)
 
-  pub follow_begins : MayFollow by end floor before (drop i cs)
-      ≡ (MayComeNext by end floor before x
+  pub follow_begins : MayFollow by end floor before (drop i cs) ≡ (MayComeNext by end floor before x
       × MayFollow by end ((moved_change by x).tick + 1) x.value (drop (i + 1) cs))
   unfolding MayFollow
   follow_begins = ap (MayFollow by end floor before) begins

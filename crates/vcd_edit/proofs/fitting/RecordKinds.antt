@@ -19,10 +19,10 @@ use Rattle.vcd_edit.specs.RecordView.{PieceView, RecordView}
 use Rattle.vcd_edit.specs.Effect.{renamed_signal}
 use Rattle.vcd_edit.specs.AppliedRecords.{with_piece, with_pieces, with_first_word}
 use Rattle.vcd_edit.specs.AppliedRecords.{with_signal_in_out, with_end}
-use Rattle.vcd_edit.specs.AppliedRecords.{apply_record, PieceFits, MayPutInOrTakeOut, Fits}
+use Rattle.vcd_edit.specs.AppliedRecords.{apply_record, PieceFits, Fits}
 use Rattle.vcd_edit.specs.AppliedRecords.{HasOneKindOfPart}
 use Rattle.vcd_edit.specs.inside.fitting.TestsOfParts.{AreSoundSignals, PartsFit, KindFits, HasSoundMetadata}
-use Rattle.vcd_edit.proofs.plans.EffectOfRecord.{contents_at}
+use Rattle.vcd_edit.proofs.exchange.ContentsAfterPiece.{contents_at}
 use Rattle.vcd_edit.proofs.fitting.AllElements.{with_other, other_there, with_one_more, one_more_there}
 use Rattle.vcd_edit.proofs.exchange.OppositeRecords.{by_kind, signals_of_end, end_kept}
 
@@ -118,7 +118,7 @@ kinds_tell end c =
     ))
 
 module _ (end : ℕ) (c : Contents) (r : RecordView) (e : Option ℕ) (one : HasOneKindOfPart r) where
-  by_kind_of : (w : Option (ℕ × List ℕ)) (m : Option (ℕ × Option SignalContents)) → r.word ≡ w → r.signal ≡ m
+  pub by_kind_of : (w : Option (ℕ × List ℕ)) (m : Option (ℕ × Option SignalContents)) → r.word ≡ w → r.signal ≡ m
       → (test : Bool) → IsTrue test ↔ KindFits end c r.pieces w m
       → IsTrue test ↔ PartsFit end (record r { other_end = e }) c
   by_kind_of w m word signal test tells =
@@ -130,50 +130,29 @@ module _ (end : ℕ) (c : Contents) (r : RecordView) (e : Option ℕ) (one : Has
         (λ fit. tells.1 (subst (λ (t : Type 0). t) same (kinds.1 fit))),
       )
 
-  pub parts_by_signal : (m : ℕ × Option SignalContents) → r.signal ≡ Some m → (test : Bool)
-      → IsTrue test ↔ (MayPutInOrTakeOut c m.0 m.1 × AreSoundSignals end (with_signal_in_out (Some m) c).signals)
-      → IsTrue test ↔ PartsFit end (record r { other_end = e }) c
-  parts_by_signal m signal test tells = by_kind_of r.word (Some m) refl signal test tells
-
-  pub parts_by_word : (w : ℕ × List ℕ) → r.signal ≡ None → r.word ≡ Some w → (test : Bool)
-      → IsTrue test ↔ ((w.0 < length c.signals) × AreSoundSignals end (with_first_word (Some w) c).signals)
-      → IsTrue test ↔ PartsFit end (record r { other_end = e }) c
-  parts_by_word w signal word test tells = by_kind_of (Some w) None word signal test tells
-
-  pub parts_by_pieces : r.signal ≡ None → r.word ≡ None → (test : Bool)
-      → IsTrue test ↔ (All (PieceFits c) r.pieces × AreSoundSignals end (with_pieces c r.pieces).signals)
-      → IsTrue test ↔ PartsFit end (record r { other_end = e }) c
-  parts_by_pieces signal word test tells = by_kind_of None None word signal test tells
-
 -- ---- the whole record
 
 abbrev header_and_timescale : Contents → List Header × Option Timescale
 header_and_timescale c = (c.header, c.timescale)
 
-kept_by_pieces : (c : Contents) (ps : List PieceView)
-    → header_and_timescale (with_pieces c ps) ≡ header_and_timescale c
+kept_by_pieces : (c : Contents) (ps : List PieceView) → header_and_timescale (with_pieces c ps) ≡ header_and_timescale c
 unfolding with_pieces
 kept_by_pieces c [] = refl
 kept_by_pieces c (p ∷ ps) = kept_by_pieces (with_piece c p) ps
 
 end_of : (c : Contents) (w : Option (ℕ × List ℕ)) (m : Option (ℕ × Option SignalContents)) (e : Option ℕ)
     → (with_end e (with_signal_in_out m (with_first_word w c))).end ≡ unwrap_or e c.end
-end_of c None None None = refl
-end_of c (Some w) None None = refl
-end_of c None (Some m) None = refl
-end_of c (Some w) (Some m) None = refl
 end_of c w m (Some end) = refl
+end_of c None None None = refl
+end_of c w None None = refl
+end_of c w m None = refl
 
 kept_by_parts : (c : Contents) (w : Option (ℕ × List ℕ)) (m : Option (ℕ × Option SignalContents)) (e : Option ℕ)
     → header_and_timescale (with_end e (with_signal_in_out m (with_first_word w c))) ≡ header_and_timescale c
 kept_by_parts c None None None = refl
-kept_by_parts c (Some w) None None = refl
-kept_by_parts c None (Some m) None = refl
-kept_by_parts c (Some w) (Some m) None = refl
-kept_by_parts c None None (Some end) = refl
-kept_by_parts c (Some w) None (Some end) = refl
-kept_by_parts c None (Some m) (Some end) = refl
-kept_by_parts c (Some w) (Some m) (Some end) = refl
+kept_by_parts c w None None = refl
+kept_by_parts c w m None = refl
+kept_by_parts c w m e = refl
 
 module _ (r : RecordView) (c : Contents) where
   end_then : (apply_record r c).end ≡ unwrap_or r.other_end c.end

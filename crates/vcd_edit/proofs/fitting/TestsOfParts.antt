@@ -20,38 +20,18 @@ use Rattle.vcd_edit.specs.AppliedRecords.{with_pieces, PieceFits, RiseFrom}
 use Rattle.vcd_edit.specs.Records.{piece_view}
 use Rattle.vcd_edit.specs.inside.fitting.TestsOfParts.{HasSoundNames, IsSoundHere, pieces_after, AreSoundFrom}
 use Rattle.vcd_edit.specs.inside.fitting.TestsOfParts.{AreSoundSignals, is_for}
-use Rattle.vcd_edit.proofs.plans.EffectOfRecord.{contents_at}
+use Rattle.vcd_edit.proofs.exchange.ContentsAfterPiece.{contents_at}
 use Rattle.vcd_edit.proofs.exchange.OppositePieces.{signal_here, signal_elsewhere, signal_kept, before_all}
 use Rattle.vcd_edit.proofs.exchange.OppositePieces.{counts_kept}
 
 -- ---- a signal by its names and its changes
 
 sound_names : (end : ℕ) (s : SignalContents) → IsSoundSignal end s → HasSoundNames s
-sound_names end s is = record {
-  scopes = is.scopes;
-  kind = is.kind;
-  kept = is.kept;
-  named = is.named;
-  words = is.words;
-  least = is.least;
-  most = is.most;
-  wave = record { rise = tt };
-  ticks = tt;
-}
+sound_names end s is = assumption
 
 sound_by_parts : (end : ℕ) (s : SignalContents) → HasSoundNames s → IsWave s.width s.changes → AllUpTo end s.changes
     → IsSoundSignal end s
-sound_by_parts end s names wave ticks = record {
-  scopes = names.scopes;
-  kind = names.kind;
-  kept = names.kept;
-  named = names.named;
-  words = names.words;
-  least = names.least;
-  most = names.most;
-  wave = wave;
-  ticks = ticks;
-}
+sound_by_parts end s names wave ticks = assumption
 
 pub unmapped : {X Y : Type 0} (P : Y → Type 0) (f : X → Y) (xs : List X) → All P (map f xs) → All (λ x. P (f x)) xs
 unmapped P f xs all k d less =
@@ -61,8 +41,7 @@ unmapped P f xs all k d less =
 
 -- the signals from a position on are sound once the pieces are put in
 abbrev AreSoundThen : ℕ → ℕ → Contents → List PieceView → Type 0
-AreSoundThen end k c ps =
-    (j : ℕ) → k ≤ j → j < length c.signals → IsSoundSignal end (signal_at (with_pieces c ps) j)
+AreSoundThen end k c ps = (j : ℕ) → k ≤ j → j < length c.signals → IsSoundSignal end (signal_at (with_pieces c ps) j)
 
 -- the signal at a position, and the later ones
 at_or_later : (P : ℕ → Type 0) (k n : ℕ) → P k → ((j : ℕ) → suc k ≤ j → j < n → P j) → (j : ℕ) → k ≤ j → j < n → P j
@@ -147,8 +126,7 @@ module _ (end : ℕ) (c : Contents) where
       within : k < length c.signals
       within = omega (arith, count)
 
-      choose : (b : Bool) → (p.signal == k) ≡ b
-          → ((qs : List PieceView) → RiseFrom (suc k) qs
+      choose : (b : Bool) → (p.signal == k) ≡ b → ((qs : List PieceView) → RiseFrom (suc k) qs
           → AreSoundFrom end c.signals (suc k) n qs ↔ (All (PieceFits c) qs × AreSoundThen end (suc k) c qs))
           → (IsSoundHere end b (signal_at c k) (p ∷ ps)
           × AreSoundFrom end c.signals (suc k) n (pieces_after b (p ∷ ps)))
@@ -164,8 +142,7 @@ module _ (end : ℕ) (c : Contents) where
                   ((rest.0 sound.1).1 j from to)),
             )),
             (λ fit. (
-              valid_here p ps k same within rise.1 (All-head (PieceFits c) p ps fit.0)
-                  (fit.1 k (omega arith) within),
+              valid_here p ps k same within rise.1 (All-head (PieceFits c) p ps fit.0) (fit.1 k (omega arith) within),
               rest.1 (
                 All-tail (PieceFits c) p ps fit.0,
                 (λ j from to. subst (IsSoundSignal end) (later_is p ps k same within rise.1 j from)
@@ -236,8 +213,7 @@ module _ (end : ℕ) (signals : List Signal) (pieces : List Piece) (k done : ℕ
 
   -- the signal at a position, and then the later ones
   pub one_more : (s : Signal) (more : ℕ) → k < length signals → s ≡ get_or signals k s
-      → more ≡ (if is_for k rest then 1 else 0)
-      → AreSoundFrom end ss k (length signals - k) (drop done all)
+      → more ≡ (if is_for k rest then 1 else 0) → AreSoundFrom end ss k (length signals - k) (drop done all)
       ≡ (IsSoundHere end (is_for k rest) (signal_contents s) rest
       × AreSoundFrom end ss (k + 1) (length signals - (k + 1)) (drop (done + more) all))
   unfolding AreSoundFrom

@@ -100,16 +100,14 @@ changes_steady n end f t other = choose (is_steady n end f (suc t)) refl
   where
     choose : (b : Bool) → is_steady n end f (suc t) ≡ b → is_steady n end f (suc t) ≡ true
     choose true is = is
-    choose false is =
-        absurd (other (ap (λ b. if b then f (suc t) else steady_value n end f t) (sym is)))
+    choose false is = absurd (other (ap (λ b. if b then f (suc t) else steady_value n end f t) (sym is)))
 
 long_by : (n end a b : ℕ) → (a == 0 || b == end || nat_le n (b - a + 1)) ≡ true → 0 < a → b < end → n ≤ b - a + 1
 long_by n end a b steady late early = grind (arith, nat_tests)
 
 -- a run of these values that begins at a steady tick is long
 long_from : (n end first last : ℕ) (f : ℕ → List Bit) → 0 < first → last < end
-    → IsRunOfOneValue (steady_value n end f) first last → is_steady n end f first ≡ true
-    → n ≤ last - first + 1
+    → IsRunOfOneValue (steady_value n end f) first last → is_steady n end f first ≡ true → n ≤ last - first + 1
 long_from n end first last f late early (ordered, same, before, after) steady =
     let g = steady_value n end f in
     let a = run_start f first in
@@ -123,18 +121,15 @@ long_from n end first last f late early (ordered, same, before, after) steady =
     let held : (s : ℕ) → a ≤ s → s ≤ b → g s ≡ f first = λ s from to.
     run_stays n end f a b (omega arith) (omega arith)
     (λ r late' early'. all_same r late' early' ∙ sym (all_same a (omega arith) (omega arith))) start.2
-    (λ less. stop.3 (omega arith)) steady s from to
-    ∙ all_same s from to in
+    (λ less. stop.3 (omega arith)) steady s from to ∙ all_same s from to in
     let at_start : a ≡ first = elim (cases_lt a first) [
       | inl less ↦
-          absurd (before (held (first - 1) (omega arith) (omega arith)
-          ∙ sym (held first (omega arith) (omega arith))))
+          absurd (before (held (first - 1) (omega arith) (omega arith) ∙ sym (held first (omega arith) (omega arith))))
       | inr more ↦ omega arith
     ] in
     let within : b ≤ last = elim (cases_lt last b) [
       | inl less ↦
-          absurd (after (held (suc last) (omega arith) (omega arith)
-          ∙ sym (held last (omega arith) (omega arith))))
+          absurd (after (held (suc last) (omega arith) (omega arith) ∙ sym (held last (omega arith) (omega arith))))
       | inr more ↦ more
     ] in
     let long : n ≤ b - a + 1 = long_by n end a b steady (omega arith) (omega arith) in
@@ -197,8 +192,7 @@ values_after k n c none t upto =
     let f : ℕ → List Bit = steady_value n c.end (value_of c k) in
     ap (λ (d : Contents). value_of d k t) (deglitch_is_wave k n c)
     ∙ ap (λ (u : SignalContents). signal_value u t)
-    (get_or-set_same c.signals k (with_values c.end f s) no_signal within)
-    ∙ value_at-changes_of s.width c.end t f upto
+    (get_or-set_same c.signals k (with_values c.end f s) no_signal within) ∙ value_at-changes_of s.width c.end t f upto
 
 -- a run stays one where the values at its ticks and beside them are the same
 same_run : (f g : ℕ → List Bit) (end first last : ℕ) → 0 < first → last < end
@@ -220,10 +214,8 @@ leaves_none k n c sound none first last late early run =
     (omega (arith, end_stays k n c)) (values_after k n c none) run)
 
 -- ticks of one value lie within a run of it
-kept : (n end : ℕ) (f : ℕ → List Bit) (first last t : ℕ) → last ≤ end
-    → ((s : ℕ) → first ≤ s → s ≤ last → f s ≡ f first)
-    → (first ≡ 0) ⊎ (last ≡ end) ⊎ (n ≤ last - first + 1)
-    → first ≤ t → t ≤ last → steady_value n end f t ≡ f t
+kept : (n end : ℕ) (f : ℕ → List Bit) (first last t : ℕ) → last ≤ end → ((s : ℕ) → first ≤ s → s ≤ last → f s ≡ f first)
+    → (first ≡ 0) ⊎ (last ≡ end) ⊎ (n ≤ last - first + 1) → first ≤ t → t ≤ last → steady_value n end f t ≡ f t
 kept n end f first last t within one long from to =
     let a = run_start f t in
     let b = run_end f t (end - t) in
@@ -259,8 +251,7 @@ kept n end f first last t within one long from to =
 
 pub keeps_long : DeglitchKeepsLongRuns
 keeps_long k n c sound none first last t within one long from to =
-    values_after k n c none t (omega arith)
-    ∙ kept n c.end (value_of c k) first last t within one long from to
+    values_after k n c none t (omega arith) ∙ kept n c.end (value_of c k) first last t within one long from to
 
 not_steady : (n end a b : ℕ) → 0 < a → b < end → b - a + 1 < n → (a == 0 || b == end || nat_le n (b - a + 1)) ≡ false
 not_steady n end a b late early short = grind (arith, nat_tests)
@@ -281,10 +272,8 @@ without_short_runs k n c sound none long =
     let is = sound_at c k within sound in
     let changes : changes_of s.width c.end (steady_value n c.end (value_of c k)) ≡ s.changes =
     changes_same s.width c.end (steady_value n c.end (value_of c k)) (value_of c k)
-    (all_stay n c.end (value_of c k) long)
-    ∙ changes_of-value_at s.width c.end s.changes is.wave is.ticks in
-    deglitch_is_wave k n c
-    ∙ ap (λ cs. with_signal c k (record s { changes = cs })) changes
+    (all_stay n c.end (value_of c k) long) ∙ changes_of-value_at s.width c.end s.changes is.wave is.ticks in
+    deglitch_is_wave k n c ∙ ap (λ cs. with_signal c k (record s { changes = cs })) changes
     ∙ ap (λ (ss : List SignalContents). record c { signals = ss }) (set-get_or c.signals k no_signal)
 
 -- its fault hangs on the number of signals alone
@@ -299,8 +288,7 @@ still_accepted : (k n : ℕ) (c : Contents) → edit_fault (Deglitch k n) c ≡ 
 still_accepted k n c none =
     let s : SignalContents = with_values c.end (steady_value n c.end (value_of c k)) (signal_at c k) in
     same_fault k n (effect (Deglitch k n) c) c
-    (ap (λ (d : Contents). length d.signals) (deglitch_is_wave k n c) ∙ length-set c.signals k s)
-    ∙ none
+    (ap (λ (d : Contents). length d.signals) (deglitch_is_wave k n c) ∙ length-set c.signals k s) ∙ none
 
 pub twice : DeglitchTwice
 twice k n c sound none =

@@ -40,38 +40,39 @@ all_counted a (c ∷ cs) counted =
     too_few : {n all part : ℕ} → part ≡ 0 + n → all ≡ part → all ≡ suc (length cs) → n ≤ length cs → ⊥
     too_few p q r s = omega (arith, p, q, r, s)
 
-module _ (a b end stop : ℕ) (s : SignalContents) (is : IsWave s.width s.changes) (upto : AllUpTo end s.changes)
-    (some : a < b) (long : end ≤ stop + (b - a)) (there : a ≤ stop) (small : stop < 2 ^ 64) where
-  before_cut : (t : ℕ) → t < a → cut_value a b s t ≡ signal_value s t
+module _ (a b : ℕ) (s : SignalContents) where
+  pub before_cut : (t : ℕ) → t < a → cut_value a b s t ≡ signal_value s t
   before_cut t early = ap (λ q. if q then signal_value s t else signal_value s (t + (b - a))) (lt-ltb t a early)
 
-  after_cut : (t u : ℕ) → a ≤ t → u ≡ t + (b - a) → cut_value a b s t ≡ signal_value s u
+  pub after_cut : (t u : ℕ) → a ≤ t → u ≡ t + (b - a) → cut_value a b s t ≡ signal_value s u
   after_cut t u late is =
       ap (λ q. if q then signal_value s t else signal_value s (t + (b - a))) (le-ltb t a late)
       ∙ ap (signal_value s) (sym is)
 
+module _ (a b end stop : ℕ) (s : SignalContents) (is : IsWave s.width s.changes) (upto : AllUpTo end s.changes)
+    (some : a < b) (long : end ≤ stop + (b - a)) (there : a ≤ stop) (small : stop < 2 ^ 64) where
   seam : changes_in s.width (cut_value a b s) a 1
       ≡ unless_same (same_letters (signal_value s b) (value_just_before s.width (signal_value s) a))
       (change a (signal_value s b)) []
   seam =
       changes_in-constant s.width (cut_value a b s) (signal_value s b) a 1 (omega arith)
-      (λ i less. after_cut (a + i) b (omega arith) (omega arith))
+      (λ t from to. after_cut a b s t b from (omega arith))
       ∙ ap (λ w. unless_same (same_letters (signal_value s b) w) (change a (signal_value s b)) [])
-      (same_before s.width (cut_value a b s) (signal_value s) a before_cut)
+      (same_before s.width (cut_value a b s) (signal_value s) a (before_cut a b s))
 
   -- at most one change replaces those at the ticks cut out and at the tick after them
   pub cut_leads : (p : PieceView) (by : ℤ) → pos (b + 1) +ℤ by ≡ pos (a + 1)
       → p.from ≡ count_by (λ c. nat_lt c.tick a) s.changes
       → p.to ≡ count_by (λ c. nat_lt c.tick (b + 1)) s.changes → p.by ≡ by
       → p.changes ≡ [] ++ unless_same (same_letters (signal_value s b) (value_just_before s.width (signal_value s) a))
-      (change a (signal_value s b)) []
-      → GivesChanges p s.changes s.width stop (cut_value a b s)
+      (change a (signal_value s b)) [] → GivesChanges p s.changes s.width stop (cut_value a b s)
   cut_leads p by later from to is_by told =
       replacement_leads s.width end s.changes is upto a (b + 1) 1 (stop - a) p.from p.to stop by (cut_value a b s)
       p.changes (omega arith) (omega arith) from to later p refl refl refl is_by
-      (omega arith) small before_cut (λ i less. after_cut (a + 1 + i) (b + 1 + i) (omega arith) (omega arith))
+      (omega arith) small (before_cut a b s)
+      (λ i less. after_cut a b s (a + 1 + i) (b + 1 + i) (omega arith) (omega arith))
       (λ less. ap (value_just_before s.width (cut_value a b s)) {x = a + 1} {y = suc a} (omega arith)
-      ∙ after_cut a b (omega arith) (omega arith)
+      ∙ after_cut a b s a b (omega arith) (omega arith)
       ∙ sym (ap (value_just_before s.width (signal_value s)) {x = b + 1} {y = suc b} (omega arith)))
       (told ∙ sym seam)
 
@@ -92,8 +93,7 @@ quiet_cut a b stop s is there early =
     same : (t : ℕ) → t ≤ stop → signal_value s t ≡ cut_value a b s t
     same t to =
         elim (cases_lt t a) [
-          | inl before ↦ sym (ap (λ q. if q then signal_value s t else signal_value s (t + (b - a)))
-              (lt-ltb t a before))
+          | inl before ↦ sym (before_cut a b s t before)
           | inr late ↦ last t (omega arith) ∙ sym (last (t + (b - a)) (omega arith))
-              ∙ sym (ap (λ q. if q then signal_value s t else signal_value s (t + (b - a))) (le-ltb t a late))
+              ∙ sym (after_cut a b s t _ late refl)
         ]

@@ -2,9 +2,10 @@
 use Rattle.std.proofs.Common.{◌≡◌, ◌<◌, ℕ, ◌+◌, ◌≤◌, IsTrue, List, [], ◌∷◌, length, map, get_or}
 use Rattle.std.proofs.Common.{drop, All, Some, None, refl, sym, ap, subst, ◌∙◌, arith}
 use Rattle.std.specs.Borrow.{Bor}
-use Rattle.std.specs.Prelude.{ℤ, pos, neg_ℤ, Result, Ok, Err, IfOk}
-use Rattle.std.proofs.lemmas.List.{get_or-map, length-map, set-get_or}
+use Rattle.std.specs.Prelude.{ℤ, pos, neg_ℤ, Result, IfOk}
+use Rattle.std.proofs.lemmas.List.{length-map, set-get_or}
 use Rattle.std.proofs.lemmas.List.Elements.{All-nil, All-cons}
+use Rattle.std.proofs.lemmas.Result.{IfOk-weaker}
 use Rattle.vcd_core.specs.declared.bit.Bit.{Bit}
 use Rattle.vcd_core.specs.declared.capture.Signal.{Signal}
 use Rattle.vcd_core.specs.declared.capture.Capture.{Capture}
@@ -20,13 +21,15 @@ use Rattle.vcd_edit.specs.declared.edit.Edit.{Edit}
 use Rattle.vcd_edit.specs.declared.edit.Edit.TheVariants.{Rename, Remove, Force}
 use Rattle.vcd_edit.specs.declared.record.Piece.{Piece}
 use Rattle.vcd_edit.specs.RecordView.{PieceView, RecordView}
-use Rattle.vcd_edit.specs.Effect.{with_wave, renamed_signal, force_value, effect}
+use Rattle.vcd_edit.specs.Effect.{with_wave, renamed_signal, effect}
 use Rattle.vcd_edit.specs.Touched.{stays, record_pairing}
 use Rattle.vcd_edit.specs.TouchedByEdit.{edit_advance, edit_pairing}
 use Rattle.vcd_edit.specs.EditFaults.{is_signal, edit_fault}
 use Rattle.vcd_edit.specs.AppliedRecords.{changes_with_piece, signal_with_changes, with_pieces}
 use Rattle.vcd_edit.specs.AppliedRecords.{apply_record, PieceFits}
 use Rattle.vcd_edit.specs.AppliedRecords.{WordFits, SignalFits}
+use Rattle.vcd_edit.proofs.exchange.ContentsAfterPiece.{contents_at}
+use Rattle.vcd_edit.proofs.exchange.OppositeRecords.{parts}
 use Rattle.vcd_edit.specs.inside.plans.Ranges.{GivesChanges}
 use Rattle.vcd_edit.specs.Records.{piece_view}
 use Rattle.vcd_edit.specs.inside.plans.Plan.{IsPlan, GivesValues}
@@ -35,44 +38,31 @@ use Rattle.vcd_edit.proofs.shared.SoundEffects.{sound_at, effect_is_sound}
 
 -- a record with that result is a plan if its parts lie within the capture
 pub is_plan : (e : Edit) (c : Contents) (r : RecordView) → IsSound c → edit_fault e c ≡ None
-    → apply_record r c ≡ effect e c
-    → All (PieceFits c) r.pieces → WordFits c r.word → SignalFits c r.signal
+    → apply_record r c ≡ effect e c → All (PieceFits c) r.pieces → WordFits c r.word → SignalFits c r.signal
     → All (λ p. edit_advance e ≡ neg_ℤ p.by) r.pieces → record_pairing r.signal ≡ edit_pairing e c → IsPlan e c r
 is_plan e c r sound none leads pieces word signal advance pairing = record {
   fits = record {
     pieces = pieces;
     word = word;
     signal = signal;
-    sound =
-        subst IsSound (sym leads) (effect_is_sound e c sound none);
+    sound = subst IsSound (sym leads) (effect_is_sound e c sound none);
   };
   leads = leads;
   advance = advance;
   pairing = pairing;
 }
 
--- the contents of the signal at a position
-pub contents_at : (signals : List Signal) (k : ℕ) (s : Signal) → k < length signals → s ≡ get_or signals k s
-    → get_or (map signal_contents signals) k no_signal ≡ signal_contents s
-contents_at signals k s within is = get_or-map signal_contents signals k s no_signal within
-    ∙ ap signal_contents (sym is)
-
 -- a position within the contents of a capture
 pub there : (c : Capture) (k : ℕ) → IsTrue (is_signal (contents c) k) → k < length c.signals
 there c k is = omega (arith, position_below (contents c) k is, length-map c.signals signal_contents)
 
--- what holds of each Ok
-pub at_ok : {A E : Type 0} (r : Result A E) (P Q : A → Type 0) → ((v : A) → P v → Q v) → IfOk r P → IfOk r Q
-at_ok (Ok v) P Q follows holds = follows v holds
-at_ok (Err e) P Q follows holds = tt
-
 -- ---- one piece
 
 module _ (e : Edit) (c : Contents) (k : ℕ) (f : ℕ → List Bit) (p : PieceView) (r : RecordView)
-    (is : r ≡ record { pieces = p ∷ []; word = None; signal = None; other_end = None }) (at_k : p.signal ≡ k)
+    (is : r ≡ parts (p ∷ []) None None None) (at_k : p.signal ≡ k)
     (s : SignalContents) (here : signal_at c k ≡ s) (gives : GivesChanges p s.changes s.width c.end f) where
   abbrev alone : RecordView
-  alone = record { pieces = p ∷ []; word = None; signal = None; other_end = None }
+  alone = parts (p ∷ []) None None None
 
   -- the record of a piece gives its signal other values
   one_piece_leads : apply_record r c ≡ with_wave c k f
@@ -109,26 +99,13 @@ module _ (e : Edit) (c : Contents) (k : ℕ) (f : ℕ → List Bit) (p : PieceVi
 -- ---- each edit
 
 pub rename_plan : (c : Capture) (k : ℕ) (word : Bor (List ℕ)) (pieces : List Piece) (copy : List ℕ)
-    → IsSound (contents c) → edit_fault (Rename k word) (contents c) ≡ None
-    → pieces ≡ [] → copy ≡ word.now
-    → IsPlan (Rename k word) (contents c) (record {
-      pieces = map piece_view pieces;
-      word = Some (k, copy);
-      signal =
-          None;
-      other_end = None;
-    })
+    → IsSound (contents c) → edit_fault (Rename k word) (contents c) ≡ None → pieces ≡ [] → copy ≡ word.now
+    → IsPlan (Rename k word) (contents c) (parts (map piece_view pieces) (Some (k, copy)) None None)
 unfolding apply_record with_pieces effect
 rename_plan c k word pieces copy sound none empty same =
     subst (λ (ps : List Piece). IsPlan (Rename k word) (contents c)
-    (record { pieces = map piece_view ps; word = Some (k, copy); signal = None; other_end = None })) (sym empty)
-    (is_plan (Rename k word) (contents c) (record {
-      pieces = [];
-      word = Some (k, copy);
-      signal = None;
-      other_end =
-          None;
-    }) sound none
+    (parts (map piece_view ps) (Some (k, copy)) None None)) (sym empty)
+    (is_plan (Rename k word) (contents c) (parts [] (Some (k, copy)) None None) sound none
     (ap (λ (w : List ℕ). with_signal (contents c) k (renamed_signal w (signal_at (contents c) k))) same)
     (All-nil (PieceFits (contents c)))
     (position_below (contents c) k (no_fault (Rename k word) (contents c) none).0) tt
@@ -136,17 +113,12 @@ rename_plan c k word pieces copy sound none empty same =
 
 pub remove_plan : (c : Capture) (k : ℕ) (pieces : List Piece) → IsSound (contents c)
     → edit_fault (Remove k) (contents c) ≡ None → pieces ≡ []
-    → IsPlan (Remove k) (contents c) (record {
-      pieces = map piece_view pieces;
-      word = None;
-      signal = Some (k, None);
-      other_end = None;
-    })
+    → IsPlan (Remove k) (contents c) (parts (map piece_view pieces) None (Some (k, None)) None)
 unfolding apply_record with_pieces effect
 remove_plan c k pieces sound none empty =
     subst (λ (ps : List Piece). IsPlan (Remove k) (contents c)
-    (record { pieces = map piece_view ps; word = None; signal = Some (k, None); other_end = None })) (sym empty)
-    (is_plan (Remove k) (contents c) (record { pieces = []; word = None; signal = Some (k, None); other_end = None })
+    (parts (map piece_view ps) None (Some (k, None)) None)) (sym empty)
+    (is_plan (Remove k) (contents c) (parts [] None (Some (k, None)) None)
     sound none refl
     (All-nil (PieceFits (contents c))) tt
     (position_below (contents c) k (no_fault (Remove k) (contents c) none).0)
@@ -157,10 +129,10 @@ pub wave_plan : (e : Edit) (c : Contents) (k : ℕ) (f : SignalContents → ℕ 
     (p : Piece) (made : Result RecordView NoMemory) → IsSound c → edit_fault e c ≡ None
     → k < length c.signals → signal_at c k ≡ s → effect e c ≡ with_wave c k (f (signal_at c k))
     → edit_advance e ≡ neg_ℤ by → edit_pairing e c ≡ stays → GivesValues k s c.end by (f s) p
-    → IfOk made (λ r. r ≡ record { pieces = piece_view p ∷ []; word = None; signal = None; other_end = None })
+    → IfOk made (λ r. r ≡ parts (piece_view p ∷ []) None None None)
     → IfOk made (IsPlan e c)
 wave_plan e c k f by s p made sound none within here is advance pairing gives told =
-    at_ok made (λ r. r ≡ record { pieces = piece_view p ∷ []; word = None; signal = None; other_end = None })
+    IfOk-weaker made (λ r. r ≡ parts (piece_view p ∷ []) None None None)
     (IsPlan e c)
     (λ r told. one_piece_plan e c k (f s) (piece_view p) r told gives.signal s here gives.leads sound none within
     (is ∙ ap (λ (s : SignalContents). with_wave c k (f s)) here) (advance ∙ ap neg_ℤ (sym gives.offset)) pairing) told
@@ -172,11 +144,6 @@ sound_here c k s sound within at =
     subst (IsSoundSignal c.end) (contents_at c.signals k s within at)
     (sound_at (contents c) k (omega (arith, within, length-map c.signals signal_contents)) sound)
 
-pub force_is_wave : (k from to : ℕ) (value : List Bit) (c : Contents)
-    → effect (Force k from to value) c ≡ with_wave c k (force_value from to value (signal_at c k))
-unfolding effect
-force_is_wave k from to value c = refl
-
 -- the ticks of a force
 pub force_ticks : (k from to : ℕ) (value : List Bit) (c : Contents) → edit_fault (Force k from to value) c ≡ None
     → (from < to) × (to ≤ c.end + 1)
@@ -186,16 +153,15 @@ force_ticks k from to value c none = range_within from to (c.end + 1) (no_fault 
 
 -- an edit that gives a signal the changes that it has
 pub nothing_plan : (e : Edit) (c : Contents) (k : ℕ) (f : SignalContents → ℕ → List Bit) (s : SignalContents)
-    (r : RecordView) → r ≡ record { pieces = []; word = None; signal = None; other_end = None }
+    (r : RecordView) → r ≡ parts [] None None None
     → IsSound c → edit_fault e c ≡ None → signal_at c k ≡ s → effect e c ≡ with_wave c k (f (signal_at c k))
     → edit_pairing e c ≡ stays → changes_of s.width c.end (f s) ≡ s.changes → IsPlan e c r
 unfolding apply_record with_pieces
 nothing_plan e c k f s r is sound none here gives pairing same =
     let still : effect e c ≡ c =
     gives ∙ ap (λ (s : SignalContents). with_signal c k (signal_with_changes s (changes_of s.width c.end (f s)))) here
-    ∙ ap (λ (cs : List Change). with_signal c k (signal_with_changes s cs)) same
-    ∙ ap (with_signal c k) (sym here)
+    ∙ ap (λ (cs : List Change). with_signal c k (signal_with_changes s cs)) same ∙ ap (with_signal c k) (sym here)
     ∙ ap (λ (ss : List SignalContents). record c { signals = ss }) (set-get_or c.signals k no_signal) in
     subst (IsPlan e c) (sym is)
-    (is_plan e c (record { pieces = []; word = None; signal = None; other_end = None }) sound none (sym still)
+    (is_plan e c (parts [] None None None) sound none (sym still)
     (All-nil (PieceFits c)) tt tt (All-nil (λ (p : PieceView). edit_advance e ≡ neg_ℤ p.by)) (sym pairing))

@@ -21,21 +21,21 @@ pub same_before : (width : ℕ) (f g : ℕ → List Bit) (t : ℕ) → ((s : ℕ
 same_before width f g zero same = refl
 same_before width f g (suc t) same = same t (omega arith)
 
-module _ (a b end : ℕ) (v : List Bit) (s : SignalContents) where
+module _ (a b : ℕ) (v : List Bit) (s : SignalContents) where
   abbrev forced : ℕ → List Bit
   forced = force_value a b v s
 
-  before_range : (t : ℕ) → t < a → forced t ≡ signal_value s t
+  pub before_range : (t : ℕ) → t < a → forced t ≡ signal_value s t
   before_range t early = ap (λ p. if p && nat_lt t b then v else signal_value s t) (lt-leb a t early)
 
-  after_range : (t : ℕ) → b ≤ t → forced t ≡ signal_value s t
+  pub after_range : (t : ℕ) → b ≤ t → forced t ≡ signal_value s t
   after_range t late = either (nat_le a t) (nat_lt t b) (le-ltb t b late)
     where
       either : (p q : Bool) → q ≡ false → (if p && q then v else signal_value s t) ≡ signal_value s t
       either true q none = ap (λ r. if r then v else signal_value s t) none
       either false q none = refl
 
-  in_range : (t : ℕ) → a ≤ t → t < b → forced t ≡ v
+  pub in_range : (t : ℕ) → a ≤ t → t < b → forced t ≡ v
   in_range t from to = (λ i. if le-leb a t from i && lt-ltb t b to i then v else signal_value s t)
 
   -- the changes at the ticks of the range
@@ -43,12 +43,13 @@ module _ (a b end : ℕ) (v : List Bit) (s : SignalContents) where
       ≡ unless_same (same_letters v (value_just_before s.width (signal_value s) a)) (change a v) []
   forced_part some =
       changes_in-constant s.width forced v a (b - a) (omega arith)
-      (λ i less. in_range (a + i) (omega arith) (omega arith))
+      (λ t from to. in_range t from (omega arith))
       ∙ ap (λ w. unless_same (same_letters v w) (change a v) [])
       (same_before s.width forced (signal_value s) a before_range)
 
-  module _ (is : IsWave s.width s.changes) (upto : AllUpTo end s.changes) (small : end ≤ END_LIMIT) (some : a < b)
-      (p : PieceView) (from : p.from ≡ count_by (λ c. nat_lt c.tick a) s.changes) (by : p.by ≡ pos 0) where
+  module _ (end : ℕ) (is : IsWave s.width s.changes) (upto : AllUpTo end s.changes) (small : end ≤ END_LIMIT)
+      (some : a < b) (p : PieceView) (from : p.from ≡ count_by (λ c. nat_lt c.tick a) s.changes)
+      (by : p.by ≡ pos 0) where
     -- up to the end
     pub force_to_end : b ≡ end + 1 → p.to ≡ count_by (λ c. nat_lt c.tick b) s.changes
         → p.changes ≡ [] ++ unless_same (same_letters v (value_just_before s.width (signal_value s) a)) (change a v) []
@@ -65,7 +66,7 @@ module _ (a b end : ℕ) (v : List Bit) (s : SignalContents) where
         ≡ unless_same (same_letters (signal_value s b) v) (change b (signal_value s b)) []
     after_part =
         changes_in-constant s.width forced (signal_value s b) b 1 (omega arith)
-        (λ i less. ap forced {x = b + i} {y = b} (omega arith) ∙ after_range b (omega arith))
+        (λ t from to. after_range t from ∙ ap (signal_value s) {x = t} {y = b} (omega arith))
         ∙ ap (λ w. unless_same (same_letters (signal_value s b) w) (change b (signal_value s b)) [])
         (last_forced b refl)
       where

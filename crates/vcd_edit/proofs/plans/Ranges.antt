@@ -48,24 +48,21 @@ changes_in-split width f t (suc m) n =
 
 -- ---- the same values
 
-same_from : (f g : ℕ → List Bit) (before : List Bit) (t n : ℕ) → ((i : ℕ) → i < n → f (t + i) ≡ g (t + i))
+same_from : (f g : ℕ → List Bit) (before : List Bit) (t n : ℕ) → ((s : ℕ) → t ≤ s → s < t + n → f s ≡ g s)
     → changes_from before t n g ≡ changes_from before t n f
 unfolding changes_from
 same_from f g before t zero same = refl
 same_from f g before t (suc n) same =
-    let here : g t ≡ f t = ap g {x = t} {y = t + 0} (omega arith) ∙ sym (same 0 (omega arith))
-    ∙ ap f {x = t + 0} {y = t} (omega arith) in
+    let here : g t ≡ f t = sym (same t (omega arith) (omega arith)) in
     let rest : changes_from (g t) (suc t) n g ≡ changes_from (f t) (suc t) n f =
-    same_from f g (g t) (suc t) n
-    (λ i less. ap f {x = suc t + i} {y = t + suc i} (omega arith) ∙ same (suc i) (omega arith)
-    ∙ ap g {x = t + suc i} {y = suc t + i} (omega arith))
+    same_from f g (g t) (suc t) n (λ s from to. same s (omega arith) (omega arith))
     ∙ ap (λ v. changes_from v (suc t) n f) here in
     λ i. unless_same (same_letters (here i) before) (change t (here i)) (rest i)
 
 -- two functions with the same values over a range, and the same value before it
 pub changes_in-same : (width : ℕ) (f g : ℕ → List Bit) (t n : ℕ)
     → value_just_before width f t ≡ value_just_before width g t
-    → ((i : ℕ) → i < n → f (t + i) ≡ g (t + i)) → changes_in width g t n ≡ changes_in width f t n
+    → ((s : ℕ) → t ≤ s → s < t + n → f s ≡ g s) → changes_in width g t n ≡ changes_in width f t n
 changes_in-same width f g t n before same =
     same_from f g (value_just_before width g t) t n same ∙ ap (λ v. changes_from v t n f) (sym before)
 
@@ -88,8 +85,7 @@ moved_from f g before by t u (suc n) later same =
     let rest : map (moved_change by) (changes_from (g u) (suc u) n g) ≡ changes_from (f t) (suc t) n f =
     moved_from f g (g u) by (suc t) (suc u) n (omega (arith, ints, later))
     (λ i less. ap f {x = suc t + i} {y = t + suc i} (omega arith) ∙ same (suc i) (omega arith)
-    ∙ ap g {x = u + suc i} {y = suc u + i} (omega arith))
-    ∙ ap (λ v. changes_from v (suc t) n f) here in
+    ∙ ap g {x = u + suc i} {y = suc u + i} (omega arith)) ∙ ap (λ v. changes_from v (suc t) n f) here in
     let tick : unsigned_abs (pos u +ℤ by) ≡ t = ap unsigned_abs later in
     map-unless_same (moved_change by) (same_letters (g u) before) (change u (g u)) (changes_from (g u) (suc u) n g)
     ∙ (λ i. unless_same (same_letters (here i) before) (change (tick i) (here i)) (rest i))
@@ -104,29 +100,27 @@ changes_in-moved width f g by t u (suc n) later before same =
     ∙ ap (λ v. changes_from v t (suc n) f) (sym (before (omega arith)))
 
 -- the values over a range are one value
-constant_from : (f : ℕ → List Bit) (v : List Bit) (t n : ℕ) → ((i : ℕ) → i < n → f (t + i) ≡ v)
+constant_from : (f : ℕ → List Bit) (v : List Bit) (t n : ℕ) → ((s : ℕ) → t ≤ s → s < t + n → f s ≡ v)
     → changes_from v t n f ≡ []
 unfolding changes_from
 constant_from f v t zero same = refl
 constant_from f v t (suc n) same =
-    let here : f t ≡ v = ap f {x = t} {y = t + 0} (omega arith) ∙ same 0 (omega arith) in
+    let here : f t ≡ v = same t (omega arith) (omega arith) in
     put_cases (λ l. l ≡ []) (f t) v (change t (f t)) (changes_from (f t) (suc t) n f)
     (λ _. ap (λ w. changes_from w (suc t) n f) here
-    ∙ constant_from f v (suc t) n (λ i less. ap f {x = suc t + i} {y = t + suc i} (omega arith)
-    ∙ same (suc i) (omega arith)))
+    ∙ constant_from f v (suc t) n (λ s from to. same s (omega arith) (omega arith)))
     (λ other. absurd (other here))
 
 pub changes_in-constant : (width : ℕ) (f : ℕ → List Bit) (v : List Bit) (t n : ℕ) → 0 < n
-    → ((i : ℕ) → i < n → f (t + i) ≡ v)
+    → ((s : ℕ) → t ≤ s → s < t + n → f s ≡ v)
     → changes_in width f t n ≡ unless_same (same_letters v (value_just_before width f t)) (change t v) []
 unfolding changes_from
 changes_in-constant width f v t zero some same = absurd (omega arith)
 changes_in-constant width f v t (suc n) some same =
-    let here : f t ≡ v = ap f {x = t} {y = t + 0} (omega arith) ∙ same 0 (omega arith) in
+    let here : f t ≡ v = same t (omega arith) (omega arith) in
     let rest : changes_from (f t) (suc t) n f ≡ [] =
     ap (λ w. changes_from w (suc t) n f) here
-    ∙ constant_from f v (suc t) n (λ i less. ap f {x = suc t + i} {y = t + suc i} (omega arith)
-    ∙ same (suc i) (omega arith)) in
+    ∙ constant_from f v (suc t) n (λ s from to. same s (omega arith) (omega arith)) in
     λ i. unless_same (same_letters (here i) (value_just_before width f t)) (change t (here i)) (rest i)
 
 -- ---- the ticks of a range
@@ -251,13 +245,12 @@ module _ (width end : ℕ) (cs : List Change) (is : IsWave width cs) (upto : All
   pub replaced : a ≤ u → ((s : ℕ) → s < a → f s ≡ value_at width cs s)
       → ((i : ℕ) → i < n → f (a + m + i) ≡ value_at width cs (u + i))
       → (0 < n → value_just_before width f (a + m) ≡ value_just_before width (value_at width cs) u)
-      → piece ≡ changes_in width f a m
-      → spliced_changes cs k l piece by ≡ changes_of width stop f
+      → piece ≡ changes_in width f a m → spliced_changes cs k l piece by ≡ changes_of width stop f
   unfolding spliced_changes
   replaced ordered early late before told =
       let first : take k cs ≡ changes_in width f 0 a =
       changes_before_tick width end a (u + n - a) k cs is upto (omega arith) from
-      ∙ changes_in-same width f (value_at width cs) 0 a refl (λ i less. early (0 + i) (omega arith)) in
+      ∙ changes_in-same width f (value_at width cs) 0 a refl (λ s _ less. early s (omega arith)) in
       let last : map (moved_change by) (drop l cs) ≡ changes_in width f (a + m) n =
       ap (map (moved_change by)) (changes_from_tick width end u n l cs is upto long to)
       ∙ changes_in-moved width f (value_at width cs) by (a + m) u n later before late in
@@ -265,16 +258,14 @@ module _ (width end : ℕ) (cs : List Change) (is : IsWave width cs) (upto : All
       ∙ append_assoc (changes_in width f 0 a) (changes_in width f a m) (changes_in width f (a + m) n)
       ∙ ap (λ xs. changes_in width f 0 a ++ xs) (sym (changes_in-split width f a m n))
       ∙ ap (λ t. changes_in width f 0 a ++ changes_in width f t (m + n)) {x = a} {y = 0 + a} (omega arith)
-      ∙ sym (changes_in-split width f 0 a (m + n))
-      ∙ ap (changes_in width f 0) all
+      ∙ sym (changes_in-split width f 0 a (m + n)) ∙ ap (changes_in width f 0) all
 
   -- such a piece gives the changes of f
   pub replacement_leads : (p : PieceView) → p.from ≡ k → p.to ≡ l → p.changes ≡ piece → p.by ≡ by → a ≤ u
       → stop < 2 ^ 64
       → ((s : ℕ) → s < a → f s ≡ value_at width cs s) → ((i : ℕ) → i < n → f (a + m + i) ≡ value_at width cs (u + i))
       → (0 < n → value_just_before width f (a + m) ≡ value_just_before width (value_at width cs) u)
-      → piece ≡ changes_in width f a m
-      → GivesChanges p cs width stop f
+      → piece ≡ changes_in width f a m → GivesChanges p cs width stop f
   replacement_leads p is_from is_to is_piece is_by ordered small early late before told =
       record {
         ordered = omega (arith, is_from, is_to, from, to, counts_rise a u cs ordered);

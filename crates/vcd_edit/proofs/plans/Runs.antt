@@ -154,15 +154,13 @@ module _ (n end width : ℕ) (f : ℕ → List Bit) where
   pub steady_from : (cs : List Change) (a : ℕ) (v u : List Bit) → a ≤ end → length v ≡ width
       → ((s : ℕ) → a ≤ s → s ≤ end → f s ≡ value_from v cs s)
       → AreChangesFrom (a + 1) v cs → AllUpTo end cs → ((p : ℕ) → suc p ≡ a → f a ≢ f p)
-      → ((p : ℕ) → suc p ≡ a → steady_value n end f p ≡ u)
-      → (t : ℕ) → a ≤ t → t ≤ end
+      → ((p : ℕ) → suc p ≡ a → steady_value n end f p ≡ u) → (t : ℕ) → a ≤ t → t ≤ end
       → steady_value n end f t ≡ value_from (if begins_steady n (change a v) cs then v else u) (steady_changes n cs)
       t
   unfolding value_from steady_changes
   steady_from [] a v u le wide values rise upto begins carried t from to =
       run_stays n end f a end le (omega arith) (λ s late early. values s late early ∙ sym (values a (omega arith) le))
-      begins (λ less. absurd (omega arith)) (last_run a end n) t from to
-      ∙ values t from to
+      begins (λ less. absurd (omega arith)) (last_run a end n) t from to ∙ values t from to
   steady_from (c ∷ cs) a v u le wide values (later, other, alike, rest) (here, upto) begins carried t from to =
       let b : ℕ = c.tick - 1 in
       let next : suc b ≡ c.tick = omega arith in
@@ -220,8 +218,7 @@ either_x false v = refl
 
 -- the value at each tick of a wave without its glitches is that of the steady changes
 pub steady_values : (n end width : ℕ) (cs : List Change) → AreChangesFrom 0 (all_x width) cs → AllUpTo end cs → (t : ℕ)
-    → t ≤ end
-    → value_from (all_x width) (steady_changes n cs) t ≡ steady_value n end (value_from (all_x width) cs) t
+    → t ≤ end → value_from (all_x width) (steady_changes n cs) t ≡ steady_value n end (value_from (all_x width) cs) t
 unfolding steady_changes
 steady_values n end width [] rise upto t to =
     sym (steady_from n end width (value_from (all_x width) []) [] 0 (all_x width) (all_x width) (omega arith)

@@ -20,8 +20,7 @@ use Rattle.vcd_edit.proofs.plans.Ranges.{changes_in-constant}
 
 -- the piece of a whole list gives its own changes
 pub whole_leads : (p : PieceView) (cs : List Change) (width end : ℕ) (f : ℕ → List Bit) → p.from ≡ 0 → p.to ≡ length cs
-    → p.changes ≡ changes_of width end f
-    → GivesChanges p cs width end f
+    → p.changes ≡ changes_of width end f → GivesChanges p cs width end f
 unfolding spliced_changes
 whole_leads p cs width end f first last told =
     let none : drop p.to cs ≡ [] = drop_all p.to cs (omega (arith, last)) in
@@ -36,7 +35,7 @@ whole_leads p cs width end f first last told =
 pub one_value_changes : (width end : ℕ) (f : ℕ → List Bit) (v : List Bit) → ((t : ℕ) → t ≤ end → f t ≡ v)
     → unless_same (same_letters v (all_x width)) (change 0 v) [] ≡ changes_of width end f
 one_value_changes width end f v same =
-    sym (changes_in-constant width f v 0 (suc end) (omega arith) (λ i less. same (0 + i) (omega arith)))
+    sym (changes_in-constant width f v 0 (suc end) (omega arith) (λ t _ less. same t (omega arith)))
 
 -- the piece of the whole list of a signal
 pub whole_gives : (p : Piece) (k : ℕ) (s : SignalContents) (items : List Change) (end : ℕ) (f : ℕ → List Bit)

@@ -46,8 +46,7 @@ without_repeats_upto end before (c ∷ cs) (here, upto) =
 
 -- and the values are the same
 without_repeats_value : (width floor : ℕ) (before : List Bit) (cs : List Change) (t : ℕ) → length before ≡ width
-    → TicksRise width floor cs
-    → value_from before (without_repeats before cs) t ≡ value_from before cs t
+    → TicksRise width floor cs → value_from before (without_repeats before cs) t ≡ value_from before cs t
 unfolding without_repeats value_from
 without_repeats_value width floor before [] t long rise = refl
 without_repeats_value width floor before (c ∷ cs) t long (from, wide, rest) =

@@ -3,17 +3,16 @@ use Rattle.std.proofs.Common.{◌≡◌, ◌<◌, ◌≤◌, ℕ, ◌+◌, ◌-�
 use Rattle.std.proofs.Common.{if◌then◌else◌}
 use Rattle.std.proofs.Common.{IsTrue, not, ℤ, pos, ◌-ℤ◌, List, [], ◌∷◌, length, map, drop, inl, inr}
 use Rattle.std.proofs.Common.{refl, sym, ap}
-use Rattle.std.proofs.Common.{◌∙◌, ◌⊎◌, arith}
+use Rattle.std.proofs.Common.{◌∙◌, arith}
 use Rattle.std.specs.Prelude.{neg_ℤ}
 use Rattle.std.specs.List.{list_all}
-use Rattle.std.proofs.lemmas.Bool.{cases_lt, lt-ltb, le-ltb, le-leb, lt-leb, and_parts, and_left}
-use Rattle.std.proofs.lemmas.Bool.{and_right}
+use Rattle.std.proofs.lemmas.Bool.{cases_lt, le-ltb, and_parts}
 use Rattle.std.proofs.lemmas.Int.{ints}
 use Rattle.std.proofs.lemmas.List.{length-set, set-set, set-get_or, get_or-set_same, get_or-map}
 use Rattle.std.proofs.lemmas.List.{get_or_push}
 use Rattle.std.proofs.lemmas.List.Edits.{get_or-remove_below, get_or-remove_above}
 use Rattle.vcd_core.specs.declared.bit.Bit.{Bit}
-use Rattle.vcd_core.specs.declared.bit.Bit.TheVariants.{Zero, One, X, Z}
+use Rattle.vcd_core.specs.declared.bit.Bit.TheVariants.{Zero, Z}
 use Rattle.vcd_core.specs.declared.wave.Change.{Change}
 use Rattle.vcd_core.specs.Value.{letter_at, same_letter}
 use Rattle.vcd_core.specs.Wave.{changes_of}
@@ -34,6 +33,8 @@ use Rattle.vcd_edit.specs.EffectLaws.{CutsCommute, ShiftAndBack, ForceIsLocal, L
 use Rattle.vcd_edit.specs.EffectLaws.{RenameAndBack}
 use Rattle.vcd_edit.specs.EffectLaws.{RemoveAndBack, BitOfOneBit}
 use Rattle.vcd_edit.proofs.shared.SoundEffects.{sound_at, value_at_width}
+use Rattle.vcd_edit.proofs.plans.CutPiece.{before_cut, after_cut}
+use Rattle.vcd_edit.proofs.plans.ForcePiece.{before_range, after_range, in_range}
 use Rattle.vcd_edit.proofs.exchange.OppositeRecords.{insert-remove}
 
 -- ---- a signal with other values
@@ -83,9 +84,7 @@ same_values c k f g same =
 
 negated_twice : (b : Bit) → not_bit (not_bit b) ≡ x_for_z b
 negated_twice Zero = refl
-negated_twice One = refl
-negated_twice X = refl
-negated_twice Z = refl
+negated_twice b = refl
 
 all_negated_twice : (v : List Bit) → map not_bit (map not_bit v) ≡ map x_for_z v
 all_negated_twice [] = refl
@@ -97,14 +96,11 @@ invert_twice c k t within upto =
     let s : SignalContents = signal_at c k in
     let d : Contents = with_wave c k (inverse_value s) in
     value_of_wave d k (still_there c k within (with_values c.end (inverse_value s) s)) (inverse_value (signal_at d k)) t
-    upto
-    ∙ ap (map not_bit) (value_of_wave c k within (inverse_value s) t upto) ∙ all_negated_twice (value_of c k t)
+    upto ∙ ap (map not_bit) (value_of_wave c k within (inverse_value s) t upto) ∙ all_negated_twice (value_of c k t)
 
 kept_bit : (b : Bit) → IsTrue (not (same_letter b Z)) → x_for_z b ≡ b
-kept_bit Zero other = refl
-kept_bit One other = refl
-kept_bit X other = refl
 kept_bit Z other = absurd (cc)
+kept_bit b other = refl
 
 kept_bits : (v : List Bit) → IsTrue (list_all (λ b. not (same_letter b Z)) v) → map x_for_z v ≡ v
 kept_bits [] all = refl
@@ -120,20 +116,13 @@ invert_twice_without_z c k sound within none =
     values_twice c k within (inverse_value s) (inverse_value (signal_at d k))
     ∙ same_values c k (inverse_value (signal_at d k)) (value_of c k)
     (λ t upto. ap (map not_bit) (value_of_wave c k within (inverse_value s) t upto)
-    ∙ all_negated_twice (value_of c k t) ∙ kept_bits (value_of c k t) (none t upto))
-    ∙ own_values c k within sound
+    ∙ all_negated_twice (value_of c k t) ∙ kept_bits (value_of c k t) (none t upto)) ∙ own_values c k within sound
 
 -- ---- cut
 
 module _ (from to : ℕ) (s : SignalContents) where
   value_after_cut : (end t : ℕ) → t ≤ end → signal_value (signal_after_cut end from to s) t ≡ cut_value from to s t
   value_after_cut end t upto = value_at-changes_of s.width end t (cut_value from to s) upto
-
-  before_cut : (t : ℕ) → t < from → cut_value from to s t ≡ signal_value s t
-  before_cut t less = ap (λ b. if b then signal_value s t else signal_value s (t + (to - from))) (lt-ltb t from less)
-
-  after_cut : (t : ℕ) → from ≤ t → cut_value from to s t ≡ signal_value s (t + (to - from))
-  after_cut t more = ap (λ b. if b then signal_value s t else signal_value s (t + (to - from))) (le-ltb t from more)
 
 -- the values of a signal of a capture after a cut
 cut_at : (c : Contents) (from to k t : ℕ) → k < length c.signals → t ≤ c.end - (to - from)
@@ -149,7 +138,7 @@ cut_keeps_other_ticks c from to k t ordered ends within =
     let s : SignalContents = signal_at c k in (
       (λ early. cut_at c from to k t within (omega arith) ∙ before_cut from to s t early),
       (λ late upto. cut_at c from to k (t - (to - from)) within (omega arith)
-          ∙ after_cut from to s (t - (to - from)) (omega arith)
+          ∙ after_cut from to s (t - (to - from)) _ (omega arith) refl
           ∙ ap (signal_value s) {x = t - (to - from) + (to - from)} {y = t} (omega arith)),
       omega arith,
     )
@@ -181,22 +170,21 @@ module _ (from to later last : ℕ) (ordered : from ≤ to) (apart : to ≤ late
       elim (cases_lt t from) [
         | inl early ↦
             before_cut (later - gone) (last - gone) first_cut t (omega arith) ∙ at_first_cut t (omega arith)
-            ∙ before_cut from to s t early
-            ∙ sym (before_cut from to later_cut t early ∙ at_later_cut t (omega arith)
+            ∙ before_cut from to s t early ∙ sym (before_cut from to later_cut t early ∙ at_later_cut t (omega arith)
             ∙ before_cut later last s t (omega arith))
         | inr after ↦ elim (cases_lt t (later - gone)) [
           | inl between ↦
               before_cut (later - gone) (last - gone) first_cut t between ∙ at_first_cut t (omega arith)
-              ∙ after_cut from to s t after
-              ∙ sym (after_cut from to later_cut t after ∙ at_later_cut (t + gone) (omega arith)
+              ∙ after_cut from to s t _ after refl
+              ∙ sym (after_cut from to later_cut t _ after refl ∙ at_later_cut (t + gone) (omega arith)
               ∙ before_cut later last s (t + gone) (omega arith))
           | inr late ↦
-              after_cut (later - gone) (last - gone) first_cut t late
+              after_cut (later - gone) (last - gone) first_cut t _ late refl
               ∙ at_first_cut (t + (last - gone - (later - gone))) (omega arith)
-              ∙ after_cut from to s (t + (last - gone - (later - gone))) (omega arith)
+              ∙ after_cut from to s (t + (last - gone - (later - gone))) _ (omega arith) refl
               ∙ same_tick (t + (last - gone - (later - gone)) + gone) (t + gone + (last - later)) (omega arith)
-              ∙ sym (after_cut from to later_cut t after ∙ at_later_cut (t + gone) (omega arith)
-              ∙ after_cut later last s (t + gone) (omega arith))
+              ∙ sym (after_cut from to later_cut t _ after refl ∙ at_later_cut (t + gone) (omega arith)
+              ∙ after_cut later last s (t + gone) _ (omega arith) refl)
         ]
       ]
 
@@ -236,8 +224,7 @@ cuts_commute c from to later last ordered apart rising ends =
 within_capture : (end u : ℕ) (s : SignalContents) (t : ℤ) → u ≤ end → t ≡ pos u
     → value_at_any_tick end s t ≡ signal_value s u
 within_capture end u s t upto is =
-    ap (value_at_any_tick end s) is
-    ∙ ap (λ b. if b then signal_value s end else signal_value s u) (le-ltb end u upto)
+    ap (value_at_any_tick end s) is ∙ ap (λ b. if b then signal_value s end else signal_value s u) (le-ltb end u upto)
 
 pub shift_and_back : ShiftAndBack
 unfolding effect
@@ -252,25 +239,16 @@ shift_and_back c k t moved by within upto stays is =
 
 -- ---- force
 
-force_inside : (from to : ℕ) (value : List Bit) (s : SignalContents) (t : ℕ) → from ≤ t → t < to
-    → force_value from to value s t ≡ value
-force_inside from to value s t from_here before =
-    rw (le-leb from t from_here, lt-ltb t to before) refl
-
-force_outside : (from to : ℕ) (value : List Bit) (s : SignalContents) (t : ℕ) → (t < from) ⊎ (to ≤ t)
-    → force_value from to value s t ≡ signal_value s t
-force_outside from to value s t (inl early) =
-    ap (λ b. if b then value else signal_value s t) (and_left (nat_le from t) (nat_lt t to) (lt-leb from t early))
-force_outside from to value s t (inr late) =
-    ap (λ b. if b then value else signal_value s t) (and_right (nat_le from t) (nat_lt t to) (le-ltb t to late))
-
 pub force_is_local : ForceIsLocal
 unfolding effect
 force_is_local c k from to t value within upto =
     let s : SignalContents = signal_at c k in
     let there = value_of_wave c k within (force_value from to value s) t upto in (
-      (λ from_here before. there ∙ force_inside from to value s t from_here before),
-      (λ outside. there ∙ force_outside from to value s t outside),
+      (λ from_here before. there ∙ in_range from to value s t from_here before),
+      (λ outside. there ∙ elim outside [
+        | inl early ↦ before_range from to value s t early
+        | inr late ↦ after_range from to value s t late
+      ]),
     )
 
 -- where the first choice is not taken, the others may differ
@@ -293,9 +271,8 @@ last_force_counts c k from to first last within =
 -- ---- derive
 
 only_bit : (v : List Bit) → length v ≡ 1 → letter_at v 0 ∷ [] ≡ v
-only_bit [] long = absurd (omega arith)
 only_bit (b ∷ []) long = refl
-only_bit (b ∷ d ∷ v) long = absurd (omega arith)
+only_bit v long = absurd (omega arith)
 
 pub bit_of_one_bit : BitOfOneBit
 unfolding effect
@@ -319,8 +296,7 @@ rename_and_back c k old new others within named =
     (get_or-set_same c.signals k (renamed_signal new.now s) no_signal within)
     ∙ replaced_twice c k within (renamed_signal new.now s) (record s { words = old.now ∷ drop 1 s.words })
     ∙ ap (λ (ws : List (List ℕ)). with_signal c k (record s { words = ws }))
-    (ap (λ (ws : List (List ℕ)). old.now ∷ drop 1 ws) named ∙ sym named)
-    ∙ replaced_by_itself c k within
+    (ap (λ (ws : List (List ℕ)). old.now ∷ drop 1 ws) named ∙ sym named) ∙ replaced_by_itself c k within
 
 pub remove_and_back : RemoveAndBack
 unfolding effect apply_record with_pieces

@@ -1,8 +1,8 @@
 -- An edit with no fault keeps a sound capture sound.
-use Rattle.std.proofs.Common.{◌≡◌, ◌<◌, ℕ, zero, suc, ◌+◌, ◌-◌, ◌==◌, ◌&&◌, nat_le, nat_lt, Bool}
+use Rattle.std.proofs.Common.{◌≡◌, ◌<◌, ◌≤◌, ℕ, zero, suc, ◌+◌, ◌-◌, ◌==◌, ◌&&◌, nat_le, nat_lt, Bool}
 use Rattle.std.proofs.Common.{true, false}
 use Rattle.std.proofs.Common.{if◌then◌else◌, IsTrue, ℤ, pos, negsuc, ◌-ℤ◌, List, [], ◌∷◌, length}
-use Rattle.std.proofs.Common.{take, drop, get_or}
+use Rattle.std.proofs.Common.{take, drop, get_or, set}
 use Rattle.std.proofs.Common.{None, refl, ◌∙◌, arith}
 use Rattle.std.specs.List.{list_all, push, remove}
 use Rattle.std.proofs.lemmas.Bool.Decides.{nat_tests}
@@ -36,30 +36,25 @@ use Rattle.vcd_edit.proofs.checking.NoFault.{no_fault, position_below, first_ope
 
 -- ---- the width of values
 
+-- either value has the width
+either_width : (b : Bool) (v w : List Bit) (width : ℕ) → length v ≡ width → length w ≡ width
+    → length (if b then v else w) ≡ width
+either_width true v w width left right = left
+either_width false v w width left right = right
+
 value_from_width : (width floor : ℕ) (before kept : List Bit) (cs : List Change) (t : ℕ) → length before ≡ width
-    → length kept ≡ width → AreChangesFrom floor kept cs
-    → length (value_from before cs t) ≡ width
+    → length kept ≡ width → AreChangesFrom floor kept cs → length (value_from before cs t) ≡ width
 unfolding value_from
 value_from_width width floor before kept [] t long alike rise = long
 value_from_width width floor before kept (c ∷ cs) t long alike (at, other, wide, rest) =
     value_from_width width (c.tick + 1) (if nat_le c.tick t then c.value else before) c.value cs t
-    (elim (nat_le c.tick t) as (λ b. length (if b then c.value else before) ≡ width) [
-      | true ↦ wide ∙ alike
-      | false ↦
-          long
-    ]) (wide ∙ alike) rest
+    (either_width (nat_le c.tick t) c.value before width (wide ∙ alike) long) (wide ∙ alike) rest
 
 -- each value of a wave has its width
 pub value_at_width : (width : ℕ) (cs : List Change) (t : ℕ) → IsWave width cs → length (value_at width cs t) ≡ width
 value_at_width width cs t wave =
     value_from_width width 0 (all_x width) (all_x width) cs t (length-replicate width X) (length-replicate width X)
     wave.rise
-
--- either value has the width
-either_width : (b : Bool) (v w : List Bit) (width : ℕ) → length v ≡ width → length w ≡ width
-    → length (if b then v else w) ≡ width
-either_width true v w width left right = left
-either_width false v w width left right = right
 
 value_near_width : (end : ℕ) (s : SignalContents) (t : ℤ) → IsWave s.width s.changes
     → length (value_at_any_tick end s t) ≡ s.width
@@ -79,19 +74,8 @@ steady_value_width ticks end f (suc t) width wide =
 
 -- a sound signal with other values, up to another end
 pub sound_with_values : (end stop : ℕ) (f : ℕ → List Bit) (s : SignalContents) → IsSoundSignal end s
-    → ((t : ℕ) → length (f t) ≡ s.width)
-    → IsSoundSignal stop (with_values stop f s)
-sound_with_values end stop f s sound wide = record {
-  scopes = sound.scopes;
-  kind = sound.kind;
-  kept = sound.kept;
-  named = sound.named;
-  words = sound.words;
-  least = sound.least;
-  most = sound.most;
-  wave = changes_rise s.width stop f wide;
-  ticks = changes_end s.width stop f;
-}
+    → ((t : ℕ) → length (f t) ≡ s.width) → IsSoundSignal stop (with_values stop f s)
+sound_with_values end stop f s sound wide = assumption (changes_rise s.width stop f wide, changes_end s.width stop f)
 
 both_hold : (p q : Bool) → IsTrue p → IsTrue q → IsTrue (p && q)
 both_hold true q first second = second
@@ -108,17 +92,13 @@ others_are_words (word ∷ words) all = second_holds (is_word word) (list_all is
 -- a sound signal with another first word in its name
 pub sound_renamed : (end : ℕ) (word : List ℕ) (s : SignalContents) → IsTrue (is_word word) → IsSoundSignal end s
     → IsSoundSignal end (renamed_signal word s)
-sound_renamed end word s is sound = record {
-  scopes = sound.scopes;
-  kind = sound.kind;
-  kept = sound.kept;
-  named = omega arith;
-  words = both_hold (is_word word) (list_all is_word (drop 1 s.words)) is (others_are_words s.words sound.words);
-  least = sound.least;
-  most = sound.most;
-  wave = sound.wave;
-  ticks = sound.ticks;
-}
+sound_renamed end word s is sound =
+    let named : 0 < length (word ∷ drop 1 s.words) = omega arith in
+    assumption (
+      named,
+      both_hold (is_word word) (list_all is_word (drop 1 s.words)) is
+          (others_are_words s.words sound.words),
+    )
 
 -- a derived signal, if its first operand is sound
 pub sound_derived : (c : Contents) (word : List ℕ) (rule : Rule) → IsTrue (is_word word)
@@ -145,13 +125,9 @@ sound_at c k within sound = All-get_or (IsSoundSignal c.end) c.signals k no_sign
 -- another sound signal in the place of one
 pub sound_with_signal : (c : Contents) (k : ℕ) (s : SignalContents) → IsSound c → IsSoundSignal c.end s
     → IsSound (with_signal c k s)
-sound_with_signal c k s sound alike = record {
-  header = sound.header;
-  timescale = sound.timescale;
-  end = sound.end;
-  few = rw (length-set c.signals k s) (sound.few);
-  signals = All-set (IsSoundSignal c.end) c.signals k s alike sound.signals;
-}
+sound_with_signal c k s sound alike =
+    let few : length (set c.signals k s) ≤ SIGNAL_LIMIT = omega (arith, length-set c.signals k s, sound.few) in
+    assumption (few, All-set (IsSoundSignal c.end) c.signals k s alike sound.signals)
 
 pub sound_with_wave : (c : Contents) (k : ℕ) (f : ℕ → List Bit) → k < length c.signals → IsSound c
     → ((t : ℕ) → length (f t) ≡ (signal_at c k).width) → IsSound (with_wave c k f)
@@ -161,25 +137,21 @@ sound_with_wave c k f within sound wide =
 
 pub sound_removed : (c : Contents) (k : ℕ) → k < length c.signals → IsSound c
     → IsSound (record c { signals = remove c.signals k })
-sound_removed c k within sound = record {
-  header = sound.header;
-  timescale = sound.timescale;
-  end = sound.end;
-  few = omega (arith, length-remove c.signals k within, sound.few);
-  signals = All-append (IsSoundSignal c.end) (take k c.signals) (drop (suc k) c.signals)
-      (All-take (IsSoundSignal c.end) k c.signals sound.signals)
-      (All-drop (IsSoundSignal c.end) (suc k) c.signals sound.signals);
-}
+sound_removed c k within sound =
+    let P = IsSoundSignal c.end in
+    let few : length (remove c.signals k) ≤ SIGNAL_LIMIT =
+    omega (arith, length-remove c.signals k within, sound.few) in
+    assumption (
+      few,
+      All-append P (take k c.signals) (drop (suc k) c.signals) (All-take P k c.signals sound.signals)
+          (All-drop P (suc k) c.signals sound.signals),
+    )
 
 pub sound_pushed : (c : Contents) (s : SignalContents) → length c.signals < SIGNAL_LIMIT → IsSound c
     → IsSoundSignal c.end s → IsSound (record c { signals = push c.signals s })
-sound_pushed c s few sound alike = record {
-  header = sound.header;
-  timescale = sound.timescale;
-  end = sound.end;
-  few = omega (arith, length_push c.signals s, few);
-  signals = All-push (IsSoundSignal c.end) c.signals s sound.signals alike;
-}
+sound_pushed c s few sound alike =
+    let count : length (push c.signals s) ≤ SIGNAL_LIMIT = omega (arith, length_push c.signals s, few) in
+    assumption (count, All-push (IsSoundSignal c.end) c.signals s sound.signals alike)
 
 pub sound_cut : (c : Contents) (from to : ℕ) → IsSound c → IsSound (cut_contents from to c)
 sound_cut c from to sound = record {
@@ -213,8 +185,7 @@ effect_is_sound (Rename k word) c sound none =
     sound_with_signal c k (renamed_signal word.now (signal_at c k)) sound
     (sound_renamed c.end word.now (signal_at c k) free.1.0
     (sound_at c k (position_below c k free.0) sound))
-effect_is_sound (Remove k) c sound none =
-    sound_removed c k (position_below c k (no_fault (Remove k) c none).0) sound
+effect_is_sound (Remove k) c sound none = sound_removed c k (position_below c k (no_fault (Remove k) c none).0) sound
 effect_is_sound (Invert k) c sound none =
     let within = position_below c k (no_fault (Invert k) c none).0 in
     let s : SignalContents = signal_at c k in

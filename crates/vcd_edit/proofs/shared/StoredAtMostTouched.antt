@@ -24,8 +24,7 @@ use Rattle.vcd_edit.proofs.exchange.OppositePieces.{all_from}
 
 -- one signal touches no more than all
 pub touched_at_least : (advance : ℕ → ℤ) (j : ℕ) (ss : List SignalContents) (ns : List (Option SignalContents)) (k : ℕ)
-    (s : SignalContents) (n : Option SignalContents)
-    → k < length ss → k < length ns
+    (s : SignalContents) (n : Option SignalContents) → k < length ss → k < length ns
     → touched_in_signal (advance (j + k)) (get_or ss k s) (get_or ns k n) ≤ touched_from advance j ss ns
 unfolding touched_from
 touched_at_least advance j [] ns k s n in_ss in_ns = absurd (omega arith)
@@ -43,8 +42,7 @@ touched_at_least advance j (x ∷ ss) (y ∷ ns) (suc k) s n in_ss in_ns =
 
 -- another signal in its place changes only its own part
 touched-set : (advance : ℕ → ℤ) (j : ℕ) (ss : List SignalContents) (ns : List (Option SignalContents)) (k : ℕ)
-    (s new : SignalContents) (n : Option SignalContents)
-    → k < length ss → k < length ns
+    (s new : SignalContents) (n : Option SignalContents) → k < length ss → k < length ns
     → touched_from advance j (set ss k new) ns + touched_in_signal (advance (j + k)) (get_or ss k s) (get_or ns k n)
     ≡ touched_from advance j ss ns + touched_in_signal (advance (j + k)) new (get_or ns k n)
 unfolding touched_from
@@ -81,13 +79,10 @@ touched_self o cs =
 
 -- what opposite pieces store, with the opposite offsets
 pub stored_within : (advance : ℕ → ℤ) (c : Contents) (ps qs : List PieceView) (j : ℕ) → RiseFrom j ps
-    → AreOppositePieces c ps qs
-    → All (λ p. advance p.signal ≡ neg_ℤ p.by) ps
+    → AreOppositePieces c ps qs → All (λ p. advance p.signal ≡ neg_ℤ p.by) ps
     → sum_by (λ q. length q.changes) qs ≤ touched_from advance 0 c.signals (map Some (with_pieces c ps).signals)
 unfolding with_pieces
 stored_within advance c [] [] j rise lead opposite = omega arith
-stored_within advance c [] (q ∷ qs) j rise lead opposite = absurd lead
-stored_within advance c (p ∷ ps) [] j rise lead opposite = absurd lead
 stored_within advance c (p ∷ ps) (q ∷ qs) j (from, rise) (within, leads, lead) opposite =
     let next = with_piece c p in
     let end = with_pieces next ps in
@@ -111,6 +106,7 @@ stored_within advance c (p ∷ ps) (q ∷ qs) j (from, rise) (within, leads, lea
     let nothing : touched_in_signal (advance (0 + p.signal)) new (get_or after p.signal None) ≡ 0 =
     ap (touched_in_signal (advance (0 + p.signal)) new) partner ∙ touched_self (advance (0 + p.signal)) new.changes in
     omega (arith, sum_by-cons (λ (q : PieceView). length q.changes) q qs, rest, leads.stored, moved, mine, nothing)
+stored_within advance c ps qs j rise lead opposite = absurd lead
 
 -- ---- the offsets of a record's own pieces
 
@@ -123,5 +119,4 @@ own_advances (p ∷ ps) j (from, rise) =
     (cond-true (p.signal == p.signal) _ _ (eq-eqb p.signal p.signal refl))
     (λ k d less. cond-false (p.signal == (get_or ps k d).signal) _ _
     (ne_eqb p.signal (get_or ps k d).signal
-    (λ same. absurd (omega (arith, same, all_from (suc p.signal) ps rise k d less))))
-    ∙ rest k d less)
+    (λ same. absurd (omega (arith, same, all_from (suc p.signal) ps rise k d less)))) ∙ rest k d less)

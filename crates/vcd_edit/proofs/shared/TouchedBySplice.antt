@@ -11,6 +11,7 @@ use Rattle.std.specs.Ordering.{int_eq}
 use Rattle.std.proofs.lemmas.Bool.{cases_lt, cases_Bool, and_from, and_parts, eq-eqb, eqb-true}
 use Rattle.std.proofs.lemmas.Bool.{cond-true, cond-false}
 use Rattle.std.proofs.lemmas.Bool.Decides.{Decides-int_eq}
+use Rattle.std.proofs.Math.Seq.{drop-append-add}
 use Rattle.std.proofs.lemmas.List.{append_assoc, reverse-append, reverse-reverse, length-append}
 use Rattle.std.proofs.lemmas.List.{length-map}
 use Rattle.std.proofs.lemmas.List.{length-reverse, length-drop, drop-append-le, take-append-le}
@@ -80,8 +81,7 @@ module _ {X Y : Type 0} (e : X → Y → Bool) where
 
   -- lists that differ before either ends
   prefix_differs : (xs cs : List X) (ys ds : List Y) → common_prefix_len e xs ys < length xs
-      → common_prefix_len e xs ys < length ys
-      → common_prefix_len e (xs ++ cs) (ys ++ ds) ≡ common_prefix_len e xs ys
+      → common_prefix_len e xs ys < length ys → common_prefix_len e (xs ++ cs) (ys ++ ds) ≡ common_prefix_len e xs ys
   prefix_differs [] cs ys ds in_xs in_ys = absurd (omega arith)
   prefix_differs (x ∷ xs) cs [] ds in_xs in_ys = absurd (omega arith)
   prefix_differs (x ∷ xs) cs (y ∷ ys) ds in_xs in_ys =
@@ -121,8 +121,7 @@ module _ {X Y : Type 0} (e : X → Y → Bool) where
 -- the last changes that move with the tail match
 suffix_end : (by o : ℤ) (xs ys cs : List Change) → o ≡ neg_ℤ by → AllTicksFit by cs
     → common_moved_suffix o (xs ++ cs) (ys ++ map (moved_change by) cs) ≡ length cs + common_moved_suffix o xs ys
-suffix_end by o xs ys [] opposite fit =
-    (λ i. common_moved_suffix o (append-nil xs i) (append-nil ys i)) ∙ omega arith
+suffix_end by o xs ys [] opposite fit = (λ i. common_moved_suffix o (append-nil xs i) (append-nil ys i)) ∙ omega arith
 suffix_end by o xs ys (c ∷ cs) opposite fit =
     let d = moved_change by c in
     let last : common_moved_suffix o (xs ++ c ∷ []) (ys ++ d ∷ []) ≡ 1 + common_moved_suffix o xs ys =
@@ -225,14 +224,8 @@ module _ (by o : ℤ) (before ms ns cs : List Change) (opposite : o ≡ neg_ℤ 
   rest_is : (xs ds : List Change) → prefix ≤ length xs
       → drop (length before + prefix) (before ++ xs ++ ds) ≡ drop prefix xs ++ ds
   rest_is xs ds le =
-      ap (drop (length before + prefix)) (append_assoc before xs ds) ∙ drop_after before (xs ++ ds) prefix
+      ap (drop (length before + prefix)) (append_assoc before xs ds) ∙ drop-append-add before (xs ++ ds) prefix
       ∙ drop-append-le prefix xs ds le
-    where
-      drop_after : (us xs : List Change) (n : ℕ) → drop (length us + n) (us ++ xs) ≡ drop n xs
-      drop_after [] xs n = ap (λ k. drop k xs) {x = 0 + n} {y = n} (omega arith)
-      drop_after (u ∷ us) xs n =
-          ap (λ k. drop k (u ∷ us ++ xs)) {x = suc (length us) + n} {y = suc (length us + n)} (omega arith)
-          ∙ drop_after us xs n
 
   -- a range replaced in a list, with the later changes moved, touches no more than the whole list
   pub touched_middle : touched_count o ms ns ≤ touched_count o old new

@@ -140,8 +140,7 @@ undo_of_cut_touches : touched_by_record (record {
   word = None;
   signal = None;
   other_end = Some 10;
-})
-    (alone 7 (from 0 Zero ∷ from 2 One ∷ from 4 Zero ∷ [])) ≡ 1
+}) (alone 7 (from 0 Zero ∷ from 2 One ∷ from 4 Zero ∷ [])) ≡ 1
 unfolding apply_record with_pieces spliced_changes moved_change touched_from touched_count piece_advance
 undo_of_cut_touches = refl
 

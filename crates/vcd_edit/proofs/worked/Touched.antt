@@ -30,8 +30,7 @@ touched_by_deglitch = refl
 -- a delay alone touches no change; two are pushed out at the front; a force of the other value
 -- touches one
 touched_by_one_wave : (touched_by_edit (Shift 0 (pos 2)) two_signals ≡ 0)
-    × (touched_by_edit (Shift 0 (negsuc 3)) two_signals ≡ 2)
-    × (touched_by_edit (Force 0 2 9 (Z ∷ [])) two_signals ≡ 1)
+    × (touched_by_edit (Shift 0 (negsuc 3)) two_signals ≡ 2) × (touched_by_edit (Force 0 2 9 (Z ∷ [])) two_signals ≡ 1)
     × (touched_by_edit (Shift 0 (pos 0)) two_signals ≡ 0)
 unfolding effect changes_from value_from touched_count touched_from
 touched_by_one_wave = (refl, refl, refl, refl)

@@ -11,7 +11,7 @@ use Rattle.vcd_core.specs.Contents.{no_signal}
 use Rattle.vcd_core.specs.CaptureContents.{signal_contents}
 use Rattle.vcd_core.specs.Names.{full_name, full_names}
 use Rattle.vcd_edit.specs.Effect.{renamed_signal}
-use Rattle.vcd_edit.proofs.plans.EffectOfRecord.{contents_at}
+use Rattle.vcd_edit.proofs.exchange.ContentsAfterPiece.{contents_at}
 
 -- the others are before the position or after it
 has_other : (name : List ℕ) (signals : List Signal) (k : ℕ)

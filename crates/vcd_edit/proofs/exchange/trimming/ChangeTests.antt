@@ -51,8 +51,7 @@ moved_test old new by at (Some x) r same small told is =
 module _ (e : Change → Change → Bool) (xs ys : List Change) (i : ℕ) where
   -- after the shorter list nothing remains
   pub walk_end : (most : ℕ) → most ≡ min (length xs) (length ys) → most ≤ i → i ≤ most
-      → i + common_prefix_len e (drop i xs) (drop i ys) ≡ common_prefix_len e xs ys
-      → most ≡ common_prefix_len e xs ys
+      → i + common_prefix_len e (drop i xs) (drop i ys) ≡ common_prefix_len e xs ys → most ≡ common_prefix_len e xs ys
   walk_end most is past within left =
       let le = common_prefix_len-le e (drop i xs) (drop i ys) in
       omega (arith, le.0, le.1, length-drop i xs, length-drop i ys)
@@ -61,8 +60,7 @@ module _ (e : Change → Change → Bool) (xs ys : List Change) (i : ℕ) where
   pub back_stops : (c d : Change) → i < length xs → i < length ys → c ≡ get_or xs (length xs - 1 - i) c
       → d ≡ get_or ys (length ys - 1 - i) d → e c d ≡ false
       → i + common_prefix_len e (drop i (reverse xs)) (drop i (reverse ys))
-      ≡ common_prefix_len e (reverse xs) (reverse ys)
-      → i ≡ common_prefix_len e (reverse xs) (reverse ys)
+      ≡ common_prefix_len e (reverse xs) (reverse ys) → i ≡ common_prefix_len e (reverse xs) (reverse ys)
   back_stops c d in_xs in_ys is_c is_d differs left =
       let first = subst (λ x. e x (get_or (reverse ys) i d) ≡ false) (is_c ∙ sym (get_or-reverse xs i c in_xs))
       (subst (λ y. e c y ≡ false) (is_d ∙ sym (get_or-reverse ys i d in_ys)) differs) in

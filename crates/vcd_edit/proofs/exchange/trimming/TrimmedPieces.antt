@@ -57,8 +57,7 @@ module _ (cs ns : List Change) (a z : ℕ) (by o : ℤ) (opposite : o ≡ neg_�
     arith,
     length-drop prefix ns,
     prefix_in_piece,
-    (suffix_le o (drop prefix part)
-        (drop prefix ns)).1,
+    (suffix_le o (drop prefix part) (drop prefix ns)).1,
   )
 
   moves : (map (moved_change by) (drop (length (drop prefix part) - end) (drop prefix part))
@@ -78,8 +77,7 @@ module _ (cs ns : List Change) (a z : ℕ) (by o : ℤ) (opposite : o ≡ neg_�
   last_is =
       let long : length (drop prefix part) ≡ z - a - prefix = omega (arith, part_long, length-drop prefix part) in
       ap (λ k. drop k cs) {x = z - end} {y = a + (z - a - end)} (omega (arith, end_in_part))
-      ∙ sym (drop-drop (z - a - end) a cs)
-      ∙ ap (drop (z - a - end)) (drop_split cs a z ordered)
+      ∙ sym (drop-drop (z - a - end) a cs) ∙ ap (drop (z - a - end)) (drop_split cs a z ordered)
       ∙ drop-append-le (z - a - end) part (drop z cs) (omega (arith, part_long))
       ∙ ap (λ k. drop k part ++ drop z cs) {x = z - a - end} {y = prefix + (length (drop prefix part) - end)}
       (omega (arith, long, end_in_part))
@@ -100,8 +98,7 @@ module _ (cs ns : List Change) (a z : ℕ) (by o : ℤ) (opposite : o ≡ neg_�
       ap (map (moved_change by)) last_is
       ∙ map-append (moved_change by) (drop (length (drop prefix part) - end) (drop prefix part)) (drop z cs)
       ∙ ap (λ l. l ++ later) moves.0 in
-      (λ i. first_is i ++ middle ++ last i)
-      ∙ sym (append_assoc (take a cs ++ take prefix ns ++ middle) tail later)
+      (λ i. first_is i ++ middle ++ last i) ∙ sym (append_assoc (take a cs ++ take prefix ns ++ middle) tail later)
       ∙ ap (λ l. l ++ later) (
       ap (λ l. l ++ tail) (append_assoc (take a cs) (take prefix ns) middle)
       ∙ append_assoc (take a cs) (take prefix ns ++ middle) tail
@@ -135,11 +132,9 @@ module _ (cs ns : List Change) (a z : ℕ) (by o : ℤ) (opposite : o ≡ neg_�
 
   -- what the code finds
   pub found : (r b : ℕ) (at : ℤ) (shown rest list left : List Change) → at ≡ by → shown ≡ ns → list ≡ drop r ns
-      → rest ≡ list
-      → r ≡ common_prefix_len same_change part shown
+      → rest ≡ list → r ≡ common_prefix_len same_change part shown
       → b ≡ common_moved_suffix (neg_ℤ at) (take (length part - r) (drop r part)) rest
-      → left ≡ take (length rest - b) list
-      → (r ≡ prefix) × (b ≡ end) × (left ≡ middle)
+      → left ≡ take (length rest - b) list → (r ≡ prefix) × (b ≡ end) × (left ≡ middle)
   found r b at shown rest list left same_by same_piece dropped whole first last taken =
       let is_prefix : r ≡ prefix = first ∙ ap (common_prefix_len same_change part) same_piece in
       let rest_is : rest ≡ drop prefix ns = whole ∙ dropped ∙ ap (λ n. drop n ns) is_prefix in

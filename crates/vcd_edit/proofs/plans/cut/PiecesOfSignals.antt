@@ -1,8 +1,8 @@
 -- Pieces for several signals, one after another.
-use Rattle.std.proofs.Common.{◌≡◌, ℕ, zero, suc, ◌+◌, ◌-◌, ◌<◌, ◌≤◌, ℤ, List, [], ◌∷◌, ◌++◌}
+use Rattle.std.proofs.Common.{◌≡◌, ℕ, suc, ◌+◌, ◌-◌, ◌<◌, ◌≤◌, ℤ, List, [], ◌∷◌, ◌++◌}
 use Rattle.std.proofs.Common.{length, map, take}
 use Rattle.std.proofs.Common.{drop, get_or, set, All, refl, sym, ap, subst, ◌∙◌, arith}
-use Rattle.std.proofs.lemmas.List.{set-get_or, length-map, length-take-le, get_or-append_right}
+use Rattle.std.proofs.lemmas.List.{get_or_default, set-get_or, length-map, length-take-le, get_or-append_right}
 use Rattle.std.proofs.lemmas.List.{get_or-drop, take_all}
 use Rattle.std.proofs.lemmas.List.{drop_all, append-nil}
 use Rattle.std.proofs.lemmas.List.Edits.{map_over_more}
@@ -34,10 +34,8 @@ rise_more (q ∷ ps) p j from (first, rise) below = (
 pub element_here : {X : Type 0} (f : X → X) (xs ys : List X) (i : ℕ) (d : X) → i < length xs
     → ys ≡ map f (take i xs) ++ drop i xs → get_or ys i d ≡ get_or xs i d
 element_here f xs ys i d within is =
-    ap (λ l. get_or l i d) is
-    ∙ get_or-append_right (map f (take i xs)) (drop i xs) i i d (length-map (take i xs) f
-    ∙ length-take-le i xs (omega arith)) (omega arith)
-    ∙ get_or-drop i xs (i - i) d
+    ap (λ l. get_or l i d) is ∙ get_or-append_right (map f (take i xs)) (drop i xs) i i d (length-map (take i xs) f
+    ∙ length-take-le i xs (omega arith)) (omega arith) ∙ get_or-drop i xs (i - i) d
     ∙ ap (λ k. get_or xs k d) {x = i + (i - i)} {y = i} (omega arith)
 
 module _ (c : Contents) (g : SignalContents → SignalContents) (n : ℕ) (by : ℤ) (ps : List PieceView)
@@ -49,33 +47,22 @@ module _ (c : Contents) (g : SignalContents → SignalContents) (n : ℕ) (by : 
   here = element_here g c.signals reached n no_signal within refl
 
   more : set reached n (g (signal_at c n)) ≡ map g (take (n + 1) c.signals) ++ drop (n + 1) c.signals
-  more = map_over_more g c.signals reached n (signal_at c n) within refl (sym (get_or_any c.signals n within)
+  more = map_over_more g c.signals reached n (signal_at c n) within refl
+      (get_or_default c.signals n no_signal (signal_at c n) within
       ∙ sym (element_here g c.signals reached n (signal_at c n) within refl))
-    where
-      get_or_any : (ss : List SignalContents) (k : ℕ) → k < length ss
-          → get_or ss k (get_or ss k no_signal) ≡ get_or ss k no_signal
-      get_or_any [] k within = absurd (omega arith)
-      get_or_any (s ∷ ss) zero within = refl
-      get_or_any (s ∷ ss) (suc k) within = get_or_any ss k (omega arith)
 
   still_below : All (λ (p : PieceView). p.signal < n + 1) ps
   still_below = λ k d less. omega (arith, lead.below k d less)
 
   -- a signal that stays as it is needs no piece
   pub lead_without : (s : SignalContents) → signal_at c n ≡ s → g s ≡ s → PiecesForEach c by g (n + 1) ps
-  lead_without s is same = record {
-    leads = lead.leads ∙ ap (λ (ss : List SignalContents). record c { signals = ss }) (sym unchanged ∙ more);
-    fit = lead.fit;
-    below = still_below;
-    rise = lead.rise;
-    offset = lead.offset;
-  }
-    where
-      unchanged : set reached n (g (signal_at c n)) ≡ reached
-      unchanged = ap (set reached n) (ap g is ∙ same ∙ sym is ∙ sym here) ∙ set_same reached n
-        where
-          set_same : (ss : List SignalContents) (k : ℕ) → set ss k (get_or ss k no_signal) ≡ ss
-          set_same ss k = set-get_or ss k no_signal
+  lead_without s is same =
+      let unchanged : set reached n (g (signal_at c n)) ≡ reached =
+      ap (set reached n) (ap g is ∙ same ∙ sym is ∙ sym here) ∙ set-get_or reached n no_signal in
+      assumption (
+        lead.leads ∙ ap (λ (ss : List SignalContents). record c { signals = ss }) (sym unchanged ∙ more),
+        still_below,
+      )
 
   -- a signal with a piece
   pub lead_with : (s : SignalContents) (p : PieceView) (end : ℕ) (f : ℕ → List Bit) → signal_at c n ≡ s → p.signal ≡ n
@@ -106,8 +93,7 @@ module _ (c : Contents) (g : SignalContents → SignalContents) (n : ℕ) (by : 
           (signal_with_changes (get_or reached k no_signal)
           (changes_with_piece p (get_or reached k no_signal).changes))) at_n
           ∙ ap (λ (s : SignalContents). set reached n (signal_with_changes s (changes_with_piece p s.changes))) (here
-          ∙ is)
-          ∙ ap (λ (cs : List Change). set reached n (signal_with_changes s cs)) gives.is
+          ∙ is) ∙ ap (λ (cs : List Change). set reached n (signal_with_changes s cs)) gives.is
           ∙ ap (set reached n) (sym given ∙ ap g (sym is))
 
 -- no signal yet

@@ -19,7 +19,9 @@ use Rattle.vcd_edit.specs.Records.{piece_view}
 use Rattle.vcd_edit.specs.inside.plans.Plan.{IsPlan, GivesValues, PiecesForEach}
 use Rattle.vcd_edit.proofs.checking.NoFault.{no_fault, range_within}
 use Rattle.vcd_edit.proofs.shared.SoundEffects.{sound_at}
-use Rattle.vcd_edit.proofs.plans.EffectOfRecord.{is_plan, contents_at}
+use Rattle.vcd_edit.proofs.exchange.ContentsAfterPiece.{contents_at}
+use Rattle.vcd_edit.proofs.exchange.OppositeRecords.{parts}
+use Rattle.vcd_edit.proofs.plans.EffectOfRecord.{is_plan}
 use Rattle.vcd_edit.proofs.plans.cut.PiecesOfSignals.{lead_without, lead_with, lead_all}
 use Rattle.vcd_edit.proofs.plans.CutPiece.{quiet_cut}
 
@@ -68,16 +70,10 @@ module _ (c : Contents) (signals : List Signal) (are : c.signals ≡ map signal_
 -- the pieces of all signals, and the end
 pub cut_plan : (c : Contents) (from to : ℕ) (ps : List PieceView) → IsSound c → edit_fault (Cut from to) c ≡ None
     → PiecesForEach c (neg_ℤ (pos (to - from))) (signal_after_cut (c.end - (to - from)) from to) (length c.signals) ps
-    → IsPlan (Cut from to) c (record {
-      pieces = ps;
-      word = None;
-      signal = None;
-      other_end =
-          Some (c.end - (to - from));
-    })
+    → IsPlan (Cut from to) c (parts ps None None (Some (c.end - (to - from))))
 unfolding apply_record effect
 cut_plan c from to ps sound none lead =
-    is_plan (Cut from to) c (record { pieces = ps; word = None; signal = None; other_end = Some (c.end - (to - from)) })
+    is_plan (Cut from to) c (parts ps None None (Some (c.end - (to - from))))
     sound none
     (ap (λ (d : Contents). record d { end = c.end - (to - from) })
     (lead_all c (neg_ℤ (pos (to - from))) (signal_after_cut (c.end - (to - from)) from to) ps lead))
@@ -94,17 +90,11 @@ pub cut_end : (c : Contents) (signals : List Signal) → c.signals ≡ map signa
     → PiecesForEach c (neg_ℤ (pos (to - from))) (signal_after_cut (c.end - (to - from)) from to) (length c.signals) ps
 cut_end c signals are from to n ps all lead =
     subst (λ (n : ℕ). PiecesForEach c (neg_ℤ (pos (to - from))) (signal_after_cut (c.end - (to - from)) from to) n ps)
-    (all
-    ∙ sym (ap length are ∙ length-map signals signal_contents)) lead
+    (all ∙ sym (ap length are ∙ length-map signals signal_contents)) lead
 
 -- such pieces are the only part of the record except the end
 pub cut_is_one_step : (c : Contents) (by : ℤ) (g : SignalContents → SignalContents) (n : ℕ) (ps : List PieceView)
     (end : ℕ) → PiecesForEach c by g n ps
-    → HasOneKindOfPart (record { pieces = ps; word = None; signal = None; other_end = Some end })
+    → HasOneKindOfPart (parts ps None None (Some end))
 cut_is_one_step c by g n ps end lead =
-    record {
-      rise = lead.rise;
-      word_alone = λ other. absurd (other refl);
-      signal_alone =
-          λ other. absurd (other refl);
-    }
+    record { rise = lead.rise; word_alone = λ other. absurd (other refl); signal_alone = λ other. absurd (other refl) }

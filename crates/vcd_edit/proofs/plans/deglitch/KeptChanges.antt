@@ -29,8 +29,7 @@ left_out_first n before c cs out = ap (λ b. if b then c ∷ kept_changes n c.va
 
 -- they are those that begin steady runs and change the value
 kept_if_other : (n : ℕ) (before : List Bit) (c : Change) (cs : List Change) (same : Bool)
-    → (same ≡ true → c.value ≡ before)
-    → kept_changes n before cs ≡ without_repeats before (steady_changes n cs)
+    → (same ≡ true → c.value ≡ before) → kept_changes n before cs ≡ without_repeats before (steady_changes n cs)
     → kept_changes n c.value cs ≡ without_repeats c.value (steady_changes n cs)
     → (if not same then c ∷ kept_changes n c.value cs else kept_changes n before cs)
     ≡ unless_same same c (without_repeats c.value (steady_changes n cs))

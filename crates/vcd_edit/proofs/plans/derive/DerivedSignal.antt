@@ -23,6 +23,7 @@ use Rattle.vcd_edit.specs.Touched.{puts_in}
 use Rattle.vcd_edit.specs.Records.{piece_view}
 use Rattle.vcd_edit.specs.inside.plans.Derive.{HasBitsUpTo}
 use Rattle.vcd_edit.specs.inside.plans.Plan.{IsPlan}
+use Rattle.vcd_edit.proofs.exchange.OppositeRecords.{parts}
 use Rattle.vcd_edit.proofs.plans.EffectOfRecord.{is_plan}
 
 pub derived_parts : (c : Contents) (word : List ℕ) (rule : Rule) (f : Formula) (scopes : List ScopeName)
@@ -43,17 +44,12 @@ insert_last ss k s is = λ i. take_all k ss (omega (arith, is)) i ++ s ∷ drop_
 pub derive_plan : (c : Contents) (word : Bor (List ℕ)) (rule : Rule) (k : ℕ) (s : SignalContents) (pieces : List Piece)
     → IsSound c → edit_fault (Derive word rule) c ≡ None
     → k ≡ length c.signals → s ≡ derived_signal word.now rule c → pieces ≡ []
-    → IsPlan (Derive word rule) c (record {
-      pieces = map piece_view pieces;
-      word = None;
-      signal = Some (k, Some s);
-      other_end = None;
-    })
+    → IsPlan (Derive word rule) c (parts (map piece_view pieces) None (Some (k, Some s)) None)
 unfolding apply_record with_pieces effect
 derive_plan c word rule k s pieces sound none last is empty =
     subst (λ (ps : List Piece). IsPlan (Derive word rule) c
-    (record { pieces = map piece_view ps; word = None; signal = Some (k, Some s); other_end = None })) (sym empty)
-    (is_plan (Derive word rule) c (record { pieces = []; word = None; signal = Some (k, Some s); other_end = None })
+    (parts (map piece_view ps) None (Some (k, Some s)) None)) (sym empty)
+    (is_plan (Derive word rule) c (parts [] None (Some (k, Some s)) None)
     sound none
     (ap (λ (ss : List SignalContents). record c { signals = ss }) (insert_last c.signals k s last
     ∙ ap (push c.signals) is))

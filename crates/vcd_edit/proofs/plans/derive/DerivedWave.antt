@@ -8,7 +8,8 @@ use Rattle.std.specs.List.{filter, range_with_len, list_any}
 use Rattle.std.proofs.lemmas.Bool.{cases_eq, or_parts}
 use Rattle.std.proofs.lemmas.Option.{same_Some}
 use Rattle.std.proofs.lemmas.List.{drop_more, drop_all, length-replicate}
-use Rattle.std.proofs.lemmas.List.Elements.{All-nil, All-cons}
+use Rattle.std.proofs.lemmas.Simd.{map-map}
+use Rattle.std.proofs.lemmas.List.Elements.{All-nil, All-cons, All-map}
 use Rattle.vcd_core.specs.declared.bit.Bit.{Bit}
 use Rattle.vcd_core.specs.declared.bit.Bit.TheVariants.{X}
 use Rattle.vcd_core.specs.declared.bit_edges.BitEdge.{BitEdge}
@@ -22,7 +23,7 @@ use Rattle.vcd_core.specs.Edges.{Trace, trace_of, changes_at, edge_on, edges_on}
 use Rattle.vcd_core.proofs.shared.Waves.{value_past, wave_is}
 use Rattle.vcd_core.proofs.shared.Pushes.{upto_from_all}
 use Rattle.vcd_edit.specs.declared.edit.Operator.{Operator}
-use Rattle.vcd_edit.specs.declared.edit.Operator.TheVariants.{And, Or, Xor}
+use Rattle.vcd_edit.specs.declared.edit.Operator.TheVariants.{And}
 use Rattle.vcd_edit.specs.Operators.{not_bit, operator_bit}
 use Rattle.vcd_edit.specs.inside.plans.RemainingChanges.{TicksRise}
 use Rattle.vcd_edit.specs.inside.plans.Ranges.{value_just_before}
@@ -54,8 +55,7 @@ none_made all w width none rise = record {
 
 -- one more change is pushed
 pub one_made : (all left rest : List Change) (c : Change) (old new : WaveView) → left ≡ c ∷ rest
-    → DerivedSoFar all left old → new.width ≡ old.width
-    → ((t : ℕ) → value_at new.width new.changes t
+    → DerivedSoFar all left old → new.width ≡ old.width → ((t : ℕ) → value_at new.width new.changes t
     ≡ (if nat_le c.tick t then c.value else value_at old.width old.changes t))
     → All (λ d. d.tick ≤ c.tick) new.changes → DerivedSoFar all rest new
 unfolding value_from
@@ -66,13 +66,11 @@ one_made all left rest c old new is made_left width values last =
       width = width ∙ made.width;
       values = λ t.
           ap (λ v. value_from v rest t) (ap (λ w. value_at w new.changes t) (sym (width ∙ made.width)) ∙ values t
-          ∙ ap (λ w. if nat_le c.tick t then c.value else value_at w old.changes t) made.width)
-          ∙ made.values t;
+          ∙ ap (λ w. if nat_le c.tick t then c.value else value_at w old.changes t) made.width) ∙ made.values t;
       rise = rise_lower 1 0 (c.tick + 1) rest (omega arith) rise;
       before = λ k d less j e within. omega (arith, last k d less, rise_all 1 (c.tick + 1) rest rise j e within);
       upto = λ end upto. (
-        upto_from_all end new.changes
-            (λ k d less. omega (arith, last k d less, (made.upto end upto).1.0)),
+        upto_from_all end new.changes (λ k d less. omega (arith, last k d less, (made.upto end upto).1.0)),
         (made.upto end upto).1.1,
       );
     }
@@ -163,15 +161,10 @@ x_letter (suc n) (suc i) = x_letter n i
 x_letter_at : (m k : ℕ) → letter_at (all_x m) k ≡ X
 x_letter_at m k = x_letter m (length (all_x m) - 1 - k)
 
-map-map : {A B C : Type 0} (f : B → C) (g : A → B) (xs : List A) → map f (map g xs) ≡ map (λ x. f (g x)) xs
-map-map f g [] = refl
-map-map f g (x ∷ xs) = ap (λ ys. f (g x) ∷ ys) (map-map f g xs)
-
 -- x gives x
 two_x_give_x : (operator : Operator) → operator_bit operator X X ≡ X
 two_x_give_x And = refl
-two_x_give_x Or = refl
-two_x_give_x Xor = refl
+two_x_give_x operator = refl
 
 -- the operator's bit at an edge, from the bits of both
 pub edge_bit_is : (operator : Operator) (e : BitEdge) (u v : Bit) → HasBits e → get_or e.at 0 None ≡ Some u
@@ -204,8 +197,7 @@ module _ (operator : Operator) (a b : WaveView) where
       from_both zero one two = (λ i. operator_bit operator ((ap (λ v. letter_at v 0) one ∙ x_letter_at a.width 0) i)
           ((ap (λ v. letter_at v 0) two ∙ x_letter_at b.width 0) i) ∷ [])
           ∙ ap (λ (x : Bit). x ∷ []) (two_x_give_x operator)
-      from_both (suc u) one two =
-          λ i. operator_bit operator (letter_at (one i) 0) (letter_at (two i) 0) ∷ []
+      from_both (suc u) one two = λ i. operator_bit operator (letter_at (one i) 0) (letter_at (two i) 0) ∷ []
 
   abbrev pub pair_edges : ℕ → List BitEdge
   pair_edges end = bit_edges_of (Some a ∷ Some b ∷ None ∷ None ∷ []) end
@@ -228,16 +220,14 @@ module _ (operator : Operator) (a b : WaveView) where
   -- each edge has a bit of both
   pub each_has_bits : (end : ℕ) → All HasBits (pair_edges end)
   unfolding edges_on
-  each_has_bits end = of_each (filter (λ t. list_any (changes_at t) lines) (range_with_len 0 (suc end)))
+  each_has_bits end =
+      let ticks = filter (λ t. list_any (changes_at t) lines) (range_with_len 0 (suc end)) in
+      All-map HasBits bit_edge (map (edge_on lines) ticks)
+      (All-map (λ e. HasBits (bit_edge e)) (edge_on lines) ticks (λ k d less. has_bits (get_or ticks k d)))
     where
-      of_each : (ticks : List ℕ) → All HasBits (map bit_edge (map (edge_on lines) ticks))
-      of_each [] = All-nil HasBits
-      of_each (t ∷ ticks) = All-cons HasBits (bit_edge (edge_on lines t)) (map bit_edge (map (edge_on lines) ticks))
-          (has_bits t) (of_each ticks)
-        where
-          has_bits : (t : ℕ) → HasBits (bit_edge (edge_on lines t))
-          has_bits zero = (_, _, refl)
-          has_bits (suc t) = (_, _, refl)
+      has_bits : (t : ℕ) → HasBits (bit_edge (edge_on lines t))
+      has_bits zero = (_, _, refl)
+      has_bits (suc t) = (_, _, refl)
 
   -- the wave from the edges has the operator's bit at each tick
   pub pair_is : (end : ℕ) (w : WaveView) → DerivedSoFar (map (edge_change operator) (pair_edges end)) [] w
@@ -272,8 +262,7 @@ width_at width floor (d ∷ cs) (suc i) c (from, wide, rest) within at =
     width_at width (d.tick + 1) cs i c rest (omega (arith, within)) at
 
 -- nothing is made of the changes
-pub no_change_made : (k : ℕ) (negated : Bool) (a w : WaveView) → IsWave a.width a.changes → w.width ≡ 1
-    → w.changes ≡ []
+pub no_change_made : (k : ℕ) (negated : Bool) (a w : WaveView) → IsWave a.width a.changes → w.width ≡ 1 → w.changes ≡ []
     → DerivedSoFar (map (selected_change k negated) a.changes) (map (selected_change k negated) a.changes) w
 no_change_made k negated a w is width none = none_made (map (selected_change k negated) a.changes) w width none
     (selected_rise k negated a.width 0 a.changes

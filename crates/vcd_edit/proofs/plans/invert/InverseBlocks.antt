@@ -1,5 +1,5 @@
 -- The blocks of the inverse of a value, and the letters that they show.
-use Rattle.std.proofs.Common.{◌≡◌, ℕ, zero, suc, ◌<◌, ◌≤◌, ◌+◌, ◌-◌, ◌*◌, ◌/◌, ◌%◌, max, List}
+use Rattle.std.proofs.Common.{◌≡◌, ℕ, suc, ◌<◌, ◌≤◌, ◌+◌, ◌-◌, ◌*◌, ◌/◌, ◌%◌, max, List}
 use Rattle.std.proofs.Common.{length, map, get_or}
 use Rattle.std.proofs.Common.{refl, sym, ap, ◌∙◌, arith, inl, inr, if◌then◌else◌}
 use Rattle.std.proofs.Math.ListN.{set}
@@ -31,8 +31,7 @@ shows_more value blocks j block inverse there holds negated shown = λ k below w
           let index : 64 * j + k % 64 ≡ k = omega arith in
           ap (λ i. letter_in (block_at (set blocks j inverse) i) (k % 64)) here
           ∙ ap (λ (w : LetterBlock). letter_in w (k % 64))
-          (get_or-set_same blocks j inverse (record { low = 0; high = 0 }) there)
-          ∙ negated (k % 64) (omega arith)
+          (get_or-set_same blocks j inverse (record { low = 0; high = 0 }) there) ∙ negated (k % 64) (omega arith)
           ∙ ap not_bit (holds.each (k % 64) (omega arith) ∙ ap (letter_or Zero value) index
           ∙ ap (λ b. if b then letter_at value k else Zero) (lt-ltb k (length value) within))
       | inr elsewhere ↦
@@ -52,13 +51,9 @@ shows_all value blocks limit most shown = λ k below within. shown k (omega arit
 -- the letter of the inverse of two bits
 pub not_letter : (low high : ℕ) → low < 2 → high < 2
     → letter_of (max high (1 - low)) high ≡ not_bit (letter_of low high)
-not_letter zero zero _ _ = refl
-not_letter zero (suc zero) _ _ = refl
-not_letter (suc zero) zero _ _ = refl
-not_letter (suc zero) (suc zero) _ _ = refl
 not_letter (suc (suc low)) high small _ = absurd (omega arith)
-not_letter zero (suc (suc high)) _ small = absurd (omega arith)
-not_letter (suc zero) (suc (suc high)) _ small = absurd (omega arith)
+not_letter low (suc (suc high)) _ small = absurd (omega arith)
+not_letter low high _ _ = refl
 
 letter_at-map : (value : List Bit) (k : ℕ) → k < length value
     → letter_at (map not_bit value) k ≡ not_bit (letter_at value k)

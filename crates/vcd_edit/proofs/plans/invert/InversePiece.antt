@@ -9,10 +9,9 @@ use Rattle.vcd_core.specs.declared.bit.Bit.TheVariants.{X}
 use Rattle.vcd_core.specs.declared.wave.Change.{Change}
 use Rattle.vcd_core.specs.Value.{all_x, same_letters}
 use Rattle.vcd_core.specs.Wave.{change, unless_same, value_from, changes_of, IsWave, AllUpTo}
-use Rattle.vcd_core.specs.Contents.{Contents, SignalContents, signal_at}
-use Rattle.vcd_edit.specs.declared.edit.Edit.TheVariants.{Invert}
+use Rattle.vcd_core.specs.Contents.{SignalContents}
 use Rattle.vcd_edit.specs.Operators.{not_bit}
-use Rattle.vcd_edit.specs.Effect.{inverse_value, with_wave, effect}
+use Rattle.vcd_edit.specs.Effect.{inverse_value}
 use Rattle.vcd_edit.specs.inside.plans.RemainingChanges.{without_repeats, mapped_change}
 use Rattle.vcd_edit.proofs.plans.WithoutRepeats.{without_repeats_is, wave_rises, mapped_rise, mapped_upto}
 use Rattle.vcd_edit.proofs.plans.WithoutRepeats.{mapped_value}
@@ -90,7 +89,3 @@ inverse_changes end s is upto =
     (mapped_upto end (map not_bit) s.changes upto)
     (λ t to. ap (λ v. value_from v (map (mapped_change (map not_bit)) s.changes) t) (sym (inverse_of_x s.width))
     ∙ mapped_value (map not_bit) (all_x s.width) s.changes t)
-
-pub invert_is_wave : (k : ℕ) (c : Contents) → effect (Invert k) c ≡ with_wave c k (inverse_value (signal_at c k))
-unfolding effect
-invert_is_wave k c = refl

@@ -10,13 +10,14 @@ use Rattle.std.proofs.lemmas.Bool.{cases_lt, lt-ltb, le-ltb}
 use Rattle.std.proofs.lemmas.List.Sums.{sum_by-cons}
 use Rattle.std.proofs.lemmas.List.{map-append, take_more}
 use Rattle.std.proofs.lemmas.Int.{ints}
+use Rattle.std.proofs.lemmas.Result.{IfOk-weaker}
 use Rattle.vcd_core.specs.declared.bit.Bit.{Bit}
 use Rattle.vcd_core.specs.declared.wave.Change.{Change}
 use Rattle.vcd_core.specs.Value.{all_x, same_letters}
 use Rattle.vcd_core.specs.inside.value.EqualByLetters.{same_letters-Decides}
 use Rattle.vcd_core.specs.Wave.{change, unless_same, changes_from, IsWave, AllUpTo}
 use Rattle.vcd_core.specs.Splice.{moved_change}
-use Rattle.vcd_core.specs.Contents.{Contents, SignalContents, signal_at, signal_value}
+use Rattle.vcd_core.specs.Contents.{SignalContents, signal_value}
 use Rattle.vcd_core.proofs.shared.Waves.{changes_same}
 use Rattle.vcd_core.proofs.shared.Pushes.{upto_from_all}
 use Rattle.vcd_core.proofs.shared.WaveAfterChange.{value_last}
@@ -24,15 +25,13 @@ use Rattle.vcd_core.specs.declared.memory.NoMemory.{NoMemory}
 use Rattle.vcd_edit.specs.declared.record.Piece.{Piece}
 use Rattle.vcd_edit.specs.Records.{piece_view}
 use Rattle.vcd_edit.specs.inside.plans.Plan.{GivesValues}
-use Rattle.vcd_edit.proofs.plans.EffectOfRecord.{at_ok}
 use Rattle.vcd_edit.specs.RecordView.{PieceView}
-use Rattle.vcd_edit.specs.Effect.{value_at_any_tick, shift_value, cut_value, with_wave, effect}
-use Rattle.vcd_edit.specs.declared.edit.Edit.TheVariants.{Shift}
+use Rattle.vcd_edit.specs.Effect.{value_at_any_tick, shift_value, cut_value}
 use Rattle.vcd_edit.specs.inside.plans.Ranges.{value_just_before, changes_in, GivesChanges}
+use Rattle.vcd_edit.proofs.plans.CutPiece.{after_cut, all_counted}
 use Rattle.vcd_edit.proofs.plans.Ranges.{changes_in-split, changes_in-constant, changes_in-moved}
 use Rattle.vcd_edit.proofs.plans.Ranges.{changes_before_tick}
 use Rattle.vcd_edit.proofs.plans.Ranges.{replacement_leads}
-use Rattle.vcd_edit.proofs.plans.CutPiece.{all_counted}
 use Rattle.vcd_edit.proofs.plans.WholeListPiece.{whole_leads}
 
 -- past the end the value stays
@@ -43,26 +42,17 @@ past_end end t s upto late = value_last (all_x s.width) s.changes end t upto lat
 -- the same function up to the end
 pub leads_same : (p : PieceView) (cs : List Change) (width end : ℕ) (f g : ℕ → List Bit)
     → ((t : ℕ) → t ≤ end → f t ≡ g t) → GivesChanges p cs width end f → GivesChanges p cs width end g
-leads_same p cs width end f g same leads =
-    record {
-      ordered = leads.ordered;
-      within = leads.within;
-      ticks = leads.ticks;
-      is = leads.is
-          ∙ changes_same width end f g same;
-    }
+leads_same p cs width end f g same leads = assumption (leads.is ∙ changes_same width end f g same)
 
 -- the same for the piece of a signal
 pub gives_same : (made : Result Piece NoMemory) (k : ℕ) (s : SignalContents) (end : ℕ) (at by : ℤ) (f g : ℕ → List Bit)
     → at ≡ by → ((t : ℕ) → f t ≡ g t) → IfOk made (GivesValues k s end at f) → IfOk made (GivesValues k s end by g)
 gives_same made k s end at by f g offset same =
-    at_ok made (GivesValues k s end at f) (GivesValues k s end by g)
-    (λ p gives. record {
-      signal = gives.signal;
-      offset = gives.offset ∙ offset;
-      leads =
-          leads_same (piece_view p) s.changes s.width end f g (λ t to. same t) gives.leads;
-    })
+    IfOk-weaker made (GivesValues k s end at f) (GivesValues k s end by g)
+    (λ p gives. assumption (
+      gives.offset ∙ offset,
+      leads_same (piece_view p) s.changes s.width end f g (λ t to. same t) gives.leads,
+    ))
 
 -- ---- copies of changes
 
@@ -99,9 +89,7 @@ module _ (d end : ℕ) (s : SignalContents) (upto : AllUpTo end s.changes) where
 
   -- as if the first d ticks were cut out
   pub shift_as_cut : (t : ℕ) → cut_value 0 d s t ≡ shift_value end back s t
-  shift_as_cut t =
-      ap (λ q. if q then signal_value s t else signal_value s (t + (d - 0))) (le-ltb t 0 (omega arith))
-      ∙ ap (signal_value s) {x = t + (d - 0)} {y = t + d} (omega arith) ∙ sym (shift_earlier t)
+  shift_as_cut t = after_cut 0 d s t (t + d) (omega arith) (omega arith) ∙ sym (shift_earlier t)
 
   -- all values that come in are the last value
   pub shift_to_last : end < d → (t : ℕ) → shift_value end back s t ≡ signal_value s end
@@ -130,7 +118,7 @@ module _ (d end : ℕ) (s : SignalContents) where
   prefix_empty zero le = refl
   prefix_empty (suc m) le =
       changes_in-constant s.width (shift_value end (pos d) s) (all_x s.width) 0 (suc m) (omega arith)
-      (λ i less. shift_before (0 + i) (omega arith))
+      (λ u _ less. shift_before u (omega arith))
       ∙ of_true (same_letters (all_x s.width) (all_x s.width)) (change 0 (all_x s.width))
       ((same_letters-Decides (all_x s.width) (all_x s.width)).1 refl)
     where
@@ -175,13 +163,7 @@ module _ (d end : ℕ) (s : SignalContents) where
         (omega (arith, ints)) (λ less. x_before d refl)
         (λ i less. shift_after (d + i) (0 + i) (omega arith) (omega arith))
         ∙ sym (ap (λ l. l ++ changes_in s.width (shift_value end (pos d) s) d (end - d + 1))
-        (prefix_empty d (omega arith)))
-        ∙ ap (λ t. changes_in s.width (shift_value end (pos d) s) 0 d
+        (prefix_empty d (omega arith))) ∙ ap (λ t. changes_in s.width (shift_value end (pos d) s) 0 d
         ++ changes_in s.width (shift_value end (pos d) s) t (end - d + 1)) {x = d} {y = 0 + d} (omega arith)
         ∙ sym (changes_in-split s.width (shift_value end (pos d) s) 0 d (end - d + 1))
         ∙ ap (changes_in s.width (shift_value end (pos d) s) 0) {x = d + (end - d + 1)} {y = suc end} (omega arith))
-
-pub shift_is_wave : (k : ℕ) (by : ℤ) (c : Contents)
-    → effect (Shift k by) c ≡ with_wave c k (shift_value c.end by (signal_at c k))
-unfolding effect
-shift_is_wave k by c = refl

@@ -37,10 +37,6 @@ opposite_record r qs c = record {
   other_end = opposite_end r.other_end c;
 }
 
--- each signal has a name
-abbrev pub AreNamed : Contents → Type 0
-AreNamed c = (k : ℕ) → k < length c.signals → 0 < length (signal_at c k).words
-
 -- the signal that a word is for has a name
 abbrev pub IsNamedAt : Contents → Option (ℕ × List ℕ) → Type 0
 IsNamedAt c None = Unit {0}

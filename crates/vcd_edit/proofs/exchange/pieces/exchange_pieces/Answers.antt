@@ -1,6 +1,6 @@
-use Rattle.std.proofs.Common.{◌∙◌, ◌<◌, All, refl, subst, sym, ap, length, map, take}
+use Rattle.std.proofs.Common.{◌∙◌, All, refl, subst, sym, ap, map}
 use Rattle.std.proofs.Common.{get_or, None, arith}
-use Rattle.std.proofs.lemmas.List.{take_all, get_or_default}
+use Rattle.std.proofs.lemmas.List.{take_all}
 use Rattle.vcd_core.specs.CaptureContents.{contents}
 use Rattle.vcd_edit.specs.AppliedRecords.{with_pieces, RiseFrom}
 use Rattle.vcd_edit.specs.Records.{piece_view}
@@ -30,61 +30,36 @@ loop-piece-init c =
     )
 
 pub item_mut-requires : goal.item_mut-requires
-item_mut-requires c =
-    let l = c.loop-piece in
-    let x = get_or l.piece-items l.piece-index c.piece-item.result in
-    let within : l.piece-index < length l.piece-items = omega arith in
-    let at = get_or_default l.piece-items l.piece-index c.piece-item.result x within in
-    next_signal (contents c.args.capture.now) c.as_mut_slice-piece-items.result.now l.piece-items l.piece-index x
-    l.capture c.args.comings.items within at l.invariant.0
+item_mut-requires c = next_signal c.piece-item.result c.loop-piece.capture c.loop-piece.invariant.0 (omega arith)
 
 pub exchange_with_wave-requires-clause-ready : goal.exchange_with_wave-requires-clause-ready
 exchange_with_wave-requires-clause-ready c =
-    let l = c.loop-piece in
-    let x = get_or l.piece-items l.piece-index c.piece-item.result in
-    let within : l.piece-index < length l.piece-items = omega arith in
-    let at = get_or_default l.piece-items l.piece-index c.piece-item.result x within in
-    wave_ready (contents c.args.capture.now) c.as_mut_slice-piece-items.result.now l.piece-items l.piece-index x
-    l.capture c.args.comings.items within at l.invariant.0 c.item_mut.result.now
+    wave_ready c.piece-item.result c.loop-piece.capture c.loop-piece.invariant.0 (omega arith) c.item_mut.result.now
     c.item_mut.ensures.value
 
 pub exchange_with_wave-requires-clause-room : goal.exchange_with_wave-requires-clause-room
 exchange_with_wave-requires-clause-room c =
     let l = c.loop-piece in
-    let x = get_or l.piece-items l.piece-index c.piece-item.result in
-    let within : l.piece-index < length l.piece-items = omega arith in
-    let at = get_or_default l.piece-items l.piece-index c.piece-item.result x within in
     let next = next_coming c.args.comings.items l.comings.rest.items c.next.new.self.rest.items l.piece-index
     l.comings.rest.len c.next.new.self.rest.len c.next.result l.invariant.1 (omega arith) (omega arith)
     c.next.ensures.cases in
-    subst (CanBePutIn c.item_mut.result.now.wave x) (next.0 ∙ sym c.unwrap_or.ensures)
-    (wave_room (contents c.args.capture.now) c.as_mut_slice-piece-items.result.now l.piece-items l.piece-index x
-    l.capture c.args.comings.items within at l.invariant.0 c.item_mut.result.now
-    c.item_mut.ensures.value)
+    subst (CanBePutIn c.item_mut.result.now.wave (get_or l.piece-items l.piece-index c.piece-item.result))
+    (next.0 ∙ sym c.unwrap_or.ensures)
+    (wave_room c.piece-item.result l.capture l.invariant.0 (omega arith) c.item_mut.result.now c.item_mut.ensures.value)
 
 pub exchange_with_wave-requires-clause-piece_room : goal.exchange_with_wave-requires-clause-piece_room
 exchange_with_wave-requires-clause-piece_room c =
-    let l = c.loop-piece in
-    let x = get_or l.piece-items l.piece-index c.piece-item.result in
-    let within : l.piece-index < length l.piece-items = omega arith in
-    let at = get_or_default l.piece-items l.piece-index c.piece-item.result x within in
-    next_piece_room (contents c.args.capture.now) c.as_mut_slice-piece-items.result.now l.piece-items l.piece-index x
-    l.capture c.args.comings.items within at l.invariant.0
+    next_piece_room c.piece-item.result c.loop-piece.capture c.loop-piece.invariant.0 (omega arith)
 
 pub loop-piece-preserved : goal.loop-piece-preserved
 loop-piece-preserved c =
     let l = c.loop-piece in
-    let x = get_or l.piece-items l.piece-index c.piece-item.result in
-    let within : l.piece-index < length l.piece-items = omega arith in
-    let at = get_or_default l.piece-items l.piece-index c.piece-item.result x within in
     let next = next_coming c.args.comings.items l.comings.rest.items c.next.new.self.rest.items l.piece-index
     l.comings.rest.len c.next.new.self.rest.len c.next.result l.invariant.1 (omega arith) (omega arith)
     c.next.ensures.cases in
     let e = c.exchange_with_wave.ensures in (
-      put_more (contents c.args.capture.now) c.as_mut_slice-piece-items.result.now l.piece-items l.piece-index x
-          l.capture c.args.comings.items within at l.invariant.0 c.item_mut.result.now
-          c.item_mut.ensures.value c.exchange_with_wave.new.piece c.exchange_with_wave.new.wave e.width e.effect
-          e.restores,
+      put_more c.piece-item.result l.capture l.invariant.0 (omega arith) c.item_mut.result.now c.item_mut.ensures.value
+          c.exchange_with_wave.new.piece c.exchange_with_wave.new.wave e.width e.effect e.restores,
       next.1,
     )
 
@@ -100,12 +75,9 @@ pub returns-clause-restores : goal.returns-clause-restores
 returns-clause-restores c =
     let l = c.loop-piece in
     let given = c.as_mut_slice-piece-items in
-    let back = subst (λ ps. AreOppositePieces (contents c.args.capture.now) (map piece_view ps)
-    (map piece_view l.piece-items)) (take_all l.piece-index given.result.now (omega arith) ∙ given.ensures.value)
-    (subst (λ ps. AreOppositePieces (contents c.args.capture.now)
-    (map piece_view (take l.piece-index given.result.now)) (map piece_view ps))
-    (take_all l.piece-index l.piece-items (omega arith)) l.invariant.0.back) in
-    subst (λ ps. AreOppositePieces (contents c.args.capture.now) (map piece_view c.args.pieces.now.items)
-    (map piece_view ps))
-    (sym (whole_list c.args.pieces.now.len l.piece-items c.args.pieces.now.items (omega (arith, given.ensures.len))))
-    back
+    let all = take_all l.piece-index given.result.now (omega arith) ∙ given.ensures.value in
+    let new = take_all l.piece-index l.piece-items (omega arith)
+    ∙ sym (whole_list c.args.pieces.now.len l.piece-items c.args.pieces.now.items (omega (arith, given.ensures.len))) in
+    subst (λ (t : Type 0). t)
+    (λ i. AreOppositePieces (contents c.args.capture.now) (map piece_view (all i)) (map piece_view (new i)))
+    l.invariant.0.back

@@ -8,5 +8,4 @@ use Rattle.vcd_edit.proofs.exchange.pieces.exchange_pieces.Given as goal
 abbrev pub invariant-loop-piece : goal.invariant-loop-piece
 invariant-loop-piece l =
     ExchangedSoFar (contents l.fn.capture) l.initial.piece-items l.piece-index l.piece-items (contents l.capture)
-    l.capture.signals l.fn.comings.items
-    × (into_iter_items l.comings ≡ drop l.piece-index l.fn.comings.items)
+    l.capture.signals l.fn.comings.items × (into_iter_items l.comings ≡ drop l.piece-index l.fn.comings.items)

@@ -29,7 +29,6 @@ returns-then-have_same_result c =
     held was) in
     c.if-have_same_result.ensures refl c.in_ok-coming.coming
     (record {
-      width = c.in_ok-coming.ensures.width
-          ∙ coming.width;
+      width = c.in_ok-coming.ensures.width ∙ coming.width;
       changes = c.in_ok-coming.ensures.changes ∙ coming.changes;
     })

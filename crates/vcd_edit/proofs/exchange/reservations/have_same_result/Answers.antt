@@ -34,6 +34,5 @@ returns-then-eq c = λ shared.
     ∙ c.shares_list_with.ensures.width shared
     ∙ ap (λ (s : Signal). s.wave.width) (sym c.index-signals-other.is) ∙ sym (ap (λ (w : WaveView). w.width) there))
     (ap (λ (w : WaveView). w.changes) here ∙ ap (λ (s : Signal). s.wave.changes) c.index-signals-piece.is
-    ∙ c.shares_list_with.ensures.changes shared
-    ∙ ap (λ (s : Signal). s.wave.changes) (sym c.index-signals-other.is)
+    ∙ c.shares_list_with.ensures.changes shared ∙ ap (λ (s : Signal). s.wave.changes) (sym c.index-signals-other.is)
     ∙ sym (ap (λ (w : WaveView). w.changes) there))

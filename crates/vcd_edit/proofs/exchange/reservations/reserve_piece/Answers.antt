@@ -1,7 +1,7 @@
 use Rattle.std.proofs.Common.{◌+◌, ◌-◌, ◌≤◌, ◌∙◌, vec_len, length, ap, subst, sym, arith}
+use Rattle.std.proofs.lemmas.Result.{IfOk-weaker}
 use Rattle.vcd_core.specs.WaveView.{WaveView}
 use Rattle.vcd_edit.proofs.exchange.ContentsAfterPiece.{contents_kept, rooms_grow, wave_there}
-use Rattle.vcd_edit.proofs.plans.EffectOfRecord.{at_ok}
 use Rattle.vcd_edit.proofs.exchange.reservations.reserve_piece.Goals as goal
 
 pub returns-clause-contents : goal.returns-clause-contents
@@ -18,7 +18,7 @@ pub returns-clause-own : goal.returns-clause-own
 returns-clause-own c =
     let p = c.args.piece.now in
     let there = wave_there c.args.capture.now.signals p.signal c.item_mut.result.now _ c.requires.signal in
-    at_ok c.reserve_in_own_list.result _ _
+    IfOk-weaker c.reserve_in_own_list.result _ _
     (λ is_shared given told. record {
       own = ap (λ (w : WaveView). w.is_shared) there ∙ (given told).0;
       room = subst (λ (w : WaveView). length w.changes + vec_len c.reserve_exact.new.self

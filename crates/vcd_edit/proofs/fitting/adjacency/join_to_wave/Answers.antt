@@ -10,8 +10,7 @@ use Rattle.vcd_edit.proofs.fitting.AdjacencyTests.{refused, some_tells}
 use Rattle.vcd_edit.proofs.fitting.adjacency.join_to_wave.Goals as goal
 
 pub returns-then-not-ends_by : goal.returns-then-not-ends_by
-returns-then-not-ends_by c =
-    refused c.ends_by.result _ c.if-not-ends_by.true (λ join. c.ends_by.ensures.1 join.0)
+returns-then-not-ends_by c = refused c.ends_by.result _ c.if-not-ends_by.true (λ join. c.ends_by.ensures.1 join.0)
 
 pub floor_after-floor-requires : goal.floor_after-floor-requires
 floor_after-floor-requires c = λ k d less.

@@ -47,8 +47,7 @@ returns c =
       signal = c.args.signal;
       from = from;
       to = from + part.to;
-      changes =
-          c.in_ok-kept_list.field-0;
+      changes = c.in_ok-kept_list.field-0;
       by = pos 0;
     } in
     wave_plan (Deglitch c.args.signal n) (contents c.args.capture.now) c.args.signal

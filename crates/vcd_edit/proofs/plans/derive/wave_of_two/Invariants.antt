@@ -7,7 +7,6 @@ use Rattle.vcd_edit.proofs.plans.derive.wave_of_two.Given as goal
 -- the wave and the remaining edges are all
 abbrev pub invariant-loop-edge : goal.invariant-loop-edge
 invariant-loop-edge l =
-    All HasBits l.edge-iterator
-    × ((end : ℕ) → AllUpTo end l.fn.first.changes → AllUpTo end l.fn.last.changes
+    All HasBits l.edge-iterator × ((end : ℕ) → AllUpTo end l.fn.first.changes → AllUpTo end l.fn.last.changes
     → DerivedSoFar (map (edge_change l.fn.operator) (pair_edges l.fn.operator l.fn.first l.fn.last end))
     (map (edge_change l.fn.operator) l.edge-iterator) l.wave)

@@ -13,7 +13,7 @@ returns-then-to-end c =
     record {
       signal = ap (λ (q : PieceView). q.signal) c.piece_between.ensures;
       offset = ap (λ (q : PieceView). q.by) c.piece_between.ensures;
-      leads = force_to_end c.args.from c.args.to c.args.end c.args.value s c.requires.sound.wave c.requires.sound.ticks
+      leads = force_to_end c.args.from c.args.to c.args.value s c.args.end c.requires.sound.wave c.requires.sound.ticks
           c.requires.end c.requires.not_empty p
           (ap (λ (q : PieceView). q.from) c.piece_between.ensures)
           (ap (λ (q : PieceView). q.by) c.piece_between.ensures)
@@ -33,7 +33,7 @@ returns c =
     record {
       signal = ap (λ (q : PieceView). q.signal) c.piece_between-2.ensures;
       offset = ap (λ (q : PieceView). q.by) c.piece_between-2.ensures;
-      leads = force_before_end c.args.from c.args.to c.args.end c.args.value s c.requires.sound.wave
+      leads = force_before_end c.args.from c.args.to c.args.value s c.args.end c.requires.sound.wave
           c.requires.sound.ticks c.requires.end c.requires.not_empty p
           (ap (λ (q : PieceView). q.from) c.piece_between-2.ensures)
           (ap (λ (q : PieceView). q.by) c.piece_between-2.ensures)

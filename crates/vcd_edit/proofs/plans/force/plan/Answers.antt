@@ -1,9 +1,9 @@
 use Rattle.std.proofs.Common.{refl, pos}
 use Rattle.vcd_core.specs.CaptureContents.{contents, signal_contents}
 use Rattle.vcd_edit.specs.declared.edit.Edit.TheVariants.{Force}
-use Rattle.vcd_edit.specs.Effect.{force_value}
+use Rattle.vcd_edit.specs.Effect.{effect, force_value}
 use Rattle.vcd_edit.proofs.checking.NoFault.{no_fault}
-use Rattle.vcd_edit.proofs.plans.EffectOfRecord.{wave_plan, force_ticks, force_is_wave}
+use Rattle.vcd_edit.proofs.plans.EffectOfRecord.{wave_plan, force_ticks}
 use Rattle.vcd_edit.proofs.plans.force.plan.Goals as goal
 
 pub signal_at-old-requires-clause-position_exists : goal.signal_at-old-requires-clause-position_exists
@@ -21,11 +21,12 @@ force_piece-requires-clause-within c =
     c.requires.allowed).1)
 
 pub returns : goal.returns
+unfolding effect
 returns c =
     let piece = rw (c.end.ensures) at c.in_ok-piece.ensures in
     wave_plan (Force c.args.position c.args.from c.args.to c.args.value) (contents c.args.capture.now) c.args.position
     (force_value c.args.from c.args.to c.args.value) (pos 0) (signal_contents c.signal_at-old.result.now)
     c.in_ok-piece.piece c.piece_record.result c.requires.sound c.requires.allowed c.signal_at-old.ensures.within
     c.signal_at-old.ensures.signal
-    (force_is_wave c.args.position c.args.from c.args.to c.args.value (contents c.args.capture.now)) refl refl piece
+    refl refl refl piece
     c.piece_record.ensures

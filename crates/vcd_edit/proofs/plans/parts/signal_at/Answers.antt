@@ -1,7 +1,8 @@
 use Rattle.std.proofs.Common.{◌<◌, length, arith}
 use Rattle.std.proofs.lemmas.List.{length-map}
 use Rattle.vcd_core.specs.CaptureContents.{signal_contents}
-use Rattle.vcd_edit.proofs.plans.EffectOfRecord.{there, contents_at, sound_here}
+use Rattle.vcd_edit.proofs.exchange.ContentsAfterPiece.{contents_at}
+use Rattle.vcd_edit.proofs.plans.EffectOfRecord.{there, sound_here}
 use Rattle.vcd_edit.proofs.plans.parts.signal_at.Goals as goal
 
 pub bounds-signals-position : goal.bounds-signals-position

@@ -12,13 +12,7 @@ pub returns-then-ticks-end : goal.returns-then-ticks-end
 returns-then-ticks-end c =
     let s : SignalContents = signal_contents c.args.signal.now in
     let same : neg_ℤ (pos c.unsigned_abs-ticks.result) ≡ c.args.by =
-    omega (
-      arith,
-      ints,
-      c.requires.earlier,
-      c.unsigned_abs-ticks.ensures.value,
-      to_z-of_z w64 c.args.by c.ranges.by,
-    ) in
+    omega (arith, ints, c.requires.earlier, c.unsigned_abs-ticks.ensures.value, to_z-of_z w64 c.args.by c.ranges.by) in
     gives_same c.constant_piece.result c.args.position s c.args.end _ c.args.by (shift_value c.args.end c.args.by s)
     (shift_value c.args.end c.args.by s) (to_z-of_z w64 c.args.by c.ranges.by) (λ t. refl)
     (c.constant_piece.ensures c.args.end (shift_value c.args.end c.args.by s)
@@ -30,13 +24,7 @@ pub returns : goal.returns
 returns c =
     let s : SignalContents = signal_contents c.args.signal.now in
     let same : neg_ℤ (pos c.unsigned_abs-ticks.result) ≡ c.args.by =
-    omega (
-      arith,
-      ints,
-      c.requires.earlier,
-      c.unsigned_abs-ticks.ensures.value,
-      to_z-of_z w64 c.args.by c.ranges.by,
-    ) in
+    omega (arith, ints, c.requires.earlier, c.unsigned_abs-ticks.ensures.value, to_z-of_z w64 c.args.by c.ranges.by) in
     gives_same c.cut_piece.result c.args.position s c.args.end (neg_ℤ (pos (c.unsigned_abs-ticks.result - 0))) c.args.by
     _ _
     (ap (λ n. neg_ℤ (pos n)) {x = c.unsigned_abs-ticks.result - 0} {y = c.unsigned_abs-ticks.result} (omega arith)

@@ -13,9 +13,7 @@ returns c = λ end f same.
       offset = to_z-of_z w64 c.args.by c.ranges.by;
       leads = whole_leads _ c.args.signal.now.wave.changes c.args.signal.now.wave.width end f refl
           (ap length c.changes.ensures.changes)
-          (c.in_ok-push_if_new.ensures.added
-          ∙ (λ i. c.new-changes.ensures.items i
+          (c.in_ok-push_if_new.ensures.added ∙ (λ i. c.new-changes.ensures.items i
           ++ unless_same (same_letters c.args.value ((c.filled.ensures ∙ ap all_x c.width.ensures.width) i))
-          (change 0 c.args.value) [])
-          ∙ one_value_changes c.args.signal.now.wave.width end f c.args.value same);
+          (change 0 c.args.value) []) ∙ one_value_changes c.args.signal.now.wave.width end f c.args.value same);
     }

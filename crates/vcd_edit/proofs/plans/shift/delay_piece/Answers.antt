@@ -19,13 +19,7 @@ pub returns-then-ticks-end : goal.returns-then-ticks-end
 returns-then-ticks-end c =
     let s : SignalContents = signal_contents c.args.signal.now in
     let same : pos c.unsigned_abs-ticks.result ≡ c.args.by =
-    omega (
-      arith,
-      ints,
-      c.requires.later,
-      c.unsigned_abs-ticks.ensures.value,
-      to_z-of_z w64 c.args.by c.ranges.by,
-    ) in
+    omega (arith, ints, c.requires.later, c.unsigned_abs-ticks.ensures.value, to_z-of_z w64 c.args.by c.ranges.by) in
     gives_same c.constant_piece.result c.args.position s c.args.end _ c.args.by (shift_value c.args.end c.args.by s)
     (shift_value c.args.end c.args.by s) (to_z-of_z w64 c.args.by c.ranges.by) (λ t. refl)
     (c.constant_piece.ensures c.args.end (shift_value c.args.end c.args.by s)
@@ -39,13 +33,7 @@ returns-then-kept-changes c =
     let near : c.unsigned_abs-ticks.result ≤ c.args.end = c.if-ticks-end.false in
     let small : c.args.end + 1 < 2 ^ 64 = omega (arith, c.requires.end) in
     let same : pos c.unsigned_abs-ticks.result ≡ c.args.by =
-    omega (
-      arith,
-      ints,
-      c.requires.later,
-      c.unsigned_abs-ticks.ensures.value,
-      to_z-of_z w64 c.args.by c.ranges.by,
-    ) in
+    omega (arith, ints, c.requires.later, c.unsigned_abs-ticks.ensures.value, to_z-of_z w64 c.args.by c.ranges.by) in
     record {
       signal = refl;
       offset = to_z-of_z w64 c.args.by c.ranges.by;
@@ -70,13 +58,7 @@ returns c =
     let near : c.unsigned_abs-ticks.result ≤ c.args.end = c.if-ticks-end.false in
     let small : c.args.end + 1 < 2 ^ 64 = omega (arith, c.requires.end) in
     let same : pos c.unsigned_abs-ticks.result ≡ c.args.by =
-    omega (
-      arith,
-      ints,
-      c.requires.later,
-      c.unsigned_abs-ticks.ensures.value,
-      to_z-of_z w64 c.args.by c.ranges.by,
-    ) in
+    omega (arith, ints, c.requires.later, c.unsigned_abs-ticks.ensures.value, to_z-of_z w64 c.args.by c.ranges.by) in
     record {
       signal = refl;
       offset = to_z-of_z w64 c.args.by c.ranges.by;

@@ -8,8 +8,7 @@ loop-change-preserved c =
     c.in_ok-push.ensures.items
     ∙ ap (λ (cs : List Change). cs ++ record {
       tick = c.change-item.result.tick + c.args.ticks;
-      value =
-          c.change-item.result.value;
+      value = c.change-item.result.value;
     } ∷ []) c.loop-change.invariant
     ∙ later_more c.args.ticks c.loop-change.change-index c.args.changes.now c.change-item.result c.loop-change-test.true
     c.change-item.is
