@@ -4,9 +4,10 @@ use Rattle.std.proofs.Common.{if◌then◌else◌, Option, Some, None, IfSome, L
 use Rattle.std.proofs.Common.{refl, sym, ap, subst, ◌∙◌}
 use Rattle.std.specs.List.{filter, filter_map, flat_map, range_with_len, slice_split}
 use Rattle.std.specs.Option.{option_to_list, option_map_or}
+use Rattle.std.proofs.Math.Bool.{and_assoc}
 use Rattle.std.proofs.lemmas.List.Elements.{All-nil, All-cons, All-head, All-tail, All-append, filter_passes}
 use Rattle.vcd_core.specs.declared.bit.Bit.{Bit}
-use Rattle.vcd_core.specs.declared.bit.Bit.TheVariants.{Zero, One, X, Z}
+use Rattle.vcd_core.specs.declared.bit.Bit.TheVariants.{Zero, One, Z}
 use Rattle.vcd_decode.specs.declared.annotation.Annotation.{Annotation}
 use Rattle.vcd_decode.specs.declared.i2c_bus.events.BusEvent.{BusEvent}
 use Rattle.vcd_decode.specs.declared.i2c_bus.events.BusEvent.TheVariants as events
@@ -27,15 +28,11 @@ use Rattle.vcd_decode.specs.Laws.{StraightClocksCount, StraightBusEdgesCount}
 
 one_is : (b : Bit) → is_one b ≡ same_letter b One
 one_is Zero = refl
-one_is One = refl
-one_is X = refl
-one_is Z = refl
+one_is b = refl
 
 zero_is : (b : Bit) → is_zero b ≡ same_letter b Zero
 zero_is Zero = refl
-zero_is One = refl
-zero_is X = refl
-zero_is Z = refl
+zero_is b = refl
 
 falls_straight : (f : ℕ → Bit) (t : ℕ) → is_one (letter_before f t) && is_zero (f t) ≡ goes_straight One Zero f t
 falls_straight f t = λ i. one_is (letter_before f t) i && zero_is (f t) i
@@ -64,7 +61,7 @@ begins_there line end u start =
     choose true over late = refl
     choose false true late = tt
     choose false false true = refl
-    choose false false false = refl
+    choose early over late = refl
 
 module _ (line : ℕ → Bit) (end : ℕ) (u : UartSetup) where
   abbrev falls_at : ℕ → Type 0
@@ -127,15 +124,11 @@ same_clocks u clk other mosi miso cs end rises falls =
 
 high_is : (b : Bit) → is_line_high b ≡ same_letter (if same_letter b Z then One else b) One
 high_is Zero = refl
-high_is One = refl
-high_is X = refl
-high_is Z = refl
+high_is b = refl
 
 low_is : (b : Bit) → is_zero b ≡ same_letter (if same_letter b Z then One else b) Zero
 low_is Zero = refl
-low_is One = refl
-low_is X = refl
-low_is Z = refl
+low_is b = refl
 
 high_before : (f : ℕ → Bit) (t : ℕ) → is_line_high (letter_before f t) ≡ same_letter (letter_before (pulled_up f) t) One
 high_before f zero = refl
@@ -145,21 +138,14 @@ low_before : (f : ℕ → Bit) (t : ℕ) → is_zero (letter_before f t) ≡ sam
 low_before f zero = refl
 low_before f (suc t) = low_is (f t)
 
-by_pairs : (a b c d : Bool) → (a && b && c && d) ≡ ((a && b) && (c && d))
-by_pairs true true true d = refl
-by_pairs true true false d = refl
-by_pairs true false c d = refl
-by_pairs false b c d = refl
-
 start_is : (scl sda : ℕ → Bit) (t : ℕ) → is_start_at scl sda t ≡ goes_while_high One Zero scl sda t
 start_is scl sda t =
-    by_pairs (is_line_high (letter_before scl t)) (is_line_high (scl t)) (is_line_high (letter_before sda t))
-    (is_zero (sda t))
-    ∙ (λ i. (high_before scl t i && high_is (scl t) i) && (high_before sda t i && low_is (sda t) i))
+    and_assoc (is_line_high (letter_before scl t) && is_line_high (scl t)) (is_line_high (letter_before sda t))
+    (is_zero (sda t)) ∙ (λ i. (high_before scl t i && high_is (scl t) i) && (high_before sda t i && low_is (sda t) i))
 
 stop_is : (scl sda : ℕ → Bit) (t : ℕ) → is_stop_at scl sda t ≡ goes_while_high Zero One scl sda t
 stop_is scl sda t =
-    by_pairs (is_line_high (letter_before scl t)) (is_line_high (scl t)) (is_zero (letter_before sda t))
+    and_assoc (is_line_high (letter_before scl t) && is_line_high (scl t)) (is_zero (letter_before sda t))
     (is_line_high (sda t))
     ∙ (λ i. (high_before scl t i && high_is (scl t) i) && (low_before sda t i && high_is (sda t) i))
 

@@ -1,20 +1,23 @@
 -- A list that is empty where no line changes: over all ticks it is the list over the edges.
 use Rattle.std.proofs.Common.{◌≡◌, ℕ, zero, suc, ◌||◌, Bool, true, false, not, cond, Option, Some}
 use Rattle.std.proofs.Common.{None, List, [], ◌∷◌}
-use Rattle.std.proofs.Common.{◌++◌, map, replicate, get_or, refl, sym, ap, subst, ◌∙◌}
-use Rattle.std.specs.List.{filter, flat_map, list_any, range_with_len, AllByRecursion}
-use Rattle.std.specs.Option.{option_map}
+use Rattle.std.proofs.Common.{◌++◌, map, replicate, get_or, All, refl, sym, ap, subst, ◌∙◌}
+use Rattle.std.specs.List.{cons_option, filter, flat_map, list_any, range_with_len, AllByRecursion}
+use Rattle.std.specs.Option.{option_map, option_to_list}
 use Rattle.vcd_core.specs.declared.bit.Bit.{Bit}
-use Rattle.vcd_core.specs.declared.bit.Bit.TheVariants.{X}
+use Rattle.vcd_core.specs.declared.bit.Bit.TheVariants.{Zero, X}
 use Rattle.vcd_core.specs.declared.bit_edges.BitEdge.{BitEdge}
 use Rattle.vcd_core.specs.Value.{same_letters}
 use Rattle.vcd_core.specs.inside.value.EqualByLetters.{same_letters-Decides}
 use Rattle.vcd_core.specs.WaveView.{WaveView}
 use Rattle.vcd_core.specs.Edges.{Trace, trace_of, value_on, value_before, same_value, changes_at}
 use Rattle.vcd_core.specs.Edges.{edge_on, edges_on}
+use Rattle.std.proofs.lemmas.Simd.{map-map}
+use Rattle.std.proofs.lemmas.List.Elements.{All-map, recursion_from_All}
 use Rattle.vcd_core.specs.BitEdges.{lowest_bit, bit_edge, bit_edges_of}
 use Rattle.vcd_decode.specs.Lines.{letter_before}
 use Rattle.vcd_decode.specs.WaveLines.{line_of}
+use Rattle.vcd_decode.specs.inside.i2c_bus.Events.{bus_event}
 use Rattle.vcd_decode.specs.inside.LineEdges.{lines_of, line_edge}
 
 -- ---- the bits at an edge are the letters of the lines
@@ -56,13 +59,9 @@ edge_is waves t =
 
 -- ---- where no wave changes
 
-first_fails : (p q : Bool) → (p || q) ≡ false → p ≡ false
-first_fails true q none = none
-first_fails false q none = refl
-
-second_fails : (p q : Bool) → (p || q) ≡ false → q ≡ false
-second_fails true q none = absurd (cc)
-second_fails false q none = none
+both_fail : (p q : Bool) → (p || q) ≡ false → (p ≡ false) × (q ≡ false)
+both_fail true q none = absurd (cc)
+both_fail false q none = (refl, none)
 
 same_where : (v w : Option (List Bit)) → not (same_value v w) ≡ false → v ≡ w
 same_where None None none = refl
@@ -79,10 +78,9 @@ still_values : (ls : List Trace) (t : ℕ) → list_any (changes_at t) ls ≡ fa
     → map (λ l. value_on l t) ls ≡ map (λ l. value_before l t) ls
 still_values [] t none = refl
 still_values (l ∷ ls) t none =
-    let here = same_where (value_on l t) (value_before l t)
-    (first_fails (changes_at t l) (list_any (changes_at t) ls) none) in
-    let rest = still_values ls t (second_fails (changes_at t l) (list_any (changes_at t) ls) none) in
-    λ i. here i ∷ rest i
+    let fail = both_fail (changes_at t l) (list_any (changes_at t) ls) none in
+    let here = same_where (value_on l t) (value_before l t) fail.0 in
+    λ i. here i ∷ still_values ls t fail.1 i
 
 -- where no line changes, each has its letter of the tick before
 still_bits : (waves : List (Option WaveView)) (t : ℕ) → list_any (changes_at t) (map trace_of waves) ≡ false
@@ -90,11 +88,18 @@ still_bits : (waves : List (Option WaveView)) (t : ℕ) → list_any (changes_at
 still_bits waves t none =
     sym (bits_here waves t) ∙ ap (map lowest_bit) (still_values (map trace_of waves) t none) ∙ bits_before waves t
 
--- ---- over the edges and over all ticks
+-- where no level changes, there is no event
+pub nothing_happens : (t : ℕ) (scl sda : Bit)
+    → bus_event t (record { scl = scl; sda = sda }) (record { scl = scl; sda = sda }) ≡ None
+nothing_happens t Zero Zero = refl
+nothing_happens t scl Zero = refl
+nothing_happens t scl sda = refl
 
-map-map : {A B C : Type 0} (f : B → C) (g : A → B) (xs : List A) → map f (map g xs) ≡ map (λ x. f (g x)) xs
-map-map f g [] = refl
-map-map f g (x ∷ xs) = ap (λ ys. f (g x) ∷ ys) (map-map f g xs)
+pub cons_is : {A : Type 0} (o : Option A) (xs : List A) → cons_option o xs ≡ option_to_list o ++ xs
+cons_is None xs = refl
+cons_is (Some x) xs = refl
+
+-- ---- over the edges and over all ticks
 
 map_same : {A B : Type 0} (f g : A → B) (xs : List A) → ((x : A) → f x ≡ g x) → map f xs ≡ map g xs
 map_same f g [] same = refl
@@ -115,17 +120,12 @@ module _ (waves : List (Option WaveView)) where
       ∙ map_same (λ t. bit_edge (edge_on (map trace_of waves) t)) (line_edge lines)
       (filter changes (range_with_len 0 (suc end))) (edge_is waves)
 
-  each_map : {A B : Type 0} (P : B → Type 0) (f : A → B) (xs : List A) → ((x : A) → P (f x))
-      → AllByRecursion P (map f xs)
-  each_map P f [] all = tt
-  each_map P f (x ∷ xs) all = (all x, each_map P f xs all)
-
   -- each edge is that of the lines at its tick
   pub each_edge : (end : ℕ) → AllByRecursion (λ e. e ≡ line_edge lines e.tick) (bit_edges_of waves end)
   each_edge end =
       let P : BitEdge → Type 0 = λ e. e ≡ line_edge lines e.tick in
-      subst (AllByRecursion P) (sym (edges_are end))
-      (each_map P (line_edge lines) (filter changes (range_with_len 0 (suc end))) (λ t. refl))
+      recursion_from_All P (bit_edges_of waves end) (subst (All P) (sym (edges_are end))
+      (All-map P (line_edge lines) (filter changes (range_with_len 0 (suc end))) (λ k d less. refl)))
 
   module _ {A : Type 0} (g : BitEdge → List A) (still : (t : ℕ) → (line_edge lines t).at ≡ (line_edge lines t).before
       → g (line_edge lines t) ≡ []) where

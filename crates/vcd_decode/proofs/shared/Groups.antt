@@ -1,12 +1,13 @@
 -- A list cut into groups: none, a short one, or a whole one in front of the others.
 use Rattle.std.proofs.Common.{◌≡◌, ℕ, zero, suc, ◌+◌, ◌-◌, ◌*◌, ◌/◌, ◌<◌, ◌≤◌, List, [], ◌∷◌, ◌++◌}
 use Rattle.std.proofs.Common.{map, length, take}
-use Rattle.std.proofs.Common.{drop, refl, ap, ◌∙◌, arith}
+use Rattle.std.proofs.Common.{drop, refl, sym, ap, ◌∙◌, arith}
 use Rattle.std.specs.List.{range_with_len}
 use Rattle.std.specs.Fork.{slice_chunk}
 use Rattle.std.specs.Slice.Iter.{chunk_count}
 use Rattle.std.proofs.Math.Nat.{add-div_left, div-eq_of_lt, div-eq_of_lt-le, div-le_self}
-use Rattle.std.proofs.lemmas.List.{length-append}
+use Rattle.std.proofs.Math.Seq.{take-append_seam, drop-append-add}
+use Rattle.std.proofs.lemmas.List.{length-append, take_all}
 use Rattle.vcd_decode.specs.Groups.{groups_of}
 
 -- ---- how many groups there are
@@ -42,35 +43,17 @@ pub groups_none : {X : Type 0} (n : ℕ) → groups_of {X = X} n [] ≡ []
 unfolding groups_of
 groups_none n = ap (λ k. map (slice_chunk [] n) (range_with_len 0 k)) (count_none n)
 
-take_all : {X : Type 0} (n : ℕ) (xs : List X) → length xs ≤ n → take n xs ≡ xs
-take_all zero [] short = refl
-take_all (suc n) [] short = refl
-take_all zero (x ∷ xs) short = absurd (omega arith)
-take_all (suc n) (x ∷ xs) short = ap (λ ys. x ∷ ys) (take_all n xs (omega arith))
-
 pub groups_short : {X : Type 0} (n : ℕ) (xs : List X) → 0 < length xs → length xs ≤ n → groups_of n xs ≡ xs ∷ []
 unfolding groups_of
 groups_short n xs some short =
     ap (λ k. map (slice_chunk xs n) (range_with_len 0 k)) (count_short (length xs) n some short)
-    ∙ ap (λ k. take n (drop k xs) ∷ []) {x = 0 * n} {y = 0} (omega arith)
-    ∙ ap (λ ys. ys ∷ []) (take_all n xs short)
+    ∙ ap (λ k. take n (drop k xs) ∷ []) {x = 0 * n} {y = 0} (omega arith) ∙ ap (λ ys. ys ∷ []) (take_all n xs short)
 
 -- numbers one further on
 map_shifted : {X : Type 0} (f g : ℕ → X) (a n : ℕ) → ((i : ℕ) → f (i + 1) ≡ g i)
     → map f (range_with_len (a + 1) n) ≡ map g (range_with_len a n)
 map_shifted f g a zero same = refl
 map_shifted f g a (suc n) same = λ i. same a i ∷ map_shifted f g (a + 1) n same i
-
-take_prefix : {X : Type 0} (n : ℕ) (c xs : List X) → length c ≡ n → take n (c ++ xs) ≡ c
-take_prefix zero [] xs whole = refl
-take_prefix (suc n) [] xs whole = absurd (omega arith)
-take_prefix zero (x ∷ c) xs whole = absurd (omega arith)
-take_prefix (suc n) (x ∷ c) xs whole = ap (λ ys. x ∷ ys) (take_prefix n c xs (omega arith))
-
-remove_prefix : {X : Type 0} (k : ℕ) (c xs : List X) → drop (length c + k) (c ++ xs) ≡ drop k xs
-remove_prefix k [] xs = ap (λ n. drop n xs) {x = 0 + k} {y = k} (omega arith)
-remove_prefix k (x ∷ c) xs = ap (λ n. drop n (x ∷ c ++ xs)) {x = length (x ∷ c) + k} {y = suc (length c + k)}
-    (omega arith) ∙ remove_prefix k c xs
 
 -- a whole group in front of those of the rest
 pub groups_whole : {X : Type 0} (n : ℕ) (c xs : List X) → 0 < n → length c ≡ n
@@ -79,14 +62,14 @@ unfolding groups_of
 groups_whole n c xs some whole =
     let long : length (c ++ xs) ≡ n + length xs = length-append c xs ∙ ap (λ k. k + length xs) whole in
     let count = ap (λ k. chunk_count k n) long ∙ count_more (length xs) n some in
-    ap (λ k. map (slice_chunk (c ++ xs) n) (range_with_len 0 k)) count
-    ∙ (λ i. first i ∷ later i)
+    ap (λ k. map (slice_chunk (c ++ xs) n) (range_with_len 0 k)) count ∙ (λ i. first i ∷ later i)
   where
     first : take n (drop (0 * n) (c ++ xs)) ≡ c
-    first = ap (λ k. take n (drop k (c ++ xs))) {x = 0 * n} {y = 0} (omega arith) ∙ take_prefix n c xs whole
+    first = ap (λ k. take n (drop k (c ++ xs))) {x = 0 * n} {y = 0} (omega arith)
+        ∙ ap (λ k. take k (c ++ xs)) (sym whole) ∙ take-append_seam c xs
 
     later : map (slice_chunk (c ++ xs) n) (range_with_len 1 (chunk_count (length xs) n))
         ≡ map (slice_chunk xs n) (range_with_len 0 (chunk_count (length xs) n))
     later = map_shifted (slice_chunk (c ++ xs) n) (slice_chunk xs n) 0 (chunk_count (length xs) n) (λ i.
         ap (λ k. take n (drop k (c ++ xs))) {x = (i + 1) * n} {y = length c + i * n} (omega (arith, whole))
-        ∙ ap (take n) (remove_prefix (i * n) c xs))
+        ∙ ap (take n) (drop-append-add c xs (i * n)))

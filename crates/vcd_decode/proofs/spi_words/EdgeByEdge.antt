@@ -10,7 +10,7 @@ use Rattle.std.specs.Option.{is_some, option_map}
 use Rattle.std.proofs.lemmas.Bool.{cases_lt, lt-ltb, le-ltb}
 use Rattle.std.proofs.lemmas.List.{append-nil}
 use Rattle.vcd_core.specs.declared.bit.Bit.{Bit}
-use Rattle.vcd_core.specs.declared.bit.Bit.TheVariants.{Zero, One, X, Z}
+use Rattle.vcd_core.specs.declared.bit.Bit.TheVariants.{Zero}
 use Rattle.vcd_core.specs.declared.bit_edges.BitEdge.{BitEdge}
 use Rattle.vcd_core.specs.WaveView.{WaveView}
 use Rattle.vcd_core.specs.BitEdges.{bit_edges_of}
@@ -38,6 +38,17 @@ use Rattle.vcd_decode.proofs.shared.Groups.{groups_none, groups_whole}
 use Rattle.vcd_decode.proofs.shared.EdgeTicks.{each_edge, over_edges}
 use Rattle.vcd_decode.proofs.spi_words.GroupAfterTick.{group_last, group_none, length_last, line_first, line_fits}
 use Rattle.vcd_decode.proofs.spi_words.GroupAfterTick.{rest_is, word_is}
+
+-- ---- whether the chip is selected
+
+selected_is : (cs : Option (ℕ → Bit)) (t : ℕ) → selects_chip (option_map (λ f. f t) cs) ≡ is_selected cs t
+selected_is None t = refl
+selected_is (Some f) t = refl
+
+selected_before : (cs : Option (ℕ → Bit)) (t : ℕ)
+    → selects_chip (option_map (λ f. letter_before f (suc t)) cs) ≡ is_selected cs t
+selected_before None t = refl
+selected_before (Some f) t = refl
 
 -- ---- a whole word in front of the rest
 
@@ -104,8 +115,7 @@ module _ (u : SpiSetup) (some : 0 < u.bits) (mosi miso : Option (ℕ → Bit)) w
               appended = rw test (
                   ap (λ g. word_annotation g ∷ annotations_at_marks u mosi miso [] marks) is
                   ∙ ap (λ a. a ∷ annotations_at_marks u mosi miso [] marks)
-                  (sym (word_is u mosi miso (ts ++ t ∷ []) whole))
-                  ∙ sym (word_first (ts ++ t ∷ []) [] marks whole)
+                  (sym (word_is u mosi miso (ts ++ t ∷ []) whole)) ∙ sym (word_first (ts ++ t ∷ []) [] marks whole)
                   ∙ ap (λ us. annotations_at_marks u mosi miso us marks) (append-nil (ts ++ t ∷ []))
                   );
             }
@@ -131,14 +141,6 @@ module _ (u : SpiSetup) (some : 0 < u.bits) (mosi miso : Option (ℕ → Bit)) w
           miso = data_after u.order (length ts) (line_data u.order miso ts) (back i);
         }) ∙ group_last u mosi miso ts e.tick
 
-    edge_goes : (e : BitEdge) (ts : List ℕ) (marks : List (Option ℕ)) → length ts < u.bits → e ≡ line_edge lines e.tick
-        → IsClockStep (deselects_chip e) (is_sampling u e)
-        (group_after u.order (tick_group u mosi miso ts) e) e.tick ts marks
-    edge_goes e ts marks short is =
-        clock_step (deselects_chip e) (is_sampling u e)
-        (group_after u.order (tick_group u mosi miso ts) e) e.tick ts marks short
-        (longer_is e ts is)
-
     -- ---- the loop
 
     pub so_far_more : (all found more : List Annotation) (g next : PartialWord) (left rest : List BitEdge) (e : BitEdge)
@@ -149,7 +151,8 @@ module _ (u : SpiSetup) (some : 0 < u.bits) (mosi miso : Option (ℕ → Bit)) w
         let ts = so_far.ticks in
         let marks : List (Option ℕ) = flat_map (edge_marks u) rest in
         let each = subst (AllByRecursion (λ x. x ≡ line_edge lines x.tick)) split so_far.each in
-        let step = edge_goes e ts marks so_far.short each.0 in
+        let step = clock_step (deselects_chip e) (is_sampling u e) (group_after u.order (tick_group u mosi miso ts) e)
+        e.tick ts marks so_far.short (longer_is e ts each.0) in
         let before : found ++ annotations_at_marks u mosi miso ts (edge_marks u e ++ marks) ≡ all =
         ap (λ (es : List BitEdge). found ++ annotations_at_marks u mosi miso ts (flat_map (edge_marks u) es))
         (sym split) ∙ so_far.rest in
@@ -162,23 +165,19 @@ module _ (u : SpiSetup) (some : 0 < u.bits) (mosi miso : Option (ℕ → Bit)) w
               ap (λ xs. xs ++ annotations_at_marks u mosi miso step.after marks) (appended
               ∙ ap (λ (x : PartialWord). found ++ annotations_at_edge u x e) so_far.is_group)
               ∙ append_assoc found (annotations_at_edge u (tick_group u mosi miso ts) e)
-              (annotations_at_marks u mosi miso step.after marks)
-              ∙ ap (λ xs. found ++ xs) step.appended
-              ∙ before;
+              (annotations_at_marks u mosi miso step.after marks) ∙ ap (λ xs. found ++ xs) step.appended ∙ before;
         }
 
     -- at the end the rest is annotated
     pub so_far_ends : (all found more : List Annotation) (g : PartialWord) (left : List BitEdge)
-        → SoFar all found g left
-        → left ≡ [] → more ≡ found ++ annotations_of_unfinished g → more ≡ all
+        → SoFar all found g left → left ≡ [] → more ≡ found ++ annotations_of_unfinished g → more ≡ all
     unfolding annotations_at_marks
     so_far_ends all found more g left so_far over appended =
         let ts = so_far.ticks in
         appended ∙ ap (λ (x : PartialWord). found ++ annotations_of_unfinished x) so_far.is_group
         ∙ ap (λ xs. found ++ xs) (rest_is u mosi miso ts so_far.short)
         ∙ ap (λ (es : List BitEdge). found ++ annotations_at_marks u mosi miso ts (flat_map (edge_marks u) es))
-        (sym over)
-        ∙ so_far.rest
+        (sym over) ∙ so_far.rest
 
     -- the group has room for one more bit
     pub so_far_open : (all found : List Annotation) (g : PartialWord) (left : List BitEdge) → SoFar all found g left
@@ -198,31 +197,19 @@ module _ (u : SpiSetup) (some : 0 < u.bits) (mosi miso : Option (ℕ → Bit)) w
     abbrev mark : Bool → Bool → Bool → ℕ → List (Option ℕ)
     mark was is reads t = if was && not is then None ∷ [] else (if is && reads then Some t ∷ [] else [])
 
-    selected_is : (t : ℕ) → selects_chip (option_map (λ f. f t) cs) ≡ is_selected cs t
-    selected_is t = choose cs
-      where
-        choose : (line : Option (ℕ → Bit)) → selects_chip (option_map (λ f. f t) line) ≡ is_selected line t
-        choose None = refl
-        choose (Some f) = refl
-
-    selected_before : (t : ℕ) → was_selected (suc t) ≡ is_selected cs t
-    selected_before t = choose cs
-      where
-        choose : (line : Option (ℕ → Bit))
-            → selects_chip (option_map (λ f. letter_before f (suc t)) line) ≡ is_selected line t
-        choose None = refl
-        choose (Some f) = refl
-
     mark_is : (t : ℕ) → edge_marks u (line_edge lines t)
         ≡ mark (was_selected t) (is_selected cs t) (has_sampling_edge u.mode clk t) t
     unfolding edge_marks
-    mark_is t = ap (λ is. mark (was_selected t) is (has_sampling_edge u.mode clk t) t) (selected_is t)
+    mark_is t = ap (λ is. mark (was_selected t) is (has_sampling_edge u.mode clk t) t) (selected_is cs t)
+
+    abbrev annotations_of_parts : List (List ℕ) → List Annotation
+    annotations_of_parts ps = flat_map annotations_of_ticks (map (filter (has_sampling_edge u.mode clk)) ps)
 
     -- the annotations of parts of ticks, where some ticks come before the first part
     abbrev parts_annotations : List ℕ → List (List ℕ) → List Annotation
     parts_annotations ts [] = annotations_of_ticks ts
-    parts_annotations ts (part ∷ parts) = annotations_of_ticks (ts ++ filter (has_sampling_edge u.mode clk) part)
-        ++ flat_map annotations_of_ticks (map (filter (has_sampling_edge u.mode clk)) parts)
+    parts_annotations ts (part ∷ parts) =
+        annotations_of_ticks (ts ++ filter (has_sampling_edge u.mode clk) part) ++ annotations_of_parts parts
 
     abbrev parts : ℕ → ℕ → List (List ℕ)
     parts a n = slice_split (λ t. not (is_selected cs t)) (range_with_len a n)
@@ -231,8 +218,7 @@ module _ (u : SpiSetup) (some : 0 < u.bits) (mosi miso : Option (ℕ → Bit)) w
     none_is = ap (map (group_annotation u mosi miso)) (groups_none u.bits)
 
     -- without ticks before, they are those of each part
-    parts_alone : (ps : List (List ℕ))
-        → parts_annotations [] ps ≡ flat_map annotations_of_ticks (map (filter (has_sampling_edge u.mode clk)) ps)
+    parts_alone : (ps : List (List ℕ)) → parts_annotations [] ps ≡ annotations_of_parts ps
     parts_alone [] = none_is
     parts_alone (part ∷ ps) = refl
 
@@ -243,8 +229,7 @@ module _ (u : SpiSetup) (some : 0 < u.bits) (mosi miso : Option (ℕ → Bit)) w
     parts_read false a ts [] is =
         rw is (sym (append-nil (annotations_of_ticks (ts ++ [])) ∙ ap annotations_of_ticks (append-nil ts)))
     parts_read true a ts (part ∷ ps) is =
-        rw is (ap (λ us. annotations_of_ticks us
-        ++ flat_map annotations_of_ticks (map (filter (has_sampling_edge u.mode clk)) ps))
+        rw is (ap (λ us. annotations_of_ticks us ++ annotations_of_parts ps)
         (append_assoc ts (a ∷ []) (filter (has_sampling_edge u.mode clk) part)))
     parts_read false a ts (part ∷ ps) is = rw is refl
 
@@ -258,42 +243,36 @@ module _ (u : SpiSetup) (some : 0 < u.bits) (mosi miso : Option (ℕ → Bit)) w
         ∙ parts_read true a ts ps edge
     annotations_at_tick false true true a ts marks ps following edge later = later (ts ++ a ∷ []) (λ none. absurd (cc))
         ∙ parts_read true a ts ps edge
-    annotations_at_tick true true false a ts marks ps following edge later = later ts (λ none. absurd (cc))
-        ∙ parts_read false a ts ps edge
-    annotations_at_tick false true false a ts marks ps following edge later = later ts (λ none. absurd (cc))
-        ∙ parts_read false a ts ps edge
+    annotations_at_tick true true false a ts marks ps following edge later =
+        later ts (λ none. absurd (cc)) ∙ parts_read false a ts ps edge
+    annotations_at_tick false true false a ts marks ps following edge later =
+        later ts (λ none. absurd (cc)) ∙ parts_read false a ts ps edge
     annotations_at_tick true false reads a ts marks ps following edge later =
         ap (λ xs. annotations_of_ticks ts ++ xs) (later [] (λ none. refl) ∙ parts_alone ps)
-        ∙ ap (λ us. annotations_of_ticks us
-        ++ flat_map annotations_of_ticks (map (filter (has_sampling_edge u.mode clk)) ps))
-        (sym (append-nil ts))
+        ∙ ap (λ us. annotations_of_ticks us ++ annotations_of_parts ps) (sym (append-nil ts))
     annotations_at_tick false false reads a ts marks ps following edge later =
-        later ts (λ none. following refl)
-        ∙ ap (λ us. parts_annotations us ps) (following refl)
-        ∙ parts_alone ps
-        ∙ ap (λ xs. xs ++ flat_map annotations_of_ticks (map (filter (has_sampling_edge u.mode clk)) ps)) (sym none_is)
-        ∙ ap (λ us. annotations_of_ticks (us ++ [])
-        ++ flat_map annotations_of_ticks (map (filter (has_sampling_edge u.mode clk)) ps)) (sym (following refl))
+        later ts (λ none. following refl) ∙ ap (λ us. parts_annotations us ps) (following refl) ∙ parts_alone ps
+        ∙ ap (λ xs. xs ++ annotations_of_parts ps) (sym none_is)
+        ∙ ap (λ us. annotations_of_ticks (us ++ []) ++ annotations_of_parts ps) (sym (following refl))
+
+    abbrev marks_of : ℕ → ℕ → List (Option ℕ)
+    marks_of a n = flat_map (λ t. edge_marks u (line_edge lines t)) (range_with_len a n)
 
     annotations_at_ticks : (a n : ℕ) (ts : List ℕ) → (was_selected a ≡ false → ts ≡ [])
-        → annotations_at_marks u mosi miso ts (flat_map (λ t. edge_marks u (line_edge lines t)) (range_with_len a n))
-        ≡ parts_annotations ts (parts a n)
+        → annotations_at_marks u mosi miso ts (marks_of a n) ≡ parts_annotations ts (parts a n)
     unfolding annotations_at_marks
     annotations_at_ticks a zero ts following = ap annotations_of_ticks (sym (append-nil ts))
         ∙ sym (append-nil (annotations_of_ticks (ts ++ [])))
     annotations_at_ticks a (suc n) ts following =
-        let next : was_selected (a + 1) ≡ is_selected cs a = ap was_selected (add-one a) ∙ selected_before a in
+        let next : was_selected (a + 1) ≡ is_selected cs a = ap was_selected (add-one a) ∙ selected_before cs a in
         let later = λ (us : List ℕ) (none : is_selected cs a ≡ false → us ≡ []). annotations_at_ticks (a + 1) n us
         (λ was. none (sym next ∙ was)) in
-        ap (λ marks. annotations_at_marks u mosi miso ts
-        (marks ++ flat_map (λ t. edge_marks u (line_edge lines t)) (range_with_len (a + 1) n))) (mark_is a)
+        ap (λ marks. annotations_at_marks u mosi miso ts (marks ++ marks_of (a + 1) n)) (mark_is a)
         ∙ annotations_at_tick (was_selected a) (is_selected cs a) (has_sampling_edge u.mode clk a) a ts
-        (flat_map (λ t. edge_marks u (line_edge lines t)) (range_with_len (a + 1) n)) (parts (a + 1) n) following
-        refl later
+        (marks_of (a + 1) n) (parts (a + 1) n) following refl later
 
-    all_is : (end : ℕ) → annotations_at_marks u mosi miso []
-        (flat_map (λ t. edge_marks u (line_edge lines t)) (range_with_len 0 (suc end)))
-        ≡ spi_annotations u clk mosi miso cs end
+    all_is : (end : ℕ)
+        → annotations_at_marks u mosi miso [] (marks_of 0 (suc end)) ≡ spi_annotations u clk mosi miso cs end
     unfolding spi_annotations
     all_is end = annotations_at_ticks 0 (suc end) [] (λ none. refl) ∙ parts_alone (parts 0 (suc end))
 
@@ -314,14 +293,8 @@ still u e same =
         && is_present_and is_zero b) ≡ false
     no_edge true None = refl
     no_edge true (Some Zero) = refl
-    no_edge true (Some One) = refl
-    no_edge true (Some X) = refl
-    no_edge true (Some Z) = refl
-    no_edge false None = refl
-    no_edge false (Some Zero) = refl
-    no_edge false (Some One) = refl
-    no_edge false (Some X) = refl
-    no_edge false (Some Z) = refl
+    no_edge rise (Some Zero) = refl
+    no_edge rise b = refl
 
     nothing : (selected reads : Bool) → reads ≡ false
         → (if selected && not selected then None ∷ [] else (if selected && reads then Some e.tick ∷ [] else [])) ≡ []

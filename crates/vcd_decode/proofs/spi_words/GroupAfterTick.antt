@@ -7,13 +7,13 @@ use Rattle.std.specs.List.{list_any}
 use Rattle.std.specs.Option.{is_some, option_map}
 use Rattle.std.proofs.Math.Nat.{pow-suc}
 use Rattle.std.proofs.Math.Seq.{get_or-append_seam}
-use Rattle.std.proofs.lemmas.Bool.{lt-ltb, le-ltb}
-use Rattle.std.proofs.lemmas.Bool.Decides.{Decides-eqb}
+use Rattle.std.proofs.Math.Bool.{or-false}
+use Rattle.std.proofs.lemmas.Bool.{lt-ltb, le-ltb, ne_eqb}
 use Rattle.std.proofs.lemmas.List.Folds.{list_any-append}
 use Rattle.std.proofs.lemmas.List.{length-append, length-map, length-reverse, reverse-append}
 use Rattle.std.proofs.lemmas.List.{map-append}
 use Rattle.vcd_core.specs.declared.bit.Bit.{Bit}
-use Rattle.vcd_core.specs.declared.bit.Bit.TheVariants.{Zero, One, X, Z}
+use Rattle.vcd_core.specs.declared.bit.Bit.TheVariants.{Zero, X}
 use Rattle.vcd_core.specs.WaveView.{WaveView}
 use Rattle.vcd_decode.specs.declared.annotation.LineData.TheVariants.{Unknown, Number}
 use Rattle.vcd_decode.specs.declared.spi_setup.BitOrder.{BitOrder}
@@ -37,9 +37,7 @@ digit b = if is_one b then 1 else 0
 
 digit_small : (b : Bit) → digit b < 2
 digit_small Zero = omega arith
-digit_small One = omega arith
-digit_small X = omega arith
-digit_small Z = omega arith
+digit_small b = omega arith
 
 number_below : (bs : List Bit) → number_from_letters bs < 2 ^ length bs
 number_below [] = omega arith
@@ -65,11 +63,7 @@ ordered_last Lsb bs b = number_last bs b
 -- ---- a data line
 
 any_last : (bs : List Bit) (b : Bit) → list_any is_unclear (bs ++ b ∷ []) ≡ (list_any is_unclear bs || is_unclear b)
-any_last bs b = list_any-append is_unclear bs (b ∷ []) ∙ ap (λ r. list_any is_unclear bs || r) (or_false (is_unclear b))
-  where
-    or_false : (c : Bool) → (c || false) ≡ c
-    or_false true = refl
-    or_false false = refl
+any_last bs b = list_any-append is_unclear bs (b ∷ []) ∙ ap (λ r. list_any is_unclear bs || r) (or-false (is_unclear b))
 
 data_last : (order : BitOrder) (bs : List Bit) (b : Bit)
     → data_of_letters order (bs ++ b ∷ []) ≡ data_after order (length bs) (data_of_letters order bs) (Some b)
@@ -82,19 +76,14 @@ data_last order bs b =
         → (if (c || is_unclear b) then Unknown else Number
         (longer_number order (length bs) (ordered_number order bs) (digit b)))
         ≡ data_after order (length bs) (if c then Unknown else Number (ordered_number order bs)) (Some b)
-    choose true b = refl
     choose false Zero = refl
-    choose false One = refl
-    choose false X = refl
-    choose false Z = refl
+    choose c b = refl
 
-line_last : (order : BitOrder) (line : Option (ℕ → Bit)) (ts : List ℕ) (t : ℕ)
-    → line_data order line (ts ++ t ∷ [])
+line_last : (order : BitOrder) (line : Option (ℕ → Bit)) (ts : List ℕ) (t : ℕ) → line_data order line (ts ++ t ∷ [])
     ≡ data_after order (length ts) (line_data order line ts) (option_map (λ f. f t) line)
 line_last order None ts t = refl
 line_last order (Some f) ts t =
-    ap (data_of_letters order) (map-append f ts (t ∷ []))
-    ∙ data_last order (map f ts) (f t)
+    ap (data_of_letters order) (map-append f ts (t ∷ [])) ∙ data_last order (map f ts) (f t)
     ∙ ap (λ n. data_after order n (data_of_letters order (map f ts)) (Some (f t))) (length-map ts f)
 
 pub line_fits : (order : BitOrder) (line : Option (ℕ → Bit)) (ts : List ℕ)
@@ -111,33 +100,26 @@ line_fits order (Some f) ts = choose (list_any is_unclear (map f ts))
 
 pub line_first : (order : BitOrder) (wave : Option WaveView)
     → first_data (is_some wave) ≡ line_data order (option_map line_of wave) []
-line_first Msb None = refl
+line_first order None = refl
 line_first Msb (Some w) = refl
-line_first Lsb None = refl
-line_first Lsb (Some w) = refl
+line_first order (Some w) = refl
 
 line_before : (order : BitOrder) (line : Option (ℕ → Bit)) (ts : List ℕ)
     → data_before (line_data order line ts) ≡ line_data order line []
 line_before order None ts = refl
-line_before Msb (Some f) ts = choose (list_any is_unclear (map f ts))
+line_before order (Some f) ts = choose (list_any is_unclear (map f ts)) order (ordered_number order (map f ts))
   where
-    choose : (c : Bool) → data_before (if c then Unknown else Number (ordered_number Msb (map f ts))) ≡ Number 0
-    choose true = refl
-    choose false = refl
-line_before Lsb (Some f) ts = choose (list_any is_unclear (map f ts))
-  where
-    choose : (c : Bool) → data_before (if c then Unknown else Number (ordered_number Lsb (map f ts))) ≡ Number 0
-    choose true = refl
-    choose false = refl
+    choose : (c : Bool) (order : BitOrder) (n : ℕ)
+        → data_before (if c then Unknown else Number n) ≡ line_data order (Some f) []
+    choose true Msb n = refl
+    choose true Lsb n = refl
+    choose false Msb n = refl
+    choose false Lsb n = refl
 
 -- ---- ticks
 
 not_none : {X : Type 0} (x : X) (xs : List X) → (length (x ∷ xs) == 0) ≡ false
-not_none x xs = choose (length (x ∷ xs) == 0) refl
-  where
-    choose : (b : Bool) → (length (x ∷ xs) == 0) ≡ b → b ≡ false
-    choose false is = refl
-    choose true is = let none : length (x ∷ xs) ≡ 0 = (Decides-eqb (length (x ∷ xs)) 0).0 is in absurd (omega arith)
+not_none x xs = ne_eqb (length (x ∷ xs)) 0 (λ none. omega arith)
 
 first_last : (ts : List ℕ) (t : ℕ) → (if length ts == 0 then t else group_start ts) ≡ group_start (ts ++ t ∷ [])
 first_last [] t = refl

@@ -7,29 +7,26 @@ use Rattle.vcd_decode.specs.UartSetup.{UartSetup}
 use Rattle.vcd_decode.specs.Lines.{is_zero, annotation}
 use Rattle.vcd_decode.specs.Uart.{sample_tick, last_bit, frame_kind, frame_letters, begun_frame}
 
-pub cut_in_start_bit : (f : ℕ → Bit) (end : ℕ) (u : UartSetup) (start : ℕ) → end < sample_tick u start 0
-    → begun_frame f end u start ≡ Some (annotation start end CutOff)
-unfolding begun_frame
-cut_in_start_bit f end u start past = rw (lt-ltb end (sample_tick u start 0) past) refl
+module _ (f : ℕ → Bit) (end : ℕ) (u : UartSetup) (start : ℕ) where
+  pub cut_in_start_bit : end < sample_tick u start 0
+      → begun_frame f end u start ≡ Some (annotation start end CutOff)
+  unfolding begun_frame
+  cut_in_start_bit past = rw (lt-ltb end (sample_tick u start 0) past) refl
 
-pub glitch : (f : ℕ → Bit) (end : ℕ) (u : UartSetup) (start : ℕ) → sample_tick u start 0 ≤ end
-    → is_zero (f (sample_tick u start 0)) ≡ false
-    → begun_frame f end u start ≡ None
-unfolding begun_frame
-glitch f end u start within over = rw (le-ltb end (sample_tick u start 0) within, over) refl
+  module _ (within : sample_tick u start 0 ≤ end) where
+    pub glitch : is_zero (f (sample_tick u start 0)) ≡ false → begun_frame f end u start ≡ None
+    unfolding begun_frame
+    glitch over = rw (le-ltb end (sample_tick u start 0) within, over) refl
 
-pub cut_later : (f : ℕ → Bit) (end : ℕ) (u : UartSetup) (start : ℕ) → sample_tick u start 0 ≤ end
-    → is_zero (f (sample_tick u start 0)) ≡ true
-    → end < sample_tick u start (last_bit u) → begun_frame f end u start ≡ Some (annotation start end CutOff)
-unfolding begun_frame
-cut_later f end u start within low past =
-    rw (le-ltb end (sample_tick u start 0) within, low, lt-ltb end (sample_tick u start (last_bit u)) past) refl
+    module _ (low : is_zero (f (sample_tick u start 0)) ≡ true) where
+      pub cut_later : end < sample_tick u start (last_bit u)
+          → begun_frame f end u start ≡ Some (annotation start end CutOff)
+      unfolding begun_frame
+      cut_later past =
+          rw (le-ltb end (sample_tick u start 0) within, low, lt-ltb end (sample_tick u start (last_bit u)) past) refl
 
-pub whole : (f : ℕ → Bit) (end : ℕ) (u : UartSetup) (start : ℕ) → sample_tick u start 0 ≤ end
-    → is_zero (f (sample_tick u start 0)) ≡ true
-    → sample_tick u start (last_bit u) ≤ end
-    → begun_frame f end u start
-    ≡ Some (annotation start (sample_tick u start (last_bit u)) (frame_kind u (frame_letters f u start)))
-unfolding begun_frame
-whole f end u start within low all =
-    rw (le-ltb end (sample_tick u start 0) within, low, le-ltb end (sample_tick u start (last_bit u)) all) refl
+      pub whole : sample_tick u start (last_bit u) ≤ end → begun_frame f end u start
+          ≡ Some (annotation start (sample_tick u start (last_bit u)) (frame_kind u (frame_letters f u start)))
+      unfolding begun_frame
+      whole all =
+          rw (le-ltb end (sample_tick u start 0) within, low, le-ltb end (sample_tick u start (last_bit u)) all) refl

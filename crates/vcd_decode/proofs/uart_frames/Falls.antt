@@ -9,7 +9,7 @@ use Rattle.std.specs.Option.{option_to_list, option_map_or}
 use Rattle.std.proofs.lemmas.Bool.{cases_eq, cases_lt, lt-leb, le-leb, lt-ltb, le-ltb}
 use Rattle.std.proofs.lemmas.List.{drop_all}
 use Rattle.vcd_core.specs.declared.bit.Bit.{Bit}
-use Rattle.vcd_core.specs.declared.bit.Bit.TheVariants.{Zero, One, X, Z}
+use Rattle.vcd_core.specs.declared.bit.Bit.TheVariants.{Zero, X}
 use Rattle.vcd_core.specs.declared.wave.Change.{Change}
 use Rattle.vcd_core.specs.Value.{letter_at, all_x}
 use Rattle.vcd_core.specs.Wave.{value_from, AreChangesFrom, IsWave, AllUpTo}
@@ -33,17 +33,14 @@ fall_ticks before (c ∷ cs) =
     cond (is_one before && is_zero (letter_of c)) (c.tick ∷ fall_ticks (letter_of c) cs) (fall_ticks (letter_of c) cs)
 
 -- no letter is both 1 and 0
-never_both : (b : Bit) → is_one b && is_zero b ≡ false
+pub never_both : (b : Bit) → is_one b && is_zero b ≡ false
 never_both Zero = refl
-never_both One = refl
-never_both X = refl
-never_both Z = refl
+never_both b = refl
 
 -- the falls from a tick on are the changes from 1 to 0 there
 falls_from : (before : List Bit) (t n end : ℕ) (cs : List Change) (f : ℕ → Bit)
     → t + n ≡ suc end → AreChangesFrom t before cs → AllUpTo end cs
-    → ((s : ℕ) → t ≤ s → f s ≡ letter_at (value_from before cs s) 0)
-    → letter_before f t ≡ letter_at before 0
+    → ((s : ℕ) → t ≤ s → f s ≡ letter_at (value_from before cs s) 0) → letter_before f t ≡ letter_at before 0
     → filter (is_fall f) (range_with_len t n) ≡ fall_ticks (letter_at before 0) cs
 unfolding fall_ticks value_from
 falls_from before t zero end [] f all rise upto same start = refl
@@ -88,8 +85,7 @@ unfolding falls
 falls_are wave end one is upto =
     let start : letter_at (all_x wave.width) 0 ≡ X = ap (λ n. letter_at (all_x n) 0) one in
     falls_from (all_x wave.width) 0 (suc end) end wave.changes (line_of wave) (omega arith) is.rise upto (λ s _. refl)
-    (sym start)
-    ∙ ap (λ b. fall_ticks b wave.changes) start
+    (sym start) ∙ ap (λ b. fall_ticks b wave.changes) start
 
 -- ---- one change more
 
@@ -107,8 +103,7 @@ passed begun taken tick starts true none =
 
 -- a change that begins a frame
 begins : (begun : ℕ → Option Annotation) (taken tick : ℕ) (starts : List ℕ) (fall : Bool)
-    → fall && nat_lt taken tick ≡ true
-    → frames begun taken (cond fall (tick ∷ starts) starts)
+    → fall && nat_lt taken tick ≡ true → frames begun taken (cond fall (tick ∷ starts) starts)
     ≡ option_to_list (begun tick) ++ frames begun (option_map_or (λ a. a.end) (begun tick) taken) starts
 unfolding frames
 begins begun taken tick starts false some = absurd (cc)
@@ -130,8 +125,7 @@ one_change begun taken before c cs frame is =
   where
     choose : (b : Bool) → (is_one before && is_zero (letter_of c) && nat_lt taken c.tick) ≡ b
         → frames begun taken (cond (is_one before && is_zero (letter_of c)) (c.tick ∷ fall_ticks (letter_of c) cs)
-        (fall_ticks (letter_of c) cs))
-        ≡ option_to_list (if b then begun c.tick else None)
+        (fall_ticks (letter_of c) cs)) ≡ option_to_list (if b then begun c.tick else None)
         ++ frames begun (option_map_or (λ a. a.end) (if b then begun c.tick else None) taken)
         (fall_ticks (letter_of c) cs)
     choose true e = begins begun taken c.tick (fall_ticks (letter_of c) cs) (is_one before && is_zero (letter_of c)) e
@@ -159,8 +153,7 @@ walked begun taken last before letter changes i c frame found later all within a
     ∙ append_assoc found (option_to_list frame)
     (frames begun (option_map_or (λ a. a.end) frame taken) (fall_ticks (letter_of c) rest))
     ∙ ap (λ l. found ++ l) (sym (one_change begun taken before c rest frame frame_by))
-    ∙ ap (λ cs. found ++ frames begun taken (fall_ticks before cs)) (sym list)
-    ∙ seen
+    ∙ ap (λ cs. found ++ frames begun taken (fall_ticks before cs)) (sym list) ∙ seen
 
 -- at the end all frames are found
 pub all_walked : (begun : ℕ → Option Annotation) (taken : ℕ) (before : Bit) (changes : List Change) (i : ℕ)
@@ -173,8 +166,7 @@ all_walked begun taken before changes i found all past seen =
 
 -- all frames are those that the falls begin
 pub frames_by_changes : (wave : WaveView) (changes : List Change) (end : ℕ) (u : UartSetup) → wave.width ≡ 1
-    → changes ≡ wave.changes
-    → IsWave wave.width changes → AllUpTo end wave.changes
+    → changes ≡ wave.changes → IsWave wave.width changes → AllUpTo end wave.changes
     → frames (begun_frame (line_of wave) end u) 0 (fall_ticks X changes) ≡ uart_annotations (line_of wave) end u
 unfolding uart_annotations
 frames_by_changes wave changes end u one same is upto =

@@ -35,8 +35,7 @@ byte tick n = bits tick (map (λ k. if n / 2 ^ k % 2 == 1 then One else Zero) (7
 
 -- eight bits without an acknowledge are no byte
 eight_bits : annotations_of_events false None
-    (events.Start 0 ∷ bits 1 (One ∷ Zero ∷ One ∷ Zero ∷ One ∷ Zero ∷ One ∷ Zero ∷ [])
-    ++ events.Stop 9 ∷ [])
+    (events.Start 0 ∷ bits 1 (One ∷ Zero ∷ One ∷ Zero ∷ One ∷ Zero ∷ One ∷ Zero ∷ []) ++ events.Stop 9 ∷ [])
     ≡ at 0 Start ∷ annotation 1 8 (Unfinished 8) ∷ at 9 Stop ∷ []
 unfolding groups_of nines_annotations bits_until has_condition shown_address annotations_of_events
 eight_bits = refl
@@ -76,18 +75,15 @@ read_twice = refl
 read_after_stop : annotations_of_events false None (events.Start 0 ∷ byte 1 244 ++ byte 10 165
     ++ events.Stop 19 ∷ events.Start 20 ∷ byte 21 245)
     ≡ at 0 Start ∷ annotation 1 8 (AddressHigh 2 Write) ∷ at 9 Ack ∷ annotation 10 17 (TenBitAddress 677 Write)
-    ∷ at 18 Ack ∷ at 19 Stop
-    ∷ at 20 Start ∷ annotation 21 28 (AddressHigh 2 Read) ∷ at 29 Ack ∷ []
+    ∷ at 18 Ack ∷ at 19 Stop ∷ at 20 Start ∷ annotation 21 28 (AddressHigh 2 Read) ∷ at 29 Ack ∷ []
 unfolding groups_of nines_annotations bits_until has_condition shown_address annotations_of_events
 read_after_stop = refl
 
 -- nor with other high bits, nor after another address
 read_of_another : annotations_of_events false None
-    (events.Start 0 ∷ byte 1 244 ++ byte 10 165 ++ events.Start 19 ∷ byte 20 243
-    ++ events.Start 29 ∷ byte 30 245)
+    (events.Start 0 ∷ byte 1 244 ++ byte 10 165 ++ events.Start 19 ∷ byte 20 243 ++ events.Start 29 ∷ byte 30 245)
     ≡ at 0 Start ∷ annotation 1 8 (AddressHigh 2 Write) ∷ at 9 Ack ∷ annotation 10 17 (TenBitAddress 677 Write)
-    ∷ at 18 Ack
-    ∷ at 19 RepeatedStart ∷ annotation 20 27 (AddressHigh 1 Read) ∷ at 28 Ack ∷ at 29 RepeatedStart
+    ∷ at 18 Ack ∷ at 19 RepeatedStart ∷ annotation 20 27 (AddressHigh 1 Read) ∷ at 28 Ack ∷ at 29 RepeatedStart
     ∷ annotation 30 37 (AddressHigh 2 Read) ∷ at 38 Ack ∷ []
 unfolding groups_of nines_annotations bits_until has_condition shown_address annotations_of_events
 read_of_another = refl

@@ -1,5 +1,5 @@
 -- Events taken one at a time give the annotations of the whole bus.
-use Rattle.std.proofs.Common.{◌≡◌, ◌≢◌, ℕ, zero, suc, ◌<◌, ◌≤◌, ◌==◌, nat_le, Bool, true, false}
+use Rattle.std.proofs.Common.{◌≡◌, ℕ, zero, ◌<◌, ◌≤◌, ◌==◌, nat_le, Bool, true, false}
 use Rattle.std.proofs.Common.{if◌then◌else◌, Option}
 use Rattle.std.proofs.Common.{Some, None, Result, Ok, Err, OnOk, IfOk, List, [], ◌∷◌, ◌++◌, length}
 use Rattle.std.proofs.Common.{take, refl, sym, ap}
@@ -7,7 +7,7 @@ use Rattle.std.proofs.Common.{◌∙◌, inl, inr, arith}
 use Rattle.std.specs.Option.{option_or}
 use Rattle.std.specs.List.{cons_option}
 use Rattle.vcd_core.specs.declared.memory.NoMemory.{NoMemory}
-use Rattle.std.proofs.lemmas.Bool.{cases_eq}
+use Rattle.std.proofs.lemmas.Bool.{cases_eq, ne_eqb}
 use Rattle.std.proofs.lemmas.Bool.Decides.{Decides-eqb}
 use Rattle.std.proofs.lemmas.List.{length_push, take_at, drop_at, append-nil, append_assoc}
 use Rattle.std.proofs.lemmas.List.Sums.{fold-append}
@@ -40,13 +40,6 @@ use Rattle.vcd_decode.proofs.i2c_bus.bus_walk.CurrentBits.{part_count, part_firs
 abbrev pub transfer_of : ByteRole → PartialByte → Option ℕ → Transfer
 transfer_of role part given = record { role = role; part = part; address = given }
 
-test_other : (m n : ℕ) → m ≢ n → (m == n) ≡ false
-test_other m n other = choose (m == n) refl
-  where
-    choose : (e : Bool) → (m == n) ≡ e → (m == n) ≡ false
-    choose true is = absurd (other ((Decides-eqb m n).0 is))
-    choose false is = is
-
 -- ---- fewer than nine bits
 
 rest_alone : (ended : Bool) (role : ByteRole) (g : List BusBit) → length g ≤ 8
@@ -55,7 +48,7 @@ unfolding nines_annotations
 rest_alone true role [] few = ap (nines_annotations true role) (groups_none 9)
 rest_alone false role [] few = ap (nines_annotations false role) (groups_none 9)
 rest_alone ended role (b ∷ g) few =
-    let short : (length (b ∷ g) == 9) ≡ false = test_other (length (b ∷ g)) 9 (λ nine. omega arith) in
+    let short : (length (b ∷ g) == 9) ≡ false = ne_eqb (length (b ∷ g)) 9 (λ nine. omega arith) in
     ap (nines_annotations ended role) (groups_short 9 (b ∷ g) (omega arith) (omega arith)) ∙ rw short refl
 
 -- the annotations of these bits where a condition comes
@@ -95,9 +88,8 @@ whole_is role (a ∷ g) given b eight =
     ∷ annotation b.tick b.tick (acknowledge_kind (number_with (Some 0) b)) ∷ [])
 
 acknowledge_none : (number : Option ℕ) → ten_bit_address (acknowledge_kind number) ≡ None
-acknowledge_none None = refl
 acknowledge_none (Some zero) = refl
-acknowledge_none (Some (suc n)) = refl
+acknowledge_none number = refl
 
 or_assoc : (a b c : Option ℕ) → option_or a (option_or b c) ≡ option_or (option_or a b) c
 or_assoc None b c = refl
@@ -146,10 +138,13 @@ stretch_past es role g given b eight =
 abbrev WalksFree : List BusEvent → Type 0
 WalksFree es = walk_annotations None es ≡ annotations_of_events false None es
 
+-- from these current bits on, all annotations are those of the stretch, and then those after it
+abbrev WalksFrom : List BusEvent → ByteRole → List BusBit → Option ℕ → Type 0
+WalksFrom es role g given = walk_annotations (Some (transfer_of role (partial_byte_of g) given)) es
+    ≡ stretch es role g ++ annotations_of_events true (option_or given (shown_address (stretch es role g))) es
+
 abbrev WalksTransfer : List BusEvent → Type 0
-WalksTransfer es = (role : ByteRole) (g : List BusBit) (given : Option ℕ) → length g ≤ 8
-    → walk_annotations (Some (transfer_of role (partial_byte_of g) given)) es ≡ stretch es role g
-    ++ annotations_of_events true (option_or given (shown_address (stretch es role g))) es
+WalksTransfer es = (role : ByteRole) (g : List BusBit) (given : Option ℕ) → length g ≤ 8 → WalksFrom es role g given
 
 -- at a condition the current bits are a rest
 at_condition : (c : BusEvent) (es : List BusEvent) (role : ByteRole) (g : List BusBit) (given : Option ℕ) → length g ≤ 8
@@ -166,31 +161,18 @@ at_condition c es role g given few none ended =
           ∙ ap (option_or given) (none_given g) ∙ or_none given,
     )
 
--- a bit that ends a byte, and one that does not
-bit_whole : (t : Transfer) (b : BusBit) (es : List BusEvent) → (t.part.count == 8) ≡ true
-    → walk_annotations (Some t) (events.Bit b ∷ es) ≡ whole_byte_annotations t b
-    ++ walk_annotations (Some (transfer_after_byte t)) es
-unfolding walk_annotations
-bit_whole t b es is =
-    λ i. (if is i then whole_byte_annotations t b else [])
+-- a bit that ends a byte, or does not
+bit_taken : (t : Transfer) (b : BusBit) (es : List BusEvent) (full : Bool) → (t.part.count == 8) ≡ full
+    → walk_annotations (Some t) (events.Bit b ∷ es) ≡ (if full then whole_byte_annotations t b else [])
     ++ walk_annotations (Some
-    (if is i then transfer_after_byte t else record t { part = partial_byte_with t.part b })) es
-
-bit_more : (t : Transfer) (b : BusBit) (es : List BusEvent) → (t.part.count == 8) ≡ false
-    → walk_annotations (Some t) (events.Bit b ∷ es)
-    ≡ walk_annotations (Some (record t { part = partial_byte_with t.part b }))
-    es
+    (if full then transfer_after_byte t else record t { part = partial_byte_with t.part b })) es
 unfolding walk_annotations
-bit_more t b es is = λ i. (if is i then whole_byte_annotations t b else [])
+bit_taken t b es full is = λ i. (if is i then whole_byte_annotations t b else [])
     ++ walk_annotations (Some
     (if is i then transfer_after_byte t else record t { part = partial_byte_with t.part b })) es
 
 held_byte : (b : BusBit) (es : List BusEvent) (role : ByteRole) (g : List BusBit) (given : Option ℕ) → WalksTransfer es
-    → length g ≡ 8
-    → walk_annotations (Some (transfer_of role (partial_byte_of g) given)) (events.Bit b ∷ es)
-    ≡ stretch (events.Bit b ∷ es) role g
-    ++ annotations_of_events true (option_or given (shown_address (stretch (events.Bit b ∷ es) role g)))
-    (events.Bit b ∷ es)
+    → length g ≡ 8 → WalksFrom (events.Bit b ∷ es) role g given
 unfolding bits_until has_condition annotations_of_events
 held_byte b es role g given later eight =
     let t : Transfer = transfer_of role (partial_byte_of g) given in
@@ -200,27 +182,22 @@ held_byte b es role g given later eight =
     let rest : List Annotation = stretch es next [] in
     let given_then : Option ℕ = (transfer_after_byte t).address in
     let past = stretch_past es role g given b eight in
-    bit_whole t b es count
+    bit_taken t b es true count
     ∙ ap (λ (annotations : List Annotation). whole ++ annotations) (later next [] given_then (omega arith))
     ∙ sym (append_assoc whole rest (annotations_of_events true (option_or given_then (shown_address rest)) es))
     ∙ ap (λ (o : Option ℕ). (whole ++ rest) ++ annotations_of_events true o es) (sym (given_past t b rest))
     ∙ sym (λ i. past i ++ annotations_of_events true (option_or given (shown_address (past i))) es)
 
 held_bit : (b : BusBit) (es : List BusEvent) (role : ByteRole) (g : List BusBit) (given : Option ℕ) → WalksTransfer es
-    → length g < 8
-    → walk_annotations (Some (transfer_of role (partial_byte_of g) given)) (events.Bit b ∷ es)
-    ≡ stretch (events.Bit b ∷ es) role g
-    ++ annotations_of_events true (option_or given (shown_address (stretch (events.Bit b ∷ es) role g)))
-    (events.Bit b ∷ es)
+    → length g < 8 → WalksFrom (events.Bit b ∷ es) role g given
 unfolding bits_until has_condition annotations_of_events
 held_bit b es role g given later few =
     let t : Transfer = transfer_of role (partial_byte_of g) given in
-    let count : (t.part.count == 8) ≡ false = test_other t.part.count 8 (λ eight. omega (arith, part_count g)) in
+    let count : (t.part.count == 8) ≡ false = ne_eqb t.part.count 8 (λ eight. omega (arith, part_count g)) in
     let more : partial_byte_with (partial_byte_of g) b
     ≡ partial_byte_of (g ++ b ∷ []) = sym (fold-append partial_byte_with no_bits g (b ∷ [])) in
     let longer = append_assoc g (b ∷ []) (bits_until es) in
-    bit_more t b es count
-    ∙ ap (λ (p : PartialByte). walk_annotations (Some (transfer_of role p given)) es) more
+    bit_taken t b es false count ∙ ap (λ (p : PartialByte). walk_annotations (Some (transfer_of role p given)) es) more
     ∙ later role (g ++ b ∷ []) given (omega (arith, length_push g b))
     ∙ (λ i. nines_annotations (has_condition es) role (groups_of 9 (longer i))
     ++ annotations_of_events
@@ -228,11 +205,7 @@ held_bit b es role g given later few =
     es)
 
 held_start : (t : ℕ) (es : List BusEvent) (role : ByteRole) (g : List BusBit) (given : Option ℕ) → WalksTransfer es
-    → length g ≤ 8
-    → walk_annotations (Some (transfer_of role (partial_byte_of g) given)) (events.Start t ∷ es)
-    ≡ stretch (events.Start t ∷ es) role g
-    ++ annotations_of_events true (option_or given (shown_address (stretch (events.Start t ∷ es) role g)))
-    (events.Start t ∷ es)
+    → length g ≤ 8 → WalksFrom (events.Start t ∷ es) role g given
 unfolding walk_annotations bits_until has_condition annotations_of_events
 held_start t es role g given later few =
     let here = at_condition (events.Start t) es role g given few refl refl in
@@ -242,16 +215,11 @@ held_start t es role g given later few =
     let start : List Annotation = annotation t t kinds.RepeatedStart ∷ [] in
     let old = sym here.1 in
     ap (λ (annotations : List Annotation). (rest ++ start) ++ annotations)
-    (later (roles.Address given) [] None (omega arith))
-    ∙ append_assoc rest start others
+    (later (roles.Address given) [] None (omega arith)) ∙ append_assoc rest start others
     ∙ (λ i. here.0 i ++ annotations_of_events true (old i) (events.Start t ∷ es))
 
 held_stop : (t : ℕ) (es : List BusEvent) (role : ByteRole) (g : List BusBit) (given : Option ℕ) → WalksFree es
-    → length g ≤ 8
-    → walk_annotations (Some (transfer_of role (partial_byte_of g) given)) (events.Stop t ∷ es)
-    ≡ stretch (events.Stop t ∷ es) role g
-    ++ annotations_of_events true (option_or given (shown_address (stretch (events.Stop t ∷ es) role g)))
-    (events.Stop t ∷ es)
+    → length g ≤ 8 → WalksFrom (events.Stop t ∷ es) role g given
 unfolding walk_annotations bits_until has_condition annotations_of_events
 held_stop t es role g given later few =
     let here = at_condition (events.Stop t) es role g given few refl refl in

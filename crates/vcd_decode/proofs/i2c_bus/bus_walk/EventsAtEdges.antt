@@ -2,10 +2,9 @@
 use Rattle.std.proofs.Common.{◌≡◌, ℕ, zero, suc, Option, Some, None, List, [], ◌∷◌, ◌++◌, refl, sym, ap}
 use Rattle.std.proofs.Common.{◌∙◌, option_to_list, map, All}
 use Rattle.std.specs.Prelude.{filter}
-use Rattle.std.specs.List.{filter_map, flat_map, cons_option, range_with_len, list_any}
+use Rattle.std.specs.List.{filter_map, flat_map, range_with_len, list_any}
 use Rattle.std.proofs.lemmas.List.Elements.{All-nil, All-cons}
 use Rattle.vcd_core.specs.declared.bit.Bit.{Bit}
-use Rattle.vcd_core.specs.declared.bit.Bit.TheVariants.{Zero, One, X, Z}
 use Rattle.vcd_core.specs.Edges.{trace_of, changes_at, edge_on, edges_on}
 use Rattle.vcd_core.specs.BitEdges.{bit_edge, bit_edges_of}
 use Rattle.vcd_core.specs.WaveView.{WaveView}
@@ -15,36 +14,11 @@ use Rattle.vcd_decode.specs.BusEvents.{bus_event_at, bus_events}
 use Rattle.vcd_decode.specs.inside.i2c_bus.Events.{bus_event}
 use Rattle.vcd_decode.specs.inside.i2c_bus.BusWalk.{levels_of, IsBusEdge, edge_event, edge_events}
 use Rattle.vcd_decode.specs.inside.LineEdges.{lines_of, line_edge}
-use Rattle.vcd_decode.proofs.shared.EdgeTicks.{over_edges}
-
--- where no level changes, there is no event
-nothing_happens : (t : ℕ) (scl sda : Bit)
-    → bus_event t (record { scl = scl; sda = sda }) (record { scl = scl; sda = sda }) ≡ None
-nothing_happens t Zero Zero = refl
-nothing_happens t Zero One = refl
-nothing_happens t Zero X = refl
-nothing_happens t Zero Z = refl
-nothing_happens t One Zero = refl
-nothing_happens t One One = refl
-nothing_happens t One X = refl
-nothing_happens t One Z = refl
-nothing_happens t X Zero = refl
-nothing_happens t X One = refl
-nothing_happens t X X = refl
-nothing_happens t X Z = refl
-nothing_happens t Z Zero = refl
-nothing_happens t Z One = refl
-nothing_happens t Z X = refl
-nothing_happens t Z Z = refl
+use Rattle.vcd_decode.proofs.shared.EdgeTicks.{over_edges, cons_is, nothing_happens}
 
 as_lists : {A B : Type 0} (f : A → Option B) (xs : List A) → filter_map f xs ≡ flat_map (λ x. option_to_list (f x)) xs
 as_lists f [] = refl
-as_lists f (x ∷ xs) = choose (f x) (as_lists f xs)
-  where
-    choose : (o : Option _) → filter_map f xs ≡ flat_map (λ y. option_to_list (f y)) xs
-        → cons_option o (filter_map f xs) ≡ option_to_list o ++ flat_map (λ y. option_to_list (f y)) xs
-    choose None others = others
-    choose (Some y) others = ap (λ ys. y ∷ ys) others
+as_lists f (x ∷ xs) = cons_is (f x) (filter_map f xs) ∙ ap (λ ys. option_to_list (f x) ++ ys) (as_lists f xs)
 
 module _ (scl sda : WaveView) where
   abbrev pub bus_waves : List (Option WaveView)

@@ -73,8 +73,7 @@ byte_number : (at : ℕ → ℕ) (i w : ℕ) → w < 256 → number_of_bits (sen
 unfolding data_levels digits_folded
 byte_number at i w within =
     numbers at i 0 (w / 2 / 2 / 2 / 2 / 2 / 2 / 2 ∷ w / 2 / 2 / 2 / 2 / 2 / 2 ∷ w / 2 / 2 / 2 / 2 / 2
-    ∷ w / 2 / 2 / 2 / 2 ∷ w / 2 / 2 / 2 ∷ w / 2 / 2 ∷ w / 2 ∷ w ∷ [])
-    ∙ ap (λ k. Some k) (omega arith)
+    ∷ w / 2 / 2 / 2 / 2 ∷ w / 2 / 2 / 2 ∷ w / 2 / 2 ∷ w / 2 ∷ w ∷ []) ∙ ap (λ k. Some k) (omega arith)
 
 -- ---- bytes and their acknowledges
 
@@ -84,8 +83,7 @@ unfolding sent_bits
 acknowledge_is at i true = refl
 acknowledge_is at i false = refl
 
-byte_is : (role : ByteRole) (at : ℕ → ℕ) (i : ℕ) (b : SentByte) → b.byte < 256
-    → byte_kind role (Some b.byte) ≡ b.kind
+byte_is : (role : ByteRole) (at : ℕ → ℕ) (i : ℕ) (b : SentByte) → b.byte < 256 → byte_kind role (Some b.byte) ≡ b.kind
     → byte_annotations role (sent_bits at i (byte_bits b))
     ≡ annotation (at (i + 1)) (at (i + 22)) b.kind ∷ annotation (at (i + 25)) (at (i + 25)) (acknowledge b.taken) ∷ []
 unfolding sent_bits data_levels
@@ -108,8 +106,7 @@ HaveKinds role (b ∷ bs) =
     (b.byte < 256) × (byte_kind role (Some b.byte) ≡ b.kind) × HaveKinds (role_after role (Some b.byte)) bs
 
 -- the bits of bytes up to a rise of SCL, cut into nines, give these bytes
-pub bytes_found : (role : ByteRole) (at : ℕ → ℕ) (i : ℕ) (bytes : List SentByte) (rise : BusBit)
-    → HaveKinds role bytes
+pub bytes_found : (role : ByteRole) (at : ℕ → ℕ) (i : ℕ) (bytes : List SentByte) (rise : BusBit) → HaveKinds role bytes
     → nines_annotations true role (groups_of 9 (sent_bits at i (flat_map byte_bits bytes) ++ rise ∷ []))
     ≡ sent_bytes at i bytes
 unfolding sent_bits sent_bytes nines_annotations HaveKinds data_levels
@@ -224,7 +221,6 @@ data_address at i (b ∷ bs) = rw (no_address b.taken) (data_address at (i + 27)
 pub address_shown : (at : ℕ → ℕ) (i : ℕ) (t : Transfer)
     → shown_address (sent_bytes at i (transfer_bytes t)) ≡ ten_bits_of t
 unfolding shown_address sent_bytes
-address_shown at i (seven_bit address direction taken bytes) =
-    rw (no_address taken) (data_address at (i + 27) bytes)
+address_shown at i (seven_bit address direction taken bytes) = rw (no_address taken) (data_address at (i + 27) bytes)
 address_shown at i (ten_bit_write address high_taken low_taken bytes) = rw (no_address high_taken) refl
 address_shown at i (ten_bit_read address taken bytes) = refl

@@ -1,52 +1,23 @@
 -- The events on a bus whose levels come one after the other.
-use Rattle.std.proofs.Common.{◌≡◌, ℕ, zero, suc, ◌+◌, ◌-◌, ◌<◌, ◌≤◌, Option, Some, None, List, []}
+use Rattle.std.proofs.Common.{◌≡◌, ℕ, zero, suc, ◌+◌, ◌-◌, ◌<◌, ◌≤◌, Option, None, List, []}
 use Rattle.std.proofs.Common.{◌∷◌, ◌++◌, length}
-use Rattle.std.proofs.Common.{get_or, refl, sym, ap, ◌∙◌, arith}
+use Rattle.std.proofs.Common.{get_or, sym, ap, ◌∙◌, arith}
 use Rattle.std.specs.Prelude.{filter_map}
 use Rattle.std.specs.List.{range_with_len}
 use Rattle.std.specs.Option.{option_to_list}
 use Rattle.vcd_core.specs.declared.bit.Bit.{Bit}
-use Rattle.vcd_core.specs.declared.bit.Bit.TheVariants.{Zero, One, X, Z}
+use Rattle.vcd_core.specs.declared.bit.Bit.TheVariants.{One}
 use Rattle.vcd_decode.specs.declared.i2c_bus.events.BusLevels.{BusLevels}
 use Rattle.vcd_decode.specs.declared.i2c_bus.events.BusEvent.{BusEvent}
 use Rattle.vcd_decode.specs.BusEvents.{bus_event_at, bus_events}
 use Rattle.vcd_decode.specs.inside.i2c_bus.Events.{bus_event}
 use Rattle.vcd_decode.specs.I2cSent.{levels, HaveLevels}
+use Rattle.vcd_decode.proofs.shared.EdgeTicks.{cons_is, nothing_happens}
 
 -- the events where one of these levels after the other begins, the first of them at index i
 unfoldable pub level_events : (ℕ → ℕ) → ℕ → BusLevels → List BusLevels → List BusEvent
 level_events at i before [] = []
 level_events at i before (p ∷ ps) = option_to_list (bus_event (at i) before p) ++ level_events at (suc i) p ps
-
--- no event without a change
-still_by : (t : ℕ) (a b : Bit) → bus_event t (levels a b) (levels a b) ≡ None
-still_by t Zero Zero = refl
-still_by t Zero One = refl
-still_by t Zero X = refl
-still_by t Zero Z = refl
-still_by t One Zero = refl
-still_by t One One = refl
-still_by t One X = refl
-still_by t One Z = refl
-still_by t X Zero = refl
-still_by t X One = refl
-still_by t X X = refl
-still_by t X Z = refl
-still_by t Z Zero = refl
-still_by t Z One = refl
-still_by t Z X = refl
-still_by t Z Z = refl
-
-still : (t : ℕ) (p : BusLevels) → bus_event t p p ≡ None
-still t p = still_by t p.scl p.sda
-
-one_more : {A B : Type 0} (f : A → Option B) (x : A) (xs : List A)
-    → filter_map f (x ∷ xs) ≡ option_to_list (f x) ++ filter_map f xs
-one_more f x xs = choose (f x) refl
-  where
-    choose : (o : Option _) → f x ≡ o → filter_map f (x ∷ xs) ≡ option_to_list (f x) ++ filter_map f xs
-    choose None is = rw is refl
-    choose (Some y) is = rw is refl
 
 -- later levels begin later
 pub ticks_rise : (at : ℕ → ℕ) (i n : ℕ) → ((k : ℕ) → at k < at (suc k)) → at i ≤ at (n + i)
@@ -61,9 +32,6 @@ module _ (scl sda : ℕ → Bit) (at : ℕ → ℕ) (rises : (k : ℕ) → at k 
   abbrev event : ℕ → Option BusEvent
   event t = bus_event_at scl sda t
 
-  event_is : (t : ℕ) → event (suc t) ≡ bus_event (suc t) (bus t) (bus (suc t))
-  event_is t = refl
-
   -- while nothing changes there is none
   held : (p : BusLevels) (n t m : ℕ) → bus t ≡ p → ((s : ℕ) → t ≤ s → s ≤ t + n → bus s ≡ p)
       → filter_map event (range_with_len (suc t) (n + m)) ≡ filter_map event (range_with_len (suc t + n) m)
@@ -75,10 +43,11 @@ module _ (scl sda : ℕ → Bit) (at : ℕ → ℕ) (rises : (k : ℕ) → at k 
       let size : suc n + m ≡ suc (n + m) = omega arith in
       let next : suc t + 1 ≡ suc (suc t) = omega arith in
       let none : event (suc t) ≡ None =
-      (λ i. bus_event (suc t) (here i) (same (suc t) (omega arith) (omega arith) i)) ∙ still (suc t) p in
+      (λ i. bus_event (suc t) (here i) (same (suc t) (omega arith) (omega arith) i))
+      ∙ nothing_happens (suc t) p.scl p.sda in
       let tick : suc (suc t) + n ≡ suc t + suc n = omega arith in
       ap (λ k. filter_map event (range_with_len (suc t) k)) size
-      ∙ one_more event (suc t) (range_with_len (suc t + 1) (n + m))
+      ∙ cons_is (event (suc t)) (filter_map event (range_with_len (suc t + 1) (n + m)))
       ∙ ap (λ o. option_to_list o ++ filter_map event (range_with_len (suc t + 1) (n + m))) none
       ∙ ap (λ k. filter_map event (range_with_len k (n + m))) next
       ∙ held p n (suc t) m (same (suc t) (omega arith) (omega arith)) (λ s from to. same s (omega arith) (omega arith))
@@ -114,12 +83,11 @@ module _ (scl sda : ℕ → Bit) (at : ℕ → ℕ) (rises : (k : ℕ) → at k 
       let tick : suc (suc t) + long ≡ next = omega arith in
       let previous : next ≡ suc (next - 1) = omega arith in
       ap (λ n. filter_map event (range_with_len (suc t) n)) size
-      ∙ one_more event (suc t) (range_with_len (suc t + 1) (long + (stop - next)))
+      ∙ cons_is (event (suc t)) (filter_map event (range_with_len (suc t + 1) (long + (stop - next))))
       ∙ (λ k. option_to_list (event_here k) ++ filter_map event (range_with_len (step k) (long + (stop - next))))
       ∙ ap (λ es. option_to_list (bus_event (at i) before p) ++ es)
       (held p long (suc t) (stop - next) (here (suc t) (omega arith) rise)
-      (λ s from to. here s from (omega arith))
-      ∙ ap (λ k. filter_map event (range_with_len k (stop - next))) tick
+      (λ s from to. here s from (omega arith)) ∙ ap (λ k. filter_map event (range_with_len k (stop - next))) tick
       ∙ (λ k. filter_map event (range_with_len (previous k) (stop - previous k)))
       ∙ walked stop ps (suc i) (next - 1) p previous
       (ap at {x = length ps + suc i} {y = length (p ∷ ps) + i} (omega arith) ∙ last)
@@ -130,8 +98,7 @@ module _ (scl sda : ℕ → Bit) (at : ℕ → ℕ) (rises : (k : ℕ) → at k 
 
   -- the events of all levels, of which the first is that of a free bus
   pub bus_walked : (end : ℕ) (ps : List BusLevels) → at 0 ≡ 0 → at (length (levels One One ∷ ps)) ≡ suc end
-      → HaveLevels scl sda at (levels One One ∷ ps)
-      → bus_events scl sda end ≡ level_events at 1 (levels One One) ps
+      → HaveLevels scl sda at (levels One One ∷ ps) → bus_events scl sda end ≡ level_events at 1 (levels One One) ps
   unfolding bus_events
   bus_walked end ps first last have =
       let rise = rises 0 in
@@ -150,7 +117,7 @@ module _ (scl sda : ℕ → Bit) (at : ℕ → ℕ) (rises : (k : ℕ) → at k 
       let size : end ≡ (at 1 - 1) + (suc end - at 1) = omega (arith, rise, within) in
       let tick : 1 + (at 1 - 1) ≡ at 1 = omega (arith, rise) in
       let previous : at 1 ≡ suc (at 1 - 1) = omega (arith, rise) in
-      one_more event 0 (range_with_len (0 + 1) end)
+      cons_is (event 0) (filter_map event (range_with_len (0 + 1) end))
       ∙ ap (λ n. filter_map event (range_with_len 1 n)) size
       ∙ held (levels One One) (at 1 - 1) 0 (suc end - at 1) (free 0 (omega (arith, rise)))
       (λ s from to. free s (omega (arith, to, rise)))

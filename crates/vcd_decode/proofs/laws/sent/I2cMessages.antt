@@ -39,15 +39,13 @@ bit_events at i bits = map (λ b. events.Bit b) (sent_bits at i bits)
 
 -- what follows the bits of a transfer: a rise of SCL, and a START with its bits, or a STOP
 unfoldable later_events : (ℕ → ℕ) → ℕ → List Transfer → List BusEvent
-later_events at i [] =
-    events.Bit (record { tick = at (suc i); level = Zero }) ∷ events.Stop (at (suc (suc i))) ∷ []
+later_events at i [] = events.Bit (record { tick = at (suc i); level = Zero }) ∷ events.Stop (at (suc (suc i))) ∷ []
 later_events at i (t ∷ ts) =
     events.Bit (record { tick = at (suc i); level = One }) ∷ events.Start (at (suc (suc i)))
     ∷ bit_events at (4 + i) (transfer_bits t) ++ later_events at (4 + i + 3 * length (transfer_bits t)) ts
 
 bits_walked : (at : ℕ → ℕ) (tail : List BusLevels) (found : ℕ → List BusEvent)
-    → ((j : ℕ) (x : Bit) → level_events at j (levels Zero x) tail ≡ found j)
-    → (bits : List Bit) (i : ℕ) (x : Bit)
+    → ((j : ℕ) (x : Bit) → level_events at j (levels Zero x) tail ≡ found j) → (bits : List Bit) (i : ℕ) (x : Bit)
     → level_events at i (levels Zero x) (flat_map bit_levels bits ++ tail)
     ≡ bit_events at i bits ++ found (i + 3 * length bits)
 unfolding level_events sent_bits

@@ -28,8 +28,7 @@ selected_is : (cs : Option (ℕ → Bit)) (select release end t : ℕ) → t ≤
     → is_selected cs t ≡ is_within select release t
 selected_is None select release end t upto is =
     sym ((λ i. le-leb select t (omega (arith, is.0)) i && lt-ltb t release (omega (arith, is.1)) i))
-selected_is (Some cs) select release end t upto is =
-    ap is_zero (is t upto) ∙ zero_if (is_within select release t)
+selected_is (Some cs) select release end t upto is = ap is_zero (is t upto) ∙ zero_if (is_within select release t)
 
 -- ---- the parts between the ticks at which it is not selected
 

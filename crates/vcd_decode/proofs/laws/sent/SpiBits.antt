@@ -44,8 +44,7 @@ levels_data Msb bits word within =
     rw (clear, number) refl
 
 read_levels : (f : ℕ → Bit) (g : ℕ → ℕ) (bs : List Bit) (a : ℕ)
-    → ((i : ℕ) → i < length bs → f (g (a + i)) ≡ get_or bs i X)
-    → map f (map g (range_with_len a (length bs))) ≡ bs
+    → ((i : ℕ) → i < length bs → f (g (a + i)) ≡ get_or bs i X) → map f (map g (range_with_len a (length bs))) ≡ bs
 read_levels f g [] a at = refl
 read_levels f g (b ∷ bs) a at =
     let head : f (g a) ≡ b = ap (λ i. f (g i)) (omega arith) ∙ at 0 (omega arith) in
@@ -90,14 +89,12 @@ index_mapped g a (suc n) (suc k) within = index_mapped g (a + 1) n k (omega arit
 middles_length : (w : SpiWord) (count : ℕ) → length (middles w count) ≡ count
 middles_length w count = length-map (range_with_len 0 count) w.bit_middle ∙ length-range_with_len 0 count
 
-first_middle : (w : SpiWord) (count : ℕ) → 0 < count
-    → slice_index (middles w count) 0 ≡ w.bit_middle 0
+first_middle : (w : SpiWord) (count : ℕ) → 0 < count → slice_index (middles w count) 0 ≡ w.bit_middle 0
 first_middle w count some = index_mapped w.bit_middle 0 count 0 some
 
 last_middle : (w : SpiWord) (count : ℕ) → 0 < count
     → slice_index (middles w count) (count - 1) ≡ w.bit_middle (count - 1)
-last_middle w count some =
-    index_mapped w.bit_middle 0 count (count - 1) (omega arith) ∙ ap w.bit_middle (omega arith)
+last_middle w count some = index_mapped w.bit_middle 0 count (count - 1) (omega arith) ∙ ap w.bit_middle (omega arith)
 
 -- a word of these data
 word_read : (u : SpiSetup) (w : SpiWord) (mosi miso : Option (ℕ → Bit)) → 0 < u.bits
@@ -118,12 +115,7 @@ word_read u w mosi miso some out back =
 pub part_read : (u : SpiSetup) (w : SpiWord) (count : ℕ) (mosi miso : Option (ℕ → Bit)) → 0 < count
     → count < u.bits → group_annotation u mosi miso (middles w count) ≡ sent_part_annotation w count
 part_read u w count mosi miso some less =
-    rw (
-      middles_length w count,
-      lt-ltb count u.bits less,
-      first_middle w count some,
-      last_middle w count some,
-    ) refl
+    rw (middles_length w count, lt-ltb count u.bits less, first_middle w count some, last_middle w count some) refl
 
 pub part_size : (w : SpiWord) (count : ℕ) → length (middles w count) ≡ count
 part_size w count = middles_length w count
@@ -134,8 +126,7 @@ pub words_read : (u : SpiSetup) (from until : ℕ) (mosi miso : Option (ℕ → 
     (rest : List ℕ) → 0 < u.bits → WordsFit u from until ws
     → MaySendData u (λ w. w.out) mosi ws → MaySendData u (λ w. w.back) miso ws
     → map (group_annotation u mosi miso) (groups_of u.bits (flat_map (λ w. middles w u.bits) ws ++ rest))
-    ≡ map (sent_word_annotation u mosi miso) ws
-    ++ map (group_annotation u mosi miso) (groups_of u.bits rest)
+    ≡ map (sent_word_annotation u mosi miso) ws ++ map (group_annotation u mosi miso) (groups_of u.bits rest)
 unfolding WordsFit
 words_read u from until mosi miso [] rest some fit out back = refl
 words_read u from until mosi miso (w ∷ ws) rest some fit out back =
@@ -148,5 +139,4 @@ words_read u from until mosi miso (w ∷ ws) rest some fit out back =
     (later_sent u (λ w. w.out) mosi w ws out) (later_sent u (λ w. w.back) miso w ws back) in
     ap (λ ts. map (group_annotation u mosi miso) (groups_of u.bits ts)) (append_assoc ticks others rest)
     ∙ ap (map (group_annotation u mosi miso))
-    (groups_whole u.bits ticks (others ++ rest) some (middles_length w u.bits))
-    ∙ (λ i. here i ∷ later i)
+    (groups_whole u.bits ticks (others ++ rest) some (middles_length w u.bits)) ∙ (λ i. here i ∷ later i)

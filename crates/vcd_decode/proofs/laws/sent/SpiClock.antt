@@ -19,32 +19,20 @@ abbrev pub edge_of : ℕ → Bit → Bit → Bool
 edge_of mode x y = if mode == 0 || mode == 3 then is_zero x && is_one y else is_one x && is_zero y
 
 edge : (mode : ℕ) → mode ≤ 3 → edge_of mode (first_level mode) (second_level mode) ≡ true
-edge zero most = refl
-edge (suc zero) most = refl
-edge (suc (suc zero)) most = refl
-edge (suc (suc (suc zero))) most = refl
 edge (suc (suc (suc (suc m)))) most = absurd (omega arith)
+edge mode most = refl
 
 no_edge_to_first : (mode : ℕ) (x : Bit) → mode ≤ 3 → edge_of mode x (first_level mode) ≡ false
-no_edge_to_first zero x most = and_right (is_zero x) false refl
-no_edge_to_first (suc zero) x most = and_right (is_one x) false refl
-no_edge_to_first (suc (suc zero)) x most = and_right (is_one x) false refl
-no_edge_to_first (suc (suc (suc zero))) x most = and_right (is_zero x) false refl
 no_edge_to_first (suc (suc (suc (suc m)))) x most = absurd (omega arith)
+no_edge_to_first mode x most = and_right _ false refl
 
 no_edge_from_second : (mode : ℕ) (y : Bit) → mode ≤ 3 → edge_of mode (second_level mode) y ≡ false
-no_edge_from_second zero y most = refl
-no_edge_from_second (suc zero) y most = refl
-no_edge_from_second (suc (suc zero)) y most = refl
-no_edge_from_second (suc (suc (suc zero))) y most = refl
 no_edge_from_second (suc (suc (suc (suc m)))) y most = absurd (omega arith)
+no_edge_from_second mode y most = refl
 
 no_edge_idle : (mode : ℕ) → mode ≤ 3 → edge_of mode (idle_level mode) (idle_level mode) ≡ false
-no_edge_idle zero most = refl
-no_edge_idle (suc zero) most = refl
-no_edge_idle (suc (suc zero)) most = refl
-no_edge_idle (suc (suc (suc zero))) most = refl
 no_edge_idle (suc (suc (suc (suc m)))) most = absurd (omega arith)
+no_edge_idle mode most = refl
 
 no_edge_x : (mode : ℕ) (y : Bit) → edge_of mode X y ≡ false
 no_edge_x mode y = choose (mode == 0 || mode == 3)
@@ -56,8 +44,7 @@ no_edge_x mode y = choose (mode == 0 || mode == 3)
 -- ---- the ticks that pass a test
 
 skipped : (p : ℕ → Bool) (count t n later rest : ℕ) → t + count ≡ later → count + rest ≡ n
-    → ((s : ℕ) → t ≤ s → s < later → p s ≡ false)
-    → filter p (range_with_len t n) ≡ filter p (range_with_len later rest)
+    → ((s : ℕ) → t ≤ s → s < later → p s ≡ false) → filter p (range_with_len t n) ≡ filter p (range_with_len later rest)
 skipped p zero t n later rest at all fails =
     let same : t ≡ later = omega arith in
     let size : n ≡ rest = omega arith in
@@ -164,8 +151,7 @@ module _ (u : SpiSetup) (limit : ℕ) (w : SpiWord) (clk : ℕ → Bit) (most : 
         (sym index)
 
     -- the sampled ticks from the start of the word on
-    pub word_walked : (n : ℕ) → w.bit_start 0 + n ≡ stop
-        → filter sampled (range_with_len (w.bit_start 0) n)
+    pub word_walked : (n : ℕ) → w.bit_start 0 + n ≡ stop → filter sampled (range_with_len (w.bit_start 0) n)
         ≡ middles w count ++ filter sampled (range_with_len limit (stop - limit))
     word_walked n size =
         let tick = w.bit_middle 0 in
@@ -182,8 +168,7 @@ module _ (u : SpiSetup) (limit : ℕ) (w : SpiWord) (clk : ℕ → Bit) (most : 
 -- ---- the edges of all words
 
 -- a clock that idles is not sampled
-idle_still : (mode : ℕ) (clk : ℕ → Bit) (t from : ℕ) → mode ≤ 3
-    → ((r : ℕ) → t ≤ r → r < from → clk r ≡ idle_level mode)
+idle_still : (mode : ℕ) (clk : ℕ → Bit) (t from : ℕ) → mode ≤ 3 → ((r : ℕ) → t ≤ r → r < from → clk r ≡ idle_level mode)
     → edge_of mode (letter_before clk t) (idle_level mode) ≡ false
     → (s : ℕ) → t ≤ s → s < from → has_sampling_edge mode clk s ≡ false
 idle_still mode clk t from most idle before s late early =
@@ -218,8 +203,7 @@ sends_later u clk from later until (w ∷ ws) le sends =
 
 -- before the first word the clock idles
 pub clock_idle : (u : SpiSetup) (clk : ℕ → Bit) (from select fit_until until : ℕ) (ws tail : List SpiWord) (t : ℕ)
-    → WordsFit u select fit_until ws
-    → (SendsClock u clk from until tail → t < fit_until → clk t ≡ idle_level u.mode)
+    → WordsFit u select fit_until ws → (SendsClock u clk from until tail → t < fit_until → clk t ≡ idle_level u.mode)
     → SendsClock u clk from until (ws ++ tail) → from ≤ t → t < select → t < until → clk t ≡ idle_level u.mode
 unfolding WordsFit SendsClock
 clock_idle u clk from select fit_until until [] tail t fit idle sends late early inside = idle sends (omega arith)
@@ -239,8 +223,7 @@ module _ (u : SpiSetup) (stop until : ℕ) (clk : ℕ → Bit) (tail : List SpiW
     (some : 0 < u.bits) (within : until ≤ stop) where
   -- from a tick on, before which no edge begins
   abbrev pub IsSentFrom : ℕ → List SpiWord → Type 0
-  IsSentFrom t ws =
-      SendsClock u clk t stop ws × (edge_of u.mode (letter_before clk t) (idle_level u.mode) ≡ false)
+  IsSentFrom t ws = SendsClock u clk t stop ws × (edge_of u.mode (letter_before clk t) (idle_level u.mode) ≡ false)
 
   pub words_walked : ((t : ℕ) → t ≤ until → IsSentFrom t tail
       → filter (has_sampling_edge u.mode clk) (range_with_len t (stop - t)) ≡ rest)

@@ -34,8 +34,7 @@ module _ (u : SpiSetup) (select release end : ℕ) (clk : ℕ → Bit) (mosi mis
   all_found : (until : ℕ) (ws tail : List SpiWord) (rest : List ℕ) → until ≤ release
       → WordsFit u select until ws → SendsClock u clk (select - 1) release (ws ++ tail)
       → ((t : ℕ) → SendsClock u clk (select - 1) release tail → select - 1 ≤ t → t < until → clk t ≡ idle_level u.mode)
-      → MaySendData u (λ w. w.out) mosi ws → MaySendData u (λ w. w.back) miso ws
-      → ((t : ℕ) → t ≤ until
+      → MaySendData u (λ w. w.out) mosi ws → MaySendData u (λ w. w.back) miso ws → ((t : ℕ) → t ≤ until
       → SendsClock u clk t release tail × (edge_of u.mode (letter_before clk t) (idle_level u.mode) ≡ false)
       → filter (has_sampling_edge u.mode clk) (range_with_len t (release - t)) ≡ rest)
       → spi_annotations u clk mosi miso cs end ≡ map (sent_word_annotation u mosi miso) ws ++ annotations rest
@@ -63,8 +62,7 @@ words_found u select release end ws clk mosi miso cs none fit within is sends ou
     (λ t sent late early. sent t late early)
     out back (nothing_follows u release clk fits.0)
     ∙ ap (λ found. map (sent_word_annotation u mosi miso) ws ++ map (group_annotation u mosi miso) found)
-    (groups_none u.bits)
-    ∙ append-nil (map (sent_word_annotation u mosi miso) ws)
+    (groups_none u.bits) ∙ append-nil (map (sent_word_annotation u mosi miso) ws)
 
 pub part_found : SpiPartIsFound
 unfolding SendsClock

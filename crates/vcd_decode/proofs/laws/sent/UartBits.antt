@@ -36,17 +36,12 @@ pub bits_rise : (u : UartSetup) (k m : ℕ) → k ≤ m → bit_offset u k ≤ b
 bits_rise u k m le = quotients_rise (k * u.numerator) (m * u.numerator) u.denominator (mul-le-mul_right u.numerator le)
 
 -- half a bit or more after it starts
-pub sample_after_start : (u : UartSetup) (k : ℕ) → 1 ≤ u.denominator
-    → bit_offset u k + half_bit u ≤ sample_offset u k
+pub sample_after_start : (u : UartSetup) (k : ℕ) → 1 ≤ u.denominator → bit_offset u k + half_bit u ≤ sample_offset u k
 unfolding sample_offset
 sample_after_start u k positive =
     (le-div_iff_mul-le {k = 2 * u.denominator} {x = bit_offset u k + half_bit u} {y = (2 * k + 1) * u.numerator}
     (omega arith)).1
-    (omega (
-      arith,
-      div-mul-le_self (k * u.numerator) u.denominator,
-      div-mul-le_self u.numerator (2 * u.denominator),
-    ))
+    (omega (arith, div-mul-le_self (k * u.numerator) u.denominator, div-mul-le_self u.numerator (2 * u.denominator)))
 
 -- and half a bit or more before the next starts
 pub sample_before_next : (u : UartSetup) (k : ℕ) → 1 ≤ u.denominator
@@ -73,19 +68,16 @@ levels_clear parities.Even ones = rw (level_clear ones) refl
 levels_clear parities.Odd ones = rw (level_clear (suc ones)) refl
 
 parity_clear : (p : Parity) (flaw : Flaw) (ones : ℕ) → list_any is_unclear (sent_parity p flaw ones) ≡ false
-parity_clear p flawless ones = levels_clear p ones
 parity_clear p wrong_parity ones = levels_clear p (suc ones)
-parity_clear p (low_stop k) ones = levels_clear p ones
+parity_clear p flaw ones = levels_clear p ones
 
 levels_length : (p : Parity) (ones : ℕ) → length (parity_levels p ones) ≡ parity_bits p
 levels_length parities.None ones = refl
-levels_length parities.Even ones = refl
-levels_length parities.Odd ones = refl
+levels_length p ones = refl
 
 parity_length : (p : Parity) (flaw : Flaw) (ones : ℕ) → length (sent_parity p flaw ones) ≡ parity_bits p
-parity_length p flawless ones = levels_length p ones
 parity_length p wrong_parity ones = levels_length p (suc ones)
-parity_length p (low_stop k) ones = levels_length p ones
+parity_length p flaw ones = levels_length p ones
 
 count_one : (n : ℕ) → count_by is_one (level n ∷ []) ≡ n % 2
 count_one n =
@@ -112,9 +104,8 @@ parity_wrong parities.Odd ones some =
 
 parity_is : (u : UartSetup) (flaw : Flaw) (ones : ℕ) → CanHaveFlaw u flaw
     → is_parity_wrong u.parity (ones + count_by is_one (sent_parity u.parity flaw ones)) ≡ has_wrong_parity flaw
-parity_is u flawless ones can = parity_right u.parity ones
 parity_is u wrong_parity ones can = parity_wrong u.parity ones can
-parity_is u (low_stop k) ones can = parity_right u.parity ones
+parity_is u flaw ones can = parity_right u.parity ones
 
 -- ---- the stop bits
 
@@ -128,25 +119,22 @@ ones_have p zero not_one = refl
 ones_have p (suc n) not_one = rw not_one (ones_have p n not_one)
 
 stop_clear : (count : ℕ) (flaw : Flaw) → list_any is_unclear (stop_levels count flaw) ≡ false
-stop_clear count flawless = ones_have is_unclear count refl
-stop_clear count wrong_parity = ones_have is_unclear count refl
 stop_clear count (low_stop k) =
     list_any-append is_unclear (replicate k One) (Zero ∷ replicate (count - suc k) One)
     ∙ (λ i. ones_have is_unclear k refl i || ones_have is_unclear (count - suc k) refl i)
+stop_clear count flaw = ones_have is_unclear count refl
 
 stop_is : (count : ℕ) (flaw : Flaw) → list_any is_zero (stop_levels count flaw) ≡ has_low_stop flaw
-stop_is count flawless = ones_have is_zero count refl
-stop_is count wrong_parity = ones_have is_zero count refl
 stop_is count (low_stop k) =
     list_any-append is_zero (replicate k One) (Zero ∷ replicate (count - suc k) One)
     ∙ ap (λ b. b || true) (ones_have is_zero k refl)
+stop_is count flaw = ones_have is_zero count refl
 
 stop_length : (u : UartSetup) (flaw : Flaw) → CanHaveFlaw u flaw → length (stop_levels u.stop_bits flaw) ≡ u.stop_bits
-stop_length u flawless can = length-replicate u.stop_bits One
-stop_length u wrong_parity can = length-replicate u.stop_bits One
 stop_length u (low_stop k) can =
     length-append (replicate k One) (Zero ∷ replicate (u.stop_bits - suc k) One)
     ∙ (λ i. length-replicate k One i + suc (length-replicate (u.stop_bits - suc k) One i)) ∙ omega (arith, can)
+stop_length u flaw can = length-replicate u.stop_bits One
 
 -- ---- the frame
 
@@ -161,15 +149,13 @@ abbrev kind_of : Bool → Bool → ℕ → Kind
 kind_of low wrong word = if low then FrameError else (if wrong then ParityError word else Byte word)
 
 kind_is : (flaw : Flaw) (word : ℕ) → kind_of (has_low_stop flaw) (has_wrong_parity flaw) word ≡ sent_kind flaw word
-kind_is flawless word = refl
 kind_is wrong_parity word = refl
-kind_is (low_stop k) word = refl
+kind_is flaw word = refl
 
 kind_by : (u : UartSetup) (letters : List Bit) (low wrong : Bool) (word : ℕ) → list_any is_unclear letters ≡ false
     → list_any is_zero (drop (checked_bits u) letters) ≡ low
     → is_parity_wrong u.parity (count_by is_one (take (checked_bits u) letters)) ≡ wrong
-    → number_from_letters (take u.data_bits letters) ≡ word
-    → frame_kind u letters ≡ kind_of low wrong word
+    → number_from_letters (take u.data_bits letters) ≡ word → frame_kind u letters ≡ kind_of low wrong word
 kind_by u letters low wrong word clear is_low is_wrong number = rw (clear, is_low, is_wrong, number) refl
 
 -- these parts make a whole frame
@@ -178,15 +164,13 @@ parts : (u : UartSetup) (data_bits parity stop : List Bit) (low wrong : Bool) (w
     → list_any is_unclear data_bits ≡ false → list_any is_unclear parity ≡ false → list_any is_unclear stop ≡ false
     → list_any is_zero stop ≡ low
     → is_parity_wrong u.parity (count_by is_one data_bits + count_by is_one parity) ≡ wrong
-    → number_from_letters data_bits ≡ word
-    → frame_kind u (data_bits ++ parity ++ stop) ≡ kind_of low wrong word
+    → number_from_letters data_bits ≡ word → frame_kind u (data_bits ++ parity ++ stop) ≡ kind_of low wrong word
 parts u data_bits parity stop low wrong word data_size parity_size data_is parity_is' stop_is' is_low is_wrong number =
     let checked = data_bits ++ parity in
     let size : checked_bits u ≡ length checked =
     sym (length-append data_bits parity ∙ (λ i. data_size i + parity_size i)) in
     kind_by u (checked ++ stop) low wrong word
-    (list_any-append is_unclear checked stop
-    ∙ (λ i. list_any-append is_unclear data_bits parity i || stop_is' i)
+    (list_any-append is_unclear checked stop ∙ (λ i. list_any-append is_unclear data_bits parity i || stop_is' i)
     ∙ (λ i. (data_is i || parity_is' i) || false))
     (ap (λ n. list_any is_zero (drop n (checked ++ stop))) size
     ∙ ap (list_any is_zero) (drop-append_seam checked stop) ∙ is_low)

@@ -1,12 +1,12 @@
 -- The frames of a line that sends frames are these.
-use Rattle.std.proofs.Common.{◌≡◌, ◌≢◌, ℕ, zero, suc, ◌+◌, ◌-◌, ◌*◌, ◌/◌, ◌<◌, ◌≤◌, ◌&&◌, Bool, true, false}
+use Rattle.std.proofs.Common.{◌≡◌, ◌≢◌, ℕ, zero, suc, ◌+◌, ◌-◌, ◌*◌, ◌/◌, ◌<◌, ◌≤◌, ◌&&◌, Bool, true, false, cond}
 use Rattle.std.proofs.Common.{◌⊎◌, inl, inr}
 use Rattle.std.proofs.Common.{Option, Some, None, List, [], ◌∷◌, map, length, get_or, refl, sym, ap}
 use Rattle.std.proofs.Common.{◌∙◌, arith}
 use Rattle.std.specs.List.{filter, range_with_len}
 use Rattle.std.proofs.lemmas.Bool.{cases_lt, lt-leb, le-leb}
 use Rattle.vcd_core.specs.declared.bit.Bit.{Bit}
-use Rattle.vcd_core.specs.declared.bit.Bit.TheVariants.{Zero, One, X, Z}
+use Rattle.vcd_core.specs.declared.bit.Bit.TheVariants.{Zero, One}
 use Rattle.vcd_decode.specs.declared.annotation.Annotation.{Annotation}
 use Rattle.vcd_decode.specs.UartSetup.{UartSetup}
 use Rattle.vcd_decode.specs.SetupResults.{IsUartSetup}
@@ -19,6 +19,7 @@ use Rattle.vcd_decode.specs.UartSent.{SentFrame, frame_levels, half_bit, IsIdle,
 use Rattle.vcd_decode.specs.UartSent.{sent_annotation}
 use Rattle.vcd_decode.specs.Laws.{UartFramesAreFound}
 use Rattle.vcd_decode.proofs.uart_frames.BegunFrames.{whole, glitch}
+use Rattle.vcd_decode.proofs.uart_frames.Falls.{never_both}
 use Rattle.vcd_decode.proofs.uart_frames.SampleTicks.{offsets_rise}
 use Rattle.vcd_decode.proofs.laws.sent.UartBits.{sample_after_start, sample_before_next, later_levels}
 use Rattle.vcd_decode.proofs.laws.sent.UartBits.{later_length, kind_of_sent}
@@ -36,21 +37,17 @@ BeginsNone begun f taken t = (t ≤ taken) ⊎ (is_fall f t ≡ false) ⊎ (begu
 one_skipped : (begun : ℕ → Option Annotation) (f : ℕ → Bit) (taken t n : ℕ) → BeginsNone begun f taken t
     → frames_from begun f taken t (suc n) ≡ frames_from begun f taken (t + 1) n
 unfolding frames
-one_skipped begun f taken t n none = fall_or_not (is_fall f t) refl
+one_skipped begun f taken t n none = passes (filter (is_fall f) (range_with_len (t + 1) n)) (is_fall f t) none
   where
-    at_fall : is_fall f t ≡ true → BeginsNone begun f taken t
-        → frames_from begun f taken t (suc n) ≡ frames_from begun f taken (t + 1) n
-    at_fall e (inl within) = rw (e, le-leb t taken within) refl
-    at_fall e (inr (inl still)) = absurd (cc)
-    at_fall e (inr (inr none)) = elim (cases_lt taken t) [
-      | inl past ↦ rw (e, lt-leb t taken past, none) refl
-      | inr within ↦ rw (e, le-leb t taken within) refl
+    passes : (later : List ℕ) (fall : Bool) → (t ≤ taken) ⊎ (fall ≡ false) ⊎ (begun t ≡ None)
+        → frames begun taken (cond fall (t ∷ later) later) ≡ frames begun taken later
+    passes later false none = refl
+    passes later true (inl within) = rw (le-leb t taken within) refl
+    passes later true (inr (inl still)) = absurd (cc)
+    passes later true (inr (inr none)) = elim (cases_lt taken t) [
+      | inl past ↦ rw (lt-leb t taken past, none) refl
+      | inr within ↦ rw (le-leb t taken within) refl
     ]
-
-    fall_or_not : (b : Bool) → is_fall f t ≡ b
-        → frames_from begun f taken t (suc n) ≡ frames_from begun f taken (t + 1) n
-    fall_or_not true e = at_fall e none
-    fall_or_not false e = rw e refl
 
 skipped : (begun : ℕ → Option Annotation) (f : ℕ → Bit) (taken count t n later rest : ℕ) → t + count ≡ later
     → count + rest ≡ n → ((s : ℕ) → t ≤ s → s < later → BeginsNone begun f taken s)
@@ -73,27 +70,18 @@ begins begun f taken t n a past fall is = rw (fall, lt-leb t taken past, is) ref
 
 -- a line that stays does not fall
 no_fall_while : (f : ℕ → Bit) (t : ℕ) (b : Bit) → f t ≡ b → f (suc t) ≡ b → is_fall f (suc t) ≡ false
-no_fall_while f t b before here = (λ i. is_one (before i) && is_zero (here i)) ∙ not_both b
-  where
-    not_both : (b : Bit) → (is_one b && is_zero b) ≡ false
-    not_both Zero = refl
-    not_both One = refl
-    not_both X = refl
-    not_both Z = refl
+no_fall_while f t b before here = (λ i. is_one (before i) && is_zero (here i)) ∙ never_both b
 
 -- an idle line does not fall, or not to begin a frame
 idle_begins_none : (u : UartSetup) (f : ℕ → Bit) (end from until t : ℕ) → IsIdle u f from until end → from < t
-    → t < until
-    → (is_fall f t ≡ false) ⊎ (begun_frame f end u t ≡ None)
+    → t < until → (is_fall f t ≡ false) ⊎ (begun_frame f end u t ≡ None)
 unfolding sample_offset
 idle_begins_none u f end from until zero idle late early = absurd (omega arith)
 idle_begins_none u f end from until (suc t) idle late early = by_letters (f t) (f (suc t)) refl refl
   where
     not_zero : (b : Bit) → b ≢ Zero → is_zero b ≡ false
     not_zero Zero other = absurd (other refl)
-    not_zero One other = refl
-    not_zero X other = refl
-    not_zero Z other = refl
+    not_zero b other = refl
 
     first_sample : sample_tick u (suc t) 0 ≡ suc t + half_bit u
     first_sample = ap (λ m. suc t + m / (2 * u.denominator)) (omega arith)
@@ -110,12 +98,7 @@ idle_begins_none u f end from until (suc t) idle late early = by_letters (f t) (
     by_letters : (a b : Bit) → f t ≡ a → f (suc t) ≡ b
         → (is_fall f (suc t) ≡ false) ⊎ (begun_frame f end u (suc t) ≡ None)
     by_letters One Zero before here = inr (falls_here before here)
-    by_letters One One before here = inl (is_none One One before here refl)
-    by_letters One X before here = inl (is_none One X before here refl)
-    by_letters One Z before here = inl (is_none One Z before here refl)
-    by_letters Zero b before here = inl (is_none Zero b before here refl)
-    by_letters X b before here = inl (is_none X b before here refl)
-    by_letters Z b before here = inl (is_none Z b before here refl)
+    by_letters a b before here = inl (is_none a b before here refl)
 
 -- ---- a frame is found
 

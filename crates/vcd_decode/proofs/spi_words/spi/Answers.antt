@@ -1,9 +1,7 @@
 use Rattle.std.proofs.Common.{◌≡◌, ◌<◌, Option, Some, None, refl, ◌∙◌, arith}
 use Rattle.std.specs.Borrow.{Bor}
-use Rattle.std.specs.Option.{is_some, option_copied, option_map}
+use Rattle.std.specs.Option.{is_some, option_copied}
 use Rattle.vcd_core.specs.WaveView.{WaveView}
-use Rattle.vcd_decode.specs.WaveLines.{line_of}
-use Rattle.vcd_decode.specs.Spi.{spi_annotations}
 use Rattle.vcd_decode.proofs.spi_words.EdgeByEdge.{so_far_none, so_far_open, so_far_more, so_far_ends}
 use Rattle.vcd_decode.proofs.spi_words.spi.Goals as goal
 
@@ -24,36 +22,17 @@ loop-edge-init c =
 
 pub take_clock_edge-requires : goal.take_clock_edge-requires
 take_clock_edge-requires c =
-    let u = c.args.setup.now in
-    let some : 0 < u.bits = omega (arith, c.bits-bits.ensures.bits, c.bits-bits.ensures.least) in
-    let mosi = option_map line_of (option_copied c.args.mosi) in
-    let miso = option_map line_of (option_copied c.args.miso) in
-    let cs = option_map line_of (option_copied c.args.cs) in
-    so_far_open u some mosi miso (line_of c.args.clk.now) cs
-    (spi_annotations u (line_of c.args.clk.now) mosi miso cs c.args.end)
-    c.loop-edge.found.items c.loop-edge.group c.loop-edge.edge-iterator c.loop-edge.invariant
+    let some : 0 < c.args.setup.now.bits = omega (arith, c.bits-bits.ensures.bits, c.bits-bits.ensures.least) in
+    so_far_open _ some _ _ _ _ _ _ _ _ c.loop-edge.invariant
 
 pub loop-edge-preserved : goal.loop-edge-preserved
 loop-edge-preserved c =
-    let u = c.args.setup.now in
-    let some : 0 < u.bits = omega (arith, c.bits-bits.ensures.bits, c.bits-bits.ensures.least) in
-    let mosi = option_map line_of (option_copied c.args.mosi) in
-    let miso = option_map line_of (option_copied c.args.miso) in
-    let cs = option_map line_of (option_copied c.args.cs) in
-    so_far_more u some mosi miso (line_of c.args.clk.now) cs
-    (spi_annotations u (line_of c.args.clk.now) mosi miso cs c.args.end)
-    c.loop-edge.found.items c.take_clock_edge.new.found.items c.loop-edge.group c.in_ok-group.group
-    c.loop-edge.edge-iterator c.next.new.self c.in-Some.edge
-    c.loop-edge.invariant c.in-Some.ensures.steps c.in_ok-group.ensures.appended c.in_ok-group.ensures.group
+    let some : 0 < c.args.setup.now.bits = omega (arith, c.bits-bits.ensures.bits, c.bits-bits.ensures.least) in
+    so_far_more _ some _ _ _ _ _ _ _ _ _ _ _ _ c.loop-edge.invariant c.in-Some.ensures.steps
+    c.in_ok-group.ensures.appended c.in_ok-group.ensures.group
 
 pub returns : goal.returns
 returns c =
-    let u = c.args.setup.now in
-    let some : 0 < u.bits = omega (arith, c.bits-bits.ensures.bits, c.bits-bits.ensures.least) in
-    let mosi = option_map line_of (option_copied c.args.mosi) in
-    let miso = option_map line_of (option_copied c.args.miso) in
-    let cs = option_map line_of (option_copied c.args.cs) in
-    so_far_ends u some mosi miso (line_of c.args.clk.now) cs
-    (spi_annotations u (line_of c.args.clk.now) mosi miso cs c.args.end)
-    c.loop-edge.found.items c.append_unfinished.new.found.items c.loop-edge.group c.loop-edge.edge-iterator
-    c.loop-edge.invariant c.in-None.ensures.steps.0 c.in_ok-append_unfinished.ensures
+    let some : 0 < c.args.setup.now.bits = omega (arith, c.bits-bits.ensures.bits, c.bits-bits.ensures.least) in
+    so_far_ends _ some _ _ _ _ _ _ _ _ _ c.loop-edge.invariant c.in-None.ensures.steps.0
+    c.in_ok-append_unfinished.ensures

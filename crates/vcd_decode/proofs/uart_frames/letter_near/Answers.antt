@@ -1,15 +1,16 @@
 use Rattle.std.proofs.Common.{◌∙◌, ◌-◌, length, take, arith}
-use Rattle.std.proofs.lemmas.List.{length-take}
+use Rattle.std.proofs.lemmas.List.{length-take, get_or-take}
 use Rattle.vcd_core.specs.declared.wave.Change.{Change}
-use Rattle.vcd_decode.proofs.uart_frames.LineLetters.{letter_counted, no_letter_counted, one_letter}
+use Rattle.vcd_decode.proofs.uart_frames.LineLetters.{letter_counted, no_letter_counted, letter_at_item}
 use Rattle.vcd_decode.proofs.uart_frames.letter_near.Goals as goal
 
 pub bit-requires : goal.bit-requires
 bit-requires c =
-    one_letter c.args.wave.now c.changes.result.now c.count_through_near.result
-    (length (take c.count_through_near.result c.changes.result.now) - 1) c.change-item.result c.requires
-    c.changes.ensures.form
-    (omega (arith, length-take {A = Change})) (omega (arith, length-take {A = Change})) c.change-item.is
+    let last = length (take c.count_through_near.result c.changes.result.now) - 1 in
+    let at = get_or-take c.count_through_near.result c.changes.result.now last c.change-item.result
+    (omega (arith, length-take {A = Change})) in
+    letter_at_item c.args.wave.now.width c.changes.result.now last c.change-item.result c.requires
+    c.changes.ensures.form (omega (arith, length-take {A = Change})) (c.change-item.is ∙ at)
 
 pub returns-in-empty : goal.returns-in-empty
 returns-in-empty c =

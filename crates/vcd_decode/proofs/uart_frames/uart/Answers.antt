@@ -27,8 +27,7 @@ pub loop-index-preserved : goal.loop-index-preserved
 loop-index-preserved c =
     let begun = begun_frame (line_of c.args.wave.now) c.args.end c.args.setup.now in
     let tick = c.index-changes-index.result.tick in
-    let frame : c.if-begins_frame.frame
-    ≡ (if is_one c.loop-index.before && is_zero c.bit-letter.result
+    let frame : c.if-begins_frame.frame ≡ (if is_one c.loop-index.before && is_zero c.bit-letter.result
     && nat_lt c.loop-index.taken tick then begun tick else None) =
     elim c.if-begins_frame.branch [
       | then-begins_frame w ↦

@@ -24,8 +24,7 @@ loop-edge-preserved c =
     subst (All IsBusEdge) c.in-Some.ensures.steps c.loop-edge.invariant.2 in (
       c.in_ok-transfer.ensures.annotations (edge_events c.next.new.self)
           ∙ sym (ap (λ (es : List BitEdge). c.loop-edge.found.items ++ walk_annotations c.loop-edge.transfer
-          (edge_events es)) c.in-Some.ensures.steps)
-          ∙ c.loop-edge.invariant.0,
+          (edge_events es)) c.in-Some.ensures.steps) ∙ c.loop-edge.invariant.0,
       c.in_ok-transfer.ensures.part,
       λ k d less. all (suc k) d (omega (arith, less)),
     )
