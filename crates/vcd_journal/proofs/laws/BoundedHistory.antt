@@ -40,12 +40,11 @@ redo_bounded m (next ∷ later) there few = omega arith
 
 pub depth_bounded : (m : Machine) (depth : ℕ) (bad small : Bool) → nat_lt depth (length m.future) ≡ small → IsBounded m
     → IsBounded (depth_choice depth m bad small).after
-depth_bounded m depth true small is few = few
-depth_bounded m depth false true is few = few
 depth_bounded m depth false false is few =
     let kept = length-take (depth - length m.future) m.past in
     let least : length m.future ≤ depth = grind (arith, nat_tests, is) in
     omega (arith, kept, least)
+depth_bounded m depth bad small is few = few
 
 pub outcome_bounded : (m : Machine) (s : Step) → IsBounded m → IsBounded (step_outcome m s).after
 outcome_bounded m (steps.Edit e) few = edit_bounded m e (edit_fault e m.now) few
@@ -63,9 +62,8 @@ pub run_bounded : (m : Machine) (asked : List Step) (answers : List Answer) (n :
     → AreSteps m asked answers n → IsBounded n
 unfolding AreSteps
 run_bounded m [] [] n few r = subst IsBounded (sym r) few
-run_bounded m [] (a ∷ answers) n few r = absurd r
-run_bounded m (s ∷ asked) [] n few r = absurd r
 run_bounded m (s ∷ asked) (a ∷ answers) n few r = run_bounded r.0 asked answers n (step_bounded m s a r.0 few r.1) r.2
+run_bounded m asked answers n few r = absurd r
 
 pub history_is_bounded : HistoryIsBounded
 history_is_bounded c depth asked answers m r = run_bounded (initial_machine c depth) asked answers m (omega arith) r

@@ -1,21 +1,19 @@
 -- The records of a session and the captures that they reach.
 use Rattle.std.proofs.Common.{◌≡◌, ◌<◌, ◌≤◌, ◌+◌, ℕ, zero, suc, List, [], ◌∷◌, ◌-◌, length, take}
-use Rattle.std.proofs.Common.{drop, refl, sym, ◌∙◌}
-use Rattle.std.proofs.Common.{ap, subst, Some, arith}
-use Rattle.std.specs.Prelude.{slice_get}
-use Rattle.std.proofs.lemmas.List.{take_all, length-take}
+use Rattle.std.proofs.Common.{refl, sym, ◌∙◌}
+use Rattle.std.proofs.Common.{ap, subst, arith}
+use Rattle.std.proofs.lemmas.List.{length-take}
 use Rattle.vcd_core.specs.Contents.{Contents}
 use Rattle.circular_buffer.specs.Buffer.{Buffer}
 use Rattle.vcd_edit.specs.declared.edit.Edit.{Edit}
 use Rattle.vcd_edit.specs.Effect.{effect}
 use Rattle.vcd_edit.specs.RecordView.{RecordView}
-use Rattle.vcd_edit.specs.AppliedRecords.{apply_record, Fits, PutsInOrKeepsNames}
+use Rattle.vcd_edit.specs.AppliedRecords.{apply_record, Fits}
 use Rattle.vcd_journal.specs.declared.step.Step.TheVariants as steps
 use Rattle.vcd_journal.specs.Machine.{Machine, machine_after_edit, machine_after_depth}
 use Rattle.vcd_journal.specs.Machine.{MayNeedMemory}
 use Rattle.vcd_journal.specs.inside.Rings.{AllRecordsFit, FirstMayNeedMemory, AreSessionRings}
 use Rattle.vcd_journal.specs.ReachedCaptures.{reached_captures}
-use Rattle.vcd_journal.specs.inside.Rings.{PopsRecord}
 
 -- a capture for each record
 pub length_reached_captures : (c : Contents) (rs : List RecordView) → length (reached_captures c rs) ≡ length rs
@@ -25,17 +23,15 @@ length_reached_captures c (r ∷ rs) = ap suc (length_reached_captures (apply_re
 -- the newest records reach the nearest captures
 pub reached_captures_take : (c : Contents) (n : ℕ) (rs : List RecordView)
     → reached_captures c (take n rs) ≡ take n (reached_captures c rs)
-reached_captures_take c zero rs = refl
-reached_captures_take c (suc n) [] = refl
 reached_captures_take c (suc n) (r ∷ rs) =
     ap (λ (cs : List Contents). apply_record r c ∷ cs) (reached_captures_take (apply_record r c) n rs)
+reached_captures_take c n rs = refl
 
 -- the newest of records that fit also fit
 pub AllRecordsFit_take : (c : Contents) (n : ℕ) (rs : List RecordView) → AllRecordsFit c rs
     → AllRecordsFit c (take n rs)
-AllRecordsFit_take c zero rs fit = tt
-AllRecordsFit_take c (suc n) [] fit = tt
 AllRecordsFit_take c (suc n) (r ∷ rs) fit = (fit.0, AllRecordsFit_take (apply_record r c) n rs fit.1)
+AllRecordsFit_take c n rs fit = tt
 
 -- a session can reach as many captures as it has records
 pub few_captures : (c : Contents) (past future : Buffer RecordView) (depth : ℕ) → AreSessionRings c past future depth
@@ -93,44 +89,7 @@ machine_of_edit e before after r rs fs depth forth leads =
 
 -- ---- undo and redo
 
--- the first of the records is taken out
-pops_first_record : (c d : Contents) (q : RecordView) (rs : List RecordView) → d ≡ apply_record q c
-    → AllRecordsFit c (q ∷ rs) → PopsRecord c (q ∷ rs) d rs
-pops_first_record c d q rs leads fit = record {
-  captures = ap (λ (e : Contents). e ∷ reached_captures e rs) (sym leads);
-  fit = fit;
-  rest_fit = subst (λ (e : Contents). AllRecordsFit e rs) (sym leads) fit.1;
-  count = refl;
-}
-
-pub pops_next_record : (c d : Contents) (r : RecordView) (rs : List RecordView) → Some r ≡ slice_get rs 0
-    → d ≡ apply_record r c → AllRecordsFit c rs → PopsRecord c rs d (drop 1 rs)
-pops_next_record c d r [] first leads fit = absurd (cc)
-pops_next_record c d r (q ∷ rs) first leads fit = let same : r ≡ q = cc in
-    pops_first_record c d q rs (leads ∙ ap (λ (p : RecordView). apply_record p c) same) fit
-
--- the undo record is put in front
-pub pops_pushed_record : (c d : Contents) (r : RecordView) (rs : List RecordView) (n : ℕ) → apply_record r d ≡ c
-    → Fits r d → AllRecordsFit c rs → length rs < n → PopsRecord d (take n (r ∷ rs)) c rs
-pops_pushed_record c d r rs n leads fits fit room =
-    let whole : take n (r ∷ rs) ≡ r ∷ rs = take_all n (r ∷ rs) (omega arith) in
-    rw whole (pops_first_record d c r rs (sym leads)
-    (fits, subst (λ (e : Contents). AllRecordsFit e rs) (sym leads) fit))
-
--- a record that was taken out is put back in its place
-pub record_put_back : (r : RecordView) (rs : List RecordView) (n : ℕ) → Some r ≡ slice_get rs 0 → length rs ≤ n
-    → take n (r ∷ drop 1 rs) ≡ rs
-record_put_back r [] n first within = absurd (cc)
-record_put_back r (q ∷ rs) n first within = let same : r ≡ q = cc in rw same (take_all n (q ∷ rs) within)
-
 -- ---- out of memory
-
--- a step by the first record
-pub first_needs : (c : Contents) (r : RecordView) (rs : List RecordView) → Some r ≡ slice_get rs 0
-    → PutsInOrKeepsNames c (apply_record r c) → FirstMayNeedMemory c rs
-first_needs c r [] first needs = tt
-first_needs c r (q ∷ rs) first needs =
-    let same : r ≡ q = cc in subst (λ (p : RecordView). PutsInOrKeepsNames c (apply_record p c)) same needs
 
 pub undo_needs : (c : Contents) (past future : List RecordView) (depth : ℕ) → 0 < length past
     → FirstMayNeedMemory c past → MayNeedMemory (machine_of c past future depth) steps.Undo

@@ -4,7 +4,8 @@ use Rattle.std.proofs.Common.{List, [], ◌∷◌}
 use Rattle.std.proofs.Common.{length, take, Option, Some, None, sym, ap, subst, refl, inl, inr, ◌∙◌}
 use Rattle.std.proofs.Common.{arith}
 use Rattle.std.specs.Prelude.{nat_lt, not, min}
-use Rattle.std.proofs.lemmas.List.{length-take}
+use Rattle.std.proofs.lemmas.Bool.{cases_lt}
+use Rattle.std.proofs.lemmas.List.{length-take, take-take, take_all}
 use Rattle.vcd_core.specs.Contents.{Contents}
 use Rattle.vcd_edit.specs.declared.edit.Edit.{Edit}
 use Rattle.vcd_edit.specs.declared.fault.EditError.{EditError}
@@ -58,15 +59,11 @@ abbrev Follows : Contents → History → Step → StepOutcome → Type 0
 Follows c h s o = IsMachineOf c (history_after_answer h s o.answer) o.after
 
 taken_twice : (m n : ℕ) (cs : List Contents) → take m (take n cs) ≡ take (min m n) cs
-taken_twice zero n cs = let none : 0 ≡ min 0 n = omega arith in ap (λ k. take k cs) none
-taken_twice (suc m) zero cs = let none : 0 ≡ min (suc m) 0 = omega arith in ap (λ k. take k cs) none
-taken_twice (suc m) (suc n) [] =
-    let none : List Contents = [] in
-    let one_more : suc (min m n) ≡ min (suc m) (suc n) = omega arith in
-    ap (λ k. take k none) one_more
-taken_twice (suc m) (suc n) (c ∷ cs) =
-    let one_more : suc (min m n) ≡ min (suc m) (suc n) = omega arith in
-    ap (λ (r : List Contents). c ∷ r) (taken_twice m n cs) ∙ ap (λ k. take k (c ∷ cs)) one_more
+taken_twice m n cs = elim (cases_lt n m) [
+  | inl less ↦ take_all m (take n cs) (omega (arith, length-take n cs))
+      ∙ ap (λ k. take k cs) {x = n} {y = min m n} (omega arith)
+  | inr more ↦ take-take m n cs more ∙ ap (λ k. take k cs) {x = m} {y = min m n} (omega arith)
+]
 
 edit_follows : (c : Contents) (h : History) (e : Edit) (found : Option EditError) → h.undoable ≤ length h.edits
     → Follows c h (steps.Edit e) (edit_outcome found e (machine_of c h))
@@ -125,8 +122,6 @@ depth_choice depth m bad small = if bad then refused_outcome refusals.BadDepth m
 
 depth_follows : (c : Contents) (h : History) (depth : ℕ) (bad small : Bool) → h.undoable ≤ length h.edits
     → Follows c h (steps.Depth depth) (depth_choice depth (machine_of c h) bad small)
-depth_follows c h depth true small within = record { is = refl; undoable = within }
-depth_follows c h depth false true within = record { is = refl; undoable = within }
 depth_follows c h depth false false within =
     let now = replay c h.edits in
     let future = later_replays c h.edits h.undone in
@@ -138,6 +133,7 @@ depth_follows c h depth false false within =
       is = λ i. record { past = kept i; now = now; future = future; depth = depth };
       undoable = omega (arith, within);
     }
+depth_follows c h depth bad small within = record { is = refl; undoable = within }
 
 pub outcome_follows : (c : Contents) (h : History) (s : Step) → h.undoable ≤ length h.edits
     → Follows c h s (step_outcome (machine_of c h) s)
@@ -152,9 +148,7 @@ outcome_follows c h (steps.Depth depth) within =
 -- a step refused because memory ran out does not change the history
 refusal_counts_not : (h : History) (s : Step) → history_after_answer h s (memory_refusal s) ≡ h
 refusal_counts_not h (steps.Edit e) = refl
-refusal_counts_not h steps.Undo = refl
-refusal_counts_not h steps.Redo = refl
-refusal_counts_not h (steps.Depth depth) = refl
+refusal_counts_not h s = refl
 
 step_follows : (c : Contents) (h : History) (m : Machine) (s : Step) (a : Answer) (n : Machine) → IsMachineOf c h m
     → IsStep m s a n → IsMachineOf c (history_after_answer h s a) n
@@ -169,10 +163,9 @@ run_follows : (c : Contents) (h : History) (m : Machine) (asked : List Step) (an
     → IsMachineOf c h m → AreSteps m asked answers n → IsMachineOf c (history_after_all h asked answers) n
 unfolding AreSteps history_after_all
 run_follows c h m [] [] n f r = subst (IsMachineOf c h) (sym r) f
-run_follows c h m [] (a ∷ answers) n f r = absurd r
-run_follows c h m (s ∷ asked) [] n f r = absurd r
 run_follows c h m (s ∷ asked) (a ∷ answers) n f r =
     run_follows c (history_after_answer h s a) r.0 asked answers n (step_follows c h m s a r.0 f r.1) r.2
+run_follows c h m asked answers n f r = absurd r
 
 -- at the beginning no edit is in force
 pub first_follows : (c : Contents) (depth : ℕ) → IsMachineOf c (initial_history depth) (initial_machine c depth)

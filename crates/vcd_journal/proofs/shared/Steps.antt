@@ -1,6 +1,6 @@
 -- Steps of the machine, each from the contract of its call.
 use Rattle.std.proofs.Common.{◌≡◌, ◌≢◌, ◌<◌, ◌≤◌, ℕ, true, false, List, [], ◌∷◌, ◌++◌, None, length}
-use Rattle.std.proofs.Common.{refl, sym, ◌∙◌, ap}
+use Rattle.std.proofs.Common.{refl, ap}
 use Rattle.std.proofs.Common.{subst, inl, inr, arith}
 use Rattle.std.specs.Prelude.{nat_lt}
 use Rattle.std.proofs.lemmas.Bool.Decides.{nat_tests}
@@ -18,7 +18,7 @@ use Rattle.vcd_journal.specs.declared.step.StepError.TheVariants as refusals
 use Rattle.vcd_journal.specs.declared.step.Answer.{Answer}
 use Rattle.vcd_journal.specs.declared.step.Answer.TheVariants.{Done, Refused}
 use Rattle.vcd_journal.specs.Machine.{Machine, machine_after_edit, machine_after_depth}
-use Rattle.vcd_journal.specs.Machine.{refused_outcome, undo_outcome}
+use Rattle.vcd_journal.specs.Machine.{undo_outcome}
 use Rattle.vcd_journal.specs.Machine.{redo_outcome, step_outcome, MayNeedMemory, memory_refusal}
 use Rattle.vcd_journal.specs.Machine.{IsStep, AreSteps}
 use Rattle.vcd_journal.specs.History.{is_depth}
@@ -30,8 +30,7 @@ pub edit_accepted : (e : Edit) (m n : Machine) → edit_fault e m.now ≡ None �
 edit_accepted e m n none is = inl (rw (none, is) refl)
 
 pub edit_refused : (e : Edit) (found : EditError) (m n : Machine) → MayRefuse (edit_fault e m.now) found
-    → (IsRemove e → edit_fault e m.now ≡ None → ⊥) → n ≡ m
-    → IsStep m (steps.Edit e) (Refused (refusals.Edit found)) n
+    → (IsRemove e → edit_fault e m.now ≡ None → ⊥) → n ≡ m → IsStep m (steps.Edit e) (Refused (refusals.Edit found)) n
 edit_refused e found m n (inl here) never is = inl (rw (here, is) refl)
 edit_refused e found m n (inr refused) never is =
     inr (record {
@@ -43,19 +42,6 @@ edit_refused e found m n (inr refused) never is =
 
 -- ---- undo and redo
 
-pub undo_accepted : (m n : Machine) → m.past ≡ n.now ∷ n.past → n.future ≡ m.now ∷ m.future → n.depth ≡ m.depth
-    → IsStep m steps.Undo Done n
-undo_accepted m n back forth depth =
-    inl (rw back (λ i. record {
-      answer = Done;
-      after =
-          record { past = n.past; now = n.now; future = forth i; depth = depth i };
-    }))
-
-pub undo_refused : (m n : Machine) → m.past ≡ [] → n ≡ m → IsStep m steps.Undo (Refused refusals.NothingToUndo) n
-undo_refused m n none is =
-    inl (ap (refused_outcome refusals.NothingToUndo) is ∙ sym (ap (λ (past : List Contents). undo_outcome past m) none))
-
 undo_done : (m : Machine) (past : List Contents) → 0 < length past → (undo_outcome past m).answer ≡ Done
 undo_done m [] some = absurd (omega arith)
 undo_done m (back ∷ older) some = refl
@@ -64,20 +50,6 @@ pub undo_no_memory : (m n : Machine) → 0 < length m.past → MayNeedMemory m s
     → IsStep m steps.Undo (Refused refusals.NoMemory) n
 undo_no_memory m n some needs is =
     inr (record { needs = needs; accepted = undo_done m m.past some; answer = refl; unchanged = is })
-
-pub redo_accepted : (m n : Machine) → m.future ≡ n.now ∷ n.future → n.past ≡ m.now ∷ m.past → n.depth ≡ m.depth
-    → IsStep m steps.Redo Done n
-redo_accepted m n forth back depth =
-    inl (rw forth (λ i. record {
-      answer = Done;
-      after =
-          record { past = back i; now = n.now; future = n.future; depth = depth i };
-    }))
-
-pub redo_refused : (m n : Machine) → m.future ≡ [] → n ≡ m → IsStep m steps.Redo (Refused refusals.NothingToRedo) n
-redo_refused m n none is =
-    inl (ap (refused_outcome refusals.NothingToRedo) is
-    ∙ sym (ap (λ (future : List Contents). redo_outcome future m) none))
 
 redo_done : (m : Machine) (future : List Contents) → 0 < length future → (redo_outcome future m).answer ≡ Done
 redo_done m [] some = absurd (omega arith)
@@ -92,10 +64,6 @@ redo_no_memory m n some needs is =
 
 pub depth_within : (depth : ℕ) → is_depth depth ≡ true → depth ≤ DEPTH_LIMIT
 depth_within depth valid = grind (arith, nat_tests)
-
-pub depth_refused : (depth : ℕ) (m n : Machine) → is_depth depth ≡ false → n ≡ m
-    → IsStep m (steps.Depth depth) (Refused refusals.BadDepth) n
-depth_refused depth m n bad is = inl (rw (is, bad) refl)
 
 pub depth_too_small : (depth : ℕ) (m n : Machine) → is_depth depth ≡ true → depth < length m.future → n ≡ m
     → IsStep m (steps.Depth depth) (Refused refusals.DepthTooSmall) n
@@ -117,10 +85,6 @@ depth_no_memory depth m n is_one most greater is =
 
 -- ---- all steps
 
--- the outcome of a step with enough memory is a possible one
-pub ample_step : (m : Machine) (s : Step) → IsStep m s (step_outcome m s).answer (step_outcome m s).after
-ample_step m s = inl refl
-
 -- a step that is not refused because memory ran out has that outcome
 pub outcome_of_step : (m : Machine) (s : Step) (a : Answer) (n : Machine) → IsStep m s a n → a ≢ memory_refusal s
     → record { answer = a; after = n } ≡ step_outcome m s
@@ -139,7 +103,6 @@ pub steps_lead_more : (m : Machine) (asked : List Step) (answers : List Answer) 
 unfolding AreSteps
 steps_lead_more m [] [] n s a last before step =
     (last, subst (λ (from : Machine). IsStep from s a last) before step, refl)
-steps_lead_more m [] (b ∷ answers) n s a last before step = absurd before
-steps_lead_more m (r ∷ asked) [] n s a last before step = absurd before
 steps_lead_more m (r ∷ asked) (b ∷ answers) n s a last before step =
     (before.0, before.1, steps_lead_more before.0 asked answers n s a last before.2 step)
+steps_lead_more m asked answers n s a last before step = absurd before

@@ -35,8 +35,7 @@ their_answers = Done ∷ Done ∷ Done ∷ Done ∷ Refused refusals.DepthTooSma
     ∷ Done ∷ []
 
 -- a rename stays in force after the history has dropped its capture
-still_in_force :
-    history_after_all (initial_history 2) three_renames their_answers
+still_in_force : history_after_all (initial_history 2) three_renames their_answers
     ≡ record {
       edits = rename (codes "b") ∷ [];
       undone = rename (codes "c") ∷ rename (codes "d") ∷ [];
@@ -47,8 +46,7 @@ unfolding history_after_all
 still_in_force = refl
 
 -- the replays of the edits in force on the first capture, earlier and later
-replays_of_three :
-    (replay (named (codes "a")) (rename (codes "c") ∷ rename (codes "b") ∷ []) ≡ named (codes "c"))
+replays_of_three : (replay (named (codes "a")) (rename (codes "c") ∷ rename (codes "b") ∷ []) ≡ named (codes "c"))
     × (earlier_replays (named (codes "a")) (rename (codes "c") ∷ rename (codes "b") ∷ [])
     ≡ named (codes "b") ∷ named (codes "a") ∷ [])
     × (later_replays (named (codes "a")) (rename (codes "b") ∷ []) (rename (codes "c") ∷ rename (codes "d") ∷ [])
