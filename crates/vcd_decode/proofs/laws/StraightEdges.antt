@@ -5,6 +5,7 @@ use Rattle.std.proofs.Common.{refl, sym, ap, subst, ◌∙◌}
 use Rattle.std.specs.List.{filter, filter_map, flat_map, range_with_len, slice_split}
 use Rattle.std.specs.Option.{option_to_list, option_map_or}
 use Rattle.std.proofs.Math.Bool.{and_assoc}
+use Rattle.std.proofs.lemmas.Bool.{cond_both}
 use Rattle.std.proofs.lemmas.List.Elements.{All-nil, All-cons, All-head, All-tail, All-append, filter_passes}
 use Rattle.vcd_core.specs.declared.bit.Bit.{Bit}
 use Rattle.vcd_core.specs.declared.bit.Bit.TheVariants.{Zero, One, Z}
@@ -81,20 +82,16 @@ module _ (line : ℕ → Bit) (end : ℕ) (u : UartSetup) where
   unfolding frames
   of_falls [] taken all = All-nil begins_at_fall
   of_falls (start ∷ starts) taken all =
-      choose (nat_le start taken) (All-head falls_at start starts all)
-      (λ from. of_falls starts from (All-tail falls_at start starts all))
-    where
-      choose : (early : Bool) → falls_at start
-          → ((from : ℕ) → All begins_at_fall (frames (begun_frame line end u) from starts))
-          → All begins_at_fall (option_to_list (if early then None else begun_frame line end u start)
-          ++ frames (begun_frame line end u)
-          (option_map_or (λ a. a.end) (if early then None else begun_frame line end u start) taken) starts)
-      choose true fall later = later taken
-      choose false fall later =
-          let frame = begun_frame line end u start in
-          let after = option_map_or (λ a. a.end) frame taken in
-          All-append begins_at_fall (option_to_list frame) (frames (begun_frame line end u) after starts)
-          (of_option frame start fall (begins_there line end u start)) (later after)
+      let frame = begun_frame line end u start in
+      let after : Option Annotation → ℕ = λ some. option_map_or (λ a. a.end) some taken in
+      let later : (from : ℕ) → All begins_at_fall (frames (begun_frame line end u) from starts) =
+      λ from. of_falls starts from (All-tail falls_at start starts all) in
+      cond_both (nat_le start taken) None frame
+      (λ some. All begins_at_fall (option_to_list some ++ frames (begun_frame line end u) (after some) starts))
+      (λ _. later taken)
+      (λ _. All-append begins_at_fall (option_to_list frame) (frames (begun_frame line end u) (after frame) starts)
+      (of_option frame start (All-head falls_at start starts all) (begins_there line end u start))
+      (later (after frame)))
 
 pub frames_begin : FramesBeginStraight
 unfolding uart_annotations falls

@@ -1,5 +1,5 @@
 -- A list that is empty where no line changes: over all ticks it is the list over the edges.
-use Rattle.std.proofs.Common.{◌≡◌, ℕ, zero, suc, ◌||◌, Bool, true, false, not, cond, Option, Some}
+use Rattle.std.proofs.Common.{◌≡◌, ℕ, zero, suc, Bool, false, not, Option, Some}
 use Rattle.std.proofs.Common.{None, List, [], ◌∷◌}
 use Rattle.std.proofs.Common.{◌++◌, map, replicate, get_or, All, refl, sym, ap, subst, ◌∙◌}
 use Rattle.std.specs.List.{cons_option, filter, flat_map, list_any, range_with_len, AllByRecursion}
@@ -12,6 +12,7 @@ use Rattle.vcd_core.specs.inside.value.EqualByLetters.{same_letters-Decides}
 use Rattle.vcd_core.specs.WaveView.{WaveView}
 use Rattle.vcd_core.specs.Edges.{Trace, trace_of, value_on, value_before, same_value, changes_at}
 use Rattle.vcd_core.specs.Edges.{edge_on, edges_on}
+use Rattle.std.proofs.lemmas.Bool.{cond_both, not-false, or_parts}
 use Rattle.std.proofs.lemmas.Simd.{map-map}
 use Rattle.std.proofs.lemmas.List.Elements.{All-map, recursion_from_All}
 use Rattle.vcd_core.specs.BitEdges.{lowest_bit, bit_edge, bit_edges_of}
@@ -59,26 +60,18 @@ edge_is waves t =
 
 -- ---- where no wave changes
 
-both_fail : (p q : Bool) → (p || q) ≡ false → (p ≡ false) × (q ≡ false)
-both_fail true q none = absurd (cc)
-both_fail false q none = (refl, none)
-
 same_where : (v w : Option (List Bit)) → not (same_value v w) ≡ false → v ≡ w
 same_where None None none = refl
 same_where None (Some w) none = absurd (cc)
 same_where (Some v) None none = absurd (cc)
 same_where (Some v) (Some w) none =
-    ap (λ (u : List Bit). Some u) ((same_letters-Decides v w).0 (twice (same_letters v w) none))
-  where
-    twice : (b : Bool) → not b ≡ false → b ≡ true
-    twice true none = refl
-    twice false none = absurd (cc)
+    ap (λ (u : List Bit). Some u) ((same_letters-Decides v w).0 (not-false (same_letters v w) none))
 
 still_values : (ls : List Trace) (t : ℕ) → list_any (changes_at t) ls ≡ false
     → map (λ l. value_on l t) ls ≡ map (λ l. value_before l t) ls
 still_values [] t none = refl
 still_values (l ∷ ls) t none =
-    let fail = both_fail (changes_at t l) (list_any (changes_at t) ls) none in
+    let fail = or_parts (changes_at t l) (list_any (changes_at t) ls) none in
     let here = same_where (value_on l t) (value_before l t) fail.0 in
     λ i. here i ∷ still_values ls t fail.1 i
 
@@ -132,15 +125,12 @@ module _ (waves : List (Option WaveView)) where
     over_kept : (ticks : List ℕ)
         → flat_map g (map (line_edge lines) (filter changes ticks)) ≡ flat_map (λ t. g (line_edge lines t)) ticks
     over_kept [] = refl
-    over_kept (t ∷ ticks) = choose (changes t) refl (over_kept ticks)
-      where
-        choose : (b : Bool) → changes t ≡ b → flat_map g (map (line_edge lines) (filter changes ticks))
-            ≡ flat_map (λ u. g (line_edge lines u)) ticks
-            → flat_map g (map (line_edge lines) (cond b (t ∷ filter changes ticks) (filter changes ticks)))
-            ≡ g (line_edge lines t) ++ flat_map (λ u. g (line_edge lines u)) ticks
-        choose true change later = ap (λ xs. g (line_edge lines t) ++ xs) later
-        choose false none later = later
-            ∙ ap (λ xs. xs ++ flat_map (λ u. g (line_edge lines u)) ticks) (sym (still t (still_bits waves t none)))
+    over_kept (t ∷ ticks) =
+        let all = flat_map (λ u. g (line_edge lines u)) ticks in
+        cond_both (changes t) (t ∷ filter changes ticks) (filter changes ticks)
+        (λ kept. flat_map g (map (line_edge lines) kept) ≡ g (line_edge lines t) ++ all)
+        (λ _. ap (λ xs. g (line_edge lines t) ++ xs) (over_kept ticks))
+        (λ none. over_kept ticks ∙ ap (λ xs. xs ++ all) (sym (still t (still_bits waves t none))))
 
     -- a list that is empty where no line changes
     pub over_edges : (end : ℕ)

@@ -8,7 +8,7 @@ use Rattle.std.specs.Option.{is_some, option_map}
 use Rattle.std.proofs.Math.Nat.{pow-suc}
 use Rattle.std.proofs.Math.Seq.{get_or-append_seam}
 use Rattle.std.proofs.Math.Bool.{or-false}
-use Rattle.std.proofs.lemmas.Bool.{lt-ltb, le-ltb, ne_eqb}
+use Rattle.std.proofs.lemmas.Bool.{cond_both, lt-ltb, le-ltb, ne_eqb}
 use Rattle.std.proofs.lemmas.List.Folds.{list_any-append}
 use Rattle.std.proofs.lemmas.List.{length-append, length-map, length-reverse, reverse-append}
 use Rattle.std.proofs.lemmas.List.{map-append}
@@ -89,14 +89,11 @@ line_last order (Some f) ts t =
 pub line_fits : (order : BitOrder) (line : Option (ℕ → Bit)) (ts : List ℕ)
     → DataFits (length ts) (line_data order line ts)
 line_fits order None ts = tt
-line_fits order (Some f) ts = choose (list_any is_unclear (map f ts))
-  where
-    below : ordered_number order (map f ts) < 2 ^ length ts
-    below = omega (arith, ordered_below order (map f ts), ap (λ n. 2 ^ n) (length-map ts f))
-
-    choose : (c : Bool) → DataFits (length ts) (if c then Unknown else Number (ordered_number order (map f ts)))
-    choose true = tt
-    choose false = below
+line_fits order (Some f) ts =
+    let below : ordered_number order (map f ts) < 2 ^ length ts =
+    omega (arith, ordered_below order (map f ts), ap (λ n. 2 ^ n) (length-map ts f)) in
+    cond_both (list_any is_unclear (map f ts)) Unknown (Number (ordered_number order (map f ts)))
+    (DataFits (length ts)) (λ _. tt) (λ _. below)
 
 pub line_first : (order : BitOrder) (wave : Option WaveView)
     → first_data (is_some wave) ≡ line_data order (option_map line_of wave) []

@@ -8,8 +8,7 @@ use Rattle.vcd_decode.specs.Lines.{is_zero, annotation}
 use Rattle.vcd_decode.specs.Uart.{sample_tick, last_bit, frame_kind, frame_letters, begun_frame}
 
 module _ (f : ℕ → Bit) (end : ℕ) (u : UartSetup) (start : ℕ) where
-  pub cut_in_start_bit : end < sample_tick u start 0
-      → begun_frame f end u start ≡ Some (annotation start end CutOff)
+  pub cut_in_start_bit : end < sample_tick u start 0 → begun_frame f end u start ≡ Some (annotation start end CutOff)
   unfolding begun_frame
   cut_in_start_bit past = rw (lt-ltb end (sample_tick u start 0) past) refl
 

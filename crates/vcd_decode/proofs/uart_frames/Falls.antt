@@ -6,7 +6,7 @@ use Rattle.std.proofs.Common.{append_assoc}
 use Rattle.std.proofs.Common.{append-nil, refl, sym, ap, subst, ◌∙◌, inl, inr, arith, add-one}
 use Rattle.std.specs.List.{filter, range_with_len}
 use Rattle.std.specs.Option.{option_to_list, option_map_or}
-use Rattle.std.proofs.lemmas.Bool.{cases_eq, cases_lt, lt-leb, le-leb, lt-ltb, le-ltb}
+use Rattle.std.proofs.lemmas.Bool.{cases_eq, cases_lt, cond_both, lt-leb, le-leb, lt-ltb, le-ltb}
 use Rattle.std.proofs.lemmas.List.{drop_all}
 use Rattle.vcd_core.specs.declared.bit.Bit.{Bit}
 use Rattle.vcd_core.specs.declared.bit.Bit.TheVariants.{Zero, X}
@@ -121,15 +121,12 @@ pub one_change : (begun : ℕ → Option Annotation) (taken : ℕ) (before : Bit
     ≡ option_to_list frame ++ frames begun (option_map_or (λ a. a.end) frame taken) (fall_ticks (letter_of c) cs)
 unfolding fall_ticks
 one_change begun taken before c cs frame is =
-    rw is (choose (is_one before && is_zero (letter_of c) && nat_lt taken c.tick) refl)
-  where
-    choose : (b : Bool) → (is_one before && is_zero (letter_of c) && nat_lt taken c.tick) ≡ b
-        → frames begun taken (cond (is_one before && is_zero (letter_of c)) (c.tick ∷ fall_ticks (letter_of c) cs)
-        (fall_ticks (letter_of c) cs)) ≡ option_to_list (if b then begun c.tick else None)
-        ++ frames begun (option_map_or (λ a. a.end) (if b then begun c.tick else None) taken)
-        (fall_ticks (letter_of c) cs)
-    choose true e = begins begun taken c.tick (fall_ticks (letter_of c) cs) (is_one before && is_zero (letter_of c)) e
-    choose false e = passed begun taken c.tick (fall_ticks (letter_of c) cs) (is_one before && is_zero (letter_of c)) e
+    let fall = is_one before && is_zero (letter_of c) in
+    let rest = fall_ticks (letter_of c) cs in
+    rw is (cond_both (fall && nat_lt taken c.tick) (begun c.tick) None
+    (λ some. frames begun taken (cond fall (c.tick ∷ rest) rest)
+    ≡ option_to_list some ++ frames begun (option_map_or (λ a. a.end) some taken) rest)
+    (begins begun taken c.tick rest fall) (passed begun taken c.tick rest fall))
 
 -- ---- the walk over the changes
 

@@ -1,6 +1,5 @@
 -- The ticks at which a frame is sampled.
-use Rattle.std.proofs.Common.{◌≡◌, ℕ, zero, suc, ◌+◌, ◌*◌, ◌/◌, ◌≤◌, ◌∷◌, map, refl, arith}
-use Rattle.std.specs.List.{range_with_len}
+use Rattle.std.proofs.Common.{ℕ, zero, suc, ◌+◌, ◌*◌, ◌/◌, ◌≤◌, arith}
 use Rattle.std.proofs.Math.Nat.{mul-le-mul_right, le-div_iff_mul-le, div-mul-le_self, div-zero}
 use Rattle.std.proofs.Math.Nat.{le_trans}
 use Rattle.vcd_decode.specs.UartSetup.{UartSetup}
@@ -17,9 +16,3 @@ unfolding sample_offset
 offsets_rise u k m le =
     quotients_rise ((2 * k + 1) * u.numerator) ((2 * m + 1) * u.numerator) (2 * u.denominator)
     (mul-le-mul_right u.numerator (omega arith))
-
--- a list by the number after each index
-pub shifted : {X : Type 0} (f : ℕ → X) (a n : ℕ)
-    → map (λ k. f (k + 1)) (range_with_len a n) ≡ map f (range_with_len (a + 1) n)
-shifted f a zero = refl
-shifted f a (suc n) = λ i. f (a + 1) ∷ shifted f (a + 1) n i

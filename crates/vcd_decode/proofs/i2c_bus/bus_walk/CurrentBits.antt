@@ -1,8 +1,8 @@
 -- The state of the current bits.
-use Rattle.std.proofs.Common.{◌≡◌, ◌+◌, ◌-◌, ◌<◌, ◌==◌, Bool, true, false, if◌then◌else◌, List, []}
+use Rattle.std.proofs.Common.{◌≡◌, ◌+◌, ◌-◌, ◌<◌, if◌then◌else◌, List, []}
 use Rattle.std.proofs.Common.{◌∷◌, length, fold}
 use Rattle.std.proofs.Common.{refl, sym, ap, ◌∙◌, arith, add-zero}
-use Rattle.std.proofs.lemmas.Bool.Decides.{Decides-eqb}
+use Rattle.std.proofs.lemmas.Bool.{ne_eqb}
 use Rattle.std.specs.Prelude.{slice_index}
 use Rattle.vcd_decode.specs.declared.i2c_bus.events.BusBit.{BusBit}
 use Rattle.vcd_decode.specs.declared.i2c_bus.bytes.PartialByte.{PartialByte}
@@ -16,11 +16,8 @@ kept_count (b ∷ g) p = kept_count g (partial_byte_with p b) ∙ omega arith
 
 kept_first : (g : List BusBit) (p : PartialByte) → 0 < p.count → (fold partial_byte_with p g).first ≡ p.first
 kept_first [] p some = refl
-kept_first (b ∷ g) p some = kept_first g (partial_byte_with p b) (omega arith) ∙ choose (p.count == 0) refl
-  where
-    choose : (e : Bool) → (p.count == 0) ≡ e → (if e then b.tick else p.first) ≡ p.first
-    choose true is = let none : p.count ≡ 0 = (Decides-eqb p.count 0).0 is in absurd (omega arith)
-    choose false is = refl
+kept_first (b ∷ g) p some = kept_first g (partial_byte_with p b) (omega arith)
+    ∙ ap (λ e. if e then b.tick else p.first) (ne_eqb p.count 0 (omega arith))
 
 kept_last : (g : List BusBit) (b : BusBit) (p : PartialByte)
     → (fold partial_byte_with p (b ∷ g)).last ≡ slice_index (ticks_of (b ∷ g)) (length g)

@@ -7,7 +7,7 @@ use Rattle.std.proofs.Common.{◌∙◌, inl, inr, arith}
 use Rattle.std.specs.Option.{option_or}
 use Rattle.std.specs.List.{cons_option}
 use Rattle.vcd_core.specs.declared.memory.NoMemory.{NoMemory}
-use Rattle.std.proofs.lemmas.Bool.{cases_eq, ne_eqb}
+use Rattle.std.proofs.lemmas.Bool.{cases_eq, cond_both, ne_eqb}
 use Rattle.std.proofs.lemmas.Bool.Decides.{Decides-eqb}
 use Rattle.std.proofs.lemmas.List.{length_push, take_at, drop_at, append-nil, append_assoc}
 use Rattle.std.proofs.lemmas.List.Sums.{fold-append}
@@ -64,11 +64,8 @@ left_is role (b ∷ g) given =
 -- they show no address
 none_given : (g : List BusBit) → shown_address (rest_annotations true g) ≡ None
 unfolding shown_address
-none_given g = choose (nat_le 2 (length g))
-  where
-    choose : (e : Bool) → shown_address (if e then bits_annotation g (kinds.Unfinished (length g)) ∷ [] else []) ≡ None
-    choose true = refl
-    choose false = refl
+none_given g = cond_both (nat_le 2 (length g)) (bits_annotation g (kinds.Unfinished (length g)) ∷ []) []
+    (λ found. shown_address found ≡ None) (λ _. refl) (λ _. refl)
 
 -- ---- a whole byte
 

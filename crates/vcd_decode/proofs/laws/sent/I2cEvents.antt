@@ -64,12 +64,8 @@ module _ (scl sda : ℕ → Bit) (at : ℕ → ℕ) (rises : (k : ℕ) → at k 
       ap (λ n. filter_map event (range_with_len (suc t) n)) none
   walked stop (p ∷ ps) i t before first last prior all =
       let next = at (suc i) in
-      let later : next < suc stop = omega (
-        arith,
-        last,
-        ticks_rise at (suc i) (length ps) rises,
-        ap at {x = length ps + suc i} {y = length (p ∷ ps) + i} (omega arith),
-      ) in
+      let reach = ap at {x = length ps + suc i} {y = length (p ∷ ps) + i} (omega arith) in
+      let later : next < suc stop = omega (arith, last, ticks_rise at (suc i) (length ps) rises, reach) in
       let long = next - suc (suc t) in
       let rise : suc t < next = omega (arith, first, rises i) in
       let size : stop - suc t ≡ suc (long + (stop - next)) = omega arith in
@@ -107,13 +103,8 @@ module _ (scl sda : ℕ → Bit) (at : ℕ → ℕ) (rises : (k : ℕ) → at k 
       λ j s below from to. λ k. levels ((have j s below from to).0 k) ((have j s below from to).1 k) in
       let free : (s : ℕ) → s < at 1 → bus s ≡ levels One One =
       λ s to. here 0 s (omega arith) (omega (arith, first)) to in
-      let within : at 1 ≤ suc end =
-      omega (
-        arith,
-        last,
-        ticks_rise at 1 (length ps) rises,
-        ap at {x = length ps + 1} {y = suc (length ps)} (omega arith),
-      ) in
+      let reach = ap at {x = length ps + 1} {y = suc (length ps)} (omega arith) in
+      let within : at 1 ≤ suc end = omega (arith, last, ticks_rise at 1 (length ps) rises, reach) in
       let size : end ≡ (at 1 - 1) + (suc end - at 1) = omega (arith, rise, within) in
       let tick : 1 + (at 1 - 1) ≡ at 1 = omega (arith, rise) in
       let previous : at 1 ≡ suc (at 1 - 1) = omega (arith, rise) in

@@ -3,7 +3,7 @@ use Rattle.std.proofs.Common.{◌≡◌, ℕ, zero, suc, ◌+◌, ◌-◌, ◌<�
 use Rattle.std.proofs.Common.{if◌then◌else◌, inl, inr, List, [], ◌∷◌, ◌++◌, map, append_assoc}
 use Rattle.std.proofs.Common.{append-nil, refl, sym, ap, ◌∙◌, arith}
 use Rattle.std.specs.List.{filter, flat_map, range_with_len}
-use Rattle.std.proofs.lemmas.Bool.{and_right, cases_eq, cases_lt}
+use Rattle.std.proofs.lemmas.Bool.{and_right, cases_eq, cases_lt, cond_both}
 use Rattle.vcd_core.specs.declared.bit.Bit.{Bit}
 use Rattle.vcd_core.specs.declared.bit.Bit.TheVariants.{X}
 use Rattle.vcd_decode.specs.SpiSetup.{SpiSetup}
@@ -35,11 +35,8 @@ no_edge_idle (suc (suc (suc (suc m)))) most = absurd (omega arith)
 no_edge_idle mode most = refl
 
 no_edge_x : (mode : ℕ) (y : Bit) → edge_of mode X y ≡ false
-no_edge_x mode y = choose (mode == 0 || mode == 3)
-  where
-    choose : (b : Bool) → (if b then is_zero X && is_one y else is_one X && is_zero y) ≡ false
-    choose true = refl
-    choose false = refl
+no_edge_x mode y = cond_both (mode == 0 || mode == 3) (is_zero X && is_one y) (is_one X && is_zero y)
+    (λ b. b ≡ false) (λ _. refl) (λ _. refl)
 
 -- ---- the ticks that pass a test
 
