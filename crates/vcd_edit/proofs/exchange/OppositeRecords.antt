@@ -213,20 +213,16 @@ signal_stores advance c k None after may is =
     (length-take-le k (map Some after) (omega (arith, may, count))) in
     let mine : length (signal_at c k).changes ≡ touched_in_signal (advance (0 + k)) (signal_at c k) (get_or ns k None) =
     ap (touched_in_signal (advance (0 + k)) (signal_at c k)) (sym partner) in
-    omega (
-      arith,
-      mine,
-      touched_at_least advance 0 c.signals ns k no_signal None may
-          (omega (arith, may, count, length-insert (map Some after) k None (omega (arith, may, count)))),
-    )
+    let long : k < length ns =
+    omega (arith, may, count, length-insert (map Some after) k None (omega (arith, may, count))) in
+    omega (arith, mine, touched_at_least advance 0 c.signals ns k no_signal None may long)
 
 -- what undoes a step also fits
 undoes : (c : Contents) (r q : RecordView) → IsSound c → apply_record q (apply_record r c) ≡ c
     → All (PieceFits (apply_record r c)) q.pieces → WordFits (apply_record r c) q.word
     → SignalFits (apply_record r c) q.signal → ((advance : ℕ → ℤ) → All (λ p. advance p.signal ≡ neg_ℤ p.by) r.pieces
     → stored_changes q ≤ touched_from advance 0 c.signals
-    (partners (record_pairing r.signal) (apply_record r c).signals))
-    → IsOppositeRecord c r q
+    (partners (record_pairing r.signal) (apply_record r c).signals)) → IsOppositeRecord c r q
 undoes c r q sound leads pieces word signal stored = record {
   fits = record { pieces = pieces; word = word; signal = signal; sound = subst IsSound (sym leads) sound };
   leads = leads;

@@ -81,12 +81,9 @@ module _ (end at : ℕ) (s : SignalContents) (signals : List Signal) where
   MayPut = (at ≤ length signals) × AreSoundSignals end (insert ss at s)
 
   count_put : at ≤ length signals → length (insert ss at s) ≡ length signals + 1
-  count_put within = omega (
-    arith,
-    within,
-    length-map signals signal_contents,
-    length-insert ss at s (omega (arith, within, length-map signals signal_contents)),
-  )
+  count_put within =
+      let size = length-map signals signal_contents in
+      omega (arith, within, size, length-insert ss at s (omega (arith, within, size)))
 
   pub put_by_tests : at ≤ length signals → length signals < SIGNAL_LIMIT → IsSoundSignal end s
       → All (IsSoundSignal end) ss → MayPut
@@ -187,9 +184,6 @@ module _ (r : RecordView) (c : Contents) where
   )
 
   pub parts_fits : Fits r c → PartsFit (unwrap_or r.other_end c.end) r c
-  parts_fits fits = (
-    fits.pieces,
-    fits.word,
-    fits.signal,
-    (fits.sound.few, subst (λ end. All (IsSoundSignal end) (apply_record r c).signals) end_then fits.sound.signals),
-  )
+  parts_fits fits =
+      let signals = subst (λ end. All (IsSoundSignal end) (apply_record r c).signals) end_then fits.sound.signals in
+      (fits.pieces, fits.word, fits.signal, (fits.sound.few, signals))

@@ -1,8 +1,8 @@
 -- Which pieces fit a capture, as one pass over its signals shows.
 use Rattle.std.proofs.Common.{◌≡◌, ◌↔◌, ℕ, zero, suc, ◌+◌, ◌-◌, ◌<◌, ◌≤◌, ◌==◌, Bool, true, false}
 use Rattle.std.proofs.Common.{List, [], ◌∷◌, length, map, take, drop, get_or, All, refl, sym}
-use Rattle.std.proofs.Common.{if◌then◌else◌, ap, subst, ◌∙◌, arith}
-use Rattle.std.proofs.lemmas.Bool.{eqb-true, eqb-false, eq-eqb}
+use Rattle.std.proofs.Common.{if◌then◌else◌, ap, subst, ◌∙◌, inl, inr, arith}
+use Rattle.std.proofs.lemmas.Bool.{cases_eq, eqb-true, eqb-false, eq-eqb}
 use Rattle.std.proofs.lemmas.List.{length-map, length-drop, get_or-map, get_or_default, take_rest, drop-map}
 use Rattle.std.proofs.lemmas.List.{drop-drop, drop_all}
 use Rattle.std.proofs.lemmas.List.Elements.{All-nil, All-cons, All-head, All-tail}
@@ -45,11 +45,8 @@ AreSoundThen end k c ps = (j : ℕ) → k ≤ j → j < length c.signals → IsS
 
 -- the signal at a position, and the later ones
 at_or_later : (P : ℕ → Type 0) (k n : ℕ) → P k → ((j : ℕ) → suc k ≤ j → j < n → P j) → (j : ℕ) → k ≤ j → j < n → P j
-at_or_later P k n here later j from to = choose (j == k) refl
-  where
-    choose : (b : Bool) → (j == k) ≡ b → P j
-    choose true same = subst P (sym (eqb-true j k same)) here
-    choose false other = later j (let differs = eqb-false j k other in omega (arith, from, differs)) to
+at_or_later P k n here later j from to =
+    elim (cases_eq j k) [ inl same ↦ subst P (sym same) here | inr other ↦ later j (omega (arith, from, other)) to ]
 
 module _ (end : ℕ) (c : Contents) where
   -- what a signal with its piece is

@@ -1,9 +1,9 @@
 -- The short runs of a wave, of which a deglitch leaves none.
-use Rattle.std.proofs.Common.{◌≡◌, ◌≢◌, ℕ, zero, suc, ◌+◌, ◌-◌, ◌<◌, ◌≤◌, ◌==◌, ◌||◌, Bool, true}
+use Rattle.std.proofs.Common.{◌≡◌, ◌≢◌, ℕ, zero, suc, ◌+◌, ◌-◌, ◌<◌, ◌≤◌, ◌==◌, ◌||◌, true}
 use Rattle.std.proofs.Common.{false, nat_le}
 use Rattle.std.proofs.Common.{if◌then◌else◌, List, length, None, ◌⊎◌, inl, inr, refl, sym, ap}
 use Rattle.std.proofs.Common.{subst, ◌∙◌, arith}
-use Rattle.std.proofs.lemmas.Bool.{cases_lt, cases_eq}
+use Rattle.std.proofs.lemmas.Bool.{cases_lt, cases_eq, cases_Bool, iff_false, true_from_ne_false}
 use Rattle.std.proofs.lemmas.Bool.Decides.{nat_tests}
 use Rattle.std.proofs.lemmas.List.{length-set, get_or-set_same, set-get_or}
 use Rattle.vcd_core.specs.declared.bit.Bit.{Bit}
@@ -25,12 +25,10 @@ use Rattle.vcd_edit.proofs.shared.SoundEffects.{effect_is_sound, sound_at}
 use Rattle.vcd_edit.proofs.plans.Runs.{run_stays, run_falls, if_same, if_other, deglitch_is_wave}
 
 same_or_other : (v w : List Bit) → (v ≡ w) ⊎ (v ≢ w)
-same_or_other v w = choose (same_letters v w) refl
-  where
-    choose : (b : Bool) → same_letters v w ≡ b → (v ≡ w) ⊎ (v ≢ w)
-    choose true is = inl ((same_letters-Decides v w).0 is)
-    choose false is =
-        inr (λ equal. let both : true ≡ false = sym ((same_letters-Decides v w).1 equal) ∙ is in absurd (cc))
+same_or_other v w = elim (cases_Bool (same_letters v w)) [
+  | inl is ↦ inl ((same_letters-Decides v w).0 is)
+  | inr is ↦ inr (iff_false (same_letters-Decides v w) is)
+]
 
 -- ---- the run that contains a tick
 
@@ -96,11 +94,8 @@ end_is f t (suc n) =
 changes_steady : (n end : ℕ) (f : ℕ → List Bit) (t : ℕ) → steady_value n end f t ≢ steady_value n end f (suc t)
     → is_steady n end f (suc t) ≡ true
 unfolding steady_value
-changes_steady n end f t other = choose (is_steady n end f (suc t)) refl
-  where
-    choose : (b : Bool) → is_steady n end f (suc t) ≡ b → is_steady n end f (suc t) ≡ true
-    choose true is = is
-    choose false is = absurd (other (ap (λ b. if b then f (suc t) else steady_value n end f t) (sym is)))
+changes_steady n end f t other =
+    true_from_ne_false _ (λ is. other (ap (λ b. if b then f (suc t) else steady_value n end f t) (sym is)))
 
 long_by : (n end a b : ℕ) → (a == 0 || b == end || nat_le n (b - a + 1)) ≡ true → 0 < a → b < end → n ≤ b - a + 1
 long_by n end a b steady late early = grind (arith, nat_tests)

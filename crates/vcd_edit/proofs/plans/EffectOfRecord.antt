@@ -129,8 +129,7 @@ pub wave_plan : (e : Edit) (c : Contents) (k : ℕ) (f : SignalContents → ℕ 
     (p : Piece) (made : Result RecordView NoMemory) → IsSound c → edit_fault e c ≡ None
     → k < length c.signals → signal_at c k ≡ s → effect e c ≡ with_wave c k (f (signal_at c k))
     → edit_advance e ≡ neg_ℤ by → edit_pairing e c ≡ stays → GivesValues k s c.end by (f s) p
-    → IfOk made (λ r. r ≡ parts (piece_view p ∷ []) None None None)
-    → IfOk made (IsPlan e c)
+    → IfOk made (λ r. r ≡ parts (piece_view p ∷ []) None None None) → IfOk made (IsPlan e c)
 wave_plan e c k f by s p made sound none within here is advance pairing gives told =
     IfOk-weaker made (λ r. r ≡ parts (piece_view p ∷ []) None None None)
     (IsPlan e c)

@@ -1,9 +1,9 @@
 -- The piece of a wave that forces one value at a range of ticks.
-use Rattle.std.proofs.Common.{◌≡◌, ℕ, zero, suc, ◌+◌, ◌-◌, ◌<◌, ◌≤◌, ◌&&◌, Bool, true, false}
+use Rattle.std.proofs.Common.{◌≡◌, ℕ, zero, suc, ◌+◌, ◌-◌, ◌<◌, ◌≤◌, ◌&&◌}
 use Rattle.std.proofs.Common.{nat_lt, nat_le}
 use Rattle.std.proofs.Common.{if◌then◌else◌, pos, List, [], ◌++◌, refl, sym, ap, ◌∙◌, arith}
 use Rattle.std.specs.List.{count_by}
-use Rattle.std.proofs.lemmas.Bool.{lt-ltb, le-leb, le-ltb, lt-leb}
+use Rattle.std.proofs.lemmas.Bool.{and_right, lt-ltb, le-leb, le-ltb, lt-leb}
 use Rattle.std.proofs.lemmas.Int.{ints}
 use Rattle.vcd_core.specs.declared.bit.Bit.{Bit}
 use Rattle.vcd_core.specs.declared.capture.TheConstants.{END_LIMIT}
@@ -29,11 +29,8 @@ module _ (a b : ℕ) (v : List Bit) (s : SignalContents) where
   before_range t early = ap (λ p. if p && nat_lt t b then v else signal_value s t) (lt-leb a t early)
 
   pub after_range : (t : ℕ) → b ≤ t → forced t ≡ signal_value s t
-  after_range t late = either (nat_le a t) (nat_lt t b) (le-ltb t b late)
-    where
-      either : (p q : Bool) → q ≡ false → (if p && q then v else signal_value s t) ≡ signal_value s t
-      either true q none = ap (λ r. if r then v else signal_value s t) none
-      either false q none = refl
+  after_range t late =
+      ap (λ p. if p then v else signal_value s t) (and_right (nat_le a t) (nat_lt t b) (le-ltb t b late))
 
   pub in_range : (t : ℕ) → a ≤ t → t < b → forced t ≡ v
   in_range t from to = (λ i. if le-leb a t from i && lt-ltb t b to i then v else signal_value s t)

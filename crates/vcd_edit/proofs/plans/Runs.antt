@@ -3,7 +3,8 @@ use Rattle.std.proofs.Common.{◌≡◌, ◌≢◌, ℕ, zero, suc, ◌+◌, ◌
 use Rattle.std.proofs.Common.{false, nat_le}
 use Rattle.std.proofs.Common.{if◌then◌else◌, List, [], ◌∷◌, length, inl, inr, refl, sym, ap, subst}
 use Rattle.std.proofs.Common.{◌∙◌, arith}
-use Rattle.std.proofs.lemmas.Bool.{cases_lt, cases_eq}
+use Rattle.std.proofs.Math.Bool.{or-false}
+use Rattle.std.proofs.lemmas.Bool.{cases_lt, cases_eq, both_ways, cond_both, eq-eqb, false_from_ne_true}
 use Rattle.std.proofs.lemmas.Bool.Decides.{nat_tests}
 use Rattle.std.proofs.lemmas.List.{length-replicate}
 use Rattle.vcd_core.specs.declared.bit.Bit.{Bit}
@@ -26,11 +27,8 @@ pub if_same : {A : Type 0} (v w : List Bit) (x y : A) → v ≡ w → (if same_l
 if_same v w x y same = ap (λ b. if b then x else y) ((same_letters-Decides v w).1 same)
 
 pub if_other : {A : Type 0} (v w : List Bit) (x y : A) → v ≢ w → (if same_letters v w then x else y) ≡ y
-if_other v w x y other = choose (same_letters v w) refl
-  where
-    choose : (b : Bool) → same_letters v w ≡ b → (if b then x else y) ≡ y
-    choose true is = absurd (other ((same_letters-Decides v w).0 is))
-    choose false is = refl
+if_other v w x y other =
+    ap (λ b. if b then x else y) (false_from_ne_true _ (λ is. other ((same_letters-Decides v w).0 is)))
 
 -- ---- the run that contains a tick
 
@@ -89,16 +87,8 @@ module _ (n end : ℕ) (f : ℕ → List Bit) (a b : ℕ) (ordered : a ≤ b) (w
   pub run_falls : steady ≡ false → (u : List Bit) → ((p : ℕ) → suc p ≡ a → steady_value n end f p ≡ u) → (t : ℕ) → a ≤ t
       → t ≤ b → steady_value n end f t ≡ u
   unfolding steady_value
-  run_falls is u carried zero from to = absurd (first_is_steady steady' is)
-    where
-      steady' : steady ≡ true
-      steady' = ap (λ q. q || b == end || nat_le n (b - a + 1)) (zero_is a (omega arith))
-        where
-          zero_is : (a : ℕ) → a ≡ 0 → (a == 0) ≡ true
-          zero_is a is = grind (arith, nat_tests)
-
-      first_is_steady : {q : Bool} → q ≡ true → q ≡ false → ⊥
-      first_is_steady holds fails = cc
+  run_falls is u carried zero from to =
+      absurd (both_ways _ is (ap (λ q. q || b == end || nat_le n (b - a + 1)) (eq-eqb a 0 (omega arith))))
   run_falls is u carried (suc t) from to =
       ap (λ q. if q then f (suc t) else steady_value n end f t) (steady_here (suc t) from to ∙ is)
       ∙ elim (cases_eq a (suc t)) [
@@ -143,11 +133,7 @@ inner_run : (a b c end n : ℕ) → suc b ≡ c → a ≤ b → c ≤ end
 inner_run a b c end n next ordered within =
     let other : (b == end) ≡ false = grind (arith, nat_tests) in
     let long : b - a + 1 ≡ c - a = omega arith in
-    (λ i. a == 0 || other i || nat_le n (long i)) ∙ without_false (a == 0) (nat_le n (c - a))
-  where
-    without_false : (p q : Bool) → (p || false || q) ≡ (p || q)
-    without_false true q = refl
-    without_false false q = refl
+    (λ i. a == 0 || other i || nat_le n (long i)) ∙ ap (λ q. q || nat_le n (c - a)) (or-false (a == 0))
 
 -- from the first tick of a run on, the values are those of the steady changes
 module _ (n end width : ℕ) (f : ℕ → List Bit) where
@@ -177,7 +163,11 @@ module _ (n end width : ℕ) (f : ℕ → List Bit) where
       let test = inner_run a b c.tick end n next (omega arith) here in
       let kept : List Bit = if begins_steady n (change a v) (c ∷ cs) then v else u in
       let run : (s : ℕ) → a ≤ s → s ≤ b → steady_value n end f s ≡ kept =
-      in_run b (omega arith) (omega arith) same (λ less. ends) value test in
+      λ s late early. cond_both (begins_steady n (change a v) (c ∷ cs)) v u (λ w. steady_value n end f s ≡ w)
+      (λ is. run_stays n end f a b (omega arith) (omega arith) same begins (λ less. ends) (test ∙ is) s late early
+      ∙ value s late early)
+      (λ is. run_falls n end f a b (omega arith) (omega arith) same begins (λ less. ends) (test ∙ is) u carried s late
+      early) in
       elim (cases_lt t c.tick) [
         | inl early ↦
             run t from (omega arith)
@@ -194,17 +184,6 @@ module _ (n end width : ℕ) (f : ℕ → List Bit) where
             (λ p is. run p (omega arith) (omega arith)) t late to
             ∙ sym (value_or_before (begins_steady n c cs) kept c (steady_changes n cs) t late)
       ]
-    where
-      in_run : (b : ℕ) → a ≤ b → b ≤ end → ((s : ℕ) → a ≤ s → s ≤ b → f s ≡ f a) → (b < end → f (suc b) ≢ f b)
-          → ((s : ℕ) → a ≤ s → s ≤ b → f s ≡ v)
-          → (a == 0 || b == end || nat_le n (b - a + 1)) ≡ begins_steady n (change a v) (c ∷ cs) → (s : ℕ) → a ≤ s
-          → s ≤ b → steady_value n end f s ≡ (if begins_steady n (change a v) (c ∷ cs) then v else u)
-      in_run b ordered within same ends value test s late early = choose (begins_steady n (change a v) (c ∷ cs)) test
-        where
-          choose : (q : Bool) → (a == 0 || b == end || nat_le n (b - a + 1)) ≡ q
-              → steady_value n end f s ≡ (if q then v else u)
-          choose true is = run_stays n end f a b ordered within same begins ends is s late early ∙ value s late early
-          choose false is = run_falls n end f a b ordered within same begins ends is u carried s late early
 
 -- only the tick of the first change counts
 test_same : (n a : ℕ) (c : Change) (cs : List Change) → c.tick ≡ a

@@ -36,11 +36,9 @@ names_kept c (p ∷ ps) = names_kept (with_piece c p) ps
 signal_needs : (c : Contents) (m : ℕ × Option SignalContents) (e : Option ℕ) → SignalFits c (Some m)
     → (PutsNoSignalIn (Some m) → ⊥) → PutsInOrKeepsNames c (with_end e (with_signal_in_out (Some m) c))
 signal_needs c (k, None) e fits never = absurd (never refl)
-signal_needs c (k, Some s) e fits never = inl (omega (
-  arith,
-  ap length (signals_of_end e (with_signal_in_out (Some (k, Some s)) c)),
-  length-insert c.signals k s fits,
-))
+signal_needs c (k, Some s) e fits never =
+    let same = ap length (signals_of_end e (with_signal_in_out (Some (k, Some s)) c)) in
+    inl (omega (arith, same, length-insert c.signals k s fits))
 
 -- a record has neither pieces nor a signal to put in, or it puts one in, or it leaves all names
 record_needs : (c : Contents) (r : RecordView) → HasOneKindOfPart r → SignalFits c r.signal

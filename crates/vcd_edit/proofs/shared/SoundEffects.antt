@@ -5,6 +5,7 @@ use Rattle.std.proofs.Common.{if◌then◌else◌, IsTrue, ℤ, pos, negsuc, ◌
 use Rattle.std.proofs.Common.{take, drop, get_or, set}
 use Rattle.std.proofs.Common.{None, refl, ◌∙◌, arith}
 use Rattle.std.specs.List.{list_all, push, remove}
+use Rattle.std.proofs.lemmas.Bool.{and_from, and_parts}
 use Rattle.std.proofs.lemmas.Bool.Decides.{nat_tests}
 use Rattle.std.proofs.lemmas.List.{length-replicate, length-map, length-set, length_push}
 use Rattle.std.proofs.lemmas.List.Edits.{length-remove}
@@ -77,28 +78,17 @@ pub sound_with_values : (end stop : ℕ) (f : ℕ → List Bit) (s : SignalConte
     → ((t : ℕ) → length (f t) ≡ s.width) → IsSoundSignal stop (with_values stop f s)
 sound_with_values end stop f s sound wide = assumption (changes_rise s.width stop f wide, changes_end s.width stop f)
 
-both_hold : (p q : Bool) → IsTrue p → IsTrue q → IsTrue (p && q)
-both_hold true q first second = second
-both_hold false q first second = first
-
-second_holds : (p q : Bool) → IsTrue (p && q) → IsTrue q
-second_holds true q both = both
-second_holds false q both = absurd (cc)
-
 others_are_words : (words : List (List ℕ)) → IsTrue (list_all is_word words) → IsTrue (list_all is_word (drop 1 words))
 others_are_words [] all = refl
-others_are_words (word ∷ words) all = second_holds (is_word word) (list_all is_word words) all
+others_are_words (word ∷ words) all = (and_parts (is_word word) (list_all is_word words) all).1
 
 -- a sound signal with another first word in its name
 pub sound_renamed : (end : ℕ) (word : List ℕ) (s : SignalContents) → IsTrue (is_word word) → IsSoundSignal end s
     → IsSoundSignal end (renamed_signal word s)
 sound_renamed end word s is sound =
     let named : 0 < length (word ∷ drop 1 s.words) = omega arith in
-    assumption (
-      named,
-      both_hold (is_word word) (list_all is_word (drop 1 s.words)) is
-          (others_are_words s.words sound.words),
-    )
+    let words = and_from (is_word word) (list_all is_word (drop 1 s.words)) is (others_are_words s.words sound.words) in
+    assumption (named, words)
 
 -- a derived signal, if its first operand is sound
 pub sound_derived : (c : Contents) (word : List ℕ) (rule : Rule) → IsTrue (is_word word)
@@ -109,7 +99,7 @@ sound_derived c word rule is sound = record {
   kind = refl;
   kept = refl;
   named = omega arith;
-  words = both_hold (is_word word) true is refl;
+  words = and_from (is_word word) true is refl;
   least = omega arith;
   most = omega arith;
   wave = changes_rise 1 c.end (λ t. formula_bit (formula rule) c t ∷ []) (λ t. refl);
@@ -141,11 +131,9 @@ sound_removed c k within sound =
     let P = IsSoundSignal c.end in
     let few : length (remove c.signals k) ≤ SIGNAL_LIMIT =
     omega (arith, length-remove c.signals k within, sound.few) in
-    assumption (
-      few,
-      All-append P (take k c.signals) (drop (suc k) c.signals) (All-take P k c.signals sound.signals)
-          (All-drop P (suc k) c.signals sound.signals),
-    )
+    let all = All-append P (take k c.signals) (drop (suc k) c.signals) (All-take P k c.signals sound.signals)
+    (All-drop P (suc k) c.signals sound.signals) in
+    assumption (few, all)
 
 pub sound_pushed : (c : Contents) (s : SignalContents) → length c.signals < SIGNAL_LIMIT → IsSound c
     → IsSoundSignal c.end s → IsSound (record c { signals = push c.signals s })

@@ -33,12 +33,8 @@ touched_at_least advance j (x ∷ ss) (y ∷ ns) zero s n in_ss in_ns =
     omega (arith, ap (λ i. touched_in_signal (advance i) x y) {x = j + 0} {y = j} (omega arith))
 touched_at_least advance j (x ∷ ss) (y ∷ ns) (suc k) s n in_ss in_ns =
     let rest = touched_at_least advance (suc j) ss ns k s n (omega arith) (omega arith) in
-    omega (
-      arith,
-      rest,
-      ap (λ i. touched_in_signal (advance i) (get_or ss k s) (get_or ns k n)) {x = j + suc k} {y =
-          suc j + k} (omega arith),
-    )
+    let index : j + suc k ≡ suc j + k = omega arith in
+    omega (arith, rest, ap (λ i. touched_in_signal (advance i) (get_or ss k s) (get_or ns k n)) index)
 
 -- another signal in its place changes only its own part
 touched-set : (advance : ℕ → ℤ) (j : ℕ) (ss : List SignalContents) (ns : List (Option SignalContents)) (k : ℕ)
@@ -49,20 +45,13 @@ unfolding touched_from
 touched-set advance j [] ns k s new n in_ss in_ns = absurd (omega arith)
 touched-set advance j (x ∷ ss) [] k s new n in_ss in_ns = absurd (omega arith)
 touched-set advance j (x ∷ ss) (y ∷ ns) zero s new n in_ss in_ns =
-    omega (
-      arith,
-      ap (λ i. touched_in_signal (advance i) x y) {x = j + 0} {y = j} (omega arith),
-      ap (λ i. touched_in_signal (advance i) new y) {x = j + 0} {y = j} (omega arith),
-    )
+    let old = ap (λ i. touched_in_signal (advance i) x y) {x = j + 0} {y = j} (omega arith) in
+    omega (arith, old, ap (λ i. touched_in_signal (advance i) new y) {x = j + 0} {y = j} (omega arith))
 touched-set advance j (x ∷ ss) (y ∷ ns) (suc k) s new n in_ss in_ns =
     let rest = touched-set advance (suc j) ss ns k s new n (omega arith) (omega arith) in
-    omega (
-      arith,
-      rest,
-      ap (λ i. touched_in_signal (advance i) (get_or ss k s) (get_or ns k n)) {x = j + suc k} {y = suc j + k}
-          (omega arith),
-      ap (λ i. touched_in_signal (advance i) new (get_or ns k n)) {x = j + suc k} {y = suc j + k} (omega arith),
-    )
+    let index : j + suc k ≡ suc j + k = omega arith in
+    let old = ap (λ i. touched_in_signal (advance i) (get_or ss k s) (get_or ns k n)) index in
+    omega (arith, rest, old, ap (λ i. touched_in_signal (advance i) new (get_or ns k n)) index)
 
 -- ---- pieces
 

@@ -106,15 +106,13 @@ module _ {X Y : Type 0} (e : X → Y → Bool) where
         | inl is ↦
             let rest = prefix_parts h P Q means xs ys (All-tail Q y ys all) in
             let here = means x y (All-head Q y ys all) is in
+            let more : 1 + common_prefix_len e xs ys ≡ suc (common_prefix_len e xs ys) = omega arith in
             subst (λ n. (map h (take n (x ∷ xs)) ≡ take n (y ∷ ys)) × All P (take n (x ∷ xs)))
-            (sym (cond-true (e x y) (1 + common_prefix_len e xs ys) 0 is ∙ one_more (common_prefix_len e xs ys)))
+            (sym (cond-true (e x y) (1 + common_prefix_len e xs ys) 0 is ∙ more))
             ((λ i. here.0 i ∷ rest.0 i), All-cons P x _ here.1 rest.1)
         | inr is ↦ subst (λ n. (map h (take n (x ∷ xs)) ≡ take n (y ∷ ys)) × All P (take n (x ∷ xs)))
             (sym (cond-false (e x y) (1 + common_prefix_len e xs ys) 0 is)) (refl, All-nil P)
       ]
-    where
-      one_more : (n : ℕ) → 1 + n ≡ suc n
-      one_more n = omega arith
 
 -- ---- common suffixes
 

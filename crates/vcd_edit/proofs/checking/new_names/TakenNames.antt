@@ -5,6 +5,7 @@ use Rattle.std.proofs.Common.{drop, get_or, refl, sym, ◌∙◌, ap, arith}
 use Rattle.std.specs.List.{list_any, remove}
 use Rattle.std.specs.Str.{bytes_eq}
 use Rattle.std.proofs.lemmas.List.{map-append, take-map, drop-map, take_all, length-drop}
+use Rattle.std.proofs.lemmas.Bool.{or_left}
 use Rattle.std.proofs.lemmas.List.Folds.{list_any-append}
 use Rattle.vcd_core.specs.declared.capture.Signal.{Signal}
 use Rattle.vcd_core.specs.Contents.{no_signal}
@@ -31,15 +32,6 @@ pub following : (k : ℕ) (signals : List Signal)
 following k signals =
     rw add-one (take_all (length signals - suc k) (drop (suc k) signals) (omega (arith, length-drop (suc k) signals)))
 
--- the first test holds, or the second decides
-first_holds : (a b r : Bool) → r ≡ a → r ≡ true → r ≡ (a || b)
-first_holds true b r is holds = holds
-first_holds false b r is holds = absurd (cc)
-
-second_decides : (a b f r : Bool) → f ≡ a → f ≡ false → r ≡ b → r ≡ (a || b)
-second_decides true b f r is fails decides = absurd (cc)
-second_decides false b f r is fails decides = decides
-
 module _ (signals : List Signal) (k : ℕ) (s : Signal) (word name : List ℕ) (within : k < length signals)
     (at : s ≡ get_or signals k s) (given : name ≡ full_name (renamed_signal word (signal_contents s))) where
   name_taken : list_any (bytes_eq (full_name (renamed_signal word (get_or (map signal_contents signals) k no_signal))))
@@ -53,7 +45,7 @@ module _ (signals : List Signal) (k : ℕ) (s : Signal) (word name : List ℕ) (
       → r ≡ true
       → r ≡ list_any (bytes_eq (full_name (renamed_signal word (get_or (map signal_contents signals) k no_signal))))
       (full_names (remove (map signal_contents signals) k))
-  taken_before r is holds = first_holds _ _ r is holds ∙ sym name_taken
+  taken_before r is holds = holds ∙ sym (or_left _ _ (sym is ∙ holds)) ∙ sym name_taken
 
   -- no signal before it has the name
   pub taken_after : (f r : Bool) → f ≡ list_any (bytes_eq name) (full_names (map signal_contents (take k signals)))
@@ -63,6 +55,6 @@ module _ (signals : List Signal) (k : ℕ) (s : Signal) (word name : List ℕ) (
       → r ≡ list_any (bytes_eq (full_name (renamed_signal word (get_or (map signal_contents signals) k no_signal))))
       (full_names (remove (map signal_contents signals) k))
   taken_after f r is fails decides =
-      second_decides _ _ f r is fails (decides
-      ∙ ap (λ (ss : List Signal). list_any (bytes_eq name) (full_names (map signal_contents ss)))
-      (following k signals)) ∙ sym name_taken
+      decides ∙ ap (λ (ss : List Signal). list_any (bytes_eq name) (full_names (map signal_contents ss)))
+      (following k signals) ∙ ap (λ first. first || list_any (bytes_eq name)
+      (full_names (map signal_contents (drop (suc k) signals)))) (sym fails ∙ is) ∙ sym name_taken

@@ -68,15 +68,11 @@ pub led_back : (cs : List Change) (p trimmed q : PieceView) → IsTrimmed cs p t
 led_back cs p trimmed q is upto opposite signal from to changes =
     let both = exchanged_back cs trimmed.changes trimmed.from trimmed.to trimmed.by q.by is.ordered is.within is.ticks
     upto opposite in
+    let long = back_within cs trimmed.changes trimmed.from trimmed.to trimmed.by q.by is.ordered is.within in
     record {
       signal = signal ∙ is.signal;
       ordered = omega (arith, from, to);
-      within = omega (
-        arith,
-        to,
-        ap length is.same,
-        back_within cs trimmed.changes trimmed.from trimmed.to trimmed.by q.by is.ordered is.within,
-      );
+      within = omega (arith, to, ap length is.same, long);
       ticks = subst (λ l. AllTicksFit q.by (drop q.to l)) is.same
           (subst (λ n. AllTicksFit q.by (drop n (changes_with_piece trimmed cs))) (sym to) both.1);
       back = (λ i. spliced_changes (sym is.same i) (from i) (to i) (changes i) q.by) ∙ both.0;

@@ -3,28 +3,19 @@ use Rattle.std.proofs.Common.{◌≡◌, ℕ, ◌+◌, ◌-◌, ◌^◌, ◌<◌
 use Rattle.std.proofs.Common.{◌-ℤ◌, neg_ℤ}
 use Rattle.std.proofs.Common.{unsigned_abs, List, length, drop, get_or, reverse, min, Option, Some}
 use Rattle.std.proofs.Common.{None, SomeIff, sym}
-use Rattle.std.proofs.Common.{subst, ◌∙◌, inl, inr, arith}
+use Rattle.std.proofs.Common.{subst, ◌∙◌, arith}
+use Rattle.std.specs.Bool.{one_answer}
 use Rattle.std.specs.Int.{w64, FitsUnsigned}
 use Rattle.std.specs.List.{common_prefix_len}
 use Rattle.std.specs.Option.{option_eq}
 use Rattle.std.specs.Ordering.{int_eq}
-use Rattle.std.proofs.lemmas.Bool.{cases_Bool, eq-eqb, eqb-true, false_from_ne_true}
-use Rattle.std.proofs.lemmas.Bool.Decides.{Decides-int_eq}
+use Rattle.std.proofs.lemmas.Bool.{false_from_ne_true}
+use Rattle.std.proofs.lemmas.Bool.Decides.{Decides-eqb, Decides-int_eq}
 use Rattle.std.proofs.lemmas.List.{length-reverse, length-drop, get_or-reverse}
 use Rattle.std.proofs.lemmas.List.Sums.{common_prefix_len-le, common_prefix_len-drop_yes}
 use Rattle.std.proofs.lemmas.List.Sums.{common_prefix_len-drop_no}
 use Rattle.std.proofs.lemmas.Int.{ints}
 use Rattle.vcd_core.specs.declared.wave.Change.{Change}
-
-same_Bool : (a b : Bool) → (a ≡ true → b ≡ true) → (b ≡ true → a ≡ true) → a ≡ b
-same_Bool a b there back =
-    elim (cases_Bool a) [
-      | inl holds ↦ holds ∙ sym (there holds)
-      | inr fails ↦ elim (cases_Bool b) [
-        | inl holds ↦ back holds ∙ sym holds
-        | inr other ↦ fails ∙ sym other
-      ]
-    ]
 
 -- whether a moved tick is another tick
 pub moved_test : (old new : ℕ) (by at : ℤ) (sum : Option ℕ) (r : Bool) → at ≡ by → new < 2 ^ 64
@@ -38,13 +29,12 @@ moved_test old new by at None r same small told is =
 moved_test old new by at (Some x) r same small told is =
     let fits : FitsUnsigned w64 (pos old +ℤ at) = told.0 in
     let value : x ≡ unsigned_abs (pos old +ℤ at) = told.1 in
-    is ∙ same_Bool (eqb x new) (int_eq (pos old -ℤ neg_ℤ by) (pos new))
-    (λ equal.
-    let at_new : x ≡ new = eqb-true x new equal in
-    let later : pos old -ℤ neg_ℤ by ≡ pos new = omega (arith, ints, fits.0, value, at_new, same) in
-    (Decides-int_eq _ _).1 later)
-    (λ equal. eq-eqb x new (let later : pos old -ℤ neg_ℤ by ≡ pos new = (Decides-int_eq _ _).0 equal in
-    omega (arith, ints, fits.0, value, later, same)))
+    let there : x ≡ new → pos old -ℤ neg_ℤ by ≡ pos new =
+    λ at_new. omega (arith, ints, fits.0, value, at_new, same) in
+    let back : pos old -ℤ neg_ℤ by ≡ pos new → x ≡ new =
+    λ later. omega (arith, ints, fits.0, value, later, same) in
+    is ∙ one_answer (eqb x new) (int_eq (pos old -ℤ neg_ℤ by) (pos new)) (Decides-eqb x new)
+    ((λ equal. back ((Decides-int_eq _ _).0 equal)), (λ at_new. (Decides-int_eq _ _).1 (there at_new)))
 
 -- ---- walks over two lists
 
@@ -64,12 +54,9 @@ module _ (e : Change → Change → Bool) (xs ys : List Change) (i : ℕ) where
   back_stops c d in_xs in_ys is_c is_d differs left =
       let first = subst (λ x. e x (get_or (reverse ys) i d) ≡ false) (is_c ∙ sym (get_or-reverse xs i c in_xs))
       (subst (λ y. e c y ≡ false) (is_d ∙ sym (get_or-reverse ys i d in_ys)) differs) in
-      omega (
-        arith,
-        left,
-        common_prefix_len-drop_no e (reverse xs) (reverse ys) i c d (omega (arith, length-reverse xs))
-            (omega (arith, length-reverse ys)) first,
-      )
+      let none = common_prefix_len-drop_no e (reverse xs) (reverse ys) i c d (omega (arith, length-reverse xs))
+      (omega (arith, length-reverse ys)) first in
+      omega (arith, left, none)
 
   pub back_more : (c d : Change) → i < length xs → i < length ys → c ≡ get_or xs (length xs - 1 - i) c
       → d ≡ get_or ys (length ys - 1 - i) d → e c d ≡ true
@@ -80,9 +67,6 @@ module _ (e : Change → Change → Bool) (xs ys : List Change) (i : ℕ) where
   back_more c d in_xs in_ys is_c is_d same left =
       let first = subst (λ x. e x (get_or (reverse ys) i d) ≡ true) (is_c ∙ sym (get_or-reverse xs i c in_xs))
       (subst (λ y. e c y ≡ true) (is_d ∙ sym (get_or-reverse ys i d in_ys)) same) in
-      omega (
-        arith,
-        left,
-        common_prefix_len-drop_yes e (reverse xs) (reverse ys) i c d
-            (omega (arith, length-reverse xs)) (omega (arith, length-reverse ys)) first,
-      )
+      let one = common_prefix_len-drop_yes e (reverse xs) (reverse ys) i c d (omega (arith, length-reverse xs))
+      (omega (arith, length-reverse ys)) first in
+      omega (arith, left, one)

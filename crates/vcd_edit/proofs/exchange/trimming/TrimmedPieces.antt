@@ -44,21 +44,14 @@ module _ (cs ns : List Change) (a z : ℕ) (by o : ℤ) (opposite : o ≡ neg_�
   prefix_in_piece = (common_prefix_len-le same_change part ns).1
 
   end_in_part : prefix + end ≤ z - a
-  end_in_part = omega (
-    arith,
-    part_long,
-    length-drop prefix part,
-    prefix_in_part,
-    (suffix_le o (drop prefix part) (drop prefix ns)).0,
-  )
+  end_in_part =
+      let ends = suffix_le o (drop prefix part) (drop prefix ns) in
+      omega (arith, part_long, length-drop prefix part, prefix_in_part, ends.0)
 
   end_in_piece : prefix + end ≤ length ns
-  end_in_piece = omega (
-    arith,
-    length-drop prefix ns,
-    prefix_in_piece,
-    (suffix_le o (drop prefix part) (drop prefix ns)).1,
-  )
+  end_in_piece =
+      let ends = suffix_le o (drop prefix part) (drop prefix ns) in
+      omega (arith, length-drop prefix ns, prefix_in_piece, ends.1)
 
   moves : (map (moved_change by) (drop (length (drop prefix part) - end) (drop prefix part))
       ≡ drop (length (drop prefix ns) - end) (drop prefix ns))
@@ -123,12 +116,9 @@ module _ (cs ns : List Change) (a z : ℕ) (by o : ℤ) (opposite : o ≡ neg_�
       omega (arith, here, part_long, length-drop prefix part, end_in_part)
 
   middle_long : length middle ≡ length ns - prefix - end
-  middle_long = omega (
-    arith,
-    length-take-le (length (drop prefix ns) - end) (drop prefix ns) (omega arith),
-    length-drop prefix ns,
-    end_in_piece,
-  )
+  middle_long =
+      let taken = length-take-le (length (drop prefix ns) - end) (drop prefix ns) (omega arith) in
+      omega (arith, taken, length-drop prefix ns, end_in_piece)
 
   -- what the code finds
   pub found : (r b : ℕ) (at : ℤ) (shown rest list left : List Change) → at ≡ by → shown ≡ ns → list ≡ drop r ns
@@ -165,16 +155,5 @@ module _ (cs ns : List Change) (a z : ℕ) (by o : ℤ) (opposite : o ≡ neg_�
             (subst (λ p. new.to - new.from ≤ touched_count p cs (spliced_changes cs a z ns by)) (opposite
             ∙ ap neg_ℤ (sym by_is)) (omega (arith, new_from, new_to, trimmed_part)));
         no_longer = omega (arith, new_from, new_to, from, to, end_in_part);
-        balance = omega (
-          arith,
-          new_from,
-          new_to,
-          from,
-          to,
-          ap length new_piece,
-          ap length piece,
-          middle_long,
-          end_in_part,
-          end_in_piece,
-        );
+        balance = omega (arith, ap length new_piece, ap length piece, middle_long, end_in_part, end_in_piece);
       }

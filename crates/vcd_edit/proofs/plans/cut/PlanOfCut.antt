@@ -94,7 +94,6 @@ cut_end c signals are from to n ps all lead =
 
 -- such pieces are the only part of the record except the end
 pub cut_is_one_step : (c : Contents) (by : ℤ) (g : SignalContents → SignalContents) (n : ℕ) (ps : List PieceView)
-    (end : ℕ) → PiecesForEach c by g n ps
-    → HasOneKindOfPart (parts ps None None (Some end))
+    (end : ℕ) → PiecesForEach c by g n ps → HasOneKindOfPart (parts ps None None (Some end))
 cut_is_one_step c by g n ps end lead =
     record { rise = lead.rise; word_alone = λ other. absurd (other refl); signal_alone = λ other. absurd (other refl) }

@@ -76,15 +76,7 @@ module _ (n : ℕ) (s : SignalContents) (cs : List Change) (x : List Bit) (same 
       offset = ap (λ (q : PieceView). q.by) is;
       leads = record {
         ordered = omega (arith, ap (λ (q : PieceView). q.from) is, ap (λ (q : PieceView). q.to) is);
-        within = omega (
-          arith,
-          within,
-          fewer,
-          ap length rest,
-          length-drop from cs,
-          ap length same,
-          ap (λ (q : PieceView). q.to) is,
-        );
+        within = omega (arith, ap length rest, length-drop from cs, ap length same, ap (λ (q : PieceView). q.to) is);
         ticks = subst (λ (q : PieceView). AllTicksFit q.by (drop q.to s.changes)) (sym is)
             (All-drop (TickFits (pos 0)) (from + to) s.changes (stay_fit end s.changes small sound.ticks));
         is = ap (λ (q : PieceView). changes_with_piece q s.changes) is

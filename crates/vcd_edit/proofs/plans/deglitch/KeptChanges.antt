@@ -12,6 +12,7 @@ use Rattle.vcd_core.specs.Value.{same_letters}
 use Rattle.vcd_core.specs.inside.value.EqualByLetters.{same_letters-Decides}
 use Rattle.vcd_core.specs.Wave.{unless_same}
 use Rattle.vcd_core.specs.WavePush.{last_value}
+use Rattle.vcd_core.proofs.shared.Pushes.{last_value-split}
 use Rattle.vcd_edit.specs.inside.plans.RemainingChanges.{without_repeats, begins_steady, steady_changes}
 use Rattle.vcd_edit.specs.inside.plans.RemainingChanges.{is_kept}
 use Rattle.vcd_edit.specs.inside.plans.RemainingChanges.{kept_changes}
@@ -59,11 +60,6 @@ pub kept_of_none : (n : ℕ) (before : List Bit) (cs : List Change) → length c
 unfolding kept_changes
 kept_of_none n before [] none = refl
 kept_of_none n before (c ∷ cs) none = absurd (omega arith)
-
-last_of_more : (before : List Bit) (cs : List Change) (c : Change) → last_value before (cs ++ c ∷ []) ≡ c.value
-unfolding last_value
-last_of_more before [] c = refl
-last_of_more before (d ∷ cs) c = last_of_more d.value cs c
 
 -- ---- the change at a position
 
@@ -138,18 +134,15 @@ module _ (n : ℕ) (last : List Bit) (cs : List Change) (i : ℕ) (c : Change) (
 pub last_so_far : (before : List Bit) (cs : List Change) (i : ℕ) (c : Change) → i < length cs → c ≡ get_or cs i c
     → c.value ≡ last_value before (take (i + 1) cs)
 last_so_far before cs i c within at =
-    sym (ap (last_value before) (take_more cs i c within ∙ ap (λ d. take i cs ++ d ∷ []) (sym at))
-    ∙ last_of_more before (take i cs) c)
+    last_value-split before (take (i + 1) cs) (take i cs) c
+    (take_more cs i c within ∙ ap (λ d. take i cs ++ d ∷ []) (sym at))
 
 -- the length of the passed part
 pub part_long : (prefix cs : List Change) (kept to i : ℕ) → length prefix ≡ kept → to ≤ i → i ≤ length cs
     → length (prefix ++ take (i - to) (drop to cs)) ≡ kept + (i - to)
 part_long prefix cs kept to i long le within =
-    omega (
-      arith,
-      length-append prefix (take (i - to) (drop to cs)),
-      length-take-le (i - to) (drop to cs) (omega (arith, length-drop to cs)),
-    )
+    let taken = length-take-le (i - to) (drop to cs) (omega (arith, length-drop to cs)) in
+    omega (arith, length-append prefix (take (i - to) (drop to cs)), taken)
 
 -- all were passed
 pub part_done : (n : ℕ) (last : List Bit) (cs prefix all : List Change) (kept to i : ℕ) → i ≡ length cs → to ≤ i

@@ -5,7 +5,7 @@ use Rattle.std.proofs.Common.{if◌then◌else◌, List, [], ◌∷◌, length, 
 use Rattle.std.proofs.Common.{All, Some, None, inl}
 use Rattle.std.proofs.Common.{inr, refl, sym, ap, subst, ◌∙◌, arith}
 use Rattle.std.specs.List.{filter, range_with_len, list_any}
-use Rattle.std.proofs.lemmas.Bool.{cases_eq, or_parts}
+use Rattle.std.proofs.lemmas.Bool.{cases_eq, cond_both, not-false, or_parts}
 use Rattle.std.proofs.lemmas.Option.{same_Some}
 use Rattle.std.proofs.lemmas.List.{drop_more, drop_all, length-replicate}
 use Rattle.std.proofs.lemmas.Simd.{map-map}
@@ -128,24 +128,15 @@ module _ (p : ℕ → Bool) (r : ℕ → List Bit) where
         | inr apart ↦ sampled (a + 1) n (r a) (sym (ap (value_just_before 1 r) {x = a + 1} {y = suc a} (omega arith)))
             wide still t (omega arith) (omega arith)
       ] in
-      choose (p a) refl later
-    where
-      choose : (b : Bool) → p a ≡ b → value_from (r a) (at_ticks (filter p (range_with_len (a + 1) n))) t ≡ r t
-          → value_from v (at_ticks
-          (cond b (a ∷ filter p (range_with_len (a + 1) n)) (filter p (range_with_len (a + 1) n)))) t ≡ r t
-      choose true holds later = value_past v (change a (r a)) (at_ticks (filter p (range_with_len (a + 1) n))) t from
-          ∙ later
-      choose false fails later =
-          ap (λ w. value_from w (at_ticks (filter p (range_with_len (a + 1) n))) t) (is ∙ sym (still a fails)) ∙ later
+      let rest = filter p (range_with_len (a + 1) n) in
+      cond_both (p a) (a ∷ rest) rest (λ us. value_from v (at_ticks us) t ≡ r t)
+      (λ _. value_past v (change a (r a)) (at_ticks rest) t from ∙ later)
+      (λ fails. ap (λ w. value_from w (at_ticks rest) t) (is ∙ sym (still a fails)) ∙ later)
 
 -- ---- the edges of two waves
 
 same_where : (v w : List Bit) → not (same_letters v w) ≡ false → v ≡ w
-same_where v w none = (same_letters-Decides v w).0 (twice (same_letters v w) none)
-  where
-    twice : (b : Bool) → not b ≡ false → b ≡ true
-    twice true none = refl
-    twice false none = absurd (cc)
+same_where v w none = (same_letters-Decides v w).0 (not-false (same_letters v w) none)
 
 -- a wave that does not change at a tick has the value before it
 unchanged : (w : WaveView) (u : ℕ) → changes_at u (trace_of (Some w)) ≡ false

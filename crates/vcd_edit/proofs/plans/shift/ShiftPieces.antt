@@ -1,5 +1,5 @@
 -- The pieces of a delayed or advanced signal.
-use Rattle.std.proofs.Common.{◌≡◌, ℕ, zero, suc, ◌+◌, ◌-◌, ◌^◌, ◌<◌, ◌≤◌, Bool, true, nat_lt, cond}
+use Rattle.std.proofs.Common.{◌≡◌, ℕ, zero, suc, ◌+◌, ◌-◌, ◌^◌, ◌<◌, ◌≤◌, nat_lt, cond}
 use Rattle.std.proofs.Common.{if◌then◌else◌, ℤ}
 use Rattle.std.proofs.Common.{pos, negsuc, ◌-ℤ◌, List, [], ◌∷◌, ◌++◌, length, take, map, get_or}
 use Rattle.std.proofs.Common.{inl, inr, refl, sym}
@@ -13,7 +13,7 @@ use Rattle.std.proofs.lemmas.Int.{ints}
 use Rattle.std.proofs.lemmas.Result.{IfOk-weaker}
 use Rattle.vcd_core.specs.declared.bit.Bit.{Bit}
 use Rattle.vcd_core.specs.declared.wave.Change.{Change}
-use Rattle.vcd_core.specs.Value.{all_x, same_letters}
+use Rattle.vcd_core.specs.Value.{all_x}
 use Rattle.vcd_core.specs.inside.value.EqualByLetters.{same_letters-Decides}
 use Rattle.vcd_core.specs.Wave.{change, unless_same, changes_from, IsWave, AllUpTo}
 use Rattle.vcd_core.specs.Splice.{moved_change}
@@ -119,11 +119,8 @@ module _ (d end : ℕ) (s : SignalContents) where
   prefix_empty (suc m) le =
       changes_in-constant s.width (shift_value end (pos d) s) (all_x s.width) 0 (suc m) (omega arith)
       (λ u _ less. shift_before u (omega arith))
-      ∙ of_true (same_letters (all_x s.width) (all_x s.width)) (change 0 (all_x s.width))
+      ∙ ap (λ q. unless_same q (change 0 (all_x s.width)) [])
       ((same_letters-Decides (all_x s.width) (all_x s.width)).1 refl)
-    where
-      of_true : (b : Bool) (c : Change) → b ≡ true → unless_same b c [] ≡ []
-      of_true b c holds = ap (λ q. unless_same q c []) holds
 
   x_before : (t : ℕ) → t ≡ d → value_just_before s.width (shift_value end (pos d) s) t ≡ all_x s.width
   x_before zero is = refl

@@ -26,13 +26,9 @@ loop-position-preserved c =
     let l = c.loop-position in
     let here = c.index-signals-position in
     let step = one_more c.args.end c.args.signals.now c.args.pieces.now l.position l.done here.result
-    c.count_for-done.result c.loop-position-test.true here.is c.count_for-done.ensures.count in (
-      omega (
-        arith,
-        l.invariant.0,
-        c.count_for-done.ensures.most,
-        rest_count c.args.end c.args.signals.now c.args.pieces.now l.position l.done l.invariant.0,
-      ),
+    c.count_for-done.result c.loop-position-test.true here.is c.count_for-done.ensures.count in
+    let left = rest_count c.args.end c.args.signals.now c.args.pieces.now l.position l.done l.invariant.0 in (
+      omega (arith, l.invariant.0, c.count_for-done.ensures.most, left),
       (
         (λ later. l.invariant.1.0 (subst (λ (t : Type 0). t) (sym step)
             (c.is_sound_here.ensures.0 c.if-not-is_sound_here.false, later))),

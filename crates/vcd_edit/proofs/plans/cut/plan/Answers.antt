@@ -11,11 +11,8 @@ cut_pieces-requires-clause-not_empty c =
 
 pub cut_pieces-requires-clause-small : goal.cut_pieces-requires-clause-small
 cut_pieces-requires-clause-small c =
-    omega (
-      arith,
-      (cut_ticks c.args.from c.args.to (contents c.args.capture.now) c.requires.allowed).1,
-      c.requires.sound.end,
-    )
+    let ticks = cut_ticks c.args.from c.args.to (contents c.args.capture.now) c.requires.allowed in
+    omega (arith, ticks.1, c.requires.sound.end)
 
 pub overflow_sub-result : goal.overflow_sub-result
 overflow_sub-result c =
@@ -23,12 +20,8 @@ overflow_sub-result c =
 
 pub overflow_sub-result-2 : goal.overflow_sub-result-2
 overflow_sub-result-2 c =
-    omega (
-      arith,
-      (cut_ticks c.args.from c.args.to (contents c.args.capture.now) c.requires.allowed).0,
-      (cut_ticks c.args.from c.args.to (contents c.args.capture.now) c.requires.allowed).1,
-      c.end.ensures,
-    )
+    let ticks = cut_ticks c.args.from c.args.to (contents c.args.capture.now) c.requires.allowed in
+    omega (arith, ticks.0, ticks.1, c.end.ensures)
 
 pub invariant_of-result : goal.invariant_of-result
 invariant_of-result c =
