@@ -35,9 +35,7 @@ has_meaning file script depth written run = (run.contents, run.skipped, run.mean
 
 pub same_bytes_same_result : SameBytesSameResult
 same_bytes_same_result file script depth (Err (NoMemory stage replies)) other gives also = tt
-same_bytes_same_result file script depth (Ok one) (Err (NoMemory stage replies)) gives also = tt
-same_bytes_same_result file script depth (Err (Capture e)) (Err (NoMemory stage replies)) gives also = tt
-same_bytes_same_result file script depth (Err ScriptTooLarge) (Err (NoMemory stage replies)) gives also = tt
+same_bytes_same_result file script depth one (Err (NoMemory stage replies)) gives also = tt
 same_bytes_same_result file script depth (Ok one) (Ok other) gives also =
     let same = one_outcome file script depth gives.0 also.0 gives.1.2 also.1.2 in (
       gives.2 ∙ ap (λ (w : RunOutcome). concat w.replies) same ∙ sym also.2,
@@ -46,15 +44,13 @@ same_bytes_same_result file script depth (Ok one) (Ok other) gives also =
     )
 same_bytes_same_result file script depth (Ok one) (Err (Capture e)) gives also =
     not_refused file e gives.1.0 (has_meaning file script depth gives.0 gives.1.2) also.0
-same_bytes_same_result file script depth (Ok one) (Err ScriptTooLarge) gives also =
-    omega (arith, gives.1.1, also.2)
+same_bytes_same_result file script depth (Ok one) (Err ScriptTooLarge) gives also = omega (arith, gives.1.1, also.2)
 same_bytes_same_result file script depth (Err (Capture e)) (Ok other) gives also =
     not_refused file e also.1.0 (has_meaning file script depth also.0 also.1.2) gives.0
 same_bytes_same_result file script depth (Err (Capture e)) (Err (Capture other)) gives also = also.1 e gives.0
 same_bytes_same_result file script depth (Err (Capture e)) (Err ScriptTooLarge) gives also =
     not_refused file e also.0 also.1 gives.0
-same_bytes_same_result file script depth (Err ScriptTooLarge) (Ok other) gives also =
-    omega (arith, also.1.1, gives.2)
+same_bytes_same_result file script depth (Err ScriptTooLarge) (Ok other) gives also = omega (arith, also.1.1, gives.2)
 same_bytes_same_result file script depth (Err ScriptTooLarge) (Err (Capture e)) gives also =
     not_refused file e gives.0 gives.1 also.0
-same_bytes_same_result file script depth (Err ScriptTooLarge) (Err ScriptTooLarge) gives also = tt
+same_bytes_same_result file script depth one (Err ScriptTooLarge) gives also = tt

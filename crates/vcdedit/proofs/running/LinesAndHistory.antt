@@ -1,6 +1,6 @@
 -- What lines write on a machine is what the equations of a run say of its history.
 use Rattle.std.proofs.Common.{◌≡◌, ◌≤◌, ◌+◌, ℕ, cond, List, [], ◌∷◌, ◌++◌, take, length, Result, Ok}
-use Rattle.std.proofs.Common.{Err, is_err, refl}
+use Rattle.std.proofs.Common.{is_err, refl}
 use Rattle.std.proofs.Common.{sym, ◌∙◌, ap, subst, map, append_assoc}
 use Rattle.std.specs.Prelude.{fold, count_by}
 use Rattle.std.specs.List.{enumerate_from}
@@ -56,21 +56,13 @@ command_follows : (c : Contents) (h : History) (skipped : ℕ) (parsed : Result 
     IsMachineOf c (cond (is_err (command_reply parsed (replay c h.edits) skipped (length (machine_of c h).past)
     (length (machine_of c h).future))) h (history_after_command h parsed))
     (machine_after_command (machine_of c h) parsed)
-command_follows c h skipped (Err fault) within = record { is = refl; undoable = within }
-command_follows c h skipped (Ok commands.Nothing) within = record { is = refl; undoable = within }
 command_follows c h skipped (Ok (commands.Step s)) within =
     let m : Machine = machine_of c h in
     subst (λ (g : History). IsMachineOf c g (step_outcome m s).after)
     (by_reply h s (step_outcome m s).answer
     ∙ ap (λ (r : LineReply). cond (is_err r) h (history_after h s)) (sym (reply_is_answer m s)))
     (outcome_follows c h s within)
-command_follows c h skipped (Ok commands.List) within = record { is = refl; undoable = within }
-command_follows c h skipped (Ok (commands.Value k tick)) within = record { is = refl; undoable = within }
-command_follows c h skipped (Ok (commands.Changes k)) within = record { is = refl; undoable = within }
-command_follows c h skipped (Ok (commands.Uart k setup)) within = record { is = refl; undoable = within }
-command_follows c h skipped (Ok (commands.Spi clk mosi miso cs setup)) within =
-    record { is = refl; undoable = within }
-command_follows c h skipped (Ok (commands.I2c scl sda)) within = record { is = refl; undoable = within }
+command_follows c h skipped asked within = record { is = refl; undoable = within }
 
 line_follows : (c : Contents) (h : History) (m : Machine) (skipped : ℕ) (line : List ℕ) → IsMachineOf c h m
     → IsMachineOf c (history_after_line c skipped h line) (machine_after_line m line)
@@ -98,8 +90,7 @@ abbrev numbered : ℕ → List LineReply → List (List ℕ)
 numbered number replies = map (λ (p : ℕ × LineReply). reply_text p.0 p.1) (enumerate_from number replies)
 
 replies_are : (c : Contents) (h : History) (m : Machine) (skipped number : ℕ) (lines : List (List ℕ))
-    → IsMachineOf c h m
-    → line_replies skipped number m lines ≡ numbered number (line_answers c skipped h lines)
+    → IsMachineOf c h m → line_replies skipped number m lines ≡ numbered number (line_answers c skipped h lines)
 unfolding line_replies line_answers
 replies_are c h m skipped number [] is = refl
 replies_are c h m skipped number (line ∷ lines) is =

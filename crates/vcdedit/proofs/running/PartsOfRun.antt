@@ -3,8 +3,9 @@ use Rattle.std.proofs.Common.{◌≡◌, ◌⊎◌, inl, inr, Result, Ok, Err, �
 use Rattle.std.proofs.Common.{Some, None, refl}
 use Rattle.std.proofs.Common.{◌≤◌, Bool, sym, subst, ap, ◌∙◌, true, false, arith, length, take}
 use Rattle.std.specs.Prelude.{IfSome, IfErr, IsErrAnd}
+use Rattle.std.proofs.lemmas.Option.{IfSome_then}
 use Rattle.std.specs.List.{concat}
-use Rattle.std.specs.Io.KnownBytes.{Appends, Keeps, IsAtEnd}
+use Rattle.std.specs.Io.KnownBytes.{Appends, IsAtEnd}
 use Rattle.vcd_core.specs.Contents.{Contents}
 use Rattle.vcd_core.specs.declared.capture.TheConstants.{SIGNAL_LIMIT}
 use Rattle.vcd_text.specs.Meaning.{FileMeans}
@@ -37,29 +38,18 @@ use Rattle.vcdedit.proofs.running.LinesAndHistory.{outcome_is, run_is}
 
 -- what a file within the limit means
 pub file_means : (coming : Option (List ℕ)) (c : Contents) (skipped : ℕ)
-    → IfSome coming (λ f. (length f ≤ FILE_LIMIT) × FileMeans SIGNAL_LIMIT f c skipped) →
-    IfSome coming (λ f. FileMeans SIGNAL_LIMIT f c skipped)
-file_means None c skipped read = tt
-file_means (Some f) c skipped read = read.1
-
-file_is_short : (coming : Option (List ℕ)) (c : Contents) (skipped : ℕ)
-    → IfSome coming (λ f. (length f ≤ FILE_LIMIT) × FileMeans SIGNAL_LIMIT f c skipped) →
-    IfSome coming (λ f. length f ≤ FILE_LIMIT)
-file_is_short None c skipped read = tt
-file_is_short (Some f) c skipped read = read.0
-
-file_has_meaning : (coming : Option (List ℕ)) (c : Contents) (skipped : ℕ)
-    → IfSome coming (λ f. (length f ≤ FILE_LIMIT) × FileMeans SIGNAL_LIMIT f c skipped) →
-    IfSome coming (λ f. (d : Contents) × (count : ℕ) × FileMeans SIGNAL_LIMIT f d count)
-file_has_meaning None c skipped read = tt
-file_has_meaning (Some f) c skipped read = (c, skipped, read.1)
+    → IfSome coming (λ f. (length f ≤ FILE_LIMIT) × FileMeans SIGNAL_LIMIT f c skipped)
+    → IfSome coming (λ f. FileMeans SIGNAL_LIMIT f c skipped)
+file_means coming c skipped read = IfSome_then coming read (λ f is. is.1)
 
 -- a capture that was read to its end, within the limit, and means something
 pub is_accepted : (capture : DeviceEnd) (c : Contents) (skipped : ℕ) → capture.has_failed ≡ false
     → IsAtEnd capture.after → IfSome capture.before (λ f. (length f ≤ FILE_LIMIT) × FileMeans SIGNAL_LIMIT f c skipped)
     → IsAccepted capture
-is_accepted capture c skipped ready ended read =
-    ((ready, ended, file_is_short capture.before c skipped read), file_has_meaning capture.before c skipped read)
+is_accepted capture c skipped ready ended read = (
+  (ready, ended, IfSome_then capture.before read (λ f is. is.0)),
+  IfSome_then capture.before read (λ f is. (c, skipped, is.1)),
+)
 
 -- ---- the result of the script
 
@@ -67,8 +57,7 @@ is_accepted capture c skipped ready ended read =
 script_gives : (file script : List ℕ) (depth skipped : ℕ) (c : Contents) (new : Machine) (count : ℕ)
     (before after : Option (List ℕ)) →
     FileMeans SIGNAL_LIMIT file c skipped → RunsLines skipped (script_lines script) (initial_machine c depth) new count
-    before after
-    → ScriptGives file script depth count (Appends before after) new.now
+    before after → ScriptGives file script depth count (Appends before after) new.now
 script_gives file script depth skipped c new count before after means ran =
     let here = ran.2 in
     let is = outcome_is c skipped depth (script_lines script) in
@@ -88,25 +77,22 @@ pub script_gives_where_known : (coming script_coming : Option (List ℕ)) (scrip
     IfSome coming (λ f. FileMeans SIGNAL_LIMIT f c skipped) → IfSome script_coming (λ s. script ≡ s)
     → RunsLines skipped (script_lines script) (initial_machine c depth) new count before after →
     IfSome coming (λ f. IfSome script_coming (λ s. ScriptGives f s depth count (Appends before after) new.now))
-script_gives_where_known None script_coming script depth skipped c new count before after means is ran = tt
-script_gives_where_known (Some f) None script depth skipped c new count before after means is ran = tt
 script_gives_where_known (Some f) (Some s) script depth skipped c new count before after means is ran =
     script_gives f s depth skipped c new count before after means (rw is at ran)
+script_gives_where_known coming script_coming script depth skipped c new count before after means is ran = tt
 
 -- what holds of the outcome of the script on the capture file holds of what the run writes
 for_run : (coming script_coming : Option (List ℕ)) (script : List ℕ) (depth skipped : ℕ) (c : Contents)
     (property : RunOutcome → Type 0) →
     IfSome coming (λ f. FileMeans SIGNAL_LIMIT f c skipped) → IfSome script_coming (λ s. script ≡ s)
     → property (outcome c skipped depth (script_lines script)) →
-    IfSome coming (λ f. IfSome script_coming (λ s. (written : RunOutcome) × IsRun f s depth written
-    × property written))
-for_run None script_coming script depth skipped c property means is holds = tt
-for_run (Some f) None script depth skipped c property means is holds = tt
+    IfSome coming (λ f. IfSome script_coming (λ s. (written : RunOutcome) × IsRun f s depth written × property written))
 for_run (Some f) (Some s) script depth skipped c property means is holds = (
   outcome c skipped depth (script_lines s),
   run_is f s depth c skipped means,
   subst (λ (bytes : List ℕ). property (outcome c skipped depth (script_lines bytes))) is holds,
 )
+for_run coming script_coming script depth skipped c property means is holds = tt
 
 -- what follows from the replies, the output and the count of refused lines holds of what the run
 -- writes
@@ -116,14 +102,13 @@ if_run_writes : (file script : Option (List ℕ)) (depth count : ℕ) (took_repl
     ((written : RunOutcome) → took_replies (concat written.replies) → written.output ≡ text now
     → count ≡ written.refused → property written) →
     IfSome file (λ f. IfSome script (λ s. (written : RunOutcome) × IsRun f s depth written × property written))
-if_run_writes None script depth count took_replies now property ran follows = tt
-if_run_writes (Some f) None depth count took_replies now property ran follows = tt
 if_run_writes (Some f) (Some s) depth count took_replies now property ran follows =
     let written = outcome ran.contents ran.skipped depth (script_lines s) in (
       written,
       run_is f s depth ran.contents ran.skipped ran.means,
       follows written ran.replies ran.output (sym ran.refused),
     )
+if_run_writes file script depth count took_replies now property ran follows = tt
 
 -- ---- ends before the output
 
@@ -135,8 +120,7 @@ refused_once : (coming left : Option (List ℕ)) (has_failed : Bool) (e : ReadEr
 refused_once None left has_failed e refused = tt
 refused_once (Some file) left has_failed e refused = (
   refused,
-  one_refusal SIGNAL_LIMIT FILE_LIMIT file has_failed left
-      e refused,
+  one_refusal SIGNAL_LIMIT FILE_LIMIT file has_failed left e refused,
 )
 
 -- at a fault of the capture
@@ -158,73 +142,52 @@ script_ends capture script replies depth e ends accepted untouched = ends captur
 pub session_ends : (capture script replies : DeviceEnd) (depth : ℕ) (e : RunError) → e ≡ run_errors.NoMemory 0
     → IsAccepted capture → IsUntouched replies → EndsBeforeOutput depth capture script replies e
 unfolding RunEnds
-session_ends capture script replies depth e none accepted untouched output kept =
-    rw none (accepted, (untouched, kept))
+session_ends capture script replies depth e none accepted untouched output kept = rw none (accepted, (untouched, kept))
 
--- in the lines, given what was taken of the replies
-taken_end : (capture script replies : DeviceEnd) (bytes : List ℕ) (depth skipped : ℕ) (c : Contents)
-    (e : RunError) (is_flushed : Bool) →
-    IsAccepted capture → IsRead SCRIPT_LIMIT script → IfSome capture.before (λ f. FileMeans SIGNAL_LIMIT f c skipped)
-    → IfSome script.before (λ s. bytes ≡ s) →
-    HasFailedAt replies.has_failed is_flushed e
-    → StopsInReplies (outcome c skipped depth (script_lines bytes)).replies (Appends replies.before replies.after) e →
-    EndsBeforeOutput depth capture script replies e
-unfolding RunEnds
-taken_end capture script replies bytes depth skipped c (run_errors.NoMemory zero) is_flushed
-    accepted script_read means is failed
-    stops output kept = absurd (omega (arith, stops.0))
-taken_end capture script replies bytes depth skipped c (run_errors.NoMemory (suc before)) is_flushed
-    accepted script_read means is
-    failed stops output kept =
-    let one_less : suc before - 1 ≡ before = omega arith in
-    let took = subst (λ n. Appends replies.before replies.after
-    (concat (take n (outcome c skipped depth (script_lines bytes)).replies))) one_less stops.2 in (
-      accepted,
-      script_read,
-      kept,
-      for_run capture.before script.before bytes depth skipped c _ means is (omega (arith, stops.1), took),
-    )
-taken_end capture script replies bytes depth skipped c (run_errors.ReplyFault written) is_flushed
-    accepted script_read means is
-    failed stops output kept =
-    (accepted, script_read, failed, kept, for_run capture.before script.before bytes depth skipped c _ means is stops)
-taken_end capture script replies bytes depth skipped c (run_errors.Capture fault) is_flushed
-    accepted script_read means is failed
-    stops output kept = absurd stops
-taken_end capture script replies bytes depth skipped c run_errors.ScriptTooLarge is_flushed accepted
-    script_read means is failed
-    stops output kept = absurd stops
-taken_end capture script replies bytes depth skipped c run_errors.ScriptReadFault is_flushed
-    accepted script_read means is failed
-    stops output kept = absurd stops
-taken_end capture script replies bytes depth skipped c (run_errors.Write fault) is_flushed accepted
-    script_read means is failed
-    stops output kept = absurd stops
+-- in the lines
+module _ (capture script replies : DeviceEnd) (bytes : List ℕ) (depth skipped : ℕ) (c : Contents)
+    (accepted : IsAccepted capture) (script_read : IsRead SCRIPT_LIMIT script)
+    (means : IfSome capture.before (λ f. FileMeans SIGNAL_LIMIT f c skipped))
+    (is : IfSome script.before (λ s. bytes ≡ s)) (is_flushed : Bool) where
+  -- given what was taken of the replies
+  taken_end : (e : RunError) → HasFailedAt replies.has_failed is_flushed e
+      → StopsInReplies (outcome c skipped depth (script_lines bytes)).replies (Appends replies.before replies.after) e
+      → EndsBeforeOutput depth capture script replies e
+  unfolding RunEnds
+  taken_end (run_errors.NoMemory zero) failed stops output kept = absurd (omega (arith, stops.0))
+  taken_end (run_errors.NoMemory (suc before)) failed stops output kept =
+      let one_less : suc before - 1 ≡ before = omega arith in
+      let took = subst (λ n. Appends replies.before replies.after
+      (concat (take n (outcome c skipped depth (script_lines bytes)).replies))) one_less stops.2 in (
+        accepted,
+        script_read,
+        kept,
+        for_run capture.before script.before bytes depth skipped c _ means is (omega (arith, stops.1), took),
+      )
+  taken_end (run_errors.ReplyFault written) failed stops output kept = (
+    accepted,
+    script_read,
+    failed,
+    kept,
+    for_run capture.before script.before bytes depth skipped c _ means is stops,
+  )
+  taken_end e failed stops output kept = absurd stops
 
--- the same by the machine's replies
-pub lines_end : (capture script replies : DeviceEnd) (bytes : List ℕ) (depth skipped : ℕ) (c : Contents)
-    (e : RunError) (is_flushed : Bool) →
-    IsAccepted capture → IsRead SCRIPT_LIMIT script → IfSome capture.before (λ f. FileMeans SIGNAL_LIMIT f c skipped)
-    → IfSome script.before (λ s. bytes ≡ s) →
-    HasFailedAt replies.has_failed is_flushed e
-    → StopsInLines skipped (script_lines bytes) (initial_machine c depth) replies.before replies.after e →
-    EndsBeforeOutput depth capture script replies e
-lines_end capture script replies bytes depth skipped c e is_flushed accepted script_read means is failed stops =
-    let written = outcome_is c skipped depth (script_lines bytes) in
-    taken_end capture script replies bytes depth skipped c e is_flushed accepted script_read means is failed
-    (subst (λ (texts : List (List ℕ)). StopsInReplies texts (Appends replies.before replies.after) e)
-    (sym (ap (λ (o : RunOutcome). o.replies) written)) stops)
+  -- the same by the machine's replies
+  pub lines_end : (e : RunError) → HasFailedAt replies.has_failed is_flushed e
+      → StopsInLines skipped (script_lines bytes) (initial_machine c depth) replies.before replies.after e
+      → EndsBeforeOutput depth capture script replies e
+  lines_end e failed stops =
+      taken_end e failed (subst (λ (texts : List (List ℕ)). StopsInReplies texts
+      (Appends replies.before replies.after) e)
+      (sym (ap (λ (o : RunOutcome). o.replies) (outcome_is c skipped depth (script_lines bytes)))) stops)
 
 -- the replies were flushed where memory ran out at a line
 pub flushed_at_line : (has_failed is_flushed : Bool) (e : RunError) → EndsAtLine e → HasFailedAt has_failed is_flushed e
     → IsFlushedAt has_failed is_flushed e
-flushed_at_line has_failed is_flushed (run_errors.NoMemory zero) ends failed = tt
 flushed_at_line has_failed is_flushed (run_errors.NoMemory (suc before)) ends failed = failed
-flushed_at_line has_failed is_flushed (run_errors.ReplyFault written) ends failed = tt
-flushed_at_line has_failed is_flushed (run_errors.Capture fault) ends failed = tt
-flushed_at_line has_failed is_flushed run_errors.ScriptTooLarge ends failed = tt
-flushed_at_line has_failed is_flushed run_errors.ScriptReadFault ends failed = tt
 flushed_at_line has_failed is_flushed (run_errors.Write fault) ends failed = absurd ends
+flushed_at_line has_failed is_flushed e ends failed = tt
 
 -- ---- the output
 
@@ -238,33 +201,14 @@ pub run_reaches_end : (capture script replies : DeviceEnd) (output : Option Devi
     IfSome output (λ out. (out.has_failed ≡ false) × HasText out (text now))
     → RunEnds depth capture script replies output (Ok summary)
 unfolding RunEnds
-run_reaches_end capture script replies None depth summary now accepted script_read ready ran wrote = (
+run_reaches_end capture script replies output depth summary now accepted script_read ready ran wrote = (
   accepted,
   script_read,
   ready,
-  tt,
+  IfSome_then output wrote (λ out is. is.0),
   if_run_writes capture.before script.before depth summary.refused _ now _ ran
-      (λ written replied output refused. (replied, tt, refused)),
+      (λ written replied same refused. (replied, IfSome_then output wrote (λ out is. rw same is.1), refused)),
 )
-run_reaches_end capture script replies (Some out) depth summary now accepted script_read ready ran wrote = (
-  accepted,
-  script_read,
-  ready,
-  wrote.0,
-  if_run_writes capture.before script.before depth summary.refused _ now _ ran
-      (λ written replied output refused. (replied, rw output wrote.1, refused)),
-)
-
-pub run_reaches_end_with : (capture script replies out : DeviceEnd) (depth : ℕ) (summary : Summary)
-    (now : Contents) →
-    IsAccepted capture → IsRead SCRIPT_LIMIT script → replies.has_failed ≡ false →
-    IfSome capture.before
-    (λ f. IfSome script.before
-    (λ s. ScriptGives f s depth summary.refused (Appends replies.before replies.after) now)) →
-    out.has_failed ≡ false → HasText out (text now) → RunEnds depth capture script replies (Some out) (Ok summary)
-run_reaches_end_with capture script replies out depth summary now accepted script_read ready ran out_ready wrote =
-    run_reaches_end capture script replies (Some out) depth summary now accepted script_read ready ran
-    (out_ready, wrote)
 
 -- or stops at its output
 pub run_stops_at_output : (capture script replies out : DeviceEnd) (depth count : ℕ) (now : Contents)

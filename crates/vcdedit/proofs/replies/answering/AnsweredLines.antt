@@ -1,22 +1,19 @@
 -- A session does what the machine does, and its replies are the machine's answers.
-use Rattle.std.proofs.Common.{◌≡◌, ◌≢◌, ℕ, true, false, List, ◌∷◌, [], take, Option, Some, None}
-use Rattle.std.proofs.Common.{Result, Ok, Err}
+use Rattle.std.proofs.Common.{◌≡◌, ◌≢◌, ℕ, List, ◌∷◌, [], take, Option, Some, None}
+use Rattle.std.proofs.Common.{Result, Ok}
 use Rattle.std.proofs.Common.{length, refl, sym, subst, ◌∙◌, ap}
 use Rattle.vcd_core.specs.Contents.{Contents}
 use Rattle.vcd_edit.specs.declared.edit.Edit.{Edit}
-use Rattle.vcd_edit.specs.declared.edit.Edit.TheVariants.{Rename, Remove, Invert, Shift, Cut}
-use Rattle.vcd_edit.specs.declared.edit.Edit.TheVariants.{Deglitch, Force, Derive}
+use Rattle.vcd_edit.specs.declared.edit.Edit.TheVariants.{Rename}
 use Rattle.vcd_edit.specs.declared.fault.EditError.{EditError}
 use Rattle.vcd_edit.specs.declared.fault.EditError.TheVariants as errors
 use Rattle.vcd_edit.specs.Effect.{effect}
 use Rattle.vcd_edit.specs.EditFaults.{edit_fault}
 use Rattle.vcd_journal.specs.declared.step.Step.{Step}
 use Rattle.vcd_journal.specs.declared.step.Step.TheVariants as steps
-use Rattle.vcd_journal.specs.declared.step.StepError.{StepError}
 use Rattle.vcd_journal.specs.declared.step.StepError.TheVariants as refusals
 use Rattle.vcd_journal.specs.declared.step.Answer.{Answer}
-use Rattle.vcd_journal.specs.declared.step.Answer.TheVariants.{Done, Refused}
-use Rattle.vcd_journal.specs.StepErrorNames.{step_error_name}
+use Rattle.vcd_journal.specs.declared.step.Answer.TheVariants.{Done}
 use Rattle.vcd_journal.specs.Machine.{Machine, StepOutcome, edit_outcome, step_outcome}
 use Rattle.vcd_journal.specs.Machine.{memory_refusal, IsStep}
 use Rattle.vcd_journal.proofs.shared.Steps.{outcome_of_step}
@@ -31,7 +28,7 @@ use Rattle.vcdedit.specs.Reply.{LineReply, ok_reply}
 use Rattle.vcdedit.specs.Reply.{line_reply, step_reply, edit_reply, command_reply}
 use Rattle.vcdedit.specs.inside.running.MachineRun.{machine_after_line, machine_after_command}
 use Rattle.vcdedit.specs.declared.replies.reply.Reply.{Reply}
-use Rattle.vcdedit.specs.inside.replies.Answering.{is_no_memory, AnswersStep, AnswersCommand, AnswersLine}
+use Rattle.vcdedit.specs.inside.replies.Answering.{AnswersStep, AnswersCommand, AnswersLine}
 use Rattle.vcdedit.specs.inside.replies.Reply.{IsReplyTo}
 use Rattle.vcdedit.proofs.replies.StepReplies.{reply_is_answer}
 
@@ -41,32 +38,19 @@ use Rattle.vcdedit.proofs.replies.StepReplies.{reply_is_answer}
 pub effect_without_address : (e : Edit) (c : Contents) → effect (edit_without_address e) c ≡ effect e c
 unfolding effect
 effect_without_address (Rename k word) c = refl
-effect_without_address (Remove k) c = refl
-effect_without_address (Invert k) c = refl
-effect_without_address (Shift k by) c = refl
-effect_without_address (Cut from to) c = refl
-effect_without_address (Deglitch k ticks) c = refl
-effect_without_address (Force k from to value) c = refl
-effect_without_address (Derive word rule) c = refl
+effect_without_address e c = refl
 
 pub fault_without_address : (e : Edit) (c : Contents) → edit_fault (edit_without_address e) c ≡ edit_fault e c
 unfolding edit_fault
 fault_without_address (Rename k word) c = refl
-fault_without_address (Remove k) c = refl
-fault_without_address (Invert k) c = refl
-fault_without_address (Shift k by) c = refl
-fault_without_address (Cut from to) c = refl
-fault_without_address (Deglitch k ticks) c = refl
-fault_without_address (Force k from to value) c = refl
-fault_without_address (Derive word rule) c = refl
+fault_without_address e c = refl
 
 edit_outcome_without_address : (found : Option EditError) (e : Edit) (m : Machine)
     → edit_outcome found (edit_without_address e) m ≡ edit_outcome found e m
 edit_outcome_without_address None e m =
     ap (λ (c : Contents). record {
       answer = Done;
-      after =
-          record { past = take m.depth (m.now ∷ m.past); now = c; future = []; depth = m.depth };
+      after = record { past = take m.depth (m.now ∷ m.past); now = c; future = []; depth = m.depth };
     })
     (effect_without_address e m.now)
 edit_outcome_without_address (Some found) e m = refl
@@ -76,17 +60,13 @@ pub outcome_without_address : (m : Machine) (s : Step) → step_outcome m (step_
 outcome_without_address m (steps.Edit e) =
     ap (λ (found : Option EditError). edit_outcome found (edit_without_address e) m) (fault_without_address e m.now)
     ∙ edit_outcome_without_address (edit_fault e m.now) e m
-outcome_without_address m steps.Undo = refl
-outcome_without_address m steps.Redo = refl
-outcome_without_address m (steps.Depth depth) = refl
+outcome_without_address m s = refl
 
 -- nor for the reply
 pub reply_without_address : (s : Step) (c : Contents) (undoable redoable : ℕ)
     → step_reply (step_without_address s) c undoable redoable ≡ step_reply s c undoable redoable
 reply_without_address (steps.Edit e) c undoable redoable = ap edit_reply (fault_without_address e c)
-reply_without_address steps.Undo c undoable redoable = refl
-reply_without_address steps.Redo c undoable redoable = refl
-reply_without_address (steps.Depth depth) c undoable redoable = refl
+reply_without_address s c undoable redoable = refl
 
 -- ---- steps
 
@@ -101,45 +81,13 @@ answered s a old new is = (
 -- an accepted step was not refused because memory ran out
 done_not_refused : (s : Step) → Done ≢ memory_refusal s
 done_not_refused (steps.Edit e) same = absurd (cc)
-done_not_refused steps.Undo same = absurd (cc)
-done_not_refused steps.Redo same = absurd (cc)
-done_not_refused (steps.Depth depth) same = absurd (cc)
-
--- nor was one with another refusal
-other_not_refused : (s : Step) (refusal : StepError) → is_no_memory refusal ≡ false → Refused refusal ≢ memory_refusal s
-other_not_refused (steps.Edit e) refusal other same =
-    let is : refusal ≡ refusals.Edit errors.NoMemory = cc in
-    let no : true ≡ false = sym (ap is_no_memory is) ∙ other in absurd (cc)
-other_not_refused steps.Undo refusal other same =
-    let is : refusal ≡ refusals.NoMemory = cc in
-    let no : true ≡ false = sym (ap is_no_memory is) ∙ other in absurd (cc)
-other_not_refused steps.Redo refusal other same =
-    let is : refusal ≡ refusals.NoMemory = cc in
-    let no : true ≡ false = sym (ap is_no_memory is) ∙ other in absurd (cc)
-other_not_refused (steps.Depth depth) refusal other same =
-    let is : refusal ≡ refusals.NoMemory = cc in
-    let no : true ≡ false = sym (ap is_no_memory is) ∙ other in absurd (cc)
-
--- the reply is the one to the step
-replied : (number : ℕ) (answer : LineReply) (s : Step) (old new : Machine) (reply : Reply) →
-    ((step_outcome old s).after ≡ new) × (step_reply s old.now (length old.past) (length old.future) ≡ answer)
-    → IsReplyTo number answer reply → AnswersStep number s old new reply
-replied number answer s old new reply is tells =
-    (is.0, subst (λ (r : LineReply). IsReplyTo number r reply) (sym is.1) tells)
+done_not_refused s same = absurd (cc)
 
 pub step_accepted : (number : ℕ) (s : Step) (old new : Machine) (reply : Reply) → IsStep old s Done new
     → IsReplyTo number ok_reply reply → AnswersStep number s old new reply
 step_accepted number s old new reply made tells =
-    replied number ok_reply s old new reply
-    (answered s Done old new (outcome_of_step old s Done new made (done_not_refused s))) tells
-
-pub step_refused : (number : ℕ) (s : Step) (refusal : StepError) (old new : Machine) (reply : Reply)
-    → IsStep old s (Refused refusal) new → is_no_memory refusal ≡ false →
-    IsReplyTo number (Err (step_error_name refusal)) reply → AnswersStep number s old new reply
-step_refused number s refusal old new reply made other tells =
-    replied number (Err (step_error_name refusal)) s old new reply
-    (answered s (Refused refusal) old new
-    (outcome_of_step old s (Refused refusal) new made (other_not_refused s refusal other))) tells
+    let is = answered s Done old new (outcome_of_step old s Done new made (done_not_refused s)) in
+    (is.0, subst (λ (r : LineReply). IsReplyTo number r reply) (sym is.1) tells)
 
 -- ---- lines
 

@@ -23,12 +23,10 @@ pub scope_printed : (scopes : List ScopeName) (words : List (List ℕ)) (i : ℕ
 scope_printed scopes words i s out with_scope new whole within is first second all =
     let rest = name_in (drop (i + 1) scopes) words in
     ap (λ (l : List ℕ). l ++ rest) (second ∙ ap (λ (l : List ℕ). l ++ 46 ∷ []) first)
-    ∙ append_assoc (out ++ scope_text s) (46 ∷ []) rest
-    ∙ append_assoc out (scope_text s) (46 ∷ rest)
+    ∙ append_assoc (out ++ scope_text s) (46 ∷ []) rest ∙ append_assoc out (scope_text s) (46 ∷ rest)
     ∙ ap (λ (l : List ℕ). out ++ l) (sym (name_in-scope s (drop (i + 1) scopes) words))
     ∙ ap (λ (l : List ScopeName). out ++ name_in l words)
-    (sym (drop_more scopes i s within ∙ ap (λ (x : ScopeName). x ∷ drop (i + 1) scopes) (sym is)))
-    ∙ all
+    (sym (drop_more scopes i s within ∙ ap (λ (x : ScopeName). x ∷ drop (i + 1) scopes) (sym is))) ∙ all
 
 -- no scope is left, and the signal's own name is printed
 pub name_printed : (scopes : List ScopeName) (words : List (List ℕ)) (i : ℕ) (out new whole : List ℕ)
@@ -49,11 +47,9 @@ pub signal_printed : (k : ℕ) (signals : List Signal) (s : Signal) (out new who
     out ++ text_of_signals k (drop k signals) ≡ whole → new ++ text_of_signals (k + 1) (drop (k + 1) signals) ≡ whole
 signal_printed k signals s out new whole within is grown all =
     let rest = text_of_signals (k + 1) (drop (k + 1) signals) in
-    ap (λ (l : List ℕ). l ++ rest) grown
-    ∙ append_assoc out (with_line_feed (signal_line k (signal_contents s))) rest
+    ap (λ (l : List ℕ). l ++ rest) grown ∙ append_assoc out (with_line_feed (signal_line k (signal_contents s))) rest
     ∙ ap (λ (l : List Signal). out ++ text_of_signals k l)
-    (sym (drop_more signals k s within ∙ ap (λ (x : Signal). x ∷ drop (k + 1) signals) (sym is)))
-    ∙ all
+    (sym (drop_more signals k s within ∙ ap (λ (x : Signal). x ∷ drop (k + 1) signals) (sym is))) ∙ all
 
 -- no signal is left
 pub signals_printed : (k : ℕ) (signals : List Signal) (out whole : List ℕ) → length signals ≤ k

@@ -1,12 +1,12 @@
 -- A run of lines, seen from a line in it.
-use Rattle.std.proofs.Common.{◌≡◌, ℕ, ◌+◌, Bool, cond, List, [], ◌∷◌, ◌++◌, Option, length, refl, sym}
+use Rattle.std.proofs.Common.{◌≡◌, ℕ, ◌+◌, Bool, cond, List, [], ◌∷◌, ◌++◌, Option, length, sym}
 use Rattle.std.proofs.Common.{subst, ◌∙◌, ap}
 use Rattle.std.proofs.Common.{append_assoc, arith, add_assoc}
 use Rattle.std.specs.List.{concat}
 use Rattle.std.proofs.lemmas.List.{append-nil, length-append}
 use Rattle.std.proofs.lemmas.List.Folds.{concat-append}
 use Rattle.std.specs.Io.KnownBytes.{Appends}
-use Rattle.std.proofs.KnownBytes.{Appends-nil, Appends-trans}
+use Rattle.std.proofs.KnownBytes.{Appends-trans}
 use Rattle.vcd_journal.specs.Machine.{Machine}
 use Rattle.vcdedit.specs.inside.running.MachineRun.{reply_on, is_refused_on, machine_after_line}
 use Rattle.vcdedit.specs.inside.running.MachineRun.{machine_after_lines}
@@ -33,17 +33,6 @@ pub record RepliesSoFar (skipped : ℕ) (lines : List (List ℕ)) (old : Machine
   pub counted : length (concat texts) ≡ bytes
   pub took : Appends before after (concat texts)
   pub are_left : AreLeft skipped lines old number left now texts refused
-
--- at the beginning all are left
-pub all_left : (skipped : ℕ) (lines : List (List ℕ)) (old : Machine) (before : Option (List ℕ))
-    → RepliesSoFar skipped lines old 0 lines old 0 0 before before
-all_left skipped lines old before = record {
-  texts = [];
-  one_each = refl;
-  counted = refl;
-  took = Appends-nil before;
-  are_left = record { after = refl; replies = refl; refused = omega arith };
-}
 
 -- the reply to a line on a machine, and how many lines are refused after it
 abbrev pub replied_to : (skipped number : ℕ) → List ℕ → Machine → List ℕ
@@ -109,12 +98,7 @@ none_left {refused = refused} so none =
     let sum : refused + 0 ≡ refused = omega arith in (
       so.texts,
       so.took,
-      record {
-        after = last.after;
-        replies = last.replies ∙ append-nil so.texts;
-        refused = last.refused
-            ∙ sum;
-      },
+      record { after = last.after; replies = last.replies ∙ append-nil so.texts; refused = last.refused ∙ sum },
     )
 
 -- an empty script has no line

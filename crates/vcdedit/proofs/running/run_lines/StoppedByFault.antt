@@ -18,68 +18,50 @@ use Rattle.vcdedit.proofs.running.run_lines.LinesLeft.{RepliesSoFar}
 
 -- ---- texts, written one after another
 
--- memory runs out at a text: those before it are written
-none_of_text : (replies texts rest : List (List ℕ)) (text : List ℕ) (number line : ℕ)
-    (before between after : Option (List ℕ)) →
-    replies ≡ texts ++ text ∷ rest → length texts ≡ number → Appends before between (concat texts) → line ≡ number + 1
-    → Keeps between after →
-    StopsInReplies replies (Appends before after) (run_errors.NoMemory line)
-none_of_text replies texts rest text number line before between after parts count took at kept =
-    let whole : length replies ≡ length texts + suc (length rest) =
-    ap length parts ∙ length-append texts (text ∷ rest) in
-    let before_it : line - 1 ≡ length texts = omega (arith, at, count) in
-    let prefix : take (line - 1) replies ≡ texts = ap (λ i. take i replies) before_it ∙ ap (take (length texts)) parts
-    ∙ take-append_seam texts (text ∷ rest) in (
-      omega (arith, at),
-      omega (arith, at, count, whole),
-      subst (Appends before after) (ap concat (sym prefix))
-          (Appends-kept before between after (concat texts) took kept),
-    )
+module _ (replies texts rest : List (List ℕ)) (text : List ℕ) (before between after : Option (List ℕ))
+    (parts : replies ≡ texts ++ text ∷ rest) (took : Appends before between (concat texts)) where
+  -- memory runs out at a text: those before it are written
+  none_of_text : (number line : ℕ) → length texts ≡ number → line ≡ number + 1 → Keeps between after
+      → StopsInReplies replies (Appends before after) (run_errors.NoMemory line)
+  none_of_text number line count at kept =
+      let whole : length replies ≡ length texts + suc (length rest) =
+      ap length parts ∙ length-append texts (text ∷ rest) in
+      let before_it : line - 1 ≡ length texts = omega (arith, at, count) in
+      let prefix : take (line - 1) replies ≡ texts = ap (λ i. take i replies) before_it
+      ∙ ap (take (length texts)) parts ∙ take-append_seam texts (text ∷ rest) in (
+        omega (arith, at),
+        omega (arith, at, count, whole),
+        subst (Appends before after) (ap concat (sym prefix))
+            (Appends-kept before between after (concat texts) took kept),
+      )
 
--- the writer takes the first bytes of a text: with the texts before, these are the first bytes of
--- all
-prefix_of_text : (replies texts rest : List (List ℕ)) (text : List ℕ) (bytes count written : ℕ)
-    (before between after : Option (List ℕ)) →
-    replies ≡ texts ++ text ∷ rest → length (concat texts) ≡ bytes → Appends before between (concat texts)
-    → written ≡ bytes + count → count ≤ length text → Appends between after (take count text) →
-    StopsInReplies replies (Appends before after) (run_errors.ReplyFault written)
-prefix_of_text replies texts rest text bytes count written before between after parts texts_bytes took at within takes =
-    let whole : concat replies ≡ concat texts ++ (text ++ concat rest) = ap concat parts
-    ∙ concat-append texts (text ∷ rest) in
-    let sum : length (concat replies) ≡ length (concat texts) + (length text + length (concat rest)) =
-    ap length whole ∙ length-append (concat texts) (text ++ concat rest)
-    ∙ ap (λ n. length (concat texts) + n) (length-append text (concat rest)) in
-    let so_many : written ≡ length (concat texts) + count = at ∙ ap (λ n. n + count) (sym texts_bytes) in
-    let prefix : take written (concat replies) ≡ concat texts ++ take count text =
-    ap (λ n. take n (concat replies)) so_many ∙ ap (take (length (concat texts) + count)) whole
-    ∙ take-append-add (concat texts) (text ++ concat rest) count
-    ∙ ap (λ l. concat texts ++ l) (take-append-le count text (concat rest) within) in (
-      omega (arith, so_many, sum, within),
-      subst (Appends before after) (sym prefix)
-          (Appends-trans before between after (concat texts) (take count text) took takes),
-    )
+  -- the writer takes the first bytes of a text: with the texts before, these are the first bytes of all
+  prefix_of_text : (bytes count written : ℕ) → length (concat texts) ≡ bytes → written ≡ bytes + count
+      → count ≤ length text → Appends between after (take count text)
+      → StopsInReplies replies (Appends before after) (run_errors.ReplyFault written)
+  prefix_of_text bytes count written texts_bytes at within takes =
+      let whole : concat replies ≡ concat texts ++ (text ++ concat rest) = ap concat parts
+      ∙ concat-append texts (text ∷ rest) in
+      let sum : length (concat replies) ≡ length (concat texts) + (length text + length (concat rest)) =
+      ap length whole ∙ length-append (concat texts) (text ++ concat rest)
+      ∙ ap (λ n. length (concat texts) + n) (length-append text (concat rest)) in
+      let so_many : written ≡ length (concat texts) + count = at ∙ ap (λ n. n + count) (sym texts_bytes) in
+      let prefix : take written (concat replies) ≡ concat texts ++ take count text =
+      ap (λ n. take n (concat replies)) so_many ∙ ap (take (length (concat texts) + count)) whole
+      ∙ take-append-add (concat texts) (text ++ concat rest) count
+      ∙ ap (λ l. concat texts ++ l) (take-append-le count text (concat rest) within) in (
+        omega (arith, so_many, sum, within),
+        subst (Appends before after) (sym prefix)
+            (Appends-trans before between after (concat texts) (take count text) took takes),
+      )
 
--- the writing of one text stops, and so that of all
-text_stops : (replies texts rest : List (List ℕ)) (text : List ℕ) (number bytes : ℕ)
-    (before between after : Option (List ℕ)) (e : RunError) →
-    replies ≡ texts ++ text ∷ rest → length texts ≡ number → length (concat texts) ≡ bytes
-    → Appends before between (concat texts) → StopsAtReply (number + 1) text bytes between after e →
-    StopsInReplies replies (Appends before after) e
-text_stops replies texts rest text number bytes before between after (run_errors.NoMemory line) parts count texts_bytes
-    took stops =
-    none_of_text replies texts rest text number line before between after parts count took stops.0 stops.1
-text_stops replies texts rest text number bytes before between after (run_errors.ReplyFault written) parts count
-    texts_bytes took stops =
-    prefix_of_text replies texts rest text bytes stops.0 written before between after parts texts_bytes took stops.1
-    stops.2 stops.3
-text_stops replies texts rest text number bytes before between after (run_errors.Capture fault) parts count texts_bytes
-    took stops = absurd stops
-text_stops replies texts rest text number bytes before between after run_errors.ScriptTooLarge parts count texts_bytes
-    took stops = absurd stops
-text_stops replies texts rest text number bytes before between after run_errors.ScriptReadFault parts count texts_bytes
-    took stops = absurd stops
-text_stops replies texts rest text number bytes before between after (run_errors.Write fault) parts count texts_bytes
-    took stops = absurd stops
+  -- the writing of one text stops, and so that of all
+  text_stops : (number bytes : ℕ) (e : RunError) → length texts ≡ number → length (concat texts) ≡ bytes
+      → StopsAtReply (number + 1) text bytes between after e → StopsInReplies replies (Appends before after) e
+  text_stops number bytes (run_errors.NoMemory line) count size stops = none_of_text number line count stops.0 stops.1
+  text_stops number bytes (run_errors.ReplyFault written) count size stops =
+      prefix_of_text bytes stops.0 written size stops.1 stops.2 stops.3
+  text_stops number bytes e count size stops = absurd stops
 
 -- ---- lines
 
@@ -95,9 +77,8 @@ line_stops {skipped} {number} {bytes = bytes} {lines} {left = left} {line} {old}
     let here = rw parts at so.are_left in
     text_stops (line_replies skipped 1 old lines) so.texts
     (line_replies skipped (number + 1 + 1) (machine_after_line now line) left)
-    (reply_on skipped (number + 1) line now) number bytes before
-    between after e
-    here.replies so.one_each so.counted so.took stops
+    (reply_on skipped (number + 1) line now) before between after here.replies so.took number bytes e so.one_each
+    so.counted stops
 
 -- after the last line, in the flush: all is written
 pub flush_stops : {skipped number refused bytes : ℕ} {lines left : List (List ℕ)} {old now : Machine}
@@ -115,6 +96,5 @@ flush_stops {skipped} {bytes = bytes} {lines} {old = old} {before = before} {bet
     ap (λ n. take n (concat (line_replies skipped 1 old lines))) (sym len)
     ∙ take-length (concat (line_replies skipped 1 old lines)) ∙ all in (
       omega (arith, len),
-      subst (Appends before after) (sym prefix)
-          (Appends-kept before between after (concat so.texts) so.took kept),
+      subst (Appends before after) (sym prefix) (Appends-kept before between after (concat so.texts) so.took kept),
     )

@@ -6,6 +6,7 @@ use Rattle.std.proofs.Common.{take, length, Option, Some, None, Result, Ok, Err,
 use Rattle.std.proofs.Common.{◌∙◌, ap, subst}
 use Rattle.std.proofs.Common.{arith, get_or}
 use Rattle.std.specs.Prelude.{fold, drop, not, nat_lt}
+use Rattle.std.proofs.lemmas.Bool.{cond_both}
 use Rattle.std.proofs.lemmas.Bool.Decides.{nat_tests}
 use Rattle.std.proofs.lemmas.List.{length-append, length-take, length-drop}
 use Rattle.vcd_core.specs.Contents.{Contents}
@@ -57,15 +58,8 @@ redo_restores es (u ∷ us) = refl
 -- steps alone change the history
 by_step : (P : History → Type 0) (h : History) (asked : Result Command LineError) → P h →
     ((s : Step) → asked ≡ Ok (commands.Step s) → P (history_after h s)) → P (history_after_command h asked)
-by_step P h (Err fault) stays stepped = stays
-by_step P h (Ok commands.Nothing) stays stepped = stays
 by_step P h (Ok (commands.Step s)) stays stepped = stepped s refl
-by_step P h (Ok commands.List) stays stepped = stays
-by_step P h (Ok (commands.Value k tick)) stays stepped = stays
-by_step P h (Ok (commands.Changes k)) stays stepped = stays
-by_step P h (Ok (commands.Uart k setup)) stays stepped = stays
-by_step P h (Ok (commands.Spi clk mosi miso cs setup)) stays stepped = stays
-by_step P h (Ok (commands.I2c scl sda)) stays stepped = stays
+by_step P h asked stays stepped = stays
 
 -- ---- what is accepted
 
@@ -80,9 +74,8 @@ some_held (suc held) refusal accepted = omega arith
 no_depth_fault : (bad small : Bool) →
     is_err (cond bad (Err (step_error_name refusals.BadDepth))
     (cond small (Err (step_error_name refusals.DepthTooSmall)) ok_reply)) ≡ false → (bad ≡ false) × (small ≡ false)
-no_depth_fault true small accepted = absurd (cc)
-no_depth_fault false true accepted = absurd (cc)
 no_depth_fault false false accepted = (refl, refl)
+no_depth_fault bad small accepted = absurd (cc)
 
 module _ (c : Contents) (skipped depth : ℕ) (lines : List (List ℕ)) where
   abbrev at_line : ℕ → History
@@ -110,15 +103,13 @@ module _ (c : Contents) (skipped depth : ℕ) (lines : List (List ℕ)) where
       (at_line count).undoable (length (at_line count).undone))) is.0) ∙ is.1
 
   some_undoable : (count : ℕ) → IsStepAfter count steps.Undo → 1 ≤ (at_line count).undoable
-  some_undoable count is =
-      some_held (at_line count).undoable refusals.NothingToUndo (step_accepted count steps.Undo is)
+  some_undoable count is = some_held (at_line count).undoable refusals.NothingToUndo (step_accepted count steps.Undo is)
 
   some_undone : (count : ℕ) → IsStepAfter count steps.Redo → 1 ≤ length (at_line count).undone
   some_undone count is =
       some_held (length (at_line count).undone) refusals.NothingToRedo (step_accepted count steps.Redo is)
 
-  new_depth_fits : (count d : ℕ) → IsStepAfter count (steps.Depth d)
-      → (1 ≤ d) × (length (at_line count).undone ≤ d)
+  new_depth_fits : (count d : ℕ) → IsStepAfter count (steps.Depth d) → (1 ≤ d) × (length (at_line count).undone ≤ d)
   new_depth_fits count d is =
       let fits = no_depth_fault (not (is_depth d)) (nat_lt d (length (at_line count).undone))
       (step_accepted count (steps.Depth d) is) in
@@ -153,12 +144,10 @@ module _ (c : Contents) (skipped depth : ℕ) (lines : List (List ℕ)) where
   -- what holds of the history before a line, and after each step that it may make, holds after it
   next_holds : (P : History → Type 0) (count : ℕ) → P (at_line count) →
       ((s : Step) → IsStepAfter count s → P (history_after (at_line count) s)) → P (at_line (suc count))
-  next_holds P count stays stepped = by_refusal (is_refused_after count) refl where
-    by_refusal : (refused : Bool) → is_refused_after count ≡ refused → P (at_line (suc count))
-    by_refusal true is = subst P (sym (next_is count true is)) stays
-    by_refusal false is =
-        subst P (sym (next_is count false is))
-        (by_step P (at_line count) (asked_after count) stays (λ s asks. stepped s (asks, is)))
+  next_holds P count stays stepped =
+      subst P (sym (history_next count))
+      (cond_both (is_refused_after count) (at_line count) (history_after_command (at_line count) (asked_after count)) P
+      (λ _. stays) (λ is. by_step P (at_line count) (asked_after count) stays (λ s asks. stepped s (asks, is))))
 
   -- ---- the edits in force
 
@@ -275,10 +264,8 @@ module _ (c : Contents) (skipped depth : ℕ) (lines : List (List ℕ)) where
 
   deep_after_step : (count : ℕ) (s : Step) → IsStepAfter count s → 1 ≤ (at_line count).depth
       → 1 ≤ (history_after (at_line count) s).depth
-  deep_after_step count (steps.Edit e) is least = least
-  deep_after_step count steps.Undo is least = least
-  deep_after_step count steps.Redo is least = least
   deep_after_step count (steps.Depth d) is least = (new_depth_fits count d is).0
+  deep_after_step count s is least = least
 
   deep : 1 ≤ depth → (count : ℕ) → 1 ≤ (at_line count).depth
   deep least zero = least
@@ -316,35 +303,24 @@ module _ (c : Contents) (skipped depth : ℕ) (lines : List (List ℕ)) where
   -- ---- an undo
 
   undone_edit : (j : ℕ) (es : List Edit) → (at_line j).edits ≡ es → 1 ≤ length es → AreMade j es →
-      (i : ℕ) × (e : Edit) × (i < j) × IsStepAfter i (steps.Edit e)
-      × ((at_line j).edits ≡ e ∷ (at_line i).edits)
+      (i : ℕ) × (e : Edit) × (i < j) × IsStepAfter i (steps.Edit e) × ((at_line j).edits ≡ e ∷ (at_line i).edits)
       × (replay c (drop 1 (at_line j).edits) ≡ capture_at c skipped depth lines i)
   unfolding AreMade
   undone_edit j [] is some made = absurd (omega (arith, some))
   undone_edit j (e ∷ es) is some made =
-      let at = made.0 in (
-        at.0,
-        e,
-        at.1,
-        at.2,
-        is ∙ ap (λ (before : List Edit). e ∷ before) (sym at.3),
-        ap (λ (now : List Edit). replay c (drop 1 now)) is ∙ ap (replay c) (sym at.3),
-      )
+      let at = made.0 in
+      let now = is ∙ ap (λ (before : List Edit). e ∷ before) (sym at.3) in
+      let before = ap (λ (now : List Edit). replay c (drop 1 now)) is ∙ ap (replay c) (sym at.3) in
+      (at.0, e, at.1, at.2, now, before)
 
   undo_gives_back : IsSound c → (j : ℕ) → IsStepAfter j steps.Undo →
-      (i : ℕ) × (e : Edit) × (i < j) × IsStepAfter i (steps.Edit e)
-      × ((at_line j).edits ≡ e ∷ (at_line i).edits)
+      (i : ℕ) × (e : Edit) × (i < j) × IsStepAfter i (steps.Edit e) × ((at_line j).edits ≡ e ∷ (at_line i).edits)
       × (capture_at c skipped depth lines (suc j) ≡ capture_at c skipped depth lines i)
   undo_gives_back sound j undo =
       let some : 1 ≤ length (at_line j).edits = omega (arith, some_undoable j undo, undoable_within j) in
-      let found = undone_edit j (at_line j).edits refl some (in_force_made sound j) in (
-        found.0,
-        found.1,
-        found.2,
-        found.3,
-        found.4,
-        ap (λ (h : History). replay c h.edits) (after_step j steps.Undo undo) ∙ found.5,
-      )
+      let found = undone_edit j (at_line j).edits refl some (in_force_made sound j) in
+      let back = ap (λ (h : History). replay c h.edits) (after_step j steps.Undo undo) ∙ found.5 in
+      (found.0, found.1, found.2, found.3, found.4, back)
 
   -- ---- a redo
 
@@ -357,12 +333,9 @@ module _ (c : Contents) (skipped depth : ℕ) (lines : List (List ℕ)) where
   redo_gives_back : (j : ℕ) → IsStepAfter j steps.Redo →
       (i : ℕ) × (i < j) × IsStepAfter i steps.Undo × ((at_line (suc j)).edits ≡ (at_line i).edits)
   redo_gives_back j redo =
-      let found = redone_edit j (at_line j).edits (at_line j).undone (some_undone j redo) (all_undone j) in (
-        found.0,
-        found.1,
-        found.2,
-        ap (λ (h : History). h.edits) (after_step j steps.Redo redo) ∙ found.3,
-      )
+      let found = redone_edit j (at_line j).edits (at_line j).undone (some_undone j redo) (all_undone j) in
+      let again = ap (λ (h : History). h.edits) (after_step j steps.Redo redo) ∙ found.3 in
+      (found.0, found.1, found.2, again)
 
   -- ---- the laws, with lines counted from 1
 
@@ -384,28 +357,20 @@ module _ (c : Contents) (skipped depth : ℕ) (lines : List (List ℕ)) where
         undo_restores = λ number least undo.
             let next : suc (number - 1) ≡ number = omega (arith, least) in
             let found = undo_gives_back sound (number - 1) undo in
-            let before : found.0 ≡ suc found.0 - 1 = omega arith in (
-              suc found.0,
-              found.1,
-              omega arith,
-              omega (arith, found.2, next),
-              subst (λ n. IsStepAfter n (steps.Edit found.1)) before found.3,
-              found.4 ∙ ap (λ n. found.1 ∷ (at_line n).edits) before,
-              ap (capture_at c skipped depth lines) (sym next) ∙ found.5 ∙ ap (capture_at c skipped depth lines) before,
-            );
+            let before : found.0 ≡ suc found.0 - 1 = omega arith in
+            let edit = subst (λ n. IsStepAfter n (steps.Edit found.1)) before found.3 in
+            let now = found.4 ∙ ap (λ n. found.1 ∷ (at_line n).edits) before in
+            let capture : ℕ → Contents = capture_at c skipped depth lines in
+            let back = ap capture (sym next) ∙ found.5 ∙ ap capture before in
+            (suc found.0, found.1, omega arith, omega (arith, found.2, next), edit, now, back);
         redo_restores = λ number least redo.
             let next : suc (number - 1) ≡ number = omega (arith, least) in
             let found = redo_gives_back (number - 1) redo in
             let before : found.0 ≡ suc found.0 - 1 = omega arith in
             let again : (at_line number).edits ≡ (at_line (suc found.0 - 1)).edits =
-            ap (λ n. (at_line n).edits) (sym next) ∙ found.3 ∙ ap (λ n. (at_line n).edits) before in (
-              suc found.0,
-              omega arith,
-              omega (arith, found.1, next),
-              subst (λ n. IsStepAfter n steps.Undo) before found.2,
-              again,
-              ap (replay c) again,
-            );
+            ap (λ n. (at_line n).edits) (sym next) ∙ found.3 ∙ ap (λ n. (at_line n).edits) before in
+            let undo = subst (λ n. IsStepAfter n steps.Undo) before found.2 in
+            (suc found.0, omega arith, omega (arith, found.1, next), undo, again, ap (replay c) again);
         read_again = read_back last (all_sound (length lines));
         nothing_else = λ d count means.
             one_meaning SIGNAL_LIMIT (text last) d last count 0 means (read_back last (all_sound (length lines)));

@@ -1,6 +1,6 @@
 -- Numbers of words, as std's `parse` reads them.
-use Rattle.std.proofs.Common.{◌≡◌, ◌≢◌, ◌<◌, ◌≤◌, ℕ, zero, suc, ℤ, pos, neg_ℤ, ◌^◌, Bool, true, false, ◌&&◌, ◌==◌}
-use Rattle.std.proofs.Common.{get_or, cond, ltb, leb, List, [], ◌∷◌, Result, Ok, Err, length, refl, sym, ◌∙◌, ap, arith}
+use Rattle.std.proofs.Common.{◌≡◌, ◌≢◌, ◌<◌, ◌≤◌, ℕ, ℤ, pos, neg_ℤ, ◌^◌, Bool, true, false, ◌&&◌, ◌==◌}
+use Rattle.std.proofs.Common.{get_or, cond, ltb, leb, List, [], ◌∷◌, Result, Ok, Err, length, refl, ◌∙◌, ap, arith}
 use Rattle.std.specs.Prelude.{MatchResult, IfErr, not}
 use Rattle.std.specs.Result.{OkIff}
 use Rattle.std.specs.Int.{w64}
@@ -10,8 +10,10 @@ use Rattle.std.specs.Char.{is_ascii_digit}
 use Rattle.std.specs.Str.{IsAscii, IsUtf8, IsValidUpTo, valid_up_to}
 use Rattle.std.specs.declared.str.Utf8Error.{Utf8Error}
 use Rattle.std.proofs.lemmas.Str.{IsUtf8-from_ascii}
+use Rattle.std.proofs.lemmas.Str.Ascii.{IsAscii-cons}
 use Rattle.std.specs.Str.Parse.{ParsesSigned, ParsesUnsigned}
-use Rattle.std.proofs.lemmas.Bool.{and_parts, ltb-true, lt-ltb, leb-true, le-leb, eqb-true, eq-eqb}
+use Rattle.std.proofs.lemmas.Bool.{and_parts, ltb-true, lt-ltb, leb-true, le-leb, eqb-true, eqb-false}
+use Rattle.std.proofs.lemmas.Bool.{cond-false, false_from_ne_true}
 use Rattle.std.proofs.lemmas.Bool.Decides.{nat_tests}
 use Rattle.std.proofs.lemmas.Fmt.{IsAscii-from_digits}
 use Rattle.std.proofs.lemmas.Str.Parse.{parse_plain, parse_signed_minus, parse_signed_plain, parse_signed_plus}
@@ -25,9 +27,6 @@ use Rattle.vcdedit.specs.ScriptWords.{distance_forth}
 -- the reading of a number, with `BadNumber` for each error of it
 abbrev pub Maps : {T E : Type 0} → Result T E → Result T LineError → Type 0
 Maps p r = MatchResult p (λ x. r ≡ Ok x) (λ e. r ≡ Err BadNumber)
-
-not_equal : (a b : ℕ) → (a == b) ≡ false → a ≢ b
-not_equal a b differ same = let bad : true ≡ false = sym (eq-eqb a b same) ∙ differ in cc
 
 -- a reading that succeeds where a test does
 by_test : {T E : Type 0} (test : Bool) (P : Type 0) (v : T) (p : Result T E) (r : Result T LineError) → OkIff p P v
@@ -67,32 +66,21 @@ digits_are_ascii : (digits : List ℕ) (fits : Bool) → (is_number digits && fi
 digits_are_ascii digits fits both =
     IsAscii-from_digits digits (reads_decimals.to digits (to_number digits fits _ (λ e. e) both).0)
 
-ascii_after : (c : ℕ) (cs : List ℕ) → c < 128 → IsAscii cs → IsAscii (c ∷ cs)
-ascii_after c cs first others zero = first
-ascii_after c cs first others (suc i) = others i
-
 -- a test that fails
 by_failure : {T : Type 0} (test : Bool) (v : T) → (test ≡ true → ⊥) → cond test (Ok v) (Err BadNumber) ≡ Err BadNumber
-by_failure true v fails = absurd (fails refl)
-by_failure false v fails = refl
-
--- a word that is no text
-pub no_number : (word : List ℕ) → (IsAscii word → ⊥) → number_of_word word ≡ Err BadNumber
-no_number word other = by_failure _ _ (λ both. other (digits_are_ascii word _ both))
+by_failure test v fails = cond-false test _ _ (false_from_ne_true test fails)
 
 pub no_distance : (word : List ℕ) → (IsAscii word → ⊥) → distance_of_word word ≡ Err BadNumber
 no_distance [] other = refl
 no_distance (c ∷ digits) other = go (c == 45) refl (c == 43) refl
   where
     signed : (fits : Bool) → c < 128 → (is_number digits && fits) ≡ true → ⊥
-    signed fits first both = other (ascii_after c digits first (digits_are_ascii digits fits both))
+    signed fits first both = other (IsAscii-cons c digits first (digits_are_ascii digits fits both))
 
     go : (minus : Bool) → (c == 45) ≡ minus → (plus : Bool) → (c == 43) ≡ plus
         → distance_of_word (c ∷ digits) ≡ Err BadNumber
-    go true minus plus is_plus =
-        rw minus (by_failure _ _ (signed _ (omega (arith, eqb-true c 45 minus))))
-    go false minus true is_plus =
-        rw (minus, is_plus) (by_failure _ _ (signed _ (omega (arith, eqb-true c 43 is_plus))))
+    go true minus plus is_plus = rw minus (by_failure _ _ (signed _ (omega (arith, eqb-true c 45 minus))))
+    go false minus true is_plus = rw (minus, is_plus) (by_failure _ _ (signed _ (omega (arith, eqb-true c 43 is_plus))))
     go false minus false is_plus =
         rw (minus, is_plus) (by_failure _ _ (λ both. other (digits_are_ascii (c ∷ digits) _ both)))
 
@@ -123,7 +111,7 @@ parsed_distance {E} (c ∷ digits) p r read is = go (c == 45) refl (c == 43) ref
         (parse_signed_plus reads_decimals w64 (c ∷ digits) p read (eqb-true c 43 is_plus)))
     go false minus false is_plus =
         rw (minus, is_plus) (forth (c ∷ digits) (parse_signed_plain reads_decimals w64 (c ∷ digits) p read
-        (not_equal c 43 is_plus) (not_equal c 45 minus)))
+        (eqb-false c 43 is_plus) (eqb-false c 45 minus)))
 
 -- bytes that are no text are not of ASCII
 pub no_text : (word : List ℕ) (p : Result (Bor (List ℕ)) Utf8Error) (r : Result (Bor (List ℕ)) LineError)

@@ -2,7 +2,7 @@
 use Rattle.std.proofs.Common.{◌≡◌, ◌<◌, ◌==◌, ℕ, true, false, List, [], ◌∷◌, ◌++◌, length, take}
 use Rattle.std.proofs.Common.{drop, refl, sym, ap}
 use Rattle.std.proofs.Common.{◌∙◌, arith}
-use Rattle.std.proofs.lemmas.List.{take-append-drop, length-append, append-nil}
+use Rattle.std.proofs.lemmas.List.{take-append-drop, length-append, append-nil, nil_from_length}
 use Rattle.std.proofs.lemmas.Bool.{eqb-true, eqb-false}
 use Rattle.vcdedit.specs.Script.{script_lines}
 use Rattle.vcdedit.specs.inside.script.Splitting.{is_after_line}
@@ -42,10 +42,6 @@ first_at script line following rest n b prefix back begins one ends =
     let feed : (b == 10) ≡ true = ap is_after_line (sym begins ∙ back) ∙ ends in
     (first_line script line rest b parts black feed, omega (arith, length-append line (b ∷ rest), ap length parts))
 
-pub nothing_left : (bytes : List ℕ) → length bytes ≡ 0 → bytes ≡ []
-nothing_left [] none = refl
-nothing_left (b ∷ bs) none = absurd (omega arith)
-
 pub last_at : (script line following : List ℕ) (n : ℕ) → line ≡ take n script → following ≡ drop n script
     → length following ≡ 0 → (length script == 0) ≡ false → is_one_line (take n script) ≡ true →
     (script_lines script ≡ line ∷ script_lines following) × (length following < length script)
@@ -54,4 +50,4 @@ last_at script line following n prefix back none some one =
     let black : is_one_line line ≡ true = rw prefix one in
     let other = eqb-false (length script) 0 some in
     let filled : 0 < length script = omega (arith, other) in
-    (only_line script line following parts (nothing_left following none) filled black, omega arith)
+    (only_line script line following parts (nil_from_length following none) filled black, omega arith)

@@ -20,8 +20,7 @@ loop-k-preserved c =
     let index : length v - 1 - (c.width-width.result - 1 - k) ≡ k = omega arith in
     let letter : c.printed_letter.result ≡ printed_letter (get_or v k X) = c.printed_letter.ensures
     ∙ ap printed_letter (c.bit.ensures ∙ ap (λ i. get_or v i X) index) in
-    c.in_ok-push.ensures.items
-    ∙ (λ i. c.loop-k.invariant i ++ letter i ∷ [])
+    c.in_ok-push.ensures.items ∙ (λ i. c.loop-k.invariant i ++ letter i ∷ [])
     ∙ append_assoc c.args.text.now.items (printed_letters (take k v)) (printed_letter (get_or v k X) ∷ [])
     ∙ ap (λ l. c.args.text.now.items ++ l) (sym (one_more v k (omega arith)))
 

@@ -1,5 +1,5 @@
-use Rattle.std.proofs.Common.{None, inl, inr, refl}
-use Rattle.vcdedit.proofs.running.PartsOfRun.{run_reaches_end, run_reaches_end_with, run_stops_at_output}
+use Rattle.std.proofs.Common.{Some, None, inl, inr, refl}
+use Rattle.vcdedit.proofs.running.PartsOfRun.{run_reaches_end, run_stops_at_output}
 use Rattle.vcdedit.proofs.running.PartsOfRun.{given_or_none}
 use Rattle.vcdedit.proofs.running.PartsOfRun.{ends_with, ends_with_writer}
 use Rattle.vcdedit.proofs.running.run.run.Goals as goal
@@ -16,10 +16,10 @@ returns-in_err-session-clause-ends g c =
 pub returns-in-Some-clause-ends : goal.returns-in-Some-clause-ends
 returns-in-Some-clause-ends g c =
     let wrote = rw (c.capture.ensures.now) at c.in_ok-write-in-Some.ensures.written in
-    rw (c.in-Some.is) (run_reaches_end_with _ _ _ _ c.args.depth _ c.in_ok-session.session.now
+    rw (c.in-Some.is) (run_reaches_end _ _ _ (Some _) c.args.depth _ c.in_ok-session.session.now
     c.in_ok-session.ensures.accepted c.in_ok-session.ensures.script_read
     c.in_ok-session.ensures.not_failed c.in_ok-session.ensures.gives
-    c.in_ok-write-in-Some.ensures.not_failed wrote)
+    (c.in_ok-write-in-Some.ensures.not_failed, wrote))
 
 pub returns-clause-ends : goal.returns-clause-ends
 returns-clause-ends g c =

@@ -37,12 +37,12 @@ returns-in_err-refused-clause-ended g c =
     c.in_err-refused.ensures.stopped in
     at_error c.from_residual-in_err-refused.result c.in_err-refused.field-0.0 _ c.from_residual-in_err-refused.ensures.1
     (lines_end _ _ _ c.in_ok-script.script.items c.args.depth c.in_ok-loaded.loaded.skipped
-    (contents c.in_ok-loaded.loaded.capture) c.in_err-refused.field-0.0 _
+    (contents c.in_ok-loaded.loaded.capture)
     (is_accepted _ (contents c.in_ok-loaded.loaded.capture) c.in_ok-loaded.loaded.skipped
     c.in_ok-loaded.ensures.not_failed c.in_ok-loaded.ensures.ended c.in_ok-loaded.ensures.means)
     c.in_ok-script.ensures.is_read
     (file_means _ (contents c.in_ok-loaded.loaded.capture) c.in_ok-loaded.loaded.skipped c.in_ok-loaded.ensures.means)
-    c.in_ok-script.ensures.all c.in_err-refused.ensures.failed stopped)
+    c.in_ok-script.ensures.all _ c.in_err-refused.field-0.0 c.in_err-refused.ensures.failed stopped)
 
 pub returns-clause-gives : goal.returns-clause-gives
 returns-clause-gives g c =

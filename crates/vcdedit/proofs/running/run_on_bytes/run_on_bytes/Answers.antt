@@ -15,10 +15,9 @@ returns-in-Ok-clause-headline c =
 pub returns-in-Err-clause-headline : goal.returns-in-Err-clause-headline
 returns-in-Err-clause-headline c =
     rw (c.refusal_of.ensures)
-    (refusal_of_run c.args.capture.now c.args.script.now c.args.depth _ _ _ _ c.into_bytes-replies.result
-    c.new-in-Err.result c.in-Err.error c.new-in-Err.ensures.items c.new.ensures.coming refl c.new-2.ensures.coming refl
-    c.new-replies.ensures.taken
-    c.into_bytes-replies.ensures.taken c.in-Err.ensures.ends)
+    (refusal_of_run c.args.capture.now c.args.script.now c.args.depth c.into_bytes-replies.result c.new-in-Err.result
+    c.new-in-Err.ensures.items _ _ _ _ c.new.ensures.coming refl c.new-2.ensures.coming refl
+    c.new-replies.ensures.taken c.into_bytes-replies.ensures.taken c.in-Err.error c.in-Err.ensures.ends)
 
 pub returns-in-Ok-clause-laws : goal.returns-in-Ok-clause-laws
 returns-in-Ok-clause-laws c = run_laws c.args.depth

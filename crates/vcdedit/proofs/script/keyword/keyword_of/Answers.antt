@@ -24,8 +24,7 @@ one_row (Some keyword) row is_named later = refl
 one_row None row true later = refl
 one_row None row false later = refl
 
-tried_is : (found : Option Keyword) (rows : List (List ℕ × Keyword)) (word : List ℕ)
-    → tried found rows word
+tried_is : (found : Option Keyword) (rows : List (List ℕ × Keyword)) (word : List ℕ) → tried found rows word
     ≡ option_or found (option_map (λ (r : List ℕ × Keyword). r.1) (find (λ r. bytes_eq word r.0) rows))
 tried_is found [] word = no_row found
 tried_is found (row ∷ rows) word =
