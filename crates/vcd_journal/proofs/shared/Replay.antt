@@ -1,5 +1,5 @@
 -- The replay law: after each step the machine is that of the history.
-use Rattle.std.proofs.Common.{◌≡◌, ◌≤◌, ◌+◌, ◌-◌, ℕ, zero, suc, Bool, true, false, if◌then◌else◌}
+use Rattle.std.proofs.Common.{◌≡◌, ◌≤◌, ◌+◌, ◌-◌, ℕ, zero, suc, Bool, false, if◌then◌else◌}
 use Rattle.std.proofs.Common.{List, [], ◌∷◌}
 use Rattle.std.proofs.Common.{length, take, Option, Some, None, sym, ap, subst, refl, inl, inr, ◌∙◌}
 use Rattle.std.proofs.Common.{arith}

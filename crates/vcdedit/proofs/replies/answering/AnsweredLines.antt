@@ -6,12 +6,10 @@ use Rattle.vcd_core.specs.Contents.{Contents}
 use Rattle.vcd_edit.specs.declared.edit.Edit.{Edit}
 use Rattle.vcd_edit.specs.declared.edit.Edit.TheVariants.{Rename}
 use Rattle.vcd_edit.specs.declared.fault.EditError.{EditError}
-use Rattle.vcd_edit.specs.declared.fault.EditError.TheVariants as errors
 use Rattle.vcd_edit.specs.Effect.{effect}
 use Rattle.vcd_edit.specs.EditFaults.{edit_fault}
 use Rattle.vcd_journal.specs.declared.step.Step.{Step}
 use Rattle.vcd_journal.specs.declared.step.Step.TheVariants as steps
-use Rattle.vcd_journal.specs.declared.step.StepError.TheVariants as refusals
 use Rattle.vcd_journal.specs.declared.step.Answer.{Answer}
 use Rattle.vcd_journal.specs.declared.step.Answer.TheVariants.{Done}
 use Rattle.vcd_journal.specs.Machine.{Machine, StepOutcome, edit_outcome, step_outcome}
