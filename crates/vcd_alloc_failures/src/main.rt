@@ -20,9 +20,9 @@
 //! | `bytes`: reads the capture byte by byte | | |
 //!
 //! The program makes all that the call needs, and writes `refuse`. With `make` it makes the call.
-//! Then it writes `allow`, and `done` or the name of a fault. Last it writes all that the call
-//! left. A test refuses growths of memory between the two lines, and compares the output with that
-//! of `omit`.
+//! Then it writes `allow`, and `done` or the name of a fault; or `unequal` if the call gave a copy
+//! that is not equal. Last it writes all that the call left. A test refuses growths of memory
+//! between the two lines, and compares the output with that of `omit`.
 #![tactic(auto)]
 
 mod calls;

@@ -57,6 +57,18 @@ pub fn allow<R: Runtime>(rt: &R, outcome: &str) -> Result<(), Failure> {
     Ok(())
 }
 
+/// The outcome of a call that gave a copy which is not equal.
+const UNEQUAL: &str = "unequal";
+
+/// The outcome of a call that gives a copy, by whether the copy is equal.
+pub fn outcome_of_copy(is_equal: Result<bool, NoMemory>) -> &'static str {
+    match is_equal {
+        Ok(true) => DONE,
+        Ok(false) => UNEQUAL,
+        Err(fault) => fault.name(),
+    }
+}
+
 /// Prints each change of a wave.
 pub fn print_wave<R: Runtime>(rt: &R, wave: &Wave) -> Result<(), Failure> {
     for change in wave.changes() {

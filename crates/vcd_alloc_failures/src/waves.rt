@@ -3,7 +3,7 @@
 ghost use Rattle.std.specs.Prelude.{◌≡◌, ◌≤◌, All, IfOk};
 
 use crate::calls::Call;
-use crate::printing::{DONE, Failure, allow, print_wave, refuse};
+use crate::printing::{Failure, allow, outcome_of_copy, print_wave, refuse};
 use std::alloc::Global;
 use std::rt::Runtime;
 use vcd_core::{Bit, LetterBlock, NoMemory, Value, Wave};
@@ -45,16 +45,39 @@ fn make_growth<R: Runtime + AllocGlobal>(
 {
     if call.makes {
         refuse(rt)?;
-        match grow(wave, call.name) {
-            Ok(()) => allow(rt, DONE)?,
-            Err(fault) => allow(rt, fault.name())?,
-        }
+        allow(rt, outcome_of_copy(copy_or_grow(wave, call.name)))?;
     }
     print_wave(rt, wave)
 }
 
-/// Makes the call of a name: `push`, `push_block`, `share`, `copy`, `reserve`, else
-/// `reserve_exact`.
+/// Makes the call of a name: `share`, `copy`, or one that grows the wave. Answers whether the wave
+/// that it gives, if it gives one, is equal.
+fn copy_or_grow(wave: &mut Wave, name: &str) -> Result<bool, NoMemory>
+    requires width { wave.old.width ≡ 1 }
+    requires early { All (λ c. c.tick ≤ 0) wave.old.changes }
+{
+    match name {
+        "share" => {
+            let other = wave.share()?;
+            Ok(are_equal_waves(&other, wave))
+        }
+        "copy" => {
+            let other = wave.copy()?;
+            Ok(are_equal_waves(&other, wave))
+        }
+        _ => {
+            grow(wave, name)?;
+            Ok(true)
+        }
+    }
+}
+
+/// Whether two waves have one width and the same changes.
+fn are_equal_waves(wave: &Wave, other: &Wave) -> bool {
+    wave.width() == other.width() && wave.changes() == other.changes()
+}
+
+/// Makes the call of a name: `push`, `push_block`, `reserve`, else `reserve_exact`.
 fn grow(wave: &mut Wave, name: &str) -> Result<(), NoMemory>
     requires width { wave.old.width ≡ 1 }
     requires early { All (λ c. c.tick ≤ 0) wave.old.changes }
@@ -62,21 +85,7 @@ fn grow(wave: &mut Wave, name: &str) -> Result<(), NoMemory>
     match name {
         "push" => wave.push(5, Value::filled(1, Bit::Zero)),
         "push_block" => wave.push_block(5, LetterBlock { low: 0, high: 0 }),
-        "share" => share_and_drop(wave),
-        "copy" => copy_and_drop(wave),
         "reserve" => wave.reserve(MORE),
         _ => wave.reserve_exact(MORE),
     }
-}
-
-/// Makes the call `Wave::copy`; the copy is dropped at once.
-fn copy_and_drop(wave: &Wave) -> Result<(), NoMemory> {
-    wave.copy()?;
-    Ok(())
-}
-
-/// Makes the call `Wave::share`; the other wave is dropped at once.
-fn share_and_drop(wave: &mut Wave) -> Result<(), NoMemory> {
-    wave.share()?;
-    Ok(())
 }
