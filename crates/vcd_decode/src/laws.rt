@@ -4,12 +4,12 @@ ghost use Rattle.vcd_decode.specs.Laws.{UartFramesAreFound, SpiWordsAreFound, Sp
 ghost use Rattle.vcd_decode.specs.Laws.{I2cMessagesAreFound, FramesBeginStraight};
 ghost use Rattle.vcd_decode.specs.Laws.{StraightClocksCount, StraightBusEdgesCount};
 
-/// A line that idles at 1 and sends frames decodes to one annotation for each frame. It goes from
-/// the frame's start to the sample of its last bit. Its kind is `byte` with the word that was sent,
-/// `parity-error` if the parity bit is wrong, or `frame-error` if a stop bit is 0. This holds for
-/// every setup. The line is 1 just before each frame, and need not idle longer between them. Edges
-/// after the frame's start may be late by half a bit, or early by less than that: a bit has to be
-/// there in its middle alone.
+/// A line that sends frames, and begins no other, decodes to one annotation for each frame. It
+/// goes from the frame's start to the sample of its last bit. Its kind is `byte` with the word that
+/// was sent, `parity-error` if the parity bit is wrong, or `frame-error` if a stop bit is 0. This
+/// holds for every setup. The line is 1 just before each frame, and need not idle longer between
+/// them. Edges after the frame's start may be late by half a bit, or early by less than that: a bit
+/// has to be there in its middle alone.
 pub fn uart_frames_are_found()
     ensures { UartFramesAreFound }
 {}
@@ -26,7 +26,8 @@ pub fn spi_words_are_found()
 
 /// The lines of an I2C bus that carry a message decode to this message: START, repeated START and
 /// STOP, each address with its direction, each data byte, and each acknowledge. Addresses have
-/// seven bits or ten. This holds at any tick distances that keep SDA still while SCL is high.
+/// seven bits or ten. This holds at any tick distances that keep SDA still from a tick before SCL
+/// rises to a tick after it falls.
 pub fn i2c_messages_are_found()
     ensures { I2cMessagesAreFound }
 {}
