@@ -55,7 +55,7 @@ abbrev pub IsReported : (has_failed is_flushed : Bool) → (before after : Optio
 IsReported has_failed is_flushed before after text =
     has_failed ≡ false → Appends before after text × (is_flushed ≡ true)
 
--- the same of a text that may be empty: then nothing is flushed
+-- the same of a text that may be empty: then the writer need not be flushed
 abbrev pub IsTold : (has_failed is_flushed : Bool) → (before after : Option (List ℕ))
     → (text : List ℕ) → Type 0
 IsTold has_failed is_flushed before after text =

@@ -23,7 +23,7 @@ use Rattle.vcdedit_narrow.specs.declared.request.Refusal.{Refusal}
 use Rattle.vcdedit_narrow.specs.declared.request.Refusal.TheVariants.{WindowPastEnd}
 use Rattle.vcdedit_narrow.specs.declared.request.Request.{Request}
 use Rattle.vcdedit_narrow.specs.Choices.{said_of}
-use Rattle.vcdedit_narrow.specs.Narrowed.{narrowed}
+use Rattle.vcdedit_narrow.specs.Narrowed.{narrowed_capture}
 use Rattle.vcdedit_narrow.specs.Refusals.{refusal_text}
 use Rattle.vcdedit_narrow.specs.Requests.{decide, keeps}
 
@@ -42,8 +42,8 @@ pub record IsNarrowed (r : Request) (file : List ℕ) (skipped : ℕ) (c : Conte
   pub window : HasWindow r file skipped ticks whole
   pub within : ticks.first ≤ whole.end
   -- as many as a capture can have: with more of them its text would mean nothing
-  pub few : length (narrowed r ticks whole).signals ≤ SIGNAL_LIMIT
-  pub is : c ≡ narrowed r ticks whole
+  pub few : length (narrowed_capture r ticks whole).signals ≤ SIGNAL_LIMIT
+  pub is : c ≡ narrowed_capture r ticks whole
 
 -- why a capture stays unread: a fault of the file, its length, its source or memory; or too many
 -- signals would be kept

@@ -32,7 +32,7 @@ extent_of ticks part whole = record {
 }
 
 -- the narrowed capture: its part, with the comment
-unfoldable pub narrowed : Request → TickRange → (whole : Contents) → Contents
-narrowed r ticks whole =
+unfoldable pub narrowed_capture : Request → TickRange → (whole : Contents) → Contents
+narrowed_capture r ticks whole =
     let part : Contents = part_of (keeps r) ticks whole in
     with_comment (extent_of ticks part whole) part

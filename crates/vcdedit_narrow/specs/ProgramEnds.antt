@@ -1,6 +1,6 @@
 -- What the words of the command line ask for, and how that ends. The rules are the project's own.
-use Rattle.std.specs.Prelude.{◌≡◌, ◌⊎◌, ℕ, List, Option, Some, None, Result, Err, MatchOption}
-use Rattle.vcd_core.specs.declared.capture.TheConstants.{END_LIMIT}
+use Rattle.std.specs.Prelude.{◌≡◌, ◌⊎◌, ℕ, ◌^◌, ◌-◌, List, Option, Some, None, Result, Err}
+use Rattle.std.specs.Prelude.{MatchOption}
 use Rattle.vcd_text.specs.declared.fault.Fault.TheVariants as faults
 use Rattle.vcd_shell.specs.Devices.{DeviceEnd}
 use Rattle.vcdedit_narrow.specs.declared.narrow_error.NarrowError.{NarrowError}
@@ -39,14 +39,14 @@ captures_fault input capture otherwise = otherwise
 -- the first fault of what is asked for: two captures, or a word that is no time
 abbrev pub words_fault : AskedOptions → Option WordsFault
 words_fault o = captures_fault o.input o.capture
-    (times_fault (time_asked o.from 0) (time_asked o.to END_LIMIT))
+    (times_fault (time_asked o.from 0) (time_asked o.to (2 ^ 64 - 1)))
 
 -- the request of these options
 pub record IsRequest (o : AskedOptions) (r : Request) : Type 0 where
   pub keep : texts r.keep ≡ o.keep
   pub remove : texts r.remove ≡ o.remove
   pub from : time_asked o.from 0 ≡ Some r.from
-  pub to : time_asked o.to END_LIMIT ≡ Some r.to
+  pub to : time_asked o.to (2 ^ 64 - 1) ≡ Some r.to
 
 -- ---- how it ends
 

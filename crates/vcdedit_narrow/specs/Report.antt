@@ -16,8 +16,10 @@ said = report_of (codes "vcdedit-narrow")
 -- the name of a fault of the words, and what it means
 abbrev pub words_text : WordsFault → List ℕ
 words_text words.TwoCaptures = codes "TwoCaptures: name the capture once"
-words_text words.BadFrom = codes "BadFrom: --from takes ticks, or a number with a unit, as 1.5ms"
-words_text words.BadTo = codes "BadTo: --to takes ticks, or a number with a unit, as 1.5ms"
+words_text words.BadFrom =
+    codes "BadFrom: --from takes whole ticks, or a number and s, ms, us, ns, ps or fs, as 1.5ms"
+words_text words.BadTo =
+    codes "BadTo: --to takes whole ticks, or a number and s, ms, us, ns, ps or fs, as 1.5ms"
 
 -- the line on standard error of a capture that was not narrowed; a refusal has its text
 abbrev pub error_text : NarrowError → List ℕ

@@ -52,15 +52,15 @@ leaves_none r signals = not (length signals == 0) && not (list_any (keeps r) sig
 -- ---- the window
 
 -- a tick as far as a `u64` goes, which is past every end
-abbrev pub bounded : ℕ → ℕ
-bounded tick = min tick (2 ^ 64 - 1)
+abbrev pub bounded_tick : ℕ → ℕ
+bounded_tick tick = min tick (2 ^ 64 - 1)
 
 -- the window from one tick to another, or why there is none
 abbrev pub window_between : (first last : Option ℕ) → Result TickRange Refusal
 window_between None last = Err FromIsNoWholeTick
 window_between (Some first) None = Err ToIsNoWholeTick
-window_between (Some first) (Some last) = if nat_lt (bounded last) (bounded first)
-    then Err WindowBackwards else Ok (record { first = bounded first; last = bounded last })
+window_between (Some first) (Some last) = if nat_lt (bounded_tick last) (bounded_tick first)
+    then Err WindowBackwards else Ok (record { first = bounded_tick first; last = bounded_tick last })
 
 -- the window of a request, on a capture with this timescale
 abbrev pub window : Request → Option Timescale → Result TickRange Refusal

@@ -12,8 +12,8 @@ const VERSION: &str = "1.0.0";
 
 const ABOUT: &str = "\
 Writes a part of a four-state waveform capture (VCD, IEEE 1364-2005, 18.2): some of its signals,
-some of its time. The capture may be of any size: what is left out is read and checked, and not
-held.\n\n\
+some of its time. The capture may have up to 4 EiB: what is left out is read and checked, and only
+names are held of it.\n\n\
 A file with a fault is refused, and nothing is written.";
 
 const AFTER_HELP: &str = "\
@@ -21,8 +21,8 @@ PATTERN is a signal's whole full name, as `vcdedit` lists it, with its scopes an
 top.cpu.data[7:0]. In it `*` stands for any characters, dots too, and `?` for any one; `[7:0]` means
 itself. A pattern that no name meets is refused, with the nearest names.
 
-TIME is a number of ticks, or a number with a unit, such as 20us or 1.5ms, that is a whole number of
-ticks. The window's ticks count from its first.
+TIME is a number of ticks, or a number with a unit (s, ms, us, ns, ps, fs), such as 20us or 1.5ms,
+that is a whole number of ticks. The window's ticks count from its first.
 
 Examples:
   vcdedit-narrow big.vcd --from 1.5ms --to 2ms -o part.vcd         a window

@@ -23,7 +23,8 @@ use vcd_text::{Fault, Loaded, ReadError, TickRange, read_part, write};
 
 /// Reads the part of a capture that is asked for, and writes it with a `$comment` in its header.
 ///
-/// The whole capture is read and checked. If it is refused, or the request is, nothing is written.
+/// The capture is read and checked to its end, unless its declarations already refuse the request.
+/// If the capture is refused, or the request is, nothing is written.
 pub fn narrow<R: Source, W: Sink>(
     alloc: Global,
     reader: &mut R,

@@ -17,7 +17,7 @@ use clap::{ArgMatches, Command};
 use std::alloc::{AllocError, Global};
 use std::io;
 use std::rt::Runtime;
-use vcd_core::{END_LIMIT, FromRead, Sink, Source, ToWrite};
+use vcd_core::{FromRead, Sink, Source, ToWrite};
 use vcd_shell::{LateFile, Program, open_capture};
 
 /// The program `vcdedit-narrow`.
@@ -95,7 +95,7 @@ fn request_of<'m, 'a>(options: &Options<'m, 'a>) -> Result<Request<'m, 'a>, Word
         return Err(WordsFault::TwoCaptures);
     }
     let from = time_asked(options.from, 0).ok_or(WordsFault::BadFrom)?;
-    let to = time_asked(options.to, END_LIMIT).ok_or(WordsFault::BadTo)?;
+    let to = time_asked(options.to, u64::MAX).ok_or(WordsFault::BadTo)?;
     Ok(Request {
         keep: options.keep,
         remove: options.remove,

@@ -67,8 +67,10 @@ fn words_text(fault: WordsFault) -> &'static str
 {
     match fault {
         WordsFault::TwoCaptures => "TwoCaptures: name the capture once",
-        WordsFault::BadFrom => "BadFrom: --from takes ticks, or a number with a unit, as 1.5ms",
-        WordsFault::BadTo => "BadTo: --to takes ticks, or a number with a unit, as 1.5ms",
+        WordsFault::BadFrom =>
+            "BadFrom: --from takes whole ticks, or a number and s, ms, us, ns, ps or fs, as 1.5ms",
+        WordsFault::BadTo =>
+            "BadTo: --to takes whole ticks, or a number and s, ms, us, ns, ps or fs, as 1.5ms",
     }
 }
 

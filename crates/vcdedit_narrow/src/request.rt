@@ -55,10 +55,10 @@ impl Refusal {
             Refusal::UnmetPattern => "UnmetPattern: no signal's full name is ",
             Refusal::NoSignalLeft => "NoSignalLeft: no signal would be kept",
             Refusal::FromIsNoWholeTick => {
-                "FromIsNoWholeTick: --from is no whole number of the capture's ticks"
+                "FromIsNoWholeTick: --from is no whole number of ticks, or the capture has no timescale"
             }
             Refusal::ToIsNoWholeTick => {
-                "ToIsNoWholeTick: --to is no whole number of the capture's ticks"
+                "ToIsNoWholeTick: --to is no whole number of ticks, or the capture has no timescale"
             }
             Refusal::WindowBackwards => "WindowBackwards: --to is before --from",
             Refusal::WindowPastEnd => { "WindowPastEnd: --from is past the last tick, which is " }
@@ -67,7 +67,7 @@ impl Refusal {
 }
 
 impl<'m, 'a> Request<'m, 'a> {
-    /// Whether a signal is kept.
+    /// Whether a signal is kept. Its name is compared with each pattern; it takes no memory.
     pub fn keeps(&self, signal: DeclaredSignal<'_>) -> bool
         ensures { result ≡ spec.keeps self.now (signal_declared signal.entry) }
     {
@@ -76,7 +76,7 @@ impl<'m, 'a> Request<'m, 'a> {
     }
 
     /// The window, on a capture with this timescale and these signals, or why the request is
-    /// refused.
+    /// refused. Each name is compared with each pattern; it takes no memory.
     pub fn decide(
         &self,
         timescale: Option<Timescale>,

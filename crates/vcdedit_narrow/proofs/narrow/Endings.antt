@@ -32,7 +32,7 @@ use Rattle.vcdedit_narrow.specs.declared.request.Refusal.TheVariants.{WindowPast
 use Rattle.vcdedit_narrow.specs.declared.request.Request.{Request}
 use Rattle.vcdedit_narrow.specs.Choices.{Gives, refusal_in, said_of, ticks_in}
 use Rattle.vcdedit_narrow.specs.NarrowEnds.{HasWindow, IsNarrowed, IsRefused, IsUnread, NarrowEnds}
-use Rattle.vcdedit_narrow.specs.Narrowed.{extent_of, narrowed, with_comment}
+use Rattle.vcdedit_narrow.specs.Narrowed.{extent_of, narrowed_capture, with_comment}
 use Rattle.vcdedit_narrow.specs.Refusals.{refusal_text}
 use Rattle.vcdedit_narrow.specs.Requests.{decide, keeps}
 use Rattle.vcdedit_narrow.specs.inside.MemoryErrors.{out_of_memory}
@@ -90,7 +90,7 @@ pub is_narrowed : (r : Request) (old new : Narrowing) (file : List ℕ) (loaded 
     → IsSound (contents loaded.capture) → new.ticks.first ≤ loaded.end
     → c ≡ with_comment (loaded_extent loaded new.ticks) (contents loaded.capture)
     → IsNarrowed r file loaded.skipped c
-unfolding narrowed
+unfolding narrowed_capture
 is_narrowed r old new file loaded c same means sound within is =
     let ticks : new.ticks ≡ means.ticks = means.answered.window in
     record {

@@ -15,7 +15,7 @@ use Rattle.vcd_text.specs.Meaning.{meaning, declared_signal}
 use Rattle.vcd_text.proofs.part.WholeParts.{part_is_sound}
 use Rattle.vcdedit_narrow.specs.declared.request.Request.{Request}
 use Rattle.vcdedit_narrow.specs.NarrowEnds.{IsNarrowed}
-use Rattle.vcdedit_narrow.specs.Narrowed.{comment_words, extent_of, narrowed}
+use Rattle.vcdedit_narrow.specs.Narrowed.{comment_words, extent_of, narrowed_capture}
 use Rattle.vcdedit_narrow.specs.Requests.{keeps}
 use Rattle.vcdedit_narrow.proofs.comment.SoundComments.{comment_is_sound, decimal_is_word}
 
@@ -35,7 +35,7 @@ few_signals file state accepted =
     )
 
 pub is_sound : (r : Request) (file : List ℕ) (skipped : ℕ) (c : Contents) → IsNarrowed r file skipped c → IsSound c
-unfolding narrowed
+unfolding narrowed_capture
 is_sound r file skipped c n =
     let means = n.window.means in
     let whole : IsSoundBut n.whole =
