@@ -40,6 +40,13 @@ rename 0 v:NameTaken
 derive a not 0:NameTaken
 derive a bit 1 3:NameTaken";
 
+/// A force of ticks up to one past the end. One of ticks up to the end is a row of `EDITS_OF_TWO`.
+const TWO: &str = "\
+$scope module top $end $var wire 1 ! a $end $var wire 1 \" b $end $upscope $end
+$enddefinitions $end #0 0! 1\" #3 1! #5 x\" #8";
+
+const REFUSED_OF_TWO: &str = "force 0 2 10 z:BadRange";
+
 /// Stops unless an edit is refused by its fault and leaves the capture as it was.
 fn check_refused(rt: &impl Abort, alloc: Global, file: &[u8], row: &str) -> Result<(), Fail> {
     let (edit, name) = row.split_once(':').ok_or("no fault")?;
@@ -62,8 +69,10 @@ fn check_refused(rt: &impl Abort, alloc: Global, file: &[u8], row: &str) -> Resu
 
 #[test]
 fn refused_edits(rt: HostRuntime) -> Result<(), Fail> {
-    for row in REFUSED.lines() {
-        check_refused(&rt, rt.alloc(), FILE.as_bytes(), row)?;
+    for (file, rows) in [(FILE, REFUSED), (TWO, REFUSED_OF_TWO)] {
+        for row in rows.lines() {
+            check_refused(&rt, rt.alloc(), file.as_bytes(), row)?;
+        }
     }
     Ok(())
 }
