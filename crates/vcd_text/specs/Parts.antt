@@ -46,9 +46,9 @@ Answers = Option Timescale → List SignalContents → Option TickRange → Type
 abbrev pub ChoiceAnswers : Type 0 → Type 1
 ChoiceAnswers C = C → Option Timescale → List SignalContents → Option TickRange → C → Type 0
 
--- what a choice answers from one state to another
-abbrev pub told : {C : Type 0} → ChoiceAnswers C → (old new : C) → Answers
-told answers old new timescale signals answer = answers old timescale signals answer new
+-- what a choice answers between two of its states
+abbrev pub answers_of : {C : Type 0} → ChoiceAnswers C → (old new : C) → Answers
+answers_of answers old new timescale signals answer = answers old timescale signals answer new
 
 -- the file is accepted, and what is loaded is this part of what it means
 pub record PartMeans (limit : ℕ) (takes : SignalContents → Bool) (answers : Answers)

@@ -9,7 +9,7 @@ ghost use Rattle.std.specs.Io.KnownBytes.{IsAtEnd};
 ghost use Rattle.vcd_core.specs.CaptureContents.{contents};
 ghost use Rattle.vcd_core.specs.Sound.{IsSound};
 ghost use Rattle.vcd_text.specs.Meaning.{FileMeans};
-ghost use Rattle.vcd_text.specs.Parts.{PartMeans, IsPartRefusal, told};
+ghost use Rattle.vcd_text.specs.Parts.{PartMeans, IsPartRefusal, answers_of};
 ghost use Rattle.vcd_text.specs.declared.fault.Fault.{Fault};
 ghost use Rattle.vcd_text.specs.Refusals.{IsRefusal};
 
@@ -126,14 +126,15 @@ pub fn read_part<R: Source, C: Choice>(
     requires ready { R.has_failed reader.old ≡ false }
     ensures means { IfOk result (λ loaded. IfSome (R.coming reader.old) (λ file.
         (length file ≤ LONG_FILE_LIMIT) ×
-        PartMeans VARIABLE_LIMIT (C.takes choice.old) (told C.answers choice.old choice.new) file
+        PartMeans VARIABLE_LIMIT (C.takes choice.old)
+        (answers_of C.answers choice.old choice.new) file
         loaded)) }
     ensures sound { IfOk result (λ loaded. IsSound (contents loaded.capture)) }
     ensures not_failed { OnOk result (R.has_failed reader.new ≡ false) }
     ensures ended { OnOk result (IsAtEnd (R.coming reader.new)) }
     ensures refused { IfErr result (λ e. IfSome (R.coming reader.old) (λ file.
         IsPartRefusal VARIABLE_LIMIT LONG_FILE_LIMIT (C.takes choice.old)
-        (told C.answers choice.old choice.new) file
+        (answers_of C.answers choice.old choice.new) file
         (R.has_failed reader.new) (R.coming reader.new) e)) }
     ensures failed { IfErr result (λ e. e.fault ≡ Fault.ReadFault →
         R.has_failed reader.new ≡ true) }
@@ -157,12 +158,14 @@ fn read_within<R: Source, C: Choice>(
     requires ready { R.has_failed reader.old ≡ false }
     ensures means { IfOk result (λ loaded. IfSome (R.coming reader.old) (λ file.
         (length file ≤ most) ×
-        PartMeans limit (C.takes choice.old) (told C.answers choice.old choice.new) file loaded)) }
+        PartMeans limit (C.takes choice.old)
+        (answers_of C.answers choice.old choice.new) file loaded)) }
     ensures sound { IfOk result (λ loaded. IsSound (contents loaded.capture)) }
     ensures not_failed { OnOk result (R.has_failed reader.new ≡ false) }
     ensures ended { OnOk result (IsAtEnd (R.coming reader.new)) }
     ensures refused { IfErr result (λ e. IfSome (R.coming reader.old) (λ file.
-        IsPartRefusal limit most (C.takes choice.old) (told C.answers choice.old choice.new) file
+        IsPartRefusal limit most (C.takes choice.old)
+        (answers_of C.answers choice.old choice.new) file
         (R.has_failed reader.new) (R.coming reader.new) e)) }
     ensures failed { IfErr result (λ e. e.fault ≡ Fault.ReadFault →
         R.has_failed reader.new ≡ true) }

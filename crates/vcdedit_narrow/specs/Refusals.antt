@@ -10,9 +10,9 @@ abbrev pub refusal_text : Refusal → List ℕ
 refusal_text refusals.UnmetPattern = codes "UnmetPattern: no signal's full name is "
 refusal_text refusals.NoSignalLeft = codes "NoSignalLeft: no signal would be kept"
 refusal_text refusals.FromIsNoWholeTick =
-    codes "FromIsNoWholeTick: --from is no whole number of ticks, or the capture has no timescale"
+    codes "FromIsNoWholeTick: --from is no whole tick, or the capture has no timescale"
 refusal_text refusals.ToIsNoWholeTick =
-    codes "ToIsNoWholeTick: --to is no whole number of ticks, or the capture has no timescale"
+    codes "ToIsNoWholeTick: --to is no whole tick, or the capture has no timescale"
 refusal_text refusals.WindowBackwards = codes "WindowBackwards: --to is before --from"
 refusal_text refusals.WindowPastEnd = codes "WindowPastEnd: --from is past the last tick, which is "
 

@@ -60,7 +60,8 @@ abbrev pub window_between : (first last : Option ℕ) → Result TickRange Refus
 window_between None last = Err FromIsNoWholeTick
 window_between (Some first) None = Err ToIsNoWholeTick
 window_between (Some first) (Some last) = if nat_lt (bounded_tick last) (bounded_tick first)
-    then Err WindowBackwards else Ok (record { first = bounded_tick first; last = bounded_tick last })
+    then Err WindowBackwards
+    else Ok (record { first = bounded_tick first; last = bounded_tick last })
 
 -- the window of a request, on a capture with this timescale
 abbrev pub window : Request → Option Timescale → Result TickRange Refusal

@@ -55,10 +55,10 @@ impl Refusal {
             Refusal::UnmetPattern => "UnmetPattern: no signal's full name is ",
             Refusal::NoSignalLeft => "NoSignalLeft: no signal would be kept",
             Refusal::FromIsNoWholeTick => {
-                "FromIsNoWholeTick: --from is no whole number of ticks, or the capture has no timescale"
+                "FromIsNoWholeTick: --from is no whole tick, or the capture has no timescale"
             }
             Refusal::ToIsNoWholeTick => {
-                "ToIsNoWholeTick: --to is no whole number of ticks, or the capture has no timescale"
+                "ToIsNoWholeTick: --to is no whole tick, or the capture has no timescale"
             }
             Refusal::WindowBackwards => "WindowBackwards: --to is before --from",
             Refusal::WindowPastEnd => { "WindowPastEnd: --from is past the last tick, which is " }

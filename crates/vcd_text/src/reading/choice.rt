@@ -4,7 +4,7 @@ ghost use Rattle.std.specs.Prelude.{◌≡◌, ◌⊎◌, ◌<◌, ◌≤◌, �
 ghost use Rattle.std.specs.Prelude.{slice_index_or, filter, IfOk, IfErr, OnOk};
 ghost use Rattle.vcd_core.specs.Contents.{SignalContents};
 ghost use Rattle.vcd_text.specs.AsDeclared.{signal_declared, declared_contents};
-ghost use Rattle.vcd_text.specs.Parts.{told};
+ghost use Rattle.vcd_text.specs.Parts.{answers_of};
 ghost use Rattle.vcd_text.specs.inside.reading.Choice.{LeavesOut, RefusesSignals, ticks_of};
 ghost use Rattle.vcd_text.specs.declared.fault.Fault.TheVariants as faults;
 
@@ -93,12 +93,13 @@ pub fn chosen_part<C: Choice>(
     ensures takes { IfOk result (λ part.
         LeavesOut (C.takes choice.old) (declared_contents signals.now) part.left_out.items) }
     ensures ticks { IfOk result (λ part.
-        told C.answers choice.old choice.new timescale (declared_contents signals.now)
+        answers_of C.answers choice.old choice.new timescale (declared_contents signals.now)
         (Some (ticks_of part))) }
     ensures few { OnOk result
         (length (filter (C.takes choice.old) (declared_contents signals.now)) ≤ SIGNAL_LIMIT) }
     ensures refused { IfErr result (λ fault. RefusesSignals (C.takes choice.old)
-        (told C.answers choice.old choice.new) timescale (declared_contents signals.now) fault) }
+        (answers_of C.answers choice.old choice.new) timescale
+        (declared_contents signals.now) fault) }
 {
     let left_out = left_out_signals(alloc, choice, signals)?;
     match choice.ticks(alloc, timescale, signals)? {

@@ -10,7 +10,7 @@ ghost use Rattle.vcd_core.specs.Sound.{IsSound};
 ghost use Rattle.vcd_text.specs.Words.{word_on, WordOnLine as WordInFile};
 ghost use Rattle.vcd_text.specs.LentWords.{words_left};
 ghost use Rattle.vcd_text.specs.Grammar.{ParseState, kept_variables};
-ghost use Rattle.vcd_text.specs.Parts.{PartMeans, IsPartRefusal, told};
+ghost use Rattle.vcd_text.specs.Parts.{PartMeans, IsPartRefusal, answers_of};
 ghost use Rattle.vcd_text.specs.inside.Words.{has_complete_words};
 ghost use Rattle.vcd_text.specs.LineFeeds.{line_feeds_in};
 ghost use Rattle.vcd_text.specs.inside.reading.Part.{Asked, undriven};
@@ -88,7 +88,7 @@ impl FileReader {
             FileReaderMatches most (HasTakenFrom limit C.takes C.answers first choice.old) coming
             (R.coming source.old) self.old →
             IfSome coming (λ file. IsPartRefusal limit most (C.takes first)
-            (told C.answers first choice.new)
+            (answers_of C.answers first choice.new)
             file (R.has_failed source.new) (R.coming source.new) e)) }
         ensures failed { IfErr result (λ e. e.fault ≡ Fault.ReadFault →
             R.has_failed source.new ≡ true) }
@@ -143,11 +143,11 @@ impl FileReader {
             × HasReadBytes most (HasTakenFrom limit C.takes C.answers first choice.old) self bytes }
         ensures means { IfOk result (λ loaded. (limit most : ℕ) (first : C) (bytes : List ℕ) →
             HasReadBytes most (HasTakenFrom limit C.takes C.answers first choice.old) self bytes →
-            PartMeans limit (C.takes first) (told C.answers first choice.new) bytes loaded) }
+            PartMeans limit (C.takes first) (answers_of C.answers first choice.new) bytes loaded) }
         ensures sound { IfOk result (λ loaded. IsSound (contents loaded.capture)) }
         ensures fault { IfErr result (λ e. (limit most : ℕ) (first : C) (bytes : List ℕ) →
             HasReadBytes most (HasTakenFrom limit C.takes C.answers first choice.old) self bytes →
-            RefusesFile limit (C.takes first) (told C.answers first choice.new) bytes e) }
+            RefusesFile limit (C.takes first) (answers_of C.answers first choice.new) bytes e) }
     {
         let FileReader {
             mut parser,
@@ -256,14 +256,14 @@ fn begin_part<C: Choice>(parser: &mut Parser, alloc: Global, choice: &mut C) -> 
     requires known { (c : ParseState) × VariablesMatch parser.old.variables c }
     ensures begins { OnOk result (BeginsPart parser.old parser.new) }
     ensures answered { OnOk result ((c : ParseState) → VariablesMatch parser.old.variables c →
-        IsAnswered (C.takes choice.old) (told C.answers choice.old choice.new) (record {
+        IsAnswered (C.takes choice.old) (answers_of C.answers choice.old choice.new) (record {
           timescale = parser.old.timescale;
           signals = map undriven (kept_variables c.declared);
           part = parser.new.part;
         })) }
     ensures refused { IfErr result (λ fault. (c : ParseState) →
         VariablesMatch parser.old.variables c →
-        RefusesSignals (C.takes choice.old) (told C.answers choice.old choice.new)
+        RefusesSignals (C.takes choice.old) (answers_of C.answers choice.old choice.new)
         parser.old.timescale
         (map undriven (kept_variables c.declared)) fault) }
 {

@@ -16,7 +16,7 @@ use Rattle.vcd_text.specs.declared.reading.TheConstants.{LONG_FILE_LIMIT, VARIAB
 use Rattle.vcd_core.specs.declared.capture.TheConstants.{SIGNAL_LIMIT}
 use Rattle.vcd_core.specs.Sound.{IsSound}
 use Rattle.vcd_text.specs.declared.reading.choice.TickRange.{TickRange}
-use Rattle.vcd_text.specs.Parts.{IsPartRefusal, PartMeans, declined, part_of, too_many_remain, told}
+use Rattle.vcd_text.specs.Parts.{IsPartRefusal, PartMeans, declined, part_of, too_many_remain, answers_of}
 use Rattle.vcd_text.specs.Parts.{signals_of, without_changes}
 use Rattle.vcd_text.specs.Refusals.{no_memory}
 use Rattle.vcd_text.specs.Text.{text}
@@ -64,7 +64,7 @@ ticks_are (Err refusal) ticks is = cc
 
 -- the window on the capture that is read
 window_of : (r : Request) (old new : Narrowing) (file : List ℕ) (loaded : Loaded) → old.request ≡ r
-    → (means : PartMeans VARIABLE_LIMIT (keeps r) (told Gives old new) file loaded)
+    → (means : PartMeans VARIABLE_LIMIT (keeps r) (answers_of Gives old new) file loaded)
     → HasWindow r file loaded.skipped means.ticks means.whole
 window_of r old new file loaded is means = record {
   means = means.means;
@@ -78,7 +78,7 @@ same_parts : (first last last2 end end2 kept kept2 all all2 : ℕ) → last ≡ 
 same_parts first last last2 end end2 kept kept2 all all2 p q s t = rw (p, q, s, t) refl
 
 same_extent : (r : Request) (file : List ℕ) (loaded : Loaded) (old new : Narrowing)
-    → (means : PartMeans VARIABLE_LIMIT (keeps r) (told Gives old new) file loaded)
+    → (means : PartMeans VARIABLE_LIMIT (keeps r) (answers_of Gives old new) file loaded)
     → loaded_extent loaded means.ticks ≡ extent_of means.ticks (part_of (keeps r) means.ticks means.whole) means.whole
 same_extent r file loaded old new means =
     same_parts _ _ _ _ _ _ _ _ _ (ap (λ n. min means.ticks.last n) means.end) means.end
@@ -86,7 +86,7 @@ same_extent r file loaded old new means =
 
 -- the part with its comment is the narrowed capture
 pub is_narrowed : (r : Request) (old new : Narrowing) (file : List ℕ) (loaded : Loaded) (c : Contents)
-    → old.request ≡ r → (means : PartMeans VARIABLE_LIMIT (keeps r) (told Gives old new) file loaded)
+    → old.request ≡ r → (means : PartMeans VARIABLE_LIMIT (keeps r) (answers_of Gives old new) file loaded)
     → IsSound (contents loaded.capture) → new.ticks.first ≤ loaded.end
     → c ≡ with_comment (loaded_extent loaded new.ticks) (contents loaded.capture)
     → IsNarrowed r file loaded.skipped c
@@ -122,7 +122,7 @@ memory_ends r capture out untouched = (
 -- the window begins past the end
 pub past_end_ends : (r : Request) (old new : Narrowing) (capture : DeviceEnd) (loaded : Loaded) (e : NarrowError)
     → old.request ≡ r
-    → IfSome capture.before (λ file. PartMeans VARIABLE_LIMIT (keeps r) (told Gives old new) file loaded)
+    → IfSome capture.before (λ file. PartMeans VARIABLE_LIMIT (keeps r) (answers_of Gives old new) file loaded)
     → StopsAtEnd loaded.end new.ticks.first e → EndsBeforeWriting r capture e
 unfolding NarrowEnds
 past_end_ends r old new capture loaded e same means (inl is) =
@@ -157,7 +157,7 @@ none_answered (Err found) is none = cc
 -- the fault is not that the request is refused
 of_fault : (r : Request) (old new : Narrowing) (file : List ℕ) (capture : DeviceEnd) (e : ReadError)
     → (is_declined e.fault ≡ false) ⊎ (new.refusal ≡ None)
-    → IsPartRefusal VARIABLE_LIMIT LONG_FILE_LIMIT (keeps r) (told Gives old new) file capture.has_failed
+    → IsPartRefusal VARIABLE_LIMIT LONG_FILE_LIMIT (keeps r) (answers_of Gives old new) file capture.has_failed
     capture.after e → IsUnread r file capture e
 of_fault r old new file capture e other (inl refusal) = inl refusal
 of_fault r old new file capture e other (inr (too_many_remain c at many is)) = inr (too_many_remain c at many is)
@@ -175,7 +175,7 @@ said_is (Some found) refusal text said is holds = let same : found ≡ refusal =
 of_request : (r : Request) (old new : Narrowing) (file : List ℕ) (capture : DeviceEnd) (e : ReadError)
     (refusal : Refusal)
     → old.request ≡ r → is_declined e.fault ≡ true → new.refusal ≡ Some refusal
-    → IsPartRefusal VARIABLE_LIMIT LONG_FILE_LIMIT (keeps r) (told Gives old new) file capture.has_failed
+    → IsPartRefusal VARIABLE_LIMIT LONG_FILE_LIMIT (keeps r) (answers_of Gives old new) file capture.has_failed
     capture.after e
     → IsRefused r file refusal new.text.items
 of_request r old new file capture e refusal same is_one found (inl fault) =
@@ -196,7 +196,7 @@ of_request r old new file capture e refusal same is_one found (inr (declined c a
 
 -- the request was refused, or it was not asked
 pub not_read : (r : Request) (old new : Narrowing) (capture : DeviceEnd) (e : ReadError) → old.request ≡ r
-    → IfSome capture.before (λ file. IsPartRefusal VARIABLE_LIMIT LONG_FILE_LIMIT (keeps r) (told Gives old new)
+    → IfSome capture.before (λ file. IsPartRefusal VARIABLE_LIMIT LONG_FILE_LIMIT (keeps r) (answers_of Gives old new)
     file capture.has_failed capture.after e)
     → (e.fault ≡ faults.ReadFault → capture.has_failed ≡ true)
     → (e.fault ≡ faults.TooLarge → capture.has_failed ≡ false)
@@ -230,7 +230,7 @@ not_read r old new capture e same refused failed large out untouched = choose ne
 pub to_write : (r : Request) (old new : Narrowing) (capture : DeviceEnd) (loaded : Loaded) (c : Contents) (skipped : ℕ)
     → old.request ≡ r → capture.has_failed ≡ false → IsAtEnd capture.after →
     IfSome capture.before (λ file. (length file ≤ LONG_FILE_LIMIT)
-    × PartMeans VARIABLE_LIMIT (keeps r) (told Gives old new) file loaded)
+    × PartMeans VARIABLE_LIMIT (keeps r) (answers_of Gives old new) file loaded)
     → IsSound (contents loaded.capture)
     → c ≡ with_comment (loaded_extent loaded new.ticks) (contents loaded.capture) → skipped ≡ loaded.skipped
     → new.ticks.first ≤ loaded.end → IsToWrite r capture c skipped

@@ -16,7 +16,7 @@ use Rattle.vcd_text.proofs.shared.ItemTests.{allows_end_definitions}
 use Rattle.vcd_text.specs.Grammar.{kept_variables, word_texts}
 use Rattle.vcd_text.specs.Meaning.{declared_signal}
 use Rattle.vcd_text.specs.Parts.{ChoiceAnswers, Answers, HasDeclarations, too_many_remain, declined}
-use Rattle.vcd_text.specs.Parts.{signals_of, told}
+use Rattle.vcd_text.specs.Parts.{signals_of, answers_of}
 use Rattle.vcd_text.specs.Parts.{without_changes}
 use Rattle.vcd_text.specs.inside.reading.OpenItems.{is_end_definitions}
 use Rattle.vcd_text.specs.inside.reading.Part.{Asked, undriven}
@@ -111,7 +111,7 @@ module _ (limit : ℕ) {C : Type 0} (takes : C → SignalContents → Bool)
 
   -- the word that ends them
   pub taken_part : (new : Parser) (now : C) (line : ℕ) → IsFalse old.in_body → BeginsPart old new
-      → IsAnswered (takes old_choice) (told answers old_choice now) (record {
+      → IsAnswered (takes old_choice) (answers_of answers old_choice now) (record {
         timescale = old.timescale;
         signals = map undriven (kept_variables r.taken_words.state.declared);
         part = new.part;
@@ -181,13 +181,13 @@ pub refused_part : (limit : ℕ) {C : Type 0} (takes : C → SignalContents → 
     (old : Parser) (words more : List WordOnLine) (line : ℕ) (fault : Fault)
     (r : HasTakenFrom limit takes answers first old_choice old words) → IsFalse old.in_body
     → is_end_definitions old.item ≡ true
-    → RefusesSignals (takes old_choice) (told answers old_choice now) old.timescale
+    → RefusesSignals (takes old_choice) (answers_of answers old_choice now) old.timescale
     (map undriven (kept_variables r.taken_words.state.declared)) fault
-    → RefusesWords limit (takes first) (told answers first now) (words ++ word_on end_word line ∷ more)
+    → RefusesWords limit (takes first) (answers_of answers first now) (words ++ word_on end_word line ∷ more)
     (error_at line fault)
 refused_part limit takes answers first old_choice now old words more line fault r early is refuses =
-    part_refused limit r.asked old words more line (takes first) (told answers first now) fault r.taken_words early is
-    (rw (r.unasked early) at refuses)
+    part_refused limit r.asked old words more line (takes first) (answers_of answers first now) fault r.taken_words
+    early is (rw (r.unasked early) at refuses)
 
 -- an answer for signals and a part is one for the same signals and part
 pub answered_signals : (takes : SignalContents → Bool) (answers : Answers) (unit : Option Timescale)

@@ -3,7 +3,7 @@ use Rattle.std.proofs.lemmas.Result.{err_from_is_err_and, IfOk-weaker, IfErr-wea
 use Rattle.vcd_text.specs.declared.fault.Fault.TheVariants as faults
 use Rattle.vcd_text.specs.declared.fault.ReadError.{ReadError}
 use Rattle.vcd_text.specs.declared.reading.Loaded.{Loaded}
-use Rattle.vcd_text.specs.Parts.{PartMeans, IsPartRefusal, told}
+use Rattle.vcd_text.specs.Parts.{PartMeans, IsPartRefusal, answers_of}
 use Rattle.vcd_text.specs.inside.reading.Part.{Asked}
 use Rattle.vcd_text.proofs.reading.file_reader.Chunks.{at_end, of_all, is_no_file_failure, asked_nothing, consumes_none}
 use Rattle.vcd_text.proofs.reading.read_within.Goals as goal
@@ -48,7 +48,7 @@ returns-clause-means g c =
     let left = g.R.Source.coming c.take_chunk.new.source in
     let first = c.args.choice.now in
     let takes = g.C.Choice.takes first in
-    let answers = told g.C.Choice.answers first c.finish.new.choice in
+    let answers = answers_of g.C.Choice.answers first c.finish.new.choice in
     let (bytes, consumes, taken) = c.in_ok-take_chunk.ensures.taken c.args.limit c.args.most first coming
     c.loop-progress.invariant.0 in
     IfOk-weaker c.finish.result _
@@ -67,7 +67,7 @@ returns-clause-refused g c =
     let failed = g.R.Source.has_failed c.take_chunk.new.source in
     let first = c.args.choice.now in
     let takes = g.C.Choice.takes first in
-    let answers = told g.C.Choice.answers first c.finish.new.choice in
+    let answers = answers_of g.C.Choice.answers first c.finish.new.choice in
     let (bytes, consumes, taken) = c.in_ok-take_chunk.ensures.taken c.args.limit c.args.most first coming
     c.loop-progress.invariant.0 in
     IfErr-weaker c.finish.result _
@@ -87,5 +87,6 @@ returns-clause-failed g c =
     (g.R.Source.coming c.args.reader.now) c.loop-progress.invariant.0 in
     IfErr-weaker c.finish.result _ (λ (e : ReadError). e.fault ≡ faults.ReadFault
     → failed ≡ true) (λ e fault is. absurd (is_no_file_failure c.args.limit (g.C.Choice.takes first)
-    (told g.C.Choice.answers first c.finish.new.choice) bytes e (fault c.args.limit c.args.most first bytes taken) is))
+    (answers_of g.C.Choice.answers first c.finish.new.choice) bytes e
+    (fault c.args.limit c.args.most first bytes taken) is))
     c.finish.ensures.fault

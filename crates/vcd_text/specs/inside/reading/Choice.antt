@@ -12,7 +12,7 @@ use Rattle.vcd_text.specs.declared.fault.ReadError.{ReadError}
 use Rattle.vcd_text.specs.Words.{WordOnLine, words_of}
 use Rattle.vcd_text.specs.Faults.{ShowsFault}
 use Rattle.vcd_text.specs.FoundFaults.{IsFoundFault}
-use Rattle.vcd_text.specs.Parts.{ChoiceAnswers, Answers, told, RefusesPart}
+use Rattle.vcd_text.specs.Parts.{ChoiceAnswers, Answers, answers_of, RefusesPart}
 use Rattle.vcd_text.specs.MemoryErrors.{memory_error}
 use Rattle.vcd_text.specs.inside.reading.Parser.{HasTakenWords}
 use Rattle.vcd_text.specs.inside.reading.Part.{Asked}
@@ -51,7 +51,7 @@ pub record HasTakenFrom (limit : ℕ) {C : Type 0} (takes : C → SignalContents
   pub asked : Asked
   pub taken_words : HasTakenWords limit asked m words
   pub unasked : IsFalse m.in_body → now ≡ first
-  pub answered : IsTrue m.in_body → IsAnswered (takes first) (told answers first now) asked
+  pub answered : IsTrue m.in_body → IsAnswered (takes first) (answers_of answers first now) asked
 
 -- these words can be taken after those before
 abbrev pub CanTake : {C : Type 0} → ℕ → (C → SignalContents → Bool) → ChoiceAnswers C
@@ -83,7 +83,7 @@ abbrev pub TakesWord : {C : Type 0} → ℕ → (C → SignalContents → Bool) 
 TakesWord limit takes answers first now words_so_far w (Ok x) new =
     HasTakenFrom limit takes answers first now new (words_so_far ++ w ∷ [])
 TakesWord limit takes answers first now words_so_far w (Err e) new = (more : List WordOnLine)
-    → RefusesWords limit (takes first) (told answers first now) (words_so_far ++ w ∷ more) e
+    → RefusesWords limit (takes first) (answers_of answers first now) (words_so_far ++ w ∷ more) e
 
 -- all words of a list have been taken after others, or one is refused
 abbrev pub AllWordsResult : {C : Type 0} → ℕ → (C → SignalContents → Bool) → ChoiceAnswers C
@@ -91,4 +91,4 @@ abbrev pub AllWordsResult : {C : Type 0} → ℕ → (C → SignalContents → B
 AllWordsResult limit takes answers first now words_so_far words (Ok line_feeds) new =
     HasTakenFrom limit takes answers first now new (words_so_far ++ words)
 AllWordsResult limit takes answers first now words_so_far words (Err e) new =
-    RefusesWords limit (takes first) (told answers first now) (words_so_far ++ words) e
+    RefusesWords limit (takes first) (answers_of answers first now) (words_so_far ++ words) e

@@ -12,7 +12,7 @@ use Rattle.vcd_text.specs.declared.reading.parser.Parser.{Parser}
 use Rattle.vcd_text.specs.Words.{WordOnLine, complete_words, last_line}
 use Rattle.vcd_text.specs.inside.Words.{words_from}
 use Rattle.vcd_core.specs.Contents.{SignalContents}
-use Rattle.vcd_text.specs.Parts.{ChoiceAnswers, told}
+use Rattle.vcd_text.specs.Parts.{ChoiceAnswers, answers_of}
 use Rattle.vcd_text.specs.inside.reading.Choice.{HasTakenFrom, RefusesWords}
 
 -- the complete words of these bytes have been taken; `word` is the unfinished rest
@@ -63,4 +63,4 @@ abbrev pub TakesChunk : {C : Type 0} → (limit most : ℕ) → (C → SignalCon
 TakesChunk limit most takes answers first now bytes (Ok x) new =
     HasReadBytes most (HasTakenFrom limit takes answers first now) new bytes
 TakesChunk limit most takes answers first now bytes (Err e) new =
-    RefusesWords limit (takes first) (told answers first now) (complete_words bytes) e
+    RefusesWords limit (takes first) (answers_of answers first now) (complete_words bytes) e

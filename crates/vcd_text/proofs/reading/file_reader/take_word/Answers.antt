@@ -3,7 +3,7 @@ use Rattle.std.proofs.lemmas.Bool.{and_parts}
 use Rattle.vcd_text.specs.Words.{word_on}
 use Rattle.vcd_text.specs.Items.{end_word}
 use Rattle.vcd_text.specs.inside.reading.Declarations.{is_end_word}
-use Rattle.vcd_text.specs.Parts.{told}
+use Rattle.vcd_text.specs.Parts.{answers_of}
 use Rattle.vcd_text.specs.declared.fault.ReadError.{ReadError}
 use Rattle.vcd_text.specs.inside.reading.OpenItems.{is_end_definitions}
 use Rattle.vcd_text.specs.inside.reading.Part.{seen_state}

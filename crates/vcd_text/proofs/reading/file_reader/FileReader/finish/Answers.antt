@@ -5,7 +5,7 @@ use Rattle.vcd_text.specs.inside.reading.OpenItems.{is_nothing}
 use Rattle.vcd_text.specs.declared.fault.ReadError.{ReadError}
 use Rattle.vcd_text.specs.Words.{complete_words}
 use Rattle.vcd_text.specs.FoundFaults.{too_early}
-use Rattle.vcd_text.specs.Parts.{told}
+use Rattle.vcd_text.specs.Parts.{answers_of}
 use Rattle.vcd_text.specs.inside.reading.Choice.{HasTakenFrom}
 use Rattle.vcd_text.specs.inside.reading.Part.{seen_state}
 use Rattle.vcd_text.proofs.reading.file_reader.Chunks.{last_taken, last_refused}
@@ -27,7 +27,7 @@ returns-in_err-read_words-clause-fault g c =
     let choice = c.read_words.new.choice in
     rw (refused.1 ∙ ap Err refused.2) (λ limit most first bytes taken. last_refused limit most
     (HasTakenFrom limit g.C.Choice.takes g.C.Choice.answers first c.args.choice.now) (g.C.Choice.takes first)
-    (told g.C.Choice.answers first choice) p c.as_slice.result.now bytes c.in_err-read_words.field-0.0 taken
+    (answers_of g.C.Choice.answers first choice) p c.as_slice.result.now bytes c.in_err-read_words.field-0.0 taken
     c.as_slice.ensures (c.in_err-read_words.ensures.words limit first (complete_words bytes) taken.taken_words))
 
 pub returns-in_err-check_complete-clause-fault : goal.returns-in_err-check_complete-clause-fault
@@ -62,7 +62,7 @@ returns-clause-means g c = λ limit most first bytes taken.
     (HasTakenFrom limit g.C.Choice.takes g.C.Choice.answers first c.read_words.new.choice) c.args.self m
     c.as_slice.result.now bytes taken
     c.as_slice.ensures (c.in_ok-read_words.ensures.words limit first (complete_words bytes) taken.taken_words) in
-    part_is_meant limit (g.C.Choice.takes first) (told g.C.Choice.answers first c.read_words.new.choice) bytes
+    part_is_meant limit (g.C.Choice.takes first) (answers_of g.C.Choice.answers first c.read_words.new.choice) bytes
     c.in_ok-into_loaded.field-0 reads.asked
     (c.in_ok-into_loaded.ensures.means limit reads.asked bytes reads.taken_words)
     (reads.answered (and_parts m.in_body (is_nothing m.item) c.in_ok-check_complete.ensures.complete).0)
@@ -75,7 +75,7 @@ returns-clause-sound g c =
     (HasTakenFrom limit g.C.Choice.takes g.C.Choice.answers first c.read_words.new.choice) c.args.self m
     c.as_slice.result.now bytes taken
     c.as_slice.ensures (c.in_ok-read_words.ensures.words limit first (complete_words bytes) taken.taken_words) in
-    meant_is_sound limit (g.C.Choice.takes first) (told g.C.Choice.answers first c.read_words.new.choice) bytes
+    meant_is_sound limit (g.C.Choice.takes first) (answers_of g.C.Choice.answers first c.read_words.new.choice) bytes
     c.in_ok-into_loaded.field-0 reads.asked
     (c.in_ok-into_loaded.ensures.means limit reads.asked bytes reads.taken_words)
     (reads.answered (and_parts m.in_body (is_nothing m.item) c.in_ok-check_complete.ensures.complete).0)

@@ -4,7 +4,7 @@ use Rattle.std.proofs.KnownBytes.{Consumes-trans}
 use Rattle.std.proofs.lemmas.Result.{err_from_is_err_and}
 use Rattle.std.proofs.lemmas.List.{length-append}
 use Rattle.vcd_text.specs.Words.{complete_words}
-use Rattle.vcd_text.specs.Parts.{told}
+use Rattle.vcd_text.specs.Parts.{answers_of}
 use Rattle.vcd_text.specs.inside.reading.Choice.{HasTakenFrom}
 use Rattle.vcd_text.proofs.reading.parser.AskedParts.{silent_words}
 use Rattle.vcd_text.proofs.reading.file_reader.Chunks.{has_come, as_part, refused_early, is_no_failure, full, broken}
@@ -15,7 +15,7 @@ returns-in_default-clause-refused g c = λ limit most first coming stands.
     let p = c.args.self.now in
     let source = c.read_from.new.source in
     let (bytes, came, taken) = stands in
-    as_part limit most (g.C.Choice.takes first) (told g.C.Choice.answers first c.args.choice.now) coming
+    as_part limit most (g.C.Choice.takes first) (answers_of g.C.Choice.answers first c.args.choice.now) coming
     (g.R.Source.coming source) (g.R.Source.has_failed source) c.at.result
     (broken limit most (HasTakenFrom limit g.C.Choice.takes g.C.Choice.answers first c.args.choice.now) coming
     (g.R.Source.coming c.args.source.now) (g.R.Source.coming source) (g.R.Source.has_failed source)
@@ -29,7 +29,7 @@ returns-then-count-self-clause-refused g c = λ limit most first coming stands.
     let source = c.read_from.new.source in
     let (bytes, came, taken) = stands in
     let (chunk, second, text, count) = c.in-Ok.ensures.more in
-    as_part limit most (g.C.Choice.takes first) (told g.C.Choice.answers first c.args.choice.now) coming
+    as_part limit most (g.C.Choice.takes first) (answers_of g.C.Choice.answers first c.args.choice.now) coming
     (g.R.Source.coming source) (g.R.Source.has_failed source) c.at-then-count-self.result
     (full limit most (HasTakenFrom limit g.C.Choice.takes g.C.Choice.answers first c.args.choice.now) coming
     (g.R.Source.coming c.args.source.now) (g.R.Source.coming source) (g.R.Source.has_failed source) p bytes
@@ -66,7 +66,7 @@ returns-in_err-take_words-clause-refused g c =
     let come = has_come most (HasTakenFrom limit g.C.Choice.takes g.C.Choice.answers first c.args.choice.now) p
     c.read_from.new.self c.len-unfinished_len.result c.in-Ok.count bytes c.make_room.new.self.bytes chunk taken text
     c.in_ok-make_room.ensures.same count (omega (arith, c.if-count-self.false)) c.len-unfinished_len.ensures in
-    refused_early limit most (g.C.Choice.takes first) (told g.C.Choice.answers first choice) coming
+    refused_early limit most (g.C.Choice.takes first) (answers_of g.C.Choice.answers first choice) coming
     (g.R.Source.coming source)
     (g.R.Source.has_failed source) (bytes ++ chunk)
     c.in_err-take_words.field-0.0 c.in-Ok.ensures.not_failed
@@ -85,7 +85,7 @@ returns-in_err-take_words-clause-failed g c =
     let refused = err_from_is_err_and c.from_residual-in_err-take_words.result
     c.from_residual-in_err-take_words.ensures.1 in
     rw (refused.1 ∙ ap Err refused.2) (λ is. absurd (is_no_failure limit (g.C.Choice.takes first)
-    (told g.C.Choice.answers first c.take_words.new.choice) (bytes ++ chunk) c.in_err-take_words.field-0.0
+    (answers_of g.C.Choice.answers first c.take_words.new.choice) (bytes ++ chunk) c.in_err-take_words.field-0.0
     (c.in_err-take_words.ensures.taken limit most first (bytes ++ chunk) come) is))
 
 pub returns-clause-taken : goal.returns-clause-taken

@@ -5,7 +5,7 @@ use Rattle.std.proofs.lemmas.List.{length-take, length-append}
 use Rattle.vcd_core.specs.Word.{is_white_space}
 use Rattle.vcd_text.specs.Words.{complete_words}
 use Rattle.vcd_text.specs.inside.Words.{has_complete_words}
-use Rattle.vcd_text.specs.Parts.{told}
+use Rattle.vcd_text.specs.Parts.{answers_of}
 use Rattle.vcd_text.specs.inside.reading.Choice.{HasTakenFrom}
 use Rattle.vcd_text.proofs.reading.file_reader.Chunks.{now_taken, now_refused, word_is_first}
 use Rattle.vcd_text.proofs.words.WordsInTurn.{words_are_few}
@@ -36,7 +36,7 @@ returns-in_err-self-clause-taken g c = λ limit most first bytes come.
     (take len c.as_slice-2.result.now) come (ap (λ l. has_complete_words (take len l)) (sym value)
     ∙ c.complete_words_len-len.ensures.complete) (ap (λ l. list_all (λ b. not (is_white_space b)) (drop len l))
     (sym value) ∙ c.complete_words_len-len.ensures.no_space) (ap (take len) prefix) (g.C.Choice.takes first)
-    (told g.C.Choice.answers first c.read_words.new.choice) c.in_err-self.field-0.0
+    (answers_of g.C.Choice.answers first c.read_words.new.choice) c.in_err-self.field-0.0
     (c.in_err-self.ensures.words limit first (complete_words come.before) come.taken.taken_words))
 
 pub returns-clause-taken : goal.returns-clause-taken
