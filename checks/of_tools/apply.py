@@ -4,6 +4,7 @@ Programs of our own stand for vcdedit where a run has to fail half-way: each wri
 """
 
 import gzip
+import itertools
 import os
 import pty
 import re
@@ -314,22 +315,23 @@ def default_signals():
 
 
 def interrupted(program, folder):
-    """The second capture's run lasts, and is interrupted when it has written a part."""
+    """The second capture's run lasts. The tool or this run alone is interrupted when that has written a part."""
     waits = "echo $$ > ../number.new; mv ../number.new ../number; exec sleep 60"
     first = '#!/bin/sh\n[ -e ../first ] || { : > ../first; exec %s "$@"; }\n' % program
     lasting = store_program(folder, "lasting", text=first + HALF % (program, waits))
-    for number in (signal.SIGINT, signal.SIGTERM, signal.SIGHUP, signal.SIGKILL):
-        place = Folder(lasting, "%s/%d/captures" % (folder, number), A=LINE, B=LINE, C=LINE)
+    numbers = (signal.SIGINT, signal.SIGTERM, signal.SIGHUP)
+    for number, whom in [*itertools.product(numbers, ("tool", "run")), (signal.SIGKILL, "tool")]:
+        place = Folder(lasting, "%s/%d %s/captures" % (folder, number, whom), A=LINE, B=LINE, C=LINE)
         how = {"cwd": place.folder, "env": place.environment, "preexec_fn": default_signals, "stderr": subprocess.PIPE}
         tool = subprocess.Popen([APPLY, "script", "A", "B", "C"], stdout=subprocess.PIPE, text=True, **how)
         path = os.path.join(place.folder, "../number")
         began = wait_for(lambda: os.path.exists(path))
-        tool.send_signal(number)
+        with open(path) as file:
+            child = int(file.read())
+        os.kill(tool.pid if whom == "tool" else child, number)
         shown, told = end_of(tool)
         left = [name for name in place.names() if name not in ("A", "B", "C", "script")]
         kept = place.load("A") != LINE == place.load("B") == place.load("C")
-        with open(path) as file:
-            child = int(file.read())
         if number == signal.SIGKILL:
             seen = [re.fullmatch(r"B\.%d\.1\.unfinished" % tool.pid, name) is not None for name in left]
             yield "what is left of a run that is killed", (began, kept, seen) == (True, True, [True])
@@ -338,9 +340,10 @@ def interrupted(program, folder):
             status = 128 + number
             ends = ["A: written: 1 ok", "B: as it was: interrupted", "C: as it was: interrupted"]
             ends.append("1 written, 2 not, status %d" % status)
-            yield "signal %d" % number, (began, kept, left, shown, tool.returncode) == (True, True, [], ends, status)
-            rest = " with the rest:\n    vcdedit-apply -- script B C\n"
-            yield "signal %d: what goes on" % number, told.endswith(rest)
+            found = (began, kept, left, shown, tool.returncode)
+            yield "signal %d to the %s" % (number, whom), found == (True, True, [], ends, status)
+            rest = "1 capture written. This goes on with the rest:\n    vcdedit-apply -- script B C\n"
+            yield "signal %d: what goes on" % number, told == "vcdedit-apply: " + rest
             yield "signal %d ends the run" % number, wait_for(lambda: not is_running(child))
 
 
