@@ -37,6 +37,9 @@ printf 'half of it' > "$out"
 echo 'line 2: refused: UnknownCommand'
 %s
 """
+# The first run is the real program's.
+FIRST = '#!/bin/sh\n[ -e ../first ] || { : > ../first; exec %s "$@"; }\n'
+REST = "vcdedit-apply: 1 capture written. This goes on with the rest:\n    vcdedit-apply -- script %s\n"
 # How a run fails, its status, and what is told.
 FAILING = [
     ("echo 'vcdedit: output: write fault' >&2; exit 4", 4, "is the disc full?"),
@@ -253,10 +256,11 @@ def answers(program, folder):
     os.chmod(place.folder + "/A", 0o644)
     place.store("B", LINE)
     place.store("bad", "#0\n")
-    found = place.run("script", "A", "lossy", "bad", "B", "--dry-run", "--backup", ".orig", "--jobs", "4")
-    ends = ["2 would be written, 2 not, status 3", "A: would be written: 1 ok", "B: would be written: 1 ok",
-            "bad: as it was: refused: line 1: UnexpectedWord", "lossy: as it was: 2 variables would be lost"]
-    yield "a dry run", (found[0], sorted(found[1])) == (3, ends)
+    found = place.run("script", "A", "lossy", "bad", "B", "none", "--dry-run", "--backup", ".orig", "--jobs", "4")
+    ends = ["2 would be written, 3 not, status 4", "A: would be written: 1 ok", "B: would be written: 1 ok",
+            "bad: as it was: refused: line 1: UnexpectedWord", "lossy: as it was: 2 variables would be lost",
+            "none: as it was: there is no such file"]
+    yield "a dry run", (found[0], sorted(found[1]), "goes on" in found[2]) == (4, ends, False)
     place.store("refused", "invert tb.none\nvalue tb.rx 0\n")
     found = place.run("refused", "A", "--keep-going")
     lines = ["A:2: 1", "A: as it was: no edit was carried out, 1 line refused"]
@@ -269,12 +273,13 @@ def answers(program, folder):
 
 def fails(program, folder):
     for number, (failure, status, told) in enumerate(FAILING):
-        failing = store_program(folder, "program%d" % number, text=HALF % (program, failure))
-        place = Folder(failing, "%s/fails%d/moved" % (folder, number), A=LINE)
-        found = place.run("script", "A")
+        failing = store_program(folder, "program%d" % number, text=FIRST % program + HALF % (program, failure))
+        place = Folder(failing, "%s/fails%d/moved" % (folder, number), A=LINE, B=LINE)
+        found = place.run("script", "B", "A")
         begins = place.load("A").startswith(LINE)
-        left = [name for name in place.names() if name not in ("A", "away", "script")]
-        yield "after " + failure, (found[0], begins, left) == (status, True, []) and told in found[1][-1]
+        left = [name for name in place.names() if name not in ("A", "B", "away", "script")]
+        yield "after " + failure, (found[0], begins, left) == (status, True, []) and told in found[1][-2]
+        yield "what goes on after " + failure, found[2].endswith(REST % "A") == (status > 3)
     failing = store_program(folder, "makes_a_folder", text=HALF % (program, "echo ok; mkdir new/A; exit 0"))
     place = Folder(failing, folder + "/renamed/moved", A=LINE)
     status, shown, _ = place.run("script", "A", "--to", "new")
@@ -317,8 +322,7 @@ def default_signals():
 def interrupted(program, folder):
     """The second capture's run lasts. The tool or this run alone is interrupted when that has written a part."""
     waits = "echo $$ > ../number.new; mv ../number.new ../number; exec sleep 60"
-    first = '#!/bin/sh\n[ -e ../first ] || { : > ../first; exec %s "$@"; }\n' % program
-    lasting = store_program(folder, "lasting", text=first + HALF % (program, waits))
+    lasting = store_program(folder, "lasting", text=FIRST % program + HALF % (program, waits))
     numbers = (signal.SIGINT, signal.SIGTERM, signal.SIGHUP)
     for number, whom in [*itertools.product(numbers, ("tool", "run")), (signal.SIGKILL, "tool")]:
         place = Folder(lasting, "%s/%d %s/captures" % (folder, number, whom), A=LINE, B=LINE, C=LINE)
@@ -342,8 +346,7 @@ def interrupted(program, folder):
             ends.append("1 written, 2 not, status %d" % status)
             found = (began, kept, left, shown, tool.returncode)
             yield "signal %d to the %s" % (number, whom), found == (True, True, [], ends, status)
-            rest = "1 capture written. This goes on with the rest:\n    vcdedit-apply -- script B C\n"
-            yield "signal %d: what goes on" % number, told == "vcdedit-apply: " + rest
+            yield "signal %d: what goes on" % number, told == REST % "B C"
             yield "signal %d ends the run" % number, wait_for(lambda: not is_running(child))
 
 
