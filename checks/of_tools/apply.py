@@ -261,11 +261,15 @@ def answers(program, folder):
             "bad: as it was: refused: line 1: UnexpectedWord", "lossy: as it was: 2 variables would be lost",
             "none: as it was: there is no such file"]
     yield "a dry run", (found[0], sorted(found[1]), "goes on" in found[2]) == (4, ends, False)
+    place.store("some", "value tb.rx 6\nclean\n" + WRITTEN)
+    found, told = place.run("some", "lossy", "--dry-run"), ["some line 2: clean", "real tb.volts"]
+    is_told = found[:2] == (1, ["lossy:1: 1", ends[-2]]) and all(word in found[2] for word in told)
+    yield "a dry run answers, and names what would be lost", is_told
     place.store("refused", "invert tb.none\nvalue tb.rx 0\n")
     found = place.run("refused", "A", "--keep-going")
     lines = ["A:2: 1", "A: as it was: no edit was carried out, 1 line refused"]
     yield "no edit is carried out", found[:2] == (1, lines) and place.load("A") == LINE
-    yield "nothing is written", place.names() == ["A", "B", "asks", "bad", "lossy", "refused", "script"]
+    yield "nothing is written", place.names() == ["A", "B", "asks", "bad", "lossy", "refused", "script", "some"]
     place.environment["VCDEDIT"] = "/bin/true"
     told = "B: as it was: /bin/true left lines of the script without a reply"
     yield "no vcdedit", place.run("script", "B") == (4, [told], "")
