@@ -14,7 +14,7 @@ import stat
 import subprocess
 import time
 
-from common import TOP, load_if_there, run, store, store_program
+from common import TOP, load_if_there, module_of, run, store, store_program
 
 APPLY = os.path.join(TOP, "tools/apply_script")
 LINE = """$timescale 1 us $end $scope module tb $end
@@ -130,6 +130,7 @@ def writes(program, folder):
     yield "a long name", place.run("script", long)[0] == 0 and place.load(long) == wanted
     kept = ["A", "B", "B.orig", "C", "bad", "link", "new", long, "script", "some", odd]
     yield "nothing else is there", place.names() == sorted(kept)
+    yield "a folder that can't be synced", module_of("tools/apply_script").sync_folder(folder + "/none") is None
 
 
 def stays(program, folder):
