@@ -92,7 +92,9 @@ REFUSED = [
     (["more"], 3, "more: line 1: frob: UnexpectedWord"),
     (["none.vcd"], 4, "none.vcd: there is no such file"),
     (["/dev/stdin"], 4, "is no regular file"),
-    ([I2C, "-o", "none/v.vcd"], 4, "none/v.vcd: there is no such file"),
+    ([I2C, "-o", "none/v.vcd"], 2, "-o none/v.vcd: there is no such folder"),
+    ([I2C, "--picture", "p.jpg"], 2, "--picture names a file that ends in .png"),
+    ([I2C, *I2C_LINE.split()], 1, "\n    quote each line: "),
     ([I2C], 4, "there is no gtkwave and no surfer: apt-get install gtkwave, or say in VCDEDIT_VIEWER"),
     ([I2C, "--picture", "p.png"], 4, "there is no gtkwave: apt-get install gtkwave xvfb xauth"),
 ]
