@@ -264,7 +264,7 @@ class Parser(argparse.ArgumentParser):
         form = argparse.RawDescriptionHelpFormatter
         texts = {"prog": name, "usage": usage, "description": text, "epilog": more}
         super().__init__(**texts, formatter_class=form, allow_abbrev=False)
-        self.add_argument("--version", action="version", version="%s %s" % (name, VERSION))
+        self.add_argument("-V", "--version", action="version", version="%s %s" % (name, VERSION))
 
     def _print_message(self, message, file=None):
         if file is sys.stdout:

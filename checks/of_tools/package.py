@@ -108,8 +108,9 @@ def run_from_anywhere(folder):
     """What is installed runs in another folder, and each tool finds its modules and the program next to it."""
     version = run([os.path.join(folder, "vcdedit"), "--version"], cwd="/")[1].partition(" ")[2]
     for command in COMMANDS:
-        said = run([os.path.join(folder, command), "--version"], cwd="/")
-        yield command + ": its version", said == (0, "%s %s" % (command, version), "") and version
+        for option in ("-V", "--version"):
+            said = run([os.path.join(folder, command), option], cwd="/")
+            yield "%s %s" % (command, option), said == (0, "%s %s" % (command, version), "") and version
     for words, status, wanted in RUN:
         done = run([os.path.join(folder, words[0]), *words[1:]], cwd="/", input="")
         yield "%s runs from anywhere" % " ".join(words), done[0] == status and re.search(wanted, done[1] + done[2])
