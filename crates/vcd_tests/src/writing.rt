@@ -47,7 +47,7 @@ fn check_writer(rt: &impl Abort, writer: &FakeWriter, count: usize, flushes: usi
     assert!(rt; writer.flushes == flushes);
 }
 
-/// No clause is about the flush of a writer that takes all, so its calls are counted.
+/// No clause says that there is one flush, so the calls of a writer that takes all are counted.
 #[test]
 fn flushed_once(rt: HostRuntime) -> Result<(), Fail> {
     let writer = FakeWriter::new(rt.alloc(), 7);

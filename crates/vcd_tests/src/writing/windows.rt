@@ -45,7 +45,7 @@ fn check_calls(rt: &impl Abort, writer: &FakeWriter, text: &[u8]) {
     assert!(rt; writer.flushed == text.len(), "the flush is last");
 }
 
-/// No clause speaks of a flush: a long text goes out in large parts, with one flush after the last.
+/// No clause says how often it is flushed: a long text goes out in large parts, with one flush.
 #[test]
 fn a_long_text_by_few_calls(rt: HostRuntime) -> Result<(), Fail> {
     let text = alternating_text(rt.alloc(), 1, 22_000, 22_001)?;
