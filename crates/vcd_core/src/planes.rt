@@ -109,9 +109,7 @@ pub(crate) fn write_plane_bit(words: &mut [u64], plane: usize, k: u64, set: bool
     requires plane { plane < 2 }
     requires within { 2 * (k / 64) + plane < length words.old }
     ensures at { spec.plane_bit plane words.new k ≡ (if set then 1 else 0) }
-    ensures others { (i : ℕ) → i ≢ k →
-        spec.plane_bit plane words.new i ≡ spec.plane_bit plane words.old i }
-    ensures other_plane { (other i : ℕ) → other < 2 → other ≢ plane →
+    ensures others { (other i : ℕ) → other < 2 → (other ≡ plane → i ≢ k) →
         spec.plane_bit other words.new i ≡ spec.plane_bit other words.old i }
     ensures sized { length words.new ≡ length words.old }
 {

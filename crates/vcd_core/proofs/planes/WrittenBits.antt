@@ -28,29 +28,22 @@ unfolding plane_bit
 plane_bit-set_other words plane j x k elsewhere =
     ap (λ w. bit_at w (k % 64)) (get_or-set_other words j (2 * (k / 64) + plane) x 0 elsewhere)
 
--- where the new word differs from the old one in one bit alone, so does the plane
-pub plane_bit-write : (words : List ℕ) (plane k x : ℕ) → 2 * (k / 64) + plane < length words
+-- where the new word differs from the old one in one bit alone, so do the planes
+pub plane_bit-write : (words : List ℕ) (plane k x : ℕ) → plane < 2 → 2 * (k / 64) + plane < length words
     → ((i : ℕ) → i < 64 → i ≢ k % 64 → bit_at x i ≡ bit_at (get_or words (2 * (k / 64) + plane) 0) i)
-    → (i : ℕ) → i ≢ k → plane_bit plane (set words (2 * (k / 64) + plane) x) i ≡ plane_bit plane words i
-unfolding plane_bit
-plane_bit-write words plane k x within others i apart =
-    elim (cases_eq (i / 64) (k / 64)) [
-      | inl here ↦
-          let low : i % 64 < 64 = omega arith in
-          let differs : i % 64 ≢ k % 64 = omega arith in
-          let index : 2 * (i / 64) + plane ≡ 2 * (k / 64) + plane = omega arith in
-          plane_bit-set_same words plane (2 * (k / 64) + plane) x i within index ∙ others (i % 64) low differs
-          ∙ ap (λ j. bit_at (get_or words j 0) (i % 64)) (sym index)
-      | inr elsewhere ↦ let differs : 2 * (i / 64) + plane ≢ 2 * (k / 64) + plane = omega arith in
-          plane_bit-set_other words plane (2 * (k / 64) + plane) x i differs
-    ]
-
--- the other plane stays
-pub plane_bit-other_plane : (words : List ℕ) (plane other k x i : ℕ) → plane < 2 → other < 2 → other ≢ plane
+    → (other i : ℕ) → other < 2 → (other ≡ plane → i ≢ k)
     → plane_bit other (set words (2 * (k / 64) + plane) x) i ≡ plane_bit other words i
-plane_bit-other_plane words plane other k x i which which' differ =
-    let elsewhere : 2 * (i / 64) + other ≢ 2 * (k / 64) + plane = omega arith in
-    plane_bit-set_other words other (2 * (k / 64) + plane) x i elsewhere
+unfolding plane_bit
+plane_bit-write words plane k x which within others other i which' apart =
+    elim (cases_eq (2 * (i / 64) + other) (2 * (k / 64) + plane)) [
+      | inl index ↦
+          let low : i % 64 < 64 = omega arith in
+          let same : other ≡ plane = omega arith in
+          let differs : i % 64 ≢ k % 64 = omega (arith, apart same) in
+          plane_bit-set_same words other (2 * (k / 64) + plane) x i within index ∙ others (i % 64) low differs
+          ∙ ap (λ j. bit_at (get_or words j 0) (i % 64)) (sym index)
+      | inr elsewhere ↦ plane_bit-set_other words other (2 * (k / 64) + plane) x i elsewhere
+    ]
 
 -- ---- a word of each plane
 
@@ -66,33 +59,38 @@ masked_above w left i above inside =
     let none : bit_at (2 ^ min left 64 - 1) i ≡ 0 = bit_at_ones_above (min left 64) i (omega arith) in
     bit_at_and w (2 ^ min left 64 - 1) i ∙ ap (min (bit_at w i)) none ∙ omega arith
 
+-- the word of a block for the low plane (0) or the high plane (1)
+abbrev pub word_in : ℕ → LetterBlock → ℕ
+word_in zero block = block.low
+word_in (suc _) block = block.high
+
 -- the words at j of both planes are written
 abbrev pub both_set : List ℕ → ℕ → ℕ → ℕ → List ℕ
 both_set words j low high = set (set words (2 * j) low) (2 * j + 1) high
 
-module _ (words : List ℕ) (j low high : ℕ) (within : 2 * j + 1 < length words) where
-  pub low_set : (k : ℕ) → k / 64 ≡ j → plane_bit 0 (both_set words j low high) k ≡ bit_at low (k % 64)
-  low_set k here =
+module _ (words : List ℕ) (j : ℕ) (f : ℕ → ℕ) (block : LetterBlock) (within : 2 * j + 1 < length words) where
+  here_set : (plane k : ℕ) → plane < 2 → k / 64 ≡ j
+      → plane_bit plane (both_set words j (f block.low) (f block.high)) k ≡ bit_at (f (word_in plane block)) (k % 64)
+  here_set zero k which here =
       let elsewhere : 2 * (k / 64) + 0 ≢ 2 * j + 1 = omega arith in
-      plane_bit-set_other (set words (2 * j) low) 0 (2 * j + 1) high k elsewhere
-      ∙ plane_bit-set_same words 0 (2 * j) low k (omega arith) (omega arith)
+      plane_bit-set_other (set words (2 * j) (f block.low)) 0 (2 * j + 1) (f block.high) k elsewhere
+      ∙ plane_bit-set_same words 0 (2 * j) (f block.low) k (omega arith) (omega arith)
+  here_set (suc zero) k which here = plane_bit-set_same (set words (2 * j) (f block.low)) 1 (2 * j + 1) (f block.high) k
+      (omega (arith, length-set words (2 * j) (f block.low))) (omega arith)
+  here_set (suc (suc _)) k which here = absurd (omega arith)
 
-  pub high_set : (k : ℕ) → k / 64 ≡ j → plane_bit 1 (both_set words j low high) k ≡ bit_at high (k % 64)
-  high_set k here = plane_bit-set_same (set words (2 * j) low) 1 (2 * j + 1) high k
-      (omega (arith, length-set words (2 * j) low)) (omega arith)
-
-  pub others_kept : (plane k : ℕ) → plane < 2 → k / 64 ≢ j
-      → plane_bit plane (both_set words j low high) k ≡ plane_bit plane words k
+  others_kept : (plane k : ℕ) → plane < 2 → k / 64 ≢ j
+      → plane_bit plane (both_set words j (f block.low) (f block.high)) k ≡ plane_bit plane words k
   others_kept plane k which elsewhere =
       let first : 2 * (k / 64) + plane ≢ 2 * j + 1 = omega arith in
       let second : 2 * (k / 64) + plane ≢ 2 * j = omega arith in
-      plane_bit-set_other (set words (2 * j) low) plane (2 * j + 1) high k first
-      ∙ plane_bit-set_other words plane (2 * j) low k second
+      plane_bit-set_other (set words (2 * j) (f block.low)) plane (2 * j + 1) (f block.high) k first
+      ∙ plane_bit-set_other words plane (2 * j) (f block.low) k second
 
 -- the first words of both planes hold the letters of a row of blocks that are below the width
 pub record HoldsBlocks (n width j : ℕ) (planes : List ℕ) (blocks : List LetterBlock) : Type 0 where
-  pub low : (k : ℕ) → k < 64 * j → k < width → plane_bit 0 planes k ≡ bit_at (block_at blocks (k / 64)).low (k % 64)
-  pub high : (k : ℕ) → k < 64 * j → k < width → plane_bit 1 planes k ≡ bit_at (block_at blocks (k / 64)).high (k % 64)
+  pub bits : (plane k : ℕ) → plane < 2 → k < 64 * j → k < width
+      → plane_bit plane planes k ≡ bit_at (word_in plane (block_at blocks (k / 64))) (k % 64)
   pub clear : (plane k : ℕ) → plane < 2 → width ≤ k → k < 64 * n → plane_bit plane planes k ≡ 0
 
 -- one more block
@@ -102,50 +100,30 @@ pub one_more : (n width j left : ℕ) (planes : List ℕ) (blocks : List LetterB
     (both_set planes j (bit_and (block_at blocks j).low (2 ^ min left 64 - 1))
     (bit_and (block_at blocks j).high (2 ^ min left 64 - 1))) blocks
 one_more n width j left planes blocks sized within is holds =
+    let cut : ℕ → ℕ = λ w. bit_and w (2 ^ min left 64 - 1) in
+    let block = block_at blocks j in
+    let inside : 2 * j + 1 < length planes = omega arith in
     record {
-      low = λ k below in_width. elim (cases_eq (k / 64) j) [
-        | inl here ↦ low_set planes j a b inside k here ∙ masked block.low left (k % 64) (omega arith) (omega arith)
-            ∙ ap (λ i. bit_at (block_at blocks i).low (k % 64)) (sym here)
-        | inr elsewhere ↦ others_kept planes j a b inside 0 k (omega arith) elsewhere
-            ∙ holds.low k (omega arith) in_width
-      ];
-      high = λ k below in_width. elim (cases_eq (k / 64) j) [
-        | inl here ↦ high_set planes j a b inside k here ∙ masked block.high left (k % 64) (omega arith) (omega arith)
-            ∙ ap (λ i. bit_at (block_at blocks i).high (k % 64)) (sym here)
-        | inr elsewhere ↦ others_kept planes j a b inside 1 k (omega arith) elsewhere
-            ∙ holds.high k (omega arith) in_width
+      bits = λ plane k which below in_width. elim (cases_eq (k / 64) j) [
+        | inl here ↦ here_set planes j cut block inside plane k which here
+            ∙ masked (word_in plane block) left (k % 64) (omega arith) (omega arith)
+            ∙ ap (λ i. bit_at (word_in plane (block_at blocks i)) (k % 64)) (sym here)
+        | inr elsewhere ↦ others_kept planes j cut block inside plane k which elsewhere
+            ∙ holds.bits plane k which (omega arith) in_width
       ];
       clear = λ plane k which out below. elim (cases_eq (k / 64) j) [
-        | inl here ↦ cleared plane k which here out
-        | inr elsewhere ↦ others_kept planes j a b inside plane k which elsewhere ∙ holds.clear plane k which out below
+        | inl here ↦ here_set planes j cut block inside plane k which here
+            ∙ masked_above (word_in plane block) left (k % 64) (omega arith) (omega arith)
+        | inr elsewhere ↦ others_kept planes j cut block inside plane k which elsewhere
+            ∙ holds.clear plane k which out below
       ];
     }
-  where
-    block : LetterBlock
-    block = block_at blocks j
-
-    a : ℕ
-    a = bit_and block.low (2 ^ min left 64 - 1)
-
-    b : ℕ
-    b = bit_and block.high (2 ^ min left 64 - 1)
-
-    inside : 2 * j + 1 < length planes
-    inside = omega arith
-
-    cleared : (plane k : ℕ) → plane < 2 → k / 64 ≡ j → width ≤ k → plane_bit plane (both_set planes j a b) k ≡ 0
-    cleared zero k which here out = low_set planes j a b inside k here
-        ∙ masked_above block.low left (k % 64) (omega arith) (omega arith)
-    cleared (suc zero) k which here out = high_set planes j a b inside k here
-        ∙ masked_above block.high left (k % 64) (omega arith) (omega arith)
-    cleared (suc (suc _)) k which here out = absurd (omega arith)
 
 -- planes of zeros hold no letters
 pub none_held : (n width : ℕ) (blocks : List LetterBlock) → HoldsBlocks n width 0 (replicate (2 * n) 0) blocks
 unfolding plane_bit
 none_held n width blocks = record {
-  low = λ k below _. absurd (omega arith);
-  high = λ k below _. absurd (omega arith);
+  bits = λ plane k _ below _. absurd (omega arith);
   clear = λ plane k which _ below. ap (λ w. bit_at w (k % 64))
       (get_or-replicate (2 * n) (2 * (k / 64) + plane) 0 0 (omega arith)) ∙ bit_at-zero (k % 64);
 }

@@ -1,7 +1,7 @@
 -- The letters that two planes show.
 use Rattle.std.proofs.Common.{◌≡◌, ◌≢◌, ℕ, ◌+◌, ◌-◌, ◌*◌, ◌/◌, ◌%◌, ◌<◌, ◌≤◌, inl, inr}
-use Rattle.std.proofs.Common.{if◌then◌else◌, nat_lt, List, []}
-use Rattle.std.proofs.Common.{◌∷◌, ◌↔◌, true, false, min, ◌^◌, length, take, replicate, get_or}
+use Rattle.std.proofs.Common.{List, []}
+use Rattle.std.proofs.Common.{◌∷◌, ◌↔◌, min, ◌^◌, length, take, map, replicate, get_or}
 use Rattle.std.proofs.Common.{refl, sym, ap}
 use Rattle.std.proofs.Common.{◌∙◌, arith}
 use Rattle.std.proofs.Math.ListN.{set}
@@ -10,8 +10,11 @@ use Rattle.std.specs.Int.Bits.{bit_and, mask_lt}
 use Rattle.std.proofs.lemmas.List.{ext_get_or, get_or-set_same, get_or-set_other, get_or-replicate}
 use Rattle.std.proofs.lemmas.List.{get_or-take}
 use Rattle.std.proofs.lemmas.List.{length-replicate, length-set}
-use Rattle.std.proofs.lemmas.List.FromFn.{get_or-map-range_with_len, length-map-range_with_len}
-use Rattle.std.proofs.lemmas.Nat.Bits.{bit_at-lt, same_from_bits_below}
+use Rattle.std.proofs.lemmas.List.FromFn.{length-map-range_with_len}
+use Rattle.std.proofs.lemmas.Nat.Bits.{bit_at-lt}
+use Rattle.std.proofs.lemmas.List.Elements.{All-set, All-replicate}
+use Rattle.std.specs.List.{range_with_len}
+use Rattle.vcd_core.specs.declared.value.TheConstants.{BLOCKS}
 use Rattle.std.proofs.lemmas.Bool.{cases_lt, lt-ltb, le-ltb}
 use Rattle.std.proofs.Math.Pow.{pow_mono}
 use Rattle.vcd_core.specs.declared.bit.Bit.{Bit}
@@ -21,11 +24,11 @@ use Rattle.vcd_core.specs.Value.{letter_at}
 use Rattle.vcd_core.specs.declared.letter_block.LetterBlock.{LetterBlock}
 use Rattle.vcd_core.specs.BlockRows.{letter_of, low_of, high_of, letter_in, block_at, letters_of}
 use Rattle.vcd_core.specs.BlockRows.{letter_or}
-use Rattle.vcd_core.specs.inside.Planes.{plane_bit, letters_in, view_value, bit_in, IsValue}
+use Rattle.vcd_core.specs.inside.Planes.{plane_bit, letters_in, view_value, value_of, bit_in, IsValue}
 use Rattle.vcd_core.specs.inside.value.PlanesOfLetters.{letter_at-letters_in, length-letters_in}
-use Rattle.vcd_core.specs.inside.value.PlanesOfLetters.{bit_in-letter_of, low_of-letter_of}
-use Rattle.vcd_core.specs.inside.value.PlanesOfLetters.{high_of-letter_of}
-use Rattle.vcd_core.proofs.planes.WrittenBits.{masked, masked_above, HoldsBlocks}
+use Rattle.vcd_core.specs.inside.value.PlanesOfLetters.{bit_in-letter_of, letter_at-by_bit}
+use Rattle.vcd_core.specs.inside.value.PlanesOfLetters.{value_of-view_value}
+use Rattle.vcd_core.proofs.planes.WrittenBits.{HoldsBlocks, both_set, block_held}
 
 pub letter_of-letter : (b : Bit) → letter_of (low_of b) (high_of b) ≡ b
 letter_of-letter Zero = refl
@@ -42,15 +45,29 @@ same_letter_at v w long same = ext_get_or X v w long (λ i within.
     let back' : length w - 1 - k ≡ i = omega arith in
     ap (λ j. get_or v j X) (sym back) ∙ same k (omega arith) ∙ ap (λ j. get_or w j X) back')
 
+-- the letters of planes and of a row of blocks, by bit
+abbrev plane_letter : List ℕ → ℕ → Bit
+plane_letter words k = letter_of (plane_bit 0 words k) (plane_bit 1 words k)
+
+abbrev row_letter : List LetterBlock → ℕ → Bit
+row_letter blocks k = letter_in (block_at blocks (k / 64)) (k % 64)
+
+-- a value whose letters a function of the bit gives
+by_bit : (f : ℕ → Bit) (width : ℕ) (v : List Bit) → width ≡ length v → ((k : ℕ) → k < width → f k ≡ letter_at v k)
+    → map (λ i. f (width - 1 - i)) (range_with_len 0 width) ≡ v
+by_bit f width v long same =
+    let wide = length-map-range_with_len (λ i. f (width - 1 - i)) 0 width in
+    same_letter_at _ v (wide ∙ long) (λ k below.
+    let within : k < width = omega (arith, wide) in letter_at-by_bit f width k within ∙ same k within)
+
 -- the planes show the value whose letters have their bits
 pub letters_in-shown : (v : List Bit) (width : ℕ) (words : List ℕ) → width ≡ length v
     → ((k : ℕ) → k < width → plane_bit 0 words k ≡ low_of (letter_at v k))
     → ((k : ℕ) → k < width → plane_bit 1 words k ≡ high_of (letter_at v k))
     → letters_in width words ≡ v
-letters_in-shown v width words long lows highs = same_letter_at _ v (length-letters_in width words ∙ long) (λ k within.
-    let inside : k < width = omega (arith, length-letters_in width words) in
-    letter_at-letters_in width words k inside ∙ (λ p. letter_of (lows k inside p) (highs k inside p))
-    ∙ letter_of-letter (letter_at v k))
+unfolding letters_in
+letters_in-shown v width words long lows highs = by_bit (plane_letter words) width v long (λ k within.
+    (λ p. letter_of (lows k within p) (highs k within p)) ∙ letter_of-letter (letter_at v k))
 
 pub length-letters_of : (width : ℕ) (blocks : List LetterBlock) → length (letters_of width blocks) ≡ width
 unfolding letters_of
@@ -60,25 +77,16 @@ length-letters_of width blocks = length-map-range_with_len _ 0 width
 pub letter_at-letters_of : (width : ℕ) (blocks : List LetterBlock) (k : ℕ) → k < width
     → letter_at (letters_of width blocks) k ≡ letter_in (block_at blocks (k / 64)) (k % 64)
 unfolding letters_of
-letter_at-letters_of width blocks k within =
-    let at : ℕ → Bit = λ i. letter_in (block_at blocks (i / 64)) (i % 64) in
-    let index : length (letters_of width blocks) - 1 - k ≡ width - 1 - k =
-    ap (λ n. n - 1 - k) (length-letters_of width blocks) in
-    let back : width - 1 - (width - 1 - k) ≡ k = omega arith in
-    ap (λ i. get_or (letters_of width blocks) i X) index
-    ∙ get_or-map-range_with_len (λ i. at (width - 1 - i)) 0 width (width - 1 - k) (width - 1 - k) X (omega arith)
-    (omega arith)
-    ∙ ap at back
+letter_at-letters_of width blocks k within = letter_at-by_bit (row_letter blocks) width k within
 
 -- planes that hold the blocks show their letters
 pub letters_in-blocks : (n width j : ℕ) (planes : List ℕ) (blocks : List LetterBlock)
     → HoldsBlocks n width j planes blocks → width ≤ 64 * j → letters_in width planes ≡ letters_of width blocks
+unfolding letters_in
 letters_in-blocks n width j planes blocks holds all =
-    same_letter_at _ _ (length-letters_in width planes ∙ sym (length-letters_of width blocks)) (λ k within.
-    let inside : k < width = omega (arith, length-letters_in width planes) in
-    letter_at-letters_in width planes k inside
-    ∙ (λ p. letter_of (holds.low k (omega arith) inside p) (holds.high k (omega arith) inside p))
-    ∙ sym (letter_at-letters_of width blocks k inside))
+    by_bit (plane_letter planes) width _ (sym (length-letters_of width blocks)) (λ k inside.
+    (λ p. letter_of (holds.bits 0 k (omega arith) (omega arith) inside p)
+    (holds.bits 1 k (omega arith) (omega arith) inside p)) ∙ sym (letter_at-letters_of width blocks k inside))
 
 pub letter_at-replicate : (n k : ℕ) (b : Bit) → k < n → letter_at (replicate n b) k ≡ b
 letter_at-replicate n k b within = get_or-replicate n _ b X (omega (arith, length-replicate n b))
@@ -87,11 +95,10 @@ letter_at-replicate n k b within = get_or-replicate n _ b X (omega (arith, lengt
 pub letters_of-replicate : (width n : ℕ) (block : LetterBlock) (b : Bit) → width ≤ 64 * n
     → ((i : ℕ) → i < 64 → letter_in block i ≡ b)
     → letters_of width (replicate n block) ≡ replicate width b
+unfolding letters_of
 letters_of-replicate width n block b within holds =
-    same_letter_at _ _ (length-letters_of width (replicate n block) ∙ sym (length-replicate width b)) (λ k below.
-    let inside : k < width = omega (arith, length-letters_of width (replicate n block)) in
-    letter_at-letters_of width _ k inside
-    ∙ ap (λ (w : LetterBlock). letter_in w (k % 64))
+    by_bit (row_letter (replicate n block)) width _ (sym (length-replicate width b)) (λ k inside.
+    ap (λ (w : LetterBlock). letter_in w (k % 64))
     (get_or-replicate n (k / 64) block (record { low = 0; high = 0 }) (omega arith))
     ∙ holds (k % 64) (omega arith) ∙ sym (letter_at-replicate width k b inside))
 
@@ -111,12 +118,10 @@ letter_at-set_other v k i b within inside apart =
 -- the words in use determine the letters
 pub same_words : (width m : ℕ) (xs ys : List ℕ) → width ≤ 64 * m → take (2 * m) xs ≡ take (2 * m) ys
     → letters_in width xs ≡ letters_in width ys
-unfolding plane_bit
+unfolding letters_in plane_bit
 same_words width m xs ys fits same =
-    same_letter_at _ _ (length-letters_in width xs ∙ sym (length-letters_in width ys)) (λ k below.
-    let inside : k < width = omega (arith, length-letters_in width xs) in
-    letter_at-letters_in width xs k inside
-    ∙ (λ p. letter_of (same_bit 0 k (omega arith) inside p) (same_bit 1 k (omega arith) inside p))
+    by_bit (plane_letter xs) width _ (sym (length-letters_in width ys)) (λ k inside.
+    (λ p. letter_of (same_bit 0 k (omega arith) inside p) (same_bit 1 k (omega arith) inside p))
     ∙ sym (letter_at-letters_in width ys k inside))
   where
     same_bit : (plane k : ℕ) → plane < 2 → k < width → plane_bit plane xs k ≡ plane_bit plane ys k
@@ -133,6 +138,17 @@ one_block block k below =
     let none : k / 64 ≡ 0 = omega arith in
     let rest : k % 64 ≡ k = omega arith in
     (λ p. letter_in (block_at (block ∷ []) (none p)) (rest p))
+
+-- values with the same letters have the same planes
+pub same_planes : (a b : Inside) (v w : List Bit) → IsValue a → IsValue b → view_value a ≡ v → view_value b ≡ w → v ≡ w
+    → a ≡ b
+same_planes a b v w is_a is_b shows_a shows_b same =
+    sym (value_of-view_value a is_a) ∙ ap value_of (shows_a ∙ same ∙ sym shows_b) ∙ value_of-view_value b is_b
+
+first_two : (words : List ℕ) → 2 ≤ length words → take 2 words ≡ get_or words 0 0 ∷ get_or words 1 0 ∷ []
+first_two (low ∷ high ∷ words) long = refl
+first_two (low ∷ []) long = absurd (omega arith)
+first_two [] long = absurd (omega arith)
 
 -- the letters of a value, from its planes
 module _ (v : List Bit) (inside : Inside) (is : IsValue inside) (shows : view_value inside ≡ v) where
@@ -161,93 +177,62 @@ module _ (v : List Bit) (inside : Inside) (is : IsValue inside) (shows : view_va
   pub word_within : (plane k : ℕ) → plane < 2 → 64 * k < length v → 2 * k + plane < length inside.planes
   word_within plane k which within = omega (arith, length-shown, is.most, is.planes.sized)
 
-  -- a word of a plane holds the bits of its letters, and none past the value
-  pub word-shown : (plane k i : ℕ) → plane < 2 → 64 * k < length v → i < 64
-      → bit_at (get_or inside.planes (2 * k + plane) 0) i
-      ≡ (if nat_lt (64 * k + i) (length v) then bit_in plane (letter_at v (64 * k + i)) else 0)
-  unfolding plane_bit
-  word-shown plane k i which within below =
-      let index : 2 * ((64 * k + i) / 64) + plane ≡ 2 * k + plane = omega arith in
-      let rest : (64 * k + i) % 64 ≡ i = omega arith in
-      let here : plane_bit plane inside.planes (64 * k + i) ≡ bit_at (get_or inside.planes (2 * k + plane) 0) i =
-      (λ p. bit_at (get_or inside.planes (index p) 0) (rest p)) in
-      sym here ∙ elim (cases_lt (64 * k + i) (length v)) [
-        | inl in_value ↦ rw (lt-ltb (64 * k + i) (length v) in_value) (bit-shown plane (64 * k + i) which in_value)
-        | inr past ↦ rw (le-ltb (64 * k + i) (length v) past)
-            (is.planes.clear plane (64 * k + i) which (omega (arith, length-shown))
-            (omega (arith, length-shown, is.most)))
-      ]
-
   -- the letters of a block are those of the value, and 0 past it
   pub letter_in-shown : (k i : ℕ) → 64 * k < length v → i < 64
       → letter_of (bit_at (get_or inside.planes (2 * k + 0) 0) i) (bit_at (get_or inside.planes (2 * k + 1) 0) i)
       ≡ letter_or Zero v (64 * k + i)
-  letter_in-shown k i within below =
-      (λ p. letter_of (word-shown 0 k i (omega arith) within below p) (word-shown 1 k i (omega arith) within below p))
-      ∙ elim (nat_lt (64 * k + i) (length v)) as (λ b.
-      letter_of (if b then low_of (letter_at v (64 * k + i)) else 0)
-      (if b then high_of (letter_at v (64 * k + i)) else 0)
-      ≡ (if b then letter_at v (64 * k + i) else Zero)) [
-        | true ↦ letter_of-letter (letter_at v (64 * k + i))
-        | false ↦ refl
-      ]
-
-  -- the first words of a narrow value are those of a block that has its letters, cut at its width
-  pub first_word : (plane w mask : ℕ) → plane < 2 → 1 ≤ length v → length v ≤ 64 → mask ≡ 2 ^ min inside.width 64 - 1
-      → ((k : ℕ) → k < length v → bit_in plane (letter_at v k) ≡ bit_at w k)
-      → get_or inside.planes plane 0 ≡ bit_and w mask
-  first_word plane w mask which some narrow is_mask same = rw is_mask (
-      same_from_bits_below 64 _ _
-      (is.planes.small plane 0 (omega (arith, is.planes.sized, word_within plane 0 which (omega arith)))) small
-      (λ i below.
-      let index : plane ≡ 2 * 0 + plane = omega arith in
-      let bit : 64 * 0 + i ≡ i = omega arith in
-      ap (λ j. bit_at (get_or inside.planes j 0) i) index ∙ word-shown plane 0 i which (omega arith) below
-      ∙ ap (λ k. if nat_lt k (length v) then bit_in plane (letter_at v k) else 0) bit ∙ elim (cases_lt i (length v)) [
-        | inl in_value ↦ rw (lt-ltb i (length v) in_value) (same i in_value
-            ∙ sym (masked w inside.width i (omega (arith, length-shown)) below))
-        | inr past ↦ rw (le-ltb i (length v) past)
-            (sym (masked_above w inside.width i (omega (arith, length-shown)) below))
-      ]))
-    where
-      small : bit_and w (2 ^ min inside.width 64 - 1) < 2 ^ 64
-      small = omega (arith, mask_lt w (min inside.width 64), pow_mono {i = min inside.width 64} {j = 64} (omega arith))
-
-  -- such words give the letters
-  pub letters_by_first_words : (block : LetterBlock) (mask : ℕ) → length v ≤ 64 → mask ≡ 2 ^ min inside.width 64 - 1
-      → get_or inside.planes 0 0 ≡ bit_and block.low mask → get_or inside.planes 1 0 ≡ bit_and block.high mask
-      → letters_of (length v) (block ∷ []) ≡ v
   unfolding plane_bit
-  letters_by_first_words block mask narrow is_mask first second =
-      same_letter_at _ v (length-letters_of (length v) (block ∷ [])) (λ k below.
-      let within : k < length v = omega (arith, length-letters_of (length v) (block ∷ [])) in
-      letter_at-letters_of (length v) (block ∷ []) k within ∙ one_block block k (omega arith)
-      ∙ (λ p. letter_of (bit 0 block.low k within first p) (bit 1 block.high k within second p))
-      ∙ sym (letter_at-shown k within))
+  letter_in-shown k i within below =
+      let index : (64 * k + i) / 64 ≡ k = omega arith in
+      let rest : (64 * k + i) % 64 ≡ i = omega arith in
+      (λ p. letter_of (bit_at (get_or inside.planes (2 * sym index p + 0) 0) (sym rest p))
+      (bit_at (get_or inside.planes (2 * sym index p + 1) 0) (sym rest p))) ∙ elim (cases_lt (64 * k + i) (length v)) [
+        | inl in_value ↦ rw (lt-ltb (64 * k + i) (length v) in_value) (sym (letter_at-shown (64 * k + i) in_value))
+        | inr past ↦ rw (le-ltb (64 * k + i) (length v) past) (λ p. letter_of (clear 0 (omega arith) past p)
+            (clear 1 (omega arith) past p))
+      ]
     where
-      bit : (plane w k : ℕ) → k < length v → get_or inside.planes plane 0 ≡ bit_and w mask
-          → bit_at w k ≡ plane_bit plane inside.planes k
-      bit plane w k below block =
-          let none : 2 * (k / 64) + plane ≡ plane = omega arith in
-          let rest : k % 64 ≡ k = omega arith in
-          sym ((λ p. bit_at (get_or inside.planes (none p) 0) (rest p))
-          ∙ ap (λ x. bit_at x k) (block ∙ ap (bit_and w) is_mask)
-          ∙ masked w inside.width k (omega (arith, length-shown)) (omega arith))
+      clear : (plane : ℕ) → plane < 2 → length v ≤ 64 * k + i → plane_bit plane inside.planes (64 * k + i) ≡ 0
+      clear plane which past = is.planes.clear plane (64 * k + i) which (omega (arith, length-shown))
+          (omega (arith, length-shown, is.most))
 
-  -- so the comparison of the words decides whether the letters are the same
+  -- a narrow value has the letters of a block where its first words are those of the block, cut at its width
   pub first_words-Decides : (block : LetterBlock) (mask : ℕ) → length v ≤ 64 → mask ≡ 2 ^ min inside.width 64 - 1
       → (get_or inside.planes 0 0 ≡ bit_and block.low mask)
       × (get_or inside.planes 1 0 ≡ bit_and block.high mask) ↔ (letters_of (length v) (block ∷ []) ≡ v)
-  first_words-Decides block mask narrow is_mask = (
-    (λ (first, second). letters_by_first_words block mask narrow is_mask first second),
-    (λ same.
-        let some : 1 ≤ length v = omega (arith, length-shown, is.least) in
-        let letter : (k : ℕ) → k < length v → letter_at v k ≡ letter_in block k =
-        λ k within. ap (λ l. letter_at l k) (sym same)
-        ∙ letter_at-letters_of (length v) (block ∷ []) k within ∙ one_block block k (omega arith) in (
-          first_word 0 block.low mask (omega arith) some narrow is_mask (λ k within. ap low_of (letter k within)
-              ∙ low_of-letter_of _ _ (bit_at-lt _ _)),
-          first_word 1 block.high mask (omega arith) some narrow is_mask (λ k within. ap high_of (letter k within)
-              ∙ high_of-letter_of _ _ (bit_at-lt _ _)),
-        )),
-  )
+  unfolding view_value
+  first_words-Decides block mask narrow is_mask =
+      let zeros : List ℕ = replicate (2 * BLOCKS) 0 in
+      let low : ℕ = bit_and block.low mask in
+      let high : ℕ = bit_and block.high mask in
+      let words : List ℕ = both_set zeros 0 low high in
+      let made : Inside = record { width = inside.width; planes = words } in
+      let holds = block_held BLOCKS inside.width mask block (omega arith) is_mask in
+      let letters : view_value made ≡ letters_of (length v) (block ∷ []) =
+      letters_in-blocks BLOCKS inside.width 1 words (block ∷ []) holds (omega (arith, length-shown))
+      ∙ ap (λ n. letters_of n (block ∷ [])) (sym length-shown) in
+      let is_made : IsValue made = record {
+        least = is.least;
+        most = is.most;
+        planes = record {
+          sized = refl;
+          small = All-set (λ w. w < 2 ^ 64) (set zeros 0 low) 1 high (small block.high)
+              (All-set (λ w. w < 2 ^ 64) zeros 0 low (small block.low)
+              (All-replicate (λ w. w < 2 ^ 64) (2 * BLOCKS) 0 (omega arith)));
+          clear = holds.clear;
+        };
+      } in (
+        (λ (first, second). sym letters ∙ same_words inside.width 1 words inside.planes (omega (arith, length-shown))
+            ((λ p. sym first p ∷ sym second p ∷ []) ∙ sym (first_two inside.planes (omega (arith, is.planes.sized))))
+            ∙ shows),
+        (λ same.
+            let planes : inside ≡ made = sym (same_planes made inside _ v is_made is letters shows same) in
+            (ap (λ (w : Inside). get_or w.planes 0 0) planes, ap (λ (w : Inside). get_or w.planes 1 0) planes)),
+      )
+    where
+      small : (w : ℕ) → bit_and w mask < 2 ^ 64
+      small w = rw is_mask (omega (
+        arith,
+        mask_lt w (min inside.width 64),
+        pow_mono {i = min inside.width 64} {j = 64} (omega arith),
+      ))

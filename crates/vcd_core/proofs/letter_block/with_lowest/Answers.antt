@@ -25,17 +25,13 @@ later_bit a b i small inside =
     ∙ ap (bit_at a) index in
     bit_at_or _ b (i + 1) ∙ (λ p. max (moved p) (none p)) ∙ omega arith
 
-bit_is : (set : Bool) (b : ℕ) → b ≡ bool_byte set → b ≡ (if set then 1 else 0)
-bit_is true b is = is
-bit_is false b is = is
-
-bit_is_small : (set : Bool) (b : ℕ) → b ≡ bool_byte set → b < 2
-bit_is_small true b is = omega (arith, is)
-bit_is_small false b is = omega (arith, is)
+bit_is : (set : Bool) (b : ℕ) → b ≡ bool_byte set → (b ≡ (if set then 1 else 0)) × (b < 2)
+bit_is true b is = (is, omega (arith, is))
+bit_is false b is = (is, omega (arith, is))
 
 pub returns-clause-lowest : goal.returns-clause-lowest
-returns-clause-lowest c = first_bit c.args.word c.from.result (bit_is_small _ _ c.from.ensures)
-    ∙ bit_is _ _ c.from.ensures
+returns-clause-lowest c =
+    let bit = bit_is _ _ c.from.ensures in first_bit c.args.word c.from.result bit.1 ∙ bit.0
 
 pub returns-clause-rest : goal.returns-clause-rest
-returns-clause-rest c = λ i inside. later_bit c.args.word c.from.result i (bit_is_small _ _ c.from.ensures) inside
+returns-clause-rest c = λ i inside. later_bit c.args.word c.from.result i (bit_is _ _ c.from.ensures).1 inside

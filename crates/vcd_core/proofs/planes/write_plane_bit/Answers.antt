@@ -2,7 +2,7 @@ use Rattle.std.proofs.Common.{◌∙◌, ◌%◌, arith, refl}
 use Rattle.std.proofs.lemmas.Nat.Bits.{bit_at_set_same, bit_at_set_other, bit_at_clear_same}
 use Rattle.std.proofs.lemmas.Nat.Bits.{bit_at_clear_other}
 use Rattle.std.specs.Int.{w64}
-use Rattle.vcd_core.proofs.planes.WrittenBits.{plane_bit-set_same, plane_bit-write, plane_bit-other_plane}
+use Rattle.vcd_core.proofs.planes.WrittenBits.{plane_bit-set_same, plane_bit-write}
 use Rattle.vcd_core.proofs.planes.write_plane_bit.Goals as goal
 
 pub returns-then-set-clause-at : goal.returns-then-set-clause-at
@@ -12,12 +12,8 @@ returns-then-set-clause-at c =
 
 pub returns-then-set-clause-others : goal.returns-then-set-clause-others
 returns-then-set-clause-others c =
-    plane_bit-write _ c.args.plane c.args.k _ c.requires.within
+    plane_bit-write _ c.args.plane c.args.k _ c.requires.plane c.requires.within
     (λ i low apart. bit_at_set_other w64 _ (c.args.k % 64) (omega arith) i apart)
-
-pub returns-then-set-clause-other_plane : goal.returns-then-set-clause-other_plane
-returns-then-set-clause-other_plane c =
-    λ other i which differ. plane_bit-other_plane _ c.args.plane other c.args.k _ i c.requires.plane which differ
 
 pub returns-else-set-clause-at : goal.returns-else-set-clause-at
 returns-else-set-clause-at c =
@@ -26,9 +22,5 @@ returns-else-set-clause-at c =
 
 pub returns-else-set-clause-others : goal.returns-else-set-clause-others
 returns-else-set-clause-others c =
-    plane_bit-write _ c.args.plane c.args.k _ c.requires.within
+    plane_bit-write _ c.args.plane c.args.k _ c.requires.plane c.requires.within
     (λ i low apart. bit_at_clear_other w64 _ (c.args.k % 64) (omega arith) i low apart)
-
-pub returns-else-set-clause-other_plane : goal.returns-else-set-clause-other_plane
-returns-else-set-clause-other_plane c =
-    λ other i which differ. plane_bit-other_plane _ c.args.plane other c.args.k _ i c.requires.plane which differ

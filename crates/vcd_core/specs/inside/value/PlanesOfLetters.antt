@@ -1,14 +1,15 @@
 -- The planes of the letters of a value are the value: its model needs this to restore its fields.
 use Rattle.std.proofs.Common.{◌≡◌, ℕ, zero, suc, ◌+◌, ◌-◌, ◌*◌, ◌/◌, ◌%◌, ◌^◌, ◌<◌, ◌≤◌, nat_lt}
-use Rattle.std.proofs.Common.{true, false}
-use Rattle.std.proofs.Common.{if◌then◌else◌, List, length, get_or, refl, sym, ap, pow-suc, ◌∙◌}
+use Rattle.std.proofs.Common.{List, length, map, get_or, refl, sym, ap, pow-suc}
+use Rattle.std.proofs.Common.{◌∙◌}
+use Rattle.std.specs.List.{range_with_len}
 use Rattle.std.proofs.Common.{arith, inl, inr}
 use Rattle.std.specs.Int.{bit_at}
 use Rattle.std.proofs.lemmas.Nat.Bits.{bit_at-lt, bit_at_cat_low, bit_at_cat_high}
 use Rattle.std.proofs.lemmas.Nat.Bits.{same_from_bits_below, bit_at_lowest}
 use Rattle.std.proofs.lemmas.List.FromFn.{get_or-map-range_with_len, length-map-range_with_len}
 use Rattle.std.proofs.lemmas.Grind.{same_number_lists}
-use Rattle.std.proofs.lemmas.Bool.{cases_lt, lt-ltb, le-ltb}
+use Rattle.std.proofs.lemmas.Bool.{cases_lt, lt-ltb, le-ltb, cond_both}
 use Rattle.vcd_core.specs.declared.bit.Bit.{Bit}
 use Rattle.vcd_core.specs.declared.bit.Bit.TheVariants.{Zero, One, X, Z}
 use Rattle.vcd_core.specs.declared.value.TheConstants.{BLOCKS}
@@ -92,19 +93,25 @@ pub length-letters_in : (width : ℕ) (words : List ℕ) → length (letters_in 
 unfolding letters_in
 length-letters_in width words = length-map-range_with_len _ 0 width
 
+-- the letter at bit k, where a function of the bit gives the letters
+pub letter_at-by_bit : (f : ℕ → Bit) (width k : ℕ) → k < width
+    → letter_at (map (λ i. f (width - 1 - i)) (range_with_len 0 width)) k ≡ f k
+letter_at-by_bit f width k within =
+    let letters = map (λ i. f (width - 1 - i)) (range_with_len 0 width) in
+    let index : length letters - 1 - k ≡ width - 1 - k =
+    ap (λ n. n - 1 - k) (length-map-range_with_len _ 0 width) in
+    let back : width - 1 - (width - 1 - k) ≡ k = omega arith in
+    ap (λ i. get_or letters i X) index
+    ∙ get_or-map-range_with_len (λ i. f (width - 1 - i)) 0 width (width - 1 - k) (width - 1 - k) X
+    (omega arith) (omega arith)
+    ∙ ap f back
+
 -- the letter at bit k is that of the bits k of the planes
 pub letter_at-letters_in : (width : ℕ) (words : List ℕ) (k : ℕ) → k < width
     → letter_at (letters_in width words) k ≡ letter_of (plane_bit 0 words k) (plane_bit 1 words k)
 unfolding letters_in
 letter_at-letters_in width words k within =
-    let index : length (letters_in width words) - 1 - k ≡ width - 1 - k =
-    ap (λ n. n - 1 - k) (length-letters_in width words) in
-    let back : width - 1 - (width - 1 - k) ≡ k = omega arith in
-    ap (λ i. get_or (letters_in width words) i X) index
-    ∙ get_or-map-range_with_len
-    (λ i. letter_of (plane_bit 0 words (width - 1 - i)) (plane_bit 1 words (width - 1 - i)))
-    0 width (width - 1 - k) (width - 1 - k) X (omega arith) (omega arith)
-    ∙ ap (λ i. letter_of (plane_bit 0 words i) (plane_bit 1 words i)) back
+    letter_at-by_bit (λ k. letter_of (plane_bit 0 words k) (plane_bit 1 words k)) width k within
 
 -- the planes are the bits of the letters
 planes_are : (n width : ℕ) (words : List ℕ) (v : List Bit) → ArePlanes n width words
@@ -132,11 +139,7 @@ planes_are n width words v planes long same =
   where
     bit_below-lt : (plane k : ℕ) → bit_below plane v k < 2
     bit_below-lt plane k =
-        elim (nat_lt k (length v)) as (λ b. (if b then bit_in plane (letter_at v k) else 0) < 2) [
-          | true ↦
-              bit_in-lt plane _
-          | false ↦ omega arith
-        ]
+        cond_both (nat_lt k (length v)) _ _ (λ b. b < 2) (λ _. bit_in-lt plane _) (λ _. omega arith)
 
     at_bit : (plane k : ℕ) → plane < 2 → k < 64 * n → bit_below plane v k ≡ plane_bit plane words k
     at_bit plane k which inside = elim (cases_lt k (length v)) [

@@ -1,4 +1,4 @@
-use Rattle.std.proofs.Common.{sym, ◌∙◌, ap, arith, ◌≡◌, ◌<◌, ◌-◌, ℕ, List, length, inl, inr}
+use Rattle.std.proofs.Common.{sym, ◌∙◌, ap, arith, ◌≡◌, ◌≢◌, ◌<◌, ◌-◌, ℕ, List, length, inl, inr}
 use Rattle.std.proofs.Math.ListN.{set}
 use Rattle.std.proofs.lemmas.List.{length-set}
 use Rattle.std.proofs.lemmas.Bool.{cases_eq}
@@ -36,8 +36,7 @@ write_plane_bit-requires-2-clause-within c =
 
 pub invariant_of-result : goal.invariant_of-result
 invariant_of-result c =
-    let inside : c.args.k < c.self.inside.width =
-    omega (arith, c.requires, length-shown _ _ c.self.invariant c.self.view_is) in
+    let within = length-shown _ _ c.self.invariant c.self.view_is in
     let first = c.write_plane_bit.ensures in
     let second = c.write_plane_bit-2.ensures in
     record {
@@ -46,15 +45,10 @@ invariant_of-result c =
       planes = record {
         sized = second.sized ∙ first.sized ∙ c.self.invariant.planes.sized;
         small = c.words_fit.ensures;
-        clear = λ plane i which out below. elim (cases_eq plane 0) [
-          | inl low ↦ second.other_plane plane i which (omega arith)
-              ∙ ap (λ p. plane_bit p c.write_plane_bit.new.words i) low
-              ∙ first.others i (omega arith) ∙ c.self.invariant.planes.clear 0 i (omega arith) out below
-          | inr high ↦ let one : plane ≡ 1 = omega arith in
-              ap (λ p. plane_bit p c.write_plane_bit-2.new.words i) one ∙ second.others i (omega arith)
-              ∙ first.other_plane 1 i (omega arith) (omega arith)
-              ∙ c.self.invariant.planes.clear 1 i (omega arith) out below
-        ];
+        clear = λ plane i which out below.
+            let apart : i ≢ c.args.k = omega (arith, c.requires, within) in
+            second.others plane i which (λ _. apart) ∙ first.others plane i which (λ _. apart)
+            ∙ c.self.invariant.planes.clear plane i which out below;
       };
     }
 
@@ -66,10 +60,11 @@ returns c =
     let shown = bit-shown v _ c.self.invariant c.self.view_is in
     let first = c.write_plane_bit.ensures in
     let second = c.write_plane_bit-2.ensures in
+    let others = λ (plane : ℕ) (which : plane < 2) (i : ℕ) (apart : i ≡ c.args.k → ⊥).
+    second.others plane i which (λ _. apart) ∙ first.others plane i which (λ _. apart) in
     letters_in-shown (set v (length v - 1 - c.args.k) c.args.bit) _ _ (sym (length-set v _ _ ∙ long))
-    (λ i within. second.other_plane 0 i (omega arith) (omega arith)
-    ∙ plane_written 0 low_of v c.args.k c.args.bit _ _ _ c.requires c.has_low_bit.ensures first.at first.others
+    (λ i within. plane_written 0 low_of v c.args.k c.args.bit _ _ _ c.requires c.has_low_bit.ensures
+    (second.others 0 c.args.k (omega arith) (λ e. absurd (omega arith)) ∙ first.at) (others 0 (omega arith))
     (λ i below. shown 0 i (omega arith) below) i (omega (arith, long)))
     (λ i within. plane_written 1 high_of v c.args.k c.args.bit _ _ _ c.requires c.has_high_bit.ensures second.at
-    (λ i apart. second.others i apart ∙ first.other_plane 1 i (omega arith) (omega arith))
-    (λ i below. shown 1 i (omega arith) below) i (omega (arith, long)))
+    (others 1 (omega arith)) (λ i below. shown 1 i (omega arith) below) i (omega (arith, long)))

@@ -4,17 +4,10 @@ use Rattle.std.proofs.lemmas.Bool.Decides.{Decides-eqb}
 use Rattle.std.proofs.lemmas.Slice.Eq.{slice_eq-Decides}
 use Rattle.vcd_core.specs.declared.bit.Bit.{Bit}
 use Rattle.vcd_core.specs.declared.value.Value.TheInside.{Inside}
-use Rattle.vcd_core.specs.inside.Planes.{view_value, value_of, letters_in, IsValue}
-use Rattle.vcd_core.specs.inside.value.PlanesOfLetters.{value_of-view_value}
+use Rattle.vcd_core.specs.inside.Planes.{view_value, letters_in}
 use Rattle.vcd_core.specs.inside.value.EqualByLetters.{same_letters-Decides}
-use Rattle.vcd_core.proofs.shared.LettersOfPlanes.{same_words}
+use Rattle.vcd_core.proofs.shared.LettersOfPlanes.{same_words, same_planes}
 use Rattle.vcd_core.proofs.value.ValuePartialEq.eq.Goals as goal
-
--- values with the same letters have the same planes
-same_planes : (a b : Inside) (v w : List Bit) → IsValue a → IsValue b → view_value a ≡ v → view_value b ≡ w → v ≡ w
-    → a ≡ b
-same_planes a b v w is_a is_b shows_a shows_b same =
-    sym (value_of-view_value a is_a) ∙ ap value_of (shows_a ∙ same ∙ sym shows_b) ∙ value_of-view_value b is_b
 
 -- values of one width with the same words in use have the same letters
 same_view : (a b : Inside) (v w : List Bit) (m : ℕ) → view_value a ≡ v → view_value b ≡ w → a.width ≤ 64 * m
