@@ -5,3 +5,4 @@ pub mod Splices
 pub mod WaveAfterChange
 pub mod LettersOfPlanes
 pub mod FullNames
+pub mod TicksInARow

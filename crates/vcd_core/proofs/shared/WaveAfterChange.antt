@@ -1,9 +1,8 @@
 -- A wave at a tick, and after its next change.
-use Rattle.std.proofs.Common.{◌≡◌, ◌≢◌, ℕ, zero, suc, ◌+◌, ◌<◌, ◌≤◌, ◌==◌, Bool, true, false, not}
-use Rattle.std.proofs.Common.{if◌then◌else◌}
-use Rattle.std.proofs.Common.{Option, Some, None, List, [], ◌∷◌, refl, sym, ap, subst, ◌∙◌, arith}
+use Rattle.std.proofs.Common.{◌≡◌, ◌≢◌, ℕ, zero, suc, ◌+◌, ◌<◌, ◌≤◌, ◌==◌, true, false, not}
+use Rattle.std.proofs.Common.{Option, Some, None, List, [], ◌∷◌, refl, ap, subst, ◌∙◌, arith}
 use Rattle.std.proofs.Common.{add-one}
-use Rattle.std.proofs.lemmas.Bool.Decides.{Decides-eqb}
+use Rattle.std.proofs.lemmas.Bool.{cond_both, eqb-true, eqb-false, false_from_ne_true}
 use Rattle.std.proofs.lemmas.Option.{same_Some}
 use Rattle.vcd_core.specs.declared.bit.Bit.{Bit}
 use Rattle.vcd_core.specs.declared.wave.Change.{Change}
@@ -27,11 +26,7 @@ same_value-refl (Some v) = (same_letters-Decides v v).1 refl
 
 -- different values have different letters
 other_letters : (v w : List Bit) → v ≢ w → same_letters v w ≡ false
-other_letters v w other = choose (same_letters v w) refl
-  where
-    choose : (b : Bool) → same_letters v w ≡ b → same_letters v w ≡ false
-    choose false e = e
-    choose true e = absurd (other ((same_letters-Decides v w).0 e))
+other_letters v w other = false_from_ne_true _ (λ e. other ((same_letters-Decides v w).0 e))
 
 -- before its first change a wave has the value before it
 pub quiet_value : (before : Option (List Bit)) (changes : List Change) (floor t : ℕ) → Rises floor (line before changes)
@@ -59,15 +54,9 @@ pub after_agrees : (before : Option (List Bit)) (changes : List Change) (t u : �
     → t ≤ u → value_on (line before changes) u ≡ value_on (trace_past t before changes) u
 after_agrees before [] t u rises later = refl
 after_agrees None (c ∷ cs) t u rises later = absurd (cc)
-after_agrees (Some v) (c ∷ cs) t u rises later = choose (c.tick == t) refl
-  where
-    choose : (b : Bool) → (c.tick == t) ≡ b
-        → value_on (line (Some v) (c ∷ cs)) u ≡ value_on (if b then line (Some c.value) cs else line (Some v) (c ∷ cs))
-        u
-    choose false e = refl
-    choose true e =
-        let here : c.tick ≡ t = (Decides-eqb c.tick t).0 e in
-        ap (λ (w : List Bit). Some w) (value_past v c cs u (omega arith))
+after_agrees (Some v) (c ∷ cs) t u rises later =
+    cond_both (c.tick == t) _ _ (λ l. value_on (line (Some v) (c ∷ cs)) u ≡ value_on l u)
+    (λ e. ap (λ (w : List Bit). Some w) (value_past v c cs u (omega (arith, eqb-true c.tick t e)))) (λ _. refl)
 
 -- and its changes rise from the next tick on
 pub after_rises : (before : Option (List Bit)) (changes : List Change) (t : ℕ) → Rises t (line before changes)
@@ -75,17 +64,10 @@ pub after_rises : (before : Option (List Bit)) (changes : List Change) (t : ℕ)
 after_rises None [] t rises = refl
 after_rises (Some v) [] t rises = tt
 after_rises None (c ∷ cs) t rises = absurd (cc)
-after_rises (Some v) (c ∷ cs) t (from, other, wide, rest) = choose (c.tick == t) refl
-  where
-    choose : (b : Bool) → (c.tick == t) ≡ b
-        → Rises (suc t) (if b then line (Some c.value) cs else line (Some v) (c ∷ cs))
-    choose true e =
-        let here : c.tick ≡ t = (Decides-eqb c.tick t).0 e in
-        subst (λ u. AreChangesFrom u c.value cs) (add-one c.tick ∙ ap suc here) rest
-    choose false e =
-        let apart : c.tick ≢ t = λ here. let both : true ≡ false = sym ((Decides-eqb c.tick t).1 here) ∙ e in
-        absurd (cc) in
-        (omega arith, other, wide, rest)
+after_rises (Some v) (c ∷ cs) t (from, other, wide, rest) =
+    cond_both (c.tick == t) _ _ (Rises (suc t))
+    (λ e. subst (λ u. AreChangesFrom u c.value cs) (add-one c.tick ∙ ap suc (eqb-true c.tick t e)) rest)
+    (λ e. let apart : c.tick ≢ t = eqb-false c.tick t e in (omega arith, other, wide, rest))
 
 -- a wave changes at the tick of its next change
 pub changes_there : (before : Option (List Bit)) (changes : List Change) (t : ℕ) → Rises t (line before changes)

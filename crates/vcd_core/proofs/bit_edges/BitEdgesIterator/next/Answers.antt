@@ -1,7 +1,7 @@
 use Rattle.std.proofs.Common.{length, map, sym, ap, ◌∙◌, arith}
 use Rattle.vcd_core.specs.BitEdges.{bit_edge}
 use Rattle.vcd_core.specs.inside.EdgeWalk.{traces_left}
-use Rattle.vcd_core.proofs.edges.EdgesInTurn.{walk_over, bit_walk_next, walk_kept}
+use Rattle.vcd_core.proofs.edges.EdgesInTurn.{walk_over, walk_next, walk_kept}
 use Rattle.vcd_core.proofs.bit_edges.BitEdgesIterator.next.Goals as goal
 
 pub returns-in_err-tick-clause-steps : goal.returns-in_err-tick-clause-steps
@@ -19,15 +19,12 @@ invariant_of-self c = (
 
 pub returns-clause-steps : goal.returns-clause-steps
 returns-clause-steps c =
-    sym c.self.view_is
-    ∙ bit_walk_next (traces_left c.self.inside.walk) _ _ _ _ c.self.invariant.0
-    (sym c.in_ok-tick.ensures) c.after-self-inside.ensures
-    c.self.invariant.1 c.bits-at.ensures
+    cc (ap (map bit_edge) (walk_next (traces_left c.self.inside.walk) _ _ c.self.invariant.0 (sym c.in_ok-tick.ensures)
+    c.after-self-inside.ensures))
 
 pub returns-clause-goes : goal.returns-clause-goes
 returns-clause-goes c =
-    let first = bit_walk_next (traces_left c.self.inside.walk) _ _ _ _ c.self.invariant.0
-    (sym c.in_ok-tick.ensures) c.after-self-inside.ensures
-    c.self.invariant.1 c.bits-at.ensures in
+    let first = ap (map bit_edge) (walk_next (traces_left c.self.inside.walk) _ _ c.self.invariant.0 (sym c.in_ok-tick.ensures)
+    c.after-self-inside.ensures) in
     let shorter = ap length (sym c.self.view_is ∙ first) in
     record { on = λ finite. (tt, finite, omega arith); keeps = tt; rests = λ _. tt }

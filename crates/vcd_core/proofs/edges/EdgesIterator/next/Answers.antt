@@ -15,15 +15,12 @@ invariant_of-self c = walk_kept (traces_left c.self.inside.walk) _ _ c.self.inva
 
 pub returns-clause-steps : goal.returns-clause-steps
 returns-clause-steps c =
-    sym c.self.view_is
-    ∙ walk_next (traces_left c.self.inside.walk) _ _ _ _ c.self.invariant (sym c.in_ok-tick.ensures)
-    c.after-self-inside.ensures
-    c.values-before.ensures c.values-at.ensures
+    cc (walk_next (traces_left c.self.inside.walk) _ _ c.self.invariant (sym c.in_ok-tick.ensures)
+    c.after-self-inside.ensures)
 
 pub returns-clause-goes : goal.returns-clause-goes
 returns-clause-goes c =
-    let first = walk_next (traces_left c.self.inside.walk) _ _ _ _ c.self.invariant
-    (sym c.in_ok-tick.ensures) c.after-self-inside.ensures
-    c.values-before.ensures c.values-at.ensures in
+    let first = walk_next (traces_left c.self.inside.walk) _ _ c.self.invariant (sym c.in_ok-tick.ensures)
+    c.after-self-inside.ensures in
     let shorter = ap length (sym c.self.view_is ∙ first) in
     record { on = λ finite. (tt, finite, omega arith); keeps = tt; rests = λ _. tt }
