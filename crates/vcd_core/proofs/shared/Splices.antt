@@ -5,10 +5,11 @@ use Rattle.std.proofs.Common.{length, take, drop, map, slice_range, Option, Some
 use Rattle.std.proofs.Common.{is_some, true, subst}
 use Rattle.std.proofs.Common.{refl, sym, ap, ◌∙◌, arith}
 use Rattle.std.specs.Int.{w64, FitsUnsigned}
-use Rattle.std.proofs.Math.Seq.{take-add, take-append_seam}
-use Rattle.std.proofs.lemmas.List.{append_assoc, append-nil, length-append, length-drop}
+use Rattle.std.proofs.Math.Seq.{take-add}
+use Rattle.std.proofs.lemmas.List.{append_assoc, append-nil, length-append, length-drop, length-take}
+use Rattle.std.proofs.lemmas.List.{take_at, drop_at}
 use Rattle.std.proofs.lemmas.List.{length-take-le, take_all}
-use Rattle.std.proofs.lemmas.List.{drop_all, take-append-le, drop-append-le, take-append-drop}
+use Rattle.std.proofs.lemmas.List.{drop_all, take-append-le, take-append-drop}
 use Rattle.std.proofs.lemmas.List.{drop-drop}
 use Rattle.std.proofs.lemmas.List.Elements.{All-head, All-tail, All-map, All-drop}
 use Rattle.std.proofs.lemmas.List.Folds.{drop_split}
@@ -23,18 +24,11 @@ use Rattle.vcd_core.specs.Splice.{moved_change, TickFits, AllTicksFit, spliced_c
 module _ (xs piece list : List Change) (from to n : ℕ) (some : n ≤ length piece) (ordered : from + n ≤ to)
     (within : to ≤ length xs) (is : list ≡ take from xs ++ take n piece ++ drop (from + n) xs) where
   prefix_long : length (take from xs ++ take n piece) ≡ from + n
-  prefix_long = omega (
-    arith,
-    length-append (take from xs) (take n piece),
-    length-take-le from xs (omega arith),
-    length-take-le n piece (omega arith),
-  )
+  prefix_long = omega (arith, length-append {A = Change}, length-take {A = Change})
 
   prefix_is_swapped : take (from + n) list ≡ take from xs ++ take n piece
-  prefix_is_swapped =
-      let prefix = take from xs ++ take n piece in
-      ap (take (from + n)) is ∙ take-append-le (from + n) prefix (drop (from + n) xs) (omega (arith, prefix_long))
-      ∙ take_all (from + n) prefix (omega (arith, prefix_long))
+  prefix_is_swapped = ap (take (from + n)) is
+      ∙ take_at (take from xs ++ take n piece) (drop (from + n) xs) (from + n) prefix_long
 
   later_stay : drop to list ≡ drop to xs
   later_stay = ap (drop to) is ∙ drop-append-drop (from + n) xs (take from xs ++ take n piece) to ordered prefix_long
@@ -58,8 +52,7 @@ module _ (xs piece list : List Change) (from to n : ℕ) (some : n ≤ length pi
         let none : take n (drop from xs) ++ drop n piece ≡ take n (drop from xs) =
         ap (λ l. take n (drop from xs) ++ l) (drop_all n piece (omega arith)) ∙ append-nil (take n (drop from xs)) in
         let later : drop (from + n) list ≡ drop n (drop from xs) =
-        ap (drop (from + n)) is
-        ∙ drop-append-drop (from + n) xs (take from xs ++ take n piece) (from + n) (omega arith) prefix_long
+        ap (drop (from + n)) is ∙ drop_at (take from xs ++ take n piece) (drop (from + n) xs) (from + n) prefix_long
         ∙ sym (drop-drop n from xs) in
         (λ i. none i ++ take (to - (from + n)) (later i))
         ∙ sym (take-add n (to - (from + n)) (drop from xs))
@@ -77,8 +70,7 @@ module _ (xs piece list : List Change) (from to n : ℕ) (some : n ≤ length pi
       let part : length (take n (drop from xs)) ≡ n =
       length-take-le n (drop from xs) (omega (arith, length-drop from xs)) in
       let rest : drop n held ≡ drop n piece =
-      ap (drop n) holds ∙ drop-append-le n (take n (drop from xs)) (drop n piece) (omega (arith, part))
-      ∙ ap (λ l. l ++ drop n piece) (drop_all n (take n (drop from xs)) (omega (arith, part))) in
+      ap (drop n) holds ∙ drop_at (take n (drop from xs)) (drop n piece) n part in
       moves ∙ (λ i. first i ++ rest i ++ map (moved_change (same i)) (later_stay i))
       ∙ ap (λ l. l ++ later) (append_assoc (take from xs) (take n piece) (drop n piece)
       ∙ ap (λ l. take from xs ++ l) (take-append-drop n piece))
@@ -159,32 +151,21 @@ module _ (cs piece : List Change) (from to : ℕ) (by back : ℤ) (ordered : fro
   pub later_of-spliced : drop (from + length piece) (spliced_changes cs from to piece by)
       ≡ map (moved_change by) (drop to cs)
   unfolding spliced_changes
-  later_of-spliced =
-      drop-append-le (from + length piece) (take from cs ++ piece) (map (moved_change by) (drop to cs))
-      (omega (arith, both_are))
-      ∙ ap (λ l. l ++ map (moved_change by) (drop to cs))
-      (drop_all (from + length piece) (take from cs ++ piece) (omega (arith, both_are)))
+  later_of-spliced = drop_at (take from cs ++ piece) _ (from + length piece) both_are
 
   -- the first changes of a splice
   first_of-spliced : take from (spliced_changes cs from to piece by) ≡ take from cs
   unfolding spliced_changes
   first_of-spliced =
-      take-append-le from (take from cs ++ piece) (map (moved_change by) (drop to cs)) (omega (arith, both_are))
-      ∙ take-append-le from (take from cs) piece (omega (arith, prefix_is))
-      ∙ take_all from (take from cs) (omega (arith, prefix_is))
+      ap (take from) (append_assoc (take from cs) piece _) ∙ take_at (take from cs) _ from prefix_is
 
   -- the piece within a splice
   pub piece_of-spliced : slice_range (spliced_changes cs from to piece by) from (from + length piece) ≡ piece
   unfolding spliced_changes
   piece_of-spliced =
-      let rest = map (moved_change by) (drop to cs) in
-      let tail : drop from (take from cs ++ piece ++ rest) ≡ piece ++ rest =
-      ap (drop from) (append_assoc (take from cs) piece rest)
-      ∙ drop-append-le from (take from cs) (piece ++ rest) (omega (arith, prefix_is))
-      ∙ ap (λ l. l ++ (piece ++ rest)) (drop_all from (take from cs) (omega (arith, prefix_is))) in
-      ap (take (from + length piece - from)) tail
-      ∙ ap (λ k. take k (piece ++ rest)) {x = from + length piece - from} {y = length piece} (omega arith)
-      ∙ take-append_seam piece rest
+      ap (λ l. take (from + length piece - from) (drop from l)) (append_assoc (take from cs) piece _)
+      ∙ ap (take (from + length piece - from)) (drop_at (take from cs) _ from prefix_is)
+      ∙ take_at piece _ (from + length piece - from) (omega arith)
 
   -- the splice of the replaced changes, with the opposite offset
   pub spliced_back : AllTicksFit by (drop to cs) → by +ℤ back ≡ pos 0

@@ -3,14 +3,16 @@ use Rattle.std.proofs.Common.{◌≡◌, ℕ, ◌+◌, ◌-◌, ◌<◌, ◌≤�
 use Rattle.std.proofs.Common.{drop, map, get_or}
 use Rattle.std.proofs.Common.{subst, sym, ap, ◌∙◌, arith}
 use Rattle.std.proofs.Math.ListN.{set}
-use Rattle.std.proofs.Math.Seq.{set-append_seam, take-append_seam, drop-append_seam}
-use Rattle.std.proofs.lemmas.List.{append_assoc, append-nil, length-append, length-take-le}
+use Rattle.std.proofs.Math.Seq.{set-append_seam}
+use Rattle.std.proofs.lemmas.List.{append_assoc, length-append, length-take-le}
 use Rattle.std.proofs.lemmas.List.{length-drop, take-append-le}
-use Rattle.std.proofs.lemmas.List.{take-append-drop, length-map, get_or-take, get_or-drop}
+use Rattle.std.proofs.lemmas.List.{length-map, get_or-take, get_or-drop}
 use Rattle.std.proofs.lemmas.List.{get_or_append_left}
-use Rattle.std.proofs.lemmas.List.{get_or-append_right, take_all, drop_all, take-take}
-use Rattle.std.proofs.lemmas.List.{get_or_default, take_more}
-use Rattle.std.proofs.lemmas.List.{map-append, drop_more}
+use Rattle.std.proofs.lemmas.List.{get_or-append_right, take-take}
+use Rattle.std.proofs.lemmas.List.{get_or_default, take_more, take_at, drop_at, length-take}
+use Rattle.std.proofs.lemmas.List.{drop_more, get_or-map}
+use Rattle.std.proofs.lemmas.List.Edits.{paste_more}
+use lib.Seq.{paste}
 use Rattle.vcd_core.specs.declared.wave.Change.{Change}
 use Rattle.vcd_core.specs.Splice.{moved_change, TickFits, AllTicksFit}
 
@@ -18,33 +20,17 @@ use Rattle.vcd_core.specs.Splice.{moved_change, TickFits, AllTicksFit}
 
 -- the list after the move
 abbrev pub pulled : (Change → Change) → List Change → ℕ → ℕ → ℕ → List Change
-pulled f xs from to k = take from xs ++ map f (take k (drop to xs)) ++ drop (from + k) xs
+pulled f xs from to k = paste xs from (map f (drop to xs)) k
 
 module _ (f : Change → Change) (xs : List Change) (from to : ℕ) (ordered : from ≤ to) where
-  pub none_pulled : xs ≡ pulled f xs from to 0
-  none_pulled =
-      let none : from + 0 ≡ from = omega arith in
-      sym ((λ p. append-nil (take from xs) p ++ drop (none p) xs) ∙ take-append-drop from xs)
-
-  prefix_long : (k : ℕ) → to + k ≤ length xs → length (take from xs ++ map f (take k (drop to xs))) ≡ from + k
-  prefix_long k within =
-      omega (
-        arith,
-        length-append (take from xs) (map f (take k (drop to xs))),
-        length-map (take k (drop to xs)) f,
-        length-take-le from xs (omega arith),
-        length-take-le k (drop to xs) (omega (arith, length-drop to xs)),
-      )
-
-  -- all of them
-  pub all_pulled : (ys : List Change) (k n : ℕ) → to + k ≡ length xs → n ≡ from + k → ys ≡ pulled f xs from to k
-      → take n ys ≡ take from xs ++ map f (drop to xs)
-  all_pulled ys k n all count is =
-      let prefix = take from xs ++ map f (take k (drop to xs)) in
-      let long = prefix_long k (omega arith) in
-      ap (take n) is ∙ take-append-le n prefix (drop (from + k) xs) (omega (arith, long))
-      ∙ take_all n prefix (omega (arith, long))
-      ∙ ap (λ l. take from xs ++ map f l) (take_all k (drop to xs) (omega (arith, length-drop to xs)))
+  prefix_long : (k : ℕ) → to + k ≤ length xs → length (take from xs ++ take k (map f (drop to xs))) ≡ from + k
+  prefix_long k within = omega (
+    arith,
+    length-append {A = Change},
+    length-map {A = Change} {B = Change},
+    length-take {A = Change},
+    length-drop {A = Change},
+  )
 
   -- the next one is still the old one
   pub next_to_pull : (ys : List Change) (k i : ℕ) (d : Change) → i ≡ to + k → to + k < length xs
@@ -52,7 +38,7 @@ module _ (f : Change → Change) (xs : List Change) (from to : ℕ) (ordered : f
   next_to_pull ys k i d at within is =
       let back : from + k + (i - (from + k)) ≡ i = omega arith in
       ap (λ l. get_or l i d) is
-      ∙ get_or-append_right (take from xs ++ map f (take k (drop to xs))) (drop (from + k) xs) (from + k) i d
+      ∙ get_or-append_right (take from xs ++ take k (map f (drop to xs))) (drop (from + k) xs) (from + k) i d
       (prefix_long k (omega arith)) (omega arith)
       ∙ get_or-drop (from + k) xs (i - (from + k)) d ∙ ap (λ n. get_or xs n d) back
 
@@ -60,20 +46,12 @@ module _ (f : Change → Change) (xs : List Change) (from to : ℕ) (ordered : f
       → ys ≡ pulled f xs from to k → x ≡ get_or xs i x
       → set ys j (f x) ≡ pulled f xs from to (k + 1)
   one_pulled ys k i j x at index within is read =
-      let prefix = take from xs ++ map f (take k (drop to xs)) in
-      let long = prefix_long k (omega arith) in
-      let here : drop (from + k) xs ≡ get_or xs (from + k) x ∷ drop (from + k + 1) xs =
-      drop_more xs (from + k) x (omega arith) in
-      let next : get_or (drop to xs) k x ≡ x = get_or-drop to xs k x ∙ ap (λ n. get_or xs n x) (sym at) ∙ sym read in
-      let more : map f (take k (drop to xs)) ++ f x ∷ [] ≡ map f (take (k + 1) (drop to xs)) =
-      sym (ap (map f) (take_more (drop to xs) k x (omega (arith, length-drop to xs))
-      ∙ ap (λ c. take k (drop to xs) ++ c ∷ []) next) ∙ map-append f (take k (drop to xs)) (x ∷ [])) in
-      let following : from + k + 1 ≡ from + (k + 1) = omega arith in
-      (λ p. set ((is ∙ ap (λ l. prefix ++ l) here) p) ((index ∙ sym long) p) (f x))
-      ∙ set-append_seam prefix (get_or xs (from + k) x) (drop (from + k + 1) xs) (f x)
-      ∙ sym (append_assoc prefix (f x ∷ []) (drop (from + k + 1) xs))
-      ∙ (λ p. (append_assoc (take from xs) (map f (take k (drop to xs))) (f x ∷ []) ∙ ap (λ l. take from xs ++ l) more)
-      p ++ drop (following p) xs)
+      let inside : k < length (drop to xs) = omega (arith, length-drop to xs) in
+      let next : f x ≡ get_or (map f (drop to xs)) k x =
+      sym (get_or-map f (drop to xs) k x x inside ∙ ap f (get_or-drop to xs k x ∙ ap (λ n. get_or xs n x) (sym at)
+      ∙ sym read)) in
+      (λ p. set (is p) (index p) (next p))
+      ∙ paste_more xs from (map f (drop to xs)) k x (omega arith) (omega (arith, length-map (drop to xs) f))
 
 -- ---- up: the changes from `left` on, but the last `gap`, are `gap` places higher
 
@@ -81,11 +59,6 @@ abbrev pub lifted : (Change → Change) → List Change → ℕ → ℕ → ℕ 
 lifted f xs n gap left = take (left + gap) xs ++ map f (drop left (take n xs))
 
 module _ (f : Change → Change) (xs : List Change) (n gap : ℕ) (all : n + gap ≡ length xs) where
-  pub none_lifted : xs ≡ lifted f xs n gap n
-  none_lifted =
-      sym ((λ p. take_all (n + gap) xs (omega arith) p
-      ++ map f (drop_all n (take n xs) (omega (arith, length-take-le n xs (omega arith))) p)) ∙ append-nil xs)
-
   pub next_to_lift : (ys : List Change) (left before : ℕ) (d : Change) → before + 1 ≡ left → left ≤ n
       → ys ≡ lifted f xs n gap left → get_or ys before d ≡ get_or xs before d
   next_to_lift ys left before d one within is =
@@ -174,15 +147,13 @@ put_into_gap f xs piece whole lifts list new from gap count within both up same 
     let tail = map f (drop from xs) in
     let long : length prefix ≡ from + gap =
     length-take-le (from + gap) (xs ++ piece) (omega (arith, length-append xs piece)) in
-    let old : length (xs ++ piece) - gap ≡ length xs = omega (arith, length-append xs piece) in
-    let own : take (length (xs ++ piece) - gap) (xs ++ piece) ≡ xs = ap (λ n. take n (xs ++ piece)) old
-    ∙ take-append_seam xs piece in
+    let own : take (length (xs ++ piece) - gap) (xs ++ piece) ≡ xs =
+    take_at xs piece _ (omega (arith, length-append xs piece)) in
     let made : list ≡ prefix ++ tail = same ∙ up
     ∙ (λ p. take (from + gap) (both p) ++ map f (drop from (take (length (both p) - gap) (both p))))
     ∙ ap (λ l. prefix ++ map f (drop from l)) own in
     let first : take from (prefix ++ tail) ≡ take from xs =
     take-append-le from prefix tail (omega (arith, long)) ∙ take-take from (from + gap) (xs ++ piece) (omega arith)
     ∙ take-append-le from xs piece within in
-    let following : drop (from + gap) (prefix ++ tail) ≡ tail = ap (λ n. drop n (prefix ++ tail)) (sym long)
-    ∙ drop-append_seam prefix tail in
+    let following : drop (from + gap) (prefix ++ tail) ≡ tail = drop_at prefix tail (from + gap) long in
     is ∙ (λ p. take from (made p) ++ piece ++ drop (from + gap) (made p)) ∙ (λ p. first p ++ piece ++ following p)
