@@ -4,10 +4,13 @@ use Rattle.std.proofs.Common.{if◌then◌else◌, cond, nat_le}
 use Rattle.std.proofs.Common.{nat_lt, List, [], ◌∷◌, ◌++◌, length, take, get_or, All, Any, refl}
 use Rattle.std.proofs.Common.{sym, ap, subst, ◌∙◌}
 use Rattle.std.proofs.Common.{◌⊎◌, None, inl, inr, arith}
-use Rattle.std.specs.List.{count_by}
-use Rattle.std.proofs.lemmas.Bool.{cases_lt, cases_eq, lt-leb, le-leb, lt-ltb, le-ltb}
-use Rattle.std.proofs.lemmas.List.Sums.{take_while-cons, prefix_len_is, sum_by-cons}
-use Rattle.std.proofs.lemmas.List.Elements.{All-cons, All-head, All-tail}
+use Rattle.std.specs.List.{count_by, prefix_len}
+use Rattle.std.proofs.lemmas.Bool.{cases_lt, cases_eq, lt-leb, le-leb, lt-ltb, le-ltb, ltb-true}
+use Rattle.std.proofs.lemmas.Bool.{cond_both, cond-true, cond-false}
+use Rattle.std.proofs.lemmas.Bool.Decides.{not_from_Decides}
+use Rattle.std.proofs.lemmas.List.{length-replicate, length-take, get_or-take, take_all, get_or_push, length_push}
+use Rattle.std.proofs.lemmas.List.Sums.{take_while-cons, prefix_len_is, prefix_len_passes, sum_by-cons}
+use Rattle.std.proofs.lemmas.List.Elements.{All-cons, All-head, All-tail, All-push}
 use Rattle.vcd_core.specs.declared.bit.Bit.{Bit}
 use Rattle.vcd_core.specs.declared.wave.Change.{Change}
 use Rattle.vcd_core.specs.declared.wave.list.WaveList.{WaveList}
@@ -15,9 +18,11 @@ use Rattle.vcd_core.specs.inside.wave.List.{changes_of_list}
 use Rattle.vcd_core.specs.Value.{all_x, same_letters}
 use Rattle.vcd_core.specs.inside.value.EqualByLetters.{same_letters-Decides}
 use Rattle.vcd_core.specs.Wave.{change, value_from, value_at, AreChangesFrom, IsWave, AllUpTo}
+use Rattle.vcd_core.specs.WaveView.{WaveView}
 use Rattle.vcd_core.specs.WavePush.{last_value}
 use Rattle.vcd_core.specs.WavePush.{changes_before, changes_after_push}
 use Rattle.vcd_core.proofs.shared.Waves.{value_from-append, value_past, value_skip, value_early}
+use Rattle.vcd_core.proofs.shared.WaveAfterChange.{value_last}
 
 -- ---- ticks by position
 
@@ -37,13 +42,13 @@ ticks_rise floor before (c ∷ cs) rise zero (suc j) d less within =
 ticks_rise floor before (c ∷ cs) rise (suc i) (suc j) d less within =
     ticks_rise (c.tick + 1) c.value cs rise.3 i j d (omega arith) (omega arith)
 
--- the ticks of a wave do not fall, as `partition_point` needs
-pub ticks_do_not_fall : (width : ℕ) (cs : List Change) → IsWave width cs → (i j : ℕ) (d : Change) → i ≤ j
-    → j < length cs → (get_or cs i d).tick ≤ (get_or cs j d).tick
-ticks_do_not_fall width cs is i j d le within =
+-- so they do not fall, as `partition_point` needs
+pub ticks_do_not_fall : (floor : ℕ) (before : List Bit) (cs : List Change) → AreChangesFrom floor before cs
+    → (i j : ℕ) (d : Change) → i ≤ j → j < length cs → (get_or cs i d).tick ≤ (get_or cs j d).tick
+ticks_do_not_fall floor before cs rise i j d le within =
     elim (cases_eq i j) [
       | inl same ↦ omega (arith, ap (λ k. (get_or cs k d).tick) same)
-      | inr apart ↦ omega (arith, ticks_rise 0 (all_x width) cs is.rise i j d (omega arith) within)
+      | inr apart ↦ omega (arith, ticks_rise floor before cs rise i j d (omega arith) within)
     ]
 
 pub all_from_upto : (end : ℕ) (cs : List Change) → AllUpTo end cs → All (λ c. c.tick ≤ end) cs
@@ -97,21 +102,25 @@ count_is p (c ∷ cs) (suc n) d within passes fails =
 
 -- ---- values before and after a tick
 
--- the value at a tick is the last of the changes at or before it
-pub value_at_count : (cs : List Change) (n t : ℕ) (floor : ℕ) (before kept : List Bit) (d : Change)
-    → AreChangesFrom floor kept cs → n ≤ length cs
-    → ((k : ℕ) → k < n → (get_or cs k d).tick ≤ t) → (n < length cs → t < (get_or cs n d).tick)
-    → value_from before cs t ≡ last_value before (take n cs)
+-- the value at a tick is the last of the changes that are at or before it
+pub value_counted : (cs : List Change) (t floor : ℕ) (before kept : List Bit) → AreChangesFrom floor kept cs
+    → value_from before cs t ≡ last_value before (take (count_by (λ c. nat_le c.tick t) cs) cs)
 unfolding value_from last_value
-value_at_count [] zero t floor before kept d rise within early late = refl
-value_at_count [] (suc n) t floor before kept d rise within early late = absurd (omega arith)
-value_at_count (c ∷ cs) zero t floor before kept d rise within early late =
-    value_skip before c cs t (late (omega arith))
-    ∙ value_early before c.value cs (c.tick + 1) t rise.3 (omega (arith, late (omega arith)))
-value_at_count (c ∷ cs) (suc n) t floor before kept d rise within early late =
-    value_past before c cs t (early 0 (omega arith))
-    ∙ value_at_count cs n t (c.tick + 1) c.value c.value d rise.3 (omega arith) (λ k l. early (suc k) (omega arith))
-    (λ l. late (omega arith))
+value_counted [] t floor before kept rise = refl
+value_counted (c ∷ cs) t floor before kept rise =
+    let p : Change → Bool = λ d. nat_le d.tick t in
+    elim (cases_lt t c.tick) [
+      | inl early ↦
+          let none = count_is p (c ∷ cs) 0 c (omega arith) (λ k less. absurd (omega arith)) (λ k from within. lt-leb _ t
+          (omega (arith, floor_below c.tick kept (c ∷ cs) (omega arith, rise.1, rise.2, rise.3) k c within))) in
+          value_skip before c cs t early ∙ value_early before c.value cs (c.tick + 1) t rise.3 (omega arith)
+          ∙ ap (λ n. last_value before (take n (c ∷ cs))) (sym none)
+      | inr past ↦
+          let one : count_by p (c ∷ cs) ≡ suc (count_by p cs) = sum_by-cons (λ d. cond (p d) 1 0) c cs
+          ∙ (λ i. cond (le-leb c.tick t past i) 1 0 + count_by p cs) ∙ omega arith in
+          value_past before c cs t past ∙ value_counted cs t (c.tick + 1) c.value c.value rise.3
+          ∙ ap (λ n. last_value before (take n (c ∷ cs))) (sym one)
+    ]
 
 -- before the tick, the changes before it give the value
 pub kept_value : (floor tick t : ℕ) (kept before : List Bit) (cs : List Change) → AreChangesFrom floor kept cs
@@ -121,74 +130,47 @@ unfolding value_from
 kept_value floor tick t kept before [] rise early = refl
 kept_value floor tick t kept before (c ∷ cs) (from, other, wide, rest) early =
     elim (cases_lt c.tick tick) [
-      | inl inside ↦
-          kept_value (c.tick + 1) tick t c.value (if nat_le c.tick t then c.value else before) cs rest early
-          ∙ ap (λ l. value_from before l t) (sym (before_in tick c cs inside))
-      | inr outside ↦
-          value_skip before c cs t (omega arith) ∙ value_early before c.value cs (c.tick + 1) t rest (omega arith)
-          ∙ ap (λ l. value_from before l t) (sym (before_out tick c cs outside))
+      | inl inside ↦ rw before_in
+          (kept_value (c.tick + 1) tick t c.value (if nat_le c.tick t then c.value else before) cs rest early)
+      | inr outside ↦ rw before_out (value_skip before c cs t (omega arith)
+          ∙ value_early before c.value cs (c.tick + 1) t rest (omega arith))
     ]
 
--- from the tick on, they have their last value
-pub kept_last : (tick t : ℕ) (before : List Bit) (cs : List Change) → tick ≤ t
-    → value_from before (changes_before tick cs) t ≡ last_value before (changes_before tick cs)
-unfolding value_from last_value
-kept_last tick t before [] later = refl
-kept_last tick t before (c ∷ cs) later =
-    elim (cases_lt c.tick tick) [
-      | inl inside ↦ rw before_in (value_past before c (changes_before tick cs) t (omega arith)
-          ∙ kept_last tick t c.value cs later)
-      | inr outside ↦ rw before_out refl
-    ]
+-- they are before it
+below_tick : (tick : ℕ) (cs : List Change) → All (λ c. c.tick < tick) (changes_before tick cs)
+below_tick tick cs k d within =
+    let n = prefix_len (λ (c : Change). nat_lt c.tick tick) cs in
+    let inside : k < n = omega (arith, length-take n cs) in
+    rw get_or-take (ltb-true _ tick (prefix_len_passes (λ c. nat_lt c.tick tick) cs k d inside))
 
-kept_rise : (floor tick : ℕ) (before : List Bit) (cs : List Change) → AreChangesFrom floor before cs
-    → AreChangesFrom floor before (changes_before tick cs)
-kept_rise floor tick before [] rise = tt
-kept_rise floor tick before (c ∷ cs) (from, other, wide, rest) =
-    elim (cases_lt c.tick tick) [
-      | inl inside ↦ rw before_in (from, other, wide, kept_rise (c.tick + 1) tick c.value cs rest)
-      | inr outside ↦ rw before_out tt
-    ]
+kept_upto : (tick : ℕ) (cs : List Change) → AllUpTo tick (changes_before tick cs)
+kept_upto tick cs = upto_from_all tick _ (λ k d within. omega (arith, below_tick tick cs k d within))
+
+take_rises : (floor n : ℕ) (before : List Bit) (cs : List Change) → AreChangesFrom floor before cs
+    → AreChangesFrom floor before (take n cs)
+take_rises floor zero before cs rise = tt
+take_rises floor (suc n) before [] rise = tt
+take_rises floor (suc n) before (c ∷ cs) (from, other, wide, rest) =
+    (from, other, wide, take_rises (c.tick + 1) n c.value cs rest)
 
 -- a value that differs from the last one can be appended
 added_rise : (floor tick : ℕ) (before value : List Bit) (cs : List Change) → AreChangesFrom floor before cs
-    → floor ≤ tick → length value ≡ length before
-    → value ≢ last_value before (changes_before tick cs)
-    → AreChangesFrom floor before (changes_before tick cs ++ change tick value ∷ [])
+    → All (λ c. c.tick < tick) cs → floor ≤ tick → length value ≡ length before → value ≢ last_value before cs
+    → AreChangesFrom floor before (cs ++ change tick value ∷ [])
 unfolding last_value
-added_rise floor tick before value [] rise at wide differs = (at, differs, wide, tt)
-added_rise floor tick before value (c ∷ cs) (from, other, same, rest) at wide differs =
-    elim (cases_lt c.tick tick) [
-      | inl inside ↦
-          let further : value ≢ last_value c.value (changes_before tick cs) = λ e. differs (rw before_in e) in
-          rw before_in (
-            from,
-            other,
-            same,
-            added_rise (c.tick + 1) tick c.value value cs rest (omega arith) (wide ∙ sym same) further,
-          )
-      | inr outside ↦
-          let further : value ≢ before = λ e. differs (rw before_out e) in
-          rw before_out (at, further, wide, tt)
-    ]
+added_rise floor tick before value [] rise below at wide differs = (at, differs, wide, tt)
+added_rise floor tick before value (c ∷ cs) (from, other, same, rest) below at wide differs = (
+  from,
+  other,
+  same,
+  added_rise (c.tick + 1) tick c.value value cs rest (All-tail (λ c. c.tick < tick) c cs below)
+      (omega (arith, below 0 c (omega arith))) (wide ∙ sym same) differs,
+)
 
 pub kept_wave : (width tick : ℕ) (cs kept : List Change) → kept ≡ changes_before tick cs → IsWave width cs
     → IsWave width kept
 kept_wave width tick cs kept is wave =
-    subst (IsWave width) (sym is) (record { rise = kept_rise 0 tick (all_x width) cs wave.rise })
-
-kept_upto : (tick : ℕ) (cs : List Change) → AllUpTo tick (changes_before tick cs)
-kept_upto tick [] = tt
-kept_upto tick (c ∷ cs) =
-    elim (cases_lt c.tick tick) [
-      | inl inside ↦ rw before_in (omega arith, kept_upto tick cs)
-      | inr outside ↦ rw before_out tt
-    ]
-
-upto_added : (tick : ℕ) (value : List Bit) (cs : List Change) → AllUpTo tick cs
-    → AllUpTo tick (cs ++ change tick value ∷ [])
-upto_added tick value [] upto = (omega arith, tt)
-upto_added tick value (c ∷ cs) (first, rest) = (first, upto_added tick value cs rest)
+    subst (IsWave width) (sym is) (record { rise = take_rises 0 _ (all_x width) cs wave.rise })
 
 -- ---- the list after a push
 
@@ -199,26 +181,26 @@ pushed_cases : (P : List Change → Type 0) (width : ℕ) (cs : List Change) (ti
     → P (changes_after_push width cs tick value)
 unfolding changes_after_push
 pushed_cases P width cs tick value same other =
-    choose (same_letters value (last_value (all_x width) (changes_before tick cs))) refl
-  where
-    choose : (b : Bool) → same_letters value (last_value (all_x width) (changes_before tick cs)) ≡ b
-        → P (if b then changes_before tick cs else changes_before tick cs ++ change tick value ∷ [])
-    choose true e = same ((same_letters-Decides value _).0 e)
-    choose false e = other (λ equal. let both : true ≡ false = sym ((same_letters-Decides value _).1 equal) ∙ e in
-        absurd (cc))
+    cond_both (same_letters value (last_value (all_x width) (changes_before tick cs))) _ _ P
+    (λ e. same ((same_letters-Decides value _).0 e))
+    (λ e. other (not_from_Decides _ (same_letters-Decides value _) e))
 
 pub pushed_wave : (width : ℕ) (cs : List Change) (tick : ℕ) (value : List Bit) → IsWave width cs
     → length value ≡ length (all_x width) → IsWave width (changes_after_push width cs tick value)
 pushed_wave width cs tick value is wide =
     pushed_cases (IsWave width) width cs tick value
-    (λ _. record { rise = kept_rise 0 tick (all_x width) cs is.rise })
-    (λ other. record { rise = added_rise 0 tick (all_x width) value cs is.rise (omega arith) wide other })
+    (λ _. kept_wave width tick cs _ refl is)
+    (λ other. record {
+      rise = added_rise 0 tick (all_x width) value _ (take_rises 0 _ (all_x width) cs is.rise)
+          (below_tick tick cs) (omega arith) wide other;
+    })
 
-pub pushed_upto : (width : ℕ) (cs : List Change) (tick : ℕ) (value : List Bit)
-    → AllUpTo tick (changes_after_push width cs tick value)
-pushed_upto width cs tick value =
-    pushed_cases (AllUpTo tick) width cs tick value (λ _. kept_upto tick cs)
-    (λ _. upto_added tick value _ (kept_upto tick cs))
+pub pushed_last : (width : ℕ) (cs : List Change) (tick : ℕ) (value : List Bit)
+    → All (λ c. c.tick ≤ tick) (changes_after_push width cs tick value)
+pushed_last width cs tick value =
+    let early = all_from_upto tick _ (kept_upto tick cs) in
+    pushed_cases (All (λ c. c.tick ≤ tick)) width cs tick value (λ _. early)
+    (λ _. All-push (λ c. c.tick ≤ tick) _ _ early (omega arith))
 
 -- the value at every tick after a push
 pub value_at-pushed : (width : ℕ) (cs : List Change) (tick : ℕ) (value : List Bit) (t : ℕ) → IsWave width cs
@@ -232,36 +214,20 @@ value_at-pushed width cs tick value t is =
           ∙ value_skip _ (change tick value) [] t early
           ∙ sym (kept_value 0 tick t (all_x width) (all_x width) cs is.rise early)))
       | inr late ↦ rw le-leb (pushed_cases (λ l. value_at width l t ≡ value) width cs tick value
-          (λ same. kept_last tick t (all_x width) cs late ∙ sym same)
+          (λ same. value_last (all_x width) _ tick t (kept_upto tick cs) late ∙ sym same)
           (λ _. value_from-append (all_x width) (changes_before tick cs) (change tick value ∷ []) t
           ∙ value_past _ (change tick value) [] t late))
     ]
 
 -- at the tick, either the value is the last one, or there is a change
-pub last_before : (floor tick : ℕ) (kept before : List Bit) (cs : List Change) → AreChangesFrom floor kept cs
-    → AllUpTo tick cs
+pub last_before : (tick : ℕ) (before : List Bit) (cs : List Change) → AllUpTo tick cs
     → (value_from before cs tick ≡ last_value before (changes_before tick cs)) ⊎ (changes_before tick cs ≢ cs)
-unfolding value_from last_value
-last_before floor tick kept before [] rise upto = inl refl
-last_before floor tick kept before (c ∷ cs) (from, other, wide, rest) (first, upto) =
-    elim (cases_lt c.tick tick) [
-      | inl inside ↦ elim (last_before (c.tick + 1) tick c.value c.value cs rest upto) [
-        | inl same ↦ inl (value_past before c cs tick (omega arith) ∙ same
-            ∙ ap (last_value before) (sym (before_in tick c cs inside)))
-        | inr differs ↦ inr (λ equal. let both : c ∷ changes_before tick cs ≡ c ∷ cs = sym (before_in tick c cs inside)
-            ∙ equal in differs (cc))
-      ]
-      | inr outside ↦ inr (λ equal. let none : [] ≡ c ∷ cs = sym (before_out tick c cs outside) ∙ equal in absurd (cc))
-    ]
-
-below_tick : (tick : ℕ) (cs : List Change) → All (λ c. c.tick < tick) (changes_before tick cs)
-below_tick tick [] = λ k d within. absurd (omega arith)
-below_tick tick (c ∷ cs) =
-    elim (cases_lt c.tick tick) [
-      | inl inside ↦ subst (All (λ (c : Change). c.tick < tick)) (sym (before_in tick c cs inside))
-          (All-cons (λ c. c.tick < tick) c _ inside (below_tick tick cs))
-      | inr outside ↦ subst (All (λ (c : Change). c.tick < tick)) (sym (before_out tick c cs outside))
-          (λ k d within. absurd (omega arith))
+last_before tick before cs upto =
+    let n = prefix_len (λ (c : Change). nat_lt c.tick tick) cs in
+    elim (cases_lt n (length cs)) [
+      | inl some ↦ inr (λ equal. omega (arith, ap length equal, length-take n cs))
+      | inr all ↦ inl (value_last before cs tick tick upto (omega arith)
+          ∙ ap (last_value before) (sym (take_all n cs all)))
     ]
 
 -- where a change is at the tick, not all are before it
@@ -300,13 +266,9 @@ taken_off width tick cs n last is all at here =
 
 -- no change is at the tick
 pub all_before : (tick : ℕ) (cs : List Change) (d : Change) → ((k : ℕ) → k < length cs → (get_or cs k d).tick < tick)
-    → changes_before tick cs ≡ cs
-all_before tick cs d early = before_is_take tick cs (length cs) d (omega arith) early (λ l. absurd (omega arith))
-    ∙ take_all cs
-  where
-    take_all : (xs : List Change) → take (length xs) xs ≡ xs
-    take_all [] = refl
-    take_all (x ∷ xs) = ap (λ l. x ∷ l) (take_all xs)
+    → cs ≡ changes_before tick cs
+all_before tick cs d early = sym (before_is_take tick cs (length cs) d (omega arith) early (λ l. absurd (omega arith))
+    ∙ take_all (length cs) cs (omega arith))
 
 pub last_value-none : (before : List Bit) (cs : List Change) → length cs ≡ 0 → before ≡ last_value before cs
 unfolding last_value
@@ -320,66 +282,94 @@ pub other_tick : (width tick : ℕ) (cs : List Change) (n : ℕ) (last : Change)
 other_tick width tick cs n last is all at late apart =
     let stands : (get_or cs n last).tick ≡ last.tick = ap (λ (c : Change). c.tick) (sym at) in
     let before : last.tick < tick = omega (arith, late n last (omega arith)) in
-    sym (all_before tick cs last (λ k within.
-    omega (arith, ticks_do_not_fall width cs is k n last (omega arith) (omega arith))))
-
-pub none_before : (tick : ℕ) (cs : List Change) → length cs ≡ 0 → cs ≡ changes_before tick cs
-none_before tick [] none = refl
-none_before tick (c ∷ cs) none = absurd (omega arith)
+    all_before tick cs last (λ k within.
+    omega (arith, ticks_do_not_fall 0 (all_x width) cs is.rise k n last (omega arith) (omega arith)))
 
 -- a push after the changes before the tick
-pub pushed_same : (width : ℕ) (cs : List Change) (tick : ℕ) (value : List Bit) (kept : List Change)
-    → kept ≡ changes_before tick cs
-    → same_letters value (last_value (all_x width) kept) ≡ true → kept ≡ changes_after_push width cs tick value
+pub pushed_same : (width : ℕ) (cs : List Change) (tick : ℕ) (value : List Bit)
+    → same_letters value (last_value (all_x width) (changes_before tick cs)) ≡ true
+    → changes_after_push width cs tick value ≡ changes_before tick cs
 unfolding changes_after_push
-pushed_same width cs tick value kept is same =
-    is ∙ sym (ap (λ b. if b then changes_before tick cs else changes_before tick cs ++ change tick value ∷ [])
-    (ap (λ l. same_letters value (last_value (all_x width) l)) (sym is) ∙ same))
+pushed_same width cs tick value same = cond-true _ _ _ same
 
-pub pushed_other : (width : ℕ) (cs : List Change) (tick : ℕ) (value : List Bit) (kept : List Change)
-    → kept ≡ changes_before tick cs
-    → same_letters value (last_value (all_x width) kept) ≡ false
-    → kept ++ change tick value ∷ [] ≡ changes_after_push width cs tick value
+pub pushed_other : (width : ℕ) (cs : List Change) (tick : ℕ) (value : List Bit)
+    → same_letters value (last_value (all_x width) (changes_before tick cs)) ≡ false
+    → changes_after_push width cs tick value ≡ changes_before tick cs ++ change tick value ∷ []
 unfolding changes_after_push
-pushed_other width cs tick value kept is other =
-    ap (λ l. l ++ change tick value ∷ []) is
-    ∙ sym (ap (λ b. if b then changes_before tick cs else changes_before tick cs ++ change tick value ∷ [])
-    (ap (λ l. same_letters value (last_value (all_x width) l)) (sym is) ∙ other))
+pushed_other width cs tick value other = cond-false _ _ _ other
 
-upto_lower : (low high : ℕ) (cs : List Change) → low ≤ high → AllUpTo low cs → AllUpTo high cs
-upto_lower low high [] le upto = tt
-upto_lower low high (c ∷ cs) le (first, rest) = (omega arith, upto_lower low high cs le rest)
-
--- the ticks of a rising list are at most that of the last change
-upto_last : (floor : ℕ) (before : List Bit) (rest : List Change) (last : Change)
-    → AreChangesFrom floor before (rest ++ last ∷ []) → AllUpTo last.tick (rest ++ last ∷ [])
-upto_last floor before [] last rise = (omega arith, tt)
-upto_last floor before (c ∷ rest) last rise =
-    let later = upto_last (c.tick + 1) c.value rest last rise.3 in
-    (omega (arith, rise_to_last (c.tick + 1) c.value rest last rise.3), later)
-  where
-    rise_to_last : (floor : ℕ) (before : List Bit) (rest : List Change) (last : Change)
-        → AreChangesFrom floor before (rest ++ last ∷ []) → floor ≤ last.tick
-    rise_to_last floor before [] last rise = rise.0
-    rise_to_last floor before (c ∷ rest) last rise =
-        omega (arith, rise.0, rise_to_last (c.tick + 1) c.value rest last rise.3)
+-- the last change of a list that is split there
+split_last : (cs rest : List Change) (last d : Change) → cs ≡ rest ++ last ∷ []
+    → (get_or cs (length rest) d ≡ last) × (length cs ≡ length rest + 1)
+split_last cs rest last d split = (
+  ap (λ l. get_or l (length rest) d) split ∙ get_or_push rest last d (length rest) refl,
+  ap length split ∙ length_push rest last,
+)
 
 -- so the last tick shows whether all changes are up to the end
 pub upto_from_last : (floor : ℕ) (before : List Bit) (end : ℕ) (cs rest : List Change) (last : Change)
     → AreChangesFrom floor before cs → cs ≡ rest ++ last ∷ [] → last.tick ≤ end → AllUpTo end cs
-upto_from_last floor before end cs rest last rise split le =
-    subst (AllUpTo end) (sym split)
-    (upto_lower last.tick end _ le
-    (upto_last floor before rest last (subst (AreChangesFrom floor before) split rise)))
+upto_from_last floor before end cs rest last rise split le = upto_from_all end cs (λ k d within.
+    let (at, long) = split_last cs rest last d split in
+    omega (
+      arith,
+      ap (λ (c : Change). c.tick) at,
+      ticks_do_not_fall floor before cs rise k (length rest) d (omega (arith, long)) (omega (arith, long)),
+    ))
 
 pub last_upto : (end : ℕ) (cs rest : List Change) (last : Change) → cs ≡ rest ++ last ∷ [] → AllUpTo end cs
     → last.tick ≤ end
-last_upto end cs rest last split upto = reach rest (subst (AllUpTo end) split upto)
-  where
-    reach : (rest : List Change) → AllUpTo end (rest ++ last ∷ []) → last.tick ≤ end
-    reach [] upto = upto.0
-    reach (c ∷ rest) upto = reach rest upto.1
+last_upto end cs rest last split upto =
+    let (at, long) = split_last cs rest last last split in
+    omega (
+      arith,
+      ap (λ (c : Change). c.tick) at,
+      all_from_upto end cs upto (length rest) last (omega (arith, long)),
+    )
 
 -- the changes of a wave that shares no list are those of its own
-pub own_changes : (l : WaveList) → l.shared ≡ None → l.own.items ≡ changes_of_list l
+own_changes : (l : WaveList) → l.shared ≡ None → l.own.items ≡ changes_of_list l
 own_changes l own = ap (λ shared. changes_of_list (record l { shared = shared })) (sym own)
+
+-- a wave that is seen as w, and a push on its own list, made first; the value may go by the width
+module _ (v w : WaveView) (is : v ≡ w) (wave : IsWave v.width v.changes) (tick : ℕ) (value : ℕ → List Bit)
+    (made : WaveList) (own : made.shared ≡ None) (same : changes_of_list made ≡ v.changes) where
+  here : made.own.items ≡ v.changes
+  here = own_changes made own ∙ same
+
+  module _ (list : WaveList) (still : list.shared ≡ None)
+      (pushed : list.own.items ≡ changes_after_push v.width made.own.items tick (value v.width)) where
+    pushed_here : changes_of_list list ≡ changes_after_push v.width v.changes tick (value v.width)
+    pushed_here = sym (own_changes list still) ∙ pushed ∙ ap (λ cs. changes_after_push v.width cs tick (value v.width)) here
+
+    pub wave_pushed : length (value v.width) ≡ v.width → IsWave v.width (changes_of_list list)
+    wave_pushed wide = subst (IsWave v.width) (sym pushed_here)
+        (pushed_wave v.width v.changes tick _ wave (wide ∙ sym (length-replicate v.width _)))
+
+    pub values_pushed : (t : ℕ) → value_at v.width (changes_of_list list) t
+        ≡ (if nat_le tick t then value w.width else value_at w.width w.changes t)
+    values_pushed t = ap (λ cs. value_at v.width cs t) pushed_here
+        ∙ value_at-pushed v.width v.changes tick _ t wave
+        ∙ ap (λ (x : WaveView). if nat_le tick t then value x.width else value_at x.width x.changes t) is
+
+    pub last_pushed : All (λ c. c.tick ≤ tick) (changes_of_list list)
+    last_pushed = subst (All (λ (c : Change). c.tick ≤ tick)) (sym pushed_here) (pushed_last v.width v.changes tick _)
+
+  -- where a push succeeds if it takes a change away, it does if one is at the tick
+  pub replaces_there : {R : Type 0} → (changes_before tick made.own.items ≢ made.own.items → R)
+      → Any (λ c. c.tick ≡ tick) w.changes → R
+  replaces_there succeeds some = succeeds (subst (λ cs. changes_before tick cs ≢ cs) (sym here)
+      (one_at_tick tick v.changes (subst (λ (x : WaveView). Any (λ (c : Change). c.tick ≡ tick) x.changes) (sym is) some)))
+
+  -- if it also does where the last value is the new one, it does where the wave has that at the tick
+  pub adds_none_there : {R : Type 0} → (changes_before tick made.own.items ≢ made.own.items → R)
+      → (last_value (all_x v.width) (changes_before tick made.own.items) ≡ value v.width → R)
+      → All (λ c. c.tick ≤ tick) w.changes → value_at w.width w.changes tick ≡ value w.width → R
+  adds_none_there takes adds early stays =
+      elim (last_before tick (all_x v.width) v.changes
+      (upto_from_all tick _ (subst (λ (x : WaveView). All (λ (c : Change). c.tick ≤ tick) x.changes) (sym is) early))) [
+        | inl last ↦ adds (ap (λ cs. last_value (all_x v.width) (changes_before tick cs)) here ∙ sym last
+            ∙ ap (λ (x : WaveView). value_at x.width x.changes tick) is ∙ stays
+            ∙ ap (λ (x : WaveView). value x.width) (sym is))
+        | inr stands ↦ takes (subst (λ cs. changes_before tick cs ≢ cs) (sym here) stands)
+      ]

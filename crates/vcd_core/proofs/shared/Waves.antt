@@ -1,10 +1,11 @@
 -- The two readings of a wave: the value at a tick, and the list of changes.
-use Rattle.std.proofs.Common.{◌≡◌, ◌≢◌, ℕ, zero, suc, ◌+◌, ◌<◌, ◌≤◌, Bool, true, false}
+use Rattle.std.proofs.Common.{◌≡◌, ◌≢◌, ℕ, zero, suc, ◌+◌, ◌<◌, ◌≤◌}
 use Rattle.std.proofs.Common.{if◌then◌else◌, nat_le, List, []}
 use Rattle.std.proofs.Common.{◌∷◌, ◌++◌, length, refl, sym, ap, subst, ◌∙◌, inl, inr, arith}
 use Rattle.std.proofs.Common.{add-one}
 use Rattle.std.proofs.lemmas.List.{length-replicate}
-use Rattle.std.proofs.lemmas.Bool.{cases_eq, lt-leb, le-leb}
+use Rattle.std.proofs.lemmas.Bool.{cases_eq, cases_Bool, lt-leb, le-leb}
+use Rattle.std.proofs.lemmas.Bool.Decides.{not_from_Decides}
 use Rattle.vcd_core.specs.declared.bit.Bit.{Bit}
 use Rattle.vcd_core.specs.declared.wave.Change.{Change}
 use Rattle.vcd_core.specs.Value.{all_x, same_letters}
@@ -46,12 +47,19 @@ value_early before kept (c ∷ cs) floor t (from, other, wide, rest) early =
 -- a change is listed where the values differ
 pub put_cases : (P : List Change → Type 0) (v before : List Bit) (c : Change) (cs : List Change)
     → (v ≡ before → P cs) → (v ≢ before → P (c ∷ cs)) → P (unless_same (same_letters v before) c cs)
-put_cases P v before c cs same other = choose (same_letters v before) refl
-  where
-    choose : (b : Bool) → same_letters v before ≡ b → P (unless_same b c cs)
-    choose true e = same ((same_letters-Decides v before).0 e)
-    choose false e = other (λ equal. let both : true ≡ false = sym ((same_letters-Decides v before).1 equal) ∙ e in
-        absurd (cc))
+put_cases P v before c cs same other =
+    elim (cases_Bool (same_letters v before)) [
+      | inl e ↦ rw e (same ((same_letters-Decides v before).0 e))
+      | inr e ↦ rw e (other (not_from_Decides _ (same_letters-Decides v before) e))
+    ]
+
+-- no change is listed at a tick at which the value stays
+quiet_tick : (before : List Bit) (t n : ℕ) (cs : List Change) (f : ℕ → List Bit) → before ≡ f t
+    → cs ≡ changes_from before (suc t) n f → cs ≡ changes_from before t (suc n) f
+unfolding changes_from
+quiet_tick before t n cs f here rest =
+    put_cases (λ l. cs ≡ l) (f t) before (change t (f t)) (changes_from (f t) (suc t) n f)
+    (λ _. subst (λ b. cs ≡ changes_from b (suc t) n f) here rest) (λ other. absurd (other (sym here)))
 
 -- a list in the one form of a wave, with the values of f, is the list of changes of f
 pub changes_are : (before : List Bit) (t n end : ℕ) (cs : List Change) (f : ℕ → List Bit)
@@ -62,11 +70,8 @@ unfolding changes_from value_from
 changes_are before t zero end [] f all rise upto same = refl
 changes_are before t zero end (c ∷ cs) f all rise upto same = absurd (omega (arith, rise.0, upto.0))
 changes_are before t (suc n) end [] f all rise upto same =
-    let here : before ≡ f t = same t (omega arith) (omega arith) in
-    put_cases (λ l. [] ≡ l) (f t) before (change t (f t)) (changes_from (f t) (suc t) n f)
-    (λ _. subst (λ b. [] ≡ changes_from b (suc t) n f) here
-    (changes_are before (suc t) n end [] f (omega arith) tt tt (λ s from to. same s (omega arith) to)))
-    (λ other. absurd (other (sym here)))
+    quiet_tick before t n [] f (same t (omega arith) (omega arith))
+    (changes_are before (suc t) n end [] f (omega arith) tt tt (λ s from to. same s (omega arith) to))
 changes_are before t (suc n) end (c ∷ cs) f all (from, other, wide, rest) (within, upto) same =
     elim (cases_eq t c.tick) [
       | inl at ↦
@@ -89,13 +94,9 @@ changes_are before t (suc n) end (c ∷ cs) f all (from, other, wide, rest) (wit
           let here : before ≡ f t =
           sym (value_skip before c cs t later ∙ value_early before c.value cs (c.tick + 1) t rest (omega arith))
           ∙ same t (omega arith) (omega arith) in
-          put_cases (λ l. c ∷ cs ≡ l) (f t) before (change t (f t)) (changes_from (f t) (suc t) n f)
-          (λ _. subst (λ b. c ∷ cs ≡ changes_from b (suc t) n f) here
-          (changes_are before (suc t) n end (c ∷ cs) f (omega arith) (omega arith, other, wide, rest) (
-            within,
-            upto,
-          ) (λ s from' to. same s (omega arith) to)))
-          (λ differs. absurd (differs (sym here)))
+          quiet_tick before t n (c ∷ cs) f here
+          (changes_are before (suc t) n end (c ∷ cs) f (omega arith) (omega arith, other, wide, rest) (within, upto)
+          (λ s from' to. same s (omega arith) to))
     ]
 
 -- the same for a whole wave

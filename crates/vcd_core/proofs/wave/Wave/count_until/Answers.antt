@@ -15,7 +15,7 @@ returns c =
     subst (IsWave c.self.inside.width) (sym c.as_slice.ensures) c.self.invariant.2 in
     let point = IsPartitionPoint-from_clause (λ (x : Change). ltb x.tick c.args.tick) list c.partition_point.result
     c.partition_point.ensures.partitioned
-    (IsPartitionedBy-ltb (λ (x : Change). x.tick) list c.args.tick (ticks_do_not_fall _ list is))
+    (IsPartitionedBy-ltb (λ (x : Change). x.tick) list c.args.tick (ticks_do_not_fall 0 _ list is.rise))
     (λ a r f h. search rules) in
     sym (count_is (λ (x : Change). ltb x.tick c.args.tick) list c.partition_point.result no_change
     c.partition_point.ensures.bound

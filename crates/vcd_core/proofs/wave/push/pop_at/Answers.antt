@@ -1,5 +1,5 @@
 use Rattle.std.proofs.Common.{◌∙◌, sym, arith, ◌-◌}
-use Rattle.vcd_core.proofs.shared.Pushes.{taken_off, other_tick, none_before}
+use Rattle.vcd_core.proofs.shared.Pushes.{taken_off, other_tick, all_before, no_change}
 use Rattle.vcd_core.proofs.wave.push.pop_at.Goals as goal
 use Rattle.vcd_core.proofs.wave.push.pop_at.Goals.{else-count-gt0-via-then-count-gt0+else-index-tick}
 use Rattle.vcd_core.proofs.wave.push.pop_at.Goals.{else-count-gt0-via-else-count-gt0}
@@ -17,5 +17,5 @@ returns-else-count-gt0-clause-changes c =
       | else-count-gt0-via-then-count-gt0+else-index-tick w ↦
           other_tick form.0 _ _ (c.len-count.result - 1) w.index.result.now form.1 (omega arith) w.index.ensures
           c.requires.none_later w.if-index-tick.false
-      | else-count-gt0-via-else-count-gt0 w ↦ none_before _ _ (omega arith)
+      | else-count-gt0-via-else-count-gt0 w ↦ all_before _ _ no_change (λ k within. absurd (omega arith))
     ]
