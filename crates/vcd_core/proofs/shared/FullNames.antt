@@ -6,6 +6,7 @@ use Rattle.std.proofs.Common.{◌<◌, ◌≤◌, List, [], ◌∷◌, ◌++◌,
 use Rattle.std.proofs.Common.{sym, ap, ◌∙◌}
 use Rattle.std.proofs.Common.{append-nil, arith}
 use Rattle.std.specs.List.{concat, list_any}
+use Rattle.std.proofs.lemmas.Bool.{false_from_ne_true, both_ways}
 use Rattle.std.proofs.lemmas.Slice.Eq.{bytes_eq-Decides}
 use Rattle.std.specs.Str.{bytes_eq}
 use Rattle.std.proofs.lemmas.List.{take_all, get_or-append-add, length-drop, take-append-drop}
@@ -35,12 +36,6 @@ pub name_in-empty_word : (scopes : List ScopeName) (words : List (List ℕ))
 unfolding name_in
 name_in-empty_word scopes words = refl
 
--- a test of each image
-pub list_any-map : {X Y : Type 0} (f : X → Y) (p : Y → Bool) (xs : List X)
-    → list_any p (map f xs) ≡ list_any (λ x. p (f x)) xs
-list_any-map f p [] = refl
-list_any-map f p (x ∷ xs) = ap (λ (b : Bool). p (f x) || b) (list_any-map f p xs)
-
 pub ruleset name_steps = (name_in-empty_word, append-nil)
 
 -- the bytes of a name from its scopes, for no scope and for one or more
@@ -68,8 +63,9 @@ bytes_drained n drained within = rw (drained.text, drained.words, within) refl
 pub is_one_of_names : (name : List ℕ) (signals : List Signal)
     → list_any (bytes_eq name) (full_names (map signal_contents signals))
     ≡ list_any (λ s. bytes_eq name (full_name (signal_contents s))) signals
-is_one_of_names name signals = list_any-map full_name (bytes_eq name) (map signal_contents signals)
-    ∙ list_any-map signal_contents (λ s. bytes_eq name (full_name s)) signals
+is_one_of_names name [] = refl
+is_one_of_names name (s ∷ signals) =
+    ap (λ (b : Bool). bytes_eq name (full_name (signal_contents s)) || b) (is_one_of_names name signals)
 
 -- ---- the end of a name
 
@@ -86,8 +82,5 @@ name_in_ends (scope ∷ scopes) words =
 
 -- what texts that end with these two would say of a test, of these two names
 pub not_the_name : (text name : List ℕ) (r : Bool) → r ≡ false → (text ≡ name → r ≡ true) → false ≡ bytes_eq text name
-not_the_name text name r fails passes = choose (bytes_eq text name) ((bytes_eq-Decides text name).0)
-  where
-    choose : (b : Bool) → (b ≡ true → text ≡ name) → false ≡ b
-    choose false same = refl
-    choose true same = sym fails ∙ passes (same refl)
+not_the_name text name r fails passes =
+    sym (false_from_ne_true _ (λ e. both_ways r fails (passes ((bytes_eq-Decides text name).0 e))))

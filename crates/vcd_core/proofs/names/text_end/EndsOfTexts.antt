@@ -4,8 +4,7 @@ use Rattle.std.proofs.Common.{◌++◌}
 use Rattle.std.proofs.Common.{refl, sym, ap, subst, ◌∙◌, arith}
 use Rattle.std.specs.Prelude.{◌==◌, IsTrue}
 use Rattle.std.specs.Int.Bits.{bit_and}
-use Rattle.std.proofs.lemmas.Bool.Decides.{nat_tests}
-use Rattle.std.proofs.lemmas.Bool.{cases_lt}
+use Rattle.std.proofs.lemmas.Bool.{cases_lt, eq-eqb}
 use Rattle.std.proofs.lemmas.Nat.{and_mask, pow_pos}
 use Rattle.std.proofs.Math.Nat.{mul_assoc, mul_comm, div-add-mod, mul-add-mod_self_right}
 use Rattle.std.proofs.Math.Pow.{pow-add, pow_mono, mod-mod-pow}
@@ -104,18 +103,5 @@ passes_test s t text prefix end is other ends =
     }) in
     let agreed : Agree s t = subst (λ (both : TextEnd × TextEnd). Agree both.0 both.1)
     (λ i. (sym (is ∙ ap text_end ends ∙ end_of_both start prefix end) i, sym other i)) agree in
-    same (bit_and s.bytes t.mask) (bit_and t.bytes t.mask) (
-    ap (bit_and s.bytes) agreed.mask ∙ and_mask s.bytes (8 * agreed.count) ∙ agreed.bytes
+    eq-eqb _ _ (ap (bit_and s.bytes) agreed.mask ∙ and_mask s.bytes (8 * agreed.count) ∙ agreed.bytes
     ∙ sym (ap (bit_and t.bytes) agreed.mask ∙ and_mask t.bytes (8 * agreed.count)))
-  where
-    same : (a b : ℕ) → a ≡ b → IsTrue (a == b)
-    same a b is = grind (arith, nat_tests)
-
-pub end_nil : (end : TextEnd) → end_after end [] ≡ end
-unfolding end_after
-end_nil end = refl
-
-pub end_more : (end : TextEnd) (byte : ℕ) (text : List ℕ)
-    → end_after (longer_end end byte) text ≡ end_after end (byte ∷ text)
-unfolding end_after
-end_more end byte text = refl
