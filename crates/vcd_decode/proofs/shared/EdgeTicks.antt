@@ -23,16 +23,17 @@ use Rattle.vcd_decode.specs.inside.LineEdges.{lines_of, line_edge}
 
 -- ---- the bits at an edge are the letters of the lines
 
-x_letter : (n i : ℕ) → get_or (replicate n X) i X ≡ X
-x_letter zero i = refl
-x_letter (suc n) zero = refl
-x_letter (suc n) (suc i) = x_letter n i
+-- a row of one letter, which is also read past its end
+pub same_everywhere : (n i : ℕ) (b : Bit) → get_or (replicate n b) i b ≡ b
+same_everywhere zero i b = refl
+same_everywhere (suc n) zero b = refl
+same_everywhere (suc n) (suc i) b = same_everywhere n i b
 
 bit_before : (wave : Option WaveView) (t : ℕ)
     → lowest_bit (value_before (trace_of wave) t) ≡ option_map (λ f. letter_before f t) (option_map line_of wave)
 bit_before None zero = refl
 bit_before None (suc t) = refl
-bit_before (Some w) zero = ap (λ (b : Bit). Some b) (x_letter w.width _)
+bit_before (Some w) zero = ap (λ (b : Bit). Some b) (same_everywhere w.width _ X)
 bit_before (Some w) (suc t) = refl
 
 bit_here : (wave : Option WaveView) (t : ℕ)

@@ -2,7 +2,6 @@
 use Rattle.std.proofs.Common.{◌≡◌, ◌≢◌, ℕ, suc, ◌+◌, ◌*◌, ◌/◌, ◌%◌, ◌<◌, ◌==◌, Bool, true, false}
 use Rattle.std.proofs.Common.{if◌then◌else◌}
 use Rattle.std.proofs.Common.{Option, Some, None, List, [], ◌∷◌, ◌++◌, length, reverse, map, fold}
-use Rattle.std.proofs.Common.{inl, inr}
 use Rattle.std.proofs.Common.{append_assoc, refl, sym, ap, subst, ◌∙◌, arith}
 use Rattle.std.specs.Prelude.{⊤}
 use Rattle.std.specs.List.{flat_map}
@@ -29,7 +28,7 @@ use Rattle.vcd_decode.specs.I2cSent.{ten_bits_of, SentByte, sent_byte, direction
 use Rattle.vcd_decode.specs.I2cSent.{transfer_bytes}
 use Rattle.vcd_decode.specs.I2cSent.{byte_bits, acknowledge, sent_bytes}
 use Rattle.vcd_decode.proofs.shared.Groups.{groups_short, groups_whole}
-use Rattle.vcd_decode.proofs.laws.sent.Levels.{level_cases}
+use Rattle.vcd_decode.proofs.laws.sent.Levels.{at_level}
 
 -- bits whose levels begin at index i
 unfoldable pub sent_bits : (ℕ → ℕ) → ℕ → List Bit → List BusBit
@@ -49,12 +48,8 @@ sent_append at i (x ∷ xs) ys =
 
 one_bit : (n m t : ℕ) → number_with (Some n) (record { tick = t; level = level m }) ≡ Some (2 * n + m % 2)
 one_bit n m t =
-    elim (level_cases m) [
-      | inl (high, odd) ↦ ap (λ l. number_with (Some n) (record { tick = t; level = l })) high
-          ∙ ap (λ k. Some k) (omega arith)
-      | inr (low, even) ↦ ap (λ l. number_with (Some n) (record { tick = t; level = l })) low
-          ∙ ap (λ k. Some k) (omega arith)
-    ]
+    at_level (λ b. number_with (Some n) (record { tick = t; level = b }) ≡ Some (2 * n + m % 2)) m
+    (λ odd. ap (λ k. Some k) (omega arith)) (λ even. ap (λ k. Some k) (omega arith))
 
 -- each bit of a word is one digit more
 digits_folded : ℕ → List ℕ → ℕ

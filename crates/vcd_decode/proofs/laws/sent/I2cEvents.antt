@@ -1,9 +1,9 @@
 -- The events on a bus whose levels come one after the other.
 use Rattle.std.proofs.Common.{◌≡◌, ℕ, zero, suc, ◌+◌, ◌-◌, ◌<◌, ◌≤◌, Option, None, List, []}
 use Rattle.std.proofs.Common.{◌∷◌, ◌++◌, length}
-use Rattle.std.proofs.Common.{get_or, sym, ap, ◌∙◌, arith}
+use Rattle.std.proofs.Common.{get_or, refl, sym, ap, ◌∙◌, arith}
 use Rattle.std.specs.Prelude.{filter_map}
-use Rattle.std.specs.List.{range_with_len}
+use Rattle.std.specs.List.{cons_option, range_with_len}
 use Rattle.std.specs.Option.{option_to_list}
 use Rattle.vcd_core.specs.declared.bit.Bit.{Bit}
 use Rattle.vcd_core.specs.declared.bit.Bit.TheVariants.{One}
@@ -13,6 +13,7 @@ use Rattle.vcd_decode.specs.BusEvents.{bus_event_at, bus_events}
 use Rattle.vcd_decode.specs.inside.i2c_bus.Events.{bus_event}
 use Rattle.vcd_decode.specs.I2cSent.{levels, HaveLevels}
 use Rattle.vcd_decode.proofs.shared.EdgeTicks.{cons_is, nothing_happens}
+use Rattle.vcd_core.proofs.shared.TicksInARow.{skip_ticks}
 
 -- the events where one of these levels after the other begins, the first of them at index i
 unfoldable pub level_events : (ℕ → ℕ) → ℕ → BusLevels → List BusLevels → List BusEvent
@@ -33,25 +34,16 @@ module _ (scl sda : ℕ → Bit) (at : ℕ → ℕ) (rises : (k : ℕ) → at k 
   event t = bus_event_at scl sda t
 
   -- while nothing changes there is none
-  held : (p : BusLevels) (n t m : ℕ) → bus t ≡ p → ((s : ℕ) → t ≤ s → s ≤ t + n → bus s ≡ p)
+  held : (p : BusLevels) (n t m : ℕ) → ((s : ℕ) → t ≤ s → s ≤ t + n → bus s ≡ p)
       → filter_map event (range_with_len (suc t) (n + m)) ≡ filter_map event (range_with_len (suc t + n) m)
-  held p zero t m here same =
-      let tick : suc t ≡ suc t + 0 = omega arith in
-      let size : 0 + m ≡ m = omega arith in
-      λ i. filter_map event (range_with_len (tick i) (size i))
-  held p (suc n) t m here same =
-      let size : suc n + m ≡ suc (n + m) = omega arith in
-      let next : suc t + 1 ≡ suc (suc t) = omega arith in
-      let none : event (suc t) ≡ None =
-      (λ i. bus_event (suc t) (here i) (same (suc t) (omega arith) (omega arith) i))
-      ∙ nothing_happens (suc t) p.scl p.sda in
-      let tick : suc (suc t) + n ≡ suc t + suc n = omega arith in
-      ap (λ k. filter_map event (range_with_len (suc t) k)) size
-      ∙ cons_is (event (suc t)) (filter_map event (range_with_len (suc t + 1) (n + m)))
-      ∙ ap (λ o. option_to_list o ++ filter_map event (range_with_len (suc t + 1) (n + m))) none
-      ∙ ap (λ k. filter_map event (range_with_len k (n + m))) next
-      ∙ held p n (suc t) m (same (suc t) (omega arith) (omega arith)) (λ s from to. same s (omega arith) (omega arith))
-      ∙ ap (λ k. filter_map event (range_with_len k m)) tick
+  held p n t m same = skip_ticks (filter_map event) n (suc t) (n + m) (suc t + n) m refl refl
+      (λ s ts from to. ap (λ found. cons_option found (filter_map event ts)) (none s from to))
+    where
+      none : (s : ℕ) → suc t ≤ s → s < suc t + n → event s ≡ None
+      none zero from to = absurd (omega arith)
+      none (suc s) from to =
+          (λ i. bus_event (suc s) (same s (omega arith) (omega arith) i) (same (suc s) (omega arith) (omega arith) i))
+          ∙ nothing_happens (suc s) p.scl p.sda
 
   -- the events of levels from the one at index i on
   walked : (stop : ℕ) (ps : List BusLevels) (i t : ℕ) (before : BusLevels) → at i ≡ suc t → at (length ps + i) ≡ stop
@@ -82,8 +74,7 @@ module _ (scl sda : ℕ → Bit) (at : ℕ → ℕ) (rises : (k : ℕ) → at k 
       ∙ cons_is (event (suc t)) (filter_map event (range_with_len (suc t + 1) (long + (stop - next))))
       ∙ (λ k. option_to_list (event_here k) ++ filter_map event (range_with_len (step k) (long + (stop - next))))
       ∙ ap (λ es. option_to_list (bus_event (at i) before p) ++ es)
-      (held p long (suc t) (stop - next) (here (suc t) (omega arith) rise)
-      (λ s from to. here s from (omega arith)) ∙ ap (λ k. filter_map event (range_with_len k (stop - next))) tick
+      (held p long (suc t) (stop - next) (λ s from to. here s from (omega arith)) ∙ ap (λ k. filter_map event (range_with_len k (stop - next))) tick
       ∙ (λ k. filter_map event (range_with_len (previous k) (stop - previous k)))
       ∙ walked stop ps (suc i) (next - 1) p previous
       (ap at {x = length ps + suc i} {y = length (p ∷ ps) + i} (omega arith) ∙ last)
@@ -110,8 +101,7 @@ module _ (scl sda : ℕ → Bit) (at : ℕ → ℕ) (rises : (k : ℕ) → at k 
       let previous : at 1 ≡ suc (at 1 - 1) = omega (arith, rise) in
       cons_is (event 0) (filter_map event (range_with_len (0 + 1) end))
       ∙ ap (λ n. filter_map event (range_with_len 1 n)) size
-      ∙ held (levels One One) (at 1 - 1) 0 (suc end - at 1) (free 0 (omega (arith, rise)))
-      (λ s from to. free s (omega (arith, to, rise)))
+      ∙ held (levels One One) (at 1 - 1) 0 (suc end - at 1) (λ s from to. free s (omega (arith, to, rise)))
       ∙ ap (λ k. filter_map event (range_with_len k (suc end - at 1))) tick
       ∙ (λ k. filter_map event (range_with_len (previous k) (suc end - previous k)))
       ∙ walked (suc end) ps 1 (at 1 - 1) (levels One One) previous

@@ -13,6 +13,7 @@ use Rattle.vcd_decode.specs.declared.annotation.Annotation.{Annotation}
 use Rattle.vcd_decode.specs.Lines.{is_zero}
 use Rattle.vcd_decode.specs.Spi.{is_selected}
 use Rattle.vcd_decode.specs.SpiSent.{IsChipSelect}
+use Rattle.vcd_core.proofs.shared.TicksInARow.{skip_ticks}
 
 -- ---- the chip select
 
@@ -72,19 +73,10 @@ module _ (annotations : List ℕ → List Annotation) (nothing : annotations [] 
     parts_before : (count t n : ℕ) → ((s : ℕ) → t ≤ s → s < t + count → p s ≡ true)
         → of_parts (slice_split p (range_with_len t (count + n)))
         ≡ of_parts (slice_split p (range_with_len (t + count) n))
-    parts_before zero t n all =
-        let size : 0 + n ≡ n = omega arith in
-        let tick : t ≡ t + 0 = omega arith in
-        λ i. of_parts (slice_split p (range_with_len (tick i) (size i)))
-    parts_before (suc count) t n all =
-        let size : suc count + n ≡ suc (count + n) = omega arith in
-        let tick : t + 1 + count ≡ t + suc count = omega arith in
-        ap (λ k. of_parts (slice_split p (range_with_len t k))) size
-        ∙ ap of_parts
-        (slice_split-cons_yes p t (range_with_len (t + 1) (count + n)) (all t (omega arith) (omega arith)))
-        ∙ ap (λ found. found ++ of_parts (slice_split p (range_with_len (t + 1) (count + n)))) nothing
-        ∙ parts_before count (t + 1) n (λ s from to. all s (omega arith) (omega arith))
-        ∙ ap (λ k. of_parts (slice_split p (range_with_len k n))) tick
+    parts_before count t n all =
+        skip_ticks (λ ts. of_parts (slice_split p ts)) count t (count + n) (t + count) n refl refl
+        (λ s ts from to. ap of_parts (slice_split-cons_yes p s ts (all s from to))
+        ∙ ap (λ found. found ++ of_parts (slice_split p ts)) nothing)
 
 -- the annotations of the ticks at which the chip is selected
 pub selected_part : (annotations : List ℕ → List Annotation) (sampled : ℕ → Bool) (cs : Option (ℕ → Bit))

@@ -1,12 +1,13 @@
 -- The words that are read at the middles of their bits.
-use Rattle.std.proofs.Common.{◌≡◌, ℕ, zero, suc, ◌+◌, ◌-◌, ◌^◌, ◌<◌, false, Option, Some, None}
+use Rattle.std.proofs.Common.{◌≡◌, ℕ, ◌-◌, ◌^◌, ◌<◌, false, Option, Some, None}
 use Rattle.std.proofs.Common.{List, [], ◌∷◌}
 use Rattle.std.proofs.Common.{◌++◌, map, length, reverse, get_or, append_assoc, refl, sym, ap, ◌∙◌}
 use Rattle.std.proofs.Common.{arith}
 use Rattle.std.specs.List.{flat_map, list_any, range_with_len, slice_index}
 use Rattle.std.proofs.lemmas.Bool.{lt-ltb, le-ltb}
-use Rattle.std.proofs.lemmas.List.{length-map, length-reverse, reverse-reverse}
-use Rattle.std.proofs.lemmas.List.FromFn.{length-range_with_len}
+use Rattle.std.proofs.lemmas.List.{length-reverse, reverse-reverse}
+use Rattle.std.proofs.lemmas.List.FromFn.{get_or-map-range_with_len, length-map-range_with_len}
+use mathlib.Core.List.{map-map}
 use Rattle.std.proofs.lemmas.List.Sorted.{list_any-IsPermutation, IsPermutation-reverse}
 use Rattle.vcd_core.specs.declared.bit.Bit.{Bit}
 use Rattle.vcd_core.specs.declared.bit.Bit.TheVariants.{X}
@@ -21,7 +22,7 @@ use Rattle.vcd_decode.specs.SentLevels.{data_levels}
 use Rattle.vcd_decode.specs.SpiSent.{SpiWord, WordsFit, word_end, ordered_levels}
 use Rattle.vcd_decode.specs.SpiSent.{SendsData, MaySendData}
 use Rattle.vcd_decode.specs.SpiSent.{sent_line_data, sent_word_annotation, sent_part_annotation}
-use Rattle.vcd_decode.proofs.laws.sent.Levels.{data_clear, data_length, number_of_data}
+use Rattle.vcd_decode.proofs.laws.sent.Levels.{data_clear, data_length, number_of_data, map_range}
 use Rattle.vcd_decode.proofs.laws.sent.SpiClock.{middles}
 use Rattle.vcd_decode.proofs.shared.Groups.{groups_whole}
 
@@ -43,23 +44,15 @@ levels_data Msb bits word within =
     ap number_from_letters (reverse-reverse (data_levels bits word)) ∙ number_of_data bits word within in
     rw (clear, number) refl
 
-read_levels : (f : ℕ → Bit) (g : ℕ → ℕ) (bs : List Bit) (a : ℕ)
-    → ((i : ℕ) → i < length bs → f (g (a + i)) ≡ get_or bs i X) → map f (map g (range_with_len a (length bs))) ≡ bs
-read_levels f g [] a at = refl
-read_levels f g (b ∷ bs) a at =
-    let head : f (g a) ≡ b = ap (λ i. f (g i)) (omega arith) ∙ at 0 (omega arith) in
-    let tail : map f (map g (range_with_len (a + 1) (length bs))) ≡ bs =
-    read_levels f g bs (a + 1) (λ i below. ap (λ i. f (g i)) (omega arith) ∙ at (suc i) (omega arith)) in
-    λ i. head i ∷ tail i
-
 line_read : (u : SpiSetup) (w : SpiWord) (f : ℕ → Bit) (word : ℕ) → word < 2 ^ u.bits
     → ((k : ℕ) → k < u.bits → f (w.bit_middle k) ≡ get_or (ordered_levels u.order u.bits word) k X)
     → line_data u.order (Some f) (middles w u.bits) ≡ Number word
 line_read u w f word within at =
     let levels = ordered_levels u.order u.bits word in
     let size = levels_length u.order u.bits word in
-    ap (λ n. data_of_letters u.order (map f (map w.bit_middle (range_with_len 0 n)))) (sym size)
-    ∙ ap (data_of_letters u.order) (read_levels f w.bit_middle levels 0
+    ap (data_of_letters u.order) (map-map f w.bit_middle (range_with_len 0 u.bits))
+    ∙ ap (λ n. data_of_letters u.order (map (λ k. f (w.bit_middle k)) (range_with_len 0 n))) (sym size)
+    ∙ ap (data_of_letters u.order) (map_range (λ k. f (w.bit_middle k)) levels 0 X
     (λ i below. ap (λ k. f (w.bit_middle k)) (omega arith) ∙ at i (omega (arith, size))))
     ∙ levels_data u.order u.bits word within
 
@@ -81,20 +74,16 @@ later_sent u word_of (Some f) w ws sends = sends.1
 
 -- ---- a word
 
-index_mapped : (g : ℕ → ℕ) (a n k : ℕ) → k < n → slice_index (map g (range_with_len a n)) k ≡ g (a + k)
-index_mapped g a zero k within = absurd (omega arith)
-index_mapped g a (suc n) zero within = ap g (omega arith)
-index_mapped g a (suc n) (suc k) within = index_mapped g (a + 1) n k (omega arith) ∙ ap g (omega arith)
-
-middles_length : (w : SpiWord) (count : ℕ) → length (middles w count) ≡ count
-middles_length w count = length-map (range_with_len 0 count) w.bit_middle ∙ length-range_with_len 0 count
+pub middles_length : (w : SpiWord) (count : ℕ) → length (middles w count) ≡ count
+middles_length w count = length-map-range_with_len w.bit_middle 0 count
 
 first_middle : (w : SpiWord) (count : ℕ) → 0 < count → slice_index (middles w count) 0 ≡ w.bit_middle 0
-first_middle w count some = index_mapped w.bit_middle 0 count 0 some
+first_middle w count some = get_or-map-range_with_len w.bit_middle 0 count 0 0 0 some refl
 
 last_middle : (w : SpiWord) (count : ℕ) → 0 < count
     → slice_index (middles w count) (count - 1) ≡ w.bit_middle (count - 1)
-last_middle w count some = index_mapped w.bit_middle 0 count (count - 1) (omega arith) ∙ ap w.bit_middle (omega arith)
+last_middle w count some =
+    get_or-map-range_with_len w.bit_middle 0 count (count - 1) (count - 1) 0 (omega arith) (omega arith)
 
 -- a word of these data
 word_read : (u : SpiSetup) (w : SpiWord) (mosi miso : Option (ℕ → Bit)) → 0 < u.bits
@@ -116,9 +105,6 @@ pub part_read : (u : SpiSetup) (w : SpiWord) (count : ℕ) (mosi miso : Option (
     → count < u.bits → group_annotation u mosi miso (middles w count) ≡ sent_part_annotation w count
 part_read u w count mosi miso some less =
     rw (middles_length w count, lt-ltb count u.bits less, first_middle w count some, last_middle w count some) refl
-
-pub part_size : (w : SpiWord) (count : ℕ) → length (middles w count) ≡ count
-part_size w count = middles_length w count
 
 -- ---- all words
 

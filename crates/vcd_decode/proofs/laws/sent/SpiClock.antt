@@ -11,6 +11,7 @@ use Rattle.vcd_decode.specs.Lines.{letter_before, is_zero, is_one}
 use Rattle.vcd_decode.specs.Spi.{has_sampling_edge}
 use Rattle.vcd_decode.specs.SpiSent.{SpiWord, word_end, HasHalves, WordsFit, SendsClock}
 use Rattle.vcd_decode.specs.SpiSent.{idle_level, first_level, second_level}
+use Rattle.vcd_core.proofs.shared.TicksInARow.{skip_ticks}
 
 -- ---- edges
 
@@ -42,16 +43,8 @@ no_edge_x mode y = cond_both (mode == 0 || mode == 3) (is_zero X && is_one y) (i
 
 skipped : (p : ℕ → Bool) (count t n later rest : ℕ) → t + count ≡ later → count + rest ≡ n
     → ((s : ℕ) → t ≤ s → s < later → p s ≡ false) → filter p (range_with_len t n) ≡ filter p (range_with_len later rest)
-skipped p zero t n later rest at all fails =
-    let same : t ≡ later = omega arith in
-    let size : n ≡ rest = omega arith in
-    λ i. filter p (range_with_len (same i) (size i))
-skipped p (suc count) t n later rest at all fails =
-    let size : n ≡ suc (count + rest) = omega arith in
-    ap (λ k. filter p (range_with_len t k)) size
-    ∙ rw (fails t (omega arith) (omega arith))
-    (skipped p count (t + 1) (count + rest) later rest (omega arith) refl
-    (λ s from before. fails s (omega arith) before))
+skipped p count t n later rest at all fails = skip_ticks (filter p) count t n later rest at all
+    (λ s ts from before. rw (fails s from before) refl)
 
 passed : (p : ℕ → Bool) (t n : ℕ) → p t ≡ true
     → filter p (range_with_len t (suc n)) ≡ t ∷ filter p (range_with_len (t + 1) n)

@@ -1,6 +1,6 @@
 -- The words that are sent on a serial peripheral interface are found.
 use Rattle.std.proofs.Common.{◌≡◌, ℕ, suc, length, ◌-◌, ◌<◌, ◌≤◌, false}
-use Rattle.std.proofs.Common.{Option, None, List, [], ◌∷◌, ◌++◌, map, append-nil, sym, ap, subst}
+use Rattle.std.proofs.Common.{Option, None, List, [], ◌∷◌, ◌++◌, map, append-nil, ap}
 use Rattle.std.proofs.Common.{◌∙◌, arith}
 use Rattle.std.specs.List.{filter, range_with_len}
 use Rattle.std.proofs.lemmas.Bool.Decides.{nat_tests}
@@ -19,7 +19,7 @@ use Rattle.vcd_decode.proofs.shared.Groups.{groups_none, groups_short}
 use Rattle.vcd_decode.proofs.laws.sent.SpiClock.{edge_of, middles, fits_until, sends_later, clock_idle, no_edge_first}
 use Rattle.vcd_decode.proofs.laws.sent.SpiClock.{words_walked, starts_before}
 use Rattle.vcd_decode.proofs.laws.sent.SpiClock.{nothing_follows, part_follows}
-use Rattle.vcd_decode.proofs.laws.sent.SpiBits.{words_read, part_read, part_size}
+use Rattle.vcd_decode.proofs.laws.sent.SpiBits.{words_read, part_read, middles_length}
 use Rattle.vcd_decode.proofs.laws.sent.SelectedTicks.{selected_part}
 
 -- the numbers of a setup without a fault
@@ -56,11 +56,8 @@ pub words_found : SpiWordsAreFound
 unfolding SendsClock
 words_found u select release end ws clk mosi miso cs none fit within is sends out back =
     let fits = numbers_fit u none in
-    let same : ws ≡ ws ++ [] = sym (append-nil ws) in
     all_found u select release end clk mosi miso cs fits.0 fits.1 within is release ws [] [] (omega arith) fit
-    (subst (λ (xs : List SpiWord). SendsClock u clk (select - 1) release xs) same sends)
-    (λ t sent late early. sent t late early)
-    out back (nothing_follows u release clk fits.0)
+    (rw (append-nil ws) sends) (λ t sent late early. sent t late early) out back (nothing_follows u release clk fits.0)
     ∙ ap (λ found. map (sent_word_annotation u mosi miso) ws ++ map (group_annotation u mosi miso) found)
     (groups_none u.bits) ∙ append-nil (map (sent_word_annotation u mosi miso) ws)
 
@@ -69,7 +66,7 @@ unfolding SendsClock
 part_found u select release end ws w count clk mosi miso cs none fit halves within more less long short is sends out
     back =
     let fits = numbers_fit u none in
-    let size : length (middles w count) ≡ count = part_size w count in
+    let size : length (middles w count) ≡ count = middles_length w count in
     let reach : w.bit_start 0 ≤ release = starts_before w count release halves more long in
     all_found u select release end clk mosi miso cs fits.0 fits.1 within is (w.bit_start 0) ws (w ∷ [])
     (middles w count) reach fit sends

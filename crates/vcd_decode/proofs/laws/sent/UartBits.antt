@@ -3,7 +3,7 @@ use Rattle.std.proofs.Common.{◌≡◌, ℕ, zero, suc, ◌+◌, ◌-◌, ◌*�
 use Rattle.std.proofs.Common.{Bool, true, false}
 use Rattle.std.proofs.Common.{if◌then◌else◌, cond, List, [], ◌∷◌, ◌++◌, length, get_or, take, drop}
 use Rattle.std.proofs.Common.{count_by, replicate}
-use Rattle.std.proofs.Common.{inl, inr, refl, sym, ap, ◌∙◌, ◌^◌, arith}
+use Rattle.std.proofs.Common.{refl, sym, ap, ◌∙◌, ◌^◌, arith}
 use Rattle.std.specs.List.{list_any}
 use Rattle.std.proofs.lemmas.Bool.{eq-eqb, ne_eqb}
 use Rattle.std.proofs.lemmas.List.{get_or-append_right, length-append, length-replicate}
@@ -27,7 +27,8 @@ use Rattle.vcd_decode.specs.UartSent.{Flaw, flawless, wrong_parity, low_stop, Se
 use Rattle.vcd_decode.specs.UartSent.{CanHaveFlaw, parity_levels}
 use Rattle.vcd_decode.specs.UartSent.{sent_parity, stop_levels, bit_offset, half_bit, sent_kind}
 use Rattle.vcd_decode.proofs.uart_frames.SampleTicks.{quotients_rise}
-use Rattle.vcd_decode.proofs.laws.sent.Levels.{level_cases, level_clear, data_clear, data_length}
+use Rattle.vcd_decode.proofs.shared.EdgeTicks.{same_everywhere}
+use Rattle.vcd_decode.proofs.laws.sent.Levels.{at_level, level_clear, data_clear, data_length}
 use Rattle.vcd_decode.proofs.laws.sent.Levels.{number_of_data}
 
 -- ---- when a bit is sampled
@@ -80,11 +81,7 @@ parity_length p wrong_parity ones = levels_length p (suc ones)
 parity_length p flaw ones = levels_length p ones
 
 count_one : (n : ℕ) → count_by is_one (level n ∷ []) ≡ n % 2
-count_one n =
-    elim (level_cases n) [
-      | inl (high, odd) ↦ ap (λ b. count_by is_one (b ∷ [])) high ∙ sym odd
-      | inr (low, even) ↦ ap (λ b. count_by is_one (b ∷ [])) low ∙ sym even
-    ]
+count_one n = at_level (λ b. count_by is_one (b ∷ []) ≡ n % 2) n (λ odd. sym odd) (λ even. sym even)
 
 parity_right : (p : Parity) (ones : ℕ) → is_parity_wrong p (ones + count_by is_one (parity_levels p ones)) ≡ false
 parity_right parities.None ones = refl
@@ -192,11 +189,6 @@ kind_of_sent u w within can =
     (stop_is u.stop_bits w.flaw) (parity_is u w.flaw ones can) (number_of_data u.data_bits w.word within)
     ∙ kind_is w.flaw w.word
 
-rest_high : (n i : ℕ) → get_or (replicate n One) i One ≡ One
-rest_high zero i = refl
-rest_high (suc n) zero = refl
-rest_high (suc n) (suc i) = rest_high n i
-
 -- without a stop bit 0 the last bit is 1
 pub last_high : (u : UartSetup) (w : SentFrame) (i : ℕ) → has_low_stop w.flaw ≡ false → checked_bits u ≤ i
     → get_or (later_levels u w) i One ≡ One
@@ -209,8 +201,8 @@ last_high u w i high past =
     ∙ stop_high w.flaw high (i - checked_bits u)
   where
     stop_high : (flaw : Flaw) → has_low_stop flaw ≡ false → (j : ℕ) → get_or (stop_levels u.stop_bits flaw) j One ≡ One
-    stop_high flawless high j = rest_high u.stop_bits j
-    stop_high wrong_parity high j = rest_high u.stop_bits j
+    stop_high flawless high j = same_everywhere u.stop_bits j One
+    stop_high wrong_parity high j = same_everywhere u.stop_bits j One
     stop_high (low_stop k) high j = absurd (cc)
 
 pub later_length : (u : UartSetup) (w : SentFrame) → CanHaveFlaw u w.flaw → length (later_levels u w) ≡ last_bit u

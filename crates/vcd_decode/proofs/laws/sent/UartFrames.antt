@@ -1,7 +1,7 @@
 -- The frames of a line that sends frames are these.
 use Rattle.std.proofs.Common.{◌≡◌, ◌≢◌, ℕ, zero, suc, ◌+◌, ◌-◌, ◌*◌, ◌/◌, ◌<◌, ◌≤◌, ◌&&◌, Bool, true, false, cond}
 use Rattle.std.proofs.Common.{◌⊎◌, inl, inr}
-use Rattle.std.proofs.Common.{Option, Some, None, List, [], ◌∷◌, map, length, get_or, refl, sym, ap}
+use Rattle.std.proofs.Common.{Option, Some, None, List, [], ◌∷◌, map, get_or, refl, sym, ap}
 use Rattle.std.proofs.Common.{◌∙◌, arith}
 use Rattle.std.specs.List.{filter, range_with_len}
 use Rattle.std.proofs.lemmas.Bool.{cases_lt, lt-leb, le-leb}
@@ -21,8 +21,10 @@ use Rattle.vcd_decode.specs.Laws.{UartFramesAreFound}
 use Rattle.vcd_decode.proofs.uart_frames.BegunFrames.{whole, glitch}
 use Rattle.vcd_decode.proofs.uart_frames.Falls.{never_both}
 use Rattle.vcd_decode.proofs.uart_frames.SampleTicks.{offsets_rise}
+use Rattle.vcd_decode.proofs.laws.sent.Levels.{map_range}
 use Rattle.vcd_decode.proofs.laws.sent.UartBits.{sample_after_start, sample_before_next, later_levels}
 use Rattle.vcd_decode.proofs.laws.sent.UartBits.{later_length, kind_of_sent}
+use Rattle.vcd_core.proofs.shared.TicksInARow.{skip_ticks}
 
 -- ---- the walk over the falls of a line
 
@@ -34,10 +36,10 @@ frames_from begun f taken t n = frames begun taken (filter (is_fall f) (range_wi
 abbrev BeginsNone : (ℕ → Option Annotation) → (ℕ → Bit) → ℕ → ℕ → Type 0
 BeginsNone begun f taken t = (t ≤ taken) ⊎ (is_fall f t ≡ false) ⊎ (begun t ≡ None)
 
-one_skipped : (begun : ℕ → Option Annotation) (f : ℕ → Bit) (taken t n : ℕ) → BeginsNone begun f taken t
-    → frames_from begun f taken t (suc n) ≡ frames_from begun f taken (t + 1) n
+one_skipped : (begun : ℕ → Option Annotation) (f : ℕ → Bit) (taken t : ℕ) (ts : List ℕ) → BeginsNone begun f taken t
+    → frames begun taken (filter (is_fall f) (t ∷ ts)) ≡ frames begun taken (filter (is_fall f) ts)
 unfolding frames
-one_skipped begun f taken t n none = passes (filter (is_fall f) (range_with_len (t + 1) n)) (is_fall f t) none
+one_skipped begun f taken t ts none = passes (filter (is_fall f) ts) (is_fall f t) none
   where
     passes : (later : List ℕ) (fall : Bool) → (t ≤ taken) ⊎ (fall ≡ false) ⊎ (begun t ≡ None)
         → frames begun taken (cond fall (t ∷ later) later) ≡ frames begun taken later
@@ -52,16 +54,9 @@ one_skipped begun f taken t n none = passes (filter (is_fall f) (range_with_len 
 skipped : (begun : ℕ → Option Annotation) (f : ℕ → Bit) (taken count t n later rest : ℕ) → t + count ≡ later
     → count + rest ≡ n → ((s : ℕ) → t ≤ s → s < later → BeginsNone begun f taken s)
     → frames_from begun f taken t n ≡ frames_from begun f taken later rest
-skipped begun f taken zero t n later rest at all still =
-    let same : t ≡ later = omega arith in
-    let size : n ≡ rest = omega arith in
-    λ i. frames_from begun f taken (same i) (size i)
-skipped begun f taken (suc count) t n later rest at all still =
-    let size : n ≡ suc (count + rest) = omega arith in
-    ap (frames_from begun f taken t) size
-    ∙ one_skipped begun f taken t (count + rest) (still t (omega arith) (omega arith))
-    ∙ skipped begun f taken count (t + 1) (count + rest) later rest (omega arith) refl
-    (λ s from before. still s (omega arith) before)
+skipped begun f taken count t n later rest at all still =
+    skip_ticks (λ ts. frames begun taken (filter (is_fall f) ts)) count t n later rest at all
+    (λ s ts from before. one_skipped begun f taken s ts (still s from before))
 
 begins : (begun : ℕ → Option Annotation) (f : ℕ → Bit) (taken t n : ℕ) (a : Annotation) → taken < t → is_fall f t ≡ true
     → begun t ≡ Some a → frames_from begun f taken t (suc n) ≡ a ∷ frames_from begun f a.end (t + 1) n
@@ -102,15 +97,6 @@ idle_begins_none u f end from until (suc t) idle late early = by_letters (f t) (
 
 -- ---- a frame is found
 
-map_range : (g : ℕ → Bit) (bs : List Bit) (a : ℕ) → ((i : ℕ) → i < length bs → g (a + i) ≡ get_or bs i One)
-    → map g (range_with_len a (length bs)) ≡ bs
-map_range g [] a at = refl
-map_range g (b ∷ bs) a at =
-    let head : g a ≡ b = ap g (omega arith) ∙ at 0 (omega arith) in
-    let tail : map g (range_with_len (a + 1) (length bs)) ≡ bs =
-    map_range g bs (a + 1) (λ i below. ap g (omega arith) ∙ at (suc i) (omega arith)) in
-    λ i. head i ∷ tail i
-
 -- a frame at the head of those to come, on a line that sends them
 module _ (u : UartSetup) (setup : IsUartSetup u.numerator u.denominator u.data_bits u.stop_bits) (end : ℕ) (f : ℕ → Bit)
     (from : ℕ) (w : SentFrame) (ws : List SentFrame) (can : SendsFrames u f from end (w ∷ ws)) where
@@ -128,7 +114,7 @@ module _ (u : UartSetup) (setup : IsUartSetup u.numerator u.denominator u.data_b
   letters_are =
       let size = later_length u w can.1 in
       ap (λ n. map (λ bit. f (sample_tick u w.start bit)) (range_with_len 1 n)) (sym size)
-      ∙ map_range (λ bit. f (sample_tick u w.start bit)) (later_levels u w) 1
+      ∙ map_range (λ bit. f (sample_tick u w.start bit)) (later_levels u w) 1 One
       (λ i below.
       ap (λ k. f (sample_tick u w.start k)) (omega arith) ∙ bit_here (suc i) (omega (arith, size)))
 
@@ -201,5 +187,5 @@ frames_found u end f (w ∷ ws) taken from n setup all past can still =
 pub sent_found : UartFramesAreFound
 unfolding uart_annotations falls
 sent_found u f end ws setup can =
-    one_skipped (begun_frame f end u) f 0 0 end (inl (omega arith))
+    one_skipped (begun_frame f end u) f 0 0 (range_with_len 1 end) (inl (omega arith))
     ∙ frames_found u end f ws 0 0 end setup (omega arith) (omega arith) can (λ t late early. absurd (omega arith))
