@@ -12,10 +12,9 @@ use Rattle.vcd_core.specs.declared.bit.Bit.TheVariants.{Zero, One, Z}
 use Rattle.vcd_decode.specs.declared.annotation.Annotation.{Annotation}
 use Rattle.vcd_decode.specs.declared.i2c_bus.events.BusEvent.{BusEvent}
 use Rattle.vcd_decode.specs.declared.i2c_bus.events.BusEvent.TheVariants as events
-use Rattle.vcd_decode.specs.declared.annotation.Kind.TheVariants.{CutOff}
-use Rattle.vcd_decode.specs.Lines.{letter_before, is_zero, is_one, annotation}
+use Rattle.vcd_decode.specs.Lines.{letter_before, is_zero, is_one}
 use Rattle.vcd_decode.specs.UartSetup.{UartSetup}
-use Rattle.vcd_decode.specs.Uart.{sample_tick, last_bit, frame_letters, frame_kind, begun_frame, falls, frames}
+use Rattle.vcd_decode.specs.Uart.{sample_tick, last_bit, begun_frame, falls, frames}
 use Rattle.vcd_decode.specs.Uart.{uart_annotations}
 use Rattle.vcd_decode.specs.Groups.{groups_of}
 use Rattle.vcd_decode.specs.Spi.{is_selected, group_annotation, spi_annotations}
@@ -47,22 +46,10 @@ begins_there : (line : ℕ → Bit) (end : ℕ) (u : UartSetup) (start : ℕ)
     → IfSome (begun_frame line end u start) (λ frame. frame.start ≡ start)
 unfolding begun_frame
 begins_there line end u start =
-    choose (nat_lt end (sample_tick u start 0)) (not (is_zero (line (sample_tick u start 0))))
-    (nat_lt end (sample_tick u start (last_bit u)))
-  where
-    cut : Annotation
-    cut = annotation start end CutOff
-
-    whole : Annotation
-    whole = annotation start (sample_tick u start (last_bit u)) (frame_kind u (frame_letters line u start))
-
-    choose : (early over late : Bool)
-        → IfSome (if early then Some cut else (if over then None else (if late then Some cut else Some whole)))
-        (λ frame. frame.start ≡ start)
-    choose true over late = refl
-    choose false true late = tt
-    choose false false true = refl
-    choose early over late = refl
+    let P : Option Annotation → Type 0 = λ found. IfSome found (λ frame. frame.start ≡ start) in
+    cond_both (nat_lt end (sample_tick u start 0)) _ _ P (λ _. refl)
+    (λ _. cond_both (not (is_zero (line (sample_tick u start 0)))) _ _ P (λ _. tt)
+    (λ _. cond_both (nat_lt end (sample_tick u start (last_bit u))) _ _ P (λ _. refl) (λ _. refl)))
 
 module _ (line : ℕ → Bit) (end : ℕ) (u : UartSetup) where
   abbrev falls_at : ℕ → Type 0

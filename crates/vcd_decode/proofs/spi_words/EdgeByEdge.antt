@@ -7,7 +7,7 @@ use Rattle.std.proofs.Common.{append_assoc, add-one, inl, inr, arith}
 use Rattle.std.specs.List.{filter, flat_map, onto_first, range_with_len, slice_split}
 use Rattle.std.specs.List.{AllByRecursion}
 use Rattle.std.specs.Option.{is_some, option_map}
-use Rattle.std.proofs.lemmas.Bool.{cases_lt, lt-ltb, le-ltb}
+use Rattle.std.proofs.lemmas.Bool.{and_right, cases_lt, lt-ltb, le-ltb}
 use Rattle.std.proofs.lemmas.List.{append-nil}
 use Rattle.vcd_core.specs.declared.bit.Bit.{Bit}
 use Rattle.vcd_core.specs.declared.bit.Bit.TheVariants.{Zero}
@@ -239,14 +239,10 @@ module _ (u : SpiSetup) (some : 0 < u.bits) (mosi miso : Option (ℕ → Bit)) w
         → annotations_at_marks u mosi miso ts (mark was is reads a ++ marks)
         ≡ parts_annotations ts (cond (not is) ([] ∷ ps) (onto_first a ps))
     unfolding annotations_at_marks
-    annotations_at_tick true true true a ts marks ps following edge later = later (ts ++ a ∷ []) (λ none. absurd (cc))
-        ∙ parts_read true a ts ps edge
-    annotations_at_tick false true true a ts marks ps following edge later = later (ts ++ a ∷ []) (λ none. absurd (cc))
-        ∙ parts_read true a ts ps edge
-    annotations_at_tick true true false a ts marks ps following edge later =
-        later ts (λ none. absurd (cc)) ∙ parts_read false a ts ps edge
-    annotations_at_tick false true false a ts marks ps following edge later =
-        later ts (λ none. absurd (cc)) ∙ parts_read false a ts ps edge
+    annotations_at_tick was true true a ts marks ps following edge later = rw (and_right was false refl)
+        (later (ts ++ a ∷ []) (λ none. absurd (cc)) ∙ parts_read true a ts ps edge)
+    annotations_at_tick was true false a ts marks ps following edge later = rw (and_right was false refl)
+        (later ts (λ none. absurd (cc)) ∙ parts_read false a ts ps edge)
     annotations_at_tick true false reads a ts marks ps following edge later =
         ap (λ xs. annotations_of_ticks ts ++ xs) (later [] (λ none. refl) ∙ parts_alone ps)
         ∙ ap (λ us. annotations_of_ticks us ++ annotations_of_parts ps) (sym (append-nil ts))

@@ -13,7 +13,7 @@ use Rattle.std.proofs.lemmas.List.Folds.{list_any-append}
 use Rattle.std.proofs.lemmas.List.{length-append, length-map, length-reverse, reverse-append}
 use Rattle.std.proofs.lemmas.List.{map-append}
 use Rattle.vcd_core.specs.declared.bit.Bit.{Bit}
-use Rattle.vcd_core.specs.declared.bit.Bit.TheVariants.{Zero, X}
+use Rattle.vcd_core.specs.declared.bit.Bit.TheVariants.{Zero}
 use Rattle.vcd_core.specs.WaveView.{WaveView}
 use Rattle.vcd_decode.specs.declared.annotation.LineData.TheVariants.{Unknown, Number}
 use Rattle.vcd_decode.specs.declared.spi_setup.BitOrder.{BitOrder}

@@ -6,7 +6,7 @@ use Rattle.std.proofs.Common.{append_assoc}
 use Rattle.std.proofs.Common.{append-nil, refl, sym, ap, subst, ◌∙◌, inl, inr, arith, add-one}
 use Rattle.std.specs.List.{filter, range_with_len}
 use Rattle.std.specs.Option.{option_to_list, option_map_or}
-use Rattle.std.proofs.lemmas.Bool.{cases_eq, cases_lt, cond_both, lt-leb, le-leb, lt-ltb, le-ltb}
+use Rattle.std.proofs.lemmas.Bool.{cases_eq, cases_lt, lt-leb, le-leb, lt-ltb, le-ltb}
 use Rattle.std.proofs.lemmas.List.{drop_all}
 use Rattle.vcd_core.specs.declared.bit.Bit.{Bit}
 use Rattle.vcd_core.specs.declared.bit.Bit.TheVariants.{Zero, X}
@@ -89,28 +89,17 @@ falls_are wave end one is upto =
 
 -- ---- one change more
 
--- a change that begins no frame
-passed : (begun : ℕ → Option Annotation) (taken tick : ℕ) (starts : List ℕ) (fall : Bool)
-    → fall && nat_lt taken tick ≡ false
-    → frames begun taken (cond fall (tick ∷ starts) starts) ≡ frames begun taken starts
+-- a fall begins a frame, or none up to the end of the last one
+by_fall : (begun : ℕ → Option Annotation) (taken tick : ℕ) (starts : List ℕ) (fall : Bool) →
+    let frame = if fall && nat_lt taken tick then begun tick else None in
+    frames begun taken (cond fall (tick ∷ starts) starts)
+    ≡ option_to_list frame ++ frames begun (option_map_or (λ a. a.end) frame taken) starts
 unfolding frames
-passed begun taken tick starts false none = refl
-passed begun taken tick starts true none =
+by_fall begun taken tick starts false = refl
+by_fall begun taken tick starts true =
     elim (cases_lt taken tick) [
-      | inl following ↦ let both : true ≡ false = sym (lt-ltb taken tick following) ∙ none in absurd (cc)
-      | inr within ↦ rw (le-leb tick taken within) refl
-    ]
-
--- a change that begins a frame
-begins : (begun : ℕ → Option Annotation) (taken tick : ℕ) (starts : List ℕ) (fall : Bool)
-    → fall && nat_lt taken tick ≡ true → frames begun taken (cond fall (tick ∷ starts) starts)
-    ≡ option_to_list (begun tick) ++ frames begun (option_map_or (λ a. a.end) (begun tick) taken) starts
-unfolding frames
-begins begun taken tick starts false some = absurd (cc)
-begins begun taken tick starts true some =
-    elim (cases_lt taken tick) [
-      | inl following ↦ rw (lt-leb tick taken following) refl
-      | inr within ↦ let both : true ≡ false = sym some ∙ le-ltb taken tick within in absurd (cc)
+      | inl following ↦ rw (lt-leb tick taken following, lt-ltb taken tick following) refl
+      | inr within ↦ rw (le-leb tick taken within, le-ltb taken tick within) refl
     ]
 
 -- either way the frames found grow by the frame that it begins
@@ -121,12 +110,7 @@ pub one_change : (begun : ℕ → Option Annotation) (taken : ℕ) (before : Bit
     ≡ option_to_list frame ++ frames begun (option_map_or (λ a. a.end) frame taken) (fall_ticks (letter_of c) cs)
 unfolding fall_ticks
 one_change begun taken before c cs frame is =
-    let fall = is_one before && is_zero (letter_of c) in
-    let rest = fall_ticks (letter_of c) cs in
-    rw is (cond_both (fall && nat_lt taken c.tick) (begun c.tick) None
-    (λ some. frames begun taken (cond fall (c.tick ∷ rest) rest)
-    ≡ option_to_list some ++ frames begun (option_map_or (λ a. a.end) some taken) rest)
-    (begins begun taken c.tick rest fall) (passed begun taken c.tick rest fall))
+    rw is (by_fall begun taken c.tick (fall_ticks (letter_of c) cs) (is_one before && is_zero (letter_of c)))
 
 -- ---- the walk over the changes
 

@@ -1,10 +1,8 @@
 -- The letter of a line of one bit, by the changes up to a tick.
-use Rattle.std.proofs.Common.{◌≡◌, ℕ, zero, suc, ◌+◌, ◌-◌, ◌<◌, ◌≤◌, Bool, cond, nat_le, count_by}
+use Rattle.std.proofs.Common.{◌≡◌, ℕ, zero, suc, ◌+◌, ◌-◌, ◌<◌, ◌≤◌, Bool, nat_le, count_by}
 use Rattle.std.proofs.Common.{List, [], ◌∷◌}
-use Rattle.std.proofs.Common.{length, take, get_or, refl, sym, ap, ◌∙◌, inl, inr, arith}
-use Rattle.std.proofs.lemmas.Bool.{cases_lt, lt-leb, le-leb}
+use Rattle.std.proofs.Common.{length, take, get_or, sym, ap, ◌∙◌, arith}
 use Rattle.std.proofs.lemmas.List.{length-replicate, take_all, take_more}
-use Rattle.std.proofs.lemmas.List.Sums.{sum_by-cons}
 use Rattle.vcd_core.specs.declared.bit.Bit.{Bit}
 use Rattle.vcd_core.specs.declared.wave.Change.{Change}
 use Rattle.vcd_core.specs.declared.bit.Bit.TheVariants.{X}
@@ -12,41 +10,12 @@ use Rattle.vcd_core.specs.Value.{all_x, letter_at}
 use Rattle.vcd_core.specs.WaveView.{WaveView}
 use Rattle.vcd_core.specs.Wave.{value_from, AreChangesFrom, IsWave, AllUpTo}
 use Rattle.vcd_core.specs.WavePush.{last_value}
-use Rattle.vcd_core.proofs.shared.Waves.{value_past, value_skip, value_early}
-use Rattle.vcd_core.proofs.shared.Pushes.{all_from_upto, last_value-none, last_value-split}
+use Rattle.vcd_core.proofs.shared.Pushes.{value_counted, all_from_upto, last_value-none, last_value-split}
 use Rattle.vcd_decode.specs.WaveLines.{line_of}
 
 -- whether a change is at or before a tick
 abbrev pub is_up_to : ℕ → Change → Bool
 is_up_to t c = nat_le c.tick t
-
--- no change is up to the tick where the first comes later
-none_up_to : (cs : List Change) (t floor : ℕ) (before : List Bit) → AreChangesFrom floor before cs → t < floor
-    → count_by (is_up_to t) cs ≡ 0
-none_up_to [] t floor before rise early = refl
-none_up_to (c ∷ cs) t floor before rise early =
-    sum_by-cons (λ x. cond (is_up_to t x) 1 0) c cs
-    ∙ (λ i. cond (lt-leb c.tick t (omega arith) i) 1 0 + none_up_to cs t (c.tick + 1) c.value rise.3 (omega arith) i)
-
--- the value at a tick is the last of the changes that are at or before it
-pub value_counted : (cs : List Change) (t floor : ℕ) (before kept : List Bit) → AreChangesFrom floor kept cs
-    → value_from before cs t ≡ last_value before (take (count_by (is_up_to t) cs) cs)
-unfolding value_from last_value
-value_counted [] t floor before kept rise = refl
-value_counted (c ∷ cs) t floor before kept rise =
-    elim (cases_lt t c.tick) [
-      | inl early ↦
-          let none : count_by (is_up_to t) (c ∷ cs) ≡ 0 =
-          none_up_to (c ∷ cs) t c.tick kept (omega arith, rise.1, rise.2, rise.3) early in
-          value_skip before c cs t early ∙ value_early before c.value cs (c.tick + 1) t rise.3 (omega arith)
-          ∙ ap (λ n. last_value before (take n (c ∷ cs))) (sym none)
-      | inr past ↦
-          let one : count_by (is_up_to t) (c ∷ cs) ≡ suc (count_by (is_up_to t) cs) =
-          sum_by-cons (λ x. cond (is_up_to t x) 1 0) c cs
-          ∙ (λ i. cond (le-leb c.tick t past i) 1 0 + count_by (is_up_to t) cs) ∙ omega arith in
-          value_past before c cs t past ∙ value_counted cs t (c.tick + 1) c.value c.value rise.3
-          ∙ ap (λ n. last_value before (take n (c ∷ cs))) (sym one)
-    ]
 
 wide_from : (floor : ℕ) (before : List Bit) (cs : List Change) (i : ℕ) (d : Change) → AreChangesFrom floor before cs
     → i < length cs → length (get_or cs i d).value ≡ length before

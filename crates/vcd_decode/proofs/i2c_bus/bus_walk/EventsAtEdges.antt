@@ -3,7 +3,7 @@ use Rattle.std.proofs.Common.{◌≡◌, ℕ, zero, suc, Option, Some, None, Lis
 use Rattle.std.proofs.Common.{◌∙◌, option_to_list, map, All}
 use Rattle.std.specs.Prelude.{filter}
 use Rattle.std.specs.List.{filter_map, flat_map, range_with_len, list_any}
-use Rattle.std.proofs.lemmas.List.Elements.{All-nil, All-cons}
+use Rattle.std.proofs.lemmas.List.Elements.{All-map}
 use Rattle.vcd_core.specs.declared.bit.Bit.{Bit}
 use Rattle.vcd_core.specs.Edges.{trace_of, changes_at, edge_on, edges_on}
 use Rattle.vcd_core.specs.BitEdges.{bit_edge, bit_edges_of}
@@ -27,17 +27,14 @@ module _ (scl sda : WaveView) where
   -- each edge has both lines
   pub each_is_bus_edge : (end : ℕ) → All IsBusEdge (bit_edges_of bus_waves end)
   unfolding edges_on
-  each_is_bus_edge end =
-      of_each (filter (λ t. list_any (changes_at t) (map trace_of bus_waves)) (range_with_len 0 (suc end)))
+  each_is_bus_edge end = All-map IsBusEdge bit_edge _
+      (All-map (λ e. IsBusEdge (bit_edge e)) (edge_on (map trace_of bus_waves))
+      (filter (λ t. list_any (changes_at t) (map trace_of bus_waves)) (range_with_len 0 (suc end)))
+      (λ k d within. has_both _))
     where
-      of_each : (ticks : List ℕ) → All IsBusEdge (map bit_edge (map (edge_on (map trace_of bus_waves)) ticks))
-      of_each [] = All-nil IsBusEdge
-      of_each (t ∷ ticks) = All-cons IsBusEdge (bit_edge (edge_on (map trace_of bus_waves) t))
-          (map bit_edge (map (edge_on (map trace_of bus_waves)) ticks)) (has_both t) (of_each ticks)
-        where
-          has_both : (t : ℕ) → IsBusEdge (bit_edge (edge_on (map trace_of bus_waves) t))
-          has_both zero = ((_, _, refl), (_, _, refl))
-          has_both (suc t) = ((_, _, refl), (_, _, refl))
+      has_both : (t : ℕ) → IsBusEdge (bit_edge (edge_on (map trace_of bus_waves) t))
+      has_both zero = ((_, _, refl), (_, _, refl))
+      has_both (suc t) = ((_, _, refl), (_, _, refl))
 
   still : (t : ℕ) → (line_edge (lines_of bus_waves) t).at ≡ (line_edge (lines_of bus_waves) t).before
       → option_to_list (edge_event (line_edge (lines_of bus_waves) t)) ≡ []
