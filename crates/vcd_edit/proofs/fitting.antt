@@ -1,5 +1,4 @@
 -- Lemmas of `fitting`.
 pub mod AdjacencyTests
-pub mod AllElements
 pub mod RecordKinds
 pub mod TestsOfParts

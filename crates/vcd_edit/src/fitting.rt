@@ -1,16 +1,14 @@
 //! Whether a record fits a capture.
 
-ghost use Rattle.std.specs.Prelude.{◌≡◌, ◌↔◌, ℕ, ◌<◌, ◌≤◌, All, IsTrue, Option, Some, None, map};
+ghost use Rattle.std.specs.Prelude.{◌≡◌, ◌↔◌, ◌<◌, ◌≤◌, IsTrue, Some, map};
 ghost use Rattle.std.specs.Prelude.{length};
 ghost use Rattle.vcd_core.specs.Contents.{Contents};
 ghost use Rattle.vcd_core.specs.CaptureContents.{contents, signal_contents};
-ghost use Rattle.vcd_core.specs.Sound.{IsSoundSignal};
 ghost use Rattle.std.specs.List.{insert, remove};
 ghost use Rattle.vcd_edit.specs.AppliedRecords.{with_first_word, with_signal_in_out};
-ghost use Rattle.vcd_edit.specs.AppliedRecords.{MayPutInOrTakeOut, Fits, HasOneKindOfPart};
+ghost use Rattle.vcd_edit.specs.AppliedRecords.{MayPutInOrTakeOut, Fits, RiseFrom};
 ghost use Rattle.vcd_edit.specs.Records.{piece_view, word_view, contents_of_signal, signal_view};
-ghost use Rattle.vcd_edit.specs.Records.{record_view};
-ghost use Rattle.vcd_edit.specs.inside.fitting.TestsOfParts.{AreSoundSignals, PartsFit};
+ghost use Rattle.vcd_edit.specs.inside.fitting.TestsOfParts.{AreSoundSignals, KindFits};
 ghost use Rattle.vcd_edit.specs.inside.fitting.TestsOfParts.{HasSoundMetadata};
 
 mod adjacency;
@@ -81,10 +79,10 @@ fn parts_fit(
     end: u64,
 ) -> bool
     requires small { end ≤ END_LIMIT }
-    requires kind { (other_end : Option ℕ)
-        × HasOneKindOfPart (record_view pieces.now word.now signal.now other_end) }
-    ensures { (c : Contents) (other_end : Option ℕ) → c.signals ≡ map signal_contents signals.now
-        → IsTrue result ↔ PartsFit end (record_view pieces.now word.now signal.now other_end) c }
+    requires rise { RiseFrom 0 (map piece_view pieces.now) }
+    ensures { (c : Contents) → c.signals ≡ map signal_contents signals.now
+        → IsTrue result ↔ KindFits end c (map piece_view pieces.now) (word_view word.now)
+        (signal_view signal.now) }
 {
     match signal {
         Some((at, signal)) => signal_fits(*at, signal, signals, end),

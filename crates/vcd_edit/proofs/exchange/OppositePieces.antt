@@ -1,10 +1,10 @@
 -- Pieces put into a capture one after another, and the pieces that undo them.
 use Rattle.std.proofs.Common.{◌≡◌, ◌≢◌, ℕ, suc, ◌<◌, ◌≤◌, List, [], ◌∷◌, ◌++◌, length, drop}
-use Rattle.std.proofs.Common.{get_or, set, All, refl}
+use Rattle.std.proofs.Common.{set, All, refl}
 use Rattle.std.proofs.Common.{sym, ap, subst, ◌∙◌, arith}
 use Rattle.std.proofs.lemmas.List.{length-set, get_or-set_same, get_or-set_other, set-set}
 use Rattle.std.proofs.lemmas.List.{set-get_or, set_comm}
-use Rattle.std.proofs.lemmas.List.Elements.{All-nil, All-cons, All-head, All-tail}
+use Rattle.std.proofs.lemmas.List.Elements.{All-nil, All-cons}
 use Rattle.vcd_core.specs.Contents.{Contents, SignalContents, no_signal, signal_at}
 use Rattle.vcd_core.specs.Splice.{AllTicksFit}
 use Rattle.vcd_edit.specs.RecordView.{PieceView}
@@ -44,32 +44,23 @@ ready_after c p q other ready =
           ready.ready;
     }
 
--- and fits as before
-fits_elsewhere : (c d : Contents) (q : PieceView) → length d.signals ≡ length c.signals
-    → signal_at d q.signal ≡ signal_at c q.signal → PieceFits c q → PieceFits d q
-fits_elsewhere c d q count same fits =
-    record {
-      signal = omega (arith, count, fits.signal);
-      ordered = fits.ordered;
-      within = subst (λ (s : SignalContents). q.to ≤ length s.changes) (sym same) fits.within;
-      ticks = subst (λ (s : SignalContents). AllTicksFit q.by (drop q.to s.changes)) (sym same) fits.ticks;
-    }
+-- a piece fits by what its signal is
+pub fits_there : (c : Contents) (p : PieceView) (s : SignalContents) → p.signal < length c.signals
+    → signal_at c p.signal ≡ s → p.from ≤ p.to → p.to ≤ length s.changes → AllTicksFit p.by (drop p.to s.changes)
+    → PieceFits c p
+fits_there c p s inside there ordered within ticks = record {
+  signal = inside;
+  ordered = ordered;
+  within = subst (λ (s : SignalContents). p.to ≤ length s.changes) (sym there) within;
+  ticks = subst (λ (s : SignalContents). AllTicksFit p.by (drop p.to s.changes)) (sym there) ticks;
+}
 
--- the opposite piece fits, and undoes the first
+-- the opposite piece undoes the first
 module _ (c : Contents) (p q : PieceView) (within : p.signal < length c.signals)
     (leads : IsOppositePiece (signal_at c p.signal).changes p q) where
   changes_here : (signal_at (with_piece c p) q.signal).changes ≡ changes_with_piece p (signal_at c p.signal).changes
   changes_here = ap (λ k. (signal_at (with_piece c p) k).changes) leads.signal
       ∙ ap (λ (s : SignalContents). s.changes) (signal_here c p within)
-
-  pub back_fits_one : PieceFits (with_piece c p) q
-  back_fits_one =
-      record {
-        signal = omega (arith, count_kept c p, within, leads.signal);
-        ordered = leads.ordered;
-        within = subst (λ l. q.to ≤ length l) (sym changes_here) leads.within;
-        ticks = subst (λ l. AllTicksFit q.by (drop q.to l)) (sym changes_here) leads.ticks;
-      }
 
   pub back_one : with_piece (with_piece c p) q ≡ c
   back_one =
@@ -156,30 +147,15 @@ before_all c q (p ∷ ps) j less (from, rise) =
     before_all (with_piece c p) q ps (suc p.signal) (omega (arith, less, from)) rise
     ∙ ap (λ d. with_pieces d ps) (either_first c p q (λ same. absurd (omega (arith, less, from, same))))
 
--- pieces for later signals are undone by the same ones
-undone_before : (c : Contents) (p : PieceView) (ps qs : List PieceView) (j : ℕ) → p.signal < j → RiseFrom j ps
-    → AreOppositePieces (with_piece c p) ps qs → AreOppositePieces c ps qs
-undone_before c p [] [] j less rise lead = tt
-undone_before c p (x ∷ ps) (y ∷ qs) j less (from, rise) (within, leads, lead) =
-    let other : p.signal ≢ x.signal = λ same. absurd (omega (arith, less, from, same)) in (
-      omega (arith, within, count_kept c p),
-      subst (λ (s : SignalContents). IsOppositePiece s.changes x y)
-          (signal_elsewhere c p x.signal (λ same. other (sym same))) leads,
-      undone_before (with_piece c x) p ps qs (suc x.signal) (omega (arith, less, from)) rise
-          (subst (λ d. AreOppositePieces d ps qs) (either_first c p x other) lead),
-    )
-undone_before c p ps qs j less rise lead = absurd lead
-
 -- all opposite pieces
 pub all_back : (c : Contents) (ps qs : List PieceView) (j : ℕ) → RiseFrom j ps → AreOppositePieces c ps qs
     → with_pieces (with_pieces c ps) qs ≡ c
 unfolding with_pieces
 all_back c [] [] j rise lead = refl
 all_back c (p ∷ ps) (q ∷ qs) j (from, rise) (within, leads, lead) =
-    ap (λ d. with_pieces d qs)
-    (before_all (with_piece c p) q ps (suc p.signal) (omega (arith, leads.signal)) rise
-    ∙ ap (λ d. with_pieces d ps) (back_one c p q within leads))
-    ∙ all_back c ps qs (suc p.signal) rise (undone_before c p ps qs (suc p.signal) (omega arith) rise lead)
+    sym (before_all (with_pieces (with_piece c p) ps) q qs (suc p.signal) (omega (arith, leads.signal))
+    (rise_back (with_piece c p) ps qs (suc p.signal) lead rise))
+    ∙ ap (λ d. with_piece d q) (all_back (with_piece c p) ps qs (suc p.signal) rise lead) ∙ back_one c p q within leads
 all_back c ps qs j rise lead = absurd lead
 
 -- ---- the opposite pieces fit
@@ -189,33 +165,11 @@ pub back_fits_all : (c : Contents) (ps qs : List PieceView) (j : ℕ) → RiseFr
 unfolding with_pieces
 back_fits_all c [] [] j rise lead = All-nil (PieceFits c)
 back_fits_all c (p ∷ ps) (q ∷ qs) j (from, rise) (within, leads, lead) =
-    let here : PieceFits (with_pieces (with_piece c p) ps) q =
-    fits_elsewhere (with_piece c p) (with_pieces (with_piece c p) ps) q (counts_kept (with_piece c p) ps)
-    (signal_kept (with_piece c p) ps q.signal (suc p.signal) (omega (arith, leads.signal)) rise)
-    (back_fits_one c p q within leads) in
-    All-cons (PieceFits (with_pieces (with_piece c p) ps)) q qs here
-    (back_fits_all (with_piece c p) ps qs (suc p.signal) rise lead)
-back_fits_all c ps qs j rise lead = absurd lead
-
--- ---- what the pieces make of their signals
-
-pub pieces_reach : (c : Contents) (ps : List PieceView) (j : ℕ) → RiseFrom j ps
-    → All (λ p. p.signal < length c.signals) ps → All (λ p. signal_at (with_pieces c ps) p.signal
-    ≡ signal_with_changes (signal_at c p.signal) (changes_with_piece p (signal_at c p.signal).changes)) ps
-unfolding with_pieces
-pieces_reach c [] j rise within = λ k d less. absurd (omega arith)
-pieces_reach c (p ∷ ps) j (from, rise) within =
     let next = with_piece c p in
-    let inside : All (λ q. q.signal < length next.signals) ps =
-    λ k d less. omega (arith, count_kept c p, All-tail (λ q. q.signal < length c.signals) p ps within k d less) in
-    let rest = pieces_reach next ps (suc p.signal) rise inside in
-    let here : signal_at (with_pieces next ps) p.signal
-    ≡ signal_with_changes (signal_at c p.signal) (changes_with_piece p (signal_at c p.signal).changes) =
-    signal_kept next ps p.signal (suc p.signal) (omega arith) rise
-    ∙ signal_here c p (All-head (λ q. q.signal < length c.signals) p ps within) in
-    All-cons (λ q. signal_at (with_pieces next ps) q.signal
-    ≡ signal_with_changes (signal_at c q.signal) (changes_with_piece q (signal_at c q.signal).changes)) p ps here
-    (λ k d less. rest k d less
-    ∙ ap (λ (s : SignalContents). signal_with_changes s (changes_with_piece (get_or ps k d) s.changes))
-    (signal_elsewhere c p (get_or ps k d).signal
-    (λ same. absurd (omega (arith, same, all_from (suc p.signal) ps rise k d less)))))
+    let here = fits_there (with_pieces next ps) q _
+    (omega (arith, within, leads.signal, counts_kept next ps, count_kept c p))
+    (ap (signal_at (with_pieces next ps)) leads.signal
+    ∙ signal_kept next ps p.signal (suc p.signal) (omega arith) rise ∙ signal_here c p within)
+    leads.ordered leads.within leads.ticks in
+    All-cons (PieceFits (with_pieces next ps)) q qs here (back_fits_all next ps qs (suc p.signal) rise lead)
+back_fits_all c ps qs j rise lead = absurd lead

@@ -5,38 +5,38 @@ use Rattle.std.proofs.Common.{drop, map, get_or, set, slice_index_or, All, Optio
 use Rattle.std.proofs.Common.{None, refl, sym, ap}
 use Rattle.std.proofs.Common.{subst, ◌∙◌, arith}
 use Rattle.std.specs.List.{insert, remove}
-use Rattle.std.proofs.lemmas.List.{length-set, length-map, length-append, length-take-le}
+use Rattle.std.proofs.lemmas.List.{length-set, length-map, length-take-le}
 use Rattle.std.proofs.lemmas.List.{get_or-set_same, get_or_at}
-use Rattle.std.proofs.lemmas.List.{set-set, set-get_or, drop_more, append_assoc, get_or-append-add}
-use Rattle.std.proofs.lemmas.List.{get_or_append_left}
-use Rattle.std.proofs.lemmas.List.Elements.{All-nil, All-weaker, All-get_or}
+use Rattle.std.proofs.lemmas.List.{set-set, set-get_or, drop_more}
+use Rattle.std.proofs.lemmas.List.Elements.{All-nil, All-cons, All-weaker, All-get_or}
 use Rattle.std.proofs.lemmas.List.Edits.{length-insert, length-remove}
+use Rattle.std.proofs.lemmas.Option.{none-some}
 use Rattle.vcd_core.specs.declared.wave.Change.{Change}
 use Rattle.vcd_core.specs.declared.capture.TheConstants.{END_LIMIT}
-use Rattle.vcd_core.specs.Wave.{AllUpTo}
 use Rattle.vcd_core.specs.Splice.{moved_change, spliced_changes}
 use Rattle.vcd_core.proofs.shared.Pushes.{all_from_upto}
 use Rattle.vcd_core.specs.Contents.{Contents, SignalContents, no_signal, signal_at}
 use Rattle.vcd_core.specs.Sound.{IsSound, IsSoundSignal}
 use Rattle.vcd_edit.specs.RecordView.{PieceView, RecordView}
 use Rattle.vcd_edit.specs.Effect.{renamed_signal}
-use Rattle.vcd_edit.specs.AppliedRecords.{changes_with_piece, signal_with_changes, with_piece}
+use Rattle.vcd_edit.specs.AppliedRecords.{changes_with_piece, with_piece}
 use Rattle.vcd_edit.specs.AppliedRecords.{with_pieces}
 use Rattle.vcd_edit.specs.AppliedRecords.{with_first_word, signals_with_one_in_out}
 use Rattle.vcd_edit.specs.AppliedRecords.{with_signal_in_out, with_end}
 use Rattle.vcd_edit.specs.AppliedRecords.{apply_record, PieceFits, WordFits, MayPutInOrTakeOut}
 use Rattle.vcd_edit.specs.AppliedRecords.{SignalFits, Fits}
-use Rattle.vcd_edit.specs.AppliedRecords.{RiseFrom, HasOneKindOfPart}
+use Rattle.vcd_edit.specs.AppliedRecords.{RiseFrom, HasOneKindOfPart, HasNeitherPiecesNorSignal}
 use Rattle.vcd_edit.specs.Touched.{touched_in_signal, touched_from, partners, record_pairing}
 use Rattle.vcd_edit.specs.Touched.{pairing_at}
 use Rattle.vcd_edit.specs.Touched.{stored_changes}
 use Rattle.vcd_edit.specs.Touched.{change_count}
 use Rattle.vcd_edit.specs.inside.exchange.Pieces.{PieceReadyIn, AreOppositePieces}
-use Rattle.vcd_edit.specs.inside.exchange.Opposites.{opposite_word, removed_signal}
-use Rattle.vcd_edit.specs.inside.exchange.Opposites.{opposite_end}
-use Rattle.vcd_edit.specs.inside.exchange.Opposites.{opposite_record, IsNamedAt, IsOppositeRecord}
-use Rattle.vcd_edit.proofs.exchange.OppositePieces.{all_back, rise_back, back_fits_all, counts_kept}
-use Rattle.vcd_edit.proofs.exchange.OppositePieces.{pieces_reach}
+use Rattle.vcd_edit.specs.inside.exchange.Opposites.{opposite_word, removed_signal, opposite_signal}
+use Rattle.vcd_edit.specs.inside.fitting.TestsOfParts.{AreSoundFrom}
+use Rattle.vcd_edit.specs.inside.exchange.Opposites.{opposite_end, IsNamedAt, IsOppositeRecord}
+use Rattle.vcd_edit.proofs.exchange.OppositePieces.{all_back, rise_back, back_fits_all}
+use Rattle.vcd_edit.proofs.fitting.TestsOfParts.{one_piece}
+use Rattle.vcd_edit.proofs.shared.Lists.{both_parts}
 use Rattle.vcd_edit.proofs.shared.StoredAtMostTouched.{touched_at_least, stored_within}
 
 -- ---- pieces and another end
@@ -118,31 +118,30 @@ signals_of_end (Some e) c = refl
 module _ (e : Option ℕ) (c : Contents) (ps qs : List PieceView) (rise : RiseFrom 0 ps)
     (lead : AreOppositePieces c ps qs)
   where
-    pub pieces_back : with_end (opposite_end e c) (with_pieces (with_end e (with_pieces c ps)) qs) ≡ c
+    pieces_back : with_end (opposite_end e (with_pieces c ps)) (with_pieces (with_end e (with_pieces c ps)) qs) ≡ c
     pieces_back =
-        ap (with_end (opposite_end e c)) (pieces_of_end e (with_pieces c ps) qs
-        ∙ ap (with_end e) (all_back c ps qs 0 rise lead)) ∙ end_back e c c refl
+        ap (with_end (opposite_end e (with_pieces c ps))) (pieces_of_end e (with_pieces c ps) qs
+        ∙ ap (with_end e) (all_back c ps qs 0 rise lead)) ∙ end_back e (with_pieces c ps) c (sym (end_kept c ps))
 
-    pub pieces_fit : All (PieceFits (with_end e (with_pieces c ps))) qs
+    pieces_fit : All (PieceFits (with_end e (with_pieces c ps))) qs
     pieces_fit =
         All-weaker (PieceFits (with_pieces c ps)) (PieceFits (with_end e (with_pieces c ps)))
         (fits_at_end e (with_pieces c ps)) qs (back_fits_all c ps qs 0 rise lead)
 
 -- only a word, and perhaps an end
-pub word_back : (e : Option ℕ) (c : Contents) (k : ℕ) (word : List ℕ) → k < length c.signals
-    → 0 < length (signal_at c k).words
-    → with_end (opposite_end e c)
-    (with_first_word (Some (k, slice_index_or (signal_at c k).words 0 []))
-    (with_end e (with_first_word (Some (k, word)) c))) ≡ c
+word_back : (e : Option ℕ) (c : Contents) (k : ℕ) (word : List ℕ) → k < length c.signals
+    → 0 < length (signal_at c k).words → let d = with_first_word (Some (k, word)) c in
+    with_end (opposite_end e d)
+    (with_first_word (Some (k, slice_index_or (signal_at c k).words 0 [])) (with_end e d)) ≡ c
 word_back e c k word within named =
-    ap (with_end (opposite_end e c))
-    (word_of_end e k (slice_index_or (signal_at c k).words 0 []) (with_first_word (Some (k, word)) c)
-    ∙ ap (with_end e) (word_back_at c k word within named)) ∙ end_back e c c refl
+    let d = with_first_word (Some (k, word)) c in
+    ap (with_end (opposite_end e d)) (word_of_end e k (slice_index_or (signal_at c k).words 0 []) d
+    ∙ ap (with_end e) (word_back_at c k word within named)) ∙ end_back e d c refl
 
 -- only a signal put in or taken out, and perhaps an end
-pub signal_back : (e : Option ℕ) (c : Contents) (k : ℕ) (o : Option SignalContents) → MayPutInOrTakeOut c k o
-    → with_end (opposite_end e c)
-    (with_signal_in_out (Some (k, removed_signal k o c)) (with_end e (with_signal_in_out (Some (k, o)) c))) ≡ c
+signal_back : (e : Option ℕ) (c : Contents) (k : ℕ) (o : Option SignalContents) → MayPutInOrTakeOut c k o
+    → let d = with_signal_in_out (Some (k, o)) c in
+    with_end (opposite_end e d) (with_signal_in_out (Some (k, removed_signal k o c)) (with_end e d)) ≡ c
 signal_back None c k o may =
     λ i. record { header = c.header; timescale = c.timescale; end = c.end; signals = signals_back c k o may i }
 signal_back (Some e) c k o may =
@@ -178,26 +177,6 @@ none_back : (c : Contents) (P : List PieceView → Type 0) → P [] → (qs : Li
 none_back c P here [] lead = here
 none_back c P here (q ∷ qs) lead = absurd lead
 
-pub no_pieces_back : (c : Contents) (ps qs : List PieceView) → AreOppositePieces c ps qs → ps ≡ [] → qs ≡ []
-no_pieces_back c ps qs lead none = none_back c (λ l. l ≡ []) refl qs (subst (λ l. AreOppositePieces c l qs) none lead)
-
--- ---- the opposite of any step is a record
-
-pub opposite_is_record : (c : Contents) (r : RecordView) → HasOneKindOfPart r → (qs : List PieceView)
-    → AreOppositePieces c r.pieces qs → HasOneKindOfPart (opposite_record r qs c)
-opposite_is_record c r one =
-    let Held : RecordView → List PieceView → Type 0 = λ r qs. HasOneKindOfPart (opposite_record r qs c) in
-    by_kind (λ r. (qs : List PieceView) → AreOppositePieces c r.pieces qs → Held r qs)
-    (λ ps e rise qs lead. record {
-      rise = rise_back c ps qs 0 lead rise;
-      word_alone = λ some. absurd (some refl);
-      signal_alone = λ some. absurd (some refl);
-    })
-    (λ w e. none_back c (Held (parts [] (Some w) None e))
-    (record { rise = tt; word_alone = λ some. refl; signal_alone = λ some. absurd (some refl) }))
-    (λ m e. none_back c (Held (parts [] None (Some m) e))
-    (record { rise = tt; word_alone = λ some. absurd (some refl); signal_alone = λ some. (refl, refl) })) r one
-
 -- ---- what the opposite stores
 
 signal_stores : (advance : ℕ → ℤ) (c : Contents) (k : ℕ) (o : Option SignalContents) (after : List SignalContents)
@@ -232,56 +211,78 @@ undoes c r q sound leads pieces word signal stored = record {
 named : (c : Contents) (k : ℕ) → IsSound c → k < length c.signals → 0 < length (signal_at c k).words
 named c k sound within = (All-get_or (IsSoundSignal c.end) c.signals k no_signal within sound.signals).named
 
-pub leads_other_way : (c : Contents) (r : RecordView) → HasOneKindOfPart r → IsSound c → WordFits c r.word
-    → SignalFits c r.signal → (qs : List PieceView) → AreOppositePieces c r.pieces qs
-    → IsOppositeRecord c r (opposite_record r qs c)
+-- the capture after the signal and the pieces
+abbrev pub spliced_contents : Contents → RecordView → Contents
+spliced_contents c r = with_pieces (with_signal_in_out r.signal c) r.pieces
+
+-- the capture after all parts, and the record that is left
+pub record IsExchanged (c : Contents) (r : RecordView) (end : Contents) (q : RecordView) : Type 0 where
+  pub effect : end ≡ apply_record r c
+  pub one : HasOneKindOfPart q
+  pub neither : HasNeitherPiecesNorSignal r → HasNeitherPiecesNorSignal q
+  pub leads : IsOppositeRecord c r q
+
+-- the exchange in the code's order: the signal, the pieces, the word, the end
+abbrev pub ExchangeInOrder : Contents → RecordView → List PieceView → Type 0
+ExchangeInOrder c r qs =
+    let worded = with_first_word r.word (spliced_contents c r) in
+    IsExchanged c r (with_end r.other_end worded) (parts qs (opposite_word r.word (spliced_contents c r))
+    (opposite_signal r.signal c) (opposite_end r.other_end worded))
+
+pub all_exchanged : (c : Contents) (r : RecordView) → HasOneKindOfPart r → IsSound c → WordFits c r.word
+    → SignalFits c r.signal → (qs : List PieceView) → AreOppositePieces (with_signal_in_out r.signal c) r.pieces qs
+    → ExchangeInOrder c r qs
 unfolding apply_record with_pieces
-leads_other_way c r one sound =
-    let Undone : RecordView → List PieceView → Type 0 = λ r qs. IsOppositeRecord c r (opposite_record r qs c) in
-    by_kind (λ r. WordFits c r.word → SignalFits c r.signal → (qs : List PieceView) → AreOppositePieces c r.pieces qs
-    → Undone r qs)
-    (λ ps e rise word signal qs lead. undoes c (parts ps None None e) (opposite_record (parts ps None None e) qs c)
-    sound (pieces_back e c ps qs rise lead) (pieces_fit e c ps qs rise lead) tt tt
-    (λ advance opposite. omega (
-      arith,
-      stored_within advance c ps qs 0 rise lead opposite,
-      ap (λ ss. touched_from advance 0 c.signals (map Some ss)) (signals_of_end e (with_pieces c ps)),
-    )))
-    (λ w e word signal. none_back c (Undone (parts [] (Some w) None e))
-    (undoes c (parts [] (Some w) None e) (opposite_record (parts [] (Some w) None e) [] c) sound
-    (word_back e c w.0 w.1 word (named c w.0 sound word))
-    (All-nil (PieceFits (apply_record (parts [] (Some w) None e) c)))
-    (omega (
-      arith,
-      word,
-      ap length (signals_of_end e (with_first_word (Some w) c)),
-      length-set c.signals w.0 (renamed_signal w.1 (signal_at c w.0)),
-    ))
-    tt (λ advance opposite. omega arith)))
-    (λ m e word signal. none_back c (Undone (parts [] None (Some m) e))
-    (let is = signals_of_end e (with_signal_in_out (Some m) c) in
-    let after = with_end e (with_signal_in_out (Some m) c) in
-    undoes c (parts [] None (Some m) e) (opposite_record (parts [] None (Some m) e) [] c) sound
-    (signal_back e c m.0 m.1 signal) (All-nil (PieceFits after)) tt (may_be_opposite c after m.0 m.1 signal is)
-    (λ advance opposite. omega (arith, signal_stores advance c m.0 m.1 after.signals signal is)))) r one
+all_exchanged c r one sound =
+    by_kind (λ r. WordFits c r.word → SignalFits c r.signal → (qs : List PieceView)
+    → AreOppositePieces (with_signal_in_out r.signal c) r.pieces qs → ExchangeInOrder c r qs)
+    (λ ps e rise word signal qs lead. record {
+      effect = refl;
+      one = record {
+        rise = rise_back c ps qs 0 lead rise;
+        word_alone = λ some. absurd (some refl);
+        signal_alone = λ some. absurd (some refl);
+      };
+      neither = λ none.
+          (none_back c (λ l. l ≡ []) refl qs (subst (λ l. AreOppositePieces c l qs) none.0 lead), refl);
+      leads = undoes c (parts ps None None e) (parts qs None None (opposite_end e (with_pieces c ps))) sound
+          (pieces_back e c ps qs rise lead) (pieces_fit e c ps qs rise lead) tt tt
+          (λ advance opposite. omega (
+            arith,
+            stored_within advance c ps qs 0 rise lead opposite,
+            ap (λ ss. touched_from advance 0 c.signals (map Some ss)) (signals_of_end e (with_pieces c ps)),
+          ));
+    })
+    (λ w e word signal. let d = with_first_word (Some w) c in
+    none_back c (ExchangeInOrder c (parts [] (Some w) None e)) (record {
+      effect = refl;
+      one = record { rise = tt; word_alone = λ some. refl; signal_alone = λ some. absurd (some refl) };
+      neither = λ none. (refl, refl);
+      leads = undoes c (parts [] (Some w) None e) (parts [] (opposite_word (Some w) c) None (opposite_end e d)) sound
+          (word_back e c w.0 w.1 word (named c w.0 sound word)) (All-nil (PieceFits (with_end e d)))
+          (omega (
+            arith,
+            word,
+            ap length (signals_of_end e d),
+            length-set c.signals w.0 (renamed_signal w.1 (signal_at c w.0)),
+          ))
+          tt (λ advance opposite. omega arith);
+    }))
+    (λ m e word signal. let d = with_signal_in_out (Some m) c in
+    none_back d (ExchangeInOrder c (parts [] None (Some m) e)) (record {
+      effect = refl;
+      one = record { rise = tt; word_alone = λ some. absurd (some refl); signal_alone = λ some. (refl, refl) };
+      neither = λ none. absurd (none-some _ (sym none.1));
+      leads = undoes c (parts [] None (Some m) e) (parts [] None (opposite_signal (Some m) c) (opposite_end e d)) sound
+          (signal_back e c m.0 m.1 signal) (All-nil (PieceFits (with_end e d))) tt
+          (may_be_opposite c (with_end e d) m.0 m.1 signal (signals_of_end e d))
+          (λ advance opposite. omega (
+            arith,
+            signal_stores advance c m.0 m.1 (with_end e d).signals signal (signals_of_end e d),
+          ));
+    })) r one
 
 -- ---- pieces of a record that fits are ready
-
-within_all : (c : Contents) (ps : List PieceView) → All (PieceFits c) ps → All (λ p. p.signal < length c.signals) ps
-within_all c ps fits = λ k d less. (fits k d less).signal
-
-pieces_alone : (c : Contents) (r : RecordView) → HasOneKindOfPart r → 0 < length r.pieces
-    → (apply_record r c).signals ≡ (with_pieces c r.pieces).signals
-unfolding apply_record
-pieces_alone c =
-    by_kind (λ r. 0 < length r.pieces → (apply_record r c).signals ≡ (with_pieces c r.pieces).signals)
-    (λ ps e rise some. signals_of_end e (with_pieces c ps)) (λ w e some. absurd (omega arith))
-    (λ m e some. absurd (omega arith))
-
-upto_end : (end : ℕ) (cs : List Change) → end ≤ END_LIMIT → AllUpTo end cs → All (λ c. c.tick ≤ END_LIMIT) cs
-upto_end end cs small upto =
-    All-weaker (λ (c : Change). c.tick ≤ end) (λ (c : Change). c.tick ≤ END_LIMIT) (λ c le. omega (arith, le, small)) cs
-    (all_from_upto end cs upto)
 
 -- the changes of a piece are among those of its result
 piece_among : (P : Change → Type 0) (p : PieceView) (cs : List Change) → All P (changes_with_piece p cs)
@@ -289,103 +290,55 @@ piece_among : (P : Change → Type 0) (p : PieceView) (cs : List Change) → All
 unfolding spliced_changes
 piece_among P p cs all =
     let prefix = take p.from cs in
-    let rest = map (moved_change p.by) (drop p.to cs) in
-    λ k d less.
-    let here : get_or (prefix ++ p.changes ++ rest) (length prefix + k) d ≡ get_or p.changes k d =
-    ap (λ l. get_or l (length prefix + k) d) (append_assoc prefix p.changes rest)
-    ∙ get_or-append-add prefix (p.changes ++ rest) k d ∙ get_or_append_left p.changes rest d k less in
-    subst P here (all (length prefix + k) d (omega (
-      arith,
-      less,
-      length-append (prefix ++ p.changes) rest,
-      length-append prefix p.changes,
-    )))
+    ((both_parts P prefix p.changes).0
+    ((both_parts P (prefix ++ p.changes) (map (moved_change p.by) (drop p.to cs))).0 all).0).1
 
-pub pieces_ready : (c : Contents) (r : RecordView) → Fits r c → HasOneKindOfPart r → IsSound c
-    → All (PieceReadyIn c) r.pieces
-pieces_ready c r fits one sound = λ k d less.
-    let p = get_or r.pieces k d in
-    let fit : PieceFits c p = fits.pieces k d less in
-    let old = signal_at c p.signal in
-    let new = signal_with_changes old (changes_with_piece p old.changes) in
-    let same : (apply_record r c).signals ≡ (with_pieces c r.pieces).signals =
-    pieces_alone c r one (omega (arith, less)) in
-    let reached : signal_at (apply_record r c) p.signal ≡ new =
-    ap (λ l. get_or l p.signal no_signal) same
-    ∙ pieces_reach c r.pieces 0 one.rise (within_all c r.pieces fits.pieces) k d less in
-    let inside : p.signal < length (apply_record r c).signals =
-    omega (arith, fit.signal, ap length same, counts_kept c r.pieces) in
-    let after : IsSoundSignal (apply_record r c).end new =
-    subst (IsSoundSignal (apply_record r c).end) reached
-    (All-get_or (IsSoundSignal (apply_record r c).end) (apply_record r c).signals p.signal no_signal inside
-    fits.sound.signals) in
-    let before : IsSoundSignal c.end old =
-    All-get_or (IsSoundSignal c.end) c.signals p.signal no_signal fit.signal sound.signals in
-    record {
-      signal = fit.signal;
+ready_from : (end : ℕ) (c : Contents) (k : ℕ) (ps : List PieceView) → end ≤ END_LIMIT → IsSound c → RiseFrom k ps
+    → AreSoundFrom end c k ps → All (PieceReadyIn c) ps
+ready_from end c k [] small sound rise fit = All-nil (PieceReadyIn c)
+ready_from end c k (p ∷ ps) small sound (from, rise) fit =
+    let ((within, (names, valid), prefix), rest) = (one_piece end c p ps k from rise).0 fit in
+    let old = (signal_at c p.signal).changes in
+    let ticks = (All-get_or (IsSoundSignal c.end) c.signals p.signal no_signal within sound.signals).ticks in
+    All-cons (PieceReadyIn c) p ps (record {
+      signal = within;
       ready = record {
-        ordered = fit.ordered;
-        within = fit.within;
-        ticks = fit.ticks;
-        form = after.wave;
-        small = piece_among (λ c. c.tick < 2 ^ 64) p old.changes
-            (All-weaker (λ (c : Change). c.tick ≤ END_LIMIT) (λ (c : Change). c.tick < 2 ^ 64)
-            (λ c le. omega (arith, le)) new.changes
-            (upto_end (apply_record r c).end new.changes fits.sound.end after.ticks));
-        upto = upto_end c.end old.changes sound.end before.ticks;
+        ordered = valid.ordered;
+        within = valid.within;
+        ticks = valid.ticks;
+        form = valid.form;
+        small = piece_among (λ c. c.tick < 2 ^ 64) p old
+            (λ j d less. omega (arith, small, all_from_upto end (changes_with_piece p old) valid.upto j d less));
+        upto = λ j d less. omega (arith, sound.end, all_from_upto c.end old ticks j d less);
       };
-    }
+    })
+    (ready_from end c (suc p.signal) ps small sound rise rest)
 
--- ---- the order of the exchange: the signal, the pieces, the word, the end
+pub pieces_ready : (c : Contents) (r : RecordView) → HasOneKindOfPart r → IsSound c → Fits r c
+    → All (PieceReadyIn c) r.pieces
+unfolding apply_record
+pieces_ready c r one sound =
+    by_kind (λ r. Fits r c → All (PieceReadyIn c) r.pieces)
+    (λ ps e rise fits. let end = (with_end e (with_pieces c ps)).end in
+    ready_from end c 0 ps fits.sound.end sound rise (
+      fits.pieces,
+      subst (All (IsSoundSignal end)) (signals_of_end e (with_pieces c ps)) fits.sound.signals,
+    ))
+    (λ w e fits. All-nil (PieceReadyIn c)) (λ m e fits. All-nil (PieceReadyIn c)) r one
 
-module _ (c : Contents) where
-  -- the capture after the signal and the pieces
-  abbrev exchanged : RecordView → Contents
-  exchanged r = with_pieces (with_signal_in_out r.signal c) r.pieces
+-- ---- after the signal, and after the pieces
 
-  pub in_order : (r : RecordView) → HasOneKindOfPart r
-      → with_end r.other_end (with_first_word r.word (exchanged r)) ≡ apply_record r c
-  unfolding apply_record with_pieces
-  in_order = by_kind (λ r. with_end r.other_end (with_first_word r.word (exchanged r)) ≡ apply_record r c)
-      (λ ps e rise. refl) (λ w e. refl) (λ m e. refl)
+pub ready_moved : (c : Contents) (r : RecordView) → HasOneKindOfPart r → All (PieceReadyIn c) r.pieces
+    → All (PieceReadyIn (with_signal_in_out r.signal c)) r.pieces
+ready_moved c =
+    by_kind (λ r. All (PieceReadyIn c) r.pieces → All (PieceReadyIn (with_signal_in_out r.signal c)) r.pieces)
+    (λ ps e rise ready. ready) (λ w e ready. ready)
+    (λ m e ready. All-nil (PieceReadyIn (with_signal_in_out (Some m) c)))
 
-  pub ready_moved : (r : RecordView) → HasOneKindOfPart r → All (PieceReadyIn c) r.pieces
-      → All (PieceReadyIn (with_signal_in_out r.signal c)) r.pieces
-  ready_moved =
-      by_kind (λ r. All (PieceReadyIn c) r.pieces → All (PieceReadyIn (with_signal_in_out r.signal c)) r.pieces)
-      (λ ps e rise ready. ready) (λ w e ready. ready)
-      (λ m e ready. All-nil (PieceReadyIn (with_signal_in_out (Some m) c)))
-
-  pub lead_moved : (qs : List PieceView) (r : RecordView) → HasOneKindOfPart r
-      → AreOppositePieces (with_signal_in_out r.signal c) r.pieces qs → AreOppositePieces c r.pieces qs
-  lead_moved qs =
-      by_kind (λ r. AreOppositePieces (with_signal_in_out r.signal c) r.pieces qs → AreOppositePieces c r.pieces qs)
-      (λ ps e rise lead. lead) (λ w e lead. lead)
-      (λ m e. none_back (with_signal_in_out (Some m) c) (AreOppositePieces c []) tt qs)
-
-  pub word_fits : (r : RecordView) → HasOneKindOfPart r → WordFits c r.word → WordFits (exchanged r) r.word
-  unfolding with_pieces
-  word_fits = by_kind (λ r. WordFits c r.word → WordFits (exchanged r) r.word)
-      (λ ps e rise word. tt) (λ w e word. word) (λ m e word. tt)
-
-  pub word_named : IsSound c → (r : RecordView) → HasOneKindOfPart r → WordFits c r.word
-      → IsNamedAt (exchanged r) r.word
-  unfolding with_pieces
-  word_named sound = by_kind (λ r. WordFits c r.word → IsNamedAt (exchanged r) r.word)
-      (λ ps e rise word. tt) (λ w e word. named c w.0 sound word) (λ m e word. tt)
-
-  pub word_same : (r : RecordView) → HasOneKindOfPart r → opposite_word r.word (exchanged r) ≡ opposite_word r.word c
-  unfolding with_pieces
-  word_same = by_kind (λ r. opposite_word r.word (exchanged r) ≡ opposite_word r.word c)
-      (λ ps e rise. refl) (λ w e. refl) (λ m e. refl)
-
-  same_end : (e : Option ℕ) (d : Contents) → d.end ≡ c.end → opposite_end e d ≡ opposite_end e c
-  same_end None d same = refl
-  same_end (Some e) d same = ap Some same
-
-  pub end_same : (r : RecordView) → HasOneKindOfPart r
-      → opposite_end r.other_end (with_first_word r.word (exchanged r)) ≡ opposite_end r.other_end c
-  unfolding with_pieces
-  end_same = by_kind (λ r. opposite_end r.other_end (with_first_word r.word (exchanged r)) ≡ opposite_end r.other_end c)
-      (λ ps e rise. same_end e (with_pieces c ps) (end_kept c ps)) (λ w e. same_end e (with_first_word (Some w) c) refl)
-      (λ m e. same_end e (with_signal_in_out (Some m) c) refl)
+pub word_ready : (c : Contents) → IsSound c → (r : RecordView) → HasOneKindOfPart r → WordFits c r.word
+    → WordFits (spliced_contents c r) r.word × IsNamedAt (spliced_contents c r) r.word
+unfolding with_pieces
+word_ready c sound =
+    by_kind (λ r. WordFits c r.word
+    → WordFits (spliced_contents c r) r.word × IsNamedAt (spliced_contents c r) r.word)
+    (λ ps e rise word. (tt, tt)) (λ w e word. (word, named c w.0 sound word)) (λ m e word. (tt, tt))

@@ -9,7 +9,7 @@ use Rattle.std.specs.Option.{unwrap_or}
 use Rattle.std.specs.Prelude.{MatchOption}
 use Rattle.std.proofs.lemmas.Bool.{cases_eq}
 use Rattle.std.proofs.lemmas.List.{get_or_default, get_or-set_same, get_or-set_other}
-use Rattle.std.proofs.lemmas.List.{drop-set-lt, drop-drop, drop_more, take_more, take_more_set}
+use Rattle.std.proofs.lemmas.List.{drop-set-lt, drop-drop, drop_more, take_more_set}
 use Rattle.std.proofs.lemmas.List.Elements.{All-head, All-tail}
 use Rattle.vcd_core.specs.declared.capture.Signal.{Signal}
 use Rattle.vcd_core.specs.Contents.{Contents, SignalContents, signal_at}
@@ -26,6 +26,7 @@ use Rattle.vcd_edit.specs.inside.exchange.Pieces.{IsOppositePiece, PieceReady, P
 use Rattle.vcd_edit.specs.inside.exchange.Pieces.{wave_at, HasNoLessRoom}
 use Rattle.vcd_edit.specs.inside.exchange.Pieces.{HasRoomForPiece, CanBePutIn, IsComing, HaveRoom}
 use Rattle.vcd_edit.specs.inside.exchange.Pieces.{ExchangedSoFar}
+use Rattle.vcd_edit.proofs.shared.Lists.{drop_here, take_here}
 use Rattle.vcd_edit.proofs.exchange.OppositePieces.{ready_after, with_pieces-push, AreOppositePieces-push}
 use Rattle.vcd_edit.proofs.exchange.OppositePieces.{all_from}
 use Rattle.vcd_edit.proofs.exchange.ContentsAfterPiece.{contents_at, wave_is_there, piece_put, other_waves}
@@ -35,31 +36,6 @@ pub views_kept : (ps : List Piece) (i : ℕ) (x y : Piece) → i < length ps →
 views_kept ps i x y within is same =
     map-set piece_view ps i y ∙ ap (set (map piece_view ps) i) (same ∙ ap piece_view is
     ∙ sym (get_or-map piece_view ps i x (piece_view x) within)) ∙ set-get_or (map piece_view ps) i (piece_view x)
-
-module _ (old new : List Piece) (i : ℕ) (x y : Piece) (within : i < length new) (is : x ≡ get_or new i x)
-    (rest : drop i new ≡ drop i old) where
-  within_old : i < length old
-  within_old = omega (arith, ap length rest, length-drop i new, length-drop i old)
-
-  -- the piece at hand is as at first
-  pub item_as_first : x ≡ get_or old i x
-  item_as_first =
-      is ∙ ap (λ k. get_or new k x) {x = i} {y = i + 0} (omega arith) ∙ sym (get_or-drop i new 0 x)
-      ∙ ap (λ l. get_or l 0 x) rest ∙ get_or-drop i old 0 x ∙ ap (λ k. get_or old k x) {x = i + 0} {y = i} (omega arith)
-
-  pub rest_more : drop (i + 1) (set new i y) ≡ drop (i + 1) old
-  rest_more = drop-set-lt (i + 1) new i y (omega arith) ∙ sym (drop-drop 1 i new) ∙ ap (drop 1) rest ∙ drop-drop 1 i old
-
-  -- the later pieces begin with it
-  rest_begins : drop i old ≡ x ∷ drop (i + 1) old
-  rest_begins = drop_more old i x within_old ∙ ap (λ p. p ∷ drop (i + 1) old) (sym item_as_first)
-
-  old_more : map piece_view (take (i + 1) old) ≡ map piece_view (take i old) ++ piece_view x ∷ []
-  old_more = ap (map piece_view) (take_more old i x within_old ∙ ap (λ p. take i old ++ p ∷ []) (sym item_as_first))
-      ∙ map-append piece_view (take i old) (x ∷ [])
-
-  new_more : map piece_view (take (i + 1) (set new i y)) ≡ map piece_view (take i new) ++ piece_view y ∷ []
-  new_more = ap (map piece_view) (take_more_set new i y within) ∙ map-append piece_view (take i new) (y ∷ [])
 
 -- the same piece makes the same of the same wave
 pub same_coming : (v w : WaveView) (p q : Piece) → p.from ≡ q.from → p.to ≡ q.to → p.by ≡ q.by
@@ -148,11 +124,20 @@ module _ {before : Contents} {old new : List Piece} {i : ℕ} {comings : List (O
   abbrev x : Piece
   x = get_or new i d
 
-  is : x ≡ get_or new i x
-  is = get_or_default new i d x within
+  within_old : i < length old
+  within_old = omega (arith, ap length far.rest, length-drop i new, length-drop i old)
 
+  -- the piece at hand is as at first
+  as_first : x ≡ get_or old i x
+  as_first = get_or_default new i d x within
+      ∙ cc (drop_more new i x within, far.rest, drop_more old i x within_old)
+
+  -- the later pieces begin with it
   begins : drop i old ≡ x ∷ drop (i + 1) old
-  begins = rest_begins old new i x x within is far.rest
+  begins = drop_here old i x within_old as_first
+
+  old_more : map piece_view (take (i + 1) old) ≡ map piece_view (take i old) ++ piece_view x ∷ []
+  old_more = ap (map piece_view) (take_here old i x within_old as_first) ∙ map-append piece_view (take i old) (x ∷ [])
 
   ready_now : All (PieceReadyIn (contents c)) (piece_view x ∷ map piece_view (drop (i + 1) old))
   ready_now = subst (λ l. All (PieceReadyIn (contents c)) (map piece_view l)) begins far.ready
@@ -168,8 +153,7 @@ module _ {before : Contents} {old new : List Piece} {i : ℕ} {comings : List (O
 
   next_room : HasRoomForPiece c.signals x (get_or comings i None)
   next_room = subst (λ q. HasRoomForPiece c.signals q (get_or comings i None))
-      (sym (item_as_first old new i x x within is far.rest))
-      (far.room i x (omega arith) (within_old old new i x x within is far.rest))
+      (sym as_first) (far.room i x (omega arith) within_old)
 
   pub next_piece_room : x.to - x.from ≤ vec_capacity x.changes
   next_piece_room = next_room.piece
@@ -223,15 +207,16 @@ module _ {before : Contents} {old new : List Piece} {i : ℕ} {comings : List (O
           (subst (λ (d : Contents). IsOppositePiece (signal_at d x.signal).changes (piece_view x) (piece_view y))
           far.there leads)
 
+      new_more : map piece_view (take (i + 1) (set new i y)) ≡ map piece_view (take i new) ++ piece_view y ∷ []
+      new_more = ap (map piece_view) (take_more_set new i y within) ∙ map-append piece_view (take i new) (y ∷ [])
+
       pub put_more : ExchangedSoFar before old (i + 1) (set new i y) (contents after) after.signals comings
       put_more =
           record {
-            rest = rest_more old new i x y within is far.rest;
-            there = made ∙ ap (with_pieces before) (sym (old_more old new i x y within is far.rest));
-            back = subst (λ l. AreOppositePieces before l (map piece_view (take (i + 1) (set new i y))))
-                (sym (old_more old new i x y within is far.rest))
-                (subst (AreOppositePieces before (map piece_view (take i old) ++ piece_view x ∷ []))
-                (sym (new_more old new i x y within is far.rest)) leads_on);
+            rest = drop-set-lt (i + 1) new i y (omega arith) ∙ sym (drop-drop 1 i new) ∙ ap (drop 1) far.rest
+                ∙ drop-drop 1 i old;
+            there = made ∙ ap (with_pieces before) (sym old_more);
+            back = subst (λ (t : Type 0). t) (λ j. AreOppositePieces before (sym old_more j) (sym new_more j)) leads_on;
             ready = subst (λ d. All (PieceReadyIn d) (map piece_view (drop (i + 1) old))) (sym put)
                 (λ k d less. ready_after (contents c) (piece_view x) (get_or (map piece_view (drop (i + 1) old)) k d)
                 (others k d less)

@@ -1,50 +1,44 @@
 -- A splice of a wave is a wave if its changes may follow one another.
-use Rattle.std.proofs.Common.{◌≡◌, ◌≢◌, ◌↔◌, ℕ, ◌+◌, ◌≤◌, ◌<◌, ℤ, pos, ◌+ℤ◌, unsigned_abs, IsTrue, Bool, true, false}
-use Rattle.std.proofs.Common.{List, [], ◌∷◌, ◌++◌, length, take, drop, map, get_or, refl, sym, ap, subst, ◌∙◌}
+use Rattle.std.proofs.Common.{◌≡◌, ◌≢◌, ◌↔◌, ℕ, ◌+◌, ◌≤◌, ℤ, pos, ◌+ℤ◌, unsigned_abs, IsTrue, Bool, true, false}
+use Rattle.std.proofs.Common.{List, [], ◌∷◌, ◌++◌, length, take, drop, map, refl, sym, subst}
 use Rattle.std.proofs.Common.{Option, Some, None, MatchOption, arith}
 use Rattle.std.specs.Int.{w64, FitsUnsigned}
 use Rattle.std.specs.Prelude.{is_some}
 use Rattle.std.proofs.lemmas.Bool.{both_ways, false≢true}
-use Rattle.std.proofs.lemmas.Int.{ints}
-use Rattle.std.proofs.lemmas.List.{append_assoc, take-append-drop, drop_more}
+use Rattle.std.proofs.lemmas.List.{append_assoc, take-append-drop}
 use Rattle.std.proofs.lemmas.List.Elements.{All-nil, All-cons, All-head, All-tail}
-use Rattle.vcd_core.proofs.shared.Pushes.{all_from_upto}
+use Rattle.vcd_core.proofs.shared.Splices.{moved_nowhere}
 use Rattle.vcd_core.specs.declared.bit.Bit.{Bit}
 use Rattle.vcd_core.specs.declared.capture.TheConstants.{END_LIMIT}
 use Rattle.vcd_core.specs.declared.wave.Change.{Change}
 use Rattle.vcd_core.specs.Value.{all_x}
-use Rattle.vcd_core.specs.Wave.{change, AreChangesFrom, IsWave, AllUpTo}
+use Rattle.vcd_core.specs.Wave.{AreChangesFrom, IsWave, AllUpTo}
 use Rattle.vcd_core.specs.WavePush.{last_value}
 use Rattle.vcd_core.specs.Splice.{moved_change, TickFits, AllTicksFit, spliced_changes}
 use Rattle.vcd_edit.specs.RecordView.{PieceView}
+use Rattle.vcd_edit.proofs.shared.TouchedBySplice.{stay_fit}
 use Rattle.vcd_edit.specs.inside.fitting.Adjacency.{floor_after, MayComeNext, MayFollow}
 use Rattle.vcd_edit.specs.inside.fitting.Adjacency.{JoinToWave, IsValidPiece}
 
 -- ---- a list in two parts
 
-pub rise_split : (floor : ℕ) (before : List Bit) (xs ys : List Change) → AreChangesFrom floor before (xs ++ ys)
-    → AreChangesFrom floor before xs × AreChangesFrom (floor_after floor xs) (last_value before xs) ys
+rise_parts : (floor : ℕ) (before : List Bit) (xs ys : List Change) → AreChangesFrom floor before (xs ++ ys)
+    ↔ (AreChangesFrom floor before xs × AreChangesFrom (floor_after floor xs) (last_value before xs) ys)
 unfolding floor_after last_value
-rise_split floor before [] ys rise = (tt, rise)
-rise_split floor before (x ∷ xs) ys (from, other, wide, rest) =
-    let parts = rise_split (x.tick + 1) x.value xs ys rest in ((from, other, wide, parts.0), parts.1)
+rise_parts floor before [] ys = ((λ rise. (tt, rise)), (λ both. both.1))
+rise_parts floor before (x ∷ xs) ys =
+    let parts = rise_parts (x.tick + 1) x.value xs ys in (
+      (λ (from, other, wide, rest). let both = parts.0 rest in ((from, other, wide, both.0), both.1)),
+      (λ ((from, other, wide, rest), second). (from, other, wide, parts.1 (rest, second))),
+    )
 
-pub rise_join : (floor : ℕ) (before : List Bit) (xs ys : List Change) → AreChangesFrom floor before xs
-    → AreChangesFrom (floor_after floor xs) (last_value before xs) ys → AreChangesFrom floor before (xs ++ ys)
-unfolding floor_after last_value
-rise_join floor before [] ys first second = second
-rise_join floor before (x ∷ xs) ys (from, other, wide, rest) second =
-    (from, other, wide, rise_join (x.tick + 1) x.value xs ys rest second)
-
--- ---- the end
-
-pub upto_split : (end : ℕ) (xs ys : List Change) → AllUpTo end (xs ++ ys) → AllUpTo end xs × AllUpTo end ys
-upto_split end [] ys upto = (tt, upto)
-upto_split end (x ∷ xs) ys (first, rest) = let parts = upto_split end xs ys rest in ((first, parts.0), parts.1)
-
-pub upto_join : (end : ℕ) (xs ys : List Change) → AllUpTo end xs → AllUpTo end ys → AllUpTo end (xs ++ ys)
-upto_join end [] ys first second = second
-upto_join end (x ∷ xs) ys (first, rest) second = (first, upto_join end xs ys rest second)
+upto_parts : (end : ℕ) (xs ys : List Change) → AllUpTo end (xs ++ ys) ↔ (AllUpTo end xs × AllUpTo end ys)
+upto_parts end [] ys = ((λ upto. (tt, upto)), (λ both. both.1))
+upto_parts end (x ∷ xs) ys =
+    let parts = upto_parts end xs ys in (
+      (λ (first, rest). let both = parts.0 rest in ((first, both.0), both.1)),
+      (λ ((first, rest), second). (first, parts.1 (rest, second))),
+    )
 
 -- ---- changes that follow one another
 
@@ -72,19 +66,6 @@ follow_tells by end floor before (c ∷ cs) =
       )),
     )
 
--- changes that do not move
-moved_none : (cs : List Change) → map (moved_change (pos 0)) cs ≡ cs
-unfolding moved_change
-moved_none [] = refl
-moved_none (c ∷ cs) =
-    let same : unsigned_abs (pos c.tick +ℤ pos 0) ≡ c.tick = omega (arith, ints) in
-    λ i. change (same i) c.value ∷ moved_none cs i
-
-fit_none : (end : ℕ) (cs : List Change) → end ≤ END_LIMIT → AllUpTo end cs → AllTicksFit (pos 0) cs
-unfolding TickFits
-fit_none end cs small upto = λ k d less.
-    let le = all_from_upto end cs upto k d less in (omega (arith, ints), omega (arith, ints, small, le))
-
 pub next_tells : (by : ℤ) (end floor : ℕ) (before : List Bit) (c : Change) (next : Option ℕ) → c.value ≢ before
     → length c.value ≡ length before
     → MatchOption next
@@ -110,31 +91,10 @@ unfolding floor_after
 floor_of_none [] none = refl
 floor_of_none (c ∷ cs) none = absurd (omega (arith, none))
 
--- one more change
-module _ (by : ℤ) (end floor : ℕ) (before : List Bit) (cs : List Change) (i : ℕ) (x : Change) (within : i < length cs)
-    (is : x ≡ get_or cs i x) where
-  begins : drop i cs ≡ x ∷ drop (i + 1) cs
-  begins = drop_more cs i x within ∙ ap (λ c. c ∷ drop (i + 1) cs) (sym is)
-
-  pub follow_begins : MayFollow by end floor before (drop i cs) ≡ (MayComeNext by end floor before x
-      × MayFollow by end ((moved_change by x).tick + 1) x.value (drop (i + 1) cs))
-  unfolding MayFollow
-  follow_begins = ap (MayFollow by end floor before) begins
-
-  pub floor_begins : floor_after floor (map (moved_change by) (drop i cs))
-      ≡ floor_after ((moved_change by x).tick + 1) (map (moved_change by) (drop (i + 1) cs))
-  unfolding floor_after
-  floor_begins = ap (λ l. floor_after floor (map (moved_change by) l)) begins
-
-  pub value_begins : last_value before (map (moved_change by) (drop i cs))
-      ≡ last_value x.value (map (moved_change by) (drop (i + 1) cs))
-  unfolding last_value moved_change
-  value_begins = ap (λ l. last_value before (map (moved_change by) l)) begins
-
 -- ---- a piece is valid
 
 pub prefix_rises : (width : ℕ) (cs : List Change) (n : ℕ) → IsWave width cs → AreChangesFrom 0 (all_x width) (take n cs)
-prefix_rises width cs n is = (rise_split 0 (all_x width) (take n cs) (drop n cs)
+prefix_rises width cs n is = ((rise_parts 0 (all_x width) (take n cs) (drop n cs)).0
     (subst (AreChangesFrom 0 (all_x width)) (sym (take-append-drop n cs)) is.rise)).0
 
 module _ (width end : ℕ) (cs : List Change) (p : PieceView) (is : IsWave width cs) (small : end ≤ END_LIMIT)
@@ -155,43 +115,41 @@ module _ (width end : ℕ) (cs : List Change) (p : PieceView) (is : IsWave width
   pub valid_tells : JoinToWave width end prefix p.changes (drop p.to cs) p.by ↔ IsValidPiece width end cs p
   unfolding spliced_changes
   valid_tells =
-      let same = moved_none p.changes in
+      let same = moved_nowhere p.changes in
       let piece = follow_tells (pos 0) end floor value p.changes in
-      let rest = follow_tells p.by end (floor_after floor (map (moved_change (pos 0)) p.changes))
-      (last_value value (map (moved_change (pos 0)) p.changes)) (drop p.to cs) in (
+      let rest = follow_tells p.by end (floor_after floor p.changes) (last_value value p.changes) (drop p.to cs) in
+      let rise = rise_parts 0 (all_x width) prefix (p.changes ++ later) in
+      let rise_later = rise_parts floor value p.changes later in
+      let upto_later = upto_parts end (prefix ++ p.changes) later in
+      let upto_prefix = upto_parts end prefix p.changes in (
         (λ (upto, at_piece, at_later).
             let first = piece.0 at_piece in
             let second = rest.0 at_later in
-            let rise = rise_join floor value p.changes later (subst (AreChangesFrom floor value) same first.1)
-            (subst (λ l. AreChangesFrom (floor_after floor l) (last_value value l) later) same second.1) in
             record {
               ordered = ordered;
               within = within;
               ticks = second.0;
               form = record {
                 rise = subst (AreChangesFrom 0 (all_x width)) (sym (append_assoc prefix p.changes later))
-                    (rise_join 0 (all_x width) prefix (p.changes ++ later)
-                    (prefix_rises width cs p.from is) rise);
+                    (rise.1 (
+                      prefix_rises width cs p.from is,
+                      rise_later.1 (subst (AreChangesFrom floor value) same first.1, second.1),
+                    ));
               };
-              upto = upto_join end (prefix ++ p.changes) later
-                  (upto_join end prefix p.changes upto (subst (AllUpTo end) same first.2)) second.2;
+              upto = upto_later.1 (upto_prefix.1 (upto, subst (AllUpTo end) same first.2), second.2);
             }),
         (λ stands.
-            let rise = rise_split floor value p.changes later (rise_split 0 (all_x width) prefix (p.changes ++ later)
+            let parts = rise_later.0 (rise.0
             (subst (AreChangesFrom 0 (all_x width)) (append_assoc prefix p.changes later) stands.form.rise)).1 in
-            let last = upto_split end (prefix ++ p.changes) later stands.upto in
-            let first = upto_split end prefix p.changes last.0 in (
+            let last = upto_later.0 stands.upto in
+            let first = upto_prefix.0 last.0 in (
               first.0,
               piece.1 (
-                fit_none end p.changes small first.1,
-                subst (AreChangesFrom floor value) (sym same) rise.0,
+                stay_fit end p.changes small first.1,
+                subst (AreChangesFrom floor value) (sym same) parts.0,
                 subst (AllUpTo end) (sym same) first.1,
               ),
-              rest.1 (
-                stands.ticks,
-                subst (λ l. AreChangesFrom (floor_after floor l) (last_value value l) later) (sym same) rise.1,
-                last.1,
-              ),
+              rest.1 (stands.ticks, parts.1, last.1),
             )),
       )
 
@@ -205,6 +163,11 @@ some_tells (Some x) P R test shows is told = ((λ t. shows x told), (λ p. is))
 pub refused : (r : Bool) (S : Type 0) → r ≡ false → (S → r ≡ true) → (IsTrue false → S) × (S → IsTrue false)
 refused r S fails passes = ((λ t. absurd (false≢true t)), (λ s. absurd (both_ways r fails (passes s))))
 
--- the same if the test itself is the answer
-pub failed : (r : Bool) (S : Type 0) → r ≡ false → (S → r ≡ true) → (IsTrue r → S) × (S → IsTrue r)
-failed r S fails passes = ((λ t. absurd (both_ways r fails t)), passes)
+-- two tests, one after the other: the first passes, or its failing is the answer
+pub both_pass : (a b : Bool) {P Q S : Type 0} → S ↔ (P × Q) → IsTrue a ↔ P → a ≡ true → IsTrue b ↔ Q → IsTrue b ↔ S
+both_pass a b tells first passes second =
+    ((λ yes. tells.1 (first.0 passes, second.0 yes)), (λ s. second.1 (tells.0 s).1))
+
+pub one_fails : (a : Bool) {P Q S : Type 0} → S ↔ (P × Q) → IsTrue a ↔ P → a ≡ false → IsTrue a ↔ S
+one_fails a tells first fails =
+    ((λ yes. absurd (both_ways a fails yes)), (λ s. first.1 (tells.0 s).0))

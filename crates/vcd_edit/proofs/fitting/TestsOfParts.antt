@@ -1,16 +1,13 @@
--- Which pieces fit a capture, as one pass over its signals shows.
-use Rattle.std.proofs.Common.{◌≡◌, ◌↔◌, ℕ, zero, suc, ◌+◌, ◌-◌, ◌<◌, ◌≤◌, ◌==◌, Bool, true, false}
-use Rattle.std.proofs.Common.{List, [], ◌∷◌, length, map, take, drop, get_or, All, refl, sym}
-use Rattle.std.proofs.Common.{if◌then◌else◌, ap, subst, ◌∙◌, inl, inr, arith}
-use Rattle.std.proofs.lemmas.Bool.{cases_eq, eqb-true, eqb-false, eq-eqb}
-use Rattle.std.proofs.lemmas.List.{length-map, length-drop, get_or-map, get_or_default, take_rest, drop-map}
-use Rattle.std.proofs.lemmas.List.{drop-drop, drop_all}
-use Rattle.std.proofs.lemmas.List.Elements.{All-nil, All-cons, All-head, All-tail}
+-- Which pieces fit a capture, as one pass over them and its signals shows.
+use Rattle.std.proofs.Common.{◌≡◌, ◌↔◌, ℕ, suc, ◌+◌, ◌-◌, ◌<◌, ◌≤◌, List, [], ◌∷◌, ◌++◌, length, map, take, drop}
+use Rattle.std.proofs.Common.{get_or, set, All, refl, sym, ap, subst, ◌∙◌, add-one, arith}
+use Rattle.std.specs.Prelude.{slice_range}
+use Rattle.std.proofs.lemmas.List.{length-map, length-take-le, get_or-map, take_rest, drop-map, take-map, drop-take}
+use Rattle.std.proofs.lemmas.List.{set_split, take-set-le, drop-append-le, drop_all}
+use Rattle.std.proofs.lemmas.List.Elements.{All-nil, All-cons, All-head, All-tail, All-append}
 use Rattle.vcd_core.specs.Wave.{IsWave, AllUpTo}
-use Rattle.vcd_core.specs.Splice.{AllTicksFit}
 use Rattle.vcd_core.specs.declared.capture.Signal.{Signal}
-use Rattle.vcd_core.specs.declared.capture.TheConstants.{SIGNAL_LIMIT}
-use Rattle.vcd_core.specs.Contents.{Contents, SignalContents, no_signal, signal_at}
+use Rattle.vcd_core.specs.Contents.{Contents, SignalContents, signal_at}
 use Rattle.vcd_core.specs.CaptureContents.{signal_contents}
 use Rattle.vcd_core.specs.Sound.{IsSoundSignal}
 use Rattle.vcd_edit.specs.declared.record.Piece.{Piece}
@@ -18,11 +15,11 @@ use Rattle.vcd_edit.specs.RecordView.{PieceView}
 use Rattle.vcd_edit.specs.AppliedRecords.{changes_with_piece, signal_with_changes, with_piece}
 use Rattle.vcd_edit.specs.AppliedRecords.{with_pieces, PieceFits, RiseFrom}
 use Rattle.vcd_edit.specs.Records.{piece_view}
-use Rattle.vcd_edit.specs.inside.fitting.TestsOfParts.{HasSoundNames, IsSoundHere, pieces_after, AreSoundFrom}
-use Rattle.vcd_edit.specs.inside.fitting.TestsOfParts.{AreSoundSignals, is_for}
+use Rattle.vcd_edit.specs.inside.fitting.Adjacency.{IsValidPiece}
+use Rattle.vcd_edit.specs.inside.fitting.TestsOfParts.{HasSoundNames, IsSoundWith, AreSoundTo, AreSoundFrom}
 use Rattle.vcd_edit.proofs.exchange.ContentsAfterPiece.{contents_at}
-use Rattle.vcd_edit.proofs.exchange.OppositePieces.{signal_here, signal_elsewhere, signal_kept, before_all}
-use Rattle.vcd_edit.proofs.exchange.OppositePieces.{counts_kept}
+use Rattle.vcd_edit.proofs.exchange.OppositePieces.{signal_kept, before_all, counts_kept}
+use Rattle.vcd_edit.proofs.shared.Lists.{drop_here, both_parts}
 
 -- ---- a signal by its names and its changes
 
@@ -37,203 +34,119 @@ pub unmapped : {X Y : Type 0} (P : Y → Type 0) (f : X → Y) (xs : List X) →
 unmapped P f xs all k d less =
     subst P (get_or-map f xs k d (f d) less) (all k (f d) (omega (arith, less, length-map xs f)))
 
--- ---- one pass over the signals
+-- ---- one piece and the signals up to its own
 
--- the signals from a position on are sound once the pieces are put in
-abbrev AreSoundThen : ℕ → ℕ → Contents → List PieceView → Type 0
-AreSoundThen end k c ps = (j : ℕ) → k ≤ j → j < length c.signals → IsSoundSignal end (signal_at (with_pieces c ps) j)
+-- the signals before those of the pieces stay
+kept_before : (c : Contents) (ps : List PieceView) (k j : ℕ) → k ≤ j → RiseFrom j ps
+    → take k (with_pieces c ps).signals ≡ take k c.signals
+unfolding with_pieces
+kept_before c [] k j le rise = refl
+kept_before c (p ∷ ps) k j le (from, rise) =
+    kept_before (with_piece c p) ps k (suc p.signal) (omega (arith, le, from)) rise
+    ∙ take-set-le k c.signals p.signal _ (omega (arith, le, from))
 
--- the signal at a position, and the later ones
-at_or_later : (P : ℕ → Type 0) (k n : ℕ) → P k → ((j : ℕ) → suc k ≤ j → j < n → P j) → (j : ℕ) → k ≤ j → j < n → P j
-at_or_later P k n here later j from to =
-    elim (cases_eq j k) [ inl same ↦ subst P (sym same) here | inr other ↦ later j (omega (arith, from, other)) to ]
+module _ (end : ℕ) (c : Contents) (p : PieceView) (ps : List PieceView) (k : ℕ) (from : k ≤ p.signal)
+    (rise : RiseFrom (suc p.signal) ps) where
+  abbrev before : List SignalContents
+  before = slice_range c.signals k p.signal
 
-module _ (end : ℕ) (c : Contents) where
-  -- what a signal with its piece is
-  module _ (p : PieceView) (ps : List PieceView) (k : ℕ) (same : p.signal ≡ k) (within : k < length c.signals)
-      (rise : RiseFrom (suc p.signal) ps) where
-    here_is : signal_at (with_pieces c (p ∷ ps)) k
-        ≡ signal_with_changes (signal_at c k) (changes_with_piece p (signal_at c k).changes)
-    unfolding with_pieces
-    here_is =
-        signal_kept (with_piece c p) ps k (suc p.signal) (omega (arith, same)) rise
-        ∙ ap (signal_at (with_piece c p)) (sym same) ∙ signal_here c p (omega (arith, same, within))
-        ∙ ap (λ j. signal_with_changes (signal_at c j) (changes_with_piece p (signal_at c j).changes)) same
+  abbrev here : SignalContents
+  here = signal_with_changes (signal_at c p.signal) (changes_with_piece p (signal_at c p.signal).changes)
 
-    later_is : (j : ℕ) → suc k ≤ j → signal_at (with_pieces c (p ∷ ps)) j ≡ signal_at (with_pieces c ps) j
-    unfolding with_pieces
-    later_is j from =
-        ap (λ d. signal_at d j) (sym (before_all c p ps (suc p.signal) (omega arith) rise))
-        ∙ signal_elsewhere (with_pieces c ps) p j (λ is. absurd (omega (arith, from, same, is)))
+  abbrev later : List SignalContents
+  later = drop (suc p.signal) (with_pieces c ps).signals
 
-    fits_here : IsSoundHere end true (signal_at c k) (p ∷ ps) → PieceFits c p
-    fits_here here = record {
-      signal = omega (arith, same, within);
-      ordered = here.1.ordered;
-      within = subst (λ j. p.to ≤ length (signal_at c j).changes) (sym same) here.1.within;
-      ticks = subst (λ j. AllTicksFit p.by (drop p.to (signal_at c j).changes)) (sym same) here.1.ticks;
-    }
+  parts_then : p.signal < length c.signals → drop k (with_pieces c (p ∷ ps)).signals ≡ before ++ here ∷ later
+  unfolding with_pieces
+  parts_then within =
+      let d = with_pieces c ps in
+      let inside : p.signal < length d.signals = omega (arith, within, counts_kept c ps) in
+      let long = length-take-le p.signal d.signals (omega (arith, inside)) in
+      ap (λ (d : Contents). drop k d.signals) (sym (before_all c p ps (suc p.signal) (omega arith) rise))
+      ∙ ap (λ (s : SignalContents). drop k (set d.signals p.signal
+      (signal_with_changes s (changes_with_piece p s.changes))))
+      (signal_kept c ps p.signal (suc p.signal) (omega arith) rise)
+      ∙ ap (drop k) (set_split d.signals p.signal here inside)
+      ∙ drop-append-le k (take p.signal d.signals) (here ∷ later) (omega (arith, from, long))
+      ∙ ap (λ l. l ++ here ∷ later) (ap (drop k) (kept_before c ps p.signal (suc p.signal) (omega arith) rise)
+      ∙ ap (λ n. drop k (take n c.signals)) {x = p.signal} {y = k + (p.signal - k)} (omega (arith, from))
+      ∙ drop-take k (p.signal - k) c.signals)
 
-    sound_here : IsSoundHere end true (signal_at c k) (p ∷ ps)
-        → IsSoundSignal end (signal_at (with_pieces c (p ∷ ps)) k)
-    sound_here here = subst (IsSoundSignal end) (sym here_is) (sound_by_parts end
-        (signal_with_changes (signal_at c k) (changes_with_piece p (signal_at c k).changes)) here.0 here.1.form
-        here.1.upto)
-
-    valid_here : PieceFits c p → IsSoundSignal end (signal_at (with_pieces c (p ∷ ps)) k)
-        → IsSoundHere end true (signal_at c k) (p ∷ ps)
-    valid_here fits sound =
-        let new = signal_with_changes (signal_at c k) (changes_with_piece p (signal_at c k).changes) in
-        let after : IsSoundSignal end new = subst (IsSoundSignal end) here_is sound in (
-          sound_names end new after,
-          record {
-            ordered = fits.ordered;
-            within = subst (λ j. p.to ≤ length (signal_at c j).changes) same fits.within;
-            ticks = subst (λ j. AllTicksFit p.by (drop p.to (signal_at c j).changes)) same fits.ticks;
-            form = after.wave;
-            upto = after.ticks;
-          },
-        )
-
-  -- the pass tells which pieces fit
-  tells : (n k : ℕ) (ps : List PieceView) → k + n ≡ length c.signals → RiseFrom k ps
-      → AreSoundFrom end c.signals k n ps ↔ (All (PieceFits c) ps × AreSoundThen end k c ps)
-  unfolding AreSoundFrom with_pieces
-  tells zero k [] count rise =
-      ((λ none. (All-nil (PieceFits c), (λ j from to. absurd (omega (arith, count, from, to))))), (λ fit. refl))
-  tells zero k (p ∷ ps) count rise = (
-    (λ none. absurd (cc)),
-    (λ fit. absurd (omega (arith, count, rise.0, (All-head (PieceFits c) p ps fit.0).signal))),
+  pub one_piece : AreSoundFrom end c k (p ∷ ps) ↔ (AreSoundTo end c.signals k p × AreSoundFrom end c (suc p.signal) ps)
+  one_piece = (
+    (λ (fit, all).
+        let fits : PieceFits c p = All-head (PieceFits c) p ps fit in
+        let parts = (both_parts (IsSoundSignal end) before (here ∷ later)).0
+        (subst (All (IsSoundSignal end)) (parts_then fits.signal) all) in
+        let sound : IsSoundSignal end here = All-head (IsSoundSignal end) here later parts.1 in
+        let valid : IsValidPiece (signal_at c p.signal).width end (signal_at c p.signal).changes p = record {
+          ordered = fits.ordered;
+          within = fits.within;
+          ticks = fits.ticks;
+          form = sound.wave;
+          upto = sound.ticks;
+        } in (
+          (fits.signal, (sound_names end here sound, valid), parts.0),
+          (All-tail (PieceFits c) p ps fit, All-tail (IsSoundSignal end) here later parts.1),
+        )),
+    (λ ((within, (names, valid), prefix), (fit, rest)). (
+      All-cons (PieceFits c) p ps
+          (record { signal = within; ordered = valid.ordered; within = valid.within; ticks = valid.ticks }) fit,
+      subst (All (IsSoundSignal end)) (sym (parts_then within)) (All-append (IsSoundSignal end) before (here ∷ later)
+          prefix (All-cons (IsSoundSignal end) here later (sound_by_parts end here names valid.form valid.upto) rest)),
+    )),
   )
-  tells (suc n) k [] count rise =
-      let rest = tells n (suc k) [] (omega (arith, count)) tt in (
-        (λ sound. (
-          All-nil (PieceFits c),
-          at_or_later (λ j. IsSoundSignal end (signal_at (with_pieces c []) j)) k (length c.signals) sound.0
-              (rest.0 sound.1).1,
-        )),
-        (λ fit. (
-          fit.1 k (omega arith) (omega (arith, count)),
-          rest.1 (fit.0, (λ j from to. fit.1 j (omega (arith, from)) to)),
-        )),
-      )
-  tells (suc n) k (p ∷ ps) count rise =
-      choose (p.signal == k) refl (λ qs from. tells n (suc k) qs (omega (arith, count)) from)
-    where
-      within : k < length c.signals
-      within = omega (arith, count)
 
-      choose : (b : Bool) → (p.signal == k) ≡ b → ((qs : List PieceView) → RiseFrom (suc k) qs
-          → AreSoundFrom end c.signals (suc k) n qs ↔ (All (PieceFits c) qs × AreSoundThen end (suc k) c qs))
-          → (IsSoundHere end b (signal_at c k) (p ∷ ps)
-          × AreSoundFrom end c.signals (suc k) n (pieces_after b (p ∷ ps)))
-          ↔ (All (PieceFits c) (p ∷ ps) × AreSoundThen end k c (p ∷ ps))
-      choose true test next =
-          let same = eqb-true p.signal k test in
-          let rest = next ps (subst (λ j. RiseFrom (suc j) ps) same rise.1) in (
-            (λ sound. (
-              All-cons (PieceFits c) p ps (fits_here p ps k same within rise.1 sound.0) (rest.0 sound.1).0,
-              at_or_later (λ j. IsSoundSignal end (signal_at (with_pieces c (p ∷ ps)) j)) k (length c.signals)
-                  (sound_here p ps k same within rise.1 sound.0)
-                  (λ j from to. subst (IsSoundSignal end) (sym (later_is p ps k same within rise.1 j from))
-                  ((rest.0 sound.1).1 j from to)),
-            )),
-            (λ fit. (
-              valid_here p ps k same within rise.1 (All-head (PieceFits c) p ps fit.0) (fit.1 k (omega arith) within),
-              rest.1 (
-                All-tail (PieceFits c) p ps fit.0,
-                (λ j from to. subst (IsSoundSignal end) (later_is p ps k same within rise.1 j from)
-                    (fit.1 j (omega (arith, from)) to)),
-              ),
-            )),
-          )
-      choose false test next =
-          let other = eqb-false p.signal k test in
-          let from_next : suc k ≤ p.signal = omega (arith, rise.0, other) in
-          let rest = next (p ∷ ps) (from_next, rise.1) in
-          let kept : signal_at (with_pieces c (p ∷ ps)) k ≡ signal_at c k =
-          signal_kept c (p ∷ ps) k (suc k) (omega arith) (from_next, rise.1) in (
-            (λ sound. (
-              (rest.0 sound.1).0,
-              at_or_later (λ j. IsSoundSignal end (signal_at (with_pieces c (p ∷ ps)) j)) k (length c.signals)
-                  (subst (IsSoundSignal end) (sym kept) sound.0) (rest.0 sound.1).1,
-            )),
-            (λ fit. (
-              subst (IsSoundSignal end) kept (fit.1 k (omega arith) within),
-              rest.1 (fit.0, (λ j from to. fit.1 j (omega (arith, from)) to)),
-            )),
-          )
+-- the tests of the code
+pub to_tells : (end : ℕ) (signals : List Signal) (k : ℕ) (p : PieceView) (s : Signal) → p.signal < length signals
+    → s ≡ get_or signals p.signal s → AreSoundTo end (map signal_contents signals) k p
+    ↔ (IsSoundWith end (signal_contents s) p
+    × All (IsSoundSignal end) (map signal_contents (take (p.signal - k) (drop k signals))))
+to_tells end signals k p s within is =
+    let at = contents_at signals p.signal s within is in
+    let range : slice_range (map signal_contents signals) k p.signal
+    ≡ map signal_contents (take (p.signal - k) (drop k signals)) =
+    ap (take (p.signal - k)) (drop-map signal_contents k signals)
+    ∙ take-map signal_contents (p.signal - k) (drop k signals) in
+    subst (λ (t : Type 0). t) (λ i. AreSoundTo end (map signal_contents signals) k p
+    ↔ (IsSoundWith end (at i) p × All (IsSoundSignal end) (range i))) (
+      (λ to. (to.1, to.2)),
+      (λ tests. (omega (arith, within, length-map signals signal_contents), tests.0, tests.1)),
+    )
 
-  -- pieces that fit and give sound signals
-  abbrev FitAll : List PieceView → Type 0
-  FitAll ps = All (PieceFits c) ps × AreSoundSignals end (with_pieces c ps).signals
+-- ---- one pass over the pieces
 
-  pub pass_tells : (ps : List PieceView) → RiseFrom 0 ps → length c.signals ≤ SIGNAL_LIMIT
-      → AreSoundFrom end c.signals 0 (length c.signals) ps ↔ FitAll ps
-  pass_tells ps rise few =
-      let all = tells (length c.signals) 0 ps (omega arith) rise in
-      let count = counts_kept c ps in (
-        (λ sound. (
-          (all.0 sound).0,
-          (
-            omega (arith, few, count),
-            (λ k d less. subst (IsSoundSignal end) (get_or_default (with_pieces c ps).signals k no_signal d less)
-                ((all.0 sound).1 k (omega arith) (omega (arith, less, count)))),
-          ),
-        )),
-        (λ fit. all.1 (fit.0, (λ j from to. fit.1.1 j no_signal (omega (arith, to, count))))),
-      )
+module _ (pieces : List Piece) (i k : ℕ) where
+  abbrev left : List PieceView
+  left = map piece_view (drop i pieces)
 
--- ---- one step of the pass
+  -- one more piece
+  module _ (x : Piece) (within : i < length pieces) (is : x ≡ get_or pieces i x) (rise : RiseFrom k left) where
+    abbrev rest : List PieceView
+    rest = map piece_view (drop (i + 1) pieces)
 
-pub all_left : (end : ℕ) (signals : List SignalContents) (n : ℕ) (ps : List PieceView)
-    → AreSoundFrom end signals 0 (n - 0) ps ≡ AreSoundFrom end signals 0 n ps
-all_left end signals n ps = ap (λ n. AreSoundFrom end signals 0 n ps) {x = n - 0} {y = n} (omega arith)
+    begins : left ≡ piece_view x ∷ rest
+    begins = ap (map piece_view) (drop_here pieces i x within is)
 
-module _ (end : ℕ) (signals : List Signal) (pieces : List Piece) (k done : ℕ) where
-  abbrev ss : List SignalContents
-  ss = map signal_contents signals
+    pub next_rises : (k ≤ x.signal) × RiseFrom (x.signal + 1) rest
+    next_rises = subst (λ n. (k ≤ x.signal) × RiseFrom n rest) (sym (add-one x.signal)) (subst (RiseFrom k) begins rise)
 
-  abbrev all : List PieceView
-  all = map piece_view pieces
+    pub next_tells : (end : ℕ) (c : Contents) (ss : List SignalContents) → c.signals ≡ ss
+        → AreSoundFrom end c k left ↔ (AreSoundTo end ss k (piece_view x) × AreSoundFrom end c (x.signal + 1) rest)
+    next_tells end c ss same =
+        let both = subst (RiseFrom k) begins rise in
+        subst (λ (t : Type 0). t) (λ j. AreSoundFrom end c k (sym begins j)
+        ↔ (AreSoundTo end (same j) k (piece_view x) × AreSoundFrom end c (sym (add-one x.signal) j) rest))
+        (one_piece end c (piece_view x) rest k both.0 both.1)
 
-  abbrev rest : List PieceView
-  rest = map piece_view (take (length pieces - done) (drop done pieces))
-
-  rest_is : rest ≡ drop done all
-  rest_is = ap (map piece_view) (take_rest pieces done) ∙ sym (drop-map piece_view done pieces)
-
-  rest_after : (b : Bool) (more : ℕ) → more ≡ (if b then 1 else 0)
-      → pieces_after b (drop done all) ≡ drop (done + more) all
-  rest_after true more is = drop-drop 1 done all ∙ ap (λ n. drop n all) (omega (arith, is))
-  rest_after false more is = ap (λ n. drop n all) {x = done} (omega (arith, is))
-
-  -- the signal at a position, and then the later ones
-  pub one_more : (s : Signal) (more : ℕ) → k < length signals → s ≡ get_or signals k s
-      → more ≡ (if is_for k rest then 1 else 0) → AreSoundFrom end ss k (length signals - k) (drop done all)
-      ≡ (IsSoundHere end (is_for k rest) (signal_contents s) rest
-      × AreSoundFrom end ss (k + 1) (length signals - (k + 1)) (drop (done + more) all))
-  unfolding AreSoundFrom
-  one_more s more within is count =
-      let left : length signals - k ≡ suc (length signals - (k + 1)) = omega (arith, within) in
-      let next : suc k ≡ k + 1 = omega arith in
-      let after : pieces_after (is_for k (drop done all)) (drop done all) ≡ drop (done + more) all =
-      ap (λ ps. pieces_after (is_for k ps) (drop done all)) (sym rest_is) ∙ rest_after (is_for k rest) more count in
-      ap (λ n. AreSoundFrom end ss k n (drop done all)) left
-      ∙ (λ i. IsSoundHere end (is_for k (sym rest_is i)) (contents_at signals k s within is i) (sym rest_is i)
-      × AreSoundFrom end ss (next i) (length signals - (k + 1)) (after i))
-
-  pub rest_count : done ≤ length pieces → length (take (length pieces - done) (drop done pieces)) ≡ length pieces - done
-  rest_count within = ap length (take_rest pieces done) ∙ length-drop done pieces
-
-  -- no signal is left
-  pub none_more : length signals ≤ k → AreSoundFrom end ss k (length signals - k) (drop done all) ≡ (drop done all ≡ [])
-  unfolding AreSoundFrom
-  none_more past = ap (λ n. AreSoundFrom end ss k n (drop done all)) {y = 0} (omega (arith, past))
-
-  pub none_left : (done == length pieces) ≡ true → drop done all ≡ []
-  none_left test = drop_all done all (omega (arith, length-map pieces piece_view, eqb-true done (length pieces) test))
-
-  pub all_done : done ≤ length pieces → drop done all ≡ [] → (done == length pieces) ≡ true
-  all_done within none = eq-eqb done (length pieces)
-      (omega (arith, within, ap length none, length-drop done all, length-map pieces piece_view))
+  -- no piece is left
+  pub last_tells : (end : ℕ) (c : Contents) (signals : List Signal) → c.signals ≡ map signal_contents signals
+      → length pieces ≤ i → All (IsSoundSignal end) (map signal_contents (take (length signals - k) (drop k signals)))
+      ↔ AreSoundFrom end c k left
+  unfolding with_pieces
+  last_tells end c signals same done =
+      let is : map signal_contents (take (length signals - k) (drop k signals)) ≡ drop k c.signals =
+      ap (map signal_contents) (take_rest signals k) ∙ sym (ap (drop k) same ∙ drop-map signal_contents k signals) in
+      subst (λ (t : Type 0). t) (λ j. All (IsSoundSignal end) (sym is j)
+      ↔ AreSoundFrom end c k (map piece_view (sym (drop_all i pieces done) j)))
+      ((λ all. (All-nil (PieceFits c), all)), (λ fit. fit.1))

@@ -2,14 +2,12 @@
 use Rattle.std.proofs.Common.{◌≡◌, ◌≢◌, ℕ, zero, suc, ◌+◌, ◌-◌, ◌<◌, ◌≤◌, ◌==◌, ◌||◌, true}
 use Rattle.std.proofs.Common.{false, nat_le}
 use Rattle.std.proofs.Common.{if◌then◌else◌, List, length, None, ◌⊎◌, inl, inr, refl, sym, ap}
-use Rattle.std.proofs.Common.{subst, ◌∙◌, arith}
-use Rattle.std.proofs.lemmas.Bool.{cases_lt, cases_eq, cases_Bool, iff_false, true_from_ne_false}
+use Rattle.std.proofs.Common.{◌∙◌, arith}
+use Rattle.std.proofs.lemmas.Bool.{cases_eq, true_from_ne_false}
 use Rattle.std.proofs.lemmas.Bool.Decides.{nat_tests}
 use Rattle.std.proofs.lemmas.List.{length-set, get_or-set_same, set-get_or}
 use Rattle.vcd_core.specs.declared.bit.Bit.{Bit}
-use Rattle.vcd_core.specs.Value.{same_letters}
 use Rattle.vcd_core.specs.Wave.{changes_of}
-use Rattle.vcd_core.specs.inside.value.EqualByLetters.{same_letters-Decides}
 use Rattle.vcd_core.specs.Contents.{Contents, SignalContents, no_signal, signal_at, with_signal}
 use Rattle.vcd_core.specs.Contents.{signal_value}
 use Rattle.vcd_core.proofs.shared.Waves.{value_at-changes_of, changes_of-value_at, changes_same}
@@ -22,71 +20,8 @@ use Rattle.vcd_edit.specs.Laws.{DeglitchKeepsLongRuns, DeglitchFillsShortRuns}
 use Rattle.vcd_edit.specs.Laws.{DeglitchWithoutShortRuns, DeglitchTwice}
 use Rattle.vcd_edit.proofs.checking.NoFault.{no_fault, position_below}
 use Rattle.vcd_edit.proofs.shared.SoundEffects.{effect_is_sound, sound_at}
-use Rattle.vcd_edit.proofs.plans.Runs.{run_stays, run_falls, if_same, if_other, deglitch_is_wave}
-
-same_or_other : (v w : List Bit) → (v ≡ w) ⊎ (v ≢ w)
-same_or_other v w = elim (cases_Bool (same_letters v w)) [
-  | inl is ↦ inl ((same_letters-Decides v w).0 is)
-  | inr is ↦ inr (iff_false (same_letters-Decides v w) is)
-]
-
--- ---- the run that contains a tick
-
--- its first tick `a`
-abbrev StartsAt : (ℕ → List Bit) → ℕ → ℕ → Type 0
-StartsAt f t a = (a ≤ t) × ((s : ℕ) → a ≤ s → s ≤ t → f s ≡ f t) × ((p : ℕ) → suc p ≡ a → f a ≢ f p)
-
-start_is : (f : ℕ → List Bit) (t : ℕ) → StartsAt f t (run_start f t)
-unfolding run_start
-start_is f zero = (omega arith, (λ s from to. ap f (omega arith)), (λ p is. absurd (omega arith)))
-start_is f (suc t) =
-    elim (same_or_other (f (suc t)) (f t)) [
-      | inl same ↦
-          let before = start_is f t in
-          subst (StartsAt f (suc t)) (sym (if_same (f (suc t)) (f t) (run_start f t) (suc t) same)) (
-            omega arith,
-            (λ s from to. elim (cases_eq s (suc t)) [
-              | inl at ↦ ap f at
-              | inr apart ↦ before.1 s from (omega arith) ∙ sym same
-            ]),
-            before.2,
-          )
-      | inr other ↦
-          subst (StartsAt f (suc t)) (sym (if_other (f (suc t)) (f t) (run_start f t) (suc t) other)) (
-            omega arith,
-            (λ s from to. ap f (omega arith)),
-            (λ p is equal. other (equal ∙ ap f (omega arith))),
-          )
-    ]
-
--- its last tick `b`, in a capture with n more ticks
-abbrev EndsAt : (ℕ → List Bit) → ℕ → ℕ → ℕ → Type 0
-EndsAt f t n b = (t ≤ b) × (b ≤ t + n) × ((s : ℕ) → t ≤ s → s ≤ b → f s ≡ f t) × (b < t + n → f (suc b) ≢ f b)
-
-end_is : (f : ℕ → List Bit) (t n : ℕ) → EndsAt f t n (run_end f t n)
-unfolding run_end
-end_is f t zero = (omega arith, omega arith, (λ s from to. ap f (omega arith)), (λ less. absurd (omega arith)))
-end_is f t (suc n) =
-    elim (same_or_other (f (suc t)) (f t)) [
-      | inl same ↦
-          let later = end_is f (suc t) n in
-          subst (EndsAt f t (suc n)) (sym (if_same (f (suc t)) (f t) (run_end f (suc t) n) t same)) (
-            omega arith,
-            omega arith,
-            (λ s from to. elim (cases_eq s t) [
-              | inl at ↦ ap f at
-              | inr apart ↦ later.2 s (omega arith) to ∙ same
-            ]),
-            (λ less. later.3 (omega arith)),
-          )
-      | inr other ↦
-          subst (EndsAt f t (suc n)) (sym (if_other (f (suc t)) (f t) (run_end f (suc t) n) t other)) (
-            omega arith,
-            omega arith,
-            (λ s from to. ap f (omega arith)),
-            (λ less. other),
-          )
-    ]
+use Rattle.vcd_edit.proofs.plans.Runs.{StartsAt, EndsAt, start_is, end_is, run_same, starts_before, ends_after}
+use Rattle.vcd_edit.proofs.plans.Runs.{run_stays, run_falls, deglitch_is_wave}
 
 -- ---- steady values
 
@@ -109,24 +44,14 @@ long_from n end first last f late early (ordered, same, before, after) steady =
     let b = run_end f first (end - first) in
     let start : StartsAt f first a = start_is f first in
     let stop : EndsAt f first (end - first) b = end_is f first (end - first) in
-    let all_same : (s : ℕ) → a ≤ s → s ≤ b → f s ≡ f first = λ s from to. elim (cases_lt s first) [
-      | inl less ↦ start.1 s from (omega arith)
-      | inr more ↦ stop.2 s more to
-    ] in
+    let all_same = run_same f first (end - first) a b start stop in
     let held : (s : ℕ) → a ≤ s → s ≤ b → g s ≡ f first = λ s from to.
     run_stays n end f a b (omega arith) (omega arith)
     (λ r late' early'. all_same r late' early' ∙ sym (all_same a (omega arith) (omega arith))) start.2
     (λ less. stop.3 (omega arith)) steady s from to ∙ all_same s from to in
-    let at_start : a ≡ first = elim (cases_lt a first) [
-      | inl less ↦
-          absurd (before (held (first - 1) (omega arith) (omega arith) ∙ sym (held first (omega arith) (omega arith))))
-      | inr more ↦ omega arith
-    ] in
-    let within : b ≤ last = elim (cases_lt last b) [
-      | inl less ↦
-          absurd (after (held (suc last) (omega arith) (omega arith) ∙ sym (held last (omega arith) (omega arith))))
-      | inr more ↦ more
-    ] in
+    let at_start = starts_before g (f first) a b first held
+    (λ p is equal. before (ap g {x = first - 1} {y = p} (omega arith) ∙ sym equal)) (omega arith) in
+    let within = ends_after g (f first) a b last held (λ less. after) (omega arith) in
     let long : n ≤ b - a + 1 = long_by n end a b steady (omega arith) (omega arith) in
     omega arith
 
@@ -160,10 +85,7 @@ all_steady n end f none t upto =
     steady_by n end a b (λ late early.
     none a b late early (
       omega arith,
-      (λ s from to. elim (cases_lt s t) [
-        | inl less ↦ start.1 s from (omega arith) ∙ sym here
-        | inr more ↦ stop.2 s more to ∙ sym here
-      ]),
+      (λ s from to. run_same f t (end - t) a b start stop s from to ∙ sym here),
       (λ equal. start.2 (a - 1) (omega arith) (sym equal)),
       stop.3 (omega arith),
     ))
@@ -216,22 +138,9 @@ kept n end f first last t within one long from to =
     let b = run_end f t (end - t) in
     let start : StartsAt f t a = start_is f t in
     let stop : EndsAt f t (end - t) b = end_is f t (end - t) in
-    let early : a ≤ first = elim (cases_lt first a) [
-      | inl less ↦
-          absurd (start.2 (a - 1) (omega arith)
-          (one a (omega arith) (omega arith) ∙ sym (one (a - 1) (omega arith) (omega arith))))
-      | inr more ↦ more
-    ] in
-    let late : last ≤ b = elim (cases_lt b last) [
-      | inl less ↦
-          absurd (stop.3 (omega arith)
-          (one (suc b) (omega arith) (omega arith) ∙ sym (one b (omega arith) (omega arith))))
-      | inr more ↦ more
-    ] in
-    let all_same : (s : ℕ) → a ≤ s → s ≤ b → f s ≡ f t = λ s after before. elim (cases_lt s t) [
-      | inl less ↦ start.1 s after (omega arith)
-      | inr more ↦ stop.2 s more before
-    ] in
+    let early = starts_before f (f first) first last a one start.2 (omega arith) in
+    let late = ends_after f (f first) first last b one (λ less. stop.3 (omega arith)) (omega arith) in
+    let all_same = run_same f t (end - t) a b start stop in
     run_stays n end f a b (omega arith) (omega arith)
     (λ s after before. all_same s after before ∙ sym (all_same a (omega arith) (omega arith))) start.2
     (λ less. stop.3 (omega arith))

@@ -1,11 +1,11 @@
 -- The piece of a wave from which a range of ticks is cut out.
 use Rattle.std.proofs.Common.{◌≡◌, ℕ, suc, ◌+◌, ◌-◌, ◌^◌, ◌<◌, ◌≤◌, nat_lt, cond, if◌then◌else◌, ℤ}
 use Rattle.std.proofs.Common.{pos, ◌+ℤ◌, List, []}
-use Rattle.std.proofs.Common.{◌∷◌, ◌++◌, length, All, inl, inr, refl, sym, ap, ◌∙◌, arith}
-use Rattle.std.specs.List.{count_by}
+use Rattle.std.proofs.Common.{◌++◌, length, get_or, All, inl, inr, refl, sym, ap, ◌∙◌, arith}
+use Rattle.std.specs.List.{count_by, remove}
 use Rattle.std.proofs.lemmas.Bool.{cases_lt, lt-ltb, le-ltb}
-use Rattle.std.proofs.lemmas.List.Sums.{sum_by-cons, count_by-le-length}
-use Rattle.std.proofs.lemmas.List.Elements.{All-nil, All-cons}
+use Rattle.std.proofs.lemmas.List.Sums.{sum_by-remove, count_by-le-length}
+use Rattle.std.proofs.lemmas.List.Edits.{length-remove}
 use Rattle.vcd_core.specs.declared.wave.Change.{Change}
 use Rattle.vcd_core.specs.Value.{all_x, same_letters}
 use Rattle.vcd_core.specs.Wave.{change, unless_same, IsWave, AllUpTo}
@@ -22,23 +22,18 @@ use Rattle.vcd_edit.proofs.plans.ForcePiece.{same_before}
 
 -- all are counted
 pub all_counted : (a : ℕ) (cs : List Change) → count_by (λ c. nat_lt c.tick a) cs ≡ length cs → All (λ c. c.tick < a) cs
-all_counted a [] counted = All-nil (λ (c : Change). c.tick < a)
-all_counted a (c ∷ cs) counted =
-    let sum = sum_by-cons (λ (c : Change). cond (nat_lt c.tick a) 1 0) c cs in
-    let most = count_by-le-length (λ (c : Change). nat_lt c.tick a) cs in
-    elim (cases_lt c.tick a) [
-      | inl here ↦ All-cons (λ (c : Change). c.tick < a) c cs here
-          (all_counted a cs (one_less (ap (λ q. cond q 1 0 + count_by (λ c. nat_lt c.tick a) cs) (lt-ltb c.tick a here))
-          sum counted))
-      | inr late ↦ absurd (too_few (ap (λ q. cond q 1 0 + count_by (λ c. nat_lt c.tick a) cs) (le-ltb c.tick a late))
-          sum counted most)
+all_counted a cs counted = λ k d less.
+    elim (cases_lt (get_or cs k d).tick a) [
+      | inl early ↦ early
+      | inr late ↦ absurd (omega (
+        arith,
+        sum_by-remove (λ (c : Change). cond (nat_lt c.tick a) 1 0) cs k d less,
+        count_by-le-length (λ (c : Change). nat_lt c.tick a) (remove cs k),
+        length-remove cs k less,
+        counted,
+        ap {B = ℕ} (λ q. cond q 1 0) (le-ltb (get_or cs k d).tick a late),
+      ))
     ]
-  where
-    one_less : {n all part : ℕ} → part ≡ 1 + n → all ≡ part → all ≡ suc (length cs) → n ≡ length cs
-    one_less p q r = omega (arith, p, q, r)
-
-    too_few : {n all part : ℕ} → part ≡ 0 + n → all ≡ part → all ≡ suc (length cs) → n ≤ length cs → ⊥
-    too_few p q r s = omega (arith, p, q, r, s)
 
 module _ (a b : ℕ) (s : SignalContents) where
   pub before_cut : (t : ℕ) → t < a → cut_value a b s t ≡ signal_value s t
@@ -67,9 +62,8 @@ module _ (a b end stop : ℕ) (s : SignalContents) (is : IsWave s.width s.change
       → p.changes ≡ [] ++ unless_same (same_letters (signal_value s b) (value_just_before s.width (signal_value s) a))
       (change a (signal_value s b)) [] → GivesChanges p s.changes s.width stop (cut_value a b s)
   cut_leads p by later from to is_by told =
-      replacement_leads s.width end s.changes is upto a (b + 1) 1 (stop - a) p.from p.to stop by (cut_value a b s)
-      p.changes (omega arith) (omega arith) from to later p refl refl refl is_by
-      (omega arith) small (before_cut a b s)
+      replacement_leads s.width end s.changes is upto a (b + 1) 1 (stop - a) stop by (cut_value a b s) p
+      (omega arith) (omega arith) from to later is_by (omega arith) small (before_cut a b s)
       (λ i less. after_cut a b s (a + 1 + i) (b + 1 + i) (omega arith) (omega arith))
       (λ less. ap (value_just_before s.width (cut_value a b s)) {x = a + 1} {y = suc a} (omega arith)
       ∙ after_cut a b s a b (omega arith) (omega arith)

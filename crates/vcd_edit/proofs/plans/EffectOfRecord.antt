@@ -1,6 +1,6 @@
 -- Records whose result is the effect of an edit.
 use Rattle.std.proofs.Common.{◌≡◌, ◌<◌, ℕ, ◌+◌, ◌≤◌, IsTrue, List, [], ◌∷◌, length, map, get_or}
-use Rattle.std.proofs.Common.{drop, All, Some, None, refl, sym, ap, subst, ◌∙◌, arith}
+use Rattle.std.proofs.Common.{All, Some, None, refl, sym, ap, subst, ◌∙◌, arith}
 use Rattle.std.specs.Borrow.{Bor}
 use Rattle.std.specs.Prelude.{ℤ, pos, neg_ℤ, Result, IfOk}
 use Rattle.std.proofs.lemmas.List.{length-map, set-get_or}
@@ -12,7 +12,6 @@ use Rattle.vcd_core.specs.declared.capture.Capture.{Capture}
 use Rattle.vcd_core.specs.declared.wave.Change.{Change}
 use Rattle.vcd_core.specs.declared.memory.NoMemory.{NoMemory}
 use Rattle.vcd_core.specs.Wave.{changes_of}
-use Rattle.vcd_core.specs.Splice.{AllTicksFit}
 use Rattle.vcd_core.specs.Contents.{Contents, SignalContents, no_signal, signal_at}
 use Rattle.vcd_core.specs.CaptureContents.{contents, signal_contents}
 use Rattle.vcd_core.specs.Contents.{with_signal}
@@ -29,6 +28,7 @@ use Rattle.vcd_edit.specs.AppliedRecords.{changes_with_piece, signal_with_change
 use Rattle.vcd_edit.specs.AppliedRecords.{apply_record, PieceFits}
 use Rattle.vcd_edit.specs.AppliedRecords.{WordFits, SignalFits}
 use Rattle.vcd_edit.proofs.exchange.ContentsAfterPiece.{contents_at}
+use Rattle.vcd_edit.proofs.exchange.OppositePieces.{fits_there}
 use Rattle.vcd_edit.proofs.exchange.OppositeRecords.{parts}
 use Rattle.vcd_edit.specs.inside.plans.Ranges.{GivesChanges}
 use Rattle.vcd_edit.specs.Records.{piece_view}
@@ -77,13 +77,8 @@ module _ (e : Edit) (c : Contents) (k : ℕ) (f : ℕ → List Bit) (p : PieceVi
 
   one_piece_fits : k < length c.signals → PieceFits c p
   one_piece_fits within =
-      let there : signal_at c p.signal ≡ s = ap (λ (j : ℕ). signal_at c j) at_k ∙ here in
-      record {
-        signal = omega (arith, at_k, within);
-        ordered = gives.ordered;
-        within = subst (λ (s : SignalContents). p.to ≤ length s.changes) (sym there) gives.within;
-        ticks = subst (λ (s : SignalContents). AllTicksFit p.by (drop p.to s.changes)) (sym there) gives.ticks;
-      }
+      fits_there c p s (omega (arith, at_k, within)) (ap (λ (j : ℕ). signal_at c j) at_k ∙ here) gives.ordered
+      gives.within gives.ticks
 
   -- it is a plan if these are the values of the edit
   pub one_piece_plan : IsSound c → edit_fault e c ≡ None → k < length c.signals → effect e c ≡ with_wave c k f

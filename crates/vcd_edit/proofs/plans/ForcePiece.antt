@@ -52,10 +52,9 @@ module _ (a b : ℕ) (v : List Bit) (s : SignalContents) where
         → p.changes ≡ [] ++ unless_same (same_letters v (value_just_before s.width (signal_value s) a)) (change a v) []
         → GivesChanges p s.changes s.width end forced
     force_to_end all to told =
-        replacement_leads s.width end s.changes is upto a b (b - a) 0 p.from p.to end (pos 0) forced p.changes
-        (omega arith) (omega arith) from to (omega (arith, ints)) p refl refl refl by
-        (omega arith) (omega (arith, small)) before_range (λ i less. absurd (omega arith))
-        (λ less. absurd (omega arith))
+        replacement_leads s.width end s.changes is upto a b (b - a) 0 end (pos 0) forced p
+        (omega arith) (omega arith) from to (omega (arith, ints)) by (omega arith) (omega (arith, small)) before_range
+        (λ i less. absurd (omega arith)) (λ less. absurd (omega arith))
         (told ∙ sym (forced_part some))
 
     -- the value at the tick after the range is the old one again
@@ -82,9 +81,8 @@ module _ (a b : ℕ) (v : List Bit) (s : SignalContents) where
         ∙ ap (λ t. changes_in s.width forced a (b - a) ++ changes_in s.width forced t 1) {x = a + (b - a)} {y =
         b} (omega arith) in
         let seam : a + (b - a + 1) ≡ suc b = omega arith in
-        replacement_leads s.width end s.changes is upto a (b + 1) (b - a + 1) (end - b) p.from p.to end (pos 0) forced
-        p.changes (omega arith) (omega arith) from to (omega (arith, ints)) p refl refl refl by
-        (omega arith) (omega (arith, small)) before_range
+        replacement_leads s.width end s.changes is upto a (b + 1) (b - a + 1) (end - b) end (pos 0) forced p
+        (omega arith) (omega arith) from to (omega (arith, ints)) by (omega arith) (omega (arith, small)) before_range
         (λ i less. after_range (a + (b - a + 1) + i) (omega arith)
         ∙ ap (signal_value s) {x = a + (b - a + 1) + i} {y = b + 1 + i} (omega arith))
         (λ less. ap (value_just_before s.width forced) seam ∙ after_range b (omega arith)

@@ -1,25 +1,25 @@
 -- The changes of a function over a range of ticks, and a wave in which a piece replaces a range.
 use Rattle.std.proofs.Common.{◌≡◌, ℕ, zero, suc, ◌+◌, ◌-◌, ◌^◌, ◌<◌, ◌≤◌, Bool, true, false, cond}
 use Rattle.std.proofs.Common.{nat_lt, ℤ, pos, ◌+ℤ◌}
-use Rattle.std.proofs.Common.{unsigned_abs, List, [], ◌∷◌, ◌++◌, length, take, drop, map, refl, sym}
-use Rattle.std.proofs.Common.{ap, subst, ◌∙◌}
+use Rattle.std.proofs.Common.{unsigned_abs, List, [], ◌++◌, length, take, drop, map, refl, sym}
+use Rattle.std.proofs.Common.{get_or, All, ap, subst, ◌∙◌}
 use Rattle.std.proofs.Common.{arith}
-use Rattle.std.specs.Int.{w64, FitsUnsigned}
 use Rattle.std.specs.List.{count_by}
 use Rattle.std.proofs.lemmas.Bool.{lt-ltb, le-ltb}
 use Rattle.std.proofs.lemmas.Bool.Decides.{nat_tests}
 use Rattle.std.proofs.lemmas.List.{append_assoc, take_at, drop_at}
-use Rattle.std.proofs.lemmas.List.Sums.{sum_by-cons, sum_by-append, sum_by-le-sum_by}
+use Rattle.std.proofs.lemmas.List.Sums.{sum_by-append, sum_by-le-sum_by}
 use Rattle.std.proofs.lemmas.List.Sums.{count_by-le-length}
-use Rattle.std.proofs.lemmas.List.Elements.{All-nil, All-cons}
+use Rattle.std.proofs.lemmas.List.Elements.{All-nil, All-cons, All-weaker}
 use Rattle.std.proofs.lemmas.Int.{ints}
 use Rattle.vcd_core.specs.declared.bit.Bit.{Bit}
 use Rattle.vcd_core.specs.declared.wave.Change.{Change}
 use Rattle.vcd_core.specs.Value.{all_x, same_letters}
-use Rattle.vcd_core.specs.Wave.{change, value_at, unless_same, changes_from, changes_of, IsWave}
+use Rattle.vcd_core.specs.Wave.{change, value_at, unless_same, changes_from, IsWave}
 use Rattle.vcd_core.specs.Wave.{AllUpTo}
 use Rattle.vcd_core.specs.WavePush.{last_value}
 use Rattle.vcd_core.specs.Splice.{moved_change, TickFits, AllTicksFit, spliced_changes}
+use Rattle.vcd_core.proofs.shared.Pushes.{all_from_upto, upto_from_all, count_is, no_change}
 use Rattle.vcd_core.proofs.shared.Waves.{put_cases, changes_are}
 use Rattle.vcd_edit.specs.RecordView.{PieceView}
 use Rattle.vcd_edit.specs.inside.plans.Ranges.{value_just_before, changes_in, GivesChanges}
@@ -125,27 +125,18 @@ changes_in-constant width f v t (suc n) some same =
 
 -- ---- the ticks of a range
 
-count_low_from : (before : List Bit) (t n a : ℕ) (f : ℕ → List Bit) → t + n ≤ a
-    → count_by (λ c. nat_lt c.tick a) (changes_from before t n f) ≡ length (changes_from before t n f)
+ticks_from : (before : List Bit) (t n : ℕ) (f : ℕ → List Bit)
+    → All (λ c. (t ≤ c.tick) × (c.tick < t + n)) (changes_from before t n f)
 unfolding changes_from
-count_low_from before t zero a f low = refl
-count_low_from before t (suc n) a f low =
-    let rest = count_low_from (f t) (suc t) n a f (omega arith) in
-    put_cases (λ l. count_by (λ c. nat_lt c.tick a) l ≡ length l) (f t) before (change t (f t))
-    (changes_from (f t) (suc t) n f) (λ _. rest)
-    (λ _. sum_by-cons (λ (c : Change). cond (nat_lt c.tick a) 1 0) (change t (f t)) (changes_from (f t) (suc t) n f)
-    ∙ (λ i. cond (lt-ltb t a (omega arith) i) 1 0 + rest i) ∙ omega arith)
-
-count_high_from : (before : List Bit) (t n a : ℕ) (f : ℕ → List Bit) → a ≤ t
-    → count_by (λ c. nat_lt c.tick a) (changes_from before t n f) ≡ 0
-unfolding changes_from
-count_high_from before t zero a f high = refl
-count_high_from before t (suc n) a f high =
-    let rest = count_high_from (f t) (suc t) n a f (omega arith) in
-    put_cases (λ l. count_by (λ c. nat_lt c.tick a) l ≡ 0) (f t) before (change t (f t))
-    (changes_from (f t) (suc t) n f) (λ _. rest)
-    (λ _. sum_by-cons (λ (c : Change). cond (nat_lt c.tick a) 1 0) (change t (f t)) (changes_from (f t) (suc t) n f)
-    ∙ (λ i. cond (le-ltb t a (omega arith) i) 1 0 + rest i))
+ticks_from before t zero f = All-nil (λ (c : Change). (t ≤ c.tick) × (c.tick < t + 0))
+ticks_from before t (suc n) f =
+    let cs = changes_from (f t) (suc t) n f in
+    let rest = All-weaker (λ (c : Change). (suc t ≤ c.tick) × (c.tick < suc t + n))
+    (λ (c : Change). (t ≤ c.tick) × (c.tick < t + suc n)) (λ c at. (omega (arith, at.0), omega (arith, at.1))) cs
+    (ticks_from (f t) (suc t) n f) in
+    put_cases (All (λ c. (t ≤ c.tick) × (c.tick < t + suc n))) (f t) before (change t (f t)) cs (λ _. rest)
+    (λ _. All-cons (λ (c : Change). (t ≤ c.tick) × (c.tick < t + suc n)) (change t (f t)) cs
+    (omega arith, omega arith) rest)
 
 one_if_before : (a u t : ℕ) → a ≤ u → cond (nat_lt t a) 1 0 ≤ cond (nat_lt t u) 1 0
 one_if_before a u t le = grind (arith, nat_tests)
@@ -159,14 +150,10 @@ counts_rise a u cs le =
 
 ticks_fit_from : (before : List Bit) (by : ℤ) (u v n : ℕ) (g : ℕ → List Bit) → pos u +ℤ by ≡ pos v → v + n ≤ 2 ^ 64
     → AllTicksFit by (changes_from before u n g)
-unfolding changes_from TickFits
-ticks_fit_from before by u v zero g later small = All-nil (TickFits by)
-ticks_fit_from before by u v (suc n) g later small =
-    let rest = ticks_fit_from (g u) by (suc u) (suc v) n g (omega (arith, ints, later)) (omega arith) in
-    let here : FitsUnsigned w64 (pos u +ℤ by) =
-    subst (FitsUnsigned w64) (sym later) (omega (arith, ints), omega (arith, ints)) in
-    put_cases (AllTicksFit by) (g u) before (change u (g u)) (changes_from (g u) (suc u) n g) (λ _. rest)
-    (λ _. All-cons (TickFits by) (change u (g u)) (changes_from (g u) (suc u) n g) here rest)
+unfolding TickFits
+ticks_fit_from before by u v n g later small = λ k d less.
+    let at = ticks_from before u n g k d less in
+    (omega (arith, ints, later, at.0), omega (arith, ints, later, small, at.0, at.1))
 
 -- the value after the changes of a range
 last_from : (before : List Bit) (t n : ℕ) (f : ℕ → List Bit)
@@ -191,16 +178,13 @@ last_of_range width f (suc t) = last_from (all_x width) 0 t f ∙ ap f {x = 0 + 
 
 -- ---- a wave by ranges
 
-upto_later : (low high : ℕ) (cs : List Change) → low ≤ high → AllUpTo low cs → AllUpTo high cs
-upto_later low high [] le upto = tt
-upto_later low high (c ∷ cs) le (first, rest) = (omega arith, upto_later low high cs le rest)
-
 -- a wave is the range of all its ticks
 pub wave_is_range : (width end n : ℕ) (cs : List Change) → IsWave width cs → AllUpTo end cs → end < n
     → cs ≡ changes_in width (value_at width cs) 0 n
 wave_is_range width end n cs is upto long =
     changes_are (all_x width) 0 n (n - 1) cs (value_at width cs) (omega arith) is.rise
-    (upto_later end (n - 1) cs (omega arith) upto) (λ s _ _. refl)
+    (upto_from_all (n - 1) cs (λ k d within. omega (arith, all_from_upto end cs upto k d within, long)))
+    (λ s _ _. refl)
 
 module _ (width end a n k : ℕ) (cs : List Change) (is : IsWave width cs) (upto : AllUpTo end cs) (long : end < a + n)
     (count : k ≡ count_by (λ c. nat_lt c.tick a) cs) where
@@ -219,8 +203,13 @@ module _ (width end a n k : ℕ) (cs : List Change) (is : IsWave width cs) (upto
   count_is_length =
       sym (count ∙ ap (count_by (λ c. nat_lt c.tick a)) parts
       ∙ sum_by-append (λ (c : Change). cond (nat_lt c.tick a) 1 0) low high
-      ∙ (λ i. count_low_from (all_x width) 0 a a (value_at width cs) (omega arith) i
-      + count_high_from (value_just_before width (value_at width cs) a) a n a (value_at width cs) (omega arith) i)
+      ∙ (λ i. count_is (λ c. nat_lt c.tick a) low (length low) no_change (omega arith)
+      (λ k less. let at = ticks_from (all_x width) 0 a (value_at width cs) k no_change less in
+      lt-ltb (get_or low k no_change).tick a (omega (arith, at.1)))
+      (λ k from less. absurd (omega arith)) i
+      + count_is (λ c. nat_lt c.tick a) high 0 no_change (omega arith) (λ k less. absurd (omega arith))
+      (λ k from less. le-ltb _ a (ticks_from (value_just_before width (value_at width cs) a) a n (value_at width cs) k
+      no_change less).0) i)
       ∙ omega arith)
 
   -- the changes before a tick
@@ -237,44 +226,33 @@ module _ (width end a n k : ℕ) (cs : List Change) (is : IsWave width cs) (upto
 
 -- ---- a piece replaces a range, and the later changes move
 
-module _ (width end : ℕ) (cs : List Change) (is : IsWave width cs) (upto : AllUpTo end cs) (a u m n k l stop : ℕ)
-    (by : ℤ) (f : ℕ → List Bit) (piece : List Change)
-    (long : end < u + n) (all : a + (m + n) ≡ suc stop) (from : k ≡ count_by (λ c. nat_lt c.tick a) cs)
-    (to : l ≡ count_by (λ c. nat_lt c.tick u) cs) (later : pos u +ℤ by ≡ pos (a + m)) where
-  -- the piece replaces the ticks from a to u, and the later changes begin at a + m
-  pub replaced : a ≤ u → ((s : ℕ) → s < a → f s ≡ value_at width cs s)
-      → ((i : ℕ) → i < n → f (a + m + i) ≡ value_at width cs (u + i))
-      → (0 < n → value_just_before width f (a + m) ≡ value_just_before width (value_at width cs) u)
-      → piece ≡ changes_in width f a m → spliced_changes cs k l piece by ≡ changes_of width stop f
-  unfolding spliced_changes
-  replaced ordered early late before told =
-      let first : take k cs ≡ changes_in width f 0 a =
-      changes_before_tick width end a (u + n - a) k cs is upto (omega arith) from
-      ∙ changes_in-same width f (value_at width cs) 0 a refl (λ s _ less. early s (omega arith)) in
-      let last : map (moved_change by) (drop l cs) ≡ changes_in width f (a + m) n =
-      ap (map (moved_change by)) (changes_from_tick width end u n l cs is upto long to)
-      ∙ changes_in-moved width f (value_at width cs) by (a + m) u n later before late in
-      (λ i. first i ++ told i ++ last i)
-      ∙ append_assoc (changes_in width f 0 a) (changes_in width f a m) (changes_in width f (a + m) n)
-      ∙ ap (λ xs. changes_in width f 0 a ++ xs) (sym (changes_in-split width f a m n))
-      ∙ ap (λ t. changes_in width f 0 a ++ changes_in width f t (m + n)) {x = a} {y = 0 + a} (omega arith)
-      ∙ sym (changes_in-split width f 0 a (m + n)) ∙ ap (changes_in width f 0) all
-
-  -- such a piece gives the changes of f
-  pub replacement_leads : (p : PieceView) → p.from ≡ k → p.to ≡ l → p.changes ≡ piece → p.by ≡ by → a ≤ u
-      → stop < 2 ^ 64
+module _ (width end : ℕ) (cs : List Change) (is : IsWave width cs) (upto : AllUpTo end cs) (a u m n stop : ℕ)
+    (by : ℤ) (f : ℕ → List Bit) (p : PieceView) (long : end < u + n) (all : a + (m + n) ≡ suc stop)
+    (from : p.from ≡ count_by (λ c. nat_lt c.tick a) cs) (to : p.to ≡ count_by (λ c. nat_lt c.tick u) cs)
+    (later : pos u +ℤ by ≡ pos (a + m)) (offset : p.by ≡ by) where
+  -- a piece for the ticks from a to u, after which the changes begin at a + m, gives the changes of f
+  pub replacement_leads : a ≤ u → stop < 2 ^ 64
       → ((s : ℕ) → s < a → f s ≡ value_at width cs s) → ((i : ℕ) → i < n → f (a + m + i) ≡ value_at width cs (u + i))
       → (0 < n → value_just_before width f (a + m) ≡ value_just_before width (value_at width cs) u)
-      → piece ≡ changes_in width f a m → GivesChanges p cs width stop f
-  replacement_leads p is_from is_to is_piece is_by ordered small early late before told =
+      → p.changes ≡ changes_in width f a m → GivesChanges p cs width stop f
+  unfolding spliced_changes
+  replacement_leads ordered small early late before told =
+      let high = changes_from_tick width end u n p.to cs is upto long to in
+      let first : take p.from cs ≡ changes_in width f 0 a =
+      changes_before_tick width end a (u + n - a) p.from cs is upto (omega arith) from
+      ∙ changes_in-same width f (value_at width cs) 0 a refl (λ s _ less. early s (omega arith)) in
+      let last : map (moved_change p.by) (drop p.to cs) ≡ changes_in width f (a + m) n =
+      (λ i. map (moved_change (offset i)) (high i))
+      ∙ changes_in-moved width f (value_at width cs) by (a + m) u n later before late in
       record {
-        ordered = omega (arith, is_from, is_to, from, to, counts_rise a u cs ordered);
-        within = omega (arith, is_to, to, count_by-le-length (λ (c : Change). nat_lt c.tick u) cs);
-        ticks = subst (λ z. AllTicksFit z (drop p.to cs)) (sym is_by)
-            (subst (λ j. AllTicksFit by (drop j cs)) (sym is_to)
-            (subst (AllTicksFit by) (sym (changes_from_tick width end u n l cs is upto long to))
+        ordered = omega (arith, from, to, counts_rise a u cs ordered);
+        within = omega (arith, to, count_by-le-length (λ (c : Change). nat_lt c.tick u) cs);
+        ticks = subst (λ (t : Type 0). t) (λ i. AllTicksFit (sym offset i) (sym high i))
             (ticks_fit_from (value_just_before width (value_at width cs) u) by u (a + m) n (value_at width cs) later
-            (omega arith))));
-        is = (λ i. spliced_changes cs (is_from i) (is_to i) (is_piece i) (is_by i))
-            ∙ replaced ordered early late before told;
+            (omega arith));
+        is = (λ i. first i ++ told i ++ last i)
+            ∙ append_assoc (changes_in width f 0 a) (changes_in width f a m) (changes_in width f (a + m) n)
+            ∙ ap (λ xs. changes_in width f 0 a ++ xs) (sym (changes_in-split width f a m n))
+            ∙ ap (λ t. changes_in width f 0 a ++ changes_in width f t (m + n)) {x = a} {y = 0 + a} (omega arith)
+            ∙ sym (changes_in-split width f 0 a (m + n)) ∙ ap (changes_in width f 0) all;
       }

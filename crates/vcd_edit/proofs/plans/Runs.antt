@@ -4,7 +4,7 @@ use Rattle.std.proofs.Common.{false, nat_le}
 use Rattle.std.proofs.Common.{if◌then◌else◌, List, [], ◌∷◌, length, inl, inr, refl, sym, ap, subst}
 use Rattle.std.proofs.Common.{◌∙◌, arith}
 use Rattle.std.proofs.Math.Bool.{or-false}
-use Rattle.std.proofs.lemmas.Bool.{cases_lt, cases_eq, both_ways, cond_both, eq-eqb, false_from_ne_true}
+use Rattle.std.proofs.lemmas.Bool.{cases_lt, cases_eq, both_ways, cond_both, iff_false, eq-eqb}
 use Rattle.std.proofs.lemmas.Bool.Decides.{nat_tests}
 use Rattle.std.proofs.lemmas.List.{length-replicate}
 use Rattle.vcd_core.specs.declared.bit.Bit.{Bit}
@@ -19,47 +19,93 @@ use Rattle.vcd_edit.specs.declared.edit.Edit.TheVariants.{Deglitch}
 use Rattle.vcd_edit.specs.Effect.{run_start, run_end, is_steady, steady_value, with_wave, effect}
 use Rattle.vcd_edit.specs.inside.plans.RemainingChanges.{TicksRise, without_repeats, begins_steady}
 use Rattle.vcd_edit.specs.inside.plans.RemainingChanges.{steady_changes}
-use Rattle.vcd_edit.proofs.plans.WithoutRepeats.{rise_lower, early_value, wave_rises, without_repeats_is}
+use Rattle.vcd_edit.proofs.plans.WithoutRepeats.{either_same, rise_lower, early_value, wave_rises, without_repeats_is}
 
--- ---- a choice by whether two values are the same
+-- ---- ranges with one value
 
-pub if_same : {A : Type 0} (v w : List Bit) (x y : A) → v ≡ w → (if same_letters v w then x else y) ≡ x
-if_same v w x y same = ap (λ b. if b then x else y) ((same_letters-Decides v w).1 same)
+-- a range with one value has no start of a run after its first tick
+pub starts_before : (f : ℕ → List Bit) (v : List Bit) (a b c : ℕ) → ((s : ℕ) → a ≤ s → s ≤ b → f s ≡ v)
+    → ((p : ℕ) → suc p ≡ c → f c ≢ f p) → c ≤ b → c ≤ a
+starts_before f v a b c same begins within =
+    elim (cases_lt a c) [
+      | inl less ↦ absurd (begins (c - 1) (omega arith) (same c (omega arith) within
+          ∙ sym (same (c - 1) (omega arith) (omega arith))))
+      | inr more ↦ more
+    ]
 
-pub if_other : {A : Type 0} (v w : List Bit) (x y : A) → v ≢ w → (if same_letters v w then x else y) ≡ y
-if_other v w x y other =
-    ap (λ b. if b then x else y) (false_from_ne_true _ (λ is. other ((same_letters-Decides v w).0 is)))
+-- and no end before its last tick
+pub ends_after : (f : ℕ → List Bit) (v : List Bit) (a b c : ℕ) → ((s : ℕ) → a ≤ s → s ≤ b → f s ≡ v)
+    → (c < b → f (suc c) ≢ f c) → a ≤ c → b ≤ c
+ends_after f v a b c same ends within =
+    elim (cases_lt c b) [
+      | inl less ↦ absurd (ends less (same (suc c) (omega arith) (omega arith) ∙ sym (same c within (omega arith))))
+      | inr more ↦ more
+    ]
 
 -- ---- the run that contains a tick
 
-run_start_is : (f : ℕ → List Bit) (a t : ℕ) → a ≤ t → ((s : ℕ) → a ≤ s → s ≤ t → f s ≡ f a)
-    → ((b : ℕ) → suc b ≡ a → f a ≢ f b) → run_start f t ≡ a
-unfolding run_start
-run_start_is f a zero le same begins = omega arith
-run_start_is f a (suc t) le same begins =
-    elim (cases_eq a (suc t)) [
-      | inl is ↦ if_other (f (suc t)) (f t) (run_start f t) (suc t) (λ equal. begins t (sym is) (ap f is ∙ equal))
-          ∙ sym is
-      | inr apart ↦
-          if_same (f (suc t)) (f t) (run_start f t) (suc t) (same (suc t) (omega arith) (omega arith)
-          ∙ sym (same t (omega arith) (omega arith)))
-          ∙ run_start_is f a t (omega arith) (λ s from to. same s from (omega arith)) begins
-    ]
+-- a choice by whether two values are the same
+same_cases : {A : Type 0} (P : A → Type 0) (v w : List Bit) (x y : A) → (v ≡ w → P x) → (v ≢ w → P y)
+    → P (if same_letters v w then x else y)
+same_cases P v w x y same other =
+    cond_both (same_letters v w) x y P (λ is. same ((same_letters-Decides v w).0 is))
+    (λ is. other (iff_false (same_letters-Decides v w) is))
 
-run_end_is : (f : ℕ → List Bit) (t n b : ℕ) → t ≤ b → b ≤ t + n → ((s : ℕ) → t ≤ s → s ≤ b → f s ≡ f t)
-    → (b < t + n → f (suc b) ≢ f b) → run_end f t n ≡ b
+-- its first tick `a`
+abbrev pub StartsAt : (ℕ → List Bit) → ℕ → ℕ → Type 0
+StartsAt f t a = (a ≤ t) × ((s : ℕ) → a ≤ s → s ≤ t → f s ≡ f t) × ((p : ℕ) → suc p ≡ a → f a ≢ f p)
+
+pub start_is : (f : ℕ → List Bit) (t : ℕ) → StartsAt f t (run_start f t)
+unfolding run_start
+start_is f zero = (omega arith, (λ s from to. ap f (omega arith)), (λ p is. absurd (omega arith)))
+start_is f (suc t) =
+    same_cases (StartsAt f (suc t)) (f (suc t)) (f t) (run_start f t) (suc t)
+    (λ same. let before = start_is f t in (
+      omega (arith, before.0),
+      (λ s from to. elim (cases_eq s (suc t)) [
+        | inl at ↦ ap f at
+        | inr apart ↦ before.1 s from (omega arith) ∙ sym same
+      ]),
+      before.2,
+    ))
+    (λ other. (omega arith, (λ s from to. ap f (omega arith)), (λ p is equal. other (equal ∙ ap f (omega arith)))))
+
+start_same : (f : ℕ → List Bit) (t a b : ℕ) → StartsAt f t a → StartsAt f t b → a ≡ b
+start_same f t a b x y =
+    omega (arith, starts_before f (f t) a t b x.1 y.2 y.0, starts_before f (f t) b t a y.1 x.2 x.0)
+
+-- its last tick `b`, in a capture with n more ticks
+abbrev pub EndsAt : (ℕ → List Bit) → ℕ → ℕ → ℕ → Type 0
+EndsAt f t n b = (t ≤ b) × (b ≤ t + n) × ((s : ℕ) → t ≤ s → s ≤ b → f s ≡ f t) × (b < t + n → f (suc b) ≢ f b)
+
+pub end_is : (f : ℕ → List Bit) (t n : ℕ) → EndsAt f t n (run_end f t n)
 unfolding run_end
-run_end_is f t zero b from to same ends = omega arith
-run_end_is f t (suc n) b from to same ends =
-    elim (cases_eq t b) [
-      | inl is ↦ if_other (f (suc t)) (f t) (run_end f (suc t) n) t
-          (λ equal. ends (omega arith) (subst (λ u. f (suc u) ≡ f u) is equal)) ∙ is
-      | inr apart ↦
-          let next : f (suc t) ≡ f t = same (suc t) (omega arith) (omega arith) in
-          if_same (f (suc t)) (f t) (run_end f (suc t) n) t next
-          ∙ run_end_is f (suc t) n b (omega arith) (omega arith) (λ s late to. same s (omega arith) to
-          ∙ sym next) (λ less. ends (omega arith))
-    ]
+end_is f t zero = (omega arith, omega arith, (λ s from to. ap f (omega arith)), (λ less. absurd (omega arith)))
+end_is f t (suc n) =
+    same_cases (EndsAt f t (suc n)) (f (suc t)) (f t) (run_end f (suc t) n) t
+    (λ same. let later = end_is f (suc t) n in (
+      omega (arith, later.0),
+      omega (arith, later.1),
+      (λ s from to. elim (cases_eq s t) [
+        | inl at ↦ ap f at
+        | inr apart ↦ later.2 s (omega arith) to ∙ same
+      ]),
+      (λ less. later.3 (omega (arith, less))),
+    ))
+    (λ other. (omega arith, omega arith, (λ s from to. ap f (omega arith)), (λ less. other)))
+
+end_same : (f : ℕ → List Bit) (t n b c : ℕ) → EndsAt f t n b → EndsAt f t n c → b ≡ c
+end_same f t n b c x y =
+    let first = ends_after f (f t) t b c x.2 (λ less. y.3 (omega (arith, less, x.1))) y.0 in
+    omega (arith, first, ends_after f (f t) t c b y.2 (λ less. x.3 (omega (arith, less, y.1))) x.0)
+
+-- its ticks have one value
+pub run_same : (f : ℕ → List Bit) (t n a b : ℕ) → StartsAt f t a → EndsAt f t n b → (s : ℕ) → a ≤ s → s ≤ b
+    → f s ≡ f t
+run_same f t n a b start stop s from to = elim (cases_lt s t) [
+  | inl less ↦ start.1 s from (omega arith)
+  | inr more ↦ stop.2 s more to
+]
 
 -- ---- the values in a run
 
@@ -71,9 +117,14 @@ module _ (n end : ℕ) (f : ℕ → List Bit) (a b : ℕ) (ordered : a ≤ b) (w
 
   steady_here : (t : ℕ) → a ≤ t → t ≤ b → is_steady n end f t ≡ steady
   steady_here t from to =
-      let first = run_start_is f a t from (λ s late early. same s late (omega arith)) begins in
-      let last = run_end_is f t (end - t) b to (omega arith) (λ s late early. same s (omega arith) early
-      ∙ sym (same t from to)) (λ less. ends (omega arith)) in
+      let first = start_same f t (run_start f t) a (start_is f t)
+      (from, (λ s late early. same s late (omega arith) ∙ sym (same t from to)), begins) in
+      let last = end_same f t (end - t) (run_end f t (end - t)) b (end_is f t (end - t)) (
+        to,
+        omega arith,
+        (λ s late early. same s (omega arith) early ∙ sym (same t from to)),
+        (λ less. ends (omega arith)),
+      ) in
       λ i. first i == 0 || last i == end || nat_le n (last i - first i + 1)
 
   -- those of a steady run stay
@@ -191,10 +242,6 @@ test_same : (n a : ℕ) (c : Change) (cs : List Change) → c.tick ≡ a
 test_same n a c [] is = refl
 test_same n a c (next ∷ cs) is = ap (λ k. k == 0 || nat_le n (next.tick - k)) is
 
-either_x : (q : Bool) (v : List Bit) → (if q then v else v) ≡ v
-either_x true v = refl
-either_x false v = refl
-
 -- the value at each tick of a wave without its glitches is that of the steady changes
 pub steady_values : (n end width : ℕ) (cs : List Change) → AreChangesFrom 0 (all_x width) cs → AllUpTo end cs → (t : ℕ)
     → t ≤ end → value_from (all_x width) (steady_changes n cs) t ≡ steady_value n end (value_from (all_x width) cs) t
@@ -216,7 +263,7 @@ steady_values n end width (c ∷ cs) (from, other, wide, rest) (here, upto) t to
           (omega arith) to)
       | inr apart ↦
           ap (λ v. value_from v (steady_changes n (c ∷ cs)) t)
-          (sym (either_x (begins_steady n (change 0 (all_x width)) (c ∷ cs)) (all_x width)))
+          (sym (either_same (begins_steady n (change 0 (all_x width)) (c ∷ cs)) (all_x width)))
           ∙ sym (steady_from n end width (value_from (all_x width) (c ∷ cs)) (c ∷ cs) 0 (all_x width) (all_x width)
           (omega arith) (length-replicate width X) (λ s late early. refl)
           (omega arith, other, wide, rest) (here, upto) (λ p same. absurd (omega (arith, same)))

@@ -13,6 +13,18 @@ use Rattle.vcd_core.proofs.shared.Waves.{put_cases, value_past, value_skip, valu
 use Rattle.vcd_core.proofs.shared.Waves.{wave_is}
 use Rattle.vcd_edit.specs.inside.plans.RemainingChanges.{TicksRise, without_repeats, mapped_change}
 
+-- ---- a choice
+
+pub either_value : {A B : Type 0} (h : A → B) (b : Bool) (x y : A) → (if b then h x else h y) ≡ h (if b then x else y)
+either_value h true x y = refl
+either_value h false x y = refl
+
+pub either_same : {A : Type 0} (b : Bool) (x : A) → (if b then x else x) ≡ x
+either_same true x = refl
+either_same false x = refl
+
+-- ---- lists whose ticks rise
+
 pub rise_lower : (width low high : ℕ) (cs : List Change) → low ≤ high → TicksRise width high cs → TicksRise width low cs
 rise_lower width low high [] le rise = tt
 rise_lower width low high (c ∷ cs) le (from, wide, rest) = (omega arith, wide, rest)
@@ -50,26 +62,18 @@ without_repeats_value : (width floor : ℕ) (before : List Bit) (cs : List Chang
 unfolding without_repeats value_from
 without_repeats_value width floor before [] t long rise = refl
 without_repeats_value width floor before (c ∷ cs) t long (from, wide, rest) =
+    let kept = without_repeats c.value cs in
     let tail = without_repeats_value width (c.tick + 1) c.value cs t wide rest in
-    elim (cases_lt t c.tick) [
+    put_cases (λ l. value_from before l t ≡ value_from before (c ∷ cs) t) c.value before c kept
+    (λ equal. subst (λ v. value_from v kept t ≡ value_from (if nat_le c.tick t then c.value else v) cs t) equal
+    (tail ∙ ap (λ v. value_from v cs t) (sym (either_same (nat_le c.tick t) c.value))))
+    (λ other. elim (cases_lt t c.tick) [
       | inl early ↦
-          put_cases (λ l. value_from before l t ≡ value_from before (c ∷ cs) t) c.value before c
-          (without_repeats c.value cs)
-          (λ equal. value_early before c.value (without_repeats c.value cs) (c.tick + 1) t
+          value_skip before c kept t early ∙ value_early before c.value kept (c.tick + 1) t
           (without_repeats_rise width (c.tick + 1) c.value cs wide rest) (omega arith)
-          ∙ sym (early_value width before (c ∷ cs) c.tick t (omega arith, wide, rest) early))
-          (λ other. value_skip before c (without_repeats c.value cs) t early
-          ∙ value_early before c.value (without_repeats c.value cs) (c.tick + 1) t
-          (without_repeats_rise width (c.tick + 1) c.value cs wide rest) (omega arith)
-          ∙ sym (early_value width before (c ∷ cs) c.tick t (omega arith, wide, rest) early))
-      | inr late ↦
-          put_cases (λ l. value_from before l t ≡ value_from before (c ∷ cs) t) c.value before c
-          (without_repeats c.value cs)
-          (λ equal. subst (λ v. value_from v (without_repeats c.value cs) t ≡ value_from c.value cs t) equal tail
-          ∙ sym (value_past before c cs t late))
-          (λ other. value_past before c (without_repeats c.value cs) t late ∙ tail
-          ∙ sym (value_past before c cs t late))
-    ]
+          ∙ sym (early_value width before (c ∷ cs) c.tick t (omega arith, wide, rest) early)
+      | inr late ↦ value_past before c kept t late ∙ tail ∙ sym (value_past before c cs t late)
+    ])
 
 -- such a list has the changes of the function that has its values
 pub without_repeats_is : (width end : ℕ) (cs : List Change) (f : ℕ → List Bit) → TicksRise width 0 cs → AllUpTo end cs
@@ -102,10 +106,6 @@ pub mapped_upto : (end : ℕ) (h : List Bit → List Bit) (cs : List Change) →
     → AllUpTo end (map (mapped_change h) cs)
 mapped_upto end h [] upto = tt
 mapped_upto end h (c ∷ cs) (here, upto) = (here, mapped_upto end h cs upto)
-
-either_value : (h : List Bit → List Bit) (b : Bool) (v w : List Bit) → (if b then h v else h w) ≡ h (if b then v else w)
-either_value h true v w = refl
-either_value h false v w = refl
 
 pub mapped_value : (h : List Bit → List Bit) (before : List Bit) (cs : List Change) (t : ℕ)
     → value_from (h before) (map (mapped_change h) cs) t ≡ h (value_from before cs t)

@@ -6,7 +6,8 @@ use Rattle.std.proofs.Common.{refl, sym, ap}
 use Rattle.std.proofs.Common.{◌∙◌, arith}
 use Rattle.std.specs.Prelude.{neg_ℤ}
 use Rattle.std.specs.List.{list_all}
-use Rattle.std.proofs.lemmas.Bool.{cases_lt, le-ltb, and_parts}
+use Rattle.std.proofs.lemmas.Bool.{le-ltb, and_parts}
+use Rattle.std.proofs.lemmas.Bool.Decides.{nat_tests}
 use Rattle.std.proofs.lemmas.Int.{ints}
 use Rattle.std.proofs.lemmas.List.{length-set, set-set, set-get_or, get_or-set_same, get_or-map}
 use Rattle.std.proofs.lemmas.List.{get_or_push}
@@ -34,6 +35,7 @@ use Rattle.vcd_edit.specs.EffectLaws.{RenameAndBack}
 use Rattle.vcd_edit.specs.EffectLaws.{RemoveAndBack, BitOfOneBit}
 use Rattle.vcd_edit.proofs.shared.SoundEffects.{sound_at, value_at_width}
 use Rattle.vcd_edit.proofs.plans.CutPiece.{before_cut, after_cut}
+use Rattle.vcd_edit.proofs.plans.WithoutRepeats.{either_value}
 use Rattle.vcd_edit.proofs.plans.ForcePiece.{before_range, after_range, in_range}
 use Rattle.vcd_edit.proofs.exchange.OppositeRecords.{insert-remove}
 
@@ -143,6 +145,23 @@ cut_keeps_other_ticks c from to k t ordered ends within =
       omega arith,
     )
 
+-- the tick that a tick after a cut had before it
+abbrev tick_before : ℕ → ℕ → ℕ → ℕ
+tick_before from to t = if nat_lt t from then t else t + (to - from)
+
+tick_not_after : (from to t : ℕ) → tick_before from to t ≤ t + (to - from)
+tick_not_after from to t = grind (arith, nat_tests)
+
+ticks_commute : (from to later last t : ℕ) → from ≤ to → to ≤ later → later ≤ last
+    → tick_before from to (tick_before (later - (to - from)) (last - (to - from)) t)
+    ≡ tick_before later last (tick_before from to t)
+ticks_commute from to later last t ordered apart rising = grind (arith, nat_tests)
+
+cut_has : (from to end : ℕ) (s : SignalContents) (t : ℕ) → t ≤ end
+    → signal_value (signal_after_cut end from to s) t ≡ signal_value s (tick_before from to t)
+cut_has from to end s t upto =
+    value_after_cut from to s end t upto ∙ either_value (signal_value s) (nat_lt t from) t (t + (to - from))
+
 -- two cuts of one signal, up to an end
 module _ (from to later last : ℕ) (ordered : from ≤ to) (apart : to ≤ later) (rising : later ≤ last) (end : ℕ)
     (ends : last ≤ end) (s : SignalContents) where
@@ -155,38 +174,15 @@ module _ (from to later last : ℕ) (ordered : from ≤ to) (apart : to ≤ late
   abbrev later_cut : SignalContents
   later_cut = signal_after_cut (end - (last - later)) later last s
 
-  at_first_cut : (t : ℕ) → t ≤ end - gone → signal_value first_cut t ≡ cut_value from to s t
-  at_first_cut t upto = value_after_cut from to s (end - gone) t upto
-
-  at_later_cut : (t : ℕ) → t ≤ end - (last - later) → signal_value later_cut t ≡ cut_value later last s t
-  at_later_cut t upto = value_after_cut later last s (end - (last - later)) t upto
-
-  same_tick : (t u : ℕ) → t ≡ u → signal_value s t ≡ signal_value s u
-  same_tick t u is = ap (signal_value s) is
-
   either_order : (t : ℕ) → t ≤ end - (last - later) - gone
       → cut_value (later - gone) (last - gone) first_cut t ≡ cut_value from to later_cut t
   either_order t upto =
-      elim (cases_lt t from) [
-        | inl early ↦
-            before_cut (later - gone) (last - gone) first_cut t (omega arith) ∙ at_first_cut t (omega arith)
-            ∙ before_cut from to s t early ∙ sym (before_cut from to later_cut t early ∙ at_later_cut t (omega arith)
-            ∙ before_cut later last s t (omega arith))
-        | inr after ↦ elim (cases_lt t (later - gone)) [
-          | inl between ↦
-              before_cut (later - gone) (last - gone) first_cut t between ∙ at_first_cut t (omega arith)
-              ∙ after_cut from to s t _ after refl
-              ∙ sym (after_cut from to later_cut t _ after refl ∙ at_later_cut (t + gone) (omega arith)
-              ∙ before_cut later last s (t + gone) (omega arith))
-          | inr late ↦
-              after_cut (later - gone) (last - gone) first_cut t _ late refl
-              ∙ at_first_cut (t + (last - gone - (later - gone))) (omega arith)
-              ∙ after_cut from to s (t + (last - gone - (later - gone))) _ (omega arith) refl
-              ∙ same_tick (t + (last - gone - (later - gone)) + gone) (t + gone + (last - later)) (omega arith)
-              ∙ sym (after_cut from to later_cut t _ after refl ∙ at_later_cut (t + gone) (omega arith)
-              ∙ after_cut later last s (t + gone) _ (omega arith) refl)
-        ]
-      ]
+      either_value (signal_value first_cut) (nat_lt t (later - gone)) t (t + (last - gone - (later - gone)))
+      ∙ cut_has from to (end - gone) s (tick_before (later - gone) (last - gone) t)
+      (omega (arith, tick_not_after (later - gone) (last - gone) t))
+      ∙ ap (signal_value s) (ticks_commute from to later last t ordered apart rising)
+      ∙ sym (either_value (signal_value later_cut) (nat_lt t from) t (t + gone)
+      ∙ cut_has later last (end - (last - later)) s (tick_before from to t) (omega (arith, tick_not_after from to t)))
 
   -- the signal after both
   cut_either_order : (stop : ℕ) → stop ≡ end - (last - later) - gone

@@ -32,7 +32,7 @@ use Rattle.vcd_edit.specs.Effect.{value_at_any_tick, shift_value}
 use Rattle.vcd_edit.specs.Effect.{cut_value, force_value, is_steady, steady_value, formula}
 use Rattle.vcd_edit.specs.Effect.{first_operand}
 use Rattle.vcd_edit.specs.Effect.{formula_bit, derived_signal, cut_contents, effect}
-use Rattle.vcd_edit.specs.EditFaults.{edit_fault}
+use Rattle.vcd_edit.specs.EditFaults.{edit_fault, is_signal}
 use Rattle.vcd_edit.proofs.checking.NoFault.{no_fault, position_below, first_operand_there}
 
 -- ---- the width of values
@@ -119,11 +119,13 @@ sound_with_signal c k s sound alike =
     let few : length (set c.signals k s) ≤ SIGNAL_LIMIT = omega (arith, length-set c.signals k s, sound.few) in
     assumption (few, All-set (IsSoundSignal c.end) c.signals k s alike sound.signals)
 
-pub sound_with_wave : (c : Contents) (k : ℕ) (f : ℕ → List Bit) → k < length c.signals → IsSound c
-    → ((t : ℕ) → length (f t) ≡ (signal_at c k).width) → IsSound (with_wave c k f)
-sound_with_wave c k f within sound wide =
+pub sound_with_wave : (c : Contents) (k : ℕ) (f : ℕ → List Bit) → IsTrue (is_signal c k) → IsSound c
+    → (IsWave (signal_at c k).width (signal_at c k).changes → (t : ℕ) → length (f t) ≡ (signal_at c k).width)
+    → IsSound (with_wave c k f)
+sound_with_wave c k f is sound wide =
+    let here = sound_at c k (position_below c k is) sound in
     sound_with_signal c k (with_values c.end f (signal_at c k)) sound
-    (sound_with_values c.end c.end f (signal_at c k) (sound_at c k within sound) wide)
+    (sound_with_values c.end c.end f (signal_at c k) here (wide here.wave))
 
 pub sound_removed : (c : Contents) (k : ℕ) → k < length c.signals → IsSound c
     → IsSound (record c { signals = remove c.signals k })
@@ -175,29 +177,25 @@ effect_is_sound (Rename k word) c sound none =
     (sound_at c k (position_below c k free.0) sound))
 effect_is_sound (Remove k) c sound none = sound_removed c k (position_below c k (no_fault (Remove k) c none).0) sound
 effect_is_sound (Invert k) c sound none =
-    let within = position_below c k (no_fault (Invert k) c none).0 in
     let s : SignalContents = signal_at c k in
-    sound_with_wave c k (inverse_value s) within sound
-    (λ t. length-map (signal_value s t) not_bit ∙ value_at_width s.width s.changes t (sound_at c k within sound).wave)
+    sound_with_wave c k (inverse_value s) (no_fault (Invert k) c none).0 sound
+    (λ wave t. length-map (signal_value s t) not_bit ∙ value_at_width s.width s.changes t wave)
 effect_is_sound (Shift k by) c sound none =
-    let within = position_below c k (no_fault (Shift k by) c none).0 in
     let s : SignalContents = signal_at c k in
-    sound_with_wave c k (shift_value c.end by s) within sound
-    (λ t. value_near_width c.end s (pos t -ℤ by) (sound_at c k within sound).wave)
+    sound_with_wave c k (shift_value c.end by s) (no_fault (Shift k by) c none).0 sound
+    (λ wave t. value_near_width c.end s (pos t -ℤ by) wave)
 effect_is_sound (Cut from to) c sound none = sound_cut c from to sound
 effect_is_sound (Deglitch k ticks) c sound none =
-    let within = position_below c k (no_fault (Deglitch k ticks) c none).0 in
     let s : SignalContents = signal_at c k in
-    sound_with_wave c k (steady_value ticks c.end (signal_value s)) within sound
-    (λ t. steady_value_width ticks c.end (signal_value s) t s.width
-    (λ u. value_at_width s.width s.changes u (sound_at c k within sound).wave))
+    sound_with_wave c k (steady_value ticks c.end (signal_value s)) (no_fault (Deglitch k ticks) c none).0 sound
+    (λ wave t. steady_value_width ticks c.end (signal_value s) t s.width
+    (λ u. value_at_width s.width s.changes u wave))
 effect_is_sound (Force k from to value) c sound none =
     let free = no_fault (Force k from to value) c none in
-    let within = position_below c k free.0 in
     let s : SignalContents = signal_at c k in
-    sound_with_wave c k (force_value from to value s) within sound
-    (λ t. either_width (nat_le from t && nat_lt t to) _ _ s.width (same_width value s free.1.1.0)
-    (value_at_width s.width s.changes t (sound_at c k within sound).wave))
+    sound_with_wave c k (force_value from to value s) free.0 sound
+    (λ wave t. either_width (nat_le from t && nat_lt t to) _ _ s.width (same_width value s free.1.1.0)
+    (value_at_width s.width s.changes t wave))
 effect_is_sound (Derive word rule) c sound none =
     let free = no_fault (Derive word rule) c none in
     sound_pushed c (derived_signal word.now rule c) (room_for c free.1.1.1.1.0) sound

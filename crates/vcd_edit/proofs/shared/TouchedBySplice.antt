@@ -21,7 +21,10 @@ use Rattle.std.proofs.lemmas.List.Sums.{common_prefix_len-le}
 use Rattle.std.proofs.lemmas.List.Elements.{All-nil, All-cons, All-head, All-tail}
 use Rattle.std.proofs.lemmas.Int.{ints}
 use Rattle.vcd_core.specs.declared.wave.Change.{Change}
+use Rattle.vcd_core.proofs.shared.Pushes.{all_from_upto}
+use Rattle.vcd_core.specs.declared.capture.TheConstants.{END_LIMIT}
 use Rattle.vcd_core.specs.Value.{same_letters}
+use Rattle.vcd_core.specs.Wave.{AllUpTo}
 use Rattle.vcd_core.specs.inside.value.EqualByLetters.{same_letters-Decides}
 use Rattle.vcd_core.specs.Splice.{moved_change, TickFits, AllTicksFit}
 use Rattle.vcd_edit.specs.Touched.{same_change, same_moved_change, common_moved_suffix}
@@ -67,6 +70,12 @@ same_lowered_is by o c d opposite small same =
       (λ i. record { tick = unsigned_abs (later i); value = value i }),
       subst (FitsUnsigned w64) (sym later) (omega (arith, ints), omega (arith, ints, small)),
     )
+
+-- changes that stay where they are
+pub stay_fit : (end : ℕ) (cs : List Change) → end ≤ END_LIMIT → AllUpTo end cs → AllTicksFit (pos 0) cs
+unfolding TickFits
+stay_fit end cs small upto = λ k d less.
+    let le = all_from_upto end cs upto k d less in (omega (arith, ints), omega (arith, ints, small, le))
 
 -- ---- common prefixes
 

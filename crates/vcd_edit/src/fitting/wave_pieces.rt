@@ -1,37 +1,18 @@
 //! Whether the pieces of a record fit a capture: one pass over the signals, since pieces rise by
 //! signal.
 
-ghost use Rattle.std.specs.Prelude.{◌≡◌, ◌↔◌, ◌≤◌, All, IsTrue, if◌then◌else◌, map, length};
+ghost use Rattle.std.specs.Prelude.{◌≡◌, ◌↔◌, ◌≤◌, All, IsTrue, map};
 ghost use Rattle.vcd_core.specs.Contents.{Contents};
 ghost use Rattle.vcd_core.specs.CaptureContents.{signal_contents};
 ghost use Rattle.vcd_edit.specs.AppliedRecords.{with_pieces, PieceFits, RiseFrom};
 ghost use Rattle.vcd_edit.specs.Records.{piece_view};
-ghost use Rattle.vcd_edit.specs.inside.fitting.TestsOfParts.{IsSoundWith, IsSoundHere};
-ghost use Rattle.vcd_edit.specs.inside.fitting.TestsOfParts.{AreSoundFrom};
-ghost use Rattle.vcd_edit.specs.inside.fitting.TestsOfParts.{AreSoundSignals, is_for};
+ghost use Rattle.vcd_edit.specs.inside.fitting.TestsOfParts.{IsSoundWith, AreSoundTo};
+ghost use Rattle.vcd_edit.specs.inside.fitting.TestsOfParts.{AreSoundFrom, AreSoundSignals};
 
 use crate::fitting::adjacency::is_valid_piece;
-use crate::fitting::sound_names::has_sound_names;
+use crate::fitting::sound_names::{are_sound, has_sound_names};
 use crate::record::Piece;
 use vcd_core::{END_LIMIT, SIGNAL_LIMIT, Signal};
-
-/// Whether the first of some pieces is for the signal at a position.
-fn is_next_for(position: usize, pieces: &[Piece]) -> bool
-    ensures { result ≡ is_for position (map piece_view pieces.now) }
-{
-    match pieces {
-        [piece, ..] => piece.signal == position,
-        [] => false,
-    }
-}
-
-/// How many of the pieces are for the signal at a position: one, if the first is, or none.
-fn count_for(position: usize, pieces: &[Piece]) -> usize
-    ensures count { result ≡ if is_for position (map piece_view pieces.now) then 1 else 0 }
-    ensures most { result ≤ length pieces.now }
-{
-    if is_next_for(position, pieces) { 1 } else { 0 }
-}
 
 /// Whether a signal with a piece is sound up to an end.
 fn is_sound_with(signal: &Signal, piece: &Piece, end: u64) -> bool
@@ -41,34 +22,37 @@ fn is_sound_with(signal: &Signal, piece: &Piece, end: u64) -> bool
     has_sound_names(signal) && is_valid_piece(piece, &signal.wave, end)
 }
 
-/// Whether the signal at a position is sound up to an end, with the first of the pieces if that is
-/// for it.
-fn is_sound_here(signal: &Signal, position: usize, pieces: &[Piece], end: u64) -> bool
-    requires { end ≤ END_LIMIT }
-    ensures { IsTrue result ↔ IsSoundHere end (is_for position (map piece_view pieces.now))
-        (signal_contents signal.now) (map piece_view pieces.now) }
+/// Whether the signal of a piece is sound up to an end with the piece, and those from position
+/// `next` to it are.
+fn are_sound_to(piece: &Piece, signals: &[Signal], next: usize, end: u64) -> bool
+    requires small { end ≤ END_LIMIT }
+    requires order { next ≤ piece.now.signal }
+    ensures { IsTrue result ↔ AreSoundTo end (map signal_contents signals.now) next
+        (piece_view piece.now) }
 {
-    if is_next_for(position, pieces) {
-        return is_sound_with(signal, &pieces[0], end);
+    if piece.signal >= signals.len() {
+        return false;
     }
-    signal.is_sound(end)
+    is_sound_with(&signals[piece.signal], piece, end)
+        && are_sound(&signals[next..piece.signal], end)
 }
 
-/// Whether each signal, with its piece if it has one, is sound up to an end, and no piece is left.
+/// Whether each signal, with its piece if it has one, is sound up to an end, and each piece has a
+/// signal.
 fn are_sound_with(pieces: &[Piece], signals: &[Signal], end: u64) -> bool
-    requires { end ≤ END_LIMIT }
-    ensures { IsTrue result ↔ AreSoundFrom end (map signal_contents signals.now) 0
-        (length signals.now) (map piece_view pieces.now) }
+    requires small { end ≤ END_LIMIT }
+    requires rise { RiseFrom 0 (map piece_view pieces.now) }
+    ensures { (c : Contents) → c.signals ≡ map signal_contents signals.now
+        → IsTrue result ↔ AreSoundFrom end c 0 (map piece_view pieces.now) }
 {
-    let mut done = 0;
-    for position in 0..signals.len() {
-        let rest = &pieces[done..];
-        if !is_sound_here(&signals[position], position, rest, end) {
+    let mut next = 0;
+    for piece in pieces {
+        if !are_sound_to(piece, signals, next, end) {
             return false;
         }
-        done += count_for(position, rest);
+        next = piece.signal + 1;
     }
-    done == pieces.len()
+    are_sound(&signals[next..], end)
 }
 
 /// Whether pieces fit signals and give sound ones up to the end.

@@ -12,10 +12,10 @@ ghost use Rattle.vcd_edit.specs.inside.plans.Plan.{IsPlan, GivesValues};
 ghost use Rattle.vcd_edit.specs.declared.edit.Edit.TheVariants as edits;
 
 use crate::plans::cut::cut_piece;
-use crate::plans::parts::{piece_record, push_if_new, signal_at};
+use crate::plans::parts::{piece_record, push_if_new, signal_at, x_value};
 use crate::record::{Piece, Record};
 use std::alloc::Global;
-use vcd_core::{Bit, Capture, Change, END_LIMIT, NoMemory, Signal, Value};
+use vcd_core::{Capture, Change, END_LIMIT, NoMemory, Signal, Value};
 
 /// The record of the piece at the front, or of the whole list if changes are pushed past the end.
 pub(crate) fn plan(
@@ -91,8 +91,7 @@ fn delay_piece(
     let wave = &signal.wave;
     let ticks = by.unsigned_abs();
     if ticks > end {
-        let x = Value::filled(wave.width(), Bit::X);
-        return constant_piece(alloc, signal, position, by, x);
+        return constant_piece(alloc, signal, position, by, x_value(wave));
     }
     let changes = wave.changes();
     let kept = wave.count_until(end - ticks + 1);
@@ -127,7 +126,7 @@ fn constant_piece(
 {
     let wave = &signal.wave;
     let mut changes = Vec::new(alloc);
-    push_if_new(&mut changes, Value::filled(wave.width(), Bit::X), 0, value)?;
+    push_if_new(&mut changes, x_value(wave), 0, value)?;
     Ok(Piece {
         signal: position,
         from: 0,

@@ -9,7 +9,6 @@ use Rattle.std.proofs.lemmas.List.Edits.{map_over_more}
 use Rattle.std.proofs.lemmas.List.Elements.{All-nil, All-push, All-head, All-tail}
 use Rattle.vcd_core.specs.declared.bit.Bit.{Bit}
 use Rattle.vcd_core.specs.declared.wave.Change.{Change}
-use Rattle.vcd_core.specs.Splice.{AllTicksFit}
 use Rattle.vcd_core.specs.Contents.{Contents, SignalContents, no_signal, signal_at}
 use Rattle.vcd_edit.specs.RecordView.{PieceView}
 use Rattle.vcd_edit.specs.Effect.{with_values}
@@ -18,7 +17,7 @@ use Rattle.vcd_edit.specs.AppliedRecords.{with_pieces, PieceFits}
 use Rattle.vcd_edit.specs.AppliedRecords.{RiseFrom}
 use Rattle.vcd_edit.specs.inside.plans.Ranges.{GivesChanges}
 use Rattle.vcd_edit.specs.inside.plans.Plan.{PiecesForEach}
-use Rattle.vcd_edit.proofs.exchange.OppositePieces.{with_pieces-push}
+use Rattle.vcd_edit.proofs.exchange.OppositePieces.{fits_there, with_pieces-push}
 
 -- pieces for signals below a position, and one for the signal there
 rise_more : (ps : List PieceView) (p : PieceView) (j : ℕ) → j ≤ p.signal → RiseFrom j ps
@@ -71,20 +70,13 @@ module _ (c : Contents) (g : SignalContents → SignalContents) (n : ℕ) (by : 
   lead_with s p end f is at_n given gives offset = record {
     leads = with_pieces-push c ps p ∙ ap (λ (d : Contents). with_piece d p) lead.leads
         ∙ ap (λ (ss : List SignalContents). record c { signals = ss }) (written ∙ more);
-    fit = All-push (PieceFits c) ps p lead.fit (record {
-      signal = omega (arith, at_n, within);
-      ordered = gives.ordered;
-      within = subst (λ (s : SignalContents). p.to ≤ length s.changes) (sym there) gives.within;
-      ticks = subst (λ (s : SignalContents). AllTicksFit p.by (drop p.to s.changes)) (sym there) gives.ticks;
-    });
+    fit = All-push (PieceFits c) ps p lead.fit (fits_there c p s (omega (arith, at_n, within))
+        (ap (λ (k : ℕ). signal_at c k) at_n ∙ is) gives.ordered gives.within gives.ticks);
     below = All-push (λ (q : PieceView). q.signal < n + 1) ps p still_below (omega (arith, at_n));
     rise = rise_more ps p 0 (omega arith) lead.rise (λ k d less. omega (arith, lead.below k d less, at_n));
     offset = All-push (λ (q : PieceView). q.by ≡ by) ps p lead.offset offset;
   }
     where
-      there : signal_at c p.signal ≡ s
-      there = ap (λ (k : ℕ). signal_at c k) at_n ∙ is
-
       written : set reached p.signal
           (signal_with_changes (get_or reached p.signal no_signal)
           (changes_with_piece p (get_or reached p.signal no_signal).changes)) ≡ set reached n (g (signal_at c n))

@@ -2,7 +2,7 @@
 use Rattle.std.proofs.Common.{◌≡◌, ◌<◌, ◌≤◌, ℕ, ℤ, ◌+◌, ◌-◌, ◌^◌, List, [], ◌∷◌, ◌++◌}
 use Rattle.std.proofs.Common.{All, length, map, get_or, Some, None, refl, sym, ap, subst, ◌∙◌}
 use Rattle.std.proofs.Common.{arith}
-use Rattle.std.specs.Prelude.{pos, neg_ℤ, ◌-ℤ◌}
+use Rattle.std.specs.Prelude.{pos, neg_ℤ}
 use Rattle.std.proofs.lemmas.Int.{ints}
 use Rattle.std.proofs.lemmas.List.{length-map, map-append}
 use Rattle.vcd_core.specs.declared.capture.Signal.{Signal}
@@ -77,11 +77,8 @@ cut_plan c from to ps sound none lead =
     sound none
     (ap (λ (d : Contents). record d { end = c.end - (to - from) })
     (lead_all c (neg_ℤ (pos (to - from))) (signal_after_cut (c.end - (to - from)) from to) ps lead))
-    lead.fit tt tt (λ k d less. opposite from to (cut_ticks from to c none).0 ∙ ap neg_ℤ (sym (lead.offset k d less)))
-    refl
-  where
-    opposite : (from to : ℕ) → from < to → pos to -ℤ pos from ≡ neg_ℤ (neg_ℤ (pos (to - from)))
-    opposite from to some = omega (arith, ints)
+    lead.fit tt tt
+    (λ k d less. let some = (cut_ticks from to c none).0 in omega (arith, ints, some, lead.offset k d less)) refl
 
 -- all signals have been reached
 pub cut_end : (c : Contents) (signals : List Signal) → c.signals ≡ map signal_contents signals

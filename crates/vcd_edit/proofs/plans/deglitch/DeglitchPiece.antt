@@ -1,17 +1,15 @@
 -- The piece of a signal without its short runs: from the first change that is taken out to the
 -- last.
-use Rattle.std.proofs.Common.{◌≡◌, ℕ, ◌+◌, ◌≤◌, List, [], ◌∷◌, ◌++◌, length, take, drop, sym, ap}
+use Rattle.std.proofs.Common.{◌≡◌, ℕ, ◌+◌, ◌≤◌, List, ◌++◌, length, take, drop, sym, ap}
 use Rattle.std.proofs.Common.{subst, ◌∙◌, arith}
 use Rattle.std.proofs.Common.{append_assoc, length-drop}
 use Rattle.std.specs.Prelude.{pos}
-use Rattle.std.proofs.lemmas.Int.{ints}
 use Rattle.std.proofs.lemmas.List.{append-nil, drop-drop, drop_all, take_all}
-use Rattle.std.proofs.lemmas.List.Elements.{All-nil, All-cons, All-drop}
+use Rattle.std.proofs.lemmas.List.Elements.{All-drop}
 use Rattle.vcd_core.specs.declared.bit.Bit.{Bit}
 use Rattle.vcd_core.specs.declared.wave.Change.{Change}
 use Rattle.vcd_core.specs.declared.capture.TheConstants.{END_LIMIT}
 use Rattle.vcd_core.specs.Value.{all_x}
-use Rattle.vcd_core.specs.Wave.{AllUpTo, changes_of}
 use Rattle.vcd_core.specs.WavePush.{last_value}
 use Rattle.vcd_core.specs.Splice.{TickFits, AllTicksFit, spliced_changes}
 use Rattle.vcd_core.specs.Contents.{SignalContents, signal_value}
@@ -24,21 +22,9 @@ use Rattle.vcd_edit.specs.Effect.{steady_value}
 use Rattle.vcd_edit.specs.inside.plans.RemainingChanges.{kept_changes}
 use Rattle.vcd_edit.specs.inside.plans.Plan.{GivesValues}
 use Rattle.vcd_edit.specs.Records.{piece_view}
-use Rattle.vcd_edit.proofs.plans.deglitch.KeptChanges.{kept_are, kept_of_none}
+use Rattle.vcd_edit.proofs.plans.deglitch.KeptChanges.{kept_of_none}
 use Rattle.vcd_edit.proofs.plans.Runs.{steady_are}
-
--- changes that stay where they are
-stay_fit : (end : ℕ) (cs : List Change) → end ≤ END_LIMIT → AllUpTo end cs → AllTicksFit (pos 0) cs
-unfolding TickFits
-stay_fit end [] small upto = All-nil (TickFits (pos 0))
-stay_fit end (c ∷ cs) small (here, upto) =
-    All-cons (TickFits (pos 0)) c cs (omega (arith, ints), omega (arith, ints, here, small))
-    (stay_fit end cs small upto)
-
--- the changes that remain are those of the edit
-pub kept_of_signal : (n end : ℕ) (s : SignalContents) → IsSoundSignal end s
-    → kept_changes n (all_x s.width) s.changes ≡ changes_of s.width end (steady_value n end (signal_value s))
-kept_of_signal n end s sound = kept_are n (all_x s.width) s.changes ∙ steady_are n end s sound.wave sound.ticks
+use Rattle.vcd_edit.proofs.shared.TouchedBySplice.{stay_fit}
 
 module _ (n : ℕ) (s : SignalContents) (cs : List Change) (x : List Bit) (same : cs ≡ s.changes)
     (all : x ≡ all_x s.width) (from : ℕ) (within : from ≤ length cs)
@@ -81,6 +67,6 @@ module _ (n : ℕ) (s : SignalContents) (cs : List Change) (x : List Bit) (same 
             (All-drop (TickFits (pos 0)) (from + to) s.changes (stay_fit end s.changes small sound.ticks));
         is = ap (λ (q : PieceView). changes_with_piece q s.changes) is
             ∙ (λ i. take from (sym same i) ++ list ++ moved_nowhere (drop (from + to) (sym same i)) i) ∙ parts_left
-            ∙ kept_of_signal n end s sound;
+            ∙ steady_are n end s sound.wave sound.ticks;
       };
     }

@@ -1,11 +1,11 @@
 -- The changes that remain when short runs of one value are taken out, change by change.
-use Rattle.std.proofs.Common.{◌≡◌, ℕ, ◌+◌, ◌-◌, ◌<◌, ◌≤◌, ◌&&◌, Bool, true, false, not}
-use Rattle.std.proofs.Common.{if◌then◌else◌, List, [], ◌∷◌}
+use Rattle.std.proofs.Common.{◌≡◌, ℕ, ◌+◌, ◌-◌, ◌<◌, ◌≤◌, true, false, not, if◌then◌else◌, List, [], ◌∷◌}
 use Rattle.std.proofs.Common.{◌++◌, length, take, drop, get_or, refl, sym, ap, ◌∙◌, arith}
 use Rattle.std.proofs.Common.{append_assoc}
+use Rattle.std.proofs.lemmas.Bool.{and_parts, and_from, not-true, both_ways, cond_both, false_from_ne_true}
 use Rattle.std.proofs.lemmas.List.{append-nil, length-append, length-drop, length-take-le, take_all}
 use Rattle.std.proofs.lemmas.List.{take-append-le}
-use Rattle.std.proofs.lemmas.List.{take_more, drop_more, get_or-drop}
+use Rattle.std.proofs.lemmas.List.Edits.{between_more, between_none}
 use Rattle.vcd_core.specs.declared.bit.Bit.{Bit}
 use Rattle.vcd_core.specs.declared.wave.Change.{Change}
 use Rattle.vcd_core.specs.Value.{same_letters}
@@ -13,109 +13,70 @@ use Rattle.vcd_core.specs.inside.value.EqualByLetters.{same_letters-Decides}
 use Rattle.vcd_core.specs.Wave.{unless_same}
 use Rattle.vcd_core.specs.WavePush.{last_value}
 use Rattle.vcd_core.proofs.shared.Pushes.{last_value-split}
+use Rattle.vcd_core.proofs.shared.Waves.{put_cases}
 use Rattle.vcd_edit.specs.inside.plans.RemainingChanges.{without_repeats, begins_steady, steady_changes}
 use Rattle.vcd_edit.specs.inside.plans.RemainingChanges.{is_kept}
 use Rattle.vcd_edit.specs.inside.plans.RemainingChanges.{kept_changes}
+use Rattle.vcd_edit.proofs.shared.Lists.{drop_here, take_here}
 
 -- a change that remains, and one that is taken out
-pub kept_first : (n : ℕ) (before : List Bit) (c : Change) (cs : List Change) → is_kept n before c cs ≡ true
+kept_first : (n : ℕ) (before : List Bit) (c : Change) (cs : List Change) → is_kept n before c cs ≡ true
     → kept_changes n before (c ∷ cs) ≡ c ∷ kept_changes n c.value cs
-unfolding kept_changes
-kept_first n before c cs kept = ap (λ b. if b then c ∷ kept_changes n c.value cs else kept_changes n before cs) kept
+unfolding steady_changes without_repeats
+kept_first n before c cs kept =
+    let both = and_parts (begins_steady n c cs) (not (same_letters c.value before)) kept in
+    ap (λ b. without_repeats before (if b then c ∷ steady_changes n cs else steady_changes n cs)) both.0
+    ∙ ap (λ b. unless_same b c (kept_changes n c.value cs)) (not-true (same_letters c.value before) both.1)
 
-pub left_out_first : (n : ℕ) (before : List Bit) (c : Change) (cs : List Change) → is_kept n before c cs ≡ false
+left_out_first : (n : ℕ) (before : List Bit) (c : Change) (cs : List Change) → is_kept n before c cs ≡ false
     → kept_changes n before (c ∷ cs) ≡ kept_changes n before cs
-unfolding kept_changes
-left_out_first n before c cs out = ap (λ b. if b then c ∷ kept_changes n c.value cs else kept_changes n before cs) out
-
--- they are those that begin steady runs and change the value
-kept_if_other : (n : ℕ) (before : List Bit) (c : Change) (cs : List Change) (same : Bool)
-    → (same ≡ true → c.value ≡ before) → kept_changes n before cs ≡ without_repeats before (steady_changes n cs)
-    → kept_changes n c.value cs ≡ without_repeats c.value (steady_changes n cs)
-    → (if not same then c ∷ kept_changes n c.value cs else kept_changes n before cs)
-    ≡ unless_same same c (without_repeats c.value (steady_changes n cs))
-kept_if_other n before c cs true equal out kept = out
-    ∙ ap (λ v. without_repeats v (steady_changes n cs)) (sym (equal refl))
-kept_if_other n before c cs false equal out kept = ap (λ l. c ∷ l) kept
-
-kept_if_steady : (n : ℕ) (before : List Bit) (c : Change) (cs : List Change) (steady : Bool)
-    → kept_changes n before cs ≡ without_repeats before (steady_changes n cs)
-    → kept_changes n c.value cs ≡ without_repeats c.value (steady_changes n cs)
-    → (if steady && not (same_letters c.value before) then c ∷ kept_changes n c.value cs else kept_changes n before cs)
-    ≡ without_repeats before (if steady then c ∷ steady_changes n cs else steady_changes n cs)
-unfolding without_repeats
-kept_if_steady n before c cs false out kept = out
-kept_if_steady n before c cs true out kept =
-    kept_if_other n before c cs (same_letters c.value before) ((same_letters-Decides c.value before).0) out kept
-
-pub kept_are : (n : ℕ) (before : List Bit) (cs : List Change)
-    → kept_changes n before cs ≡ without_repeats before (steady_changes n cs)
-unfolding kept_changes steady_changes without_repeats
-kept_are n before [] = refl
-kept_are n before (c ∷ cs) =
-    kept_if_steady n before c cs (begins_steady n c cs) (kept_are n before cs) (kept_are n c.value cs)
+unfolding steady_changes without_repeats
+left_out_first n before c cs out =
+    cond_both (begins_steady n c cs) (c ∷ steady_changes n cs) (steady_changes n cs)
+    (λ l. without_repeats before l ≡ kept_changes n before cs)
+    (λ begins. put_cases (λ l. l ≡ kept_changes n before cs) c.value before c (kept_changes n c.value cs)
+    (λ equal. ap (λ v. kept_changes n v cs) equal)
+    (λ other. absurd (both_ways (is_kept n before c cs) out (and_from _ _ begins (ap not
+    (false_from_ne_true _ (λ is. other ((same_letters-Decides c.value before).0 is))))))))
+    (λ _. refl)
 
 -- an empty list stays empty
 pub kept_of_none : (n : ℕ) (before : List Bit) (cs : List Change) → length cs ≤ 0 → kept_changes n before cs ≡ []
-unfolding kept_changes
+unfolding steady_changes without_repeats
 kept_of_none n before [] none = refl
 kept_of_none n before (c ∷ cs) none = absurd (omega arith)
 
 -- ---- the change at a position
 
--- the changes after it
-pub rest_is : (cs : List Change) (i : ℕ) → take (length cs - (i + 1)) (drop (i + 1) cs) ≡ drop (i + 1) cs
-rest_is cs i = take_all (length cs - (i + 1)) (drop (i + 1) cs) (omega (arith, length-drop (i + 1) cs))
-
 module _ (n : ℕ) (last : List Bit) (cs : List Change) (i : ℕ) (c : Change) (later : List Change)
     (within : i < length cs) (at : c ≡ get_or cs i c) (rest : later ≡ drop (i + 1) cs) where
-  here : drop i cs ≡ c ∷ drop (i + 1) cs
-  here = drop_more cs i c within ∙ ap (λ d. d ∷ drop (i + 1) cs) (sym at)
-
-  up_to_here : take (i + 1) cs ≡ take i cs ++ c ∷ []
-  up_to_here = take_more cs i c within ∙ ap (λ d. take i cs ++ d ∷ []) (sym at)
-
   -- it remains
   module _ (kept : is_kept n last c later ≡ true) where
     one_kept : kept_changes n last (drop i cs) ≡ c ∷ kept_changes n c.value (drop (i + 1) cs)
-    one_kept = ap (kept_changes n last) here
+    one_kept = ap (kept_changes n last) (drop_here cs i c within at)
         ∙ kept_first n last c (drop (i + 1) cs) (ap (is_kept n last c) (sym rest) ∙ kept)
 
-    -- and so are those before it
-    pub kept_prefix : (before : List Bit) (all : List Change) → all ≡ take i cs ++ kept_changes n last (drop i cs)
-        → all ≡ take (i + 1) cs ++ kept_changes n c.value (drop (i + 1) cs)
-    kept_prefix before all is =
-        is ∙ ap (λ l. take i cs ++ l) one_kept
-        ∙ sym (append_assoc (take i cs) (c ∷ []) (kept_changes n c.value (drop (i + 1) cs)))
-        ∙ ap (λ l. l ++ kept_changes n c.value (drop (i + 1) cs)) (sym up_to_here)
-
-    -- or those from a position on
-    pub kept_after : (prefix all : List Change) (to : ℕ) → to ≤ i
-        → all ≡ prefix ++ take (i - to) (drop to cs) ++ kept_changes n last (drop i cs)
-        → all ≡ prefix ++ take (i + 1 - to) (drop to cs) ++ kept_changes n c.value (drop (i + 1) cs)
-    kept_after prefix all to le is =
-        let part = take (i - to) (drop to cs) in
-        let following = kept_changes n c.value (drop (i + 1) cs) in
-        let index : to + (i - to) ≡ i = omega arith in
-        let read : get_or (drop to cs) (i - to) c ≡ c = get_or-drop to cs (i - to) c ∙ ap (λ k. get_or cs k c) index
-        ∙ sym at in
-        let count : i + 1 - to ≡ i - to + 1 = omega arith in
-        let more : take (i + 1 - to) (drop to cs) ≡ part ++ c ∷ [] =
-        ap (λ k. take k (drop to cs)) count ∙ take_more (drop to cs) (i - to) c (omega (arith, length-drop to cs))
-        ∙ ap (λ d. part ++ d ∷ []) read in
-        is ∙ ap (λ l. prefix ++ part ++ l) one_kept ∙ sym (append_assoc (prefix ++ part) (c ∷ []) following)
-        ∙ ap (λ l. l ++ following) (append_assoc prefix part (c ∷ []) ∙ ap (λ l. prefix ++ l) (sym more))
-
+    -- after what was listed
     pub kept_listed : (out more all : List Change) → all ≡ out ++ kept_changes n last (drop i cs) → more ≡ out ++ c ∷ []
         → all ≡ more ++ kept_changes n c.value (drop (i + 1) cs)
     kept_listed out more all is put =
         is ∙ ap (λ l. out ++ l) one_kept ∙ sym (append_assoc out (c ∷ []) (kept_changes n c.value (drop (i + 1) cs)))
         ∙ ap (λ l. l ++ kept_changes n c.value (drop (i + 1) cs)) (sym put)
 
+    -- after a prefix and the changes from a position on
+    pub kept_after : (prefix all : List Change) (to : ℕ) → to ≤ i
+        → all ≡ prefix ++ take (i - to) (drop to cs) ++ kept_changes n last (drop i cs)
+        → all ≡ prefix ++ take (i + 1 - to) (drop to cs) ++ kept_changes n c.value (drop (i + 1) cs)
+    kept_after prefix all to le is =
+        let part = take (i - to) (drop to cs) in
+        kept_listed (prefix ++ part) (prefix ++ take (i + 1 - to) (drop to cs)) all is
+        (ap (λ l. prefix ++ l) (between_more cs to i c le within ∙ ap (λ d. part ++ d ∷ []) (sym at))
+        ∙ sym (append_assoc prefix part (c ∷ [])))
+
   -- it is taken out
   module _ (out : is_kept n last c later ≡ false) where
     pub one_left_out : kept_changes n last (drop i cs) ≡ kept_changes n last (drop (i + 1) cs)
-    one_left_out = ap (kept_changes n last) here
+    one_left_out = ap (kept_changes n last) (drop_here cs i c within at)
         ∙ left_out_first n last c (drop (i + 1) cs) (ap (is_kept n last c) (sym rest) ∙ out)
 
     pub left_out_after : (prefix all : List Change) (to : ℕ)
@@ -123,19 +84,16 @@ module _ (n : ℕ) (last : List Bit) (cs : List Change) (i : ℕ) (c : Change) (
         → all ≡ (prefix ++ take (i - to) (drop to cs)) ++ take (i + 1 - (i + 1)) (drop (i + 1) cs)
         ++ kept_changes n last (drop (i + 1) cs)
     left_out_after prefix all to is =
-        let none : i + 1 - (i + 1) ≡ 0 = omega arith in
         is ∙ ap (λ l. prefix ++ take (i - to) (drop to cs) ++ l) one_left_out
-        ∙ ap (λ l. l ++ kept_changes n last (drop (i + 1) cs))
-        (sym (append-nil (prefix ++ take (i - to) (drop to cs)) ∙ refl))
-        ∙ ap (λ k. (prefix ++ take (i - to) (drop to cs)) ++ take k (drop (i + 1) cs)
-        ++ kept_changes n last (drop (i + 1) cs)) (sym none)
+        ∙ ap (λ l. l ++ kept_changes n last (drop (i + 1) cs)) (sym (append-nil (prefix ++ take (i - to) (drop to cs))))
+        ∙ ap (λ l. (prefix ++ take (i - to) (drop to cs)) ++ l ++ kept_changes n last (drop (i + 1) cs))
+        (sym (between_none cs (i + 1)))
 
 -- the value of the last change so far
 pub last_so_far : (before : List Bit) (cs : List Change) (i : ℕ) (c : Change) → i < length cs → c ≡ get_or cs i c
     → c.value ≡ last_value before (take (i + 1) cs)
 last_so_far before cs i c within at =
-    last_value-split before (take (i + 1) cs) (take i cs) c
-    (take_more cs i c within ∙ ap (λ d. take i cs ++ d ∷ []) (sym at))
+    last_value-split before (take (i + 1) cs) (take i cs) c (take_here cs i c within at)
 
 -- the length of the passed part
 pub part_long : (prefix cs : List Change) (kept to i : ℕ) → length prefix ≡ kept → to ≤ i → i ≤ length cs

@@ -7,9 +7,10 @@ use Rattle.std.proofs.Common.{inr, refl, sym, ap, subst, ◌∙◌, arith}
 use Rattle.std.specs.List.{filter, range_with_len, list_any}
 use Rattle.std.proofs.lemmas.Bool.{cases_eq, cond_both, not-false, or_parts}
 use Rattle.std.proofs.lemmas.Option.{same_Some}
-use Rattle.std.proofs.lemmas.List.{drop_more, drop_all, length-replicate}
+use Rattle.std.proofs.lemmas.List.{drop_all, length-replicate}
 use Rattle.std.proofs.lemmas.Simd.{map-map}
-use Rattle.std.proofs.lemmas.List.Elements.{All-nil, All-cons, All-map}
+use Rattle.std.proofs.lemmas.List.Elements.{All-nil, All-map, All-filter}
+use Rattle.std.proofs.lemmas.List.FromFn.{length-range_with_len, get_or-range_with_len}
 use Rattle.vcd_core.specs.declared.bit.Bit.{Bit}
 use Rattle.vcd_core.specs.declared.bit.Bit.TheVariants.{X}
 use Rattle.vcd_core.specs.declared.bit_edges.BitEdge.{BitEdge}
@@ -29,16 +30,11 @@ use Rattle.vcd_edit.specs.inside.plans.RemainingChanges.{TicksRise}
 use Rattle.vcd_edit.specs.inside.plans.Ranges.{value_just_before}
 use Rattle.vcd_edit.specs.inside.plans.Derive.{edge_bit, edge_change, HasBits, selected_bit}
 use Rattle.vcd_edit.specs.inside.plans.Derive.{selected_change, DerivedSoFar}
+use Rattle.vcd_edit.proofs.shared.Lists.{drop_here}
 use Rattle.vcd_edit.proofs.plans.WithoutRepeats.{rise_lower, early_value, wave_rises, mapped_upto}
 use Rattle.vcd_edit.proofs.plans.WithoutRepeats.{mapped_value}
 
 -- ---- one change after another
-
-rise_all : (width floor : ℕ) (cs : List Change) → TicksRise width floor cs → All (λ c. floor ≤ c.tick) cs
-rise_all width floor [] rise = All-nil (λ (c : Change). floor ≤ c.tick)
-rise_all width floor (c ∷ cs) (from, wide, rest) =
-    All-cons (λ (c : Change). floor ≤ c.tick) c cs from
-    (λ k d less. omega (arith, from, rise_all width (c.tick + 1) cs rest k d less))
 
 -- nothing is made yet
 pub none_made : (all : List Change) (w : WaveView) → w.width ≡ 1 → w.changes ≡ [] → TicksRise 1 0 all
@@ -47,9 +43,7 @@ unfolding value_from
 none_made all w width none rise = record {
   width = width;
   values = λ t. ap (λ (cs : List Change). value_from (value_from (all_x 1) cs t) all t) none;
-  rise = rise;
-  before = subst (All (λ (c : Change). All (λ (d : Change). c.tick ≤ d.tick) all)) (sym none)
-      (All-nil (λ (c : Change). All (λ (d : Change). c.tick ≤ d.tick) all));
+  rise = (0, rise, subst (All (λ (c : Change). c.tick ≤ 0)) (sym none) (All-nil (λ (c : Change). c.tick ≤ 0)));
   upto = λ end upto. (subst (AllUpTo end) (sym none) tt, upto);
 }
 
@@ -61,14 +55,13 @@ pub one_made : (all left rest : List Change) (c : Change) (old new : WaveView) �
 unfolding value_from
 one_made all left rest c old new is made_left width values last =
     let made : DerivedSoFar all (c ∷ rest) old = subst (λ (cs : List Change). DerivedSoFar all cs old) is made_left in
-    let (from, wide, rise) = made.rise in
+    let (floor, (from, wide, rise), before) = made.rise in
     record {
       width = width ∙ made.width;
       values = λ t.
           ap (λ v. value_from v rest t) (ap (λ w. value_at w new.changes t) (sym (width ∙ made.width)) ∙ values t
           ∙ ap (λ w. if nat_le c.tick t then c.value else value_at w old.changes t) made.width) ∙ made.values t;
-      rise = rise_lower 1 0 (c.tick + 1) rest (omega arith) rise;
-      before = λ k d less j e within. omega (arith, last k d less, rise_all 1 (c.tick + 1) rest rise j e within);
+      rise = (c.tick + 1, rise, (λ k d less. omega (arith, last k d less)));
       upto = λ end upto. (
         upto_from_all end new.changes (λ k d less. omega (arith, last k d less, (made.upto end upto).1.0)),
         (made.upto end upto).1.1,
@@ -78,8 +71,9 @@ one_made all left rest c old new is made_left width values last =
 -- the next change is not before the last
 pub late_enough : (all left rest : List Change) (c : Change) (w : WaveView) → left ≡ c ∷ rest
     → DerivedSoFar all left w → All (λ d. d.tick ≤ c.tick) w.changes
-late_enough all left rest c w is made = λ k d less.
-    (subst (λ (cs : List Change). DerivedSoFar all cs w) is made).before k d less 0 c (omega arith)
+late_enough all left rest c w is made =
+    let (floor, (from, wide, rise), before) = (subst (λ (cs : List Change). DerivedSoFar all cs w) is made).rise in
+    λ k d less. omega (arith, from, before k d less)
 
 -- all is made
 pub made_is : (all : List Change) (w : WaveView) (end : ℕ) (f : ℕ → List Bit) → DerivedSoFar all [] w
@@ -107,14 +101,11 @@ module _ (p : ℕ → Bool) (r : ℕ → List Bit) where
       ]
 
   pub sampled_upto : (a n end : ℕ) → a + n ≤ suc end → AllUpTo end (at_ticks (filter p (range_with_len a n)))
-  sampled_upto a zero end within = tt
-  sampled_upto a (suc n) end within =
-      let later = sampled_upto (a + 1) n end (omega arith) in
-      elim (p a) as (λ b. AllUpTo end
-      (at_ticks (cond b (a ∷ filter p (range_with_len (a + 1) n)) (filter p (range_with_len (a + 1) n))))) [
-        | true ↦ (omega arith, later)
-        | false ↦ later
-      ]
+  sampled_upto a n end within =
+      upto_from_all end (at_ticks (filter p (range_with_len a n))) (All-map (λ (c : Change). c.tick ≤ end)
+      (λ u. change u (r u)) (filter p (range_with_len a n)) (All-filter p (λ u. u ≤ end) (range_with_len a n)
+      (λ k d less. let long = length-range_with_len a n in
+      omega (arith, within, less, long, get_or-range_with_len a n k d (omega (arith, less, long))))))
 
   pub sampled : (a n : ℕ) (v : List Bit) → v ≡ value_just_before 1 r a → ((u : ℕ) → length (r u) ≡ 1)
       → ((u : ℕ) → p u ≡ false → r u ≡ value_just_before 1 r u)
@@ -265,7 +256,7 @@ pub change_next : (k : ℕ) (negated : Bool) (cs : List Change) (i : ℕ) (c : C
     → map (selected_change k negated) (drop i cs)
     ≡ change c.tick value ∷ map (selected_change k negated) (drop (i + 1) cs)
 change_next k negated cs i c value within at is =
-    ap (map (selected_change k negated)) (drop_more cs i c within ∙ ap (λ d. d ∷ drop (i + 1) cs) (sym at))
+    ap (map (selected_change k negated)) (drop_here cs i c within at)
     ∙ ap (λ v. change c.tick v ∷ map (selected_change k negated) (drop (i + 1) cs)) (sym is)
 
 -- the wave from the changes of one wave has its bit at each tick

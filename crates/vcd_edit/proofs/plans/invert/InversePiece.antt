@@ -1,9 +1,8 @@
 -- The piece of a signal with each bit negated.
 use Rattle.std.proofs.Common.{◌≡◌, ℕ, zero, suc, ◌<◌, ◌≤◌, ◌+◌, Bool, true, false, List, [], ◌∷◌}
 use Rattle.std.proofs.Common.{◌++◌, length, map}
-use Rattle.std.proofs.Common.{drop, get_or, refl, sym, ap, ◌∙◌, arith, append_assoc}
+use Rattle.std.proofs.Common.{drop, get_or, refl, sym, ap, ◌∙◌, append_assoc}
 use Rattle.std.proofs.lemmas.List.{length-map, length-replicate, append-nil, drop_all}
-use Rattle.std.proofs.Math.Seq.{drop-cons}
 use Rattle.vcd_core.specs.declared.bit.Bit.{Bit}
 use Rattle.vcd_core.specs.declared.bit.Bit.TheVariants.{X}
 use Rattle.vcd_core.specs.declared.wave.Change.{Change}
@@ -13,6 +12,7 @@ use Rattle.vcd_core.specs.Contents.{SignalContents}
 use Rattle.vcd_edit.specs.Operators.{not_bit}
 use Rattle.vcd_edit.specs.Effect.{inverse_value}
 use Rattle.vcd_edit.specs.inside.plans.RemainingChanges.{without_repeats, mapped_change}
+use Rattle.vcd_edit.proofs.shared.Lists.{drop_here}
 use Rattle.vcd_edit.proofs.plans.WithoutRepeats.{without_repeats_is, wave_rises, mapped_rise, mapped_upto}
 use Rattle.vcd_edit.proofs.plans.WithoutRepeats.{mapped_value}
 
@@ -33,13 +33,7 @@ without_repeats_more before last c out more rest all was put =
     joined true = refl
     joined false = refl
 
--- the changes that remain
-left : (h : List Bit → List Bit) (cs : List Change) (i : ℕ) (c : Change) → i < length cs → c ≡ get_or cs i c
-    → map (mapped_change h) (drop i cs) ≡ mapped_change h c ∷ map (mapped_change h) (drop (i + 1) cs)
-left h cs i c within at =
-    ap (map (mapped_change h)) (drop-cons cs i c within ∙ ap (λ (d : Change). d ∷ drop (suc i) cs) (sym at))
-    ∙ ap (λ n. mapped_change h c ∷ map (mapped_change h) (drop n cs)) {x = suc i} {y = i + 1} (omega arith)
-
+-- one more change
 pub inverse_more : (before last value : List Bit) (cs : List Change) (i : ℕ) (c : Change) (out more : List Change)
     → i < length cs → c ≡ get_or cs i c → value ≡ map not_bit c.value
     → out ++ without_repeats last (map (mapped_change (map not_bit)) (drop i cs))
@@ -52,7 +46,8 @@ inverse_more before last value cs i c out more within at is was put =
     ∙ without_repeats_more before last (mapped_change (map not_bit) c) out more
     (map (mapped_change (map not_bit)) (drop (i + 1) cs))
     (without_repeats before (map (mapped_change (map not_bit)) cs))
-    (ap (λ (rest : List Change). out ++ without_repeats last rest) (sym (left (map not_bit) cs i c within at)) ∙ was)
+    (ap (λ (rest : List Change). out ++ without_repeats last rest)
+    (sym (ap (map (mapped_change (map not_bit))) (drop_here cs i c within at))) ∙ was)
     (put ∙ ap (λ v. out ++ unless_same (same_letters v last) (change c.tick v) []) is)
 
 -- none remains

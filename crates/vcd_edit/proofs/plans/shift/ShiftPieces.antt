@@ -1,5 +1,5 @@
 -- The pieces of a delayed or advanced signal.
-use Rattle.std.proofs.Common.{◌≡◌, ℕ, zero, suc, ◌+◌, ◌-◌, ◌^◌, ◌<◌, ◌≤◌, nat_lt, cond}
+use Rattle.std.proofs.Common.{◌≡◌, ℕ, zero, suc, ◌+◌, ◌-◌, ◌^◌, ◌<◌, ◌≤◌, nat_lt}
 use Rattle.std.proofs.Common.{if◌then◌else◌, ℤ}
 use Rattle.std.proofs.Common.{pos, negsuc, ◌-ℤ◌, List, [], ◌∷◌, ◌++◌, length, take, map, get_or}
 use Rattle.std.proofs.Common.{inl, inr, refl, sym}
@@ -7,8 +7,7 @@ use Rattle.std.proofs.Common.{ap, ◌∙◌, arith}
 use Rattle.std.specs.Prelude.{neg_ℤ, Result, IfOk}
 use Rattle.std.specs.List.{count_by}
 use Rattle.std.proofs.lemmas.Bool.{cases_lt, lt-ltb, le-ltb}
-use Rattle.std.proofs.lemmas.List.Sums.{sum_by-cons}
-use Rattle.std.proofs.lemmas.List.{map-append, take_more}
+use Rattle.std.proofs.lemmas.List.{map-append}
 use Rattle.std.proofs.lemmas.Int.{ints}
 use Rattle.std.proofs.lemmas.Result.{IfOk-weaker}
 use Rattle.vcd_core.specs.declared.bit.Bit.{Bit}
@@ -19,7 +18,7 @@ use Rattle.vcd_core.specs.Wave.{change, unless_same, changes_from, IsWave, AllUp
 use Rattle.vcd_core.specs.Splice.{moved_change}
 use Rattle.vcd_core.specs.Contents.{SignalContents, signal_value}
 use Rattle.vcd_core.proofs.shared.Waves.{changes_same}
-use Rattle.vcd_core.proofs.shared.Pushes.{upto_from_all}
+use Rattle.vcd_core.proofs.shared.Pushes.{upto_from_all, count_is, no_change}
 use Rattle.vcd_core.proofs.shared.WaveAfterChange.{value_last}
 use Rattle.vcd_core.specs.declared.memory.NoMemory.{NoMemory}
 use Rattle.vcd_edit.specs.declared.record.Piece.{Piece}
@@ -28,6 +27,7 @@ use Rattle.vcd_edit.specs.inside.plans.Plan.{GivesValues}
 use Rattle.vcd_edit.specs.RecordView.{PieceView}
 use Rattle.vcd_edit.specs.Effect.{value_at_any_tick, shift_value, cut_value}
 use Rattle.vcd_edit.specs.inside.plans.Ranges.{value_just_before, changes_in, GivesChanges}
+use Rattle.vcd_edit.proofs.shared.Lists.{take_here}
 use Rattle.vcd_edit.proofs.plans.CutPiece.{after_cut, all_counted}
 use Rattle.vcd_edit.proofs.plans.Ranges.{changes_in-split, changes_in-constant, changes_in-moved}
 use Rattle.vcd_edit.proofs.plans.Ranges.{changes_before_tick}
@@ -66,7 +66,7 @@ pub later_more : (d i : ℕ) (cs : List Change) (c : Change) → i < length cs �
 later_more d i cs c within at =
     (λ k. map (moved_change (pos d)) (take i cs) ++ later_change d c k ∷ [])
     ∙ sym (map-append (moved_change (pos d)) (take i cs) (c ∷ []))
-    ∙ ap (map (moved_change (pos d))) (ap (λ (x : Change). take i cs ++ x ∷ []) at ∙ sym (take_more cs i c within))
+    ∙ ap (map (moved_change (pos d))) (sym (take_here cs i c within at))
 
 -- ---- earlier
 
@@ -77,15 +77,12 @@ module _ (d end : ℕ) (s : SignalContents) (upto : AllUpTo end s.changes) where
   -- the value is that of d ticks later
   pub shift_earlier : (t : ℕ) → shift_value end back s t ≡ signal_value s (t + d)
   shift_earlier t =
-      ap (value_at_any_tick end s) (there d t)
+      ap (value_at_any_tick end s) {x = pos t -ℤ neg_ℤ (pos d)} {y = pos (t + d)} (omega (arith, ints))
       ∙ elim (cases_lt end (t + d)) [
         | inl far ↦ ap (λ q. if q then signal_value s end else signal_value s (t + d)) (lt-ltb end (t + d) far)
             ∙ sym (past_end end (t + d) s upto (omega arith))
         | inr near ↦ ap (λ q. if q then signal_value s end else signal_value s (t + d)) (le-ltb end (t + d) near)
       ]
-    where
-      there : (d t : ℕ) → pos t -ℤ neg_ℤ (pos d) ≡ pos (t + d)
-      there d t = omega (arith, ints)
 
   -- as if the first d ticks were cut out
   pub shift_as_cut : (t : ℕ) → cut_value 0 d s t ≡ shift_value end back s t
@@ -99,18 +96,13 @@ module _ (d end : ℕ) (s : SignalContents) (upto : AllUpTo end s.changes) where
 
 module _ (d end : ℕ) (s : SignalContents) where
   pub shift_before : (t : ℕ) → t < d → shift_value end (pos d) s t ≡ all_x s.width
-  shift_before t early = ap (value_at_any_tick end s) (there t early)
-    where
-      there : (t : ℕ) → t < d → pos t -ℤ pos d ≡ negsuc (d - suc t)
-      there t early = omega (arith, ints)
+  shift_before t early =
+      ap (value_at_any_tick end s) {x = pos t -ℤ pos d} {y = negsuc (d - suc t)} (omega (arith, ints))
 
   shift_after : (t u : ℕ) → t ≡ d + u → t ≤ end → shift_value end (pos d) s t ≡ signal_value s u
   shift_after t u is to =
-      ap (value_at_any_tick end s) (there t u is)
+      ap (value_at_any_tick end s) {x = pos t -ℤ pos d} {y = pos u} (omega (arith, ints, is))
       ∙ ap (λ q. if q then signal_value s end else signal_value s u) (le-ltb end u (omega (arith, is)))
-    where
-      there : (t u : ℕ) → t ≡ d + u → pos t -ℤ pos d ≡ pos u
-      there t u is = omega (arith, ints, is)
 
   -- none of the first ticks has a change
   prefix_empty : (m : ℕ) → m ≤ d → changes_in s.width (shift_value end (pos d) s) 0 m ≡ []
@@ -136,18 +128,17 @@ module _ (d end : ℕ) (s : SignalContents) where
         replacement_leads s.width (end - d) s.changes is
         (upto_from_all (end - d) s.changes
         (λ k c within. omega (arith, all_counted (end - d + 1) s.changes (sym count ∙ all) k c within)))
-        0 0 d (end - d + 1) p.from p.to end (pos d) (shift_value end (pos d) s) p.changes (omega arith) (omega arith)
+        0 0 d (end - d + 1) end (pos d) (shift_value end (pos d) s) p (omega arith) (omega arith)
         (first ∙ sym (none_counted s.changes)) (last ∙ sym (none_counted s.changes))
-        (omega (arith, ints)) p refl refl refl by (omega arith) (omega arith) (λ t early. absurd (omega arith))
+        (omega (arith, ints)) by (omega arith) (omega arith) (λ t early. absurd (omega arith))
         (λ i less. shift_after (0 + d + i) (0 + i) (omega arith) (omega arith))
         (λ less. ap (value_just_before s.width (shift_value end (pos d) s)) {x = 0 + d} {y = d} (omega arith)
         ∙ x_before d refl)
         (empty ∙ sym (prefix_empty d (omega arith)))
       where
         none_counted : (cs : List Change) → count_by (λ c. nat_lt c.tick 0) cs ≡ 0
-        none_counted [] = refl
-        none_counted (c ∷ cs) = sum_by-cons (λ (c : Change). cond (nat_lt c.tick 0) 1 0) c cs
-            ∙ (λ i. cond (le-ltb c.tick 0 (omega arith) i) 1 0 + none_counted cs i)
+        none_counted cs = count_is (λ c. nat_lt c.tick 0) cs 0 no_change (omega arith)
+            (λ k less. absurd (omega arith)) (λ k from less. le-ltb _ 0 (omega arith))
 
     -- the changes that stay, d ticks later
     pub later_some_stay : p.to ≡ length s.changes → p.changes ≡ map (moved_change (pos d)) (take kept s.changes)

@@ -3,7 +3,7 @@ use Rattle.std.specs.Prelude.{◌≡◌, ℕ, ◌<◌, ◌≤◌, neg_ℤ, ℤ, 
 use Rattle.std.specs.Prelude.{slice_index_or, Option, Some}
 use Rattle.std.specs.Prelude.{None}
 use Rattle.vcd_core.specs.Contents.{Contents, SignalContents, signal_at}
-use Rattle.vcd_edit.specs.RecordView.{PieceView, RecordView}
+use Rattle.vcd_edit.specs.RecordView.{RecordView}
 use Rattle.vcd_edit.specs.AppliedRecords.{apply_record, Fits}
 use Rattle.vcd_edit.specs.Touched.{touched_from, partners, record_pairing, stored_changes}
 
@@ -27,15 +27,6 @@ opposite_signal (Some m) c = Some (m.0, removed_signal m.0 m.1 c)
 abbrev pub opposite_end : Option ℕ → Contents → Option ℕ
 opposite_end None c = None
 opposite_end (Some end) c = Some c.end
-
--- the record of the opposite step: its pieces are the opposite ones
-abbrev pub opposite_record : RecordView → List PieceView → Contents → RecordView
-opposite_record r qs c = record {
-  pieces = qs;
-  word = opposite_word r.word c;
-  signal = opposite_signal r.signal c;
-  other_end = opposite_end r.other_end c;
-}
 
 -- the signal that a word is for has a name
 abbrev pub IsNamedAt : Contents → Option (ℕ × List ℕ) → Type 0

@@ -1,5 +1,5 @@
 -- When a list of changes may come after another.
-use Rattle.std.specs.Prelude.{◌≡◌, ◌≢◌, ℤ, pos, ℕ, ◌+◌, ◌≤◌, List, [], ◌∷◌, length, drop, map}
+use Rattle.std.specs.Prelude.{◌≡◌, ◌≢◌, ℤ, pos, ℕ, ◌+◌, ◌≤◌, List, [], ◌∷◌, length, drop}
 use Rattle.vcd_core.specs.declared.bit.Bit.{Bit}
 use Rattle.vcd_core.specs.declared.wave.Change.{Change}
 use Rattle.vcd_core.specs.Value.{all_x}
@@ -34,9 +34,8 @@ abbrev pub JoinToWave : ℕ → ℕ → List Change → List Change → List Cha
 JoinToWave width end prefix list later by =
     let floor = floor_after 0 prefix in
     let before = last_value (all_x width) prefix in
-    let placed = map (moved_change (pos 0)) list in
     AllUpTo end prefix × MayFollow (pos 0) end floor before list
-    × MayFollow by end (floor_after floor placed) (last_value before placed) later
+    × MayFollow by end (floor_after floor list) (last_value before list) later
 
 -- what a record must hold to fit: the piece's range lies within the changes, and the result is a
 -- wave up to the end

@@ -1,6 +1,6 @@
 -- The tests that show whether a record fits a capture.
-use Rattle.std.specs.Prelude.{◌≡◌, ℕ, zero, suc, ◌<◌, ◌≤◌, ◌==◌, Bool, true, false, List, [], ◌∷◌}
-use Rattle.std.specs.Prelude.{length, drop, slice_index_or, All, Option, Some}
+use Rattle.std.specs.Prelude.{ℕ, ◌<◌, ◌≤◌, List, []}
+use Rattle.std.specs.Prelude.{length, drop, slice_index_or, slice_range, All, Option, Some}
 use Rattle.std.specs.Prelude.{None, IsTrue, IfSome}
 use Rattle.std.specs.List.{list_all}
 use Rattle.vcd_core.specs.declared.capture.TheConstants.{END_LIMIT, SIGNAL_LIMIT}
@@ -21,28 +21,16 @@ HasSoundNames s = IsSoundSignal 0 (signal_with_changes s [])
 abbrev pub IsSoundWith : ℕ → SignalContents → PieceView → Type 0
 IsSoundWith end s p = HasSoundNames s × IsValidPiece s.width end s.changes p
 
--- whether the first of some pieces is for the signal at a position
-abbrev pub is_for : ℕ → List PieceView → Bool
-is_for k [] = false
-is_for k (p ∷ ps) = p.signal == k
+-- the signal of a piece is sound up to an end with the piece, and those from position k to it are
+abbrev pub AreSoundTo : ℕ → List SignalContents → ℕ → PieceView → Type 0
+AreSoundTo end ss k p = (p.signal < length ss)
+    × IsSoundWith end (slice_index_or ss p.signal no_signal) p
+    × All (IsSoundSignal end) (slice_range ss k p.signal)
 
--- the pieces after that one, if it is
-abbrev pub pieces_after : Bool → List PieceView → List PieceView
-pieces_after true ps = drop 1 ps
-pieces_after false ps = ps
-
--- a signal is sound up to an end: with the first of the pieces if that is for it, else as it is
-abbrev pub IsSoundHere : ℕ → Bool → SignalContents → List PieceView → Type 0
-IsSoundHere end true s [] = ⊥
-IsSoundHere end true s (p ∷ ps) = IsSoundWith end s p
-IsSoundHere end false s ps = IsSoundSignal end s
-
--- n signals from position k on are, each with its piece, and no piece is left
-unfoldable pub AreSoundFrom : ℕ → List SignalContents → ℕ → ℕ → List PieceView → Type 0
-AreSoundFrom end ss k zero ps = ps ≡ []
-AreSoundFrom end ss k (suc n) ps =
-    IsSoundHere end (is_for k ps) (slice_index_or ss k no_signal) ps
-    × AreSoundFrom end ss (suc k) n (pieces_after (is_for k ps) ps)
+-- pieces fit, and with them the signals from position k on are sound up to an end
+abbrev pub AreSoundFrom : ℕ → Contents → ℕ → List PieceView → Type 0
+AreSoundFrom end c k ps = All (PieceFits c) ps
+    × All (IsSoundSignal end) (drop k (with_pieces c ps).signals)
 
 -- a capture may have this number of signals, and each is sound up to an end
 abbrev pub AreSoundSignals : ℕ → List SignalContents → Type 0

@@ -52,6 +52,5 @@ HasBitsUpTo end f w = (w.width ≡ 1) × (w.changes ≡ changes_of 1 end (λ t. 
 pub record DerivedSoFar (all left : List Change) (w : WaveView) : Type 0 where
   pub width : w.width ≡ 1
   pub values : (t : ℕ) → value_from (value_at 1 w.changes t) left t ≡ value_from (all_x 1) all t
-  pub rise : TicksRise 1 0 left
-  pub before : All (λ c. All (λ d. c.tick ≤ d.tick) left) w.changes
+  pub rise : (floor : ℕ) × TicksRise 1 floor left × All (λ c. c.tick ≤ floor) w.changes
   pub upto : (end : ℕ) → AllUpTo end all → AllUpTo end w.changes × AllUpTo end left

@@ -40,8 +40,5 @@ abbrev pub is_kept : ℕ → List Bit → Change → List Change → Bool
 is_kept ticks before c later = begins_steady ticks c later && not (same_letters c.value before)
 
 -- the changes after a value that remain when short runs are taken out
-unfoldable pub kept_changes : ℕ → List Bit → List Change → List Change
-kept_changes ticks before [] = []
-kept_changes ticks before (c ∷ cs) =
-    if is_kept ticks before c cs then c ∷ kept_changes ticks c.value cs
-    else kept_changes ticks before cs
+abbrev pub kept_changes : ℕ → List Bit → List Change → List Change
+kept_changes ticks before cs = without_repeats before (steady_changes ticks cs)

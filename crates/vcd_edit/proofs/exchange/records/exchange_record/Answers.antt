@@ -7,10 +7,10 @@ use Rattle.vcd_edit.specs.Records.{piece_view, record_view, signal_view}
 use Rattle.vcd_edit.specs.inside.exchange.Opposites.{opposite_signal}
 use Rattle.vcd_edit.specs.inside.exchange.Pieces.{PieceReadyIn, HaveRoom}
 use Rattle.vcd_core.specs.declared.capture.Capture.{Capture}
-use Rattle.vcd_edit.proofs.exchange.OppositeRecords.{pieces_ready}
+use Rattle.vcd_edit.proofs.exchange.OppositeRecords.{pieces_ready, IsExchanged}
 use Rattle.vcd_edit.proofs.shared.TouchedBySplice.{whole_list}
-use Rattle.vcd_edit.proofs.exchange.records.RecordExchanges.{ready_then, word_fits_then, word_named_then}
-use Rattle.vcd_edit.proofs.exchange.records.RecordExchanges.{room_then, Begun, IsExchanged, exchanged}
+use Rattle.vcd_edit.proofs.exchange.records.RecordExchanges.{ready_then, word_then, room_then, Begun}
+use Rattle.vcd_edit.proofs.exchange.records.RecordExchanges.{exchanged}
 use Rattle.vcd_edit.proofs.exchange.records.exchange_record.Goals.{In-Ok-exchange_signal, After-exchange_end-other_end}
 use Rattle.vcd_edit.proofs.exchange.records.exchange_record.Goals as goal
 
@@ -21,7 +21,7 @@ reserve_all-requires c =
     let fits : Fits v now = subst (λ r. Fits r now) (sym c.applied_record.view_is) c.requires.fits in
     record {
       ready = subst (λ ps. All (PieceReadyIn now) (map piece_view ps)) (sym c.as_mut_slice.ensures.value)
-          (pieces_ready now v fits c.applied_record.invariant c.requires.sound);
+          (pieces_ready now v c.applied_record.invariant c.requires.sound fits);
     }
 
 -- the record fits, and its signal was put in or taken out
@@ -77,13 +77,13 @@ exchange_pieces-requires-clause-room c =
 
 pub exchange_word-word-requires-clause-fits : goal.exchange_word-word-requires-clause-fits
 exchange_word-word-requires-clause-fits c =
-    word_fits_then (begun (goal.at.exchange_word-word-requires-clause-fits c).In-Ok-exchange_signal) _
-    c.exchange_pieces.ensures.effect
+    (word_then (begun (goal.at.exchange_word-word-requires-clause-fits c).In-Ok-exchange_signal) _
+    c.exchange_pieces.ensures.effect).0
 
 pub exchange_word-word-requires-clause-named : goal.exchange_word-word-requires-clause-named
 exchange_word-word-requires-clause-named c =
-    word_named_then (begun (goal.at.exchange_word-word-requires-clause-named c).In-Ok-exchange_signal) _
-    c.exchange_pieces.ensures.effect
+    (word_then (begun (goal.at.exchange_word-word-requires-clause-named c).In-Ok-exchange_signal) _
+    c.exchange_pieces.ensures.effect).1
 
 pub invariant_of-result : goal.invariant_of-result
 invariant_of-result c =

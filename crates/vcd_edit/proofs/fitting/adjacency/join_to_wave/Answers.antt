@@ -1,8 +1,8 @@
-use Rattle.std.proofs.Common.{◌∙◌, ◌↔◌, pos, w64, to_z, of_z, IsTrue, sym, ap, subst, map, arith}
+use Rattle.std.proofs.Common.{◌∙◌, ◌↔◌, pos, w64, to_z, of_z, IsTrue, sym, subst, arith}
 use Rattle.std.proofs.lemmas.Bool.{false≢true}
 use Rattle.std.proofs.lemmas.Int.{to_z-of_z}
 use Rattle.vcd_core.proofs.shared.Pushes.{all_from_upto}
-use Rattle.vcd_core.specs.Splice.{moved_change}
+use Rattle.vcd_core.proofs.shared.Splices.{moved_nowhere}
 use Rattle.vcd_core.specs.Value.{all_x}
 use Rattle.vcd_core.specs.WavePush.{last_value}
 use Rattle.vcd_edit.specs.inside.fitting.Adjacency.{floor_after, MayFollow}
@@ -30,20 +30,19 @@ returns c =
     let end = c.args.end in
     let floor = floor_after 0 c.args.prefix.now in
     let before = last_value (all_x c.args.width) c.args.prefix.now in
-    let placed = map (moved_change (pos 0)) c.args.list.now in
+    let list = c.args.list.now in
     let floor_is = c.floor_after-floor.ensures in
     let before_is = c.last_value-before.ensures in
-    let at_list : MayFollow (pos 0) end floor before c.args.list.now =
-    subst (λ (t : Type 0). t) (λ i. MayFollow (pos 0) end (floor_is i) (before_is i) c.args.list.now)
-    c.in-Some.ensures.0 in
-    let next_floor = c.in-Some.ensures.1 ∙ ap (λ n. floor_after n placed) floor_is in
-    let next_before = c.in-Some.ensures.2 ∙ ap (λ v. last_value v placed) before_is in
+    let at_list : MayFollow (pos 0) end floor before list =
+    subst (λ (t : Type 0). t) (λ i. MayFollow (pos 0) end (floor_is i) (before_is i) list) c.in-Some.ensures.0 in
+    let next_floor = c.in-Some.ensures.1 ∙ (λ i. floor_after (floor_is i) (moved_nowhere list i)) in
+    let next_before = c.in-Some.ensures.2 ∙ (λ i. last_value (before_is i) (moved_nowhere list i)) in
     let by_is = to_z-of_z w64 c.args.by c.ranges.by in
     let told = some_tells c.floor_and_value_after-2.result
     (MayFollow (to_z w64 (of_z w64 c.args.by)) end c.in-Some.next.0 c.in-Some.next.1 c.args.later.now) _
     c.is_some.result (λ state may. may.0) c.is_some.ensures c.floor_and_value_after-2.ensures in
     let tells : IsTrue c.is_some.result
-    ↔ MayFollow c.args.by end (floor_after floor placed) (last_value before placed) c.args.later.now =
+    ↔ MayFollow c.args.by end (floor_after floor list) (last_value before list) c.args.later.now =
     subst (λ (t : Type 0). t) (λ i. IsTrue c.is_some.result
     ↔ MayFollow (by_is i) end (next_floor i) (next_before i) c.args.later.now) told in (
       (λ t. (c.ends_by.ensures.0 c.if-not-ends_by.false, at_list, tells.0 t)),

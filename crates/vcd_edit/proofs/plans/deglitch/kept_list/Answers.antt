@@ -1,7 +1,7 @@
-use Rattle.std.proofs.Common.{◌++◌, List, ap, sym, ◌∙◌, arith}
+use Rattle.std.proofs.Common.{◌++◌, ◌+◌, List, ap, sym, ◌∙◌, arith}
 use Rattle.vcd_core.specs.declared.wave.Change.{Change}
 use Rattle.vcd_edit.proofs.plans.deglitch.KeptChanges.{kept_listed, one_left_out, listed_enough, listed_all}
-use Rattle.vcd_edit.proofs.plans.deglitch.KeptChanges.{rest_is}
+use Rattle.std.proofs.lemmas.List.{take_rest}
 use Rattle.vcd_edit.proofs.plans.deglitch.kept_list.Goals as goal
 use Rattle.vcd_edit.proofs.plans.deglitch.kept_list.Goals.{else-loop-i-test}
 use Rattle.vcd_edit.proofs.plans.deglitch.kept_list.Goals.{then-loop-i-test+then-len-part}
@@ -14,7 +14,7 @@ loop-i-preserved-then-not-is_kept c =
       few = l.invariant.few;
       all = l.invariant.all ∙ ap (λ (rest : List Change). l.kept.items ++ rest)
           (one_left_out c.args.ticks l.last.now cs l.i c.index-changes-i.result _ c.loop-i-test.true
-          c.index-changes-i.is (rest_is cs l.i) (sym c.is_kept.ensures ∙ c.if-not-is_kept.true));
+          c.index-changes-i.is (take_rest cs (l.i + 1)) (sym c.is_kept.ensures ∙ c.if-not-is_kept.true));
     }
 
 pub loop-i-preserved : goal.loop-i-preserved
@@ -24,7 +24,7 @@ loop-i-preserved c =
     record {
       few = omega (arith, c.in_ok-push.ensures.len);
       all = kept_listed c.args.ticks l.last.now cs l.i c.index-changes-i.result _ c.loop-i-test.true
-          c.index-changes-i.is (rest_is cs l.i) (sym c.is_kept.ensures ∙ c.if-not-is_kept.false)
+          c.index-changes-i.is (take_rest cs (l.i + 1)) (sym c.is_kept.ensures ∙ c.if-not-is_kept.false)
           l.kept.items c.push.new.self.items _ l.invariant.all c.in_ok-push.ensures.items;
     }
 

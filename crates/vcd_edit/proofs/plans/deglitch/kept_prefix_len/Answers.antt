@@ -1,6 +1,8 @@
-use Rattle.std.proofs.Common.{refl, sym, ◌∙◌}
+use Rattle.std.proofs.Common.{◌+◌, take, refl, sym, ◌∙◌}
+use Rattle.std.proofs.lemmas.List.{take_rest}
+use Rattle.vcd_edit.proofs.shared.Lists.{take_here}
 use Rattle.vcd_core.specs.WavePush.{last_value}
-use Rattle.vcd_edit.proofs.plans.deglitch.KeptChanges.{kept_prefix, last_so_far, rest_is}
+use Rattle.vcd_edit.proofs.plans.deglitch.KeptChanges.{kept_listed, last_so_far}
 use Rattle.vcd_edit.proofs.plans.deglitch.kept_prefix_len.Goals as goal
 
 pub loop-i-init : goal.loop-i-init
@@ -12,8 +14,9 @@ loop-i-preserved c =
     let l = c.loop-i in
     let cs = c.args.changes.now in
     record {
-      kept = kept_prefix c.args.ticks l.last.now cs l.i c.index-changes-i.result _ c.loop-i-test.true
-          c.index-changes-i.is (rest_is cs l.i) (sym c.is_kept.ensures ∙ c.if-not-is_kept.false) c.args.before.now _
-          l.invariant.kept;
+      kept = kept_listed c.args.ticks l.last.now cs l.i c.index-changes-i.result _ c.loop-i-test.true
+          c.index-changes-i.is (take_rest cs (l.i + 1)) (sym c.is_kept.ensures ∙ c.if-not-is_kept.false)
+          (take l.i cs) _ _ l.invariant.kept
+          (take_here cs l.i c.index-changes-i.result c.loop-i-test.true c.index-changes-i.is);
       last = last_so_far c.args.before.now cs l.i c.index-changes-i.result c.loop-i-test.true c.index-changes-i.is;
     }

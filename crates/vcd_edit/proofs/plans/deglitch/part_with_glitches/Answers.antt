@@ -1,5 +1,6 @@
-use Rattle.std.proofs.Common.{◌++◌, ◌-◌, take, drop, sym, ◌∙◌, arith}
-use Rattle.vcd_edit.proofs.plans.deglitch.KeptChanges.{kept_after, left_out_after, part_long, part_done, rest_is}
+use Rattle.std.proofs.Common.{◌++◌, ◌+◌, ◌-◌, take, drop, sym, ◌∙◌, arith}
+use Rattle.std.proofs.lemmas.List.{take_rest}
+use Rattle.vcd_edit.proofs.plans.deglitch.KeptChanges.{kept_after, left_out_after, part_long, part_done}
 use Rattle.vcd_edit.proofs.plans.deglitch.part_with_glitches.Goals as goal
 
 pub loop-i-preserved-then-is_kept : goal.loop-i-preserved-then-is_kept
@@ -14,7 +15,8 @@ loop-i-preserved-then-is_kept c =
         same.0,
         same.1,
         kept_after c.args.ticks l.last.now cs l.i c.index-changes-i.result _ c.loop-i-test.true c.index-changes-i.is
-            (rest_is cs l.i) (sym c.is_kept.ensures ∙ c.if-is_kept.true) same.0 _ l.part.to l.invariant.to same.2,
+            (take_rest cs (l.i + 1)) (sym c.is_kept.ensures ∙ c.if-is_kept.true) same.0 _ l.part.to
+            l.invariant.to same.2,
       );
     }
 
@@ -30,7 +32,7 @@ loop-i-preserved c =
         same.0 ++ take (l.i - l.part.to) (drop l.part.to cs),
         part_long same.0 cs l.part.kept l.part.to l.i same.1 l.invariant.to (omega arith),
         left_out_after c.args.ticks l.last.now cs l.i c.index-changes-i.result _ c.loop-i-test.true c.index-changes-i.is
-            (rest_is cs l.i) (sym c.is_kept.ensures ∙ c.if-is_kept.false) same.0 _ l.part.to same.2,
+            (take_rest cs (l.i + 1)) (sym c.is_kept.ensures ∙ c.if-is_kept.false) same.0 _ l.part.to same.2,
       );
     }
 

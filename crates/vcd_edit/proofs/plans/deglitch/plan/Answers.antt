@@ -11,8 +11,8 @@ use Rattle.vcd_edit.specs.declared.edit.Edit.TheVariants.{Deglitch}
 use Rattle.vcd_edit.specs.Effect.{steady_value}
 use Rattle.vcd_edit.proofs.checking.NoFault.{no_fault}
 use Rattle.vcd_edit.proofs.plans.EffectOfRecord.{wave_plan, nothing_plan}
-use Rattle.vcd_edit.proofs.plans.Runs.{deglitch_is_wave}
-use Rattle.vcd_edit.proofs.plans.deglitch.DeglitchPiece.{kept_of_signal, none_left_out, deglitch_gives}
+use Rattle.vcd_edit.proofs.plans.Runs.{steady_are, deglitch_is_wave}
+use Rattle.vcd_edit.proofs.plans.deglitch.DeglitchPiece.{none_left_out, deglitch_gives}
 use Rattle.vcd_edit.proofs.plans.deglitch.plan.Goals as goal
 
 pub signal_at-requires-clause-position_exists : goal.signal_at-requires-clause-position_exists
@@ -28,7 +28,7 @@ returns-then-from-changes c =
     (λ s. steady_value n end (signal_value s)) s c.empty_record.result c.empty_record.ensures c.requires.sound
     c.requires.allowed
     c.signal_at.ensures.signal (deglitch_is_wave c.args.signal n (contents c.args.capture.now)) refl
-    (sym (kept_of_signal n end s c.signal_at.ensures.sound)
+    (sym (steady_are n end s c.signal_at.ensures.sound.wave c.signal_at.ensures.sound.ticks)
     ∙ none_left_out n s c.changes-changes.result.now c.x_value-x.result c.changes-changes.ensures.changes
     c.x_value-x.ensures c.kept_prefix_len-from.result (omega arith) c.kept_prefix_len-from.ensures.kept
     c.if-from-changes.true)

@@ -1,11 +1,10 @@
-use Rattle.std.proofs.Common.{◌≡◌, ◌<◌, ◌≤◌, ◌+◌, ◌^◌, ℤ, pos, List, length, take, map, All, ap}
+use Rattle.std.proofs.Common.{◌≡◌, ◌≤◌, ℤ, pos, List, length, take, map, All, ap}
 use Rattle.std.proofs.Common.{subst, refl, sym, ◌∙◌}
 use Rattle.std.proofs.Common.{arith}
 use Rattle.std.specs.Int.{w64}
 use Rattle.std.proofs.lemmas.Int.{ints, to_z-of_z}
 use Rattle.std.proofs.lemmas.List.Elements.{All-take}
 use Rattle.vcd_core.specs.declared.wave.Change.{Change}
-use Rattle.vcd_core.specs.Value.{all_x}
 use Rattle.vcd_core.specs.Splice.{moved_change}
 use Rattle.vcd_core.specs.Contents.{SignalContents}
 use Rattle.vcd_core.specs.CaptureContents.{signal_contents}
@@ -25,13 +24,11 @@ returns-then-ticks-end c =
     (c.constant_piece.ensures c.args.end (shift_value c.args.end c.args.by s)
     (λ t to. ap (λ (by : ℤ). shift_value c.args.end by s t) (sym same)
     ∙ shift_before c.unsigned_abs-ticks.result c.args.end s t (omega (arith, c.if-ticks-end.true))
-    ∙ sym (c.filled-x.ensures ∙ ap all_x c.width.ensures.width)))
+    ∙ sym c.x_value.ensures))
 
 pub returns-then-kept-changes : goal.returns-then-kept-changes
 returns-then-kept-changes c =
     let s : SignalContents = signal_contents c.args.signal.now in
-    let near : c.unsigned_abs-ticks.result ≤ c.args.end = c.if-ticks-end.false in
-    let small : c.args.end + 1 < 2 ^ 64 = omega (arith, c.requires.end) in
     let same : pos c.unsigned_abs-ticks.result ≡ c.args.by =
     omega (arith, ints, c.requires.later, c.unsigned_abs-ticks.ensures.value, to_z-of_z w64 c.args.by c.ranges.by) in
     record {
@@ -39,8 +36,9 @@ returns-then-kept-changes c =
       offset = to_z-of_z w64 c.args.by c.ranges.by;
       leads = leads_same _ s.changes s.width c.args.end (shift_value c.args.end (pos c.unsigned_abs-ticks.result) s)
           (shift_value c.args.end c.args.by s) (λ t to. ap (λ (by : ℤ). shift_value c.args.end by s t) same)
-          (later_all_stay c.unsigned_abs-ticks.result c.args.end s c.requires.sound.wave c.requires.sound.ticks near
-          small _ refl c.count_until-kept.result c.count_until-kept.ensures
+          (later_all_stay c.unsigned_abs-ticks.result c.args.end s c.requires.sound.wave c.requires.sound.ticks
+          c.if-ticks-end.false (omega (arith, c.requires.end)) _ refl c.count_until-kept.result
+          c.count_until-kept.ensures
           (c.if-kept-changes.true ∙ ap length c.changes-changes.ensures.changes) refl c.new.ensures.items
           (to_z-of_z w64 c.args.by c.ranges.by ∙ sym same));
     }
@@ -55,8 +53,6 @@ later_changes-requires c = λ k d within.
 pub returns : goal.returns
 returns c =
     let s : SignalContents = signal_contents c.args.signal.now in
-    let near : c.unsigned_abs-ticks.result ≤ c.args.end = c.if-ticks-end.false in
-    let small : c.args.end + 1 < 2 ^ 64 = omega (arith, c.requires.end) in
     let same : pos c.unsigned_abs-ticks.result ≡ c.args.by =
     omega (arith, ints, c.requires.later, c.unsigned_abs-ticks.ensures.value, to_z-of_z w64 c.args.by c.ranges.by) in
     record {
@@ -64,9 +60,9 @@ returns c =
       offset = to_z-of_z w64 c.args.by c.ranges.by;
       leads = leads_same _ s.changes s.width c.args.end (shift_value c.args.end (pos c.unsigned_abs-ticks.result) s)
           (shift_value c.args.end c.args.by s) (λ t to. ap (λ (by : ℤ). shift_value c.args.end by s t) same)
-          (later_some_stay c.unsigned_abs-ticks.result c.args.end s c.requires.sound.wave c.requires.sound.ticks near
-          small _ refl c.count_until-kept.result c.count_until-kept.ensures
-          (ap length c.changes-changes.ensures.changes)
+          (later_some_stay c.unsigned_abs-ticks.result c.args.end s c.requires.sound.wave c.requires.sound.ticks
+          c.if-ticks-end.false (omega (arith, c.requires.end)) _ refl c.count_until-kept.result
+          c.count_until-kept.ensures (ap length c.changes-changes.ensures.changes)
           (c.in_ok-later_changes.ensures
           ∙ ap (λ (cs : List Change). map (moved_change (pos c.unsigned_abs-ticks.result))
           (take c.count_until-kept.result cs)) c.changes-changes.ensures.changes));
