@@ -44,3 +44,7 @@ pub record FileMeans (limit : ℕ) (bytes : List ℕ) (contents : Contents) (ski
   pub accepted : Accepts limit (words_of bytes) state
   pub means : contents ≡ meaning state
   pub left_out : skipped ≡ count_by is_skipped state.declared
+
+-- the file has a meaning
+abbrev pub HasMeaning : (limit : ℕ) → (bytes : List ℕ) → Type 0
+HasMeaning limit bytes = (c : Contents) × (skipped : ℕ) × FileMeans limit bytes c skipped

@@ -6,9 +6,8 @@ use Rattle.std.specs.Prelude.{take, Option, Some}
 use Rattle.std.specs.Prelude.{◌^◌, None, Result, Ok, Err, IfSome, IsSomeAnd}
 use Rattle.std.specs.List.{concat}
 use Rattle.std.specs.Borrow.{MutBor}
-use Rattle.vcd_core.specs.Contents.{Contents}
 use Rattle.vcd_core.specs.declared.capture.TheConstants.{SIGNAL_LIMIT}
-use Rattle.vcd_text.specs.Meaning.{FileMeans}
+use Rattle.vcd_text.specs.Meaning.{HasMeaning}
 use Rattle.vcd_text.specs.Refusals.{IsRefusal, IsOnlyRefusal}
 use Rattle.vcd_text.specs.declared.fault.Fault.TheVariants as faults
 use Rattle.vcd_text.specs.declared.fault.WriteError.TheVariants as write_errors
@@ -27,9 +26,7 @@ use Rattle.vcdedit.specs.Run.{RunOutcome, IsRun}
 
 -- the capture read is within the limit and has a meaning
 abbrev pub IsAccepted : DeviceEnd → Type 0
-IsAccepted r = IsRead FILE_LIMIT r
-    × IfSome r.before (λ file. (c : Contents) × (skipped : ℕ)
-    × FileMeans SIGNAL_LIMIT file c skipped)
+IsAccepted r = IsRead FILE_LIMIT r × IfSome r.before (HasMeaning SIGNAL_LIMIT)
 
 -- an `Option<&mut D>` as a call gives it back: none, one, or (never) a third variant
 abbrev pub Returned : Type 0 → Type 0

@@ -2,10 +2,9 @@
 use Rattle.std.specs.Prelude.{◌≡◌, ◌<◌, ◌≤◌, ℕ, zero, suc, List, [], length, take, Result, Ok}
 use Rattle.std.specs.Prelude.{Err}
 use Rattle.std.specs.List.{concat}
-use Rattle.vcd_core.specs.Contents.{Contents}
 use Rattle.vcd_core.specs.declared.capture.TheConstants.{SIGNAL_LIMIT}
 use Rattle.vcd_text.specs.Faults.{IsFileFault, IsPrefixAnswer}
-use Rattle.vcd_text.specs.Meaning.{FileMeans}
+use Rattle.vcd_text.specs.Meaning.{HasMeaning}
 use Rattle.vcd_text.specs.declared.fault.Fault.TheVariants as faults
 use Rattle.vcd_text.specs.declared.fault.ReadError.{ReadError}
 use Rattle.vcd_text.specs.declared.reading.TheConstants.{FILE_LIMIT}
@@ -27,10 +26,6 @@ pub data IsRefusedFile (file : List ℕ) (e : ReadError) : Type 0 where
       faults.TooLarge e
       → IsRefusedFile file e
 
--- the capture file has a meaning
-abbrev pub HasMeaning : (file : List ℕ) → Type 0
-HasMeaning file = (c : Contents) × (skipped : ℕ) × FileMeans SIGNAL_LIMIT file c skipped
-
 -- both files are within their limits, and a run of them writes this
 abbrev pub IsRunWithin : (file script : List ℕ) → (depth : ℕ) → RunOutcome → Type 0
 IsRunWithin file script depth written =
@@ -47,8 +42,8 @@ RunGives file script depth (Ok texts) = (written : RunOutcome)
 RunGives file script depth (Err (Capture e)) = IsRefusedFile file e
     × ((other : ReadError) → IsRefusedFile file other → other ≡ e)
 -- the capture file is within its limit and has a meaning, and the script is above its limit
-RunGives file script depth (Err ScriptTooLarge) = (length file ≤ FILE_LIMIT) × HasMeaning file
-    × (SCRIPT_LIMIT < length script)
+RunGives file script depth (Err ScriptTooLarge) = (length file ≤ FILE_LIMIT)
+    × HasMeaning SIGNAL_LIMIT file × (SCRIPT_LIMIT < length script)
 -- memory ran out for the inputs: there are no replies, and nothing is said of the files
 RunGives file script depth (Err (NoMemory Inputs replies)) = replies.items ≡ []
 -- memory ran out at a line, counted from 1: the replies are those to the lines before it

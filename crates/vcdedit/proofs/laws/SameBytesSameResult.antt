@@ -4,13 +4,14 @@ use Rattle.std.specs.List.{concat}
 use Rattle.vcd_core.specs.declared.capture.TheConstants.{SIGNAL_LIMIT}
 use Rattle.vcd_text.specs.declared.fault.ReadError.{ReadError}
 use Rattle.vcd_text.specs.declared.reading.TheConstants.{FILE_LIMIT}
+use Rattle.vcd_text.specs.Meaning.{HasMeaning}
 use Rattle.vcd_text.proofs.shared.FoundFault.{meaning-no_fault}
 use Rattle.vcdedit.specs.declared.running.run_on_bytes.RunRefusal.TheVariants.{Capture}
 use Rattle.vcdedit.specs.declared.running.run_on_bytes.RunRefusal.TheVariants.{ScriptTooLarge}
 use Rattle.vcdedit.specs.declared.running.run_on_bytes.RunRefusal.TheVariants.{NoMemory}
 use Rattle.vcdedit.specs.Run.{RunOutcome, IsRun, outcome}
 use Rattle.vcdedit.specs.Script.{script_lines}
-use Rattle.vcdedit.specs.RunOnBytes.{IsRefusedFile, has_fault, too_large, HasMeaning}
+use Rattle.vcdedit.specs.RunOnBytes.{IsRefusedFile, has_fault, too_large}
 use Rattle.vcdedit.specs.FileLaws.{SameBytesSameResult}
 
 -- a run of two files writes one thing
@@ -23,14 +24,15 @@ one_outcome file script depth one other run also =
     run.run ∙ is ∙ sym also.run
 
 -- a file within the limit that has a meaning is not refused
-not_refused : (file : List ℕ) (e : ReadError) → length file ≤ FILE_LIMIT → HasMeaning file → IsRefusedFile file e → ⊥
+not_refused : (file : List ℕ) (e : ReadError) → length file ≤ FILE_LIMIT → HasMeaning SIGNAL_LIMIT file
+    → IsRefusedFile file e → ⊥
 not_refused file e short has (has_fault also fault) = meaning-no_fault SIGNAL_LIMIT file has.0 has.1 e.line e.fault
     has.2 fault
 not_refused file e short has (too_large long answer) = omega (arith, short, long)
 
 -- the file of a run has a meaning
 has_meaning : (file script : List ℕ) (depth : ℕ) (written : RunOutcome) → IsRun file script depth written
-    → HasMeaning file
+    → HasMeaning SIGNAL_LIMIT file
 has_meaning file script depth written run = (run.contents, run.skipped, run.means)
 
 pub same_bytes_same_result : SameBytesSameResult
