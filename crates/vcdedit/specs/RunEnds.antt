@@ -6,6 +6,7 @@ use Rattle.std.specs.Prelude.{take, Option, Some}
 use Rattle.std.specs.Prelude.{◌^◌, None, Result, Ok, Err, IfSome, IsSomeAnd}
 use Rattle.std.specs.List.{concat}
 use Rattle.std.specs.Borrow.{MutBor}
+use Rattle.vcd_core.specs.Contents.{Contents}
 use Rattle.vcd_core.specs.declared.capture.TheConstants.{SIGNAL_LIMIT}
 use Rattle.vcd_text.specs.Meaning.{HasMeaning}
 use Rattle.vcd_text.specs.Refusals.{IsRefusal, IsOnlyRefusal}
@@ -20,7 +21,8 @@ use Rattle.vcdedit.specs.declared.running.run_error.RunError.TheVariants.{Script
 use Rattle.vcdedit.specs.declared.running.run_error.RunError.TheVariants.{NoMemory, ReplyFault}
 use Rattle.vcdedit.specs.declared.running.run_error.RunError.TheVariants.{Write}
 use Rattle.vcdedit.specs.declared.running.run_error.Summary.{Summary}
-use Rattle.vcdedit.specs.Run.{RunOutcome, IsRun}
+use Rattle.vcdedit.specs.Script.{script_lines}
+use Rattle.vcdedit.specs.Run.{RunOutcome, outcome, IsRun}
 
 -- ---- sources and writers
 
@@ -59,10 +61,12 @@ IsFlushedAt has_failed is_flushed e = Unit {0}
 
 -- a run of this depth, and the ends of its two sources
 module _ (depth : ℕ) (capture script : DeviceEnd) where
-  -- if the sources show their bytes: holds of what the run of the script on the capture file writes
+  -- if the script shows its bytes: holds of what its run on some capture writes; if the capture
+  -- file shows its bytes too, that is what its run on this file writes
   abbrev pub ForRun : (RunOutcome → Type 0) → Type 0
-  ForRun property = IfSome capture.before (λ file. IfSome script.before (λ lines.
-      (written : RunOutcome) × IsRun file lines depth written × property written))
+  ForRun property = IfSome script.before (λ lines. (c : Contents) × (skipped : ℕ)
+      × let written = outcome c skipped depth (script_lines lines) in
+      IfSome capture.before (λ file. IsRun file lines depth written) × property written)
 
   -- the same, with the ends of its two writers, the second if there is one
   module _ (replies : DeviceEnd) (output : Option DeviceEnd) where

@@ -24,10 +24,9 @@ use Rattle.vcdedit.specs.declared.running.run_error.RunError.{RunError}
 use Rattle.vcdedit.specs.declared.running.run_error.RunError.TheVariants as run_errors
 use Rattle.vcdedit.specs.declared.running.run_error.Summary.{Summary}
 use Rattle.vcdedit.specs.Script.{script_lines}
-use Rattle.vcdedit.specs.Run.{RunOutcome, IsRun, outcome}
+use Rattle.vcdedit.specs.Run.{RunOutcome, outcome}
 use Rattle.vcd_shell.specs.Devices.{DeviceEnd, IsRead, IsUntouched, HasText}
-use Rattle.vcdedit.specs.RunEnds.{IsAccepted, IsFlushedAt}
-use Rattle.vcdedit.specs.RunEnds.{RunEnds}
+use Rattle.vcdedit.specs.RunEnds.{IsAccepted, IsFlushedAt, ForRun, RunEnds}
 use Rattle.vcdedit.specs.inside.running.RunLines.{HasFailedAt, EndsAtLine, RunsLines, StopsInReplies}
 use Rattle.vcdedit.specs.inside.running.RunLines.{StopsInLines}
 use Rattle.vcdedit.specs.inside.running.Stages.{EndsBeforeOutput, EndsBeforeReplies, EndsAfterCapture}
@@ -53,12 +52,13 @@ is_accepted capture c skipped ready ended read = (
 
 -- ---- the result of the script
 
--- the lines of the script, run from the capture that the file means
-script_gives : (file script : List ℕ) (depth skipped : ℕ) (c : Contents) (new : Machine) (count : ℕ)
-    (before after : Option (List ℕ)) →
-    FileMeans SIGNAL_LIMIT file c skipped → RunsLines skipped (script_lines script) (initial_machine c depth) new count
-    before after → ScriptGives file script depth count (Appends before after) new.now
-script_gives file script depth skipped c new count before after means ran =
+-- the lines of the script, run from this capture
+script_gives : (coming : Option (List ℕ)) (script : List ℕ) (depth skipped : ℕ) (c : Contents) (new : Machine)
+    (count : ℕ) (before after : Option (List ℕ)) →
+    IfSome coming (λ f. FileMeans SIGNAL_LIMIT f c skipped)
+    → RunsLines skipped (script_lines script) (initial_machine c depth) new count before after
+    → ScriptGives coming script depth count (Appends before after) new.now
+script_gives coming script depth skipped c new count before after means ran =
     let here = ran.2 in
     let is = outcome_is c skipped depth (script_lines script) in
     let replies = ap (λ (o : RunOutcome). o.replies) is ∙ here.replies in
@@ -71,44 +71,42 @@ script_gives file script depth skipped c new count before after means ran =
       output = ap (λ (o : RunOutcome). o.output) is ∙ ap (λ (m : Machine). text m.now) here.after;
     }
 
--- the same for a device that may not show its bytes
+-- the same for a script that may not show its bytes
 pub script_gives_where_known : (coming script_coming : Option (List ℕ)) (script : List ℕ) (depth skipped : ℕ)
     (c : Contents) (new : Machine) (count : ℕ) (before after : Option (List ℕ)) →
     IfSome coming (λ f. FileMeans SIGNAL_LIMIT f c skipped) → IfSome script_coming (λ s. script ≡ s)
     → RunsLines skipped (script_lines script) (initial_machine c depth) new count before after →
-    IfSome coming (λ f. IfSome script_coming (λ s. ScriptGives f s depth count (Appends before after) new.now))
-script_gives_where_known (Some f) (Some s) script depth skipped c new count before after means is ran =
-    script_gives f s depth skipped c new count before after means (rw is at ran)
+    IfSome script_coming (λ s. ScriptGives coming s depth count (Appends before after) new.now)
+script_gives_where_known coming (Some s) script depth skipped c new count before after means is ran =
+    script_gives coming s depth skipped c new count before after means (rw is at ran)
 script_gives_where_known coming script_coming script depth skipped c new count before after means is ran = tt
 
--- what holds of the outcome of the script on the capture file holds of what the run writes
-for_run : (coming script_coming : Option (List ℕ)) (script : List ℕ) (depth skipped : ℕ) (c : Contents)
+-- what holds of the outcome of the script on the capture holds of what the run writes
+for_run : (capture lines : DeviceEnd) (script : List ℕ) (depth skipped : ℕ) (c : Contents)
     (property : RunOutcome → Type 0) →
-    IfSome coming (λ f. FileMeans SIGNAL_LIMIT f c skipped) → IfSome script_coming (λ s. script ≡ s)
-    → property (outcome c skipped depth (script_lines script)) →
-    IfSome coming (λ f. IfSome script_coming (λ s. (written : RunOutcome) × IsRun f s depth written × property written))
-for_run (Some f) (Some s) script depth skipped c property means is holds = (
-  outcome c skipped depth (script_lines s),
-  run_is f s depth c skipped means,
-  subst (λ (bytes : List ℕ). property (outcome c skipped depth (script_lines bytes))) is holds,
-)
-for_run coming script_coming script depth skipped c property means is holds = tt
+    IfSome capture.before (λ f. FileMeans SIGNAL_LIMIT f c skipped) → IfSome lines.before (λ s. script ≡ s)
+    → property (outcome c skipped depth (script_lines script)) → ForRun depth capture lines property
+for_run capture lines script depth skipped c property means is holds = IfSome_then lines.before is (λ s same. (
+  c,
+  skipped,
+  IfSome_then capture.before means (λ f so. run_is f s depth c skipped so),
+  subst (λ (bytes : List ℕ). property (outcome c skipped depth (script_lines bytes))) same holds,
+))
 
 -- what follows from the replies, the output and the count of refused lines holds of what the run
 -- writes
-if_run_writes : (file script : Option (List ℕ)) (depth count : ℕ) (took_replies : List ℕ
+if_run_writes : (capture lines : DeviceEnd) (depth count : ℕ) (took_replies : List ℕ
     → Type 0) (now : Contents) (property : RunOutcome → Type 0) →
-    IfSome file (λ f. IfSome script (λ s. ScriptGives f s depth count took_replies now)) →
+    IfSome lines.before (λ s. ScriptGives capture.before s depth count took_replies now) →
     ((written : RunOutcome) → took_replies (concat written.replies) → written.output ≡ text now
-    → count ≡ written.refused → property written) →
-    IfSome file (λ f. IfSome script (λ s. (written : RunOutcome) × IsRun f s depth written × property written))
-if_run_writes (Some f) (Some s) depth count took_replies now property ran follows =
-    let written = outcome ran.contents ran.skipped depth (script_lines s) in (
-      written,
-      run_is f s depth ran.contents ran.skipped ran.means,
-      follows written ran.replies ran.output (sym ran.refused),
-    )
-if_run_writes file script depth count took_replies now property ran follows = tt
+    → count ≡ written.refused → property written) → ForRun depth capture lines property
+if_run_writes capture lines depth count took_replies now property ran follows =
+    IfSome_then lines.before ran (λ s gives. (
+      gives.contents,
+      gives.skipped,
+      IfSome_then capture.before gives.means (λ f so. run_is f s depth gives.contents gives.skipped so),
+      follows _ gives.replies gives.output (sym gives.refused),
+    ))
 
 -- ---- ends before the output
 
@@ -162,14 +160,14 @@ module _ (capture script replies : DeviceEnd) (bytes : List ℕ) (depth skipped 
         accepted,
         script_read,
         kept,
-        for_run capture.before script.before bytes depth skipped c _ means is (omega (arith, stops.1), took),
+        for_run capture script bytes depth skipped c _ means is (omega (arith, stops.1), took),
       )
   taken_end (run_errors.ReplyFault written) failed stops output kept = (
     accepted,
     script_read,
     failed,
     kept,
-    for_run capture.before script.before bytes depth skipped c _ means is stops,
+    for_run capture script bytes depth skipped c _ means is stops,
   )
   taken_end e failed stops output kept = absurd stops
 
@@ -195,9 +193,8 @@ flushed_at_line has_failed is_flushed e ends failed = tt
 pub run_reaches_end : (capture script replies : DeviceEnd) (output : Option DeviceEnd) (depth : ℕ)
     (summary : Summary) (now : Contents) →
     IsAccepted capture → IsRead SCRIPT_LIMIT script → replies.has_failed ≡ false →
-    IfSome capture.before
-    (λ f. IfSome script.before
-    (λ s. ScriptGives f s depth summary.refused (Appends replies.before replies.after) now)) →
+    IfSome script.before
+    (λ s. ScriptGives capture.before s depth summary.refused (Appends replies.before replies.after) now) →
     IfSome output (λ out. (out.has_failed ≡ false) × HasText out (text now))
     → RunEnds depth capture script replies output (Ok summary)
 unfolding RunEnds
@@ -206,7 +203,7 @@ run_reaches_end capture script replies output depth summary now accepted script_
   script_read,
   ready,
   IfSome_then output wrote (λ out is. is.0),
-  if_run_writes capture.before script.before depth summary.refused _ now _ ran
+  if_run_writes capture script depth summary.refused _ now _ ran
       (λ written replied same refused. (replied, IfSome_then output wrote (λ out is. rw same is.1), refused)),
 )
 
@@ -214,8 +211,8 @@ run_reaches_end capture script replies output depth summary now accepted script_
 pub run_stops_at_output : (capture script replies out : DeviceEnd) (depth count : ℕ) (now : Contents)
     (fault : WriteError) →
     IsAccepted capture → IsRead SCRIPT_LIMIT script → replies.has_failed ≡ false →
-    IfSome capture.before
-    (λ f. IfSome script.before (λ s. ScriptGives f s depth count (Appends replies.before replies.after) now)) →
+    IfSome script.before
+    (λ s. ScriptGives capture.before s depth count (Appends replies.before replies.after) now) →
     TookBefore (text now) out.before out.after out.has_failed fault
     → RunEnds depth capture script replies (Some out) (Err (run_errors.Write fault))
 unfolding RunEnds
@@ -225,7 +222,7 @@ run_stops_at_output capture script replies out depth count now write_errors.NoMe
       script_read,
       ready,
       took,
-      if_run_writes capture.before script.before depth count _ now _ ran (λ written replied output refused. replied),
+      if_run_writes capture script depth count _ now _ ran (λ written replied output refused. replied),
     )
 run_stops_at_output capture script replies out depth count now (write_errors.WriteFault written) accepted script_read
     ready ran took = (
@@ -234,7 +231,7 @@ run_stops_at_output capture script replies out depth count now (write_errors.Wri
       ready,
       (
         took.1,
-        if_run_writes capture.before script.before depth count _ now _ ran
+        if_run_writes capture script depth count _ now _ ran
             (λ outcome replied output refused. (replied, rw output (λ small. ((took.0 small).1, (took.0 small).0)))),
       ),
     )

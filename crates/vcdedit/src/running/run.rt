@@ -76,10 +76,9 @@ fn run_script<R: Source, S: Source, P: Sink>(
     requires replies_ready { P.has_failed replies.old ≡ false }
     requires depth_least { 1 ≤ depth }
     requires depth_most { depth ≤ DEPTH_LIMIT }
-    ensures gives { IfOk result (λ done. IfSome (R.coming capture_reader.old)
-        (λ file. IfSome (S.coming script_reader.old) (λ script.
-        ScriptGives file script depth done.1
-        (Appends (P.taken replies.old) (P.taken replies.new)) done.0.now))) }
+    ensures gives { IfOk result (λ done. IfSome (S.coming script_reader.old) (λ script.
+        ScriptGives (R.coming capture_reader.old) script depth done.1
+        (Appends (P.taken replies.old) (P.taken replies.new)) done.0.now)) }
     ensures accepted { OnOk result (IsAccepted
         (device_end R.coming R.has_failed capture_reader.old capture_reader.new)) }
     ensures script_read { OnOk result (IsRead SCRIPT_LIMIT

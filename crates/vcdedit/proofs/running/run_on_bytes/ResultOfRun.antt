@@ -2,7 +2,6 @@
 use Rattle.std.proofs.Common.{◌≡◌, Ok, Err, ℕ, zero, suc, List, [], Option, Some, Bool, false, true}
 use Rattle.std.proofs.Common.{sym, ◌∙◌}
 use Rattle.std.proofs.Common.{take, refl, arith}
-use Rattle.std.specs.Prelude.{IfSome}
 use Rattle.std.specs.List.{concat}
 use Rattle.std.specs.Global.{Vec}
 use Rattle.vcd_core.specs.declared.capture.TheConstants.{SIGNAL_LIMIT}
@@ -17,9 +16,9 @@ use Rattle.vcdedit.specs.declared.running.script_input.TheConstants.{SCRIPT_LIMI
 use Rattle.vcdedit.specs.declared.running.run_error.RunError.{RunError}
 use Rattle.vcdedit.specs.declared.running.run_error.RunError.TheVariants as run_errors
 use Rattle.vcdedit.specs.declared.running.run_error.Summary.{Summary}
-use Rattle.vcdedit.specs.Run.{RunOutcome, IsRun}
+use Rattle.vcdedit.specs.Run.{RunOutcome}
 use Rattle.vcd_shell.specs.Devices.{DeviceEnd, IsRead}
-use Rattle.vcdedit.specs.RunEnds.{RunEnds}
+use Rattle.vcdedit.specs.RunEnds.{ForRun, RunEnds}
 use Rattle.vcdedit.specs.declared.running.run_on_bytes.Stage.TheVariants.{Line}
 use Rattle.vcdedit.specs.RunOnBytes.{IsRefusedFile, has_fault, too_large, IsRunWithin, RunGives}
 use Rattle.vcdedit.specs.inside.running.RunOnBytes.{run_refusal, stage_of_line}
@@ -42,12 +41,11 @@ one_refused_file file e other (too_large long answer) (too_large also answer_too
 module _ (file script : List ℕ) (depth : ℕ) (capture lines : DeviceEnd) (is_file : capture.before ≡ Some file)
     (is_script : lines.before ≡ Some script) where
   run_within : (property : RunOutcome → Type 0) → IsRead FILE_LIMIT capture → IsRead SCRIPT_LIMIT lines
-      → IfSome capture.before (λ f. IfSome lines.before
-      (λ s. (written : RunOutcome) × IsRun f s depth written × property written))
+      → ForRun depth capture lines property
       → (written : RunOutcome) × IsRunWithin file script depth written × property written
   run_within property file_read script_read ran =
       let gives = rw (is_file, is_script) at ran in
-      (gives.0, (rw is_file at file_read.2, rw is_script at script_read.2, gives.1), gives.2)
+      (_, (rw is_file at file_read.2, rw is_script at script_read.2, gives.2), gives.3)
 
 -- what a run gives that reached its end, into writers that were empty
 pub texts_of_run : (file script replies_text output_text : List ℕ) (depth : ℕ)
@@ -86,8 +84,7 @@ module _ (file script : List ℕ) (depth : ℕ) (made none : Vec ℕ) (empty : n
       (lines_ready : lines.has_failed ≡ false) (was_empty : replies.before ≡ Some [])
       (made_is : Some made.items ≡ replies.after) where
     within : (property : RunOutcome → Type 0) → IsRead FILE_LIMIT capture → IsRead SCRIPT_LIMIT lines
-        → IfSome capture.before (λ f. IfSome lines.before
-        (λ s. (written : RunOutcome) × IsRun f s depth written × property written))
+        → ForRun depth capture lines property
         → (written : RunOutcome) × IsRunWithin file script depth written × property written
     within = run_within file script depth capture lines is_file is_script
 
