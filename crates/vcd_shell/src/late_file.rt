@@ -1,12 +1,14 @@
-//! A file that is created at its first write.
+//! A file that is created at its first byte.
 
-ghost use Rattle.std.specs.Prelude.{◌≡◌, None, IsSome, IsOk, OnOk, OnErr};
+ghost use Rattle.std.specs.Prelude.{◌≡◌, [], None, IsSome, IsOk, OnOk, OnErr};
+ghost use Rattle.std.specs.Io.{WritesAtMost};
+ghost use Rattle.std.specs.Io.KnownBytes.{WriteAppends};
 
 use std::io::Write;
 use std::rt::Files;
 use std::{fs, io};
 
-/// A writer that creates or empties its file at its first write.
+/// A writer that creates or empties its file at its first byte.
 ///
 /// So the file may also be an input of the run, and a run that writes nothing leaves it as it is.
 #[derive(Drop)]
@@ -44,7 +46,14 @@ impl<'a, R: Files> LateFile<'a, R> {
 }
 
 impl<R: Files> Write for LateFile<'_, R> {
-    fn write(&mut self, buf: &[u8]) -> io::Result<usize> {
+    fn write(&mut self, buf: &[u8]) -> io::Result<usize>
+        ensures bound { WritesAtMost result buf.now }
+        ensures bytes { WriteAppends None None result buf.now }
+        ensures without_bytes { buf.now ≡ [] → self.new.file ≡ self.old.file }
+    {
+        if buf.is_empty() {
+            return Ok(0);
+        }
         self.open_file()?;
         match &mut self.file {
             Some(file) => file.write(buf),
