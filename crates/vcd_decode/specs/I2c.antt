@@ -2,8 +2,8 @@
 -- own.
 use Rattle.std.specs.Prelude.{ℕ, ◌-◌, ◌==◌, ◌&&◌, nat_le, Bool, true, false, Option, None}
 use Rattle.std.specs.Prelude.{List, []}
-use Rattle.std.specs.Prelude.{◌∷◌, ◌++◌, length, take, drop, map, slice_index}
-use Rattle.std.specs.Option.{option_or}
+use Rattle.std.specs.Prelude.{◌∷◌, ◌++◌, length, take, drop, map, slice_get, slice_index, filter_map}
+use Rattle.std.specs.List.{list_any}
 use Rattle.vcd_core.specs.declared.bit.Bit.{Bit}
 use Rattle.vcd_decode.specs.declared.annotation.Annotation.{Annotation}
 use Rattle.vcd_decode.specs.declared.annotation.Kind.{Kind}
@@ -58,16 +58,14 @@ bits_until [] = []
 bits_until (events.Bit b ∷ es) = b ∷ bits_until es
 bits_until (e ∷ es) = []
 
--- whether there is a next condition
-unfoldable pub has_condition : List BusEvent → Bool
-has_condition [] = false
-has_condition (events.Bit b ∷ es) = has_condition es
-has_condition (e ∷ es) = true
+-- whether an event is a condition
+abbrev pub is_condition : BusEvent → Bool
+is_condition (events.Bit b) = false
+is_condition e = true
 
--- the address of ten bits that annotations show
+-- the address of ten bits that annotations show, or none
 unfoldable pub shown_address : List Annotation → Option ℕ
-shown_address [] = None
-shown_address (a ∷ others) = option_or (ten_bit_address a.kind) (shown_address others)
+shown_address shown = slice_get (filter_map (λ a. ten_bit_address a.kind) shown) 0
 
 -- the annotations of conditions and bits; `repeated`: the condition before them was a START, and
 -- `given` is the address of ten bits after it, if there was one
@@ -78,7 +76,7 @@ annotations_of_events repeated given (events.Bit b ∷ es) = annotations_of_even
 annotations_of_events repeated given (events.Stop t ∷ es) =
     annotation t t kinds.Stop ∷ annotations_of_events false None es
 annotations_of_events repeated given (events.Start t ∷ es) =
-    let shown = nines_annotations (has_condition es) (roles.Address given)
+    let shown = nines_annotations (list_any is_condition es) (roles.Address given)
     (groups_of 9 (bits_until es)) in
     annotation t t (if repeated then kinds.RepeatedStart else kinds.Start) ∷ shown
     ++ annotations_of_events true (shown_address shown) es

@@ -16,7 +16,7 @@ use Rattle.vcd_decode.specs.declared.i2c_bus.events.BusEvent.{BusEvent}
 use Rattle.vcd_decode.specs.declared.i2c_bus.events.BusEvent.TheVariants as events
 use Rattle.vcd_decode.specs.Lines.{annotation}
 use Rattle.vcd_decode.specs.Groups.{groups_of}
-use Rattle.vcd_decode.specs.I2c.{nines_annotations, bits_until, has_condition}
+use Rattle.vcd_decode.specs.I2c.{nines_annotations, bits_until}
 use Rattle.vcd_decode.specs.I2c.{shown_address}
 use Rattle.vcd_decode.specs.I2c.{annotations_of_events}
 
@@ -37,20 +37,20 @@ byte tick n = bits tick (map (λ k. if n / 2 ^ k % 2 == 1 then One else Zero) (7
 eight_bits : annotations_of_events false None
     (events.Start 0 ∷ bits 1 (One ∷ Zero ∷ One ∷ Zero ∷ One ∷ Zero ∷ One ∷ Zero ∷ []) ++ events.Stop 9 ∷ [])
     ≡ at 0 Start ∷ annotation 1 8 (Unfinished 8) ∷ at 9 Stop ∷ []
-unfolding groups_of nines_annotations bits_until has_condition shown_address annotations_of_events
+unfolding groups_of nines_annotations bits_until shown_address annotations_of_events
 eight_bits = refl
 
 -- at the capture's end an unfinished byte gives nothing, and whole ones are annotations
 cut_off : annotations_of_events false None (events.Start 0 ∷ byte 1 7 ++ bits 10 (Zero ∷ Zero ∷ []))
     ≡ at 0 Start ∷ annotation 1 8 (Address 3 Read) ∷ at 9 Ack ∷ []
-unfolding groups_of nines_annotations bits_until has_condition shown_address annotations_of_events
+unfolding groups_of nines_annotations bits_until shown_address annotations_of_events
 cut_off = refl
 
 -- bits before a START and after a STOP belong to nothing
 outside : annotations_of_events false None
     (byte 1 7 ++ events.Start 10 ∷ events.Stop 11 ∷ byte 12 7 ++ events.Start 21 ∷ [])
     ≡ at 10 Start ∷ at 11 Stop ∷ at 21 Start ∷ []
-unfolding groups_of nines_annotations bits_until has_condition shown_address annotations_of_events
+unfolding groups_of nines_annotations bits_until shown_address annotations_of_events
 outside = refl
 
 -- an acknowledge that is x; data after an address that is unknown
@@ -58,7 +58,7 @@ unknown_acknowledge : annotations_of_events false None
     (events.Start 0 ∷ bits 1 (Zero ∷ Zero ∷ Zero ∷ Zero ∷ Zero ∷ Zero ∷ Zero ∷ X ∷ X ∷ []) ++ byte 10 7
     ++ events.Stop 19 ∷ [])
     ≡ at 0 Start ∷ annotation 1 8 Unknown ∷ at 9 Unknown ∷ annotation 10 17 (Data 7) ∷ at 18 Ack ∷ at 19 Stop ∷ []
-unfolding groups_of nines_annotations bits_until has_condition shown_address annotations_of_events
+unfolding groups_of nines_annotations bits_until shown_address annotations_of_events
 unknown_acknowledge = refl
 
 -- an address of ten bits is read again also after a read of it; data follow its second byte
@@ -68,7 +68,7 @@ read_twice : annotations_of_events false None (events.Start 0 ∷ byte 1 244 ++ 
     ∷ at 18 Ack ∷ annotation 19 26 (Data 9) ∷ at 27 Ack
     ∷ at 28 RepeatedStart ∷ annotation 29 36 (TenBitAddress 677 Read) ∷ at 37 Ack ∷ at 38 RepeatedStart
     ∷ annotation 39 46 (TenBitAddress 677 Read) ∷ at 47 Ack ∷ []
-unfolding groups_of nines_annotations bits_until has_condition shown_address annotations_of_events
+unfolding groups_of nines_annotations bits_until shown_address annotations_of_events
 read_twice = refl
 
 -- not where there is a STOP between them
@@ -76,7 +76,7 @@ read_after_stop : annotations_of_events false None (events.Start 0 ∷ byte 1 24
     ++ events.Stop 19 ∷ events.Start 20 ∷ byte 21 245)
     ≡ at 0 Start ∷ annotation 1 8 (AddressHigh 2 Write) ∷ at 9 Ack ∷ annotation 10 17 (TenBitAddress 677 Write)
     ∷ at 18 Ack ∷ at 19 Stop ∷ at 20 Start ∷ annotation 21 28 (AddressHigh 2 Read) ∷ at 29 Ack ∷ []
-unfolding groups_of nines_annotations bits_until has_condition shown_address annotations_of_events
+unfolding groups_of nines_annotations bits_until shown_address annotations_of_events
 read_after_stop = refl
 
 -- nor with other high bits, nor after another address
@@ -85,7 +85,7 @@ read_of_another : annotations_of_events false None
     ≡ at 0 Start ∷ annotation 1 8 (AddressHigh 2 Write) ∷ at 9 Ack ∷ annotation 10 17 (TenBitAddress 677 Write)
     ∷ at 18 Ack ∷ at 19 RepeatedStart ∷ annotation 20 27 (AddressHigh 1 Read) ∷ at 28 Ack ∷ at 29 RepeatedStart
     ∷ annotation 30 37 (AddressHigh 2 Read) ∷ at 38 Ack ∷ []
-unfolding groups_of nines_annotations bits_until has_condition shown_address annotations_of_events
+unfolding groups_of nines_annotations bits_until shown_address annotations_of_events
 read_of_another = refl
 
 -- nor where the second byte was unknown
@@ -94,5 +94,5 @@ read_of_unknown : annotations_of_events false None
     ++ events.Start 19 ∷ byte 20 245)
     ≡ at 0 Start ∷ annotation 1 8 (AddressHigh 2 Write) ∷ at 9 Ack ∷ annotation 10 17 Unknown ∷ at 18 Ack
     ∷ at 19 RepeatedStart ∷ annotation 20 27 (AddressHigh 2 Read) ∷ at 28 Ack ∷ []
-unfolding groups_of nines_annotations bits_until has_condition shown_address annotations_of_events
+unfolding groups_of nines_annotations bits_until shown_address annotations_of_events
 read_of_unknown = refl

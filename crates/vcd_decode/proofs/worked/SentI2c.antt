@@ -14,7 +14,7 @@ use Rattle.vcd_decode.specs.Lines.{annotation}
 use Rattle.vcd_decode.specs.Groups.{groups_of}
 use Rattle.vcd_decode.specs.BusEvents.{bus_events}
 use Rattle.vcd_decode.specs.I2c.{i2c_annotations, annotations_of_events, nines_annotations}
-use Rattle.vcd_decode.specs.I2c.{bits_until, has_condition}
+use Rattle.vcd_decode.specs.I2c.{bits_until}
 use Rattle.vcd_decode.specs.I2c.{shown_address}
 use Rattle.vcd_decode.specs.SentLevels.{data_levels}
 use Rattle.vcd_decode.specs.I2cSent.{Transfer, seven_bit, ten_bit_write, ten_bit_read, levels}
@@ -28,7 +28,7 @@ level_at at i [] t = levels One One
 level_at at i (p ∷ ps) t = if nat_lt t (at (suc i)) then p else level_at at (suc i) ps t
 
 found : (ℕ → ℕ) → Transfer → List Transfer → List Annotation
-unfolding bus_events annotations_of_events nines_annotations bits_until has_condition shown_address groups_of
+unfolding bus_events annotations_of_events nines_annotations bits_until shown_address groups_of
 found at t ts =
     let all = message_levels t ts in
     i2c_annotations (λ s. (level_at at 0 all s).scl) (λ s. (level_at at 0 all s).sda) (at (length all) - 1)

@@ -5,7 +5,7 @@ use Rattle.std.proofs.Common.{Some, None, Result, Ok, Err, OnOk, IfOk, List, [],
 use Rattle.std.proofs.Common.{take, refl, sym, ap}
 use Rattle.std.proofs.Common.{◌∙◌, inl, inr, arith}
 use Rattle.std.specs.Option.{option_or}
-use Rattle.std.specs.List.{cons_option}
+use Rattle.std.specs.List.{cons_option, filter_map, list_any, slice_get}
 use Rattle.vcd_core.specs.declared.memory.NoMemory.{NoMemory}
 use Rattle.std.proofs.lemmas.Bool.{cases_eq, cond_both, ne_eqb}
 use Rattle.std.proofs.lemmas.Bool.Decides.{Decides-eqb}
@@ -26,7 +26,7 @@ use Rattle.vcd_decode.specs.BusBytes.{acknowledge_kind}
 use Rattle.vcd_decode.specs.BusBytes.{ten_bit_address}
 use Rattle.vcd_decode.specs.I2c.{bits_annotation, byte_annotations, rest_annotations}
 use Rattle.vcd_decode.specs.I2c.{nines_annotations, bits_until}
-use Rattle.vcd_decode.specs.I2c.{has_condition, shown_address, annotations_of_events}
+use Rattle.vcd_decode.specs.I2c.{is_condition, shown_address, annotations_of_events}
 use Rattle.vcd_decode.specs.inside.i2c_bus.BusWalk.{no_bits, partial_byte_with, partial_byte_of}
 use Rattle.vcd_decode.specs.inside.i2c_bus.BusWalk.{transfer_rest_annotations}
 use Rattle.vcd_decode.specs.inside.i2c_bus.BusWalk.{whole_byte_annotations}
@@ -88,9 +88,11 @@ acknowledge_none : (number : Option ℕ) → ten_bit_address (acknowledge_kind n
 acknowledge_none (Some zero) = refl
 acknowledge_none number = refl
 
-or_assoc : (a b c : Option ℕ) → option_or a (option_or b c) ≡ option_or (option_or a b) c
-or_assoc None b c = refl
-or_assoc (Some x) b c = refl
+or_first : (a b : Option ℕ) (ns : List ℕ)
+    → option_or a (slice_get (cons_option b ns) 0) ≡ option_or (option_or a b) (slice_get ns 0)
+or_first (Some x) b ns = refl
+or_first None None ns = refl
+or_first None (Some y) ns = refl
 
 or_none : (a : Option ℕ) → option_or a None ≡ a
 or_none None = refl
@@ -102,18 +104,19 @@ given_past : (t : Transfer) (b : BusBit) (others : List Annotation)
     ≡ option_or (transfer_after_byte t).address (shown_address others)
 unfolding shown_address
 given_past t b others =
-    ap (λ (o : Option ℕ). option_or t.address
-    (option_or (ten_bit_address (byte_kind t.role t.part.number)) (option_or o (shown_address others))))
+    let more : List ℕ = filter_map (λ (a : Annotation). ten_bit_address a.kind) others in
+    let byte = ten_bit_address (byte_kind t.role t.part.number) in
+    ap (λ (o : Option ℕ). option_or t.address (slice_get (cons_option byte (cons_option o more)) 0))
     (acknowledge_none (number_with (Some 0) b))
-    ∙ or_assoc t.address (ten_bit_address (byte_kind t.role t.part.number)) (shown_address others)
+    ∙ or_first t.address byte more
 
 -- the annotations of the current bits and those up to the next condition
 abbrev stretch : List BusEvent → ByteRole → List BusBit → List Annotation
-stretch es role g = nines_annotations (has_condition es) role (groups_of 9 (g ++ bits_until es))
+stretch es role g = nines_annotations (list_any is_condition es) role (groups_of 9 (g ++ bits_until es))
 
 -- a full nine and the bits after it
 stretch_past : (es : List BusEvent) (role : ByteRole) (g : List BusBit) (given : Option ℕ) (b : BusBit) → length g ≡ 8
-    → nines_annotations (has_condition es) role (groups_of 9 (g ++ b ∷ bits_until es))
+    → nines_annotations (list_any is_condition es) role (groups_of 9 (g ++ b ∷ bits_until es))
     ≡ whole_byte_annotations (transfer_of role (partial_byte_of g) given) b
     ++ stretch es (role_after role (partial_byte_of g).number) []
 unfolding nines_annotations
@@ -124,10 +127,10 @@ stretch_past es role g given b eight =
     let number : number_of_bits (take 8 (g ++ b ∷ [])) ≡ (partial_byte_of g).number = ap number_of_bits prefix
     ∙ sym (part_number g) in
     let annotations = whole_is role g given b eight in
-    ap (λ (bs : List BusBit). nines_annotations (has_condition es) role (groups_of 9 bs))
+    ap (λ (bs : List BusBit). nines_annotations (list_any is_condition es) role (groups_of 9 bs))
     (sym (append_assoc g (b ∷ []) (bits_until es)))
-    ∙ ap (nines_annotations (has_condition es) role) (groups_whole 9 (g ++ b ∷ []) (bits_until es) (omega arith) nine)
-    ∙ rw full (λ i. annotations i ++ nines_annotations (has_condition es) (role_after role (number i))
+    ∙ ap (nines_annotations (list_any is_condition es) role) (groups_whole 9 (g ++ b ∷ []) (bits_until es) (omega arith) nine)
+    ∙ rw full (λ i. annotations i ++ nines_annotations (list_any is_condition es) (role_after role (number i))
     (groups_of 9 (bits_until es)))
 
 -- ---- all events
@@ -145,7 +148,7 @@ WalksTransfer es = (role : ByteRole) (g : List BusBit) (given : Option ℕ) → 
 
 -- at a condition the current bits are a rest
 at_condition : (c : BusEvent) (es : List BusEvent) (role : ByteRole) (g : List BusBit) (given : Option ℕ) → length g ≤ 8
-    → bits_until (c ∷ es) ≡ [] → has_condition (c ∷ es) ≡ true
+    → bits_until (c ∷ es) ≡ [] → list_any is_condition (c ∷ es) ≡ true
     → (transfer_rest_annotations (Some (transfer_of role (partial_byte_of g) given)) ≡ stretch (c ∷ es) role g)
     × (option_or given (shown_address (stretch (c ∷ es) role g)) ≡ given)
 at_condition c es role g given few none ended =
@@ -170,7 +173,7 @@ bit_taken t b es full is = λ i. (if is i then whole_byte_annotations t b else [
 
 held_byte : (b : BusBit) (es : List BusEvent) (role : ByteRole) (g : List BusBit) (given : Option ℕ) → WalksTransfer es
     → length g ≡ 8 → WalksFrom (events.Bit b ∷ es) role g given
-unfolding bits_until has_condition annotations_of_events
+unfolding bits_until annotations_of_events
 held_byte b es role g given later eight =
     let t : Transfer = transfer_of role (partial_byte_of g) given in
     let count : (t.part.count == 8) ≡ true = (Decides-eqb t.part.count 8).1 (part_count g ∙ eight) in
@@ -187,7 +190,7 @@ held_byte b es role g given later eight =
 
 held_bit : (b : BusBit) (es : List BusEvent) (role : ByteRole) (g : List BusBit) (given : Option ℕ) → WalksTransfer es
     → length g < 8 → WalksFrom (events.Bit b ∷ es) role g given
-unfolding bits_until has_condition annotations_of_events
+unfolding bits_until annotations_of_events
 held_bit b es role g given later few =
     let t : Transfer = transfer_of role (partial_byte_of g) given in
     let count : (t.part.count == 8) ≡ false = ne_eqb t.part.count 8 (λ eight. omega (arith, part_count g)) in
@@ -196,14 +199,14 @@ held_bit b es role g given later few =
     let longer = append_assoc g (b ∷ []) (bits_until es) in
     bit_taken t b es false count ∙ ap (λ (p : PartialByte). walk_annotations (Some (transfer_of role p given)) es) more
     ∙ later role (g ++ b ∷ []) given (omega (arith, length_push g b))
-    ∙ (λ i. nines_annotations (has_condition es) role (groups_of 9 (longer i))
+    ∙ (λ i. nines_annotations (list_any is_condition es) role (groups_of 9 (longer i))
     ++ annotations_of_events
-    true (option_or given (shown_address (nines_annotations (has_condition es) role (groups_of 9 (longer i)))))
+    true (option_or given (shown_address (nines_annotations (list_any is_condition es) role (groups_of 9 (longer i)))))
     es)
 
 held_start : (t : ℕ) (es : List BusEvent) (role : ByteRole) (g : List BusBit) (given : Option ℕ) → WalksTransfer es
     → length g ≤ 8 → WalksFrom (events.Start t ∷ es) role g given
-unfolding walk_annotations bits_until has_condition annotations_of_events
+unfolding walk_annotations bits_until annotations_of_events
 held_start t es role g given later few =
     let here = at_condition (events.Start t) es role g given few refl refl in
     let rest : List Annotation = transfer_rest_annotations (Some (transfer_of role (partial_byte_of g) given)) in
@@ -217,7 +220,7 @@ held_start t es role g given later few =
 
 held_stop : (t : ℕ) (es : List BusEvent) (role : ByteRole) (g : List BusBit) (given : Option ℕ) → WalksFree es
     → length g ≤ 8 → WalksFrom (events.Stop t ∷ es) role g given
-unfolding walk_annotations bits_until has_condition annotations_of_events
+unfolding walk_annotations bits_until annotations_of_events
 held_stop t es role g given later few =
     let here = at_condition (events.Stop t) es role g given few refl refl in
     let rest : List Annotation = transfer_rest_annotations (Some (transfer_of role (partial_byte_of g) given)) in
@@ -228,7 +231,7 @@ held_stop t es role g given later few =
     ∙ (λ i. here.0 i ++ annotations_of_events true (old i) (events.Stop t ∷ es))
 
 held_none : WalksTransfer []
-unfolding walk_annotations bits_until has_condition annotations_of_events
+unfolding walk_annotations bits_until annotations_of_events
 held_none role g given few =
     sym (append-nil (stretch [] role g)
     ∙ ap (λ (bs : List BusBit). nines_annotations false role (groups_of 9 bs)) (append-nil g)

@@ -3,7 +3,7 @@ use Rattle.std.proofs.Common.{◌≡◌, ℕ, suc, ◌+◌, ◌*◌, Bool, true,
 use Rattle.std.proofs.Common.{List, [], ◌∷◌, ◌++◌}
 use Rattle.std.proofs.Common.{length}
 use Rattle.std.proofs.Common.{map, refl, sym, ap, ◌∙◌, arith}
-use Rattle.std.specs.List.{flat_map}
+use Rattle.std.specs.List.{flat_map, list_any}
 use Rattle.std.proofs.lemmas.List.{length-append}
 use Rattle.vcd_core.specs.declared.bit.Bit.{Bit}
 use Rattle.vcd_core.specs.declared.bit.Bit.TheVariants.{Zero, One}
@@ -16,7 +16,7 @@ use Rattle.vcd_decode.specs.declared.i2c_bus.events.BusEvent.TheVariants as even
 use Rattle.vcd_decode.specs.declared.i2c_bus.bytes.ByteRole.TheVariants as roles
 use Rattle.vcd_decode.specs.Lines.{annotation}
 use Rattle.vcd_decode.specs.Groups.{groups_of}
-use Rattle.vcd_decode.specs.I2c.{annotations_of_events, has_condition, bits_until}
+use Rattle.vcd_decode.specs.I2c.{annotations_of_events, is_condition, bits_until}
 use Rattle.vcd_decode.specs.I2c.{nines_annotations}
 use Rattle.vcd_decode.specs.I2c.{shown_address}
 use Rattle.vcd_decode.specs.I2cSent.{Transfer, IsTransfer, ten_bits_of, AreTransfers}
@@ -76,8 +76,8 @@ rise_of at i [] = record { tick = at (suc i); level = Zero }
 rise_of at i (t ∷ ts) = record { tick = at (suc i); level = One }
 
 has_one : (at : ℕ → ℕ) (i : ℕ) (ts : List Transfer) (bits : List BusBit)
-    → has_condition (map (λ b. events.Bit b) bits ++ later_events at i ts) ≡ true
-unfolding has_condition later_events
+    → list_any is_condition (map (λ b. events.Bit b) bits ++ later_events at i ts) ≡ true
+unfolding later_events
 has_one at i [] [] = refl
 has_one at i (t ∷ ts) [] = refl
 has_one at i ts (b ∷ bits) = has_one at i ts bits
@@ -111,7 +111,7 @@ transfer_found at start i j repeated given t ts is =
     let bits = sent_bits at i (transfer_bits t) in
     let es = map (λ b. events.Bit b) bits ++ later_events at j ts in
     let role = roles.Address given in
-    let shown : nines_annotations (has_condition es) role (groups_of 9 (bits_until es))
+    let shown : nines_annotations (list_any is_condition es) role (groups_of 9 (bits_until es))
     ≡ sent_bytes at i (transfer_bytes t) =
     (λ k. nines_annotations (has_one at j ts bits k) role (groups_of 9 (bits_up_to at j ts bits k)))
     ∙ bytes_found role at i (transfer_bytes t) (rise_of at j ts) (transfer_kinds given t is) in
