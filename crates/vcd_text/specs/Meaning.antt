@@ -1,22 +1,18 @@
 -- The meaning of a file: its signals, each with its value at every tick (IEEE 1364-2005, 18.2).
-use Rattle.std.specs.Prelude.{◌≡◌, ℕ, ◌&&◌, if◌then◌else◌, nat_le, List, ◌∷◌, map, count_by}
-use Rattle.std.specs.Prelude.{bytes_eq, []}
-use Rattle.vcd_core.specs.declared.bit.Bit.{Bit}
-use Rattle.vcd_core.specs.Value.{all_x}
-use Rattle.vcd_core.specs.Wave.{changes_of}
+use Rattle.std.specs.Prelude.{◌≡◌, ℕ, List, map, filter, count_by, bytes_eq}
+use Rattle.vcd_core.specs.declared.wave.Change.{Change}
+use Rattle.vcd_core.specs.Wave.{change, value_at, changes_of}
 use Rattle.vcd_core.specs.Contents.{Contents, SignalContents}
 use Rattle.vcd_text.specs.Words.{words_of}
 use Rattle.vcd_text.specs.Letters.{extension}
 use Rattle.vcd_text.specs.Grammar.{VariableDeclaration, ValueChange, ParseState, Accepts}
 use Rattle.vcd_text.specs.Grammar.{is_skipped, kept_variables}
 
--- the last change of the code up to tick t, extended to the width; `before` if there is none. This
--- is `value_from` over the changes of one code
-unfoldable pub latest_value : ℕ → List ℕ → ℕ → List Bit → List ValueChange → List Bit
-latest_value width code t before [] = before
-latest_value width code t before (v ∷ vs) =
-    latest_value width code t
-    (if bytes_eq v.code code && nat_le v.tick t then extension width v.letters else before) vs
+-- the changes of a code: its value changes, in their order, each extended to the width
+unfoldable pub changes_of_code : ℕ → List ℕ → List ValueChange → List Change
+changes_of_code width code value_changes =
+    map (λ v. change v.tick (extension width v.letters))
+    (filter (λ v. bytes_eq v.code code) value_changes)
 
 -- the signal of a variable, up to the tick `end`: all x before its first value change
 abbrev pub declared_signal : List ValueChange → ℕ → VariableDeclaration → SignalContents
@@ -25,7 +21,7 @@ declared_signal value_changes end d = record {
   kind = d.kind;
   words = d.words;
   width = d.size;
-  changes = changes_of d.size end (λ t. latest_value d.size d.code t (all_x d.size) value_changes);
+  changes = changes_of d.size end (value_at d.size (changes_of_code d.size d.code value_changes));
 }
 
 -- the meaning of a file with this state: its kept variables are the signals, in their order; the

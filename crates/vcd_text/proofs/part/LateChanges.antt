@@ -3,7 +3,7 @@ use Rattle.std.proofs.Common.{◌≡◌, ℕ, ◌≤◌, Bool, true, false, if�
 use Rattle.std.proofs.Common.{arith}
 use Rattle.std.proofs.Common.{Option, Some, None, refl, sym, ap, ◌∙◌}
 use Rattle.std.specs.Prelude.{bytes_eq}
-use Rattle.std.proofs.lemmas.Bool.{le-leb}
+use Rattle.std.proofs.lemmas.Bool.{cases_Bool, le-leb}
 use Rattle.std.proofs.lemmas.List.{append-nil}
 use Rattle.std.proofs.lemmas.List.Elements.{All-head, All-tail, All-push}
 use Rattle.vcd_core.specs.declared.bit.Bit.{Bit}
@@ -13,7 +13,9 @@ use Rattle.vcd_text.specs.Grammar.{VariableDeclaration, ValueChange, ParseState,
 use Rattle.vcd_text.specs.Grammar.{Allows}
 use Rattle.vcd_text.proofs.shared.ItemTests.{has_tick}
 use Rattle.vcd_text.specs.Grammar.{state_after_item, is_skipped, value_changes_after}
-use Rattle.vcd_text.specs.Meaning.{latest_value}
+use Rattle.vcd_core.specs.Wave.{value_from}
+use Rattle.vcd_text.specs.Meaning.{changes_of_code}
+use Rattle.vcd_text.specs.inside.reading.Variables.{latest_value}
 
 -- no value change is past the tick
 abbrev pub UpToTick : ℕ → List ValueChange → Type 0
@@ -47,14 +49,16 @@ late_after c (i ∷ is) (allows, rest) late = late_after (state_after_item c i) 
 -- past the last tick the value stays
 pub latest_past : (width : ℕ) (code : List ℕ) (end t : ℕ) (before : List Bit) (rs : List ValueChange) → end ≤ t
     → UpToTick end rs → latest_value width code t before rs ≡ latest_value width code end before rs
-unfolding latest_value
+unfolding changes_of_code value_from
 latest_past width code end t before [] past late = refl
 latest_past width code end t before (r ∷ rs) past late =
     let here : r.tick ≤ end = All-head (λ (r : ValueChange). r.tick ≤ end) r rs late in
-    let same : nat_le r.tick t ≡ nat_le r.tick end = le-leb r.tick t (omega (arith, here, past))
-    ∙ sym (le-leb r.tick end here) in
-    ap (λ b. latest_value width code t (if bytes_eq r.code code && b then extension width r.letters else before) rs)
-    same
-    ∙ latest_past width code end t
-    (if bytes_eq r.code code && nat_le r.tick end then extension width r.letters else before) rs past
-    (All-tail (λ (r : ValueChange). r.tick ≤ end) r rs late)
+    let rest = All-tail (λ (r : ValueChange). r.tick ≤ end) r rs late in
+    grind (
+      arith,
+      cases_Bool,
+      le-leb,
+      here,
+      latest_past width code end t before rs past rest,
+      latest_past width code end t (extension width r.letters) rs past rest,
+    )

@@ -10,22 +10,18 @@ use Rattle.std.proofs.lemmas.Bool.{and_right, cases_lt, le-leb, lt-leb}
 use Rattle.vcd_core.specs.declared.bit.Bit.{Bit}
 use Rattle.vcd_core.specs.Value.{all_x}
 use Rattle.vcd_core.specs.inside.value.EqualByLetters.{same_letters-Decides}
+use Rattle.vcd_core.specs.Wave.{value_from}
 use Rattle.vcd_core.specs.Contents.{SignalContents, signal_value}
 use Rattle.vcd_text.specs.Letters.{extension, short_form}
 use Rattle.vcd_text.specs.Grammar.{ValueChange}
-use Rattle.vcd_text.specs.Meaning.{latest_value}
+use Rattle.vcd_text.specs.Meaning.{changes_of_code}
+use Rattle.vcd_text.specs.inside.reading.Variables.{latest_value}
+use Rattle.vcd_text.proofs.reading.variables.ChangedVariable.{latest_value-append}
 use Rattle.vcd_text.specs.Text.{code_of, differing, differs_at}
 use Rattle.vcd_text.proofs.read_back.DeclaredSignals.{other_code}
 use Rattle.vcd_text.proofs.read_back.Values.{ext-short}
 use Rattle.vcd_text.proofs.read_back.Changes.{value_change_of, tick_value_changes}
 use Rattle.std.proofs.lemmas.Slice.Eq.{bytes_eq-Decides}
-
-latest_value-append : (width : ℕ) (code : List ℕ) (t : ℕ) (before : List Bit) (rs qs : List ValueChange)
-    → latest_value width code t before (rs ++ qs) ≡ latest_value width code t (latest_value width code t before rs) qs
-unfolding latest_value
-latest_value-append width code t before [] qs = refl
-latest_value-append width code t before (r ∷ rs) qs = latest_value-append width code t
-    (if bytes_eq r.code code && nat_le r.tick t then extension width r.letters else before) rs qs
 
 -- for one signal, at the position k and the tick t
 module _ (width k t : ℕ) where
@@ -36,13 +32,13 @@ module _ (width k t : ℕ) where
   -- value changes past the tick change nothing
   past_value_changes : (u : ℕ) (before : List Bit) (positioned : List (ℕ × SignalContents)) → t < u
       → after_value_changes before (map (value_change_of u) positioned) ≡ before
-  unfolding latest_value
+  unfolding changes_of_code value_from
   past_value_changes u before [] past = refl
   past_value_changes u before (p ∷ ps) past = grind (arith, and_right, lt-leb, past_value_changes u before ps past)
 
   past_ticks : (signals : List SignalContents) (u n : ℕ) (before : List Bit) → t < u
       → after_value_changes before (tick_value_changes signals u n) ≡ before
-  unfolding latest_value tick_value_changes
+  unfolding changes_of_code value_from tick_value_changes
   past_ticks signals u zero before past = refl
   past_ticks signals u (suc n) before past =
       grind (arith, latest_value-append, past_value_changes, past_ticks signals (suc u) n before (omega arith))
@@ -55,7 +51,7 @@ module _ (width k t : ℕ) where
 
     later_signals : (j : ℕ) (ss : List SignalContents) (before : List Bit) → k < j
         → after_value_changes before (value_changes_from j ss) ≡ before
-    unfolding latest_value
+    unfolding changes_of_code value_from
     later_signals j [] before later = refl
     later_signals j (s ∷ ss) before later = grind (arith, other_code, later_signals (j + 1) ss before (omega arith))
 
@@ -63,7 +59,7 @@ module _ (width k t : ℕ) where
     own_value_change : (ss : List SignalContents) (i j : ℕ) (d : SignalContents) (before : List Bit) → j + i ≡ k
         → i < length ss → u ≤ t → after_value_changes before (value_changes_from j ss)
         ≡ (if test (k, get_or ss i d) then extension width (short_form (signal_value (get_or ss i d) u)) else before)
-    unfolding latest_value
+    unfolding changes_of_code value_from
     own_value_change [] i j d before at within come = absurd (omega arith)
     own_value_change (s ∷ ss) zero j d before at within come = grind (arith, bytes_eq-Decides, le-leb, later_signals)
     own_value_change (s ∷ ss) (suc i) j d before at within come =
@@ -95,13 +91,13 @@ module _ (signals : List SignalContents) (k t : ℕ) (d : SignalContents) (insid
   from_tick : (u n : ℕ) → u ≤ t + 1 → t < u + n
       → latest_value signal.width (code_of k) t (signal_value signal (u - 1)) (tick_value_changes signals u n)
       ≡ signal_value signal t
-  unfolding latest_value tick_value_changes
+  unfolding changes_of_code value_from tick_value_changes
   from_tick u zero low high = let same : u - 1 ≡ t = omega arith in ap (signal_value signal) same
   from_tick u (suc n) low high =
       elim (cases_lt t u) [
         | inl past ↦
             let same : u - 1 ≡ t = omega arith in
-            past_ticks _ k t _ u (suc n) (signal_value signal (u - 1)) past ∙ ap (signal_value signal) same
+            past_ticks signal.width k t signals u (suc n) (signal_value signal (u - 1)) past ∙ ap (signal_value signal) same
         | inr come ↦
             grind (arith, at_tick, latest_value-append, from_tick (suc u) n (omega arith) (omega arith))
       ]

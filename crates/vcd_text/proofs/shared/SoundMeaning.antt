@@ -1,10 +1,10 @@
 -- The meaning of an accepted file is sound.
 use Rattle.std.proofs.Common.{◌≡◌, ℕ, ◌<◌, ◌≤◌, Bool, true, false, cond, not, ◌&&◌, ◌||◌, List, []}
 use Rattle.std.proofs.Common.{◌∷◌, ◌++◌, length, take, drop, Option, Some, None, IsTrue, IsFalse}
-use Rattle.std.proofs.Common.{IsSomeAnd, IfSome, All, refl, sym, ap, ◌∙◌, arith}
+use Rattle.std.proofs.Common.{IsSomeAnd, IfSome, All, if◌then◌else◌, inl, inr, refl, sym, ap, ◌∙◌, arith}
 use Rattle.std.specs.Prelude.{find, bytes_eq, ◌==◌, nat_le}
 use Rattle.std.specs.List.{list_all}
-use Rattle.std.proofs.lemmas.Bool.{and_parts, and_from, or_parts, false≢true, not-true, eqb-true}
+use Rattle.std.proofs.lemmas.Bool.{cases_Bool, and_parts, and_from, or_parts, false≢true, not-true, eqb-true}
 use Rattle.std.proofs.lemmas.Bool.{eqb-false, leb-true}
 use Rattle.std.proofs.lemmas.Bool.{ltb-false}
 use Rattle.std.proofs.lemmas.Slice.Eq.{bytes_eq-Decides}
@@ -20,6 +20,7 @@ use Rattle.vcd_core.specs.declared.capture.ScopeName.{ScopeName}
 use Rattle.vcd_core.specs.declared.capture.Timescale.{Timescale}
 use Rattle.vcd_core.specs.declared.value.TheConstants.{WIDTH_LIMIT}
 use Rattle.vcd_core.specs.declared.capture.TheConstants.{END_LIMIT, SIGNAL_LIMIT}
+use Rattle.vcd_core.specs.Wave.{value_from}
 use Rattle.vcd_core.specs.Word.{is_word, is_skipped_kind}
 use Rattle.vcd_core.specs.Contents.{Contents}
 use Rattle.vcd_core.specs.Sound.{IsSound, IsSoundSignal, is_sound_header, is_sound_scope}
@@ -41,12 +42,12 @@ use Rattle.vcd_text.proofs.shared.ItemTests.{has_declaration, has_tick}
 use Rattle.vcd_text.specs.Grammar.{state_after, state_after_item, is_skipped, kept_variables}
 use Rattle.vcd_text.specs.Grammar.{variable_of, initial_state}
 use Rattle.vcd_text.specs.Grammar.{may_have_code, value_changes_after}
-use Rattle.vcd_text.specs.inside.reading.Variables.{is_within_limit}
+use Rattle.vcd_text.specs.inside.reading.Variables.{is_within_limit, latest_value}
 use Rattle.vcd_text.specs.Grammar.{with_value_change}
 use Rattle.vcd_text.specs.inside.reading.DigitTests.{takes_binary_number}
 use Rattle.vcd_text.proofs.words.WordsInTurn.{by_test, is_run_text, run_is_word}
 use Rattle.vcd_text.proofs.words.WordsByBytes.{texts_of_file_are_runs}
-use Rattle.vcd_text.specs.Meaning.{meaning, declared_signal, latest_value}
+use Rattle.vcd_text.specs.Meaning.{meaning, declared_signal, changes_of_code}
 use Rattle.std.proofs.lemmas.List.Folds.{find-append}
 use Rattle.vcd_text.proofs.part.FewSignals.{KeepsFew, few_after, same_limit}
 
@@ -247,17 +248,15 @@ FitsWidth width code r = bytes_eq r.code code ≡ true → length r.letters ≤ 
 
 latest_length : (width : ℕ) (code : List ℕ) (t : ℕ) (before : List Bit) (rs : List ValueChange) → length before ≡ width
     → All (FitsWidth width code) rs → length (latest_value width code t before rs) ≡ width
-unfolding latest_value
+unfolding changes_of_code value_from
 latest_length width code t before [] long all = long
-latest_length width code t before (r ∷ rs) long all = latest_length width code t (cond (bytes_eq r.code code
-    && nat_le r.tick t) (extension width r.letters) before) rs (grind (
-      arith,
-      by_test,
-      length-append,
-      length-replicate,
-      and_parts,
-      All-head,
-    )) (All-tail (FitsWidth width code) r rs all)
+latest_length width code t before (r ∷ rs) long all =
+    let rest = All-tail (FitsWidth width code) r rs all in
+    elim (cases_Bool (bytes_eq r.code code)) [
+      | inl same ↦ rw same (latest_length width code t (if nat_le r.tick t then extension width r.letters else before)
+          rs (grind (arith, length-append, length-replicate, All-head)) rest)
+      | inr differs ↦ rw differs (latest_length width code t before rs long rest)
+    ]
 
 sound_signal : (c : ParseState) (d : VariableDeclaration) → IsClean c → IsCleanDeclaration d → IsAgreed c d
     → is_skipped d ≡ false → IsSoundSignal c.tick (declared_signal c.value_changes c.tick d)

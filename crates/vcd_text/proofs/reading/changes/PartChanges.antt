@@ -10,7 +10,7 @@ use Rattle.vcd_core.specs.Value.{all_x}
 use Rattle.vcd_text.specs.Letters.{letters_of_digits}
 use Rattle.vcd_text.specs.Grammar.{VariableDeclaration, ValueChange, ParseState, is_skipped}
 use Rattle.vcd_text.specs.Grammar.{with_value_change, value_changes_after}
-use Rattle.vcd_text.specs.Meaning.{latest_value}
+use Rattle.vcd_text.specs.inside.reading.Variables.{latest_value}
 use Rattle.vcd_text.specs.declared.fault.Fault.{Fault}
 use Rattle.vcd_text.specs.declared.reading.part.Part.{Part}
 use Rattle.vcd_text.specs.declared.reading.parser.Parser.{Parser}

@@ -39,7 +39,8 @@ use Rattle.vcd_text.specs.declared.reading.part.Part.{Part}
 use Rattle.vcd_text.specs.inside.reading.Part.{Asked, IsAskedOf}
 use Rattle.vcd_text.specs.inside.reading.Part.{seen_state, TellsPart, HearsPart, HearsVariables}
 use Rattle.vcd_text.specs.Grammar.{ValueChange, kept_variables}
-use Rattle.vcd_text.specs.Meaning.{latest_value}
+use Rattle.vcd_core.specs.Wave.{value_from}
+use Rattle.vcd_text.specs.Meaning.{changes_of_code}
 use Rattle.std.proofs.lemmas.Option.{slice_get_cases, slice_get_within}
 use Rattle.vcd_text.proofs.reading.variables.DeclaredVariable.{one_position}
 use Rattle.vcd_text.proofs.reading.variables.VariablesMatch.{kept_long}
@@ -75,7 +76,7 @@ agrees_by asked m c seen header time in_body tick variables no_tick no_early_cha
 -- before the first change nothing is to be told
 pub tells_nothing : (part : Part) (c : ParseState) (seen : List ValueChange) → c.value_changes ≡ [] → seen ≡ []
     → TellsPart part c seen
-unfolding latest_value
+unfolding changes_of_code value_from
 tells_nothing part c seen none none_seen position d remains t within = grind arith
 
 -- the parser matches a state among the declarations

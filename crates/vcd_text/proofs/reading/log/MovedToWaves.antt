@@ -12,7 +12,7 @@ use Rattle.std.proofs.lemmas.Option.{same_Some, slice_get_within, slice_get_case
 use Rattle.vcd_core.specs.declared.bit.Bit.{Bit}
 use Rattle.vcd_core.specs.Value.{all_x}
 use Rattle.vcd_text.specs.Grammar.{ParseState}
-use Rattle.vcd_text.specs.Meaning.{latest_value}
+use Rattle.vcd_text.specs.inside.reading.Variables.{latest_value}
 use Rattle.vcd_text.specs.inside.reading.Log.{changes_of_position, logged}
 use Rattle.vcd_text.specs.inside.reading.Log.{CanTake}
 use Rattle.vcd_text.specs.inside.reading.Log.{AppliesLogged, CanMoveLog, MovesChanges, MovesLog}

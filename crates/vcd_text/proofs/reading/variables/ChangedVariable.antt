@@ -11,7 +11,8 @@ use Rattle.std.proofs.lemmas.Option.{same_Some, get_or_from_slice_get}
 use Rattle.vcd_core.specs.declared.wave.Change.{Change}
 use Rattle.vcd_core.specs.declared.bit.Bit.{Bit}
 use Rattle.vcd_core.specs.Value.{all_x}
-use Rattle.vcd_core.specs.Wave.{value_at}
+use Rattle.vcd_core.specs.Wave.{value_from, value_at}
+use Rattle.vcd_core.proofs.shared.Waves.{value_from-append}
 use Rattle.vcd_text.specs.declared.fault.Fault.{Fault}
 use Rattle.vcd_text.specs.declared.fault.Fault.TheVariants as faults
 use Rattle.vcd_text.specs.Letters.{letters_of_digits, extension}
@@ -21,11 +22,11 @@ use Rattle.vcd_text.specs.Grammar.{value_changes_after}
 use Rattle.vcd_text.specs.inside.reading.DigitTests.{is_binary_number}
 use Rattle.vcd_text.specs.inside.reading.DigitTests.{takes_binary_number}
 use Rattle.vcd_text.specs.Grammar.{with_value_change}
-use Rattle.vcd_text.specs.Meaning.{latest_value}
+use Rattle.vcd_text.specs.Meaning.{changes_of_code}
 use Rattle.vcd_text.specs.inside.reading.Log.{logged_letters, GivesLoggedValues, logged, AreGrouped, IsSameVariable}
 use Rattle.vcd_text.specs.inside.reading.BinaryNumber.{WritesValue, RefusesBinaryNumber}
 use Rattle.vcd_text.specs.inside.reading.Variables.{declaration, target_of, HasValueChanges, TargetMatches}
-use Rattle.vcd_text.specs.inside.reading.Variables.{HasFirst}
+use Rattle.vcd_text.specs.inside.reading.Variables.{HasFirst, latest_value}
 use Rattle.vcd_text.specs.inside.reading.Variables.{HasOnlyFirstVariables, VariablesMatch, HasValueFrom}
 use Rattle.vcd_text.specs.inside.reading.Variables.{RefusesChange}
 use Rattle.vcd_text.specs.inside.reading.Variables.{no_value, too_long, ChangeResult}
@@ -36,7 +37,8 @@ use Rattle.vcd_text.specs.declared.reading.variables.Variables.{Variables}
 use Rattle.vcd_text.proofs.reading.log.LoggedValues.{gives_late, gives_as, gives_appended, gives_pushed}
 use Rattle.vcd_text.proofs.reading.code_targets.Targets.{own_code, same_code, stands_kept, stands_moved}
 use Rattle.vcd_text.proofs.reading.variables.VariablesMatch.{one_owner}
-use Rattle.std.proofs.lemmas.List.{length-set}
+use Rattle.std.proofs.lemmas.List.{length-set, map-append}
+use Rattle.std.proofs.lemmas.List.Elements.{filter-append}
 use Rattle.std.proofs.lemmas.Bool.{eq-eqb, ne_eqb}
 
 -- ---- a list with another item at one position
@@ -75,14 +77,17 @@ same_declaration v w same = grind arith
 
 -- ---- a value change more
 
+pub latest_value-append : (width : ℕ) (code : List ℕ) (t : ℕ) (before : List Bit) (rs qs : List ValueChange)
+    → latest_value width code t before (rs ++ qs) ≡ latest_value width code t (latest_value width code t before rs) qs
+unfolding changes_of_code
+latest_value-append width code t before rs qs = grind (arith, filter-append, map-append, value_from-append)
+
 pub value_with : (width : ℕ) (code : List ℕ) (t : ℕ) (before : List Bit) (rs : List ValueChange) (r : ValueChange)
     → latest_value width code t before (rs ++ r ∷ [])
     ≡ (if bytes_eq r.code code && nat_le r.tick t then extension width r.letters else latest_value width code t
     before rs)
-unfolding latest_value
-value_with width code t before [] r = refl
-value_with width code t before (s ∷ rs) r =
-    value_with width code t (if bytes_eq s.code code && nat_le s.tick t then extension width s.letters else before) rs r
+unfolding changes_of_code value_from
+value_with width code t before rs r = grind (arith, cases_Bool, latest_value-append)
 
 -- ---- the variables after a change
 

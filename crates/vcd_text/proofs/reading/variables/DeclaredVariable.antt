@@ -24,7 +24,7 @@ use Rattle.vcd_text.specs.Grammar.{VariableDeclaration, ValueChange, ParseState,
 use Rattle.vcd_text.specs.Grammar.{kept_variables}
 use Rattle.vcd_text.specs.Grammar.{variable_of, may_have_code, declaration_of}
 use Rattle.vcd_text.specs.inside.reading.Variables.{is_within_limit}
-use Rattle.vcd_text.specs.Meaning.{latest_value}
+use Rattle.vcd_text.specs.Meaning.{changes_of_code}
 use Rattle.vcd_text.specs.inside.reading.Log.{logged}
 use Rattle.vcd_text.specs.declared.reading.log.LoggedChange.{LoggedChange}
 use Rattle.vcd_text.proofs.reading.log.LoggedValues.{gives_as}
@@ -194,7 +194,7 @@ module _ (old : Variables) (c : ParseState) (code : List ℕ) (v : Variable) (k 
     silent_wave : HasValueChanges (old.kept.items ++ v ∷ []) (logged old.log.items) (length old.kept.items) code
         v.wave.width
         c.value_changes c.tick
-    unfolding latest_value value_from
+    unfolding changes_of_code value_from
     silent_wave = search (arith, middle_of, cases_lt, slice_get_within, nil_from_length, gives_as)
 
     keep_stands : (key : List ℕ) → TargetAgrees (with_kept old list targets) c key

@@ -16,8 +16,8 @@ use Rattle.vcd_core.specs.CaptureContents.{signal_contents}
 use Rattle.vcd_core.proofs.shared.Waves.{wave_is}
 use Rattle.vcd_text.specs.Grammar.{VariableDeclaration, ParseState}
 use Rattle.vcd_text.specs.Grammar.{kept_variables}
-use Rattle.vcd_text.specs.Meaning.{latest_value, declared_signal}
-use Rattle.vcd_text.specs.inside.reading.Variables.{declaration, without_code, target_of}
+use Rattle.vcd_text.specs.Meaning.{declared_signal}
+use Rattle.vcd_text.specs.inside.reading.Variables.{declaration, without_code, target_of, latest_value}
 use Rattle.vcd_text.specs.inside.reading.Variables.{HasValueChanges}
 use Rattle.vcd_text.specs.inside.reading.Variables.{VariablesMatch, Finishes, FinishesWave}
 use Rattle.vcd_text.specs.Chains.{chains_of}

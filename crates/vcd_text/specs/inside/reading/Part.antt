@@ -9,8 +9,8 @@ use Rattle.vcd_core.specs.declared.capture.Timescale.{Timescale}
 use Rattle.vcd_text.specs.Parts.{part_of_signal}
 use Rattle.vcd_core.specs.declared.capture.TheConstants.{END_LIMIT}
 use Rattle.vcd_text.specs.Grammar.{VariableDeclaration, ValueChange, ParseState, kept_variables}
-use Rattle.vcd_text.specs.Meaning.{latest_value}
-use Rattle.vcd_text.specs.inside.reading.Variables.{target_of, VariablesMatch, RefusesChange}
+use Rattle.vcd_text.specs.inside.reading.Variables.{target_of, latest_value, VariablesMatch}
+use Rattle.vcd_text.specs.inside.reading.Variables.{RefusesChange}
 use Rattle.vcd_text.specs.Letters.{letters_of_digits}
 use Rattle.vcd_text.specs.Grammar.{is_skipped, variable_of, with_value_change}
 use Rattle.vcd_text.specs.inside.reading.DigitTests.{takes_binary_number}

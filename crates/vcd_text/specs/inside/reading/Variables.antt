@@ -7,8 +7,9 @@ use Rattle.std.specs.Prelude.{Ok, Err}
 use Rattle.vcd_core.specs.declared.value.TheConstants.{WIDTH_LIMIT}
 use Rattle.vcd_core.specs.Decimal.{number_of}
 use Rattle.vcd_core.specs.declared.wave.Change.{Change}
+use Rattle.vcd_core.specs.declared.bit.Bit.{Bit}
 use Rattle.vcd_core.specs.Value.{all_x}
-use Rattle.vcd_core.specs.Wave.{value_at, IsWave}
+use Rattle.vcd_core.specs.Wave.{value_from, value_at, IsWave}
 use Rattle.vcd_core.specs.WaveView.{WaveView}
 use Rattle.vcd_core.specs.declared.capture.ScopeName.{ScopeName}
 use Rattle.vcd_core.specs.declared.capture.Signal.{Signal}
@@ -24,7 +25,7 @@ use Rattle.vcd_core.specs.Tests.{first_fault}
 use Rattle.vcd_text.specs.inside.reading.DigitTests.{is_binary_number}
 use Rattle.vcd_text.specs.Grammar.{state_after_item, with_value_change}
 use Rattle.vcd_text.specs.inside.reading.DigitTests.{takes_binary_number}
-use Rattle.vcd_text.specs.Meaning.{latest_value}
+use Rattle.vcd_text.specs.Meaning.{changes_of_code}
 use Rattle.vcd_text.specs.inside.reading.CodeTargets.{code_target}
 use Rattle.vcd_text.specs.inside.reading.Log.{GivesLoggedValues, logged, AreGrouped, IsSameVariable}
 use Rattle.vcd_text.specs.Chains.{chain_at}
@@ -60,6 +61,10 @@ declaration v = declaration_in [] [] v
 -- the target of a code
 abbrev pub target_of : Variables → List ℕ → CodeTarget
 target_of vs code = code_target vs.code_targets code
+
+-- the value at a tick by the value changes of a code; `before` if there is none up to then
+abbrev pub latest_value : ℕ → List ℕ → ℕ → List Bit → List ValueChange → List Bit
+latest_value width code t before vs = value_from before (changes_of_code width code vs) t
 
 -- the variable at this position has the size; its wave and its log give the code's value changes up
 -- to the tick
