@@ -1,5 +1,5 @@
 -- The events on the two lines of an I2C bus at each tick: conditions and bits (UM10204, 3.1.3 and
--- 3.1.4).
+-- 3.1.4). The project's own: z is high, and two changes at once are no condition.
 use Rattle.std.specs.Prelude.{ℕ, suc, Bool, true, false, ◌&&◌, Option, Some, None, List, filter_map}
 use Rattle.std.specs.List.{range_with_len}
 use Rattle.vcd_core.specs.declared.bit.Bit.{Bit}

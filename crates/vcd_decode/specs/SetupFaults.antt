@@ -1,5 +1,5 @@
 -- The faults of setups: the project's own.
-use Rattle.std.specs.Prelude.{◌*◌, ◌&&◌, nat_le, [], ◌∷◌, Option}
+use Rattle.std.specs.Prelude.{ℕ, ◌*◌, ◌&&◌, Bool, nat_le, [], ◌∷◌, Option}
 use Rattle.vcd_core.specs.Tests.{◌unless◌, first_fault}
 use Rattle.vcd_decode.specs.declared.uart_setup.TheConstants.{RATIO_LIMIT}
 use Rattle.vcd_decode.specs.declared.spi_setup.TheConstants.{GREATEST_MODE, WORD_BITS_LIMIT}
@@ -7,8 +7,12 @@ use Rattle.vcd_decode.specs.declared.setup_error.SetupError.{SetupError}
 use Rattle.vcd_decode.specs.declared.setup_error.SetupError.TheVariants.{BadRatio, BitTooShort}
 use Rattle.vcd_decode.specs.declared.setup_error.SetupError.TheVariants.{BadData, BadStop}
 use Rattle.vcd_decode.specs.declared.setup_error.SetupError.TheVariants.{BadMode, BadBits}
-use Rattle.vcd_decode.specs.UartSetup.{UartSetup, is_between}
+use Rattle.vcd_decode.specs.UartSetup.{UartSetup}
 use Rattle.vcd_decode.specs.SpiSetup.{SpiSetup}
+
+-- whether a number is in this range, both ends included
+abbrev pub is_between : ℕ → ℕ → ℕ → Bool
+is_between least greatest n = nat_le least n && nat_le n greatest
 
 -- the fault of the setup of a UART line, or none
 abbrev pub uart_fault : UartSetup → Option SetupError

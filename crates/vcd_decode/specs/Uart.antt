@@ -81,7 +81,7 @@ unfoldable pub falls : (ℕ → Bit) → ℕ → List ℕ
 falls f end = filter (λ t. is_one (letter_before f t) && is_zero (f t)) (range_with_len 0 (suc end))
 
 -- the frames that falls begin: a fall up to the tick `taken`, the end of the frame before, begins
--- none
+-- none; at first this is 0, where no fall is, as the line is x before it
 unfoldable pub frames : (ℕ → Option Annotation) → ℕ → List ℕ → List Annotation
 frames frame_at taken [] = []
 frames frame_at taken (start ∷ starts) =

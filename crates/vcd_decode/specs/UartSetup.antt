@@ -1,5 +1,5 @@
 -- The setup of an asynchronous serial line: the project's own.
-use Rattle.std.specs.Prelude.{ℕ, ◌&&◌, Bool, nat_le}
+use Rattle.std.specs.Prelude.{ℕ}
 use Rattle.vcd_decode.specs.declared.uart_setup.Parity.{Parity}
 
 -- a setup as contracts see it: a bit lasts `numerator / denominator` ticks
@@ -14,7 +14,3 @@ pub record UartSetup : Type 0 where
 abbrev pub uart_setup : ℕ → ℕ → ℕ → Parity → ℕ → UartSetup
 uart_setup n d bits parity stop =
     record { numerator = n; denominator = d; data_bits = bits; parity = parity; stop_bits = stop }
-
--- whether a number is in this range, both ends included
-abbrev pub is_between : ℕ → ℕ → ℕ → Bool
-is_between least greatest n = nat_le least n && nat_le n greatest

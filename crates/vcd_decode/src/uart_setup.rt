@@ -1,7 +1,7 @@
 //! The setup of an asynchronous serial line.
 
 ghost use Rattle.std.specs.Prelude.{◌≡◌, ◌≤◌, IfOk};
-ghost use Rattle.vcd_decode.specs.UartSetup.{is_between};
+ghost use Rattle.vcd_decode.specs.SetupFaults.{is_between};
 ghost use Rattle.vcd_decode.specs.SetupFaults.{uart_fault};
 ghost use Rattle.vcd_decode.specs.SetupResults.{SetupFaultIs};
 ghost use Rattle.vcd_decode.specs.UartSetup.{uart_setup};

@@ -9,7 +9,7 @@ use Rattle.vcd_journal.specs.declared.step.TheConstants.{DEPTH_LIMIT}
 use Rattle.vcd_journal.specs.declared.step.Step.{Step}
 use Rattle.vcd_journal.specs.declared.step.Step.TheVariants as steps
 
--- the edits in force and those undone; how many of the first can be undone, and the depth
+-- the edits in force and those undone; how many of the former can be undone, and the depth
 pub record History : Type 0 where
   -- in force, the last one made first
   pub edits : List Edit

@@ -13,10 +13,10 @@ pub record DeviceEnd : Type 0 where
 abbrev pub IsUntouched : DeviceEnd → Type 0
 IsUntouched d = (d.after ≡ d.before) × (d.has_failed ≡ false)
 
--- a source did not fail: it was read to its end, and had at most `limit` bytes
-abbrev pub IsRead : (limit : ℕ) → DeviceEnd → Type 0
-IsRead limit r = (r.has_failed ≡ false) × IsAtEnd r.after
-    × IfSome r.before (λ bytes. length bytes ≤ limit)
+-- a source did not fail: it was read to its end, and had at most `byte_limit` bytes
+abbrev pub IsRead : (byte_limit : ℕ) → DeviceEnd → Type 0
+IsRead byte_limit r = (r.has_failed ≡ false) × IsAtEnd r.after
+    × IfSome r.before (λ bytes. length bytes ≤ byte_limit)
 
 -- a writer took this text
 abbrev pub HasText : DeviceEnd → List ℕ → Type 0

@@ -27,12 +27,12 @@ use Rattle.vcd_text.specs.Grammar.{word_texts, AllowsAll, state_after}
 
 -- an item that fits here has these words, then this one
 abbrev pub GoesOn : ParseState → (begun : List (List ℕ)) → (word : List ℕ) → Type 0
-GoesOn c begun word = (i : Item) × (more : List (List ℕ)) × IsTrue (fits c i)
+GoesOn s begun word = (i : Item) × (more : List (List ℕ)) × IsTrue (fits s i)
     × (spelling i ≡ begun ++ word ∷ more)
 
 -- the fault of a word with which no item goes on
 abbrev pub misfit_fault : (in_body : Bool) → (begun : List (List ℕ)) → (word : List ℕ) → Fault
--- a declaration among the changes, or a word that begins no change: also a digit without a code
+-- among the changes (`begun` is empty): a declaration, or no change, as a digit without a code
 misfit_fault true begun word =
     if is_one_of declaration_words word then UnexpectedWord else BadChange
 -- `$upscope` while no scope is open, or a word that begins no declaration
@@ -45,14 +45,14 @@ misfit_fault false (keyword ∷ words) word =
     else (if bytes_eq keyword (codes "$var") then BadVar else UnexpectedWord)
 
 -- the fault of a word after the words `begun` of an unfinished item
-pub data WordShows (c : ParseState) (begun : List (List ℕ)) (word : List ℕ) (fault : Fault)
+pub data WordShows (s : ParseState) (begun : List (List ℕ)) (word : List ℕ) (fault : Fault)
     : Type 0 where
   -- the word ends an item, and this is the fault of the first of its tests that fails
-  test_fails : (i : Item) → IsTrue (fits c i) → spelling i ≡ begun ++ word ∷ []
-      → first_fault (item_tests c i) ≡ Some fault → WordShows c begun word fault
+  test_fails : (i : Item) → IsTrue (fits s i) → spelling i ≡ begun ++ word ∷ []
+      → first_fault (item_tests s i) ≡ Some fault → WordShows s begun word fault
   -- other words could follow, but no item goes on with this one
-  misfits : (next : List ℕ) → GoesOn c begun next → (GoesOn c begun word → ⊥)
-      → fault ≡ misfit_fault c.in_body begun word → WordShows c begun word fault
+  misfits : (next : List ℕ) → GoesOn s begun next → (GoesOn s begun word → ⊥)
+      → fault ≡ misfit_fault s.in_body begun word → WordShows s begun word fault
 
 -- ---- files
 
@@ -86,13 +86,13 @@ pub data HasFault (limit : ℕ) (words : List WordOnLine) (last : ℕ) (otherwis
   none_shown : ((at : ℕ) (other : Fault) → ShowsFault limit words at other → ⊥) → line ≡ last
       → fault ≡ otherwise → HasFault limit words last otherwise line fault
 
--- only this prefix of a file was read, for this reason: the fault of its complete words, or the
--- reason at its last line
-abbrev pub IsPrefixAnswer : ℕ → (prefix : List ℕ) → (reason : Fault) → ReadError → Type 0
-IsPrefixAnswer limit prefix reason e =
-    HasFault limit (complete_words prefix) (last_line prefix) reason e.line e.fault
+-- the answer if only this prefix of a file was read: the fault of its complete words, or else
+-- `otherwise` at its last line
+abbrev pub IsPrefixAnswer : ℕ → (prefix : List ℕ) → (otherwise : Fault) → ReadError → Type 0
+IsPrefixAnswer limit prefix otherwise e =
+    HasFault limit (complete_words prefix) (last_line prefix) otherwise e.line e.fault
 
--- the file has no meaning, and this fault, at this line
+-- the file has no meaning, and this fault, at this line; no word of an accepted one shows a fault
 abbrev pub IsFileFault : ℕ → List ℕ → ℕ → Fault → Type 0
 IsFileFault limit bytes line fault =
     ((c : Contents) (skipped : ℕ) → FileMeans limit bytes c skipped → ⊥)

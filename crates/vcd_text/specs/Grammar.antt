@@ -87,19 +87,19 @@ has_good_size words = true
 
 -- the variable that the words of a `$var` declare: kind, size, code, and the words of its name
 abbrev pub declaration_of : ParseState → List (List ℕ) → Option VariableDeclaration
-declaration_of c (kind ∷ size ∷ code ∷ name ∷ names) =
+declaration_of s (kind ∷ size ∷ code ∷ name ∷ names) =
     Some (record {
-      scopes = c.scopes;
+      scopes = s.scopes;
       kind = kind;
       size = number_of size;
       code = code;
       words = name ∷ names;
     })
-declaration_of c words = None
+declaration_of s words = None
 
 -- the first variable of this code; the later ones agree with it
 abbrev pub variable_of : ParseState → List ℕ → Option VariableDeclaration
-variable_of c code = find (λ d. bytes_eq code d.code) c.declared
+variable_of s code = find (λ d. bytes_eq code d.code) s.declared
 
 -- whether a variable can have the code of the variable `a`, if there is one: both are skipped, or
 -- kept with one size
@@ -111,28 +111,28 @@ may_have_code (Some a) b =
 
 -- ---- the conditions of an item
 
--- whether an item can stand here, whatever its tests give: what is decided before its last word. A
--- word that no item has there is a fault of its own (`misfit_fault`)
+-- whether an item can stand here. A word that none of these has is a misfit (`misfit_fault`). The
+-- tests below are made at the last word
 abbrev pub fits : ParseState → Item → Bool
-fits c (entry kind words) = not c.in_body && has_no_end_word words
-fits c (timescale words) = not c.in_body && has_no_end_word words
-fits c (scope kind words) = not c.in_body && has_no_end_word (kind ∷ words)
-fits c upscope = not c.in_body && nat_lt 0 (length c.scopes)
-fits c (variable words) = not c.in_body && (has_no_end_word words && has_good_size words)
-fits c end_definitions = not c.in_body
-fits c (stamp digits) = c.in_body
-fits c (scalar digit code) = c.in_body && (is_binary_digit digit && nat_lt 0 (length code))
-fits c (vector first digits code) = c.in_body && is_among (codes "bB") first
-fits c (real_or_string first text code) = c.in_body && is_among (codes "rRsS") first
-fits c (dump_word word) = c.in_body && is_one_of dump_words word
-fits c (other word words) = is_other c.in_body word && has_no_end_word words
+fits s (entry kind words) = not s.in_body && has_no_end_word words
+fits s (timescale words) = not s.in_body && has_no_end_word words
+fits s (scope kind words) = not s.in_body && has_no_end_word (kind ∷ words)
+fits s upscope = not s.in_body && nat_lt 0 (length s.scopes)
+fits s (variable words) = not s.in_body && (has_no_end_word words && has_good_size words)
+fits s end_definitions = not s.in_body
+fits s (stamp digits) = s.in_body
+fits s (scalar digit code) = s.in_body && (is_binary_digit digit && nat_lt 0 (length code))
+fits s (vector first digits code) = s.in_body && is_among (codes "bB") first
+fits s (real_or_string first text code) = s.in_body && is_among (codes "rRsS") first
+fits s (dump_word word) = s.in_body && is_one_of dump_words word
+fits s (other word words) = is_other s.in_body word && has_no_end_word words
 
 -- the tests of a variable, or of a `$var` without one of its parts
 abbrev pub variable_tests : ParseState → Option VariableDeclaration → List (Test Fault)
-variable_tests c None = (BadVar unless false) ∷ []
-variable_tests c (Some d) =
-    (MixedCode unless may_have_code (variable_of c d.code) d)
-    ∷ (TooManySignals unless (is_skipped d || nat_lt (length (kept_variables c.declared)) c.limit))
+variable_tests s None = (BadVar unless false) ∷ []
+variable_tests s (Some d) =
+    (MixedCode unless may_have_code (variable_of s d.code) d)
+    ∷ (TooManySignals unless (is_skipped d || nat_lt (length (kept_variables s.declared)) s.limit))
     ∷ []
 
 -- the tests of digits for the variable of a code: a skipped one takes any, a kept one a value that
@@ -147,63 +147,63 @@ digit_tests digits (Some d) =
 
 -- the tests of an item at its last word, in the order of the faults
 abbrev pub item_tests : ParseState → Item → List (Test Fault)
-item_tests c (timescale words) = (BadTimescale unless is_some (timescale_of words)) ∷ []
-item_tests c (variable words) = variable_tests c (declaration_of c words)
-item_tests c (stamp digits) =
+item_tests s (timescale words) = (BadTimescale unless is_some (timescale_of words)) ∷ []
+item_tests s (variable words) = variable_tests s (declaration_of s words)
+item_tests s (stamp digits) =
     (BadTime unless (is_number digits && nat_le (number_of digits) END_LIMIT))
-    ∷ (TimeBackwards unless nat_le c.tick (number_of digits))
+    ∷ (TimeBackwards unless nat_le s.tick (number_of digits))
     ∷ []
-item_tests c (scalar digit code) = (UnknownCode unless is_some (variable_of c code)) ∷ []
-item_tests c (vector first digits code) = digit_tests digits (variable_of c code)
-item_tests c (real_or_string first text code) =
-    (UnknownCode unless is_some (variable_of c code)) ∷ []
-item_tests c item = []
+item_tests s (scalar digit code) = (UnknownCode unless is_some (variable_of s code)) ∷ []
+item_tests s (vector first digits code) = digit_tests digits (variable_of s code)
+item_tests s (real_or_string first text code) =
+    (UnknownCode unless is_some (variable_of s code)) ∷ []
+item_tests s item = []
 
 -- an item fits, and no test of it fails
 abbrev pub Allows : ParseState → Item → Type 0
-Allows c i = IsTrue (fits c i) × (first_fault (item_tests c i) ≡ None)
+Allows s i = IsTrue (fits s i) × (first_fault (item_tests s i) ≡ None)
 
 -- ---- the effect of an item
 
 -- the value changes that a change to these letters adds: one at the tick, if the variable is kept
 abbrev pub value_changes_after : ParseState → List ℕ → List Bit → Option VariableDeclaration
     → List ValueChange
-value_changes_after c code letters None = []
-value_changes_after c code letters (Some d) =
-    if is_skipped d then [] else record { tick = c.tick; code = code; letters = letters } ∷ []
+value_changes_after s code letters None = []
+value_changes_after s code letters (Some d) =
+    if is_skipped d then [] else record { tick = s.tick; code = code; letters = letters } ∷ []
 
 -- the state with this value change added last
 abbrev pub with_value_change : ParseState → List ℕ → List Bit → ParseState
-with_value_change c code letters =
-    record c {
-      value_changes = c.value_changes
-          ++ value_changes_after c code letters (variable_of c code);
+with_value_change s code letters =
+    record s {
+      value_changes = s.value_changes
+          ++ value_changes_after s code letters (variable_of s code);
     }
 
 -- the state after an item
 abbrev pub state_after_item : ParseState → Item → ParseState
-state_after_item c (entry kind words) =
-    record c { header = c.header ++ record { kind = kind; words = words } ∷ [] }
-state_after_item c (timescale words) = record c { timescale = timescale_of words }
-state_after_item c (scope kind words) =
-    record c { scopes = c.scopes ++ record { kind = kind; words = words } ∷ [] }
-state_after_item c upscope = record c { scopes = take (length c.scopes - 1) c.scopes }
-state_after_item c (variable words) =
-    record c { declared = c.declared ++ option_to_list (declaration_of c words) }
-state_after_item c end_definitions = record c { in_body = true }
-state_after_item c (stamp digits) = record c { tick = number_of digits }
-state_after_item c (scalar digit code) = with_value_change c code (letters_of_digits (digit ∷ []))
-state_after_item c (vector first digits code) = with_value_change c code (letters_of_digits digits)
-state_after_item c item = c
+state_after_item s (entry kind words) =
+    record s { header = s.header ++ record { kind = kind; words = words } ∷ [] }
+state_after_item s (timescale words) = record s { timescale = timescale_of words }
+state_after_item s (scope kind words) =
+    record s { scopes = s.scopes ++ record { kind = kind; words = words } ∷ [] }
+state_after_item s upscope = record s { scopes = take (length s.scopes - 1) s.scopes }
+state_after_item s (variable words) =
+    record s { declared = s.declared ++ option_to_list (declaration_of s words) }
+state_after_item s end_definitions = record s { in_body = true }
+state_after_item s (stamp digits) = record s { tick = number_of digits }
+state_after_item s (scalar digit code) = with_value_change s code (letters_of_digits (digit ∷ []))
+state_after_item s (vector first digits code) = with_value_change s code (letters_of_digits digits)
+state_after_item s item = s
 
 -- the state after a list of items
 abbrev pub state_after : ParseState → List Item → ParseState
-state_after c items = fold state_after_item c items
+state_after s items = fold state_after_item s items
 
 -- the conditions of each item hold in turn
 abbrev pub AllowsAll : ParseState → List Item → Type 0
-AllowsAll c [] = Unit {0}
-AllowsAll c (i ∷ is) = Allows c i × AllowsAll (state_after_item c i) is
+AllowsAll s [] = Unit {0}
+AllowsAll s (i ∷ is) = Allows s i × AllowsAll (state_after_item s i) is
 
 -- ---- files
 

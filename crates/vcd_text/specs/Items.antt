@@ -44,15 +44,15 @@ abbrev pub is_command : List ℕ → Bool
 is_command [] = false
 is_command (b ∷ bs) = b == 36
 
--- whether a word begins a declaration
-abbrev pub begins_declaration : List ℕ → Bool
-begins_declaration word = is_command word && not (is_one_of dump_words word)
+-- whether a word begins a section, which ends at `$end`
+abbrev pub begins_section : List ℕ → Bool
+begins_section word = is_command word && not (is_one_of dump_words word)
 
 -- any other command, which is passed over; among the changes also `$date`, `$version` and
 -- `$comment` (the project's own)
 abbrev pub is_other : (in_body : Bool) → List ℕ → Bool
 is_other in_body word =
-    begins_declaration word && not (is_one_of declaration_words word)
+    begins_section word && not (is_one_of declaration_words word)
     && (in_body || not (is_one_of (map header_word (Date ∷ Version ∷ Comment ∷ [])) word))
 
 -- ---- timescales

@@ -44,8 +44,8 @@ pad_letter (b ∷ s) = b
 abbrev pub extension : ℕ → List Bit → List Bit
 extension width s = replicate (width - length s) (pad_letter s) ++ s
 
--- the value of a width that binary digits write, extended on the left; none without digits, with
--- another byte, or with more digits than bits
+-- in scripts: the value of a width that binary digits write, extended on the left; none without
+-- digits, with another byte, or with more digits than bits
 abbrev pub value_of_digits : ℕ → List ℕ → Option (List Bit)
 value_of_digits width digits =
     if not (length digits == 0) && list_all is_binary_digit digits && nat_le (length digits) width

@@ -27,11 +27,11 @@ declared_signal value_changes end d = record {
 -- the meaning of a file with this state: its kept variables are the signals, in their order; the
 -- end is the last stamp, or 0
 abbrev pub meaning : ParseState → Contents
-meaning c = record {
-  header = c.header;
-  timescale = c.timescale;
-  end = c.tick;
-  signals = map (declared_signal c.value_changes c.tick) (kept_variables c.declared);
+meaning s = record {
+  header = s.header;
+  timescale = s.timescale;
+  end = s.tick;
+  signals = map (declared_signal s.value_changes s.tick) (kept_variables s.declared);
 }
 
 -- the file is accepted and means these contents, with this number of skipped variables

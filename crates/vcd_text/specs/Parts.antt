@@ -80,23 +80,24 @@ pub record HasDeclarations (limit : ℕ) (words : List WordOnLine) (line : ℕ) 
 
 -- the signals of a state as they are declared
 abbrev pub signals_of : ParseState → List SignalContents
-signals_of c = map without_changes (meaning c).signals
+signals_of s = map without_changes (meaning s).signals
 
 -- why no part is read of a file with these words: its declarations are accepted, but more signals
 -- remain than a capture can have, or the choice does not answer
 pub data RefusesPart (limit : ℕ) (takes : SignalContents → Bool) (answers : Answers)
     (words : List WordOnLine)
     (e : ReadError) : Type 0 where
-  too_many_remain : (c : ParseState) → HasDeclarations limit words e.line c
-      → SIGNAL_LIMIT < length (filter takes (signals_of c)) → e.fault ≡ faults.TooManyRemain
+  too_many_remain : (s : ParseState) → HasDeclarations limit words e.line s
+      → SIGNAL_LIMIT < length (filter takes (signals_of s)) → e.fault ≡ faults.TooManyRemain
       → RefusesPart limit takes answers words e
-  declined : (c : ParseState) → HasDeclarations limit words e.line c
-      → answers c.timescale (signals_of c) None → e.fault ≡ faults.Declined
+  declined : (s : ParseState) → HasDeclarations limit words e.line s
+      → answers s.timescale (signals_of s) None → e.fault ≡ faults.Declined
       → RefusesPart limit takes answers words e
 
 -- the fault of reading a part of a file: one of reading the file, or no part of it is read
-abbrev pub IsPartRefusal : (limit most : ℕ) → (takes : SignalContents → Bool) → Answers
+abbrev pub IsPartRefusal : (limit byte_limit : ℕ) → (takes : SignalContents → Bool) → Answers
     → (file : List ℕ)
     → (failed : Bool) → (left : Option (List ℕ)) → ReadError → Type 0
-IsPartRefusal limit most takes answers file failed left e =
-    IsRefusal limit most file failed left e ⊎ RefusesPart limit takes answers (words_of file) e
+IsPartRefusal limit byte_limit takes answers file failed left e =
+    IsRefusal limit byte_limit file failed left e
+    ⊎ RefusesPart limit takes answers (words_of file) e

@@ -44,10 +44,10 @@ scope_items opened path =
 
 -- n in bijective base 94, lowest digit first; the digits 1 to 94 are the bytes 33 to 126. `most`
 -- bounds their count, so that this ends: n has at most n digits
-unfoldable pub code_digits : ℕ → ℕ → List ℕ
+unfoldable pub code_digits : (most n : ℕ) → List ℕ
 code_digits most zero = []
-code_digits zero (suc n) = []
-code_digits (suc most) (suc n) = (33 + n % 94) ∷ code_digits most (n / 94)
+code_digits zero (suc below) = []
+code_digits (suc most) (suc below) = (33 + below % 94) ∷ code_digits most (below / 94)
 
 -- the code of the signal at a position: the position counted from 1 (the project's own)
 abbrev pub code_of : ℕ → List ℕ

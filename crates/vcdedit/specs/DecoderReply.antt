@@ -40,7 +40,7 @@ abbrev pub direction_text : Direction → List ℕ
 direction_text Write = codes " write"
 direction_text Read = codes " read"
 
--- of UART and SPI, whose data have `digits` hexadecimal digits, and of I2C
+-- of UART and SPI, whose data have `digits` hexadecimal digits, and of I2C, which does not use it
 module _ (digits : ℕ) where
   -- the name of an SPI data line and what the line shows of a word; nothing if it is absent
   abbrev pub data_text : List ℕ → LineData → List ℕ

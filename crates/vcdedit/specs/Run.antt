@@ -30,7 +30,7 @@ abbrev pub history_after_command : History → Result Command LineError → Hist
 history_after_command h (Ok (commands.Step s)) = history_after h s
 history_after_command h parsed = h
 
--- lines on a capture, of whose file this number of variables were skipped
+-- lines on a capture `c`, of whose file `skipped` variables were skipped
 module _ (c : Contents) (skipped : ℕ) where
   -- the reply to a line, which is read on the replay of the edits in force
   abbrev pub line_answer : History → List ℕ → LineReply

@@ -30,14 +30,14 @@ use Rattle.vcdedit.specs.Run.{RunOutcome, outcome, IsRun}
 abbrev pub IsAccepted : DeviceEnd → Type 0
 IsAccepted r = IsRead FILE_LIMIT r × IfSome r.before (HasMeaning SIGNAL_LIMIT)
 
--- an `Option<&mut D>` as a call gives it back: none, one, or (never) a third variant
+-- what a call gives back of an `Option<&mut D>`, in the compiler's form: none, or one
 abbrev pub Returned : Type 0 → Type 0
 Returned D = Unit {0} ⊎ (MutBor D × Unit {0}) ⊎ ⊥
 
 -- of devices, by what they show, and whether they have failed
 module _ {D : Type 0} (shown : D → Option (List ℕ)) (has_failed : D → Bool) where
   -- holds of the end of the writer of the output, or of none: `out` is the `Option<&mut D>` as it
-  -- was passed, `left` as it was returned; they are the same variant
+  -- was passed, `left` as it was returned; `⊥` where the variants differ, which cannot be
   abbrev pub ForOutput : Option (MutBor D) → Returned D → (Option DeviceEnd → Type 0) → Type 0
   ForOutput None left property = property None
   ForOutput (Some out) (inr (inl left)) property =

@@ -55,9 +55,8 @@ IsUnread r file capture e =
 -- the request is refused for the declarations of the file, which are accepted
 pub record IsRefused (r : Request) (file : List ℕ) (refusal : Refusal) (said : List ℕ) : Type 0
   where
-    pub line : ℕ
     pub state : ParseState
-    pub declared : HasDeclarations VARIABLE_LIMIT (words_of file) line state
+    pub declared : (line : ℕ) × HasDeclarations VARIABLE_LIMIT (words_of file) line state
     pub decided : decide r state.timescale (signals_of state) ≡ Err refusal
     pub is : said ≡ said_of r (signals_of state) refusal
 

@@ -12,7 +12,7 @@ use Rattle.vcd_text.specs.declared.fault.Fault.TheVariants.{UnexpectedWord, BadS
 use Rattle.vcd_text.specs.Letters.{is_among, is_binary_digit}
 use Rattle.vcd_text.specs.Items.{scope, upscope, variable, end_definitions, stamp, scalar}
 use Rattle.vcd_text.specs.Items.{real_or_string, other}
-use Rattle.vcd_text.specs.Items.{end_word, begins_declaration}
+use Rattle.vcd_text.specs.Items.{end_word, begins_section}
 use Rattle.vcd_text.specs.inside.reading.Declarations.{is_end_word}
 use Rattle.vcd_text.specs.Items.{declaration_words}
 use Rattle.vcd_text.specs.inside.reading.DigitTests.{vector_prefixes, real_or_string_prefixes}
@@ -38,13 +38,13 @@ misfit_declares c begun word next fault declares some none is =
 pub some_declaration : (c : ParseState) → IsFalse c.in_body → GoesOn c [] (codes "$enddefinitions")
 some_declaration c declares = (end_definitions, end_word ∷ [], not_from_false _ declares, refl)
 
-not_upscope : (word : List ℕ) → IsFalse (begins_declaration word) → misfit_fault false [] word ≡ UnexpectedWord
+not_upscope : (word : List ℕ) → IsFalse (begins_section word) → misfit_fault false [] word ≡ UnexpectedWord
 not_upscope word n = grind (arith, cases_Bool, bytes_eq-Decides)
 
--- a word that begins no declaration
-pub begins_no_declaration : (c : ParseState) (word : List ℕ) → IsFalse c.in_body → IsFalse (begins_declaration word)
+-- a word that begins no section
+pub begins_no_section : (c : ParseState) (word : List ℕ) → IsFalse c.in_body → IsFalse (begins_section word)
     → WordShows c [] word UnexpectedWord
-begins_no_declaration c word declares isnt = misfit_declares c [] word _ UnexpectedWord declares
+begins_no_section c word declares isnt = misfit_declares c [] word _ UnexpectedWord declares
     (some_declaration c declares) (grind (arith, clash, before_end, goes_as)) (not_upscope word isnt)
 
 -- `$upscope` while no scope is open

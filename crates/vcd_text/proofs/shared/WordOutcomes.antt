@@ -17,14 +17,14 @@ use Rattle.vcd_text.specs.Items.{stamp, scalar, vector, real_or_string, dump_wor
 use Rattle.vcd_text.specs.Items.{end_word, has_no_end_word, dump_words, declaration_words}
 use Rattle.vcd_text.specs.inside.reading.Declarations.{header_words}
 use Rattle.vcd_text.specs.inside.reading.Declarations.{is_end_word}
-use Rattle.vcd_text.specs.Items.{begins_declaration, header_word, is_other}
+use Rattle.vcd_text.specs.Items.{begins_section, header_word, is_other}
 use Rattle.vcd_text.specs.inside.reading.DigitTests.{vector_prefixes, real_or_string_prefixes}
 use Rattle.vcd_text.specs.Grammar.{ParseState, has_good_size, fits, item_tests, Allows}
 use Rattle.vcd_text.specs.Faults.{WordShows, test_fails}
 use Rattle.vcd_text.specs.FoundFaults.{IsUnfinished}
 use Rattle.vcd_text.proofs.shared.OneOf.{by_among, by_one_of}
 use Rattle.vcd_text.proofs.shared.ItemTests.{fits_in_words, fits_upscope, fits_variable, fits_scalar}
-use Rattle.vcd_text.proofs.shared.ItemFaults.{begins_no_declaration, upscope_at_top, missing_kind, upscope_goes_on}
+use Rattle.vcd_text.proofs.shared.ItemFaults.{begins_no_section, upscope_at_top, missing_kind, upscope_goes_on}
 use Rattle.vcd_text.proofs.shared.ItemFaults.{definitions_go_on, no_size, no_byte, missing_code, declaration_late}
 use Rattle.vcd_text.proofs.shared.ItemFaults.{begins_no_change}
 use Rattle.vcd_text.proofs.shared.Unfinished.{words_due, upscope_due, variable_due, definitions_due}
@@ -189,8 +189,8 @@ other_begins c word words is = up_to_end c word words (other word) (λ ws. refl)
 declaration_begins : (c : ParseState) (word : List ℕ) (words : List (List ℕ)) → IsFalse c.in_body
     → Beginning c (word ∷ words)
 declaration_begins c word words declares =
-    elim (cases_Bool (begins_declaration word)) [
-      | inr isnt ↦ shows_fault [] word words _ refl (begins_no_declaration c word declares isnt)
+    elim (cases_Bool (begins_section word)) [
+      | inr isnt ↦ shows_fault [] word words _ refl (begins_no_section c word declares isnt)
       | inl is ↦ elim (cases_Bool (is_one_of declaration_words word)) [
         | inl one ↦ declaring c word words declares one
         | inr none ↦ elim (cases_Bool (is_one_of header_words word)) [

@@ -6,7 +6,7 @@ ghost use Rattle.vcd_core.specs.Word.{is_one_of};
 ghost use Rattle.vcd_text.specs.Items.{end_word, declaration_words};
 ghost use Rattle.vcd_text.specs.inside.reading.Declarations.{header_words};
 ghost use Rattle.vcd_text.specs.inside.reading.Declarations.{is_end_word};
-ghost use Rattle.vcd_text.specs.Items.{begins_declaration};
+ghost use Rattle.vcd_text.specs.Items.{begins_section};
 ghost use Rattle.vcd_text.specs.inside.reading.Parser.{IsUnderway, WordResult, BeginsPart};
 ghost use Rattle.vcd_text.specs.inside.reading.OpenItems.{is_inside, is_end_definitions};
 ghost use Rattle.vcd_text.specs.inside.reading.Declarations.{Opens, keeps_words};
@@ -210,9 +210,9 @@ impl Parser {
     }
 }
 
-/// The item that a word opens among the declarations; none if it begins no declaration.
+/// The item that a word opens among the declarations; none if it begins no section.
 fn opened_item(text: &[u8]) -> Option<OpenItem>
-    ensures { MatchOption result (IsFalse (begins_declaration text.now)) (λ item.
+    ensures { MatchOption result (IsFalse (begins_section text.now)) (λ item.
         Opens item text.now) }
 {
     if let Some(item) = keyword_item(text) {

@@ -185,9 +185,8 @@ of_request r old new file capture e refusal same is_one found (inr (too_many_rem
     absurd (false≢true (sym (ap is_declined is) ∙ is_one))
 of_request r old new file capture e refusal same is_one found (inr (declined c at answered is)) =
     record {
-      line = e.line;
       state = c;
-      declared = at;
+      declared = (e.line, at);
       decided = ap (λ (q : Request). decide q c.timescale (signals_of c)) (sym same)
           ∙ refusal_is _ refusal (sym found ∙ answered.refused);
       is = said_is new.refusal refusal new.text.items (said_of old.request (signals_of c)) found answered.said

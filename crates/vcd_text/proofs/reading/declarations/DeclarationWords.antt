@@ -19,7 +19,7 @@ use Rattle.vcd_text.specs.Items.{Item, entry, timescale, scope, upscope, variabl
 use Rattle.vcd_text.specs.Items.{other, spelling}
 use Rattle.vcd_text.specs.Items.{end_word, has_no_end_word, header_word, is_other}
 use Rattle.vcd_text.specs.inside.reading.Declarations.{is_end_word}
-use Rattle.vcd_text.specs.Items.{timescale_of, begins_declaration}
+use Rattle.vcd_text.specs.Items.{timescale_of, begins_section}
 use Rattle.vcd_text.specs.Grammar.{ParseState, state_after_item, word_texts}
 use Rattle.vcd_text.specs.Grammar.{Allows}
 use Rattle.vcd_text.specs.Grammar.{has_good_size, declaration_of}
@@ -48,7 +48,7 @@ use Rattle.vcd_text.specs.declared.reading.variables.Variables.{Variables}
 use Rattle.vcd_text.proofs.reading.variables.VariablesMatch.{knows_further, scopes_moved}
 use Rattle.vcd_text.proofs.shared.ResultExists.{texts_more}
 use Rattle.vcd_text.proofs.shared.WordOutcomes.{no_end_more}
-use Rattle.vcd_text.proofs.shared.ItemFaults.{no_size, begins_no_declaration, upscope_at_top, upscope_goes_on}
+use Rattle.vcd_text.proofs.shared.ItemFaults.{no_size, begins_no_section, upscope_at_top, upscope_goes_on}
 use Rattle.vcd_text.proofs.shared.ItemFaults.{definitions_go_on, missing_kind}
 use Rattle.vcd_text.proofs.shared.ItemTests.{fits_in_words, fits_variable, failed, allows_entry, allows_timescale}
 use Rattle.vcd_text.proofs.shared.ItemTests.{allows_scope, allows_upscope, allows_variable, allows_end_definitions}
@@ -318,12 +318,12 @@ shown_after : (c : ParseState) (begun : List WordOnLine) (texts : List (List ℕ
     → (fault ≡ faults.NoMemory) ⊎ WordShows c (word_texts begun) word fault
 shown_after c begun texts word fault is shown = inr (rw is shown)
 
--- a word that begins no declaration
+-- a word that begins no section
 pub shows_no_declaration : (m new : Parser) (text : List ℕ) → m.item ≡ items.Nothing → IsFalse m.in_body
-    → IsFalse (begins_declaration text) → (line : ℕ) → WordResult m (word_on text line) (Err faults.UnexpectedWord) new
+    → IsFalse (begins_section text) → (line : ℕ) → WordResult m (word_on text line) (Err faults.UnexpectedWord) new
 shows_no_declaration m new text is declares isnt line asked c begun at =
     let none : begun ≡ [] = rw is at at.1 in
-    shown_after c begun [] text _ (ap word_texts none) (begins_no_declaration c text (sym at.0.in_body ∙ declares) isnt)
+    shown_after c begun [] text _ (ap word_texts none) (begins_no_section c text (sym at.0.in_body ∙ declares) isnt)
 
 -- `$upscope` while no scope is open
 pub shows_upscope_at_top : (m new : Parser) (text : List ℕ) → m.item ≡ items.Nothing → IsFalse m.in_body
