@@ -22,10 +22,9 @@ _vcdedit() {
 _vcdedit_names() { # PROGRAM
     local path
     for path in "${COMP_WORDS[@]:1}"; do
-        if [[ -f $path ]]; then
-            timeout 0.5 "$1" -i "$path" 2> /dev/null | sed -n 's/^@[0-9]* [0-9]* [^ ]* //p'
-            return
-        fi
+        [[ -f $path ]] || continue
+        timeout 0.5 "$1" -i "$path" 2> /dev/null | sed -n 's/^@[0-9]* [0-9]* [^ ]* //p'
+        return
     done
 }
 complete -o default -F _vcdedit vcdedit vcdedit-apply vcdedit-compare vcdedit-narrow vcdedit-view

@@ -4,11 +4,10 @@
 function __vcdedit_names
     set -l words (commandline -opc) (commandline -ct)
     for path in $words[2..]
-        if test -f $path
-            timeout 0.5 (string replace -r -- '-[a-z]+$' '' $words[1]) -i $path 2>/dev/null |
-                string replace -rf '^@\d+ \d+ \S+ ' ''
-            return
-        end
+        test -f $path; or continue
+        timeout 0.5 (string replace -r -- '-[a-z]+$' '' $words[1]) -i $path 2>/dev/null |
+            string replace -rf '^@\d+ \d+ \S+ ' ''
+        return
     end
 end
 
@@ -17,16 +16,12 @@ for row in ($tool --help 2>/dev/null | string match -r -- '^ +(?:-\w(?: \S+)?, )
     set -l option (string match -r -- '--([a-z-]+)(?: <?([A-Z=]+)>?)?' $row)
     set -l about (string match -r -- '--[a-z-]+(?: [<A-Z=> ]+)?  +(\S.*)$' $row)[2]
     set -l words -c $tool -l $option[2] -d "$about" (string replace -rf -- '^ +-(\w).*' '-s$1' $row)
-    switch "$option[2] $option[3]"
-        case '* PATTERN' '* NAME' '* OLD=NEW'
+    switch "$option[3]"
+        case PATTERN OLD=NEW
             complete $words -x -a '(__vcdedit_names)'
-        case '* FOLDER'
-            complete $words -x -a '(__fish_complete_directories)'
-        case '* FILE' '* SCRIPT'
-            complete $words -r -F
-        case '* '
+        case ''
             complete $words
         case '*'
-            complete $words -x
+            complete $words -r -F
     end
 end
