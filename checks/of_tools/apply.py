@@ -27,14 +27,16 @@ LOSSY = LINE.replace("$upscope", '$var real 64 # volts $end $var wire 2000 $ wid
 DROPPED = LINE + '$comment see ! $end #31 r1.5 ! b1 " sHigh ! S "\n'
 LIKE_DROPPED = LINE.replace("$upscope", "$var wire 1 #5 five $end $upscope").replace(' "', " s")
 LIKE_DROPPED += "$comment see ! $end\n"
+UNASKED = " would be lost (--drop-skipped writes without)"
 WRITTEN = "deglitch tb.rx 3\n"
 FILE_BYTES = 10000
-# The listing is the real program's.
+# The listing is the real program's. It is given WRITTEN, each line with a line behind it that ends its replies.
 HALF = """#!/bin/sh
 while [ $# -gt 0 ]; do [ "$1" = -o ] && out=$2; shift; done
+done='line 3: refused: UnknownCommand
+line 5: refused: UnknownCommand'
 printf 'half of it' > "$out"
 %s -i -
-echo 'line 2: refused: UnknownCommand'
 %s
 """
 # The first run is the real program's.
@@ -45,13 +47,12 @@ FAILING = [
     ("echo 'vcdedit: output: write fault' >&2; exit 4", 4, "is the disc full?"),
     ("echo 'vcdedit: out of memory' >&2; exit 5", 5, "out of memory"),
     ("kill -9 $$", 5, "signal 9"),
-    ('echo ok; : > "$out"; exit 0', 4, "wrote nothing"),
-    ("exit 0", 4, "left lines of the script without a reply"),
-    ("echo ok; echo ok; exit 0", 4, "answers what was not asked"),
+    ('echo "ok\n$done"; : > "$out"; exit 0', 4, "wrote nothing"),
+    ("echo ok; exit 0", 4, "left lines of the script without a reply"),
     ("kill -XFSZ $$", 4, "ulimit -f"),
-    ("echo 'line 3: refused: NoSuchName'; exit 1", 1, "1 line refused"),
-    ("echo ok; echo changed >> ../moved/A; exit 0", 4, "changed by another program"),
-    ("echo ok; mv ../moved/A ../moved/away; cp ../moved/away ../moved/A; exit 0", 4, "changed by another program"),
+    ("echo \"line 2: refused: NoSuchName\n$done\"; exit 1", 1, "1 line refused"),
+    ('echo "ok\n$done"; echo changed >> ../moved/A; exit 0', 4, "changed by another program"),
+    ('echo "ok\n$done"; mv ../moved/A ../moved/away; cp ../moved/away ../moved/A; exit 0', 4, "changed by another program"),
 ]
 # A line that is refused, and what is told of it.
 REFUSED = [
@@ -110,7 +111,7 @@ def writes(program, folder):
     is_link, mode = os.path.islink(place.folder + "/link"), stat.S_IMODE(os.stat(place.folder + "/A").st_mode)
     yield "the link is kept, and the mode", (is_link, mode) == (True, 0o640)
     status, shown, _ = place.run("script", "bad", "B", "--jobs", "2", "--backup", ".orig")
-    ends = ["1 written, 1 not, status 3", "B: written: 1 ok", "bad: as it was: refused: line 1: UnexpectedWord"]
+    ends = ["1 written, 1 not, status 3", "B: written: 1 ok", "bad: as it was: line 1: no capture: UnexpectedWord"]
     yield "several, one of which is refused", (status, sorted(shown)) == (3, ends)
     yield "the old one is kept", (place.load("B"), place.load("B.orig")) == (wanted, LINE)
     told = "B: as it was: %s/B.orig is there already" % place.folder
@@ -142,21 +143,21 @@ def stays(program, folder):
     os.symlink("nowhere", place.folder + "/lost")
     store(place.folder, "kept/A", text=LINE)
     os.chmod(place.folder + "/kept/A", 0o444)
-    told = "A: not written: %s/kept/A is write-protected" % place.folder
+    told = "A: not written: %s/kept/A is write-protected: chmod u+w, or --to FOLDER" % place.folder
     yield "a write-protected file in the folder", place.run("script", "A", "--to", "kept") == (4, [told], "")
     for name, status, reason in (
-        ("sub", 4, "is a folder"),
-        ("none", 4, "there is no such file"),
-        ("lost", 4, "there is no such file"),
+        ("sub", 4, "is no regular file"),
+        ("none", 4, "No such file or directory"),
+        ("lost", 4, "No such file or directory"),
         ("pipe", 4, "is no regular file"),
-        ("fixed", 4, "is write-protected: chmod u+w, or --to FOLDER"),
-        ("dropped", 1, "3 real or string changes and 1 comment among the changes would be lost"),
-        ("both", 1, "2 variables, 3 real or string changes and 1 comment among the changes would be lost"),
-        ("lossy", 1, "2 variables would be lost"),
+        ("fixed", 4, "%s/fixed is write-protected: chmod u+w, or --to FOLDER" % place.folder),
+        ("dropped", 1, "3 real or string changes and 1 comment among the changes" + UNASKED),
+        ("both", 1, "2 variables, 3 real or string changes and 1 comment among the changes" + UNASKED),
+        ("lossy", 1, "2 variables" + UNASKED),
     ):
         found = place.run("script", name)
         yield name + " stays", found[:2] == (status, ["%s: as it was: %s" % (name, reason)])
-    yield "what would be lost is named", "real tb.volts" in found[2] and "wire of 2000 bits tb.wide" in found[2]
+    yield "what would be lost is named", "real 64 tb.volts" in found[2] and "wire 2000 tb.wide" in found[2]
     told = "    tb.rx: 2 real or string changes\n    tb.q[3:0]: 1 real or string change\n"
     yield "whose changes would be lost", told in place.run("script", "dropped")[2]
     yield "none has changed", [place.load(name) for name in ("fixed", "lossy", "dropped")] == [LINE, LOSSY, DROPPED]
@@ -193,7 +194,7 @@ def stays(program, folder):
         yield "refused: " + " ".join(words), place.run(*words)[0] == status and place.load("A") == LINE
     place.store("B", LINE)
     for stream, status, told, last in (
-        (">&-", 4, "vcdedit-apply: standard output is closed\n", ""),
+        (">&-", 4, "vcdedit-apply: standard output: Bad file descriptor\n", ""),
         ("2>&-", 1, "", "1 written, 1 not, status 1\n"),
         ("2>/dev/full", 1, "", "1 written, 1 not, status 1\n"),
         ("<&- 2>/dev/null", 1, "", "1 written, 1 not, status 1\n"),
@@ -221,7 +222,7 @@ def on_a_full_disc(place, path, *words):
 def goes_on(program, folder):
     """If standard output is full within B's line, A is written and no other. What is told goes on with the rest."""
     command = "vcdedit-apply --backup .orig -- 'its script' B C"
-    told = ["standard output: File too large", "1 capture written. This goes on with the rest:\n    " + command]
+    told = ["1 capture written. This goes on with the rest:\n    " + command, "standard output: File too large"]
     for first, reply in (("", ""), ("value tb.rx 5\n", "%s:1: 0\n")):
         place = Folder(program, "%s/goes on%d" % (folder, len(first)), A=LINE, B=LINE, C=LINE)
         place.store("its script", first + WRITTEN)
@@ -259,11 +260,11 @@ def answers(program, folder):
     place.store("bad", "#0\n")
     found = place.run("script", "A", "lossy", "bad", "B", "none", "--dry-run", "--backup", ".orig", "--jobs", "4")
     ends = ["2 would be written, 3 not, status 4", "A: would be written: 1 ok", "B: would be written: 1 ok",
-            "bad: as it was: refused: line 1: UnexpectedWord", "lossy: as it was: 2 variables would be lost",
-            "none: as it was: there is no such file"]
+            "bad: as it was: line 1: #0: UnexpectedWord", "lossy: as it was: 2 variables" + UNASKED,
+            "none: as it was: No such file or directory"]
     yield "a dry run", (found[0], sorted(found[1]), "goes on" in found[2]) == (4, ends, False)
     place.store("some", "value tb.rx 6\nclean\n" + WRITTEN)
-    found, told = place.run("some", "lossy", "--dry-run"), ["some line 2: clean", "real tb.volts"]
+    found, told = place.run("some", "lossy", "--dry-run"), ["some line 2: clean", "real 64 tb.volts"]
     is_told = found[:2] == (1, ["lossy:1: 1", ends[-2]]) and all(word in found[2] for word in told)
     yield "a dry run answers, and names what would be lost", is_told
     place.store("refused", "invert tb.none\nvalue tb.rx 0\n")
@@ -272,7 +273,7 @@ def answers(program, folder):
     yield "no edit is carried out", found[:2] == (1, lines) and place.load("A") == LINE
     yield "nothing is written", place.names() == ["A", "B", "asks", "bad", "lossy", "refused", "script", "some"]
     place.environment["VCDEDIT"] = "/bin/true"
-    told = "B: as it was: /bin/true left lines of the script without a reply"
+    told = "B: as it was: /bin/true is no vcdedit"
     yield "no vcdedit", place.run("script", "B") == (4, [told], "")
 
 
@@ -285,7 +286,7 @@ def fails(program, folder):
         left = [name for name in place.names() if name not in ("A", "B", "away", "script")]
         yield "after " + failure, (found[0], begins, left) == (status, True, []) and told in found[1][-2]
         yield "what goes on after " + failure, found[2].endswith(REST % "A") == (status > 3)
-    failing = store_program(folder, "makes_a_folder", text=HALF % (program, "echo ok; mkdir new/A; exit 0"))
+    failing = store_program(folder, "makes_a_folder", text=HALF % (program, 'echo "ok\n$done"; mkdir new/A; exit 0'))
     place = Folder(failing, folder + "/renamed/moved", A=LINE)
     status, shown, _ = place.run("script", "A", "--to", "new")
     yield "a file that can't be renamed", status == 4 and shown[-1].startswith("A: not written: ")

@@ -61,7 +61,7 @@ LOST_LINES = [
     "A: not compared: 2 real or string changes, 2 changes replaced within a tick and 1 comment among the changes",
     "    a: 2 real or string changes", "    a: 2 changes replaced within a tick",
 ]
-SKIPPED_LINES = [LEFT_OUT, "    real r", "    event e"]
+SKIPPED_LINES = [LEFT_OUT, "    real 64 r", "    event 1 e"]
 # Two captures, and which of them have variables that are left out.
 SKIPPED = [(REAL, PLAIN, "A"), (PLAIN, REAL, "B"), (REAL, REAL, "AB"), (PLAIN, PLAIN, "")]
 CLOCK = (ONE, "0! #10 1! #11 0! #20 1! #30 0! #50")
@@ -141,7 +141,7 @@ def check(program, folder):
             right = errors.startswith("vcdedit-compare: bad: ") and all(word in errors for word in told)
             yield "comparing with a refused capture: %s" % told, (status, shown, right) == (2, "", True)
     done = run([TOOL, "A", "A"], cwd=folder, env={**environment, "VCDEDIT": "/bin/true"})
-    yield "no vcdedit", done == (2, "", "vcdedit-compare: /bin/true is no vcdedit\n")
+    yield "no vcdedit", done == (2, "", "vcdedit-compare: A: /bin/true is no vcdedit\n")
     for words, first, second, status, wanted in OPTIONS:
         store(folder, "A", text=text(*first))
         store(folder, "B", text=text(*second))
@@ -212,7 +212,7 @@ def paths(folder, compare):
         told = "vcdedit-compare: standard output: No space left on device\n"
         right = done[0] == status and (done[2] == told if stream == ">/dev/full" else "Traceback" not in done[2])
         yield "streams: %s %s: %s" % (stream, words, done), right
-    for words in ([], ["A"], ["A", "A", "A"], ["-", "-"], ["--strict", "A"], ["A", "A", "--frob"]):
+    for words in ([], ["A"], ["A", "A", "A"], ["--strict", "A"], ["A", "A", "--frob"]):
         status, shown, errors = compare(*words, given=capture)
         yield "words: %s" % words, (status, shown) == (2, "") and "vcdedit-compare: error: " in errors
-    yield "another file", compare("A", "none") == (2, "", "vcdedit-compare: none: there is no such file\n")
+    yield "another file", compare("A", "none") == (2, "", "vcdedit-compare: none: No such file or directory\n")

@@ -2,7 +2,6 @@
 
 import os
 import re
-import subprocess
 import sys
 
 from common import module_of, run, store, text_at
@@ -36,22 +35,10 @@ def changes_in(path):
     return len(re.findall(r"(?<!\S)(?:[01xz]\S+|b\S+ \S+)", text))
 
 
-def counts(folder):
-    """The commands of the cookbook that count changes, each with its file replaced."""
-    found = re.findall(r"^    \$ ((?:grep -c|tr) .*)$", text_at("docs/COOKBOOK.md"), flags=re.M)
-    return [re.sub(r"examples/\S+", '"$1"', line.partition("| awk")[0]) for line in found]
-
-
-def counted(command, path):
-    return int(subprocess.run(["bash", "-c", command, "bash", path], capture_output=True, text=True).stdout or 0)
-
-
 def table(program, folder, module):
     """Each row of the cookbook's table, by a smaller capture of its kind."""
     rows = re.findall(ROW, text_at("docs/COOKBOOK.md"), flags=re.M)
     yield "rows of the table", len(rows) == len(SHAPES) and all(word in row[0] for word, row in zip(SHAPES, rows))
-    commands = counts(folder)
-    yield "commands that count", len(commands) == 2
     for (name, text, times), shape in zip(rows, SHAPES.values()):
         path = module.make(folder, shape, SIZE / 1e6)
         size, changes, memory = os.path.getsize(path), changes_in(path), peak(program, path, "--script", "/dev/null")
@@ -60,8 +47,6 @@ def table(program, folder, module):
         signals = 2000 if shape == "simulator" else 100
         most = BYTES_OF_CHANGE * changes + BYTES_OF_SIGNAL * signals
         yield "%s: %d bytes of memory" % (name, memory), memory < 1.02 * most + 8000000
-        command = commands[1] if shape == "channels" else commands[0]
-        yield "%s: changes counted" % name, is_near(counted(command, path), changes, 0.001)
     said = "%s to %s times the file" % (min(int(row[2]) for row in rows), max(int(row[2]) for row in rows))
     for path in RANGE_IN:
         found = re.findall(r"[0-9]+ to [0-9]+ times the file", text_at(path).replace("\n", " "))

@@ -47,9 +47,9 @@ ROWS = {
     "x from before a frame into it": (
         "c d", '0! x" #3 1! #5 0! 1" #6 1! #7 0! #9', ["spi c d - - 0 2 msb"], ["line 1: spi: d is x at 0-4" + LOST],
         {"spi": "0 ?x|3 ?x_word_mosi_?|7 -"}),
-    "more than five places": (
-        "r", "1! #1 x! #2 1! #3 x! #4 1! #5 x! #6 1! #7 x! #8 1! #9 x! #10 1! #11 x! #12 1! #20", ["uart r 2 8 none 1"],
-        ["line 1: uart: r is x at 1, 3, 5, 7, 9, .. (6 places)" + LOST, NEVER_FALLS % (1, "r", 20)],
+    "more than ten places": (
+        "r", " ".join("%s! #%d" % ("1x"[tick % 2], tick + 1) for tick in range(22)), ["uart r 2 8 none 1"],
+        ["line 1: uart: r is x at 1, 3, 5, 7, 9, 11, 13, 15, 17, 19, and 1 more" + LOST, NEVER_FALLS % (1, "r", 22)],
         {"uart": "0 ?x"}),
     "a line that does not fall from 1": (
         "r", "0! #10 1! #28 x! #30 0! #40", ["uart r 2 8 none 1"],
@@ -85,18 +85,18 @@ BEFORE = {
 REFUSED = [
     ([I2C, "i2c bench.scl bench.sd", "frob"], 1, "bench.sd: NoSuchName\n    bench.sd: near names are bench.sda"),
     ([I2C, "list", "frob"], 1, "line 2: frob: UnknownCommand"),
-    ([I2C, "--script", "more"], 1, "    and 2 lines more are refused"),
+    ([I2C, "--script", "more"], 1, "    and 2 more"),
     ([I2C, "--script", "more", "list"], 2, "--script, or words"),
     ([I2C, "-o", "v"], 2, "ends in .vcd"),
     (["c.vcd", "-o", "c.vcd"], 2, "names the capture"),
     (["more"], 3, "more: line 1: frob: UnexpectedWord"),
-    (["none.vcd"], 4, "none.vcd: there is no such file"),
-    (["/dev/stdin"], 4, "is no regular file"),
-    ([I2C, "-o", "none/v.vcd"], 2, "-o none/v.vcd: there is no such folder"),
+    (["none.vcd"], 4, "none.vcd: No such file"),
+    (["/dev/stdin"], 3, "the file is empty"),
+    ([I2C, "-o", "none/v.vcd"], 2, "in a folder that is there"),
     ([I2C, "--picture", "p.jpg"], 2, "--picture names a file that ends in .png"),
     ([I2C, *I2C_LINE.split()], 1, "\n    quote each line: "),
     ([I2C], 4, "there is no gtkwave and no surfer: apt-get install gtkwave, or say in VCDEDIT_VIEWER"),
-    ([I2C, "--picture", "p.png"], 4, "there is no gtkwave: apt-get install gtkwave xvfb xauth"),
+    ([I2C, "--picture", "p.png"], 4, "apt-get install gtkwave xvfb xauth"),
 ]
 
 
@@ -195,7 +195,7 @@ def refusals(folder, view):
     store(folder, "c.vcd", text=text("r", "1!"))
     for words, status, told in REFUSED:
         before = sorted(os.listdir(folder))
-        found = view(*words, *([] if "-o" in words or told.startswith("there is no") else ["-o", "new.vcd"]), given="")
+        found = view(*words, *([] if "-o" in words or "apt-get" in told else ["-o", "new.vcd"]), given="")
         yield "%s: %s" % (words, found), found[0] == status and told in found[2] and "Traceback" not in found[2]
         yield "%s: nothing is written" % words, sorted(os.listdir(folder)) == before
 
@@ -207,16 +207,15 @@ def viewers(folder, view):
     for tool in ("surfer", "gtkwave", "other"):
         store_program(tools, tool, text=saw)
         named = {"VCDEDIT_VIEWER": os.path.join(tools, tool)}
-        environment = named if tool == "other" else {"PATH": tools, "DISPLAY": ":0"}
+        environment = named if tool == "other" else {"PATH": tools}
         status, _, errors = view(I2C, I2C_LINE, **environment)
         wanted = "%s capture.vcd%s" % (os.path.join(tools, tool), " capture.gtkw" * (tool == "gtkwave"))
         yield "starts %s: %s" % (tool, errors), status == 0 and load(folder, "saw").decode().splitlines()[-1] == wanted
         row = rows_in(os.path.join(folder, "seen"))["i2c"]
         yield "%s has the rows" % tool, row.startswith("0 -|15 start|16 -|22 address_0x50_write|93 -")
     store_program(tools, "gtkwave", text="#!/bin/sh\nexit 3\n")
-    for environment, wanted in ((":0", "ended with status 3"), (None, "there is no screen")):
-        status, _, errors = view(I2C, PATH=tools, **({"DISPLAY": environment} if environment else {}))
-        yield "a viewer that fails: " + errors, status == 4 and wanted in errors
+    status, _, errors = view(I2C, PATH=tools)
+    yield "a viewer that fails: " + errors, status == 4 and "ended with status 3; -o and --picture" in errors
     store_program(tools, "xauth", text=saw)
     store_program(tools, "xvfb-run", text="#!/bin/sh\necho none\n")
     status, _, errors = view(I2C, "--picture", "p.png", PATH=tools)
@@ -230,8 +229,7 @@ def viewers(folder, view):
 def check(program, folder):
     os.mkdir(os.path.join(folder, "tmp"))
     os.environ.update(VCDEDIT=program, TMPDIR=os.path.join(folder, "tmp"))
-    for name in ("DISPLAY", "WAYLAND_DISPLAY", "VCDEDIT_VIEWER"):
-        os.environ.pop(name, None)
+    os.environ.pop("VCDEDIT_VIEWER", None)
     without = os.path.join(folder, "bin")
     os.mkdir(without)
     os.symlink(sys.executable, os.path.join(without, "python3"))

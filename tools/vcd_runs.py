@@ -1,0 +1,94 @@
+"""Runs of the program: what it lists of a capture, and its replies to the lines of a script."""
+
+import collections
+import itertools
+import os
+import re
+import shutil
+import signal
+import subprocess
+
+import vcd_messages
+from vcd_files import Trouble, program, shown
+
+INTERRUPTIONS = (signal.SIGINT, signal.SIGTERM, signal.SIGHUP)
+# What a run begins with so that it ends with the tool, even if that is killed.
+GUARD = ["setpriv", "--pdeathsig", "TERM"] if shutil.which("setpriv") else []
+
+# What `list` says: the timescale or `none`, the last tick, how many variables are skipped, and the signals.
+Listing = collections.namedtuple("Listing", "timescale end skipped signals")
+Signal = collections.namedtuple("Signal", "width kind name")
+
+
+def listing_of(lines):
+    """The listing that some lines begin with, of which no more are taken."""
+    lines = iter(lines)
+    try:
+        head = dict(line.rstrip(b"\n").split(b" ", 1) for line in itertools.islice(lines, 4))
+        rows = [line.rstrip(b"\n").split(b" ", 3) for line in itertools.islice(lines, int(head[b"signals"]))]
+        signals = [Signal(int(width), kind, name) for _, width, kind, name in rows]
+        return Listing(shown(head[b"timescale"]), int(head[b"end"]), int(head[b"skipped"]), signals)
+    except (KeyError, ValueError):
+        raise Trouble("%s is no vcdedit" % program()) from None
+
+
+class Run:
+    """A run of the program on a capture that is open for bytes. It lists, and then answers lines of a script."""
+
+    def __init__(self, source, lines=(), words=(), written=()):
+        """`words` are more options. `written` has the descriptor of a file for its output, if there is one."""
+        self.source, self.lines = source, lines
+        os.lseek(source.fileno(), 0, os.SEEK_SET)
+        with open(os.memfd_create("script"), "wb", 0) as script:
+            # The line that is refused behind each line ends its replies.
+            script.write(b"list\n" + b"".join(line + b"\n-\n" for line in lines))
+            words = [*GUARD, program(), "-i", "-", "--script", "/dev/fd/%d" % script.fileno(), *words]
+            words += ["-o", "/dev/fd/%d" % written[0]] if written else []
+            pipes = {"stdin": source, "stdout": subprocess.PIPE, "stderr": subprocess.PIPE, "bufsize": 1 << 20}
+            self.child = subprocess.Popen(words, pass_fds=[script.fileno(), *written], **pipes)
+
+    def __enter__(self):
+        return self
+
+    def __exit__(self, *_):
+        self.child.kill()
+        self.child.communicate()
+
+    def listing(self):
+        """What the program lists of the capture first."""
+        try:
+            return listing_of(self.child.stdout)
+        except Trouble:
+            self.want_end()
+            raise
+
+    def replies(self):
+        """(place of a line, reply) of each reply to the lines."""
+        place = 0
+        for reply in self.child.stdout:
+            if reply == b"line %d: refused: UnknownCommand\n" % (2 * place + 3):
+                place += 1
+            else:
+                yield place, reply[:-1]
+        self.want_end()
+        if place < len(self.lines):
+            raise Trouble("%s left lines of the script without a reply" % program())
+
+    def want_end(self):
+        """Waits for the run's end, and raises what went wrong. A line that is refused is nothing wrong."""
+        errors = self.child.stderr.read().decode("utf-8", "replace")
+        status = self.child.wait()
+        if -status in INTERRUPTIONS:
+            raise Trouble("interrupted", status=128 - status)
+        if status == -signal.SIGXFSZ:
+            raise Trouble("the new capture is larger than a file may be (ulimit -f)")
+        if status < 0:
+            raise Trouble("the run was ended by signal %d; without memory the system does that" % -status, status=5)
+        if status > 1:
+            raise Trouble(*vcd_messages.told_end(errors, self.source), status=status)
+
+
+def refusal_of(reply):
+    """Why a line is refused, if this reply says that."""
+    found = re.fullmatch(rb"line \d+: refused: (\w+)", reply)
+    return found and shown(found.group(1))
