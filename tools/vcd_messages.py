@@ -7,7 +7,7 @@ import collections
 import difflib
 import functools
 import itertools
-import os
+import pathlib
 import re
 import subprocess
 
@@ -21,8 +21,8 @@ NAMES_COMPARED = 20000
 # A fault or a refusal, what it means, what to do, and what the line of a fault is that of.
 Message = collections.namedtuple("Message", "kind name means remedy line")
 MESSAGE = re.compile(r"^(fault|refusal) (\w+): (.*)\n    (.*)\n(?:    (.*)\n)?", flags=re.M)
-with open(os.path.join(os.path.dirname(os.path.realpath(__file__)), "messages.txt"), encoding="utf-8") as messages:
-    MESSAGES = [Message(*found) for found in MESSAGE.findall(messages.read())]
+TEXT = pathlib.Path(__file__).with_name("messages.txt").read_text("utf-8")
+MESSAGES = [Message(*found) for found in MESSAGE.findall(TEXT)]
 # What each means, and on a further line what to do.
 MEANINGS = {(one.kind, one.name): ("%s\n    %s" % (one.means, one.remedy)).replace("`", "") for one in MESSAGES}
 

@@ -51,8 +51,8 @@ FAILING = [
     ("echo ok; exit 0", 4, "left lines of the script without a reply"),
     ("kill -XFSZ $$", 4, "ulimit -f"),
     ("echo \"line 2: refused: NoSuchName\n$done\"; exit 1", 1, "1 line refused"),
-    ('echo "ok\n$done"; echo changed >> ../moved/A; exit 0', 4, "changed by another program"),
-    ('echo "ok\n$done"; mv ../moved/A ../moved/away; cp ../moved/away ../moved/A; exit 0', 4, "changed by another program"),
+    ('echo "ok\n$done"; echo changed >> ../moved/A; exit 0', 4, "by another program"),
+    ('echo "ok\n$done"; mv ../moved/A ../moved/away; cp ../moved/away ../moved/A; exit 0', 4, "by another program"),
 ]
 # A line that is refused, and what is told of it.
 REFUSED = [
@@ -309,16 +309,6 @@ def wait_for(test):
     return False
 
 
-def end_of(tool):
-    """What a tool shows that ends soon, and what it tells."""
-    try:
-        shown, told = tool.communicate(timeout=20)
-        return shown.splitlines(), told
-    except subprocess.TimeoutExpired:
-        tool.kill()
-        return [], ""
-
-
 def default_signals():
     """The tool gets them, even if this check was started with them ignored, as `nohup` does."""
     for number in (signal.SIGINT, signal.SIGTERM, signal.SIGHUP):
@@ -339,7 +329,7 @@ def interrupted(program, folder):
         with open(path) as file:
             child = int(file.read())
         os.kill(tool.pid if whom == "tool" else child, number)
-        shown, told = end_of(tool)
+        shown, told = tool.communicate(timeout=60)
         left = [name for name in place.names() if name not in ("A", "B", "C", "script")]
         kept = place.load("A") != LINE == place.load("B") == place.load("C")
         if number == signal.SIGKILL:
@@ -350,7 +340,7 @@ def interrupted(program, folder):
             status = 128 + number
             ends = ["A: written: 1 ok", "B: as it was: interrupted", "C: as it was: interrupted"]
             ends.append("1 written, 2 not, status %d" % status)
-            found = (began, kept, left, shown, tool.returncode)
+            found = (began, kept, left, shown.splitlines(), tool.returncode)
             yield "signal %d to the %s" % (number, whom), found == (True, True, [], ends, status)
             yield "signal %d: what goes on" % number, told == REST % "B C"
             yield "signal %d ends the run" % number, wait_for(lambda: not is_running(child))

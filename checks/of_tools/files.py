@@ -1,12 +1,7 @@
 """What the tools share: what is left out, times, names and files that are no plain VCD."""
 
-import bz2
 import glob
-import gzip
-import io
-import lzma
 import os
-import zipfile
 
 import vcd_files
 import vcd_runs
@@ -63,20 +58,12 @@ $var event 1 ' g $end $enddefinitions $end\n"""
 SKIPPED = ["real 1 t.a", "real 1 t.c", "wire 0 t.d", "wire 01025 t.ef", "event 1 g"]
 
 
-def zipped(text):
-    """A zip file that has a text as its one file."""
-    file = io.BytesIO()
-    with zipfile.ZipFile(file, "w") as archive:
-        archive.writestr("capture.vcd", text)
-    return file.getvalue()
-
-
-# A file, and a word of what it is said to be. Of formats that Python does not write it is the first bytes.
+# The first bytes of a file, and a word of what it is said to be.
 OTHERS = [
-    (gzip.compress(DECLARED), "gzip"),
-    (bz2.compress(DECLARED), "bzip2"),
-    (lzma.compress(DECLARED), "xz"),
-    (zipped(DECLARED), "zip"),
+    (b"\x1f\x8b\x08\x00", "gzip"),
+    (b"BZh91AY&SY", "bzip2"),
+    (b"\xfd7zXZ\x00", "xz"),
+    (b"PK\x03\x04\x14\x00", "zip"),
     (b"\x28\xb5\x2f\xfd\x20", "zstd"),
     (b"\x13\x80\x00\x01", "LXT2"),
     (b"VZ\x00\x01", "VZT"),

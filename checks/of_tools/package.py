@@ -83,16 +83,10 @@ def installs(program, folder):
         yield name + ": uninstall", files_in(tree) == before
 
 
-def check_pages_in(folder):
-    """The check of pages, for the pages of a folder."""
-    module = module_of("checks/pages")
-    module.TOP = folder
-    return module
-
-
 def documents_stand_alone(folder):
     """The installed documents name no file that is not installed: by links, by paths, or by `README`."""
-    module = check_pages_in(folder)
+    module = module_of("checks/pages")
+    module.TOP = folder
     pages = list(module.files(".md"))
     yield "documents are installed", len(pages) == 5
     for page in pages:

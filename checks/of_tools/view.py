@@ -164,7 +164,7 @@ def shown_in(folder):
     return re.findall(r"^@\d+\n(?:\+\{.*\} )?(.*)$", load(folder, "v.gtkw").decode(), flags=re.M)
 
 
-def settings(folder, view):
+def settings(program, folder, view):
     declared = "".join("$var %s $end\n" % one.replace(" ! ", " c%d " % place) for place, one in enumerate(NAMES))
     declared += "$var real 64 # v $end $upscope $end $enddefinitions $end #0 #9"
     store(folder, "c.vcd", text="$scope module my top $end\n%s\n" % declared)
@@ -184,7 +184,7 @@ def settings(folder, view):
             yield "%s %s: %s" % (words, lines, said), rows_said == re.findall(r"uart\S*", wanted)
     view(GLITCHES, "--before", "-o", "v.vcd", UART_LINE, "deglitch bench.rx 3", UART_LINE)
     store(folder, "script", text="value before.bench.rx 75\nvalue bench.rx 75\n")
-    values = run([os.environ["VCDEDIT"], "-i", "v.vcd", "--script", "script"], cwd=folder)
+    values = run([program, "-i", "v.vcd", "--script", "script"], cwd=folder)
     yield "the capture before: %s" % (values,), values[1] == "1\n0\n"
     zoom = float(re.search(r"^\*(\S+)", load(folder, "v.gtkw").decode(), flags=re.M).group(1))
     yield "zoomed to fit", 500 < 255 * 200 * 2 ** zoom < 1000
@@ -227,16 +227,17 @@ def viewers(folder, view):
 
 
 def check(program, folder):
-    os.mkdir(os.path.join(folder, "tmp"))
-    os.environ.update(VCDEDIT=program, TMPDIR=os.path.join(folder, "tmp"))
-    os.environ.pop("VCDEDIT_VIEWER", None)
-    without = os.path.join(folder, "bin")
-    os.mkdir(without)
-    os.symlink(sys.executable, os.path.join(without, "python3"))
+    tools, temporary = os.path.join(folder, "bin"), os.path.join(folder, "tmp")
+    os.mkdir(tools)
+    os.mkdir(temporary)
+    os.symlink(sys.executable, os.path.join(tools, "python3"))
+
+    environment = {**os.environ, "VCDEDIT": program, "VCDEDIT_VIEWER": "", "TMPDIR": temporary, "PATH": tools}
 
     def view(*words, given=None, **more):
-        return run([sys.executable, TOOL, *words], cwd=folder, input=given, env={**os.environ, "PATH": without, **more})
+        return run([sys.executable, TOOL, *words], cwd=folder, input=given, env={**environment, **more})
 
-    for part in (rows, settings, refusals, viewers):
+    for part in (rows, refusals, viewers):
         yield from part(folder, view)
+    yield from settings(program, folder, view)
     yield from examples(program, folder, view)
