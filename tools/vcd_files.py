@@ -246,7 +246,7 @@ def tell(text):
         os.write(2, os.fsencode(text))
 
 
-def end(name, main):
+def end(name, main, status_of_trouble=None):
     """Runs a tool and ends with its status. A standard output that can't be written has a line and status 4."""
     try:
         # Without a buffer (PYTHONUNBUFFERED) a write that takes only a part would be passed over.
@@ -259,7 +259,7 @@ def end(name, main):
             status = ended.code
         except Trouble as trouble:
             tell("%s: %s\n" % (name, "\n    ".join(trouble.lines)))
-            status = trouble.status
+            status = status_of_trouble or trouble.status
         sys.stdout.flush()
     except KeyboardInterrupt:
         status = 128 + signal.SIGINT

@@ -1,7 +1,4 @@
-"""What vcdedit's faults and refusals mean for a capture and a script at hand: the line itself, and what to do.
-
-messages.txt has each, docs/FORMATS.md and docs/SCRIPT.md say more.
-"""
+"""What vcdedit's faults and refusals mean for a capture and a script at hand: the line itself, and what to do."""
 
 import collections
 import difflib
@@ -14,9 +11,8 @@ import subprocess
 import vcd_files
 from vcd_files import program, shortened, shown
 
-LONGEST = 100
-NAMES_SHOWN = 3
-NAMES_COMPARED = 20000
+# Letters of a line that are shown, names that are, and names in which near ones are looked for.
+LONGEST, NAMES_SHOWN, NAMES_COMPARED = 100, 3, 20000
 
 # A fault or a refusal, what it means, what to do, and what the line of a fault is that of.
 Message = collections.namedtuple("Message", "kind name means remedy line")

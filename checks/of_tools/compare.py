@@ -3,20 +3,10 @@
 import gzip
 import os
 import re
-import shutil
 
 from common import TOP, run, store
 
 TOOL = os.path.join(TOP, "tools/compare_captures")
-COMPARED = "examples/board/capture.vcd"
-
-# A script, and what the comparison of a capture and what the script makes of it says.
-EDITED = [
-    ("", ["the same: 18 signals up to tick 221008847"]),
-    ("invert tb.clk", ["tb.clk: 1 difference, first at tick 0: 0, 1", "lines that differ: 1"]),
-    ("force tb.q[7:0] 0 2 z", ["tb.q[7:0]: 1 difference, first at tick 0: xxxxxxxx, zzzzzzzz", "lines that differ: 1"]),
-    ("remove tb.u.clk", ["tb.u.clk: only in A", "lines that differ: 1"]),
-]
 
 ONE = "wire 1 a"
 TWO = "wire 1 a|wire 1 a"
@@ -120,11 +110,6 @@ def check(program, folder):
     yield from pairs(folder, compare)
     yield from skipped(folder, compare)
     yield from paths(folder, compare)
-    shutil.copy(os.path.join(TOP, COMPARED), os.path.join(folder, "A"))
-    for script, wanted in EDITED:
-        made = run([program, "-i", "A", "--script", "/dev/stdin", "-o", "B"], cwd=folder, input=script + "\n")
-        found = compare("A", "B")
-        yield "comparing after " + script, (made[0], found) == (0, (int(script != ""), "\n".join([*wanted, ""]), ""))
     for capture, told in FAULTY:
         store(folder, "bad", text=capture)
         for pair in (["bad", "A"], ["A", "bad"]):
@@ -188,11 +173,9 @@ def skipped(folder, compare):
 def paths(folder, compare):
     """Names that begin with `-`, standard input, and words that are none of it."""
     capture = text(*PLAIN)
-    names = ["-", "-A.vcd", "--strict", "A", "with blank", "a'b\"c$d"]
-    for name in names[1:]:
-        store(folder, "./" + name, text=capture)
     same = (0, "the same: 1 signal up to tick 9\n", "")
-    for name in names[1:]:
+    for name in ("A", "-A.vcd", "--strict"):
+        store(folder, "./" + name, text=capture)
         others = [["A", name]] if not name.startswith("-") else []
         path = "./" + name
         for words in (*others, ["--", name, "A"], ["-", path], [path, "-"], ["--strict", "--", name, name]):

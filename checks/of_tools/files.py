@@ -16,27 +16,21 @@ TIMES = [
     ("1.5us", "1 ps", 1500000),
     ("1.0001 us", "1 ns", None),
     ("922337203685.4775807s", "100 ns", 9223372036854775807),
-    ("2ms", "10 us", 200),
     ("25ns", "10 ns", None),
-    ("-1", "1 ns", None),
     ("1e3", "1 ns", None),
     ("\N{ARABIC-INDIC DIGIT ONE}", "1 ns", None),
 ]
 # A pattern, a name, and whether it is meant.
 MATCHES = [
     ("tb.q[7:0]", b"tb.q[7:0]", True),
-    ("tb.q[7:0]", b"tb.q7", False),
     ("tb.q[7]*", b"tb.q[7][1:0]", True),
     ("tb.q[7]*", b"tb.q7", False),
     ("tb.q[0-9]", b"tb.q7", True),
     ("tb.[!q]", b"tb.q", False),
-    ("tb.[!q]", b"tb.r", True),
     ("*[-1:0]", b"tb.q[-1:0]", True),
     ("tb.q", b"tb.q[7:0]", False),
-    ("tb.q*", b"tb.q[7:0]", True),
     ("tb.?", b"tb.\xff", True),
     ("TB.*", b"tb.q", False),
-    ("q", b"tb.q", False),
 ]
 DECLARED = b"$var wire 1 ! a $end $enddefinitions $end #0 1! #5\n"
 # What follows declarations of the kept `!` and `"` and of the skipped `#`, and how often each kind of loss is in it.

@@ -93,9 +93,7 @@ def documents_stand_alone(folder):
         text = module.read(page)
         lost = module.lost_links(page, text) + module.lost_paths(text) + re.findall(r"\bREADME\b|repository", text)
         lost += re.findall(r"^    \$ (?:.* )?((?:tools|docs|crates|cases|checks)/\S+)", text, flags=re.M)
-        if lost:
-            print("package: %s: %s" % (page, "; ".join(lost)))
-        yield page + " stands alone", not lost
+        yield "%s stands alone: %s" % (page, "; ".join(lost)), not lost
 
 
 def run_from_anywhere(folder):

@@ -91,7 +91,6 @@ REFUSED = [
     (["c.vcd", "-o", "c.vcd"], 2, "names the capture"),
     (["more"], 3, "more: line 1: frob: UnexpectedWord"),
     (["none.vcd"], 4, "none.vcd: No such file"),
-    (["/dev/stdin"], 3, "the file is empty"),
     ([I2C, "-o", "none/v.vcd"], 2, "in a folder that is there"),
     ([I2C, "--picture", "p.jpg"], 2, "--picture names a file that ends in .png"),
     ([I2C, *I2C_LINE.split()], 1, "\n    quote each line: "),
