@@ -4,6 +4,7 @@ import importlib.machinery
 import importlib.util
 import os
 import re
+import shutil
 import subprocess
 import sys
 
@@ -11,17 +12,8 @@ CHECKS = os.path.dirname(os.path.abspath(__file__))
 TOP = os.path.dirname(CHECKS)
 CASES = os.path.join(TOP, "cases")
 EXAMPLES = os.path.join(TOP, "examples")
-# The edits of a script, each with a line that makes it. `vcd_alloc_failures` has a call for each name.
-EDITS = {
-    "rename": "rename @0 c",
-    "remove": "remove @0",
-    "invert": "invert @0",
-    "shift": "shift @0 2",
-    "cut": "cut 2 5",
-    "deglitch": "deglitch @0 2",
-    "force": "force @0 4 6 z",
-    "derive": "derive d not @0",
-}
+# The edits of a script. `vcd_alloc_failures` has a call for each name.
+EDITS = "rename remove invert shift cut deglitch force derive".split()
 SECONDS = 120
 
 
@@ -60,6 +52,21 @@ def store_program(*path, text):
     return path
 
 
+def code_of(position):
+    """The identifier code of a signal in the written form: 94 letters, the first of two before the second."""
+    code, number = "", position + 1
+    while number:
+        code += chr(33 + (number - 1) % 94)
+        number = (number - 1) // 94
+    return code
+
+
+def toggling(changes, declared="$var wire 1 ! x $end\n", first="0!\n"):
+    """A capture of variables of the code `!`, which changes at each tick from 1 on."""
+    stamps = "".join("#%d\n%d!\n" % (tick, tick % 2) for tick in range(1, changes + 1))
+    return declared + "$enddefinitions $end\n#0\n" + first + stamps
+
+
 def run(words, text=True, timeout=SECONDS, **how):
     """(status, standard output, standard error) of a program, as text or as bytes."""
     done = subprocess.run(words, capture_output=True, text=text, timeout=timeout, **how)
@@ -79,6 +86,17 @@ def narrow_of(program):
     """The vcdedit-narrow that was built beside a vcdedit, in the tree of its crate, or else next to it."""
     crates, name = os.path.split(program.removesuffix("/vcdedit/out/vcdedit"))
     return os.path.join(crates, name, "vcdedit_narrow/out/vcdedit_narrow") if name == "crates" else program + "-narrow"
+
+
+def lay_out(program, folder, parts):
+    """A copy of these parts of the tree in a folder, with both programs where they are built."""
+    for part in parts:
+        source, copy = os.path.join(TOP, part), os.path.join(folder, part)
+        (shutil.copytree if os.path.isdir(source) else shutil.copy2)(source, copy)
+    built = os.path.join(folder, "crates/vcdedit/out/vcdedit")
+    for source, copy in ((program, built), (narrow_of(program), narrow_of(built))):
+        os.makedirs(os.path.dirname(copy))
+        shutil.copy(source, copy)
 
 
 def program_argument(usage, most=1):

@@ -6,7 +6,7 @@
      READ_AT_MOST=N     a read gives at most N bytes
      WRITE_AT_MOST=N    a write takes at most N bytes
      REPLY_ROOM=N       standard output takes N bytes in all, and then fails as a full disc does
-     OUTPUT_ROOM=N      each file that is written does so
+     OUTPUT_ROOM=N      the file that is written does so
      TAKES_NONE=1       where it would fail so, a write takes no byte instead
      FAILS_ONCE=1       where it would fail so, it does once, and then takes all
      TOLD=F             each read, each write to standard output or to a file, and the refused growth makes the file F
@@ -155,20 +155,18 @@ ssize_t read(int device, void *bytes, size_t size) {
     return readv(device, &piece, 1);
 }
 
-#define DEVICES 1024
+/* Whether the device that has a room failed once, and takes all since. */
+static int has_recovered;
 
-/* Whether a device failed once, and takes all since. */
-static char has_recovered[DEVICES];
-
-/* How many of so many bytes a device still takes, where it has a room at all. */
+/* How many of so many bytes a device still takes, if it has a room. */
 static size_t room_left(int device, size_t size) {
-    static size_t used[DEVICES];
+    static size_t used;
     const char *room = device == 2 ? NULL : getenv(device == 1 ? "REPLY_ROOM" : "OUTPUT_ROOM");
-    if (!room || device < 0 || device >= DEVICES || has_recovered[device])
+    if (!room || has_recovered)
         return size;
-    size_t left = (size_t)atol(room) - used[device];
+    size_t left = (size_t)atol(room) - used;
     size = size < left ? size : left;
-    used[device] += size;
+    used += size;
     return size;
 }
 
@@ -178,8 +176,7 @@ ssize_t write(int device, const void *bytes, size_t size) {
         tell(device == 1 ? "reply\n" : "output\n");
     size_t taken = room_left(device, at_most("WRITE_AT_MOST", size));
     if (taken == 0 && size > 0 && !number_of("TAKES_NONE")) {
-        if (number_of("FAILS_ONCE"))
-            has_recovered[device] = 1;
+        has_recovered = number_of("FAILS_ONCE") != 0;
         *__errno_location() = ENOSPC;
         return -1;
     }
