@@ -29,7 +29,7 @@ typedef struct { int width, first; Change *changes; size_t count, written; } Cod
 /* A variable: its code in the file, the next variable of that code, and the code that is written. */
 typedef struct { int code, next, length; char text[4]; } Variable;
 
-static int code_at[KEYS], code_count, variable_count;
+static int code_at[KEYS], code_count, variable_count, changed[MOST];
 static Code codes[MOST];
 static Variable variables[MOST];
 static char *buffer, *end;
@@ -53,8 +53,7 @@ static char *read_file(const char *path, char **after) {
   int input = open(path, O_RDONLY);
   off_t size = lseek(input, 0, SEEK_END);
   char *text = malloc(size + 1);
-  lseek(input, 0, SEEK_SET);
-  if (read(input, text, size) != size) exit(1);
+  if (pread(input, text, size, 0) != size) exit(1);
   text[size] = 0;
   *after = text + size;
   return text;
@@ -167,8 +166,7 @@ static void put_stamp(uint64_t tick) {
   do text[--at] = '0' + tick % 10;
   while (tick /= 10);
   text[--at] = '#';
-  memcpy(end, text + at, sizeof text - at);
-  end += sizeof text - at;
+  end = mempcpy(end, text + at, sizeof text - at);
 }
 
 static int letter(Value value, int bit) { return (value.low >> bit & 1) | (value.high >> bit & 1) << 1; }
@@ -198,26 +196,20 @@ static void put_value(const Variable *variable, int width, Value value) {
   send(FULL);
 }
 
-static void put_text(const char *text) {
-  size_t length = strlen(text);
-  memcpy(end, text, length);
-  end += length;
-}
-
 static void write_first_values(void) {
-  put_text("#0\n$dumpvars\n");
+  end = stpcpy(end, "#0\n$dumpvars\n");
   for (int k = 0; k < variable_count; k++) {
     Code *code = &codes[variables[k].code];
     code->written = code->count && code->changes[0].tick == 0;
     put_value(&variables[k], code->width, code->written ? code->changes[0].words[0] : all_x(code->width));
   }
-  put_text("$end\n");
+  end = stpcpy(end, "$end\n");
 }
 
 static int compare(const void *a, const void *b) { return *(const int *)a - *(const int *)b; }
 
 /* Puts the variables that change at a tick into a list, in their order. The log shows their codes. */
-static int list_changed(const Logged *log, const Logged *after, uint64_t tick, int *changed) {
+static int list_changed(const Logged *log, const Logged *after, uint64_t tick) {
   int count = 0, rises = 1;
   for (; log < after; log++) {
     Code *code = &codes[log->code];
@@ -233,11 +225,10 @@ static int list_changed(const Logged *log, const Logged *after, uint64_t tick, i
 }
 
 static void write_changes(const Logged *log, size_t count, uint64_t last_tick) {
-  int *changed = malloc(sizeof(int) * MOST);
   uint64_t last = 0;
   for (const Logged *one = log, *after = log + count, *next; one < after; one = next) {
     for (next = one; next < after && next->tick == one->tick;) next++;
-    int changes = list_changed(one, next, one->tick, changed);
+    int changes = list_changed(one, next, one->tick);
     if (changes == 0) continue;
     put_stamp(last = one->tick);
     for (int k = 0; k < changes; k++) {
