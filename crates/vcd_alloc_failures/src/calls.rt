@@ -2,7 +2,7 @@
 
 use crate::decoders::call_decoder;
 use crate::edits::{call_apply, call_held, call_revert};
-use crate::files::{call_read, call_read_part, call_write, count_write, read_bytes};
+use crate::files::{call_read, call_read_part, call_write};
 use crate::printing::Failure;
 use crate::sessions::{call_new, call_run, call_step};
 use crate::waves::call_on_wave;
@@ -35,8 +35,6 @@ pub fn make_call<R: Runtime + AllocGlobal>(rt: &R, call: &Call) -> Result<(), Fa
         "read" => call_read(rt, call),
         "read_part" => call_read_part(rt, call),
         "write" => call_write(rt, call),
-        "counted" => count_write(rt, call),
-        "bytes" => read_bytes(rt, call),
         "apply" => call_apply(rt, call),
         "held" => call_held(rt, call),
         "revert" => call_revert(rt, call),

@@ -5,7 +5,6 @@ ghost use Rattle.vcd_core.specs.CaptureContents.{contents};
 ghost use Rattle.vcd_core.specs.Sound.{IsSound};
 
 use crate::calls::Call;
-use crate::counting::CountingSink;
 use crate::parts::AskedPart;
 use crate::printing::{DONE, Failure, allow, print_capture, refuse};
 use std::alloc::Global;
@@ -17,9 +16,6 @@ use vcd_text::{Loaded, ReadError, read, read_part, write};
 
 /// How many bytes a sink into memory takes without more memory.
 const ROOM: usize = 1_000_000;
-
-/// The most bytes that are read one by one.
-const TEXT_LIMIT: usize = 32_000_000;
 
 /// The capture that a text means.
 pub fn capture_of_text(alloc: Global, text: &[u8]) -> Result<Capture, Failure>
@@ -88,40 +84,4 @@ pub fn call_write<R: Runtime + AllocGlobal>(rt: &R, call: &Call) -> Result<(), F
     println!(rt; "failed {}, written:", sink.failed())?;
     io::writer(rt).write_all(sink.into_inner().as_slice())?;
     print_capture(rt, &capture)
-}
-
-/// Makes the call `write` to a sink that counts its calls. No memory is refused.
-pub fn count_write<R: Runtime + AllocGlobal>(rt: &R, call: &Call) -> Result<(), Failure> {
-    let capture = capture_of_text(rt.alloc(), call.text)?;
-    let mut sink = CountingSink::new();
-    if write(rt.alloc(), &capture, &mut sink).is_err() {
-        return Err(Failure);
-    }
-    println!(rt;
-        "{} bytes, {} writes, {} flushes",
-        sink.bytes, sink.writes, sink.flushes
-    )?;
-    println!(rt; "flushed last {}", sink.is_flushed)?;
-    Ok(())
-}
-
-/// Reads a capture's text by reads of one byte. Prints how many gave a byte, and whether the source
-/// has failed.
-pub fn read_bytes<R: Runtime>(rt: &R, call: &Call) -> Result<(), Failure> {
-    let mut source = FromRead::new(call.text);
-    let count = count_bytes(&mut source);
-    println!(rt; "{count} bytes, failed {}", source.failed())?;
-    Ok(())
-}
-
-/// How many reads into room for one byte give one, up to the limit of a capture.
-fn count_bytes<S: Source>(source: &mut S) -> usize {
-    let mut byte = [0];
-    for count in 0..TEXT_LIMIT {
-        match source.read(&mut byte) {
-            Ok(1) => (),
-            _ => return count,
-        }
-    }
-    TEXT_LIMIT
 }

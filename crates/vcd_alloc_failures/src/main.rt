@@ -16,8 +16,6 @@
 //! | `held`: lets the record of an edit go | an edit | `undo`, or nothing |
 //! | `step` | a step | the steps made before it |
 //! | `run`: makes some steps | the position of the step that `omit` leaves out | |
-//! | `counted`: writes to a sink that counts its calls, and prints the counts | | |
-//! | `bytes`: reads the capture byte by byte | | |
 //!
 //! The program makes all that the call needs, and writes `refuse`. With `make` it makes the call.
 //! Then it writes `allow`, and `done` or the name of a fault; or `unequal` if the call gave a copy
@@ -26,7 +24,6 @@
 #![tactic(auto)]
 
 mod calls;
-mod counting;
 mod decoders;
 mod edits;
 mod files;
