@@ -1,7 +1,7 @@
 -- The records of a session and the captures that they reach.
 use Rattle.std.proofs.Common.{◌≡◌, ◌<◌, ◌≤◌, ◌+◌, ℕ, suc, List, [], ◌∷◌, ◌-◌, length, take}
 use Rattle.std.proofs.Common.{refl, sym, ◌∙◌}
-use Rattle.std.proofs.Common.{ap, subst, arith}
+use Rattle.std.proofs.Common.{ap, subst, inr, arith}
 use Rattle.std.proofs.lemmas.List.{length-take}
 use Rattle.vcd_core.specs.Contents.{Contents}
 use Rattle.circular_buffer.specs.Buffer.{Buffer}
@@ -10,8 +10,10 @@ use Rattle.vcd_edit.specs.Effect.{effect}
 use Rattle.vcd_edit.specs.RecordView.{RecordView}
 use Rattle.vcd_edit.specs.AppliedRecords.{apply_record, Fits}
 use Rattle.vcd_journal.specs.declared.step.Step.TheVariants as steps
+use Rattle.vcd_journal.specs.declared.step.StepError.TheVariants.{NoMemory}
+use Rattle.vcd_journal.specs.declared.step.Answer.TheVariants.{Refused}
 use Rattle.vcd_journal.specs.Machine.{Machine, machine_after_edit, machine_after_depth}
-use Rattle.vcd_journal.specs.Machine.{MayNeedMemory}
+use Rattle.vcd_journal.specs.Machine.{IsStep}
 use Rattle.vcd_journal.specs.inside.Rings.{AllRecordsFit, FirstMayNeedMemory, AreSessionRings}
 use Rattle.vcd_journal.specs.ReachedCaptures.{reached_captures}
 
@@ -38,10 +40,6 @@ pub few_captures : (c : Contents) (past future : Buffer RecordView) (depth : ℕ
     → length (reached_captures c past.items) + length (reached_captures c future.items) ≤ depth
 few_captures c past future depth held =
     rw (length_reached_captures c past.items, length_reached_captures c future.items) (held.few)
-
--- with a record there is at least one
-pub some_captures : (c : Contents) (rs : List RecordView) → 0 < length rs → 0 < length (reached_captures c rs)
-some_captures c rs some = rw (length_reached_captures c rs) some
 
 -- the machine of a session with these records
 abbrev pub machine_of : Contents → List RecordView → List RecordView → ℕ → Machine
@@ -87,19 +85,21 @@ machine_of_edit e before after r rs fs depth forth leads =
       depth = depth;
     }) forth
 
--- ---- undo and redo
+-- ---- undo and redo without memory
 
--- ---- out of memory
+pub undo_refused : (c : Contents) (past future : List RecordView) (depth : ℕ) (n : Machine) → 0 < length past
+    → FirstMayNeedMemory c past → n ≡ machine_of c past future depth
+    → IsStep (machine_of c past future depth) steps.Undo (Refused NoMemory) n
+undo_refused c [] future depth n some needs is = absurd (omega (arith, some))
+undo_refused c (r ∷ rs) future depth n some needs is =
+    inr (record { needs = needs; accepted = refl; answer = refl; unchanged = is })
 
-pub undo_needs : (c : Contents) (past future : List RecordView) (depth : ℕ) → 0 < length past
-    → FirstMayNeedMemory c past → MayNeedMemory (machine_of c past future depth) steps.Undo
-undo_needs c [] future depth some needs = absurd (omega (arith, some))
-undo_needs c (r ∷ rs) future depth some needs = needs
-
-pub redo_needs : (c : Contents) (past future : List RecordView) (depth : ℕ) → 0 < length future
-    → FirstMayNeedMemory c future → MayNeedMemory (machine_of c past future depth) steps.Redo
-redo_needs c past [] depth some needs = absurd (omega (arith, some))
-redo_needs c past (r ∷ rs) depth some needs = needs
+pub redo_refused : (c : Contents) (past future : List RecordView) (depth : ℕ) (n : Machine) → 0 < length future
+    → FirstMayNeedMemory c future → n ≡ machine_of c past future depth
+    → IsStep (machine_of c past future depth) steps.Redo (Refused NoMemory) n
+redo_refused c past [] depth n some needs is = absurd (omega (arith, some))
+redo_refused c past (r ∷ rs) depth n some needs is =
+    inr (record { needs = needs; accepted = refl; answer = refl; unchanged = is })
 
 -- ---- another depth
 

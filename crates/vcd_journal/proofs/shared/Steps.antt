@@ -4,7 +4,6 @@ use Rattle.std.proofs.Common.{refl, ap}
 use Rattle.std.proofs.Common.{subst, inl, inr, arith}
 use Rattle.std.specs.Prelude.{nat_lt}
 use Rattle.std.proofs.lemmas.Bool.Decides.{nat_tests}
-use Rattle.vcd_core.specs.Contents.{Contents}
 use Rattle.vcd_edit.specs.declared.edit.Edit.{Edit}
 use Rattle.vcd_edit.specs.declared.fault.EditError.{EditError}
 use Rattle.vcd_edit.specs.EditFaults.{edit_fault}
@@ -18,8 +17,7 @@ use Rattle.vcd_journal.specs.declared.step.StepError.TheVariants as refusals
 use Rattle.vcd_journal.specs.declared.step.Answer.{Answer}
 use Rattle.vcd_journal.specs.declared.step.Answer.TheVariants.{Done, Refused}
 use Rattle.vcd_journal.specs.Machine.{Machine, machine_after_edit, machine_after_depth}
-use Rattle.vcd_journal.specs.Machine.{undo_outcome}
-use Rattle.vcd_journal.specs.Machine.{redo_outcome, step_outcome, MayNeedMemory, memory_refusal}
+use Rattle.vcd_journal.specs.Machine.{step_outcome, memory_refusal}
 use Rattle.vcd_journal.specs.Machine.{IsStep, AreSteps}
 use Rattle.vcd_journal.specs.History.{is_depth}
 
@@ -39,26 +37,6 @@ edit_refused e found m n (inr refused) never is =
       answer = ap (λ r. Refused (refusals.Edit r)) refused.1;
       unchanged = is;
     })
-
--- ---- undo and redo
-
-undo_done : (m : Machine) (past : List Contents) → 0 < length past → (undo_outcome past m).answer ≡ Done
-undo_done m [] some = absurd (omega arith)
-undo_done m (back ∷ older) some = refl
-
-pub undo_no_memory : (m n : Machine) → 0 < length m.past → MayNeedMemory m steps.Undo → n ≡ m
-    → IsStep m steps.Undo (Refused refusals.NoMemory) n
-undo_no_memory m n some needs is =
-    inr (record { needs = needs; accepted = undo_done m m.past some; answer = refl; unchanged = is })
-
-redo_done : (m : Machine) (future : List Contents) → 0 < length future → (redo_outcome future m).answer ≡ Done
-redo_done m [] some = absurd (omega arith)
-redo_done m (next ∷ later) some = refl
-
-pub redo_no_memory : (m n : Machine) → 0 < length m.future → MayNeedMemory m steps.Redo → n ≡ m
-    → IsStep m steps.Redo (Refused refusals.NoMemory) n
-redo_no_memory m n some needs is =
-    inr (record { needs = needs; accepted = redo_done m m.future some; answer = refl; unchanged = is })
 
 -- ---- another depth
 

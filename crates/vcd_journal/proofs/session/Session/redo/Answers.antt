@@ -4,8 +4,7 @@ use Rattle.std.proofs.lemmas.Result.{err_from_is_err_and}
 use Rattle.circular_buffer.specs.Buffer.{Buffer}
 use Rattle.vcd_core.specs.CaptureContents.{contents}
 use Rattle.vcd_edit.specs.RecordView.{RecordView}
-use Rattle.vcd_journal.proofs.shared.Steps.{redo_no_memory}
-use Rattle.vcd_journal.proofs.session.RecordsOfHistory.{some_captures, same_machine, redo_needs}
+use Rattle.vcd_journal.proofs.session.RecordsOfHistory.{same_machine, redo_refused}
 use Rattle.vcd_journal.proofs.session.Session.redo.Goals as goal
 
 pub returns-in_err-apply_newest-clause-step : goal.returns-in_err-apply_newest-clause-step
@@ -15,8 +14,7 @@ returns-in_err-apply_newest-clause-step c =
     let kept = c.in_err-apply_newest.ensures.unchanged in
     let some : 0 < length old.future.items = grind (arith, nat_tests) in
     rw (refused.1, refused.2, ← c.self.view_is)
-    (redo_no_memory _ _ (some_captures (contents old.capture) old.future.items some)
-    (redo_needs (contents old.capture) old.past.items old.future.items old.depth
-    some c.in_err-apply_newest.ensures.needs)
+    (redo_refused (contents old.capture) old.past.items old.future.items old.depth _ some
+    c.in_err-apply_newest.ensures.needs
     (same_machine (contents old.capture) _ old.past.items _ old.future.items _ old.depth kept.0
     (ap (λ (ring : Buffer RecordView). ring.items) kept.2) (ap (λ (ring : Buffer RecordView). ring.items) kept.1)))
