@@ -37,7 +37,7 @@ use Rattle.vcd_edit.specs.inside.exchange.Opposites.{opposite_end, IsNamedAt, Is
 use Rattle.vcd_edit.proofs.exchange.OppositePieces.{all_back, rise_back, back_fits_all}
 use Rattle.vcd_edit.proofs.fitting.TestsOfParts.{one_piece}
 use Rattle.vcd_edit.proofs.shared.Lists.{both_parts}
-use Rattle.vcd_edit.proofs.shared.StoredAtMostTouched.{touched_at_least, stored_within}
+use Rattle.vcd_edit.proofs.shared.StoredAtMostTouched.{touched-set, stored_within}
 
 -- ---- pieces and another end
 
@@ -194,7 +194,9 @@ signal_stores advance c k None after may is =
     ap (touched_in_signal (advance (0 + k)) (signal_at c k)) (sym partner) in
     let long : k < length ns =
     omega (arith, may, count, length-insert (map Some after) k None (omega (arith, may, count))) in
-    omega (arith, mine, touched_at_least advance 0 c.signals ns k no_signal None may long)
+    let nothing : touched_in_signal (advance (0 + k)) no_signal (get_or ns k None) ≡ 0 =
+    ap (touched_in_signal (advance (0 + k)) no_signal) partner in
+    omega (arith, mine, nothing, touched-set advance 0 c.signals ns k no_signal no_signal None may long)
 
 -- what undoes a step also fits
 undoes : (c : Contents) (r q : RecordView) → IsSound c → apply_record q (apply_record r c) ≡ c

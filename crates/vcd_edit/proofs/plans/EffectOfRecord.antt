@@ -1,8 +1,8 @@
 -- Records whose result is the effect of an edit.
-use Rattle.std.proofs.Common.{◌≡◌, ◌<◌, ℕ, ◌+◌, ◌≤◌, IsTrue, List, [], ◌∷◌, length, map, get_or}
+use Rattle.std.proofs.Common.{Option, ◌≡◌, ◌<◌, ℕ, ◌+◌, ◌≤◌, IsTrue, List, [], ◌∷◌, length, map, get_or}
 use Rattle.std.proofs.Common.{All, Some, None, refl, sym, ap, subst, ◌∙◌, arith}
 use Rattle.std.specs.Borrow.{Bor}
-use Rattle.std.specs.Prelude.{ℤ, pos, neg_ℤ, Result, IfOk}
+use Rattle.std.specs.Prelude.{ℤ, neg_ℤ, Result, IfOk}
 use Rattle.std.proofs.lemmas.List.{length-map, set-get_or}
 use Rattle.std.proofs.lemmas.List.Elements.{All-nil, All-cons}
 use Rattle.std.proofs.lemmas.Result.{IfOk-weaker}
@@ -52,6 +52,16 @@ is_plan e c r sound none leads pieces word signal advance pairing = record {
   pairing = pairing;
 }
 
+-- the same without pieces
+pub plan_without_pieces : (e : Edit) (c : Contents) (w : Option (ℕ × List ℕ)) (m : Option (ℕ × Option SignalContents))
+    (pieces : List Piece) → IsSound c → edit_fault e c ≡ None → pieces ≡ []
+    → apply_record (parts [] w m None) c ≡ effect e c → WordFits c w → SignalFits c m
+    → record_pairing m ≡ edit_pairing e c → IsPlan e c (parts (map piece_view pieces) w m None)
+plan_without_pieces e c w m pieces sound none empty leads word signal pairing =
+    subst (λ (ps : List Piece). IsPlan e c (parts (map piece_view ps) w m None)) (sym empty)
+    (is_plan e c (parts [] w m None) sound none leads (All-nil (PieceFits c)) word signal
+    (All-nil (λ (p : PieceView). edit_advance e ≡ neg_ℤ p.by)) pairing)
+
 -- a position within the contents of a capture
 pub there : (c : Capture) (k : ℕ) → IsTrue (is_signal (contents c) k) → k < length c.signals
 there c k is = omega (arith, position_below (contents c) k is, length-map c.signals signal_contents)
@@ -98,26 +108,17 @@ pub rename_plan : (c : Capture) (k : ℕ) (word : Bor (List ℕ)) (pieces : List
     → IsPlan (Rename k word) (contents c) (parts (map piece_view pieces) (Some (k, copy)) None None)
 unfolding apply_record with_pieces effect
 rename_plan c k word pieces copy sound none empty same =
-    subst (λ (ps : List Piece). IsPlan (Rename k word) (contents c)
-    (parts (map piece_view ps) (Some (k, copy)) None None)) (sym empty)
-    (is_plan (Rename k word) (contents c) (parts [] (Some (k, copy)) None None) sound none
+    plan_without_pieces (Rename k word) (contents c) (Some (k, copy)) None pieces sound none empty
     (ap (λ (w : List ℕ). with_signal (contents c) k (renamed_signal w (signal_at (contents c) k))) same)
-    (All-nil (PieceFits (contents c)))
-    (position_below (contents c) k (no_fault (Rename k word) (contents c) none).0) tt
-    (All-nil (λ (p : PieceView). pos 0 ≡ neg_ℤ p.by)) refl)
+    (position_below (contents c) k (no_fault (Rename k word) (contents c) none).0) tt refl
 
 pub remove_plan : (c : Capture) (k : ℕ) (pieces : List Piece) → IsSound (contents c)
     → edit_fault (Remove k) (contents c) ≡ None → pieces ≡ []
     → IsPlan (Remove k) (contents c) (parts (map piece_view pieces) None (Some (k, None)) None)
 unfolding apply_record with_pieces effect
 remove_plan c k pieces sound none empty =
-    subst (λ (ps : List Piece). IsPlan (Remove k) (contents c)
-    (parts (map piece_view ps) None (Some (k, None)) None)) (sym empty)
-    (is_plan (Remove k) (contents c) (parts [] None (Some (k, None)) None)
-    sound none refl
-    (All-nil (PieceFits (contents c))) tt
-    (position_below (contents c) k (no_fault (Remove k) (contents c) none).0)
-    (All-nil (λ (p : PieceView). pos 0 ≡ neg_ℤ p.by)) refl)
+    plan_without_pieces (Remove k) (contents c) None (Some (k, None)) pieces sound none empty refl tt
+    (position_below (contents c) k (no_fault (Remove k) (contents c) none).0) refl
 
 -- an edit of one wave, as the piece of its signal
 pub wave_plan : (e : Edit) (c : Contents) (k : ℕ) (f : SignalContents → ℕ → List Bit) (by : ℤ) (s : SignalContents)

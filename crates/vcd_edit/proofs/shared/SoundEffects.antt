@@ -151,12 +151,12 @@ sound_cut c from to sound = record {
   few = rw (length-map c.signals (λ s. with_values (c.end - (to - from)) (cut_value from to s) s)) (sound.few);
   signals = All-map (IsSoundSignal (c.end - (to - from)))
       (λ s. with_values (c.end - (to - from)) (cut_value from to s) s) c.signals
-      (λ k d within. sound_with_values c.end (c.end - (to - from)) (cut_value from to (get_or c.signals k d))
-      (get_or c.signals k d) (sound.signals k d within)
-      (λ t. either_width (nat_lt t from) _ _ (get_or c.signals k d).width
-      (value_at_width (get_or c.signals k d).width (get_or c.signals k d).changes t (sound.signals k d within).wave)
-      (value_at_width (get_or c.signals k d).width (get_or c.signals k d).changes (t + (to - from))
-      (sound.signals k d within).wave)));
+      (λ k d within.
+      let s = get_or c.signals k d in
+      let is = sound.signals k d within in
+      sound_with_values c.end (c.end - (to - from)) (cut_value from to s) s is
+      (λ t. either_width (nat_lt t from) _ _ s.width (value_at_width s.width s.changes t is.wave)
+      (value_at_width s.width s.changes (t + (to - from)) is.wave)));
 }
 
 -- a value that has its signal's width

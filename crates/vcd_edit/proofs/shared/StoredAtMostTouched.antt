@@ -22,22 +22,8 @@ use Rattle.vcd_edit.proofs.exchange.OppositePieces.{all_from}
 
 -- ---- the sum over the signals
 
--- one signal touches no more than all
-pub touched_at_least : (advance : ℕ → ℤ) (j : ℕ) (ss : List SignalContents) (ns : List (Option SignalContents)) (k : ℕ)
-    (s : SignalContents) (n : Option SignalContents) → k < length ss → k < length ns
-    → touched_in_signal (advance (j + k)) (get_or ss k s) (get_or ns k n) ≤ touched_from advance j ss ns
-unfolding touched_from
-touched_at_least advance j [] ns k s n in_ss in_ns = absurd (omega arith)
-touched_at_least advance j (x ∷ ss) [] k s n in_ss in_ns = absurd (omega arith)
-touched_at_least advance j (x ∷ ss) (y ∷ ns) zero s n in_ss in_ns =
-    omega (arith, ap (λ i. touched_in_signal (advance i) x y) {x = j + 0} {y = j} (omega arith))
-touched_at_least advance j (x ∷ ss) (y ∷ ns) (suc k) s n in_ss in_ns =
-    let rest = touched_at_least advance (suc j) ss ns k s n (omega arith) (omega arith) in
-    let index : j + suc k ≡ suc j + k = omega arith in
-    omega (arith, rest, ap (λ i. touched_in_signal (advance i) (get_or ss k s) (get_or ns k n)) index)
-
 -- another signal in its place changes only its own part
-touched-set : (advance : ℕ → ℤ) (j : ℕ) (ss : List SignalContents) (ns : List (Option SignalContents)) (k : ℕ)
+pub touched-set : (advance : ℕ → ℤ) (j : ℕ) (ss : List SignalContents) (ns : List (Option SignalContents)) (k : ℕ)
     (s new : SignalContents) (n : Option SignalContents) → k < length ss → k < length ns
     → touched_from advance j (set ss k new) ns + touched_in_signal (advance (j + k)) (get_or ss k s) (get_or ns k n)
     ≡ touched_from advance j ss ns + touched_in_signal (advance (j + k)) new (get_or ns k n)

@@ -1,10 +1,10 @@
 -- Whether a signal other than one at a position has a name.
 use Rattle.std.proofs.Common.{◌≡◌, ◌<◌, ◌-◌, ◌+◌, add-one, Bool, true, false, ◌||◌, ℕ, suc, List}
 use Rattle.std.proofs.Common.{length, map, take}
-use Rattle.std.proofs.Common.{drop, get_or, refl, sym, ◌∙◌, ap, arith}
+use Rattle.std.proofs.Common.{drop, get_or, refl, sym, ◌∙◌, ap}
 use Rattle.std.specs.List.{list_any, remove}
 use Rattle.std.specs.Str.{bytes_eq}
-use Rattle.std.proofs.lemmas.List.{map-append, take-map, drop-map, take_all, length-drop}
+use Rattle.std.proofs.lemmas.List.{map-append, take-map, drop-map, take_rest}
 use Rattle.std.proofs.lemmas.Bool.{or_left}
 use Rattle.std.proofs.lemmas.List.Folds.{list_any-append}
 use Rattle.vcd_core.specs.declared.capture.Signal.{Signal}
@@ -25,12 +25,6 @@ has_other name signals k =
     ∙ list_any-append (bytes_eq name) (full_names (take k (map signal_contents signals)))
     (full_names (drop (suc k) (map signal_contents signals)))
     ∙ rw (take-map signal_contents k signals, drop-map signal_contents (suc k) signals) refl
-
--- the signals after a position
-pub following : (k : ℕ) (signals : List Signal)
-    → take (length signals - (k + 1)) (drop (k + 1) signals) ≡ drop (suc k) signals
-following k signals =
-    rw add-one (take_all (length signals - suc k) (drop (suc k) signals) (omega (arith, length-drop (suc k) signals)))
 
 module _ (signals : List Signal) (k : ℕ) (s : Signal) (word name : List ℕ) (within : k < length signals)
     (at : s ≡ get_or signals k s) (given : name ≡ full_name (renamed_signal word (signal_contents s))) where
@@ -56,5 +50,6 @@ module _ (signals : List Signal) (k : ℕ) (s : Signal) (word name : List ℕ) (
       (full_names (remove (map signal_contents signals) k))
   taken_after f r is fails decides =
       decides ∙ ap (λ (ss : List Signal). list_any (bytes_eq name) (full_names (map signal_contents ss)))
-      (following k signals) ∙ ap (λ first. first || list_any (bytes_eq name)
+      (take_rest signals (k + 1) ∙ ap (λ n. drop n signals) (add-one k))
+      ∙ ap (λ first. first || list_any (bytes_eq name)
       (full_names (map signal_contents (drop (suc k) signals)))) (sym fails ∙ is) ∙ sym name_taken

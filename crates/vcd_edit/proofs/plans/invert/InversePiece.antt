@@ -19,21 +19,6 @@ use Rattle.vcd_edit.proofs.plans.WithoutRepeats.{mapped_value}
 -- ---- the changes of a wave, one after another
 
 -- the last change added, while the rest remains
-pub without_repeats_more : (before last : List Bit) (c : Change) (out more rest all : List Change)
-    → out ++ without_repeats last (c ∷ rest) ≡ all → more ≡ out ++ unless_same (same_letters c.value last) c []
-    → more ++ without_repeats c.value rest ≡ all
-unfolding without_repeats
-without_repeats_more before last c out more rest all was put =
-    ap (λ (cs : List Change). cs ++ without_repeats c.value rest) put
-    ∙ append_assoc out (unless_same (same_letters c.value last) c []) (without_repeats c.value rest)
-    ∙ ap (λ (cs : List Change). out ++ cs) (joined (same_letters c.value last)) ∙ was
-  where
-    joined : (b : Bool) → unless_same b c [] ++ without_repeats c.value rest
-        ≡ unless_same b c (without_repeats c.value rest)
-    joined true = refl
-    joined false = refl
-
--- one more change
 pub inverse_more : (before last value : List Bit) (cs : List Change) (i : ℕ) (c : Change) (out more : List Change)
     → i < length cs → c ≡ get_or cs i c → value ≡ map not_bit c.value
     → out ++ without_repeats last (map (mapped_change (map not_bit)) (drop i cs))
@@ -41,14 +26,22 @@ pub inverse_more : (before last value : List Bit) (cs : List Change) (i : ℕ) (
     → more ≡ out ++ unless_same (same_letters value last) (change c.tick value) []
     → more ++ without_repeats value (map (mapped_change (map not_bit)) (drop (i + 1) cs))
     ≡ without_repeats before (map (mapped_change (map not_bit)) cs)
+unfolding without_repeats
 inverse_more before last value cs i c out more within at is was put =
-    ap (λ v. more ++ without_repeats v (map (mapped_change (map not_bit)) (drop (i + 1) cs))) is
-    ∙ without_repeats_more before last (mapped_change (map not_bit) c) out more
-    (map (mapped_change (map not_bit)) (drop (i + 1) cs))
-    (without_repeats before (map (mapped_change (map not_bit)) cs))
-    (ap (λ (rest : List Change). out ++ without_repeats last rest)
-    (sym (ap (map (mapped_change (map not_bit))) (drop_here cs i c within at))) ∙ was)
-    (put ∙ ap (λ v. out ++ unless_same (same_letters v last) (change c.tick v) []) is)
+    ap (λ (l : List Change). l ++ without_repeats value rest) put
+    ∙ append_assoc out (unless_same (same_letters value last) (change c.tick value) []) (without_repeats value rest)
+    ∙ ap (λ (l : List Change). out ++ l) (joined (same_letters value last))
+    ∙ ap (λ v. out ++ unless_same (same_letters v last) (change c.tick v) (without_repeats v rest)) is
+    ∙ ap (λ (l : List Change). out ++ without_repeats last (map (mapped_change (map not_bit)) l))
+    (sym (drop_here cs i c within at)) ∙ was
+  where
+    rest : List Change
+    rest = map (mapped_change (map not_bit)) (drop (i + 1) cs)
+
+    joined : (b : Bool) → unless_same b (change c.tick value) [] ++ without_repeats value rest
+        ≡ unless_same b (change c.tick value) (without_repeats value rest)
+    joined true = refl
+    joined false = refl
 
 -- none remains
 pub inverse_done : (before last : List Bit) (cs : List Change) (i : ℕ) (out : List Change) → length cs ≤ i
