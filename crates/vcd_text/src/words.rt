@@ -44,6 +44,7 @@ impl<'a> Words<'a> {
     }
 
     /// The next word; none at the end. It moves past the word, or to the end.
+    #[tactic(auto, using(crate::proofs::words::WordsInTurn::next_word_steps))]
     pub fn next_word(&mut self) -> Option<WordOnLine<'a>>
         ensures words { MatchOption result (words_left self.old ≡ []) (λ word.
             words_left self.old ≡ word_contents word ∷ words_left self.new) }

@@ -4,24 +4,19 @@ use Rattle.std.proofs.Common.{refl, arith}
 use Rattle.std.proofs.lemmas.Bool.{ltb-true}
 use Rattle.std.proofs.lemmas.List.{length-append}
 use Rattle.std.proofs.lemmas.List.Elements.{filter-append}
-use Rattle.vcd_text.specs.Items.{Item, entry, timescale, scope, upscope, variable, end_definitions, stamp, scalar}
-use Rattle.vcd_text.specs.Items.{vector, real_or_string, dump_word, other}
-use Rattle.vcd_text.specs.Grammar.{VariableDeclaration, ParseState, AllowsAll, state_after, state_after_item}
-use Rattle.vcd_text.specs.Grammar.{is_skipped, kept_variables, declaration_of, variable_of, may_have_code}
-use Rattle.vcd_text.specs.inside.reading.Variables.{is_within_limit}
-use Rattle.vcd_text.specs.Grammar.{Allows}
+use Rattle.vcd_text.specs.Items.{Item}
+use Rattle.vcd_text.specs.Grammar.{ParseState, AllowsAll, state_after, state_after_item}
+use Rattle.vcd_text.specs.Grammar.{kept_variables}
 use Rattle.vcd_text.proofs.shared.ItemTests.{has_declaration}
 
 -- no more variables are kept
 abbrev pub KeepsFew : ParseState → Type 0
 KeepsFew c = length (kept_variables c.declared) ≤ c.limit
 
-few_after_item : (c : ParseState) (i : Item) → Allows c i → KeepsFew c → KeepsFew (state_after_item c i)
-few_after_item c i allows few = grind (arith, filter-append, length-append, ltb-true, has_declaration)
-
 pub few_after : (c : ParseState) (is : List Item) → AllowsAll c is → KeepsFew c → KeepsFew (state_after c is)
 few_after c [] allows few = few
-few_after c (i ∷ is) (allows, rest) few = few_after (state_after_item c i) is rest (few_after_item c i allows few)
+few_after c (i ∷ is) (allows, rest) few = few_after (state_after_item c i) is rest
+    (grind (arith, filter-append, length-append, ltb-true, has_declaration))
 
 -- the limit stays
 pub same_limit : (c : ParseState) (is : List Item) → (state_after c is).limit ≡ c.limit

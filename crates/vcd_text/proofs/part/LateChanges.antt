@@ -10,7 +10,6 @@ use Rattle.vcd_core.specs.declared.bit.Bit.{Bit}
 use Rattle.vcd_text.specs.Letters.{extension}
 use Rattle.vcd_text.specs.Items.{Item}
 use Rattle.vcd_text.specs.Grammar.{VariableDeclaration, ValueChange, ParseState, AllowsAll, state_after}
-use Rattle.vcd_text.specs.Grammar.{Allows}
 use Rattle.vcd_text.proofs.shared.ItemTests.{has_tick}
 use Rattle.vcd_text.specs.Grammar.{state_after_item, is_skipped, value_changes_after}
 use Rattle.vcd_core.specs.Wave.{value_from}
@@ -35,14 +34,11 @@ one_more c code letters (Some d) late = choose (is_skipped d)
     choose true = rw (append-nil c.value_changes) late
     choose false = All-push (λ (r : ValueChange). r.tick ≤ c.tick) c.value_changes r late (omega arith)
 
-late_after_item : (c : ParseState) (i : Item) → Allows c i → UpToTick c.tick c.value_changes
-    → UpToTick (state_after_item c i).tick (state_after_item c i).value_changes
-late_after_item c i allows late = grind (arith, has_tick, one_more)
-
 pub late_after : (c : ParseState) (is : List Item) → AllowsAll c is → UpToTick c.tick c.value_changes
     → UpToTick (state_after c is).tick (state_after c is).value_changes
 late_after c [] allows late = late
-late_after c (i ∷ is) (allows, rest) late = late_after (state_after_item c i) is rest (late_after_item c i allows late)
+late_after c (i ∷ is) (allows, rest) late = late_after (state_after_item c i) is rest
+    (grind (arith, has_tick, one_more))
 
 -- ---- values
 

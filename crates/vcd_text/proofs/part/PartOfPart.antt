@@ -4,7 +4,7 @@ use Rattle.std.proofs.Common.{refl, sym, ap, ◌∙◌, arith}
 use Rattle.std.specs.Prelude.{filter}
 use Rattle.std.proofs.lemmas.Bool.{cases_lt}
 use Rattle.std.proofs.lemmas.List.Elements.{All-head, All-tail}
-use Rattle.vcd_core.specs.Wave.{changes_of, value_at}
+use Rattle.vcd_core.specs.Wave.{changes_of}
 use Rattle.vcd_core.specs.Contents.{SignalContents, signal_value}
 use Rattle.vcd_core.specs.Sound.{IsSoundSignal}
 use Rattle.vcd_core.proofs.shared.Waves.{changes_same, value_at-changes_of, changes_end}
@@ -21,18 +21,12 @@ module _ (a b : TickRange) (end : ℕ) (within : b.first ≤ a.last - a.first) w
   abbrev twice : ℕ
   twice = min b.last once - b.first
 
-  -- the value at a tick of the part's part
-  same_value : (s : SignalContents) (t : ℕ) → IsSoundSignal end s → t ≤ twice
-      → value_at s.width (changes_of s.width once (λ u. signal_value s (a.first + u))) (b.first + t)
-      ≡ signal_value s ((a.first + b.first) + t)
-  same_value s t sound to = grind (arith, cases_lt once (b.first + t), value_stays, changes_end, value_at-changes_of)
-
   same_part : (s : SignalContents) (n : ℕ) → IsSoundSignal end s → n ≡ twice
       → part_of_signal b.first twice (part_of_signal a.first once s) ≡ part_of_signal (a.first + b.first) n s
   same_part s n sound is =
-      let changes = changes_same s.width twice _ (λ t. signal_value s ((a.first + b.first) + t))
-      (λ t to. same_value s t sound to)
-      ∙ ap (λ m. changes_of s.width m (λ t. signal_value s ((a.first + b.first) + t))) (sym is) in
+      let changes = changes_same s.width twice _ (λ t. signal_value s ((a.first + b.first) + t)) (λ t to.
+      grind (arith, cases_lt once (b.first + t), value_stays, changes_end, value_at-changes_of)) ∙ ap (λ m. changes_of
+      s.width m (λ t. signal_value s ((a.first + b.first) + t))) (sym is) in
       λ i. record s { changes = changes i }
 
   -- one signal before the others

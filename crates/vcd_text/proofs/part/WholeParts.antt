@@ -73,9 +73,8 @@ part_is_sound takes ticks c sound few =
       timescale = sound.timescale;
       end = omega (arith, sound.end);
       few = omega (arith, few, length-map (filter taken c.signals) (part_of_signal ticks.first end));
-      signals = All-map (IsSoundSignal end) (part_of_signal ticks.first end) (filter taken c.signals)
-          (λ k d within. sound_signal ticks.first c.end end _
-          (All-filter taken (IsSoundSignal c.end) c.signals sound.signals k d within));
+      signals = All-map (IsSoundSignal end) _ (filter taken c.signals) (λ k d within. sound_signal ticks.first c.end end
+          _ (All-filter taken (IsSoundSignal c.end) c.signals sound.signals k d within));
     }
 
 -- the meaning of a file is sound
@@ -93,10 +92,8 @@ pub meant_is_sound : (limit : ℕ) (takes : SignalContents → Bool) (answers : 
     → IsSound (contents loaded.capture)
 unfolding part_is_meant
 meant_is_sound limit takes answers file loaded asked means answered =
-    let part = part_is_meant limit takes answers file loaded asked means answered in
-    rw part.is (part_is_sound takes part.ticks means.whole
-    (file_is_sound limit file means.whole loaded.skipped means.means)
-    (omega (
+    let part = part_is_meant _ _ _ _ _ _ means answered in
+    rw part.is (part_is_sound takes part.ticks _ (file_is_sound _ _ _ _ means.means) (omega (
       arith,
       answered.few,
       taken_long takes means.whole.signals,
@@ -138,10 +135,9 @@ loaded_whole : (answers : Answers) (file : List ℕ) (loaded : Loaded)
     → answers timescale ss (Some ticks) → ticks ≡ all_ticks)
     → (means : PartMeans SIGNAL_LIMIT (λ _. true) answers file loaded) → contents loaded.capture ≡ means.whole
 loaded_whole answers file loaded all means =
-    let sound = file_is_sound SIGNAL_LIMIT file means.whole loaded.skipped means.means in
+    let sound = file_is_sound _ _ _ _ means.means in
     let ticks = all means.whole.timescale (map without_changes means.whole.signals) means.ticks means.answered in
-    means.is ∙ whole_is (λ _. true) means.ticks means.whole (λ s. refl)
-    (ap (λ (t : TickRange). t.first) ticks)
+    means.is ∙ whole_is _ _ _ (λ s. refl) (ap (λ (t : TickRange). t.first) ticks)
     (omega (arith, sound.end, ap (λ (t : TickRange). t.last) ticks)) sound.signals
 
 pub whole_means_of_read : (coming : Option (List ℕ)) (answers : Answers) (loaded : Loaded)
@@ -153,8 +149,7 @@ pub whole_means_of_read : (coming : Option (List ℕ)) (answers : Answers) (load
 whole_means_of_read None answers loaded all means = means
 whole_means_of_read (Some file) answers loaded all (short, means) = (
   short,
-  subst (λ d. FileMeans SIGNAL_LIMIT file d loaded.skipped)
-      (sym (loaded_whole answers file loaded all means)) means.means,
+  subst (λ d. FileMeans SIGNAL_LIMIT file d loaded.skipped) (sym (loaded_whole _ _ _ all means)) means.means,
 )
 
 pub whole_extent_of_read : (coming : Option (List ℕ)) (answers : Answers) (loaded : Loaded)

@@ -1,5 +1,5 @@
 -- The changes of a capture's text are allowed, and these are their value changes.
-use Rattle.std.proofs.Common.{◌≡◌, ℕ, zero, suc, ◌+◌, ◌==◌, ◌<◌, ◌≤◌, true, false}
+use Rattle.std.proofs.Common.{◌≡◌, ℕ, zero, suc, ◌+◌, ◌<◌, ◌≤◌, true, false}
 use Rattle.std.proofs.Common.{List, [], ◌∷◌, ◌++◌, length, map, get_or, Some, Bool, ◌∙◌}
 use Rattle.std.proofs.Common.{All, refl, sym, append_assoc, arith}
 use Rattle.std.specs.Prelude.{find, bytes_eq}
@@ -16,7 +16,7 @@ use Rattle.vcd_core.specs.Word.{is_one_of}
 use Rattle.vcd_text.specs.Letters.{short_form}
 use Rattle.vcd_text.specs.Items.{Item, dump_word, dump_words}
 use Rattle.vcd_text.specs.Grammar.{ValueChange, ParseState, is_skipped}
-use Rattle.vcd_text.specs.Text.{code_of, differing, differs_at, first_items}
+use Rattle.vcd_text.specs.Text.{code_of, differing, first_items}
 use Rattle.vcd_text.specs.inside.writing.Transitions.{stamp_of}
 use Rattle.vcd_text.specs.Text.{with_stamp, value_item, value_items}
 use Rattle.vcd_text.specs.inside.writing.Transitions.{items_of_ticks}
@@ -26,8 +26,10 @@ use Rattle.vcd_text.proofs.read_back.DeclaredSignals.{declared_as, declared_stat
 use Rattle.vcd_text.proofs.read_back.DeclaredSignals.{sound_is_kept}
 use Rattle.vcd_text.proofs.shared.ItemsInTurn.{Reaches, reaches_both, reaches_none, reaches_one}
 use Rattle.vcd_text.proofs.shared.ItemsInTurn.{reaches_same}
-use Rattle.vcd_text.proofs.read_back.Values.{letter_back, letters_back, printed_is_value, short_within}
+use Rattle.vcd_text.proofs.read_back.Values.{letter_back, letters_back, short_within}
 use Rattle.vcd_text.proofs.read_back.Values.{short_one, length-value_at}
+use Rattle.std.proofs.lemmas.Bool.{ne_eqb}
+use Rattle.vcd_text.proofs.read_back.Values.{all_letters}
 
 -- ---- one value
 
@@ -54,7 +56,7 @@ module _ (c : Contents) (p : ℕ × SignalContents) (positioned : IsFoundByCode 
         (state_at c (value_changes ++ record { tick = t; code = code_of p.0; letters = short_form v } ∷ []) t)
     value_leads_of [] wide = absurd (omega (arith, wide, positioned.some))
     value_leads_of (b ∷ []) wide = grind (arith, letter_back, code_not_empty, letters_back, short_one)
-    value_leads_of (b ∷ d ∷ v) wide = grind (arith, short_within, length-map, printed_is_value, le-leb, letters_back)
+    value_leads_of (b ∷ d ∷ v) wide = grind (arith, short_within, length-map, ne_eqb, all_letters, le-leb, letters_back)
 
     value_leads : Reaches (state_at c value_changes t) (value_item (code_of p.0) (signal_value p.1 t) ∷ [])
         (state_at c (value_changes ++ value_change_of t p ∷ []) t)
@@ -66,10 +68,9 @@ pub values_lead : (c : Contents) (positioned : List (ℕ × SignalContents)) (va
     → All (IsFoundByCode c) positioned → Reaches (state_at c value_changes t) (value_items t positioned)
     (state_at c (value_changes ++ map (value_change_of t) positioned) t)
 values_lead c [] value_changes t all = grind (arith, reaches_same, reaches_none, append-nil)
-values_lead c (p ∷ ps) value_changes t all = rw (append_assoc value_changes (value_change_of t p ∷ [])
-    (map (value_change_of t) ps)) at (reaches_both _ _ _ _ _ (value_leads c p
-    (All-head (IsFoundByCode c) p ps all) value_changes t) (values_lead c ps (value_changes ++ value_change_of t p ∷ [])
-    t (All-tail (IsFoundByCode c) p ps all)))
+values_lead c (p ∷ ps) value_changes t all = rw (append_assoc value_changes (value_change_of t p ∷ []) (map
+    (value_change_of t) ps)) at (reaches_both _ _ _ _ _ (value_leads _ _ (All-head (IsFoundByCode c) p ps all) _ _)
+    (values_lead c ps (value_changes ++ value_change_of t p ∷ []) t (All-tail (IsFoundByCode c) p ps all)))
 
 -- ---- stamps and words of dumps
 
@@ -133,11 +134,9 @@ unfolding items_of_ticks tick_value_changes
 ticks_lead c zero value_changes u t later at last within all = grind (arith, reaches_same, reaches_none, append-nil)
 ticks_lead c (suc n) value_changes u t later at last within all =
     let here = map (value_change_of t) (differing c.signals t) in
-    one_tick c _ value_changes u t (t == c.end) (differing c.signals t) (items_of_ticks c.signals c.end (suc t) n)
-    (omega arith) (omega arith) (All-filter (λ p. differs_at t p.1) (IsFoundByCode c) (enumerate_from 0 c.signals) all)
-    (λ v le ends. reaches_same _ _ _ _ (ticks_lead c n (value_changes ++ here) v (suc t) (omega arith) (omega arith)
-    (λ none. let end : t ≡ c.end = omega arith in ends (eq-eqb t c.end end) ∙ end) within all)
-    (grind (arith, append_assoc)))
+    one_tick _ _ _ _ _ _ _ _ (omega arith) (omega arith) (All-filter _ (IsFoundByCode c) _ all) (λ v le ends.
+    reaches_same _ _ _ _ (ticks_lead c n (value_changes ++ here) v (suc t) (omega arith) (omega arith) (λ none. let end
+    : t ≡ c.end = omega arith in ends (eq-eqb t c.end end) ∙ end) within all) (grind (arith, append_assoc)))
 
 -- ---- the changes
 
@@ -163,7 +162,6 @@ pub changes_lead : (c : Contents) → IsSound c
     → Reaches (declared_state c) (first_items c.signals ++ items_of_ticks c.signals c.end 1 c.end)
     (state_at c (value_changes_of c) c.end)
 changes_lead c sound =
-    let positioned = all_found_by_code c sound in
-    reaches_both _ _ _ (first_items c.signals) (items_of_ticks c.signals c.end 1 c.end) (first_leads c positioned)
-    (ticks_lead c c.end (map (value_change_of 0) (enumerate_from 0 c.signals)) 0 1 (omega arith) (omega arith)
-    (λ none. sym none) sound.end positioned)
+    let positioned = all_found_by_code _ sound in
+    reaches_both _ _ _ _ _ (first_leads _ positioned) (ticks_lead _ _ _ _ _ (omega arith) (omega arith) (λ none. sym
+    none) sound.end positioned)

@@ -45,10 +45,6 @@ digits_printable a zero = refl
 digits_printable zero (suc n) = refl
 digits_printable (suc a) (suc n) = grind (arith, and_from, le-leb, digits_printable a (n / 94))
 
--- each byte of a code is printable
-pub code_printable : (k : ℕ) → list_all is_code_byte (code_of k) ≡ true
-code_printable k = digits_printable (k + 1) (k + 1)
-
 -- a code has a byte
 pub code_not_empty : (k : ℕ) → 0 < length (code_of k)
 unfolding code_digits
@@ -72,7 +68,7 @@ printable_is_no_space b printable =
 
 -- a code has no white space
 pub code_no_space : (k : ℕ) → list_all (λ b. not (is_white_space b)) (code_of k) ≡ true
-code_no_space k = all_weaker is_code_byte _ printable_is_no_space (code_of k) (code_printable k)
+code_no_space k = all_weaker is_code_byte _ printable_is_no_space (code_of k) (digits_printable (k + 1) (k + 1))
 
 -- a code is not `$end`
 pub code_no_end : (k : ℕ) → k < SIGNAL_LIMIT → is_end_word (code_of k) ≡ false

@@ -3,7 +3,7 @@ use Rattle.std.proofs.Common.{◌≡◌, ℕ, ◌<◌, ◌^◌, true, List, leng
 use Rattle.std.specs.List.{list_all}
 use Rattle.std.proofs.lemmas.Bool.{leb-true, le-leb, ne_eqb}
 use Rattle.std.proofs.lemmas.Fmt.{decimal_nonempty, digits_decimal, digits_value-decimal}
-use Rattle.std.proofs.lemmas.Str.Parse.{IsDigitsTest, IsNumeralModel, numerals_by_value}
+use Rattle.std.proofs.lemmas.Str.Parse.{IsNumeralModel, numerals_by_value}
 use Rattle.std.specs.Char.{is_ascii_digit}
 use Rattle.vcd_core.specs.Decimal.{is_number, number_of}
 use Rattle.std.proofs.lemmas.Bool.{and_parts}
@@ -11,11 +11,8 @@ use Rattle.std.proofs.lemmas.Bool.{and_parts}
 abbrev pub AreDigits : List ℕ → Type 0
 AreDigits text = list_all is_ascii_digit text ≡ true
 
-tells_digits : IsDigitsTest AreDigits
-tells_digits = grind (arith, and_parts, leb-true, le-leb)
-
 pub reads_decimals : IsNumeralModel AreDigits number_of
-reads_decimals = numerals_by_value AreDigits tells_digits
+reads_decimals = numerals_by_value AreDigits (grind (arith, and_parts, leb-true, le-leb))
 
 pub decimal_not_empty : (n : ℕ) → n < 2 ^ 64 → 0 < length (decimal n)
 decimal_not_empty n small = decimal_nonempty n small

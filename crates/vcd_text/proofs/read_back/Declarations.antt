@@ -22,14 +22,12 @@ use Rattle.vcd_core.specs.declared.capture.TheConstants.{SIGNAL_LIMIT}
 use Rattle.vcd_core.specs.Contents.{Contents, SignalContents}
 use Rattle.vcd_core.specs.Sound.{is_sound_header, is_sound_timescale, IsSoundSignal, IsSound}
 use Rattle.std.specs.Char.{is_ascii_digit}
-use Rattle.vcd_core.specs.Decimal.{number_of}
-use Rattle.vcd_text.specs.Items.{Item, entry, variable, end_definitions}
+use Rattle.vcd_text.specs.Items.{Item, end_definitions}
 use Rattle.vcd_text.specs.inside.reading.Declarations.{is_end_word}
 use Rattle.vcd_text.specs.Grammar.{ParseState, VariableDeclaration, initial_state, declaration_of}
 use Rattle.vcd_text.specs.Grammar.{variable_of}
 use Rattle.vcd_text.specs.Grammar.{may_have_code}
-use Rattle.vcd_text.specs.inside.reading.Variables.{is_within_limit}
-use Rattle.vcd_text.specs.Text.{timescale_items, scope_items, code_of, variable_item}
+use Rattle.vcd_text.specs.Text.{timescale_items, code_of, variable_item}
 use Rattle.vcd_text.specs.inside.writing.Declarations.{header_items}
 use Rattle.vcd_text.specs.Text.{signal_items}
 use Rattle.vcd_text.specs.Text.{first_items, items_of}
@@ -42,7 +40,9 @@ use Rattle.vcd_text.proofs.shared.ItemsInTurn.{Reaches, reaches_none, reaches_fi
 use Rattle.vcd_text.proofs.shared.ItemTests.{allows_entry, allows_variable}
 use Rattle.vcd_text.proofs.shared.ItemsInTurn.{reaches_both, reaches_same}
 use Rattle.vcd_text.proofs.read_back.ScopePaths.{declaring, words_have_no_end, scopes_lead, scopes_end}
-use Rattle.vcd_text.proofs.read_back.Timescale.{sound_count, count_small, timescale_read}
+use Rattle.vcd_text.proofs.read_back.Timescale.{sound_count, count_small}
+use Rattle.vcd_text.proofs.read_back.Timescale.{counted}
+use Rattle.vcd_text.specs.Items.{variable}
 
 -- ---- header and timescale
 
@@ -51,10 +51,8 @@ header_leads : (prefix hs : List Header) → list_all is_sound_header hs ≡ tru
 header_leads prefix [] sound = grind (arith, reaches_same, reaches_none, append-nil)
 header_leads prefix (h ∷ hs) sound =
     let parts : (is_sound_header h ≡ true) × (list_all is_sound_header hs ≡ true) = grind (arith, and_parts) in
-    reaches_first (declaring prefix None [] []) (declaring (prefix ++ (h ∷ hs)) None [] []) (entry h.kind h.words)
-    (header_items hs)
-    (allows_entry (declaring prefix None [] []) h.kind h.words refl (words_have_no_end h.words parts.0))
-    (grind (arith, reaches_same, declaring, append_assoc, header_leads (prefix ++ h ∷ []) hs parts.1))
+    reaches_first _ _ _ _ (allows_entry (declaring prefix None [] []) h.kind h.words refl (words_have_no_end h.words
+    parts.0)) (grind (arith, reaches_same, declaring, append_assoc, header_leads (prefix ++ h ∷ []) hs parts.1))
 
 -- digits are not `$end`
 digits_no_end : (w : List ℕ) → list_all is_ascii_digit w ≡ true → is_end_word w ≡ false
@@ -67,7 +65,7 @@ timescale_leads : (h : List Header) (t : Option Timescale) → IfSome t (λ t. I
     → Reaches (declaring h None [] []) (timescale_items t) (declaring h t [] [])
 timescale_leads h None sound = reaches_none (declaring h None [] [])
 timescale_leads h (Some t) sound =
-    grind (arith, timescale_read, and_from, decimal_no_end, count_small, sound_count, reaches_one)
+    grind (arith, append-nil, counted, and_from, decimal_no_end, count_small, sound_count, reaches_one)
 
 -- ---- variables
 
@@ -103,12 +101,10 @@ signals_lead h t opened ds end k [] sound few at below = search (arith, reaches_
 signals_lead h t opened ds end k (s ∷ ss) sound few at below =
     let more : List VariableDeclaration = ds ++ declared_as k s ∷ [] in
     let one_more : length more ≡ length ds + 1 = length-append ds (declared_as k s ∷ []) in
-    reaches_both _ _ _ (scope_items opened s.scopes) (variable_item k s ∷ signal_items s.scopes (suc k) ss)
-    (scopes_lead h t opened s.scopes ds sound.0.scopes) (reaches_both _ _ _ (variable_item k s ∷ [])
-    (signal_items s.scopes (suc k) ss) (variable_leads h t ds end k s sound.0 (omega arith) at below)
-    (reaches_same _ _ _ _ (signals_lead h t s.scopes more end (suc k) ss sound.1 (omega arith) (omega arith)
-    (grind (arith, false_from_ne_true, codes_differ, bytes_eq-Decides, find-append))) (ap (λ l. declaring h t [] l)
-    (append_assoc ds (declared_as k s ∷ []) (declared_of (suc k) ss)))))
+    reaches_both _ _ _ _ _ (scopes_lead _ _ _ _ _ sound.0.scopes) (reaches_both _ _ _ _ _ (variable_leads _ _ _ _ _ _
+    sound.0 (omega arith) at below) (reaches_same _ _ _ _ (signals_lead h t s.scopes more end (suc k) ss sound.1 (omega
+    arith) (omega arith) (grind (arith, false_from_ne_true, codes_differ, bytes_eq-Decides, find-append))) (ap (λ l.
+    declaring h t [] l) (append_assoc ds (declared_as k s ∷ []) (declared_of (suc k) ss)))))
 
 -- ---- all declarations
 
@@ -121,11 +117,9 @@ pub declarations_lead : (c : Contents) → IsSound c → Reaches (initial_state 
     (declared_state c)
 declarations_lead c sound =
     let few : length c.signals ≤ SIGNAL_LIMIT = sound.few in
-    let prefix : List Item = header_items c.header ++ timescale_items c.timescale in
-    reaches_both _ _ _ _ _ (reaches_both _ _ _ prefix _ (reaches_both _ _ _ _ _ (header_leads [] _ sound.header)
-    (timescale_leads _ _ sound.timescale)) (signals_lead _ _ [] [] c.end 0 _
-    (recursion_from_All (IsSoundSignal c.end) c.signals sound.signals) (omega arith) refl (λ j from. refl)))
-    (reaches_one _ _ _ (refl, refl) refl)
+    reaches_both _ _ _ _ _ (reaches_both _ _ _ _ _ (reaches_both _ _ _ _ _ (header_leads _ _ sound.header)
+    (timescale_leads _ _ sound.timescale)) (signals_lead _ _ _ _ _ _ _ (recursion_from_All _ _ sound.signals) (omega
+    arith) refl (λ j from. refl))) (reaches_one _ _ _ (refl, refl) refl)
 
 -- the declarations, and the items after them
 pub items_in_two : (c : Contents) → items_of c ≡ declaration_items c

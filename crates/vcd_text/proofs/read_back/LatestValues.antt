@@ -19,9 +19,9 @@ use Rattle.vcd_text.specs.inside.reading.Variables.{latest_value}
 use Rattle.vcd_text.proofs.reading.variables.ChangedVariable.{latest_value-append}
 use Rattle.vcd_text.specs.Text.{code_of, differing, differs_at}
 use Rattle.vcd_text.proofs.read_back.DeclaredSignals.{other_code}
-use Rattle.vcd_text.proofs.read_back.Values.{ext-short}
 use Rattle.vcd_text.proofs.read_back.Changes.{value_change_of, tick_value_changes}
 use Rattle.std.proofs.lemmas.Slice.Eq.{bytes_eq-Decides}
+use Rattle.vcd_text.proofs.read_back.Values.{found_passes}
 
 -- for one signal, at the position k and the tick t
 module _ (width k t : ℕ) where
@@ -77,7 +77,8 @@ module _ (signals : List SignalContents) (k t : ℕ) (d : SignalContents) (insid
   signal = get_or signals k d
 
   whole : (u : ℕ) → extension signal.width (short_form (signal_value signal u)) ≡ signal_value signal u
-  whole u = grind (arith, ext-short)
+  unfolding short_form
+  whole u = grind (arith, same_letters-Decides, found_passes)
 
   -- a value that differs is listed, and one that does not stays
   at_tick : (u : ℕ) → u ≤ t → latest_value signal.width (code_of k) t (signal_value signal (u - 1))
@@ -88,7 +89,7 @@ module _ (signals : List SignalContents) (k t : ℕ) (d : SignalContents) (insid
       grind (arith, here, same_letters-Decides, whole)
 
   -- the ticks from u on, if the value at the tick before is given
-  from_tick : (u n : ℕ) → u ≤ t + 1 → t < u + n
+  pub from_tick : (u n : ℕ) → u ≤ t + 1 → t < u + n
       → latest_value signal.width (code_of k) t (signal_value signal (u - 1)) (tick_value_changes signals u n)
       ≡ signal_value signal t
   unfolding changes_of_code value_from tick_value_changes
@@ -103,15 +104,9 @@ module _ (signals : List SignalContents) (k t : ℕ) (d : SignalContents) (insid
       ]
 
   -- the values at tick 0
-  at_start : latest_value signal.width (code_of k) t (all_x signal.width)
+  pub at_start : latest_value signal.width (code_of k) t (all_x signal.width)
       (map (value_change_of 0) (enumerate_from 0 signals)) ≡ signal_value signal 0
   at_start =
       let here = own_value_change signal.width k t 0 (λ p. true) signals k 0 d (all_x signal.width) (omega arith) inside
       (omega arith) in
       grind (arith, here, filter_all, whole)
-
-  -- at each tick up to the end the value changes give the value
-  pub latest_is : (end : ℕ) → t ≤ end
-      → latest_value signal.width (code_of k) t (all_x signal.width) (map (value_change_of 0) (enumerate_from 0 signals)
-      ++ tick_value_changes signals 1 end) ≡ signal_value signal t
-  latest_is end within = grind (arith, latest_value-append, at_start, from_tick)

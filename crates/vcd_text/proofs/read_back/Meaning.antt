@@ -5,12 +5,14 @@ use Rattle.vcd_core.specs.Contents.{Contents, SignalContents}
 use Rattle.vcd_core.specs.Sound.{IsSound}
 use Rattle.vcd_core.proofs.shared.Waves.{wave_is}
 use Rattle.vcd_text.specs.Grammar.{VariableDeclaration, kept_variables}
-use Rattle.vcd_text.specs.Meaning.{declared_signal, meaning}
+use Rattle.vcd_text.specs.Meaning.{declared_signal}
 use Rattle.vcd_text.specs.inside.shared.SkippedCount.{skipped_count}
 use Rattle.vcd_text.proofs.read_back.DeclaredSignals.{all_sound_kept, declared_as, declared_of, none_skipped}
 use Rattle.vcd_text.proofs.read_back.Values.{length-value_at}
-use Rattle.vcd_text.proofs.read_back.LatestValues.{latest_is}
 use Rattle.vcd_text.proofs.read_back.Changes.{value_changes_of, state_at}
+use Rattle.vcd_text.proofs.read_back.LatestValues.{at_start}
+use Rattle.vcd_text.proofs.read_back.LatestValues.{from_tick}
+use Rattle.vcd_text.proofs.reading.variables.ChangedVariable.{latest_value-append}
 
 -- a function that restores each signal restores all
 signals_back : (f : VariableDeclaration → SignalContents) (j : ℕ) (ss : List SignalContents)
@@ -23,14 +25,11 @@ signals_back f j (s ∷ ss) each =
     let rest = signals_back f (suc j) ss (λ i k d at within. each (suc i) k d (omega arith) (omega arith)) in
     λ i. first i ∷ rest i
 
-signals_mean : (c : Contents) → IsSound c
+pub signals_mean : (c : Contents) → IsSound c
     → map (declared_signal (value_changes_of c) c.end) (kept_variables (declared_of 0 c.signals)) ≡ c.signals
 signals_mean c sound = ap (map (declared_signal (value_changes_of c) c.end)) (all_sound_kept c.end 0 _ sound.signals)
-    ∙ signals_back _ 0 _ (grind (arith, value_changes_of, declared_as, wave_is, latest_is, length-value_at))
-
--- the text of a sound capture means the capture
-pub text_means : (c : Contents) → IsSound c → c ≡ meaning (state_at c (value_changes_of c) c.end)
-text_means c sound = grind (arith, signals_mean)
+    ∙ signals_back _ 0 _
+    (grind (arith, value_changes_of, declared_as, wave_is, latest_value-append, at_start, from_tick, length-value_at))
 
 -- the text skips no variable
 pub text_skips_nothing : (c : Contents) → IsSound c → 0 ≡ skipped_count (state_at c (value_changes_of c) c.end)

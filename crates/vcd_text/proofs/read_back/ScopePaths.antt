@@ -17,7 +17,6 @@ use Rattle.vcd_core.specs.declared.capture.ScopeName.{ScopeName}
 use Rattle.vcd_core.specs.Word.{is_word}
 use Rattle.vcd_core.specs.Sound.{is_sound_scope}
 use Rattle.vcd_text.specs.Items.{scope, upscope, has_no_end_word}
-use Rattle.vcd_text.specs.inside.reading.Declarations.{is_end_word}
 use Rattle.vcd_core.specs.declared.capture.TheConstants.{SIGNAL_LIMIT}
 use Rattle.vcd_text.specs.Grammar.{ParseState, VariableDeclaration}
 use Rattle.vcd_text.specs.Text.{same_scope, scope_items}
@@ -42,26 +41,21 @@ declaring header timescale scopes declared =
       limit = SIGNAL_LIMIT;
     }
 
--- scopes that compare as the same are one
-same_scope_is : (a b : ScopeName) → same_scope a b ≡ true → a ≡ b
-same_scope_is a b same = grind (arith, pointwise, and_parts, bytes_eq-Decides, pointwise_decides)
-
 -- the prefix that two paths share is a prefix of both
 shared_prefix : (xs ys : List ScopeName)
     → take (common_prefix_len same_scope xs ys) xs ≡ take (common_prefix_len same_scope xs ys) ys
 shared_prefix [] [] = refl
 shared_prefix [] (y ∷ ys) = refl
 shared_prefix (x ∷ xs) [] = refl
-shared_prefix (x ∷ xs) (y ∷ ys) = cond_both (same_scope x y) (1 + common_prefix_len same_scope xs ys) 0
-    (λ n. take n (x ∷ xs) ≡ take n (y ∷ ys)) (λ same. rw (one-add (common_prefix_len same_scope xs ys))
-    (ap₂ (λ s l. s ∷ l) (same_scope_is x y same) (shared_prefix xs ys))) (λ other. refl)
+shared_prefix (x ∷ xs) (y ∷ ys) = cond_both (same_scope x y) (1 + common_prefix_len same_scope xs ys) 0 (λ n. take n (x
+    ∷ xs) ≡ take n (y ∷ ys)) (λ same. rw (one-add (common_prefix_len same_scope xs ys)) (ap₂ (λ s l. s ∷ l) (grind
+    (arith, pointwise, and_parts, bytes_eq-Decides, pointwise_decides)) (shared_prefix xs ys))) (λ other. refl)
 
 -- the scopes from an index on are sound
 pub later_scopes : (n : ℕ) (path : List ScopeName) → list_all is_sound_scope path ≡ true
     → list_all is_sound_scope (drop n path) ≡ true
-later_scopes n path sound = (and_parts (list_all is_sound_scope (take n path)) (list_all is_sound_scope (drop n path))
-    (sym (list_all-append is_sound_scope (take n path) (drop n path)) ∙ ap (list_all is_sound_scope)
-    (take-append-drop n path) ∙ sound)).1
+later_scopes n path sound = (and_parts _ _ (sym (list_all-append _ (take n path) (drop n path)) ∙ ap (list_all
+    is_sound_scope) (take-append-drop n path) ∙ sound)).1
 
 -- words are not `$end`
 pub words_have_no_end : (ws : List (List ℕ)) → list_all is_word ws ≡ true → has_no_end_word ws ≡ true
@@ -86,8 +80,7 @@ scopes_opened : (h : List Header) (t : Option Timescale) (prefix path : List Sco
 scopes_opened h t prefix [] ds sound = grind (arith, reaches_same, reaches_none, append-nil)
 scopes_opened h t prefix (s ∷ path) ds sound =
     let parts : (is_sound_scope s ≡ true) × (list_all is_sound_scope path ≡ true) = grind (arith, and_parts) in
-    reaches_first (declaring h t prefix ds) (declaring h t (prefix ++ (s ∷ path)) ds) (scope s.kind s.words)
-    (map (λ s. scope s.kind s.words) path) (grind (arith, allows_scope, words_have_no_end))
+    reaches_first _ _ _ _ (grind (arith, allows_scope, words_have_no_end))
     (grind (arith, reaches_same, append_assoc, scopes_opened h t (prefix ++ s ∷ []) path ds parts.1))
 
 -- from one path to another

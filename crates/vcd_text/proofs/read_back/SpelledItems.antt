@@ -1,7 +1,7 @@
 -- Every word of a capture's text has a byte and no white space.
 use Rattle.std.proofs.Common.{◌≡◌, ◌<◌, ◌≤◌, ◌+◌, ◌-◌, ◌^◌, ℕ, zero, suc, Bool, true, not, List, []}
-use Rattle.std.proofs.Common.{◌∷◌, ◌++◌, map, length, drop, replicate, Option, Some, None, IfSome}
-use Rattle.std.proofs.Common.{IsTrue, refl, ap, sym, subst, ◌∙◌, arith}
+use Rattle.std.proofs.Common.{◌∷◌, ◌++◌, map, length, replicate}
+use Rattle.std.proofs.Common.{refl, ap, sym, subst, ◌∙◌, arith}
 use Rattle.std.proofs.Common.{decimal}
 use Rattle.std.specs.List.{list_all, AllByRecursion, common_prefix_len}
 use Rattle.std.proofs.lemmas.Bool.{and_from, and_parts, and_right, or_from}
@@ -151,13 +151,11 @@ items_spelled c sound =
     let prefix : List Item = header_items c.header ++ timescale_items c.timescale in
     let declared : List Item = prefix ++ signal_items [] 0 c.signals in
     subst (λ ticks. list_all is_spelled (declared ++ end_definitions ∷ first_items c.signals ++ ticks) ≡ true)
-    (sym (ticks_in_turn c.signals c.end 1 c.end))
-    (both_spelled (declared ++ end_definitions ∷ first_items c.signals) (items_of_ticks c.signals c.end 1 c.end)
-    (both_spelled declared (end_definitions ∷ first_items c.signals)
-    (both_spelled prefix (signal_items [] 0 c.signals)
+    (sym (ticks_in_turn _ _ _ _)) (both_spelled (declared ++ end_definitions ∷ first_items c.signals) _
+    (both_spelled declared _ (both_spelled prefix _
     (grind (arith, both_spelled, header_spelled, and_from, decimal_unbroken, count_small, sound_count, one_word))
-    (signals_spelled c.end [] 0 c.signals (recursion_from_All (IsSoundSignal c.end) c.signals sound.signals)))
-    (and_from (is_spelled end_definitions) (list_all is_spelled (first_items c.signals)) refl
+    (signals_spelled _ _ _ _ (recursion_from_All _ _ sound.signals)))
+    (and_from _ (list_all is_spelled (first_items c.signals)) refl
     (grind (arith, both_spelled, and_from, one_word, longer_unbroken, decimal_no_space, values_spelled))))
     (ticks_spelled c.signals c.end 1 c.end (omega arith)))
 

@@ -1,6 +1,6 @@
 -- The timescale of a sound capture is read back.
-use Rattle.std.proofs.Common.{◌≡◌, ◌⊎◌, ◌++◌, ◌<◌, ◌^◌, ℕ, List, true, [], ◌∷◌, Some, inl, inr}
-use Rattle.std.proofs.Common.{arith, decimal, append-nil}
+use Rattle.std.proofs.Common.{◌≡◌, ◌⊎◌, ◌++◌, ◌<◌, ◌^◌, ℕ, List, true, Some, inl, inr}
+use Rattle.std.proofs.Common.{arith, decimal}
 use Rattle.std.specs.Prelude.{find, bytes_eq}
 use Rattle.std.specs.Fmt.{digits}
 use Rattle.std.proofs.lemmas.Bool.{or_cases, eqb-true}
@@ -8,7 +8,7 @@ use Rattle.vcd_core.specs.declared.capture.Timescale.{Timescale}
 use Rattle.vcd_core.specs.declared.capture.TimeUnit.{TimeUnit}
 use Rattle.vcd_core.specs.Sound.{is_sound_timescale}
 use Rattle.vcd_core.specs.TimeUnits.{unit_text}
-use Rattle.vcd_text.specs.Items.{timescales, timescale_of}
+use Rattle.vcd_text.specs.Items.{timescales}
 
 -- the counts of a unit that a tick can have (IEEE 1364-2005, 18.2)
 abbrev pub IsCount : ℕ → Type 0
@@ -30,13 +30,8 @@ found : (unit : TimeUnit) → found_in (decimal 1 ++ unit_text unit) (record { c
 unfolding digits
 found unit = grind arith
 
-counted : (n : ℕ) (unit : TimeUnit) → IsCount n
+pub counted : (n : ℕ) (unit : TimeUnit) → IsCount n
     → found_in (decimal n ++ unit_text unit) (record { count = n; unit = unit })
 counted n unit (inl e) = grind (arith, found)
 counted n unit (inr (inl e)) = rw e (found unit).1
 counted n unit (inr (inr e)) = rw e (found unit).2
-
--- its number and its unit, as two words, are read back
-pub timescale_read : (t : Timescale) → is_sound_timescale t ≡ true
-    → timescale_of (decimal t.count ∷ unit_text t.unit ∷ []) ≡ Some t
-timescale_read t sound = grind (arith, append-nil, counted, sound_count)

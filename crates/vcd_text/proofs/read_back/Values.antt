@@ -3,19 +3,16 @@ use Rattle.std.proofs.Common.{◌≡◌, ℕ, ◌+◌, ◌<◌, ◌≤◌, Bool,
 use Rattle.std.proofs.Common.{List, [], ◌∷◌, length, All, refl, ◌∙◌, arith, Some}
 use Rattle.std.specs.Prelude.{find, unwrap_or, is_some}
 use Rattle.std.specs.List.{list_all}
-use Rattle.std.proofs.lemmas.Bool.{ne_eqb}
-use Rattle.std.proofs.lemmas.List.{length-map, length-replicate}
+use Rattle.std.proofs.lemmas.List.{length-replicate}
 use Rattle.std.proofs.lemmas.List.Elements.{All-nil, All-push, All-head, All-tail}
 use Rattle.vcd_core.specs.declared.bit.Bit.{Bit}
 use Rattle.vcd_core.specs.declared.bit.Bit.TheVariants.{X}
 use Rattle.vcd_core.specs.declared.wave.Change.{Change}
 use Rattle.vcd_core.specs.Value.{printed_letter}
 use Rattle.vcd_core.specs.Wave.{value_from, value_at, AreChangesFrom, IsWave}
-use Rattle.vcd_core.specs.inside.value.EqualByLetters.{same_letters-Decides}
 use Rattle.vcd_text.specs.Letters.{is_binary_digit, letter_of_digit, letters_of_digits}
 use Rattle.vcd_text.specs.Letters.{printed_letters}
-use Rattle.vcd_text.specs.Letters.{extension, suffixes, short_form}
-use Rattle.vcd_text.specs.inside.reading.DigitTests.{is_binary_number}
+use Rattle.vcd_text.specs.Letters.{suffixes, short_form}
 
 -- ---- letters
 
@@ -26,17 +23,14 @@ pub letters_back : (s : List Bit) → letters_of_digits (printed_letters s) ≡ 
 letters_back [] = refl
 letters_back (b ∷ s) = λ i. unwrap_or (letter_back b i) X ∷ letters_back s i
 
-all_letters : (s : List Bit) → list_all is_binary_digit (printed_letters s) ≡ true
+pub all_letters : (s : List Bit) → list_all is_binary_digit (printed_letters s) ≡ true
 all_letters [] = refl
 all_letters (b ∷ s) = λ i. is_some (letter_back b i) && all_letters s i
-
-pub printed_is_value : (s : List Bit) → 0 < length s → is_binary_number (printed_letters s) ≡ true
-printed_is_value s some = grind (arith, ne_eqb, length-map, all_letters)
 
 -- ---- the short form
 
 -- the result of a search passes the test, or the other does
-found_passes : {A : Type 0} (p : A → Bool) (ys : List A) (x : A) → p x ≡ true → p (unwrap_or (find p ys) x) ≡ true
+pub found_passes : {A : Type 0} (p : A → Bool) (ys : List A) (x : A) → p x ≡ true → p (unwrap_or (find p ys) x) ≡ true
 found_passes p [] x passes = passes
 found_passes p (y ∷ ys) x passes = grind (arith, found_passes p ys x passes)
 
@@ -54,11 +48,6 @@ suffixes_within : (width : ℕ) (v : List Bit) → length v ≤ width → All (I
 suffixes_within width [] le = All-nil (IsWithin width)
 suffixes_within width (b ∷ s) le =
     All-push (IsWithin width) (suffixes s) (b ∷ s) (suffixes_within width s (omega arith)) (omega arith, le)
-
--- the extension of the short form is the value
-pub ext-short : (v : List Bit) → extension (length v) (short_form v) ≡ v
-unfolding short_form
-ext-short v = grind (arith, same_letters-Decides, found_passes)
 
 -- the short form of a value has a letter, and no more than the value
 pub short_within : (v : List Bit) → 0 < length v → (0 < length (short_form v)) × (length (short_form v) ≤ length v)

@@ -10,7 +10,8 @@ use Rattle.vcd_text.proofs.read_back.SpelledItems.{words_of_text}
 use Rattle.vcd_text.proofs.shared.ItemsInTurn.{Reaches, reaches_both}
 use Rattle.vcd_text.proofs.read_back.Changes.{changes_lead, value_changes_of, state_at}
 use Rattle.vcd_text.proofs.read_back.Declarations.{declarations_lead, items_in_two}
-use Rattle.vcd_text.proofs.read_back.Meaning.{text_means, text_skips_nothing}
+use Rattle.vcd_text.proofs.read_back.Meaning.{text_skips_nothing}
+use Rattle.vcd_text.proofs.read_back.Meaning.{signals_mean}
 
 -- the items of a sound capture's text are allowed in turn, and give the value changes of its
 -- signals
@@ -25,6 +26,6 @@ read_back c sound =
     record {
       state = state_at c (value_changes_of c) c.end;
       accepted = grind (arith, words_of_text);
-      means = text_means c sound;
+      means = grind (arith, signals_mean);
       left_out = text_skips_nothing c sound;
     }

@@ -11,7 +11,8 @@ use Rattle.vcd_text.specs.Faults.{ShowsFault}
 use Rattle.vcd_text.specs.FoundFaults.{IsFoundFault, word_shows, PrefixShows}
 use Rattle.vcd_text.proofs.shared.ItemsInTurn.{shown_by}
 use Rattle.vcd_text.proofs.words.WordsByBytes.{words_by_bytes, complete_by_bytes}
-use Rattle.vcd_text.specs.Grammar.{state_after, initial_state}
+use Rattle.vcd_text.specs.Grammar.{state_after}
+use Rattle.vcd_text.specs.Grammar.{initial_state}
 
 -- the first words of a list of words
 abbrev pub IsPrefix : List WordOnLine → List WordOnLine → Type 0
@@ -56,13 +57,11 @@ pub prefix_fault_found : (limit : ℕ) (prefix rest : List ℕ) (line : ℕ) (fa
     PrefixShows limit prefix line fault
     → IsFoundFault limit (prefix ++ rest) line fault
 prefix_fault_found limit prefix rest line fault s =
-    word_shows (shown_further limit (complete_words prefix) (words_of (prefix ++ rest)) line fault
-    (complete_in_file prefix rest) s)
+    word_shows (shown_further _ _ _ _ _ (complete_in_file _ rest) s)
 
 -- the fault of a prefix is that of a longer prefix as well
 pub longer_prefix_fault : (limit : ℕ) (prefix rest : List ℕ) (line : ℕ) (fault : Fault) →
     PrefixShows limit prefix line fault
     → PrefixShows limit (prefix ++ rest) line fault
 longer_prefix_fault limit prefix rest line fault s =
-    shown_further limit (complete_words prefix) (complete_words (prefix ++ rest)) line fault
-    (complete_in_longer prefix rest) s
+    shown_further _ _ _ _ _ (complete_in_longer _ rest) s

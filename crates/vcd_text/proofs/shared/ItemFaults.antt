@@ -10,13 +10,11 @@ use Rattle.vcd_core.specs.Word.{is_one_of}
 use Rattle.vcd_text.specs.declared.fault.Fault.{Fault}
 use Rattle.vcd_text.specs.declared.fault.Fault.TheVariants.{UnexpectedWord, BadScope, UpscopeAtTop, BadVar, BadChange}
 use Rattle.vcd_text.specs.Letters.{is_among, is_binary_digit}
-use Rattle.vcd_text.specs.Items.{scope, upscope, variable, end_definitions, stamp, scalar}
-use Rattle.vcd_text.specs.Items.{real_or_string, other}
+use Rattle.vcd_text.specs.Items.{scope, upscope, variable, end_definitions, stamp}
 use Rattle.vcd_text.specs.Items.{end_word, begins_section}
 use Rattle.vcd_text.specs.inside.reading.Declarations.{is_end_word}
 use Rattle.vcd_text.specs.Items.{declaration_words}
 use Rattle.vcd_text.specs.inside.reading.DigitTests.{vector_prefixes, real_or_string_prefixes}
-use Rattle.vcd_text.specs.inside.reading.Declarations.{header_words}
 use Rattle.vcd_text.specs.Grammar.{ParseState, fits}
 use Rattle.vcd_text.specs.Faults.{GoesOn, misfit_fault, WordShows, test_fails, misfits}
 use Rattle.vcd_text.proofs.shared.OneOf.{by_one_of}
@@ -38,14 +36,11 @@ misfit_declares c begun word next fault declares some none is =
 pub some_declaration : (c : ParseState) → IsFalse c.in_body → GoesOn c [] (codes "$enddefinitions")
 some_declaration c declares = (end_definitions, end_word ∷ [], not_from_false _ declares, refl)
 
-not_upscope : (word : List ℕ) → IsFalse (begins_section word) → misfit_fault false [] word ≡ UnexpectedWord
-not_upscope word n = grind (arith, cases_Bool, bytes_eq-Decides)
-
 -- a word that begins no section
 pub begins_no_section : (c : ParseState) (word : List ℕ) → IsFalse c.in_body → IsFalse (begins_section word)
     → WordShows c [] word UnexpectedWord
-begins_no_section c word declares isnt = misfit_declares c [] word _ UnexpectedWord declares
-    (some_declaration c declares) (grind (arith, clash, before_end, goes_as)) (not_upscope word isnt)
+begins_no_section c word declares isnt = misfit_declares c [] word _ UnexpectedWord declares (some_declaration c
+    declares) (grind (arith, clash, before_end, goes_as)) (grind (arith, cases_Bool, bytes_eq-Decides))
 
 -- `$upscope` while no scope is open
 pub upscope_at_top : (c : ParseState) → IsFalse c.in_body → c.scopes ≡ []
@@ -89,22 +84,17 @@ no_size c kind word declares k isnt =
 -- ---- among the changes
 
 -- no item begins with the word
-misfit_changes : (c : ParseState) (word : List ℕ) (fault : Fault) → IsTrue c.in_body
+pub misfit_changes : (c : ParseState) (word : List ℕ) (fault : Fault) → IsTrue c.in_body
     → ((more : List (List ℕ)) → IsTrue (fits c (change_with word more)) → ⊥) → misfit_fault true [] word ≡ fault
     → WordShows c [] word fault
 misfit_changes c word fault in_body none is = misfits (codes "#") (stamp [], [], in_body, refl)
     (λ g. none g.1 (goes_as c true [] word in_body g).0) (sym (ap (λ t. misfit_fault t [] word) in_body ∙ is))
 
--- a word without a byte, which no file has
-pub no_byte : (c : ParseState) → IsTrue c.in_body → WordShows c [] [] BadChange
-no_byte c in_body = misfit_changes c [] BadChange in_body (λ more f. absurd (false≢true (and_parts _ _ f).1)) refl
-
 -- a binary digit without a code
 pub missing_code : (c : ParseState) (digit : ℕ) → IsTrue c.in_body → IsTrue (is_binary_digit digit)
     → WordShows c [] (digit ∷ []) BadChange
-missing_code c digit in_body is = misfit_changes c (digit ∷ []) BadChange in_body
-    (grind (arith, cond-true, false≢true, and_parts)) (cond-false (is_one_of declaration_words (digit ∷ [])) _ _
-    (grind (arith, cases_Bool, by_one_of)))
+missing_code c digit in_body is = misfit_changes _ _ _ in_body (grind (arith, cond-true, false≢true, and_parts))
+    (cond-false (is_one_of declaration_words (digit ∷ [])) _ _ (grind (arith, cases_Bool, by_one_of)))
 
 -- a word of the declarations
 pub declaration_late : (c : ParseState) (word : List ℕ) → IsTrue c.in_body → IsTrue (is_one_of declaration_words word)
@@ -124,13 +114,9 @@ declaration_late c word in_body is =
       ),
     )
 
-not_declaring : (first : ℕ) (text : List ℕ) → is_among (codes "#$") first ≡ false
-    → is_one_of declaration_words (first ∷ text) ≡ false
-not_declaring first text n = grind (arith, cases_Bool, or_cases, bytes_eq-Decides)
-
 -- a word that begins no change
 pub begins_no_change : (c : ParseState) (first : ℕ) (text : List ℕ) → IsTrue c.in_body → IsFalse (is_binary_digit first)
     → IsFalse (is_among (codes "#$") first) → IsFalse (is_among vector_prefixes first)
     → IsFalse (is_among real_or_string_prefixes first) → WordShows c [] (first ∷ text) BadChange
 begins_no_change c first text in_body d n v r = misfit_changes c (first ∷ text) BadChange in_body
-    (grind (arith, clash, and_parts)) (grind (arith, cond-false, not_declaring))
+    (grind (arith, clash, and_parts)) (grind (arith, cond-false, cases_Bool, or_cases, bytes_eq-Decides))

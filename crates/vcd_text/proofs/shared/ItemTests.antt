@@ -10,14 +10,14 @@ use Rattle.vcd_core.specs.declared.capture.HeaderKind.{HeaderKind}
 use Rattle.vcd_text.specs.declared.fault.Fault.{Fault}
 use Rattle.vcd_text.specs.declared.fault.Fault.TheVariants.{UnknownCode}
 use Rattle.vcd_text.specs.Letters.{is_among, is_binary_digit}
-use Rattle.vcd_text.specs.Items.{timescale_of, has_no_end_word, dump_words, is_other}
+use Rattle.vcd_text.specs.Items.{has_no_end_word}
 use Rattle.vcd_text.specs.inside.reading.DigitTests.{vector_prefixes, real_or_string_prefixes}
 use Rattle.vcd_text.specs.Items.{entry, timescale, scope, upscope, variable, end_definitions}
-use Rattle.vcd_text.specs.Items.{stamp, scalar, vector, real_or_string, dump_word, other}
-use Rattle.vcd_text.specs.Grammar.{ParseState, VariableDeclaration, is_skipped, has_good_size, declaration_of}
+use Rattle.vcd_text.specs.Items.{stamp, scalar, vector, real_or_string}
+use Rattle.vcd_text.specs.Grammar.{ParseState, VariableDeclaration, has_good_size, declaration_of}
 use Rattle.vcd_text.specs.Grammar.{variable_of, may_have_code}
 use Rattle.vcd_text.specs.inside.reading.Variables.{is_within_limit}
-use Rattle.vcd_text.specs.Grammar.{fits, variable_tests, digit_tests, Allows}
+use Rattle.vcd_text.specs.Grammar.{fits, digit_tests, Allows}
 use Rattle.vcd_text.specs.inside.reading.DigitTests.{is_tick, takes_binary_number}
 
 -- ---- tests in turn
@@ -27,7 +27,7 @@ pub passed : (f : Fault) (b : Bool) (tests : List (Test Fault)) → first_fault 
     → (b ≡ true) × (first_fault tests ≡ None)
 passed f b tests h = grind arith
 
-passes : (f : Fault) (b : Bool) (tests : List (Test Fault)) → b ≡ true → first_fault tests ≡ None
+pub passes : (f : Fault) (b : Bool) (tests : List (Test Fault)) → b ≡ true → first_fault tests ≡ None
     → first_fault ((f unless b) ∷ tests) ≡ None
 passes f b tests h t = grind arith
 
@@ -67,10 +67,6 @@ pub allows_entry : (c : ParseState) (kind : HeaderKind) (words : List (List ℕ)
     → IsTrue (has_no_end_word words) → Allows c (entry kind words)
 allows_entry c kind words declares no_end = (fits_in_words c words declares no_end, refl)
 
-pub allows_timescale : (c : ParseState) (words : List (List ℕ)) → IsFalse c.in_body → IsTrue (has_no_end_word words)
-    → IsSome (timescale_of words) → Allows c (timescale words)
-allows_timescale c words declares no_end some = grind (arith, fits_in_words, passes)
-
 pub allows_scope : (c : ParseState) (kind : List ℕ) (words : List (List ℕ)) → IsFalse c.in_body
     → IsTrue (has_no_end_word (kind ∷ words)) → Allows c (scope kind words)
 allows_scope c kind words declares no_end = (fits_in_words c (kind ∷ words) declares no_end, refl)
@@ -108,10 +104,6 @@ pub allows_real_or_string : (c : ParseState) (first : ℕ) (text code : List ℕ
     → IsTrue (is_among real_or_string_prefixes first) → IsSome (variable_of c code)
     → Allows c (real_or_string first text code)
 allows_real_or_string c first text code in_body is known = grind (arith, and_from, passes)
-
-pub allows_other : (c : ParseState) (word : List ℕ) (words : List (List ℕ)) → IsTrue (is_other c.in_body word)
-    → IsTrue (has_no_end_word words) → Allows c (other word words)
-allows_other c word words is no_end = (and_from _ _ is no_end, refl)
 
 -- ---- what the tests of an item say
 

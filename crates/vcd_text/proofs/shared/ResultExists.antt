@@ -1,6 +1,6 @@
 -- Every file has a result: its words are accepted, or one shows a fault, or they end too early.
 use Rattle.std.proofs.Common.{◌≡◌, ◌⊎◌, inl, inr, ℕ, zero, suc, ◌<◌, ◌≤◌, List, [], ◌∷◌, ◌++◌, length, refl, ap}
-use Rattle.std.proofs.Common.{◌∙◌, append_assoc, IsTrue, arith}
+use Rattle.std.proofs.Common.{◌∙◌, append_assoc, arith}
 use Rattle.std.proofs.lemmas.List.{append-nil, map-append, length-append, length-map}
 use Rattle.std.proofs.lemmas.Bool.{cases_Bool}
 use Rattle.vcd_core.specs.Contents.{Contents}
@@ -72,8 +72,7 @@ refused : (limit : ℕ) (words rest begun more : List WordOnLine) (w : WordOnLin
     (u : WordsSoFar limit words rest)
     → rest ≡ begun ++ w ∷ more → WordShows u.state (word_texts begun) w.text fault → AnswerTo limit words
 refused limit words rest begun more w fault u parts shown = is_refused (fault_line u.state.in_body begun w) fault
-    (shown_by limit words u.whole begun more w u.items u.state _ fault u.leads
-    (u.parts ∙ ap (λ ws. u.whole ++ ws) parts) u.spelled shown refl)
+    (shown_by _ _ _ _ _ _ _ _ _ _ u.leads (u.parts ∙ ap (λ ws. u.whole ++ ws) parts) u.spelled shown refl)
 
 refused_at : (limit : ℕ) (words rest begun found : List WordOnLine) (word : List ℕ) (more : List (List ℕ))
     (fault : Fault) (u : WordsSoFar limit words rest) → rest ≡ begun ++ found → word_texts found ≡ word ∷ more
@@ -104,15 +103,10 @@ stops_here : (limit : ℕ) (words rest : List WordOnLine) (u : WordsSoFar limit 
     → IsUnfinished u.state (word_texts rest) → AnswerTo limit words
 stops_here limit words rest u due = grind (arith, map-append)
 
--- no word is left
-accepts_here : (limit : ℕ) (words : List WordOnLine) (u : WordsSoFar limit words []) → IsTrue u.state.in_body →
-    AnswerTo limit words
-accepts_here limit words u in_body = is_accepted u.state (grind (arith, append-nil))
-
 at_end : (limit : ℕ) (words : List WordOnLine) (u : WordsSoFar limit words []) → AnswerTo limit words
 at_end limit words u =
     elim (cases_Bool u.state.in_body) [
-      | inl in_body ↦ accepts_here limit words u in_body
+      | inl in_body ↦ (is_accepted u.state (grind (arith, append-nil)))
       | inr declares ↦ stops_here limit words [] u (declaration_due u.state declares)
     ]
 
@@ -148,8 +142,7 @@ nothing_taken limit words = record {
 pub a_found_answer : (limit : ℕ) (bytes : List ℕ) → ((c : Contents) × (n : ℕ) × FileMeans limit bytes c n)
     ⊎ ((line : ℕ) × (fault : Fault) × IsFoundFault limit bytes line fault)
 a_found_answer limit bytes =
-    elim (answer_after limit (length (words_of bytes)) (words_of bytes) (words_of bytes) (omega arith)
-    (nothing_taken limit (words_of bytes))) [
+    elim (answer_after limit (length (words_of bytes)) _ _ (omega arith) (nothing_taken _ _)) [
       | is_accepted state accepts ↦
           inl (
             meaning state,

@@ -44,11 +44,6 @@ same_place : {A : Type 0} (a : List A) (v : A) (xs b : List A) (w : A) (ys : Lis
     → length a ≡ length b → (a ≡ b) × (v ≡ w)
 same_place a v xs b w ys e long = grind (arith, places a v xs b w ys e, length-append)
 
-last_is : (a : List (List ℕ)) (v : List ℕ) (b : List (List ℕ)) (w : List ℕ) → a ++ v ∷ [] ≡ b ++ w ∷ []
-    → (a ≡ b) × (v ≡ w)
-last_is a v b w e = same_place a v [] b w [] e
-    (omega (arith, ap length e, length-append a (v ∷ []), length-append b (w ∷ [])))
-
 not_none : {A : Type 0} (xs : List A) (x : A) (ys : List A) → [] ≡ xs ++ x ∷ ys → ⊥
 not_none xs x ys e = absurd (omega (arith, ap length e, length-append xs (x ∷ ys)))
 
@@ -108,12 +103,10 @@ pub passed_over : (c : ParseState) (keyword : List ℕ) (words : List (List ℕ)
     → WordShows c (keyword ∷ words) word fault → ⊥
 passed_over c keyword words word fault is no_end shown =
     elim (cases_Bool (is_end_word word)) [
-      | inl end ↦ fails (shown_item c (keyword ∷ words) word [] fault (other keyword words) [] shown
-          (and_from _ _ is no_end)
-          (grind (arith, bytes_eq-Decides, append-nil)))
-      | inr isnt ↦ fails (shown_item c (keyword ∷ words) word (end_word ∷ []) fault
-          (other keyword (words ++ word ∷ [])) [] shown (and_from _ _ is (no_end_more words word no_end isnt))
-          (grind (arith, append_assoc, append-nil)))
+      | inl end ↦ fails (shown_item c _ word [] fault (other keyword words) [] shown (and_from _ _ is no_end) (grind
+          (arith, bytes_eq-Decides, append-nil)))
+      | inr isnt ↦ fails (shown_item c _ word (end_word ∷ []) fault (other keyword (words ++ word ∷ [])) [] shown
+          (and_from _ _ is (no_end_more words word no_end isnt)) (grind (arith, append_assoc, append-nil)))
     ]
   where
     fails : {A : Type 0} → A × (None ≡ Some fault) → ⊥
@@ -127,7 +120,8 @@ by_test : (c : ParseState) (a : List (List ℕ)) (v : List ℕ) (xs b : List (Li
 by_test c a v xs b w ys f g i fit spelled h shown e =
     let found = shown_item c b w ys g i xs shown fit
     (sym e ∙ sym (append_assoc a (v ∷ []) xs) ∙ ap (λ ws. ws ++ xs) (sym spelled)) in
-    let place = last_is a v b w (sym spelled ∙ found.0) in
+    let place = same_place a v [] b w [] (sym spelled ∙ found.0)
+    (omega (arith, ap length (sym spelled ∙ found.0), length-append a (v ∷ []), length-append b (w ∷ []))) in
     let faults : Some f ≡ Some g = sym h ∙ found.1 in
     (place.0, place.1, cc faults)
 
@@ -199,8 +193,7 @@ refuses_ends limit words line fault r = record {
   spelled = grind (arith, map-append);
   allowed = r.allowed;
   state_is = refl;
-  begins_none = shown_begins_none (state_after (initial_state limit) r.items) (word_texts r.begun) r.word.text
-      (word_texts r.more) fault r.decided;
+  begins_none = shown_begins_none _ _ _ _ _ r.decided;
 }
 
 -- two rests of one list that are equally long are the same
@@ -211,11 +204,6 @@ same_rest words a b r s p q e =
 
 -- ---- one answer for the words
 
-pub one_telling : (limit : ℕ) (words : List WordOnLine) (a b : ParseState) → Accepts limit words a →
-    Accepts limit words b → a ≡ b
-one_telling limit words a b p q =
-    (one_end limit (word_texts words) a b [] [] (accepts_ends limit words a p) (accepts_ends limit words b q)).0
-
 text_count : (words more : List WordOnLine) (w : WordOnLine)
     → length (word_texts words ++ w.text ∷ word_texts more) ≡ length (words ++ w ∷ more)
 text_count words more w = ap length (sym (map-append (λ (v : WordOnLine). v.text) words (w ∷ more))) ∙ length-map
@@ -225,20 +213,16 @@ pub one_fault : (limit : ℕ) (words : List WordOnLine) (line other_line : ℕ) 
     → ShowsFault limit words line fault → ShowsFault limit words other_line other_fault
     → (line ≡ other_line) × (fault ≡ other_fault)
 one_fault limit words line other_line fault other_fault p q =
-    let e = one_end limit (word_texts words) _ _ _ _ (refuses_ends limit words line fault p)
-    (refuses_ends limit words other_line other_fault q) in
-    let place = one_place (state_after (initial_state limit) p.items) (word_texts p.begun) p.word.text
-    (word_texts p.more) (word_texts q.begun) q.word.text (word_texts q.more) fault other_fault p.decided
-    (rw e.0 q.decided) e.1 in
+    let e = one_end _ _ _ _ _ _ (refuses_ends _ _ _ _ p) (refuses_ends _ _ _ _ q) in
+    let place = one_place _ _ p.word.text _ _ q.word.text _ fault other_fault p.decided (rw e.0 q.decided) e.1 in
     let rests : p.begun ++ p.word ∷ p.more ≡ q.begun ++ q.word ∷ q.more = same_rest words p.whole q.whole _ _ p.parts
     q.parts (grind (arith, text_count)) in
-    let here = same_place p.begun p.word p.more q.begun q.word q.more rests (grind (arith, length-map)) in (grind arith)
+    let here = same_place _ _ _ _ _ _ rests (grind (arith, length-map)) in (grind arith)
 
 pub accepted-not_refused : (limit : ℕ) (words : List WordOnLine) (state : ParseState) (line : ℕ) (fault : Fault)
     → Accepts limit words state → ShowsFault limit words line fault → ⊥
-accepted-not_refused limit words state line fault p q = not_none (word_texts q.begun) q.word.text (word_texts q.more)
-    (one_end limit (word_texts words) _ _ _ _ (accepts_ends limit words state p)
-    (refuses_ends limit words line fault q)).1
+accepted-not_refused limit words state line fault p q = not_none (word_texts q.begun) _ _ (one_end _ _ _ _ _ _
+    (accepts_ends _ _ _ p) (refuses_ends _ _ _ _ q)).1
 
 pub accepted-not_stopped : (limit : ℕ) (words : List WordOnLine) (state : ParseState) → Accepts limit words state
     → Stops limit words → ⊥
@@ -252,13 +236,11 @@ accepted-not_stopped limit words state p q =
 pub stopped-not_refused : (limit : ℕ) (words : List WordOnLine) (line : ℕ) (fault : Fault) → Stops limit words
     → ShowsFault limit words line fault → ⊥
 stopped-not_refused limit words line fault p q =
-    let e = one_end limit (word_texts words) _ _ _ _ (stops_ends limit words p)
-    (refuses_ends limit words line fault q) in
+    let e = one_end _ _ _ _ _ _ (stops_ends _ _ p) (refuses_ends _ _ _ _ q) in
     let (next, (i, more, fit, spelled)) = (rw e.0 at p.unfinished).1 in
     let begun = word_texts q.begun in
     let all : spelling i ≡ begun ++ q.word.text ∷ (word_texts q.more ++ next ∷ more) = grind (arith, append_assoc) in
-    let ends = shown_item (state_after (initial_state limit) q.items) begun q.word.text
-    (word_texts q.more ++ next ∷ more) fault i [] q.decided fit (sym all ∙ sym (append-nil (spelling i))) in
+    let ends = shown_item _ _ _ _ _ _ [] q.decided fit (sym all ∙ sym (append-nil (spelling i))) in
     let none = append_cancel_left begun (q.word.text ∷ []) (q.word.text ∷ (word_texts q.more ++ next ∷ more))
     (sym ends.0 ∙ all) in
     not_none (word_texts q.more) next more (cc none)
@@ -268,7 +250,9 @@ stopped-not_refused limit words line fault p q =
 pub one_meaning : (limit : ℕ) (bytes : List ℕ) (c d : Contents) (m n : ℕ) → FileMeans limit bytes c m
     → FileMeans limit bytes d n → (c ≡ d) × (m ≡ n)
 one_meaning limit bytes c d m n p q =
-    let e = one_telling limit (words_of bytes) p.state q.state p.accepted q.accepted in
+    let e = (one_end limit (word_texts (words_of bytes)) p.state q.state [] []
+    (accepts_ends limit (words_of bytes) p.state p.accepted)
+    (accepts_ends limit (words_of bytes) q.state q.accepted)).0 in
     (grind arith)
 
 pub one_found_fault : (limit : ℕ) (bytes : List ℕ) (line other_line : ℕ) (fault other_fault : Fault) →

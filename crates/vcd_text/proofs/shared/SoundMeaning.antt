@@ -27,7 +27,6 @@ use Rattle.vcd_core.specs.Sound.{IsSound, IsSoundSignal, is_sound_header, is_sou
 use Rattle.vcd_core.specs.Sound.{is_sound_timescale}
 use Rattle.vcd_core.proofs.shared.Waves.{changes_rise, changes_end}
 use Rattle.vcd_text.specs.Words.{words_of}
-use Rattle.vcd_core.specs.Decimal.{number_of}
 use Rattle.vcd_text.specs.Letters.{extension, letters_of_digits}
 use Rattle.vcd_text.specs.Items.{Item, entry, timescale, scope, upscope, variable, end_definitions}
 use Rattle.vcd_text.specs.Items.{stamp, scalar}
@@ -40,12 +39,11 @@ use Rattle.vcd_text.specs.Grammar.{Allows}
 use Rattle.vcd_text.specs.Grammar.{AllowsAll}
 use Rattle.vcd_text.proofs.shared.ItemTests.{has_declaration, has_tick}
 use Rattle.vcd_text.specs.Grammar.{state_after, state_after_item, is_skipped, kept_variables}
-use Rattle.vcd_text.specs.Grammar.{variable_of, initial_state}
+use Rattle.vcd_text.specs.Grammar.{variable_of}
 use Rattle.vcd_text.specs.Grammar.{may_have_code, value_changes_after}
 use Rattle.vcd_text.specs.inside.reading.Variables.{is_within_limit, latest_value}
 use Rattle.vcd_text.specs.Grammar.{with_value_change}
-use Rattle.vcd_text.specs.inside.reading.DigitTests.{takes_binary_number}
-use Rattle.vcd_text.proofs.words.WordsInTurn.{by_test, is_run_text, run_is_word}
+use Rattle.vcd_text.proofs.words.WordsInTurn.{by_test, is_run_text}
 use Rattle.vcd_text.proofs.words.WordsByBytes.{texts_of_file_are_runs}
 use Rattle.vcd_text.specs.Meaning.{meaning, declared_signal, changes_of_code}
 use Rattle.std.proofs.lemmas.List.Folds.{find-append}
@@ -60,8 +58,8 @@ clean_words [] rest all none = refl
 clean_words (w ∷ ws) rest all none =
     let p = and_parts (is_run_text w) (list_all is_run_text (ws ++ rest)) all in
     let q = and_parts (not (is_end_word w)) (has_no_end_word ws) none in
-    and_from (is_word w) (list_all is_word ws) (run_is_word w p.0 (not-true (is_end_word w) q.0))
-    (clean_words ws rest p.1 q.1)
+    and_from (is_word w) (list_all is_word ws) (ap (λ t. t && not (is_end_word w)) p.0 ∙ ap not (not-true (is_end_word
+    w) q.0)) (clean_words ws rest p.1 q.1)
 
 -- ---- lists
 
@@ -183,17 +181,13 @@ clean_variable c (kind ∷ size ∷ code ∷ name ∷ names) clean all allows =
     let fit = and_parts _ _ allows.0 in
     let may = has_declaration c (kind ∷ size ∷ code ∷ name ∷ names) allows in
     let words = clean_words (kind ∷ size ∷ code ∷ name ∷ names) (end_word ∷ []) all (and_parts _ _ fit.1).0 in
-    let p = and_parts (is_word kind) (list_all is_word (size ∷ code ∷ name ∷ names)) words in
-    let q = and_parts (is_word size) (list_all is_word (code ∷ name ∷ names)) p.1 in
-    let r = and_parts (is_word code) (list_all is_word (name ∷ names)) q.1 in
-    clean_declared c (record {
-      scopes = c.scopes;
-      kind = kind;
-      size = number_of size;
-      code = code;
-      words = name ∷ names;
-    }) clean (not-true _ fit.0)
-    (record { scopes = clean.scopes; kind = p.0; named = omega arith; words = r.1 }) may.0 may.1
+    let p = and_parts _ _ words in
+    clean_declared _ _ clean (not-true _ fit.0) (record {
+      scopes = clean.scopes;
+      kind = p.0;
+      named = omega arith;
+      words = (and_parts _ _ (and_parts _ _ p.1).1).1;
+    }) may.0 may.1
 
 -- the state stays clean if neither variables nor value changes are added
 clean_beside : (c : ParseState) (header : List Header) (time : Option Timescale) (scopes : List ScopeName)
@@ -236,9 +230,8 @@ clean_items : (c : ParseState) (is : List Item) → IsClean c → list_all is_ru
     → AllowsAll c is → IsClean (state_after c is)
 clean_items c [] clean all allows = clean
 clean_items c (i ∷ is) clean all allows =
-    let p = and_parts (list_all is_run_text (spelling i)) (list_all is_run_text (spellings is))
-    (sym (list_all-append is_run_text (spelling i) (spellings is)) ∙ all) in
-    clean_items (state_after_item c i) is (clean_item c i clean p.0 allows.0) p.1 allows.1
+    let p = and_parts _ _ (sym (list_all-append _ (spelling i) (spellings is)) ∙ all) in
+    clean_items (state_after_item c i) is (clean_item _ _ clean p.0 allows.0) p.1 allows.1
 
 -- ---- waves
 
@@ -274,16 +267,14 @@ pub meaning_is_sound_but : (limit : ℕ) (bytes : List ℕ) (state : ParseState)
     → IsSoundBut (meaning state)
 meaning_is_sound_but limit bytes state accepted =
     let clean : IsClean state = grind (arith, clean_items, texts_of_file_are_runs) in
-    let declared = All-filter (λ d. not (is_skipped d)) IsCleanDeclaration state.declared clean.declared in
-    let agree = All-filter (λ d. not (is_skipped d)) (IsAgreed state) state.declared clean.agree in
-    let keeps = filter_passes (λ d. not (is_skipped d)) state.declared in
+    let agree = All-filter _ (IsAgreed state) _ clean.agree in
+    let keeps = filter_passes _ state.declared in
     record {
       header = clean.header;
       timescale = clean.timescale;
       end = clean.tick;
-      signals = All-map (IsSoundSignal state.tick) (declared_signal state.value_changes state.tick)
-          (kept_variables state.declared) (λ k d within. sound_signal state _ clean (declared k d within)
-          (agree k d within) (not-true _ (keeps k d within)));
+      signals = All-map (IsSoundSignal state.tick) _ _ (λ k d within. sound_signal state _ clean ((All-filter _
+          IsCleanDeclaration _ clean.declared) k d within) (agree k d within) (not-true _ (keeps k d within)));
     }
 
 pub meaning_is_sound : (bytes : List ℕ) (state : ParseState) → Accepts SIGNAL_LIMIT (words_of bytes) state

@@ -25,10 +25,13 @@ use Rattle.vcd_text.specs.FoundFaults.{IsUnfinished}
 use Rattle.vcd_text.proofs.shared.OneOf.{by_among, by_one_of}
 use Rattle.vcd_text.proofs.shared.ItemTests.{fits_in_words, fits_upscope, fits_variable, fits_scalar}
 use Rattle.vcd_text.proofs.shared.ItemFaults.{begins_no_section, upscope_at_top, missing_kind, upscope_goes_on}
-use Rattle.vcd_text.proofs.shared.ItemFaults.{definitions_go_on, no_size, no_byte, missing_code, declaration_late}
+use Rattle.vcd_text.proofs.shared.ItemFaults.{definitions_go_on, no_size, missing_code, declaration_late}
 use Rattle.vcd_text.proofs.shared.ItemFaults.{begins_no_change}
 use Rattle.vcd_text.proofs.shared.Unfinished.{words_due, upscope_due, variable_due, definitions_due}
 use Rattle.vcd_text.proofs.shared.Unfinished.{vector_due, real_or_string_due, other_due}
+use Rattle.std.proofs.lemmas.Bool.{false≢true}
+use Rattle.vcd_text.proofs.shared.ItemFaults.{misfit_changes}
+use Rattle.vcd_text.specs.declared.fault.Fault.TheVariants.{BadChange}
 
 -- what some words begin with
 pub data Beginning (c : ParseState) (words : List (List ℕ)) : Type 0 where
@@ -235,7 +238,8 @@ real_or_string_begins c first text (code ∷ words) in_body is =
     item_begins c (real_or_string first text code) _ words (and_from _ _ in_body is) refl
 
 change_begins : (c : ParseState) (word : List ℕ) (words : List (List ℕ)) → IsTrue c.in_body → Beginning c (word ∷ words)
-change_begins c [] words in_body = shows_fault [] [] words _ refl (no_byte c in_body)
+change_begins c [] words in_body = shows_fault [] [] words _ refl
+    (misfit_changes c [] BadChange in_body (λ more f. absurd (false≢true (and_parts _ _ f).1)) refl)
 change_begins c (first ∷ text) words in_body =
     elim (cases_Bool (is_binary_digit first)) [
       | inl digit ↦ scalar_begins c first text words in_body digit

@@ -16,7 +16,9 @@ use Rattle.vcd_text.specs.Words.{WordOnLine, word_on, words_in, words_of, comple
 use Rattle.vcd_text.specs.inside.Words.{line_after, word_of, words_from}
 use Rattle.vcd_text.specs.Grammar.{word_texts}
 use Rattle.vcd_text.proofs.words.WordsInTurn.{by_test, no_space_is_no_feed, word_part, same_line}
-use Rattle.vcd_text.proofs.words.WordsInTurn.{is_run_text, texts_are_runs, words_are_few}
+use Rattle.vcd_text.proofs.words.WordsInTurn.{is_run_text, words_are_few}
+use Rattle.vcd_text.proofs.words.WordsInTurn.{runs_from}
+use Rattle.vcd_text.proofs.words.WordsInTurn.{texts_pass}
 
 -- ---- parts
 
@@ -27,8 +29,7 @@ part_goes_on : (p : ℕ → Bool) (xs rest first : List ℕ) (parts : List (List
 part_goes_on p [] rest first parts none is = is
 part_goes_on p (x ∷ xs) rest first parts none is =
     let q = and_parts (not (p x)) (list_all (λ b. not (p b)) xs) none in
-    slice_split-cons_no p x (xs ++ rest) (not-true (p x) q.0)
-    ∙ ap (onto_first x) (part_goes_on p xs rest first parts q.1 is)
+    slice_split-cons_no p x _ (not-true (p x) q.0) ∙ ap (onto_first x) (part_goes_on p xs rest first parts q.1 is)
 
 part_ends : (p : ℕ → Bool) (xs : List ℕ) (b : ℕ) (bs : List ℕ) → list_all (λ b. not (p b)) xs ≡ true
     → p b ≡ true → slice_split p (xs ++ b ∷ bs) ≡ xs ∷ slice_split p bs
@@ -76,10 +77,9 @@ part_first line (x ∷ xs) parts = rw (ne_eqb (length (x ∷ xs)) 0 (λ none. ab
 last_word : (line : ℕ) (begun : List ℕ) → list_all (λ b. not (is_white_space b)) begun ≡ true
     → on_line line (words_in begun) ≡ word_of begun line
 last_word line begun none =
-    ap (λ text. on_line line (words_in text)) (sym (append-nil begun))
-    ∙ ap (λ parts. on_line line (words_among parts)) (part_goes_on is_white_space begun [] [] [] none refl)
-    ∙ ap (λ part. on_line line (words_among (part ∷ []))) (append-nil begun)
-    ∙ part_first line begun [] ∙ append-nil (word_of begun line)
+    ap (λ text. on_line line (words_in text)) (sym (append-nil begun)) ∙ ap (λ parts. on_line line (words_among parts))
+    (part_goes_on _ begun [] [] [] none refl) ∙ ap (λ part. on_line line (words_among (part ∷ []))) (append-nil begun) ∙
+    part_first line begun [] ∙ append-nil (word_of begun line)
 
 word_ends : (line : ℕ) (begun : List ℕ) (b : ℕ) (bs : List ℕ)
     → list_all (λ b. not (is_white_space b)) begun ≡ true → is_white_space b ≡ true
@@ -109,12 +109,10 @@ walk_at_space line begun b bs none space later other =
     let found = first_part (λ b. b == 10) bs in
     let first : List ℕ = found.0 in
     let parts : List (List ℕ) = found.1 in
-    ap (λ ws. word_of begun line ++ ws) (later ∙ ap (words_of_lines line) found.2)
-    ∙ sym (append_assoc (word_of begun line) (on_line line (words_in first)) (words_of_lines (line + 1) parts))
-    ∙ ap (λ ws. ws ++ words_of_lines (line + 1) parts) (sym (word_ends line begun b first none space))
-    ∙ ap (words_of_lines line)
-    (sym (part_goes_on (λ b. b == 10) begun (b ∷ bs) (b ∷ first) parts (no_feeds begun none)
-    (slice_split-cons_no (λ b. b == 10) b bs other ∙ ap (onto_first b) found.2)))
+    ap (λ ws. word_of begun line ++ ws) (later ∙ ap (words_of_lines line) found.2) ∙ sym (append_assoc (word_of begun
+    line) (on_line line (words_in first)) (words_of_lines (line + 1) parts)) ∙ ap (λ ws. ws ++ words_of_lines (line + 1)
+    parts) (sym (word_ends line begun b first none space)) ∙ ap (words_of_lines line) (sym (part_goes_on (λ b. b == 10)
+    begun (b ∷ bs) (b ∷ first) parts (no_feeds begun none) (cc)))
 
 walk_finds : (line : ℕ) (begun bytes : List ℕ) → list_all (λ b. not (is_white_space b)) begun ≡ true
     → words_from true begun line bytes ≡ words_of_lines line (slice_split (λ b. b == 10) (begun ++ bytes))
@@ -124,16 +122,13 @@ walk_finds line begun [] none =
     ∙ ap (λ text. on_line line (words_in text) ++ []) (sym (append-nil begun))
     ∙ ap (words_of_lines line) (sym (part_goes_on (λ b. b == 10) begun [] [] [] (no_feeds begun none) refl))
 walk_finds line begun (b ∷ bs) none =
-    by_test (λ t. cond t (word_of begun line) []
-    ++ words_from true (cond t [] (begun ++ b ∷ [])) (line_after b line) bs
-    ≡ words_of_lines line (slice_split (λ b. b == 10) (begun ++ b ∷ bs))) (is_white_space b)
-    (λ space. by_test (λ t. word_of begun line ++ words_from true [] (cond t (line + 1) line) bs
-    ≡ words_of_lines line (slice_split (λ b. b == 10) (begun ++ b ∷ bs))) (b == 10)
-    (λ feed. walk_at_feed line begun b bs none feed (walk_finds (line + 1) [] bs refl))
-    (walk_at_space line begun b bs none space (walk_finds line [] bs refl)))
-    (λ isnt. ap (λ n. words_from true (begun ++ b ∷ []) n bs) (same_line b line isnt)
-    ∙ walk_finds line (begun ++ b ∷ []) bs (grind (arith, list_all-append))
-    ∙ ap (λ text. words_of_lines line (slice_split (λ b. b == 10) text)) (append_assoc begun (b ∷ []) bs))
+    by_test (λ t. cond t (word_of begun line) [] ++ words_from true (cond t [] (begun ++ b ∷ [])) (line_after b line) bs
+    ≡ words_of_lines line (slice_split (λ b. b == 10) (begun ++ b ∷ bs))) _ (λ space. by_test (λ t. word_of begun line
+    ++ words_from true [] (cond t (line + 1) line) bs ≡ words_of_lines line (slice_split (λ b. b == 10) (begun ++ b ∷
+    bs))) _ (λ feed. walk_at_feed line begun b bs none feed (walk_finds (line + 1) [] bs refl)) (walk_at_space line
+    begun b bs none space (walk_finds line [] bs refl))) (λ isnt. ap (λ n. words_from true (begun ++ b ∷ []) n bs)
+    (same_line b _ isnt) ∙ walk_finds line (begun ++ b ∷ []) bs (grind (arith, list_all-append)) ∙ ap (λ text.
+    words_of_lines line (slice_split (λ b. b == 10) text)) (append_assoc begun (b ∷ []) bs))
 
 pub words_by_bytes : (bytes : List ℕ) → words_of bytes ≡ words_from true [] 1 bytes
 unfolding words_of
@@ -147,10 +142,9 @@ up_to_space : (line : ℕ) (begun xs : List ℕ) (b : ℕ) (after : List ℕ) �
     → words_from true begun line xs ≡ words_from false begun line (xs ++ b ∷ after)
 unfolding words_from
 up_to_space line begun [] b after space none =
-    sym (append-nil (word_of begun line))
-    ∙ ap (λ ws. word_of begun line ++ ws) (sym (word_part (line_after b line) after none))
-    ∙ ap (λ t. cond t (word_of begun line) []
-    ++ words_from false (cond t [] (begun ++ b ∷ [])) (line_after b line) after) (sym space)
+    sym (append-nil (word_of begun line)) ∙ ap (λ ws. word_of begun line ++ ws) (sym (word_part _ after none)) ∙ ap (λ
+    t. cond t (word_of begun line) [] ++ words_from false (cond t [] (begun ++ b ∷ [])) (line_after b line) after) (sym
+    space)
 up_to_space line begun (x ∷ xs) b after space none =
     ap (λ ws. cond (is_white_space x) (word_of begun line) [] ++ ws)
     (up_to_space (line_after x line) (cond (is_white_space x) [] (begun ++ x ∷ [])) xs b after space none)
@@ -194,14 +188,11 @@ before_it bytes s =
     let whole : List ℕ = s.before ++ s.space ∷ s.after in
     let size : length whole ≡ length s.before + suc (length s.after) = length-append s.before (s.space ∷ s.after) in
     let run : suffix_len (λ b. not (is_white_space b)) whole ≡ length whole - (length s.before + 1) =
-    suffix_len_is (λ b. not (is_white_space b)) whole (length s.before + 1) 0 (omega (arith, size))
-    (λ k from upto. ap (λ b. not (is_white_space b))
-    (get_or-append_right s.before (s.space ∷ s.after) (length s.before) k 0 refl (omega arith)
-    ∙ ap (λ n. get_or (s.space ∷ s.after) n 0) {y = suc (k - length s.before - 1)} (omega arith))
-    ∙ AllPass-from_list_all (λ b. not (is_white_space b)) s.after s.no_more (k - length s.before - 1) 0
-    (omega (arith, size)))
-    (λ _. ap (λ n. not (is_white_space (get_or whole n 0))) {y = length s.before} (omega arith)
-    ∙ ap (λ b. not (is_white_space b)) (get_or-append_seam s.before s.space s.after 0) ∙ ap not s.is_space) in
+    suffix_len_is _ _ _ _ (omega (arith, size)) (λ k from upto. ap (λ b. not (is_white_space b)) (get_or-append_right
+    s.before _ _ k 0 refl (omega arith) ∙ ap (λ n. get_or (s.space ∷ s.after) n 0) {y = suc (k - length s.before - 1)}
+    (omega arith)) ∙ AllPass-from_list_all _ s.after s.no_more (k - length s.before - 1) 0 (omega (arith, size))) (λ _.
+    ap (λ n. not (is_white_space (get_or whole n 0))) {y = length s.before} (omega arith) ∙ ap (λ b. not (is_white_space
+    b)) (get_or-append_seam s.before s.space s.after 0) ∙ ap not s.is_space) in
     ap (before_last is_white_space) s.bytes_are
     ∙ ap (λ n. take n whole) {y = length s.before} (omega (arith, size, run))
     ∙ take-append_seam s.before (s.space ∷ s.after)
@@ -210,25 +201,24 @@ none_before : (bytes : List ℕ) → list_all (λ b. not (is_white_space b)) byt
     → before_last is_white_space bytes ≡ []
 none_before bytes none =
     let run : suffix_len (λ b. not (is_white_space b)) bytes ≡ length bytes - 0 =
-    suffix_len_is (λ b. not (is_white_space b)) bytes 0 0 (omega arith)
-    (λ k _ upto. AllPass-from_list_all (λ b. not (is_white_space b)) bytes none k 0 upto)
-    (λ some. absurd (omega arith)) in
+    suffix_len_is _ _ _ _ (omega arith) (λ k _ upto. AllPass-from_list_all _ _ none k 0 upto) (λ some. absurd (omega
+    arith)) in
     ap (λ n. take n bytes) {y = 0} (omega (arith, run))
 
 pub complete_by_bytes : (bytes : List ℕ) → complete_words bytes ≡ words_from false [] 1 bytes
 unfolding complete_words words_from
-complete_by_bytes bytes = elim (last_space bytes) [
+complete_by_bytes bytes = elim (last_space _) [
   | inl none ↦ ap words_of (none_before bytes none) ∙ words_by_bytes [] ∙ sym (word_part 1 bytes none)
-  | inr s ↦ ap words_of (before_it bytes s) ∙ words_by_bytes s.before
-      ∙ up_to_space 1 [] s.before s.space s.after s.is_space s.no_more
-      ∙ ap (words_from false [] 1) (sym s.bytes_are)
+  | inr s ↦ ap words_of (before_it _ s) ∙ words_by_bytes s.before ∙ up_to_space 1 [] s.before s.space s.after s.is_space
+      s.no_more ∙ ap (words_from false [] 1) (sym s.bytes_are)
 ]
 
 -- ---- what is known of the walk
 
 pub texts_of_file_are_runs : (bytes : List ℕ) → list_all is_run_text (word_texts (words_of bytes)) ≡ true
 texts_of_file_are_runs bytes =
-    ap (λ words. list_all is_run_text (word_texts words)) (words_by_bytes bytes) ∙ texts_are_runs true 1 bytes
+    ap (λ words. list_all is_run_text (word_texts words)) (words_by_bytes bytes)
+    ∙ search (arith, texts_pass, runs_from)
 
 pub complete_are_few : (bytes : List ℕ) → length (complete_words bytes) ≤ length bytes
 complete_are_few bytes =

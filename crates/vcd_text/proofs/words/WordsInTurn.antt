@@ -9,8 +9,7 @@ use Rattle.std.proofs.lemmas.List.Elements.{All-nil, All-head, All-tail}
 use Rattle.std.proofs.lemmas.Bool.Decides.{Decides-eqb}
 use Rattle.std.proofs.lemmas.Bool.{ne_eqb}
 use Rattle.std.proofs.lemmas.List.Folds.{list_all-append}
-use Rattle.vcd_core.specs.Word.{is_word, is_white_space}
-use Rattle.vcd_text.specs.inside.reading.Declarations.{is_end_word}
+use Rattle.vcd_core.specs.Word.{is_white_space}
 use Rattle.vcd_text.specs.inside.Words.{begins_with_space, ends_before}
 use Rattle.vcd_text.specs.LineFeeds.{line_feeds_in}
 use Rattle.vcd_text.specs.Words.{WordOnLine}
@@ -19,6 +18,8 @@ use Rattle.vcd_text.specs.Words.{word_on}
 use Rattle.vcd_text.specs.inside.Words.{word_of, words_from}
 use Rattle.std.proofs.lemmas.Bool.{and_parts, not-true}
 use Rattle.std.proofs.lemmas.Grind.{common_steps}
+use Rattle.std.proofs.lemmas.Bool.{eqb-false}
+use Rattle.std.proofs.lemmas.Bool.{eqb-true}
 
 -- a fact of a test, in both cases
 pub by_test : (P : Bool → Type 0) (b : Bool) → (b ≡ true → P true) → (b ≡ false → P false) → P b
@@ -75,18 +76,12 @@ goes_on end_counts begun line (b ∷ w) rest no_space =
     ∙ goes_on end_counts (begun ++ b ∷ []) line w rest parts.1 ∙ ap (λ ws. words_from end_counts ws line rest)
     (append_assoc begun (b ∷ []) w)
 
--- the end of a word
-ends_here : (end_counts : Bool) (begun : List ℕ) (line : ℕ) (rest : List ℕ) → 0 < length begun
-    → ends_before end_counts rest ≡ true
-    → words_from end_counts begun line rest ≡ word_on begun line ∷ words_from end_counts [] line rest
-unfolding words_from
-ends_here end_counts begun line rest some ends = grind arith
-
 -- the words of a text that begins with a word
 pub word_whole : (end_counts : Bool) (line : ℕ) (w rest : List ℕ) → 0 < length w
     → list_all (λ b. not (is_white_space b)) w ≡ true → ends_before end_counts rest ≡ true
     → words_from end_counts [] line (w ++ rest) ≡ word_on w line ∷ words_from end_counts [] line rest
-word_whole end_counts line w rest some no_space ends = grind (arith, goes_on, ends_here)
+unfolding words_from
+word_whole end_counts line w rest some no_space ends = grind (arith, goes_on)
 
 -- the same at an index of the text
 pub word_split : (end_counts : Bool) (line n : ℕ) (text : List ℕ) → 0 < length (take n text)
@@ -124,7 +119,7 @@ run_of : (begun : List ℕ) (line : ℕ) → list_all (λ b. not (is_white_space
     → All (λ (w : WordOnLine). is_run w.text) (word_of begun line)
 run_of begun line no_space = grind arith
 
-runs_from : (end_counts : Bool) (begun : List ℕ) (line : ℕ) (bytes : List ℕ)
+pub runs_from : (end_counts : Bool) (begun : List ℕ) (line : ℕ) (bytes : List ℕ)
     → list_all (λ b. not (is_white_space b)) begun ≡ true
     → All (λ (w : WordOnLine). is_run w.text) (words_from end_counts begun line bytes)
 unfolding words_from
@@ -142,20 +137,12 @@ is_run_text text = not (length text == 0) && list_all (λ b. not (is_white_space
 run_passes : (text : List ℕ) → is_run text → is_run_text text ≡ true
 run_passes text (some, no_space) = rw (ne_eqb (length text) 0 (λ none. absurd (omega arith)), no_space) refl
 
-texts_pass : (ws : List WordOnLine) → All (λ (w : WordOnLine). is_run w.text) ws
+pub texts_pass : (ws : List WordOnLine) → All (λ (w : WordOnLine). is_run w.text) ws
     → list_all is_run_text (map (λ (w : WordOnLine). w.text) ws) ≡ true
 texts_pass [] runs = refl
 texts_pass (w ∷ ws) runs = ap (λ t. t && list_all is_run_text (map (λ (w : WordOnLine). w.text) ws))
     (run_passes w.text (All-head (λ (w : WordOnLine). is_run w.text) w ws runs)) ∙ texts_pass ws
     (All-tail (λ (w : WordOnLine). is_run w.text) w ws runs)
-
-pub texts_are_runs : (end_counts : Bool) (line : ℕ) (bytes : List ℕ)
-    → list_all is_run_text (map (λ (w : WordOnLine). w.text) (words_from end_counts [] line bytes)) ≡ true
-texts_are_runs end_counts line bytes = search (arith, texts_pass, runs_from)
-
--- a run that is not `$end` is a word that a header entry, a name or a kind can have
-pub run_is_word : (text : List ℕ) → is_run_text text ≡ true → is_end_word text ≡ false → is_word text ≡ true
-run_is_word text run other = ap (λ t. t && not (is_end_word text)) run ∙ ap not other
 
 -- there are no more words than bytes
 one_at_most : (begun : List ℕ) (line : ℕ) → length (word_of begun line) ≤ length begun
@@ -178,3 +165,5 @@ few_from end_counts begun line (b ∷ bs) = grind (
 pub words_are_few : (end_counts : Bool) (line : ℕ) (bytes : List ℕ)
     → length (words_from end_counts [] line bytes) ≤ length bytes
 words_are_few end_counts line bytes = omega (arith, few_from end_counts [] line bytes)
+
+pub ruleset next_word_steps = (eqb-true, eqb-false, no_word, word_split, line_feeds_after)

@@ -95,6 +95,7 @@ fn extended_block(width: u64, digits: &[u8]) -> Option<LetterBlock>
 
 /// The digits as letters, extended on the left to `width`, a block of 64 at a time. It is none if
 /// one is no binary digit.
+#[tactic(auto, using(crate::proofs::reading::digit_blocks::LetterBlocks::extension_steps))]
 fn extended_value(width: u64, digits: &[u8]) -> Option<Value>
     requires least { 1 ≤ width }
     requires most { width ≤ WIDTH_LIMIT }

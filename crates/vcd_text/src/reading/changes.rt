@@ -59,6 +59,7 @@ impl Parser {
 
     /// Takes a word of a dump, or begins a command that is passed over. A word of the
     /// declarations is `UnexpectedWord`.
+    #[tactic(auto, using(crate::proofs::reading::changes::ChangeWords::passes_over))]
     fn take_command(&mut self, text: &[u8]) -> Result<(), Fault>
         requires between { self.old.item ≡ items.Nothing }
         requires in_body { self.old.in_body ≡ true }
@@ -154,6 +155,7 @@ impl Parser {
     /// Takes the code of a change by a binary number, and sets it to the digits. The error is
     /// `UnknownCode` if the code was not declared, `BadChange` if the digits are no value, and
     /// `ValueTooLong` if they are too many.
+    #[tactic(auto, using(crate::proofs::reading::changes::ChangeWords::ends_vector))]
     pub fn take_vector_code(&mut self, alloc: Global, code: &[u8]) -> Result<(), Fault>
         requires item { self.old.item ≡ items.Vector }
         requires reading { IsUnderway self.old }

@@ -105,6 +105,7 @@ fn lengthen(table: &mut Vec<CodeTarget>, len: usize) -> Result<(), NoMemory>
 }
 
 /// Gives a code of the map this target.
+#[tactic(auto, using(crate::proofs::reading::code_targets::Targets::target_put))]
 fn put_in(
     codes: &mut IndexMap<Vec<u8>, CodeTarget>,
     alloc: Global,

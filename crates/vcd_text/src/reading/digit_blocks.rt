@@ -76,6 +76,7 @@ fn with_digits(block: LetterBlock, digits: &[u8]) -> Option<LetterBlock>
 }
 
 /// The block with the letter of a digit added at its low end; none if it is no binary digit.
+#[tactic(auto, using(crate::proofs::reading::digit_blocks::LetterBlocks::adds_one))]
 fn with_digit(block: LetterBlock, digit: u8) -> Option<LetterBlock>
     ensures { MatchOption result (is_binary_digit digit ≡ false) (λ more.
         (is_binary_digit digit ≡ true) ×
@@ -88,6 +89,7 @@ fn with_digit(block: LetterBlock, digit: u8) -> Option<LetterBlock>
 }
 
 /// The block with the letter of a digit, 0 or 1, added at its low end.
+#[tactic(auto, using(crate::proofs::reading::digit_blocks::LetterBlocks::adds_one))]
 fn with_two_state_digit(block: LetterBlock, digit: u8) -> LetterBlock
     requires { is_two_state digit ≡ true }
     ensures { AddsLetters (letters_of_digits (digit ∷ [])) block result }

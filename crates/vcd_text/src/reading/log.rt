@@ -32,6 +32,7 @@ pub struct LoggedChange {
 }
 
 /// Appends a change to its group. Each group has the order of the file.
+#[tactic(auto, using(crate::proofs::reading::log::Groups::appended_steps))]
 pub fn append(
     groups: &mut Vec<Vec<LoggedChange>>,
     alloc: Global,
@@ -50,6 +51,7 @@ pub fn append(
 }
 
 /// Adds empty groups up to this number.
+#[tactic(auto, using(crate::proofs::reading::log::Groups::longer_steps))]
 fn add_groups(
     groups: &mut Vec<Vec<LoggedChange>>,
     alloc: Global,
@@ -105,6 +107,7 @@ pub fn move_log_to_waves(
 }
 
 /// Counts the changes of each variable of a group.
+#[tactic(auto, using(crate::proofs::reading::log::MovedToWaves::counting_steps))]
 fn count_changes(kept: &mut Vec<Variable>, group: &[LoggedChange])
     requires { All (λ (e : LogEntry). e.position < length kept.old.items) group.now }
     ensures { kept.new.items ≡ fold counted kept.old.items group.now }

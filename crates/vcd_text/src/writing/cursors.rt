@@ -28,6 +28,7 @@ pub fn first_changes(alloc: Global, signals: &[Signal]) -> Result<Vec<Cursor>, N
 }
 
 /// The first change after tick 0.
+#[tactic(auto, using(crate::proofs::writing::cursors::NextChange::first_change_steps))]
 fn first_change(wave: &Wave) -> Cursor
     ensures { IsNext 1 1 wave.now.changes result }
 {

@@ -145,6 +145,7 @@ fn write_scope<W: Sink>(output: &mut Output<W>, name: &ScopeName)
 }
 
 /// The number of scopes that two paths share at the front. The time grows with their words.
+#[tactic(auto, using(crate::proofs::writing::SharedScopes::none_shared))]
 fn shared_len(opened: &[ScopeName], path: &[ScopeName]) -> usize
     ensures shared { result ≡ common_prefix_len same_scope opened.now path.now }
     ensures in_opened { result ≤ length opened.now }

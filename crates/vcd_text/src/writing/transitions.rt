@@ -20,6 +20,7 @@ use vcd_core::{Signal, Sink};
 
 /// Writes the changes after tick 0, and the end, window by window. Ticks without a change are not
 /// read. It stops early if the writer has failed.
+#[tactic(auto, using(crate::proofs::writing::transitions::ItemsOfTicks::first_steps))]
 pub fn write_transitions<W: Sink>(
     output: &mut Output<W>,
     signals: &[Signal],
@@ -79,6 +80,7 @@ fn next_window_ticks(count: u64, used: usize, room: usize) -> u64
 
 /// Writes the changes of keys, after the text up to tick `last`. Returns the last tick. The
 /// search for the next change of each signal begins at its cursor.
+#[tactic(auto, using(crate::proofs::writing::window::KeyOrder::last_written))]
 fn write_keys<W: Sink>(
     output: &mut Output<W>,
     signals: &[Signal],

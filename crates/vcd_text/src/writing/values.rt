@@ -19,6 +19,7 @@ use vcd_core::{Bit, LetterBlock, Sink, Value, Wave};
 
 /// Writes the value at `tick`. If the change at `index` has that tick, it writes its value, without
 /// a search.
+#[tactic(auto, using(crate::proofs::writing::values::ValueAtChange::value_standing))]
 pub fn write_value_near<W: Sink>(
     output: &mut Output<W>,
     position: usize,
@@ -79,6 +80,7 @@ fn write_lowest<W: Sink>(output: &mut Output<W>, value: &Value, count: u64)
 }
 
 /// Writes the `count` lowest letters of a block.
+#[tactic(auto, using(crate::proofs::writing::values::LetterBits::row_end))]
 fn write_letters<W: Sink>(output: &mut Output<W>, count: u64, block: LetterBlock)
     requires { count ≤ 64 }
     ensures { Emits W.Sink output.old output.new (printed_letters (letters_of count (block ∷ []))) }

@@ -90,6 +90,7 @@ pub fn fill_window(window: &mut Window, signals: &[Signal], from: u64, most: u64
 
 /// Lists the keys of a window, signal by signal. Returns whether all keys fit: there was room, and
 /// no change was too far from the window's first tick.
+#[tactic(auto, using(crate::proofs::writing::window::ListedBySignal::longer_steps))]
 fn list_window(
     keys: &mut Vec<u64>,
     signals: &[Signal],
@@ -134,6 +135,7 @@ fn list_window(
 
 /// Adds the keys of one signal's changes before `to`. Returns its next change, or none if a key
 /// does not fit. If no change is in the window, it reads none.
+#[tactic(auto, using(crate::proofs::writing::cursors::NextChange::window_steps))]
 fn list_signal(
     keys: &mut Vec<u64>,
     position: usize,

@@ -50,9 +50,10 @@ use Rattle.vcd_text.proofs.shared.ResultExists.{texts_more}
 use Rattle.vcd_text.proofs.shared.WordOutcomes.{no_end_more}
 use Rattle.vcd_text.proofs.shared.ItemFaults.{no_size, begins_no_section, upscope_at_top, upscope_goes_on}
 use Rattle.vcd_text.proofs.shared.ItemFaults.{definitions_go_on, missing_kind}
-use Rattle.vcd_text.proofs.shared.ItemTests.{fits_in_words, fits_variable, failed, allows_entry, allows_timescale}
+use Rattle.vcd_text.proofs.shared.ItemTests.{fits_in_words, fits_variable, failed, allows_entry}
 use Rattle.vcd_text.proofs.shared.ItemTests.{allows_scope, allows_upscope, allows_variable, allows_end_definitions}
-use Rattle.vcd_text.proofs.shared.ItemTests.{allows_other}
+use Rattle.vcd_text.proofs.shared.ItemTests.{passes}
+use Rattle.std.proofs.lemmas.Bool.{and_from}
 
 -- ---- the state stays the same
 
@@ -120,11 +121,9 @@ pub closes_timescale : (m : Parser) (found : Timescale) → m.item ≡ items.Tim
     → (line : ℕ) → WordResult m (word_on end_word line) (Ok tt)
     (record m { timescale = Some found; item = items.Nothing })
 closes_timescale m found is some line asked c begun at =
-    let a = at.0 in
     let b : Collects m begun (codes "$timescale") = subst (IsBegun m begun) is at.1 in
-    let early : IsFalse c.in_body = sym a.in_body ∙ b.declares in
     let i : Item = timescale m.words.items in
-    ends_here asked _ c begun line i _ b.spelled refl (allows_timescale c m.words.items early b.no_end (rw some refl))
+    ends_here asked _ c begun line i _ b.spelled refl (grind (arith, fits_in_words, passes))
     (grind (arith, agrees_early, still_known)) refl
 
 -- the words spell no timescale
@@ -143,12 +142,10 @@ pub closes_scope : (m : Parser) (scopes : Scopes) (rest : Vec (List ℕ)) (s : S
     → (line : ℕ) → WordResult m (word_on end_word line) (Ok tt)
     (record m { variables = record m.variables { scopes = scopes }; words = rest; item = items.Nothing })
 closes_scope m scopes rest s is words pushed keeps line asked c begun at =
-    let a = at.0 in
     let b : Collects m begun (codes "$scope") = subst (IsBegun m begun) is at.1 in
-    let early : IsFalse c.in_body = sym a.in_body ∙ b.declares in
-    ends_here asked _ c begun line (scope s.kind s.words) (codes "$scope" ∷ s.kind ∷ s.words)
-    (b.spelled ∙ ap (λ ws. codes "$scope" ∷ ws) words) refl (allows_scope c s.kind s.words early
-    (ap has_no_end_word (sym words) ∙ b.no_end)) (grind (arith, agrees_early, scopes_moved)) refl
+    let early : IsFalse c.in_body = sym at.0.in_body ∙ b.declares in
+    ends_here asked _ c begun line (scope s.kind s.words) (codes "$scope" ∷ s.kind ∷ s.words) (cc) refl (allows_scope c
+    s.kind s.words early (ap has_no_end_word (sym words) ∙ b.no_end)) (grind (arith, agrees_early, scopes_moved)) refl
 
 -- as many scopes are open as in the state
 pub so_deep : (vs : Variables) (c : ParseState) → VariablesMatch vs c → length c.scopes ≡ vs.scopes.depth
@@ -196,22 +193,22 @@ begins_part m part silent is hears = (
       let early : IsFalse c.in_body = sym a.in_body ∙ b.0 in
       let vs : VariablesMatch m.variables (seen_state part c a.seen) = grind (arith, knows_further) in
       ends_here (asked_of part c) (record m { silent = silent; part = part; in_body = true; item = items.Nothing }) c
-      begun line end_definitions (codes "$enddefinitions" ∷ []) b.1 refl (allows_end_definitions c early)
-      (agrees_by (asked_of part c) _ _ a.seen a.header a.timescale refl a.tick
-      (still_known m.variables (seen_state part c a.seen) c.header c.timescale true vs) (λ _. a.no_early_tick early)
-      (λ _. a.no_early_change early) (λ _. a.none_seen early) (grind (arith, tells_nothing))
-      (λ _. heard_codes part m.variables c a.seen silent.items vs hears) (λ _. refl) (λ _. (refl, refl))) refl,
+      begun line end_definitions (codes "$enddefinitions" ∷ []) b.1 refl (allows_end_definitions c early) (agrees_by
+      (asked_of part c) _ _ a.seen a.header a.timescale refl a.tick (still_known _ _ _ _ _ vs) (λ _. a.no_early_tick
+      early) (λ _. a.no_early_change early) (λ _. a.none_seen early) (grind (arith, tells_nothing)) (λ _. heard_codes
+      part m.variables c a.seen silent.items vs hears) (λ _. refl) (λ _. (refl, refl))) refl,
 )
 
 -- another command changes nothing
 pub closes_other : (m : Parser) → m.item ≡ items.Other
     → (line : ℕ) → WordResult m (word_on end_word line) (Ok tt) (record m { item = items.Nothing })
 closes_other m is line asked c begun at =
-    let a = at.0 in
     let b : PassesOver m begun = subst (IsBegun m begun) is at.1 in
     ends_here asked (record m { item = items.Nothing }) c begun line (other b.keyword b.words) (b.keyword ∷ b.words)
-    b.spelled refl (allows_other c b.keyword b.words (ap (λ in_body. is_other in_body b.keyword) (sym a.in_body)
-    ∙ b.other) b.no_end) (agrees_as asked m _ c a refl refl refl refl refl refl refl) refl
+    b.spelled refl ((
+      and_from _ _ (ap (λ in_body. is_other in_body b.keyword) (sym at.0.in_body) ∙ b.other) b.no_end,
+      refl,
+    )) (agrees_as asked m _ c at.0 refl refl refl refl refl refl refl) refl
 
 -- ---- variables
 

@@ -28,6 +28,7 @@ use Rattle.vcd_text.specs.Letters.{is_binary_digit, letter_of_digit, letters_of_
 use Rattle.vcd_text.specs.Letters.{extension}
 use Rattle.vcd_text.specs.inside.reading.DigitBlocks.{digits_of, AddsLetters}
 use Rattle.std.proofs.lemmas.Bool.{and_left, and_right}
+use Rattle.std.proofs.lemmas.List.{length-set}
 
 -- ---- one letter more
 
@@ -174,3 +175,5 @@ pub block_is_extension : (width : ℕ) (s : List Bit) (block : LetterBlock) → 
     → HoldsLetters (pad_letter s) s 0 block → letters_of width (block ∷ []) ≡ extension width s
 block_is_extension width s block fits narrow holds =
     row_is_extension width 1 s (block ∷ []) fits (omega arith) (grind (arith, one_block, held))
+
+pub ruleset extension_steps = (row_more, letters_more, row_is_extension, no_letter, length-set, length-map)

@@ -110,13 +110,10 @@ module _ (limit most : ℕ) (taken_by : Parser → List WordOnLine → Type 0) (
 
   closed_now : complete_words bytes ≡ complete_words come.before ++ complete
   closed_now =
-      complete_by_bytes bytes ∙ ap (words_from false [] 1) (sym (append-nil bytes)) ∙ words_now false []
-      ∙ ap (λ text. complete_words come.before
-      ++ (complete ++ words_from false [] ((p.line_feeds + line_feeds_in complete_text) + 1) text))
-      (append-nil back)
-      ∙ ap (λ words. complete_words come.before ++ (complete ++ words))
-      (word_part ((p.line_feeds + line_feeds_in complete_text) + 1) back no_space)
-      ∙ ap (λ words. complete_words come.before ++ words) (append-nil complete)
+      complete_by_bytes _ ∙ ap (words_from false [] 1) (sym (append-nil bytes)) ∙ words_now _ [] ∙ ap (λ text.
+      complete_words come.before ++ (complete ++ words_from false [] ((p.line_feeds + line_feeds_in complete_text) + 1)
+      text)) (append-nil back) ∙ ap (λ words. complete_words come.before ++ (complete ++ words)) (word_part _ _
+      no_space) ∙ ap (λ words. complete_words come.before ++ words) (append-nil complete)
 
   -- the complete words have been taken
   pub now_taken : (later : Parser → List WordOnLine → Type 0) (new : Parser)
@@ -169,9 +166,8 @@ all_words : (most : ℕ) (taken_by : Parser → List WordOnLine → Type 0) (p :
     HasReadBytes most taken_by p bytes → text ≡ p.buffer.bytes
     → complete_words bytes ++ words_from true [] (p.line_feeds + 1) text ≡ words_of bytes
 all_words most taken_by p text bytes taken is =
-    ap (λ word. complete_words bytes ++ words_from true [] (p.line_feeds + 1) word)
-    (is ∙ sym (append-nil p.buffer.bytes))
-    ∙ sym (taken.words true []) ∙ ap (words_from true [] 1) (append-nil bytes) ∙ sym (words_by_bytes bytes)
+    ap (λ word. complete_words bytes ++ words_from true [] (p.line_feeds + 1) word) (is ∙ sym (append-nil
+    p.buffer.bytes)) ∙ sym (taken.words true []) ∙ ap (words_from true [] 1) (append-nil bytes) ∙ sym (words_by_bytes _)
 
 -- so all words of the bytes have been taken, or one is refused
 pub last_taken : (most : ℕ) (taken_by later : Parser → List WordOnLine → Type 0) (p : FileReader) (new : Parser)
@@ -243,9 +239,8 @@ refused_early limit most takes answers None left failed bytes e ready consumes w
 refused_early limit most takes answers (Some xs) None failed bytes e ready consumes within (inr (inr refused)) =
     absurd consumes
 refused_early limit most takes answers (Some xs) (Some ys) failed bytes e ready consumes within (inr (inr refused)) =
-    let prefix = complete_in_file bytes ys in
-    inr (refuses_further limit takes answers (complete_words bytes) prefix.0 (words_of xs) e
-    (ap words_of consumes ∙ prefix.1) refused)
+    let prefix = complete_in_file _ ys in
+    inr (refuses_further _ _ _ _ prefix.0 _ _ (ap words_of consumes ∙ prefix.1) refused)
 
 -- the file has more bytes than the limit
 pub full : (limit most : ℕ) (taken_by : Parser → List WordOnLine → Type 0) (coming middle left : Option (List ℕ))
@@ -255,9 +250,7 @@ pub full : (limit most : ℕ) (taken_by : Parser → List WordOnLine → Type 0)
     → e ≡ record { line = p.line_feeds + 1; fault = faults.TooLarge }
     → IfSome coming (λ file. IsRefusal limit most file failed left e)
 full limit most taken_by coming middle left failed p bytes chunk e ready first second some none taken silent is =
-    larger limit most coming left failed bytes e ready
-    (over coming left (Consumes-trans coming middle left bytes chunk first second))
-    (grind arith)
+    larger _ _ _ _ _ _ _ ready (over coming left (Consumes-trans _ _ _ _ _ first second)) (grind arith)
   where
     over : (coming left : Option (List ℕ)) → Consumes coming left (bytes ++ chunk)
         → IfSome coming (λ xs. (most < length xs) × (bytes ≡ take most xs))

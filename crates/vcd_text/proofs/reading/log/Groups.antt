@@ -12,6 +12,7 @@ use Rattle.vcd_text.specs.inside.reading.Log.{changes_of_position, logged, AreGr
 use Rattle.vcd_text.specs.declared.reading.log.LoggedChange.{LoggedChange}
 use Rattle.vcd_text.specs.declared.reading.log.TheConstants.{GROUPS}
 use Rattle.std.proofs.lemmas.Grind.{common_steps}
+use Rattle.std.proofs.lemmas.Option.{slice_get-get_or}
 
 -- ---- an empty group more
 
@@ -75,3 +76,7 @@ module _ (e : LoggedChange) (h : Vec LoggedChange) where
   grouped_with index (x ∷ gs) zero g at more of (here, are) = grind (arith, common_steps, same_Some)
   grouped_with index (x ∷ gs) (suc i) g at more of (here, are) =
       grind (arith, common_steps, grouped_with (index + 1) gs i g at more (omega (arith, of)) are)
+
+pub ruleset appended_steps = (slice_get-get_or, grouped_with, logged_with)
+
+pub ruleset longer_steps = (grouped_longer, logged_longer)

@@ -9,7 +9,7 @@ use Rattle.vcd_text.specs.inside.reading.Log.{logged_letters, value_after_change
 use Rattle.vcd_text.specs.inside.reading.Log.{GivesLoggedValues}
 use Rattle.vcd_text.specs.declared.reading.log.LoggedChange.{LoggedChange}
 
-value_after_changes-more : (width t : ℕ) (before : List Bit) (es : List LoggedChange) (e : LoggedChange)
+pub value_after_changes-more : (width t : ℕ) (before : List Bit) (es : List LoggedChange) (e : LoggedChange)
     → value_after_changes width t before (es ++ e ∷ [])
     ≡ (if nat_le e.tick t then logged_letters width e else value_after_changes width t before es)
 value_after_changes-more width t before [] e = refl
@@ -18,12 +18,12 @@ value_after_changes-more width t before (d ∷ es) e =
 
 -- ---- ticks
 
-rises_further : (floor early late : ℕ) (es : List LoggedChange) → early ≤ late → RisesTo floor early es
+pub rises_further : (floor early late : ℕ) (es : List LoggedChange) → early ≤ late → RisesTo floor early es
     → RisesTo floor late es
 rises_further floor early late [] later rises = omega (arith, later, rises)
 rises_further floor early late (e ∷ es) later (from, rises) = (from, rises_further e.tick early late es later rises)
 
-rises_more : (floor tick : ℕ) (es : List LoggedChange) (e : LoggedChange) → e.tick ≡ tick → RisesTo floor tick es
+pub rises_more : (floor tick : ℕ) (es : List LoggedChange) (e : LoggedChange) → e.tick ≡ tick → RisesTo floor tick es
     → RisesTo floor tick (es ++ e ∷ [])
 rises_more floor tick [] e at rises = (omega (arith, at, rises), omega (arith, at))
 rises_more floor tick (d ∷ es) e at (from, rises) = (from, rises_more d.tick tick es e at rises)
@@ -44,22 +44,11 @@ module _ (width tick : ℕ) (f : ℕ → List Bit) (cs : List Change) where
       → All (λ (c : Change). c.tick ≤ tick) cs
   gives_late es g = ends_later cs g.floor tick (rises_past g.floor tick es g.rises) g.ticks
 
-  -- the tick can be a later one
-  pub gives_further : (late : ℕ) (es : List LoggedChange) → tick ≤ late → GivesLoggedValues width tick f cs es
-      → GivesLoggedValues width late f cs es
-  gives_further late es later g = grind (arith, rises_further)
-
   pub gives_as : (g : ℕ → List Bit) (es : List LoggedChange) → ((t : ℕ) → f t ≡ g t)
       → GivesLoggedValues width tick f cs es → GivesLoggedValues width tick g cs es
   gives_as g es same h = grind arith
 
   -- ---- a change more
-
-  -- a change that is appended to the log
-  pub gives_appended : (v : List Bit) (es : List LoggedChange) (e : LoggedChange) → e.tick ≡ tick → width ≤ 64
-      → logged_letters width e ≡ v → GivesLoggedValues width tick f cs es
-      → GivesLoggedValues width tick (λ t. if nat_le tick t then v else f t) cs (es ++ e ∷ [])
-  gives_appended v es e at narrow letters g = grind (arith, rises_more, value_after_changes-more)
 
   -- a change that a wave takes, of a wide variable or before any change of the log
   pub gives_pushed : (v : List Bit) (ds : List Change) (es : List LoggedChange) → (64 < width) ⊎ (es ≡ [])
@@ -87,10 +76,3 @@ module _ (width tick : ℕ) (f : ℕ → List Bit) (cs : List Change) where
   pub gives_first : (e : LoggedChange) (es : List LoggedChange) → GivesLoggedValues width tick f cs (e ∷ es)
       → All (λ (c : Change). c.tick ≤ e.tick) cs
   gives_first e es g = ends_later cs g.floor e.tick g.rises.0 g.ticks
-
-  -- then the wave has it
-  pub gives_moved : (ds : List Change) (e : LoggedChange) (es : List LoggedChange)
-      → All (λ (c : Change). c.tick ≤ e.tick) ds
-      → ((t : ℕ) → value_at width ds t ≡ (if nat_le e.tick t then logged_letters width e else value_at width cs t))
-      → GivesLoggedValues width tick f cs (e ∷ es) → GivesLoggedValues width tick f ds es
-  gives_moved ds e es ended values g = grind arith

@@ -22,13 +22,15 @@ use Rattle.vcd_text.specs.declared.reading.code_targets.CodeTarget.TheVariants.{
 use Rattle.vcd_text.specs.declared.reading.log.LoggedChange.{LoggedChange}
 use Rattle.vcd_text.specs.declared.reading.variables.Variable.{Variable}
 use Rattle.vcd_text.specs.declared.reading.variables.Variables.{Variables}
-use Rattle.vcd_text.proofs.reading.log.LoggedValues.{gives_narrow, gives_first, gives_moved}
+use Rattle.vcd_text.proofs.reading.log.LoggedValues.{gives_narrow, gives_first}
 use Rattle.vcd_text.proofs.reading.variables.ChangedVariable.{set_here, set_there, own_wave, with_changes}
 use Rattle.vcd_text.proofs.reading.variables.ChangedVariable.{same_declaration}
 use Rattle.vcd_text.specs.declared.reading.log.ExpectedRoom.{ExpectedRoom}
 use Rattle.vcd_text.proofs.reading.code_targets.Targets.{stands_moved}
 use Rattle.vcd_text.proofs.reading.variables.VariablesMatch.{declared_at}
 use Rattle.std.proofs.lemmas.List.{length-set}
+use Rattle.std.proofs.lemmas.List.Elements.{All-get_or}
+use Rattle.std.proofs.lemmas.List.{drop_more}
 
 pub moves_then : (us vs ws : List Variable) (log rest last : ℕ → List LoggedChange) → MovesLog us vs log rest
     → MovesLog vs ws rest last → MovesLog us ws log last
@@ -54,7 +56,7 @@ module _ (e : LoggedChange) (es : List LoggedChange) (rest : ℕ → List Logged
     long = ap (length {A = Variable}) takes.others ∙ length-set old e.position takes.after;
     each = λ position v at. elim (cases_Bool (e.position == position)) [
       | inl same ↦
-          grind (arith, eqb-true, same_Some, set_here, gives_moved)
+          grind (arith, eqb-true, same_Some, set_here)
       | inr other ↦ (
         v,
         ap (λ vs. slice_get vs position) takes.others ∙ set_there old _ _ _ (grind (arith, own_position)) ∙ at,
@@ -124,8 +126,7 @@ counted_next kept e log =
 pub all_counted : (es : List LoggedChange) (kept : List Variable) (log : ℕ → List LoggedChange)
     → MovesLog kept (fold counted kept es) log log
 all_counted [] kept log = none_taken kept log
-all_counted (e ∷ es) kept log = moves_then kept (counted kept e) (fold counted (counted kept e) es) log log log
-    (counted_next kept e log) (all_counted es (counted kept e) log)
+all_counted (e ∷ es) kept log = moves_then _ _ _ _ _ _ (counted_next kept e log) (all_counted es (counted kept e) log)
 
 -- ---- the variables of a parser
 
@@ -180,3 +181,5 @@ module _ (old : Variables) (list : Vec Variable) (log : Vec (Vec LoggedChange)) 
   -- the waves have the changes of the log
   pub moved_match : VariablesMatch (with_changes old list log) c
   moved_match = grind (arith, same_all, same_declaration, stands_moved, moved_wave, stood)
+
+pub ruleset counting_steps = (All-get_or, drop_more, length-set)

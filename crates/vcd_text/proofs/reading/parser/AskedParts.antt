@@ -10,7 +10,7 @@ use Rattle.vcd_text.specs.declared.fault.ReadError.{ReadError}
 use Rattle.vcd_text.specs.Words.{WordOnLine, word_on}
 use Rattle.vcd_text.specs.Items.{Item, end_definitions}
 use Rattle.vcd_text.specs.Items.{spelling, end_word}
-use Rattle.vcd_text.specs.Grammar.{ParseState, VariableDeclaration, ValueChange, initial_state, state_after_item}
+use Rattle.vcd_text.specs.Grammar.{ParseState, VariableDeclaration, ValueChange, state_after_item}
 use Rattle.vcd_text.specs.Grammar.{Allows}
 use Rattle.vcd_text.proofs.shared.ItemTests.{allows_end_definitions}
 use Rattle.vcd_text.specs.Grammar.{kept_variables, word_texts}
@@ -139,10 +139,8 @@ declares : (limit : ℕ) (asked : Asked) (m : Parser) (words more : List WordOnL
     → HasDeclarations limit (words ++ word_on end_word line ∷ more) line (state_after_item r.state end_definitions)
 declares limit asked m words more line r early is =
     let begun = open_end m r.begun m.item r.at.1 is in
-    let leads = reaches_both (initial_state limit) r.state (state_after_item r.state end_definitions) r.items
-    (end_definitions ∷ []) (record { allowed = r.allowed; state_is = r.state_is })
-    (grind (arith, reaches_one, allows_end_definitions))
-    in
+    let leads = reaches_both _ _ _ _ _ (record { allowed = r.allowed; state_is = r.state_is })
+    (grind (arith, reaches_one, allows_end_definitions)) in
     record {
       items = r.items;
       before = words;
@@ -186,8 +184,7 @@ pub refused_part : (limit : ℕ) {C : Type 0} (takes : C → SignalContents → 
     → RefusesWords limit (takes first) (answers_of answers first now) (words ++ word_on end_word line ∷ more)
     (error_at line fault)
 refused_part limit takes answers first old_choice now old words more line fault r early is refuses =
-    part_refused limit r.asked old words more line (takes first) (answers_of answers first now) fault r.taken_words
-    early is (rw (r.unasked early) at refuses)
+    part_refused _ _ _ _ _ _ _ _ _ r.taken_words early is (rw (r.unasked early) at refuses)
 
 -- an answer for signals and a part is one for the same signals and part
 pub answered_signals : (takes : SignalContents → Bool) (answers : Answers) (unit : Option Timescale)

@@ -83,13 +83,11 @@ pub one_shown : (limit : ℕ) (asked : Asked) (old : Parser) (words_so_far more 
     → (let e : ReadError = error_at (item_fault_line old.item old.line w.line) fault in
     (e ≡ memory_error) ⊎ ShowsFault limit (words_so_far ++ w ∷ more) e.line e.fault)
 one_shown limit asked old words_so_far more w r fault refused =
-    let line = item_fault_line old.item old.line w.line in
     let words : List WordOnLine = words_so_far ++ w ∷ more in
     let parts : words ≡ r.whole ++ (r.begun ++ w ∷ more) = ap (λ ws. ws ++ w ∷ more) r.parts
     ∙ append_assoc r.whole r.begun (w ∷ more) in
-    error_shown limit words line fault (elim refused [
+    error_shown _ _ _ _ (elim refused [
       | inl memory ↦ inl memory
-      | inr row ↦ inr (shown_by limit words r.whole r.begun more w r.items r.state line fault
-          (record { allowed = r.allowed; state_is = r.state_is }) parts r.spelled row
-          (line_shown asked old r.state r.begun w fault old.item r.at.0 r.at.1 row))
+      | inr row ↦ inr (shown_by _ _ _ _ _ _ _ _ _ _ (record { allowed = r.allowed; state_is = r.state_is }) parts
+          r.spelled row (line_shown _ _ _ _ _ _ _ r.at.0 r.at.1 row))
     ])

@@ -21,7 +21,6 @@ use Rattle.vcd_text.specs.Grammar.{variable_of, kept_variables}
 use Rattle.vcd_text.specs.Grammar.{value_changes_after}
 use Rattle.vcd_text.specs.inside.reading.DigitTests.{is_binary_number}
 use Rattle.vcd_text.specs.inside.reading.DigitTests.{takes_binary_number}
-use Rattle.vcd_text.specs.Grammar.{with_value_change}
 use Rattle.vcd_text.specs.Meaning.{changes_of_code}
 use Rattle.vcd_text.specs.inside.reading.Log.{logged_letters, GivesLoggedValues, logged, AreGrouped, IsSameVariable}
 use Rattle.vcd_text.specs.inside.reading.BinaryNumber.{WritesValue, RefusesBinaryNumber}
@@ -34,12 +33,15 @@ use Rattle.vcd_text.specs.declared.reading.log.LoggedChange.{LoggedChange}
 use Rattle.vcd_text.specs.declared.reading.code_targets.CodeTarget.TheVariants.{Kept}
 use Rattle.vcd_text.specs.declared.reading.variables.Variable.{Variable}
 use Rattle.vcd_text.specs.declared.reading.variables.Variables.{Variables}
-use Rattle.vcd_text.proofs.reading.log.LoggedValues.{gives_late, gives_as, gives_appended, gives_pushed}
+use Rattle.vcd_text.proofs.reading.log.LoggedValues.{gives_late, gives_as, gives_pushed}
 use Rattle.vcd_text.proofs.reading.code_targets.Targets.{own_code, same_code, stands_kept, stands_moved}
 use Rattle.vcd_text.proofs.reading.variables.VariablesMatch.{one_owner}
 use Rattle.std.proofs.lemmas.List.{length-set, map-append}
 use Rattle.std.proofs.lemmas.List.Elements.{filter-append}
+use Rattle.std.proofs.lemmas.List.Elements.{All-weaker}
 use Rattle.std.proofs.lemmas.Bool.{eq-eqb, ne_eqb}
+use Rattle.vcd_text.proofs.reading.log.LoggedValues.{rises_more}
+use Rattle.vcd_text.proofs.reading.log.LoggedValues.{value_after_changes-more}
 
 -- ---- a list with another item at one position
 
@@ -105,10 +107,11 @@ module _ (old : Variables) (c : ParseState) (code digits : List ℕ) (width firs
   pub read_is : (v : Variable) → v ≡ get_or old.kept.items first v → v ≡ own_wave.4.first
   read_is v read = read ∙ get_or_from_slice_get old.kept.items first own_wave.4.first v own_wave.4.at_position
 
-  -- no change of its wave is past the tick
-  pub wave_late : All (λ (change : Change). change.tick ≤ c.tick) own_wave.4.first.wave.changes
-  wave_late = gives_late width c.tick (λ t. latest_value width code t (all_x width) c.value_changes)
-      own_wave.4.first.wave.changes (logged old.log.items first) own_wave.4.gives
+  -- no change of its wave is past a later tick
+  pub wave_late : (v : Variable) (tick : ℕ) → v ≡ get_or old.kept.items first v → c.tick ≤ tick
+      → All (λ (change : Change). change.tick ≤ tick) v.wave.changes
+  wave_late v tick read later = rw (read_is v read) (All-weaker (λ (e : Change). e.tick ≤ c.tick)
+      (λ e. e.tick ≤ tick) (λ e le. omega (arith, le, later)) _ (gives_late width c.tick _ _ _ own_wave.4.gives))
 
   -- digits that it refuses are a fault
   pub refused : (fault : Fault) → RefusesBinaryNumber width digits fault → RefusesChange c code digits fault
@@ -154,8 +157,7 @@ module _ (old : Variables) (list : Vec Variable) (log : Vec (Vec LoggedChange)) 
   unfolding new_value_change
   wave_changed key size position equal owned wave =
       let at : first ≡ position = grind arith in
-      let is : v ≡ wave.first = same_Some v wave.first (sym stood ∙ ap (slice_get old.kept.items) at
-      ∙ wave.at_position) in
+      let is : v ≡ wave.first = same_Some v wave.first (grind arith) in
       let old_size : v.wave.width ≡ size = ap (λ (u : Variable). u.wave.width) is ∙ wave.sized in
       let before : ℕ → List Bit = λ t. latest_value size key t (all_x size) c.value_changes in
       let had_values : GivesLoggedValues v.wave.width c.tick before v.wave.changes
@@ -181,47 +183,35 @@ module _ (old : Variables) (list : Vec Variable) (log : Vec (Vec LoggedChange)) 
       (one_owner old _ k.owners code key width size _ (had ∙ ap (Kept width) same) owned) ∙ other in absurd (cc) in
       grind (arith, set_there, gives_as, value_with)
 
-  changed_firsts : (position : ℕ) (u : Variable) → slice_get list.items position ≡ Some u
+  firsts_kept : (position : ℕ) (u : Variable) → slice_get list.items position ≡ Some u
       → HasFirst (with_changes old list log) (kept_variables c.declared) position u
-  changed_firsts position u at = grind (arith, following)
+  firsts_kept position u at = grind (arith, following)
 
   changed_stands : (key : List ℕ)
       → TargetMatches list.items (logged log.items) (c.value_changes ++ new_value_change ∷ []) c.tick key
       (target_of old key) (variable_of c key)
-  changed_stands key = stands_moved _ _ _ _ _ _ c.tick c.tick key _ _
-      (λ size position owned wave. elim (cases_Bool (bytes_eq code key)) [
-        | inl equal ↦ wave_changed key size _ (same_code code key equal) owned wave
-        | inr other ↦ wave_kept key size _ other owned wave
-      ]) (k.targets_agree key)
+  changed_stands key = stands_moved _ _ _ _ _ _ _ _ _ _ _ (λ size position owned wave. elim (cases_Bool _) [
+    | inl equal ↦ wave_changed _ _ _ (same_code _ _ equal) owned wave
+    | inr other ↦ wave_kept _ _ _ other owned wave
+  ]) (k.targets_agree key)
 
   told_are : value_changes_after c code (letters_of_digits digits) (variable_of c code) ≡ new_value_change ∷ []
   unfolding new_value_change
   told_are = grind (arith, own_wave)
 
   -- the log has changes only of first variables
-  changed_logs : HasOnlyFirstVariables list.items (logged log.items)
-  changed_logs position some = grind (arith, cases_eq, set_here, stood, own_wave, same_Some, set_there)
-
-  -- the variables have the value change
-  changed_knows : VariablesMatch (with_changes old list log) (with_value_change c code (letters_of_digits digits))
-  changed_knows = search (
-    arith,
-    same_map,
-    stood,
-    same_declaration,
-    told_are,
-    changed_stands,
-    changed_firsts,
-    length-set,
-    changed_logs,
-  )
+  logs_kept : HasOnlyFirstVariables list.items (logged log.items)
+  logs_kept position some = grind (arith, cases_eq, set_here, stood, own_wave, same_Some, set_there)
 
   -- its variable accepts the digits
   changed_takes : IsSomeAnd (variable_of c code) (λ d. IsTrue (takes_binary_number d digits))
   changed_takes = grind (arith, own_wave, le-leb, sized)
 
   pub changed : (x : Unit {0}) → ChangeResult c code digits (Ok x) (with_changes old list log)
-  changed x = (changed_takes, changed_knows)
+  changed x = (
+    changed_takes,
+    search (arith, same_map, stood, same_declaration, told_are, changed_stands, firsts_kept, length-set, logs_kept),
+  )
 
 -- the result of a change that a wave takes
 pub wide_changes : (old : Variables) (list : Vec Variable) (c : ParseState) (code digits : List ℕ) (width first : ℕ)
@@ -232,20 +222,18 @@ pub wide_changes : (old : Variables) (list : Vec Variable) (c : ParseState) (cod
     → IfErr result (λ fault. (fault ≡ faults.NoMemory) ⊎ RefusesBinaryNumber v.wave.width digits fault)
     → ChangeResult c code digits result (with_changes old list old.log)
 wide_changes old list c code digits width first v w (Ok x) k had read wide items sets refuses =
-    let is = read_is old c code digits width first k had v read in
-    let size = ap (λ (u : Variable). u.wave.width) is ∙ (own_wave old c code digits width first k had).4.sized in
-    changed old list old.log c code digits width first v w k had is items sets.same sets.value sets.fits k.grouped
-    (λ f g. gives_pushed v.wave.width c.tick f v.wave.changes
-    (extension v.wave.width (letters_of_digits digits)) w.wave.changes (logged old.log.items first) (elim wide [
+    let is = read_is _ _ code digits _ _ k had _ read in
+    let size = ap (λ (u : Variable). u.wave.width) is ∙ (own_wave _ _ _ digits _ _ k had).4.sized in
+    changed _ _ _ _ _ _ _ _ _ _ k had is items sets.same sets.value sets.fits k.grouped (λ f g. gives_pushed _ _ _ _
+    (extension v.wave.width (letters_of_digits digits)) _ _ (elim wide [
       | inl more ↦ inl (omega (arith, more, size))
       | inr none ↦ inr (ap (λ l. logged l first) none)
-    ]) sets.ticks (λ t. ap (λ n. value_at n w.wave.changes t) (sym sets.same.width) ∙ sets.values t) g)
-    (λ position _. refl) x
+    ]) sets.ticks (λ t. ap (λ n. value_at n w.wave.changes t) (sym sets.same.width) ∙ sets.values t) g) (λ position _.
+    refl) _
 wide_changes old list c code digits width first v w (Err fault) k had read wide items sets (inl none) = inl none
 wide_changes old list c code digits width first v w (Err fault) k had read wide items sets (inr refuses) =
-    inr (refused old c code digits width first k had fault (rw (ap (λ (u : Variable). u.wave.width)
-    (read_is old c code digits width first k had v read) ∙ (own_wave old c code digits width first k had).4.sized)
-    at refuses))
+    inr (refused _ _ _ _ _ _ k had _ (rw (ap (λ (u : Variable). u.wave.width) (read_is _ _ code digits _ _ k had _ read)
+    ∙ (own_wave _ _ _ digits _ _ k had).4.sized) at refuses))
 
 -- the result of a change of another variable, which goes to the log
 pub narrow_changes : (old : Variables) (log : Vec (Vec LoggedChange)) (c : ParseState) (code digits : List ℕ)
@@ -259,10 +247,9 @@ narrow_changes old log c code digits width first e k had narrow at_tick at write
     let v : Variable = (own_wave old c code digits width first k had).4.first in
     let size : v.wave.width ≡ width = (own_wave old c code digits width first k had).4.sized in
     let here : (e.position == first) ≡ true = eq-eqb e.position first at in
-    changed old old.kept log c code digits width first v v k had refl (same_set old.kept.items first v
-    (own_wave old c code digits width first k had).4.at_position) (same_itself v) writes.0 (omega
-    (arith, writes.1, size)) grouped (λ f g. rw (more first ∙ ap (λ b. if b then logged old.log.items first ++ e
-    ∷ [] else logged old.log.items first) here) (gives_appended v.wave.width c.tick f v.wave.changes (extension
-    v.wave.width (letters_of_digits digits)) (logged old.log.items first) e at_tick (omega (arith, narrow, size))
-    (rw size writes.2) g)) (λ position apart. more position ∙ ap (λ b. if b then logged old.log.items position ++ e ∷ []
-    else logged old.log.items position) (ne_eqb e.position position (λ equal. apart (sym at ∙ equal)))) x
+    changed old old.kept log c code digits width first v v k had refl (same_set old.kept.items first v (own_wave old c
+    code digits width first k had).4.at_position) (same_itself v) writes.0 (omega (arith, writes.1, size)) grouped (λ f
+    g. rw (more first ∙ ap (λ b. if b then logged old.log.items first ++ e ∷ [] else logged old.log.items first) here)
+    (grind (arith, rises_more, value_after_changes-more))) (λ position apart. more position ∙ ap (λ b. if b then logged
+    old.log.items position ++ e ∷ [] else logged old.log.items position) (ne_eqb e.position position (λ equal. apart
+    (sym at ∙ equal)))) x

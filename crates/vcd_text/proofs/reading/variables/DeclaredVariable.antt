@@ -22,7 +22,7 @@ use Rattle.vcd_core.specs.Decimal.{number_of}
 use Rattle.vcd_core.specs.Word.{is_skipped_kind}
 use Rattle.vcd_text.specs.Grammar.{VariableDeclaration, ValueChange, ParseState, is_skipped}
 use Rattle.vcd_text.specs.Grammar.{kept_variables}
-use Rattle.vcd_text.specs.Grammar.{variable_of, may_have_code, declaration_of}
+use Rattle.vcd_text.specs.Grammar.{variable_of, declaration_of}
 use Rattle.vcd_text.specs.inside.reading.Variables.{is_within_limit}
 use Rattle.vcd_text.specs.Meaning.{changes_of_code}
 use Rattle.vcd_text.specs.inside.reading.Log.{logged}
@@ -108,15 +108,11 @@ module _ (old : Variables) (targets : CodeTargets) (c : ParseState) (d : Variabl
     (free : (target_of old d.code ≡ Undeclared) ⊎ (target_of old d.code ≡ Skipped))
     (puts : Puts old (with_skipped old targets) d.code Skipped)
   where
-    skip_here : (v : Option VariableDeclaration) → TargetAgrees old c d.code (target_of old d.code) v
-        → TargetAgrees old c d.code Skipped (option_or v (Some d))
-    skip_here v s = grind arith
-
     skip_stands : (key : List ℕ)
         → TargetAgrees old c key (target_of (with_skipped old targets) key) (variable_of (with_declaration c d) key)
-    skip_stands key = rw (puts key) (rw (found_with key c.declared d) (by_code (λ b. TargetAgrees old c key
-        (if b then Skipped else target_of old key) (option_or (variable_of c key) (if b then Some d else None))) key
-        d.code (λ is. rw is (skip_here (variable_of c d.code) (k.targets_agree d.code))) (grind (arith, stands_still))))
+    skip_stands key = rw (puts key) (rw (found_with key c.declared d) (by_code (λ b. TargetAgrees old c key (if b then
+        Skipped else target_of old key) (option_or (variable_of c key) (if b then Some d else None))) key d.code (λ is.
+        rw is (grind arith)) (grind (arith, stands_still))))
 
     skip_kept : kept_variables (c.declared ++ d ∷ []) ≡ kept_variables c.declared
     skip_kept = grind (arith, filter-append, append-nil)
@@ -144,14 +140,10 @@ module _ (old : Variables) (targets : CodeTargets) (c : ParseState) (d : Variabl
           no_later = before.no_later;
         }
 
-    skip_may : (v : Option VariableDeclaration) → TargetAgrees old c d.code (target_of old d.code) v
-        → may_have_code v d ≡ true
-    skip_may v s = grind arith
-
     -- it is declared
     pub skip_declares : (x : Unit {0}) → DeclaresAs c d (Ok x) (with_skipped old targets)
     skip_declares x = (
-      skip_may (variable_of c d.code) (k.targets_agree d.code),
+      grind arith,
       (λ i. skipped i || nat_lt (length (kept_variables c.declared)) c.limit),
       record {
         opened = k.opened;
@@ -176,10 +168,6 @@ with_kept vs list targets = record vs { kept = list; code_targets = targets }
 
 module _ (old : Variables) (c : ParseState) (code : List ℕ) (v : Variable) (k : VariablesMatch old c)
     (keeps : is_skipped (declaration_in c.scopes code v) ≡ false) (free : IsFree old code v.wave.width v.first) where
-  keep_may : (o : Option VariableDeclaration) → TargetAgrees old c code (target_of old code) o
-      → may_have_code o (declaration_in c.scopes code v) ≡ true
-  keep_may o stands = grind arith
-
   has_room_is : (b : Bool) → nat_lt (length old.kept.items) c.limit ≡ b
       → is_within_limit c.limit c.declared (declaration_in c.scopes code v) ≡ b
   has_room_is b test = grind (arith, kept_long)
@@ -262,14 +250,14 @@ module _ (old : Variables) (c : ParseState) (code : List ℕ) (v : Variable) (k 
     keep_last : HasFirst (with_kept old list targets)
         (kept_variables c.declared ++ declaration_in c.scopes code v ∷ []) (length old.kept.items) v
     keep_last =
-        let is : (e : VariableDeclaration) → slice_get (kept_variables c.declared ++ declaration_in c.scopes code v
-        ∷ []) (length old.kept.items) ≡ Some e → declaration_in c.scopes code v ≡ e = λ e declared.
-        elim (either_of (kept_variables c.declared) (declaration_in c.scopes code v) (length old.kept.items) e
-        declared) [
+        let is : (e : VariableDeclaration) → slice_get (kept_variables c.declared ++ declaration_in c.scopes code v ∷
+        []) (length old.kept.items) ≡ Some e → declaration_in c.scopes code v ≡ e = λ e declared. elim (either_of
+        (kept_variables c.declared) _ (length old.kept.items) e declared) [
           | inl stood ↦ absurd (omega (
             arith,
             kept_long old c k,
-            slice_get_within (kept_variables c.declared) (length old.kept.items) e stood,
+            slice_get_within (kept_variables c.declared) (length
+                old.kept.items) e stood,
           ))
           | inr (last, same) ↦ same
         ] in
@@ -293,7 +281,7 @@ module _ (old : Variables) (c : ParseState) (code : List ℕ) (v : Variable) (k 
         → DeclaresAs c (declaration_in c.scopes code v) (Ok x) (with_kept old list targets)
     keep_declares room x =
         let d = declaration_in c.scopes code v in (
-          keep_may (variable_of c code) (k.targets_agree code),
+          grind arith,
           has_room_is true (lt-ltb (length old.kept.items) c.limit room),
           record {
             opened = k.opened;
@@ -334,9 +322,8 @@ pub declares_parts : (c : ParseState) (words rest names following : List (List �
     → Declares c (first ∷ word ∷ following) result new
 declares_parts c words rest names following kind code first word result new long is_kind left is_code left_names are
     as_one =
-    let head = prefix_removed words rest kind (omega (arith, long)) is_kind left in
-    let second = prefix_removed rest names code (omega (arith, long, ap (length {A = List ℕ}) head)) is_code
-    left_names in
+    let head = prefix_removed _ _ _ (omega (arith, long)) is_kind left in
+    let second = prefix_removed _ _ _ (omega (arith, long, ap (length {A = List ℕ}) head)) is_code left_names in
     let whole : words ≡ kind ∷ code ∷ names = head ∙ ap (λ ws. kind ∷ ws) second in
     subst (λ ws. Declares c (with_size word ws) result new) (sym whole ∙ are) (grind arith)
 

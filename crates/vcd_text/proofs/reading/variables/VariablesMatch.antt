@@ -8,7 +8,6 @@ use Rattle.vcd_core.specs.declared.capture.Header.{Header}
 use Rattle.vcd_core.specs.declared.capture.Timescale.{Timescale}
 use Rattle.vcd_core.specs.declared.capture.ScopeName.{ScopeName}
 use Rattle.vcd_text.specs.Grammar.{VariableDeclaration, ParseState, kept_variables}
-use Rattle.vcd_text.proofs.reading.log.LoggedValues.{gives_further}
 use Rattle.vcd_text.specs.inside.reading.Scopes.{open_scopes, KeepsPlaces}
 use Rattle.vcd_text.specs.inside.reading.Variables.{declaration, without_code, target_of, HaveOwnCodes}
 use Rattle.vcd_text.specs.inside.reading.Variables.{VariablesMatch}
@@ -17,6 +16,7 @@ use Rattle.vcd_text.specs.declared.reading.variables.Variable.{Variable}
 use Rattle.vcd_text.specs.declared.reading.variables.Variables.{Variables}
 use Rattle.vcd_text.specs.declared.reading.code_targets.CodeTarget.TheVariants.{Kept}
 use Rattle.vcd_text.proofs.reading.code_targets.Targets.{stands_moved}
+use Rattle.vcd_text.proofs.reading.log.LoggedValues.{rises_further}
 
 -- as many variables are kept as were declared as kept
 pub kept_long : (vs : Variables) (c : ParseState) → VariablesMatch vs c
@@ -49,8 +49,8 @@ knows_further vs c header timescale in_body tick later k = record {
   opened = k.opened;
   kept = k.kept;
   skipped = k.skipped;
-  targets_agree = λ code. stands_moved _ _ _ _ _ _ c.tick tick code _ _
-      (λ width position _ wave. (grind (arith, gives_further))) (k.targets_agree code);
+  targets_agree = λ code. stands_moved _ _ _ _ _ _ c.tick tick code _ _ (λ width position _ wave.
+      grind (arith, rises_further)) (k.targets_agree code);
   owners = k.owners;
   firsts = k.firsts;
   few = k.few;

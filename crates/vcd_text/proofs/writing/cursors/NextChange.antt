@@ -19,6 +19,7 @@ use Rattle.vcd_text.specs.declared.writing.cursors.Cursor.{Cursor}
 use Rattle.vcd_text.specs.inside.writing.Cursors.{IsNext, tick_at}
 use Rattle.vcd_text.specs.inside.writing.Transitions.{transition_of, window_of_signal}
 use Rattle.vcd_text.proofs.writing.window.ChangeCounts.{after_window, before_window, in_window}
+use Rattle.std.proofs.lemmas.List.{append-nil}
 
 -- a tick before all ticks is that of a change
 pub tick_inside : (cs : List Change) (k : ℕ) → tick_at cs k < 2 ^ 64 - 1 → k < length cs
@@ -119,3 +120,7 @@ passed_next from p signals cursors there next inside all is holds before k s n l
       | inl at ↦ (grind (arith, get_or_default, get_or-set_same))
       | inr apart ↦ rw (get_or-set_other cursors p k next n apart) (before k s n (omega arith))
     ]
+
+pub ruleset first_change_steps = (goes_on, rising)
+
+pub ruleset window_steps = (goes_to, begins, tick_inside, stops, append-nil)

@@ -15,6 +15,7 @@ use Rattle.vcd_text.specs.inside.writing.Transitions.{last_tick, new_stamp, tran
 use Rattle.vcd_text.specs.Text.{differing, differs_at, item_line, with_stamp}
 use Rattle.vcd_text.specs.inside.writing.Transitions.{items_of_ticks}
 use Rattle.vcd_text.specs.Text.{value_items}
+use Rattle.vcd_text.proofs.writing.output.Pieces.{prefix_begun}
 
 -- the items of transitions after the stamp of a tick, and the stamp of the end
 abbrev pub items_left : List SignalContents → ℕ → ℕ → List Transition → List Item
@@ -138,3 +139,5 @@ pub end_left : (signals : List SignalContents) (end last from : ℕ) → end < f
     ≡ flat_map item_line (new_stamp last end) ++ []
 unfolding transition_items transitions_from last_tick
 end_left signals end last from past = grind (arith, append-nil)
+
+pub ruleset first_steps = (prefix_begun, all_left)

@@ -38,3 +38,5 @@ longer_than from to k signals s out whole within at all =
 pub value_there : (signals : List Signal) (s : Signal) (k t : ℕ) → k < length signals → s ≡ get_or signals k s
     → transition_value (map signal_contents signals) (transition_of t k) ≡ value_at s.wave.width s.wave.changes t
 value_there signals s k t within is = grind (arith, get_or-map)
+
+pub ruleset longer_steps = (longer_than, length-map)

@@ -31,6 +31,7 @@ impl Variables {
     }
 
     /// Gives the waves their changes of the log, which is then empty.
+    #[tactic(auto, using(crate::proofs::reading::log::MovedToWaves::variables_can_move))]
     fn move_log(&mut self, alloc: Global) -> Result<(), NoMemory>
         requires { (c : ParseState) × VariablesMatch self.old c }
         ensures same { OnOk result ((c : ParseState) → VariablesMatch self.old c

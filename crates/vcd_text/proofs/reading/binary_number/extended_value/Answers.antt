@@ -1,8 +1,7 @@
 use Rattle.std.proofs.Common.{◌≡◌, ◌-◌, [], ℕ, List, length, drop, ap, arith}
 use Rattle.std.specs.List.{list_all}
-use Rattle.std.proofs.lemmas.List.{length-set, length-map, drop_all}
+use Rattle.std.proofs.lemmas.List.{drop_all}
 use Rattle.vcd_text.specs.Letters.{is_binary_digit}
-use Rattle.vcd_text.proofs.reading.digit_blocks.LetterBlocks.{row_more, letters_more, no_letter, row_is_extension}
 use Rattle.vcd_text.proofs.reading.binary_number.extended_value.Goals as goal
 
 -- after the last digit there is none
@@ -12,12 +11,3 @@ none_after digits = ap (list_all is_binary_digit) (drop_all (length digits - 0) 
 
 pub loop-k-init : goal.loop-k-init
 loop-k-init c = grind (arith, none_after)
-
-pub loop-k-preserved : goal.loop-k-preserved
-loop-k-preserved c = grind (arith, row_more, letters_more, length-set)
-
-pub returns : goal.returns
-returns c = grind (arith, length-map, row_is_extension)
-
-pub returns-in_err-block : goal.returns-in_err-block
-returns-in_err-block c = grind (arith, no_letter)

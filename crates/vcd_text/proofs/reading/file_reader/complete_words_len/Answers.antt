@@ -3,11 +3,7 @@ use Rattle.std.specs.List.{list_all}
 use Rattle.std.proofs.lemmas.List.{take-append-drop}
 use Rattle.std.proofs.lemmas.List.Folds.{list_all-append}
 use Rattle.vcd_core.specs.Word.{is_white_space}
-use Rattle.vcd_text.proofs.reading.file_reader.Chunks.{complete_at}
 use Rattle.vcd_text.proofs.reading.file_reader.complete_words_len.Goals as goal
-
-pub returns-then-is_white_space-clause-complete : goal.returns-then-is_white_space-clause-complete
-returns-then-is_white_space-clause-complete c = grind (arith, complete_at)
 
 pub returns-clause-no_space : goal.returns-clause-no_space
 returns-clause-no_space c =

@@ -5,7 +5,7 @@ use Rattle.vcd_core.specs.CaptureContents.{signal_contents}
 use Rattle.vcd_text.specs.Text.{code_of, item_line, value_item}
 use Rattle.vcd_text.specs.declared.writing.window.TheConstants.{POSITIONS}
 use Rattle.vcd_text.proofs.writing.window.ListedBySignal.{value_there}
-use Rattle.vcd_text.proofs.writing.window.KeyOrder.{last_written, none_written, one_later, one_written}
+use Rattle.vcd_text.proofs.writing.window.KeyOrder.{none_written, one_later, one_written}
 use Rattle.vcd_text.proofs.writing.output.Pieces.{prefix_begun, prefix_grows, prefix_whole, writes_as, writes_both}
 use Rattle.vcd_text.proofs.writing.transitions.write_keys.Goals as goal
 
@@ -18,14 +18,8 @@ prefetch_changes-requires-clause-keys g c = λ k d inside. (c.requires.keys k d 
 pub overflow_add-tick : goal.overflow_add-tick
 overflow_add-tick g c = omega (arith, (c.requires.keys c.loop-k.k 0 (omega arith)).tick)
 
-pub bounds-start_cursors-position : goal.bounds-start_cursors-position
-bounds-start_cursors-position g c = grind arith
-
 pub bounds-signals-position : goal.bounds-signals-position
 bounds-signals-position g c = omega (arith, (c.requires.keys c.loop-k.k 0 (omega arith)).position)
-
-pub write_value_near-requires : goal.write_value_near-requires
-write_value_near-requires g c = grind arith
 
 pub loop-k-preserved : goal.loop-k-preserved
 loop-k-preserved g c =
@@ -51,6 +45,3 @@ loop-k-preserved g c =
 pub returns-clause-text : goal.returns-clause-text
 returns-clause-text g c = prefix_whole c.loop-k.invariant.text (none_written
     (map signal_contents c.args.signals.now) c.args.from c.loop-k.last c.loop-k.k c.args.keys.now (omega arith))
-
-pub returns-clause-last : goal.returns-clause-last
-returns-clause-last g c = grind (arith, last_written)

@@ -3,13 +3,10 @@ use Rattle.std.proofs.Common.{◌≤◌, ◌+◌, map, refl, arith}
 use Rattle.vcd_core.specs.CaptureContents.{signal_contents}
 use Rattle.vcd_text.specs.inside.writing.Window.{transitions_of}
 use Rattle.std.proofs.Common.{ap, ◌∙◌}
-use Rattle.vcd_text.proofs.writing.transitions.ItemsOfTicks.{all_left, end_left, window_written}
-use Rattle.vcd_text.proofs.writing.output.Pieces.{prefix_begun, prefix_grows, prefix_whole}
+use Rattle.vcd_text.proofs.writing.transitions.ItemsOfTicks.{end_left, window_written}
+use Rattle.vcd_text.proofs.writing.output.Pieces.{prefix_grows, prefix_whole}
 use Rattle.std.proofs.lemmas.List.{with_items_is}
 use Rattle.vcd_text.proofs.writing.transitions.write_transitions.Goals as goal
-
-pub loop-from-init : goal.loop-from-init
-loop-from-init g c = grind (arith, prefix_begun, all_left)
 
 pub loop-from-preserved : goal.loop-from-preserved
 loop-from-preserved g c =

@@ -1,21 +1,12 @@
 -- Each turn lists the key of the next change, which is in the window.
 use Rattle.std.proofs.Common.{◌<◌, ◌+◌, ◌++◌, inr, length, drop, sym, ap, ◌∙◌, arith}
-use Rattle.std.proofs.lemmas.List.{append-nil, length-append, length-map}
+use Rattle.std.proofs.lemmas.List.{length-append, length-map}
 use Rattle.vcd_text.specs.inside.writing.Cursors.{tick_at}
 use Rattle.vcd_text.specs.inside.writing.Transitions.{Transition, window_of_signal}
 use Rattle.vcd_text.specs.inside.writing.Window.{transition_of_key, transitions_of}
-use Rattle.vcd_text.proofs.writing.cursors.NextChange.{begins, goes_on, goes_to, steps, stops, tick_inside}
+use Rattle.vcd_text.proofs.writing.cursors.NextChange.{goes_on, steps}
 use Rattle.vcd_text.proofs.writing.window.KeyOrder.{key_holds, one_key}
 use Rattle.vcd_text.proofs.writing.window.list_signal.Goals as goal
-
-pub loop-next-init : goal.loop-next-init
-loop-next-init c = grind (arith, goes_to, begins)
-
-pub following_change-next-requires : goal.following_change-next-requires
-following_change-next-requires c = grind (arith, tick_inside)
-
-pub loop-next-smaller : goal.loop-next-smaller
-loop-next-smaller c = grind (arith, tick_inside)
 
 pub loop-next-preserved : goal.loop-next-preserved
 loop-next-preserved c =
@@ -63,9 +54,3 @@ returns-then-len-capacity-clause-no_room_or_too_far c = inr (
       length-map keys (transition_of_key c.args.from),
       length-map old (transition_of_key c.args.from),
     ))
-
-pub returns-clause-all : goal.returns-clause-all
-returns-clause-all c = grind (arith, append-nil, stops)
-
-pub returns-clause-next : goal.returns-clause-next
-returns-clause-next c = grind arith

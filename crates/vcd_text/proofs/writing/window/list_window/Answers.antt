@@ -1,9 +1,9 @@
 -- Each turn lists the keys of one signal.
 use Rattle.std.proofs.Common.{◌<◌, length, sym, ap, ◌∙◌, arith}
-use Rattle.std.proofs.lemmas.List.{length-map, length-set}
+use Rattle.std.proofs.lemmas.List.{length-set}
 use Rattle.vcd_core.specs.declared.capture.Signal.{Signal}
 use Rattle.vcd_text.specs.declared.writing.cursors.Cursor.{Cursor}
-use Rattle.vcd_text.proofs.writing.window.ListedBySignal.{one_listed, all_listed, longer_than}
+use Rattle.vcd_text.proofs.writing.window.ListedBySignal.{one_listed, all_listed}
 use Rattle.vcd_text.proofs.writing.cursors.NextChange.{passed_next}
 use Rattle.vcd_text.proofs.writing.window.list_window.Goals as goal
 
@@ -27,9 +27,6 @@ returns-clause-next c = λ _. record {
 pub returns-clause-all : goal.returns-clause-all
 returns-clause-all c = λ all. all_listed c.args.from c.args.to c.loop-position.position c.args.signals.now _ _
     (omega arith) c.loop-position.invariant.all
-
-pub returns-in-None-clause-no_room_or_too_far : goal.returns-in-None-clause-no_room_or_too_far
-returns-in-None-clause-no_room_or_too_far c = grind (arith, longer_than, length-map)
 
 pub loop-position-preserved : goal.loop-position-preserved
 loop-position-preserved c =

@@ -1,4 +1,4 @@
-use Rattle.std.proofs.Common.{◌≡◌, ◌<◌, ◌∷◌, length, sym, ◌∙◌, arith}
+use Rattle.std.proofs.Common.{◌≡◌, ◌<◌, ◌∷◌, length, ◌∙◌, arith}
 use Rattle.std.proofs.lemmas.Bool.{eqb-true, eqb-false}
 use Rattle.std.proofs.lemmas.List.{nil_from_length}
 use Rattle.vcd_text.proofs.reading.declarations.DeclarationWords.{closes_scope, shows_missing_kind}
@@ -8,14 +8,12 @@ use Rattle.vcd_text.proofs.reading.parser.Parser.close_scope.Goals as goal
 pub returns-then-is_empty : goal.returns-then-is_empty
 returns-then-is_empty c =
     let m = c.args.self.now in
-    let none = eqb-true m.words.len 0 (sym c.is_empty.ensures ∙ c.if-is_empty.true) in
-    shows_missing_kind m m c.requires (nil_from_length m.words.items (omega (arith, none, m.words.ok.0)))
+    shows_missing_kind m m c.requires (nil_from_length m.words.items (grind (arith, eqb-true)))
 
 pub returns : goal.returns
 returns c =
     let m = c.args.self.now in
-    let other = eqb-false m.words.len 0 (sym c.is_empty.ensures ∙ c.if-is_empty.false) in
-    let some : 0 < length m.words.items = omega (arith, other, m.words.ok.0) in
+    let some : 0 < length m.words.items = grind (arith, eqb-false) in
     let prefix : m.words.items ≡ c.remove-kind.result ∷ c.words_out_of-words.result =
     prefix_removed m.words.items c.words_out_of-words.result c.remove-kind.result some c.remove-kind.ensures.value
     (c.words_out_of-words.ensures ∙ c.remove-kind.ensures.items) in

@@ -1,26 +1,19 @@
-use Rattle.std.proofs.Common.{◌≤◌, Err, inl, inr, refl, sym, ap, ◌∙◌, arith}
+use Rattle.std.proofs.Common.{Err, inl, inr, refl, sym, ap, ◌∙◌, arith}
 use Rattle.std.proofs.lemmas.Bool.{eqb-true}
 use Rattle.std.proofs.lemmas.List.{nil_from_length}
 use Rattle.std.specs.Vec.{with_item}
 use Rattle.std.proofs.lemmas.Result.{err_from_is_err_and}
-use Rattle.std.proofs.lemmas.List.Elements.{All-weaker}
-use Rattle.vcd_core.specs.declared.wave.Change.{Change}
 use Rattle.vcd_text.specs.declared.reading.log.LoggedChange.{LoggedChange}
-use Rattle.vcd_text.proofs.reading.variables.ChangedVariable.{own_wave, read_is, wave_late, refused}
+use Rattle.vcd_text.proofs.reading.variables.ChangedVariable.{wave_late, refused}
 use Rattle.vcd_text.proofs.reading.variables.ChangedVariable.{wide_changes, narrow_changes}
 use Rattle.vcd_text.proofs.reading.variables.Variables.change_at.Goals as goal
 
 pub change_wave-requires : goal.change_wave-requires
 change_wave-requires c =
-    let old = c.args.self.now in
     let (state, code, k, later, had) = c.requires.known in
-    let digits = c.args.digits.now in
-    let v = c.index_mut.result.now in
-    let wave = (own_wave old state code digits c.args.width c.args.first k had).4.first.wave.changes in
     record {
-      none_later = rw (read_is old state code digits c.args.width c.args.first k had v c.index_mut.ensures.value)
-          (All-weaker (λ (e : Change). e.tick ≤ state.tick) (λ (e : Change). e.tick ≤ c.args.tick)
-          (λ e le. omega (arith, le, later)) wave (wave_late old state code digits c.args.width c.args.first k had));
+      none_later = wave_late c.args.self.now state code c.args.digits.now c.args.width c.args.first k had _ _
+          c.index_mut.ensures.value later;
     }
 
 pub returns-then-width-gt64-clause-changed : goal.returns-then-width-gt64-clause-changed
@@ -51,16 +44,10 @@ returns-clause-changed c = λ state code tick k had.
 
 pub change_wave-requires-then-is_empty : goal.change_wave-requires-then-is_empty
 change_wave-requires-then-is_empty c =
-    let old = c.args.self.now in
     let (state, code, k, later, had) = c.requires.known in
-    let digits = c.args.digits.now in
-    let v = c.index_mut-then-is_empty.result.now in
-    let wave = (own_wave old state code digits c.args.width c.args.first k had).4.first.wave.changes in
     record {
-      none_later = rw (read_is old state code digits c.args.width c.args.first k had v
-          c.index_mut-then-is_empty.ensures.value)
-          (All-weaker (λ (e : Change). e.tick ≤ state.tick) (λ (e : Change). e.tick ≤ c.args.tick)
-          (λ e le. omega (arith, le, later)) wave (wave_late old state code digits c.args.width c.args.first k had));
+      none_later = wave_late c.args.self.now state code c.args.digits.now c.args.width c.args.first k had _ _
+          c.index_mut-then-is_empty.ensures.value later;
     }
 
 pub returns-then-is_empty-clause-changed : goal.returns-then-is_empty-clause-changed

@@ -1,13 +1,9 @@
-use Rattle.std.proofs.Common.{arith}
 use Rattle.std.proofs.Common.{ap, ◌∙◌}
 use Rattle.std.specs.Global.{Vec}
 use Rattle.std.proofs.lemmas.Result.{on_ok_weaker}
 use Rattle.vcd_text.specs.declared.reading.log.LoggedChange.{LoggedChange}
-use Rattle.vcd_text.proofs.reading.log.MovedToWaves.{variables_can_move, moved_match}
+use Rattle.vcd_text.proofs.reading.log.MovedToWaves.{moved_match}
 use Rattle.vcd_text.proofs.reading.variables.Variables.move_log.Goals as goal
-
-pub move_log_to_waves-requires : goal.move_log_to_waves-requires
-move_log_to_waves-requires c = grind (arith, variables_can_move)
 
 pub returns-clause-same : goal.returns-clause-same
 returns-clause-same c =
