@@ -41,7 +41,7 @@ LOST = [
     (b"r1.5 ! sx ! r2 # S #", {"real": 2}),
     (b"$comment 0! r1 ! $end $dumpvars 0! $end $attrbegin r1 ! $end $comment $end", {"comment": 2}),
     (b"$comment\n" + b"x" * 3 * vcd_files.CHUNK + b" y $end 0! 1!", {"change": 1, "comment": 1}),
-    *((b" " * more + b"0! 1!" + b"\n#1 0!\n#2 1! 0!\n" * 9000, {"change": 9001}) for more in range(3)),
+    *((b" " * more + b"0! 1!" + b"\n#1 0!\n#2 1! 0!\n" * 9000, {"change": 9001}) for more in range(16)),
     (b"0! 1! $comment", {"change": 1, "comment": 1}),
     (b"0! $dumpoff 1! $end 0!", {"change": 2}),
 ]
