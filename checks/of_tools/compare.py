@@ -28,6 +28,8 @@ PAIRS = {
     "the greatest ticks": (
         (ONE, "0! #9223372036854775806 1! #9223372036854775807"), (ONE, "0! #9223372036854775807 1!"),
         "a: 1 difference, first at tick 9223372036854775806: 1, 0"),
+    "a change that both have, while they are apart": ((ONE, "0! #3 1! #5 x! #6 1! #9"), (ONE, "0! #5 x! #9"),
+        "a: 2 differences, first at tick 3: 1, 0"),
     "two places": (("wire 4 a", "b1 ! #3 bz1 ! #5 b1 ! #9"), ("wire 4 a", "b1 ! #4 bx ! #9"),
         "a: 1 difference, first at tick 3: zzz1, 0001"),
 }
@@ -63,6 +65,7 @@ OPTIONS = [
     ("--within 2", CLOCK, edited("#20", "#23"), 1, "a: 1 difference, first at tick 20: 1, 0"),
     ("--within 9", CLOCK, edited("#10 1! #11 0! ", ""), 1, "a: 1 difference, first at tick 10: 1, 0"),
     ("--within 9", CLOCK, edited("#10 1! #11 0! ", "#14 1! #15 0! "), 0, "the same: 1 signal up to tick 50"),
+    ("--within 5", (ONE, "0! #3 1! #5 x! #9"), (ONE, "0! #5 x! #9"), 1, "a: 1 difference, first at tick 3: 1, 0"),
     ("--within 2", (ONE, "0! #9 1! #10"), (ONE, "0! #12 1!"), 1, "a: 1 difference, first at tick 9: 1, 0"),
     ("--within 2", (ONE, "0! #9 1! #10"), (ONE, "0! #11 1! #12"), 0, "the same: 1 signal up to tick 10"),
     ("--within 2", (ONE, "0! #9"), (ONE, "0! #10 1! #11"), 0, "the same: 1 signal up to tick 9"),
