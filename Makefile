@@ -2,7 +2,7 @@
 PREFIX ?= /usr/local
 ZSH_FOLDER ?= share/zsh/site-functions
 PROGRAMS = vcdedit vcdedit-narrow
-COMMANDS = $(PROGRAMS) vcdedit-apply vcdedit-compare vcdedit-view
+TOOLS = vcdedit-apply vcdedit-compare vcdedit-view
 DOCUMENTS = CHANGELOG.md docs/COOKBOOK.md docs/SCRIPT.md docs/FORMATS.md examples
 # What install put below PREFIX, a line for each file and each folder that was not there. Uninstall takes it away.
 MADE = share/vcdedit/made
@@ -11,9 +11,6 @@ MADE = share/vcdedit/made
 define FILES
 755 crates/vcdedit/out/vcdedit libexec/vcdedit
 755 crates/vcdedit_narrow/out/vcdedit_narrow libexec/vcdedit-narrow
-755 tools/apply_script bin/vcdedit-apply
-755 tools/compare_captures bin/vcdedit-compare
-755 tools/view_capture bin/vcdedit-view
 644 completions/_vcdedit $(ZSH_FOLDER)/_vcdedit
 endef
 export FILES
@@ -33,8 +30,9 @@ install: build ## to /usr/local, or PREFIX=FOLDER; DESTDIR=FOLDER goes before th
 	@set -e; umask 022; $(FOLDERS); \
 	stage=$$(mktemp -d); trap 'rm -rf "$$stage"' EXIT; share="$$stage/share"; documents="$$share/doc/vcdedit"; \
 	printf '%s\n' "$$FILES" | while read -r mode file place; do install -D -m "$$mode" "$$file" "$$stage/$$place"; done; \
+	install -D -m 755 -t "$$stage/bin" $(TOOLS:%=tools/%); \
 	install -D -m 644 -t "$$share/vcdedit" tools/*.py tools/*.txt; \
-	for name in $(COMMANDS); do \
+	for name in $(PROGRAMS) $(TOOLS); do \
 	install -D -m 644 -t "$$share/man/man1" "docs/$$name.1"; \
 	install -D -m 644 completions/vcdedit.bash "$$share/bash-completion/completions/$$name"; \
 	install -D -m 644 completions/vcdedit.fish "$$share/fish/vendor_completions.d/$$name.fish"; done; \

@@ -16,7 +16,7 @@ import time
 
 from common import TOP, load_if_there, module_of, run, store, store_program
 
-APPLY = os.path.join(TOP, "tools/apply_script")
+APPLY = os.path.join(TOP, "tools/vcdedit-apply")
 LINE = """$timescale 1 us $end $scope module tb $end
 $var wire 1 ! rx $end $var wire 4 " q [3:0] $end
 $upscope $end $enddefinitions $end
@@ -131,7 +131,7 @@ def writes(program, folder):
     yield "a long name", place.run("script", long)[0] == 0 and place.load(long) == wanted
     kept = ["A", "B", "B.orig", "C", "bad", "link", "new", long, "script", "some", odd]
     yield "nothing else is there", place.names() == sorted(kept)
-    yield "a folder that can't be synced", module_of("tools/apply_script").sync_folder(folder + "/none") is None
+    yield "a folder that can't be synced", module_of("tools/vcdedit-apply").sync_folder(folder + "/none") is None
 
 
 def stays(program, folder):

@@ -6,7 +6,7 @@ import re
 
 from common import TOP, run, store
 
-TOOL = os.path.join(TOP, "tools/compare_captures")
+TOOL = os.path.join(TOP, "tools/vcdedit-compare")
 
 ONE = "wire 1 a"
 TWO = "wire 1 a|wire 1 a"

@@ -7,7 +7,7 @@ import sys
 
 from common import EXAMPLES, TOP, load, load_if_there, run, store, store_program
 
-TOOL = os.path.join(TOP, "tools/view_capture")
+TOOL = os.path.join(TOP, "tools/vcdedit-view")
 I2C, I2C_LINE = os.path.join(EXAMPLES, "i2c/capture.vcd"), "i2c bench.scl bench.sda"
 GLITCHES, UART_LINE = os.path.join(EXAMPLES, "glitches/capture.vcd"), "uart bench.rx 10 8 none 1"
 # Examples, and a line that decodes them. Their rows have to say what the replies do.
