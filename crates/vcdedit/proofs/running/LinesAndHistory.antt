@@ -1,5 +1,5 @@
 -- What lines write on a machine is what the equations of a run say of its history.
-use Rattle.std.proofs.Common.{◌≡◌, ◌≤◌, ◌+◌, ℕ, cond, List, [], ◌∷◌, ◌++◌, take, length, Result, Ok}
+use Rattle.std.proofs.Common.{ap₂, ◌≡◌, ◌≤◌, ◌+◌, ℕ, cond, List, [], ◌∷◌, ◌++◌, take, length, Result, Ok}
 use Rattle.std.proofs.Common.{is_err, refl}
 use Rattle.std.proofs.Common.{sym, ◌∙◌, ap, subst, map, append_assoc}
 use Rattle.std.specs.Prelude.{fold, count_by}
@@ -104,15 +104,11 @@ refusals_are : (c : Contents) (h : History) (m : Machine) (skipped : ℕ) (lines
 unfolding refusal_count line_answers
 refusals_are c h m skipped [] is = refl
 refusals_are c h m skipped (line ∷ lines) is =
-    let one : (r : LineReply) → ℕ = λ r. cond (is_err r) 1 0 in
-    let first : one (answer_on skipped line m) ≡ one (line_answer c skipped h line) =
-    ap one (answer_is c h m skipped line is) in
+    let one : LineReply → ℕ = λ r. cond (is_err r) 1 0 in
     let rest = refusals_are c (history_after_line c skipped h line) (machine_after_line m line) skipped
     lines (line_follows c h m skipped line is) in
-    let both : one (answer_on skipped line m)
-    + refusal_count skipped (machine_after_line m line) lines ≡ one (line_answer c skipped h line)
-    + count_by is_err (line_answers c skipped (history_after_line c skipped h line) lines) = λ i. first i + rest i in
-    both ∙ sym (sum_by-cons one (line_answer c skipped h line)
+    ap₂ (λ (a b : ℕ). a + b) (ap one (answer_is c h m skipped line is)) rest
+    ∙ sym (sum_by-cons one (line_answer c skipped h line)
     (line_answers c skipped (history_after_line c skipped h line) lines))
 
 -- the same answers, each with the history after the lines before it

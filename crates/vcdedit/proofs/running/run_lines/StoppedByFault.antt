@@ -3,9 +3,9 @@ use Rattle.std.proofs.Common.{◌≡◌, ℕ, suc, ◌+◌, ◌-◌, ◌≤◌, 
 use Rattle.std.proofs.Common.{sym, subst, ◌∙◌}
 use Rattle.std.proofs.Common.{ap, arith}
 use Rattle.std.specs.List.{concat}
-use Rattle.std.proofs.lemmas.List.{append-nil, length-append, take-append-le}
+use Rattle.std.proofs.lemmas.List.{append-nil, length-append, take-append-le, take_at}
 use Rattle.std.proofs.lemmas.List.Folds.{concat-append}
-use Rattle.std.proofs.Math.Seq.{take-append_seam, take-append-add, take-length}
+use Rattle.std.proofs.Math.Seq.{take-append-add, take-length}
 use Rattle.std.specs.Io.KnownBytes.{Appends, Keeps}
 use Rattle.std.proofs.KnownBytes.{Appends-trans, Appends-kept}
 use Rattle.vcd_journal.specs.Machine.{Machine}
@@ -26,9 +26,8 @@ module _ (replies texts rest : List (List ℕ)) (text : List ℕ) (before betwee
   none_of_text number line count at kept =
       let whole : length replies ≡ length texts + suc (length rest) =
       ap length parts ∙ length-append texts (text ∷ rest) in
-      let before_it : line - 1 ≡ length texts = omega (arith, at, count) in
-      let prefix : take (line - 1) replies ≡ texts = ap (λ i. take i replies) before_it
-      ∙ ap (take (length texts)) parts ∙ take-append_seam texts (text ∷ rest) in (
+      let prefix : take (line - 1) replies ≡ texts =
+      ap (take (line - 1)) parts ∙ take_at texts (text ∷ rest) (line - 1) (omega (arith, at, count)) in (
         omega (arith, at),
         omega (arith, at, count, whole),
         subst (Appends before after) (ap concat (sym prefix))

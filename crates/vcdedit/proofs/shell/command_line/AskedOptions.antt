@@ -1,5 +1,5 @@
 -- The getters read from the matches what the words ask for.
-use Rattle.std.proofs.Common.{◌≡◌, ◌∙◌, ap, ap₂, ℕ, List, Option, codes}
+use Rattle.std.proofs.Common.{◌≡◌, ◌∙◌, ap, ℕ, List, Option, codes}
 use Rattle.std.specs.Prelude.{option_map}
 use Rattle.std.specs.Borrow.{Bor}
 use Rattle.clap.specs.Words.{Text, first_of, first_value, found_of, matches_of, one_of, one_text}
@@ -21,23 +21,8 @@ read_options m words input script output depth rows is_input is_script is_output
     λ id. first_value-rows (found_of m) id ∙ ap (first_of id) rows in
     let text : one_text (found_of m) (codes "depth") ≡ one_of (codes "depth") (matches_of option_app words) =
     one_text-rows (found_of m) (codes "depth") ∙ ap (one_of (codes "depth")) rows in
-    ap (λ (o : Option Text). record {
-      input = o;
-      script = option_map (λ s. s.now) script;
-      output =
-          option_map (λ s. s.now) output;
-      depth = depth;
-    }) (is_input ∙ of_rows (codes "input-file"))
-    ∙ ap (λ (o : Option Text). record {
-      input = first_of (codes "input-file") (matches_of option_app words);
-      script = o;
-      output = option_map (λ s. s.now) output;
-      depth = depth;
-    }) (is_script ∙ of_rows (codes "script"))
-    ∙ ap₂ (λ (o : Option Text) (n : ℕ). record {
-      input = first_of (codes "input-file") (matches_of option_app words);
-      script = first_of (codes "script") (matches_of option_app words);
-      output = o;
-      depth = n;
-    }) (is_output
-    ∙ of_rows (codes "output-file")) (is_depth ∙ ap depth_asked text)
+    let input_is = is_input ∙ of_rows (codes "input-file") in
+    let script_is = is_script ∙ of_rows (codes "script") in
+    let output_is = is_output ∙ of_rows (codes "output-file") in
+    let depth_is = is_depth ∙ ap depth_asked text in
+    λ i. record { input = input_is i; script = script_is i; output = output_is i; depth = depth_is i }

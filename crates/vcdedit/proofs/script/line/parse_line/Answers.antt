@@ -1,17 +1,14 @@
 -- What is read of the first word, and of those after it, is what is read of the line.
-use Rattle.std.proofs.Common.{◌≡◌, ◌∷◌, Result, Ok, Err, sym, ap, subst, ◌∙◌}
+use Rattle.std.proofs.Common.{◌≡◌, Result, Ok, Err, sym, ap, ◌∙◌}
 use Rattle.std.specs.Prelude.{IfOk, IfErr}
 use Rattle.vcd_core.specs.CaptureContents.{contents}
 use Rattle.vcd_core.specs.Contents.{Contents}
 use Rattle.vcd_text.specs.Grammar.{word_texts}
-use Rattle.vcd_text.specs.LentWords.{texts_left}
-use Rattle.vcd_text.specs.Words.{words_of}
 use Rattle.vcdedit.specs.declared.script.command.Command.{Command}
 use Rattle.vcdedit.specs.declared.script.line_error.LineError.{LineError}
 use Rattle.vcdedit.specs.CommandSignals.{HasCommandSignals}
 use Rattle.vcdedit.specs.WithoutAddress.{command_without_address}
 use Rattle.vcdedit.specs.ScriptCommands.{command_of_line}
-use Rattle.vcdedit.specs.ScriptCommands.{command_of_words}
 use Rattle.vcdedit.specs.inside.script.Line.{ReadsAs}
 use Rattle.vcdedit.proofs.script.line.parse_line.Goals as goal
 
@@ -34,21 +31,13 @@ read_fault c wanted (Err fault) reads = reads
 pub returns-in-Some-clause-command : goal.returns-in-Some-clause-command
 unfolding command_of_line
 returns-in-Some-clause-command c =
-    let texts : word_texts (words_of c.args.line.now) ≡ c.in-Some.first.now ∷ texts_left c.next_text.new.words =
-    ap word_texts (sym c.new-words.ensures.words) ∙ c.in-Some.ensures in
-    subst (λ words. IfOk c.parse_first_word.result
-    (λ command. command_of_words (contents c.args.capture.now) words ≡ Ok (command_without_address command)))
-    (sym texts)
+    rw (ap word_texts (sym c.new-words.ensures.words) ∙ c.in-Some.ensures)
     (read_command (contents c.args.capture.now) _ c.parse_first_word.result c.parse_first_word.ensures)
 
 pub returns-in-Some-clause-fault : goal.returns-in-Some-clause-fault
 unfolding command_of_line
 returns-in-Some-clause-fault c =
-    let texts : word_texts (words_of c.args.line.now) ≡ c.in-Some.first.now ∷ texts_left c.next_text.new.words =
-    ap word_texts (sym c.new-words.ensures.words) ∙ c.in-Some.ensures in
-    subst (λ words. IfErr c.parse_first_word.result
-    (λ fault. command_of_words (contents c.args.capture.now) words ≡ Err fault))
-    (sym texts)
+    rw (ap word_texts (sym c.new-words.ensures.words) ∙ c.in-Some.ensures)
     (read_fault (contents c.args.capture.now) _ c.parse_first_word.result c.parse_first_word.ensures)
 
 pub returns-in-Some-clause-signals : goal.returns-in-Some-clause-signals
