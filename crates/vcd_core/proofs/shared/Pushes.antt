@@ -340,7 +340,8 @@ module _ (v w : WaveView) (is : v ≡ w) (wave : IsWave v.width v.changes) (tick
   module _ (list : WaveList) (still : list.shared ≡ None)
       (pushed : list.own.items ≡ changes_after_push v.width made.own.items tick (value v.width)) where
     pushed_here : changes_of_list list ≡ changes_after_push v.width v.changes tick (value v.width)
-    pushed_here = sym (own_changes list still) ∙ pushed ∙ ap (λ cs. changes_after_push v.width cs tick (value v.width)) here
+    pushed_here = sym (own_changes list still) ∙ pushed
+        ∙ ap (λ cs. changes_after_push v.width cs tick (value v.width)) here
 
     pub wave_pushed : length (value v.width) ≡ v.width → IsWave v.width (changes_of_list list)
     wave_pushed wide = subst (IsWave v.width) (sym pushed_here)
@@ -358,8 +359,9 @@ module _ (v w : WaveView) (is : v ≡ w) (wave : IsWave v.width v.changes) (tick
   -- where a push succeeds if it takes a change away, it does if one is at the tick
   pub replaces_there : {R : Type 0} → (changes_before tick made.own.items ≢ made.own.items → R)
       → Any (λ c. c.tick ≡ tick) w.changes → R
-  replaces_there succeeds some = succeeds (subst (λ cs. changes_before tick cs ≢ cs) (sym here)
-      (one_at_tick tick v.changes (subst (λ (x : WaveView). Any (λ (c : Change). c.tick ≡ tick) x.changes) (sym is) some)))
+  replaces_there succeeds some =
+      let stands = subst (λ (x : WaveView). Any (λ (c : Change). c.tick ≡ tick) x.changes) (sym is) some in
+      succeeds (subst (λ cs. changes_before tick cs ≢ cs) (sym here) (one_at_tick tick v.changes stands))
 
   -- if it also does where the last value is the new one, it does where the wave has that at the tick
   pub adds_none_there : {R : Type 0} → (changes_before tick made.own.items ≢ made.own.items → R)

@@ -19,12 +19,12 @@ invariant_of-self c = (
 
 pub returns-clause-steps : goal.returns-clause-steps
 returns-clause-steps c =
-    cc (ap (map bit_edge) (walk_next (traces_left c.self.inside.walk) _ _ c.self.invariant.0 (sym c.in_ok-tick.ensures)
-    c.after-self-inside.ensures))
+    cc (ap (map bit_edge) (walk_next (traces_left c.self.inside.walk) _ _ c.self.invariant.0
+    (sym c.in_ok-tick.ensures) c.after-self-inside.ensures))
 
 pub returns-clause-goes : goal.returns-clause-goes
 returns-clause-goes c =
-    let first = ap (map bit_edge) (walk_next (traces_left c.self.inside.walk) _ _ c.self.invariant.0 (sym c.in_ok-tick.ensures)
-    c.after-self-inside.ensures) in
+    let first = ap (map bit_edge) (walk_next (traces_left c.self.inside.walk) _ _ c.self.invariant.0
+    (sym c.in_ok-tick.ensures) c.after-self-inside.ensures) in
     let shorter = ap length (sym c.self.view_is ∙ first) in
     record { on = λ finite. (tt, finite, omega arith); keeps = tt; rests = λ _. tt }
