@@ -74,7 +74,8 @@ module _ (scl sda : ℕ → Bit) (at : ℕ → ℕ) (rises : (k : ℕ) → at k 
       ∙ cons_is (event (suc t)) (filter_map event (range_with_len (suc t + 1) (long + (stop - next))))
       ∙ (λ k. option_to_list (event_here k) ++ filter_map event (range_with_len (step k) (long + (stop - next))))
       ∙ ap (λ es. option_to_list (bus_event (at i) before p) ++ es)
-      (held p long (suc t) (stop - next) (λ s from to. here s from (omega arith)) ∙ ap (λ k. filter_map event (range_with_len k (stop - next))) tick
+      (held p long (suc t) (stop - next) (λ s from to. here s from (omega arith))
+      ∙ ap (λ k. filter_map event (range_with_len k (stop - next))) tick
       ∙ (λ k. filter_map event (range_with_len (previous k) (stop - previous k)))
       ∙ walked stop ps (suc i) (next - 1) p previous
       (ap at {x = length ps + suc i} {y = length (p ∷ ps) + i} (omega arith) ∙ last)

@@ -40,5 +40,5 @@ pub returns-in_err-push_block_change-clause-adds_none : goal.returns-in_err-push
 returns-in_err-push_block_change-clause-adds_none c own same =
     absurd (cc (adds_none_there _ _ c.self.view_is c.self.invariant.2 c.args.tick
     (λ n. letters_of n (c.args.block ∷ [])) c.make_own.new.self
-    c.in_ok-make_own.ensures.is_own c.make_own.ensures.changes
-    c.in_err-push_block_change.ensures.replaces c.in_err-push_block_change.ensures.adds_none c.requires.none_later same))
+    c.in_ok-make_own.ensures.is_own c.make_own.ensures.changes c.in_err-push_block_change.ensures.replaces
+    c.in_err-push_block_change.ensures.adds_none c.requires.none_later same))
