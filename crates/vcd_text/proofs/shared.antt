@@ -14,3 +14,4 @@ pub mod ItemsInTurn
 pub mod WordOutcomes
 pub mod OneOf
 pub mod WeakerTests
+pub mod FailedResults

@@ -1,5 +1,5 @@
-use Rattle.std.proofs.Common.{◌≡◌, ◌≤◌, true, [], None, length, IfSome, Err, ap, ◌∙◌, arith}
-use Rattle.std.proofs.lemmas.Result.{err_from_is_err_and, IfOk-weaker, IfErr-weaker}
+use Rattle.std.proofs.Common.{◌≡◌, ◌≤◌, true, [], None, length, IfSome, arith}
+use Rattle.std.proofs.lemmas.Result.{IfOk-weaker, IfErr-weaker}
 use Rattle.vcd_text.specs.declared.fault.Fault.TheVariants as faults
 use Rattle.vcd_text.specs.declared.fault.ReadError.{ReadError}
 use Rattle.vcd_text.specs.declared.reading.Loaded.{Loaded}
@@ -7,6 +7,7 @@ use Rattle.vcd_text.specs.Parts.{PartMeans, IsPartRefusal, answers_of}
 use Rattle.vcd_text.specs.inside.reading.Part.{Asked}
 use Rattle.vcd_text.proofs.reading.file_reader.Chunks.{at_end, of_all, is_no_file_failure, asked_nothing, consumes_none}
 use Rattle.vcd_text.proofs.reading.read_within.Goals as goal
+use Rattle.vcd_text.proofs.shared.FailedResults.{err_is}
 
 pub loop-progress-init : goal.loop-progress-init
 loop-progress-init g c =
@@ -32,9 +33,8 @@ returns-in_err-take_chunk-clause-refused g c =
     let left = g.R.Source.coming c.take_chunk.new.source in
     let failed = g.R.Source.has_failed c.take_chunk.new.source in
     let first = c.args.choice.now in
-    let refused = err_from_is_err_and c.from_residual.result c.from_residual.ensures.1 in
-    rw (refused.1 ∙ ap Err refused.2)
-    (c.in_err-take_chunk.ensures.refused c.args.limit c.args.most first coming c.loop-progress.invariant.0)
+    rw (err_is _ c.from_residual.ensures.1) (c.in_err-take_chunk.ensures.refused c.args.limit c.args.most first coming
+    c.loop-progress.invariant.0)
 
 pub finish-requires : goal.finish-requires
 finish-requires g c =

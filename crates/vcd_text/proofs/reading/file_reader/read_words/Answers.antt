@@ -1,11 +1,11 @@
-use Rattle.std.proofs.Common.{◌≡◌, Err, List, [], ◌∷◌, ◌++◌, length, sym, ap, ◌∙◌}
+use Rattle.std.proofs.Common.{◌≡◌, List, [], ◌∷◌, ◌++◌, length, sym, ap, ◌∙◌}
 use Rattle.std.proofs.Common.{arith, append_assoc}
 use Rattle.std.proofs.Common.{append-nil, length-append, refl}
-use Rattle.std.proofs.lemmas.Result.{err_from_is_err_and}
 use Rattle.vcd_text.specs.declared.fault.ReadError.{ReadError}
 use Rattle.vcd_text.specs.Words.{WordOnLine}
 use Rattle.vcd_text.specs.LentWords.{word_contents, words_left}
 use Rattle.vcd_text.proofs.reading.file_reader.read_words.Goals as goal
+use Rattle.vcd_text.proofs.shared.FailedResults.{err_is}
 
 -- the words so far, this word, and the words left
 in_turn : (all came words left : List WordOnLine) (word : WordOnLine) → all ≡ came ++ words → words ≡ word ∷ left
@@ -63,7 +63,6 @@ loop-word-preserved g c =
 pub returns-in_err-take_word-clause-words : goal.returns-in_err-take_word-clause-words
 returns-in_err-take_word-clause-words g c = λ limit first words_so_far reads.
     let came = c.loop-word.invariant.0.0 in
-    let refused = err_from_is_err_and c.from_residual.result c.from_residual.ensures.1 in
     let word = word_contents c.in-Some.word in
     let more = words_left c.next_word.new.self in
     let all : (words_so_far ++ came) ++ word ∷ more ≡ words_so_far ++ (words_left c.args.words) =
@@ -71,7 +70,7 @@ returns-in_err-take_word-clause-words g c = λ limit first words_so_far reads.
     (sym (append_assoc came (word ∷ []) more) ∙ sym (in_turn (words_left c.args.words) came
     (words_left c.loop-word.left) more word c.loop-word.invariant.0.1 c.in-Some.ensures.words)) in
     let e : ReadError = c.in_err-take_word.field-0.0 in
-    rw (refused.1 ∙ ap Err refused.2) (rw all at (c.in_err-take_word.ensures limit first (words_so_far ++ came)
+    rw (err_is _ c.from_residual.ensures.1) (rw all at (c.in_err-take_word.ensures limit first (words_so_far ++ came)
     (c.loop-word.invariant.0.2 limit first words_so_far reads) more))
 
 pub returns-clause-words : goal.returns-clause-words

@@ -1,14 +1,13 @@
-use Rattle.std.proofs.Common.{◌++◌, Err, ap}
-use Rattle.std.proofs.Common.{◌∙◌, arith}
+use Rattle.std.proofs.Common.{◌++◌}
+use Rattle.std.proofs.Common.{arith}
 use Rattle.std.proofs.KnownBytes.{Consumes-trans}
-use Rattle.std.proofs.lemmas.Result.{err_from_is_err_and}
 use Rattle.std.proofs.lemmas.List.{length-append}
-use Rattle.vcd_text.specs.Words.{complete_words}
 use Rattle.vcd_text.specs.Parts.{answers_of}
 use Rattle.vcd_text.specs.inside.reading.Choice.{HasTakenFrom}
 use Rattle.vcd_text.proofs.reading.parser.AskedParts.{silent_words}
 use Rattle.vcd_text.proofs.reading.file_reader.Chunks.{has_come, as_part, refused_early, is_no_failure, full, broken}
 use Rattle.vcd_text.proofs.reading.file_reader.FileReader.take_chunk.Goals as goal
+use Rattle.vcd_text.proofs.shared.FailedResults.{err_is}
 
 pub returns-in_default-clause-refused : goal.returns-in_default-clause-refused
 returns-in_default-clause-refused g c = λ limit most first coming stands.
@@ -16,12 +15,10 @@ returns-in_default-clause-refused g c = λ limit most first coming stands.
     let source = c.read_from.new.source in
     let (bytes, came, taken) = stands in
     as_part limit most (g.C.Choice.takes first) (answers_of g.C.Choice.answers first c.args.choice.now) coming
-    (g.R.Source.coming source) (g.R.Source.has_failed source) c.at.result
-    (broken limit most (HasTakenFrom limit g.C.Choice.takes g.C.Choice.answers first c.args.choice.now) coming
-    (g.R.Source.coming c.args.source.now) (g.R.Source.coming source) (g.R.Source.has_failed source)
-    p bytes c.at.result c.in_default.ensures.failed came c.in_default.ensures.coming taken
-    (silent_words limit g.C.Choice.takes g.C.Choice.answers first c.args.choice.now p.parser (complete_words bytes)
-    taken.taken_words) c.at.ensures)
+    (g.R.Source.coming source) (g.R.Source.has_failed source) c.at.result (broken limit most (HasTakenFrom limit
+    g.C.Choice.takes g.C.Choice.answers first c.args.choice.now) coming (g.R.Source.coming c.args.source.now)
+    (g.R.Source.coming source) (g.R.Source.has_failed source) p bytes c.at.result c.in_default.ensures.failed came
+    c.in_default.ensures.coming taken (silent_words _ _ _ _ _ _ _ taken.taken_words) c.at.ensures)
 
 pub returns-then-count-self-clause-refused : goal.returns-then-count-self-clause-refused
 returns-then-count-self-clause-refused g c = λ limit most first coming stands.
@@ -30,14 +27,11 @@ returns-then-count-self-clause-refused g c = λ limit most first coming stands.
     let (bytes, came, taken) = stands in
     let (chunk, second, text, count) = c.in-Ok.ensures.more in
     as_part limit most (g.C.Choice.takes first) (answers_of g.C.Choice.answers first c.args.choice.now) coming
-    (g.R.Source.coming source) (g.R.Source.has_failed source) c.at-then-count-self.result
-    (full limit most (HasTakenFrom limit g.C.Choice.takes g.C.Choice.answers first c.args.choice.now) coming
-    (g.R.Source.coming c.args.source.now) (g.R.Source.coming source) (g.R.Source.has_failed source) p bytes
-    chunk c.at-then-count-self.result c.in-Ok.ensures.not_failed came second
-    (omega (arith, count, c.if-count-self.true))
-    (c.in-Ok.ensures.within c.if-count-self.true) taken
-    (silent_words limit g.C.Choice.takes g.C.Choice.answers first c.args.choice.now p.parser (complete_words bytes)
-    taken.taken_words) c.at-then-count-self.ensures)
+    (g.R.Source.coming source) (g.R.Source.has_failed source) c.at-then-count-self.result (full limit most (HasTakenFrom
+    limit g.C.Choice.takes g.C.Choice.answers first c.args.choice.now) coming (g.R.Source.coming c.args.source.now)
+    (g.R.Source.coming source) (g.R.Source.has_failed source) p bytes chunk c.at-then-count-self.result
+    c.in-Ok.ensures.not_failed came second (omega (arith, count, c.if-count-self.true)) (c.in-Ok.ensures.within
+    c.if-count-self.true) taken (silent_words _ _ _ _ _ _ _ taken.taken_words) c.at-then-count-self.ensures)
 
 pub take_words-requires : goal.take_words-requires
 take_words-requires g c =
@@ -48,24 +42,20 @@ take_words-requires g c =
       most,
       first,
       bytes ++ chunk,
-      has_come most (HasTakenFrom limit g.C.Choice.takes g.C.Choice.answers first c.args.choice.now) p
-          c.read_from.new.self c.len-unfinished_len.result c.in-Ok.count bytes c.make_room.new.self.bytes chunk taken
-          text c.in_ok-make_room.ensures.same count (omega (arith, c.if-count-self.false)) c.len-unfinished_len.ensures,
+      has_come _ _ p c.read_from.new.self _ _ _ _ _ taken text c.in_ok-make_room.ensures.same count
+          (omega (arith, c.if-count-self.false)) c.len-unfinished_len.ensures,
     )
 
 pub returns-in_err-take_words-clause-refused : goal.returns-in_err-take_words-clause-refused
 returns-in_err-take_words-clause-refused g c =
     let p = c.args.self.now in
     let (chunk, second, text, count) = c.in-Ok.ensures.more in
-    let refused = err_from_is_err_and c.from_residual-in_err-take_words.result
-    c.from_residual-in_err-take_words.ensures.1 in
     let source = c.read_from.new.source in
     let choice = c.take_words.new.choice in
-    rw (refused.1 ∙ ap Err refused.2) (λ limit most first coming stands.
+    rw (err_is _ c.from_residual-in_err-take_words.ensures.1) (λ limit most first coming stands.
     let (bytes, came, taken) = stands in
-    let come = has_come most (HasTakenFrom limit g.C.Choice.takes g.C.Choice.answers first c.args.choice.now) p
-    c.read_from.new.self c.len-unfinished_len.result c.in-Ok.count bytes c.make_room.new.self.bytes chunk taken text
-    c.in_ok-make_room.ensures.same count (omega (arith, c.if-count-self.false)) c.len-unfinished_len.ensures in
+    let come = has_come _ _ p c.read_from.new.self _ _ _ _ _ taken text c.in_ok-make_room.ensures.same count
+    (omega (arith, c.if-count-self.false)) c.len-unfinished_len.ensures in
     refused_early limit most (g.C.Choice.takes first) (answers_of g.C.Choice.answers first choice) coming
     (g.R.Source.coming source)
     (g.R.Source.has_failed source) (bytes ++ chunk)
@@ -79,13 +69,10 @@ returns-in_err-take_words-clause-failed g c =
     let p = c.args.self.now in
     let (limit, most, first, bytes, taken) = c.requires.read_bytes in
     let (chunk, second, text, count) = c.in-Ok.ensures.more in
-    let come = has_come most (HasTakenFrom limit g.C.Choice.takes g.C.Choice.answers first c.args.choice.now) p
-    c.read_from.new.self c.len-unfinished_len.result c.in-Ok.count bytes c.make_room.new.self.bytes chunk taken text
-    c.in_ok-make_room.ensures.same count (omega (arith, c.if-count-self.false)) c.len-unfinished_len.ensures in
-    let refused = err_from_is_err_and c.from_residual-in_err-take_words.result
-    c.from_residual-in_err-take_words.ensures.1 in
-    rw (refused.1 ∙ ap Err refused.2) (λ is. absurd (is_no_failure limit (g.C.Choice.takes first)
-    (answers_of g.C.Choice.answers first c.take_words.new.choice) (bytes ++ chunk) c.in_err-take_words.field-0.0
+    let come = has_come _ _ p c.read_from.new.self _ _ _ _ _ taken text c.in_ok-make_room.ensures.same count
+    (omega (arith, c.if-count-self.false)) c.len-unfinished_len.ensures in
+    rw (err_is _ c.from_residual-in_err-take_words.ensures.1) (λ is. absurd (is_no_failure limit (g.C.Choice.takes
+    first) (answers_of g.C.Choice.answers first c.take_words.new.choice) (bytes ++ chunk) c.in_err-take_words.field-0.0
     (c.in_err-take_words.ensures.taken limit most first (bytes ++ chunk) come) is))
 
 pub returns-clause-taken : goal.returns-clause-taken
@@ -93,9 +80,8 @@ returns-clause-taken g c = λ limit most first coming stands.
     let p = c.args.self.now in
     let (bytes, came, taken) = stands in
     let (chunk, second, text, count) = c.in-Ok.ensures.more in
-    let come = has_come most (HasTakenFrom limit g.C.Choice.takes g.C.Choice.answers first c.args.choice.now) p
-    c.read_from.new.self c.len-unfinished_len.result c.in-Ok.count bytes c.make_room.new.self.bytes chunk taken text
-    c.in_ok-make_room.ensures.same count (omega (arith, c.if-count-self.false)) c.len-unfinished_len.ensures in (
+    let come = has_come _ _ p c.read_from.new.self _ _ _ _ _ taken text c.in_ok-make_room.ensures.same count
+    (omega (arith, c.if-count-self.false)) c.len-unfinished_len.ensures in (
       bytes ++ chunk,
       Consumes-trans coming (g.R.Source.coming c.args.source.now) (g.R.Source.coming c.read_from.new.source) bytes chunk
           came second,

@@ -1,6 +1,5 @@
-use Rattle.std.proofs.Common.{not, Err, take, drop, sym, ap, ◌∙◌, arith}
+use Rattle.std.proofs.Common.{not, take, drop, sym, ap, ◌∙◌, arith}
 use Rattle.std.specs.List.{list_all}
-use Rattle.std.proofs.lemmas.Result.{err_from_is_err_and}
 use Rattle.std.proofs.lemmas.List.{length-take, length-append}
 use Rattle.vcd_core.specs.Word.{is_white_space}
 use Rattle.vcd_text.specs.Words.{complete_words}
@@ -11,6 +10,7 @@ use Rattle.vcd_text.proofs.reading.file_reader.Chunks.{now_taken, now_refused, w
 use Rattle.vcd_text.proofs.words.WordsInTurn.{words_are_few}
 use Rattle.vcd_text.proofs.words.WordsByBytes.{complete_are_few}
 use Rattle.vcd_text.proofs.reading.file_reader.FileReader.take_words.Goals as goal
+use Rattle.vcd_text.proofs.shared.FailedResults.{err_is}
 
 pub read_words-requires : goal.read_words-requires
 read_words-requires g c =
@@ -30,14 +30,13 @@ returns-in_err-self-clause-taken g c = λ limit most first bytes come.
     let len = c.complete_words_len-len.result in
     let value = c.as_slice.ensures in
     let prefix = c.as_slice-2.ensures in
-    let refused = err_from_is_err_and c.from_residual.result c.from_residual.ensures.1 in
     let old = HasTakenFrom limit g.C.Choice.takes g.C.Choice.answers first c.args.choice.now in
-    rw (refused.1 ∙ ap Err refused.2) (now_refused limit most old p c.args.unfinished_len len bytes
-    (take len c.as_slice-2.result.now) come (ap (λ l. has_complete_words (take len l)) (sym value)
-    ∙ c.complete_words_len-len.ensures.complete) (ap (λ l. list_all (λ b. not (is_white_space b)) (drop len l))
-    (sym value) ∙ c.complete_words_len-len.ensures.no_space) (ap (take len) prefix) (g.C.Choice.takes first)
-    (answers_of g.C.Choice.answers first c.read_words.new.choice) c.in_err-self.field-0.0
-    (c.in_err-self.ensures.words limit first (complete_words come.before) come.taken.taken_words))
+    rw (err_is _ c.from_residual.ensures.1) (now_refused limit most old p c.args.unfinished_len len bytes (take len
+    c.as_slice-2.result.now) come (ap (λ l. has_complete_words (take len l)) (sym value) ∙
+    c.complete_words_len-len.ensures.complete) (ap (λ l. list_all (λ b. not (is_white_space b)) (drop len l)) (sym
+    value) ∙ c.complete_words_len-len.ensures.no_space) (ap (take len) prefix) (g.C.Choice.takes first) (answers_of
+    g.C.Choice.answers first c.read_words.new.choice) c.in_err-self.field-0.0 (c.in_err-self.ensures.words limit first
+    (complete_words come.before) come.taken.taken_words))
 
 pub returns-clause-taken : goal.returns-clause-taken
 returns-clause-taken g c = λ limit most first bytes come.

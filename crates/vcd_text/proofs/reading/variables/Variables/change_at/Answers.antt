@@ -1,12 +1,12 @@
-use Rattle.std.proofs.Common.{Err, inl, inr, refl, sym, ap, ◌∙◌, arith}
+use Rattle.std.proofs.Common.{inl, inr, refl, sym, ◌∙◌, arith}
 use Rattle.std.proofs.lemmas.Bool.{eqb-true}
 use Rattle.std.proofs.lemmas.List.{nil_from_length}
 use Rattle.std.specs.Vec.{with_item}
-use Rattle.std.proofs.lemmas.Result.{err_from_is_err_and}
 use Rattle.vcd_text.specs.declared.reading.log.LoggedChange.{LoggedChange}
 use Rattle.vcd_text.proofs.reading.variables.ChangedVariable.{wave_late, refused}
 use Rattle.vcd_text.proofs.reading.variables.ChangedVariable.{wide_changes, narrow_changes}
 use Rattle.vcd_text.proofs.reading.variables.Variables.change_at.Goals as goal
+use Rattle.vcd_text.proofs.shared.FailedResults.{err_is}
 
 pub change_wave-requires : goal.change_wave-requires
 change_wave-requires c =
@@ -29,10 +29,8 @@ pub returns-in_err-block-clause-changed : goal.returns-in_err-block-clause-chang
 returns-in_err-block-clause-changed c = λ state code tick k had.
     let old = c.args.self.now in
     let digits = c.args.digits.now in
-    let failed = err_from_is_err_and c.from_residual.result c.from_residual.ensures.1 in
-    rw (failed.1 ∙ ap Err failed.2) (inr (refused old state code digits c.args.width c.args.first k had
-    c.in_err-block.field-0.0
-    c.in_err-block.ensures))
+    rw (err_is _ c.from_residual.ensures.1) (inr (refused old state code digits c.args.width c.args.first k had
+    c.in_err-block.field-0.0 c.in_err-block.ensures))
 
 pub returns-clause-changed : goal.returns-clause-changed
 returns-clause-changed c = λ state code tick k had.

@@ -1,17 +1,16 @@
-use Rattle.std.proofs.Common.{◌≡◌, ◌∙◌, Err, inr, refl, ap}
-use Rattle.std.proofs.lemmas.Result.{err_from_is_err_and}
+use Rattle.std.proofs.Common.{◌≡◌, ◌∙◌, inr, refl, ap}
 use Rattle.vcd_text.specs.Grammar.{is_skipped}
 use Rattle.vcd_text.specs.inside.reading.Variables.{declaration_of_parts, declaration_in}
 use Rattle.vcd_text.specs.declared.reading.log.TheConstants.{NOTHING_EXPECTED}
 use Rattle.vcd_text.specs.declared.reading.variables.Variable.{Variable}
 use Rattle.vcd_text.proofs.reading.variables.VariablesMatch.{scopes_moved}
 use Rattle.vcd_text.proofs.reading.variables.Variables.keep.Goals as goal
+use Rattle.vcd_text.proofs.shared.FailedResults.{err_is}
 
 pub returns-in_err-first : goal.returns-in_err-first
 returns-in_err-first c = λ state k value_changes keeps.
     let d = declaration_of_parts state c.args.kind c.args.width c.args.code.now c.args.name.items in
-    let failed = err_from_is_err_and c.from_residual.result c.from_residual.ensures.1 in
-    rw (failed.1 ∙ ap Err failed.2) (inr (c.in_err-first.ensures.mixed state d k refl refl keeps))
+    rw (err_is _ c.from_residual.ensures.1) (inr (c.in_err-first.ensures.mixed state d k refl refl keeps))
 
 pub returns : goal.returns
 returns c = λ state k value_changes keeps.
