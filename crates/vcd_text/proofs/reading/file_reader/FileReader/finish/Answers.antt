@@ -24,10 +24,9 @@ pub returns-in_err-read_words-clause-fault : goal.returns-in_err-read_words-clau
 returns-in_err-read_words-clause-fault g c =
     let p = c.args.self in
     let choice = c.read_words.new.choice in
-    rw (err_is _ c.from_residual.ensures.1) (λ limit most first bytes taken. last_refused limit most (HasTakenFrom limit
-    g.C.Choice.takes g.C.Choice.answers first c.args.choice.now) (g.C.Choice.takes first) (answers_of g.C.Choice.answers
-    first choice) p c.as_slice.result.now bytes c.in_err-read_words.field-0.0 taken c.as_slice.ensures
-    (c.in_err-read_words.ensures.words limit first (complete_words bytes) taken.taken_words))
+    rw (err_is _ c.from_residual.ensures.1) (λ limit most first bytes taken. last_refused _ _ _ (g.C.Choice.takes first)
+    (answers_of g.C.Choice.answers first choice) p _ _ _ taken c.as_slice.ensures (c.in_err-read_words.ensures.words
+    limit first (complete_words bytes) taken.taken_words))
 
 pub returns-in_err-check_complete-clause-fault : goal.returns-in_err-check_complete-clause-fault
 returns-in_err-check_complete-clause-fault g c =

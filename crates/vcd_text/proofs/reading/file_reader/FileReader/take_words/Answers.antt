@@ -26,29 +26,23 @@ read_words-requires g c =
 
 pub returns-in_err-self-clause-taken : goal.returns-in_err-self-clause-taken
 returns-in_err-self-clause-taken g c = λ limit most first bytes come.
-    let p = c.args.self.now in
     let len = c.complete_words_len-len.result in
     let value = c.as_slice.ensures in
     let prefix = c.as_slice-2.ensures in
-    let old = HasTakenFrom limit g.C.Choice.takes g.C.Choice.answers first c.args.choice.now in
-    rw (err_is _ c.from_residual.ensures.1) (now_refused limit most old p c.args.unfinished_len len bytes (take len
-    c.as_slice-2.result.now) come (ap (λ l. has_complete_words (take len l)) (sym value) ∙
-    c.complete_words_len-len.ensures.complete) (ap (λ l. list_all (λ b. not (is_white_space b)) (drop len l)) (sym
-    value) ∙ c.complete_words_len-len.ensures.no_space) (ap (take len) prefix) (g.C.Choice.takes first) (answers_of
-    g.C.Choice.answers first c.read_words.new.choice) c.in_err-self.field-0.0 (c.in_err-self.ensures.words limit first
-    (complete_words come.before) come.taken.taken_words))
+    rw (err_is _ c.from_residual.ensures.1) (now_refused _ _ _ _ _ len _ _ come (ap (λ l. has_complete_words (take len
+    l)) (sym value) ∙ c.complete_words_len-len.ensures.complete) (ap (λ l. list_all (λ b. not (is_white_space b)) (drop
+    len l)) (sym value) ∙ c.complete_words_len-len.ensures.no_space) (ap (take len) prefix) (g.C.Choice.takes first)
+    (answers_of g.C.Choice.answers first c.read_words.new.choice) c.in_err-self.field-0.0 (c.in_err-self.ensures.words
+    limit first (complete_words come.before) come.taken.taken_words))
 
 pub returns-clause-taken : goal.returns-clause-taken
 returns-clause-taken g c = λ limit most first bytes come.
-    let p = c.args.self.now in
     let len = c.complete_words_len-len.result in
     let value = c.as_slice.ensures in
     let prefix = c.as_slice-2.ensures in
-    let old = HasTakenFrom limit g.C.Choice.takes g.C.Choice.answers first c.args.choice.now in
     let now = HasTakenFrom limit g.C.Choice.takes g.C.Choice.answers first c.read_words.new.choice in
-    let taken = now_taken limit most old p c.args.unfinished_len len bytes (take len c.as_slice-2.result.now) come
-    (ap (λ l. has_complete_words (take len l)) (sym value) ∙ c.complete_words_len-len.ensures.complete)
-    (ap (λ l. list_all (λ b. not (is_white_space b)) (drop len l)) (sym value)
-    ∙ c.complete_words_len-len.ensures.no_space) (ap (take len) prefix) now c.read_words.new.parser
+    let taken = now_taken limit _ _ _ _ len _ _ come (ap (λ l. has_complete_words (take len l)) (sym value) ∙
+    c.complete_words_len-len.ensures.complete) (ap (λ l. list_all (λ b. not (is_white_space b)) (drop len l)) (sym
+    value) ∙ c.complete_words_len-len.ensures.no_space) (ap (take len) prefix) now c.read_words.new.parser
     (c.in_ok-self.ensures.words limit first (complete_words come.before) come.taken.taken_words) in
     rw c.remove_prefix.ensures (rw c.in_ok-self.ensures.line_feeds taken)

@@ -12,8 +12,7 @@ pub change_wave-requires : goal.change_wave-requires
 change_wave-requires c =
     let (state, code, k, later, had) = c.requires.known in
     record {
-      none_later = wave_late c.args.self.now state code c.args.digits.now c.args.width c.args.first k had _ _
-          c.index_mut.ensures.value later;
+      none_later = wave_late _ _ code c.args.digits.now _ _ k had _ _ c.index_mut.ensures.value later;
     }
 
 pub returns-then-width-gt64-clause-changed : goal.returns-then-width-gt64-clause-changed
@@ -21,16 +20,13 @@ returns-then-width-gt64-clause-changed c = λ state code tick k had.
     let old = c.args.self.now in
     let digits = c.args.digits.now in
     let v = c.index_mut.result.now in
-    wide_changes old (with_item old.kept c.args.first c.change_wave.new.self) state code digits c.args.width
-    c.args.first v c.change_wave.new.self c.change_wave.result k had c.index_mut.ensures.value
-    (inl c.if-width-gt64.true) refl (rw tick c.change_wave.ensures.values) c.change_wave.ensures.refuses
+    wide_changes _ (with_item old.kept c.args.first c.change_wave.new.self) _ _ digits _ _ v c.change_wave.new.self
+    c.change_wave.result k had c.index_mut.ensures.value (inl c.if-width-gt64.true) refl (rw tick
+    c.change_wave.ensures.values) c.change_wave.ensures.refuses
 
 pub returns-in_err-block-clause-changed : goal.returns-in_err-block-clause-changed
-returns-in_err-block-clause-changed c = λ state code tick k had.
-    let old = c.args.self.now in
-    let digits = c.args.digits.now in
-    rw (err_is _ c.from_residual.ensures.1) (inr (refused old state code digits c.args.width c.args.first k had
-    c.in_err-block.field-0.0 c.in_err-block.ensures))
+returns-in_err-block-clause-changed c = λ state code tick k had. rw (err_is _ c.from_residual.ensures.1) (inr (refused _
+    _ _ _ _ _ k had _ c.in_err-block.ensures))
 
 pub returns-clause-changed : goal.returns-clause-changed
 returns-clause-changed c = λ state code tick k had.
@@ -44,8 +40,7 @@ pub change_wave-requires-then-is_empty : goal.change_wave-requires-then-is_empty
 change_wave-requires-then-is_empty c =
     let (state, code, k, later, had) = c.requires.known in
     record {
-      none_later = wave_late c.args.self.now state code c.args.digits.now c.args.width c.args.first k had _ _
-          c.index_mut-then-is_empty.ensures.value later;
+      none_later = wave_late _ _ code c.args.digits.now _ _ k had _ _ c.index_mut-then-is_empty.ensures.value later;
     }
 
 pub returns-then-is_empty-clause-changed : goal.returns-then-is_empty-clause-changed
@@ -53,8 +48,8 @@ returns-then-is_empty-clause-changed c = λ state code tick k had.
     let old = c.args.self.now in
     let digits = c.args.digits.now in
     let v = c.index_mut-then-is_empty.result.now in
-    wide_changes old (with_item old.kept c.args.first c.change_wave-then-is_empty.new.self) state code digits
-    c.args.width c.args.first v c.change_wave-then-is_empty.new.self c.change_wave-then-is_empty.result k had
+    wide_changes _ (with_item old.kept c.args.first c.change_wave-then-is_empty.new.self) _ _ digits _ _ v
+    c.change_wave-then-is_empty.new.self c.change_wave-then-is_empty.result k had
     c.index_mut-then-is_empty.ensures.value (inr (nil_from_length old.log.items (omega (
       arith,
       eqb-true old.log.len 0 (sym c.is_empty.ensures ∙ c.if-is_empty.true),
