@@ -74,6 +74,10 @@ fn refused_edits(rt: HostRuntime) -> Result<(), Fail> {
             check_refused(&rt, rt.alloc(), file.as_bytes(), row)?;
         }
     }
+    // no row has a word with a blank, since blanks separate the words of a row
+    let capture = load_file(rt.alloc(), FILE.as_bytes())?.capture;
+    let word = b"a b".as_slice();
+    assert!(rt; check(&capture, &Edit::Rename { signal: 0, word }) == Err(EditError::BadWord));
     Ok(())
 }
 

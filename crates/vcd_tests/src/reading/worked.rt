@@ -85,6 +85,9 @@ $date today $end|$timescale 1 us $end|$enddefinitions $end|#0|$dumpvars|$end|
 -- no signal, with the end at 0 and later
 0: $enddefinitions $end => $enddefinitions $end|#0|$dumpvars|$end|
 0: $enddefinitions $end #4 => $enddefinitions $end|#0|$dumpvars|$end|#4|
+-- the greatest tick
+0: $var wire 1 ! a $end|$enddefinitions $end|#10|#9223372036854775807| => $var wire 1 ! a $end|\
+$enddefinitions $end|#0|$dumpvars|x!|$end|#9223372036854775807|
 -- every part: scopes that differ in their kind are two, and each tick lists the signals that change
 -- at it
 0: $comment $end $date May 1 $end $timescale 100 fs $end $scope module top $end $scope task s $end|\
