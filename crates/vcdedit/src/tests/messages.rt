@@ -1,6 +1,6 @@
 //! The derived message of each fault is the fault's name; and the report of each ending.
 
-use crate::{LineError, RunError, report};
+use crate::{LineError, RunError, RunRefusal, report};
 use std::alloc::Global;
 use std::fmt::Display;
 use std::process::Abort;
@@ -31,7 +31,9 @@ fn of_lines_that_are_no_command(rt: HostRuntime) -> Result<(), Fail> {
 #[test]
 fn of_runs(rt: HostRuntime) -> Result<(), Fail> {
     check_message(&rt, rt.alloc(), &RunError::ScriptTooLarge, "ScriptTooLarge")?;
-    check_message(&rt, rt.alloc(), &capture_error(Fault::BadScope), "BadScope")
+    check_message(&rt, rt.alloc(), &capture_error(Fault::BadScope), "BadScope")?;
+    let refusal = RunRefusal::ScriptTooLarge;
+    check_message(&rt, rt.alloc(), &refusal, "ScriptTooLarge")
 }
 
 /// The fault of a capture, at line 4.

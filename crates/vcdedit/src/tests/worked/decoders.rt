@@ -163,6 +163,12 @@ capture: [scl:1 1@0 0@15 1@20 0@25 1@30 0@35 1@40 | sda:1 1@0 0@10 1@45; end 50]
 script: i2c top.scl top.sda
 replies: 10-10 i2c start / 20-40 i2c partial 3 / 45-45 i2c stop
 
+eight bits before a stop, and two rises after it
+capture: [scl:1 1@0 0@15 1@20 0@25 1@30 0@35 1@40 0@45 1@50 0@55 1@60 0@65 1@70 0@75 1@80 0@85 \
+1@90 0@100 1@105 0@110 1@115 | sda:1 1@0 0@10 1@95; end 120]
+script: i2c top.scl top.sda
+replies: 10-10 i2c start / 20-90 i2c partial 8 / 95-95 i2c stop
+
 an x in an address
 capture: [scl:1 1@0 0@15 1@20 0@25 1@30 0@35 1@40 0@45 1@50 0@55 1@60 0@65 1@70 0@75 1@80 0@85 \
 1@90 0@95 1@100 0@105 1@110 | sda:1 1@0 0@10 1@17 0@27 1@37 0@47 1@115; end 120]
