@@ -1,8 +1,8 @@
 -- The annotations of an I2C bus (UM10204, 3.1); those of rests and unclear levels are the project's
 -- own.
 use Rattle.std.specs.Prelude.{ℕ, ◌-◌, ◌==◌, ◌&&◌, nat_le, Bool, true, false, Option, None}
-use Rattle.std.specs.Prelude.{List, []}
-use Rattle.std.specs.Prelude.{◌∷◌, ◌++◌, length, take, drop, map, slice_get, slice_index, filter_map}
+use Rattle.std.specs.Prelude.{List, [], slice_get, filter_map}
+use Rattle.std.specs.Prelude.{◌∷◌, ◌++◌, length, take, drop, map, slice_index}
 use Rattle.std.specs.List.{list_any}
 use Rattle.vcd_core.specs.declared.bit.Bit.{Bit}
 use Rattle.vcd_decode.specs.declared.annotation.Annotation.{Annotation}

@@ -98,7 +98,8 @@ module _ (signals : List SignalContents) (k t : ℕ) (d : SignalContents) (insid
       elim (cases_lt t u) [
         | inl past ↦
             let same : u - 1 ≡ t = omega arith in
-            past_ticks signal.width k t signals u (suc n) (signal_value signal (u - 1)) past ∙ ap (signal_value signal) same
+            past_ticks signal.width k t signals u (suc n) (signal_value signal (u - 1)) past
+            ∙ ap (signal_value signal) same
         | inr come ↦
             grind (arith, at_tick, latest_value-append, from_tick (suc u) n (omega arith) (omega arith))
       ]

@@ -129,7 +129,8 @@ stretch_past es role g given b eight =
     let annotations = whole_is role g given b eight in
     ap (λ (bs : List BusBit). nines_annotations (list_any is_condition es) role (groups_of 9 bs))
     (sym (append_assoc g (b ∷ []) (bits_until es)))
-    ∙ ap (nines_annotations (list_any is_condition es) role) (groups_whole 9 (g ++ b ∷ []) (bits_until es) (omega arith) nine)
+    ∙ ap (nines_annotations (list_any is_condition es) role)
+    (groups_whole 9 (g ++ b ∷ []) (bits_until es) (omega arith) nine)
     ∙ rw full (λ i. annotations i ++ nines_annotations (list_any is_condition es) (role_after role (number i))
     (groups_of 9 (bits_until es)))
 
