@@ -27,10 +27,18 @@ pub fn capture_of_text(alloc: Global, text: &[u8]) -> Result<Capture, Failure>
     }
 }
 
-/// Says how a call ended that reads. Prints the line of a fault.
-fn tell_loaded<R: Runtime>(rt: &R, loaded: Result<Loaded, ReadError>) -> Result<(), Failure> {
+/// Says how a call ended that reads. Prints the capture, or the line of a fault.
+fn tell_loaded<R: Runtime + AllocGlobal>(
+    rt: &R,
+    loaded: Result<Loaded, ReadError>,
+) -> Result<(), Failure>
+    requires { IfOk loaded (λ l. IsSound (contents l.capture)) }
+{
     match loaded {
-        Ok(_) => allow(rt, DONE),
+        Ok(loaded) => {
+            allow(rt, DONE)?;
+            print_capture(rt, &loaded.capture)
+        }
         Err(error) => {
             allow(rt, error.name())?;
             println!(rt; "line {}", error.line)?;
@@ -39,8 +47,8 @@ fn tell_loaded<R: Runtime>(rt: &R, loaded: Result<Loaded, ReadError>) -> Result<
     }
 }
 
-/// Makes the call `read`. Prints the line of a fault, whether the source has failed, and whether
-/// the rest ends the text.
+/// Makes the call `read`. Prints the capture, or the line of a fault. Then it prints whether the
+/// source has failed, and whether the rest ends the text.
 pub fn call_read<R: Runtime + AllocGlobal>(rt: &R, call: &Call) -> Result<(), Failure> {
     let mut source = FromRead::new(call.text);
     if call.makes {
