@@ -1,5 +1,5 @@
 -- The reply to a line of a script: the project's own.
-use Rattle.std.specs.Prelude.{ℕ, ◌==◌, not, nat_lt, if◌then◌else◌, List, [], ◌∷◌, Option, Some}
+use Rattle.std.specs.Prelude.{ℕ, zero, not, nat_lt, if◌then◌else◌, List, [], ◌∷◌, Option, Some}
 use Rattle.std.specs.Prelude.{None}
 use Rattle.std.specs.Prelude.{Result, Ok, Err, codes, map, ◌++◌}
 use Rattle.std.specs.List.{flat_map}
@@ -37,7 +37,8 @@ edit_reply (Some found) = Err (step_error_name (refusals.Edit found))
 
 -- the reply to an undo or a redo, given how many edits it can take: if none, a refusal
 abbrev pub history_reply : ℕ → StepError → LineReply
-history_reply count refusal = if count == 0 then Err (step_error_name refusal) else ok_reply
+history_reply zero refusal = Err (step_error_name refusal)
+history_reply count refusal = ok_reply
 
 -- the reply to a step on a capture, given how many edits can be undone and redone
 abbrev pub step_reply : Step → Contents → (undoable redoable : ℕ) → LineReply

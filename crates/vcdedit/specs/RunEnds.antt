@@ -65,8 +65,8 @@ module _ (depth : ℕ) (capture script : DeviceEnd) where
   -- file shows its bytes too, that is what its run on this file writes
   abbrev pub ForRun : (RunOutcome → Type 0) → Type 0
   ForRun property = IfSome script.before (λ lines. (c : Contents) × (skipped : ℕ)
-      × let written = outcome c skipped depth (script_lines lines) in
-      IfSome capture.before (λ file. IsRun file lines depth written) × property written)
+      × (written : RunOutcome) × (written ≡ outcome c skipped depth (script_lines lines))
+      × IfSome capture.before (λ file. IsRun file lines depth written) × property written)
 
   -- the same, with the ends of its two writers, the second if there is one
   module _ (replies : DeviceEnd) (output : Option DeviceEnd) where

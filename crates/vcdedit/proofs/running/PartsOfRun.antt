@@ -89,6 +89,8 @@ for_run : (capture lines : DeviceEnd) (script : List ℕ) (depth skipped : ℕ) 
 for_run capture lines script depth skipped c property means is holds = IfSome_then lines.before is (λ s same. (
   c,
   skipped,
+  outcome c skipped depth (script_lines s),
+  refl,
   IfSome_then capture.before means (λ f so. run_is f s depth c skipped so),
   subst (λ (bytes : List ℕ). property (outcome c skipped depth (script_lines bytes))) same holds,
 ))
@@ -104,6 +106,8 @@ if_run_writes capture lines depth count took_replies now property ran follows =
     IfSome_then lines.before ran (λ s gives. (
       gives.contents,
       gives.skipped,
+      outcome gives.contents gives.skipped depth (script_lines s),
+      refl,
       IfSome_then capture.before gives.means (λ f so. run_is f s depth gives.contents gives.skipped so),
       follows _ gives.replies gives.output (sym gives.refused),
     ))

@@ -45,7 +45,7 @@ module _ (file script : List ℕ) (depth : ℕ) (capture lines : DeviceEnd) (is_
       → (written : RunOutcome) × IsRunWithin file script depth written × property written
   run_within property file_read script_read ran =
       let gives = rw (is_file, is_script) at ran in
-      (_, (rw is_file at file_read.2, rw is_script at script_read.2, gives.2), gives.3)
+      (gives.2, (rw is_file at file_read.2, rw is_script at script_read.2, gives.4), gives.5)
 
 -- what a run gives that reached its end, into writers that were empty
 pub texts_of_run : (file script replies_text output_text : List ℕ) (depth : ℕ)
