@@ -3,6 +3,7 @@
 Programs of our own stand for vcdedit where a run has to fail half-way: each writes a part of the output first.
 """
 
+import contextlib
 import gzip
 import itertools
 import os
@@ -13,8 +14,9 @@ import signal
 import stat
 import subprocess
 import time
+import unittest.mock
 
-from common import TOP, load_if_there, module_of, run, store, store_program
+from common import EDITS, TOP, load_if_there, module_of, run, store, store_program
 
 APPLY = os.path.join(TOP, "tools/vcdedit-apply")
 LINE = """$timescale 1 us $end $scope module tb $end
@@ -131,7 +133,15 @@ def writes(program, folder):
     yield "a long name", place.run("script", long)[0] == 0 and place.load(long) == wanted
     kept = ["A", "B", "B.orig", "C", "bad", "link", "new", long, "script", "some", odd]
     yield "nothing else is there", place.names() == sorted(kept)
-    yield "a folder that can't be synced", module_of("tools/vcdedit-apply").sync_folder(folder + "/none") is None
+    tool = module_of("tools/vcdedit-apply")
+    yield "a folder that can't be synced", tool.sync_folder(folder + "/none") is None
+    yield "the commands that edit", tool.EDITS == {edit.encode() for edit in EDITS}
+    copy = place.folder + "/copy"
+    with unittest.mock.patch("os.link", side_effect=OSError), contextlib.ExitStack() as made:
+        tool.keep_old(place.folder + "/A", copy, made)
+        kept = place.load("copy"), stat.S_IMODE(os.stat(copy).st_mode)
+    yield "a file that can't have two names is copied", kept == (wanted, 0o640)
+    yield "the copy goes if nothing is written", not os.path.exists(copy)
 
 
 def stays(program, folder):
