@@ -66,12 +66,12 @@ def usages():
 
 
 def signals_in(line):
-    """The words of a line that stand for signals."""
+    """The words of a line that stand for signals, each once."""
     words = line.split() or [b"#"]
     if words[0] == b"derive":
-        return words[3:4] if words[2:3] == [b"bit"] else words[3:]
+        return list(dict.fromkeys(words[3:4] if words[2:3] == [b"bit"] else words[3:]))
     places = usages().get(shown(words[0]), ("", ""))[0].split(" ")
-    return [word for word, place in zip(words, places) if place in SIGNALS and word != b"-"]
+    return list(dict.fromkeys(word for word, place in zip(words, places) if place in SIGNALS and word != b"-"))
 
 
 def name_of(word, names):

@@ -59,6 +59,9 @@ ROWS = {
     "x of I2C": (
         "c d", '1! 1" #2 0" #4 x! #6 1! #8 1" #10', ["i2c c d"], ["line 1: i2c: c is x at 4-5" + LOST],
         {"i2c": "0 -|2 start|3 -|4 ?x|6 -|8 stop|9 -"}),
+    "one line for two": (
+        "c d", '0! x" #3 1! #5 0! 1" #6 1! #9', ["spi c d d - 0 2 msb"], ["line 1: spi: d is x at 0-4" + LOST],
+        {"spi": "0 ?x|3 ?x_word_mosi_?_miso_?|7 -"}),
     "names that are taken": (
         "decoded.uart decoded.uart_3", '1! 1" #9', ["uart @0 2 8 none 1", "uart @1 2 8 none 1"],
         [NEVER_FALLS % (1, "decoded.uart", 9), NEVER_FALLS % (2, "decoded.uart_3", 9)],
