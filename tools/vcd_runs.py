@@ -20,6 +20,13 @@ Listing = collections.namedtuple("Listing", "timescale end skipped signals")
 Signal = collections.namedtuple("Signal", "width kind name")
 
 
+def on_interruption(act):
+    """Has this called at an interruption. One that is passed over, as by `nohup`, stays so."""
+    for number in INTERRUPTIONS:
+        if signal.getsignal(number) != signal.SIG_IGN:
+            signal.signal(number, act)
+
+
 def listing_of(lines):
     """The listing that some lines begin with, of which no more are taken."""
     lines = iter(lines)

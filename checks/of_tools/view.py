@@ -3,6 +3,7 @@
 import os
 import re
 import shutil
+import signal
 import sys
 
 from common import EXAMPLES, TOP, load, load_if_there, run, store, store_program
@@ -91,7 +92,7 @@ REFUSED = [
     ([I2C, "--script", "more"], 1, "    and 2 more"),
     ([I2C, "--script", "more", "list"], 2, "--script, or words"),
     ([I2C, "-o", "v"], 2, "ends in .vcd"),
-    (["c.vcd", "-o", "c.vcd"], 2, "names the capture"),
+    (["c.vcd", "-o", "linked.vcd"], 2, "names the capture"),
     (["more"], 3, "more: line 1: frob: UnexpectedWord"),
     (["none.vcd"], 4, "none.vcd: No such file"),
     ([I2C, "-o", "none/v.vcd"], 2, "in a folder that is there"),
@@ -194,7 +195,7 @@ def settings(program, folder, view):
 
 def refusals(folder, view):
     store(folder, "more", text="frob\n" * 12)
-    store(folder, "c.vcd", text=text("r", "1!"))
+    os.link(store(folder, "c.vcd", text=text("r", "1!")), os.path.join(folder, "linked.vcd"))
     for words, status, told in REFUSED:
         before = sorted(os.listdir(folder))
         found = view(*words, *([] if "-o" in words or "apt-get" in told else ["-o", "new.vcd"]), given="")
@@ -218,6 +219,8 @@ def viewers(folder, view):
     store_program(tools, "gtkwave", text="#!/bin/sh\nexit 3\n")
     status, _, errors = view(I2C, PATH=tools)
     yield "a viewer that fails: " + errors, status == 4 and "ended with status 3; -o and --picture" in errors
+    store_program(tools, "gtkwave", text="#!/bin/sh\nkill -TERM $PPID\nexec /bin/sleep 60\n")
+    yield "a signal ends it", view(I2C, PATH=tools)[0] == 128 + signal.SIGTERM
     store_program(tools, "xauth", text=saw)
     store_program(tools, "xvfb-run", text="#!/bin/sh\necho none\n")
     status, _, errors = view(I2C, "--picture", "p.png", PATH=tools)
