@@ -73,6 +73,12 @@ def run(words, text=True, timeout=SECONDS, **how):
     return done.returncode, done.stdout, done.stderr
 
 
+def tools_missing(packages):
+    """A line for each tool that is not on this machine. Each has the packages of Debian that it wants."""
+    absent = [tool for tool in packages if shutil.which(tool) is None]
+    return ["%s is missing: apt-get install %s" % (tool, packages[tool]) for tool in absent]
+
+
 def module_of(script):
     """What a script of the repository defines, whose name has no ending."""
     name = os.path.basename(script)
@@ -92,7 +98,11 @@ def lay_out(program, folder, parts):
     """A copy of these parts of the tree in a folder, with both programs where they are built."""
     for part in parts:
         source, copy = os.path.join(TOP, part), os.path.join(folder, part)
-        (shutil.copytree if os.path.isdir(source) else shutil.copy2)(source, copy)
+        if os.path.isdir(source):
+            # other checks write their bytecode meanwhile
+            shutil.copytree(source, copy, ignore=shutil.ignore_patterns("__pycache__"))
+        else:
+            shutil.copy2(source, copy)
     built = os.path.join(folder, "crates/vcdedit/out/vcdedit")
     for source, copy in ((program, built), (narrow_of(program), narrow_of(built))):
         os.makedirs(os.path.dirname(copy))
