@@ -7,7 +7,7 @@ import vcd_files
 import vcd_runs
 from common import TOP, run, store
 
-CAPTURES = ["examples/*/capture.vcd", "cases/captures/*.vcd", "cases/captures/*", "cases/*/capture.vcd"]
+CAPTURES = ["examples/*/capture.vcd", "cases/captures/*.vcd", "cases/*/capture.vcd"]
 # A text, a timescale, and the tick, or None where it is refused.
 TIMES = [
     ("9223372036854775807", "none", 9223372036854775807),
@@ -50,8 +50,6 @@ $scope begin u v $end $var reg 8 " b [7:0] $end $upscope $end
 $var real 1 # c $end $comment $var wire 1 $ no $end $var wire 0 % d $end $var wire 01025 & e f $end $upscope $end
 $var event 1 ' g $end $enddefinitions $end\n"""
 SKIPPED = ["real 1 t.a", "real 1 t.c", "wire 0 t.d", "wire 01025 t.ef", "event 1 g"]
-
-
 # The first bytes of a file, and a word of what it is said to be.
 OTHERS = [
     (b"\x1f\x8b\x08\x00", "gzip"),
@@ -93,7 +91,7 @@ def listed(program, path):
 
 
 def check(program, folder):
-    paths = {path for pattern in CAPTURES for path in glob.glob(os.path.join(TOP, pattern)) if os.path.isfile(path)}
+    paths = {path for pattern in CAPTURES for path in glob.glob(os.path.join(TOP, pattern))}
     yield "captures to read", len(paths) > 60
     for path in sorted(paths):
         listing = listed(program, path)
