@@ -110,8 +110,8 @@ def lay_out(program, folder, parts):
 
 
 def program_argument(usage, most=1):
-    """The path of the program that a check is given, or the check's usage."""
-    if not 2 <= len(sys.argv) <= 1 + most:
+    """The path of the program that a check is given, or the check's usage where there is no such program."""
+    if not 2 <= len(sys.argv) <= 1 + most or not os.access(sys.argv[1], os.X_OK):
         sys.exit(usage)
     return os.path.abspath(sys.argv[1])
 
