@@ -99,7 +99,7 @@ def words_of(file):
         place, rest = 0, b""
         for chunk in iter(lambda: os.pread(file.fileno(), CHUNK, place), b""):
             place += len(chunk)
-            # The letter behind a chunk stands in its last word, which may go on.
+            # With a letter behind it a chunk ends in a word: the one that may go on.
             *words, rest = (rest + chunk + b".").split()
             rest = rest[:-1]
             yield words
