@@ -14,6 +14,8 @@ CASES = os.path.join(TOP, "cases")
 EXAMPLES = os.path.join(TOP, "examples")
 # The edits of a script. `vcd_alloc_failures` has a call for each name.
 EDITS = "rename remove invert shift cut deglitch force derive".split()
+# What `make install` wants of the tree.
+INSTALLED = "vcdedit launch CHANGELOG.md Makefile crates.txt completions docs examples cases tools".split()
 SECONDS = 120
 
 
@@ -94,9 +96,9 @@ def narrow_of(program):
     return os.path.join(crates, name, "vcdedit_narrow/out/vcdedit_narrow") if name == "crates" else program + "-narrow"
 
 
-def lay_out(program, folder, parts):
-    """A copy of these parts of the tree in a folder, with both programs where they are built."""
-    for part in parts:
+def lay_out(program, folder):
+    """A copy of the tree in a folder, as far as it is installed, with both programs where they are built."""
+    for part in INSTALLED:
         source, copy = os.path.join(TOP, part), os.path.join(folder, part)
         if os.path.isdir(source):
             # other checks write their bytecode meanwhile

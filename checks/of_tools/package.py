@@ -5,7 +5,6 @@ import re
 
 from common import TOP, lay_out, module_of, narrow_of, run, store, text_at
 
-PARTS = "vcdedit launch CHANGELOG.md Makefile crates.txt completions docs examples cases tools".split()
 # Half a second is not enough on a busy machine, so that a check of names waits longer.
 COMPLETE = """source <(sed 's/timeout 0.5/timeout 20/' "$1"); shift
 COMP_WORDS=("$@"); COMP_CWORD=$(($# - 1)); _vcdedit "$1"; printf '%s\n' "${COMPREPLY[@]}" """
@@ -41,7 +40,7 @@ def files_in(folder):
 
 def installs(program, folder):
     os.makedirs(folder)
-    lay_out(program, folder, PARTS)
+    lay_out(program, folder)
     status, shown, errors = run(["make"], cwd=folder)
     yield "make says what else there is", status == 0 and all(
         "make " + target in shown for target in ("install", "uninstall", "deb")
