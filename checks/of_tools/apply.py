@@ -199,6 +199,7 @@ def stays(program, folder):
         (["script", "A", "sub/../A", "--to", "sub"], 2),
         (["A", "A"], 2),
         (["script", "A", "--to", "."], 4),
+        (["script", "A", "--to", ""], 2),
         (["script", "A", "--backup", "/b"], 2),
     ):
         yield "refused: " + " ".join(words), place.run(*words)[0] == status and place.load("A") == LINE
