@@ -3,7 +3,7 @@
 import os
 import re
 
-from common import TOP, lay_out, module_of, narrow_of, run, store, text_at
+from common import TOP, lay_out, module_of, narrow_of, run, store, text_at, tools_missing
 
 # Half a second is not enough on a busy machine, so that a check of names waits longer.
 COMPLETE = """source <(sed 's/timeout 0.5/timeout 20/' "$1"); shift
@@ -65,6 +65,21 @@ def installs(program, folder):
             run(["make", "install", *words], cwd=folder)
         run(["make", "uninstall", *words], cwd=folder)
         yield name + ": uninstall", files_in(folder) == before
+    yield from packs(folder, wanted)
+
+
+def packs(folder, wanted):
+    """A package has all that is installed, and wants the C library."""
+    absent = tools_missing({"dpkg-shlibdeps": "dpkg-dev"})
+    if absent:
+        print("package: `make deb` is not tested: %s" % absent[0])
+        return
+    status, path, errors = run(["make", "-s", "deb", "MAINTAINER=A <a@b.c>"], cwd=folder)
+    held = run(["dpkg-deb", "--contents", path.strip()], cwd=folder)[1].splitlines()
+    names = [line.split()[-1].removesuffix(".gz") for line in held]
+    is_whole = all(any(name.endswith("/" + end) for name in names) for end in wanted)
+    yield "make deb: %s" % errors, status == 0 and is_whole
+    yield "what it wants", run(["dpkg-deb", "--field", path.strip(), "Depends"], cwd=folder)[1].startswith("libc6 ")
 
 
 def documents_stand_alone(folder):
