@@ -70,8 +70,13 @@ def toggling(changes, declared="$var wire 1 ! x $end\n", first="0!\n"):
 
 
 def run(words, text=True, timeout=SECONDS, **how):
-    """(status, standard output, standard error) of a program, as text or as bytes."""
-    done = subprocess.run(words, capture_output=True, text=text, timeout=timeout, **how)
+    """(status, standard output, standard error) of a program, as text or as bytes. One that takes longer is ended, and
+    has the status 124, as `timeout` gives."""
+    try:
+        done = subprocess.run(words, capture_output=True, text=text, timeout=timeout, **how)
+    except subprocess.TimeoutExpired:
+        told = "took more than %d seconds" % timeout
+        return 124, *(("", told) if text else (b"", told.encode()))
     return done.returncode, done.stdout, done.stderr
 
 
