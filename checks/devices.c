@@ -183,4 +183,5 @@ ssize_t write(int device, const void *bytes, size_t size) {
     return pass_on(device, bytes, taken);
 }
 
+/* The programs call it by this name, too. */
 ssize_t __write(int device, const void *bytes, size_t size) { return write(device, bytes, size); }
