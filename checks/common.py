@@ -146,12 +146,13 @@ class Report:
         self.failed += len(failures)
 
     def add(self, name, status, shown):
-        """Adds what another check counted, by the last line that it printed. Its status must say the same."""
+        """Adds what another check counted, by the last line that it printed. Its status must say the same. One that counts
+        nothing has failed."""
         counts = re.search(r"^(\d+) passed, (\d+) failed\n\Z", shown, re.M)
         passed, failed = map(int, counts.groups()) if counts else (0, 0)
         self.passed, self.failed = self.passed + passed, self.failed + failed
-        if counts is None or (status != 0) != (failed != 0):
-            self.check(False, "%s: it ended with status %d" % (name, status))
+        if passed + failed == 0 or (status != 0) != (failed != 0):
+            self.check(False, "%s: status %d after %d passed, %d failed" % (name, status, passed, failed))
 
     def end(self):
         """Says how many there were, and ends the check."""
