@@ -2,11 +2,10 @@
 
 import os
 import re
-import shutil
 import signal
 import sys
 
-from common import EXAMPLES, TOP, load, load_if_there, run, store, store_program
+from common import EXAMPLES, TOP, load, load_if_there, run, store, store_program, tools_missing
 
 TOOL = os.path.join(TOP, "tools/vcdedit-view")
 I2C, I2C_LINE = os.path.join(EXAMPLES, "i2c/capture.vcd"), "i2c bench.scl bench.sda"
@@ -140,6 +139,9 @@ def rows(folder, view):
 
 def examples(program, folder, view):
     """A row says what the replies do. vcdedit reads the written file again, and finds the capture after the edits."""
+    absent = tools_missing({"vcd2fst": "gtkwave"})
+    if absent:
+        print("view: the way through FST is not tested: %s" % absent[0])
     for name, line in DECODED.items():
         capture = os.path.join(EXAMPLES, name, "capture.vcd")
         script = store(folder, "script", text="invert @0\nundo\n%s\n" % line)
@@ -154,12 +156,10 @@ def examples(program, folder, view):
         comment, _, rest = again.partition("\n")
         yield name + ": its comment", "vcdedit-view: no evidence" in comment and line in comment
         yield name + ": the signals", rest == load(folder, "w.vcd").decode()
-        if shutil.which("vcd2fst"):
+        if not absent:
             run(["vcd2fst", "v.vcd", "v.fst"], cwd=folder)
             back = store(folder, "back.vcd", text=run(["fst2vcd", "v.fst"], cwd=folder)[1])
             yield name + ": through FST", rows_in(back) == wanted
-        else:
-            print("view: there is no vcd2fst, so the way through FST is not tested: apt-get install gtkwave")
 
 
 def shown_in(folder):
