@@ -7,14 +7,6 @@ DOCUMENTS = CHANGELOG.md docs/COOKBOOK.md docs/SCRIPT.md docs/FORMATS.md example
 # What install put below PREFIX, a line for each file and each folder that was not there. Uninstall takes it away.
 MADE = share/vcdedit/made
 
-# What is installed once: mode, file, place.
-define FILES
-755 crates/vcdedit/out/vcdedit libexec/vcdedit
-755 crates/vcdedit_narrow/out/vcdedit_narrow libexec/vcdedit-narrow
-644 completions/_vcdedit $(ZSH_FOLDER)/_vcdedit
-endef
-export FILES
-
 # A relative PREFIX is meant from here; a DESTDIR of none is the root.
 FOLDERS = prefix="$(PREFIX)"; case $$prefix in /*) ;; *) prefix="$$PWD/$$prefix" ;; esac; root="$(DESTDIR)$$prefix"
 
@@ -29,9 +21,11 @@ build:
 install: build ## to /usr/local, or PREFIX=FOLDER; DESTDIR=FOLDER goes before that, for a package
 	@set -e; umask 022; $(FOLDERS); \
 	stage=$$(mktemp -d); trap 'rm -rf "$$stage"' EXIT; share="$$stage/share"; documents="$$share/doc/vcdedit"; \
-	printf '%s\n' "$$FILES" | while read -r mode file place; do install -D -m "$$mode" "$$file" "$$stage/$$place"; done; \
+	install -D -m 755 crates/vcdedit/out/vcdedit "$$stage/libexec/vcdedit"; \
+	install -D -m 755 crates/vcdedit_narrow/out/vcdedit_narrow "$$stage/libexec/vcdedit-narrow"; \
 	install -D -m 755 -t "$$stage/bin" $(TOOLS:%=tools/%); \
 	install -D -m 644 -t "$$share/vcdedit" tools/*.py tools/*.txt; \
+	install -D -m 644 -t "$$stage/$(ZSH_FOLDER)" completions/_vcdedit; \
 	for name in $(PROGRAMS) $(TOOLS); do \
 	install -D -m 644 -t "$$share/man/man1" "docs/$$name.1"; \
 	install -D -m 644 completions/vcdedit.bash "$$share/bash-completion/completions/$$name"; \
@@ -39,7 +33,7 @@ install: build ## to /usr/local, or PREFIX=FOLDER; DESTDIR=FOLDER goes before th
 	for name in $(PROGRAMS); do \
 	{ printf '#!/bin/sh\nprogram="%s"\n' "$$prefix/libexec/$$name"; cat launch/running.sh; } > "$$stage/bin/$$name"; \
 	chmod 755 "$$stage/bin/$$name"; done; \
-	mkdir -p "$$documents"; cp -R $(DOCUMENTS) "$$documents"; \
+	mkdir -p "$$documents"; cp -R $(DOCUMENTS) "$$documents"; chmod -R a+rX "$$documents"; \
 	sed 's|(\.\./docs/|(../|g' examples/README.md > "$$documents/examples/README.md"; \
 	made=$$(find "$$stage" -printf '%P\n' | while read -r path; do \
 	[ -d "$$root/$$path" ] || echo "$$root/$$path"; done); \
