@@ -219,7 +219,7 @@ def viewers(folder, view):
     store_program(tools, "gtkwave", text="#!/bin/sh\nexit 3\n")
     status, _, errors = view(I2C, PATH=tools)
     yield "a viewer that fails: " + errors, status == 4 and "ended with status 3; -o and --picture" in errors
-    store_program(tools, "gtkwave", text="#!/bin/sh\nkill -TERM $PPID\nexec /bin/sleep 60\n")
+    store_program(tools, "gtkwave", text="#!/bin/sh\n/bin/sleep 0.5\nkill -TERM $PPID\nexec /bin/sleep 20\n")
     yield "a signal ends it", view(I2C, PATH=tools)[0] == 128 + signal.SIGTERM
     store_program(tools, "xauth", text=saw)
     store_program(tools, "xvfb-run", text="#!/bin/sh\necho none\n")
