@@ -50,5 +50,5 @@ pub use planes::blocks_in;
 pub use seq::Seq;
 pub use soundness::{are_scopes_sound, is_wave_sound};
 pub use value::{BLOCKS, Value, WIDTH_LIMIT};
-pub use wave::{Change, Wave, ends_by, last_value, moved_change};
+pub use wave::{Change, Wave, ends_by, last_value};
 pub use word::{are_words, is_skipped_kind, is_white_space, is_word};

@@ -22,7 +22,6 @@ use list::WaveList;
 pub use push::{ends_by, last_value};
 use push::{push_block_change, push_change};
 use searching::count_through_near;
-pub use splicing::moved_change;
 use splicing::{splice_changes, splice_into, spliced_copy};
 use std::alloc::Global;
 use std::marker::Model;

@@ -9,7 +9,7 @@ use crate::wave::Change;
 use std::alloc::Global;
 
 /// The change `by` ticks later, or earlier if `by` is negative.
-pub fn moved_change(change: &Change, by: i64) -> Change
+fn moved_change(change: &Change, by: i64) -> Change
     requires { TickFits by change.now }
     ensures { result ≡ moved_change by change.now }
 {
