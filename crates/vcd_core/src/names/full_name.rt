@@ -1,6 +1,6 @@
 //! Full names, compared byte by byte without building them.
 
-ghost use Rattle.std.specs.Prelude.{◌≡◌, ◌∷◌, MatchOption, [], map};
+ghost use Rattle.std.specs.Prelude.{◌≡◌, ◌∷◌, MatchOption, IfNone, [], map};
 ghost use Rattle.std.specs.List.{list_any, position};
 ghost use Rattle.std.specs.Str.{bytes_eq};
 ghost use Rattle.vcd_core.specs.CaptureContents.{signal_contents};
@@ -141,8 +141,9 @@ impl<'a> FullName<'a> {
 
     /// Takes the next byte of the name, if there is one.
     pub fn next_byte(&mut self) -> Option<u8>
-        ensures { MatchOption result (name_bytes self.old ≡ [])
+        ensures next { MatchOption result (name_bytes self.old ≡ [])
             (λ byte. name_bytes self.old ≡ byte ∷ name_bytes self.new) }
+        ensures ended { IfNone result (name_bytes self.new ≡ []) }
     {
         self.go_to_text();
         match self.text {
@@ -173,8 +174,9 @@ impl<'a> FullName<'a> {
     /// Takes the `.` after a scope of which no byte is left.
     fn leave_scope(&mut self) -> Option<u8>
         requires { IsDrained self.old }
-        ensures { MatchOption result (name_bytes self.old ≡ [])
+        ensures next { MatchOption result (name_bytes self.old ≡ [])
             (λ byte. name_bytes self.old ≡ byte ∷ name_bytes self.new) }
+        ensures ended { IfNone result (name_bytes self.new ≡ []) }
     {
         if !self.in_scope {
             return None;

@@ -14,17 +14,17 @@ returns-then-wanted-eq42-clause-head c =
 
 pub returns-then-not-is_wanted-clause-head : goal.returns-then-not-is_wanted-clause-head
 returns-then-not-is_wanted-clause-head c =
-    head_fails _ _ _ _ _ _ _ c.in-Some.ensures.cases.0 (ne_eqb _ _ c.if-wanted-eq42.false) c.next_byte.ensures
+    head_fails _ _ _ _ _ _ _ c.in-Some.ensures.cases.0 (ne_eqb _ _ c.if-wanted-eq42.false) c.next_byte.ensures.next
     c.is_wanted.ensures (search rules)
     ∙ c.loop-wanted.invariant.same
 
 pub loop-wanted-preserved : goal.loop-wanted-preserved
 loop-wanted-preserved c =
     let is_wanted : c.is_wanted.result ≡ true = search rules in
-    let shrinks = name_shrinks _ _ _ c.next_byte.ensures _ _ c.is_wanted.ensures is_wanted in
+    let shrinks = name_shrinks _ _ _ c.next_byte.ensures.next _ _ c.is_wanted.ensures is_wanted in
     record {
       same = head_goes_on _ _ _ _ _ _ _ c.in-Some.ensures.cases.0
-          (ne_eqb _ _ c.if-wanted-eq42.false) c.next_byte.ensures
+          (ne_eqb _ _ c.if-wanted-eq42.false) c.next_byte.ensures.next
           c.is_wanted.ensures is_wanted
           ∙ c.loop-wanted.invariant.same;
       shorter = omega (arith, shrinks, c.in-Some.ensures.cases.1, c.loop-wanted.invariant.shorter);
@@ -46,6 +46,6 @@ empty_list (x ∷ xs) is = absurd (omega arith)
 
 pub returns-clause-head : goal.returns-clause-head
 returns-clause-head c =
-    ap ended (at_end _ _ _ _ c.next_byte-2.ensures c.is_none.ensures)
+    ap ended (at_end _ _ _ _ c.next_byte-2.ensures.next c.is_none.ensures)
     ∙ sym (head_at_end _ _ (empty_list _ c.in_default.ensures.cases))
     ∙ c.loop-wanted.invariant.same

@@ -20,12 +20,12 @@ returns-in-Ended-true c =
 pub returns-then-is_none : goal.returns-then-is_none
 returns-then-is_none c =
     let head = sym c.in-Ended-false.ensures.head ∙ ap ended c.in-Ended-false.field-0-test in
-    fails_at_end _ _ _ _ head c.next_byte.ensures (none_left _ c.if-is_none.ensures) ∙ c.loop-name.invariant
+    fails_at_end _ _ _ _ head c.next_byte.ensures.next (none_left _ c.if-is_none.ensures) ∙ c.loop-name.invariant
 
 pub loop-name-preserved-else-is_none : goal.loop-name-preserved-else-is_none
 loop-name-preserved-else-is_none c =
     let head = sym c.in-Ended-false.ensures.head ∙ ap ended c.in-Ended-false.field-0-test in
-    goes_on _ _ _ _ head c.next_byte.ensures (some_left _ c.if-is_none.ensures) ∙ c.loop-name.invariant
+    goes_on _ _ _ _ head c.next_byte.ensures.next (some_left _ c.if-is_none.ensures) ∙ c.loop-name.invariant
 
 pub loop-name-preserved : goal.loop-name-preserved
 loop-name-preserved c = leaves_star _ _ _ _ (sym c.in-Star.ensures.head) ∙ c.loop-name.invariant

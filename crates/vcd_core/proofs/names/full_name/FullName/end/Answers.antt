@@ -12,8 +12,8 @@ pub loop-byte-preserved : goal.loop-byte-preserved
 unfolding end_after
 loop-byte-preserved c =
     ap (λ (end : TextEnd). end_after end (name_bytes c.next_byte.new.self)) c.with_byte-end.ensures
-    ∙ ap (end_after c.loop-byte.end) (sym c.in-Some.ensures) ∙ c.loop-byte.invariant
+    ∙ ap (end_after c.loop-byte.end) (sym c.in-Some.ensures.next) ∙ c.loop-byte.invariant
 
 pub returns : goal.returns
 unfolding end_after
-returns c = ap (end_after c.loop-byte.end) (sym c.in_default.ensures) ∙ c.loop-byte.invariant
+returns c = ap (end_after c.loop-byte.end) (sym c.in_default.ensures.next) ∙ c.loop-byte.invariant
