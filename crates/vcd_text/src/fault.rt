@@ -111,8 +111,9 @@ impl<T: Drop> From<AllocFailed<T>> for Fault {
 /// A fault of reading a capture file, and its line, counted from 1.
 ///
 /// A fault of the file has the line of the word that shows it. Among the changes it has the line of
-/// the first word of its change. `Truncated`, `TooLarge` and `ReadFault` have the line of the end
-/// of the bytes that were taken. `NoMemory` has no line: the number is 0.
+/// the first word of its change. `TooManyRemain` and `Declined` have the line of the `$end` of
+/// `$enddefinitions`. `Truncated`, `TooLarge` and `ReadFault` have the line of the end of the bytes
+/// that were taken. `NoMemory` has no line: the number is 0.
 #[derive(Clone, Copy, Debug, PartialEq, Eq, Error)]
 #[error("{fault}")]
 pub struct ReadError {

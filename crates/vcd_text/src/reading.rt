@@ -111,7 +111,8 @@ pub fn read<R: Source>(alloc: Global, reader: &mut R) -> Result<Loaded, ReadErro
 /// The choice is asked at the end of the declarations. There the result may be `Declined`, if the
 /// choice refuses the file, or `TooManyRemain`.
 ///
-/// Time: as of `read`; a change outside the part is looked up and checked, and no more.
+/// Time: as of `read`. A change past the part, or of a code that no signal of the part has, is
+/// looked up and checked, and no more. One before the part is pushed to its wave.
 ///
 /// A file has at most 2^62 - 1 bytes and 2^32 - 1 kept variables, of which at most `SIGNAL_LIMIT`
 /// remain.

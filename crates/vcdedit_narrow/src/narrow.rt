@@ -25,6 +25,11 @@ use vcd_text::{Fault, Loaded, ReadError, TickRange, read_part, write};
 ///
 /// The capture is read and checked to its end, unless its declarations already refuse the request.
 /// If the capture is refused, or the request is, nothing is written.
+///
+/// Time: as of `read_part`, and as of `write` for the part. Each name is compared with each pattern
+/// a few times. If no name meets a pattern, the nearest names are looked for (`append_unmet`).
+///
+/// Memory: as of `read_part`, and then, beside the part, as of `write`.
 pub fn narrow<R: Source, W: Sink>(
     alloc: Global,
     reader: &mut R,

@@ -20,6 +20,9 @@ const SHOWN: usize = 3;
 
 /// Appends the pattern, and a line for each of the nearest names: the first three that have the
 /// longest beginning of the pattern within that some name has.
+///
+/// Time: the beginnings are tried from the longest down, and each is compared with all names, as by
+/// `meets`. Memory: that of the text, and a copy of the beginning that is tried.
 pub fn append_unmet(
     alloc: Global,
     text: &mut Vec<u8>,

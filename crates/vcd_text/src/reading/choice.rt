@@ -25,7 +25,7 @@ pub struct TickRange {
 /// A choice of a part of a capture.
 ///
 /// It is asked at the end of a file's declarations: once for each signal, in their order, and then
-/// once for the ticks.
+/// once for the ticks, if at most `SIGNAL_LIMIT` signals remain.
 pub trait Choice {
     ghost use Rattle.std.specs.Prelude.{Bool, List, Option};
     ghost use Rattle.vcd_core.specs.declared.capture.Timescale.{Timescale as TimescaleOf};

@@ -198,8 +198,8 @@ fn complete_words_len(bytes: &[u8], unfinished_len: usize) -> usize
     0
 }
 
-/// Takes words one after another, up to the first that shows a fault. Returns the number of line
-/// feeds before the end of their text.
+/// Takes words one after another, up to the first that shows a fault, or at which the part is
+/// refused. Returns the number of line feeds before the end of their text.
 fn read_words<C: Choice>(
     parser: &mut Parser,
     alloc: Global,

@@ -32,8 +32,11 @@ impl Variable {
 }
 
 impl Variables {
-    /// Appends a change: from `tick` on, the code has the value of these digits. It takes one
-    /// look-up, and one push to the log or a wave. A skipped code accepts any digits.
+    /// Takes a change: from this tick of the file on, the code has the value of these digits. It
+    /// takes one look-up of the code. A skipped code accepts any digits.
+    ///
+    /// The change is pushed to the log or a wave, at its tick in the part. If it is past the part,
+    /// or its code is `silent` by the position of its first variable, it is only checked.
     pub fn change(
         &mut self,
         alloc: Global,
