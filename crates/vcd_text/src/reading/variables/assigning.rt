@@ -56,6 +56,7 @@ impl Variables {
             CodeTarget::Skipped => Ok(()),
             CodeTarget::Kept(width, first) => {
                 let (width, first) = (u64::from(width), first as usize);
+                // Two tests, not `||`: the proof cites each alone.
                 if part.is_late(tick) {
                     return check_digits(width, digits);
                 }
@@ -69,8 +70,11 @@ impl Variables {
     }
 
     /// Appends a change of the variable of this width at a position, the first of its code. One of
-    /// at most 64 bits gets it in the log, a wider one in its wave. While the log is empty, a
-    /// change before the part (`early`) goes to the wave at once.
+    /// at most 64 bits gets it in the log, a wider one in its wave.
+    ///
+    /// While the log is empty, a change before the part (`early`) goes to the wave at once. It
+    /// replaces the one before it there; the log would hold both. `tick` does not tell that it is
+    /// early: up to the first tick of the part it is 0.
     fn change_at(
         &mut self,
         alloc: Global,
@@ -92,6 +96,7 @@ impl Variables {
         if width > 64 {
             return self.kept[first].change_wave(tick, digits);
         }
+        // Nested, not `&&`: the proof cites the second test alone.
         if early {
             if self.log.is_empty() {
                 return self.kept[first].change_wave(tick, digits);
