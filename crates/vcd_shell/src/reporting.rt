@@ -28,7 +28,7 @@ pub fn report_with<W: Sink>(program: &[u8], text: &[u8], more: &[u8], writer: &m
         (W.taken writer.old) (W.taken writer.new) (report_of program.now (text.now ++ more.now)) }
 {
     if !writer.failed() {
-        let _ = write_report(program, text, more, writer);
+        let _ = write_line(program, text, more, writer);
     }
 }
 
@@ -134,7 +134,7 @@ pub fn write_status(error: &WriteError) -> u8
 }
 
 /// Writes and flushes the line of a text and of what follows it, after the program's name.
-fn write_report<W: Sink>(
+fn write_line<W: Sink>(
     program: &[u8],
     text: &[u8],
     more: &[u8],

@@ -2,7 +2,7 @@
 use Rattle.std.proofs.Common.{◌++◌, append_assoc, subst, codes}
 use Rattle.std.specs.Io.KnownBytes.{Appends}
 use Rattle.std.proofs.KnownBytes.{Appends-trans}
-use Rattle.vcd_shell.proofs.reporting.write_report.Goals as goal
+use Rattle.vcd_shell.proofs.reporting.write_line.Goals as goal
 
 pub returns-clause-line : goal.returns-clause-line
 returns-clause-line g c =
