@@ -176,14 +176,14 @@ module _ (old : Variables) (c : ParseState) (code : List ℕ) (v : Variable) (k 
   first_within = grind (arith, stands_kept, slice_get_within)
 
   module _ (list : Vec Variable) (targets : CodeTargets) (value_changes : c.value_changes ≡ [])
-      (silent : v.wave.changes ≡ []) (placed : IsPlaced old.scopes v.place (open_scopes old.scopes))
+      (no_changes : v.wave.changes ≡ []) (placed : IsPlaced old.scopes v.place (open_scopes old.scopes))
       (items : list.items ≡ old.kept.items ++ v ∷ [])
       (puts : Puts old (with_kept old list targets) code (Kept v.wave.width v.first)) where
-    silent_wave : HasValueChanges (old.kept.items ++ v ∷ []) (logged old.log.items) (length old.kept.items) code
+    unchanged_wave : HasValueChanges (old.kept.items ++ v ∷ []) (logged old.log.items) (length old.kept.items) code
         v.wave.width
         c.value_changes c.tick
     unfolding changes_of_code value_from
-    silent_wave = search (arith, middle_of, cases_lt, slice_get_within, nil_from_length, gives_as)
+    unchanged_wave = search (arith, middle_of, cases_lt, slice_get_within, nil_from_length, gives_as)
 
     keep_stands : (key : List ℕ) → TargetAgrees (with_kept old list targets) c key
         (target_of (with_kept old list targets) key)
@@ -194,7 +194,7 @@ module _ (old : Variables) (c : ParseState) (code : List ℕ) (v : Variable) (k 
         let both = by_code (λ b. TargetMatches all (logged old.log.items) c.value_changes c.tick key
         (if b then Kept v.wave.width v.first else target_of old key)
         (option_or (variable_of c key) (if b then Some d else None))) key code
-        (λ is. rw is (grind (arith, silent_wave, stands_longer))) (grind (arith, stands_still, stands_longer)) in
+        (λ is. rw is (grind (arith, unchanged_wave, stands_longer))) (grind (arith, stands_still, stands_longer)) in
         rw items (rw (puts key) (rw (found_with key c.declared d) both))
 
     kept_more : kept_variables (c.declared ++ declaration_in c.scopes code v ∷ [])

@@ -103,7 +103,7 @@ impl Variables {
     /// Adds a kept variable. The first one of its code enters the code.
     fn add(&mut self, alloc: Global, code: &[u8], variable: Variable) -> Result<(), Fault>
         requires free { IsFree self.old code.now variable.wave.width variable.first }
-        requires silent { variable.wave.changes ≡ [] }
+        requires no_changes { variable.wave.changes ≡ [] }
         requires placed { IsPlaced self.old.scopes variable.place (open_scopes self.old.scopes) }
         ensures { (c : ParseState) → let d = declaration_in c.scopes code.now variable in
             VariablesMatch self.old c → c.value_changes ≡ [] → IsFalse (is_skipped d) →

@@ -23,12 +23,12 @@ returns c = λ state k value_changes keeps.
           λ key. grind arith in
           rw w.self-is (λ items.
           keep_declares old state code v k keeps c.requires.free list w.insert.new.self value_changes
-          c.requires.silent c.requires.placed items puts room tt)
+          c.requires.no_changes c.requires.placed items puts room tt)
       | else-variable-position w ↦ elim c.requires.free [
         | inl (none, end) ↦
             absurd (omega (arith, end, w.if-variable-position.false, c.len-position.ensures, old.kept.ok.0))
         | inr had ↦ rw w.self-is (λ items. keep_declares old state code v k keeps
-            (inr had) list old.code_targets value_changes c.requires.silent c.requires.placed items
+            (inr had) list old.code_targets value_changes c.requires.no_changes c.requires.placed items
             (puts_same old (with_kept old list old.code_targets) code (Kept v.wave.width v.first) refl had) room tt)
       ]
     ] in
