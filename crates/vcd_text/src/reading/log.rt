@@ -10,7 +10,7 @@ ghost use Rattle.vcd_text.specs.declared.reading.variables.Variable.{Variable as
 ghost use Rattle.vcd_text.specs.declared.reading.log.LoggedChange.{LoggedChange as LogEntry};
 ghost use Rattle.vcd_text.specs.inside.reading.Log.{logged, changes_of_position, room_with};
 ghost use Rattle.vcd_text.specs.inside.reading.Log.{counted};
-ghost use Rattle.vcd_text.specs.inside.reading.Log.{AreGrouped, CanTake, AppliesLogged};
+ghost use Rattle.vcd_text.specs.inside.reading.Log.{AreGrouped, CanApplyLogged, AppliesLogged};
 ghost use Rattle.vcd_text.specs.inside.reading.Log.{HasExactRoom};
 ghost use Rattle.vcd_text.specs.inside.reading.Log.{CanMoveLog, MovesLog};
 
@@ -155,7 +155,7 @@ fn move_group(kept: &mut Vec<Variable>, group: &[LoggedChange]) -> Result<(), No
 
 /// Gives a variable a change.
 fn move_change(kept: &mut Vec<Variable>, change: LoggedChange) -> Result<(), NoMemory>
-    requires { CanTake kept.old.items change }
+    requires { CanApplyLogged kept.old.items change }
     ensures applies { OnOk result (AppliesLogged change kept.old.items kept.new.items) }
     ensures room { OnOk result ((v w : KeptVariable)
         → slice_get kept.old.items change.position ≡ Some v →

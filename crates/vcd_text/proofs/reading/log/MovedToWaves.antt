@@ -14,7 +14,7 @@ use Rattle.vcd_core.specs.Value.{all_x}
 use Rattle.vcd_text.specs.Grammar.{ParseState}
 use Rattle.vcd_text.specs.inside.reading.Variables.{latest_value}
 use Rattle.vcd_text.specs.inside.reading.Log.{changes_of_position, logged}
-use Rattle.vcd_text.specs.inside.reading.Log.{CanTake}
+use Rattle.vcd_text.specs.inside.reading.Log.{CanApplyLogged}
 use Rattle.vcd_text.specs.inside.reading.Log.{AppliesLogged, CanMoveLog, MovesChanges, MovesLog}
 use Rattle.vcd_text.specs.inside.reading.Log.{counted_variable, counted}
 use Rattle.vcd_text.specs.inside.reading.Variables.{target_of, HasValueChanges, VariablesMatch}
@@ -44,9 +44,9 @@ module _ (e : LoggedChange) (es : List LoggedChange) (rest : ℕ → List Logged
   own_position = grind arith
 
   -- the first change of a group can be taken
-  pub can_take : (kept : List Variable)
-      → CanMoveLog kept (λ position. changes_of_position position (e ∷ es) ++ rest position) → CanTake kept e
-  can_take kept can = grind (arith, own_position, gives_narrow, gives_first)
+  pub can_apply : (kept : List Variable)
+      → CanMoveLog kept (λ position. changes_of_position position (e ∷ es) ++ rest position) → CanApplyLogged kept e
+  can_apply kept can = grind (arith, own_position, gives_narrow, gives_first)
 
   -- then the others are left
   pub moves_one : (old new : List Variable) → AppliesLogged e old new

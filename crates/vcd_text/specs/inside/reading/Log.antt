@@ -59,8 +59,8 @@ AreGrouped index (g ∷ gs) = All (λ (e : LoggedChange). e.position % GROUPS �
 
 -- ---- the changes that waves take from the log
 
--- a variable can take a change of the log
-pub record CanTake (kept : List Variable) (e : LoggedChange) : Type 0 where
+-- a change of the log can be applied to its variable
+pub record CanApplyLogged (kept : List Variable) (e : LoggedChange) : Type 0 where
   pub before : Variable
   pub at_position : slice_get kept e.position ≡ Some before
   pub narrow : before.wave.width ≤ 64

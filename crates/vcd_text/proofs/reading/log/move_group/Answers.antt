@@ -2,7 +2,7 @@ use Rattle.std.proofs.Common.{◌+◌, ◌++◌, drop, get_or, arith}
 use Rattle.std.proofs.lemmas.List.{drop_more, drop_all}
 use Rattle.vcd_text.specs.inside.reading.Log.{changes_of_position}
 use Rattle.vcd_text.specs.declared.reading.log.LoggedChange.{LoggedChange}
-use Rattle.vcd_text.proofs.reading.log.MovedToWaves.{can_take, moves_one, moves_then, can_still}
+use Rattle.vcd_text.proofs.reading.log.MovedToWaves.{can_apply, moves_one, moves_then, can_still}
 use Rattle.vcd_text.proofs.reading.log.MovedToWaves.{more_left}
 use Rattle.vcd_text.proofs.reading.log.move_group.Goals as goal
 
@@ -13,7 +13,7 @@ move_change-requires c =
     let none : LoggedChange = record { tick = 0; position = 0; block = record { low = 0; high = 0 } } in
     let e = get_or group i none in
     let (rest, can) = c.loop-change.invariant.0 in
-    can_take e (drop (i + 1) group) rest c.loop-change.kept.items
+    can_apply e (drop (i + 1) group) rest c.loop-change.kept.items
     (rw (drop_more group i none c.loop-change-test.true) at can)
 
 pub loop-change-preserved : goal.loop-change-preserved
