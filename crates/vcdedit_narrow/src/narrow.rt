@@ -8,8 +8,8 @@ ghost use Rattle.vcdedit_narrow.specs.NarrowEnds.{NarrowEnds};
 ghost use Rattle.vcdedit_narrow.specs.Narrowed.{with_comment};
 ghost use Rattle.vcdedit_narrow.specs.Refusals.{refusal_text};
 ghost use Rattle.vcdedit_narrow.specs.inside.MemoryErrors.{out_of_memory};
-ghost use Rattle.vcdedit_narrow.specs.inside.Stages.{EndsBeforeWriting, IsPastEnd, IsToWrite};
-ghost use Rattle.vcdedit_narrow.specs.inside.Stages.{StopsAtEnd, error_of, is_declined};
+ghost use Rattle.vcdedit_narrow.specs.inside.Stages.{EndsBeforeWriting, IsPastEndRefusal};
+ghost use Rattle.vcdedit_narrow.specs.inside.Stages.{IsToWrite, StopsAtEnd, error_of, is_declined};
 ghost use Rattle.vcdedit_narrow.specs.inside.Stages.{loaded_extent};
 
 use crate::comment::{Extent, with_comment};
@@ -105,7 +105,7 @@ fn finish(
 
 /// The refusal of a window that begins past this end, or memory ran out for its text.
 fn past_end(alloc: Global, end: u64) -> NarrowError
-    ensures { (result ≡ out_of_memory) ⊎ IsPastEnd end result }
+    ensures { (result ≡ out_of_memory) ⊎ IsPastEndRefusal end result }
 {
     match past_end_text(alloc, end) {
         Ok(text) => NarrowError::Refused {

@@ -43,14 +43,14 @@ loaded_extent loaded ticks = record {
 }
 
 -- the refusal of a window that begins past this end
-abbrev pub IsPastEnd : (end : ℕ) → NarrowError → Type 0
-IsPastEnd end (errors.Refused refusal said) =
+abbrev pub IsPastEndRefusal : (end : ℕ) → NarrowError → Type 0
+IsPastEndRefusal end (errors.Refused refusal said) =
     (refusal ≡ WindowPastEnd) × (said.items ≡ refusal_text WindowPastEnd ++ decimal end)
-IsPastEnd end e = ⊥
+IsPastEndRefusal end e = ⊥
 
 -- after a capture is read, memory ran out, or the window begins past its end
 abbrev pub StopsAtEnd : (end first : ℕ) → NarrowError → Type 0
-StopsAtEnd end first e = (e ≡ out_of_memory) ⊎ (IsPastEnd end e × (end < first))
+StopsAtEnd end first e = (e ≡ out_of_memory) ⊎ (IsPastEndRefusal end e × (end < first))
 
 -- whether a fault says that the request is refused
 abbrev pub is_declined : Fault → Bool
