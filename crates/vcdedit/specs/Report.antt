@@ -38,14 +38,14 @@ error_status (run_errors.ReplyFault written) = 4
 error_status (run_errors.Write e) = write_status e
 
 -- the line of a text, after the program's name
-abbrev pub said : List ℕ → List ℕ
-said = report_of (codes "vcdedit")
+abbrev pub own_report : List ℕ → List ℕ
+own_report = report_of (codes "vcdedit")
 
 -- the line on standard error of a run that failed
 abbrev pub error_report : RunError → List ℕ
 error_report (run_errors.Capture e) = capture_report (codes "vcdedit") e.fault e.line
-error_report run_errors.ScriptTooLarge = said (codes "script: too large")
-error_report run_errors.ScriptReadFault = said (codes "script: read fault")
+error_report run_errors.ScriptTooLarge = own_report (codes "script: too large")
+error_report run_errors.ScriptReadFault = own_report (codes "script: read fault")
 error_report (run_errors.NoMemory line) = out_of_memory_report (codes "vcdedit")
-error_report (run_errors.ReplyFault written) = said (codes "replies: write fault")
+error_report (run_errors.ReplyFault written) = own_report (codes "replies: write fault")
 error_report (run_errors.Write e) = write_report (codes "vcdedit") e

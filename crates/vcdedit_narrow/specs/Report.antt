@@ -10,8 +10,8 @@ use Rattle.vcdedit_narrow.specs.declared.narrow_error.WordsFault.{WordsFault}
 use Rattle.vcdedit_narrow.specs.declared.narrow_error.WordsFault.TheVariants as words
 
 -- the line of a text, after the program's name
-abbrev pub said : List ℕ → List ℕ
-said = report_of (codes "vcdedit-narrow")
+abbrev pub own_report : List ℕ → List ℕ
+own_report = report_of (codes "vcdedit-narrow")
 
 -- the name of a fault of the words, and what it means
 abbrev pub words_text : WordsFault → List ℕ
@@ -23,9 +23,9 @@ words_text words.BadTo =
 
 -- the line on standard error of a capture that was not narrowed; a refusal has its text
 abbrev pub error_text : NarrowError → List ℕ
-error_text (errors.Words fault) = said (words_text fault)
+error_text (errors.Words fault) = own_report (words_text fault)
 error_text (errors.Capture e) = capture_report (codes "vcdedit-narrow") e.fault e.line
-error_text (errors.Refused refusal text) = said text.items
+error_text (errors.Refused refusal text) = own_report text.items
 error_text (errors.Write e) = write_report (codes "vcdedit-narrow") e
 
 -- the exit status of a capture that was not narrowed
@@ -38,7 +38,8 @@ error_status (errors.Write e) = write_status e
 -- the line on variables that are left out of any capture, if there are some
 abbrev pub skipped_text : ℕ → List ℕ
 skipped_text skipped = if skipped == 0 then []
-    else said (codes "variables without four-state values, which are left out: " ++ decimal skipped)
+    else own_report (codes "variables without four-state values, which are left out: "
+    ++ decimal skipped)
 
 -- the exit status of narrowing
 abbrev pub status_of : Result Narrowed NarrowError → ℕ
