@@ -31,7 +31,7 @@ option_app = record (new_app (codes "vcdedit")) {
 }
 
 -- the number of the depth's text, if it is from 1 to the limit; accepted words have such a text, if
--- only the default
+-- only the default, and 1 stands for any other
 abbrev pub depth_asked : Option Text → ℕ
 depth_asked None = 1
 depth_asked (Some text) = if is_unsigned_in 1 DEPTH_LIMIT text
