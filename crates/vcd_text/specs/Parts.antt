@@ -1,6 +1,6 @@
 -- A part of a capture: some of its signals, and some of its time. The project's own.
 use Rattle.std.specs.Prelude.{◌≡◌, ℕ, ◌+◌, ◌-◌, min, length, Bool, List, [], ◌∷◌, ◌++◌, map, filter}
-use Rattle.std.specs.Prelude.{Option, Some, None, ◌⊎◌, ◌<◌}
+use Rattle.std.specs.Prelude.{Option, Some, None, ◌⊎◌, ◌<◌, ◌≤◌, take}
 use Rattle.vcd_core.specs.declared.capture.TheConstants.{SIGNAL_LIMIT}
 use Rattle.vcd_core.specs.declared.capture.Timescale.{Timescale}
 use Rattle.vcd_core.specs.Wave.{changes_of}
@@ -10,7 +10,7 @@ use Rattle.vcd_text.specs.declared.fault.Fault.TheVariants as faults
 use Rattle.vcd_text.specs.declared.fault.ReadError.{ReadError}
 use Rattle.vcd_text.specs.declared.reading.Loaded.{Loaded}
 use Rattle.vcd_text.specs.declared.reading.choice.TickRange.{TickRange}
-use Rattle.vcd_text.specs.Words.{WordOnLine, words_of}
+use Rattle.vcd_text.specs.Words.{WordOnLine, words_of, complete_words}
 use Rattle.vcd_text.specs.Items.{Item, spellings, end_definitions}
 use Rattle.vcd_text.specs.Grammar.{ParseState, initial_state, state_after, AllowsAll, word_texts}
 use Rattle.vcd_text.specs.Meaning.{FileMeans, meaning}
@@ -82,8 +82,17 @@ pub record HasDeclarations (limit : ℕ) (words : List WordOnLine) (line : ℕ) 
 abbrev pub signals_of : ParseState → List SignalContents
 signals_of s = map without_changes (meaning s).signals
 
+-- if the words begin with whole declarations, few of their signals remain, and the choice answered
+-- ticks
+abbrev pub IsChosen : (limit : ℕ) → (takes : SignalContents → Bool) → Answers → List WordOnLine
+    → Type 0
+IsChosen limit takes answers words =
+    (line : ℕ) (s : ParseState) → HasDeclarations limit words line s
+    → (length (filter takes (signals_of s)) ≤ SIGNAL_LIMIT)
+    × (ticks : TickRange) × answers s.timescale (signals_of s) (Some ticks)
+
 -- why no part is read of a file with these words: its declarations are accepted, but more signals
--- remain than a capture can have, or the choice does not answer
+-- remain than a capture can have, or few remain and the choice does not answer
 pub data RefusesPart (limit : ℕ) (takes : SignalContents → Bool) (answers : Answers)
     (words : List WordOnLine)
     (e : ReadError) : Type 0 where
@@ -91,13 +100,18 @@ pub data RefusesPart (limit : ℕ) (takes : SignalContents → Bool) (answers : 
       → SIGNAL_LIMIT < length (filter takes (signals_of s)) → e.fault ≡ faults.TooManyRemain
       → RefusesPart limit takes answers words e
   declined : (s : ParseState) → HasDeclarations limit words e.line s
+      → length (filter takes (signals_of s)) ≤ SIGNAL_LIMIT
       → answers s.timescale (signals_of s) None → e.fault ≡ faults.Declined
       → RefusesPart limit takes answers words e
 
--- the fault of reading a part of a file: one of reading the file, or no part of it is read
+-- the fault of reading a part of a file: one of reading the file, or no part of it is read. Unless
+-- memory ran out, the first is told only if the part was chosen, where the complete words that came
+-- within the limit begin with whole declarations
 abbrev pub IsPartRefusal : (limit byte_limit : ℕ) → (takes : SignalContents → Bool) → Answers
     → (file : List ℕ)
     → (failed : Bool) → (left : Option (List ℕ)) → ReadError → Type 0
 IsPartRefusal limit byte_limit takes answers file failed left e =
-    IsRefusal limit byte_limit file failed left e
+    (IsRefusal limit byte_limit file failed left e
+    × ((e.fault ≡ faults.NoMemory → ⊥) → (came rest : List ℕ) → file ≡ came ++ rest
+    → left ≡ Some rest → IsChosen limit takes answers (complete_words (take byte_limit came))))
     ⊎ RefusesPart limit takes answers (words_of file) e

@@ -1,7 +1,7 @@
 -- How narrowing ends: for each ending, the state of the source and of the writer. The rules are the
 -- project's own.
 use Rattle.std.specs.Prelude.{◌≡◌, ◌⊎◌, ℕ, ◌<◌, ◌≤◌, ◌^◌, false, true, List, ◌++◌, length, map}
-use Rattle.std.specs.Prelude.{decimal, Result, Ok, Err, IfSome}
+use Rattle.std.specs.Prelude.{decimal, filter, Option, Some, None, Result, Ok, Err, IfSome}
 use Rattle.vcd_core.specs.Contents.{Contents}
 use Rattle.vcd_text.specs.declared.fault.Fault.TheVariants as faults
 use Rattle.vcd_text.specs.declared.fault.ReadError.{ReadError}
@@ -11,7 +11,7 @@ use Rattle.vcd_core.specs.declared.capture.TheConstants.{SIGNAL_LIMIT}
 use Rattle.vcd_text.specs.declared.reading.choice.TickRange.{TickRange}
 use Rattle.vcd_text.specs.Grammar.{ParseState}
 use Rattle.vcd_text.specs.Meaning.{FileMeans}
-use Rattle.vcd_text.specs.Parts.{HasDeclarations, IsPartRefusal, signals_of}
+use Rattle.vcd_text.specs.Parts.{Answers, HasDeclarations, IsPartRefusal, signals_of}
 use Rattle.vcd_text.specs.Parts.{without_changes}
 use Rattle.vcd_text.specs.Text.{text}
 use Rattle.vcd_text.specs.Words.{words_of}
@@ -45,18 +45,25 @@ pub record IsNarrowed (r : Request) (file : List ℕ) (skipped : ℕ) (c : Conte
   pub few : length (narrowed_capture r ticks whole).signals ≤ SIGNAL_LIMIT
   pub is : c ≡ narrowed_capture r ticks whole
 
--- why a capture stays unread: a fault of the file, its length, its source or memory; or too many
--- signals would be kept
+-- what a request answers to declarations where it is not refused: the ticks of its window
+abbrev pub window_ticks : Request → Answers
+window_ticks r timescale signals None = ⊥
+window_ticks r timescale signals (Some ticks) = decide r timescale signals ≡ Ok ticks
+
+-- why a capture stays unread: a fault of the file, its length or its source, if the request is not
+-- refused for whole declarations before it; memory; or too many signals would be kept
 abbrev pub IsUnread : Request → (file : List ℕ) → (capture : DeviceEnd) → ReadError → Type 0
 IsUnread r file capture e =
-    IsPartRefusal VARIABLE_LIMIT LONG_FILE_LIMIT (keeps r) (λ timescale signals answer. ⊥) file
+    IsPartRefusal VARIABLE_LIMIT LONG_FILE_LIMIT (keeps r) (window_ticks r) file
     capture.has_failed capture.after e
 
--- the request is refused for the declarations of the file, which are accepted
+-- the request is refused for the declarations of the file, which are accepted, and of whose signals
+-- few would be kept
 pub record IsRefused (r : Request) (file : List ℕ) (refusal : Refusal) (said : List ℕ) : Type 0
   where
     pub state : ParseState
     pub declared : (line : ℕ) × HasDeclarations VARIABLE_LIMIT (words_of file) line state
+    pub few : length (filter (keeps r) (signals_of state)) ≤ SIGNAL_LIMIT
     pub decided : decide r state.timescale (signals_of state) ≡ Err refusal
     pub is : said ≡ said_of r (signals_of state) refusal
 

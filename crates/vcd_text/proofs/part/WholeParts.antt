@@ -169,7 +169,7 @@ pub no_part_refusal_of_read : (answers : Answers) (coming : Option (List ℕ)) (
     → IfSome coming (λ file. IsPartRefusal SIGNAL_LIMIT FILE_LIMIT (λ _. true) answers file failed left e)
     → IfSome coming (λ file. IsRefusal SIGNAL_LIMIT FILE_LIMIT file failed left e)
 no_part_refusal_of_read answers None failed left e some refused = tt
-no_part_refusal_of_read answers (Some file) failed left e some (inl refused) = refused
-no_part_refusal_of_read answers (Some file) failed left e some (inr (declined c has none fault)) = grind arith
+no_part_refusal_of_read answers (Some file) failed left e some (inl refused) = refused.0
+no_part_refusal_of_read answers (Some file) failed left e some (inr (declined c has few none fault)) = grind arith
 no_part_refusal_of_read answers (Some file) failed left e some (inr (too_many_remain c has many fault)) =
     grind (arith, few_after, same_limit, length-filter, count_by-le-length, length-map)

@@ -5,7 +5,8 @@ use Rattle.std.proofs.Common.{◌∙◌, subst, inl, inr, length, decimal, map, 
 use Rattle.std.specs.Prelude.{Result, Ok, Err, IfOk, IfSome, IfErr}
 use Rattle.std.specs.Io.KnownBytes.{IsAtEnd}
 use Rattle.std.proofs.lemmas.Bool.{false≢true}
-use Rattle.vcd_core.specs.Contents.{Contents}
+use Rattle.vcd_core.specs.Contents.{Contents, SignalContents}
+use Rattle.vcd_core.specs.declared.capture.Timescale.{Timescale}
 use Rattle.vcd_core.specs.CaptureContents.{contents}
 use Rattle.vcd_text.specs.declared.fault.Fault.TheVariants as faults
 use Rattle.vcd_text.specs.declared.fault.ReadError.{ReadError}
@@ -110,7 +111,8 @@ pub memory_ends : (r : Request) (capture : DeviceEnd) → EndsBeforeWriting r ca
 unfolding NarrowEnds
 memory_ends r capture out untouched = (
   untouched,
-  if_some capture.before (λ file. Unit {0}) _ (λ file u. inl (no_memory refl)) (any capture.before),
+  if_some capture.before (λ file. Unit {0}) _ (λ file u. inl (no_memory refl, λ isnt. absurd (isnt refl)))
+      (any capture.before),
   (λ e. cc),
   (λ e. cc),
 )
@@ -154,16 +156,28 @@ none_answered : (d : Result TickRange Refusal) → None ≡ ticks_in d → refus
 none_answered (Ok ticks) is none = cc
 none_answered (Err found) is none = cc
 
+-- the ticks that the request answers are those of its window
+decided_ticks : (r : Request) (old new : Narrowing) (timescale : Option Timescale) (signals : List SignalContents)
+    (ticks : TickRange) → old.request ≡ r → Gives old timescale signals (Some ticks) new
+    → decide r timescale signals ≡ Ok ticks
+decided_ticks r old new timescale signals ticks same gave =
+    ap (λ (q : Request). decide q timescale signals) (sym same) ∙ ticks_are _ ticks gave.answered
+
 -- the fault is not that the request is refused
 of_fault : (r : Request) (old new : Narrowing) (file : List ℕ) (capture : DeviceEnd) (e : ReadError)
-    → (is_declined e.fault ≡ false) ⊎ (new.refusal ≡ None)
+    → old.request ≡ r → (is_declined e.fault ≡ false) ⊎ (new.refusal ≡ None)
     → IsPartRefusal VARIABLE_LIMIT LONG_FILE_LIMIT (keeps r) (answers_of Gives old new) file capture.has_failed
     capture.after e → IsUnread r file capture e
-of_fault r old new file capture e other (inl refusal) = inl refusal
-of_fault r old new file capture e other (inr (too_many_remain c at many is)) = inr (too_many_remain c at many is)
-of_fault r old new file capture e (inl other) (inr (declined c at answered is)) =
+of_fault r old new file capture e same other (inl (refusal, chosen)) = inl (
+  refusal,
+  λ isnt came rest parts left line s has.
+      let (few, ticks, gave) = chosen isnt came rest parts left line s has in
+      (few, ticks, decided_ticks r old new s.timescale (signals_of s) ticks same gave),
+)
+of_fault r old new file capture e same other (inr (too_many_remain c at many is)) = inr (too_many_remain c at many is)
+of_fault r old new file capture e same (inl other) (inr (declined c at few answered is)) =
     absurd (false≢true (sym other ∙ ap is_declined is))
-of_fault r old new file capture e (inr none) (inr (declined c at answered is)) =
+of_fault r old new file capture e same (inr none) (inr (declined c at few answered is)) =
     absurd (none_answered _ answered.answered (sym answered.refused ∙ none))
 
 said_is : (found : Option Refusal) (refusal : Refusal) (text : List ℕ) (said : Refusal → List ℕ) → found ≡ Some refusal
@@ -180,13 +194,14 @@ of_request : (r : Request) (old new : Narrowing) (file : List ℕ) (capture : De
     → IsRefused r file refusal new.text.items
 of_request r old new file capture e refusal same is_one found (inl fault) =
     absurd (false≢true (sym (file_never_declines VARIABLE_LIMIT LONG_FILE_LIMIT file capture.has_failed
-    capture.after e fault) ∙ is_one))
+    capture.after e fault.0) ∙ is_one))
 of_request r old new file capture e refusal same is_one found (inr (too_many_remain c at many is)) =
     absurd (false≢true (sym (ap is_declined is) ∙ is_one))
-of_request r old new file capture e refusal same is_one found (inr (declined c at answered is)) =
+of_request r old new file capture e refusal same is_one found (inr (declined c at few answered is)) =
     record {
       state = c;
       declared = (e.line, at);
+      few = few;
       decided = ap (λ (q : Request). decide q c.timescale (signals_of c)) (sym same)
           ∙ refusal_is _ refusal (sym found ∙ answered.refused);
       is = said_is new.refusal refusal new.text.items (said_of old.request (signals_of c)) found answered.said
@@ -206,7 +221,7 @@ not_read r old new capture e same refused failed large out untouched = choose ne
     as_fault : (is_declined e.fault ≡ false) ⊎ (new.refusal ≡ None) → NarrowEnds r capture out (Err (errors.Capture e))
     as_fault other = (
       untouched,
-      if_some capture.before _ _ (λ file. of_fault r old new file capture e other) refused,
+      if_some capture.before _ _ (λ file. of_fault r old new file capture e same other) refused,
       failed,
       large,
     )

@@ -3,13 +3,13 @@ use Rattle.std.proofs.Common.{◌≡◌, ◌⊎◌, inl, inr, ℕ, zero, suc, �
 use Rattle.std.proofs.Common.{false, not, cond}
 use Rattle.std.proofs.Common.{List, [], ◌∷◌, ◌++◌, length, take, drop, get_or, Option, Some, None}
 use Rattle.std.proofs.Common.{IfSome, refl, sym}
-use Rattle.std.proofs.Common.{ap, ◌∙◌, arith, append_assoc, length-append}
+use Rattle.std.proofs.Common.{ap, ◌∙◌, subst, arith, append_assoc, length-append}
 use Rattle.std.specs.Prelude.{◌^◌, IsTrue, IsFalse}
 use Rattle.std.specs.List.{list_all}
 use Rattle.std.specs.Io.KnownBytes.{Consumes, Keeps, IsAtEnd}
 use Rattle.std.proofs.KnownBytes.{Consumes-trans}
 use Rattle.std.proofs.Math.Seq.{take-append-add, take-append_seam}
-use Rattle.std.proofs.lemmas.List.{append-nil, take-append-drop}
+use Rattle.std.proofs.lemmas.List.{append-nil, append_cancel_right, take_all, take-append-drop}
 use Rattle.std.proofs.lemmas.List.Sums.{count_by-le-length}
 use Rattle.std.proofs.lemmas.Bool.{cases_lt}
 use Rattle.vcd_core.specs.Word.{is_white_space}
@@ -37,6 +37,7 @@ use Rattle.vcd_text.specs.inside.reading.ReadBuffer.{ReadBufferView}
 use Rattle.std.proofs.lemmas.Grind.{common_steps}
 use Rattle.vcd_core.specs.Contents.{SignalContents}
 use Rattle.vcd_text.specs.Parts.{ChoiceAnswers, Answers, RefusesPart, too_many_remain, declined, IsPartRefusal}
+use Rattle.vcd_text.specs.Parts.{IsChosen}
 use Rattle.vcd_text.specs.inside.reading.Part.{Asked}
 use Rattle.vcd_text.specs.inside.reading.Choice.{HasTakenFrom, RefusesWords, RefusesFile, ShowsNone}
 use Rattle.vcd_text.proofs.reading.parser.AskedParts.{declares_further}
@@ -135,7 +136,8 @@ module _ (limit most : ℕ) (taken_by : Parser → List WordOnLine → Type 0) (
   pub now_refused : (takes : SignalContents → Bool) (answers : Answers) (e : ReadError)
       → RefusesWords limit takes answers (complete_words come.before ++ complete) e
       → RefusesWords limit takes answers (complete_words bytes) e
-  now_refused takes answers e refused = grind (arith, closed_now)
+  now_refused takes answers e refused =
+      subst (λ words. RefusesWords limit takes answers words e) (sym closed_now) refused
 
 -- ---- nothing has been read, or all has been
 
@@ -183,7 +185,10 @@ pub last_refused : (limit most : ℕ) (taken_by : Parser → List WordOnLine →
     → RefusesFile limit takes answers bytes e
 last_refused limit most taken_by takes answers p text bytes e taken is (inl none) = inl none
 last_refused limit most taken_by takes answers p text bytes e taken is (inr (inl shows)) =
-    inr (inl (word_shows (rw (all_words most taken_by p text bytes taken is) at shows)))
+    inr (inl (
+      word_shows (rw (all_words most taken_by p text bytes taken is) at shows.0),
+      rw (all_words most taken_by p text bytes taken is) at shows.1,
+    ))
 last_refused limit most taken_by takes answers p text bytes e taken is (inr (inr refused)) =
     inr (inr (rw (all_words most taken_by p text bytes taken is) at refused))
 
@@ -217,14 +222,32 @@ refuses_further : (limit : ℕ) (takes : SignalContents → Bool) (answers : Ans
     → all ≡ words ++ more → RefusesPart limit takes answers words e → RefusesPart limit takes answers all e
 refuses_further limit takes answers words more all e is (too_many_remain c has many fault) =
     too_many_remain c (declares_further limit words more all e.line c is has) many fault
-refuses_further limit takes answers words more all e is (declined c has none fault) =
-    declined c (declares_further limit words more all e.line c is has) none fault
+refuses_further limit takes answers words more all e is (declined c has few none fault) =
+    declined c (declares_further limit words more all e.line c is has) few none fault
 
-pub as_part : (limit most : ℕ) (takes : SignalContents → Bool) (answers : Answers) (coming left : Option (List ℕ))
-    (failed : Bool) (e : ReadError) → IfSome coming (λ file. IsRefusal limit most file failed left e)
+-- a fault is told of the bytes that came, of whose words the part was chosen
+as_part : (limit most : ℕ) (takes : SignalContents → Bool) (answers : Answers) (coming left : Option (List ℕ))
+    (failed : Bool) (bytes : List ℕ) (e : ReadError) → Consumes coming left bytes
+    → ((e.fault ≡ faults.NoMemory → ⊥) → IsChosen limit takes answers (complete_words (take most bytes)))
+    → IfSome coming (λ file. IsRefusal limit most file failed left e)
     → IfSome coming (λ file. IsPartRefusal limit most takes answers file failed left e)
-as_part limit most takes answers None left failed e refused = tt
-as_part limit most takes answers (Some file) left failed e refused = inl refused
+as_part limit most takes answers None left failed bytes e consumes chosen refused = tt
+as_part limit most takes answers (Some xs) None failed bytes e consumes chosen refused = absurd consumes
+as_part limit most takes answers (Some xs) (Some ys) failed bytes e consumes chosen refused = inl (
+  refused,
+  λ isnt came rest parts left_is.
+      let rests : ys ≡ rest = cc left_is in
+      let same : bytes ≡ came = append_cancel_right bytes came rest
+      (ap (λ zs. bytes ++ zs) (sym rests) ∙ sym consumes ∙ parts) in
+      subst (λ zs. IsChosen limit takes answers (complete_words (take most zs))) same (chosen isnt),
+)
+
+-- all bytes that came are within the limit
+chosen_within : (limit most : ℕ) (takes : SignalContents → Bool) (answers : Answers) (bytes : List ℕ)
+    → length bytes ≤ most → IsChosen limit takes answers (complete_words bytes)
+    → IsChosen limit takes answers (complete_words (take most bytes))
+chosen_within limit most takes answers bytes within chosen =
+    subst (λ zs. IsChosen limit takes answers (complete_words zs)) (sym (take_all most bytes within)) chosen
 
 -- a complete word is refused
 pub refused_early : (limit most : ℕ) (takes : SignalContents → Bool) (answers : Answers) (coming left : Option (List ℕ))
@@ -232,9 +255,13 @@ pub refused_early : (limit most : ℕ) (takes : SignalContents → Bool) (answer
     → RefusesWords limit takes answers (complete_words bytes) e
     → IfSome coming (λ file. IsPartRefusal limit most takes answers file failed left e)
 refused_early limit most takes answers coming left failed bytes e ready consumes within (inl none) =
-    grind (arith, as_part, shown_early)
-refused_early limit most takes answers coming left failed bytes e ready consumes within (inr (inl shows)) =
-    grind (arith, as_part, shown_early)
+    as_part limit most takes answers coming left failed bytes e consumes
+    (λ isnt. absurd (isnt (ap (λ (e : ReadError). e.fault) none)))
+    (shown_early limit most coming left failed bytes e ready consumes within (inl none))
+refused_early limit most takes answers coming left failed bytes e ready consumes within (inr (inl (shows, chosen))) =
+    as_part limit most takes answers coming left failed bytes e consumes
+    (λ isnt. chosen_within limit most takes answers bytes within chosen)
+    (shown_early limit most coming left failed bytes e ready consumes within (inr shows))
 refused_early limit most takes answers None left failed bytes e ready consumes within (inr (inr refused)) = tt
 refused_early limit most takes answers (Some xs) None failed bytes e ready consumes within (inr (inr refused)) =
     absurd consumes
@@ -243,14 +270,22 @@ refused_early limit most takes answers (Some xs) (Some ys) failed bytes e ready 
     inr (refuses_further _ _ _ _ prefix.0 _ _ (ap words_of consumes ∙ prefix.1) refused)
 
 -- the file has more bytes than the limit
-pub full : (limit most : ℕ) (taken_by : Parser → List WordOnLine → Type 0) (coming middle left : Option (List ℕ))
+pub full : (limit most : ℕ) (taken_by : Parser → List WordOnLine → Type 0) (takes : SignalContents → Bool)
+    (answers : Answers) (coming middle left : Option (List ℕ))
     (failed : Bool) (p : FileReader) (bytes chunk : List ℕ) (e : ReadError) → IsFalse failed
     → Consumes coming middle bytes → Consumes middle left chunk → 0 < length chunk → p.bytes_left ≡ 0
     → HasReadBytes most taken_by p bytes → ShowsNone limit (complete_words bytes)
+    → IsChosen limit takes answers (complete_words bytes)
     → e ≡ record { line = p.line_feeds + 1; fault = faults.TooLarge }
-    → IfSome coming (λ file. IsRefusal limit most file failed left e)
-full limit most taken_by coming middle left failed p bytes chunk e ready first second some none taken silent is =
-    larger _ _ _ _ _ _ _ ready (over coming left (Consumes-trans _ _ _ _ _ first second)) (grind arith)
+    → IfSome coming (λ file. IsPartRefusal limit most takes answers file failed left e)
+full limit most taken_by takes answers coming middle left failed p bytes chunk e ready first second some none taken
+    silent chosen is =
+    let both = Consumes-trans coming middle left bytes chunk first second in
+    let first_ones : take most (bytes ++ chunk) ≡ bytes =
+    all_prefix most bytes chunk (omega (arith, taken.size, none)) in
+    as_part limit most takes answers coming left failed (bytes ++ chunk) e both
+    (λ isnt. subst (λ zs. IsChosen limit takes answers (complete_words zs)) (sym first_ones) chosen)
+    (larger limit most coming left failed bytes e ready (over coming left both) (grind arith))
   where
     over : (coming left : Option (List ℕ)) → Consumes coming left (bytes ++ chunk)
         → IfSome coming (λ xs. (most < length xs) × (bytes ≡ take most xs))
@@ -270,14 +305,24 @@ full limit most taken_by coming middle left failed p bytes chunk e ready first s
           ∙ all_prefix most bytes (chunk ++ ys) (omega (arith, taken.size, none))),
     )
 
+still_comes : (coming middle left : Option (List ℕ)) (bytes : List ℕ) → Consumes coming middle bytes
+    → Keeps middle left → Consumes coming left bytes
+still_comes coming middle left bytes came keeps = grind arith
+
 -- the reader failed
-pub broken : (limit most : ℕ) (taken_by : Parser → List WordOnLine → Type 0) (coming middle left : Option (List ℕ))
+pub broken : (limit most : ℕ) (taken_by : Parser → List WordOnLine → Type 0) (takes : SignalContents → Bool)
+    (answers : Answers) (coming middle left : Option (List ℕ))
     (failed : Bool) (p : FileReader) (bytes : List ℕ) (e : ReadError) → IsTrue failed → Consumes coming middle bytes
     → Keeps middle left → HasReadBytes most taken_by p bytes → ShowsNone limit (complete_words bytes)
+    → IsChosen limit takes answers (complete_words bytes)
     → e ≡ record { line = p.line_feeds + 1; fault = faults.ReadFault }
-    → IfSome coming (λ file. IsRefusal limit most file failed left e)
-broken limit most taken_by coming middle left failed p bytes e has consumes keeps taken silent is =
-    grind (arith, failing)
+    → IfSome coming (λ file. IsPartRefusal limit most takes answers file failed left e)
+broken limit most taken_by takes answers coming middle left failed p bytes e has consumes keeps taken silent chosen is =
+    let came = still_comes coming middle left bytes consumes keeps in
+    let within : length bytes ≤ most = omega (arith, taken.size) in
+    as_part limit most takes answers coming left failed bytes e came
+    (λ isnt. chosen_within limit most takes answers bytes within chosen)
+    (failing limit most coming left failed bytes e has came within (grind arith))
 
 -- the whole file came
 pub at_end : (limit most : ℕ) (takes : SignalContents → Bool) (answers : Answers) (coming left : Option (List ℕ))
@@ -286,9 +331,17 @@ pub at_end : (limit most : ℕ) (takes : SignalContents → Bool) (answers : Ans
     → IfSome coming (λ file. IsPartRefusal limit most takes answers file failed left e)
 at_end limit most takes answers None left failed bytes e ready consumes ends within answer = tt
 at_end limit most takes answers (Some xs) None failed bytes e ready consumes ends within answer = absurd consumes
-at_end limit most takes answers (Some xs) (Some ys) failed bytes e ready consumes ends within (inl none) = grind arith
-at_end limit most takes answers (Some xs) (Some ys) failed bytes e ready consumes ends within (inr (inl fault)) =
-    grind (arith, append-nil, file_fault)
+at_end limit most takes answers (Some xs) (Some ys) failed bytes e ready consumes ends within (inl none) =
+    as_part limit most takes answers (Some xs) (Some ys) failed bytes e consumes
+    (λ isnt. absurd (isnt (ap (λ (e : ReadError). e.fault) none))) (no_memory none)
+at_end limit most takes answers (Some xs) (Some ys) failed bytes e ready consumes ends within
+    (inr (inl (fault, chosen))) =
+    let complete = complete_in_file bytes [] in
+    as_part limit most takes answers (Some xs) (Some ys) failed bytes e consumes
+    (λ isnt. chosen_within limit most takes answers bytes within
+    (λ line s has. chosen line s (declares_further limit (complete_words bytes) complete.0 (words_of bytes) line s
+    (ap words_of (sym (append-nil bytes)) ∙ complete.1) has)))
+    (grind (arith, append-nil, file_fault))
 at_end limit most takes answers (Some xs) (Some ys) failed bytes e ready consumes ends within (inr (inr refused)) =
     let all : bytes ≡ xs = sym (consumes ∙ ap (λ ys. bytes ++ ys) ends ∙ append-nil bytes) in
     inr (rw all at refused)

@@ -10,14 +10,12 @@ use Rattle.vcd_text.specs.declared.fault.ReadError.{ReadError}
 use Rattle.vcd_text.specs.Words.{WordOnLine, word_on}
 use Rattle.vcd_text.specs.Items.{Item, end_definitions}
 use Rattle.vcd_text.specs.Items.{spelling, end_word}
-use Rattle.vcd_text.specs.Grammar.{ParseState, VariableDeclaration, ValueChange, state_after_item}
+use Rattle.vcd_text.specs.Grammar.{ParseState, state_after_item}
 use Rattle.vcd_text.specs.Grammar.{Allows}
 use Rattle.vcd_text.proofs.shared.ItemTests.{allows_end_definitions}
 use Rattle.vcd_text.specs.Grammar.{kept_variables, word_texts}
-use Rattle.vcd_text.specs.Meaning.{declared_signal}
 use Rattle.vcd_text.specs.Parts.{ChoiceAnswers, Answers, HasDeclarations, too_many_remain, declined}
-use Rattle.vcd_text.specs.Parts.{signals_of, answers_of}
-use Rattle.vcd_text.specs.Parts.{without_changes}
+use Rattle.vcd_text.specs.Parts.{signals_of, answers_of, IsChosen}
 use Rattle.vcd_text.specs.inside.reading.OpenItems.{is_end_definitions}
 use Rattle.vcd_text.specs.inside.reading.Part.{Asked, undriven}
 use Rattle.vcd_text.specs.inside.reading.Parser.{HasTakenWords, IsAtState, IsBegun, WordStep, goes_on, ends_item}
@@ -30,6 +28,7 @@ use Rattle.vcd_text.specs.declared.reading.parser.Parser.{Parser}
 use Rattle.vcd_text.specs.declared.reading.parser.OpenItem.{OpenItem}
 use Rattle.vcd_text.proofs.shared.ItemsInTurn.{reaches_both, reaches_one}
 use Rattle.vcd_text.proofs.shared.ResultExists.{spelled_more}
+use Rattle.vcd_text.proofs.reading.parser.ChosenParts.{chosen, taken_declared, undriven_signals}
 use Rattle.vcd_text.proofs.reading.parser.NextWord.{words_taken}
 use Rattle.vcd_text.proofs.reading.parser.NoWordLeft.{no_fault}
 
@@ -39,12 +38,6 @@ use Rattle.vcd_text.proofs.reading.parser.NoWordLeft.{no_fault}
 pub declares_further : (limit : ℕ) (words more all : List WordOnLine) (line : ℕ) (c : ParseState) → all ≡ words ++ more
     → HasDeclarations limit words line c → HasDeclarations limit all line c
 declares_further limit words more all line c is has = grind (arith, append_assoc)
-
--- the signals of variables as they are declared
-pub undriven_signals : (changes : List ValueChange) (end : ℕ) (ds : List VariableDeclaration)
-    → map without_changes (map (declared_signal changes end) ds) ≡ map undriven ds
-undriven_signals changes end [] = refl
-undriven_signals changes end (d ∷ ds) = ap (λ ss. undriven d ∷ ss) (undriven_signals changes end ds)
 
 -- ---- a word that does not end the declarations
 
@@ -106,7 +99,11 @@ module _ (limit : ℕ) {C : Type 0} (takes : C → SignalContents → Bool)
   word_result new w (Ok x) taken same = search (arith, taken_further)
   word_result new w (Err e) taken same = λ more. elim (taken limit r.asked words more r.taken_words) [
     | inl memory ↦ inl memory
-    | inr shows ↦ inr (inl shows)
+    | inr shows ↦ inr (inl (
+      shows.0,
+      chosen limit r.asked old r.taken_words.state (words ++ w ∷ more) (takes first)
+          (answers_of answers first old_choice) r.taken_words.at.0 r.answered shows.1,
+    ))
   ]
 
   -- the word that ends them
@@ -130,6 +127,14 @@ pub silent_words : (limit : ℕ) {C : Type 0} (takes : C → SignalContents → 
     (first now : C) (m : Parser) (words : List WordOnLine) → HasTakenFrom limit takes answers first now m words
     → ShowsNone limit words
 silent_words limit takes answers first now m words r = no_fault limit r.asked m words r.taken_words
+
+-- and the part was chosen if they begin with whole declarations
+pub chosen_words : (limit : ℕ) {C : Type 0} (takes : C → SignalContents → Bool) (answers : ChoiceAnswers C)
+    (first now : C) (m : Parser) (words : List WordOnLine) → HasTakenFrom limit takes answers first now m words
+    → IsChosen limit (takes first) (answers_of answers first now) words
+chosen_words limit takes answers first now m words r =
+    chosen limit r.asked m r.taken_words.state words (takes first) (answers_of answers first now) r.taken_words.at.0
+    r.answered (taken_declared limit r.asked m words r.taken_words)
 
 -- ---- a part that is refused
 
@@ -168,11 +173,12 @@ part_refused limit asked m words more line takes answers fault r early is (inr (
     = grind (arith, undriven_signals) in
     rw many (inr (inr (too_many_remain (state_after_item r.state end_definitions)
     (declares limit asked m words more line r early is) (rw signals long) refl)))
-part_refused limit asked m words more line takes answers fault r early is (inr (inr (none, answer))) =
+part_refused limit asked m words more line takes answers fault r early is (inr (inr (none, few, answer))) =
     let signals : signals_of (state_after_item r.state end_definitions) ≡ map undriven (kept_variables r.state.declared)
     = grind (arith, undriven_signals) in
     rw none (inr (inr (declined (state_after_item r.state end_definitions)
-    (declares limit asked m words more line r early is) (rw signals (rw r.at.0.timescale at answer)) refl)))
+    (declares limit asked m words more line r early is) (rw signals few)
+    (rw signals (rw r.at.0.timescale at answer)) refl)))
 
 pub refused_part : (limit : ℕ) {C : Type 0} (takes : C → SignalContents → Bool)
     (answers : ChoiceAnswers C) (first old_choice now : C)

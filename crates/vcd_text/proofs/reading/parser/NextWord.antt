@@ -15,13 +15,14 @@ use Rattle.vcd_text.proofs.shared.ResultIsUnique.{passed_over}
 use Rattle.vcd_text.specs.Faults.{ShowsFault, fault_line}
 use Rattle.vcd_text.specs.inside.reading.OpenItems.{item_fault_line}
 use Rattle.vcd_text.specs.inside.reading.Parser.{HasTakenWords, WordStep, goes_on, ends_item}
-use Rattle.vcd_text.specs.inside.reading.Parser.{ParserMatches, IsBegun}
+use Rattle.vcd_text.specs.inside.reading.Parser.{ParserMatches, IsBegun, HasDeclared}
 use Rattle.vcd_text.specs.inside.reading.Parser.{error_at}
 use Rattle.vcd_text.specs.MemoryErrors.{memory_error}
 use Rattle.vcd_text.specs.declared.fault.Fault.TheVariants.{NoMemory}
 use Rattle.vcd_text.specs.declared.reading.parser.OpenItem.{OpenItem}
 use Rattle.vcd_text.specs.declared.reading.parser.OpenItem.TheVariants as items
 use Rattle.vcd_text.specs.declared.reading.parser.Parser.{Parser}
+use Rattle.vcd_text.proofs.reading.parser.ChosenParts.{shown_declared}
 use Rattle.vcd_text.proofs.shared.ItemsInTurn.{reaches_both, reaches_one, shown_by}
 use Rattle.vcd_text.proofs.shared.ResultExists.{spelled_more}
 use Rattle.vcd_text.specs.inside.reading.Part.{Asked}
@@ -47,11 +48,11 @@ words_taken limit asked later old new words_so_far words r (ends_item i spelled 
     }
 
 -- a fault with its line is shown; out of memory has none
-error_shown : (limit : ℕ) (words : List WordOnLine) (line : ℕ) (fault : Fault) → (fault ≡ NoMemory)
-    ⊎ ShowsFault limit words line fault
-    → (error_at line fault ≡ memory_error) ⊎ ShowsFault limit words (error_at line fault).line
-    (error_at line fault).fault
-error_shown limit words line fault refused = grind arith
+error_shown : (limit : ℕ) (words : List WordOnLine) (line : ℕ) (fault : Fault) (P : Type 0) → (fault ≡ NoMemory)
+    ⊎ (ShowsFault limit words line fault × P)
+    → (error_at line fault ≡ memory_error) ⊎ (ShowsFault limit words (error_at line fault).line
+    (error_at line fault).fault × P)
+error_shown limit words line fault P refused = grind arith
 
 -- ---- lines
 
@@ -81,13 +82,17 @@ pub one_shown : (limit : ℕ) (asked : Asked) (old : Parser) (words_so_far more 
     (r : HasTakenWords limit asked old words_so_far) (fault : Fault)
     → (fault ≡ NoMemory) ⊎ WordShows r.state (word_texts r.begun) w.text fault
     → (let e : ReadError = error_at (item_fault_line old.item old.line w.line) fault in
-    (e ≡ memory_error) ⊎ ShowsFault limit (words_so_far ++ w ∷ more) e.line e.fault)
+    (e ≡ memory_error) ⊎ (ShowsFault limit (words_so_far ++ w ∷ more) e.line e.fault
+    × HasDeclared limit (words_so_far ++ w ∷ more) r.state))
 one_shown limit asked old words_so_far more w r fault refused =
     let words : List WordOnLine = words_so_far ++ w ∷ more in
     let parts : words ≡ r.whole ++ (r.begun ++ w ∷ more) = ap (λ ws. ws ++ w ∷ more) r.parts
     ∙ append_assoc r.whole r.begun (w ∷ more) in
-    error_shown _ _ _ _ (elim refused [
+    error_shown _ _ _ _ (HasDeclared limit words r.state) (elim refused [
       | inl memory ↦ inl memory
-      | inr row ↦ inr (shown_by _ _ _ _ _ _ _ _ _ _ (record { allowed = r.allowed; state_is = r.state_is }) parts
-          r.spelled row (line_shown _ _ _ _ _ _ _ r.at.0 r.at.1 row))
+      | inr row ↦ inr (
+        shown_by _ _ _ _ _ _ _ _ _ _ (record { allowed = r.allowed; state_is = r.state_is }) parts
+            r.spelled row (line_shown _ _ _ _ _ _ _ r.at.0 r.at.1 row),
+        shown_declared limit asked old words_so_far more w fault r row,
+      )
     ])

@@ -40,7 +40,7 @@ module _ (asked : Asked) (m : Parser) (c : ParseState) (begun : List WordOnLine)
   awaiting letters text agrees is due = grind arith
 
   -- a word must follow words that are no whole file
-  unfinished : (item : OpenItem) → ParserMatches asked m c → IsBegun m begun item
+  pub unfinished : (item : OpenItem) → ParserMatches asked m c → IsBegun m begun item
       → IsFalse (m.in_body && is_nothing item) → IsUnfinished c (word_texts begun)
   unfinished items.Nothing agrees none no_end = rw none (declaration_due c (grind arith))
   unfinished (items.Entry kind) agrees is no_end = collecting (header_word kind) agrees is (grind arith)
@@ -58,8 +58,8 @@ module _ (asked : Asked) (m : Parser) (c : ParseState) (begun : List WordOnLine)
   unfinished items.Vector agrees is no_end = search (arith, awaiting, vector_due)
   unfinished items.RealOrString agrees (text, is) no_end = search (arith, awaiting, real_or_string_due)
 
-texts_are : (limit : ℕ) (asked : Asked) (m : Parser) (words : List WordOnLine) (r : HasTakenWords limit asked m words)
-    → word_texts words ≡ spellings r.items ++ word_texts r.begun
+pub texts_are : (limit : ℕ) (asked : Asked) (m : Parser) (words : List WordOnLine)
+    (r : HasTakenWords limit asked m words) → word_texts words ≡ spellings r.items ++ word_texts r.begun
 texts_are limit asked m words r = grind (arith, map-append)
 
 -- words that are no whole file end too early

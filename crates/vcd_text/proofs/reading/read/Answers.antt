@@ -1,4 +1,4 @@
-use Rattle.std.proofs.Common.{◌≡◌, ◌≤◌, length, IfSome}
+use Rattle.std.proofs.Common.{◌≡◌, ◌≤◌, length, Some, None, IfSome}
 use Rattle.std.proofs.lemmas.Option.{same_Some}
 use Rattle.std.proofs.lemmas.Result.{IfOk-weaker, IfErr-weaker}
 use Rattle.vcd_core.specs.CaptureContents.{contents}
@@ -12,6 +12,9 @@ use Rattle.vcd_text.specs.inside.reading.Part.{all_ticks}
 use Rattle.vcd_text.proofs.part.WholeParts.{whole_means_of_read, whole_extent_of_read}
 use Rattle.vcd_text.proofs.part.WholeParts.{no_part_refusal_of_read}
 use Rattle.vcd_text.proofs.reading.read.Goals as goal
+
+no_ticks : None ≡ Some all_ticks → ⊥
+no_ticks answer = absurd (cc answer)
 
 pub returns-clause-means : goal.returns-clause-means
 returns-clause-means g c =
@@ -36,4 +39,5 @@ returns-clause-refused g c =
     let failed = g.R.Source.has_failed c.read_within.new.reader in
     IfErr-weaker c.read_within.result _ (λ (e : ReadError). IfSome coming
     (λ file. IsRefusal SIGNAL_LIMIT FILE_LIMIT file failed left e))
-    (λ e. no_part_refusal_of_read _ coming failed left e (λ t ss answer. absurd (cc))) c.read_within.ensures.refused
+    (λ e. no_part_refusal_of_read (λ t ss answer. answer ≡ Some all_ticks) coming failed left e
+    (λ t ss answer. no_ticks answer)) c.read_within.ensures.refused

@@ -12,7 +12,7 @@ use Rattle.vcd_text.specs.declared.fault.ReadError.{ReadError}
 use Rattle.vcd_text.specs.Words.{WordOnLine, words_of}
 use Rattle.vcd_text.specs.Faults.{ShowsFault}
 use Rattle.vcd_text.specs.FoundFaults.{IsFoundFault}
-use Rattle.vcd_text.specs.Parts.{ChoiceAnswers, Answers, answers_of, RefusesPart}
+use Rattle.vcd_text.specs.Parts.{ChoiceAnswers, Answers, answers_of, IsChosen, RefusesPart}
 use Rattle.vcd_text.specs.MemoryErrors.{memory_error}
 use Rattle.vcd_text.specs.inside.reading.Parser.{HasTakenWords}
 use Rattle.vcd_text.specs.inside.reading.Part.{Asked}
@@ -35,7 +35,8 @@ abbrev pub RefusesSignals : (takes : SignalContents → Bool) → Answers → Op
     → List SignalContents → Fault → Type 0
 RefusesSignals takes answers timescale signals fault = (fault ≡ faults.NoMemory)
     ⊎ ((fault ≡ faults.TooManyRemain) × (SIGNAL_LIMIT < length (filter takes signals)))
-    ⊎ ((fault ≡ faults.Declined) × answers timescale signals None)
+    ⊎ ((fault ≡ faults.Declined) × (length (filter takes signals) ≤ SIGNAL_LIMIT)
+    × answers timescale signals None)
 
 -- the answers of a choice to what was asked
 pub record IsAnswered (takes : SignalContents → Bool) (answers : Answers) (asked : Asked)
@@ -60,17 +61,18 @@ CanTake limit takes answers first now m words = (words_so_far : List WordOnLine)
     × HasTakenFrom limit takes answers first now m words_so_far
     × (length words_so_far + length words < 2 ^ 63)
 
--- why words are not taken
+-- why words are not taken: a word shows a fault after the part was chosen, or before the end of the
+-- declarations
 abbrev pub RefusesWords : ℕ → (takes : SignalContents → Bool) → Answers → List WordOnLine
     → ReadError → Type 0
 RefusesWords limit takes answers words e = (e ≡ memory_error)
-    ⊎ ShowsFault limit words e.line e.fault
+    ⊎ (ShowsFault limit words e.line e.fault × IsChosen limit takes answers words)
     ⊎ RefusesPart limit takes answers words e
 
 -- why a file is not read
 abbrev pub RefusesFile : ℕ → (takes : SignalContents → Bool) → Answers → List ℕ → ReadError → Type 0
 RefusesFile limit takes answers bytes e = (e ≡ memory_error)
-    ⊎ IsFoundFault limit bytes e.line e.fault
+    ⊎ (IsFoundFault limit bytes e.line e.fault × IsChosen limit takes answers (words_of bytes))
     ⊎ RefusesPart limit takes answers (words_of bytes) e
 
 -- no word shows a fault

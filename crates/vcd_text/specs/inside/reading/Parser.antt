@@ -8,7 +8,7 @@ use Rattle.vcd_text.specs.declared.fault.Fault.TheVariants.{NoMemory}
 use Rattle.vcd_text.specs.declared.fault.ReadError.{ReadError}
 use Rattle.vcd_core.specs.Contents.{Contents}
 use Rattle.vcd_text.specs.Words.{WordOnLine, words_of, word_on}
-use Rattle.vcd_text.specs.Parts.{without_changes}
+use Rattle.vcd_text.specs.Parts.{without_changes, HasDeclarations}
 use Rattle.vcd_text.specs.Meaning.{FileMeans}
 use Rattle.vcd_core.specs.CaptureContents.{contents}
 use Rattle.vcd_text.specs.declared.reading.Loaded.{Loaded}
@@ -161,16 +161,22 @@ abbrev pub error_at : ℕ → Fault → ReadError
 error_at line fault = if is_no_memory fault then memory_error
     else record { line = line; fault = fault }
 
+-- if the words begin with whole declarations, this state is among the changes after them
+abbrev pub HasDeclared : (limit : ℕ) → List WordOnLine → ParseState → Type 0
+HasDeclared limit words c = (line : ℕ) (s : ParseState) → HasDeclarations limit words line s
+    → IsTrue c.in_body × (c.timescale ≡ s.timescale) × (c.declared ≡ s.declared)
+
 -- these further words have been taken, or one of them shows a fault whatever follows, or memory has
--- run out
+-- run out. Whatever follows, the declarations do not end at the word with the fault
 abbrev pub WordsResult : Parser → List WordOnLine → Result (Unit {0}) ReadError → Parser → Type 0
 WordsResult old words (Ok x) new = (limit : ℕ) (asked : Asked) (words_so_far : List WordOnLine)
     → HasTakenWords limit asked old words_so_far
     → HasTakenWords limit asked new (words_so_far ++ words)
 WordsResult old words (Err e) new =
     (limit : ℕ) (asked : Asked) (words_so_far more : List WordOnLine)
-    → HasTakenWords limit asked old words_so_far
-    → (e ≡ memory_error) ⊎ ShowsFault limit (words_so_far ++ (words ++ more)) e.line e.fault
+    → (r : HasTakenWords limit asked old words_so_far)
+    → (e ≡ memory_error) ⊎ (ShowsFault limit (words_so_far ++ (words ++ more)) e.line e.fault
+    × HasDeclared limit (words_so_far ++ (words ++ more)) r.state)
 
 -- nothing is open, and `$enddefinitions $end` has come
 abbrev pub is_complete : Parser → Bool

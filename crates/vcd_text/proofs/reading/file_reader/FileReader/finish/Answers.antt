@@ -8,6 +8,7 @@ use Rattle.vcd_text.specs.Parts.{answers_of}
 use Rattle.vcd_text.specs.inside.reading.Choice.{HasTakenFrom}
 use Rattle.vcd_text.specs.inside.reading.Part.{seen_state}
 use Rattle.vcd_text.proofs.reading.file_reader.Chunks.{last_taken, last_refused}
+use Rattle.vcd_text.proofs.reading.parser.AskedParts.{chosen_words}
 use Rattle.vcd_text.proofs.reading.parser.NoWordLeft.{stops}
 use Rattle.vcd_text.proofs.part.WholeParts.{part_is_meant, meant_is_sound}
 use Rattle.vcd_text.proofs.words.WordsInTurn.{words_are_few}
@@ -37,8 +38,11 @@ returns-in_err-check_complete-clause-fault g c =
     rw (err_is _ c.from_residual-in_err-check_complete.ensures.1) (λ limit most first bytes taken.
     let reads = last_taken _ _ (HasTakenFrom limit g.C.Choice.takes g.C.Choice.answers first choice) p m _ _ taken
     c.as_slice.ensures (c.in_ok-read_words.ensures.words limit first (complete_words bytes) taken.taken_words) in
-    inr (inl (too_early (stops limit reads.asked m _ reads.taken_words open_still)
-    (ap (λ (e : ReadError). e.line) truncated ∙ sym taken.lines) (ap (λ (e : ReadError). e.fault) truncated))))
+    inr (inl (
+      too_early (stops limit reads.asked m _ reads.taken_words open_still)
+          (ap (λ (e : ReadError). e.line) truncated ∙ sym taken.lines) (ap (λ (e : ReadError). e.fault) truncated),
+      chosen_words _ _ _ _ _ _ _ reads,
+    )))
 
 pub into_loaded-requires-clause-known : goal.into_loaded-requires-clause-known
 into_loaded-requires-clause-known g c =

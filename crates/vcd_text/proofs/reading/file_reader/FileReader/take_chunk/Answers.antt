@@ -4,8 +4,8 @@ use Rattle.std.proofs.KnownBytes.{Consumes-trans}
 use Rattle.std.proofs.lemmas.List.{length-append}
 use Rattle.vcd_text.specs.Parts.{answers_of}
 use Rattle.vcd_text.specs.inside.reading.Choice.{HasTakenFrom}
-use Rattle.vcd_text.proofs.reading.parser.AskedParts.{silent_words}
-use Rattle.vcd_text.proofs.reading.file_reader.Chunks.{has_come, as_part, refused_early, is_no_failure, full, broken}
+use Rattle.vcd_text.proofs.reading.parser.AskedParts.{chosen_words, silent_words}
+use Rattle.vcd_text.proofs.reading.file_reader.Chunks.{has_come, refused_early, is_no_failure, full, broken}
 use Rattle.vcd_text.proofs.reading.file_reader.FileReader.take_chunk.Goals as goal
 use Rattle.vcd_text.proofs.shared.FailedResults.{err_is}
 
@@ -14,11 +14,11 @@ returns-in_default-clause-refused g c = λ limit most first coming stands.
     let p = c.args.self.now in
     let source = c.read_from.new.source in
     let (bytes, came, taken) = stands in
-    as_part limit most (g.C.Choice.takes first) (answers_of g.C.Choice.answers first c.args.choice.now) coming
-    (g.R.Source.coming source) (g.R.Source.has_failed source) c.at.result (broken limit most (HasTakenFrom limit
-    g.C.Choice.takes g.C.Choice.answers first c.args.choice.now) coming (g.R.Source.coming c.args.source.now)
-    (g.R.Source.coming source) (g.R.Source.has_failed source) p bytes c.at.result c.in_default.ensures.failed came
-    c.in_default.ensures.coming taken (silent_words _ _ _ _ _ _ _ taken.taken_words) c.at.ensures)
+    broken limit most (HasTakenFrom limit g.C.Choice.takes g.C.Choice.answers first c.args.choice.now)
+    (g.C.Choice.takes first) (answers_of g.C.Choice.answers first c.args.choice.now) coming
+    (g.R.Source.coming c.args.source.now) (g.R.Source.coming source) (g.R.Source.has_failed source) p bytes c.at.result
+    c.in_default.ensures.failed came c.in_default.ensures.coming taken (silent_words _ _ _ _ _ _ _ taken.taken_words)
+    (chosen_words _ _ _ _ _ _ _ taken.taken_words) c.at.ensures
 
 pub returns-then-count-self-clause-refused : goal.returns-then-count-self-clause-refused
 returns-then-count-self-clause-refused g c = λ limit most first coming stands.
@@ -26,12 +26,12 @@ returns-then-count-self-clause-refused g c = λ limit most first coming stands.
     let source = c.read_from.new.source in
     let (bytes, came, taken) = stands in
     let (chunk, second, text, count) = c.in-Ok.ensures.more in
-    as_part limit most (g.C.Choice.takes first) (answers_of g.C.Choice.answers first c.args.choice.now) coming
-    (g.R.Source.coming source) (g.R.Source.has_failed source) c.at-then-count-self.result (full limit most (HasTakenFrom
-    limit g.C.Choice.takes g.C.Choice.answers first c.args.choice.now) coming (g.R.Source.coming c.args.source.now)
-    (g.R.Source.coming source) (g.R.Source.has_failed source) p bytes chunk c.at-then-count-self.result
-    c.in-Ok.ensures.not_failed came second (omega (arith, count, c.if-count-self.true)) (c.in-Ok.ensures.within
-    c.if-count-self.true) taken (silent_words _ _ _ _ _ _ _ taken.taken_words) c.at-then-count-self.ensures)
+    full limit most (HasTakenFrom limit g.C.Choice.takes g.C.Choice.answers first c.args.choice.now)
+    (g.C.Choice.takes first) (answers_of g.C.Choice.answers first c.args.choice.now) coming
+    (g.R.Source.coming c.args.source.now) (g.R.Source.coming source) (g.R.Source.has_failed source) p bytes chunk
+    c.at-then-count-self.result c.in-Ok.ensures.not_failed came second (omega (arith, count, c.if-count-self.true))
+    (c.in-Ok.ensures.within c.if-count-self.true) taken (silent_words _ _ _ _ _ _ _ taken.taken_words)
+    (chosen_words _ _ _ _ _ _ _ taken.taken_words) c.at-then-count-self.ensures
 
 pub take_words-requires : goal.take_words-requires
 take_words-requires g c =
