@@ -73,18 +73,9 @@ duration() { # SECONDS
     echo "$(($1 / 60)) min $(($1 % 60)) s"
 }
 
-# How far the prover is, by its log: of each crate that it works on, how many functions are checked of all.
+# How far the prover is in the crate that it works on, by its log.
 progress() { # LOG
-    local crate line shown=""
-    local -A checked=()
-    while IFS=: read -r crate line; do
-        case "$line" in
-            " so far: "*) checked[$crate]=${line#" so far: "} ;;
-            *) unset "checked[$crate]" ;;
-        esac
-    done < <(grep -aE '^[a-z_]+: (so far: |logic=)' "$1" 2>/dev/null)
-    for crate in "${!checked[@]}"; do
-        shown+=", $crate ${checked[$crate]%% functions*}"
-    done
-    echo "${shown/#,/:}"
+    local line
+    line=$(grep -a '^so far: ' "$1" 2>/dev/null | tail -n 1)
+    echo "${line:+, ${line%%;*}}"
 }
