@@ -5,3 +5,6 @@ pub mod Lists
 pub mod SignalCounts
 pub mod TouchedBySplice
 pub mod StoredAtMostTouched
+pub mod Outlines
+pub mod OtherWaves
+pub mod SoundWithOthers

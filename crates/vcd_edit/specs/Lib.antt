@@ -12,4 +12,5 @@ pub mod AppliedRecords
 pub mod EffectLaws
 pub mod Touched
 pub mod TouchedByEdit
+pub mod OtherWaves
 pub mod inside

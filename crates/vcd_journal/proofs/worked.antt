@@ -1,2 +1,3 @@
 -- Lemmas: worked.
 pub mod History
+pub mod OtherWaves

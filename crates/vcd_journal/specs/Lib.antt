@@ -5,4 +5,5 @@ pub mod Machine
 pub mod HistoryMachine
 pub mod Laws
 pub mod ReachedCaptures
+pub mod OtherWaves
 pub mod inside

@@ -1,6 +1,11 @@
 //! Laws about the definitions: each function has an empty body, and its contract is the law.
 
 ghost use Rattle.vcd_journal.specs.Laws.{HistoryIsBounded, SessionIsReplay};
+ghost use Rattle.vcd_journal.specs.OtherWaves.{OriginsRise, OriginIsInList, SignalsComeFromOrigins};
+ghost use Rattle.vcd_journal.specs.OtherWaves.{ReplayWithOthers, ReplayKeepsOutlines};
+ghost use Rattle.vcd_journal.specs.OtherWaves.{StepsAreOfOutline, ReplayOnHollow};
+ghost use Rattle.vcd_journal.specs.OtherWaves.{MachineOnHollow, SilentStayAsTheyWere};
+ghost use Rattle.vcd_journal.specs.OtherWaves.{SilentAreCutAlone, CutsKeepOrder, CutsAreOne};
 
 /// After any steps, accepted or refused, the capture is what the edits in force make of the first
 /// capture.
@@ -15,4 +20,40 @@ pub fn session_is_replay()
 /// After any steps, undo and redo together reach at most as many captures as the depth then allows.
 pub fn history_is_bounded()
     ensures { HistoryIsBounded }
+{}
+
+/// The signals of the first capture that are left stand first, in their order, and a derived one
+/// after all of them. What is left of a signal has its scopes, kind and width.
+pub fn signals_keep_their_places()
+    ensures rise { OriginsRise }
+    ensures one { OriginIsInList }
+    ensures places { SignalsComeFromOrigins }
+{}
+
+/// Edits that leave other waves alone make the same of a capture with them. So what they make of
+/// the waves that they read does not depend on the others.
+pub fn replays_leave_other_waves_alone()
+    ensures replay { ReplayWithOthers }
+    ensures outline { ReplayKeepsOutlines }
+{}
+
+/// Steps have the same answers on each capture of one outline, and the same edits are then in
+/// force.
+pub fn steps_are_of_outline()
+    ensures { StepsAreOfOutline }
+{}
+
+/// Edits that read no silent wave make of a capture that lacks these waves the same, without them.
+/// The whole capture is known from that, as cuts alone change the silent waves.
+pub fn replays_on_hollow_captures()
+    ensures replay { ReplayOnHollow }
+    ensures machine { MachineOnHollow }
+    ensures whole { SilentStayAsTheyWere }
+    ensures cut { SilentAreCutAlone }
+{}
+
+/// All cuts among edits together move ticks as one: in their order, each with its value.
+pub fn cuts_are_one()
+    ensures order { CutsKeepOrder }
+    ensures changes { CutsAreOne }
 {}

@@ -146,11 +146,11 @@ outcome_follows c h (steps.Depth depth) within =
 -- ---- every possible outcome of each step
 
 -- a step refused because memory ran out does not change the history
-refusal_counts_not : (h : History) (s : Step) → history_after_answer h s (memory_refusal s) ≡ h
+pub refusal_counts_not : (h : History) (s : Step) → history_after_answer h s (memory_refusal s) ≡ h
 refusal_counts_not h (steps.Edit e) = refl
 refusal_counts_not h s = refl
 
-step_follows : (c : Contents) (h : History) (m : Machine) (s : Step) (a : Answer) (n : Machine) → IsMachineOf c h m
+pub step_follows : (c : Contents) (h : History) (m : Machine) (s : Step) (a : Answer) (n : Machine) → IsMachineOf c h m
     → IsStep m s a n → IsMachineOf c (history_after_answer h s a) n
 step_follows c h m s a n f (inl same) =
     let here : record { answer = a; after = n } ≡ step_outcome (machine_of c h) s = same
