@@ -1,21 +1,5 @@
--- The definitions of vcdedit, from a line of a script to a whole run and its report.
-pub mod LineErrorNames
-pub mod LentBytes
-pub mod WithoutAddress
-pub mod ScriptWords
-pub mod DecoderWords
-pub mod ScriptCommands
-pub mod Script
-pub mod Queries
-pub mod CommandSignals
-pub mod DecoderReply
-pub mod Reply
-pub mod Run
-pub mod FileLaws
+-- The definitions of vcdedit, from the words of its command line to the report of a run.
 pub mod Report
-pub mod RunEnds
-pub mod RunOnBytes
 pub mod CommandLine
 pub mod Opening
 pub mod ProgramEnds
-pub mod inside

@@ -4,13 +4,13 @@ use Rattle.std.specs.Prelude.{◌≡◌, ◌⊎◌, ℕ, List, [], Option, Some,
 use Rattle.std.specs.Prelude.{Result, Ok, Err}
 use Rattle.vcd_text.specs.declared.fault.Fault.TheVariants as faults
 use Rattle.vcd_shell.specs.Devices.{DeviceEnd}
-use Rattle.vcdedit.specs.declared.running.run_error.RunError.{RunError}
-use Rattle.vcdedit.specs.declared.running.run_error.RunError.TheVariants as run_errors
-use Rattle.vcdedit.specs.declared.running.run_error.Summary.{Summary}
+use Rattle.vcd_script.specs.declared.running.run_error.RunError.{RunError}
+use Rattle.vcd_script.specs.declared.running.run_error.RunError.TheVariants as run_errors
+use Rattle.vcd_script.specs.declared.running.run_error.Summary.{Summary}
 use Rattle.vcdedit.specs.CommandLine.{AskedOptions}
 use Rattle.vcdedit.specs.Opening.{default_script}
 use Rattle.vcdedit.specs.Report.{done_status, error_status, error_report}
-use Rattle.vcdedit.specs.RunEnds.{RunEnds}
+use Rattle.vcd_script.specs.RunEnds.{RunEnds}
 
 -- the exit status of an outcome
 abbrev pub outcome_status : Result Summary RunError → ℕ

@@ -1,27 +1,22 @@
 //! `vcdedit`: edits four-state value change dump files (IEEE 1364-2005, 18.2) by script.
 //!
-//! It reads a capture and a script, answers with replies, and writes the edited capture. `run` does
-//! all that with devices that it is given; `Vcdedit` opens files for it, and says how words of the
-//! command line may end. `script` reads what a line asks for, and `replies` makes the reply to it.
+//! It reads a capture and a script, answers with replies, and writes the edited capture. `run` of
+//! `vcd_script` does all that with devices that it is given; `Vcdedit` opens files for it, and says
+//! how words of the command line may end.
 #![tactic(auto)]
 
-mod laws;
-mod replies;
-mod running;
-mod script;
 mod shell;
 #[cfg(test)]
 mod tests;
 
-pub use laws::{cut_file_is_read_again, same_bytes_same_result};
-pub use running::{
-    RunError, RunRefusal, RunTexts, SCRIPT_LIMIT, Stage, Summary, run, run_on_bytes,
-};
-pub use script::{Command, LineError, parse_line};
 pub use shell::{Vcdedit, report};
 use std::env;
 use std::process::ExitCode;
 use vcd_core::ToWrite;
+pub use vcd_script::{
+    Command, LineError, RunError, RunRefusal, RunTexts, SCRIPT_LIMIT, Stage, Summary,
+    cut_file_is_read_again, parse_line, run, run_on_bytes, same_bytes_same_result,
+};
 use vcd_shell::status_of_program;
 
 fn main(rt: HostRuntime) -> ExitCode {

@@ -4,9 +4,8 @@ ghost use Rattle.std.specs.Prelude.{◌≡◌, ◌≤◌, ◌⊎◌, false, Opti
 ghost use Rattle.vcd_shell.specs.Devices.{DeviceEnd, device_end};
 ghost use Rattle.vcdedit.specs.CommandLine.{options_in};
 ghost use Rattle.vcdedit.specs.ProgramEnds.{IsOutcomeOn, IsOutcomeOfOptions};
-ghost use Rattle.vcdedit.specs.RunEnds.{RunEnds};
+ghost use Rattle.vcd_script.specs.RunEnds.{RunEnds};
 
-use crate::running::{RunError, Summary, run};
 use crate::shell::command_line::{Options, command_line, options_of};
 use crate::shell::opening::open_script;
 use crate::shell::reporting::{PROGRAM, report, status_when_done};
@@ -17,6 +16,7 @@ use std::io::BufWriter;
 use std::rt::Runtime;
 use vcd_core::{FromRead, Sink, Source, ToWrite};
 use vcd_journal::DEPTH_LIMIT;
+use vcd_script::{RunError, Summary, run};
 use vcd_shell::{LateFile, Program, open_capture};
 use vcd_text::{Fault, ReadError};
 

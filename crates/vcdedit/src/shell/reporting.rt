@@ -4,8 +4,8 @@ ghost use Rattle.std.specs.Prelude.{◌≡◌, ◌≤◌};
 ghost use Rattle.vcd_shell.specs.Report.{IsReported};
 ghost use Rattle.vcdedit.specs.Report.{done_status, error_report, error_status};
 
-use crate::running::{RunError, Summary};
 use vcd_core::Sink;
+use vcd_script::{RunError, Summary};
 
 /// The program's name, as its lines on standard error begin.
 pub const PROGRAM: &[u8] = b"vcdedit";

@@ -1,0 +1,6 @@
+-- Lemmas of `laws`.
+pub mod CutFiles
+pub mod SameBytesSameResult
+pub mod HollowRuns
+pub mod HollowPart
+pub mod FittingCuts

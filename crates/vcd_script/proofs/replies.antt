@@ -1,0 +1,3 @@
+-- Lemmas of `replies`.
+pub mod StepReplies
+pub mod RepliesWithOthers

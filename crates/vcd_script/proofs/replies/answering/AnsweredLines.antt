@@ -1,0 +1,124 @@
+-- A session does what the machine does, and its replies are the machine's answers.
+use Rattle.std.proofs.Common.{◌≡◌, ◌≢◌, ℕ, List, ◌∷◌, [], take, Option, Some, None}
+use Rattle.std.proofs.Common.{Result, Ok}
+use Rattle.std.proofs.Common.{length, refl, sym, subst, ◌∙◌, ap}
+use Rattle.vcd_core.specs.Contents.{Contents}
+use Rattle.vcd_edit.specs.declared.edit.Edit.{Edit}
+use Rattle.vcd_edit.specs.declared.edit.Edit.TheVariants.{Rename}
+use Rattle.vcd_edit.specs.declared.fault.EditError.{EditError}
+use Rattle.vcd_edit.specs.Effect.{effect}
+use Rattle.vcd_edit.specs.EditFaults.{edit_fault}
+use Rattle.vcd_journal.specs.declared.step.Step.{Step}
+use Rattle.vcd_journal.specs.declared.step.Step.TheVariants as steps
+use Rattle.vcd_journal.specs.declared.step.Answer.{Answer}
+use Rattle.vcd_journal.specs.declared.step.Answer.TheVariants.{Done}
+use Rattle.vcd_journal.specs.Machine.{Machine, StepOutcome, edit_outcome, step_outcome}
+use Rattle.vcd_journal.specs.Machine.{memory_refusal, IsStep}
+use Rattle.vcd_journal.proofs.shared.Steps.{outcome_of_step}
+use Rattle.vcd_script.specs.declared.script.command.Command.{Command}
+use Rattle.vcd_script.specs.declared.script.command.Command.TheVariants as commands
+use Rattle.vcd_script.specs.declared.script.line_error.LineError.{LineError}
+use Rattle.vcd_script.specs.WithoutAddress.{edit_without_address, step_without_address}
+use Rattle.vcd_script.specs.WithoutAddress.{command_without_address}
+use Rattle.vcd_script.specs.inside.running.MachineRun.{answer_reply}
+use Rattle.vcd_script.specs.ScriptCommands.{command_of_line}
+use Rattle.vcd_script.specs.Reply.{LineReply, ok_reply}
+use Rattle.vcd_script.specs.Reply.{line_reply, step_reply, edit_reply, command_reply}
+use Rattle.vcd_script.specs.inside.running.MachineRun.{machine_after_line, machine_after_command}
+use Rattle.vcd_script.specs.declared.replies.reply.Reply.{Reply}
+use Rattle.vcd_script.specs.inside.replies.Answering.{AnswersStep, AnswersCommand, AnswersLine}
+use Rattle.vcd_script.specs.inside.replies.Reply.{IsReplyTo}
+use Rattle.vcd_script.proofs.replies.StepReplies.{reply_is_answer}
+
+-- ---- the address of a word
+
+-- the address matters neither for the effect of an edit nor for its fault
+pub effect_without_address : (e : Edit) (c : Contents) → effect (edit_without_address e) c ≡ effect e c
+unfolding effect
+effect_without_address (Rename k word) c = refl
+effect_without_address e c = refl
+
+pub fault_without_address : (e : Edit) (c : Contents) → edit_fault (edit_without_address e) c ≡ edit_fault e c
+unfolding edit_fault
+fault_without_address (Rename k word) c = refl
+fault_without_address e c = refl
+
+edit_outcome_without_address : (found : Option EditError) (e : Edit) (m : Machine)
+    → edit_outcome found (edit_without_address e) m ≡ edit_outcome found e m
+edit_outcome_without_address None e m =
+    ap (λ (c : Contents). record {
+      answer = Done;
+      after = record { past = take m.depth (m.now ∷ m.past); now = c; future = []; depth = m.depth };
+    })
+    (effect_without_address e m.now)
+edit_outcome_without_address (Some found) e m = refl
+
+-- nor for the outcome of a step
+pub outcome_without_address : (m : Machine) (s : Step) → step_outcome m (step_without_address s) ≡ step_outcome m s
+outcome_without_address m (steps.Edit e) =
+    ap (λ (found : Option EditError). edit_outcome found (edit_without_address e) m) (fault_without_address e m.now)
+    ∙ edit_outcome_without_address (edit_fault e m.now) e m
+outcome_without_address m s = refl
+
+-- nor for the reply
+pub reply_without_address : (s : Step) (c : Contents) (undoable redoable : ℕ)
+    → step_reply (step_without_address s) c undoable redoable ≡ step_reply s c undoable redoable
+reply_without_address (steps.Edit e) c undoable redoable = ap edit_reply (fault_without_address e c)
+reply_without_address s c undoable redoable = refl
+
+-- ---- steps
+
+-- the outcome of a step gives the machine after it, and the reply is the answer
+answered : (s : Step) (a : Answer) (old new : Machine) → record { answer = a; after = new } ≡ step_outcome old s →
+    ((step_outcome old s).after ≡ new) × (step_reply s old.now (length old.past) (length old.future) ≡ answer_reply a)
+answered s a old new is = (
+  ap (λ (o : StepOutcome). o.after) (sym is),
+  reply_is_answer old s ∙ ap (λ (o : StepOutcome). answer_reply o.answer) (sym is),
+)
+
+-- an accepted step was not refused because memory ran out
+done_not_refused : (s : Step) → Done ≢ memory_refusal s
+done_not_refused (steps.Edit e) same = absurd (cc)
+done_not_refused s same = absurd (cc)
+
+pub step_accepted : (number : ℕ) (s : Step) (old new : Machine) (reply : Reply) → IsStep old s Done new
+    → IsReplyTo number ok_reply reply → AnswersStep number s old new reply
+step_accepted number s old new reply made tells =
+    let is = answered s Done old new (outcome_of_step old s Done new made (done_not_refused s)) in
+    (is.0, subst (λ (r : LineReply). IsReplyTo number r reply) (sym is.1) tells)
+
+-- ---- lines
+
+-- the reply to a line that is read as this
+answer_to : (skipped : ℕ) → Machine → Result Command LineError → LineReply
+answer_to skipped m parsed = command_reply parsed m.now skipped (length m.past) (length m.future)
+
+-- what a step does and its reply, with its word at any address
+pub command_steps : (skipped number : ℕ) (s : Step) (old new : Machine) (reply : Reply)
+    → AnswersStep number s old new reply → AnswersCommand skipped number (commands.Step s) old new reply
+command_steps skipped number s old new reply answers = (
+  ap (λ (o : StepOutcome). o.after) (outcome_without_address old s) ∙ answers.0,
+  subst (λ (answer : LineReply). IsReplyTo number answer reply)
+      (sym (reply_without_address s old.now (length old.past) (length old.future))) answers.1,
+)
+
+-- a line that asks for a command
+pub line_asks : (skipped number : ℕ) (line : List ℕ) (command : Command) (old new : Machine) (reply : Reply)
+    → command_of_line old.now line ≡ Ok (command_without_address command) →
+    AnswersCommand skipped number command old new reply → AnswersLine skipped number line old new reply
+unfolding machine_after_line line_reply answer_to
+line_asks skipped number line command old new reply read answers = (
+  ap (machine_after_command old) read ∙ answers.0,
+  subst (λ (answer : LineReply). IsReplyTo number answer reply) (sym (ap (answer_to skipped old) read)) answers.1,
+)
+
+-- a line that leaves the machine as it is
+pub line_stays : (skipped number : ℕ) (line : List ℕ) (parsed : Result Command LineError) (old : Machine)
+    (reply : Reply) → command_of_line old.now line ≡ parsed → machine_after_command old parsed ≡ old →
+    IsReplyTo number (command_reply parsed old.now skipped (length old.past) (length old.future)) reply
+    → AnswersLine skipped number line old old reply
+unfolding machine_after_line line_reply answer_to
+line_stays skipped number line parsed old reply read stays tells = (
+  ap (machine_after_command old) read ∙ stays,
+  subst (λ (answer : LineReply). IsReplyTo number answer reply) (sym (ap (answer_to skipped old) read)) tells,
+)

@@ -1,0 +1,4 @@
+-- Lemmas of `script`.
+pub mod WrongCounts
+pub mod NamedSignals
+pub mod CommandsOfOutline

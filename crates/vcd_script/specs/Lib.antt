@@ -1,0 +1,20 @@
+-- The definitions of vcd_script, from a line of a script to a whole run.
+pub mod LineErrorNames
+pub mod RunErrorNames
+pub mod LentBytes
+pub mod WithoutAddress
+pub mod ScriptWords
+pub mod DecoderWords
+pub mod ScriptCommands
+pub mod Script
+pub mod Queries
+pub mod CommandSignals
+pub mod DecoderReply
+pub mod Reply
+pub mod Run
+pub mod HollowRun
+pub mod HollowPart
+pub mod FileLaws
+pub mod RunEnds
+pub mod RunOnBytes
+pub mod inside

@@ -1,0 +1,44 @@
+//! Laws about the definitions: each function has an empty body, and its contract is the law.
+
+ghost use Rattle.vcd_script.specs.FileLaws.{CutFileIsReadAgain, SameBytesSameResult};
+ghost use Rattle.vcd_script.specs.HollowPart.{HollowIsPart};
+ghost use Rattle.vcd_script.specs.HollowRun.{CommandIsOfOutline, ReplyWithOthers};
+ghost use Rattle.vcd_script.specs.HollowRun.{HistoryIsOfOutline};
+ghost use Rattle.vcd_script.specs.HollowRun.{AskedIsOfOutline, RunOnHollow, RunAfterDryRun};
+ghost use Rattle.vcd_script.specs.HollowRun.{CutsOfRunFit};
+
+/// Two runs on the same bytes and of the same depth have the same result, if memory runs out in
+/// neither.
+pub fn same_bytes_same_result()
+    ensures { SameBytesSameResult }
+{}
+
+/// If only the first ticks of a file are cut out, the written file, read again, has the file's
+/// waves from there on.
+pub fn cut_file_is_read_again()
+    ensures { CutFileIsReadAgain }
+{}
+
+/// What a line asks for, which lines are refused, which edits are in force, and whose changes lines
+/// ask for: all of this depends on the outline of the capture alone.
+pub fn lines_are_of_outline()
+    ensures command { CommandIsOfOutline }
+    ensures history { HistoryIsOfOutline }
+    ensures asked { AskedIsOfOutline }
+{}
+
+/// Where the lines ask for the changes of no silent signal, a run on the capture without these
+/// changes has the same answers, and the last capture is known from it. A run on the outline finds
+/// the signals whose changes are asked for.
+pub fn runs_on_hollow_captures()
+    ensures reply { ReplyWithOthers }
+    ensures run { RunOnHollow }
+    ensures dry { RunAfterDryRun }
+    ensures cuts { CutsOfRunFit }
+{}
+
+/// What is read of a part of a file, put into the declarations, is the capture without the changes
+/// of the signals that are not taken.
+pub fn hollow_captures_are_parts()
+    ensures { HollowIsPart }
+{}

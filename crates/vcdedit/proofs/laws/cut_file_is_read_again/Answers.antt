@@ -1,5 +1,0 @@
-use Rattle.vcdedit.proofs.laws.CutFiles.{cut_file_is_read_again}
-use Rattle.vcdedit.proofs.laws.cut_file_is_read_again.Goals as goal
-
-pub returns : goal.returns
-returns c = cut_file_is_read_again

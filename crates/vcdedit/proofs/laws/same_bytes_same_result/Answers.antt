@@ -1,5 +1,0 @@
-use Rattle.vcdedit.proofs.laws.SameBytesSameResult.{same_bytes_same_result}
-use Rattle.vcdedit.proofs.laws.same_bytes_same_result.Goals as goal
-
-pub returns : goal.returns
-returns c = same_bytes_same_result

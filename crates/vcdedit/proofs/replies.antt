@@ -1,2 +1,0 @@
--- Lemmas of `replies`.
-pub mod StepReplies

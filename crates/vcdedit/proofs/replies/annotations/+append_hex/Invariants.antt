@@ -1,4 +1,0 @@
-use Rattle.vcdedit.proofs.replies.annotations.+append_hex.Given as goal
-
-abbrev pub decreases-append_hex : goal.decreases-append_hex
-decreases-append_hex l = l.digits

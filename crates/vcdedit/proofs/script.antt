@@ -1,3 +1,0 @@
--- Lemmas of `script`.
-pub mod WrongCounts
-pub mod NamedSignals
