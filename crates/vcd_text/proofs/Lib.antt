@@ -1,3 +1,7 @@
 pub mod part
 pub mod shared
 pub mod read_back
+pub mod amended
+pub mod worked
+pub mod retimed
+pub mod difference

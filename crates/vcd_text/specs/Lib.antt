@@ -18,4 +18,10 @@ pub mod MemoryErrors
 pub mod Refusals
 pub mod Parts
 pub mod PartLaws
+pub mod Amended
+pub mod AmendedText
+pub mod Difference
+pub mod Assignment
+pub mod Retimed
+pub mod RetimedText
 pub mod inside

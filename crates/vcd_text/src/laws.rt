@@ -6,6 +6,12 @@ ghost use Rattle.vcd_text.specs.Laws.{EveryFaultIsFound};
 ghost use Rattle.vcd_text.specs.Laws.{EveryPrefixHasAtMostOneFault, PrefixFaultIsFileFault};
 ghost use Rattle.vcd_text.specs.Laws.{TextIsReadBack, NothingElseIsReadBack, TextHasNoFault};
 ghost use Rattle.vcd_text.specs.PartLaws.{PartOfPartIsPart, AllIsPart};
+ghost use Rattle.vcd_text.specs.Amended.{AmendedFileMeansAmendedCapture};
+ghost use Rattle.vcd_text.specs.AmendedText.{AmendedTextMeansAmendedCapture};
+ghost use Rattle.vcd_text.specs.Difference.{DifferenceGivesCapture};
+ghost use Rattle.vcd_text.specs.Assignment.{GivenCodesFit, AmendedTextMeansOtherCapture};
+ghost use Rattle.vcd_text.specs.Retimed.{RetimedFileMeansRetimedCapture, CutsAreRetimings};
+ghost use Rattle.vcd_text.specs.RetimedText.{AmendedTextAfterCutsMeansCapture, OtherCaptureAfterCuts};
 
 /// A file has at most one result. It has no two meanings, no two faults, no two lines of one fault,
 /// and never both a meaning and a fault.
@@ -52,4 +58,27 @@ pub fn nothing_else_is_read_back()
 pub fn parts_agree()
     ensures part_of_part { PartOfPartIsPart }
     ensures all { AllIsPart }
+{}
+
+/// The items of an amended file are accepted, and mean the amended capture. As many variables are
+/// skipped as before.
+pub fn amended_file_is_meant()
+    ensures items { AmendedFileMeansAmendedCapture }
+    ensures text { AmendedTextMeansAmendedCapture }
+{}
+
+/// What is done to a file so that it means another capture fits the file and gives that capture, if
+/// the codes fit.
+pub fn difference_gives_capture()
+    ensures gives { DifferenceGivesCapture }
+    ensures fits { GivenCodesFit }
+    ensures text { AmendedTextMeansOtherCapture }
+{}
+
+/// The items of a file after cuts are accepted, and mean the capture after the cuts.
+pub fn retimed_file_is_meant()
+    ensures items { RetimedFileMeansRetimedCapture }
+    ensures cuts { CutsAreRetimings }
+    ensures text { AmendedTextAfterCutsMeansCapture }
+    ensures other { OtherCaptureAfterCuts }
 {}

@@ -58,7 +58,7 @@ header_leads prefix (h ∷ hs) sound =
 digits_no_end : (w : List ℕ) → list_all is_ascii_digit w ≡ true → is_end_word w ≡ false
 digits_no_end w digits = grind (arith, false_from_ne_true, bytes_eq-Decides)
 
-decimal_no_end : (n : ℕ) → n < 2 ^ 64 → not (is_end_word (decimal n)) ≡ true
+pub decimal_no_end : (n : ℕ) → n < 2 ^ 64 → not (is_end_word (decimal n)) ≡ true
 decimal_no_end n small = not_from_false (is_end_word (decimal n)) (digits_no_end (decimal n) (decimal_digits n small))
 
 timescale_leads : (h : List Header) (t : Option Timescale) → IfSome t (λ t. IsTrue (is_sound_timescale t))

@@ -1,5 +1,5 @@
 -- Every word of a capture's text has a byte and no white space.
-use Rattle.std.proofs.Common.{◌≡◌, ◌<◌, ◌≤◌, ◌+◌, ◌-◌, ◌^◌, ℕ, zero, suc, Bool, true, not, List, []}
+use Rattle.std.proofs.Common.{◌≡◌, ◌<◌, ◌≤◌, ◌+◌, ◌^◌, ℕ, zero, suc, Bool, true, not, List, []}
 use Rattle.std.proofs.Common.{◌∷◌, ◌++◌, map, length, replicate}
 use Rattle.std.proofs.Common.{refl, ap, sym, subst, ◌∙◌, arith}
 use Rattle.std.proofs.Common.{decimal}
@@ -66,28 +66,28 @@ decimal_unbroken n small = no_space_is_unbroken (decimal n) (decimal_not_empty n
 pub code_unbroken : (k : ℕ) → is_unbroken (code_of k) ≡ true
 code_unbroken k = no_space_is_unbroken (code_of k) (code_not_empty k) (code_no_space k)
 
-printed_no_space : (v : List Bit) → list_all has_no_space (printed_letters v) ≡ true
+pub printed_no_space : (v : List Bit) → list_all has_no_space (printed_letters v) ≡ true
 printed_no_space [] = refl
 printed_no_space (b ∷ v) = grind (arith, and_from, printed_no_space v)
 
 -- a word with another byte in front
-longer_unbroken : (b : ℕ) (w : List ℕ) → has_no_space b ≡ true → list_all has_no_space w ≡ true
+pub longer_unbroken : (b : ℕ) (w : List ℕ) → has_no_space b ≡ true → list_all has_no_space w ≡ true
     → is_unbroken (b ∷ w) ≡ true
 longer_unbroken b w first rest = and_from (has_no_space b) (list_all has_no_space w) first rest
 
 -- ---- items
 
 -- words up to `$end`
-with_end_unbroken : (ws : List (List ℕ)) → list_all is_unbroken ws ≡ true
+pub with_end_unbroken : (ws : List (List ℕ)) → list_all is_unbroken ws ≡ true
     → list_all is_unbroken (ws ++ end_word ∷ []) ≡ true
 with_end_unbroken ws words = grind (arith, list_all-append, and_from)
 
 -- items in front and items after them
-both_spelled : (xs ys : List Item) → list_all is_spelled xs ≡ true → list_all is_spelled ys ≡ true
+pub both_spelled : (xs ys : List Item) → list_all is_spelled xs ≡ true → list_all is_spelled ys ≡ true
     → list_all is_spelled (xs ++ ys) ≡ true
 both_spelled xs ys prefix back = grind (arith, list_all-append, and_from)
 
-one_word : (w : List ℕ) → is_unbroken w ≡ true → list_all is_unbroken (w ∷ []) ≡ true
+pub one_word : (w : List ℕ) → is_unbroken w ≡ true → list_all is_unbroken (w ∷ []) ≡ true
 one_word w unbroken = and_from (is_unbroken w) true unbroken refl
 
 vector_spelled : (k : ℕ) (v : List Bit) → is_spelled (vector 98 (printed_letters (short_form v)) (code_of k)) ≡ true
@@ -99,7 +99,7 @@ values_spelled t [] = refl
 values_spelled t (p ∷ ps) =
     grind (arith, and_from, vector_spelled, one_word, longer_unbroken, code_no_space, values_spelled t ps)
 
-stamped_spelled : (is_end : Bool) (t : ℕ) (items : List Item) → t < 2 ^ 64 → list_all is_spelled items ≡ true
+pub stamped_spelled : (is_end : Bool) (t : ℕ) (items : List Item) → t < 2 ^ 64 → list_all is_spelled items ≡ true
     → list_all is_spelled (with_stamp is_end t items) ≡ true
 stamped_spelled is_end t items small spelled = grind (arith, and_from, one_word, longer_unbroken, decimal_no_space)
 
@@ -118,11 +118,11 @@ header_spelled (h ∷ hs) sound =
     let rest = header_spelled hs parts.1 in
     grind (arith, parts, rest, and_from, with_end_unbroken, words_are_unbroken)
 
-upscopes_spelled : (n : ℕ) → list_all is_spelled (replicate n upscope) ≡ true
+pub upscopes_spelled : (n : ℕ) → list_all is_spelled (replicate n upscope) ≡ true
 upscopes_spelled zero = refl
 upscopes_spelled (suc n) = upscopes_spelled n
 
-scopes_spelled : (path : List ScopeName) → list_all is_sound_scope path ≡ true
+pub scopes_spelled : (path : List ScopeName) → list_all is_sound_scope path ≡ true
     → list_all is_spelled (map (λ s. scope s.kind s.words) path) ≡ true
 scopes_spelled [] sound = refl
 scopes_spelled (s ∷ path) sound =

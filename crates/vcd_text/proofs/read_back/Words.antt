@@ -27,7 +27,7 @@ word_first : (line b : ℕ) (w rest : List ℕ) → is_unbroken w ≡ true → i
 word_first line b w rest unbroken space = grind (arith, word_whole)
 
 -- the words of a line, and those of the lines after it
-words_of_line : (line : ℕ) (ws : List (List ℕ)) (rest : List ℕ) → list_all is_unbroken ws ≡ true
+pub words_of_line : (line : ℕ) (ws : List (List ℕ)) (rest : List ℕ) → list_all is_unbroken ws ≡ true
     → word_texts (words_from true [] line (join_with_byte 32 ws ++ (10 ∷ rest))) ≡ ws
     ++ word_texts (words_from true [] (line + 1) rest)
 words_of_line line [] rest unbroken = ap word_texts (space_passed true line 10 rest refl)

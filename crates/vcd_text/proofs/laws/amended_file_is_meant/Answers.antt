@@ -1,0 +1,11 @@
+use Rattle.vcd_text.proofs.amended.Whole.{amended_is_meant}
+use Rattle.vcd_text.proofs.amended.WholeText.{amended_text_is_meant}
+use Rattle.vcd_text.proofs.worked.AmendedItems as worked
+use Rattle.vcd_text.proofs.worked.AmendedTexts as worked_texts
+use Rattle.vcd_text.proofs.laws.amended_file_is_meant.Goals as goal
+
+pub returns-clause-items : goal.returns-clause-items
+returns-clause-items c = amended_is_meant
+
+pub returns-clause-text : goal.returns-clause-text
+returns-clause-text c = amended_text_is_meant

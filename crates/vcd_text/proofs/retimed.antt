@@ -1,0 +1,5 @@
+-- Lemmas: retimed files.
+pub mod Values
+pub mod Steps
+pub mod Whole
+pub mod Pieces

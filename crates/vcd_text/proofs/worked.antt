@@ -1,0 +1,5 @@
+-- Worked cases.
+pub mod AmendedItems
+pub mod AmendedTexts
+pub mod GivenCodes
+pub mod RetimedItems
