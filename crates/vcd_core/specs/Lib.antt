@@ -17,7 +17,7 @@ pub mod Sound
 pub mod Laws
 pub mod Names
 pub mod FullName
-pub mod Device
+pub mod Devices
 pub mod Edges
 pub mod BitEdges
 pub mod inside

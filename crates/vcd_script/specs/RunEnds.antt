@@ -8,12 +8,12 @@ use Rattle.std.specs.List.{concat}
 use Rattle.std.specs.Borrow.{MutBor}
 use Rattle.vcd_core.specs.Contents.{Contents}
 use Rattle.vcd_core.specs.declared.capture.TheConstants.{SIGNAL_LIMIT}
+use Rattle.vcd_core.specs.Devices.{DeviceEnd, device_end, HasPrefix, HasText, IsRead, IsUntouched}
 use Rattle.vcd_text.specs.Meaning.{HasMeaning}
 use Rattle.vcd_text.specs.Refusals.{IsRefusal, IsOnlyRefusal}
 use Rattle.vcd_text.specs.declared.fault.Fault.TheVariants as faults
 use Rattle.vcd_text.specs.declared.fault.WriteError.TheVariants as write_errors
 use Rattle.vcd_text.specs.declared.reading.TheConstants.{FILE_LIMIT}
-use Rattle.vcd_shell.specs.Devices.{DeviceEnd, device_end, HasPrefix, HasText, IsRead, IsUntouched}
 use Rattle.vcd_script.specs.declared.running.script_input.TheConstants.{SCRIPT_LIMIT}
 use Rattle.vcd_script.specs.declared.running.run_error.RunError.{RunError}
 use Rattle.vcd_script.specs.declared.running.run_error.RunError.TheVariants.{Capture}

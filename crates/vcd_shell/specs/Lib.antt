@@ -1,5 +1,4 @@
 -- The definitions of what the programs share.
-pub mod Devices
 pub mod Opening
 pub mod Options
 pub mod Report

@@ -2,8 +2,8 @@
 -- text on standard error. The rules are the project's own.
 use Rattle.std.specs.Prelude.{◌≡◌, ◌⊎◌, ℕ, List, [], Option, Some, None, IsSome, is_some}
 use Rattle.std.specs.Prelude.{Result, Ok, Err}
+use Rattle.vcd_core.specs.Devices.{DeviceEnd}
 use Rattle.vcd_text.specs.declared.fault.Fault.TheVariants as faults
-use Rattle.vcd_shell.specs.Devices.{DeviceEnd}
 use Rattle.vcd_script.specs.declared.running.run_error.RunError.{RunError}
 use Rattle.vcd_script.specs.declared.running.run_error.RunError.TheVariants as run_errors
 use Rattle.vcd_script.specs.declared.running.run_error.Summary.{Summary}

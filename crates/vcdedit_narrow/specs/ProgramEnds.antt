@@ -1,8 +1,8 @@
 -- What the words of the command line ask for, and how that ends. The rules are the project's own.
 use Rattle.std.specs.Prelude.{◌≡◌, ◌⊎◌, ℕ, ◌^◌, ◌-◌, List, Option, Some, None, Result, Err}
 use Rattle.std.specs.Prelude.{MatchOption}
+use Rattle.vcd_core.specs.Devices.{DeviceEnd}
 use Rattle.vcd_text.specs.declared.fault.Fault.TheVariants as faults
-use Rattle.vcd_shell.specs.Devices.{DeviceEnd}
 use Rattle.vcdedit_narrow.specs.declared.narrow_error.NarrowError.{NarrowError}
 use Rattle.vcdedit_narrow.specs.declared.narrow_error.NarrowError.TheVariants as errors
 use Rattle.vcdedit_narrow.specs.declared.narrow_error.Narrowed.{Narrowed}

@@ -3,7 +3,7 @@
 ghost use Rattle.std.specs.Prelude.{◌≡◌, ◌≤◌, ◌⊎◌, ◌++◌, false, true, decimal, IfOk, IfErr, OnOk};
 ghost use Rattle.vcd_core.specs.CaptureContents.{contents};
 ghost use Rattle.vcd_core.specs.Sound.{IsSound};
-ghost use Rattle.vcd_shell.specs.Devices.{device_end};
+ghost use Rattle.vcd_core.specs.Devices.{device_end};
 ghost use Rattle.vcdedit_narrow.specs.NarrowEnds.{NarrowEnds};
 ghost use Rattle.vcdedit_narrow.specs.Narrowed.{with_comment};
 ghost use Rattle.vcdedit_narrow.specs.Refusals.{refusal_text};

@@ -2,7 +2,7 @@
 
 ghost use Rattle.std.specs.Prelude.{◌≡◌, false, IfOk, IfErr, Some, None};
 ghost use Rattle.std.specs.Option.{option_copied};
-ghost use Rattle.vcd_shell.specs.Devices.{DeviceEnd, device_end};
+ghost use Rattle.vcd_core.specs.Devices.{DeviceEnd, device_end};
 ghost use Rattle.vcdedit_narrow.specs.CommandLine.{options_in};
 ghost use Rattle.vcdedit_narrow.specs.NarrowEnds.{NarrowEnds};
 ghost use Rattle.vcdedit_narrow.specs.ProgramEnds.{IsOutcomeOf, IsRequest, time_asked, words_fault};

@@ -8,6 +8,7 @@ use Rattle.std.specs.List.{concat}
 use Rattle.std.specs.Io.KnownBytes.{Appends, IsAtEnd}
 use Rattle.vcd_core.specs.Contents.{Contents}
 use Rattle.vcd_core.specs.declared.capture.TheConstants.{SIGNAL_LIMIT}
+use Rattle.vcd_core.specs.Devices.{DeviceEnd, IsRead, IsUntouched, HasText}
 use Rattle.vcd_text.specs.Meaning.{FileMeans}
 use Rattle.vcd_text.specs.Refusals.{IsRefusal, IsOnlyRefusal}
 use Rattle.vcd_text.proofs.shared.OneRefusal.{one_refusal}
@@ -25,7 +26,6 @@ use Rattle.vcd_script.specs.declared.running.run_error.RunError.TheVariants as r
 use Rattle.vcd_script.specs.declared.running.run_error.Summary.{Summary}
 use Rattle.vcd_script.specs.Script.{script_lines}
 use Rattle.vcd_script.specs.Run.{RunOutcome, outcome}
-use Rattle.vcd_shell.specs.Devices.{DeviceEnd, IsRead, IsUntouched, HasText}
 use Rattle.vcd_script.specs.RunEnds.{IsAccepted, IsFlushedAt, ForRun, RunEnds}
 use Rattle.vcd_script.specs.inside.running.RunLines.{HasFailedAt, EndsAtLine, RunsLines, StopsInReplies}
 use Rattle.vcd_script.specs.inside.running.RunLines.{StopsInLines}

@@ -5,7 +5,7 @@ ghost use Rattle.std.specs.Option.{ForSome};
 ghost use Rattle.std.specs.Io.KnownBytes.{Appends};
 ghost use Rattle.vcd_core.specs.CaptureContents.{contents};
 ghost use Rattle.vcd_core.specs.Sound.{IsSound};
-ghost use Rattle.vcd_shell.specs.Devices.{device_end, IsRead};
+ghost use Rattle.vcd_core.specs.Devices.{device_end, IsRead};
 ghost use Rattle.vcd_script.specs.RunEnds.{IsAccepted, ForOutput, IsOutputFlushed};
 ghost use Rattle.vcd_script.specs.RunEnds.{IsFlushedAt, RunEnds};
 ghost use Rattle.vcd_journal.specs.Machine.{initial_machine};

@@ -3,7 +3,7 @@
 ghost use Rattle.std.specs.Prelude.{◌≡◌, ◌<◌, ◌≤◌, ◌++◌, ℕ, Bool, false, nat_lt, List, Option};
 ghost use Rattle.std.specs.Prelude.{length, vec_len, OnOk, IfOk, IfErr, IfSome};
 ghost use Rattle.std.specs.Io.KnownBytes.{Consumes, IsAtEnd};
-ghost use Rattle.vcd_shell.specs.Devices.{device_end, IsRead};
+ghost use Rattle.vcd_core.specs.Devices.{device_end, IsRead};
 ghost use Rattle.vcd_script.specs.RunEnds.{IsFlushedAt};
 ghost use Rattle.vcd_script.specs.inside.running.Stages.{EndsAfterCapture};
 

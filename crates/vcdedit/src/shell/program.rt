@@ -1,7 +1,7 @@
 //! The program: its inputs and its output are opened, and the script is run.
 
 ghost use Rattle.std.specs.Prelude.{◌≡◌, ◌≤◌, ◌⊎◌, false, Option, is_some, Err};
-ghost use Rattle.vcd_shell.specs.Devices.{DeviceEnd, device_end};
+ghost use Rattle.vcd_core.specs.Devices.{DeviceEnd, device_end};
 ghost use Rattle.vcdedit.specs.CommandLine.{options_in};
 ghost use Rattle.vcdedit.specs.ProgramEnds.{IsOutcomeOn, IsOutcomeOfOptions};
 ghost use Rattle.vcd_script.specs.RunEnds.{RunEnds};

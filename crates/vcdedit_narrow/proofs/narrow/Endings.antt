@@ -16,13 +16,13 @@ use Rattle.vcd_text.specs.declared.reading.Loaded.{Loaded}
 use Rattle.vcd_text.specs.declared.reading.TheConstants.{LONG_FILE_LIMIT, VARIABLE_LIMIT}
 use Rattle.vcd_core.specs.declared.capture.TheConstants.{SIGNAL_LIMIT}
 use Rattle.vcd_core.specs.Sound.{IsSound}
+use Rattle.vcd_core.specs.Devices.{DeviceEnd, HasText}
 use Rattle.vcd_text.specs.declared.reading.choice.TickRange.{TickRange}
 use Rattle.vcd_text.specs.Parts.{IsPartRefusal, PartMeans, declined, part_of, too_many_remain, answers_of}
 use Rattle.vcd_text.specs.Parts.{signals_of, without_changes}
 use Rattle.vcd_text.specs.Refusals.{no_memory}
 use Rattle.vcd_text.specs.Text.{text}
 use Rattle.vcd_text.specs.WriteEnds.{TookBefore}
-use Rattle.vcd_shell.specs.Devices.{DeviceEnd, HasText}
 use Rattle.vcdedit_narrow.specs.declared.comment.Extent.{Extent}
 use Rattle.vcdedit_narrow.specs.declared.narrow_error.NarrowError.{NarrowError}
 use Rattle.vcdedit_narrow.specs.declared.narrow_error.NarrowError.TheVariants as errors

@@ -5,13 +5,13 @@ use Rattle.std.specs.Global.{Vec}
 use Rattle.std.specs.Prelude.{Option, Some, None, IfSome, Err}
 use Rattle.vcd_core.specs.Contents.{Contents}
 use Rattle.vcd_core.specs.CaptureContents.{contents}
+use Rattle.vcd_core.specs.Devices.{DeviceEnd, IsRead, IsUntouched}
 use Rattle.vcd_text.specs.declared.fault.Fault.{Fault}
 use Rattle.vcd_text.specs.declared.fault.Fault.TheVariants as faults
 use Rattle.vcd_text.specs.declared.fault.ReadError.{ReadError}
 use Rattle.vcd_text.specs.declared.reading.Loaded.{Loaded}
 use Rattle.vcd_text.specs.declared.reading.TheConstants.{LONG_FILE_LIMIT}
 use Rattle.vcd_text.specs.declared.reading.choice.TickRange.{TickRange}
-use Rattle.vcd_shell.specs.Devices.{DeviceEnd, IsRead, IsUntouched}
 use Rattle.vcdedit_narrow.specs.declared.comment.Extent.{Extent}
 use Rattle.vcdedit_narrow.specs.declared.narrow_error.NarrowError.{NarrowError}
 use Rattle.vcdedit_narrow.specs.declared.narrow_error.NarrowError.TheVariants as errors

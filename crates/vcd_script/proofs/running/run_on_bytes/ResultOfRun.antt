@@ -5,6 +5,7 @@ use Rattle.std.proofs.Common.{take, refl, arith}
 use Rattle.std.specs.List.{concat}
 use Rattle.std.specs.Global.{Vec}
 use Rattle.vcd_core.specs.declared.capture.TheConstants.{SIGNAL_LIMIT}
+use Rattle.vcd_core.specs.Devices.{DeviceEnd, IsRead}
 use Rattle.vcd_text.specs.Refusals as refusals
 use Rattle.vcd_text.specs.inside.reading.Parser.{is_no_memory}
 use Rattle.vcd_text.proofs.shared.OneRefusal.{one_error, one_prefix_answer}
@@ -17,7 +18,6 @@ use Rattle.vcd_script.specs.declared.running.run_error.RunError.{RunError}
 use Rattle.vcd_script.specs.declared.running.run_error.RunError.TheVariants as run_errors
 use Rattle.vcd_script.specs.declared.running.run_error.Summary.{Summary}
 use Rattle.vcd_script.specs.Run.{RunOutcome}
-use Rattle.vcd_shell.specs.Devices.{DeviceEnd, IsRead}
 use Rattle.vcd_script.specs.RunEnds.{ForRun, RunEnds}
 use Rattle.vcd_script.specs.declared.running.run_on_bytes.Stage.TheVariants.{Line}
 use Rattle.vcd_script.specs.RunOnBytes.{IsRefusedFile, has_fault, too_large, IsRunWithin, RunGives}

@@ -1,7 +1,7 @@
 -- A run that ends before its replies or its output, for any such writers.
 use Rattle.std.specs.Prelude.{ℕ, Option, Err, IfSome}
+use Rattle.vcd_core.specs.Devices.{DeviceEnd, IsUntouched}
 use Rattle.vcd_script.specs.declared.running.run_error.RunError.{RunError}
-use Rattle.vcd_shell.specs.Devices.{DeviceEnd, IsUntouched}
 use Rattle.vcd_script.specs.RunEnds.{IsAccepted, RunEnds}
 
 -- it ends before its output

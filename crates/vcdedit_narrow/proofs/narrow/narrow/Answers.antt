@@ -1,6 +1,6 @@
 -- Narrowing ends as its stages do.
 use Rattle.vcd_core.specs.CaptureContents.{contents}
-use Rattle.vcd_shell.specs.Devices.{device_end}
+use Rattle.vcd_core.specs.Devices.{device_end}
 use Rattle.vcdedit_narrow.proofs.narrow.Endings.{not_written, written}
 use Rattle.vcdedit_narrow.proofs.narrow.narrow.Goals as goal
 

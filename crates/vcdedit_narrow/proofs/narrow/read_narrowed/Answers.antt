@@ -2,7 +2,7 @@
 use Rattle.std.proofs.Common.{refl, subst, sym}
 use Rattle.std.specs.Prelude.{Err, IfErr, IfOk}
 use Rattle.vcd_core.specs.CaptureContents.{contents}
-use Rattle.vcd_shell.specs.Devices.{device_end}
+use Rattle.vcd_core.specs.Devices.{device_end}
 use Rattle.vcdedit_narrow.specs.NarrowEnds.{NarrowEnds}
 use Rattle.vcdedit_narrow.specs.inside.Stages.{EndsBeforeWriting, IsToWrite}
 use Rattle.vcdedit_narrow.proofs.narrow.Endings.{if_err, if_ok, if_some, not_read, past_end_ends, to_write}

@@ -1,6 +1,17 @@
--- What a program did to a source or a writer of bytes: the project's own.
-use Rattle.std.specs.Prelude.{◌≡◌, ◌≤◌, ℕ, Bool, false, List, length, take, Option, IfSome}
+-- What a device shows: by the result of a call whether it has failed, and its bytes before a run
+-- and after it. The rules are the project's own.
+use Rattle.std.specs.Prelude.{◌≡◌, ◌≤◌, ℕ, Bool, true, false, List, length, take}
+use Rattle.std.specs.Prelude.{Option, IfSome, Result, OnOk, OnErr, IsErr}
 use Rattle.std.specs.Io.KnownBytes.{Appends, IsAtEnd}
+
+-- how the result of a call shows whether the device has failed
+pub record FailureMatches {T E : Type 0} (before after : Bool) (answer : Result T E) : Type 0 where
+  -- after an Ok it has not failed
+  pub not_failed : OnOk answer (after ≡ false)
+  -- an Err means that it has failed
+  pub fault : OnErr answer (after ≡ true)
+  -- after a failure every call is an Err
+  pub stays : before ≡ true → IsErr answer
 
 -- a device before and after: the bytes to come from a source, or taken by a writer, if shown;
 -- whether it failed
