@@ -10,10 +10,13 @@ import sys
 
 CHECKS = os.path.dirname(os.path.abspath(__file__))
 TOP = os.path.dirname(CHECKS)
+sys.path.append(os.path.join(TOP, "tools"))
+import vcd_runs
+
+# The edits of a script, as the tools know them. `vcd_alloc_failures` has a call for each name.
+EDITS = [edit.decode() for edit in vcd_runs.EDITS]
 CASES = os.path.join(TOP, "cases")
 EXAMPLES = os.path.join(TOP, "examples")
-# The edits of a script. `vcd_alloc_failures` has a call for each name.
-EDITS = "rename remove invert shift cut deglitch force derive".split()
 # What `make install` wants of the tree.
 INSTALLED = "vcdedit launch CHANGELOG.md Makefile crates.txt completions docs examples cases tools".split()
 SECONDS = 120

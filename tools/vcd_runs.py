@@ -11,6 +11,8 @@ import subprocess
 import vcd_messages
 from vcd_files import Trouble, program, shown
 
+# The commands of a script that edit.
+EDITS = b"rename remove invert shift cut deglitch force derive".split()
 INTERRUPTIONS = (signal.SIGINT, signal.SIGTERM, signal.SIGHUP)
 # What a run begins with so that it ends with the tool, even if that is killed.
 GUARD = ["setpriv", "--pdeathsig", "TERM"] if shutil.which("setpriv") else []
