@@ -7,6 +7,7 @@ pub mod Wave
 pub mod WavePush
 pub mod Splice
 pub mod Contents
+pub mod Outline
 pub mod CaptureContents
 pub mod TimeUnits
 pub mod Word

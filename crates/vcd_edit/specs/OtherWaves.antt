@@ -1,9 +1,10 @@
 -- What edits make of a capture with other waves. The project's own.
-use Rattle.std.specs.Prelude.{ℕ, ◌≡◌, ◌≤◌, List, [], ◌∷◌, length, map, slice_index_or, Option, Some}
+use Rattle.std.specs.Prelude.{ℕ, ◌≡◌, ◌≤◌, List, [], ◌∷◌, length, slice_index_or, Option, Some}
 use Rattle.std.specs.Prelude.{None, IfSome}
 use Rattle.std.specs.List.{AllByRecursion, remove}
 use Rattle.vcd_core.specs.declared.wave.Change.{Change}
 use Rattle.vcd_core.specs.Contents.{Contents, SignalContents}
+use Rattle.vcd_core.specs.Outline.{outline}
 use Rattle.vcd_core.specs.Sound.{IsSound}
 use Rattle.vcd_edit.specs.declared.edit.Edit.{Edit}
 use Rattle.vcd_edit.specs.declared.edit.Edit.TheVariants.{Remove, Invert, Shift, Cut, Deglitch}
@@ -11,16 +12,6 @@ use Rattle.vcd_edit.specs.declared.edit.Edit.TheVariants.{Force}
 use Rattle.vcd_edit.specs.declared.edit.Edit.TheVariants.{Derive}
 use Rattle.vcd_edit.specs.Effect.{formula, effect}
 use Rattle.vcd_edit.specs.EditFaults.{operands, edit_fault}
-
--- ---- outlines
-
--- a signal without its changes
-abbrev pub without_changes : SignalContents → SignalContents
-without_changes s = record s { changes = [] }
-
--- a capture without any change: its header, names, kinds, widths and end are left
-abbrev pub outline : Contents → Contents
-outline c = record c { signals = map without_changes c.signals }
 
 -- ---- other waves
 

@@ -7,9 +7,10 @@ use Rattle.std.specs.List.{AllByRecursion, filter_map, range_with_len, slice_get
 use Rattle.vcd_core.specs.Contents.{Contents, SignalContents, signal_at, signal_value}
 use Rattle.vcd_core.specs.Sound.{IsSoundSignal}
 use Rattle.vcd_core.specs.Wave.{changes_of}
+use Rattle.vcd_core.specs.Outline.{outline}
 use Rattle.vcd_edit.specs.declared.edit.Edit.{Edit}
 use Rattle.vcd_edit.specs.declared.edit.Edit.TheVariants.{Remove, Cut}
-use Rattle.vcd_edit.specs.OtherWaves.{outline, OtherChanges, with_others, waves_read, LeavesAlone}
+use Rattle.vcd_edit.specs.OtherWaves.{OtherChanges, with_others, waves_read, LeavesAlone}
 use Rattle.vcd_edit.specs.OtherWaves.{left_after}
 use Rattle.vcd_journal.specs.declared.step.Step.{Step}
 use Rattle.vcd_journal.specs.declared.step.Answer.{Answer}

@@ -5,9 +5,9 @@ use Rattle.std.specs.Prelude.{drop}
 use Rattle.std.specs.Prelude.{slice_index_or, All}
 use Rattle.vcd_core.specs.Contents.{Contents, SignalContents, signal_at}
 use Rattle.vcd_core.specs.Sound.{IsSoundSignal}
-use Rattle.vcd_text.specs.Parts.{without_changes, part_of}
+use Rattle.vcd_core.specs.Outline.{without_changes, outline}
+use Rattle.vcd_text.specs.Parts.{part_of}
 use Rattle.vcd_text.specs.declared.reading.choice.TickRange.{TickRange}
-use Rattle.vcd_edit.specs.OtherWaves.{outline}
 use Rattle.vcd_journal.specs.OtherWaves.{hollow}
 
 -- the signals as they are declared; in place of those that a test takes there are these, one after

@@ -4,7 +4,8 @@ use Rattle.std.specs.Prelude.{Result, Ok, Err}
 use Rattle.std.specs.List.{AllByRecursion, list_any}
 use Rattle.std.specs.Option.{option_to_list}
 use Rattle.vcd_core.specs.Contents.{Contents}
-use Rattle.vcd_edit.specs.OtherWaves.{outline, with_others, HaveOwn, OtherChanges, waves_read}
+use Rattle.vcd_core.specs.Outline.{outline}
+use Rattle.vcd_edit.specs.OtherWaves.{with_others, HaveOwn, OtherChanges, waves_read}
 use Rattle.vcd_journal.specs.declared.step.Step.TheVariants as steps
 use Rattle.vcd_journal.specs.History.{History, initial_history, replay}
 use Rattle.vcd_journal.specs.OtherWaves.{origins, others_after, hollow, filled, AreHeard}

@@ -6,6 +6,7 @@ use Rattle.vcd_core.specs.declared.capture.Timescale.{Timescale}
 use Rattle.vcd_core.specs.Wave.{changes_of}
 use Rattle.vcd_core.specs.Contents.{Contents, SignalContents, signal_value}
 use Rattle.vcd_core.specs.CaptureContents.{contents}
+use Rattle.vcd_core.specs.Outline.{without_changes}
 use Rattle.vcd_text.specs.declared.fault.Fault.TheVariants as faults
 use Rattle.vcd_text.specs.declared.fault.ReadError.{ReadError}
 use Rattle.vcd_text.specs.declared.reading.Loaded.{Loaded}
@@ -17,10 +18,6 @@ use Rattle.vcd_text.specs.Meaning.{FileMeans, meaning}
 use Rattle.vcd_text.specs.Refusals.{IsRefusal}
 
 -- ---- parts
-
--- a signal as it is declared: it has no changes
-abbrev pub without_changes : SignalContents → SignalContents
-without_changes s = record s { changes = [] }
 
 -- a signal from the tick `first` on, with the end as many ticks later
 abbrev pub part_of_signal : (first end : ℕ) → SignalContents → SignalContents

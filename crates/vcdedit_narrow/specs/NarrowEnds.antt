@@ -9,11 +9,11 @@ use Rattle.vcd_text.specs.declared.fault.WriteError.TheVariants as write_errors
 use Rattle.vcd_text.specs.declared.reading.TheConstants.{LONG_FILE_LIMIT, VARIABLE_LIMIT}
 use Rattle.vcd_core.specs.declared.capture.TheConstants.{SIGNAL_LIMIT}
 use Rattle.vcd_core.specs.Devices.{DeviceEnd, HasPrefix, HasText, IsRead, IsUntouched}
+use Rattle.vcd_core.specs.Outline.{without_changes}
 use Rattle.vcd_text.specs.declared.reading.choice.TickRange.{TickRange}
 use Rattle.vcd_text.specs.Grammar.{ParseState}
 use Rattle.vcd_text.specs.Meaning.{FileMeans}
 use Rattle.vcd_text.specs.Parts.{Answers, HasDeclarations, IsPartRefusal, signals_of}
-use Rattle.vcd_text.specs.Parts.{without_changes}
 use Rattle.vcd_text.specs.Text.{text}
 use Rattle.vcd_text.specs.Words.{words_of}
 use Rattle.vcdedit_narrow.specs.declared.narrow_error.NarrowError.{NarrowError}

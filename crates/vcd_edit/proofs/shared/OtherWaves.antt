@@ -10,6 +10,7 @@ use Rattle.vcd_core.specs.declared.wave.Change.{Change}
 use Rattle.vcd_core.specs.Value.{all_x, letter_at}
 use Rattle.vcd_core.specs.Wave.{change, value_from, changes_from, changes_of}
 use Rattle.vcd_core.specs.Contents.{Contents, SignalContents, no_signal, signal_at, with_signal, signal_value}
+use Rattle.vcd_core.specs.Outline.{without_changes}
 use Rattle.vcd_core.proofs.shared.Waves.{put_cases}
 use Rattle.vcd_edit.specs.declared.edit.Edit.{Edit}
 use Rattle.vcd_edit.specs.declared.edit.Edit.TheVariants.{Rename, Remove, Invert, Shift, Cut}
@@ -22,7 +23,7 @@ use Rattle.vcd_edit.specs.Effect.{with_values, renamed_signal, inverse_value, sh
 use Rattle.vcd_edit.specs.Effect.{force_value, cut_value, signal_after_cut, formula, first_operand}
 use Rattle.vcd_edit.specs.Effect.{formula_bit, derived_signal, effect}
 use Rattle.vcd_edit.specs.EditFaults.{operands}
-use Rattle.vcd_edit.specs.OtherWaves.{without_changes, OtherChanges, with_other, signals_with_others}
+use Rattle.vcd_edit.specs.OtherWaves.{OtherChanges, with_other, signals_with_others}
 use Rattle.vcd_edit.specs.OtherWaves.{with_others, HaveOwn, AreEmpty, left_after, OthersKeepOutline}
 use Rattle.vcd_edit.specs.OtherWaves.{EffectWithOthers, LeftFitsEffect}
 

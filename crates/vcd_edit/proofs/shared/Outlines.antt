@@ -10,6 +10,7 @@ use Rattle.vcd_core.specs.Contents.{Contents, SignalContents, no_signal, signal_
 use Rattle.vcd_core.specs.Names.{name_in, full_name, full_names}
 use Rattle.vcd_core.specs.Tests.{◌unless◌, first_fault}
 use Rattle.vcd_core.specs.Word.{is_word}
+use Rattle.vcd_core.specs.Outline.{without_changes, outline}
 use Rattle.vcd_edit.specs.declared.edit.Edit.{Edit}
 use Rattle.vcd_edit.specs.declared.edit.Edit.TheVariants.{Rename, Remove, Invert, Shift, Cut}
 use Rattle.vcd_edit.specs.declared.edit.Edit.TheVariants.{Deglitch, Force, Derive}
@@ -22,7 +23,7 @@ use Rattle.vcd_edit.specs.declared.fault.EditError.TheVariants.{TooManySignals}
 use Rattle.vcd_edit.specs.Effect.{renamed_signal, formula, first_operand, signal_after_cut}
 use Rattle.vcd_edit.specs.Effect.{derived_signal, effect}
 use Rattle.vcd_edit.specs.EditFaults.{operands, operand_tests, edit_fault}
-use Rattle.vcd_edit.specs.OtherWaves.{without_changes, outline, FaultIsOfOutline, EffectKeepsOutlines}
+use Rattle.vcd_edit.specs.OtherWaves.{FaultIsOfOutline, EffectKeepsOutlines}
 
 -- ---- lists of signals
 

@@ -5,7 +5,8 @@ use Rattle.std.specs.List.{AllByRecursion}
 use Rattle.std.proofs.lemmas.List.Elements.{recursion_from_All, All-from_recursion}
 use Rattle.vcd_core.specs.Contents.{SignalContents}
 use Rattle.vcd_core.specs.Sound.{IsSoundSignal}
-use Rattle.vcd_edit.specs.OtherWaves.{without_changes, OtherChanges, with_other, signals_with_others}
+use Rattle.vcd_core.specs.Outline.{without_changes}
+use Rattle.vcd_edit.specs.OtherWaves.{OtherChanges, with_other, signals_with_others}
 use Rattle.vcd_edit.specs.OtherWaves.{AreEmpty, EmptyOthersAreSound, OutlineIsSound}
 use Rattle.vcd_edit.proofs.shared.Outlines.{count_in_outline}
 

@@ -4,12 +4,12 @@ use Rattle.std.proofs.Common.{Option, Some, None, refl, sym, ap, subst, ◌∙�
 use Rattle.std.specs.Prelude.{nat_lt, not}
 use Rattle.vcd_core.specs.Contents.{Contents}
 use Rattle.vcd_core.specs.Names.{full_names}
+use Rattle.vcd_core.specs.Outline.{outline}
 use Rattle.vcd_edit.specs.declared.edit.Edit.{Edit}
 use Rattle.vcd_edit.specs.declared.fault.EditError.{EditError}
 use Rattle.vcd_edit.specs.AppliedRecords.{PutsInOrKeepsNames}
 use Rattle.vcd_edit.specs.Effect.{effect}
 use Rattle.vcd_edit.specs.EditFaults.{edit_fault}
-use Rattle.vcd_edit.specs.OtherWaves.{outline}
 use Rattle.vcd_edit.proofs.shared.Outlines.{count_in_outline, names_of_outline, fault_is_of_outline}
 use Rattle.vcd_edit.proofs.shared.Outlines.{effect_keeps_outlines}
 use Rattle.vcd_journal.specs.declared.step.Step.{Step}

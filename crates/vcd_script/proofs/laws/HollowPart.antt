@@ -10,8 +10,9 @@ use Rattle.vcd_core.specs.declared.wave.Change.{Change}
 use Rattle.vcd_core.specs.Wave.{changes_of}
 use Rattle.vcd_core.specs.Contents.{Contents, SignalContents, no_signal, signal_at, signal_value}
 use Rattle.vcd_core.specs.Sound.{IsSoundSignal}
+use Rattle.vcd_core.specs.Outline.{without_changes}
 use Rattle.vcd_core.proofs.shared.Waves.{changes_of-value_at}
-use Rattle.vcd_text.specs.Parts.{without_changes, part_of_signal}
+use Rattle.vcd_text.specs.Parts.{part_of_signal}
 use Rattle.vcd_edit.specs.OtherWaves.{with_other, signals_with_others}
 use Rattle.vcd_journal.specs.OtherWaves.{origins, emptied}
 use Rattle.vcd_script.specs.HollowPart.{with_taken, AreTaken, HollowIsPart}

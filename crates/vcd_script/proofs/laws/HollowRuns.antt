@@ -7,9 +7,10 @@ use Rattle.std.proofs.Math.Seq.{take-length}
 use Rattle.std.proofs.lemmas.Bool.Decides.{nat_tests}
 use Rattle.std.proofs.lemmas.List.{append_assoc}
 use Rattle.vcd_core.specs.Contents.{Contents}
+use Rattle.vcd_core.specs.Outline.{outline}
 use Rattle.vcd_edit.specs.declared.edit.Edit.{Edit}
 use Rattle.vcd_edit.specs.declared.fault.EditError.{EditError}
-use Rattle.vcd_edit.specs.OtherWaves.{outline, with_others}
+use Rattle.vcd_edit.specs.OtherWaves.{with_others}
 use Rattle.vcd_edit.proofs.shared.Outlines.{fault_is_of_outline, outline_of_outline}
 use Rattle.vcd_edit.proofs.shared.OtherWaves.{others_keep_outline}
 use Rattle.vcd_journal.specs.declared.step.Step.TheVariants as steps

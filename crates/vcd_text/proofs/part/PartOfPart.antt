@@ -7,8 +7,9 @@ use Rattle.std.proofs.lemmas.List.Elements.{All-head, All-tail}
 use Rattle.vcd_core.specs.Wave.{changes_of}
 use Rattle.vcd_core.specs.Contents.{SignalContents, signal_value}
 use Rattle.vcd_core.specs.Sound.{IsSoundSignal}
+use Rattle.vcd_core.specs.Outline.{without_changes}
 use Rattle.vcd_core.proofs.shared.Waves.{changes_same, value_at-changes_of, changes_end}
-use Rattle.vcd_text.specs.Parts.{part_of_signal, without_changes}
+use Rattle.vcd_text.specs.Parts.{part_of_signal}
 use Rattle.vcd_text.specs.PartLaws.{PartOfPartIsPart}
 use Rattle.vcd_text.specs.declared.reading.choice.TickRange.{TickRange}
 use Rattle.vcd_text.proofs.part.PartMeanings.{value_stays}

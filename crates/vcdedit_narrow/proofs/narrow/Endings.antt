@@ -17,9 +17,10 @@ use Rattle.vcd_text.specs.declared.reading.TheConstants.{LONG_FILE_LIMIT, VARIAB
 use Rattle.vcd_core.specs.declared.capture.TheConstants.{SIGNAL_LIMIT}
 use Rattle.vcd_core.specs.Sound.{IsSound}
 use Rattle.vcd_core.specs.Devices.{DeviceEnd, HasText}
+use Rattle.vcd_core.specs.Outline.{without_changes}
 use Rattle.vcd_text.specs.declared.reading.choice.TickRange.{TickRange}
 use Rattle.vcd_text.specs.Parts.{IsPartRefusal, PartMeans, declined, part_of, too_many_remain, answers_of}
-use Rattle.vcd_text.specs.Parts.{signals_of, without_changes}
+use Rattle.vcd_text.specs.Parts.{signals_of}
 use Rattle.vcd_text.specs.Refusals.{no_memory}
 use Rattle.vcd_text.specs.Text.{text}
 use Rattle.vcd_text.specs.WriteEnds.{TookBefore}

@@ -5,7 +5,8 @@ use Rattle.vcd_core.specs.Contents.{Contents}
 use Rattle.std.specs.List.{list_all}
 use Rattle.vcd_core.specs.Sound.{IsSound}
 use Rattle.vcd_core.specs.Word.{is_word}
-use Rattle.vcd_text.specs.Parts.{part_of, part_of_signal, without_changes}
+use Rattle.vcd_core.specs.Outline.{without_changes}
+use Rattle.vcd_text.specs.Parts.{part_of, part_of_signal}
 use Rattle.vcd_text.proofs.shared.SoundMeaning.{IsSoundBut, meaning_is_sound_but}
 use Rattle.vcd_text.proofs.part.FewSignals.{KeepsFew, few_after, same_limit}
 use Rattle.vcd_text.specs.declared.reading.TheConstants.{VARIABLE_LIMIT}

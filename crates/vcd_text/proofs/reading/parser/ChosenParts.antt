@@ -6,6 +6,7 @@ use Rattle.std.proofs.lemmas.Bool.{and_parts, false≢true}
 use Rattle.std.proofs.lemmas.List.{map-append}
 use Rattle.vcd_core.specs.declared.capture.TheConstants.{SIGNAL_LIMIT}
 use Rattle.vcd_core.specs.Contents.{SignalContents}
+use Rattle.vcd_core.specs.Outline.{without_changes}
 use Rattle.vcd_text.specs.declared.fault.Fault.{Fault}
 use Rattle.vcd_text.specs.Words.{WordOnLine}
 use Rattle.vcd_text.specs.Items.{Item, end_definitions, spelling, spellings}
@@ -13,7 +14,7 @@ use Rattle.vcd_text.specs.Grammar.{ParseState, VariableDeclaration, ValueChange,
 use Rattle.vcd_text.specs.Grammar.{state_after_item, initial_state, kept_variables, word_texts}
 use Rattle.vcd_text.specs.Faults.{WordShows}
 use Rattle.vcd_text.specs.Meaning.{declared_signal}
-use Rattle.vcd_text.specs.Parts.{Answers, IsChosen, signals_of, without_changes}
+use Rattle.vcd_text.specs.Parts.{Answers, IsChosen, signals_of}
 use Rattle.vcd_text.specs.inside.reading.OpenItems.{is_nothing}
 use Rattle.vcd_text.specs.inside.reading.Part.{Asked, undriven}
 use Rattle.vcd_text.specs.inside.reading.Parser.{HasTakenWords, HasDeclared, ParserMatches, IsBegun, is_complete}

@@ -8,7 +8,8 @@ use Rattle.vcd_text.specs.declared.fault.Fault.TheVariants.{NoMemory}
 use Rattle.vcd_text.specs.declared.fault.ReadError.{ReadError}
 use Rattle.vcd_core.specs.Contents.{Contents}
 use Rattle.vcd_text.specs.Words.{WordOnLine, words_of, word_on}
-use Rattle.vcd_text.specs.Parts.{without_changes, HasDeclarations}
+use Rattle.vcd_core.specs.Outline.{without_changes}
+use Rattle.vcd_text.specs.Parts.{HasDeclarations}
 use Rattle.vcd_text.specs.Meaning.{FileMeans}
 use Rattle.vcd_core.specs.CaptureContents.{contents}
 use Rattle.vcd_text.specs.declared.reading.Loaded.{Loaded}
