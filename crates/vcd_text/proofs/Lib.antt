@@ -4,4 +4,4 @@ pub mod read_back
 pub mod amended
 pub mod worked
 pub mod retimed
-pub mod difference
+pub mod given_codes

@@ -18,10 +18,13 @@ pub mod MemoryErrors
 pub mod Refusals
 pub mod Parts
 pub mod PartLaws
-pub mod Amended
+pub mod Pieces
+pub mod Amendment
+pub mod AmendedItems
+pub mod AmendedMeaning
 pub mod AmendedText
-pub mod Difference
-pub mod Assignment
+pub mod CodedAmendment
+pub mod GivenCodes
 pub mod Retimed
 pub mod RetimedText
 pub mod inside

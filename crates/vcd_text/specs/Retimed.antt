@@ -7,7 +7,7 @@ use Rattle.vcd_core.specs.Contents.{Contents, SignalContents, signal_value}
 use Rattle.vcd_text.specs.Items.{Item, stamp, scalar, vector, real_or_string}
 use Rattle.vcd_text.specs.Grammar.{ParseState, initial_state, state_after, state_after_item, AllowsAll, is_skipped}
 use Rattle.vcd_text.specs.Meaning.{meaning}
-use Rattle.vcd_text.specs.Amended.{Outcome, stands, is_left_out, is_exchanged, in_place}
+use Rattle.vcd_text.specs.AmendedItems.{ItemFate, stands, is_left_out, is_exchanged, items_in_place}
 
 -- ---- ticks
 
@@ -41,20 +41,20 @@ comes_again tau now real code (stamp digits ∷ is) = (tau (number_of digits) ==
 comes_again tau now real code (i ∷ is) = is_change_of real code i || comes_again tau now real code is
 
 -- what becomes of a change: if its tick is cut out, it stands only as the last one of its code
-abbrev pub retimed_change : (tau source : ℕ → ℕ) → ParseState → (real : Bool) → (code : List ℕ) → List Item → Outcome
+abbrev pub retimed_change : (tau source : ℕ → ℕ) → ParseState → (real : Bool) → (code : List ℕ) → List Item → ItemFate
 retimed_change tau source s real code is =
     if not (source (tau s.tick) == s.tick) && comes_again tau (tau s.tick) real code is then is_left_out
     else stands
 
 -- what becomes of a stamp: it has its new tick, if that is not the last one
-abbrev pub retimed_stamp : (tau : ℕ → ℕ) → ParseState → (digits : List ℕ) → Outcome
+abbrev pub retimed_stamp : (tau : ℕ → ℕ) → ParseState → (digits : List ℕ) → ItemFate
 retimed_stamp tau s digits =
     if (tau (number_of digits) == tau s.tick) && not (number_of digits == s.tick) then is_left_out
     else (if tau (number_of digits) == number_of digits then stands
     else is_exchanged (stamp (decimal (tau (number_of digits)))))
 
 -- what becomes of an item after this state, before these items
-abbrev pub retimed_outcome : (tau source : ℕ → ℕ) → ParseState → Item → List Item → Outcome
+abbrev pub retimed_outcome : (tau source : ℕ → ℕ) → ParseState → Item → List Item → ItemFate
 retimed_outcome tau source s (stamp digits) is = retimed_stamp tau s digits
 retimed_outcome tau source s (scalar digit code) is = retimed_change tau source s false code is
 retimed_outcome tau source s (vector first digits code) is = retimed_change tau source s false code is
@@ -65,7 +65,7 @@ retimed_outcome tau source s i is = stands
 unfoldable pub retimed : (tau source : ℕ → ℕ) → ParseState → List Item → List Item
 retimed tau source s [] = []
 retimed tau source s (i ∷ is) =
-    in_place (retimed_outcome tau source s i is) i ++ retimed tau source (state_after_item s i) is
+    items_in_place (retimed_outcome tau source s i is) i ++ retimed tau source (state_after_item s i) is
 
 -- ---- the meaning
 

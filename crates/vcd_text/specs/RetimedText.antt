@@ -4,16 +4,20 @@ use Rattle.std.specs.Prelude.{◌+◌, ◌≤◌, length, All, Option}
 use Rattle.std.specs.List.{join_with_byte}
 use Rattle.vcd_core.specs.Contents.{SignalContents}
 use Rattle.vcd_core.specs.Sound.{IsSoundSignal}
-use Rattle.vcd_text.specs.Assignment.{AreFresh, AreNew, all_wishes, signals_left, amendment_for}
+use Rattle.vcd_text.specs.Amendment.{Amendment}
+use Rattle.vcd_text.specs.AmendedItems.{ItemFate, stands, is_left_out, is_exchanged}
+use Rattle.vcd_text.specs.AmendedMeaning.{FitsFile, amended_meaning}
+use Rattle.vcd_text.specs.Pieces.{Piece, IsCut, state_of_pieces}
+use Rattle.vcd_text.specs.AmendedText.{amended_text}
+use Rattle.vcd_text.specs.GivenCodes.{AreFresh, AreSignalsOf, new_waves, signals_left}
+use Rattle.vcd_text.specs.GivenCodes.{amendment_for}
 use Rattle.vcd_text.specs.Items.{spelling}
 use Rattle.vcd_text.specs.Grammar.{ParseState, initial_state, state_after, state_after_item, AllowsAll, is_skipped, kept_variables}
 use Rattle.vcd_text.specs.Meaning.{FileMeans, meaning}
-use Rattle.vcd_text.specs.Amended.{Amendment, Outcome, stands, is_left_out, is_exchanged, FitsFile, amended_meaning}
-use Rattle.vcd_text.specs.AmendedText.{Piece, IsCut, amended_text, state_of_pieces}
 use Rattle.vcd_text.specs.Retimed.{IsRetiming, retimed_outcome, retimed_contents}
 
 -- the pieces in the place of a piece with this outcome; another item has one space between its words
-abbrev pub piece_in_place : Outcome → Piece → List Piece
+abbrev pub piece_in_place : ItemFate → Piece → List Piece
 piece_in_place stands p = p ∷ []
 piece_in_place is_left_out p = []
 piece_in_place (is_exchanged j) p =
@@ -43,18 +47,18 @@ AmendedTextAfterCutsMeansCapture = (tau source : ℕ → ℕ) (a : Amendment) (l
 -- the text of a file that is amended for another capture after cuts means that capture
 abbrev pub OtherCaptureAfterCuts : Type 0
 OtherCaptureAfterCuts = (tau source : ℕ → ℕ) (fresh : ℕ → List ℕ) (limit : ℕ) (file : List ℕ) (pieces : List Piece)
-    (tail : List ℕ) (news : List (Option SignalContents)) (derived : List SignalContents) (cut : ParseState)
+    (tail : List ℕ) (remaining : List (Option SignalContents)) (derived : List SignalContents) (cut : ParseState)
     → cut ≡ state_of_pieces limit (retimed_pieces tau source (initial_state limit) pieces)
     → IsRetiming tau source → IsCut file pieces tail
     → AllowsAll (initial_state limit) (map (λ p. p.item) pieces)
     → IsTrue (state_of_pieces limit pieces).in_body
     → source (tau (state_of_pieces limit pieces).tick) ≡ (state_of_pieces limit pieces).tick
-    → AreFresh fresh (length (all_wishes cut news derived)) cut
-    → AreNew cut (kept_variables cut.declared) news → All (IsSoundSignal cut.tick) derived
-    → length (signals_left news) + length derived ≤ limit
-    → FileMeans limit (amended_text (amendment_for fresh cut news derived) true (initial_state limit)
+    → AreFresh fresh (length (new_waves cut remaining derived)) cut
+    → AreSignalsOf cut (kept_variables cut.declared) remaining → All (IsSoundSignal cut.tick) derived
+    → length (signals_left remaining) + length derived ≤ limit
+    → FileMeans limit (amended_text (amendment_for fresh cut remaining derived) true (initial_state limit)
     (retimed_pieces tau source (initial_state limit) pieces) tail)
     (record (retimed_contents tau source (meaning (state_of_pieces limit pieces))) {
-      signals = signals_left news ++ derived;
+      signals = signals_left remaining ++ derived;
     })
     (count_by is_skipped (state_of_pieces limit pieces).declared)

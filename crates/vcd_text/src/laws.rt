@@ -6,12 +6,13 @@ ghost use Rattle.vcd_text.specs.Laws.{EveryFaultIsFound};
 ghost use Rattle.vcd_text.specs.Laws.{EveryPrefixHasAtMostOneFault, PrefixFaultIsFileFault};
 ghost use Rattle.vcd_text.specs.Laws.{TextIsReadBack, NothingElseIsReadBack, TextHasNoFault};
 ghost use Rattle.vcd_text.specs.PartLaws.{PartOfPartIsPart, AllIsPart};
-ghost use Rattle.vcd_text.specs.Amended.{AmendedFileMeansAmendedCapture};
+ghost use Rattle.vcd_text.specs.AmendedMeaning.{AmendedFileMeansAmendedCapture};
 ghost use Rattle.vcd_text.specs.AmendedText.{AmendedTextMeansAmendedCapture};
-ghost use Rattle.vcd_text.specs.Difference.{DifferenceGivesCapture};
-ghost use Rattle.vcd_text.specs.Assignment.{GivenCodesFit, AmendedTextMeansOtherCapture};
+ghost use Rattle.vcd_text.specs.CodedAmendment.{CodedAmendmentGivesCapture};
+ghost use Rattle.vcd_text.specs.GivenCodes.{GivenCodesFit, AmendedTextMeansOtherCapture};
 ghost use Rattle.vcd_text.specs.Retimed.{RetimedFileMeansRetimedCapture, CutsAreRetimings};
-ghost use Rattle.vcd_text.specs.RetimedText.{AmendedTextAfterCutsMeansCapture, OtherCaptureAfterCuts};
+ghost use Rattle.vcd_text.specs.RetimedText.{AmendedTextAfterCutsMeansCapture};
+ghost use Rattle.vcd_text.specs.RetimedText.{OtherCaptureAfterCuts};
 
 /// A file has at most one result. It has no two meanings, no two faults, no two lines of one fault,
 /// and never both a meaning and a fault.
@@ -60,17 +61,17 @@ pub fn parts_agree()
     ensures all { AllIsPart }
 {}
 
-/// The items of an amended file are accepted, and mean the amended capture. As many variables are
-/// skipped as before.
-pub fn amended_file_is_meant()
+/// If an amendment fits an accepted file, the amended file is accepted, and means the amended
+/// capture. As many variables are skipped as before.
+pub fn amended_file_is_read_again()
     ensures items { AmendedFileMeansAmendedCapture }
     ensures text { AmendedTextMeansAmendedCapture }
 {}
 
-/// What is done to a file so that it means another capture fits the file and gives that capture, if
-/// the codes fit.
-pub fn difference_gives_capture()
-    ensures gives { DifferenceGivesCapture }
+/// A file that is amended for another capture means that capture: if its signals have codes that
+/// fit, and so with the codes that are given to them.
+pub fn other_capture_is_read_again()
+    ensures coded { CodedAmendmentGivesCapture }
     ensures fits { GivenCodesFit }
     ensures text { AmendedTextMeansOtherCapture }
 {}

@@ -34,8 +34,9 @@ any_line : (begun bytes : List ℕ) (l m : ℕ) → texts_after begun l bytes �
 unfolding words_from
 any_line begun [] l m = word_on_any_line begun l m
 any_line begun (b ∷ bs) l m = elim (cases_Bool (is_white_space b)) [
-  | inl space ↦ rw space (map-append (λ w. w.text) (word_of begun l) (words_from true [] (line_after b l) bs) ∙ ap (λ ws.
-      ws ++ texts_after [] (line_after b l) bs) (word_on_any_line begun l m) ∙ ap (λ ws. word_texts (word_of begun m)
+  | inl space ↦ rw space (map-append (λ w. w.text) (word_of begun l) (words_from true [] (line_after b l) bs)
+      ∙ ap (λ ws. ws ++ texts_after [] (line_after b l) bs) (word_on_any_line begun l m) ∙ ap (λ ws. word_texts (word_of
+      begun m)
       ++ ws) (any_line [] bs (line_after b l) (line_after b m)) ∙ sym (map-append (λ w. w.text) (word_of begun m)
       (words_from true [] (line_after b m) bs)))
   | inr goes_on ↦ rw goes_on (any_line (begun ++ b ∷ []) bs (line_after b l) (line_after b m))
@@ -96,8 +97,8 @@ lines_first (i ∷ is) rest spelled =
     let words : List ℕ = join_with_byte 32 (spelling i) in
     ap texts (append_assoc (words ++ 10 ∷ []) (flat_map item_line is) rest ∙ append_assoc words (10 ∷ []) (flat_map
     item_line is ++ rest)) ∙ words_of_line 1 (spelling i) (flat_map item_line is ++ rest) parts.0 ∙ ap (λ ws. spelling i
-    ++ ws) (any_line [] (flat_map item_line is ++ rest) 2 1 ∙ lines_first is rest parts.1) ∙ sym (append_assoc (spelling i)
-    (spellings is) (texts rest))
+    ++ ws) (any_line [] (flat_map item_line is ++ rest) 2 1 ∙ lines_first is rest parts.1) ∙ sym
+    (append_assoc (spelling i) (spellings is) (texts rest))
 
 -- lines of items at the end, each after its line feed
 pub lines_last : (items : List Item) (tail : List ℕ) → list_all is_spelled items ≡ true
@@ -115,8 +116,10 @@ lines_last (i ∷ is) tail spelled space =
     let words : List ℕ = join_with_byte 32 (spelling i) in
     let rest = lines_last is tail parts.1 space in
     let more : List ℕ = flat_map (λ i. 10 ∷ join_with_byte 32 (spelling i)) is ++ tail in (
-      ap texts (append_assoc (10 ∷ words) (flat_map (λ i. 10 ∷ join_with_byte 32 (spelling i)) is) tail) ∙ space_first (10
-          ∷ []) (words ++ more) refl ∙ both_parts words more rest.1 ∙ ap (λ ws. ws ++ texts more) (joined_words (spelling i)
+      ap texts (append_assoc (10 ∷ words) (flat_map (λ i. 10 ∷ join_with_byte 32 (spelling i)) is) tail)
+          ∙ space_first (10
+          ∷ []) (words ++ more) refl ∙ both_parts words more rest.1 ∙ ap (λ ws. ws ++ texts more)
+          (joined_words (spelling i)
           parts.0) ∙ ap (λ ws. spelling i ++ ws) rest.0,
       refl,
     )

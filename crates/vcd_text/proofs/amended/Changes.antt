@@ -15,10 +15,10 @@ use Rattle.vcd_text.specs.Items.{Item, entry, timescale, scope, upscope, variabl
 use Rattle.vcd_text.specs.Items.{stamp, scalar, vector, real_or_string, dump_word, other}
 use Rattle.vcd_text.specs.Grammar.{ValueChange, VariableDeclaration, ParseState, is_skipped, Allows, variable_of}
 use Rattle.vcd_text.specs.Grammar.{AllowsAll, state_after_item, state_after, value_changes_after, digit_tests}
-use Rattle.vcd_text.specs.Amended.{stands, is_left_out, in_place}
-use Rattle.vcd_text.specs.Amended.{Amendment, AmendedCode, with_code, amended_code, old_value}
-use Rattle.vcd_text.specs.Amended.{change_outcome, outcome, inserted, items_until, amended}
-use Rattle.vcd_text.specs.Amended.{class_of, still_quiet}
+use Rattle.vcd_text.specs.Amendment.{Amendment, AmendedCode, first_with_code, amended_code, old_value}
+use Rattle.vcd_text.specs.AmendedItems.{stands, is_left_out, items_in_place, change_fate, item_fate, inserted_items}
+use Rattle.vcd_text.specs.AmendedItems.{items_due_until, amended_items, still_none_yet}
+use Rattle.vcd_text.specs.AmendedMeaning.{class_of}
 use Rattle.vcd_text.proofs.shared.ItemsInTurn.{Reaches, reaches_both, reaches_none, reaches_one}
 use Rattle.vcd_text.proofs.shared.ItemTests.{has_tick, allows_stamp}
 use Rattle.vcd_text.proofs.amended.Codes.{of_code, of_both}
@@ -107,30 +107,32 @@ module _ (a : Amendment) where
         → value_by c.width (of_code code s.value_changes) t ≡ old_value c t)
         → ((code : List ℕ) → any_at (t + 1) (of_code code s.value_changes) ≡ false)
         → Holds a s.declared s.value_changes t vs → Holds a s.declared s.value_changes (t + 1) (vs ++ due_at s t)
-    one_tick vs t settled none holds code e left = subst (HoldsFor (amended_code code a.codes) (theirs code) (t + 1)) (sym (of_both
-        code vs (due_at s t) ∙ ap (λ l. of_code code vs ++ l) (due_of_code s t code a.codes serves.apart))) (by_code
-        (amended_code code a.codes) refl (holds code e left))
+    one_tick vs t settled none holds code e left = subst (HoldsFor (amended_code code a.codes) (theirs code) (t + 1))
+        (sym (of_both code vs (due_at s t) ∙ ap (λ l. of_code code vs ++ l) (due_of_code s t code a.codes
+        serves.apart))) (by_code (amended_code code a.codes) refl (holds code e left))
       where
         next : suc t ≡ t + 1
         next = omega arith
 
-        by_code : (o : Option AmendedCode) → amended_code code a.codes ≡ o → HoldsFor o (theirs code) t (of_code code vs)
+        by_code : (o : Option AmendedCode) → amended_code code a.codes ≡ o → HoldsFor o (theirs code) t
+            (of_code code vs)
             → HoldsFor o (theirs code) (t + 1) (of_code code vs ++ due_for o t (theirs code))
         by_code None is same = append-nil (of_code code vs) ∙ same
-        by_code (Some c) is new = subst (λ n. HoldsNew c (theirs code) n (of_code code vs ++ due_for (Some c) t (theirs code))) next (tick_ends c
-            (wide_of a s serves code c is) (theirs code) (of_code code vs) t new (settled code c is) (subst (λ n. any_at n (theirs code) ≡ false)
-            (sym next) (none code)))
+        by_code (Some c) is new = subst (λ n. HoldsNew c (theirs code) n (of_code code vs ++ due_for (Some c) t
+            (theirs code))) next (tick_ends c (wide_of a s serves code c is) (theirs code) (of_code code vs) t new
+            (settled code c is) (subst (λ n. any_at n (theirs code) ≡ false) (sym next) (none code)))
 
     -- n ticks
     ticks : (n : ℕ) (vs : List ValueChange) (t until : ℕ) → t + n ≡ until → (0 < n → IsOldAt s t)
         → ((code : List ℕ) (u : ℕ) → t < u → any_at u (of_code code s.value_changes) ≡ false)
         → Holds a s.declared s.value_changes t vs
         → Holds a s.declared s.value_changes until (vs ++ over (due_at s) t n)
-    ticks zero vs t until is settled past holds = rw (append-nil vs) (subst (λ u. Holds a s.declared s.value_changes u vs)
-        (omega arith) holds)
+    ticks zero vs t until is settled past holds = rw (append-nil vs) (subst (λ u. Holds a s.declared s.value_changes u
+        vs) (omega arith) holds)
     ticks (suc n) vs t until is settled past holds =
         let old = settled (omega arith) in
-        let here = one_tick vs t (λ code c found some. old code c found) (λ code. past code (t + 1) (omega arith)) holds in
+        let here = one_tick vs t (λ code c found some. old code c found) (λ code. past code (t + 1) (omega arith)) holds
+        in
         rw (← (append_assoc vs (due_at s t) (over (due_at s) (t + 1) n))) (later (vs ++ due_at s t) here)
       where
         -- no change of the file is at the ticks after the first
@@ -142,68 +144,73 @@ module _ (a : Amendment) where
                 → ((code : List ℕ) (u : ℕ) → t ≤ u → any_at u (of_code code s.value_changes) ≡ false)
                 → Holds a s.declared s.value_changes t vs
                 → Holds a s.declared s.value_changes until (vs ++ over (due_at s) t n)
-            later_ticks zero vs t until is none holds = rw (append-nil vs) (subst (λ u. Holds a s.declared s.value_changes u
-                vs) (omega arith) holds)
+            later_ticks zero vs t until is none holds = rw (append-nil vs) (subst (λ u. Holds a s.declared
+                s.value_changes u vs) (omega arith) holds)
             later_ticks (suc n) vs t until is none holds =
-                let here = one_tick vs t (λ code c found some. absurd (false≢true (sym (none code t (omega arith)) ∙ some)))
-                (λ code. none code (t + 1) (omega arith)) holds in
-                rw (← (append_assoc vs (due_at s t) (over (due_at s) (t + 1) n))) (later_ticks n (vs ++ due_at s t) (t + 1)
-                until (omega arith) (λ code u after. none code u (omega arith)) here)
+                let here = one_tick vs t (λ code c found some. absurd (false≢true (sym (none code t (omega arith))
+                ∙ some))) (λ code. none code (t + 1) (omega arith)) holds in
+                rw (← (append_assoc vs (due_at s t) (over (due_at s) (t + 1) n))) (later_ticks n (vs ++ due_at s t)
+                (t + 1) until (omega arith) (λ code u after. none code u (omega arith)) here)
 
   -- ---- one item
 
   -- a stamp: what is due at the ticks before it comes first
-  stamp_leads : (quiet : Bool) (s : ParseState) (vs : List ValueChange) (digits : List ℕ) → InBody a s vs → Allows s (stamp digits)
+  stamp_leads : (none_yet : Bool) (s : ParseState) (vs : List ValueChange) (digits : List ℕ) → InBody a s vs
+      → Allows s (stamp digits)
       → (s.tick < number_of digits → IsOldAt s s.tick)
-      → Leads a s vs (items_until a quiet s (number_of digits) ++ stamp digits ∷ []) (state_after_item s (stamp digits))
-  stamp_leads quiet s vs digits body allows settled =
+      → Leads a s vs (items_due_until a none_yet s (number_of digits) ++ stamp digits ∷ []) (state_after_item s (stamp
+      digits))
+  stamp_leads none_yet s vs digits body allows settled =
       let stamped = has_tick s digits allows in
       let least : s.tick ≤ number_of digits = stamped.1 in
       let tests = and_parts (is_number digits) (nat_le (number_of digits) END_LIMIT) stamped.0 in
       let most : number_of digits ≤ END_LIMIT = leb-true (number_of digits) END_LIMIT tests.1 in
       let until : s.tick + (number_of digits - s.tick) ≡ number_of digits = omega arith in
-      let before = ticks_lead s (ours a s) a.codes body.serves.takes quiet vs s.tick (number_of digits) (number_of digits
-      - s.tick) until most in
+      let before = ticks_lead s (ours a s) a.codes body.serves.takes none_yet vs s.tick (number_of digits)
+      (number_of digits - s.tick) until most in
       record {
         value_changes = vs ++ over (due_at s) s.tick (number_of digits - s.tick);
         leads = reaches_both _ _ _ _ _ before.leads (reaches_one _ _ _ (allows_stamp (body_of s (ours a s) (vs
-            ++ over (due_at s) s.tick (number_of digits - s.tick)) before.stamped) digits refl stamped.0 before.upto) refl);
+            ++ over (due_at s) s.tick (number_of digits - s.tick)) before.stamped) digits refl stamped.0 before.upto)
+            refl);
         body = record {
           in_body = body.in_body;
           past = λ code u after. body.past code u (omega arith);
           serves = body.serves;
-          holds = ticks s body.serves (number_of digits - s.tick) vs s.tick (number_of digits) until (λ some. settled (omega
+          holds = ticks s body.serves (number_of digits - s.tick) vs s.tick (number_of digits) until
+              (λ some. settled (omega
               arith)) body.past body.holds;
         };
       }
 
   -- what a change adds in the amended file
   own_more : (s : ParseState) (vs : List ValueChange) (code : List ℕ) (letters : List Bit) (d e : VariableDeclaration)
-      → with_code code (ours a s) ≡ Some e → class_of d ≡ class_of e
-      → value_changes_after (at a s vs) code letters (with_code code (ours a s))
+      → first_with_code code (ours a s) ≡ Some e → class_of d ≡ class_of e
+      → value_changes_after (at a s vs) code letters (first_with_code code (ours a s))
       ≡ (if is_skipped d then [] else of s.tick code letters ∷ [])
-  own_more s vs code letters d e left same = ap (value_changes_after (at a s vs) code letters) left ∙ ap (λ (b : Bool). if
-      b then [] else of s.tick code letters ∷ []) (sym (same_skipped d e same))
+  own_more s vs code letters d e left same = ap (value_changes_after (at a s vs) code letters) left
+      ∙ ap (λ (b : Bool). if b then [] else of s.tick code letters ∷ []) (sym (same_skipped d e same))
 
   scalar_leads : (s : ParseState) (vs : List ValueChange) (digit : ℕ) (code : List ℕ) (o : Option VariableDeclaration)
-      → with_code code s.declared ≡ o → InBody a s vs → Allows s (scalar digit code)
-      → Leads a s vs (in_place (change_outcome a s code) (scalar digit code)) (state_after_item s (scalar digit code))
+      → first_with_code code s.declared ≡ o → InBody a s vs → Allows s (scalar digit code)
+      → Leads a s vs (items_in_place (change_fate a s code) (scalar digit code)) (state_after_item s
+      (scalar digit code))
   scalar_leads s vs digit code None is body allows = absurd (grind (arith, allows.1))
   scalar_leads s vs digit code (Some d) is body allows = change_leads a s vs (scalar digit code) code (letters_of_digits
-      (digit ∷ [])) d body is (λ e left same. reaches_one _ _ _ ((and_parts _ _ allows.0).1, rw left refl) (ap (λ m. at a s
-      (vs ++ m)) (own_more s vs code (letters_of_digits (digit ∷ [])) d e left same)))
+      (digit ∷ [])) d body is (λ e left same. reaches_one _ _ _ ((and_parts _ _ allows.0).1, rw left refl)
+      (ap (λ m. at a s (vs ++ m)) (own_more s vs code (letters_of_digits (digit ∷ [])) d e left same)))
 
   vector_leads : (s : ParseState) (vs : List ValueChange) (first : ℕ) (digits code : List ℕ)
-      (o : Option VariableDeclaration) → with_code code s.declared ≡ o → InBody a s vs
+      (o : Option VariableDeclaration) → first_with_code code s.declared ≡ o → InBody a s vs
       → Allows s (vector first digits code)
-      → Leads a s vs (in_place (change_outcome a s code) (vector first digits code))
-      (state_after_item s (vector first digits code))
+      → Leads a s vs (items_in_place (change_fate a s code) (vector first digits code)) (state_after_item s (vector
+      first digits code))
   vector_leads s vs first digits code None is body allows = absurd (grind (arith, allows.1))
   vector_leads s vs first digits code (Some d) is body allows =
       let tests : first_fault (digit_tests digits (Some d)) ≡ None = rw is at allows.1 in
-      change_leads a s vs (vector first digits code) code (letters_of_digits digits) d body is (λ e left same. reaches_one _
-      _ _ ((and_parts _ _ allows.0).1, rw left (same_digit_tests digits d e same tests)) (ap (λ m. at a s (vs ++ m))
-      (own_more s vs code (letters_of_digits digits) d e left same)))
+      change_leads a s vs (vector first digits code) code (letters_of_digits digits) d body is (λ e left same.
+      reaches_one _ _ _ ((and_parts _ _ allows.0).1, rw left (same_digit_tests digits d e same tests)) (ap (λ m. at a s
+      (vs ++ m)) (own_more s vs code (letters_of_digits digits) d e left same)))
 
   -- an item that changes nothing
   other_leads : (s : ParseState) (vs : List ValueChange) (i : Item) → InBody a s vs → Allows (at a s vs) i
@@ -216,9 +223,9 @@ module _ (a : Amendment) where
 
   -- a change of a real or a string is of a skipped variable, or means nothing
   real_leads : (s : ParseState) (vs : List ValueChange) (first : ℕ) (text code : List ℕ)
-      (left : Option VariableDeclaration) → with_code code (ours a s) ≡ left → InBody a s vs
+      (left : Option VariableDeclaration) → first_with_code code (ours a s) ≡ left → InBody a s vs
       → Allows s (real_or_string first text code)
-      → Leads a s vs (in_place (if is_some left then stands else is_left_out) (real_or_string first text code)) s
+      → Leads a s vs (items_in_place (if is_some left then stands else is_left_out) (real_or_string first text code)) s
   real_leads s vs first text code None is body allows =
       record { value_changes = vs; leads = reaches_none (at a s vs); body = body }
   real_leads s vs first text code (Some e) is body allows =
@@ -228,25 +235,25 @@ module _ (a : Amendment) where
   not_in_body : (b c : Bool) → b ≡ true → IsTrue (not b && c) → ⊥
   not_in_body b c is fits = grind (arith, false≢true)
 
-  pub item_leads : (quiet : Bool) (s : ParseState) (vs : List ValueChange) (i : Item) → InBody a s vs → Allows s i
+  pub item_leads : (none_yet : Bool) (s : ParseState) (vs : List ValueChange) (i : Item) → InBody a s vs → Allows s i
       → (s.tick < (state_after_item s i).tick → IsOldAt s s.tick)
-      → Leads a s vs (inserted a quiet s i ++ in_place (outcome a s i) i) (state_after_item s i)
-  item_leads quiet s vs (entry kind words) body allows old = absurd (not_in_body _ _ body.in_body allows.0)
-  item_leads quiet s vs (timescale words) body allows old = absurd (not_in_body _ _ body.in_body allows.0)
-  item_leads quiet s vs (scope kind words) body allows old = absurd (not_in_body _ _ body.in_body allows.0)
-  item_leads quiet s vs upscope body allows old = absurd (not_in_body _ _ body.in_body allows.0)
-  item_leads quiet s vs (variable words) body allows old = absurd (not_in_body _ _ body.in_body allows.0)
-  item_leads quiet s vs end_definitions body allows old = absurd (grind (arith, false≢true, allows.0, body.in_body))
-  item_leads quiet s vs (stamp digits) body allows old = stamp_leads quiet s vs digits body allows old
-  item_leads quiet s vs (scalar digit code) body allows old =
-      scalar_leads s vs digit code (with_code code s.declared) refl body allows
-  item_leads quiet s vs (vector first digits code) body allows old =
-      vector_leads s vs first digits code (with_code code s.declared) refl body allows
-  item_leads quiet s vs (real_or_string first text code) body allows old =
-      real_leads s vs first text code (with_code code (ours a s)) refl body allows
-  item_leads quiet s vs (dump_word word) body allows old =
+      → Leads a s vs (inserted_items a none_yet s i ++ items_in_place (item_fate a s i) i) (state_after_item s i)
+  item_leads none_yet s vs (entry kind words) body allows old = absurd (not_in_body _ _ body.in_body allows.0)
+  item_leads none_yet s vs (timescale words) body allows old = absurd (not_in_body _ _ body.in_body allows.0)
+  item_leads none_yet s vs (scope kind words) body allows old = absurd (not_in_body _ _ body.in_body allows.0)
+  item_leads none_yet s vs upscope body allows old = absurd (not_in_body _ _ body.in_body allows.0)
+  item_leads none_yet s vs (variable words) body allows old = absurd (not_in_body _ _ body.in_body allows.0)
+  item_leads none_yet s vs end_definitions body allows old = absurd (grind (arith, false≢true, allows.0, body.in_body))
+  item_leads none_yet s vs (stamp digits) body allows old = stamp_leads none_yet s vs digits body allows old
+  item_leads none_yet s vs (scalar digit code) body allows old =
+      scalar_leads s vs digit code (first_with_code code s.declared) refl body allows
+  item_leads none_yet s vs (vector first digits code) body allows old =
+      vector_leads s vs first digits code (first_with_code code s.declared) refl body allows
+  item_leads none_yet s vs (real_or_string first text code) body allows old =
+      real_leads s vs first text code (first_with_code code (ours a s)) refl body allows
+  item_leads none_yet s vs (dump_word word) body allows old =
       other_leads s vs (dump_word word) body ((and_parts _ _ allows.0).1, refl) refl
-  item_leads quiet s vs (other word words) body allows old =
+  item_leads none_yet s vs (other word words) body allows old =
       other_leads s vs (other word words) body (rw body.in_body at allows.0, refl) refl
 
   -- ---- all items
@@ -257,22 +264,25 @@ module _ (a : Amendment) where
     pub leads : Reaches (at a s vs) items (at a t value_changes)
     pub holds : Holds a t.declared t.value_changes (t.tick + 1) value_changes
 
-  pub all_lead : (quiet : Bool) (s : ParseState) (vs : List ValueChange) (is : List Item) → InBody a s vs → AllowsAll s is
+  pub all_lead : (none_yet : Bool) (s : ParseState) (vs : List ValueChange) (is : List Item) → InBody a s vs
+      → AllowsAll s is
       → ((u : ℕ) → u ≤ (state_after s is).tick → IsOldAt (state_after s is) u)
-      → LeadsOn s vs (amended a quiet s is) (state_after s is)
-  unfolding amended
-  all_lead quiet s vs [] body allows old = record {
+      → LeadsOn s vs (amended_items a none_yet s is) (state_after s is)
+  unfolding amended_items
+  all_lead none_yet s vs [] body allows old = record {
     value_changes = vs ++ due_at s s.tick;
     leads = all_due_lead s (ours a s) a.codes vs s.tick body.serves.takes;
-    holds = one_tick s body.serves vs s.tick (λ code c found some. old s.tick (omega arith) code c found) (λ code. body.past
+    holds = one_tick s body.serves vs s.tick (λ code c found some. old s.tick (omega arith) code c found)
+        (λ code. body.past
         code (s.tick + 1) (omega arith)) body.holds;
   }
-  all_lead quiet s vs (i ∷ is) body allows old =
+  all_lead none_yet s vs (i ∷ is) body allows old =
       let next : ParseState = state_after_item s i in
       let kept = all_keep next is allows.1 in
-      let here = item_leads quiet s vs i body allows.0 (λ rises code c found. sym (kept_at rises code c) ∙ old s.tick (omega
-      (arith, rises, kept.later)) code c found) in
-      let rest = all_lead (still_quiet quiet (outcome a s i) i) next here.value_changes is here.body allows.1 old in
+      let here = item_leads none_yet s vs i body allows.0 (λ rises code c found. sym (kept_at rises code c)
+      ∙ old s.tick (omega (arith, rises, kept.later)) code c found) in
+      let rest = all_lead (still_none_yet none_yet (item_fate a s i) i) next here.value_changes is here.body allows.1
+      old in
       record {
         value_changes = rest.value_changes;
         leads = reaches_both _ _ _ _ _ here.leads rest.leads;

@@ -15,10 +15,10 @@ use Rattle.vcd_text.specs.Items.{Item, entry, timescale, scope, upscope, variabl
 use Rattle.vcd_text.specs.Items.{stamp, scalar, vector, real_or_string, dump_word, other, has_no_end_word}
 use Rattle.vcd_text.specs.Grammar.{ParseState, VariableDeclaration, is_skipped, kept_variables, may_have_code}
 use Rattle.vcd_text.specs.Grammar.{Allows, state_after_item}
-use Rattle.vcd_text.specs.Amended.{in_place, along}
-use Rattle.vcd_text.specs.Amended.{Amendment, Fate, stays, is_removed, is_changed, fate_of, declared_with}
-use Rattle.vcd_text.specs.Amended.{variables_left, amended_variables, with_code, variable_outcome, outcome, inserted}
-use Rattle.vcd_text.specs.Amended.{added_items, FitsFate, FitsFile, amended_signal}
+use Rattle.vcd_text.specs.Amendment.{flat_map_along, Amendment, Fate, stays, is_removed, is_changed, fate_of}
+use Rattle.vcd_text.specs.Amendment.{variable_left, variables_left, amended_variables, first_with_code}
+use Rattle.vcd_text.specs.AmendedItems.{items_in_place, declaration_fate, item_fate, inserted_items, added_items}
+use Rattle.vcd_text.specs.AmendedMeaning.{FitsFate, FitsFile, amended_signal}
 use Rattle.vcd_text.specs.inside.reading.Declarations.{is_end_word}
 use Rattle.vcd_text.proofs.writing.SharedScopes.{all_closed}
 use Rattle.vcd_text.proofs.shared.ItemsInTurn.{Reaches, reaches_none, reaches_first, reaches_both, reaches_one}
@@ -27,7 +27,7 @@ use Rattle.vcd_text.proofs.shared.ItemTests.{has_declaration, allows_upscope, al
 use Rattle.vcd_text.proofs.read_back.ScopePaths.{words_have_no_end}
 use Rattle.vcd_text.proofs.read_back.Declarations.{decimal_no_end}
 use Rattle.vcd_text.proofs.read_back.Decimals.{decimal_is_number, number_of-decimal}
-use Rattle.vcd_text.proofs.amended.Along.{along-append}
+use Rattle.vcd_text.proofs.amended.Along.{flat_map_along-append}
 use Rattle.vcd_text.proofs.amended.Fitting.{ours, may_have, has_room, fate_fits}
 
 -- a state with these open scopes and these variables
@@ -44,8 +44,8 @@ module _ (s : ParseState) (declares : s.in_body ≡ false) where
   close_n (suc n) scopes ds is =
       let outer : List ScopeName = take (length scopes - 1) scopes in
       let less : length outer ≡ length scopes - 1 = length-take-le (length scopes - 1) scopes (omega arith) in
-      reaches_first _ _ _ _ (allows_upscope (declaring s scopes ds) declares (omega arith))
-      (close_n n outer ds (omega arith))
+      reaches_first _ _ _ _ (allows_upscope (declaring s scopes ds) declares (omega arith)) (close_n n outer ds (omega
+      arith))
 
   pub scopes_close : (scopes : List ScopeName) (ds : List VariableDeclaration)
       → Reaches (declaring s scopes ds) (map (λ s. upscope) scopes) (declaring s [] ds)
@@ -57,8 +57,8 @@ module _ (s : ParseState) (declares : s.in_body ≡ false) where
   scopes_open prefix (x ∷ path) ds sound =
       let parts = and_parts (is_sound_scope x) (list_all is_sound_scope path) sound in
       reaches_first _ _ _ _ (allows_scope (declaring s prefix ds) x.kind x.words declares (words_have_no_end (x.kind
-      ∷ x.words) parts.0)) (reaches_same _ _ _ _ (scopes_open (prefix ++ x ∷ []) path ds parts.1) (ap (λ p. declaring s p
-      ds) (append_assoc prefix (x ∷ []) path)))
+      ∷ x.words) parts.0)) (reaches_same _ _ _ _ (scopes_open (prefix ++ x ∷ []) path ds parts.1)
+      (ap (λ p. declaring s p ds) (append_assoc prefix (x ∷ []) path)))
 
   -- the variable that these words declare
   abbrev variable_with : List ScopeName → (kind size code : List ℕ) → List (List ℕ) → VariableDeclaration
@@ -67,10 +67,11 @@ module _ (s : ParseState) (declares : s.in_body ≡ false) where
 
   variable_leads : (scopes : List ScopeName) (ds : List VariableDeclaration) (kind size code : List ℕ)
       (names : List (List ℕ)) → 0 < length names → has_no_end_word (kind ∷ size ∷ code ∷ names) ≡ true
-      → is_number size ≡ true → may_have_code (with_code code ds) (variable_with scopes kind size code names) ≡ true
+      → is_number size ≡ true → may_have_code (first_with_code code ds) (variable_with scopes kind size code names)
+      ≡ true
       → (is_skipped (variable_with scopes kind size code names) || nat_lt (length (kept_variables ds)) s.limit) ≡ true
-      → Reaches (declaring s scopes ds) (variable (kind ∷ size ∷ code ∷ names) ∷ [])
-      (declaring s scopes (ds ++ variable_with scopes kind size code names ∷ []))
+      → Reaches (declaring s scopes ds) (variable (kind ∷ size ∷ code ∷ names) ∷ []) (declaring s scopes (ds ++
+      variable_with scopes kind size code names ∷ []))
   variable_leads scopes ds kind size code [] named no_end good may room = absurd (omega arith)
   variable_leads scopes ds kind size code (n ∷ ns) named no_end good may room = reaches_one _ _ _ (allows_variable
       (declaring s scopes ds) (kind ∷ size ∷ code ∷ n ∷ ns) declares no_end good (may, room)) refl
@@ -80,7 +81,7 @@ module _ (s : ParseState) (declares : s.in_body ≡ false) where
   module _ (a : Amendment) (final : ParseState) (fit : FitsFile a final) (limit : final.limit ≡ s.limit) where
     -- a variable among all can be declared after those before it
     fits_in : (xs : List VariableDeclaration) (e : VariableDeclaration) (ys : List VariableDeclaration)
-        → ours a final fit ≡ xs ++ e ∷ ys → (may_have_code (with_code e.code xs) e ≡ true)
+        → ours a final fit ≡ xs ++ e ∷ ys → (may_have_code (first_with_code e.code xs) e ≡ true)
         × ((is_skipped e || nat_lt (length (kept_variables xs)) s.limit) ≡ true)
     fits_in xs e ys is = (
       may_have a final fit xs e ys is,
@@ -102,20 +103,23 @@ module _ (s : ParseState) (declares : s.in_body ≡ false) where
         let declares_it = variable_leads e.scopes xs e.kind (decimal e.size) e.code e.words sound.named (and_from _ _
         (and_parts _ _ (words_have_no_end (e.kind ∷ []) (and_from _ _ sound.kind refl))).0 (and_from _ _ (decimal_no_end
         e.size small) (words_have_no_end (e.code ∷ e.words) (and_from _ _ word sound.words)))) (decimal_is_number e.size
-        small) (subst (λ d. may_have_code (with_code e.code xs) d ≡ true) (sym it) fits.0) (subst (λ d. (is_skipped d
+        small) (subst (λ d. may_have_code (first_with_code e.code xs) d ≡ true) (sym it) fits.0)
+        (subst (λ d. (is_skipped d
         || nat_lt (length (kept_variables xs)) s.limit) ≡ true) (sym it) fits.1) in
-        reaches_both _ _ _ _ _ (scopes_open [] e.scopes xs sound.scopes) (reaches_both _ _ _ (_ ∷ []) _ (reaches_same _ _ _
-        _ declares_it (ap (λ d. declaring s e.scopes (xs ++ d ∷ [])) it)) (scopes_close e.scopes (xs ++ e ∷ [])))
+        reaches_both _ _ _ _ _ (scopes_open [] e.scopes xs sound.scopes) (reaches_both _ _ _ (_ ∷ []) _
+        (reaches_same _ _ _ _ declares_it (ap (λ d. declaring s e.scopes (xs ++ d ∷ [])) it)) (scopes_close e.scopes (xs
+        ++ e ∷ [])))
 
     pub all_added_lead : (xs ys : List VariableDeclaration) → ours a final fit ≡ xs ++ ys
         → All (λ d. IsTrue (is_word d.code) × IsSoundSignal final.tick (amended_signal a final d)) ys
         → Reaches (declaring s [] xs) (flat_map added_items ys) (declaring s [] (xs ++ ys))
     all_added_lead xs [] is all = rw (append-nil xs) (reaches_none (declaring s [] xs))
     all_added_lead xs (e ∷ ys) is all =
-        let P = λ (d : VariableDeclaration). IsTrue (is_word d.code) × IsSoundSignal final.tick (amended_signal a final d) in
+        let P = λ (d : VariableDeclaration). IsTrue (is_word d.code) × IsSoundSignal final.tick
+        (amended_signal a final d) in
         reaches_both _ _ _ _ _ (added_leads e xs ys is (All-head P e ys all)) (reaches_same _ _ _ _ (all_added_lead (xs
-        ++ e ∷ []) ys (is ∙ sym (append_assoc xs (e ∷ []) ys)) (All-tail P e ys all)) (ap (declaring s []) (append_assoc xs
-        (e ∷ []) ys)))
+        ++ e ∷ []) ys (is ∙ sym (append_assoc xs (e ∷ []) ys)) (All-tail P e ys all)) (ap (declaring s [])
+        (append_assoc xs (e ∷ []) ys)))
 
     -- ---- variables of the file
 
@@ -133,12 +137,12 @@ module _ (s : ParseState) (declares : s.in_body ≡ false) where
 
       module _ (more : List VariableDeclaration) (whole : final.declared ≡ s.declared ++ d ∷ more) where
         abbrev after : List VariableDeclaration
-        after = along (λ before d. declared_with (fate_of a before d) d) (s.declared ++ d ∷ []) more ++ a.added
+        after = flat_map_along (λ before d. variable_left (fate_of a before d) d) (s.declared ++ d ∷ []) more ++ a.added
 
-        all_are : ours a final fit ≡ before ++ (declared_with (fate_of a s.declared d) d ++ after)
-        all_are = ap (amended_variables a) whole ∙ ap (λ l. l ++ a.added) (along-append (λ before d. declared_with (fate_of a
-            before d) d) [] s.declared (d ∷ more)) ∙ append_assoc before _ a.added ∙ ap (λ l. before ++ l) (append_assoc
-            (declared_with (fate_of a s.declared d) d) _ a.added)
+        all_are : ours a final fit ≡ before ++ (variable_left (fate_of a s.declared d) d ++ after)
+        all_are = ap (amended_variables a) whole ∙ ap (λ l. l ++ a.added) (flat_map_along-append
+            (λ before d. variable_left (fate_of a before d) d) [] s.declared (d ∷ more)) ∙ append_assoc before _ a.added
+            ∙ ap (λ l. before ++ l) (append_assoc (variable_left (fate_of a s.declared d) d) _ a.added)
 
         fit_words : (has_no_end_word (kind ∷ size ∷ code ∷ name ∷ names) ≡ true) × (is_number size ≡ true)
         fit_words = and_parts (has_no_end_word (kind ∷ size ∷ code ∷ name ∷ names)) (is_number size)
@@ -151,9 +155,9 @@ module _ (s : ParseState) (declares : s.in_body ≡ false) where
             let second = and_parts (not (is_end_word size)) (has_no_end_word (code ∷ name ∷ names)) first.1 in
             (first.0, second.0)
 
-        by_fate : (f : Fate) → FitsFate f → ours a final fit ≡ before ++ (declared_with f d ++ after)
-            → Reaches (amending s) (in_place (variable_outcome f (kind ∷ size ∷ code ∷ name ∷ names))
-            (variable (kind ∷ size ∷ code ∷ name ∷ names))) (declaring s s.scopes (before ++ declared_with f d))
+        by_fate : (f : Fate) → FitsFate f → ours a final fit ≡ before ++ (variable_left f d ++ after)
+            → Reaches (amending s) (items_in_place (declaration_fate f (kind ∷ size ∷ code ∷ name ∷ names))
+            (variable (kind ∷ size ∷ code ∷ name ∷ names))) (declaring s s.scopes (before ++ variable_left f d))
         by_fate stays fits is =
             let able = fits_in before d after is in
             variable_leads s.scopes before kind size code (name ∷ names) (omega arith) fit_words.0 fit_words.1 able.0
@@ -164,17 +168,18 @@ module _ (s : ParseState) (declares : s.in_body ≡ false) where
             variable_leads s.scopes before kind size new words named (and_from _ _ front_no_end.0 (and_from _ _
             front_no_end.1 (words_have_no_end (new ∷ words) (and_from _ _ coded word)))) fit_words.1 able.0 able.1
 
-        pub declared_leads : Reaches (amending s) (in_place (outcome a s (variable (kind ∷ size ∷ code ∷ name ∷ names)))
-            (variable (kind ∷ size ∷ code ∷ name ∷ names)))
-            (amending (state_after_item s (variable (kind ∷ size ∷ code ∷ name ∷ names))))
-        declared_leads = reaches_same _ _ _ _ (by_fate (fate_of a s.declared d) (fate_fits a final fit s.declared d) all_are)
-            (ap (declaring s s.scopes) (sym (along-append (λ before d. declared_with (fate_of a before d) d) [] s.declared (d
-            ∷ []) ∙ ap (λ l. before ++ l) (append-nil (declared_with (fate_of a s.declared d) d)))))
+        pub declared_leads : Reaches (amending s) (items_in_place (item_fate a s (variable (kind ∷ size ∷ code ∷ name
+            ∷ names))) (variable (kind ∷ size ∷ code ∷ name ∷ names))) (amending (state_after_item s (variable (kind ∷
+            size ∷ code ∷ name ∷ names))))
+        declared_leads = reaches_same _ _ _ _ (by_fate (fate_of a s.declared d) (fate_fits a final fit s.declared d)
+            all_are) (ap (declaring s s.scopes) (sym (flat_map_along-append (λ before d. variable_left (fate_of a before
+            d) d) [] s.declared (d
+            ∷ []) ∙ ap (λ l. before ++ l) (append-nil (variable_left (fate_of a s.declared d) d)))))
 
     -- a `$var`
     variable_item_leads : (words : List (List ℕ)) (more : List VariableDeclaration) → Allows s (variable words)
         → final.declared ≡ (state_after_item s (variable words)).declared ++ more
-        → Reaches (amending s) (in_place (outcome a s (variable words)) (variable words))
+        → Reaches (amending s) (items_in_place (item_fate a s (variable words)) (variable words))
         (amending (state_after_item s (variable words)))
     variable_item_leads [] more allows whole = absurd (has_declaration s [] allows)
     variable_item_leads (kind ∷ []) more allows whole = absurd (has_declaration s (kind ∷ []) allows)
@@ -185,22 +190,24 @@ module _ (s : ParseState) (declares : s.in_body ≡ false) where
         allows more (whole ∙ append_assoc s.declared _ more)
 
     -- any other item in front of `$enddefinitions`
-    pub declaration_leads : (quiet : Bool) (i : Item) (more : List VariableDeclaration) → Allows s i → (i ≡ end_definitions → ⊥)
+    pub declaration_leads : (none_yet : Bool) (i : Item) (more : List VariableDeclaration) → Allows s i
+        → (i ≡ end_definitions → ⊥)
         → final.declared ≡ (state_after_item s i).declared ++ more
-        → Reaches (amending s) (inserted a quiet s i ++ in_place (outcome a s i) i) (amending (state_after_item s i))
-    declaration_leads quiet (entry kind words) more allows goes_on whole = reaches_one _ _ _ allows refl
-    declaration_leads quiet (timescale words) more allows goes_on whole = reaches_one _ _ _ allows refl
-    declaration_leads quiet (scope kind words) more allows goes_on whole = reaches_one _ _ _ allows refl
-    declaration_leads quiet upscope more allows goes_on whole = reaches_one _ _ _ allows refl
-    declaration_leads quiet (variable words) more allows goes_on whole = variable_item_leads words more allows whole
-    declaration_leads quiet end_definitions more allows goes_on whole = absurd (goes_on refl)
-    declaration_leads quiet (stamp digits) more allows goes_on whole = absurd (false≢true (sym declares ∙ allows.0))
-    declaration_leads quiet (scalar digit code) more allows goes_on whole =
+        → Reaches (amending s) (inserted_items a none_yet s i ++ items_in_place (item_fate a s i) i)
+        (amending (state_after_item s i))
+    declaration_leads none_yet (entry kind words) more allows goes_on whole = reaches_one _ _ _ allows refl
+    declaration_leads none_yet (timescale words) more allows goes_on whole = reaches_one _ _ _ allows refl
+    declaration_leads none_yet (scope kind words) more allows goes_on whole = reaches_one _ _ _ allows refl
+    declaration_leads none_yet upscope more allows goes_on whole = reaches_one _ _ _ allows refl
+    declaration_leads none_yet (variable words) more allows goes_on whole = variable_item_leads words more allows whole
+    declaration_leads none_yet end_definitions more allows goes_on whole = absurd (goes_on refl)
+    declaration_leads none_yet (stamp digits) more allows goes_on whole = absurd (false≢true (sym declares ∙ allows.0))
+    declaration_leads none_yet (scalar digit code) more allows goes_on whole =
         absurd (false≢true (sym declares ∙ (and_parts s.in_body _ allows.0).0))
-    declaration_leads quiet (vector first digits code) more allows goes_on whole =
+    declaration_leads none_yet (vector first digits code) more allows goes_on whole =
         absurd (false≢true (sym declares ∙ (and_parts s.in_body _ allows.0).0))
-    declaration_leads quiet (real_or_string first text code) more allows goes_on whole =
+    declaration_leads none_yet (real_or_string first text code) more allows goes_on whole =
         absurd (false≢true (sym declares ∙ (and_parts s.in_body _ allows.0).0))
-    declaration_leads quiet (dump_word word) more allows goes_on whole =
+    declaration_leads none_yet (dump_word word) more allows goes_on whole =
         absurd (false≢true (sym declares ∙ (and_parts s.in_body _ allows.0).0))
-    declaration_leads quiet (other word words) more allows goes_on whole = reaches_one _ _ _ allows refl
+    declaration_leads none_yet (other word words) more allows goes_on whole = reaches_one _ _ _ allows refl

@@ -14,7 +14,8 @@ use Rattle.vcd_text.specs.Letters.{short_form}
 use Rattle.vcd_text.specs.Items.{Item, stamp}
 use Rattle.vcd_text.specs.Grammar.{ValueChange, VariableDeclaration, ParseState, is_skipped}
 use Rattle.vcd_text.specs.Text.{with_stamp, value_item}
-use Rattle.vcd_text.specs.Amended.{AmendedCode, new_value, due_items, needs_change, has_changed, with_code}
+use Rattle.vcd_text.specs.Amendment.{AmendedCode, new_value, needs_change, first_with_code}
+use Rattle.vcd_text.specs.AmendedItems.{due_items, file_has_change}
 use Rattle.vcd_text.proofs.read_back.Decimals.{decimal_is_number, number_of-decimal}
 use Rattle.vcd_text.proofs.shared.ItemsInTurn.{Reaches, reaches_both, reaches_none, reaches_same}
 use Rattle.vcd_text.proofs.read_back.Values.{letter_back, letters_back, short_within, short_one, all_letters}
@@ -29,7 +30,7 @@ body_of s declared value_changes tick =
 -- the variable of an amended code takes its values
 pub record TakesValues (declared : List VariableDeclaration) (c : AmendedCode) : Type 0 where
   pub variable : VariableDeclaration
-  pub found : with_code c.code declared ≡ Some variable
+  pub found : first_with_code c.code declared ≡ Some variable
   pub kept : is_skipped variable ≡ false
   pub size : variable.size ≡ c.width
   pub coded : 0 < length c.code
@@ -50,7 +51,7 @@ module _ (s : ParseState) (declared : List VariableDeclaration) where
   -- ---- one value
 
   value_leads : (code : List ℕ) (d : VariableDeclaration) (vs : List ValueChange) (t : ℕ) (v : List Bit)
-      → with_code code declared ≡ Some d → is_skipped d ≡ false → 0 < length code → length v ≡ d.size
+      → first_with_code code declared ≡ Some d → is_skipped d ≡ false → 0 < length code → length v ≡ d.size
       → Reaches (at vs t) (value_item code v ∷ [])
       (at (vs ++ record { tick = t; code = code; letters = short_form v } ∷ []) t)
   value_leads code d vs t [] found kept coded wide = grind (arith, eq-eqb)
@@ -62,12 +63,13 @@ module _ (s : ParseState) (declared : List VariableDeclaration) where
 
   pub due_leads : (c : AmendedCode) (vs : List ValueChange) (t : ℕ) → TakesValues declared c
       → Reaches (at vs t) (due_items s t c) (at (vs ++ due_of s t c) t)
-  due_leads c vs t takes = by_test (needs_change c t && not (has_changed s c.code t))
+  due_leads c vs t takes = by_test (needs_change c t && not (file_has_change s c.code t))
     where
-      by_test : (b : Bool) → Reaches (at vs t) (if b then value_item c.code (new_value c t) ∷ [] else []) (at (vs ++ (if b
+      by_test : (b : Bool) → Reaches (at vs t) (if b then value_item c.code (new_value c t) ∷ [] else [])
+          (at (vs ++ (if b
           then new_change c t ∷ [] else [])) t)
-      by_test true = value_leads c.code takes.variable vs t (new_value c t) takes.found takes.kept takes.coded (wave_is_wide
-          c.width c.new t takes.wave ∙ sym takes.size)
+      by_test true = value_leads c.code takes.variable vs t (new_value c t) takes.found takes.kept takes.coded
+          (wave_is_wide c.width c.new t takes.wave ∙ sym takes.size)
       by_test false = rw (append-nil vs) (reaches_none (at vs t))
 
   pub all_due_lead : (cs : List AmendedCode) (vs : List ValueChange) (t : ℕ) → All (TakesValues declared) cs
@@ -75,12 +77,12 @@ module _ (s : ParseState) (declared : List VariableDeclaration) where
   all_due_lead [] vs t all = rw (append-nil vs) (reaches_none (at vs t))
   all_due_lead (c ∷ cs) vs t all =
       reaches_both _ _ _ _ _ (due_leads c vs t (All-head (TakesValues declared) c cs all)) (reaches_same _ _ _ _
-      (all_due_lead cs (vs ++ due_of s t c) t (All-tail (TakesValues declared) c cs all)) (ap (λ l. at l t) (append_assoc
-      vs (due_of s t c) (flat_map (due_of s t) cs))))
+      (all_due_lead cs (vs ++ due_of s t c) t (All-tail (TakesValues declared) c cs all)) (ap (λ l. at l t)
+      (append_assoc vs (due_of s t c) (flat_map (due_of s t) cs))))
 
   -- as many items as value changes
   as_many_of : (t : ℕ) (c : AmendedCode) → length (due_items s t c) ≡ length (due_of s t c)
-  as_many_of t c = by_test (needs_change c t && not (has_changed s c.code t))
+  as_many_of t c = by_test (needs_change c t && not (file_has_change s c.code t))
     where
       by_test : (b : Bool) → length (if b then value_item c.code (new_value c t) ∷ [] else [])
           ≡ length (if b then new_change c t ∷ [] else [])
@@ -89,8 +91,8 @@ module _ (s : ParseState) (declared : List VariableDeclaration) where
 
   as_many : (cs : List AmendedCode) (t : ℕ) → length (flat_map (due_items s t) cs) ≡ length (flat_map (due_of s t) cs)
   as_many [] t = refl
-  as_many (c ∷ cs) t = length-append (due_items s t c) _ ∙ ap (λ n. n + length (flat_map (due_items s t) cs)) (as_many_of t
-      c) ∙ ap (λ n. length (due_of s t c) + n) (as_many cs t) ∙ sym (length-append (due_of s t c) _)
+  as_many (c ∷ cs) t = length-append (due_items s t c) _ ∙ ap (λ n. n + length (flat_map (due_items s t) cs))
+      (as_many_of t c) ∙ ap (λ n. length (due_of s t c) + n) (as_many cs t) ∙ sym (length-append (due_of s t c) _)
 
   -- ---- stamps
 
@@ -99,14 +101,16 @@ module _ (s : ParseState) (declared : List VariableDeclaration) where
   stamp_leads vs u t later within = grind (arith, number_of-decimal, decimal_is_number, le-leb)
 
   -- after some items of this tick, the last stamp is no later
-  pub record LeadsUpTo (vs : List ValueChange) (last : ℕ) (items : List Item) (more : List ValueChange) (most : ℕ) : Type 0
+  pub record LeadsUpTo (vs : List ValueChange) (last : ℕ) (items : List Item) (more : List ValueChange) (most : ℕ) :
+      Type 0
     where
       pub stamped : ℕ
       pub upto : stamped ≤ most
       pub leads : Reaches (at vs last) items (at (vs ++ more) stamped)
 
   stamped_lead : (vs more : List ValueChange) (last t : ℕ) (items : List Item) → length items ≡ length more → last ≤ t
-      → t ≤ END_LIMIT → Reaches (at vs t) items (at (vs ++ more) t) → LeadsUpTo vs last (with_stamp false t items) more t
+      → t ≤ END_LIMIT → Reaches (at vs t) items (at (vs ++ more) t) → LeadsUpTo vs last (with_stamp false t items) more
+      t
   stamped_lead vs [] last t [] long later within leads = record {
     stamped = last;
     upto = later;
@@ -128,10 +132,10 @@ module _ (s : ParseState) (declared : List VariableDeclaration) where
 
     -- the items of the tick of the last stamp, with a stamp or without one
     abbrev now_items : Bool → ℕ → List Item
-    now_items quiet t = if quiet then with_stamp false t (items_of t) else items_of t
+    now_items none_yet t = if none_yet then with_stamp false t (items_of t) else items_of t
 
-    pub now_leads : (quiet : Bool) (vs : List ValueChange) (t : ℕ) → t ≤ END_LIMIT
-        → Reaches (at vs t) (now_items quiet t) (at (vs ++ changes_of t) t)
+    pub now_leads : (none_yet : Bool) (vs : List ValueChange) (t : ℕ) → t ≤ END_LIMIT
+        → Reaches (at vs t) (now_items none_yet t) (at (vs ++ changes_of t) t)
     now_leads false vs t within = all_due_lead cs vs t all
     now_leads true vs t within = by_items (items_of t) (changes_of t) (as_many cs t) (all_due_lead cs vs t all)
       where
@@ -143,21 +147,23 @@ module _ (s : ParseState) (declared : List VariableDeclaration) where
 
     -- the items of a tick, if another one is that of the last stamp
     abbrev tick_items : Bool → (last t : ℕ) → List Item
-    tick_items quiet last t = if t == last then now_items quiet last else with_stamp false t (items_of t)
+    tick_items none_yet last t = if t == last then now_items none_yet last else with_stamp false t (items_of t)
 
     -- n ticks from t on, past the last stamp before the first one
-    later_ticks : (quiet : Bool) (vs : List ValueChange) (first last t n most : ℕ) → first < t → last ≤ t → t + n ≤ most
-        → most ≤ END_LIMIT → last ≤ most → LeadsUpTo vs last (over (tick_items quiet first) t n) (over changes_of t n) most
-    later_ticks quiet vs first last t zero most past later within end least = record {
+    later_ticks : (none_yet : Bool) (vs : List ValueChange) (first last t n most : ℕ) → first < t → last ≤ t
+        → t + n ≤ most
+        → most ≤ END_LIMIT → last ≤ most → LeadsUpTo vs last (over (tick_items none_yet first) t n)
+        (over changes_of t n) most
+    later_ticks none_yet vs first last t zero most past later within end least = record {
       stamped = last;
       upto = least;
       leads = rw (append-nil vs) (reaches_none (at vs last));
     }
-    later_ticks quiet vs first last t (suc n) most past later within end least =
+    later_ticks none_yet vs first last t (suc n) most past later within end least =
         let other : (t == first) ≡ false = ne_eqb t first (omega arith) in
-        let here = stamped_lead vs (changes_of t) last t (items_of t) (as_many cs t) later (omega arith) (all_due_lead cs vs
-        t all) in
-        let rest = later_ticks quiet (vs ++ changes_of t) first here.stamped (t + 1) n most (omega arith) (omega (
+        let here = stamped_lead vs (changes_of t) last t (items_of t) (as_many cs t) later (omega arith)
+        (all_due_lead cs vs t all) in
+        let rest = later_ticks none_yet (vs ++ changes_of t) first here.stamped (t + 1) n most (omega arith) (omega (
           arith,
           here.upto,
         )) (omega arith) end (omega (arith, here.upto)) in
@@ -169,20 +175,21 @@ module _ (s : ParseState) (declared : List VariableDeclaration) where
         }
 
     -- what is due before a stamp
-    pub ticks_lead : (quiet : Bool) (vs : List ValueChange) (last most n : ℕ) → last + n ≡ most → most ≤ END_LIMIT
-        → LeadsUpTo vs last (over (tick_items quiet last) last n) (over changes_of last n) most
-    ticks_lead quiet vs last most zero is end = record {
+    pub ticks_lead : (none_yet : Bool) (vs : List ValueChange) (last most n : ℕ) → last + n ≡ most → most ≤ END_LIMIT
+        → LeadsUpTo vs last (over (tick_items none_yet last) last n) (over changes_of last n) most
+    ticks_lead none_yet vs last most zero is end = record {
       stamped = last;
       upto = omega arith;
       leads = rw (append-nil vs) (reaches_none (at vs last));
     }
-    ticks_lead quiet vs last most (suc n) is end =
+    ticks_lead none_yet vs last most (suc n) is end =
         let now : (last == last) ≡ true = eq-eqb last last refl in
-        let rest = later_ticks quiet (vs ++ changes_of last) last last (last + 1) n most (omega arith) (omega arith) (omega arith)
-        end (omega arith) in
+        let rest = later_ticks none_yet (vs ++ changes_of last) last last (last + 1) n most (omega arith) (omega arith)
+        (omega arith) end (omega arith) in
         record {
           stamped = rest.stamped;
           upto = rest.upto;
-          leads = rw now (reaches_both _ _ _ _ _ (now_leads quiet vs last (omega arith)) (reaches_same _ _ _ _ rest.leads (ap (λ l.
+          leads = rw now (reaches_both _ _ _ _ _ (now_leads none_yet vs last (omega arith))
+              (reaches_same _ _ _ _ rest.leads (ap (λ l.
               at l rest.stamped) (append_assoc vs (changes_of last) (over changes_of (last + 1) n)))));
         }

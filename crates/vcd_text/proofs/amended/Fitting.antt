@@ -12,9 +12,10 @@ use Rattle.vcd_core.specs.Wave.{value_at}
 use Rattle.vcd_core.proofs.shared.Waves.{value_at-changes_of}
 use Rattle.vcd_text.specs.Grammar.{ParseState, VariableDeclaration, is_skipped, kept_variables, may_have_code}
 use Rattle.vcd_text.specs.Meaning.{changes_of_code}
-use Rattle.vcd_text.specs.Amended.{Amendment, AmendedCode, Fate, stays, fate_of, amended_variables, with_code}
-use Rattle.vcd_text.specs.Amended.{amended_code, AreApart, class_of, FitsCode, FitsFate, FitsAmendedCode}
-use Rattle.vcd_text.specs.Amended.{FitsFile, amended_signal}
+use Rattle.vcd_text.specs.Amendment.{Amendment, AmendedCode, Fate, stays, fate_of, amended_variables, first_with_code}
+use Rattle.vcd_text.specs.Amendment.{amended_code}
+use Rattle.vcd_text.specs.AmendedMeaning.{AreApart, class_of, FitsCode, FitsFate, FitsAmendedCode, FitsFile}
+use Rattle.vcd_text.specs.AmendedMeaning.{amended_signal}
 use Rattle.vcd_text.proofs.amended.Codes.{same_bytes, itself}
 use Rattle.vcd_text.proofs.amended.Found.{found_has, found_is, all_parts, is_there, each_of_both, at_position}
 use Rattle.vcd_text.proofs.amended.Due.{TakesValues}
@@ -65,7 +66,8 @@ found_apart (c ∷ cs) (first, apart) = All-cons (λ (x : AmendedCode). amended_
     later : (x : AmendedCode) → amended_code x.code cs ≡ Some x → amended_code x.code (c ∷ cs) ≡ Some x
     later x found = elim (cases_Bool (bytes_eq x.code c.code)) [
       | inl same ↦
-          let never : None ≡ Some x = sym first ∙ ap (λ k. amended_code k cs) (sym (same_bytes x.code c.code same)) ∙ found
+          let never : None ≡ Some x = sym first ∙ ap (λ k. amended_code k cs) (sym (same_bytes x.code c.code same))
+          ∙ found
           in absurd (cc)
       | inr beside ↦ rw beside found
     ]
@@ -76,7 +78,7 @@ module _ (a : Amendment) (s : ParseState) (fit : FitsFile a s) where
 
   -- a variable fits its code
   abbrev pub Fits : VariableDeclaration → Type 0
-  Fits d = FitsCode (amended_code d.code a.codes) (with_code d.code s.declared) d
+  Fits d = FitsCode (amended_code d.code a.codes) (first_with_code d.code s.declared) d
 
   -- ---- one variable among all
 
@@ -89,11 +91,11 @@ module _ (a : Amendment) (s : ParseState) (fit : FitsFile a s) where
     fits_here = All-head Fits e ys parts.1
 
     -- after those before it, it can have its code
-    pub may_have : may_have_code (with_code e.code xs) e ≡ true
-    may_have = test_from_class (with_code e.code xs) e (λ f found. same_class (amended_code e.code a.codes) (with_code
-        e.code s.declared) f e (subst (λ k. FitsCode (amended_code k a.codes) (with_code k s.declared) f) (sym (same_bytes
-        e.code f.code (found_is (λ (d : VariableDeclaration). bytes_eq e.code d.code) xs f found))) (found_has Fits (λ (d :
-        VariableDeclaration). bytes_eq e.code d.code) xs f parts.0 found)) fits_here)
+    pub may_have : may_have_code (first_with_code e.code xs) e ≡ true
+    may_have = test_from_class (first_with_code e.code xs) e (λ f found. same_class (amended_code e.code a.codes)
+        (first_with_code e.code s.declared) f e (subst (λ k. FitsCode (amended_code k a.codes) (first_with_code k
+        s.declared) f) (sym (same_bytes e.code f.code (found_is (λ (d : VariableDeclaration). bytes_eq e.code d.code) xs
+        f found))) (found_has Fits (λ (d : VariableDeclaration). bytes_eq e.code d.code) xs f parts.0 found)) fits_here)
 
     -- there is room for it
     pub has_room : (is_skipped e || nat_lt (length (kept_variables xs)) s.limit) ≡ true
@@ -101,8 +103,8 @@ module _ (a : Amendment) (s : ParseState) (fit : FitsFile a s) where
       | inl skipped ↦ rw skipped refl
       | inr kept ↦
           let some : length (kept_variables (e ∷ ys)) ≡ 1 + length (kept_variables ys) = rw kept (omega arith) in
-          let whole : length (kept_variables ours) ≡ length (kept_variables xs) + length (kept_variables (e ∷ ys)) = ap (λ
-          l. length (kept_variables l)) is ∙ ap length (filter-append (λ d. not (is_skipped d)) xs (e ∷ ys))
+          let whole : length (kept_variables ours) ≡ length (kept_variables xs) + length (kept_variables (e ∷ ys)) = ap
+          (λ l. length (kept_variables l)) is ∙ ap length (filter-append (λ d. not (is_skipped d)) xs (e ∷ ys))
           ∙ length-append (kept_variables xs) _ in
           let all : length (map (amended_signal a s) (kept_variables ours)) ≡ length (kept_variables ours) = length-map
           (kept_variables ours) (amended_signal a s) in
@@ -124,14 +126,15 @@ module _ (a : Amendment) (s : ParseState) (fit : FitsFile a s) where
 
   takes_values : (c : AmendedCode) → FitsAmendedCode a s c → amended_code c.code a.codes ≡ Some c → TakesValues ours c
   takes_values c fits found =
-      let there = is_there (with_code c.code ours) fits.used in
+      let there = is_there (first_with_code c.code ours) fits.used in
       let e : VariableDeclaration = there.0 in
-      let same : c.code ≡ e.code = same_bytes c.code e.code (found_is (λ (d : VariableDeclaration). bytes_eq c.code d.code)
-      ours e there.1) in
-      let fit_e : Fits e = found_has Fits (λ (d : VariableDeclaration). bytes_eq c.code d.code) ours e fit.variables there.1
+      let same : c.code ≡ e.code = same_bytes c.code e.code (found_is (λ (d : VariableDeclaration). bytes_eq c.code
+      d.code) ours e there.1) in
+      let fit_e : Fits e = found_has Fits (λ (d : VariableDeclaration). bytes_eq c.code d.code) ours e fit.variables
+      there.1
       in
-      let class : class_of e ≡ Some c.width = subst (λ o. FitsCode o (with_code e.code s.declared) e) (ap (λ k. amended_code
-      k a.codes) (sym same) ∙ found) fit_e in
+      let class : class_of e ≡ Some c.width = subst (λ o. FitsCode o (first_with_code e.code s.declared) e)
+      (ap (λ k. amended_code k a.codes) (sym same) ∙ found) fit_e in
       let sized = size_of_class e c.width class in
       record {
         variable = e;
@@ -151,28 +154,32 @@ module _ (a : Amendment) (s : ParseState) (fit : FitsFile a s) where
   )
 
   old_fits : (code : List ℕ) (c : AmendedCode) (d : VariableDeclaration) → amended_code code a.codes ≡ Some c
-      → with_code code s.declared ≡ Some d → class_of d ≡ Some c.width
+      → first_with_code code s.declared ≡ Some d → class_of d ≡ Some c.width
   old_fits code c d found first =
       let fits = fits_of code c found in
-      fits.0.fits d (ap (λ k. with_code k s.declared) (sym fits.1) ∙ first)
+      fits.0.fits d (ap (λ k. first_with_code k s.declared) (sym fits.1) ∙ first)
 
   -- a variable of the amended file is of the class of the code in the file
   like_old : (o : Option AmendedCode) (code : List ℕ) (d e : VariableDeclaration) → amended_code code a.codes ≡ o
-      → with_code code s.declared ≡ Some d → FitsCode o (with_code code s.declared) e → class_of d ≡ class_of e
+      → first_with_code code s.declared ≡ Some d → FitsCode o (first_with_code code s.declared) e → class_of d
+      ≡ class_of e
   like_old None code d e none first fits = sym (subst (λ x. FitsCode None x e) first fits)
   like_old (Some c) code d e found first fits = old_fits code c d found first ∙ sym fits
 
   pub serves : Serves a s.declared
   serves = record {
     apart = fit.apart;
-    takes = each_of_both (FitsAmendedCode a s) (λ c. amended_code c.code a.codes ≡ Some c) (TakesValues ours) takes_values
+    takes = each_of_both (FitsAmendedCode a s) (λ c. amended_code c.code a.codes ≡ Some c) (TakesValues ours)
+        takes_values
         a.codes fit.codes (found_apart a.codes fit.apart);
     fits = old_fits;
     alike = λ code d e first left.
-        let same : e.code ≡ code = sym (same_bytes code e.code (found_is (λ (d : VariableDeclaration). bytes_eq code d.code)
-        ours e left)) in
-        like_old (amended_code code a.codes) code d e refl first (subst (λ k. FitsCode (amended_code k a.codes) (with_code k
-        s.declared) e) same (found_has Fits (λ (d : VariableDeclaration). bytes_eq code d.code) ours e fit.variables left));
+        let same : e.code ≡ code = sym (same_bytes code e.code (found_is (λ (d : VariableDeclaration). bytes_eq code
+        d.code) ours e left)) in
+        like_old (amended_code code a.codes) code d e refl first (subst (λ k. FitsCode (amended_code k a.codes)
+        (first_with_code k s.declared) e) same (found_has Fits (λ (d : VariableDeclaration). bytes_eq code d.code) ours
+        e fit.variables
+        left));
   }
 
   pub is_old : (u : ℕ) → u ≤ s.tick → IsOldAt a s u

@@ -1,10 +1,11 @@
 -- The value changes of one code: in the amended file they have the values of its new wave.
-use Rattle.std.proofs.Common.{◌≡◌, ℕ, suc, ◌+◌, ◌<◌, ◌≤◌, ◌∙◌, ◌==◌, Bool, true, false, not, ◌&&◌}
+use Rattle.std.proofs.Common.{◌≡◌, ℕ, zero, suc, ◌+◌, ◌<◌, ◌≤◌, ◌∙◌, ◌==◌, Bool, true, false, not, ◌&&◌}
 use Rattle.std.proofs.Common.{List, [], ◌∷◌, ◌++◌, map, length, nat_le, if◌then◌else◌}
 use Rattle.std.proofs.Common.{refl, sym, ap, arith, inl, inr, subst}
 use Rattle.std.specs.List.{list_any}
-use Rattle.std.proofs.lemmas.Bool.{cases_Bool, cases_lt, and_parts, and_from, or_parts, or_right, or_left, le-leb, lt-leb}
-use Rattle.std.proofs.lemmas.Bool.{false≢true, eq-eqb}
+use Rattle.std.proofs.lemmas.Bool.{cases_Bool, cases_lt, and_parts, and_from, or_parts, or_right, or_left, le-leb}
+use Rattle.std.proofs.lemmas.Bool.{lt-leb}
+use Rattle.std.proofs.lemmas.Bool.{false≢true, eq-eqb, eqb-false}
 use Rattle.std.proofs.lemmas.List.{append-nil, map-append, length-replicate}
 use Rattle.std.proofs.lemmas.List.Folds.{list_any-append}
 use Rattle.vcd_core.specs.declared.bit.Bit.{Bit}
@@ -15,7 +16,7 @@ use Rattle.vcd_core.specs.Wave.{change, value_from, value_at, AreChangesFrom, Is
 use Rattle.vcd_core.proofs.shared.Waves.{value_from-append}
 use Rattle.vcd_text.specs.Letters.{extension, short_form}
 use Rattle.vcd_text.specs.Grammar.{ValueChange}
-use Rattle.vcd_text.specs.Amended.{AmendedCode, old_value, new_value, value_before, stands_at, needs_change}
+use Rattle.vcd_text.specs.Amendment.{AmendedCode, old_value, new_value, changes_stand, needs_change, wave_has_change}
 use Rattle.vcd_text.proofs.read_back.Values.{found_passes}
 
 -- ---- values by value changes
@@ -74,6 +75,41 @@ pub wave_is_wide : (width : ℕ) (cs : List Change) (t : ℕ) → IsWave width c
 wave_is_wide width cs t wave = wide_from width 0 (all_x width) (all_x width) cs t wave.rise (length-replicate width _)
     (length-replicate width _)
 
+-- the value of a wave just before a tick: all x before tick 0
+abbrev pub value_before : ℕ → List Change → ℕ → List Bit
+value_before width changes zero = all_x width
+value_before width changes (suc t) = value_at width changes t
+
+-- where a wave has no change, it has the value just before
+stays_from : (before : List Bit) (cs : List Change) (t : ℕ) → wave_has_change cs (suc t) ≡ false
+    → value_from before cs t ≡ value_from before cs (suc t)
+unfolding value_from
+stays_from before [] t none = refl
+stays_from before (c ∷ cs) t none =
+    let parts = or_parts (c.tick == suc t) (wave_has_change cs (suc t)) none in
+    let same : nat_le c.tick (suc t) ≡ nat_le c.tick t = by_order parts.0 in
+    rw same (stays_from (if nat_le c.tick t then c.value else before) cs t parts.1)
+  where
+    by_order : (c.tick == suc t) ≡ false → nat_le c.tick (suc t) ≡ nat_le c.tick t
+    by_order other = elim (cases_lt t c.tick) [
+      | inl less ↦ lt-leb c.tick (suc t) (omega (arith, less, eqb-false c.tick (suc t) other))
+          ∙ sym (lt-leb c.tick t less)
+      | inr past ↦ le-leb c.tick (suc t) (omega arith) ∙ sym (le-leb c.tick t past)
+    ]
+
+none_at_first : (before : List Bit) (cs : List Change) → wave_has_change cs 0 ≡ false
+    → before ≡ value_from before cs 0
+unfolding value_from
+none_at_first before [] none = refl
+none_at_first before (c ∷ cs) none =
+    let parts = or_parts (c.tick == 0) (wave_has_change cs 0) none in
+    rw (lt-leb c.tick 0 (omega (arith, eqb-false c.tick 0 parts.0))) (none_at_first before cs parts.1)
+
+no_change_at : (width : ℕ) (cs : List Change) (t : ℕ) → wave_has_change cs t ≡ false
+    → value_before width cs t ≡ value_at width cs t
+no_change_at width cs zero none = none_at_first (all_x width) cs none
+no_change_at width cs (suc t) none = stays_from (all_x width) cs t none
+
 -- ---- the changes that are due
 
 -- the value change of the new wave at a tick
@@ -88,7 +124,7 @@ due_changes c t xs = if needs_change c t && not (any_at t xs) then new_change c 
 
 -- the value from a tick on, if the file has had these value changes up to then
 abbrev pub value_now : AmendedCode → List ValueChange → ℕ → List Bit
-value_now c xs t = if any_at t xs then (if stands_at c t then value_by c.width xs t else new_value c t)
+value_now c xs t = if any_at t xs then (if changes_stand c t then value_by c.width xs t else new_value c t)
     else value_before c.width c.new t
 
 -- the value changes of the amended file, if the file has had these up to a tick
@@ -104,21 +140,15 @@ nothing_holds c = record { early = λ u before. absurd (omega arith); now = λ u
 module _ (c : AmendedCode) (wide : (t : ℕ) → length (new_value c t) ≡ c.width) where
   -- a new value
   new_now : (ys : List ValueChange) (t u : ℕ) → t ≤ u → value_by c.width (ys ++ new_change c t ∷ []) u ≡ new_value c t
-  new_now ys t u past = value_past c.width ys (new_change c t) u past ∙ ap (λ n. extension n (short_form (new_value c t)))
-      (sym (wide t)) ∙ whole_value (new_value c t)
+  new_now ys t u past = value_past c.width ys (new_change c t) u past ∙ ap (λ n. extension n
+      (short_form (new_value c t))) (sym (wide t)) ∙ whole_value (new_value c t)
 
   -- where none is needed, the new wave stays
   stays_at : (t : ℕ) → needs_change c t ≡ false → value_before c.width c.new t ≡ new_value c t
-  stays_at t none =
-      let same : not (same_letters (new_value c t) (value_before c.width c.new t)) ≡ false = (or_parts _ _ none).0 in
-      sym ((same_letters-Decides (new_value c t) (value_before c.width c.new t)).0 (by_not _ same))
-    where
-      by_not : (b : Bool) → not b ≡ false → b ≡ true
-      by_not true is = refl
-      by_not false is = absurd (false≢true (sym is))
+  stays_at t none = no_change_at c.width c.new t (or_parts _ _ none).0
 
   -- where changes stand, both waves have one value
-  both_at : (t : ℕ) → stands_at c t ≡ true → old_value c t ≡ new_value c t
+  both_at : (t : ℕ) → changes_stand c t ≡ true → old_value c t ≡ new_value c t
   both_at t stands = (same_letters-Decides (old_value c t) (new_value c t)).0 (and_parts (same_letters (old_value c t)
       (new_value c t)) _ stands).0
 
@@ -133,7 +163,8 @@ module _ (c : AmendedCode) (wide : (t : ℕ) → length (new_value c t) ≡ c.wi
           needs (ap not none)) ∙ new_now ys t u past
       | inr stays ↦ ap (λ (b : Bool). value_by c.width (ys ++ (if b && not (any_at t xs) then new_change c t ∷ [] else
           [])) u) stays ∙ ap (λ l. value_by c.width l u) (append-nil ys) ∙ holds.now u past ∙ ap (λ (b : Bool). if b
-          then (if stands_at c t then value_by c.width xs t else new_value c t) else value_before c.width c.new t) none
+          then (if changes_stand c t then value_by c.width xs t else new_value c t) else value_before c.width c.new t)
+          none
           ∙ stays_at t stays
     ]
 
@@ -155,14 +186,14 @@ module _ (c : AmendedCode) (wide : (t : ℕ) → length (new_value c t) ≡ c.wi
     -- ---- a change of the code in the file
 
     module _ (v : ValueChange) (is : v.tick ≡ t) where
-      now_is : (b : Bool) → stands_at c t ≡ b → value_now c (xs ++ v ∷ []) t
+      now_is : (b : Bool) → changes_stand c t ≡ b → value_now c (xs ++ v ∷ []) t
           ≡ (if b then value_by c.width (xs ++ v ∷ []) t else new_value c t)
-      now_is b stands = ap (λ (d : Bool). if d then (if stands_at c t then value_by c.width (xs ++ v ∷ []) t else
+      now_is b stands = ap (λ (d : Bool). if d then (if changes_stand c t then value_by c.width (xs ++ v ∷ []) t else
           new_value c t) else value_before c.width c.new t) (any_more xs v t is) ∙ ap (λ (d : Bool). if d then value_by
           c.width (xs ++ v ∷ []) t else new_value c t) stands
 
       -- it stands
-      pub change_stands : stands_at c t ≡ true → HoldsNew c (xs ++ v ∷ []) t (ys ++ v ∷ [])
+      pub change_stands : changes_stand c t ≡ true → HoldsNew c (xs ++ v ∷ []) t (ys ++ v ∷ [])
       change_stands stands = record {
         early = λ u before. value_early c.width ys v u (omega arith) ∙ holds.early u before;
         now = λ u past. value_past c.width ys v u (omega arith) ∙ sym (value_past c.width xs v t (omega arith))
@@ -170,7 +201,7 @@ module _ (c : AmendedCode) (wide : (t : ℕ) → length (new_value c t) ≡ c.wi
       }
 
       -- what is due is in its place
-      pub change_goes : stands_at c t ≡ false → HoldsNew c (xs ++ v ∷ []) t (ys ++ due_changes c t xs)
+      pub change_goes : changes_stand c t ≡ false → HoldsNew c (xs ++ v ∷ []) t (ys ++ due_changes c t xs)
       change_goes goes = record {
         early = due_early;
         now = λ u past. by_any u past ∙ sym (now_is false goes);
@@ -179,9 +210,9 @@ module _ (c : AmendedCode) (wide : (t : ℕ) → length (new_value c t) ≡ c.wi
           by_any : (u : ℕ) → t ≤ u → value_by c.width (ys ++ due_changes c t xs) u ≡ new_value c t
           by_any u past = elim (cases_Bool (any_at t xs)) [
             | inl some ↦ ap (λ l. value_by c.width (ys ++ l) u) (none_due some) ∙ ap (λ l. value_by c.width l u)
-                (append-nil ys) ∙ holds.now u past ∙ ap (λ (b : Bool). if b then (if stands_at c t then value_by c.width
-                xs t else new_value c t) else value_before c.width c.new t) some ∙ ap (λ (b : Bool). if b then value_by
-                c.width xs t else new_value c t) goes
+                (append-nil ys) ∙ holds.now u past ∙ ap (λ (b : Bool). if b then (if changes_stand c t then value_by
+                c.width xs t else new_value c t) else value_before c.width c.new t) some ∙ ap (λ (b : Bool). if b then
+                value_by c.width xs t else new_value c t) goes
             | inr none ↦ due_value none u past
           ]
 
@@ -192,13 +223,14 @@ module _ (c : AmendedCode) (wide : (t : ℕ) → length (new_value c t) ≡ c.wi
         → value_by c.width (ys ++ due_changes c t xs) u ≡ new_value c t
     value_at_end settled u past = elim (cases_Bool (any_at t xs)) [
       | inl some ↦ ap (λ l. value_by c.width (ys ++ l) u) (none_due some) ∙ ap (λ l. value_by c.width l u) (append-nil
-          ys) ∙ holds.now u past ∙ ap (λ (b : Bool). if b then (if stands_at c t then value_by c.width xs t else
+          ys) ∙ holds.now u past ∙ ap (λ (b : Bool). if b then (if changes_stand c t then value_by c.width xs t else
           new_value c t) else value_before c.width c.new t) some ∙ by_stands some
       | inr none ↦ due_value none u past
     ]
       where
-        by_stands : any_at t xs ≡ true → (if stands_at c t then value_by c.width xs t else new_value c t) ≡ new_value c t
-        by_stands some = elim (cases_Bool (stands_at c t)) [
+        by_stands : any_at t xs ≡ true → (if changes_stand c t then value_by c.width xs t else new_value c t)
+            ≡ new_value c t
+        by_stands some = elim (cases_Bool (changes_stand c t)) [
           | inl stands ↦ rw stands (settled some ∙ both_at t stands)
           | inr goes ↦ rw goes refl
         ]
@@ -211,6 +243,7 @@ module _ (c : AmendedCode) (wide : (t : ℕ) → length (new_value c t) ≡ c.wi
         | inr past ↦ subst (λ n. value_by c.width (ys ++ due_changes c t xs) n ≡ new_value c n) (omega arith)
             (value_at_end settled t (omega arith))
       ];
-      now = λ u past. value_at_end settled u (omega arith) ∙ sym (ap (λ (b : Bool). if b then (if stands_at c (suc t) then
+      now = λ u past. value_at_end settled u (omega arith) ∙ sym (ap (λ (b : Bool). if b then
+          (if changes_stand c (suc t) then
           value_by c.width xs (suc t) else new_value c (suc t)) else new_value c t) none);
     }

@@ -9,7 +9,8 @@ use Rattle.vcd_text.specs.inside.Words.{words_from, line_after, word_of}
 use Rattle.vcd_text.specs.Items.{Item, spelling, entry, timescale, scope, upscope, variable, end_definitions}
 use Rattle.vcd_text.specs.Items.{stamp, scalar, vector, real_or_string, dump_word, other}
 use Rattle.vcd_text.specs.Grammar.{word_texts}
-use Rattle.vcd_text.specs.AmendedText.{Piece, next_word, with_words, exchanged_bytes}
+use Rattle.vcd_text.specs.Pieces.{Piece}
+use Rattle.vcd_text.specs.AmendedText.{next_word, with_words, exchanged_bytes}
 use Rattle.vcd_text.proofs.read_back.Words.{is_unbroken, is_spelled}
 use Rattle.vcd_text.proofs.amended.Bytes.{texts, texts_after, is_end, space_first, both_parts, joined_words}
 
@@ -49,9 +50,10 @@ words_count : (begun : List ℕ) (line : ℕ) (bs : List ℕ)
 unfolding words_from
 words_count begun line [] = one_word_long begun line ∙ omega arith
 words_count begun line (b ∷ bs) = elim (cases_Bool (is_white_space b)) [
-  | inl space ↦ rw space (ap length (map-append (λ w. w.text) (word_of begun line) (words_from true [] (line_after b line)
-      bs)) ∙ length-append (word_texts (word_of begun line)) _ ∙ ap (λ n. n + length (texts_after [] (line_after b line)
-      bs)) (one_word_long begun line) ∙ ap (λ n. begun_count (has_begun begun) + n) (words_count [] (line_after b line) bs
+  | inl space ↦ rw space (ap length (map-append (λ w. w.text) (word_of begun line) (words_from true []
+      (line_after b line) bs)) ∙ length-append (word_texts (word_of begun line)) _ ∙ ap (λ n. n + length (texts_after []
+      (line_after b line) bs)) (one_word_long begun line) ∙ ap (λ n. begun_count (has_begun begun) + n) (words_count []
+      (line_after b line) bs
       ∙ no_more (starts false bs)))
   | inr goes_on ↦ rw goes_on (words_count (begun ++ b ∷ []) (line_after b line) bs ∙ ap (λ (h : Bool). begun_count h
       + starts h bs) (goes_on_begun begun b) ∙ either_count (has_begun begun) (starts true bs))
@@ -79,7 +81,8 @@ other_words in_word (b ∷ bs) ws long unbroken = elim (cases_Bool (is_white_spa
   | inr goes_on ↦ rw goes_on (by_place in_word ws (rw goes_on at long) unbroken (other_words true bs))
 ]
   where
-    by_place : (in_word : Bool) (ws : List (List ℕ)) → length ws ≡ (if in_word then starts true bs else 1 + starts true bs)
+    by_place : (in_word : Bool) (ws : List (List ℕ)) → length ws ≡ (if in_word then starts true bs else 1 + starts true
+        bs)
         → list_all is_unbroken ws ≡ true
         → ((ws : List (List ℕ)) → length ws ≡ starts true bs → list_all is_unbroken ws ≡ true
         → texts (with_words true bs ws) ≡ ws)
@@ -88,8 +91,8 @@ other_words in_word (b ∷ bs) ws long unbroken = elim (cases_Bool (is_white_spa
     by_place false [] long unbroken again = absurd (omega (arith, long))
     by_place false (w ∷ ws) long unbroken again =
         let parts = and_parts (is_unbroken w) (list_all is_unbroken ws) unbroken in
-        both_parts w (with_words true bs ws) (word_ends bs ws) ∙ ap (λ l. l ++ texts (with_words true bs ws)) (joined_words
-        (w ∷ []) (and_from _ _ parts.0 refl)) ∙ ap (λ l. w ∷ l) (again ws (omega (arith, long)) parts.1)
+        both_parts w (with_words true bs ws) (word_ends bs ws) ∙ ap (λ l. l ++ texts (with_words true bs ws))
+        (joined_words (w ∷ []) (and_from _ _ parts.0 refl)) ∙ ap (λ l. w ∷ l) (again ws (omega (arith, long)) parts.1)
 
 -- the words of another item in the place of a piece
 pub exchanged_words : (p : Piece) (j : Item) → texts p.body ≡ spelling p.item → is_spelled j ≡ true
@@ -100,8 +103,9 @@ exchanged_words p (scope kind words) is spelled = joined_words (spelling (scope 
 exchanged_words p upscope is spelled = joined_words (spelling upscope) spelled
 exchanged_words p (variable words) is spelled = elim (cases_Bool (length (spelling (variable words)) == length (spelling
     p.item))) [
-      | inl same ↦ rw same (other_words false p.body (spelling (variable words)) (eqb-true (length (spelling (variable words)))
-          (length (spelling p.item)) same ∙ ap length (sym is) ∙ words_count [] 1 p.body ∙ omega arith) spelled)
+      | inl same ↦ rw same (other_words false p.body (spelling (variable words)) (eqb-true (length
+          (spelling (variable words))) (length (spelling p.item)) same ∙ ap length (sym is) ∙ words_count [] 1 p.body ∙
+          omega arith) spelled)
       | inr apart ↦ rw apart (joined_words (spelling (variable words)) spelled)
     ]
 exchanged_words p end_definitions is spelled = joined_words (spelling end_definitions) spelled

@@ -19,11 +19,12 @@ use Rattle.vcd_text.specs.Items.{Item, entry, timescale, scope, upscope, variabl
 use Rattle.vcd_text.specs.Items.{stamp, scalar, vector, real_or_string, dump_word, other, end_word}
 use Rattle.vcd_text.specs.Grammar.{ParseState, VariableDeclaration, Allows}
 use Rattle.vcd_text.specs.Text.{value_item, with_stamp}
-use Rattle.vcd_text.specs.Amended.{Outcome, stands, is_left_out, is_exchanged}
-use Rattle.vcd_text.specs.Amended.{Amendment, AmendedCode, Fate, stays, is_removed, is_changed, new_value, needs_change}
-use Rattle.vcd_text.specs.Amended.{has_changed, due_items, items_at, items_now, added_items, inserted, outcome}
-use Rattle.vcd_text.specs.Amended.{variable_outcome, fate_of, stands_at, exchanged_for, value_outcome, amended_code}
-use Rattle.vcd_text.specs.Amended.{FitsFate, amended_signal, is_left}
+use Rattle.vcd_text.specs.Amendment.{Amendment, AmendedCode, Fate, stays, is_removed, is_changed, new_value}
+use Rattle.vcd_text.specs.Amendment.{needs_change, fate_of, changes_stand, amended_code, is_used}
+use Rattle.vcd_text.specs.AmendedItems.{ItemFate, stands, is_left_out, is_exchanged, file_has_change, due_items}
+use Rattle.vcd_text.specs.AmendedItems.{items_due_at, items_due_now, added_items, inserted_items, item_fate}
+use Rattle.vcd_text.specs.AmendedItems.{declaration_fate, exchange_for, value_fate}
+use Rattle.vcd_text.specs.AmendedMeaning.{FitsFate, amended_signal}
 use Rattle.vcd_text.proofs.shared.ItemTests.{has_tick}
 use Rattle.vcd_text.proofs.writing.SharedScopes.{all_closed}
 use Rattle.vcd_text.proofs.read_back.Words.{is_unbroken, is_spelled}
@@ -47,15 +48,15 @@ value_spelled code [] unbroken = and_from _ _ (longer_unbroken 98 (printed_lette
     (printed_no_space (short_form []))) (one_word code unbroken)
 value_spelled code (b ∷ []) unbroken = one_word (printed_letter b ∷ code) (longer_unbroken (printed_letter b) code
     (letter_is_no_space b) (unbroken_has_no_space code unbroken))
-value_spelled code (b ∷ c ∷ v) unbroken = and_from _ _ (longer_unbroken 98 (printed_letters (short_form (b ∷ c ∷ v))) refl
-    (printed_no_space (short_form (b ∷ c ∷ v)))) (one_word code unbroken)
+value_spelled code (b ∷ c ∷ v) unbroken = and_from _ _ (longer_unbroken 98 (printed_letters (short_form (b ∷ c ∷ v)))
+    refl (printed_no_space (short_form (b ∷ c ∷ v)))) (one_word code unbroken)
 
 -- an amended code is a word
 abbrev pub HasWord : AmendedCode → Type 0
 HasWord c = is_word c.code ≡ true
 
 due_spelled : (s : ParseState) (t : ℕ) (c : AmendedCode) → HasWord c → list_all is_spelled (due_items s t c) ≡ true
-due_spelled s t c word = by_test (needs_change c t && not (has_changed s c.code t))
+due_spelled s t c word = by_test (needs_change c t && not (file_has_change s c.code t))
   where
     by_test : (b : Bool) → list_all is_spelled (if b then value_item c.code (new_value c t) ∷ [] else []) ≡ true
     by_test true = and_from _ _ (value_spelled c.code (new_value c t) (word_is_unbroken c.code word)) refl
@@ -68,27 +69,27 @@ all_due_spelled s t (c ∷ cs) words = both_spelled (due_items s t c) (flat_map 
     (All-head HasWord c cs words)) (all_due_spelled s t cs (All-tail HasWord c cs words))
 
 pub items_at_spelled : (a : Amendment) (s : ParseState) (t : ℕ) → All HasWord a.codes
-    → list_all is_spelled (items_at a s t) ≡ true
+    → list_all is_spelled (items_due_at a s t) ≡ true
 items_at_spelled a s t words = all_due_spelled s t a.codes words
 
-pub now_spelled : (a : Amendment) (quiet : Bool) (s : ParseState) → All HasWord a.codes → s.tick < 2 ^ 64
-    → list_all is_spelled (items_now a quiet s) ≡ true
-now_spelled a true s words small = stamped_spelled false s.tick (items_at a s s.tick) small (items_at_spelled a s s.tick
-    words)
+pub now_spelled : (a : Amendment) (none_yet : Bool) (s : ParseState) → All HasWord a.codes → s.tick < 2 ^ 64
+    → list_all is_spelled (items_due_now a none_yet s) ≡ true
+now_spelled a true s words small = stamped_spelled false s.tick (items_due_at a s s.tick) small
+    (items_at_spelled a s s.tick words)
 now_spelled a false s words small = items_at_spelled a s s.tick words
 
-ticks_spelled : (a : Amendment) (quiet : Bool) (s : ParseState) (t n : ℕ) → All HasWord a.codes
+ticks_spelled : (a : Amendment) (none_yet : Bool) (s : ParseState) (t n : ℕ) → All HasWord a.codes
     → s.tick < 2 ^ 64 → t + n ≤ 2 ^ 64
-    → list_all is_spelled (flat_map (λ t. if t == s.tick then items_now a quiet s else with_stamp false t (items_at a s t))
-    (range_with_len t n)) ≡ true
-ticks_spelled a quiet s t zero words now small = refl
-ticks_spelled a quiet s t (suc n) words now small =
+    → list_all is_spelled (flat_map (λ t. if t == s.tick then items_due_now a none_yet s else with_stamp false t
+    (items_due_at a s t)) (range_with_len t n)) ≡ true
+ticks_spelled a none_yet s t zero words now small = refl
+ticks_spelled a none_yet s t (suc n) words now small =
     let here = items_at_spelled a s t words in
-    let rest = ticks_spelled a quiet s (t + 1) n words now (omega arith) in
+    let rest = ticks_spelled a none_yet s (t + 1) n words now (omega arith) in
     elim (cases_Bool (t == s.tick)) [
-      | inl is ↦ rw is (both_spelled (items_now a quiet s) _ (now_spelled a quiet s words now) rest)
-      | inr later ↦ rw later (both_spelled (with_stamp false t (items_at a s t)) _ (stamped_spelled false t (items_at a s
-          t) (omega arith) here) rest)
+      | inl is ↦ rw is (both_spelled (items_due_now a none_yet s) _ (now_spelled a none_yet s words now) rest)
+      | inr later ↦ rw later (both_spelled (with_stamp false t (items_due_at a s t)) _ (stamped_spelled false t
+          (items_due_at a s t) (omega arith) here) rest)
     ]
 
 -- ---- added variables
@@ -114,46 +115,48 @@ added_spelled a final d (word, sound) =
 all_added_spelled : (a : Amendment) (final : ParseState) (ds : List VariableDeclaration) → All (IsAdded a final) ds
     → list_all is_spelled (flat_map added_items ds) ≡ true
 all_added_spelled a final [] added = refl
-all_added_spelled a final (d ∷ ds) added = both_spelled (added_items d) (flat_map added_items ds) (added_spelled a final d
-    (All-head (IsAdded a final) d ds added)) (all_added_spelled a final ds (All-tail (IsAdded a final) d ds added))
+all_added_spelled a final (d ∷ ds) added = both_spelled (added_items d) (flat_map added_items ds)
+    (added_spelled a final d (All-head (IsAdded a final) d ds added)) (all_added_spelled a final ds (All-tail (IsAdded a
+    final) d ds added))
 
 -- ---- what is inserted
 
-pub inserted_spelled : (a : Amendment) (quiet : Bool) (final s : ParseState) (i : Item) → Allows s i → All HasWord a.codes
-    → All (IsAdded a final) a.added → list_all is_spelled (inserted a quiet s i) ≡ true
-inserted_spelled a quiet final s (entry kind words) allows codes added = refl
-inserted_spelled a quiet final s (timescale words) allows codes added = refl
-inserted_spelled a quiet final s (scope kind words) allows codes added = refl
-inserted_spelled a quiet final s upscope allows codes added = refl
-inserted_spelled a quiet final s (variable words) allows codes added = refl
-inserted_spelled a quiet final s end_definitions allows codes added = both_spelled (map (λ s. upscope) s.scopes) (flat_map
-    added_items a.added) (rw (all_closed s.scopes) (upscopes_spelled (length s.scopes))) (all_added_spelled a final
-    a.added added)
-inserted_spelled a quiet final s (stamp digits) allows codes added =
+pub inserted_spelled : (a : Amendment) (none_yet : Bool) (final s : ParseState) (i : Item) → Allows s i
+    → All HasWord a.codes
+    → All (IsAdded a final) a.added → list_all is_spelled (inserted_items a none_yet s i) ≡ true
+inserted_spelled a none_yet final s (entry kind words) allows codes added = refl
+inserted_spelled a none_yet final s (timescale words) allows codes added = refl
+inserted_spelled a none_yet final s (scope kind words) allows codes added = refl
+inserted_spelled a none_yet final s upscope allows codes added = refl
+inserted_spelled a none_yet final s (variable words) allows codes added = refl
+inserted_spelled a none_yet final s end_definitions allows codes added = both_spelled (map (λ s. upscope) s.scopes)
+    (flat_map added_items a.added) (rw (all_closed s.scopes) (upscopes_spelled (length s.scopes))) (all_added_spelled a
+    final a.added added)
+inserted_spelled a none_yet final s (stamp digits) allows codes added =
     let ticks = has_tick s digits allows in
     let tests = and_parts (is_number digits) (nat_le (number_of digits) END_LIMIT) ticks.0 in
     let most : number_of digits ≤ END_LIMIT = leb-true (number_of digits) END_LIMIT tests.1 in
-    ticks_spelled a quiet s s.tick (number_of digits - s.tick) codes (omega (arith, most, ticks.1)) (omega (
+    ticks_spelled a none_yet s s.tick (number_of digits - s.tick) codes (omega (arith, most, ticks.1)) (omega (
       arith,
       most,
       ticks.1,
     ))
-inserted_spelled a quiet final s (scalar digit code) allows codes added = refl
-inserted_spelled a quiet final s (vector first digits code) allows codes added = refl
-inserted_spelled a quiet final s (real_or_string first text code) allows codes added = refl
-inserted_spelled a quiet final s (dump_word word) allows codes added = refl
-inserted_spelled a quiet final s (other word words) allows codes added = refl
+inserted_spelled a none_yet final s (scalar digit code) allows codes added = refl
+inserted_spelled a none_yet final s (vector first digits code) allows codes added = refl
+inserted_spelled a none_yet final s (real_or_string first text code) allows codes added = refl
+inserted_spelled a none_yet final s (dump_word word) allows codes added = refl
+inserted_spelled a none_yet final s (other word words) allows codes added = refl
 
 -- ---- what is exchanged
 
 -- the item in the place of another one
-abbrev pub IsSpelledOutcome : Outcome → Type 0
-IsSpelledOutcome (is_exchanged j) = is_spelled j ≡ true
-IsSpelledOutcome o = Unit {0}
+abbrev pub IsSpelledFate : ItemFate → Type 0
+IsSpelledFate (is_exchanged j) = is_spelled j ≡ true
+IsSpelledFate o = Unit {0}
 
 exchanged_by_fate : (f : Fate) (kind size code name : List ℕ) (names : List (List ℕ)) → FitsFate f
     → list_all is_unbroken (kind ∷ size ∷ code ∷ name ∷ names) ≡ true
-    → IsSpelledOutcome (variable_outcome f (kind ∷ size ∷ code ∷ name ∷ names))
+    → IsSpelledFate (declaration_fate f (kind ∷ size ∷ code ∷ name ∷ names))
 exchanged_by_fate stays kind size code name names fits unbroken = tt
 exchanged_by_fate is_removed kind size code name names fits unbroken = tt
 exchanged_by_fate (is_changed words new) kind size code name names (word, named, coded) unbroken =
@@ -169,36 +172,37 @@ without_end words unbroken = (and_parts (list_all is_unbroken words) (list_all i
     (sym (list_all-append is_unbroken words (end_word ∷ [])) ∙ unbroken)).0
 
 -- what is due is in the place of a change
-exchanged_spelled : (is : List Item) → list_all is_spelled is ≡ true → IsSpelledOutcome (exchanged_for is)
+exchanged_spelled : (is : List Item) → list_all is_spelled is ≡ true → IsSpelledFate (exchange_for is)
 exchanged_spelled [] spelled = tt
 exchanged_spelled (i ∷ is) spelled = (and_parts (is_spelled i) (list_all is_spelled is) spelled).0
 
-one_or_other : (b : Bool) (o : Outcome) → IsSpelledOutcome o → IsSpelledOutcome (if b then stands else o)
+one_or_other : (b : Bool) (o : ItemFate) → IsSpelledFate o → IsSpelledFate (if b then stands else o)
 one_or_other true o spelled = tt
 one_or_other false o spelled = spelled
 
-value_outcome_spelled : (s : ParseState) (cs : List AmendedCode) (code : List ℕ) (o : Option AmendedCode)
-    → amended_code code cs ≡ o → All HasWord cs → IsSpelledOutcome (value_outcome s o)
-value_outcome_spelled s cs code None is words = tt
-value_outcome_spelled s cs code (Some c) is words = one_or_other (stands_at c s.tick) (exchanged_for (due_items s s.tick
-    c)) (exchanged_spelled (due_items s s.tick c) (due_spelled s s.tick c (found_has HasWord _ cs c words is)))
+value_fate_spelled : (s : ParseState) (cs : List AmendedCode) (code : List ℕ) (o : Option AmendedCode)
+    → amended_code code cs ≡ o → All HasWord cs → IsSpelledFate (value_fate s o)
+value_fate_spelled s cs code None is words = tt
+value_fate_spelled s cs code (Some c) is words = one_or_other (changes_stand c s.tick) (exchange_for
+    (due_items s s.tick c)) (exchanged_spelled (due_items s s.tick c) (due_spelled s s.tick c (found_has HasWord _ cs c
+    words is)))
 
-if_left : (b : Bool) (o : Outcome) → IsSpelledOutcome o → IsSpelledOutcome (if b then o else is_left_out)
+if_left : (b : Bool) (o : ItemFate) → IsSpelledFate o → IsSpelledFate (if b then o else is_left_out)
 if_left true o spelled = spelled
 if_left false o spelled = tt
 
-pub outcome_spelled : (a : Amendment) (s : ParseState) (i : Item) → is_spelled i ≡ true → All HasWord a.codes
+pub fate_spelled : (a : Amendment) (s : ParseState) (i : Item) → is_spelled i ≡ true → All HasWord a.codes
     → ((before : List VariableDeclaration) (d : VariableDeclaration) → FitsFate (fate_of a before d))
-    → IsSpelledOutcome (outcome a s i)
-outcome_spelled a s (entry kind words) spelled codes fits = tt
-outcome_spelled a s (timescale words) spelled codes fits = tt
-outcome_spelled a s (scope kind words) spelled codes fits = tt
-outcome_spelled a s upscope spelled codes fits = tt
-outcome_spelled a s (variable []) spelled codes fits = tt
-outcome_spelled a s (variable (kind ∷ [])) spelled codes fits = tt
-outcome_spelled a s (variable (kind ∷ size ∷ [])) spelled codes fits = tt
-outcome_spelled a s (variable (kind ∷ size ∷ code ∷ [])) spelled codes fits = tt
-outcome_spelled a s (variable (kind ∷ size ∷ code ∷ name ∷ names)) spelled codes fits = exchanged_by_fate _ kind size
+    → IsSpelledFate (item_fate a s i)
+fate_spelled a s (entry kind words) spelled codes fits = tt
+fate_spelled a s (timescale words) spelled codes fits = tt
+fate_spelled a s (scope kind words) spelled codes fits = tt
+fate_spelled a s upscope spelled codes fits = tt
+fate_spelled a s (variable []) spelled codes fits = tt
+fate_spelled a s (variable (kind ∷ [])) spelled codes fits = tt
+fate_spelled a s (variable (kind ∷ size ∷ [])) spelled codes fits = tt
+fate_spelled a s (variable (kind ∷ size ∷ code ∷ [])) spelled codes fits = tt
+fate_spelled a s (variable (kind ∷ size ∷ code ∷ name ∷ names)) spelled codes fits = exchanged_by_fate _ kind size
     code name names (fits s.declared (record {
       scopes = s.scopes;
       kind = kind;
@@ -207,36 +211,37 @@ outcome_spelled a s (variable (kind ∷ size ∷ code ∷ name ∷ names)) spell
       words
           = name ∷ names;
     })) (without_end (kind ∷ size ∷ code ∷ name ∷ names) spelled)
-outcome_spelled a s end_definitions spelled codes fits = tt
-outcome_spelled a s (stamp digits) spelled codes fits = tt
-outcome_spelled a s (scalar digit code) spelled codes fits = if_left (is_left a s code) _ (value_outcome_spelled s a.codes
-    code (amended_code code a.codes) refl codes)
-outcome_spelled a s (vector first digits code) spelled codes fits = if_left (is_left a s code) _ (value_outcome_spelled s
+fate_spelled a s end_definitions spelled codes fits = tt
+fate_spelled a s (stamp digits) spelled codes fits = tt
+fate_spelled a s (scalar digit code) spelled codes fits = if_left (is_used a s code) _ (value_fate_spelled s
     a.codes code (amended_code code a.codes) refl codes)
-outcome_spelled a s (real_or_string first text code) spelled codes fits = if_left (is_left a s code) stands tt
-outcome_spelled a s (dump_word word) spelled codes fits = tt
-outcome_spelled a s (other word words) spelled codes fits = tt
+fate_spelled a s (vector first digits code) spelled codes fits = if_left (is_used a s code) _
+    (value_fate_spelled s a.codes code (amended_code code a.codes) refl codes)
+fate_spelled a s (real_or_string first text code) spelled codes fits = if_left (is_used a s code) stands tt
+fate_spelled a s (dump_word word) spelled codes fits = tt
+fate_spelled a s (other word words) spelled codes fits = tt
 
 -- nothing is put before an item that is left out
-abbrev pub IsAlone : Outcome → List Item → Type 0
+abbrev pub IsAlone : ItemFate → List Item → Type 0
 IsAlone is_left_out items = items ≡ []
 IsAlone o items = Unit {0}
 
-alone_for_none : (o : Outcome) → IsAlone o []
+alone_for_none : (o : ItemFate) → IsAlone o []
 alone_for_none stands = tt
 alone_for_none is_left_out = refl
 alone_for_none (is_exchanged j) = tt
 
-pub left_out_alone : (a : Amendment) (quiet : Bool) (s : ParseState) (i : Item) → IsAlone (outcome a s i) (inserted a quiet s i)
-left_out_alone a quiet s (entry kind words) = tt
-left_out_alone a quiet s (timescale words) = tt
-left_out_alone a quiet s (scope kind words) = tt
-left_out_alone a quiet s upscope = tt
-left_out_alone a quiet s (variable words) = alone_for_none _
-left_out_alone a quiet s end_definitions = tt
-left_out_alone a quiet s (stamp digits) = tt
-left_out_alone a quiet s (scalar digit code) = alone_for_none _
-left_out_alone a quiet s (vector first digits code) = alone_for_none _
-left_out_alone a quiet s (real_or_string first text code) = alone_for_none _
-left_out_alone a quiet s (dump_word word) = tt
-left_out_alone a quiet s (other word words) = tt
+pub left_out_alone : (a : Amendment) (none_yet : Bool) (s : ParseState) (i : Item) → IsAlone (item_fate a s i)
+    (inserted_items a none_yet s i)
+left_out_alone a none_yet s (entry kind words) = tt
+left_out_alone a none_yet s (timescale words) = tt
+left_out_alone a none_yet s (scope kind words) = tt
+left_out_alone a none_yet s upscope = tt
+left_out_alone a none_yet s (variable words) = alone_for_none _
+left_out_alone a none_yet s end_definitions = tt
+left_out_alone a none_yet s (stamp digits) = tt
+left_out_alone a none_yet s (scalar digit code) = alone_for_none _
+left_out_alone a none_yet s (vector first digits code) = alone_for_none _
+left_out_alone a none_yet s (real_or_string first text code) = alone_for_none _
+left_out_alone a none_yet s (dump_word word) = tt
+left_out_alone a none_yet s (other word words) = tt

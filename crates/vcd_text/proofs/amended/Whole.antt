@@ -10,8 +10,9 @@ use Rattle.vcd_text.specs.Items.{stamp, scalar, vector, real_or_string, dump_wor
 use Rattle.vcd_text.specs.Grammar.{ParseState, ValueChange, VariableDeclaration, Allows, AllowsAll}
 use Rattle.vcd_text.specs.Grammar.{state_after_item, state_after, declaration_of, initial_state, is_skipped}
 use Rattle.vcd_text.specs.Meaning.{meaning}
-use Rattle.vcd_text.specs.Amended.{Amendment, AmendedCode, variables_left, amended_variables, amended}
-use Rattle.vcd_text.specs.Amended.{amended_code, outcome, still_quiet, FitsFile, MeansAmended, AmendedFileMeansAmendedCapture}
+use Rattle.vcd_text.specs.Amendment.{Amendment, AmendedCode, variables_left, amended_variables, amended_code}
+use Rattle.vcd_text.specs.AmendedItems.{amended_items, item_fate, still_none_yet}
+use Rattle.vcd_text.specs.AmendedMeaning.{FitsFile, MeansAmended, AmendedFileMeansAmendedCapture}
 use Rattle.vcd_text.proofs.shared.ItemsInTurn.{Reaches, reaches_both, reaches_one}
 use Rattle.vcd_text.proofs.part.FewSignals.{same_limit}
 use Rattle.vcd_text.proofs.amended.Codes.{of_code}
@@ -121,26 +122,28 @@ module _ (a : Amendment) (final : ParseState) (fit : FitsFile a final) (in_body 
     holds : Holds a final.declared final.value_changes (final.tick + 1) value_changes
 
   -- the end of the declarations, and the changes
-  ending : (quiet : Bool) (s : ParseState) (is : List Item) → s.in_body ≡ false → s.value_changes ≡ [] → s.tick ≡ 0
+  ending : (none_yet : Bool) (s : ParseState) (is : List Item) → s.in_body ≡ false → s.value_changes ≡ [] → s.tick ≡ 0
       → state_after s (end_definitions ∷ is) ≡ final → AllowsAll s (end_definitions ∷ is)
-      → Amends (declaring s s.scopes (variables_left a s.declared)) (amended a quiet s (end_definitions ∷ is))
-  unfolding amended
-  ending quiet s is declares none start whole allows =
+      → Amends (declaring s s.scopes (variables_left a s.declared)) (amended_items a none_yet s (end_definitions ∷ is))
+  unfolding amended_items
+  ending none_yet s is declares none start whole allows =
       let begun : ParseState = record s { in_body = true } in
-      let same : final.declared ≡ s.declared = ap (λ (t : ParseState). t.declared) (sym whole) ∙ body_items begun is refl
-      allows.1 in
+      let same : final.declared ≡ s.declared = ap (λ (t : ParseState). t.declared) (sym whole)
+      ∙ body_items begun is refl allows.1 in
       let limit : final.limit ≡ s.limit = ap (λ (t : ParseState). t.limit) (sym whole) ∙ same_limit begun is in
       let body : InBody a begun s.value_changes = record {
         in_body = refl;
         past = λ code u after. ap (λ l. any_at u (of_code code l)) none;
         serves = subst (Serves a) same (serves a final fit);
-        holds = λ code e left. subst (λ l. HoldsFor (amended_code code a.codes) (of_code code l) s.tick (of_code code l))
-            (sym none) (subst (λ n. HoldsFor (amended_code code a.codes) [] n []) (sym start) (none_for (amended_code code
+        holds = λ code e left. subst (λ l. HoldsFor (amended_code code a.codes) (of_code code l) s.tick
+            (of_code code l)) (sym none) (subst (λ n. HoldsFor (amended_code code a.codes) [] n []) (sym start)
+            (none_for (amended_code code
             a.codes)));
       } in
-      let changes : LeadsOn a begun s.value_changes (amended a quiet begun is) final = subst (LeadsOn a begun s.value_changes
-      (amended a quiet begun is)) whole (all_lead a quiet begun s.value_changes is body allows.1 (λ u upto. subst (λ t. IsOldAt a t u)
-      (sym whole) (is_old a final fit u (rw (ap (λ (t : ParseState). t.tick) (sym whole)) upto)))) in
+      let changes : LeadsOn a begun s.value_changes (amended_items a none_yet begun is) final = subst
+      (LeadsOn a begun s.value_changes (amended_items a none_yet begun is)) whole (all_lead a none_yet begun
+      s.value_changes is body allows.1 (λ u upto. subst (λ t. IsOldAt a t u) (sym whole) (is_old a final fit u (rw (ap
+      (λ (t : ParseState). t.tick) (sym whole)) upto)))) in
       let left : List VariableDeclaration = variables_left a final.declared in
       let closed = scopes_close s declares s.scopes left in
       let added = all_added_lead s declares a final fit limit left a.added refl fit.added in
@@ -149,31 +152,34 @@ module _ (a : Amendment) (final : ParseState) (fit : FitsFile a final) (in_body 
       let all = reaches_both _ _ _ _ _ (reaches_both _ _ _ _ _ closed added) ended in
       record {
         value_changes = changes.value_changes;
-        leads = subst (λ l. Reaches (declaring s s.scopes (variables_left a l)) (amended a quiet s (end_definitions ∷ is)) (at a
-            final changes.value_changes)) same (reaches_both _ _ _ _ _ all (subst (λ l. Reaches (body_of begun
-            (amended_variables a l) s.value_changes s.tick) (amended a quiet begun is) (at a final changes.value_changes)) (sym
+        leads = subst (λ l. Reaches (declaring s s.scopes (variables_left a l)) (amended_items a none_yet s
+            (end_definitions ∷ is)) (at a final changes.value_changes)) same (reaches_both _ _ _ _ _ all (subst (λ l.
+            Reaches (body_of begun (amended_variables a l) s.value_changes s.tick) (amended_items a none_yet begun is)
+            (at a final changes.value_changes)) (sym
             same) changes.leads));
         holds = changes.holds;
       }
 
   -- the declarations, and all after them
-  file_leads : (quiet : Bool) (s : ParseState) (is : List Item) → s.in_body ≡ false → s.value_changes ≡ [] → s.tick ≡ 0
+  file_leads : (none_yet : Bool) (s : ParseState) (is : List Item) → s.in_body ≡ false → s.value_changes ≡ [] → s.tick
+      ≡ 0
       → state_after s is ≡ final → AllowsAll s is
-      → Amends (declaring s s.scopes (variables_left a s.declared)) (amended a quiet s is)
-  unfolding amended
-  file_leads quiet s [] declares none start whole allows =
+      → Amends (declaring s s.scopes (variables_left a s.declared)) (amended_items a none_yet s is)
+  unfolding amended_items
+  file_leads none_yet s [] declares none start whole allows =
       absurd (false≢true (sym declares ∙ ap (λ (t : ParseState). t.in_body) whole ∙ in_body))
-  file_leads quiet s (i ∷ is) declares none start whole allows = elim (ends i) [
+  file_leads none_yet s (i ∷ is) declares none start whole allows = elim (ends i) [
     | inl is_end ↦ subst (λ j. state_after s (j ∷ is) ≡ final → AllowsAll s (j ∷ is) → Amends (declaring s s.scopes
-        (variables_left a s.declared)) (amended a quiet s (j ∷ is))) (sym is_end) (ending quiet s is declares none start) whole
-        allows
+        (variables_left a s.declared)) (amended_items a none_yet s (j ∷ is))) (sym is_end) (ending none_yet s is
+        declares none start) whole allows
     | inr goes_on ↦
         let kept = keeps s i declares allows.0 goes_on in
         let more = declared_grows (state_after_item s i) is in
         let limit : final.limit ≡ s.limit = ap (λ (t : ParseState). t.limit) (sym whole) ∙ same_limit s (i ∷ is) in
-        let here = declaration_leads s declares a final fit limit quiet i more.0 allows.0 goes_on (ap (λ (t : ParseState).
-        t.declared) (sym whole) ∙ more.1) in
-        let rest = file_leads (still_quiet quiet (outcome a s i) i) (state_after_item s i) is kept.0 (kept.1 ∙ none) (kept.2 ∙ start) whole allows.1 in
+        let here = declaration_leads s declares a final fit limit none_yet i more.0 allows.0 goes_on
+        (ap (λ (t : ParseState). t.declared) (sym whole) ∙ more.1) in
+        let rest = file_leads (still_none_yet none_yet (item_fate a s i) i) (state_after_item s i) is kept.0
+        (kept.1 ∙ none) (kept.2 ∙ start) whole allows.1 in
         record {
           value_changes = rest.value_changes;
           leads = reaches_both _ _ _ _ _ here rest.leads;
@@ -195,5 +201,5 @@ module _ (a : Amendment) (final : ParseState) (fit : FitsFile a final) (in_body 
 pub amended_is_meant : AmendedFileMeansAmendedCapture
 amended_is_meant a limit items allows in_body fit =
     let final : ParseState = state_after (initial_state limit) items in
-    all_means a final fit in_body limit (amended a true (initial_state limit) items) (file_leads a final fit in_body true
-    (initial_state limit) items refl refl refl refl allows)
+    all_means a final fit in_body limit (amended_items a true (initial_state limit) items) (file_leads a final fit
+    in_body true (initial_state limit) items refl refl refl refl allows)

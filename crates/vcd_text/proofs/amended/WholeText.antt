@@ -15,18 +15,19 @@ use Rattle.vcd_text.specs.Grammar.{ParseState, initial_state, state_after, state
 use Rattle.vcd_text.specs.Grammar.{AllowsAll, word_texts, is_skipped}
 use Rattle.vcd_text.specs.Meaning.{FileMeans}
 use Rattle.vcd_text.specs.Text.{item_line}
-use Rattle.vcd_text.specs.Amended.{Outcome, stands, is_left_out, is_exchanged, in_place}
-use Rattle.vcd_text.specs.Amended.{Amendment, outcome, inserted, items_at, still_quiet, amended, FitsFile}
-use Rattle.vcd_text.specs.Amended.{FitsAmendedCode, amended_meaning}
-use Rattle.vcd_text.specs.AmendedText.{Piece, bytes_in_place, exchanged_bytes}
-use Rattle.vcd_text.specs.AmendedText.{amended_text, AmendedTextMeansAmendedCapture}
+use Rattle.vcd_text.specs.Amendment.{Amendment}
+use Rattle.vcd_text.specs.AmendedItems.{ItemFate, stands, is_left_out, is_exchanged, items_in_place, item_fate}
+use Rattle.vcd_text.specs.AmendedItems.{inserted_items, items_due_at, still_none_yet, amended_items}
+use Rattle.vcd_text.specs.AmendedMeaning.{FitsFile, FitsAmendedCode, amended_meaning}
+use Rattle.vcd_text.specs.Pieces.{Piece}
+use Rattle.vcd_text.specs.AmendedText.{bytes_in_place, exchanged_bytes, amended_text, AmendedTextMeansAmendedCapture}
 use Rattle.vcd_text.proofs.words.WordsByBytes.{texts_of_file_are_runs}
 use Rattle.vcd_text.proofs.words.WordsInTurn.{is_run_text}
 use Rattle.vcd_text.proofs.shared.WeakerTests.{all_weaker}
 use Rattle.vcd_text.proofs.read_back.Words.{is_unbroken, is_spelled}
 use Rattle.vcd_text.proofs.amended.Bytes.{texts, texts_are, is_end, space_first, both_parts, joined_words}
 use Rattle.vcd_text.proofs.amended.Bytes.{lines_first, lines_last}
-use Rattle.vcd_text.proofs.amended.Spelled.{items_at_spelled, inserted_spelled, IsSpelledOutcome, outcome_spelled}
+use Rattle.vcd_text.proofs.amended.Spelled.{items_at_spelled, inserted_spelled, IsSpelledFate, fate_spelled}
 use Rattle.vcd_text.proofs.amended.Spelled.{IsAlone, left_out_alone, HasWord}
 use Rattle.vcd_text.proofs.amended.OtherWords.{exchanged_words}
 use Rattle.vcd_text.proofs.amended.Fitting.{fate_fits}
@@ -50,22 +51,23 @@ module _ (lines : List Item) (p : Piece) (rest : List ℕ) (spelled : list_all i
     (space : list_all is_white_space p.space ≡ true) (ends : is_end rest ≡ true) where
   with_lines : (body : List ℕ) (words : List (List ℕ)) → texts body ≡ words
       → texts ((p.space ++ (flat_map item_line lines ++ body)) ++ rest) ≡ (spellings lines ++ words) ++ texts rest
-  with_lines body words is = ap texts (append_assoc p.space (flat_map item_line lines ++ body) rest) ∙ space_first p.space
-      _ space ∙ ap texts (append_assoc (flat_map item_line lines) body rest) ∙ lines_first lines (body ++ rest) spelled
-      ∙ ap (λ ws. spellings lines ++ ws) (both_parts body rest ends ∙ ap (λ ws. ws ++ texts rest) is) ∙ sym (append_assoc
-      (spellings lines) words (texts rest))
+  with_lines body words is = ap texts (append_assoc p.space (flat_map item_line lines ++ body) rest)
+      ∙ space_first p.space _ space ∙ ap texts (append_assoc (flat_map item_line lines) body rest) ∙ lines_first lines
+      (body ++ rest) spelled
+      ∙ ap (λ ws. spellings lines ++ ws) (both_parts body rest ends ∙ ap (λ ws. ws ++ texts rest) is)
+      ∙ sym (append_assoc (spellings lines) words (texts rest))
 
   -- the words of what stands in the place of a piece
-  piece_words : (o : Outcome) → IsSpelledOutcome o → IsAlone o lines → texts p.body ≡ spelling p.item
+  piece_words : (o : ItemFate) → IsSpelledFate o → IsAlone o lines → texts p.body ≡ spelling p.item
       → texts (bytes_in_place o (flat_map item_line lines) p ++ rest)
-      ≡ spellings (lines ++ in_place o p.item) ++ texts rest
+      ≡ spellings (lines ++ items_in_place o p.item) ++ texts rest
   piece_words stands o_spelled alone is = with_lines p.body (spelling p.item) is ∙ ap (λ ws. ws ++ texts rest) (sym
       (flat_map-append spelling lines (p.item ∷ []) ∙ ap (λ ws. spellings lines ++ ws) (append-nil (spelling p.item))))
   piece_words is_left_out o_spelled alone is =
       rw alone refl
-  piece_words (is_exchanged j) o_spelled alone is = with_lines (exchanged_bytes p j) (spelling j) (exchanged_words p j is
-      o_spelled) ∙ ap (λ ws. ws ++ texts rest) (sym (flat_map-append spelling lines (j ∷ []) ∙ ap (λ ws.
-      spellings lines ++ ws) (append-nil (spelling j))))
+  piece_words (is_exchanged j) o_spelled alone is = with_lines (exchanged_bytes p j) (spelling j)
+      (exchanged_words p j is o_spelled) ∙ ap (λ ws. ws ++ texts rest) (sym (flat_map-append spelling lines (j ∷ []) ∙
+      ap (λ ws. spellings lines ++ ws) (append-nil (spelling j))))
 
 -- white space comes first
 space_ends : (space rest : List ℕ) → 0 < length space → list_all is_white_space space ≡ true → is_end (space ++ rest)
@@ -73,13 +75,14 @@ space_ends : (space rest : List ℕ) → 0 < length space → list_all is_white_
 space_ends [] rest some all = absurd (omega arith)
 space_ends (b ∷ bs) rest some all = (and_parts (is_white_space b) (list_all is_white_space bs) all).0
 
-piece_ends : (o : Outcome) (lines : List Item) (p : Piece) (rest : List ℕ) → IsAlone o lines → 0 < length p.space
+piece_ends : (o : ItemFate) (lines : List Item) (p : Piece) (rest : List ℕ) → IsAlone o lines → 0 < length p.space
     → list_all is_white_space p.space ≡ true → is_end rest ≡ true
     → is_end (bytes_in_place o (flat_map item_line lines) p ++ rest) ≡ true
 piece_ends stands lines p rest alone some all ends = rw (append_assoc p.space (flat_map item_line lines ++ p.body) rest)
     (space_ends p.space _ some all)
 piece_ends is_left_out lines p rest alone some all ends = rw alone ends
-piece_ends (is_exchanged j) lines p rest alone some all ends = rw (append_assoc p.space (flat_map item_line lines ++ exchanged_bytes p j) rest) (space_ends p.space _ some all)
+piece_ends (is_exchanged j) lines p rest alone some all ends = rw (append_assoc p.space (flat_map item_line lines
+    ++ exchanged_bytes p j) rest) (space_ends p.space _ some all)
 
 -- ---- all pieces
 
@@ -102,38 +105,45 @@ module _ (a : Amendment) (final : ParseState) (fit : FitsFile a final) (tail : L
   words = All-weaker (FitsAmendedCode a final) HasWord (λ c fits. fits.word) a.codes fit.codes
 
   -- what comes last
-  last_words : (quiet : Bool) (s : ParseState) → (texts (amended_text a quiet s [] tail) ≡ spellings (amended a quiet s []))
-      × (is_end (amended_text a quiet s [] tail) ≡ true)
-  unfolding amended_text amended
-  last_words quiet s = lines_last (items_at a s s.tick) tail (items_at_spelled a s s.tick words) space_last
+  last_words : (none_yet : Bool) (s : ParseState) → (texts (amended_text a none_yet s [] tail)
+      ≡ spellings (amended_items a none_yet s []))
+      × (is_end (amended_text a none_yet s [] tail) ≡ true)
+  unfolding amended_text amended_items
+  last_words none_yet s = lines_last (items_due_at a s s.tick) tail (items_at_spelled a s s.tick words) space_last
 
   -- the rest is at an end of words
-  text_ends : (quiet : Bool) (s : ParseState) (ps : List Piece) → All HasSomeSpace ps → All HasSpace ps
-      → is_end (amended_text a quiet s ps tail) ≡ true
+  text_ends : (none_yet : Bool) (s : ParseState) (ps : List Piece) → All HasSomeSpace ps → All HasSpace ps
+      → is_end (amended_text a none_yet s ps tail) ≡ true
   unfolding amended_text
-  text_ends quiet s [] some spaces = (last_words quiet s).1
-  text_ends quiet s (p ∷ ps) some spaces = piece_ends (outcome a s p.item) (inserted a quiet s p.item) p (amended_text a
-      (still_quiet quiet (outcome a s p.item) p.item) (state_after_item s p.item) ps tail) (left_out_alone a quiet s p.item)
-      (All-head HasSomeSpace p ps some) (All-head HasSpace p ps spaces) (text_ends (still_quiet quiet (outcome a s p.item)
-      p.item) (state_after_item s p.item) ps (All-tail HasSomeSpace p ps some) (All-tail HasSpace p ps spaces))
+  text_ends none_yet s [] some spaces = (last_words none_yet s).1
+  text_ends none_yet s (p ∷ ps) some spaces = piece_ends (item_fate a s p.item) (inserted_items a none_yet s p.item) p
+      (amended_text a (still_none_yet none_yet (item_fate a s p.item) p.item) (state_after_item s p.item) ps tail)
+      (left_out_alone a none_yet s p.item) (All-head HasSomeSpace p ps some) (All-head HasSpace p ps spaces) (text_ends
+      (still_none_yet none_yet (item_fate a s p.item) p.item) (state_after_item s p.item) ps (All-tail HasSomeSpace p ps
+      some) (All-tail HasSpace p ps spaces))
 
-  text_words : (quiet : Bool) (s : ParseState) (ps : List Piece) → All HasSomeSpace (drop 1 ps) → All HasSpace ps → All SpellsItem ps
-      → AllowsAll s (items_of ps) → texts (amended_text a quiet s ps tail) ≡ spellings (amended a quiet s (items_of ps))
-  unfolding amended_text amended
-  text_words quiet s [] some spaces bodies allows = (last_words quiet s).0
-  text_words quiet s (p ∷ ps) some spaces bodies allows =
+  text_words : (none_yet : Bool) (s : ParseState) (ps : List Piece) → All HasSomeSpace (drop 1 ps) → All HasSpace ps
+      → All SpellsItem ps
+      → AllowsAll s (items_of ps) → texts (amended_text a none_yet s ps tail) ≡ spellings (amended_items a none_yet s
+      (items_of ps))
+  unfolding amended_text amended_items
+  text_words none_yet s [] some spaces bodies allows = (last_words none_yet s).0
+  text_words none_yet s (p ∷ ps) some spaces bodies allows =
       let t : ParseState = state_after_item s p.item in
       let body = All-head SpellsItem p ps bodies in
       let spelled = body_is_unbroken p body in
-      let lines = inserted_spelled a quiet final s p.item allows.0 words fit.added in
-      let in_it = outcome_spelled a s p.item spelled words (fate_fits a final fit) in
-      let ends = text_ends (still_quiet quiet (outcome a s p.item) p.item) t ps some (All-tail HasSpace p ps spaces) in
-      let here = piece_words (inserted a quiet s p.item) p (amended_text a (still_quiet quiet (outcome a s p.item) p.item) t ps tail) lines (All-head HasSpace p ps spaces) ends
-      (outcome a s p.item) in_it (left_out_alone a quiet s p.item) (sym (texts_are p.body) ∙ body) in
-      let rest = text_words (still_quiet quiet (outcome a s p.item) p.item) t ps (later ps some) (All-tail HasSpace p ps spaces) (All-tail SpellsItem p ps bodies)
-      allows.1 in
-      here ∙ ap (λ ws. spellings (inserted a quiet s p.item ++ in_place (outcome a s p.item) p.item) ++ ws) rest ∙ sym
-      (flat_map-append spelling (inserted a quiet s p.item ++ in_place (outcome a s p.item) p.item) (amended a (still_quiet quiet (outcome a s p.item) p.item) t (items_of ps)))
+      let lines = inserted_spelled a none_yet final s p.item allows.0 words fit.added in
+      let in_it = fate_spelled a s p.item spelled words (fate_fits a final fit) in
+      let ends = text_ends (still_none_yet none_yet (item_fate a s p.item) p.item) t ps some
+      (All-tail HasSpace p ps spaces) in
+      let here = piece_words (inserted_items a none_yet s p.item) p (amended_text a (still_none_yet none_yet
+      (item_fate a s p.item) p.item) t ps tail) lines (All-head HasSpace p ps spaces) ends (item_fate a s p.item) in_it
+      (left_out_alone a none_yet s p.item) (sym (texts_are p.body) ∙ body) in
+      let rest = text_words (still_none_yet none_yet (item_fate a s p.item) p.item) t ps (later ps some)
+      (All-tail HasSpace p ps spaces) (All-tail SpellsItem p ps bodies) allows.1 in
+      here ∙ ap (λ ws. spellings (inserted_items a none_yet s p.item ++ items_in_place (item_fate a s p.item) p.item)
+      ++ ws) rest ∙ sym (flat_map-append spelling (inserted_items a none_yet s p.item ++ items_in_place (item_fate a s
+      p.item) p.item) (amended_items a (still_none_yet none_yet (item_fate a s p.item) p.item) t (items_of ps)))
     where
       later : (ps : List Piece) → All HasSomeSpace ps → All HasSomeSpace (drop 1 ps)
       later [] some = some
@@ -150,13 +160,14 @@ pub text_of_pieces : (a : Amendment) (limit : ℕ) (pieces : List Piece) (tail :
 text_of_pieces a limit pieces tail bodies spaces apart end allows in_body fit =
     let final : ParseState = state_after (initial_state limit) (items_of pieces) in
     let means = amended_is_meant a limit (items_of pieces) allows in_body fit in
-    let items : List Item = amended a true (initial_state limit) (items_of pieces) in
+    let items : List Item = amended_items a true (initial_state limit) (items_of pieces) in
     let text : List ℕ = amended_text a true (initial_state limit) pieces tail in
     record {
       state = state_after (initial_state limit) items;
       accepted = record {
         items = items;
-        spelled = texts_are text ∙ text_words a final fit tail end true (initial_state limit) pieces apart spaces bodies allows;
+        spelled = texts_are text ∙ text_words a final fit tail end true (initial_state limit) pieces apart spaces bodies
+            allows;
         allowed = means.allowed;
         state_is = refl;
         definitions_ended = means.in_body;

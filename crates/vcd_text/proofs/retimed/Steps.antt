@@ -14,13 +14,13 @@ use Rattle.vcd_text.specs.Items.{Item, entry, timescale, scope, upscope, variabl
 use Rattle.vcd_text.specs.Items.{stamp, scalar, vector, real_or_string, dump_word, other}
 use Rattle.vcd_text.specs.Grammar.{ParseState, ValueChange, VariableDeclaration, Allows, AllowsAll, state_after_item}
 use Rattle.vcd_text.specs.Grammar.{state_after, is_skipped, value_changes_after, variable_of, declaration_of}
-use Rattle.vcd_text.specs.Amended.{Outcome, stands, is_left_out, is_exchanged, in_place}
+use Rattle.vcd_text.specs.Amendment.{first_with_code}
+use Rattle.vcd_text.specs.AmendedItems.{ItemFate, stands, is_left_out, is_exchanged, items_in_place}
 use Rattle.vcd_text.specs.Retimed.{IsRetiming, comes_again, retimed_change, retimed_stamp, retimed_outcome, retimed}
 use Rattle.vcd_text.proofs.shared.ItemsInTurn.{Reaches, reaches_none, reaches_one, reaches_both, reaches_same}
 use Rattle.vcd_text.proofs.shared.ItemTests.{has_tick, allows_stamp}
 use Rattle.vcd_text.proofs.read_back.Decimals.{decimal_is_number, number_of-decimal}
 use Rattle.vcd_text.proofs.amended.Codes.{same_bytes, bytes_turned, differ}
-use Rattle.vcd_text.specs.Amended.{with_code}
 use Rattle.vcd_text.proofs.retimed.Values.{rises, SameAt, of, both_more, theirs_more}
 
 -- whether a code is that of a kept variable
@@ -91,7 +91,7 @@ module _ (tau source : ℕ → ℕ) (retiming : IsRetiming tau source) where
     in_body = allows.0
 
     stamp_stands : (stands_as : Bool) → (tau (number_of digits) == number_of digits) ≡ stands_as
-        → Steps s vs (in_place (if stands_as then stands else is_exchanged (stamp (decimal (tau (number_of digits)))))
+        → Steps s vs (items_in_place (if stands_as then stands else is_exchanged (stamp (decimal (tau (number_of digits)))))
         (stamp digits)) is new
     stamp_stands true same =
         let is_same : tau (number_of digits) ≡ number_of digits = eqb-true (tau (number_of digits)) (number_of digits) same
@@ -115,7 +115,7 @@ module _ (tau source : ℕ → ℕ) (retiming : IsRetiming tau source) where
         }
 
     by_tests : (left_out : Bool) → ((tau (number_of digits) == tau s.tick) && not (number_of digits == s.tick)) ≡ left_out
-        → Steps s vs (in_place (if left_out then is_left_out else (if tau (number_of digits) == number_of digits then
+        → Steps s vs (items_in_place (if left_out then is_left_out else (if tau (number_of digits) == number_of digits then
         stands else is_exchanged (stamp (decimal (tau (number_of digits)))))) (stamp digits)) is new
     by_tests true same =
         let is_same : tau (number_of digits) ≡ tau s.tick = eqb-true (tau (number_of digits)) (tau s.tick) (and_parts (tau
@@ -127,7 +127,7 @@ module _ (tau source : ℕ → ℕ) (retiming : IsRetiming tau source) where
         }
     by_tests false apart = stamp_stands (tau (number_of digits) == number_of digits) refl
 
-    pub stamp_steps : Steps s vs (in_place (retimed_stamp tau s digits) (stamp digits)) is new
+    pub stamp_steps : Steps s vs (items_in_place (retimed_stamp tau s digits) (stamp digits)) is new
     stamp_steps = by_tests ((tau (number_of digits) == tau s.tick) && not (number_of digits == s.tick)) refl
 
   -- ---- changes
@@ -230,7 +230,7 @@ module _ (tau source : ℕ → ℕ) (retiming : IsRetiming tau source) where
         → (left_out ≡ true → comes_again tau (tau s.tick) false code is ≡ true) → Allows (at s vs) i
         → state_after_item (at s vs) i
         ≡ at s (vs ++ value_changes_after (at s vs) code letters (variable_of s code))
-        → Steps s vs (in_place (if left_out then is_left_out else stands) i) is their_state
+        → Steps s vs (items_in_place (if left_out then is_left_out else stands) i) is their_state
     change_steps true true skips comes allowed same = record {
       value_changes = vs;
       leads = reaches_none (at s vs);
@@ -266,8 +266,8 @@ module _ (tau source : ℕ → ℕ) (retiming : IsRetiming tau source) where
       (and_parts (not (source (tau s.tick) == s.tick)) (comes_again tau (tau s.tick) real code is) left_out).1
 
   -- a variable more: no code of a kept variable is lost
-  still_kept : (ds more : List VariableDeclaration) (code : List ℕ) → is_kept (with_code code (ds ++ more)) ≡ false
-      → is_kept (with_code code ds) ≡ false
+  still_kept : (ds more : List VariableDeclaration) (code : List ℕ) → is_kept (first_with_code code (ds ++ more)) ≡ false
+      → is_kept (first_with_code code ds) ≡ false
   still_kept [] more code none = refl
   still_kept (d ∷ ds) more code none = elim (cases_Bool (bytes_eq code d.code)) [
     | inl same ↦ rw same (rw same at none)
@@ -292,7 +292,7 @@ module _ (tau source : ℕ → ℕ) (retiming : IsRetiming tau source) where
   }
 
   pub item_steps : (s : ParseState) (vs : List ValueChange) (i : Item) (is : List Item) → Allows s i
-      → Keeps (i ∷ is) s vs → Steps s vs (in_place (retimed_outcome tau source s i is) i) is (state_after_item s i)
+      → Keeps (i ∷ is) s vs → Steps s vs (items_in_place (retimed_outcome tau source s i is) i) is (state_after_item s i)
   item_steps s vs (entry kind words) is allows keeps = stays_as_it_is s vs (entry kind words) is _ allows refl (other_keeps
       s vs (entry kind words) is keeps (λ c. refl) _ refl refl (λ c none. none))
   item_steps s vs (timescale words) is allows keeps = stays_as_it_is s vs (timescale words) is _ allows refl (other_keeps s
@@ -310,7 +310,7 @@ module _ (tau source : ℕ → ℕ) (retiming : IsRetiming tau source) where
   item_steps s vs (scalar digit code) is allows keeps = with_variable (variable_of s code) refl
     where
       with_variable : (o : Option VariableDeclaration) → variable_of s code ≡ o
-          → Steps s vs (in_place (retimed_change tau source s false code is) (scalar digit code)) is (state_after_item s
+          → Steps s vs (items_in_place (retimed_change tau source s false code is) (scalar digit code)) is (state_after_item s
           (scalar digit code))
       with_variable None none = absurd (grind (arith, allows.1))
       with_variable (Some d) found = change_steps s vs (scalar digit code) is code (letters_of_digits (digit ∷ [])) d found
@@ -318,7 +318,7 @@ module _ (tau source : ℕ → ℕ) (retiming : IsRetiming tau source) where
   item_steps s vs (vector first digits code) is allows keeps = with_variable (variable_of s code) refl
     where
       with_variable : (o : Option VariableDeclaration) → variable_of s code ≡ o
-          → Steps s vs (in_place (retimed_change tau source s false code is) (vector first digits code)) is
+          → Steps s vs (items_in_place (retimed_change tau source s false code is) (vector first digits code)) is
           (state_after_item s (vector first digits code))
       with_variable None none = absurd (grind (arith, allows.1))
       with_variable (Some d) found = change_steps s vs (vector first digits code) is code (letters_of_digits digits) d found
@@ -328,7 +328,7 @@ module _ (tau source : ℕ → ℕ) (retiming : IsRetiming tau source) where
       rest : Keeps is s vs
       rest = other_keeps s vs (real_or_string first text code) is keeps (λ c. refl) s refl refl (λ c none. none)
 
-      by_test : (left_out : Bool) → Steps s vs (in_place (if left_out then is_left_out else stands) (real_or_string first
+      by_test : (left_out : Bool) → Steps s vs (items_in_place (if left_out then is_left_out else stands) (real_or_string first
           text code)) is s
       by_test true = record { value_changes = vs; leads = reaches_none (at s vs); keeps = rest }
       by_test false = stays_as_it_is s vs (real_or_string first text code) is s allows refl rest

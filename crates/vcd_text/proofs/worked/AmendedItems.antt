@@ -10,7 +10,9 @@ use Rattle.vcd_text.specs.Items.{stamp, scalar, vector, real_or_string}
 use Rattle.vcd_text.specs.Letters.{short_form}
 use Rattle.vcd_text.specs.Grammar.{ParseState, initial_state, state_after}
 use Rattle.vcd_text.specs.Meaning.{meaning, changes_of_code}
-use Rattle.vcd_text.specs.Amended.{Amendment, AmendedCode, stays, is_removed, is_changed, amended, amended_meaning}
+use Rattle.vcd_text.specs.Amendment.{Amendment, AmendedCode, stays, is_removed, is_changed}
+use Rattle.vcd_text.specs.AmendedItems.{amended_items}
+use Rattle.vcd_text.specs.AmendedMeaning.{amended_meaning}
 
 -- ---- a file: two wires with one code, one with another, and a real, which is skipped
 
@@ -50,13 +52,13 @@ later = record {
 abbrev one_tick : Amendment
 one_tick = record { fates = stays ∷ stays ∷ stays ∷ []; added = []; codes = later ∷ [] }
 
-one_tick_items : amended one_tick true begin file ≡ opened ∷ wire (codes "!") (codes "a") ∷ real
+one_tick_items : amended_items one_tick true begin file ≡ opened ∷ wire (codes "!") (codes "a") ∷ real
     ∷ wire (codes "!") (codes "b") ∷ wire (codes "%") (codes "c") ∷ upscope ∷ end_definitions ∷ stamp (codes "0")
     ∷ scalar 48 (codes "!") ∷ vector 66 (codes "0") (codes "%") ∷ stamp (codes "4") ∷ scalar 49 (codes "%")
     ∷ real_or_string 114 (codes "1.5") (codes "$") ∷ scalar 48 (codes "%") ∷ stamp (codes "5") ∷ scalar 49 (codes "!")
     ∷ stamp (codes "6") ∷ scalar 49 (codes "%") ∷ stamp (codes "9") ∷ scalar 48 (codes "!") ∷ scalar 48 (codes "%")
     ∷ []
-unfolding amended value_from short_form digits
+unfolding amended_items value_from short_form digits
 one_tick_items = refl
 
 -- ---- of two wires with one code one is inverted: it gets a fresh code; the wire c is removed, and d is
@@ -94,8 +96,8 @@ inverted_file = opened ∷ wire (codes "&") (codes "n") ∷ real ∷ wire (codes
     ∷ stamp (codes "5") ∷ scalar 49 (codes "!") ∷ scalar 48 (codes "&") ∷ stamp (codes "9") ∷ scalar 48 (codes "!")
     ∷ scalar 49 (codes "&") ∷ []
 
-inverted_items : amended inverted true begin file ≡ inverted_file
-unfolding amended value_from short_form digits
+inverted_items : amended_items inverted true begin file ≡ inverted_file
+unfolding amended_items value_from short_form digits
 inverted_items = refl
 
 inverted_meaning : meaning (state_after begin inverted_file) ≡ amended_meaning inverted (state_after begin file)
@@ -119,12 +121,13 @@ early = record {
   } ∷ [];
 }
 
-early_items : amended early true begin late_file ≡ wire (codes "!") (codes "a") ∷ end_definitions ∷ stamp (codes "0")
+early_items : amended_items early true begin late_file ≡ wire (codes "!") (codes "a") ∷ end_definitions
+    ∷ stamp (codes "0")
     ∷ scalar 48 (codes "!") ∷ stamp (codes "2") ∷ scalar 49 (codes "!") ∷ stamp (codes "5") ∷ []
-unfolding amended value_from short_form digits
+unfolding amended_items value_from short_form digits
 early_items = refl
 
-early_meaning : meaning (state_after begin (amended early true begin late_file))
+early_meaning : meaning (state_after begin (amended_items early true begin late_file))
     ≡ amended_meaning early (state_after begin late_file)
-unfolding amended changes_of_code value_from changes_from short_form digits
+unfolding amended_items changes_of_code value_from changes_from short_form digits
 early_meaning = refl

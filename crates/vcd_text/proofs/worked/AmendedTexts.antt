@@ -7,8 +7,9 @@ use Rattle.vcd_core.specs.Wave.{change, value_from}
 use Rattle.vcd_text.specs.Items.{Item, variable, end_definitions, stamp, scalar}
 use Rattle.vcd_text.specs.Letters.{short_form}
 use Rattle.vcd_text.specs.Grammar.{initial_state}
-use Rattle.vcd_text.specs.Amended.{Amendment, is_changed}
-use Rattle.vcd_text.specs.AmendedText.{Piece, amended_text}
+use Rattle.vcd_text.specs.Amendment.{Amendment, is_changed}
+use Rattle.vcd_text.specs.Pieces.{Piece}
+use Rattle.vcd_text.specs.AmendedText.{amended_text}
 
 abbrev piece : Item → (space body : List ℕ) → Piece
 piece item space body = record { item = item; space = space; body = body }

@@ -10,8 +10,8 @@ use Rattle.vcd_core.specs.Contents.{SignalContents}
 use Rattle.vcd_text.specs.Items.{Item, variable, end_definitions, stamp, scalar}
 use Rattle.vcd_text.specs.Grammar.{ParseState, initial_state, state_after, kept_variables}
 use Rattle.vcd_text.specs.Meaning.{changes_of_code}
-use Rattle.vcd_text.specs.Difference.{Target}
-use Rattle.vcd_text.specs.Assignment.{targets, derived_targets, all_gifts, first_ones}
+use Rattle.vcd_text.specs.CodedAmendment.{CodedSignal}
+use Rattle.vcd_text.specs.GivenCodes.{coded_signals, coded_derived, coded_waves, changed_waves}
 
 -- ---- three wires, two of them with one code
 
@@ -20,7 +20,8 @@ wire code name = variable (codes "wire" ∷ codes "1" ∷ code ∷ name ∷ [])
 
 abbrev file : ParseState
 file = state_after (initial_state 8) (wire (codes "!") (codes "a") ∷ wire (codes "!") (codes "b") ∷ wire (codes "%")
-    (codes "c") ∷ end_definitions ∷ stamp (codes "0") ∷ scalar 48 (codes "!") ∷ scalar 49 (codes "%") ∷ stamp (codes "9")
+    (codes "c") ∷ end_definitions ∷ stamp (codes "0") ∷ scalar 48 (codes "!") ∷ scalar 49 (codes "%")
+    ∷ stamp (codes "9")
     ∷ [])
 
 abbrev signal : List ℕ → List Change → SignalContents
@@ -41,17 +42,19 @@ abbrev fresh : ℕ → List ℕ
 fresh n = get_or (codes "\"" ∷ codes "#" ∷ codes "$" ∷ []) n []
 
 -- the codes of what is left, and of what is derived
-abbrev code_of_target : Option Target → List ℕ
-code_of_target None = []
-code_of_target (Some t) = t.code
+abbrev code_of_left : Option CodedSignal → List ℕ
+code_of_left None = []
+code_of_left (Some t) = t.code
 
 abbrev left_codes : List (Option SignalContents) → List SignalContents → List (List ℕ)
-left_codes news derived =
-    map code_of_target (targets file (all_gifts fresh file news derived) (kept_variables file.declared) news)
+left_codes remaining derived =
+    map code_of_left (coded_signals file (coded_waves fresh file remaining derived) (kept_variables file.declared)
+    remaining)
 
 abbrev derived_codes : List (Option SignalContents) → List SignalContents → List (List ℕ)
-derived_codes news derived = map (λ t. t.code) (derived_targets (drop (length (first_ones file news)) (all_gifts fresh file
-    news derived)) derived)
+derived_codes remaining derived = map (λ t. t.code) (coded_derived (drop (length (changed_waves file remaining))
+    (coded_waves fresh file
+    remaining derived)) derived)
 
 -- both wires of one code change to one wave: they keep it
 abbrev both_pulse : List (Option SignalContents)

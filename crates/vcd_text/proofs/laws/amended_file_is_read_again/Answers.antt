@@ -2,7 +2,7 @@ use Rattle.vcd_text.proofs.amended.Whole.{amended_is_meant}
 use Rattle.vcd_text.proofs.amended.WholeText.{amended_text_is_meant}
 use Rattle.vcd_text.proofs.worked.AmendedItems as worked
 use Rattle.vcd_text.proofs.worked.AmendedTexts as worked_texts
-use Rattle.vcd_text.proofs.laws.amended_file_is_meant.Goals as goal
+use Rattle.vcd_text.proofs.laws.amended_file_is_read_again.Goals as goal
 
 pub returns-clause-items : goal.returns-clause-items
 returns-clause-items c = amended_is_meant

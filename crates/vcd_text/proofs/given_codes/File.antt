@@ -18,24 +18,25 @@ use Rattle.vcd_text.specs.Grammar.{ParseState, ValueChange, VariableDeclaration,
 use Rattle.vcd_text.specs.Grammar.{AllowsAll, state_after_item, state_after, initial_state, value_changes_after}
 use Rattle.vcd_text.specs.Grammar.{variable_of, kept_variables}
 use Rattle.vcd_text.specs.Meaning.{FileMeans, meaning}
-use Rattle.vcd_text.specs.Amended.{with_code, class_of}
-use Rattle.vcd_text.specs.AmendedText.{Piece, amended_text}
+use Rattle.vcd_text.specs.Amendment.{first_with_code}
+use Rattle.vcd_text.specs.AmendedMeaning.{class_of, FitsFile, amended_meaning}
+use Rattle.vcd_text.specs.Pieces.{Piece}
+use Rattle.vcd_text.specs.AmendedText.{amended_text}
+use Rattle.vcd_text.specs.CodedAmendment.{AreAlike}
+use Rattle.vcd_text.specs.GivenCodes.{AreFresh, AreSignalsOf, IsFileState, AmendedTextMeansOtherCapture, amendment_for}
+use Rattle.vcd_text.specs.GivenCodes.{new_waves, signals_left}
 use Rattle.vcd_core.specs.Contents.{SignalContents}
 use Rattle.vcd_core.specs.Sound.{IsSoundSignal}
-use Rattle.vcd_text.specs.Amended.{FitsFile, amended_meaning}
-use Rattle.vcd_text.specs.Assignment.{AreFresh, AreNew}
 use Rattle.std.specs.Prelude.{drop, count_by}
 use Rattle.vcd_core.specs.Word.{is_white_space}
-use Rattle.vcd_text.specs.Difference.{AreAlike}
-use Rattle.vcd_text.specs.Assignment.{IsFileState, AmendedTextMeansOtherCapture, amendment_for}
-use Rattle.vcd_text.specs.Assignment.{all_wishes, signals_left}
 use Rattle.vcd_text.proofs.shared.ItemTests.{has_declaration}
 use Rattle.vcd_text.proofs.part.FewSignals.{same_limit}
 use Rattle.vcd_text.proofs.read_back.Words.{is_unbroken, is_spelled}
 use Rattle.vcd_text.proofs.amended.Codes.{itself}
-use Rattle.vcd_text.proofs.amended.WholeText.{SpellsItem, HasSpace, HasSomeSpace, items_of, body_is_unbroken, text_of_pieces}
-use Rattle.vcd_text.proofs.difference.Gives.{amendment_fits, signals_are}
-use Rattle.vcd_text.proofs.difference.Fits.{some_first, all_fit, signals_given}
+use Rattle.vcd_text.proofs.amended.WholeText.{SpellsItem, HasSpace, HasSomeSpace, items_of, body_is_unbroken}
+use Rattle.vcd_text.proofs.amended.WholeText.{text_of_pieces}
+use Rattle.vcd_text.proofs.given_codes.Gives.{amendment_fits, signals_are}
+use Rattle.vcd_text.proofs.given_codes.Fits.{some_first, all_fit, signals_given}
 
 -- ---- classes
 
@@ -50,7 +51,8 @@ class_from_test : (x d : VariableDeclaration) → may_have_code (Some x) d ≡ t
 class_from_test x d may = class_by_test (is_skipped x) (is_skipped d) x.size d.size may
 
 -- no variable has the code
-none_has : (code : List ℕ) (first : VariableDeclaration) (ds : List VariableDeclaration) → with_code code ds ≡ None
+none_has : (code : List ℕ) (first : VariableDeclaration) (ds : List VariableDeclaration) → first_with_code code ds
+    ≡ None
     → All (λ d. d.code ≡ code → class_of d ≡ class_of first) ds
 none_has code first [] none = All-nil (λ d. d.code ≡ code → class_of d ≡ class_of first)
 none_has code first (d ∷ ds) none = elim (cases_Bool (bytes_eq code d.code)) [
@@ -61,30 +63,32 @@ none_has code first (d ∷ ds) none = elim (cases_Bool (bytes_eq code d.code)) [
 
 -- one variable more
 alike_more : (ds : List VariableDeclaration) (d : VariableDeclaration) → AreAlike ds
-    → may_have_code (with_code d.code ds) d ≡ true → AreAlike (ds ++ d ∷ [])
-alike_more ds d alike may code first found = by_answer (with_code code ds) refl
+    → may_have_code (first_with_code d.code ds) d ≡ true → AreAlike (ds ++ d ∷ [])
+alike_more ds d alike may code first found = by_answer (first_with_code code ds) refl
   where
-    whole : option_or (with_code code ds) (with_code code (d ∷ [])) ≡ Some first
+    whole : option_or (first_with_code code ds) (first_with_code code (d ∷ [])) ≡ Some first
     whole = sym (find-append (λ (v : VariableDeclaration). bytes_eq code v.code) ds (d ∷ [])) ∙ found
 
-    by_answer : (o : Option VariableDeclaration) → with_code code ds ≡ o
+    by_answer : (o : Option VariableDeclaration) → first_with_code code ds ≡ o
         → All (λ d. d.code ≡ code → class_of d ≡ class_of first) (ds ++ d ∷ [])
-    by_answer None is = All-append (λ d. d.code ≡ code → class_of d ≡ class_of first) ds (d ∷ []) (none_has code first ds
-        is) (All-cons (λ d. d.code ≡ code → class_of d ≡ class_of first) d [] (λ same. ap class_of (one same)) (All-nil (λ
-        d. d.code ≡ code → class_of d ≡ class_of first)))
+    by_answer None is = All-append (λ d. d.code ≡ code → class_of d ≡ class_of first) ds (d ∷ [])
+        (none_has code first ds is) (All-cons (λ d. d.code ≡ code → class_of d ≡ class_of first) d [] (λ same. ap
+        class_of (one same)) (All-nil (λ d. d.code ≡ code → class_of d ≡ class_of first)))
       where
         one : d.code ≡ code → d ≡ first
         one same =
             let here : bytes_eq code d.code ≡ true = ap (bytes_eq code) same ∙ itself code in
-            let it : with_code code (d ∷ []) ≡ Some first = ap (λ o. option_or o (with_code code (d ∷ []))) (sym is) ∙ whole
+            let it : first_with_code code (d ∷ []) ≡ Some first = ap (λ o. option_or o (first_with_code code (d ∷ [])))
+            (sym is) ∙ whole
             in
             same_Some d first (rw here at it)
     by_answer (Some x) is =
-        let it : Some x ≡ Some first = ap (λ o. option_or o (with_code code (d ∷ []))) (sym is) ∙ whole in
+        let it : Some x ≡ Some first = ap (λ o. option_or o (first_with_code code (d ∷ []))) (sym is) ∙ whole in
         let same_first : x ≡ first = same_Some x first it in
-        All-append (λ d. d.code ≡ code → class_of d ≡ class_of first) ds (d ∷ []) (alike code first (is ∙ it)) (All-cons (λ
-        d. d.code ≡ code → class_of d ≡ class_of first) d [] (λ same. sym (class_from_test x d (ap (λ o. may_have_code o d)
-        (sym (ap (λ k. with_code k ds) same ∙ is)) ∙ may)) ∙ ap class_of same_first) (All-nil (λ d. d.code ≡ code
+        All-append (λ d. d.code ≡ code → class_of d ≡ class_of first) ds (d ∷ []) (alike code first (is ∙ it))
+        (All-cons (λ d. d.code ≡ code → class_of d ≡ class_of first) d [] (λ same. sym (class_from_test x d
+        (ap (λ o. may_have_code o d) (sym (ap (λ k. first_with_code k ds) same ∙ is)) ∙ may)) ∙ ap class_of same_first)
+        (All-nil (λ d. d.code ≡ code
         → class_of d ≡ class_of first)))
 
 -- ---- the state of a file
@@ -94,13 +98,16 @@ same_file : (s t : ParseState) → t.declared ≡ s.declared → t.value_changes
 same_file s t declared changes file = record {
   words = subst (All (λ d. IsTrue (is_word d.code))) (sym declared) file.words;
   alike = subst AreAlike (sym declared) file.alike;
-  known = subst (λ ds. All (λ v. IsTrue (is_some (with_code v.code ds))) t.value_changes) (sym declared) (subst (All (λ v.
-      IsTrue (is_some (with_code v.code s.declared)))) (sym changes) file.known);
+  known = subst (λ ds. All (λ v. IsTrue (is_some (first_with_code v.code ds))) t.value_changes) (sym declared)
+      (subst (All (λ v.
+      IsTrue (is_some (first_with_code v.code s.declared)))) (sym changes) file.known);
 }
 
 -- a value change more
 more_changes : (s : ParseState) (code : List ℕ) (letters : List Bit) → IsFileState s
-    → IsFileState (record s { value_changes = s.value_changes ++ value_changes_after s code letters (variable_of s code) })
+    → IsFileState (record s {
+      value_changes = s.value_changes ++ value_changes_after s code letters (variable_of s code);
+    })
 more_changes s code letters file = record {
   words = file.words;
   alike = file.alike;
@@ -108,9 +115,9 @@ more_changes s code letters file = record {
 }
   where
     P : ValueChange → Type 0
-    P v = IsTrue (is_some (with_code v.code s.declared))
+    P v = IsTrue (is_some (first_with_code v.code s.declared))
 
-    by_kind : (b : Bool) → is_some (with_code code s.declared) ≡ true
+    by_kind : (b : Bool) → is_some (first_with_code code s.declared) ≡ true
         → All P (if b then [] else record { tick = s.tick; code = code; letters = letters } ∷ [])
     by_kind true known = All-nil P
     by_kind false known = All-cons P _ [] known (All-nil P)
@@ -135,7 +142,8 @@ more_variables s kind size code name names allows spelled file =
     let first = and_parts (not (bytes_eq kind end_word)) (has_no_end_word (size ∷ code ∷ name ∷ names)) ends in
     let second = and_parts (not (bytes_eq size end_word)) (has_no_end_word (code ∷ name ∷ names)) first.1 in
     let third = and_parts (not (bytes_eq code end_word)) (has_no_end_word (name ∷ names)) second.1 in
-    let all = (and_parts (is_unbroken (codes "$var")) (list_all is_unbroken ((kind ∷ size ∷ code ∷ name ∷ names) ++ end_word
+    let all = (and_parts (is_unbroken (codes "$var")) (list_all is_unbroken ((kind ∷ size ∷ code ∷ name ∷ names)
+    ++ end_word
     ∷ [])) spelled).1 in
     let one = and_parts (is_unbroken kind) (list_all is_unbroken (size ∷ code ∷ name ∷ (names ++ end_word ∷ []))) all in
     let two = and_parts (is_unbroken size) (list_all is_unbroken (code ∷ name ∷ (names ++ end_word ∷ []))) one.1 in
@@ -152,8 +160,9 @@ more_variables s kind size code name names allows spelled file =
       words = All-append (λ d. IsTrue (is_word d.code)) s.declared (d ∷ []) file.words (All-cons (λ d. IsTrue (is_word
           d.code)) d [] (word_of code three.0 third.0) (All-nil (λ d. IsTrue (is_word d.code))));
       alike = alike_more s.declared d file.alike tests.0;
-      known = All-weaker (λ v. IsTrue (is_some (with_code v.code s.declared))) (λ v. IsTrue (is_some (with_code v.code
-          (s.declared ++ d ∷ [])))) (λ v some. some_first (λ (e : VariableDeclaration). bytes_eq v.code e.code) s.declared (d
+      known = All-weaker (λ v. IsTrue (is_some (first_with_code v.code s.declared))) (λ v. IsTrue
+          (is_some (first_with_code v.code (s.declared ++ d ∷ [])))) (λ v some. some_first (λ (e : VariableDeclaration).
+          bytes_eq v.code e.code) s.declared (d
           ∷ []) some) s.value_changes file.known;
     }
 
@@ -187,41 +196,44 @@ all_state s (p ∷ ps) allows spelled file = all_state (state_after_item s p.ite
 -- ---- the whole
 
 pub other_capture_of_pieces : (fresh : ℕ → List ℕ) (limit : ℕ) (pieces : List Piece) (tail : List ℕ)
-    (news : List (Option SignalContents)) (derived : List SignalContents) (final : ParseState)
+    (remaining : List (Option SignalContents)) (derived : List SignalContents) (final : ParseState)
     → final ≡ state_after (initial_state limit) (items_of pieces) → All SpellsItem pieces → All HasSpace pieces
     → All HasSomeSpace (drop 1 pieces) → list_all is_white_space tail ≡ true
     → AllowsAll (initial_state limit) (items_of pieces)
     → IsTrue (state_after (initial_state limit) (items_of pieces)).in_body
-    → AreFresh fresh (length (all_wishes final news derived)) final → AreNew final (kept_variables final.declared) news
-    → All (IsSoundSignal final.tick) derived → length (signals_left news) + length derived ≤ limit
-    → FileMeans limit (amended_text (amendment_for fresh final news derived) true (initial_state limit) pieces tail)
-    (record (meaning final) { signals = signals_left news ++ derived }) (count_by is_skipped final.declared)
-other_capture_of_pieces fresh limit pieces tail news derived final is spelled spaces apart end allows in_body are_fresh
-    new sound few =
+    → AreFresh fresh (length (new_waves final remaining derived)) final → AreSignalsOf final (kept_variables
+    final.declared) remaining
+    → All (IsSoundSignal final.tick) derived → length (signals_left remaining) + length derived ≤ limit
+    → FileMeans limit (amended_text (amendment_for fresh final remaining derived) true (initial_state limit) pieces
+    tail)
+    (record (meaning final) { signals = signals_left remaining ++ derived }) (count_by is_skipped final.declared)
+other_capture_of_pieces fresh limit pieces tail remaining derived final is spelled spaces apart end allows
+    in_body are_fresh new sound few =
     let state : IsFileState final = subst IsFileState (sym is) (all_state (initial_state limit) pieces allows spelled
     (record {
       words = All-nil (λ d. IsTrue (is_word d.code));
       alike = λ code first found. All-nil (λ d. d.code ≡ code → class_of d ≡ class_of first);
-      known = All-nil (λ v. IsTrue (is_some (with_code v.code [])));
+      known = All-nil (λ v. IsTrue (is_some (first_with_code v.code [])));
     })) in
     let limited : final.limit ≡ limit = ap (λ (t : ParseState). t.limit) is ∙ same_limit (initial_state limit) (items_of
     pieces) in
-    let room : length (signals_left news) + length derived ≤ final.limit = omega (arith, few, limited) in
-    let count : ℕ = length (all_wishes final news derived) in
-    let fits = all_fit fresh count final are_fresh state news derived new sound (omega arith) room in
+    let room : length (signals_left remaining) + length derived ≤ final.limit = omega (arith, few, limited) in
+    let count : ℕ = length (new_waves final remaining derived) in
+    let fits = all_fit fresh count final are_fresh state remaining derived new sound (omega arith) room in
     let fit = amendment_fits final _ _ _ fits in
-    let text = text_of_pieces (amendment_for fresh final news derived) limit pieces tail spelled spaces apart end allows
-    in_body (subst (FitsFile (amendment_for fresh final news derived)) is fit) in
+    let text = text_of_pieces (amendment_for fresh final remaining derived) limit pieces tail spelled spaces apart end
+    allows in_body (subst (FitsFile (amendment_for fresh final remaining derived)) is fit) in
     record {
       state = text.state;
       accepted = text.accepted;
-      means = sym (ap (λ ss. record (meaning final) { signals = ss }) (signals_are final _ _ _ fits ∙ signals_given fresh
-          count final are_fresh state news derived new sound (omega arith))) ∙ ap (amended_meaning (amendment_for fresh
-          final news derived)) is ∙ text.means;
+      means = sym (ap (λ ss. record (meaning final) { signals = ss }) (signals_are final _ _ _ fits
+          ∙ signals_given fresh count final are_fresh state remaining derived new sound (omega arith))) ∙ ap
+          (amended_meaning (amendment_for fresh
+          final remaining derived)) is ∙ text.means;
       left_out = ap (λ (t : ParseState). count_by is_skipped t.declared) is ∙ text.left_out;
     }
 
 pub other_capture_is_meant : AmendedTextMeansOtherCapture
-other_capture_is_meant fresh limit file pieces tail news derived cut allows in_body are_fresh new sound few =
-    other_capture_of_pieces fresh limit pieces tail news derived (state_after (initial_state limit) (items_of pieces)) refl
-    cut.spelled cut.spaces cut.apart cut.end allows in_body are_fresh new sound few
+other_capture_is_meant fresh limit file pieces tail remaining derived cut allows in_body are_fresh new sound few =
+    other_capture_of_pieces fresh limit pieces tail remaining derived (state_after (initial_state limit)
+    (items_of pieces)) refl cut.spelled cut.spaces cut.apart cut.end allows in_body are_fresh new sound few

@@ -1,0 +1,7 @@
+-- Lemmas: the codes that the signals of another capture get.
+pub mod Variables
+pub mod Gives
+pub mod CodedWaves
+pub mod NewWaves
+pub mod Fits
+pub mod File
