@@ -2,16 +2,16 @@
 use Rattle.std.specs.Prelude.{ℕ, ◌+◌, ◌-◌, ◌≡◌, ◌⊎◌, ◌<◌, ◌≤◌, ℤ, pos, ◌+ℤ◌, neg_ℤ, IsTrue, not}
 use Rattle.std.specs.Prelude.{List, [], ◌∷◌}
 use Rattle.std.specs.Prelude.{length, map, None, Some}
-use Rattle.std.specs.List.{list_all}
+use Rattle.std.specs.List.{All, list_all}
 use Rattle.std.specs.Borrow.{Bor}
 use Rattle.vcd_core.specs.declared.bit.Bit.{Bit}
 use Rattle.vcd_core.specs.declared.bit.Bit.TheVariants.{X, Z}
-use Rattle.vcd_core.specs.Value.{same_letter}
+use Rattle.vcd_core.specs.Value.{all_x, same_letter}
 use Rattle.vcd_core.specs.Contents.{Contents, signal_at, signal_value}
 use Rattle.vcd_core.specs.Sound.{IsSound}
 use Rattle.vcd_edit.specs.declared.edit.Edit.TheVariants.{Rename, Remove, Invert, Shift, Cut, Force}
 use Rattle.vcd_edit.specs.declared.edit.Edit.TheVariants.{Derive}
-use Rattle.vcd_edit.specs.declared.edit.Rule.TheVariants.{BitOf}
+use Rattle.vcd_edit.specs.declared.edit.Rule.TheVariants.{Not, And, Or, Xor, BitOf}
 use Rattle.vcd_edit.specs.AppliedRecords.{apply_record}
 use Rattle.vcd_edit.specs.Effect.{effect}
 
@@ -68,6 +68,14 @@ ShiftAndBack =
     → pos t +ℤ by ≡ pos moved
     → value_of (effect (Shift k (neg_ℤ by)) (effect (Shift k by) c)) k t ≡ value_of c k t
 
+-- a signal that is shifted later is x at the ticks of the gap at the front; in the gap of one that
+-- is shifted earlier the last value goes on
+abbrev pub ShiftFillsGaps : Type 0
+ShiftFillsGaps =
+    (c : Contents) (k t by : ℕ) → k < length c.signals → t ≤ c.end
+    → (t < by → value_of (effect (Shift k (pos by)) c) k t ≡ all_x (signal_at c k).width)
+    × (c.end < t + by → value_of (effect (Shift k (neg_ℤ (pos by))) c) k t ≡ value_of c k c.end)
+
 -- ---- force
 
 -- a forced signal has the value inside the range, and its own outside
@@ -85,6 +93,13 @@ LastForceCounts =
     ≡ effect (Force k from to last) c
 
 -- ---- derive
+
+-- a derived signal is in the scopes of the first operand
+abbrev pub DerivedBesideFirstOperand : Type 0
+DerivedBesideFirstOperand =
+    (c : Contents) (word : Bor (List ℕ)) (a b k : ℕ)
+    → All (λ rule. (signal_at (effect (Derive word rule) c) (length c.signals)).scopes
+    ≡ (signal_at c a).scopes) (Not a ∷ And a b ∷ Or a b ∷ Xor a b ∷ BitOf a k ∷ [])
 
 -- bit 0 of a signal of one bit is its wave
 abbrev pub BitOfOneBit : Type 0

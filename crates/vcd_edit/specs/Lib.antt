@@ -2,6 +2,7 @@
 -- they touch.
 pub mod EditErrorNames
 pub mod Operators
+pub mod OperatorTables
 pub mod Effect
 pub mod EditFaults
 pub mod EditAnswers

@@ -6,9 +6,11 @@ ghost use Rattle.vcd_edit.specs.Laws.{DeglitchFillsShortRuns, DeglitchWithoutSho
 ghost use Rattle.vcd_edit.specs.Laws.{DeglitchTwice};
 ghost use Rattle.vcd_edit.specs.EffectLaws.{InvertTwice, InvertTwiceWithoutZ, CutKeepsOtherTicks};
 ghost use Rattle.vcd_edit.specs.EffectLaws.{CutsCommute, ShiftAndBack, ForceIsLocal};
-ghost use Rattle.vcd_edit.specs.EffectLaws.{LastForceCounts};
+ghost use Rattle.vcd_edit.specs.EffectLaws.{LastForceCounts, ShiftFillsGaps};
+ghost use Rattle.vcd_edit.specs.EffectLaws.{DerivedBesideFirstOperand};
 ghost use Rattle.vcd_edit.specs.EffectLaws.{BitOfOneBit, RenameAndBack};
 ghost use Rattle.vcd_edit.specs.EffectLaws.{RemoveAndBack};
+ghost use Rattle.vcd_edit.specs.OperatorTables.{NotHasItsTable, OperatorsHaveTheirTables};
 ghost use Rattle.vcd_edit.specs.OtherWaves.{FaultIsOfOutline, EffectKeepsOutlines};
 ghost use Rattle.vcd_edit.specs.OtherWaves.{OthersKeepOutline, EffectWithOthers, LeftFitsEffect};
 ghost use Rattle.vcd_edit.specs.OtherWaves.{EmptyOthersAreSound, OutlineIsSound};
@@ -28,6 +30,12 @@ pub fn deglitch_takes_short_runs_out()
     ensures short_filled { DeglitchFillsShortRuns }
     ensures unchanged { DeglitchWithoutShortRuns }
     ensures once { DeglitchTwice }
+{}
+
+/// `~`, `&`, `|` and `^` have the tables of the standard.
+pub fn operators_have_their_tables()
+    ensures negation { NotHasItsTable }
+    ensures others { OperatorsHaveTheirTables }
 {}
 
 /// A signal that is inverted twice has its values again, with x in place of z. Where it has no z,
@@ -53,6 +61,11 @@ pub fn shift_and_back()
     ensures { ShiftAndBack }
 {}
 
+/// The gap that a shift leaves at the front is x; in one at the end the last value goes on.
+pub fn shift_fills_gaps()
+    ensures { ShiftFillsGaps }
+{}
+
 /// A forced signal has the value inside the range, and its own values outside.
 pub fn force_is_local()
     ensures { ForceIsLocal }
@@ -61,6 +74,11 @@ pub fn force_is_local()
 /// The last of two forces of one range counts.
 pub fn last_force_counts()
     ensures { LastForceCounts }
+{}
+
+/// A derived signal is in the scopes of its first operand, whatever the rule.
+pub fn derived_beside_first_operand()
+    ensures { DerivedBesideFirstOperand }
 {}
 
 /// Bit 0 of a signal of one bit is its wave.

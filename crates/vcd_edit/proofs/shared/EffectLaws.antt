@@ -1,16 +1,17 @@
 -- The laws of what the edits are for.
 use Rattle.std.proofs.Common.{◌≡◌, ◌<◌, ◌≤◌, ℕ, ◌+◌, ◌-◌, ◌&&◌, nat_le, nat_lt, Bool, true, false}
 use Rattle.std.proofs.Common.{if◌then◌else◌}
-use Rattle.std.proofs.Common.{IsTrue, not, ℤ, pos, ◌-ℤ◌, List, [], ◌∷◌, length, map, drop, inl, inr}
-use Rattle.std.proofs.Common.{refl, sym, ap}
+use Rattle.std.proofs.Common.{IsTrue, not, ℤ, pos, negsuc, ◌-ℤ◌, List, [], ◌∷◌, length, map, drop, inl, inr}
+use Rattle.std.proofs.Common.{refl, sym, ap, suc}
 use Rattle.std.proofs.Common.{◌∙◌, arith}
 use Rattle.std.specs.Prelude.{neg_ℤ}
-use Rattle.std.specs.List.{list_all}
-use Rattle.std.proofs.lemmas.Bool.{le-ltb, and_parts}
+use Rattle.std.specs.List.{All, list_all}
+use Rattle.std.proofs.lemmas.Bool.{le-ltb, lt-ltb, and_parts}
 use Rattle.std.proofs.lemmas.Bool.Decides.{nat_tests}
 use Rattle.std.proofs.lemmas.Int.{ints}
 use Rattle.std.proofs.lemmas.List.{length-set, set-set, set-get_or, get_or-set_same, get_or-map}
 use Rattle.std.proofs.lemmas.List.{get_or_push}
+use Rattle.std.proofs.lemmas.List.Elements.{All-nil, All-cons}
 use Rattle.std.proofs.lemmas.List.Edits.{get_or-remove_below, get_or-remove_above}
 use Rattle.vcd_core.specs.declared.bit.Bit.{Bit}
 use Rattle.vcd_core.specs.declared.bit.Bit.TheVariants.{Zero, Z}
@@ -21,18 +22,21 @@ use Rattle.vcd_core.specs.Contents.{Contents, SignalContents, no_signal, signal_
 use Rattle.vcd_core.specs.Contents.{signal_value}
 use Rattle.vcd_core.specs.Sound.{IsSound}
 use Rattle.vcd_core.proofs.shared.Waves.{value_at-changes_of, changes_of-value_at, changes_same}
-use Rattle.vcd_edit.specs.declared.edit.Rule.TheVariants.{BitOf}
+use Rattle.vcd_edit.specs.declared.edit.Edit.TheVariants.{Derive}
+use Rattle.vcd_edit.specs.declared.edit.Rule.{Rule}
+use Rattle.vcd_edit.specs.declared.edit.Rule.TheVariants.{Not, And, Or, Xor, BitOf}
 use Rattle.vcd_edit.specs.Operators.{not_bit}
 use Rattle.vcd_edit.specs.Effect.{with_values, with_wave, renamed_signal, inverse_value}
 use Rattle.vcd_edit.specs.Effect.{value_at_any_tick, shift_value}
 use Rattle.vcd_edit.specs.Effect.{cut_value, force_value, signal_after_cut, cut_contents}
-use Rattle.vcd_edit.specs.Effect.{derived_signal, effect}
+use Rattle.vcd_edit.specs.Effect.{formula, first_operand, derived_signal, effect}
 use Rattle.vcd_edit.specs.AppliedRecords.{with_pieces, apply_record}
 use Rattle.vcd_edit.specs.EffectLaws.{value_of, x_for_z, InvertTwice, InvertTwiceWithoutZ}
 use Rattle.vcd_edit.specs.EffectLaws.{CutKeepsOtherTicks}
 use Rattle.vcd_edit.specs.EffectLaws.{CutsCommute, ShiftAndBack, ForceIsLocal, LastForceCounts}
 use Rattle.vcd_edit.specs.EffectLaws.{RenameAndBack}
-use Rattle.vcd_edit.specs.EffectLaws.{RemoveAndBack, BitOfOneBit}
+use Rattle.vcd_edit.specs.EffectLaws.{RemoveAndBack, BitOfOneBit, ShiftFillsGaps}
+use Rattle.vcd_edit.specs.EffectLaws.{DerivedBesideFirstOperand}
 use Rattle.vcd_edit.proofs.shared.SoundEffects.{sound_at, value_at_width}
 use Rattle.vcd_edit.proofs.plans.CutPiece.{before_cut, after_cut}
 use Rattle.vcd_edit.proofs.plans.WithoutRepeats.{either_value}
@@ -233,6 +237,23 @@ shift_and_back c k t moved by within upto stays is =
     ∙ value_of_wave c k within (shift_value c.end by s) moved stays
     ∙ within_capture c.end t s (pos moved -ℤ by) upto (omega (arith, ints, is))
 
+pub shift_fills_gaps : ShiftFillsGaps
+unfolding effect
+shift_fills_gaps c k t by within upto =
+    let s : SignalContents = signal_at c k in (
+      (λ early. value_of_wave c k within (shift_value c.end (pos by) s) t upto
+          ∙ ap (value_at_any_tick c.end s) (before_start t by early)),
+      (λ late. value_of_wave c k within (shift_value c.end (neg_ℤ (pos by)) s) t upto
+          ∙ ap (value_at_any_tick c.end s) (earlier t by)
+          ∙ ap (λ b. if b then signal_value s c.end else signal_value s (t + by)) (lt-ltb c.end (t + by) late)),
+    )
+  where
+    before_start : (t by : ℕ) → t < by → pos t -ℤ pos by ≡ negsuc (by - suc t)
+    before_start t by early = omega (arith, ints)
+
+    earlier : (t by : ℕ) → pos t -ℤ neg_ℤ (pos by) ≡ pos (t + by)
+    earlier t by = omega (arith, ints)
+
 -- ---- force
 
 pub force_is_local : ForceIsLocal
@@ -269,6 +290,24 @@ last_force_counts c k from to first last within =
 only_bit : (v : List Bit) → length v ≡ 1 → letter_at v 0 ∷ [] ≡ v
 only_bit (b ∷ []) long = refl
 only_bit v long = absurd (omega arith)
+
+pub derived_beside_first_operand : DerivedBesideFirstOperand
+unfolding effect
+derived_beside_first_operand c word a b k =
+    more (Not a) (And a b ∷ Or a b ∷ Xor a b ∷ BitOf a k ∷ []) refl
+    (more (And a b) (Or a b ∷ Xor a b ∷ BitOf a k ∷ []) refl
+    (more (Or a b) (Xor a b ∷ BitOf a k ∷ []) refl
+    (more (Xor a b) (BitOf a k ∷ []) refl (more (BitOf a k) [] refl (All-nil IsBeside)))))
+  where
+    IsBeside : Rule → Type 0
+    IsBeside rule = (signal_at (effect (Derive word rule) c) (length c.signals)).scopes ≡ (signal_at c a).scopes
+
+    more : (rule : Rule) (rules : List Rule) → first_operand (formula rule) ≡ a → All IsBeside rules
+        → All IsBeside (rule ∷ rules)
+    more rule rules first others = All-cons IsBeside rule rules
+        (ap (λ (s : SignalContents). s.scopes)
+        (get_or_push c.signals (derived_signal word.now rule c) no_signal (length c.signals) refl)
+        ∙ ap (λ n. (signal_at c n).scopes) first) others
 
 pub bit_of_one_bit : BitOfOneBit
 unfolding effect
