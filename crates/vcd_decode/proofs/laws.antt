@@ -1,3 +1,4 @@
 -- Lemmas of `laws`.
 pub mod sent
 pub mod StraightEdges
+pub mod ApartLines

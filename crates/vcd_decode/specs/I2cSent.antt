@@ -2,7 +2,7 @@
 -- give back.
 use Rattle.std.specs.Prelude.{ℕ, suc, ◌+◌, ◌*◌, ◌/◌, ◌%◌, ◌<◌, ◌≤◌, ◌≡◌, ◌≢◌, Bool, if◌then◌else◌}
 use Rattle.std.specs.Prelude.{List, [], ◌∷◌, ◌++◌}
-use Rattle.std.specs.Prelude.{map, reverse, get_or, length, ⊤, Option, Some, None}
+use Rattle.std.specs.Prelude.{map, reverse, get_or, length, ⊤, Option, Some, None, IfSome}
 use Rattle.std.specs.List.{flat_map}
 use Rattle.vcd_core.specs.declared.bit.Bit.{Bit}
 use Rattle.vcd_core.specs.declared.bit.Bit.TheVariants.{Zero, One}
@@ -28,6 +28,8 @@ pub data Transfer : Type 0 where
   seven_bit : (address : ℕ) → Direction → (taken : Bool) → List DataByte → Transfer
   ten_bit_write : (address : ℕ) → (high_taken low_taken : Bool) → List DataByte → Transfer
   ten_bit_read : (address : ℕ) → (taken : Bool) → List DataByte → Transfer
+  -- such a read that does not follow a transfer with an address of these two high bits
+  high_bits_read : (high : ℕ) → (taken : Bool) → List DataByte → Transfer
 
 -- each is a byte, below 256
 unfoldable pub AreBytes : List DataByte → Type 0
@@ -43,12 +45,15 @@ IsTransfer given (ten_bit_write address high_taken low_taken bytes) = (address <
     × AreBytes bytes
 IsTransfer given (ten_bit_read address taken bytes) = (address < 1024) × (given ≡ Some address)
     × AreBytes bytes
+IsTransfer given (high_bits_read high taken bytes) = (high < 4)
+    × IfSome given (λ address. address / 256 ≢ high) × AreBytes bytes
 
 -- the address of ten bits of a transfer, if it has one
 abbrev pub ten_bits_of : Transfer → Option ℕ
 ten_bits_of (seven_bit address direction taken bytes) = None
 ten_bits_of (ten_bit_write address high_taken low_taken bytes) = Some address
 ten_bits_of (ten_bit_read address taken bytes) = Some address
+ten_bits_of (high_bits_read high taken bytes) = None
 
 -- transfers one after the other, after one with this address of ten bits, or after none
 unfoldable pub AreTransfers : Option ℕ → List Transfer → Type 0
@@ -88,6 +93,8 @@ transfer_bytes (ten_bit_write address high_taken low_taken bytes) =
 transfer_bytes (ten_bit_read address taken bytes) =
     sent_byte (241 + 2 * (address / 256)) taken (kinds.TenBitAddress address Read)
     ∷ data_bytes bytes
+transfer_bytes (high_bits_read high taken bytes) =
+    sent_byte (241 + 2 * high) taken (kinds.AddressHigh high Read) ∷ data_bytes bytes
 
 -- ---- the levels of both lines
 

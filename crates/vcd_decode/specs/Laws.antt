@@ -1,11 +1,15 @@
--- The laws of the decoders: what is sent is found, and an edge through x or z counts for nothing.
--- Each is the contract of a function of `laws`.
-use Rattle.std.specs.Prelude.{ℕ, suc, ◌-◌, ◌≡◌, ◌<◌, ◌≤◌, ◌&&◌, Bool, true, if◌then◌else◌}
-use Rattle.std.specs.Prelude.{Option, None, List, [], ◌∷◌, ◌++◌, map, length}
+-- The laws of the decoders: what is sent is found, what is apart is found apart, and an edge through
+-- x or z counts for nothing. Each is the contract of a function of `laws`.
+use Rattle.std.specs.Prelude.{ℕ, suc, ◌-◌, ◌≡◌, ◌<◌, ◌≤◌, ◌&&◌, nat_le, Bool, true, false}
+use Rattle.std.specs.Prelude.{if◌then◌else◌, Option, Some, None, List, [], ◌∷◌, ◌++◌, map, length}
 use Rattle.std.specs.List.{All}
 use Rattle.vcd_core.specs.declared.bit.Bit.{Bit}
 use Rattle.vcd_core.specs.declared.bit.Bit.TheVariants.{Zero, One, Z}
 use Rattle.vcd_core.specs.Value.{same_letter}
+use Rattle.vcd_decode.specs.declared.annotation.Annotation.{Annotation}
+use Rattle.vcd_decode.specs.declared.annotation.Kind.{Kind}
+use Rattle.vcd_decode.specs.declared.annotation.Kind.TheVariants.{Word}
+use Rattle.vcd_decode.specs.declared.annotation.LineData.TheVariants.{Absent}
 use Rattle.vcd_decode.specs.UartSetup.{UartSetup}
 use Rattle.vcd_decode.specs.SetupFaults.{spi_fault}
 use Rattle.vcd_decode.specs.SetupResults.{IsUartSetup}
@@ -67,6 +71,48 @@ I2cMessagesAreFound =
     → AreTransfers None (t ∷ ts) → HaveLevels scl sda at (message_levels t ts)
     → i2c_annotations scl sda end ≡ message_annotations at t ts
 
+-- ---- what is apart on a line is found apart
+
+-- a line up to a tick, and 1 after it
+abbrev pub line_until : ℕ → (ℕ → Bit) → ℕ → Bit
+line_until last line t = if nat_le t last then line t else One
+
+-- a line after a tick, and 1 up to it
+abbrev pub line_after : ℕ → (ℕ → Bit) → ℕ → Bit
+line_after last line t = if nat_le t last then One else line t
+
+-- at a tick at which its chip is not selected, what a serial peripheral interface shows falls in
+-- two parts
+abbrev pub SpiSelectionsAreApart : Type 0
+SpiSelectionsAreApart =
+    (u : SpiSetup) (clk cs : ℕ → Bit) (mosi miso : Option (ℕ → Bit)) (end released : ℕ)
+    → released ≤ end → same_letter (cs released) Zero ≡ false
+    → spi_annotations u clk mosi miso (Some cs) end
+    ≡ spi_annotations u clk mosi miso (Some (line_until released cs)) end
+    ++ spi_annotations u clk mosi miso (Some (line_after released cs)) end
+
+-- a kind with nothing said of MOSI, and with nothing said of MISO
+abbrev pub without_mosi : Kind → Kind
+without_mosi (Word mosi miso) = Word Absent miso
+without_mosi kind = kind
+
+abbrev pub without_miso : Kind → Kind
+without_miso (Word mosi miso) = Word mosi Absent
+without_miso kind = kind
+
+-- an annotation with another kind
+abbrev pub with_kind : (Kind → Kind) → Annotation → Annotation
+with_kind other a = record a { kind = other a.kind }
+
+-- of two data lines each shows the same as if the other were absent
+abbrev pub SpiLinesAreApart : Type 0
+SpiLinesAreApart =
+    (u : SpiSetup) (clk : ℕ → Bit) (mosi miso cs : Option (ℕ → Bit)) (end : ℕ)
+    → (map (with_kind without_mosi) (spi_annotations u clk mosi miso cs end)
+    ≡ spi_annotations u clk None miso cs end)
+    × (map (with_kind without_miso) (spi_annotations u clk mosi miso cs end)
+    ≡ spi_annotations u clk mosi None cs end)
+
 -- ---- an edge through x or z counts for nothing
 
 -- whether a line goes straight from one letter to another at a tick: it has the one just before the
@@ -111,3 +157,14 @@ StraightBusEdgesCount =
     → ((t : ℕ) → goes_while_high Zero One scl sda t
     ≡ goes_while_high Zero One other_scl other_sda t)
     → i2c_annotations scl sda end ≡ i2c_annotations other_scl other_sda end
+
+-- ---- messages on an I2C bus
+
+-- at a STOP, what an I2C bus shows falls in two parts: after it the bus is as at first
+abbrev pub I2cMessagesAreApart : Type 0
+I2cMessagesAreApart =
+    (scl sda : ℕ → Bit) (end stop : ℕ)
+    → stop ≤ end → goes_while_high Zero One scl sda stop ≡ true
+    → i2c_annotations scl sda end
+    ≡ i2c_annotations (line_until stop scl) (line_until stop sda) end
+    ++ i2c_annotations (line_after stop scl) (line_after stop sda) end

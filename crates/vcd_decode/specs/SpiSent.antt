@@ -1,9 +1,10 @@
 -- The lines that a sender of words drives on a serial peripheral interface: what `Spi` is to give
 -- back.
 use Rattle.std.specs.Prelude.{ℕ, suc, ◌+◌, ◌-◌, ◌/◌, ◌%◌, ◌^◌, ◌<◌, ◌≤◌, ◌≡◌, ◌&&◌, nat_lt, nat_le}
-use Rattle.std.specs.Prelude.{⊤, Option, Some, None, List, [], ◌∷◌, reverse, get_or, if◌then◌else◌}
+use Rattle.std.specs.Prelude.{⊤, Option, Some, None, List, [], ◌∷◌, reverse, get_or}
 use Rattle.vcd_core.specs.declared.bit.Bit.{Bit}
-use Rattle.vcd_core.specs.declared.bit.Bit.TheVariants.{Zero, One, X}
+use Rattle.vcd_core.specs.declared.bit.Bit.TheVariants.{Zero, X}
+use Rattle.vcd_core.specs.Value.{same_letter}
 use Rattle.vcd_decode.specs.declared.annotation.Annotation.{Annotation}
 use Rattle.vcd_decode.specs.declared.annotation.Kind.TheVariants.{Word, Unfinished}
 use Rattle.vcd_decode.specs.declared.annotation.LineData.{LineData}
@@ -82,12 +83,12 @@ abbrev pub MaySendData : SpiSetup → (SpiWord → ℕ) → Option (ℕ → Bit)
 MaySendData u word_of None ws = ⊤
 MaySendData u word_of (Some f) ws = SendsData u word_of f ws
 
--- the chip is selected at the ticks from `select` to before `release`: there the line is 0, and 1
--- at all others up to the end. Without the line it is selected at all ticks
+-- the chip is selected at the ticks from `select` to before `release`: there the line is 0, and at
+-- no other up to the end. Without the line it is selected at all ticks
 abbrev pub IsChipSelect : Option (ℕ → Bit) → ℕ → ℕ → ℕ → Type 0
 IsChipSelect None select release end = (select ≡ 0) × (release ≡ suc end)
 IsChipSelect (Some cs) select release end =
-    (t : ℕ) → t ≤ end → cs t ≡ (if nat_le select t && nat_lt t release then Zero else One)
+    (t : ℕ) → t ≤ end → same_letter (cs t) Zero ≡ (nat_le select t && nat_lt t release)
 
 -- ---- what is to be found
 

@@ -3,6 +3,7 @@
 ghost use Rattle.vcd_decode.specs.Laws.{UartFramesAreFound, SpiWordsAreFound, SpiPartIsFound};
 ghost use Rattle.vcd_decode.specs.Laws.{I2cMessagesAreFound, FramesBeginStraight};
 ghost use Rattle.vcd_decode.specs.Laws.{StraightClocksCount, StraightBusEdgesCount};
+ghost use Rattle.vcd_decode.specs.Laws.{SpiSelectionsAreApart, SpiLinesAreApart, I2cMessagesAreApart};
 
 /// A line that sends frames, and begins no other, decodes to one annotation for each frame. It
 /// goes from the frame's start to the sample of its last bit. Its kind is `byte` with the word that
@@ -22,6 +23,20 @@ pub fn uart_frames_are_found()
 pub fn spi_words_are_found()
     ensures words { SpiWordsAreFound }
     ensures part { SpiPartIsFound }
+{}
+
+/// What is found of a serial peripheral interface falls in two parts at each tick at which the chip
+/// is not selected: so several selections are found one after the other. Each data line shows what
+/// it shows without the other: a bit of MISO that is x or z hides no word of MOSI.
+pub fn spi_selections_and_lines_are_apart()
+    ensures selections { SpiSelectionsAreApart }
+    ensures lines { SpiLinesAreApart }
+{}
+
+/// What is found of an I2C bus falls in two parts at each STOP. So several messages are found one
+/// after the other: a START after a STOP is no repeated one, and no address outlives a STOP.
+pub fn i2c_messages_are_apart()
+    ensures { I2cMessagesAreApart }
 {}
 
 /// The lines of an I2C bus that carry a message decode to this message: START, repeated START and

@@ -127,7 +127,7 @@ start_is scl sda t =
     and_assoc (is_line_high (letter_before scl t) && is_line_high (scl t)) (is_line_high (letter_before sda t))
     (is_zero (sda t)) ∙ (λ i. (high_before scl t i && high_is (scl t) i) && (high_before sda t i && low_is (sda t) i))
 
-stop_is : (scl sda : ℕ → Bit) (t : ℕ) → is_stop_at scl sda t ≡ goes_while_high Zero One scl sda t
+pub stop_is : (scl sda : ℕ → Bit) (t : ℕ) → is_stop_at scl sda t ≡ goes_while_high Zero One scl sda t
 stop_is scl sda t =
     and_assoc (is_line_high (letter_before scl t) && is_line_high (scl t)) (is_zero (letter_before sda t))
     (is_line_high (sda t))

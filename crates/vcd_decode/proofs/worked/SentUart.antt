@@ -1,21 +1,28 @@
 -- Worked cases: lines that send frames.
 use Rattle.std.proofs.Common.{◌≡◌, refl}
-use Rattle.std.specs.Prelude.{ℕ, List, [], ◌∷◌, map, get_or}
+use Rattle.std.specs.Prelude.{ℕ, Bool, true, false, Option, None as none, Some as some, List, [], ◌∷◌, map, get_or}
 use Rattle.std.specs.List.{range_with_len}
 use Rattle.vcd_core.specs.declared.bit.Bit.{Bit}
 use Rattle.vcd_core.specs.declared.bit.Bit.TheVariants.{Zero, One, X, Z}
 use Rattle.vcd_decode.specs.declared.annotation.Annotation.{Annotation}
 use Rattle.vcd_decode.specs.declared.annotation.Kind.TheVariants.{Byte, ParityError, FrameError}
+use Rattle.vcd_decode.specs.declared.annotation.Kind.TheVariants.{Unknown}
 use Rattle.vcd_decode.specs.declared.uart_setup.Parity.TheVariants.{None, Even, Odd}
 use Rattle.vcd_decode.specs.UartSetup.{UartSetup, uart_setup}
 use Rattle.vcd_decode.specs.Lines.{annotation}
 use Rattle.vcd_decode.specs.Uart.{uart_annotations, frames, falls, begun_frame, sample_offset}
 use Rattle.vcd_decode.specs.SentLevels.{data_levels}
-use Rattle.vcd_decode.specs.UartSent.{Flaw, flawless, wrong_parity, low_stop, SentFrame}
+use Rattle.vcd_decode.specs.UartSent.{Flaws, SentFrame}
 use Rattle.vcd_decode.proofs.laws.sent.ExactFrames.{bits_line, sent_line}
 
-sent : ℕ → ℕ → Flaw → SentFrame
-sent start word flaw = record { start = start; word = word; flaw = flaw }
+sent : ℕ → ℕ → Flaws → SentFrame
+sent start word flaws = record { start = start; word = word; flaws = flaws }
+
+flawed : Bool → Option ℕ → Option (ℕ × Bit) → Flaws
+flawed wrong_parity low_stop unclear = record { wrong_parity = wrong_parity; low_stop = low_stop; unclear = unclear }
+
+flawless : Flaws
+flawless = flawed false none none
 
 found : UartSetup → ℕ → List SentFrame → List Annotation
 found u end ws = uart_annotations (sent_line u ws) end u
@@ -24,31 +31,38 @@ found u end ws = uart_annotations (sent_line u ws) end u
 line : map (sent_line (uart_setup 5 2 5 Even 1) (sent 2 3 flawless ∷ [])) (range_with_len 0 24)
     ≡ One ∷ One ∷ Zero ∷ Zero ∷ One ∷ One ∷ One ∷ One ∷ One ∷ Zero ∷ Zero ∷ Zero ∷ Zero ∷ Zero ∷ Zero ∷ Zero ∷ Zero
     ∷ Zero ∷ Zero ∷ One ∷ One ∷ One ∷ One ∷ One ∷ []
-unfolding sent sent_line bits_line data_levels
+unfolding sent flawed flawless sent_line bits_line data_levels
 line = refl
 
 -- the parity bit and the first of two stop bits
-flawed_line : map (sent_line (uart_setup 2 1 5 Even 2) (sent 1 3 wrong_parity ∷ sent 19 3 (low_stop 0) ∷ []))
+flawed_line : map (sent_line (uart_setup 2 1 5 Even 2) (sent 1 3 (flawed true none none) ∷ sent 19 3 (flawed false (some 0) none) ∷ []))
     (range_with_len 0 37)
     ≡ One ∷ Zero ∷ Zero ∷ One ∷ One ∷ One ∷ One ∷ Zero ∷ Zero ∷ Zero ∷ Zero ∷ Zero ∷ Zero ∷ One ∷ One ∷ One ∷ One ∷ One
     ∷ One ∷ Zero ∷ Zero ∷ One ∷ One ∷ One ∷ One ∷ Zero ∷ Zero ∷ Zero ∷ Zero ∷ Zero ∷ Zero ∷ Zero ∷ Zero ∷ Zero ∷ Zero
     ∷ One ∷ One ∷ []
-unfolding sent sent_line bits_line data_levels
+unfolding sent flawed flawless sent_line bits_line data_levels
 flawed_line = refl
 
 eight_bits : found (uart_setup 10 1 8 None 1) 130 (sent 20 65 flawless ∷ []) ≡ annotation 20 115 (Byte 65) ∷ []
-unfolding sent found uart_annotations frames falls begun_frame sample_offset sent_line bits_line data_levels
+unfolding sent flawed flawless found uart_annotations frames falls begun_frame sample_offset sent_line bits_line data_levels
 eight_bits = refl
 
 two_words : found (uart_setup 5 2 5 Odd 2) 46 (sent 1 31 flawless ∷ sent 23 0 flawless ∷ [])
     ≡ annotation 1 22 (Byte 31) ∷ annotation 23 44 (Byte 0) ∷ []
-unfolding sent found uart_annotations frames falls begun_frame sample_offset sent_line bits_line data_levels
+unfolding sent flawed flawless found uart_annotations frames falls begun_frame sample_offset sent_line bits_line data_levels
 two_words = refl
 
-flaws : found (uart_setup 5 2 5 Odd 2) 70 (sent 1 31 wrong_parity ∷ sent 23 0 (low_stop 1) ∷ sent 47 1 flawless ∷ [])
+flaws : found (uart_setup 5 2 5 Odd 2) 70 (sent 1 31 (flawed true none none) ∷ sent 23 0 (flawed false (some 1) none) ∷ sent 47 1 flawless ∷ [])
     ≡ annotation 1 22 (ParityError 31) ∷ annotation 23 44 FrameError ∷ annotation 47 68 (Byte 1) ∷ []
-unfolding sent found uart_annotations frames falls begun_frame sample_offset sent_line bits_line data_levels
+unfolding sent flawed flawless found uart_annotations frames falls begun_frame sample_offset sent_line bits_line data_levels
 flaws = refl
+
+-- a wrong parity bit and a low stop bit in one frame, and an unclear stop bit in the other
+two_flaws : found (uart_setup 5 2 5 Odd 2) 70
+    (sent 1 31 (flawed true (some 0) none) ∷ sent 47 1 (flawed true (some 1) (some (6, Z))) ∷ [])
+    ≡ annotation 1 22 FrameError ∷ annotation 47 68 Unknown ∷ []
+unfolding sent flawed flawless found uart_annotations frames falls begun_frame sample_offset sent_line bits_line data_levels
+two_flaws = refl
 
 -- a fall that is over half a bit later, and a frame whose bits are there in their middles alone
 worn_line : List Bit

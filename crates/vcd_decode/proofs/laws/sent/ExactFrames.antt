@@ -1,7 +1,7 @@
 -- A line with each edge at its tick sends its frames: the law's premises can be met.
 use Rattle.std.proofs.Common.{◌≡◌, ◌≢◌, ℕ, zero, suc, ◌+◌, ◌-◌, ◌*◌, ◌^◌, ◌<◌, ◌≤◌}
 use Rattle.std.specs.Prelude.{⊤}
-use Rattle.std.proofs.Common.{nat_lt, if◌then◌else◌, ◌⊎◌, inl, inr, false}
+use Rattle.std.proofs.Common.{nat_lt, if◌then◌else◌, ◌⊎◌, inl, inr, Bool, true, false}
 use Rattle.std.proofs.Common.{List, [], ◌∷◌, map, get_or, refl, sym, ap, subst, ◌∙◌, arith}
 use Rattle.std.proofs.lemmas.Bool.{cases_lt, lt-ltb, le-ltb}
 use Rattle.std.proofs.Math.Nat.{le-div_iff_mul-le, div-le_self}
@@ -10,11 +10,11 @@ use Rattle.vcd_core.specs.declared.bit.Bit.TheVariants.{Zero, One}
 use Rattle.vcd_decode.specs.UartSetup.{UartSetup}
 use Rattle.vcd_decode.specs.SetupResults.{IsUartSetup}
 use Rattle.vcd_decode.specs.Uart.{last_bit, uart_annotations}
-use Rattle.vcd_decode.specs.UartSent.{Flaw, flawless, wrong_parity, low_stop, SentFrame, CanHaveFlaw}
+use Rattle.vcd_decode.specs.UartSent.{Flaws, SentFrame, CanHaveFlaws}
 use Rattle.vcd_decode.specs.UartSent.{frame_levels, bit_offset, half_bit, last_middle, HasBits}
 use Rattle.vcd_decode.specs.UartSent.{SendsFrames, sent_annotation}
 use Rattle.vcd_decode.proofs.laws.sent.UartBits.{bits_rise, sample_after_start, sample_before_next}
-use Rattle.vcd_decode.proofs.laws.sent.UartBits.{has_low_stop, last_high}
+use Rattle.vcd_decode.proofs.laws.sent.UartBits.{may_end_low, last_high}
 use Rattle.vcd_decode.proofs.laws.sent.UartFrames.{sent_found}
 
 -- ---- the line
@@ -38,17 +38,20 @@ sent_line u (w ∷ ws) t =
     else sent_line u ws t)
 
 -- the ticks after a frame at which the line is 1, so that the next start bit begins with a fall
-abbrev idle_ticks : Flaw → ℕ
-idle_ticks (low_stop k) = 1
-idle_ticks flaw = 0
+abbrev idle_if : Bool → ℕ
+idle_if true = 1
+idle_if false = 0
+
+abbrev idle_ticks : Flaws → ℕ
+idle_ticks flaws = idle_if (may_end_low flaws)
 
 -- the words fit their bits, and their frames fit one after the other into the ticks from `from` to `end`
 unfoldable pub CanBeSent : UartSetup → ℕ → ℕ → List SentFrame → Type 0
 CanBeSent u from end [] = ⊤
 CanBeSent u from end (w ∷ ws) =
-    (w.word < 2 ^ u.data_bits) × CanHaveFlaw u w.flaw × (from ≤ w.start)
+    (w.word < 2 ^ u.data_bits) × CanHaveFlaws u w.flaws × (from ≤ w.start)
     × (w.start + frame_ticks u ≤ suc end)
-    × CanBeSent u (w.start + frame_ticks u + idle_ticks w.flaw) end ws
+    × CanBeSent u (w.start + frame_ticks u + idle_ticks w.flaws) end ws
 
 -- ---- its letters
 
@@ -94,10 +97,12 @@ in_bit u w ws k offset within from before =
     ) (bit_held u (frame_levels u w) 0 k k offset (omega arith) from before)
 
 -- the last stop bit is 1, or the line is 1 for a tick after it
-high_or_idle : (flaw : Flaw) → ((has_low_stop flaw ≡ false) × (idle_ticks flaw ≡ 0)) ⊎ (idle_ticks flaw ≡ 1)
-high_or_idle flawless = inl (refl, refl)
-high_or_idle wrong_parity = inl (refl, refl)
-high_or_idle (low_stop k) = inr refl
+high_or_idle : (flaws : Flaws) → ((may_end_low flaws ≡ false) × (idle_ticks flaws ≡ 0)) ⊎ (idle_ticks flaws ≡ 1)
+high_or_idle flaws = by_test (may_end_low flaws)
+  where
+    by_test : (b : Bool) → ((b ≡ false) × (idle_if b ≡ 0)) ⊎ (idle_if b ≡ 1)
+    by_test true = inr refl
+    by_test false = inl (refl, refl)
 
 -- half a bit is at least one tick
 half_some : (u : UartSetup) → 1 ≤ u.denominator → 2 * u.denominator ≤ u.numerator → 1 ≤ half_bit u
@@ -116,7 +121,7 @@ module _ (u : UartSetup) (setup : IsUartSetup u.numerator u.denominator u.data_b
   frame_end = w.start + frame_ticks u
 
   abbrev next_start : ℕ
-  next_start = frame_end + idle_ticks w.flaw
+  next_start = frame_end + idle_ticks w.flaws
 
   bit_here : (k t : ℕ) → k ≤ last_bit u → w.start + bit_offset u k ≤ t → t < w.start + bit_offset u (suc k)
       → f t ≡ get_or (frame_levels u w) k One
@@ -157,7 +162,7 @@ module _ (u : UartSetup) (setup : IsUartSetup u.numerator u.denominator u.data_b
   unfolding CanBeSent
   high_after t late early upto =
       same t (omega (arith, can.2)) upto ∙ past_frame u w ws t late
-      ∙ idle u (w.start + frame_ticks u + idle_ticks w.flaw) end ws t can.4 early
+      ∙ idle u (w.start + frame_ticks u + idle_ticks w.flaws) end ws t can.4 early
 
   last_bit_here : (t : ℕ) → last_middle u w ≤ t → t < frame_end → f t ≡ get_or (frame_levels u w) (last_bit u) One
   last_bit_here t late early =
@@ -181,7 +186,7 @@ module _ (u : UartSetup) (setup : IsUartSetup u.numerator u.denominator u.data_b
   next_can_fall within =
       let size = sample_before_next u (last_bit u) setup.1 in
       let some = half_some u setup.1 setup.3 in
-      elim (high_or_idle w.flaw) [
+      elim (high_or_idle w.flaws) [
         | inl (high, none) ↦
             let later : last_bit u ≡ suc (last_bit u - 1) = omega (arith, setup.6) in
             last_bit_here (next_start - 1) (omega (arith, none)) (omega (arith, none))
@@ -217,7 +222,7 @@ exact_from u end f (w ∷ ws) middle from setup past can same still before = (
   start_low u setup end f from w ws can same,
   has_bits u setup end f from w ws can same,
   omega (arith, can.3, half_some u setup.1 setup.3),
-  exact_from u end f ws (last_middle u w) (w.start + frame_ticks u + idle_ticks w.flaw) setup
+  exact_from u end f ws (last_middle u w) (w.start + frame_ticks u + idle_ticks w.flaws) setup
       (omega (arith, half_some u setup.1 setup.3, sample_before_next u (last_bit u) setup.1)) can.4
       (λ t late upto. same t (omega (arith, can.2)) upto ∙ past_frame u w ws t (omega arith))
       (still_after u setup end f from w ws can same) (next_can_fall u setup end f from w ws can same),

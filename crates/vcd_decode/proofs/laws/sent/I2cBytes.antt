@@ -3,7 +3,7 @@ use Rattle.std.proofs.Common.{◌≡◌, ◌≢◌, ℕ, suc, ◌+◌, ◌*◌, 
 use Rattle.std.proofs.Common.{if◌then◌else◌}
 use Rattle.std.proofs.Common.{Option, Some, None, List, [], ◌∷◌, ◌++◌, length, reverse, map, fold}
 use Rattle.std.proofs.Common.{append_assoc, refl, sym, ap, subst, ◌∙◌, arith}
-use Rattle.std.specs.Prelude.{⊤}
+use Rattle.std.specs.Prelude.{⊤, IfSome}
 use Rattle.std.specs.List.{flat_map}
 use Rattle.std.proofs.lemmas.Bool.{eq-eqb, ne_eqb}
 use Rattle.vcd_core.specs.declared.bit.Bit.{Bit}
@@ -23,7 +23,7 @@ use Rattle.vcd_decode.specs.BusBytes.{ten_bit_address}
 use Rattle.vcd_decode.specs.I2c.{nines_annotations, byte_annotations, shown_address}
 use Rattle.vcd_decode.specs.SentLevels.{level, data_levels}
 use Rattle.vcd_decode.specs.I2cSent.{DataByte, AreBytes, Transfer, seven_bit, ten_bit_write}
-use Rattle.vcd_decode.specs.I2cSent.{ten_bit_read, IsTransfer}
+use Rattle.vcd_decode.specs.I2cSent.{ten_bit_read, high_bits_read, IsTransfer}
 use Rattle.vcd_decode.specs.I2cSent.{ten_bits_of, SentByte, sent_byte, direction_bit, data_bytes}
 use Rattle.vcd_decode.specs.I2cSent.{transfer_bytes}
 use Rattle.vcd_decode.specs.I2cSent.{byte_bits, acknowledge, sent_bytes}
@@ -174,6 +174,22 @@ read_kind address small =
     let two : (address / 256 == high_bits n) ≡ true = eq-eqb (address / 256) (high_bits n) (omega arith) in
     (rw (ten, odd, two) refl, rw odd refl)
 
+-- one that begins a read from ten bits of which the two high ones alone are known
+high_kind : (given : Option ℕ) (high : ℕ) → high < 4 → IfSome given (λ address. address / 256 ≢ high)
+    → (byte_kind (roles.Address given) (Some (241 + 2 * high)) ≡ kinds.AddressHigh high Read)
+    × (role_after (roles.Address given) (Some (241 + 2 * high)) ≡ roles.Data)
+high_kind given high small other =
+    let n = 241 + 2 * high in
+    let ten : is_ten_bit n ≡ true = eq-eqb (n / 8) 30 (omega arith) in
+    let odd : (n % 2 == 1) ≡ true = eq-eqb (n % 2) 1 (omega arith) in
+    let two : high_bits n ≡ high = omega arith in
+    (rw (ten, odd, two) (alone given other), rw odd refl)
+  where
+    alone : (given : Option ℕ) → IfSome given (λ address. address / 256 ≢ high)
+        → ten_bit_kind given high Read ≡ kinds.AddressHigh high Read
+    alone None other = refl
+    alone (Some address) other = rw (ne_eqb (address / 256) high other) refl
+
 pub transfer_kinds : (given : Option ℕ) (t : Transfer) → IsTransfer given t
     → HaveKinds (roles.Address given) (transfer_bytes t)
 unfolding HaveKinds
@@ -188,6 +204,12 @@ transfer_kinds given (ten_bit_write address high_taken low_taken bytes) (small, 
       subst (λ role. HaveKinds role (sent_byte (address % 256) low_taken (kinds.TenBitAddress address Write)
           ∷ data_bytes bytes)) (sym first.1)
           (omega arith, ap (λ a. kinds.TenBitAddress a Write) whole, data_kinds bytes fit),
+    )
+transfer_kinds given (high_bits_read high taken bytes) (small, other, fit) =
+    let first = high_kind given high small other in (
+      omega arith,
+      first.0,
+      subst (λ role. HaveKinds role (data_bytes bytes)) (sym first.1) (data_kinds bytes fit),
     )
 transfer_kinds given (ten_bit_read address taken bytes) (small, same, fit) =
     subst (λ (g : Option ℕ). HaveKinds (roles.Address g) (transfer_bytes (ten_bit_read address taken bytes))) (sym same)
@@ -219,3 +241,4 @@ unfolding shown_address sent_bytes
 address_shown at i (seven_bit address direction taken bytes) = rw (no_address taken) (data_address at (i + 27) bytes)
 address_shown at i (ten_bit_write address high_taken low_taken bytes) = rw (no_address high_taken) refl
 address_shown at i (ten_bit_read address taken bytes) = refl
+address_shown at i (high_bits_read high taken bytes) = rw (no_address taken) (data_address at (i + 27) bytes)

@@ -1,14 +1,15 @@
 -- The ticks at which a chip is selected, from one tick to another.
 use Rattle.std.proofs.Common.{◌≡◌, ℕ, zero, suc, ◌+◌, ◌-◌, ◌<◌, ◌≤◌, ◌&&◌, nat_le, nat_lt, not}
 use Rattle.std.proofs.Common.{Bool, true, false}
-use Rattle.std.proofs.Common.{if◌then◌else◌, Option, Some, None, List, [], ◌∷◌, ◌++◌, map}
+use Rattle.std.proofs.Common.{Option, Some, None, List, [], ◌∷◌, ◌++◌, map}
 use Rattle.std.proofs.Common.{append-nil, refl, sym, ap}
 use Rattle.std.proofs.Common.{◌∙◌, arith}
 use Rattle.std.specs.List.{filter, flat_map, range_with_len, slice_split, onto_first}
 use Rattle.std.proofs.lemmas.Bool.{le-leb, lt-leb, lt-ltb, le-ltb, and_right}
 use Rattle.std.proofs.lemmas.List.Splits.{slice_split-cons_yes, slice_split-cons_no}
 use Rattle.vcd_core.specs.declared.bit.Bit.{Bit}
-use Rattle.vcd_core.specs.declared.bit.Bit.TheVariants.{Zero, One}
+use Rattle.vcd_core.specs.declared.bit.Bit.TheVariants.{Zero}
+use Rattle.vcd_core.specs.Value.{same_letter}
 use Rattle.vcd_decode.specs.declared.annotation.Annotation.{Annotation}
 use Rattle.vcd_decode.specs.Lines.{is_zero}
 use Rattle.vcd_decode.specs.Spi.{is_selected}
@@ -21,15 +22,15 @@ use Rattle.vcd_core.proofs.shared.TicksInARow.{skip_ticks}
 abbrev is_within : ℕ → ℕ → ℕ → Bool
 is_within select release t = nat_le select t && nat_lt t release
 
-zero_if : (b : Bool) → is_zero (if b then Zero else One) ≡ b
-zero_if true = refl
-zero_if false = refl
+pub zero_is : (b : Bit) → is_zero b ≡ same_letter b Zero
+zero_is Zero = refl
+zero_is b = refl
 
 selected_is : (cs : Option (ℕ → Bit)) (select release end t : ℕ) → t ≤ end → IsChipSelect cs select release end
     → is_selected cs t ≡ is_within select release t
 selected_is None select release end t upto is =
     sym ((λ i. le-leb select t (omega (arith, is.0)) i && lt-ltb t release (omega (arith, is.1)) i))
-selected_is (Some cs) select release end t upto is = ap is_zero (is t upto) ∙ zero_if (is_within select release t)
+selected_is (Some cs) select release end t upto is = zero_is (cs t) ∙ is t upto
 
 -- ---- the parts between the ticks at which it is not selected
 
