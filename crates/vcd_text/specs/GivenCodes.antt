@@ -17,6 +17,7 @@ use Rattle.vcd_text.specs.Meaning.{declared_signal, meaning, FileMeans}
 use Rattle.vcd_text.specs.Amendment.{Amendment, AmendedCode, first_with_code}
 use Rattle.vcd_text.specs.Pieces.{Piece, IsCut, state_of_pieces}
 use Rattle.vcd_text.specs.AmendedText.{amended_text}
+use Rattle.vcd_text.specs.FreshCodes.{fresh_code}
 use Rattle.vcd_text.specs.CodedAmendment.{CodedSignal, AreAlike, CodesFit, coded_amendment}
 
 -- ---- waves that need a code
@@ -136,10 +137,9 @@ coded_waves_from fresh taken n (w ∷ ws) = coded_wave fresh n w (free_code take
     (next_fresh n (free_code taken w.own)) ws
 
 -- all new waves with their codes: no code that an unchanged variable holds is among these
-abbrev pub coded_waves : (fresh : ℕ → List ℕ) → ParseState
-    → (remaining : List (Option SignalContents)) → (derived : List SignalContents)
-    → List CodedWave
-coded_waves fresh s remaining derived = coded_waves_from fresh
+abbrev pub coded_waves : ParseState → (remaining : List (Option SignalContents))
+    → (derived : List SignalContents) → List CodedWave
+coded_waves s remaining derived = coded_waves_from (fresh_code s)
     (held_codes s (kept_variables s.declared) remaining) 0 (new_waves s remaining derived)
 
 -- ---- the signals of the other capture with their codes
@@ -175,13 +175,12 @@ coded_derived gs ns = []
 
 -- what is done to a file with this state so that these signals are left of its kept variables, and
 -- these are derived
-abbrev pub amendment_for : (fresh : ℕ → List ℕ) → ParseState
-    → (remaining : List (Option SignalContents)) → (derived : List SignalContents) → Amendment
-amendment_for fresh s remaining derived = coded_amendment s
-    (coded_signals s (coded_waves fresh s remaining derived) (kept_variables s.declared) remaining)
-    (coded_derived (drop (length (changed_waves s remaining)) (coded_waves fresh s remaining
-    derived)) derived)
-    (map (λ g. g.coded) (coded_waves fresh s remaining derived))
+abbrev pub amendment_for : ParseState → (remaining : List (Option SignalContents))
+    → (derived : List SignalContents) → Amendment
+amendment_for s remaining derived = coded_amendment s
+    (coded_signals s (coded_waves s remaining derived) (kept_variables s.declared) remaining)
+    (coded_derived (drop (length (changed_waves s remaining)) (coded_waves s remaining derived)) derived)
+    (map (λ g. g.coded) (coded_waves s remaining derived))
 
 -- ---- the laws
 
@@ -206,12 +205,6 @@ signals_left [] = []
 signals_left (None ∷ ns) = signals_left ns
 signals_left (Some n ∷ ns) = n ∷ signals_left ns
 
--- the first fresh codes are words, no variable of the file has one, and each is another
-pub record AreFresh (fresh : ℕ → List ℕ) (count : ℕ) (s : ParseState) : Type 0 where
-  pub words : (n : ℕ) → n < count → IsTrue (is_word (fresh n))
-  pub unknown : (n : ℕ) → n < count → first_with_code (fresh n) s.declared ≡ None
-  pub apart : (m n : ℕ) → m < count → n < count → fresh m ≡ fresh n → m ≡ n
-
 -- the state of a file: its codes are words, those of one code are alike, and its value changes are
 -- of declared codes
 pub record IsFileState (s : ParseState) : Type 0 where
@@ -221,33 +214,30 @@ pub record IsFileState (s : ParseState) : Type 0 where
 
 -- the codes that are given fit
 abbrev pub GivenCodesFit : Type 0
-GivenCodesFit = (fresh : ℕ → List ℕ) (s : ParseState) (remaining : List (Option SignalContents))
+GivenCodesFit = (s : ParseState) (remaining : List (Option SignalContents))
     (derived : List SignalContents) → IsFileState s
-    → AreFresh fresh (length (new_waves s remaining derived)) s
     → AreSignalsOf s (kept_variables s.declared) remaining
     → All (IsSoundSignal s.tick) derived
     → length (signals_left remaining) + length derived ≤ s.limit
     → CodesFit s
-    (coded_signals s (coded_waves fresh s remaining derived) (kept_variables s.declared) remaining)
-    (coded_derived (drop (length (changed_waves s remaining)) (coded_waves fresh s remaining
-    derived)) derived)
-    (map (λ g. g.coded) (coded_waves fresh s remaining derived))
+    (coded_signals s (coded_waves s remaining derived) (kept_variables s.declared) remaining)
+    (coded_derived (drop (length (changed_waves s remaining)) (coded_waves s remaining derived)) derived)
+    (map (λ g. g.coded) (coded_waves s remaining derived))
 
 -- the text of a file that is amended for another capture means that capture, with as many variables
 -- skipped as before
 abbrev pub AmendedTextMeansOtherCapture : Type 0
-AmendedTextMeansOtherCapture = (fresh : ℕ → List ℕ) (limit : ℕ) (file : List ℕ)
-    (pieces : List Piece) (tail : List ℕ) (remaining : List (Option SignalContents))
-    (derived : List SignalContents) → IsCut file pieces tail
+AmendedTextMeansOtherCapture =
+    (limit : ℕ) (file : List ℕ) (pieces : List Piece) (tail : List ℕ)
+    (remaining : List (Option SignalContents)) (derived : List SignalContents)
+    → IsCut file pieces tail
     → AllowsAll (initial_state limit) (map (λ p. p.item) pieces)
     → IsTrue (state_of_pieces limit pieces).in_body
-    → AreFresh fresh (length (new_waves (state_of_pieces limit pieces) remaining derived))
-    (state_of_pieces limit pieces)
     → AreSignalsOf (state_of_pieces limit pieces)
     (kept_variables (state_of_pieces limit pieces).declared) remaining
     → All (IsSoundSignal (state_of_pieces limit pieces).tick) derived
     → length (signals_left remaining) + length derived ≤ limit
-    → FileMeans limit (amended_text (amendment_for fresh (state_of_pieces limit pieces) remaining
+    → FileMeans limit (amended_text (amendment_for (state_of_pieces limit pieces) remaining
     derived) true (initial_state limit) pieces tail)
     (record (meaning (state_of_pieces limit pieces)) {
       signals = signals_left remaining ++ derived;

@@ -24,6 +24,7 @@ pub mod AmendedItems
 pub mod AmendedMeaning
 pub mod AmendedText
 pub mod CodedAmendment
+pub mod FreshCodes
 pub mod GivenCodes
 pub mod Retimed
 pub mod RetimedText

@@ -9,7 +9,7 @@ use Rattle.vcd_text.specs.AmendedItems.{ItemFate, stands, is_left_out, is_exchan
 use Rattle.vcd_text.specs.AmendedMeaning.{FitsFile, amended_meaning}
 use Rattle.vcd_text.specs.Pieces.{Piece, IsCut, state_of_pieces}
 use Rattle.vcd_text.specs.AmendedText.{amended_text}
-use Rattle.vcd_text.specs.GivenCodes.{AreFresh, AreSignalsOf, new_waves, signals_left}
+use Rattle.vcd_text.specs.GivenCodes.{AreSignalsOf, signals_left}
 use Rattle.vcd_text.specs.GivenCodes.{amendment_for}
 use Rattle.vcd_text.specs.Items.{spelling}
 use Rattle.vcd_text.specs.Grammar.{ParseState, initial_state, state_after, state_after_item, AllowsAll, is_skipped, kept_variables}
@@ -46,17 +46,16 @@ AmendedTextAfterCutsMeansCapture = (tau source : ℕ → ℕ) (a : Amendment) (l
 
 -- the text of a file that is amended for another capture after cuts means that capture
 abbrev pub OtherCaptureAfterCuts : Type 0
-OtherCaptureAfterCuts = (tau source : ℕ → ℕ) (fresh : ℕ → List ℕ) (limit : ℕ) (file : List ℕ) (pieces : List Piece)
+OtherCaptureAfterCuts = (tau source : ℕ → ℕ) (limit : ℕ) (file : List ℕ) (pieces : List Piece)
     (tail : List ℕ) (remaining : List (Option SignalContents)) (derived : List SignalContents) (cut : ParseState)
     → cut ≡ state_of_pieces limit (retimed_pieces tau source (initial_state limit) pieces)
     → IsRetiming tau source → IsCut file pieces tail
     → AllowsAll (initial_state limit) (map (λ p. p.item) pieces)
     → IsTrue (state_of_pieces limit pieces).in_body
     → source (tau (state_of_pieces limit pieces).tick) ≡ (state_of_pieces limit pieces).tick
-    → AreFresh fresh (length (new_waves cut remaining derived)) cut
     → AreSignalsOf cut (kept_variables cut.declared) remaining → All (IsSoundSignal cut.tick) derived
     → length (signals_left remaining) + length derived ≤ limit
-    → FileMeans limit (amended_text (amendment_for fresh cut remaining derived) true (initial_state limit)
+    → FileMeans limit (amended_text (amendment_for cut remaining derived) true (initial_state limit)
     (retimed_pieces tau source (initial_state limit) pieces) tail)
     (record (retimed_contents tau source (meaning (state_of_pieces limit pieces))) {
       signals = signals_left remaining ++ derived;

@@ -9,6 +9,7 @@ ghost use Rattle.vcd_text.specs.PartLaws.{PartOfPartIsPart, AllIsPart};
 ghost use Rattle.vcd_text.specs.AmendedMeaning.{AmendedFileMeansAmendedCapture};
 ghost use Rattle.vcd_text.specs.AmendedText.{AmendedTextMeansAmendedCapture};
 ghost use Rattle.vcd_text.specs.CodedAmendment.{CodedAmendmentGivesCapture};
+ghost use Rattle.vcd_text.specs.FreshCodes.{FreshCodesAreFresh, FreshCodesAreInOrder};
 ghost use Rattle.vcd_text.specs.GivenCodes.{GivenCodesFit, AmendedTextMeansOtherCapture};
 ghost use Rattle.vcd_text.specs.Retimed.{RetimedFileMeansRetimedCapture, CutsAreRetimings};
 ghost use Rattle.vcd_text.specs.RetimedText.{AmendedTextAfterCutsMeansCapture};
@@ -74,6 +75,13 @@ pub fn other_capture_is_read_again()
     ensures coded { CodedAmendmentGivesCapture }
     ensures fits { GivenCodesFit }
     ensures text { AmendedTextMeansOtherCapture }
+{}
+
+/// A file always has fresh codes for new variables. They are words that no variable of the file has,
+/// and no two are the same. They are the first ones of a written text that are fresh, in order.
+pub fn fresh_codes_are_fresh()
+    ensures fresh { FreshCodesAreFresh }
+    ensures in_order { FreshCodesAreInOrder }
 {}
 
 /// The items of a file after cuts are accepted, and mean the capture after the cuts.

@@ -15,7 +15,8 @@ use Rattle.vcd_text.specs.Meaning.{changes_of_code}
 use Rattle.vcd_text.specs.Amendment.{AmendedCode, first_with_code, amended_code}
 use Rattle.vcd_text.specs.AmendedMeaning.{AreApart, class_of}
 use Rattle.vcd_text.specs.GivenCodes.{NewWave, CodedWave, free_code, coded_wave, coded_waves_from, next_fresh}
-use Rattle.vcd_text.specs.GivenCodes.{also_taken, AreFresh}
+use Rattle.vcd_text.specs.FreshCodes.{AreFresh}
+use Rattle.vcd_text.specs.GivenCodes.{also_taken}
 use Rattle.vcd_text.proofs.amended.Codes.{of_code, itself, differ}
 
 -- a free code is the own one, and not taken
@@ -41,16 +42,16 @@ none_of_code declared code (v ∷ vs) known none =
     (λ k. is_some (first_with_code k declared)) same ∙ ap is_some none) ∙ here)) in
     rw apart (none_of_code declared code vs (All-tail P v vs known) none)
 
-module _ (fresh : ℕ → List ℕ) (count : ℕ) (s : ParseState) (are_fresh : AreFresh fresh count s) where
+module _ (fresh : ℕ → List ℕ) (s : ParseState) (are_fresh : AreFresh s fresh) where
   -- the own code of a new wave is one of the file
   abbrev pub OwnKnown : NewWave → Type 0
   OwnKnown w = (code : List ℕ) → w.own ≡ Some code → is_some (first_with_code code s.declared) ≡ true
 
   -- a code of the file is no fresh one
-  not_fresh : (code : List ℕ) → is_some (first_with_code code s.declared) ≡ true → (i : ℕ) → i < count
+  not_fresh : (code : List ℕ) → is_some (first_with_code code s.declared) ≡ true → (i : ℕ)
       → code ≡ fresh i → ⊥
-  not_fresh code known i below same =
-      false≢true (sym (ap (λ k. is_some (first_with_code k s.declared)) same ∙ ap is_some (are_fresh.unknown i below))
+  not_fresh code known i same =
+      false≢true (sym (ap (λ k. is_some (first_with_code k s.declared)) same ∙ ap is_some (are_fresh.unknown i))
       ∙ known)
 
   -- the amended codes of coded waves
@@ -60,66 +61,63 @@ module _ (fresh : ℕ → List ℕ) (count : ℕ) (s : ParseState) (are_fresh : 
   -- a code that is taken is not given
   pub taken_not_given : (k : List ℕ) (taken : List (List ℕ)) (n : ℕ) (ws : List NewWave)
       → is_some (first_with_code k s.declared) ≡ true → is_one_of taken k ≡ true
-      → n + length ws ≤ count → amended_code k (amended_of (coded_waves_from fresh taken n ws)) ≡ None
-  taken_not_given k taken n [] known there enough = refl
-  taken_not_given k taken n (w ∷ ws) known there enough = by_code (free_code taken w.own) refl
-      (λ taken n there enough. taken_not_given k taken n ws known there enough)
+      → amended_code k (amended_of (coded_waves_from fresh taken n ws)) ≡ None
+  taken_not_given k taken n [] known there = refl
+  taken_not_given k taken n (w ∷ ws) known there = by_code (free_code taken w.own) refl
+      (λ taken n there. taken_not_given k taken n ws known there)
     where
       by_code : (o : Option (List ℕ)) → free_code taken w.own ≡ o
-          → ((taken : List (List ℕ)) (n : ℕ) → is_one_of taken k ≡ true → n + length ws ≤ count
+          → ((taken : List (List ℕ)) (n : ℕ) → is_one_of taken k ≡ true
           → amended_code k (amended_of (coded_waves_from fresh taken n ws)) ≡ None)
           → amended_code k (amended_of (coded_wave fresh n w o ∷ coded_waves_from fresh (also_taken taken o)
           (next_fresh n o) ws)) ≡ None
-      by_code None is again = rw (differ k (fresh n) (not_fresh k known n (omega arith))) (again taken (n + 1) there
-          (omega arith))
+      by_code None is again = rw (differ k (fresh n) (not_fresh k known n)) (again taken (n + 1) there)
       by_code (Some code) is again =
           let free = (free_is taken w.own code is).1 in
           rw (differ k code (λ same. false≢true (sym (ap (is_one_of taken) same ∙ free) ∙ there)))
-          (again (code ∷ taken) n (or_right _ _ there) (omega arith))
+          (again (code ∷ taken) n (or_right _ _ there))
 
   -- an earlier fresh code is not given
   fresh_not_given : (i : ℕ) (taken : List (List ℕ)) (n : ℕ) (ws : List NewWave) → i < n → All OwnKnown ws
-      → n + length ws ≤ count → i < count → amended_code (fresh i) (amended_of (coded_waves_from fresh taken n ws))
-      ≡ None
-  fresh_not_given i taken n [] early known enough below = refl
-  fresh_not_given i taken n (w ∷ ws) early known enough below = by_code (free_code taken w.own) refl
-      (λ taken n early enough. fresh_not_given i taken n ws early (All-tail OwnKnown w ws known) enough below)
+      → amended_code (fresh i) (amended_of (coded_waves_from fresh taken n ws)) ≡ None
+  fresh_not_given i taken n [] early known = refl
+  fresh_not_given i taken n (w ∷ ws) early known = by_code (free_code taken w.own) refl
+      (λ taken n early. fresh_not_given i taken n ws early (All-tail OwnKnown w ws known))
     where
       by_code : (o : Option (List ℕ)) → free_code taken w.own ≡ o
-          → ((taken : List (List ℕ)) (n : ℕ) → i < n → n + length ws ≤ count
+          → ((taken : List (List ℕ)) (n : ℕ) → i < n
           → amended_code (fresh i) (amended_of (coded_waves_from fresh taken n ws)) ≡ None)
           → amended_code (fresh i) (amended_of (coded_wave fresh n w o ∷ coded_waves_from fresh (also_taken taken o)
           (next_fresh n o) ws))
           ≡ None
-      by_code None is again = rw (differ (fresh i) (fresh n) (λ same. let is : i ≡ n = are_fresh.apart i n below (omega
-          arith) same in absurd (omega arith))) (again taken (n + 1) (omega arith) (omega arith))
+      by_code None is again = rw (differ (fresh i) (fresh n) (λ same. let is : i ≡ n = are_fresh.apart i n same in
+          absurd (omega arith))) (again taken (n + 1) (omega arith))
       by_code (Some code) is again =
           let own = (free_is taken w.own code is).0 in
-          rw (differ (fresh i) code (λ same. not_fresh code (All-head OwnKnown w ws known code own) i below (sym same)))
-          (again (code ∷ taken) n early (omega arith))
+          rw (differ (fresh i) code (λ same. not_fresh code (All-head OwnKnown w ws known code own) i (sym same)))
+          (again (code ∷ taken) n early)
 
   -- the codes that are given are apart
   pub coded_apart : (taken : List (List ℕ)) (n : ℕ) (ws : List NewWave) → All OwnKnown ws
-      → n + length ws ≤ count → AreApart (amended_of (coded_waves_from fresh taken n ws))
-  coded_apart taken n [] known enough = tt
-  coded_apart taken n (w ∷ ws) known enough = by_code (free_code taken w.own) refl
-      (λ taken n enough. coded_apart taken n ws (All-tail OwnKnown w ws known) enough)
+      → AreApart (amended_of (coded_waves_from fresh taken n ws))
+  coded_apart taken n [] known = tt
+  coded_apart taken n (w ∷ ws) known = by_code (free_code taken w.own) refl
+      (λ taken n. coded_apart taken n ws (All-tail OwnKnown w ws known))
     where
       by_code : (o : Option (List ℕ)) → free_code taken w.own ≡ o
-          → ((taken : List (List ℕ)) (n : ℕ) → n + length ws ≤ count → AreApart (amended_of (coded_waves_from fresh
+          → ((taken : List (List ℕ)) (n : ℕ) → AreApart (amended_of (coded_waves_from fresh
           taken n ws)))
           → AreApart (amended_of (coded_wave fresh n w o ∷ coded_waves_from fresh (also_taken taken o) (next_fresh n o)
           ws))
       by_code None is again = (
-        fresh_not_given n taken (n + 1) ws (omega arith) (All-tail OwnKnown w ws known) (omega
-            arith) (omega arith),
-        again taken (n + 1) (omega arith),
+        fresh_not_given n taken (n + 1) ws (omega arith) (All-tail OwnKnown w ws known),
+        again taken (n + 1),
       )
       by_code (Some code) is again =
           let own = (free_is taken w.own code is).0 in (
-            taken_not_given code (code ∷ taken) n ws (All-head OwnKnown w ws known code own) (or_left _ _ (itself code))
-                (omega arith),
-            again (code ∷ taken) n (omega arith),
+            taken_not_given code (code ∷ taken) n ws (All-head OwnKnown w ws known code own)
+                (or_left _ _ (itself code)),
+            again (code ∷ taken) n,
           )
 
   -- the new waves of coded waves
@@ -160,39 +158,39 @@ module _ (fresh : ℕ → List ℕ) (count : ℕ) (s : ParseState) (are_fresh : 
     pub wave : IsNewWave g.wave
 
   -- a fresh code is all x in the file
-  fresh_old : (width n : ℕ) → n < count → All (λ v. IsTrue (is_some (first_with_code v.code s.declared)))
+  fresh_old : (width n : ℕ) → All (λ v. IsTrue (is_some (first_with_code v.code s.declared)))
       s.value_changes
       → [] ≡ changes_of width s.tick (value_at width (changes_of_code width (fresh n) s.value_changes))
   unfolding changes_of_code
-  fresh_old width n below known =
+  fresh_old width n known =
       let nothing : IsWave width [] = record { rise = tt } in
       sym (ap (λ l. changes_of width s.tick (value_at width (map (λ v. record {
         tick = v.tick;
         value = extension width
             v.letters;
-      }) l))) (none_of_code s.declared (fresh n) s.value_changes known (are_fresh.unknown n below))
+      }) l))) (none_of_code s.declared (fresh n) s.value_changes known (are_fresh.unknown n))
       ∙ changes_of-value_at width s.tick [] nothing tt)
 
   pub are_coded_waves : (taken : List (List ℕ)) (n : ℕ) (ws : List NewWave)
       → All (λ v. IsTrue (is_some (first_with_code v.code s.declared))) s.value_changes → All IsNewWave ws
-      → n + length ws ≤ count → All IsCodedWave (coded_waves_from fresh taken n ws)
-  are_coded_waves taken n [] known all enough = All-nil IsCodedWave
-  are_coded_waves taken n (w ∷ ws) known all enough = by_code (free_code taken w.own) refl
-      (λ taken n enough. are_coded_waves taken n ws known (All-tail IsNewWave w ws all) enough)
+      → All IsCodedWave (coded_waves_from fresh taken n ws)
+  are_coded_waves taken n [] known all = All-nil IsCodedWave
+  are_coded_waves taken n (w ∷ ws) known all = by_code (free_code taken w.own) refl
+      (λ taken n. are_coded_waves taken n ws known (All-tail IsNewWave w ws all))
     where
       by_code : (o : Option (List ℕ)) → free_code taken w.own ≡ o
-          → ((taken : List (List ℕ)) (n : ℕ) → n + length ws ≤ count → All IsCodedWave (coded_waves_from fresh taken n
+          → ((taken : List (List ℕ)) (n : ℕ) → All IsCodedWave (coded_waves_from fresh taken n
           ws))
           → All IsCodedWave (coded_wave fresh n w o ∷ coded_waves_from fresh (also_taken taken o) (next_fresh n o) ws)
       by_code None is again = All-cons IsCodedWave _ _ (record {
-        word = are_fresh.words n (omega arith);
-        fits = λ d found. let never : None ≡ Some d = sym (are_fresh.unknown n (omega arith)) ∙ found in
+        word = are_fresh.words n;
+        fits = λ d found. let never : None ≡ Some d = sym (are_fresh.unknown n) ∙ found in
             absurd (cc);
-        old = fresh_old w.width n (omega arith) known;
+        old = fresh_old w.width n known;
         width = refl;
         new = refl;
         wave = All-head IsNewWave w ws all;
-      }) (again taken (n + 1) (omega arith))
+      }) (again taken (n + 1))
       by_code (Some code) is again =
           let wave = All-head IsNewWave w ws all in
           let own = wave.own code (free_is taken w.own code is).0 in
@@ -203,4 +201,4 @@ module _ (fresh : ℕ → List ℕ) (count : ℕ) (s : ParseState) (are_fresh : 
             width = refl;
             new = refl;
             wave = wave;
-          }) (again (code ∷ taken) n (omega arith))
+          }) (again (code ∷ taken) n)

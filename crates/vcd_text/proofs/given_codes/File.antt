@@ -23,8 +23,9 @@ use Rattle.vcd_text.specs.AmendedMeaning.{class_of, FitsFile, amended_meaning}
 use Rattle.vcd_text.specs.Pieces.{Piece}
 use Rattle.vcd_text.specs.AmendedText.{amended_text}
 use Rattle.vcd_text.specs.CodedAmendment.{AreAlike}
-use Rattle.vcd_text.specs.GivenCodes.{AreFresh, AreSignalsOf, IsFileState, AmendedTextMeansOtherCapture, amendment_for}
-use Rattle.vcd_text.specs.GivenCodes.{new_waves, signals_left}
+use Rattle.vcd_text.specs.GivenCodes.{AreSignalsOf, IsFileState, AmendedTextMeansOtherCapture, amendment_for}
+use Rattle.vcd_text.specs.GivenCodes.{signals_left}
+use Rattle.vcd_text.specs.FreshCodes.{fresh_code}
 use Rattle.vcd_core.specs.Contents.{SignalContents}
 use Rattle.vcd_core.specs.Sound.{IsSoundSignal}
 use Rattle.std.specs.Prelude.{drop, count_by}
@@ -35,6 +36,7 @@ use Rattle.vcd_text.proofs.read_back.Words.{is_unbroken, is_spelled}
 use Rattle.vcd_text.proofs.amended.Codes.{itself}
 use Rattle.vcd_text.proofs.amended.WholeText.{SpellsItem, HasSpace, HasSomeSpace, items_of, body_is_unbroken}
 use Rattle.vcd_text.proofs.amended.WholeText.{text_of_pieces}
+use Rattle.vcd_text.proofs.given_codes.FreshCodes.{fresh_codes_are_fresh}
 use Rattle.vcd_text.proofs.given_codes.Gives.{amendment_fits, signals_are}
 use Rattle.vcd_text.proofs.given_codes.Fits.{some_first, all_fit, signals_given}
 
@@ -195,20 +197,19 @@ all_state s (p ∷ ps) allows spelled file = all_state (state_after_item s p.ite
 
 -- ---- the whole
 
-pub other_capture_of_pieces : (fresh : ℕ → List ℕ) (limit : ℕ) (pieces : List Piece) (tail : List ℕ)
+pub other_capture_of_pieces : (limit : ℕ) (pieces : List Piece) (tail : List ℕ)
     (remaining : List (Option SignalContents)) (derived : List SignalContents) (final : ParseState)
     → final ≡ state_after (initial_state limit) (items_of pieces) → All SpellsItem pieces → All HasSpace pieces
     → All HasSomeSpace (drop 1 pieces) → list_all is_white_space tail ≡ true
     → AllowsAll (initial_state limit) (items_of pieces)
     → IsTrue (state_after (initial_state limit) (items_of pieces)).in_body
-    → AreFresh fresh (length (new_waves final remaining derived)) final → AreSignalsOf final (kept_variables
-    final.declared) remaining
+    → AreSignalsOf final (kept_variables final.declared) remaining
     → All (IsSoundSignal final.tick) derived → length (signals_left remaining) + length derived ≤ limit
-    → FileMeans limit (amended_text (amendment_for fresh final remaining derived) true (initial_state limit) pieces
+    → FileMeans limit (amended_text (amendment_for final remaining derived) true (initial_state limit) pieces
     tail)
     (record (meaning final) { signals = signals_left remaining ++ derived }) (count_by is_skipped final.declared)
-other_capture_of_pieces fresh limit pieces tail remaining derived final is spelled spaces apart end allows
-    in_body are_fresh new sound few =
+other_capture_of_pieces limit pieces tail remaining derived final is spelled spaces apart end allows in_body new
+    sound few =
     let state : IsFileState final = subst IsFileState (sym is) (all_state (initial_state limit) pieces allows spelled
     (record {
       words = All-nil (λ d. IsTrue (is_word d.code));
@@ -218,22 +219,22 @@ other_capture_of_pieces fresh limit pieces tail remaining derived final is spell
     let limited : final.limit ≡ limit = ap (λ (t : ParseState). t.limit) is ∙ same_limit (initial_state limit) (items_of
     pieces) in
     let room : length (signals_left remaining) + length derived ≤ final.limit = omega (arith, few, limited) in
-    let count : ℕ = length (new_waves final remaining derived) in
-    let fits = all_fit fresh count final are_fresh state remaining derived new sound (omega arith) room in
+    let fresh : ℕ → List ℕ = fresh_code final in
+    let are_fresh = fresh_codes_are_fresh final in
+    let fits = all_fit fresh final are_fresh state remaining derived new sound room in
     let fit = amendment_fits final _ _ _ fits in
-    let text = text_of_pieces (amendment_for fresh final remaining derived) limit pieces tail spelled spaces apart end
-    allows in_body (subst (FitsFile (amendment_for fresh final remaining derived)) is fit) in
+    let text = text_of_pieces (amendment_for final remaining derived) limit pieces tail spelled spaces apart end
+    allows in_body (subst (FitsFile (amendment_for final remaining derived)) is fit) in
     record {
       state = text.state;
       accepted = text.accepted;
       means = sym (ap (λ ss. record (meaning final) { signals = ss }) (signals_are final _ _ _ fits
-          ∙ signals_given fresh count final are_fresh state remaining derived new sound (omega arith))) ∙ ap
-          (amended_meaning (amendment_for fresh
-          final remaining derived)) is ∙ text.means;
+          ∙ signals_given fresh final are_fresh state remaining derived new sound)) ∙ ap
+          (amended_meaning (amendment_for final remaining derived)) is ∙ text.means;
       left_out = ap (λ (t : ParseState). count_by is_skipped t.declared) is ∙ text.left_out;
     }
 
 pub other_capture_is_meant : AmendedTextMeansOtherCapture
-other_capture_is_meant fresh limit file pieces tail remaining derived cut allows in_body are_fresh new sound few =
-    other_capture_of_pieces fresh limit pieces tail remaining derived (state_after (initial_state limit)
-    (items_of pieces)) refl cut.spelled cut.spaces cut.apart cut.end allows in_body are_fresh new sound few
+other_capture_is_meant limit file pieces tail remaining derived cut allows in_body new sound few =
+    other_capture_of_pieces limit pieces tail remaining derived (state_after (initial_state limit)
+    (items_of pieces)) refl cut.spelled cut.spaces cut.apart cut.end allows in_body new sound few

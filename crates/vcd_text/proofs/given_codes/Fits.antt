@@ -23,7 +23,9 @@ use Rattle.vcd_text.specs.CodedAmendment.{IsCodedSignalOf, AreCodedSignalsOf, Is
 use Rattle.vcd_text.specs.GivenCodes.{NewWave, CodedWave, is_unchanged, new_wave_of, derived_new_wave, held_codes}
 use Rattle.vcd_text.specs.GivenCodes.{waves_of_changed, same_new_wave, distinct_waves, coded_waves_from, code_of_coded}
 use Rattle.vcd_text.specs.GivenCodes.{code_for_wave, coded_signal, coded_signals, coded_derived, new_waves, IsSignalOf}
-use Rattle.vcd_text.specs.GivenCodes.{AreSignalsOf, signals_left, AreFresh, IsFileState, GivenCodesFit}
+use Rattle.vcd_text.specs.GivenCodes.{AreSignalsOf, signals_left, IsFileState, GivenCodesFit}
+use Rattle.vcd_text.specs.FreshCodes.{AreFresh, fresh_code}
+use Rattle.vcd_text.proofs.given_codes.FreshCodes.{fresh_codes_are_fresh}
 use Rattle.vcd_text.proofs.amended.Codes.{itself}
 use Rattle.vcd_text.proofs.amended.Found.{found_has, found_is, all_parts, is_there, some_passes, each_of_both}
 use Rattle.vcd_text.proofs.amended.Fitting.{found_apart}
@@ -82,7 +84,7 @@ each_is_one [] = All-nil (λ c. is_one_of [] c ≡ true)
 each_is_one (c ∷ cs) = All-cons (λ x. is_one_of (c ∷ cs) x ≡ true) c cs (or_left _ _ (itself c)) (All-weaker (λ x.
     is_one_of cs x ≡ true) (λ x. is_one_of (c ∷ cs) x ≡ true) (λ x h. or_right _ _ h) cs (each_is_one cs))
 
-module _ (fresh : ℕ → List ℕ) (count : ℕ) (s : ParseState) (are_fresh : AreFresh fresh count s) (file : IsFileState s)
+module _ (fresh : ℕ → List ℕ) (s : ParseState) (are_fresh : AreFresh s fresh) (file : IsFileState s)
   where
     -- ---- the kept variables
 
@@ -113,9 +115,9 @@ module _ (fresh : ℕ → List ℕ) (count : ℕ) (s : ParseState) (are_fresh : 
 
     -- the new wave of a changed one
     new_wave_is : (d : VariableDeclaration) (n : SignalContents) → IsKept d → IsSignalOf s d n
-        → IsNewWave fresh count s are_fresh (new_wave_of s d n)
+        → IsNewWave fresh s are_fresh (new_wave_of s d n)
     new_wave_is d n kept new = record {
-      own = λ code is. subst (IsOwn fresh count s are_fresh (new_wave_of s d n)) (same_Some d.code code is) (record {
+      own = λ code is. subst (IsOwn fresh s are_fresh (new_wave_of s d n)) (same_Some d.code code is) (record {
         known = kept.known;
         word = kept.word;
         class = kept.class;
@@ -127,8 +129,8 @@ module _ (fresh : ℕ → List ℕ) (count : ℕ) (s : ParseState) (are_fresh : 
 
     are_new_waves : (ds : List VariableDeclaration) (ns : List (Option SignalContents)) → All IsKept ds
         → AreSignalsOf s ds ns
-        → All (IsNewWave fresh count s are_fresh) (waves_of_changed s ds ns) × All HasOwn (waves_of_changed s ds ns)
-    are_new_waves [] ns kept new = (All-nil (IsNewWave fresh count s are_fresh), All-nil HasOwn)
+        → All (IsNewWave fresh s are_fresh) (waves_of_changed s ds ns) × All HasOwn (waves_of_changed s ds ns)
+    are_new_waves [] ns kept new = (All-nil (IsNewWave fresh s are_fresh), All-nil HasOwn)
     are_new_waves (d ∷ ds) [] kept new = absurd new
     are_new_waves (d ∷ ds) (None ∷ ns) kept new = are_new_waves ds ns (All-tail IsKept d ds kept) new
     are_new_waves (d ∷ ds) (Some n ∷ ns) kept (here, new) =
@@ -136,15 +138,14 @@ module _ (fresh : ℕ → List ℕ) (count : ℕ) (s : ParseState) (are_fresh : 
         elim (cases_Bool (is_unchanged s d n)) [
           | inl same ↦ rw same rest
           | inr differs ↦ rw differs (
-            All-cons (IsNewWave fresh count s are_fresh) (new_wave_of s d n) _ (new_wave_is d n (All-head IsKept d ds
+            All-cons (IsNewWave fresh s are_fresh) (new_wave_of s d n) _ (new_wave_is d n (All-head IsKept d ds
                 kept) here) rest.0,
             All-cons HasOwn (new_wave_of s d n) _ (d.code, refl) rest.1,
           )
         ]
 
     module _ (remaining : List (Option SignalContents)) (derived : List SignalContents)
-        (new : AreSignalsOf s (kept_variables s.declared) remaining) (sound : All (IsSoundSignal s.tick) derived)
-        (enough : length (new_waves s remaining derived) ≤ count) where
+        (new : AreSignalsOf s (kept_variables s.declared) remaining) (sound : All (IsSoundSignal s.tick) derived) where
       abbrev ks : List VariableDeclaration
       ks = kept_variables s.declared
 
@@ -172,34 +173,31 @@ module _ (fresh : ℕ → List ℕ) (count : ℕ) (s : ParseState) (are_fresh : 
       kept : All IsKept ks
       kept = kept_from [] s.declared refl
 
-      good : All (IsNewWave fresh count s are_fresh) (waves_of_changed s ks remaining) × All HasOwn
+      good : All (IsNewWave fresh s are_fresh) (waves_of_changed s ks remaining) × All HasOwn
           (waves_of_changed s ks remaining)
       good = are_new_waves ks remaining kept new
 
       derived_good : (ns : List SignalContents) → All (IsSoundSignal s.tick) ns
-          → All (IsNewWave fresh count s are_fresh) (map derived_new_wave ns)
-      derived_good [] sound = All-nil (IsNewWave fresh count s are_fresh)
+          → All (IsNewWave fresh s are_fresh) (map derived_new_wave ns)
+      derived_good [] sound = All-nil (IsNewWave fresh s are_fresh)
       derived_good (n ∷ ns) sound =
           let here = All-head (IsSoundSignal s.tick) n ns sound in
-          All-cons (IsNewWave fresh count s are_fresh) (derived_new_wave n) _ (record {
+          All-cons (IsNewWave fresh s are_fresh) (derived_new_wave n) _ (record {
             own = λ code is. let never : None ≡ Some code = is in absurd (cc);
             wave = here.wave;
             upto = here.ticks;
           }) (derived_good ns (All-tail (IsSoundSignal s.tick) n ns sound))
 
-      all_good : All (IsNewWave fresh count s are_fresh) all
-      all_good = All-append (IsNewWave fresh count s are_fresh) _ _ (firsts_have (IsNewWave fresh count s are_fresh) []
+      all_good : All (IsNewWave fresh s are_fresh) all
+      all_good = All-append (IsNewWave fresh s are_fresh) _ _ (firsts_have (IsNewWave fresh s are_fresh) []
           (waves_of_changed s ks remaining) good.0) (derived_good derived sound)
 
-      coded_good : All (IsCodedWave fresh count s are_fresh) gs
-      coded_good = are_coded_waves fresh count s are_fresh held 0 all file.known all_good (omega (arith, enough))
+      coded_good : All (IsCodedWave fresh s are_fresh) gs
+      coded_good = are_coded_waves fresh s are_fresh held 0 all file.known all_good
 
       apart : AreApart cs
-      apart = coded_apart fresh count s are_fresh held 0 all (All-weaker (IsNewWave fresh count s are_fresh)
-          (OwnKnown fresh count s are_fresh) (λ w is code own. (is.own code own).known) all all_good) (omega (
-            arith,
-            enough,
-          ))
+      apart = coded_apart fresh s are_fresh held 0 all (All-weaker (IsNewWave fresh s are_fresh)
+          (OwnKnown fresh s are_fresh) (λ w is code own. (is.own code own).known) all all_good)
 
       -- each coded wave is found by its code
       abbrev IsCoded : CodedWave → Type 0
@@ -210,7 +208,7 @@ module _ (fresh : ℕ → List ℕ) (count : ℕ) (s : ParseState) (are_fresh : 
           (found_apart cs apart)
 
       waves_of_all : map (λ g. g.wave) gs ≡ all
-      waves_of_all = waves_are fresh count s are_fresh held 0 all
+      waves_of_all = waves_are fresh s are_fresh held 0 all
 
       both : gs ≡ front ++ back
       both = sym (take-append-drop (length firsts) gs)
@@ -240,8 +238,8 @@ module _ (fresh : ℕ → List ℕ) (count : ℕ) (s : ParseState) (are_fresh : 
           → is_unchanged s d n ≡ true → is_one_of held d.code ≡ true
           → IsCodedSignalOf s cs d (record { signal = n; code = d.code })
       unchanged_left d n kept new same there =
-          let none : amended_code d.code cs ≡ None = taken_not_given fresh count s are_fresh d.code held 0 all
-          kept.known there (omega (arith, enough)) in
+          let none : amended_code d.code cs ≡ None = taken_not_given fresh s are_fresh d.code held 0 all
+          kept.known there in
           record {
             scopes = new.scopes;
             kind = new.kind;
@@ -263,7 +261,7 @@ module _ (fresh : ℕ → List ℕ) (count : ℕ) (s : ParseState) (are_fresh : 
           let parts = new_wave_parts (new_wave_of s d n) g.wave (found_is (λ (g : CodedWave). same_new_wave
           (new_wave_of s d n) g.wave) gs g found)
           in
-          let coded_wave = found_has (IsCodedWave fresh count s are_fresh) (λ (g : CodedWave). same_new_wave
+          let coded_wave = found_has (IsCodedWave fresh s are_fresh) (λ (g : CodedWave). same_new_wave
           (new_wave_of s d n) g.wave) gs g coded_good found
           in
           let code_is : amended_code g.coded.code cs ≡ Some g.coded = found_has IsCoded (λ (g : CodedWave).
@@ -338,13 +336,13 @@ module _ (fresh : ℕ → List ℕ) (count : ℕ) (s : ParseState) (are_fresh : 
       -- ---- derived signals
 
       are_derived : (hs : List CodedWave) (ns : List SignalContents) → map (λ g. g.wave) hs ≡ map derived_new_wave ns
-          → All IsCoded hs → All (IsCodedWave fresh count s are_fresh) hs → All (IsSoundSignal s.tick) ns
+          → All IsCoded hs → All (IsCodedWave fresh s are_fresh) hs → All (IsSoundSignal s.tick) ns
           → All (IsCodedDerived s cs) (coded_derived hs ns)
       are_derived [] [] is codes fine sound = All-nil (IsCodedDerived s cs)
       are_derived [] (n ∷ ns) is codes fine sound = All-nil (IsCodedDerived s cs)
       are_derived (h ∷ hs) [] is codes fine sound = All-nil (IsCodedDerived s cs)
       are_derived (h ∷ hs) (n ∷ ns) is codes fine sound =
-          let coded_wave = All-head (IsCodedWave fresh count s are_fresh) h hs fine in
+          let coded_wave = All-head (IsCodedWave fresh s are_fresh) h hs fine in
           let wave : h.wave ≡ derived_new_wave n = ap (λ l. first_or (derived_new_wave n) l) is in
           All-cons (IsCodedDerived s cs) _ _ (record {
             sound = All-head (IsSoundSignal s.tick) n ns sound;
@@ -353,7 +351,7 @@ module _ (fresh : ℕ → List ℕ) (count : ℕ) (s : ParseState) (are_fresh : 
             found = All-head IsCoded h hs codes;
             width = coded_wave.width ∙ ap (λ (w : NewWave). w.width) wave;
             wave = sym (coded_wave.new ∙ ap (λ (w : NewWave). w.new) wave);
-          }) (are_derived hs ns (ap (drop 1) is) (All-tail IsCoded h hs codes) (All-tail (IsCodedWave fresh count s
+          }) (are_derived hs ns (ap (drop 1) is) (All-tail IsCoded h hs codes) (All-tail (IsCodedWave fresh s
           are_fresh) h hs fine) (All-tail (IsSoundSignal s.tick) n ns sound))
         where
           first_or : NewWave → List NewWave → NewWave
@@ -527,7 +525,7 @@ module _ (fresh : ℕ → List ℕ) (count : ℕ) (s : ParseState) (are_fresh : 
 
       codes_fit : All (FitsAmendedCode a s) cs
       codes_fit = All-map (FitsAmendedCode a s) (λ (g : CodedWave). g.coded) gs (each_of_both
-          (IsCodedWave fresh count s are_fresh) Used (λ
+          (IsCodedWave fresh s are_fresh) Used (λ
           (g : CodedWave). FitsAmendedCode a s g.coded) (λ g coded_wave used. record {
             word = coded_wave.word;
             used = used;
@@ -555,9 +553,9 @@ module _ (fresh : ℕ → List ℕ) (count : ℕ) (s : ParseState) (are_fresh : 
         apart = apart;
         codes = codes_fit;
         variables = left_fits;
-        added = are_derived back derived waves_behind parts_good.1 (all_parts (IsCodedWave fresh count s are_fresh)
+        added = are_derived back derived waves_behind parts_good.1 (all_parts (IsCodedWave fresh s are_fresh)
             front back (subst
-            (All (IsCodedWave fresh count s are_fresh)) both coded_good)).1 sound;
+            (All (IsCodedWave fresh s are_fresh)) both coded_good)).1 sound;
         few =
             let same = ap length (signals_same ks remaining new) in
             let many = as_many_derived back derived back_long in
@@ -565,5 +563,5 @@ module _ (fresh : ℕ → List ℕ) (count : ℕ) (s : ParseState) (are_fresh : 
       }
 
 pub given_codes_fit : GivenCodesFit
-given_codes_fit fresh s remaining derived file are_fresh new sound few = all_fit fresh (length
-    (new_waves s remaining derived)) s are_fresh file remaining derived new sound (omega arith) few
+given_codes_fit s remaining derived file new sound few =
+    all_fit (fresh_code s) s (fresh_codes_are_fresh s) file remaining derived new sound few

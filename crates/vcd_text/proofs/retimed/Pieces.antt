@@ -157,16 +157,16 @@ amended_after_cuts tau source a limit file pieces tail retiming cut allows in_bo
     }
 
 pub other_capture_after_cuts : OtherCaptureAfterCuts
-other_capture_after_cuts tau source fresh limit file pieces tail remaining derived state is retiming cut allows in_body end
-    are_fresh new sound few =
+other_capture_after_cuts tau source limit file pieces tail remaining derived state is retiming cut allows in_body end
+    new sound few =
     let again : List Piece = retimed_pieces tau source (initial_state limit) pieces in
     let means : MeansRetimed tau source limit (state_of_pieces limit pieces) (items_of again) = subst (MeansRetimed tau
     source limit (state_of_pieces limit pieces)) (sym (items_of_retimed tau source (initial_state limit) pieces))
     (retimed_is_meant tau source limit (items_of pieces) retiming allows in_body end) in
-    let text = other_capture_of_pieces fresh limit again tail remaining derived state is (pieces_spelled tau source retiming
+    let text = other_capture_of_pieces limit again tail remaining derived state is (pieces_spelled tau source retiming
     (initial_state limit) pieces allows cut.spelled) (pieces_spaces tau source retiming (initial_state limit) pieces
     cut.spaces) (pieces_apart tau source retiming (initial_state limit) pieces cut.apart) cut.end means.allowed
-    means.in_body are_fresh new sound few in
+    means.in_body new sound few in
     let same : meaning state ≡ retimed_contents tau source (meaning (state_of_pieces limit pieces)) = ap meaning is
     ∙ means.means in
     record {

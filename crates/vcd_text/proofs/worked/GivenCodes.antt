@@ -10,6 +10,7 @@ use Rattle.vcd_core.specs.Contents.{SignalContents}
 use Rattle.vcd_text.specs.Items.{Item, variable, end_definitions, stamp, scalar}
 use Rattle.vcd_text.specs.Grammar.{ParseState, initial_state, state_after, kept_variables}
 use Rattle.vcd_text.specs.Meaning.{changes_of_code}
+use Rattle.vcd_text.specs.Text.{code_digits}
 use Rattle.vcd_text.specs.CodedAmendment.{CodedSignal}
 use Rattle.vcd_text.specs.GivenCodes.{coded_signals, coded_derived, coded_waves, changed_waves}
 
@@ -37,10 +38,6 @@ high = change 0 (One ∷ []) ∷ []
 abbrev pulse : List Change
 pulse = change 0 (Zero ∷ []) ∷ change 3 (One ∷ []) ∷ []
 
--- the first codes that the file has not
-abbrev fresh : ℕ → List ℕ
-fresh n = get_or (codes "\"" ∷ codes "#" ∷ codes "$" ∷ []) n []
-
 -- the codes of what is left, and of what is derived
 abbrev code_of_left : Option CodedSignal → List ℕ
 code_of_left None = []
@@ -48,12 +45,12 @@ code_of_left (Some t) = t.code
 
 abbrev left_codes : List (Option SignalContents) → List SignalContents → List (List ℕ)
 left_codes remaining derived =
-    map code_of_left (coded_signals file (coded_waves fresh file remaining derived) (kept_variables file.declared)
+    map code_of_left (coded_signals file (coded_waves file remaining derived) (kept_variables file.declared)
     remaining)
 
 abbrev derived_codes : List (Option SignalContents) → List SignalContents → List (List ℕ)
 derived_codes remaining derived = map (λ t. t.code) (coded_derived (drop (length (changed_waves file remaining))
-    (coded_waves fresh file
+    (coded_waves file
     remaining derived)) derived)
 
 -- both wires of one code change to one wave: they keep it
@@ -61,7 +58,7 @@ abbrev both_pulse : List (Option SignalContents)
 both_pulse = Some (signal (codes "a") pulse) ∷ Some (signal (codes "b") pulse) ∷ Some (signal (codes "c") high) ∷ []
 
 shared : left_codes both_pulse [] ≡ codes "!" ∷ codes "!" ∷ codes "%" ∷ []
-unfolding changes_of_code value_from changes_from digits
+unfolding changes_of_code value_from changes_from digits code_digits
 shared = refl
 
 -- one of them changes: the other one holds the code, so it gets a fresh one; so do two derived signals
@@ -70,11 +67,11 @@ one_pulse = Some (signal (codes "a") low) ∷ Some (signal (codes "b") pulse) �
 
 held : left_codes one_pulse (signal (codes "d") low ∷ signal (codes "e") low ∷ [])
     ≡ codes "!" ∷ codes "\"" ∷ codes "%" ∷ []
-unfolding changes_of_code value_from changes_from digits
+unfolding changes_of_code value_from changes_from digits code_digits
 held = refl
 
 derived : derived_codes one_pulse (signal (codes "d") low ∷ signal (codes "e") low ∷ []) ≡ codes "#" ∷ codes "$" ∷ []
-unfolding changes_of_code value_from changes_from digits
+unfolding changes_of_code value_from changes_from digits code_digits
 derived = refl
 
 -- they change to two waves: the first one keeps the code, the other one gets a fresh code; c is removed
@@ -82,5 +79,5 @@ abbrev apart : List (Option SignalContents)
 apart = Some (signal (codes "a") high) ∷ Some (signal (codes "b") pulse) ∷ None ∷ []
 
 parted : left_codes apart [] ≡ codes "!" ∷ codes "\"" ∷ [] ∷ []
-unfolding changes_of_code value_from changes_from digits
+unfolding changes_of_code value_from changes_from digits code_digits
 parted = refl
