@@ -11,6 +11,8 @@ pub mod Declared
 pub mod Meaning
 pub mod Whole
 pub mod Bytes
+pub mod Cuts
+pub mod OneCut
 pub mod OtherWords
 pub mod Spelled
 pub mod WholeText

@@ -19,6 +19,7 @@ pub mod Refusals
 pub mod Parts
 pub mod PartLaws
 pub mod Pieces
+pub mod CutLaws
 pub mod Amendment
 pub mod AmendedItems
 pub mod AmendedMeaning

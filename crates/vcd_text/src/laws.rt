@@ -8,6 +8,7 @@ ghost use Rattle.vcd_text.specs.Laws.{TextIsReadBack, NothingElseIsReadBack, Tex
 ghost use Rattle.vcd_text.specs.PartLaws.{PartOfPartIsPart, AllIsPart};
 ghost use Rattle.vcd_text.specs.AmendedMeaning.{AmendedFileMeansAmendedCapture};
 ghost use Rattle.vcd_text.specs.AmendedText.{AmendedTextMeansAmendedCapture};
+ghost use Rattle.vcd_text.specs.CutLaws.{EveryFileIsCut, CutIsUnique};
 ghost use Rattle.vcd_text.specs.CodedAmendment.{CodedAmendmentGivesCapture};
 ghost use Rattle.vcd_text.specs.FreshCodes.{FreshCodesAreFresh, FreshCodesAreInOrder};
 ghost use Rattle.vcd_text.specs.GivenCodes.{GivenCodesFit, AmendedTextMeansOtherCapture};
@@ -90,4 +91,10 @@ pub fn retimed_file_is_meant()
     ensures cuts { CutsAreRetimings }
     ensures text { AmendedTextAfterCutsMeansCapture }
     ensures other { OtherCaptureAfterCuts }
+{}
+
+/// Every file whose words spell items is cut into the pieces of these items, and in one way.
+pub fn file_is_cut()
+    ensures cut { EveryFileIsCut }
+    ensures one { CutIsUnique }
 {}

@@ -16,8 +16,8 @@ mod writing;
 
 pub use fault::{Fault, ReadError, WriteError};
 pub use laws::{
-    has_an_answer, has_one_answer, nothing_else_is_read_back, parts_agree, prefix_fault_stays,
-    prefix_has_one_fault, text_is_read_back,
+    file_is_cut, has_an_answer, has_one_answer, nothing_else_is_read_back, parts_agree,
+    prefix_fault_stays, prefix_has_one_fault, text_is_read_back,
 };
 pub use reading::{
     Choice, Declarations, DeclaredSignal, FILE_LIMIT, LONG_FILE_LIMIT, Loaded, TickRange,
