@@ -20,6 +20,8 @@ pub mod Parts
 pub mod PartLaws
 pub mod Pieces
 pub mod CutLaws
+pub mod Copied
+pub mod CopyEnds
 pub mod Amendment
 pub mod AmendedItems
 pub mod AmendedMeaning

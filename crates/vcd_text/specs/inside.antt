@@ -2,5 +2,6 @@
 -- them.
 pub mod reading
 pub mod Words
+pub mod Copying
 pub mod shared
 pub mod writing

@@ -2,19 +2,22 @@
 //!
 //! `read` gives the capture that a file means, or the file's one fault with its line. `read_part`
 //! gives a part of it. `write` writes the text of a capture, which reads back as the same capture.
-//! `Words` are the words of a text, each with its line.
+//! `Words` are the words of a text, each with its line. `copy` copies a file as it is read, with
+//! what an amender writes in the place of some items.
 //!
 //! The format is defined in `specs/`: `Words`, `Letters`, `Items`, `Grammar`, `Meaning`, `Faults`,
 //! `Parts` and `Text`.
 #![tactic(auto)]
 
+mod copying;
 mod fault;
 mod laws;
 mod reading;
 mod words;
 mod writing;
 
-pub use fault::{Fault, ReadError, WriteError};
+pub use copying::{AmendableItem, Amender, copy};
+pub use fault::{CopyError, Fault, ReadError, WriteError};
 pub use laws::{
     file_is_cut, has_an_answer, has_one_answer, nothing_else_is_read_back, parts_agree,
     prefix_fault_stays, prefix_has_one_fault, text_is_read_back,
@@ -24,4 +27,5 @@ pub use reading::{
     VARIABLE_LIMIT, read, read_part, value_of_digits,
 };
 pub use words::{WordOnLine, Words};
+pub use writing::output::{Output, write_byte, write_bytes};
 pub use writing::write;

@@ -1,6 +1,7 @@
 //! The words of a text, one after another.
 
-ghost use Rattle.std.specs.Prelude.{◌≡◌, ◌+◌, ◌<◌, ◌≤◌, ◌^◌, ◌∷◌, [], Bool, true, false, not};
+ghost use Rattle.std.specs.Prelude.{◌≡◌, ◌+◌, ◌<◌, ◌≤◌, ◌^◌, ◌∷◌, ◌++◌, ℕ, List, [], Bool, true};
+ghost use Rattle.std.specs.Prelude.{false, not};
 ghost use Rattle.std.specs.Prelude.{length, take, drop, MatchOption, IfSome, IfNone};
 ghost use Rattle.std.specs.List.{list_all};
 ghost use Rattle.vcd_core.specs.Word as spec;
@@ -51,6 +52,13 @@ impl<'a> Words<'a> {
         ensures some { IfSome result (λ word. 0 < length word.text.now) }
         ensures none_left { IfNone result (words_left self.new ≡ []) }
         ensures end { IfNone result (self.new.rest.now ≡ []) }
+        ensures bytes { IfSome result (λ word. (space : List ℕ)
+            × (self.old.rest.now ≡ space ++ (word.text.now ++ self.new.rest.now))
+            × (list_all spec.is_white_space space ≡ true)) }
+        ensures no_space { IfSome result (λ word.
+            list_all (λ b. not (spec.is_white_space b)) word.text.now ≡ true) }
+        ensures ended { IfSome result (λ _. ends_before true self.new.rest.now ≡ true) }
+        ensures space { IfNone result (list_all spec.is_white_space self.old.rest.now ≡ true) }
         ensures line_feeds { self.new.line_feeds + line_feeds_in self.new.rest.now
             ≡ self.old.line_feeds + line_feeds_in self.old.rest.now }
     {
@@ -93,6 +101,8 @@ fn after_space(text: &[u8], line_feeds: u64) -> (&[u8], u64)
     ensures line_feeds { result.1 + line_feeds_in result.0.now
         ≡ line_feeds + line_feeds_in text.now }
     ensures no_space { begins_with_space result.0.now ≡ false }
+    ensures space { (space : List ℕ) × (text.now ≡ space ++ result.0.now)
+        × (list_all spec.is_white_space space ≡ true) }
 {
     let mut rest = text;
     let mut lines = line_feeds;

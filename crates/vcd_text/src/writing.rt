@@ -12,7 +12,7 @@ mod cursors;
 mod declarations;
 mod first_values;
 mod lines;
-mod output;
+pub(crate) mod output;
 mod stamps;
 mod transitions;
 mod values;

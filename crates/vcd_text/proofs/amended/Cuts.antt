@@ -1,8 +1,8 @@
 -- Every file whose words spell items is cut into the pieces of these items.
-use Rattle.std.proofs.Common.{◌≡◌, ◌+◌, ◌<◌, ◌∙◌, ◌==◌, ℕ, zero, suc, Bool, true, false, not, All, drop, length}
+use Rattle.std.proofs.Common.{◌≡◌, ◌+◌, ◌<◌, ◌∙◌, ◌==◌, ℕ, true, false, not, All, drop, length}
 use Rattle.std.proofs.Common.{List, [], ◌∷◌, ◌++◌, refl, ap, ap₂, sym, arith, map, append_assoc, inl, inr, subst}
 use Rattle.std.proofs.Common.{reverse, cond}
-use Rattle.std.specs.List.{list_all, flat_map, join_with_byte, prefix_len, suffix_len}
+use Rattle.std.specs.List.{list_all, flat_map, prefix_len, suffix_len}
 use Rattle.std.proofs.lemmas.Bool.{and_parts, and_from, cases_Bool, not_from_false, not-true, ne_eqb}
 use Rattle.std.proofs.lemmas.Bool.{false≢true}
 use Rattle.std.proofs.lemmas.List.{append-nil, length-append, reverse-append, length-reverse}
@@ -15,7 +15,7 @@ use Rattle.vcd_text.specs.Items.{Item, entry, timescale, scope, upscope, variabl
 use Rattle.vcd_text.specs.Items.{stamp, scalar, vector, real_or_string, dump_word, other, spelling, spellings}
 use Rattle.vcd_text.specs.inside.Words.{words_from}
 use Rattle.vcd_text.specs.Grammar.{word_texts}
-use Rattle.vcd_text.specs.Pieces.{Piece, IsCut}
+use Rattle.vcd_text.specs.Pieces.{Piece}
 use Rattle.vcd_text.specs.CutLaws.{EveryFileIsCut}
 use Rattle.vcd_text.proofs.read_back.Words.{is_unbroken}
 use Rattle.vcd_text.proofs.amended.Bytes.{texts, texts_are, is_end, space_first, both_parts, joined_words}

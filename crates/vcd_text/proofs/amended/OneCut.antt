@@ -1,19 +1,16 @@
 -- A file is cut into the pieces of items in one way.
-use Rattle.std.proofs.Common.{◌≡◌, ◌⊎◌, ◌+◌, ◌<◌, ◌∙◌, ◌==◌, ℕ, zero, suc, Bool, true, false, not, All, drop, length}
+use Rattle.std.proofs.Common.{◌≡◌, ◌⊎◌, ◌+◌, ◌<◌, ◌∙◌, ℕ, true, false, not, All, drop, length}
 use Rattle.std.proofs.Common.{List, [], ◌∷◌, ◌++◌, refl, ap, ap₂, sym, arith, map, append_assoc, inl, inr, subst}
-use Rattle.std.proofs.Common.{reverse, cond}
 use Rattle.std.specs.List.{list_all, flat_map, prefix_len, suffix_len}
-use Rattle.std.proofs.lemmas.Bool.{and_parts, and_from, cases_Bool, false≢true}
-use Rattle.std.proofs.lemmas.List.{append-nil, length-append, reverse-append}
-use Rattle.std.proofs.lemmas.List.Elements.{All-nil, All-cons, All-head, All-tail}
+use Rattle.std.proofs.lemmas.Bool.{and_parts, cases_Bool, false≢true}
+use Rattle.std.proofs.lemmas.List.{append-nil, reverse-append}
+use Rattle.std.proofs.lemmas.List.Elements.{All-head, All-tail}
 use Rattle.vcd_core.specs.Word.{is_white_space}
-use Rattle.vcd_text.specs.Words.{words_of}
-use Rattle.vcd_text.specs.Items.{Item, spelling}
-use Rattle.vcd_text.specs.Grammar.{word_texts}
-use Rattle.vcd_text.specs.Pieces.{Piece, IsCut}
+use Rattle.vcd_text.specs.Items.{spelling}
+use Rattle.vcd_text.specs.Pieces.{Piece}
 use Rattle.vcd_text.specs.CutLaws.{CutIsUnique}
 use Rattle.vcd_text.proofs.amended.Bytes.{texts, texts_are, is_end, both_parts}
-use Rattle.vcd_text.proofs.amended.Cuts.{Spaced, AreSpaced, spaced, words_are, SpellsItem, IsTight, SpaceIsWhite}
+use Rattle.vcd_text.proofs.amended.Cuts.{Spaced, spaced, words_are, SpellsItem, IsTight, SpaceIsWhite}
 use Rattle.vcd_text.proofs.amended.Cuts.{HasSomeSpace, spelling_some}
 use Rattle.vcd_text.specs.inside.Words.{words_from}
 

@@ -19,13 +19,15 @@ use Rattle.vcd_text.specs.Refusals.{IsRefusal}
 use Rattle.vcd_core.specs.Outline.{without_changes}
 use Rattle.vcd_text.specs.Parts.{Answers, part_of_signal, part_of, PartMeans, IsPartRefusal}
 use Rattle.vcd_text.specs.Parts.{too_many_remain, declined}
+use Rattle.vcd_text.specs.Parts.{Answers, without_changes, part_of_signal, part_of, PartMeans, IsPartRefusal}
+use Rattle.vcd_text.specs.Parts.{too_many_remain, declined, signals_of}
 use Rattle.vcd_text.specs.inside.reading.Part.{Asked, remaining, all_ticks}
 use Rattle.vcd_text.specs.inside.reading.Parser.{MeansListed}
 use Rattle.vcd_text.specs.inside.reading.Choice.{IsAnswered, LeavesOut}
 use Rattle.vcd_text.specs.declared.fault.ReadError.{ReadError}
 use Rattle.vcd_text.specs.declared.reading.Loaded.{Loaded}
 use Rattle.vcd_text.specs.declared.reading.choice.TickRange.{TickRange}
-use Rattle.vcd_text.specs.declared.reading.TheConstants.{FILE_LIMIT}
+use Rattle.vcd_text.specs.declared.reading.TheConstants.{FILE_LIMIT, LONG_FILE_LIMIT, VARIABLE_LIMIT}
 use Rattle.vcd_text.proofs.shared.SoundMeaning.{IsSoundBut, meaning_is_sound_but}
 use Rattle.vcd_text.proofs.part.FewSignals.{few_after, same_limit}
 use Rattle.vcd_core.specs.declared.capture.TheConstants.{SIGNAL_LIMIT}
@@ -174,3 +176,20 @@ no_part_refusal_of_read answers (Some file) failed left e some (inl refused) = r
 no_part_refusal_of_read answers (Some file) failed left e some (inr (declined c has few none fault)) = grind arith
 no_part_refusal_of_read answers (Some file) failed left e some (inr (too_many_remain c has many fault)) =
     grind (arith, few_after, same_limit, length-filter, count_by-le-length, length-map)
+
+-- no signal remains
+none_taken : (ss : List SignalContents) → filter (λ _. false) ss ≡ []
+none_taken [] = refl
+none_taken (s ∷ ss) = none_taken ss
+
+-- no signal of a file is too many, and all ticks are answered
+pub no_part_refusal_of_copy : (answers : Answers) (coming : Option (List ℕ)) (failed : Bool) (left : Option (List ℕ))
+    (e : ReadError) → ((timescale : Option Timescale) (ss : List SignalContents) → answers timescale ss None → ⊥)
+    → IfSome coming (λ file. IsPartRefusal VARIABLE_LIMIT LONG_FILE_LIMIT (λ _. false) answers file failed left e)
+    → IfSome coming (λ file. IsRefusal VARIABLE_LIMIT LONG_FILE_LIMIT file failed left e)
+no_part_refusal_of_copy answers None failed left e some refused = tt
+no_part_refusal_of_copy answers (Some file) failed left e some (inl refused) = refused.0
+no_part_refusal_of_copy answers (Some file) failed left e some (inr (declined c has few none fault)) =
+    absurd (some _ _ none)
+no_part_refusal_of_copy answers (Some file) failed left e some (inr (too_many_remain c has many fault)) =
+    absurd (omega (arith, many, ap (length {A = SignalContents}) (none_taken (signals_of c))))

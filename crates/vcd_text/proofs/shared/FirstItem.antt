@@ -67,7 +67,7 @@ by_state : (b : Bool) (c : ParseState) (i : Item) (rest : List (List ℕ)) → c
     → first_item b (spelling i ++ rest) ≡ i → first_item c.in_body (spelling i ++ rest) ≡ i
 by_state b c i rest h e = ap (λ t. first_item t (spelling i ++ rest)) h ∙ e
 
-item_is : (c : ParseState) (i : Item) (rest : List (List ℕ)) → IsTrue (fits c i)
+pub item_is : (c : ParseState) (i : Item) (rest : List (List ℕ)) → IsTrue (fits c i)
     → first_item c.in_body (spelling i ++ rest) ≡ i
 item_is c (entry Date words) rest f = grind (arith, and_parts, by_state, not-true, end_closes)
 item_is c (entry Version words) rest f = grind (arith, and_parts, by_state, not-true, end_closes)

@@ -83,6 +83,35 @@ impl Choice for Whole {
     }
 }
 
+/// No signal, at all ticks.
+#[derive(Drop)]
+pub struct Unheard;
+
+impl Choice for Unheard {
+    ghost use Rattle.std.specs.Prelude.{false};
+    ghost use Rattle.vcd_text.specs.inside.reading.Part.{all_ticks};
+
+    ghost takes = { λ _ _. false };
+
+    ghost answers = { λ _ _ _ answer _. answer ≡ Some all_ticks };
+
+    fn takes(&self, _signal: DeclaredSignal) -> bool {
+        false
+    }
+
+    fn ticks(
+        &mut self,
+        _alloc: Global,
+        _timescale: Option<Timescale>,
+        _signals: &Declarations,
+    ) -> Result<Option<TickRange>, NoMemory> {
+        Ok(Some(TickRange {
+            first: 0,
+            last: END_LIMIT,
+        }))
+    }
+}
+
 /// The part that a choice answers.
 pub fn chosen_part<C: Choice>(
     alloc: Global,

@@ -11,6 +11,7 @@ ghost use Rattle.vcd_text.specs.Words.{word_on, WordOnLine as WordInFile};
 ghost use Rattle.vcd_text.specs.LentWords.{words_left};
 ghost use Rattle.vcd_text.specs.Grammar.{ParseState, kept_variables};
 ghost use Rattle.vcd_text.specs.Parts.{PartMeans, IsPartRefusal, answers_of};
+ghost use Rattle.vcd_text.specs.inside.reading.Parser.{StepsBy};
 ghost use Rattle.vcd_text.specs.inside.Words.{has_complete_words};
 ghost use Rattle.vcd_text.specs.LineFeeds.{line_feeds_in};
 ghost use Rattle.vcd_text.specs.inside.reading.Part.{Asked, undriven};
@@ -166,7 +167,7 @@ impl FileReader {
 }
 
 /// The error is `Truncated`, at the line of the file's end, if its words are not a whole file.
-fn check_complete(parser: &Parser, line: u64) -> Result<(), ReadError>
+pub fn check_complete(parser: &Parser, line: u64) -> Result<(), ReadError>
     ensures complete { OnOk result (is_complete parser.now ≡ true) }
     ensures truncated { IfErr result (λ e. (is_complete parser.now ≡ false)
         × (e ≡ record { line = line; fault = Fault.Truncated })) }
@@ -180,7 +181,7 @@ fn check_complete(parser: &Parser, line: u64) -> Result<(), ReadError>
 /// The number of bytes up to and including the last white space. The first `unfinished_len` bytes
 /// have none.
 #[tactic(auto, using(crate::proofs::reading::file_reader::Chunks::complete_at))]
-fn complete_words_len(bytes: &[u8], unfinished_len: usize) -> usize
+pub fn complete_words_len(bytes: &[u8], unfinished_len: usize) -> usize
     requires within { unfinished_len ≤ length bytes.now }
     requires no_space { list_all (λ b. not (spec.is_white_space b)) (take unfinished_len bytes.now)
         ≡ true }
@@ -225,7 +226,7 @@ fn read_words<C: Choice>(
 }
 
 /// Takes a word, which is on this line. If it ends the declarations, the part is chosen.
-fn take_word<C: Choice>(
+pub fn take_word<C: Choice>(
     parser: &mut Parser,
     alloc: Global,
     choice: &mut C,
@@ -236,11 +237,12 @@ fn take_word<C: Choice>(
         × CanTake limit C.takes C.answers first choice.old parser.old
         (word_on text.now line ∷ []) }
     requires word { 0 < length text.now }
-    ensures { (limit : ℕ) (first : C) (words_so_far : List WordInFile) →
+    ensures words { (limit : ℕ) (first : C) (words_so_far : List WordInFile) →
         HasTakenFrom limit C.takes C.answers first choice.old parser.old words_so_far →
         TakesWord limit C.takes C.answers first choice.new words_so_far (word_on text.now line)
         result
         parser.new }
+    ensures step { OnOk result (StepsBy parser.old (word_on text.now line) parser.new) }
 {
     if !parser.ends_definitions(text) {
         return parser.take_word(alloc, text, line);

@@ -1,13 +1,13 @@
 //! The parser, which takes one word after another.
 
-ghost use Rattle.std.specs.Prelude.{◌≡◌, ◌<◌, ◌∷◌, [], true, false, length, IfOk, OnOk};
+ghost use Rattle.std.specs.Prelude.{◌≡◌, ◌<◌, ◌∷◌, ◌++◌, List, [], true, false, length, IfOk, OnOk};
 ghost use Rattle.vcd_text.specs.Grammar.{ParseState};
 ghost use Rattle.vcd_text.specs.inside.reading.Variables.{VariablesMatch};
-ghost use Rattle.vcd_text.specs.Words.{word_on};
+ghost use Rattle.vcd_text.specs.Words.{word_on, WordOnLine as WordInFile};
 ghost use Rattle.vcd_text.specs.inside.reading.OpenItems.{item_fault_line};
 ghost use Rattle.vcd_text.specs.inside.reading.Part.{Asked};
 ghost use Rattle.vcd_text.specs.inside.reading.Parser.{HasTakenWords, IsUnderway, WordResult};
-ghost use Rattle.vcd_text.specs.inside.reading.Parser.{WordsResult};
+ghost use Rattle.vcd_text.specs.inside.reading.Parser.{WordsResult, IsAtState, WordStep};
 ghost use Rattle.vcd_text.specs.inside.reading.Parser.{ends_definitions, is_complete, Means};
 
 use crate::fault::{Fault, ReadError};
@@ -106,6 +106,9 @@ impl Parser {
         requires word { 0 < length text.now }
         requires no_end { ends_definitions self.old text.now ≡ false }
         ensures words { WordsResult self.old (word_on text.now line ∷ []) result self.new }
+        ensures step { OnOk result ((asked : Asked) (c : ParseState) (begun : List WordInFile) →
+            IsAtState asked self.old c begun →
+            WordStep asked c (begun ++ word_on text.now line ∷ []) self.new) }
         ensures in_body { OnOk result (self.new.in_body ≡ self.old.in_body) }
     {
         let shown = self.item_fault_line(line);

@@ -77,6 +77,8 @@ pub fn send_buffer<W: Sink>(output: &mut Output<W>)
     ensures written { Emits W.Sink output.old output.new [] }
     ensures empty { output.new.unsent.items ≡ [] }
     ensures room { vec_capacity output.new.unsent ≡ vec_capacity output.old.unsent }
+    ensures stays { W.has_failed output.old.writer.now ≡ true →
+        W.has_failed output.new.writer.now ≡ true }
 {
     let count = send_bytes(output.writer, output.unsent.as_slice());
     output.sent_count = output.sent_count.saturating_add(count);

@@ -1,4 +1,6 @@
-use Rattle.std.proofs.Common.{◌≡◌, ◌+◌, ◌≤◌, Bool, [], length}
+use Rattle.std.proofs.Common.{◌≡◌, ◌+◌, ◌++◌, ℕ, List, true, ◌≤◌, Bool, [], length}
+use Rattle.std.specs.List.{list_all}
+use Rattle.vcd_core.specs.Word.{is_white_space}
 use Rattle.vcd_text.specs.inside.Words.{words_from}
 use Rattle.vcd_text.specs.LineFeeds.{line_feeds_in}
 use Rattle.vcd_text.proofs.words.after_space.Given as goal
@@ -9,6 +11,7 @@ invariant-loop-byte l =
     l.text)
     × (l.lines + length l.rest ≤ l.line_feeds + length l.text)
     × (l.lines + line_feeds_in l.rest ≡ l.line_feeds + line_feeds_in l.text)
+    × ((space : List ℕ) × (l.text ≡ space ++ l.rest) × (list_all is_white_space space ≡ true))
 
 abbrev pub decreases-loop-byte : goal.decreases-loop-byte
 decreases-loop-byte l = length l.rest

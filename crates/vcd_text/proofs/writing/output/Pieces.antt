@@ -13,7 +13,7 @@ use Rattle.vcd_text.specs.declared.fault.WriteError.{WriteError}
 use Rattle.vcd_text.specs.declared.fault.WriteError.TheVariants.{WriteFault}
 use Rattle.vcd_text.specs.declared.writing.output.Output.{Output}
 use Rattle.vcd_text.specs.WriteEnds.{TookBefore}
-use Rattle.vcd_text.specs.inside.writing.Output.{HasEmitted, Emits}
+use Rattle.vcd_text.specs.inside.writing.Output.{HasEmitted, Emits, EmitsMore}
 
 -- a part from the front of the rest is written
 carried : (out part rest left whole : List ℕ) → left ≡ part ++ rest → out ++ left ≡ whole
@@ -33,6 +33,22 @@ writes_none {sink = sink} {o = o} = grind (arith, append-nil)
 pub writes_as : {W : Type 0} {sink : sinks.Ghosts W} {o0 o1 : Output W} {a b : List ℕ} → a ≡ b
     → Emits sink o0 o1 a → Emits sink o0 o1 b
 writes_as {sink = sink} {o0 = o0} {o1 = o1} same writes = grind arith
+
+-- some part
+pub writes_more : {W : Type 0} {sink : sinks.Ghosts W} {o0 o1 : Output W} {a : List ℕ} → Emits sink o0 o1 a
+    → EmitsMore sink o0 o1
+writes_more {a = a} writes = record { same_writer = writes.same_writer; part = a; appends = writes.appends }
+
+pub writes_part : {W : Type 0} {sink : sinks.Ghosts W} {o0 o1 : Output W} → (more : EmitsMore sink o0 o1)
+    → Emits sink o0 o1 more.part
+writes_part more = record { same_writer = more.same_writer; appends = more.appends }
+
+pub more_none : {W : Type 0} {sink : sinks.Ghosts W} {o : Output W} → EmitsMore sink o o
+more_none = writes_more writes_none
+
+pub more_both : {W : Type 0} {sink : sinks.Ghosts W} {o0 o1 o2 : Output W} → EmitsMore sink o0 o1
+    → EmitsMore sink o1 o2 → EmitsMore sink o0 o2
+more_both first second = writes_more (writes_both (writes_part first) (writes_part second))
 
 -- ---- loops
 

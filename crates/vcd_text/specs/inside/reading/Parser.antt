@@ -120,6 +120,13 @@ pub data WordStep (asked : Asked) (c : ParseState) (begun : List WordOnLine) (ne
         → IsAtState asked new (state_after_item c i) []
         → WordStep asked c begun new
 
+-- a word goes on with the open item, or ends it; at the end of the declarations another part is
+-- asked for
+abbrev pub StepsBy : Parser → WordOnLine → Parser → Type 0
+StepsBy old w new = (asked : Asked) (c : ParseState) (begun : List WordOnLine)
+    → IsAtState asked old c begun
+    → (later : Asked) × WordStep later c (begun ++ w ∷ []) new
+
 -- the result of a word: it is taken, or shows a fault, or memory runs out
 abbrev pub WordResult : Parser → WordOnLine → Result (Unit {0}) Fault → Parser → Type 0
 WordResult old w (Ok x) new = (asked : Asked) (c : ParseState) (begun : List WordOnLine) →

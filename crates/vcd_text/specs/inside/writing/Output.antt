@@ -22,3 +22,10 @@ pub record Emits {W : Type 0} (sink : sinks.Ghosts W) (old new : Output W) (part
     pub same_writer : new.writer.ghost_name ≡ old.writer.ghost_name
     pub appends : (before : Option (List ℕ)) (text : List ℕ) → HasEmitted sink before old text
         → HasEmitted sink before new (text ++ part)
+
+-- the same for some part
+pub record EmitsMore {W : Type 0} (sink : sinks.Ghosts W) (old new : Output W) : Type 0 where
+  pub same_writer : new.writer.ghost_name ≡ old.writer.ghost_name
+  pub part : List ℕ
+  pub appends : (before : Option (List ℕ)) (text : List ℕ) → HasEmitted sink before old text
+      → HasEmitted sink before new (text ++ part)

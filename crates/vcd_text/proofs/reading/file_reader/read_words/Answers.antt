@@ -54,7 +54,7 @@ loop-word-preserved g c =
         in_turn (words_left c.args.words) came (words_left c.loop-word.left) (words_left c.next_word.new.self) word
             c.loop-word.invariant.0.1 c.in-Some.ensures.words,
         λ limit first words_so_far reads. rw (append_assoc words_so_far came (word ∷ []))
-            at (c.in_ok-take_word.ensures limit first (words_so_far ++ came)
+            at (c.in_ok-take_word.ensures.words limit first (words_so_far ++ came)
             (c.loop-word.invariant.0.2 limit first words_so_far reads)),
       ),
       c.in-Some.ensures.line_feeds ∙ c.loop-word.invariant.1,
@@ -70,7 +70,8 @@ returns-in_err-take_word-clause-words g c = λ limit first words_so_far reads.
     (sym (append_assoc came (word ∷ []) more) ∙ sym (in_turn (words_left c.args.words) came
     (words_left c.loop-word.left) more word c.loop-word.invariant.0.1 c.in-Some.ensures.words)) in
     let e : ReadError = c.in_err-take_word.field-0.0 in
-    rw (err_is _ c.from_residual.ensures.1) (rw all at (c.in_err-take_word.ensures limit first (words_so_far ++ came)
+    rw (err_is _ c.from_residual.ensures.1) (rw all at (c.in_err-take_word.ensures.words limit first
+    (words_so_far ++ came)
     (c.loop-word.invariant.0.2 limit first words_so_far reads) more))
 
 pub returns-clause-words : goal.returns-clause-words

@@ -23,3 +23,6 @@ returns-in-Err-clause-words c = λ limit asked words_so_far more r.
     let is = ap (λ line. error_at line c.in-Err.fault) (sym c.item_fault_line-shown.ensures) ∙ sym c.at.ensures in
     rw is at (one_shown limit asked c.args.self.now words_so_far more w r c.in-Err.fault
     (c.in-Err.ensures asked r.state r.begun r.at))
+
+pub returns-in-Ok-clause-step : goal.returns-in-Ok-clause-step
+returns-in-Ok-clause-step c = c.in-Ok.ensures

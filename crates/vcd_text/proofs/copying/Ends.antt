@@ -1,0 +1,109 @@
+-- The end of a copy: what the writer took.
+use Rattle.std.proofs.Common.{◌≡◌, ◌≤◌, ◌∙◌, ℕ, Bool, true, false, List, [], ◌++◌, length, take, refl, sym, subst}
+use Rattle.std.proofs.lemmas.List.{append-nil}
+use Rattle.std.proofs.lemmas.Bool.{false≢true}
+use Rattle.std.specs.Prelude.{Option, Some, None, IfSome, Result, Ok, Err, OnOk, IsOk, IfErr}
+use Rattle.std.specs.Io.KnownBytes.{Appends, Keeps}
+use Rattle.vcd_core.specs.Contents.{SignalContents}
+use Rattle.vcd_core.specs.declared.capture.Timescale.{Timescale}
+use Rattle.vcd_core.specs.declared.device.Sink as sinks
+use Rattle.vcd_text.specs.declared.fault.CopyError.{CopyError}
+use Rattle.vcd_text.specs.declared.fault.CopyError.TheVariants as copy_errors
+use Rattle.vcd_text.specs.declared.fault.Fault.TheVariants as faults
+use Rattle.vcd_text.specs.declared.fault.ReadError.{ReadError}
+use Rattle.vcd_text.specs.declared.fault.WriteError.{WriteError}
+use Rattle.vcd_text.specs.declared.fault.WriteError.TheVariants.{WriteFault}
+use Rattle.vcd_text.specs.declared.writing.output.Output.{Output}
+use Rattle.vcd_text.specs.Copied.{CopyRules, IsCopy}
+use Rattle.vcd_text.specs.CopyEnds.{CopyFails, ReadFails}
+use Rattle.vcd_text.specs.Parts.{Answers, IsPartRefusal}
+use Rattle.vcd_text.specs.inside.Copying.{TookCopy}
+use Rattle.vcd_text.specs.inside.writing.Output.{Emits, EmitsMore, HasEmitted}
+use Rattle.vcd_text.specs.declared.reading.TheConstants.{VARIABLE_LIMIT, LONG_FILE_LIMIT}
+use Rattle.vcd_text.proofs.part.WholeParts.{no_part_refusal_of_copy}
+use Rattle.vcd_text.proofs.writing.output.Pieces.{writes_both, writes_as, writes_part, whole_written, all_taken}
+use Rattle.vcd_text.proofs.writing.output.Pieces.{appends_kept, failed_prefix}
+
+-- ---- copied
+
+not_stayed : (a b : Bool) → (a ≡ true → b ≡ true) → b ≡ false → a ≡ false
+not_stayed false b stays ready = refl
+not_stayed true b stays ready = absurd (false≢true (sym ready ∙ stays refl))
+
+-- what is so if a result is one
+when_ok : {S F : Type 0} (P : Type 0) (r : Result S F) → OnOk r P → IsOk r → P
+when_ok P (Ok x) p ok = p
+when_ok P (Err e) p ok = absurd (false≢true ok)
+
+-- the writer took the copy
+pub copy_taken : {W S F T E : Type 0} (sink : sinks.Ghosts W) (limit most : ℕ) (rules : CopyRules) (o0 o1 o2 : Output W)
+    (coming : Option (List ℕ)) (later : W) (copied : Result S F) (r : Result T E)
+    → OnOk copied (sink.has_failed o1.writer.now ≡ false → IfSome coming (λ file. (length file ≤ most)
+    × TookCopy sink limit rules o0 o1 file))
+    → o0.unsent.items ≡ [] → o0.sent_count ≡ 0 → Emits sink o1 o2 [] → o2.unsent.items ≡ []
+    → (sink.has_failed o1.writer.now ≡ true → sink.has_failed o2.writer.now ≡ true)
+    → Keeps (sink.taken o2.writer.now) (sink.taken later) → OnOk r (sink.has_failed o2.writer.now ≡ false)
+    → OnOk r (IsOk copied)
+    → OnOk r (IfSome coming (λ file. (length file ≤ most) × (text : List ℕ) × IsCopy limit rules file text
+    × Appends (sink.taken o0.writer.now) (sink.taken later) text))
+copy_taken sink limit most rules o0 o1 o2 None later copied (Ok x) copies empty none sent sent_all stays kept ready ok =
+    tt
+copy_taken sink limit most rules o0 o1 o2 (Some file) later copied
+    (Ok x) copies empty none sent sent_all stays kept ready ok =
+    let (within, took) = when_ok _ copied copies ok (not_stayed (sink.has_failed o1.writer.now) (sink.has_failed
+    o2.writer.now) stays ready) in (
+      within,
+      took.text,
+      took.is_copy,
+      appends_kept _ _ _ took.text (all_taken ready sent_all (whole_written empty none
+          (writes_as (append-nil took.text) (writes_both took.emits sent)))) kept,
+    )
+copy_taken sink limit most rules o0 o1 o2 coming later copied (Err e) copies empty none sent sent_all stays kept ready
+    ok = tt
+
+-- ---- not copied
+
+-- what the writer and the buffer hold at the end
+pub some_held : {W : Type 0} {sink : sinks.Ghosts W} {o0 o1 o2 : Output W} → o0.unsent.items ≡ [] → o0.sent_count ≡ 0
+    → (more : EmitsMore sink o0 o1) → Emits sink o1 o2 []
+    → HasEmitted sink (sink.taken o0.writer.now) o2 (more.part ++ [])
+some_held empty none more sent = whole_written empty none (writes_both (writes_part more) sent)
+
+-- the writer took something
+pub some_taken : {W : Type 0} {sink : sinks.Ghosts W} {before : Option (List ℕ)} {output : Output W} {text : List ℕ}
+    (later : W) → HasEmitted sink before output text → Keeps (sink.taken output.writer.now) (sink.taken later)
+    → (some : List ℕ) × Appends before (sink.taken later) some
+some_taken {text = text} later held kept = (take held.sent text, appends_kept _ _ _ _ held.prefix kept)
+
+-- why reading fails, if no signal is heard
+pub read_fails : {T : Type 0} (answers : Answers) (coming left : Option (List ℕ)) (failed : Bool)
+    (r : Result T ReadError) → ((timescale : Option Timescale) (ss : List SignalContents)
+    → answers timescale ss None → ⊥)
+    → IfErr r (λ e. IfSome coming (λ file. IsPartRefusal VARIABLE_LIMIT LONG_FILE_LIMIT (λ _. false) answers file failed
+    left e))
+    → IfErr r (λ e. e.fault ≡ faults.ReadFault → failed ≡ true)
+    → IfErr r (λ e. (e.fault ≡ faults.ReadFault → ⊥) → failed ≡ false)
+    → IfErr r (ReadFails VARIABLE_LIMIT LONG_FILE_LIMIT coming left failed)
+read_fails answers coming left failed (Ok x) some refused has other = tt
+read_fails answers coming left failed (Err e) some refused has other = record {
+  refused = no_part_refusal_of_copy answers coming failed left e some refused;
+  failed_reader = has;
+  other = other;
+}
+
+-- why a copy fails
+pub copy_fails : {W T S : Type 0} {sink : sinks.Ghosts W} {before : Option (List ℕ)} {output : Output W}
+    {text : List ℕ} (limit most : ℕ) (coming left : Option (List ℕ)) (failed : Bool) (later : W)
+    (copied : Result S ReadError) (r : Result T CopyError) → IfErr copied (ReadFails limit most coming left failed)
+    → IfErr r (λ e. (error : ReadError) → e ≡ copy_errors.Read error → copied ≡ Err error)
+    → IfErr r (λ e. (error : WriteError) → e ≡ copy_errors.Write error
+    → (error ≡ WriteFault output.sent_count) × (sink.has_failed later ≡ true))
+    → HasEmitted sink before output text → Keeps (sink.taken output.writer.now) (sink.taken later)
+    → IfErr r (CopyFails limit most coming left failed before (sink.taken later) (sink.has_failed later))
+copy_fails limit most coming left failed later copied (Ok x) fails read wrote held kept = tt
+copy_fails limit most coming left failed later copied (Err (copy_errors.Read e)) fails read wrote held kept =
+    subst (λ r. IfErr r (ReadFails limit most coming left failed)) (read e refl) fails
+copy_fails {text = text} limit most coming left failed later copied (Err (copy_errors.Write e)) fails read wrote held
+    kept =
+    let (is, has_failed) = wrote e refl in
+    (text, failed_prefix {T = Unit {0}} later (Err e) held kept is has_failed)

@@ -1,0 +1,2 @@
+-- Lemmas of `copying/copier`.
+pub mod CopiedChunks

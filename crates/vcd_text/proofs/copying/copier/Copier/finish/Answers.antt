@@ -1,0 +1,69 @@
+use Rattle.std.proofs.Common.{◌≡◌, ◌++◌, inr, inl, sym, ap, subst, ◌∙◌, arith}
+use Rattle.vcd_text.specs.inside.Copying.{TookCopy}
+use Rattle.vcd_text.specs.inside.writing.Output.{Emits}
+use Rattle.vcd_text.specs.declared.fault.ReadError.{ReadError}
+use Rattle.vcd_text.specs.Words.{complete_words}
+use Rattle.vcd_text.specs.FoundFaults.{too_early}
+use Rattle.vcd_text.specs.Parts.{answers_of}
+use Rattle.vcd_text.specs.inside.reading.Choice.{HasTakenFrom}
+use Rattle.vcd_text.proofs.reading.file_reader.Chunks.{last_taken, last_refused}
+use Rattle.vcd_text.proofs.reading.parser.AskedParts.{chosen_words}
+use Rattle.vcd_text.proofs.reading.parser.NoWordLeft.{stops}
+use Rattle.vcd_text.proofs.copying.copier.CopiedChunks.{whole_copied}
+use Rattle.vcd_text.proofs.writing.output.Pieces.{more_both}
+use Rattle.vcd_text.proofs.words.WordsInTurn.{words_are_few}
+use Rattle.vcd_text.proofs.words.WordsByBytes.{complete_are_few}
+use Rattle.vcd_text.proofs.copying.copier.Copier.finish.Goals as goal
+use Rattle.vcd_text.proofs.shared.FailedResults.{err_is}
+
+pub copy_words-requires-clause-reading : goal.copy_words-requires-clause-reading
+copy_words-requires-clause-reading g c =
+    let (limit, most, first, bytes, taken) = c.requires.reading in
+    (limit, first, (complete_words bytes, taken.taken_words, grind (arith, words_are_few, complete_are_few)))
+
+pub returns-in_err-copy_words-clause-fault : goal.returns-in_err-copy_words-clause-fault
+returns-in_err-copy_words-clause-fault g c =
+    let p = c.args.self.progress in
+    let choice = c.copy_words.new.choice in
+    rw (err_is _ c.from_residual.ensures.1) (λ limit most first bytes taken. last_refused _ _ _ (g.C.Choice.takes first)
+    (answers_of g.C.Choice.answers first choice) p _ _ _ taken c.as_slice.ensures (c.in_err-copy_words.ensures.words
+    limit first (complete_words bytes) taken.taken_words))
+
+pub returns-in_err-check_complete-clause-fault : goal.returns-in_err-check_complete-clause-fault
+returns-in_err-check_complete-clause-fault g c =
+    let p = c.args.self.progress in
+    let m = c.copy_words.new.parser in
+    let choice = c.copy_words.new.choice in
+    let (open_still, truncated) = c.in_err-check_complete.ensures.truncated in
+    rw (err_is _ c.from_residual-in_err-check_complete.ensures.1) (λ limit most first bytes taken.
+    let reads = last_taken _ _ (HasTakenFrom limit g.C.Choice.takes g.C.Choice.answers first choice) p m _ _ taken
+    c.as_slice.ensures (c.in_ok-copy_words.ensures.words limit first (complete_words bytes) taken.taken_words) in
+    inr (inl (
+      too_early (stops limit reads.asked m _ reads.taken_words open_still)
+          (ap (λ (e : ReadError). e.line) truncated ∙ sym taken.lines) (ap (λ (e : ReadError). e.fault) truncated),
+      chosen_words _ _ _ _ _ _ _ reads,
+    )))
+
+pub finish-requires : goal.finish-requires
+finish-requires g c =
+    let (limit, start, bytes, h) = c.requires.copying in
+    let now = c.in_ok-copy_words.ensures.copied limit start h.taken h.copied h.complete in
+    (now.pieces, now.seen)
+
+pub returns-clause-copied : goal.returns-clause-copied
+returns-clause-copied g c = λ limit start bytes h.
+    let now = c.in_ok-copy_words.ensures.copied limit start h.taken h.copied h.complete in
+    let writes = subst (λ r. Emits g.W.Sink c.copy_words.new.output c.finish.new.output (r.at_end now.pieces
+    c.copy_words.new.held.bytes.items)) c.in_ok-copy_words.ensures.same (subst
+    (λ l. Emits g.W.Sink c.copy_words.new.output c.finish.new.output
+    ((g.A.Amender.rules c.copy_words.new.amender).at_end now.pieces l)) c.as_slice-2.ensures.value
+    (c.in_ok-finish.ensures.written now.pieces now.seen)) in
+    let all : h.taken ++ c.as_slice.result.now ≡ bytes = ap (λ l. h.taken ++ l) c.as_slice.ensures ∙ sym h.is in
+    subst (TookCopy g.W.Sink limit (g.A.Amender.rules c.args.amender.now) start c.finish.new.output) all
+    (whole_copied {o2 = c.finish.new.output} now c.in_ok-check_complete.ensures.complete writes)
+
+pub returns-in_err-finish-clause-more : goal.returns-in_err-finish-clause-more
+returns-in_err-finish-clause-more g c = more_both c.copy_words.ensures.more c.finish.ensures.more
+
+pub returns-clause-more : goal.returns-clause-more
+returns-clause-more g c = more_both c.copy_words.ensures.more c.finish.ensures.more

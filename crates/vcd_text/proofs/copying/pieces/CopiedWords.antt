@@ -1,0 +1,312 @@
+-- One more word of a file that is copied.
+use Rattle.std.proofs.Common.{◌≡◌, ◌∙◌, ◌⊎◌, inl, inr, ℕ, ◌+◌, ◌-◌, ◌<◌, Bool, true, false, not, cond, List, [], ◌∷◌}
+use Rattle.std.proofs.Common.{◌++◌}
+use Rattle.std.proofs.Common.{length, length-take-le, refl, sym, ap, ap₂, subst, arith, append_assoc}
+use Rattle.std.proofs.lemmas.List.{append-nil, length-append, map-append}
+use Rattle.std.proofs.lemmas.Bool.{false≢true}
+use Rattle.vcd_core.specs.declared.capture.ScopeName.{ScopeName}
+use Rattle.vcd_core.specs.declared.device.Sink as sinks
+use Rattle.vcd_text.specs.Words.{WordOnLine}
+use Rattle.vcd_text.specs.Items.{Item, spelling}
+use Rattle.vcd_text.specs.Grammar.{ParseState, initial_state, state_after_item, AllowsAll, Allows, word_texts}
+use Rattle.vcd_text.specs.Pieces.{state_of_pieces, Piece}
+use Rattle.vcd_text.specs.Copied.{CopyRules, copied_piece, copied_pieces, piece_items}
+use Rattle.vcd_text.specs.Copied.{may_be_amended}
+use Rattle.vcd_text.specs.inside.Words.{has_complete_words}
+use Rattle.vcd_text.specs.inside.Copying.{IsOpenItem, HasCopied, IsSpacedWord, EndsPiece, piece_bytes, stands_open}
+use Rattle.vcd_text.specs.inside.reading.Part.{Asked}
+use Rattle.vcd_text.specs.inside.reading.Parser.{IsAtState, IsBegun, WordStep, goes_on, ends_item}
+use Rattle.vcd_text.specs.inside.writing.Output.{Emits}
+use Rattle.vcd_text.specs.declared.copying.pieces.Held.{Held}
+use Rattle.vcd_text.specs.declared.reading.parser.Parser.{Parser}
+use Rattle.vcd_text.specs.declared.reading.parser.OpenItem.{OpenItem}
+use Rattle.vcd_text.specs.declared.reading.parser.OpenItem.TheVariants as items
+use Rattle.vcd_text.specs.declared.writing.output.Output.{Output}
+use Rattle.vcd_text.proofs.read_back.Words.{is_unbroken}
+use Rattle.vcd_text.proofs.amended.Bytes.{texts_are}
+use Rattle.vcd_text.proofs.amended.Cuts.{SpellsItem}
+use Rattle.vcd_text.proofs.copying.pieces.EndedItems.{nothing_open, something_open, opened_as, ended, stands_at}
+use Rattle.vcd_text.proofs.copying.pieces.EndedItems.{IsShownAs}
+use Rattle.vcd_text.proofs.writing.output.Pieces.{writes_both, writes_as}
+use Rattle.vcd_text.proofs.copying.pieces.OneWordMore.{not_complete, no_texts, shuffled, both_held, copied_more}
+use Rattle.vcd_text.proofs.copying.pieces.OneWordMore.{cut_more, bytes_more, reaches_more, begins, goes_further}
+
+-- what stands whatever follows is not shown, so it may not be amended
+pub not_shown : (item : OpenItem) (text : List ℕ) (tick depth : ℕ) (i : Item) (c : ParseState) → stands_open item ≡ true
+    → IsShownAs c item text tick depth i → may_be_amended i ≡ false
+not_shown (items.Entry kind) text tick depth i c stands is = is
+not_shown items.Timescale text tick depth i c stands is = is
+not_shown items.Scope text tick depth i c stands is = is
+not_shown items.Upscope text tick depth i c stands is = is
+not_shown items.Other text tick depth i c stands is = is
+not_shown items.Nothing text tick depth i c stands is = absurd (false≢true stands)
+not_shown items.Variable text tick depth i c stands is = absurd (false≢true stands)
+not_shown items.SizedVariable text tick depth i c stands is = absurd (false≢true stands)
+not_shown items.EndDefinitions text tick depth i c stands is = absurd (false≢true stands)
+not_shown items.Vector text tick depth i c stands is = absurd (false≢true stands)
+not_shown items.RealOrString text tick depth i c stands is = absurd (false≢true stands)
+
+-- ---- one word
+
+module _ {W : Type 0} (sink : sinks.Ghosts W) (limit : ℕ) (rules : CopyRules) (seen_before : List Piece → Type 0)
+    (start o0 : Output W) (old : Parser) (held0 held1 : Held) (before bytes : List ℕ) (w : WordOnLine)
+    (h : HasCopied sink limit rules seen_before start o0 old held0 before) (s : IsSpacedWord before bytes w.text)
+    (whole : is_unbroken w.text ≡ true) (held_is : held1.bytes.items ≡ held0.bytes.items ++ bytes)
+    (len_first : old.item ≡ items.Nothing
+    → held1.space_len ≡ length held0.bytes.items + (length bytes - length w.text))
+    (len_later : (old.item ≡ items.Nothing → ⊥) → held1.space_len ≡ held0.space_len) where
+  pub record Longer : Type 0 where
+    pub more_space : List ℕ
+    pub more_body : List ℕ
+    pub opened : IsOpenItem h.pieces more_space more_body (word_texts (h.begun ++ w ∷ []))
+    pub own : (h.space ++ (h.body ++ h.gap)) ++ bytes ≡ more_space ++ more_body
+    pub len : held1.space_len ≡ length more_space
+
+  is_apart : (0 < length (h.gap ++ s.space)) ⊎ ((h.pieces ≡ []) × (h.begun ≡ []))
+  is_apart = elim s.apart [
+    | inl some ↦ inl (omega (arith, some, length-append h.gap s.space))
+    | inr complete ↦ elim (h.gap_some complete) [
+      | inl some ↦ inl (omega (arith, some, length-append h.gap s.space))
+      | inr none ↦ inr none
+    ]
+  ]
+
+  pub longer : Longer
+  longer = go h.begun refl
+    where
+      go : (ws : List WordOnLine) → h.begun ≡ ws → Longer
+      go [] none =
+          let nothing : old.item ≡ items.Nothing = nothing_open old old.item (rw none at h.at.1) in
+          let empty = h.opened.none (ap word_texts none) in
+          let held : held0.bytes.items ≡ h.space ++ (h.body ++ h.gap) = h.held_is ∙ ap (λ i. cond (stands_open i) h.gap
+          (h.space ++ (h.body ++ h.gap))) nothing in
+          let bare : h.space ++ (h.body ++ h.gap) ≡ h.gap = ap₂ (λ x y. x ++ (y ++ h.gap)) empty.0 empty.1 in
+          record {
+            more_space = h.gap ++ s.space;
+            more_body = w.text;
+            opened = begins h.pieces h.space h.body h.gap bytes h.begun w h.opened h.gap_white whole s.space s.is
+                s.white
+                is_apart none;
+            own = ap₂ (λ x y. x ++ y) bare s.is ∙ sym (append_assoc h.gap s.space w.text);
+            len = len_first nothing ∙ omega (
+              arith,
+              ap (length {A = ℕ}) (held ∙ bare),
+              ap (length {A = ℕ}) s.is,
+              length-append s.space w.text,
+              length-append h.gap s.space,
+            );
+          }
+      go (v ∷ vs) is =
+          let some : 0 < length (word_texts h.begun) = rw is (omega arith) in
+          record {
+            more_space = h.space;
+            more_body = h.body ++ ((h.gap ++ s.space) ++ w.text);
+            opened = goes_further h.pieces h.space h.body h.gap bytes h.begun w h.opened h.gap_white whole s.space s.is
+                s.white is_apart some;
+            own = ap (λ l. (h.space ++ (h.body ++ h.gap)) ++ l) s.is ∙ shuffled h.space h.body h.gap s.space w.text;
+            len = len_later (λ nothing. let none : v ∷ vs ≡ [] = sym is ∙ subst (IsBegun old h.begun) nothing h.at.1 in
+                cc) ∙ h.len some;
+          }
+
+  -- the open items before and after a word that ends none
+  same_standing : (later : Asked) (new : Parser) → IsAtState later new (state_of_pieces limit h.pieces) (h.begun ++ w
+      ∷ []) → stands_open new.item ≡ false → stands_open old.item ≡ false
+  same_standing later new at held = go h.begun refl
+    where
+      go : (ws : List WordOnLine) → h.begun ≡ ws → stands_open old.item ≡ false
+      go [] none = ap stands_open (nothing_open old old.item (rw none at h.at.1))
+      go (v ∷ vs) is =
+          let first = opened_as old h.begun v.text (word_texts vs) old.item h.at.1 (ap word_texts is) in
+          let again = opened_as new (h.begun ++ w ∷ []) v.text (word_texts (vs ++ w ∷ [])) new.item at.1 (ap (λ ws.
+          word_texts (ws ++ w ∷ [])) is) in
+          sym first ∙ ap (λ b. stands_at b v.text) (h.at.0.in_body ∙ sym at.0.in_body) ∙ again ∙ held
+
+  module _ (seen_after : List Piece → Type 0) (o1 : Output W) (held2 : Held) (later : Asked) (new : Parser) where
+    all_held : cond (stands_open old.item) (h.space ++ h.body) [] ++ held1.bytes.items ≡ longer.more_space
+        ++ longer.more_body
+    all_held = ap (λ l. cond (stands_open old.item) (h.space ++ h.body) [] ++ l) (held_is
+        ∙ ap (λ l. l ++ bytes) h.held_is)
+        ∙ both_held (stands_open old.item) h.space h.body h.gap bytes ∙ longer.own
+
+    own_held : stands_open old.item ≡ false → held1.bytes.items ≡ longer.more_space ++ longer.more_body
+    own_held held = ap (λ t. cond t (h.space ++ h.body) [] ++ held1.bytes.items) (sym held) ∙ all_held
+
+    taken_bytes : before ++ bytes ≡ piece_bytes h.pieces ++ (longer.more_space ++ longer.more_body)
+    taken_bytes = ap (λ l. l ++ bytes) h.whole ∙ append_assoc (piece_bytes h.pieces) _ bytes
+        ∙ ap (λ l. piece_bytes h.pieces
+        ++ l) longer.own
+
+    not_complete_now : has_complete_words (before ++ bytes) ≡ true → ⊥
+    not_complete_now complete = not_complete (before ++ s.space) w.text whole (ap has_complete_words
+        (append_assoc before
+        s.space w.text ∙ ap (λ l. before ++ l) (sym s.is)) ∙ complete)
+
+    -- a word that goes on with an item
+    pub goes_on_copied : IsAtState later new (state_of_pieces limit h.pieces) (h.begun ++ w ∷ [])
+        → seen_after h.pieces
+        → Emits sink o0 o1 (cond (stands_open new.item) held1.bytes.items [])
+        → held2.bytes.items ≡ cond (stands_open new.item) [] held1.bytes.items → held2.space_len ≡ held1.space_len
+        → HasCopied sink limit rules seen_after start o1 new held2 (before ++ bytes)
+    goes_on_copied at seen writes is len = record {
+      asked = later;
+      pieces = h.pieces;
+      begun = h.begun ++ w ∷ [];
+      space = longer.more_space;
+      body = longer.more_body;
+      gap = [];
+      cut = h.cut;
+      allowed = h.allowed;
+      at = at;
+      opened = longer.opened;
+      gap_white = refl;
+      gap_some = λ complete. absurd (not_complete_now complete);
+      whole = taken_bytes ∙ ap (λ l. piece_bytes h.pieces ++ (longer.more_space ++ l)) (sym
+          (append-nil longer.more_body));
+      seen = seen;
+      emits = writes_as (emitted (stands_open new.item) refl) (writes_both h.emits writes);
+      held_is = held_now (stands_open new.item) refl;
+      len = λ some. len ∙ longer.len;
+    }
+      where
+        emitted : (t : Bool) → stands_open new.item ≡ t → (copied_pieces rules [] h.pieces ++ cond
+            (stands_open old.item)
+            (h.space ++ h.body) []) ++ cond t held1.bytes.items [] ≡ copied_pieces rules [] h.pieces ++ cond t
+            (longer.more_space ++ longer.more_body) []
+        emitted true stands = append_assoc (copied_pieces rules [] h.pieces) _ held1.bytes.items
+            ∙ ap (λ l. copied_pieces
+            rules [] h.pieces ++ l) all_held
+        emitted false held = append-nil _ ∙ ap (λ t. copied_pieces rules [] h.pieces ++ cond t (h.space ++ h.body) [])
+            (same_standing later new at held)
+
+        held_now : (t : Bool) → stands_open new.item ≡ t → held2.bytes.items ≡ cond t [] (longer.more_space
+            ++ (longer.more_body ++ []))
+        held_now true stands = is ∙ ap (λ t. cond t [] held1.bytes.items) stands
+        held_now false held = is ∙ ap (λ t. cond t [] held1.bytes.items) held
+            ∙ own_held (same_standing later new at held)
+            ∙ ap (λ l. longer.more_space ++ l) (sym (append-nil longer.more_body))
+
+    module _ (i : Item) (spelled : spelling i ≡ word_texts (h.begun ++ w ∷ []))
+        (allows : Allows (state_of_pieces limit h.pieces) i)
+        (at : IsAtState later new (state_after_item (state_of_pieces limit h.pieces) i) []) where
+      -- the piece that the word ends
+      abbrev pub piece : Piece
+      piece = record { item = i; space = longer.more_space; body = longer.more_body }
+
+      depth_is : new.variables.scopes.depth ≡ length (state_after_item (state_of_pieces limit h.pieces) i).scopes
+      depth_is = sym (length-take-le _ _ new.variables.scopes.within)
+          ∙ ap (length {A = ScopeName}) at.0.variables.opened
+
+      pub shown_as : IsShownAs (state_of_pieces limit h.pieces) old.item w.text new.tick new.variables.scopes.depth i
+      shown_as = ended h.asked old (state_of_pieces limit h.pieces) h.begun w i new.tick new.variables.scopes.depth
+          h.at.0
+          allows spelled at.0.tick depth_is old.item h.at.1
+
+      reached : AllowsAll (initial_state limit) (piece_items (h.pieces ++ piece ∷ []))
+          × (state_of_pieces limit (h.pieces ++ piece ∷ []) ≡ state_after_item (state_of_pieces limit h.pieces) i)
+      reached = reaches_more limit h.pieces piece h.allowed allows
+
+      spells : SpellsItem piece
+      spells = longer.opened.spelled ∙ sym spelled
+
+      pub ends_piece : EndsPiece limit h.pieces piece old.item w.text new
+      ends_piece = record {
+        next = record { allowed = reached.0; space_is = refl; body_is = refl; spelled = spells };
+        shown = shown_as;
+      }
+
+      pub piece_held : stands_open old.item ≡ false → (held1.bytes.items ≡ piece.space ++ piece.body)
+          × (held1.space_len ≡ length piece.space)
+      piece_held held = (own_held held, longer.len)
+
+      some_texts : 0 < length (word_texts (h.begun ++ w ∷ []))
+      some_texts =
+          omega (
+            arith,
+            ap (length {A = List ℕ}) (map-append (λ w. w.text) h.begun (w ∷ [])),
+            length-append (word_texts h.begun) (w.text ∷ []),
+          )
+
+      -- a word that ends an item
+      pub ended_copied : seen_after (h.pieces ++ piece ∷ [])
+          → Emits sink o0 o1 (cond (stands_open old.item) held1.bytes.items (copied_piece rules h.pieces piece))
+          → held2.bytes.items ≡ [] → HasCopied sink limit rules seen_after start o1 new held2 (before ++ bytes)
+      ended_copied seen writes empty = record {
+        asked = later;
+        pieces = h.pieces ++ piece ∷ [];
+        begun = [];
+        space = [];
+        body = [];
+        gap = [];
+        cut = cut_more h.pieces piece h.cut spells longer.opened.tight longer.opened.white
+            (longer.opened.apart some_texts);
+        allowed = reached.0;
+        at = subst (λ c. IsAtState later new c []) (sym reached.1) at;
+        opened = record {
+          spelled = texts_are [] ∙ no_texts;
+          tight = (refl, refl);
+          white = refl;
+          apart = λ some. absurd (omega (arith, some));
+          none = λ none. (refl, refl);
+        };
+        gap_white = refl;
+        gap_some = λ complete. absurd (not_complete_now complete);
+        whole = taken_bytes ∙ sym (bytes_more h.pieces piece) ∙ sym (append-nil (piece_bytes (h.pieces ++ piece ∷ [])));
+        seen = seen;
+        emits = writes_as (emitted (stands_open old.item) refl ∙ ap (λ l. copied_pieces rules []
+            (h.pieces ++ piece ∷ []) ++ l)
+            (sym (ap (λ t. cond (stands_open t) ([] ++ []) []) nothing))) (writes_both h.emits writes);
+        held_is = empty ∙ sym (ap (λ t. cond (stands_open t) [] ([] ++ ([] ++ []))) nothing);
+        len = λ some. absurd (omega (arith, some));
+      }
+        where
+          nothing : new.item ≡ items.Nothing
+          nothing = nothing_open new new.item at.1
+
+          stands_whole : stands_open old.item ≡ true → copied_piece rules h.pieces piece ≡ piece.space ++ piece.body
+          stands_whole stands = ap (λ t. cond t (rules.in_place h.pieces piece) (piece.space ++ piece.body)) (not_shown
+              old.item w.text new.tick new.variables.scopes.depth i (state_of_pieces limit h.pieces) stands shown_as)
+
+          all_written : (t : Bool) → stands_open old.item ≡ t → (copied_pieces rules [] h.pieces ++ cond (stands_open
+              old.item) (h.space ++ h.body) []) ++ cond (stands_open old.item) held1.bytes.items (copied_piece rules
+              h.pieces piece) ≡ copied_pieces rules [] h.pieces ++ copied_piece rules h.pieces piece
+          all_written true stands = append_assoc (copied_pieces rules [] h.pieces) _ _ ∙ ap (λ l. copied_pieces rules []
+              h.pieces ++ l) (ap (λ t. cond (stands_open old.item) (h.space ++ h.body) [] ++ cond t held1.bytes.items
+              (copied_piece rules h.pieces piece)) stands ∙ all_held ∙ sym (stands_whole stands))
+          all_written false held = ap (λ t. (copied_pieces rules [] h.pieces ++ cond t (h.space ++ h.body) []) ++ cond t
+              held1.bytes.items (copied_piece rules h.pieces piece)) held
+              ∙ ap (λ l. l ++ copied_piece rules h.pieces piece)
+              (append-nil (copied_pieces rules [] h.pieces))
+
+          emitted : (t : Bool) → stands_open old.item ≡ t → (copied_pieces rules [] h.pieces ++ cond (stands_open
+              old.item) (h.space ++ h.body) []) ++ cond (stands_open old.item) held1.bytes.items (copied_piece rules
+              h.pieces piece) ≡ copied_pieces rules [] (h.pieces ++ piece ∷ []) ++ []
+          emitted t is = all_written t is ∙ sym (copied_more rules [] h.pieces piece)
+              ∙ sym (append-nil (copied_pieces rules
+              [] (h.pieces ++ piece ∷ [])))
+
+    -- what is held of the piece that the word ends, if it ends one
+    pub piece_ended : WordStep later (state_of_pieces limit h.pieces) (h.begun ++ w ∷ []) new
+        → new.item ≡ items.Nothing → (p : Piece) × EndsPiece limit h.pieces p old.item w.text new
+        × (stands_open old.item ≡ false → (held1.bytes.items ≡ p.space ++ p.body) × (held1.space_len ≡ length p.space))
+    piece_ended (goes_on at) nothing = absurd (something_open new h.begun w new.item at.1 nothing)
+    piece_ended (ends_item i spelled allows at) nothing =
+        (piece i spelled allows at, ends_piece i spelled allows at, piece_held i spelled allows at)
+
+    -- one more word is copied
+    pub word_copied : WordStep later (state_of_pieces limit h.pieces) (h.begun ++ w ∷ []) new
+        → (new.item ≡ items.Nothing → (p : Piece) → EndsPiece limit h.pieces p old.item w.text new
+        → (stands_open old.item ≡ false → (held1.bytes.items ≡ p.space ++ p.body) × (held1.space_len ≡ length p.space))
+        → Emits sink o0 o1 (cond (stands_open old.item) held1.bytes.items (copied_piece rules h.pieces p))
+        × seen_after (h.pieces ++ p ∷ []) × (held2.bytes.items ≡ []))
+        → ((new.item ≡ items.Nothing → ⊥) → Emits sink o0 o1 (cond (stands_open new.item) held1.bytes.items [])
+        × seen_after h.pieces × (held2.bytes.items ≡ cond (stands_open new.item) [] held1.bytes.items)
+        × (held2.space_len ≡ held1.space_len))
+        → HasCopied sink limit rules seen_after start o1 new held2 (before ++ bytes)
+    word_copied (goes_on at) ends goes =
+        let (writes, seen, is, len) = goes (something_open new h.begun w new.item at.1) in
+        goes_on_copied at seen writes is len
+    word_copied (ends_item i spelled allows at) ends goes =
+        let (writes, seen, empty) = ends (nothing_open new new.item at.1) (piece i spelled allows at)
+        (ends_piece i spelled
+        allows at) (piece_held i spelled allows at) in
+        ended_copied i spelled allows at seen writes empty

@@ -1,0 +1,86 @@
+-- The copy of a file: rules say what is in the place of variables, stamps and changes, and all else
+-- stands byte for byte. The project's own.
+use Rattle.std.specs.Prelude.{◌≡◌, ℕ, Bool, true, false, if◌then◌else◌, List, [], ◌∷◌, ◌++◌, map}
+use Rattle.std.specs.Prelude.{length}
+use Rattle.std.specs.Prelude.{Option, Some, None, IsTrue}
+use Rattle.vcd_core.specs.Decimal.{number_of}
+use Rattle.vcd_text.specs.Words.{words_of}
+use Rattle.vcd_text.specs.Items.{Item, variable, end_definitions, stamp, scalar, vector}
+use Rattle.vcd_text.specs.Items.{real_or_string, spelling}
+use Rattle.vcd_text.specs.Grammar.{ParseState, initial_state, AllowsAll, word_texts}
+use Rattle.vcd_text.specs.Pieces.{Piece, IsCut, state_of_pieces}
+use Rattle.vcd_text.specs.declared.copying.amender.AmendableItem.{AmendableItem}
+use Rattle.vcd_text.specs.declared.copying.amender.AmendableItem.TheVariants as shown
+
+-- whether rules may amend an item; any other stands
+abbrev pub may_be_amended : Item → Bool
+may_be_amended (variable words) = true
+may_be_amended end_definitions = true
+may_be_amended (stamp digits) = true
+may_be_amended (scalar digit code) = true
+may_be_amended (vector first digits code) = true
+may_be_amended (real_or_string first text code) = true
+may_be_amended item = false
+
+-- what is written in the place of a piece after others, and of the white space after the last one
+pub record CopyRules : Type 0 where
+  pub in_place : (before : List Piece) → Piece → List ℕ
+  pub at_end : (pieces : List Piece) → (tail : List ℕ) → List ℕ
+
+-- the bytes in the place of a piece after others
+abbrev pub copied_piece : CopyRules → (before : List Piece) → Piece → List ℕ
+copied_piece r before p = if may_be_amended p.item then r.in_place before p else p.space ++ p.body
+
+-- the bytes in the place of pieces after others
+unfoldable pub copied_pieces : CopyRules → (before : List Piece) → List Piece → List ℕ
+copied_pieces r before [] = []
+copied_pieces r before (p ∷ ps) = copied_piece r before p ++ copied_pieces r (before ++ p ∷ []) ps
+
+-- the copy of a file of these pieces
+abbrev pub copied : CopyRules → List Piece → (tail : List ℕ) → List ℕ
+copied r pieces tail = copied_pieces r [] pieces ++ r.at_end pieces tail
+
+-- the items of pieces
+abbrev pub piece_items : List Piece → List Item
+piece_items pieces = map (λ p. p.item) pieces
+
+-- the file is accepted, and this text is its copy
+pub record IsCopy (limit : ℕ) (r : CopyRules) (file text : List ℕ) : Type 0 where
+  pub pieces : List Piece
+  pub tail : List ℕ
+  pub cut : IsCut file pieces tail
+  pub allowed : AllowsAll (initial_state limit) (piece_items pieces)
+  pub in_body : IsTrue (state_of_pieces limit pieces).in_body
+  pub is : text ≡ copied r pieces tail
+
+-- ---- what an amender is shown
+
+-- the code of a change
+abbrev pub change_code : Item → Option (List ℕ)
+change_code (scalar digit code) = Some code
+change_code (vector first digits code) = Some code
+change_code (real_or_string first text code) = Some code
+change_code item = None
+
+-- an item after a state is shown as this, with this code if it is a change
+abbrev pub Shows : ParseState → AmendableItem → (code : List ℕ) → Item → Type 0
+Shows s shown.Variable code i = (words : List (List ℕ)) × (i ≡ variable words)
+Shows s (shown.EndDefinitions open_scopes) code i = (i ≡ end_definitions)
+    × (open_scopes ≡ length s.scopes)
+Shows s (shown.Stamp tick) code i = (digits : List ℕ) × (i ≡ stamp digits)
+    × (tick ≡ number_of digits)
+Shows s shown.Change code i = change_code i ≡ Some code
+
+-- after these pieces comes this one, with these bytes
+pub record IsNext (limit : ℕ) (before : List Piece) (p : Piece) (space body : List ℕ) : Type 0 where
+  pub allowed : AllowsAll (initial_state limit) (piece_items (before ++ p ∷ []))
+  pub space_is : p.space ≡ space
+  pub body_is : p.body ≡ body
+  pub spelled : word_texts (words_of p.body) ≡ spelling p.item
+
+-- the same, and its item is shown so
+pub record IsShownNext (limit : ℕ) (before : List Piece) (p : Piece) (item : AmendableItem)
+    (code space body : List ℕ)
+    : Type 0 where
+  pub next : IsNext limit before p space body
+  pub shows : Shows (state_of_pieces limit before) item code p.item

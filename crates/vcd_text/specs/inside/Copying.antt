@@ -1,0 +1,139 @@
+-- A file while it is copied: the words so far are those of whole pieces and of an open item, and
+-- white space may follow them.
+use Rattle.std.specs.Prelude.{◌≡◌, ◌⊎◌, ℕ, ◌<◌, ◌==◌, Bool, true, false, if◌then◌else◌, List}
+use Rattle.std.specs.Prelude.{[], ◌∷◌, ◌++◌}
+use Rattle.std.specs.Prelude.{length, Option, Some, None, IsTrue, MatchOption}
+use Rattle.std.specs.List.{list_all, flat_map, prefix_len, suffix_len}
+use Rattle.vcd_core.specs.Word.{is_white_space}
+use Rattle.vcd_core.specs.declared.device.Sink as sinks
+use Rattle.vcd_text.specs.Words.{WordOnLine, words_of}
+use Rattle.vcd_text.specs.Grammar.{initial_state, AllowsAll, word_texts}
+use Rattle.vcd_text.specs.Pieces.{state_of_pieces, Piece, IsCut}
+use Rattle.vcd_text.specs.Copied.{CopyRules, copied_pieces, piece_items}
+use Rattle.vcd_text.specs.Copied.{may_be_amended, Shows}
+use Rattle.vcd_text.specs.Copied.{IsNext, IsCopy}
+use Rattle.vcd_text.specs.declared.copying.copier.Copier.{Copier}
+use Rattle.vcd_text.specs.inside.Words.{has_complete_words}
+use Rattle.vcd_text.specs.inside.writing.Output.{Emits}
+use Rattle.vcd_text.specs.inside.reading.Part.{Asked}
+use Rattle.vcd_text.specs.inside.reading.Parser.{IsAtState}
+use Rattle.vcd_text.specs.declared.copying.amender.AmendableItem.{AmendableItem}
+use Rattle.vcd_text.specs.declared.copying.amender.AmendableItem.TheVariants as shown
+use Rattle.vcd_text.specs.declared.copying.pieces.Held.{Held}
+use Rattle.vcd_text.specs.declared.reading.parser.Parser.{Parser}
+use Rattle.vcd_text.specs.declared.reading.parser.OpenItem.{OpenItem}
+use Rattle.vcd_text.specs.declared.reading.parser.OpenItem.TheVariants as items
+use Rattle.vcd_text.specs.declared.writing.output.Output.{Output}
+
+-- the bytes of pieces
+abbrev pub piece_bytes : List Piece → List ℕ
+piece_bytes pieces = flat_map (λ p. p.space ++ p.body) pieces
+
+-- ---- the item that a word ends
+
+-- whether an open item stands whatever follows
+abbrev pub stands_open : OpenItem → Bool
+stands_open (items.Entry kind) = true
+stands_open items.Timescale = true
+stands_open items.Scope = true
+stands_open items.Upscope = true
+stands_open items.Other = true
+stands_open item = false
+
+-- what is shown of the item of one word, if it may be amended
+abbrev pub shown_word : List ℕ → (tick : ℕ) → Option AmendableItem
+shown_word [] tick = Some shown.Change
+shown_word (b ∷ bs) tick = if b == 35 then Some (shown.Stamp tick) else
+    (if b == 36 then None else Some shown.Change)
+
+-- what is shown of the item that a word ends, if it may be amended
+abbrev pub shown_item : (item : OpenItem) → (text : List ℕ) → (tick open_scopes : ℕ)
+    → Option AmendableItem
+shown_item items.Nothing text tick open_scopes = shown_word text tick
+shown_item items.Vector text tick open_scopes = Some shown.Change
+shown_item items.RealOrString text tick open_scopes = Some shown.Change
+shown_item items.Variable text tick open_scopes = Some shown.Variable
+shown_item items.SizedVariable text tick open_scopes = Some shown.Variable
+shown_item items.EndDefinitions text tick open_scopes = Some (shown.EndDefinitions open_scopes)
+shown_item item text tick open_scopes = None
+
+-- the code in the last word of a change
+abbrev pub code_after_digit : List ℕ → List ℕ
+code_after_digit [] = []
+code_after_digit (digit ∷ code) = code
+
+abbrev pub code_in : (item : OpenItem) → (text : List ℕ) → List ℕ
+code_in items.Nothing text = code_after_digit text
+code_in item text = text
+
+-- after these pieces a word ends this one; `item` was open before it, and the parser is as it is
+-- after it
+pub record EndsPiece (limit : ℕ) (before : List Piece) (p : Piece) (item : OpenItem)
+    (text : List ℕ) (m : Parser)
+    : Type 0 where
+  pub next : IsNext limit before p p.space p.body
+  pub shown : MatchOption (shown_item item text m.tick m.variables.scopes.depth)
+      (may_be_amended p.item ≡ false)
+      (λ shown. Shows (state_of_pieces limit before) shown (code_in item text) p.item)
+
+-- ---- the bytes so far
+
+-- after these pieces an item is open, with this white space before it, these bytes and these words;
+-- or none is open
+pub record IsOpenItem (pieces : List Piece) (space body : List ℕ) (texts : List
+    (List ℕ)) : Type 0 where
+  pub spelled : word_texts (words_of body) ≡ texts
+  pub tight : (prefix_len is_white_space body ≡ 0) × (suffix_len is_white_space body ≡ 0)
+  pub white : IsTrue (list_all is_white_space space)
+  pub apart : 0 < length texts → 0 < length pieces → 0 < length space
+  pub none : texts ≡ [] → (space ≡ []) × (body ≡ [])
+
+-- these bytes were taken, and written but for those that are held
+pub record HasCopied {W : Type 0} (sink : sinks.Ghosts W) (limit : ℕ) (rules : CopyRules)
+    (has_seen : List Piece → Type 0)
+    (start now : Output W) (m : Parser) (held : Held) (bytes : List ℕ) : Type 0 where
+  pub asked : Asked
+  pub pieces : List Piece
+  pub begun : List WordOnLine
+  pub space : List ℕ
+  pub body : List ℕ
+  pub gap : List ℕ
+  pub cut : IsCut (piece_bytes pieces) pieces []
+  pub allowed : AllowsAll (initial_state limit) (piece_items pieces)
+  pub at : IsAtState asked m (state_of_pieces limit pieces) begun
+  pub opened : IsOpenItem pieces space body (word_texts begun)
+  pub gap_white : IsTrue (list_all is_white_space gap)
+  pub gap_some : has_complete_words bytes ≡ true → (0 < length gap) ⊎ ((pieces ≡ []) × (begun ≡ []))
+  pub whole : bytes ≡ piece_bytes pieces ++ (space ++ (body ++ gap))
+  pub seen : has_seen pieces
+  pub emits : Emits sink start now
+      (copied_pieces rules [] pieces ++ (if stands_open m.item then space ++ body else []))
+  pub held_is : held.bytes.items ≡ (if stands_open m.item then gap else space ++ (body ++ gap))
+  pub len : 0 < length (word_texts begun) → held.space_len ≡ length space
+
+-- these bytes are white space and a word, and can come after those before
+pub record IsSpacedWord (before : List ℕ) (bytes text : List ℕ) : Type 0 where
+  pub space : List ℕ
+  pub is : bytes ≡ space ++ text
+  pub white : IsTrue (list_all is_white_space space)
+  pub apart : (0 < length space) ⊎ (has_complete_words before ≡ true)
+
+-- ---- the file so far
+
+-- these bytes were read; those before the buffer's were taken, and end in white space
+pub record HasCopiedFile {W : Type 0} (sink : sinks.Ghosts W) (limit : ℕ) (rules : CopyRules)
+    (has_seen : List Piece → Type 0) (start now : Output W) (copier : Copier)
+    (bytes : List ℕ) : Type 0 where
+  pub taken : List ℕ
+  pub is : bytes ≡ taken ++ copier.progress.buffer.bytes
+  pub complete : has_complete_words taken ≡ true
+  pub copied : HasCopied sink limit rules has_seen start now copier.progress.parser copier.held
+      taken
+
+-- the output took the copy of a file of these bytes
+pub record TookCopy {W : Type 0} (sink : sinks.Ghosts W) (limit : ℕ) (rules : CopyRules)
+    (start now : Output W)
+    (bytes : List ℕ) : Type 0 where
+  pub text : List ℕ
+  pub is_copy : IsCopy limit rules bytes text
+  pub emits : Emits sink start now text

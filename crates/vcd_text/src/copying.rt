@@ -1,0 +1,178 @@
+//! Copies a capture file. What stands is copied byte for byte; an amender says what is in the place
+//! of variables, stamps and changes.
+
+ghost use Rattle.std.specs.Prelude.{◌≡◌, ◌<◌, ◌≤◌, ◌^◌, List, [], ℕ, true, false, length};
+ghost use Rattle.std.specs.Prelude.{OnOk, IsOk, IfErr, IfSome};
+ghost use Rattle.std.specs.Io.KnownBytes.{Appends, Keeps, IsAtEnd};
+ghost use Rattle.vcd_text.specs.Parts.{IsPartRefusal, answers_of};
+ghost use Rattle.vcd_text.specs.Copied.{IsCopy};
+ghost use Rattle.vcd_text.specs.CopyEnds.{CopyFails, ReadFails};
+ghost use Rattle.vcd_text.specs.inside.Copying.{TookCopy};
+ghost use Rattle.vcd_text.specs.inside.writing.Output.{EmitsMore};
+ghost use Rattle.vcd_text.specs.declared.fault.CopyError.TheVariants as copy_errors;
+ghost use Rattle.vcd_text.specs.declared.fault.WriteError.TheVariants.{WriteFault};
+
+mod amender;
+mod copier;
+mod pieces;
+
+use crate::fault::{CopyError, Fault, ReadError, WriteError};
+use crate::reading::choice::{Choice, Unheard};
+use crate::reading::file_reader::FileReader;
+use crate::reading::{LONG_FILE_LIMIT, VARIABLE_LIMIT};
+use crate::writing::output::{Output, empty_buffer, flush, send_buffer};
+pub use amender::{AmendableItem, Amender};
+use copier::Copier;
+use pieces::Held;
+use std::alloc::Global;
+use vcd_core::{Sink, Source};
+
+/// Copies a capture file, with what an amender writes in the place of variables, stamps and
+/// changes. The writer is flushed once, after the last byte.
+///
+/// The file is read as `read_part` reads it, with no signal and no choice: the grammar, the first
+/// fault and its line are the same. At a fault of the file, what the writer took is of no use. At
+/// `WriteFault` the writer has failed, and took exactly the first `written` bytes of what it would
+/// have got.
+///
+/// Memory: a chunk of at most 4,096 bytes, the longest word, the longest `$var`, the longest white
+/// space, and what `read_part` holds of the declarations; nothing of the changes.
+pub fn copy<R: Source, W: Sink, A: Amender<W>>(
+    alloc: Global,
+    reader: &mut R,
+    amender: &mut A,
+    writer: &mut W,
+) -> Result<(), CopyError>
+    requires reader_ready { R.has_failed reader.old ≡ false }
+    requires writer_ready { W.has_failed writer.old ≡ false }
+    requires begins { A.has_seen amender.old [] }
+    ensures copied { OnOk result (IfSome (R.coming reader.old) (λ file.
+        (length file ≤ LONG_FILE_LIMIT)
+        × (text : List ℕ) × IsCopy VARIABLE_LIMIT (A.rules amender.old) file text
+        × Appends (W.taken writer.old) (W.taken writer.new) text)) }
+    ensures not_failed { OnOk result (W.has_failed writer.new ≡ false) }
+    ensures flushed { OnOk result (W.is_flushed writer.new ≡ true) }
+    ensures ended { OnOk result (IsAtEnd (R.coming reader.new)) }
+    ensures reader_not_failed { OnOk result (R.has_failed reader.new ≡ false) }
+    ensures taken { (text : List ℕ) × Appends (W.taken writer.old) (W.taken writer.new) text }
+    ensures fails { IfErr result (CopyFails VARIABLE_LIMIT LONG_FILE_LIMIT (R.coming reader.old)
+        (R.coming reader.new) (R.has_failed reader.new) (W.taken writer.old) (W.taken writer.new)
+        (W.has_failed writer.new)) }
+{
+    let unsent = empty_buffer(alloc)?;
+    let mut output = Output {
+        unsent,
+        sent_count: 0,
+        writer,
+    };
+    let copied = copy_all(alloc, reader, amender, &mut output);
+    send_buffer(&mut output);
+    let Output {
+        unsent,
+        sent_count,
+        writer,
+    } = output;
+    drop(unsent);
+    end_copy(copied, writer, sent_count)
+}
+
+/// Flushes the writer, if the file was copied and the writer has not failed.
+fn end_copy<W: Sink>(
+    copied: Result<(), ReadError>,
+    writer: &mut W,
+    written: u128,
+) -> Result<(), CopyError>
+    ensures copied { OnOk result (IsOk copied) }
+    ensures kept { Keeps (W.taken writer.old) (W.taken writer.new) }
+    ensures read { IfErr result (λ e. (error : ReadError) → e ≡ copy_errors.Read error →
+        copied ≡ Err error) }
+    ensures wrote { IfErr result (λ e. (error : WriteError) → e ≡ copy_errors.Write error →
+        (error ≡ WriteFault written) × (W.has_failed writer.new ≡ true)) }
+    ensures was_ready { OnOk result (W.has_failed writer.old ≡ false) }
+    ensures not_failed { OnOk result (W.has_failed writer.new ≡ false) }
+    ensures flushed { OnOk result (W.is_flushed writer.new ≡ true) }
+{
+    if let Err(error) = copied {
+        return Err(CopyError::Read(error));
+    }
+    match flush(writer, written) {
+        Ok(()) => Ok(()),
+        Err(error) => Err(CopyError::Write(error)),
+    }
+}
+
+/// Copies a file into the output. It stops early if the writer fails.
+fn copy_all<R: Source, W: Sink, A: Amender<W>>(
+    alloc: Global,
+    reader: &mut R,
+    amender: &mut A,
+    output: &mut Output<W>,
+) -> Result<(), ReadError>
+    requires ready { R.has_failed reader.old ≡ false }
+    requires begins { A.has_seen amender.old [] }
+    ensures copied { OnOk result (W.has_failed output.new.writer.now ≡ false →
+        IfSome (R.coming reader.old) (λ file. (length file ≤ LONG_FILE_LIMIT)
+        × TookCopy W.Sink VARIABLE_LIMIT (A.rules amender.old) output.old output.new file)) }
+    ensures ended { OnOk result (W.has_failed output.new.writer.now ≡ false →
+        IsAtEnd (R.coming reader.new)) }
+    ensures not_failed { OnOk result (R.has_failed reader.new ≡ false) }
+    ensures more { EmitsMore W.Sink output.old output.new }
+    ensures fails { IfErr result (ReadFails VARIABLE_LIMIT LONG_FILE_LIMIT (R.coming reader.old)
+        (R.coming reader.new) (R.has_failed reader.new)) }
+{
+    let mut choice = Unheard;
+    copy_within(
+        alloc,
+        reader,
+        &mut choice,
+        amender,
+        output,
+        VARIABLE_LIMIT,
+        LONG_FILE_LIMIT,
+    )
+}
+
+/// Copies a file with at most `limit` kept variables, and at most `most` bytes. It stops early if
+/// the writer fails.
+fn copy_within<R: Source, C: Choice, W: Sink, A: Amender<W>>(
+    alloc: Global,
+    reader: &mut R,
+    choice: &mut C,
+    amender: &mut A,
+    output: &mut Output<W>,
+    limit: u32,
+    most: usize,
+) -> Result<(), ReadError>
+    requires small { most < 2 ^ 62 }
+    requires ready { R.has_failed reader.old ≡ false }
+    requires begins { A.has_seen amender.old [] }
+    ensures copied { OnOk result (W.has_failed output.new.writer.now ≡ false →
+        IfSome (R.coming reader.old) (λ file. (length file ≤ most)
+        × TookCopy W.Sink limit (A.rules amender.old) output.old output.new file)) }
+    ensures ended { OnOk result (W.has_failed output.new.writer.now ≡ false →
+        IsAtEnd (R.coming reader.new)) }
+    ensures not_failed { OnOk result (R.has_failed reader.new ≡ false) }
+    ensures more { EmitsMore W.Sink output.old output.new }
+    ensures refused { IfErr result (λ e. IfSome (R.coming reader.old) (λ file.
+        IsPartRefusal limit most (C.takes choice.old)
+        (answers_of C.answers choice.old choice.new) file
+        (R.has_failed reader.new) (R.coming reader.new) e)) }
+    ensures failed { IfErr result (λ e. e.fault ≡ Fault.ReadFault →
+        R.has_failed reader.new ≡ true) }
+    ensures unfailed { IfErr result (λ e. (e.fault ≡ Fault.ReadFault → ⊥) →
+        R.has_failed reader.new ≡ false) }
+{
+    let mut copier = Copier {
+        progress: FileReader::new(alloc, limit, most),
+        held: Held {
+            bytes: Vec::new(alloc),
+            space_len: 0,
+        },
+    };
+    while copier.take_chunk(alloc, reader, choice, amender, output)? {
+        if output.writer.failed() {
+            return Ok(());
+        }
+    }
+    copier.finish(alloc, choice, amender, output)
+}

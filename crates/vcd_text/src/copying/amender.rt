@@ -1,0 +1,68 @@
+//! What is done to a file while it is copied.
+
+ghost use Rattle.std.specs.Prelude.{◌≡◌, ◌++◌, ◌∷◌, [], ℕ, List, OnOk, false};
+ghost use Rattle.vcd_text.specs.Pieces.{Piece};
+ghost use Rattle.vcd_text.specs.Copied.{CopyRules, IsNext, IsShownNext, may_be_amended};
+ghost use Rattle.vcd_text.specs.inside.writing.Output.{Emits, EmitsMore};
+
+use crate::writing::output::Output;
+use vcd_core::{NoMemory, Sink};
+
+/// An item that may be amended.
+#[derive(Clone, Copy)]
+pub enum AmendableItem {
+    /// A `$var`.
+    Variable,
+    /// `$enddefinitions $end`, while so many scopes are open.
+    EndDefinitions { open_scopes: usize },
+    /// The stamp of this tick.
+    Stamp { tick: u64 },
+    /// A change, of any form.
+    Change,
+}
+
+/// What is done to a file while it is copied. It is told of each item, in turn.
+pub trait Amender<W: Sink> {
+    // what it writes
+    ghost rules: { Self → CopyRules };
+
+    // it was told of these items
+    ghost has_seen: { Self → List Piece → Type 0 };
+
+    /// Writes what is in the place of an item: of the white space before it, and of its words with
+    /// the white space between them. The code is that of a change, and else of no meaning.
+    fn take(
+        &mut self,
+        output: &mut Output<W>,
+        item: AmendableItem,
+        code: &[u8],
+        space: &[u8],
+        body: &[u8],
+    ) -> Result<(), NoMemory>
+        requires { (limit : ℕ) × (before : List Piece) × (p : Piece) × has_seen self.old before
+            × IsShownNext limit before p item code.now space.now body.now }
+        ensures written { OnOk result ((limit : ℕ) (before : List Piece) (p : Piece) →
+            has_seen self.old before →
+            IsShownNext limit before p item code.now space.now body.now →
+            Emits W.Sink output.old output.new ((rules self.old).in_place before p)) }
+        ensures seen { OnOk result ((limit : ℕ) (before : List Piece) (p : Piece) →
+            has_seen self.old before →
+            IsShownNext limit before p item code.now space.now body.now →
+            has_seen self.new (before ++ p ∷ [])) }
+        ensures same { OnOk result (rules self.new ≡ rules self.old) }
+        ensures more { EmitsMore W.Sink output.old output.new };
+
+    /// Passes over any other item, which stands.
+    fn pass(&mut self)
+        ensures seen { (limit : ℕ) (before : List Piece) (p : Piece) →
+            has_seen self.old before → IsNext limit before p p.space p.body →
+            may_be_amended p.item ≡ false → has_seen self.new (before ++ p ∷ []) }
+        ensures same { rules self.new ≡ rules self.old };
+
+    /// Writes what is in the place of the white space at the end of the file.
+    fn finish(&mut self, output: &mut Output<W>, space: &[u8]) -> Result<(), NoMemory>
+        requires { (pieces : List Piece) × has_seen self.old pieces }
+        ensures more { EmitsMore W.Sink output.old output.new }
+        ensures written { OnOk result ((pieces : List Piece) → has_seen self.old pieces →
+            Emits W.Sink output.old output.new ((rules self.old).at_end pieces space.now)) };
+}
