@@ -18,8 +18,8 @@ A file with a fault is refused, and nothing is written.";
 
 const AFTER_HELP: &str = "\
 PATTERN is a signal's whole full name, as `vcdedit` lists it, with its scopes and its range, such as
-top.cpu.data[7:0]. In it `*` stands for any characters, dots too, and `?` for any one; `[7:0]` means
-itself. A pattern that no name meets is refused, with the nearest names.
+top.cpu.data[7:0]. In it `*` stands for any characters, dots too, and `?` for any one byte; `[7:0]`
+means itself. A pattern that no name meets is refused, with the nearest names.
 
 TIME is a number of ticks, or a number with a unit (s, ms, us, ns, ps, fs), such as 20us or 1.5ms,
 that is a whole number of ticks. The window's ticks count from its first.
