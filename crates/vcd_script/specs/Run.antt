@@ -1,6 +1,6 @@
 -- What a run writes: the headline. The project's own.
 use Rattle.std.specs.Prelude.{◌≡◌, ◌≤◌, ◌<◌, ◌+◌, ◌-◌, ℕ, true, false, if◌then◌else◌, List, [], ◌∷◌}
-use Rattle.std.specs.Prelude.{length, take}
+use Rattle.std.specs.Prelude.{length, min, take}
 use Rattle.std.specs.Prelude.{get_or, map, fold, count_by, Result, Ok, is_err}
 use Rattle.std.specs.List.{enumerate_from}
 use Rattle.vcd_core.specs.Contents.{Contents}
@@ -89,9 +89,16 @@ module _ (c : Contents) (skipped depth : ℕ) (lines : List (List ℕ)) where
     pub unchanged : (number : ℕ) → 1 ≤ number
         → is_err (line_answer c skipped (history_at (number - 1)) (line_at number)) ≡ true
         → history_at number ≡ history_at (number - 1)
-    -- an edit can be undone right after it
-    pub edit_can_be_undone : (number : ℕ) (e : Edit) → 1 ≤ depth → 1 ≤ number
-        → IsStepAt number (steps.Edit e) → 1 ≤ (history_at number).undoable
+    -- the depth is never 0
+    pub deep : (count : ℕ) → 1 ≤ depth → 1 ≤ (history_at count).depth
+    -- after `count` edits in a row so many can be undone, or as many as the depth
+    pub edits_can_be_undone : (before count : ℕ)
+        → ((number : ℕ) → before < number → number ≤ before + count
+        → (e : Edit) × IsStepAt number (steps.Edit e))
+        → min count (history_at (before + count)).depth ≤ (history_at (before + count)).undoable
+    -- an undo can be made again right after it
+    pub undo_can_be_redone : (number : ℕ) → 1 ≤ number → IsStepAt number steps.Undo
+        → 1 ≤ length (history_at number).undone
     -- an undo restores the capture before line i, which made the last edit in force
     pub undo_restores : (number : ℕ) → 1 ≤ number → IsStepAt number steps.Undo
         → (i : ℕ) × (e : Edit) × (1 ≤ i) × (i < number) × IsStepAt i (steps.Edit e)
@@ -113,7 +120,4 @@ pub record IsRun (file script : List ℕ) (depth : ℕ) (written : RunOutcome) :
   pub contents : Contents
   pub skipped : ℕ
   pub means : FileMeans SIGNAL_LIMIT file contents skipped
-  -- the file means nothing else
-  pub only : (d : Contents) (count : ℕ) → FileMeans SIGNAL_LIMIT file d count
-      → (d ≡ contents) × (count ≡ skipped)
   pub run : written ≡ outcome contents skipped depth (script_lines script)

@@ -38,9 +38,8 @@ RunGives file script depth (Ok texts) = (written : RunOutcome)
     × IsRunWithin file script depth written
     × (texts.replies.items ≡ concat written.replies) × (texts.output.items ≡ written.output)
     × (texts.refused ≡ written.refused)
--- the capture file is refused, for this alone
+-- the capture file is refused for this
 RunGives file script depth (Err (Capture e)) = IsRefusedFile file e
-    × ((other : ReadError) → IsRefusedFile file other → other ≡ e)
 -- the capture file is within its limit and has a meaning, and the script is above its limit
 RunGives file script depth (Err ScriptTooLarge) = (length file ≤ FILE_LIMIT)
     × HasMeaning SIGNAL_LIMIT file × (SCRIPT_LIMIT < length script)

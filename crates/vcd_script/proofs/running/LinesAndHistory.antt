@@ -11,7 +11,6 @@ use Rattle.vcd_core.specs.Contents.{Contents}
 use Rattle.vcd_core.specs.declared.capture.TheConstants.{SIGNAL_LIMIT}
 use Rattle.vcd_text.specs.Text.{text}
 use Rattle.vcd_text.specs.Meaning.{FileMeans}
-use Rattle.vcd_text.proofs.shared.ResultIsUnique.{one_meaning}
 use Rattle.vcd_journal.specs.declared.step.Step.{Step}
 use Rattle.vcd_journal.specs.declared.step.Answer.{Answer}
 use Rattle.vcd_journal.specs.declared.step.Answer.TheVariants.{Done, Refused}
@@ -165,6 +164,5 @@ run_is file script depth c skipped means = record {
   contents = c;
   skipped = skipped;
   means = means;
-  only = λ d count also. one_meaning SIGNAL_LIMIT file d c count skipped also means;
   run = refl;
 }

@@ -5,7 +5,7 @@ use Rattle.std.proofs.Common.{[], ◌∷◌, ◌++◌}
 use Rattle.std.proofs.Common.{take, length, Option, Some, None, Result, Ok, Err, is_err, refl, sym}
 use Rattle.std.proofs.Common.{◌∙◌, ap, subst}
 use Rattle.std.proofs.Common.{arith, get_or}
-use Rattle.std.specs.Prelude.{fold, drop, not, nat_lt}
+use Rattle.std.specs.Prelude.{fold, drop, min, not, nat_lt}
 use Rattle.std.proofs.lemmas.Bool.{cond_both}
 use Rattle.std.proofs.lemmas.Bool.Decides.{nat_tests}
 use Rattle.std.proofs.lemmas.List.{length-append, length-take, length-drop}
@@ -273,11 +273,28 @@ module _ (c : Contents) (skipped depth : ℕ) (lines : List (List ℕ)) where
       next_holds (λ h. 1 ≤ h.depth) count (deep least count)
       (λ s is. deep_after_step count s is (deep least count))
 
-  edit_can_be_undone : (count : ℕ) (e : Edit) → 1 ≤ depth → IsStepAfter count (steps.Edit e)
-      → 1 ≤ (at_line (suc count)).undoable
-  edit_can_be_undone count e least is =
-      let next = ap (λ (h : History). h.undoable) (after_step count (steps.Edit e) is) in
-      omega (arith, next, deep least count)
+  -- each of the `count` lines after the first `before` makes an edit
+  abbrev MakeEdits : (before count : ℕ) → Type 0
+  MakeEdits before count = (i : ℕ) → before ≤ i → i < before + count → (e : Edit) × IsStepAfter i (steps.Edit e)
+
+  edits_can_be_undone : (before count : ℕ) → MakeEdits before count
+      → min count (at_line (before + count)).depth ≤ (at_line (before + count)).undoable
+  edits_can_be_undone before zero make = omega arith
+  edits_can_be_undone before (suc count) make =
+      let last = make (before + count) (omega arith) (omega arith) in
+      let next : suc (before + count) ≡ before + suc count = omega arith in
+      let earlier = edits_can_be_undone before count (λ i from to. make i from (omega arith)) in
+      let undoable = ap (λ (h : History). h.undoable) (after_step (before + count) (steps.Edit last.0) last.1) in
+      let depth_is = ap (λ (h : History). h.depth) (after_step (before + count) (steps.Edit last.0) last.1) in
+      subst (λ n. min (suc count) (at_line n).depth ≤ (at_line n).undoable) next
+      (omega (arith, earlier, undoable, depth_is))
+
+  undo_can_be_redone : (count : ℕ) → IsStepAfter count steps.Undo → 1 ≤ length (at_line (suc count)).undone
+  undo_can_be_redone count is =
+      let undone = ap (λ (h : History). length h.undone) (after_step count steps.Undo is) in
+      let taken = length-take 1 (at_line count).edits in
+      let both = length-append (take 1 (at_line count).edits) (at_line count).undone in
+      omega (arith, undone, taken, both, some_undoable count is, undoable_within count)
 
   -- ---- and how many can be made again with them
 
@@ -351,9 +368,15 @@ module _ (c : Contents) (skipped depth : ℕ) (lines : List (List ℕ)) where
         unchanged = λ number least refused.
             let next : suc (number - 1) ≡ number = omega (arith, least) in
             ap at_line (sym next) ∙ next_is (number - 1) true refused;
-        edit_can_be_undone = λ number e deep_enough least is.
+        deep = λ count least. deep least count;
+        edits_can_be_undone = λ before count make.
+            edits_can_be_undone before count (λ i from to.
+            let edit = make (suc i) (omega arith) (omega arith) in
+            let before_it : suc i - 1 ≡ i = omega arith in
+            (edit.0, subst (λ n. IsStepAfter n (steps.Edit edit.0)) before_it edit.1));
+        undo_can_be_redone = λ number least undo.
             let next : suc (number - 1) ≡ number = omega (arith, least) in
-            subst (λ n. 1 ≤ (at_line n).undoable) next (edit_can_be_undone (number - 1) e deep_enough is);
+            subst (λ n. 1 ≤ length (at_line n).undone) next (undo_can_be_redone (number - 1) undo);
         undo_restores = λ number least undo.
             let next : suc (number - 1) ≡ number = omega (arith, least) in
             let found = undo_gives_back sound (number - 1) undo in

@@ -29,7 +29,7 @@ stage_at zero other = absurd (other refl)
 stage_at (suc before) other = refl
 
 -- a file is refused for one fault
-one_refused_file : (file : List ℕ) (e other : ReadError) → IsRefusedFile file e → IsRefusedFile file other → other ≡ e
+pub one_refused_file : (file : List ℕ) (e other : ReadError) → IsRefusedFile file e → IsRefusedFile file other → other ≡ e
 one_refused_file file e other (has_fault short fault) (has_fault also fault_too) =
     one_error SIGNAL_LIMIT file other e fault_too fault
 one_refused_file file e other (has_fault short fault) (too_large long answer) = absurd (omega (arith, short, long))
@@ -71,9 +71,9 @@ module _ (file script : List ℕ) (depth : ℕ) (made none : Vec ℕ) (empty : n
       → RunGives file script depth (Err (run_refusal (run_errors.Capture e) made none))
   refused_file has_failed left e ready refused true is = rw is empty
   refused_file has_failed left e ready (refusals.has_fault whole short fault) false is =
-      rw is (has_fault short fault, λ other. one_refused_file file e other (has_fault short fault))
+      rw is (has_fault short fault)
   refused_file has_failed left e ready (refusals.too_large whole long answer) false is =
-      rw is (too_large long answer, λ other. one_refused_file file e other (too_large long answer))
+      rw is (too_large long answer)
   refused_file has_failed left e ready (refusals.reader_failed prefix rest failed is_left is_prefix short answer) false
       is = let no : false ≡ true = sym ready ∙ failed in absurd (cc)
   refused_file has_failed left e ready (refusals.no_memory e_is) false is =
