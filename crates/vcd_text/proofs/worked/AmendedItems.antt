@@ -1,6 +1,6 @@
 -- Worked cases: an amended file whose codes keep their changes where they can.
 use Rattle.std.proofs.Common.{◌≡◌, refl}
-use Rattle.std.specs.Prelude.{ℕ, true, List, [], ◌∷◌, codes}
+use Rattle.std.specs.Prelude.{ℕ, true, List, [], ◌∷◌, ◌++◌, codes, drop}
 use Rattle.std.specs.Fmt.{digits}
 use Rattle.vcd_core.specs.declared.bit.Bit.TheVariants.{Zero, One, Z}
 use Rattle.vcd_core.specs.declared.capture.ScopeName.{ScopeName}
@@ -103,6 +103,44 @@ inverted_items = refl
 inverted_meaning : meaning (state_after begin inverted_file) ≡ amended_meaning inverted (state_after begin file)
 unfolding changes_of_code value_from changes_from digits
 inverted_meaning = refl
+
+-- ---- the wire c is removed: its code is gone, with its changes of any form
+
+abbrev without_c : Amendment
+without_c = record { fates = stays ∷ stays ∷ is_removed ∷ []; added = []; codes = [] }
+
+gone_items : amended_items without_c true begin (file ++ real_or_string 114 (codes "2") (codes "%") ∷ [])
+    ≡ opened ∷ wire (codes "!") (codes "a") ∷ real ∷ wire (codes "!") (codes "b") ∷ upscope ∷ end_definitions
+    ∷ stamp (codes "0") ∷ scalar 48 (codes "!") ∷ stamp (codes "4") ∷ real_or_string 114 (codes "1.5") (codes "$")
+    ∷ stamp (codes "5") ∷ scalar 49 (codes "!") ∷ stamp (codes "9") ∷ scalar 48 (codes "!") ∷ []
+unfolding amended_items value_from short_form digits
+gone_items = refl
+
+-- ---- of two wires with one code one is removed: the other one keeps the changes
+
+abbrev without_a : Amendment
+without_a = record { fates = is_removed ∷ stays ∷ stays ∷ []; added = []; codes = [] }
+
+alias_items : amended_items without_a true begin file ≡ opened ∷ drop 2 file
+unfolding amended_items value_from short_form digits
+alias_items = refl
+
+-- ---- a scope is open where the declarations end: it is closed before a variable is added
+
+abbrev open_file : List Item
+open_file = opened ∷ wire (codes "!") (codes "a") ∷ end_definitions ∷ []
+
+abbrev with_derived : Amendment
+with_derived = record {
+  fates = [];
+  added = record { scopes = top ∷ []; kind = codes "wire"; size = 1; code = codes "\""; words = codes "d" ∷ [] } ∷ [];
+  codes = record { code = codes "\""; width = 1; old = []; new = [] } ∷ [];
+}
+
+open_scope_items : amended_items with_derived true begin open_file ≡ opened ∷ wire (codes "!") (codes "a") ∷ upscope
+    ∷ opened ∷ wire (codes "\"") (codes "d") ∷ upscope ∷ end_definitions ∷ []
+unfolding amended_items value_from short_form digits
+open_scope_items = refl
 
 -- ---- the first stamp is above 0, and a change is due at 0: `#0` comes before it
 

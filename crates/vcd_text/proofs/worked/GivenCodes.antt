@@ -14,13 +14,14 @@ use Rattle.vcd_text.specs.Text.{code_digits}
 use Rattle.vcd_text.specs.CodedAmendment.{CodedSignal}
 use Rattle.vcd_text.specs.GivenCodes.{coded_signals, coded_derived, coded_waves, changed_waves}
 
--- ---- three wires, two of them with one code
+-- ---- three wires, two of them with one code, and a real, which is skipped
 
 abbrev wire : (code name : List ℕ) → Item
 wire code name = variable (codes "wire" ∷ codes "1" ∷ code ∷ name ∷ [])
 
 abbrev file : ParseState
-file = state_after (initial_state 8) (wire (codes "!") (codes "a") ∷ wire (codes "!") (codes "b") ∷ wire (codes "%")
+file = state_after (initial_state 8) (wire (codes "!") (codes "a") ∷ variable (codes "real" ∷ codes "64"
+    ∷ codes "\"" ∷ codes "r" ∷ []) ∷ wire (codes "!") (codes "b") ∷ wire (codes "%")
     (codes "c") ∷ end_definitions ∷ stamp (codes "0") ∷ scalar 48 (codes "!") ∷ scalar 49 (codes "%")
     ∷ stamp (codes "9")
     ∷ [])
@@ -61,16 +62,17 @@ shared : left_codes both_pulse [] ≡ codes "!" ∷ codes "!" ∷ codes "%" ∷ 
 unfolding changes_of_code value_from changes_from digits code_digits
 shared = refl
 
--- one of them changes: the other one holds the code, so it gets a fresh one; so do two derived signals
+-- one of them changes: the other one holds the code, so it gets a fresh one; so do two derived signals. No fresh code
+-- is one of the file, not even that of the real
 abbrev one_pulse : List (Option SignalContents)
 one_pulse = Some (signal (codes "a") low) ∷ Some (signal (codes "b") pulse) ∷ Some (signal (codes "c") low) ∷ []
 
 held : left_codes one_pulse (signal (codes "d") low ∷ signal (codes "e") low ∷ [])
-    ≡ codes "!" ∷ codes "\"" ∷ codes "%" ∷ []
+    ≡ codes "!" ∷ codes "#" ∷ codes "%" ∷ []
 unfolding changes_of_code value_from changes_from digits code_digits
 held = refl
 
-derived : derived_codes one_pulse (signal (codes "d") low ∷ signal (codes "e") low ∷ []) ≡ codes "#" ∷ codes "$" ∷ []
+derived : derived_codes one_pulse (signal (codes "d") low ∷ signal (codes "e") low ∷ []) ≡ codes "$" ∷ codes "&" ∷ []
 unfolding changes_of_code value_from changes_from digits code_digits
 derived = refl
 
@@ -78,6 +80,6 @@ derived = refl
 abbrev apart : List (Option SignalContents)
 apart = Some (signal (codes "a") high) ∷ Some (signal (codes "b") pulse) ∷ None ∷ []
 
-parted : left_codes apart [] ≡ codes "!" ∷ codes "\"" ∷ [] ∷ []
+parted : left_codes apart [] ≡ codes "!" ∷ codes "#" ∷ [] ∷ []
 unfolding changes_of_code value_from changes_from digits code_digits
 parted = refl
