@@ -5,3 +5,4 @@ pub mod amended
 pub mod worked
 pub mod retimed
 pub mod given_codes
+pub mod what_stands

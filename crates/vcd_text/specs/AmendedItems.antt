@@ -84,11 +84,12 @@ value_fate s None = stands
 value_fate s (Some c) =
     if changes_stand c s.tick then stands else exchange_for (due_items s s.tick c)
 
--- what becomes of a change to digits, and of one to a real or a string
+-- what becomes of a change to digits
 abbrev pub change_fate : Amendment → ParseState → (code : List ℕ) → ItemFate
 change_fate a s code =
     if is_used a s code then value_fate s (amended_code code a.codes) else is_left_out
 
+-- what becomes of a change to a real or a string
 abbrev pub real_fate : Amendment → ParseState → (code : List ℕ) → ItemFate
 real_fate a s code = if is_used a s code then stands else is_left_out
 

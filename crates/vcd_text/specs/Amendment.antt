@@ -77,10 +77,11 @@ is_used a s code = is_some (first_with_code code (amended_variables a s.declared
 abbrev pub amended_code : (code : List ℕ) → List AmendedCode → Option AmendedCode
 amended_code code cs = find (λ c. bytes_eq code c.code) cs
 
--- the value of a code at a tick in the file, and in the amended file
+-- the value of a code at a tick in the file
 abbrev pub old_value : AmendedCode → ℕ → List Bit
 old_value c t = value_at c.width c.old t
 
+-- the value of a code at a tick in the amended file
 abbrev pub new_value : AmendedCode → ℕ → List Bit
 new_value c t = value_at c.width c.new t
 

@@ -179,7 +179,8 @@ abbrev pub amendment_for : ParseState → (remaining : List (Option SignalConten
     → (derived : List SignalContents) → Amendment
 amendment_for s remaining derived = coded_amendment s
     (coded_signals s (coded_waves s remaining derived) (kept_variables s.declared) remaining)
-    (coded_derived (drop (length (changed_waves s remaining)) (coded_waves s remaining derived)) derived)
+    (coded_derived (drop (length (changed_waves s remaining)) (coded_waves s remaining derived))
+    derived)
     (map (λ g. g.coded) (coded_waves s remaining derived))
 
 -- ---- the laws
@@ -221,7 +222,8 @@ GivenCodesFit = (s : ParseState) (remaining : List (Option SignalContents))
     → length (signals_left remaining) + length derived ≤ s.limit
     → CodesFit s
     (coded_signals s (coded_waves s remaining derived) (kept_variables s.declared) remaining)
-    (coded_derived (drop (length (changed_waves s remaining)) (coded_waves s remaining derived)) derived)
+    (coded_derived (drop (length (changed_waves s remaining)) (coded_waves s remaining derived))
+    derived)
     (map (λ g. g.coded) (coded_waves s remaining derived))
 
 -- the text of a file that is amended for another capture means that capture, with as many variables

@@ -29,6 +29,7 @@ pub mod AmendedText
 pub mod CodedAmendment
 pub mod FreshCodes
 pub mod GivenCodes
+pub mod WhatStands
 pub mod Retimed
 pub mod RetimedText
 pub mod inside

@@ -12,6 +12,7 @@ ghost use Rattle.vcd_text.specs.CutLaws.{EveryFileIsCut, CutIsUnique};
 ghost use Rattle.vcd_text.specs.CodedAmendment.{CodedAmendmentGivesCapture};
 ghost use Rattle.vcd_text.specs.FreshCodes.{FreshCodesAreFresh, FreshCodesAreInOrder};
 ghost use Rattle.vcd_text.specs.GivenCodes.{GivenCodesFit, AmendedTextMeansOtherCapture};
+ghost use Rattle.vcd_text.specs.WhatStands.{UntouchedItemsStand};
 ghost use Rattle.vcd_text.specs.Retimed.{RetimedFileMeansRetimedCapture, CutsAreRetimings};
 ghost use Rattle.vcd_text.specs.RetimedText.{AmendedTextAfterCutsMeansCapture};
 ghost use Rattle.vcd_text.specs.RetimedText.{OtherCaptureAfterCuts};
@@ -78,8 +79,14 @@ pub fn other_capture_is_read_again()
     ensures text { AmendedTextMeansOtherCapture }
 {}
 
-/// A file always has fresh codes for new variables. They are words that no variable of the file has,
-/// and no two are the same. They are the first ones of a written text that are fresh, in order.
+/// A file that is amended for another capture means it, and every item stands in it with its bytes
+/// that no difference of the captures touches.
+pub fn untouched_items_stand()
+    ensures { UntouchedItemsStand }
+{}
+
+/// A file always has fresh codes for new variables: words that no variable of the file has, no two
+/// of them the same. They are the first ones of a written text that are fresh, in order.
 pub fn fresh_codes_are_fresh()
     ensures fresh { FreshCodesAreFresh }
     ensures in_order { FreshCodesAreInOrder }

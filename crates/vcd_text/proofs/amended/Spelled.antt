@@ -221,15 +221,15 @@ fate_spelled a s (real_or_string first text code) spelled codes fits = if_left (
 fate_spelled a s (dump_word word) spelled codes fits = tt
 fate_spelled a s (other word words) spelled codes fits = tt
 
--- nothing is put before an item that is left out
+-- nothing is put before an item that is left out or exchanged
 abbrev pub IsAlone : ItemFate → List Item → Type 0
-IsAlone is_left_out items = items ≡ []
-IsAlone o items = Unit {0}
+IsAlone stands items = Unit {0}
+IsAlone o items = items ≡ []
 
 alone_for_none : (o : ItemFate) → IsAlone o []
 alone_for_none stands = tt
 alone_for_none is_left_out = refl
-alone_for_none (is_exchanged j) = tt
+alone_for_none (is_exchanged j) = refl
 
 pub left_out_alone : (a : Amendment) (none_yet : Bool) (s : ParseState) (i : Item) → IsAlone (item_fate a s i)
     (inserted_items a none_yet s i)

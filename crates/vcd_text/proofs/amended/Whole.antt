@@ -42,7 +42,7 @@ item_grows s (real_or_string first text code) = ([], sym (append-nil s.declared)
 item_grows s (dump_word word) = ([], sym (append-nil s.declared))
 item_grows s (other word words) = ([], sym (append-nil s.declared))
 
-declared_grows : (s : ParseState) (is : List Item)
+pub declared_grows : (s : ParseState) (is : List Item)
     → (ys : List VariableDeclaration) × ((state_after s is).declared ≡ s.declared ++ ys)
 declared_grows s [] = ([], sym (append-nil s.declared))
 declared_grows s (i ∷ is) =
@@ -67,7 +67,7 @@ body_item s (real_or_string first text code) in_body allows = (refl, in_body)
 body_item s (dump_word word) in_body allows = (refl, in_body)
 body_item s (other word words) in_body allows = (refl, in_body)
 
-body_items : (s : ParseState) (is : List Item) → s.in_body ≡ true → AllowsAll s is
+pub body_items : (s : ParseState) (is : List Item) → s.in_body ≡ true → AllowsAll s is
     → (state_after s is).declared ≡ s.declared
 body_items s [] in_body allows = refl
 body_items s (i ∷ is) in_body allows =

@@ -20,7 +20,7 @@ use Rattle.vcd_text.specs.GivenCodes.{also_taken}
 use Rattle.vcd_text.proofs.amended.Codes.{of_code, itself, differ}
 
 -- a free code is the own one, and not taken
-free_is : (taken : List (List ℕ)) (own : Option (List ℕ)) (code : List ℕ) → free_code taken own ≡ Some code
+pub free_is : (taken : List (List ℕ)) (own : Option (List ℕ)) (code : List ℕ) → free_code taken own ≡ Some code
     → (own ≡ Some code) × (is_one_of taken code ≡ false)
 free_is taken None code is = let never : None ≡ Some code = is in absurd (cc)
 free_is taken (Some c) code is = elim (cases_Bool (is_one_of taken c)) [

@@ -195,6 +195,15 @@ all_state s [] allows spelled file = file
 all_state s (p ∷ ps) allows spelled file = all_state (state_after_item s p.item) ps allows.1 (All-tail SpellsItem p ps
     spelled) (item_state s p.item allows.0 (body_is_unbroken p (All-head SpellsItem p ps spelled)) file)
 
+-- the state of a file that is cut
+pub state_of_file : (limit : ℕ) (pieces : List Piece) → AllowsAll (initial_state limit) (items_of pieces)
+    → All SpellsItem pieces → IsFileState (state_after (initial_state limit) (items_of pieces))
+state_of_file limit pieces allows spelled = all_state (initial_state limit) pieces allows spelled (record {
+  words = All-nil (λ d. IsTrue (is_word d.code));
+  alike = λ code first found. All-nil (λ d. d.code ≡ code → class_of d ≡ class_of first);
+  known = All-nil (λ v. IsTrue (is_some (first_with_code v.code [])));
+})
+
 -- ---- the whole
 
 pub other_capture_of_pieces : (limit : ℕ) (pieces : List Piece) (tail : List ℕ)
@@ -210,12 +219,7 @@ pub other_capture_of_pieces : (limit : ℕ) (pieces : List Piece) (tail : List �
     (record (meaning final) { signals = signals_left remaining ++ derived }) (count_by is_skipped final.declared)
 other_capture_of_pieces limit pieces tail remaining derived final is spelled spaces apart end allows in_body new
     sound few =
-    let state : IsFileState final = subst IsFileState (sym is) (all_state (initial_state limit) pieces allows spelled
-    (record {
-      words = All-nil (λ d. IsTrue (is_word d.code));
-      alike = λ code first found. All-nil (λ d. d.code ≡ code → class_of d ≡ class_of first);
-      known = All-nil (λ v. IsTrue (is_some (first_with_code v.code [])));
-    })) in
+    let state : IsFileState final = subst IsFileState (sym is) (state_of_file limit pieces allows spelled) in
     let limited : final.limit ≡ limit = ap (λ (t : ParseState). t.limit) is ∙ same_limit (initial_state limit) (items_of
     pieces) in
     let room : length (signals_left remaining) + length derived ≤ final.limit = omega (arith, few, limited) in

@@ -39,7 +39,7 @@ use Rattle.vcd_text.proofs.given_codes.NewWaves.{firsts_have, found_by_wave, fou
 
 -- ---- lists
 
-all_of_map : {A B : Type 0} (P : B → Type 0) (f : A → B) (xs : List A) → All P (map f xs) → All (λ x. P (f x)) xs
+pub all_of_map : {A B : Type 0} (P : B → Type 0) (f : A → B) (xs : List A) → All P (map f xs) → All (λ x. P (f x)) xs
 all_of_map P f [] all = All-nil (λ x. P (f x))
 all_of_map P f (x ∷ xs) all = All-cons (λ x. P (f x)) x xs (All-head P (f x) (map f xs) all)
     (all_of_map P f xs (All-tail P (f x) (map f xs) all))
@@ -225,7 +225,7 @@ module _ (fresh : ℕ → List ℕ) (s : ParseState) (are_fresh : AreFresh s fre
       abbrev IsMet : NewWave → Type 0
       IsMet w = is_some (find (λ (g : CodedWave). same_new_wave w g.wave) gs) ≡ true
 
-      met : All IsMet (waves_of_changed s ks remaining)
+      pub met : All IsMet (waves_of_changed s ks remaining)
       met = All-weaker (λ w. list_any (same_new_wave w) [] ≡ false → is_some (find (same_new_wave w) firsts) ≡ true)
           IsMet (λ w first. sym (found_by_wave (same_new_wave w) gs) ∙ ap (λ l. is_some (find (same_new_wave w) l))
           waves_of_all
@@ -464,7 +464,7 @@ module _ (fresh : ℕ → List ℕ) (s : ParseState) (are_fresh : AreFresh s fre
       parts_good : All IsCoded front × All IsCoded back
       parts_good = all_parts IsCoded front back (subst (All IsCoded) both coded)
 
-      variables_are : amended_variables a s.declared ≡ declared_to s.declared left ++ map derived_variable right
+      pub variables_are : amended_variables a s.declared ≡ declared_to s.declared left ++ map derived_variable right
       variables_are = ap (λ l. l ++ map derived_variable right) (variables_to a [] s.declared left [] refl refl
           (as_many_left ks remaining new))
 
