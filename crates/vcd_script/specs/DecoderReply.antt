@@ -75,9 +75,8 @@ module _ (digits : ℕ) where
 
 -- the line of an annotation: its first and last tick, the decoder's name, its kind
 abbrev pub annotation_line : List ℕ → ℕ → Annotation → List ℕ
-annotation_line decoder digits a =
-    decimal a.start ++ codes "-" ++ decimal a.end ++ codes " " ++ decoder
-    ++ codes " " ++ kind_text digits a.kind
+annotation_line decoder digits a = decimal a.start ++ codes "-" ++ decimal a.end ++ codes " "
+    ++ decoder ++ codes " " ++ kind_text digits a.kind
 
 -- the reply on a capture
 module _ (c : Contents) where

@@ -49,9 +49,7 @@ order_of_word word =
 abbrev pub signal_or_absent : Contents → List ℕ → Result (Option ℕ) LineError
 signal_or_absent c word =
     if bytes_eq word (codes "-") then Ok None
-    else (do
-      k ← signal_of_name c word
-      Ok (Some k))
+    else (signal_of_name c word >>= λ k. Ok (Some k))
 
 -- a decoder's signal, which must have one bit
 abbrev pub one_bit_signal : Contents → ℕ → Result ℕ LineError

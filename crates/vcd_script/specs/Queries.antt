@@ -16,8 +16,7 @@ timescale_line (Some t) = codes "timescale " ++ decimal t.count ++ codes " " ++ 
 
 -- the signal at a position: `@K WIDTH KIND FULLNAME`
 abbrev pub signal_line : ℕ → SignalContents → List ℕ
-signal_line position s =
-    codes "@" ++ decimal position ++ codes " " ++ decimal s.width
+signal_line position s = codes "@" ++ decimal position ++ codes " " ++ decimal s.width
     ++ codes " " ++ s.kind ++ codes " " ++ full_name s
 
 -- the lines of `list`; edits do not change how many variables of the file were skipped

@@ -22,9 +22,8 @@ use Rattle.vcd_script.specs.Run.{RunOutcome, IsRun}
 pub data IsRefusedFile (file : List ℕ) (e : ReadError) : Type 0 where
   has_fault : length file ≤ FILE_LIMIT → IsFileFault SIGNAL_LIMIT file e.line e.fault →
       IsRefusedFile file e
-  too_large : FILE_LIMIT < length file → IsPrefixAnswer SIGNAL_LIMIT (take FILE_LIMIT file)
-      faults.TooLarge e
-      → IsRefusedFile file e
+  too_large : FILE_LIMIT < length file
+      → IsPrefixAnswer SIGNAL_LIMIT (take FILE_LIMIT file) faults.TooLarge e → IsRefusedFile file e
 
 -- both files are within their limits, and a run of them writes this
 abbrev pub IsRunWithin : (file script : List ℕ) → (depth : ℕ) → RunOutcome → Type 0

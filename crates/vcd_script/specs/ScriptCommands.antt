@@ -19,6 +19,7 @@ use Rattle.vcd_script.specs.declared.script.command.Command.{Command}
 use Rattle.vcd_script.specs.declared.script.command.Command.TheVariants as commands
 use Rattle.vcd_script.specs.declared.script.keyword.Keyword.{Keyword}
 use Rattle.vcd_script.specs.declared.script.keyword.Keyword.TheVariants as keywords
+use Rattle.vcd_script.specs.declared.script.keyword.TheConstants.{KEYWORDS}
 use Rattle.vcd_script.specs.declared.script.line_error.LineError.{LineError}
 use Rattle.vcd_script.specs.declared.script.line_error.LineError.TheVariants.{UnknownCommand}
 use Rattle.vcd_script.specs.declared.script.line_error.LineError.TheVariants.{WrongCount, BadOption}
@@ -32,22 +33,9 @@ use Rattle.vcd_decode.specs.SetupFaults.{uart_fault, spi_fault}
 
 -- ---- the first word
 
--- the name of each command
-abbrev pub keyword_words : List (List ℕ × Keyword)
-keyword_words =
-    (codes "rename", keywords.Rename) ∷ (codes "remove", keywords.Remove)
-    ∷ (codes "invert", keywords.Invert) ∷ (codes "shift", keywords.Shift)
-    ∷ (codes "cut", keywords.Cut) ∷ (codes "deglitch", keywords.Deglitch)
-    ∷ (codes "force", keywords.Force) ∷ (codes "derive", keywords.Derive)
-    ∷ (codes "undo", keywords.Undo) ∷ (codes "redo", keywords.Redo)
-    ∷ (codes "depth", keywords.Depth) ∷ (codes "list", keywords.List)
-    ∷ (codes "value", keywords.Value) ∷ (codes "changes", keywords.Changes)
-    ∷ (codes "uart", keywords.Uart) ∷ (codes "spi", keywords.Spi)
-    ∷ (codes "i2c", keywords.I2c) ∷ []
-
 -- the command that a word names
 abbrev pub keyword_of : List ℕ → Option Keyword
-keyword_of word = option_map (λ row. row.1) (find (λ row. bytes_eq word row.0) keyword_words)
+keyword_of word = option_map (λ row. row.1) (find (λ row. bytes_eq word row.0.now) KEYWORDS)
 
 -- whether a word begins with `#` (35)
 abbrev pub is_comment : List ℕ → Bool

@@ -30,14 +30,12 @@ number_of_word word = if is_number word && nat_lt (number_of word) (2 ^ 64) then
 
 -- a distance to a later tick: below 2^63
 abbrev pub distance_forth : List ℕ → Result ℤ LineError
-distance_forth digits =
-    if is_number digits && nat_lt (number_of digits) (2 ^ 63) then Ok (pos (number_of digits))
-    else Err BadNumber
+distance_forth digits = if is_number digits && nat_lt (number_of digits) (2 ^ 63)
+    then Ok (pos (number_of digits)) else Err BadNumber
 
 -- a distance to an earlier tick: at most 2^63
 abbrev pub distance_back : List ℕ → Result ℤ LineError
-distance_back digits =
-    if is_number digits && nat_le (number_of digits) (2 ^ 63)
+distance_back digits = if is_number digits && nat_le (number_of digits) (2 ^ 63)
     then Ok (neg_ℤ (pos (number_of digits))) else Err BadNumber
 
 -- the distance that a word writes: a decimal number after `-` (45), `+` (43) or neither
