@@ -11,6 +11,8 @@ pub mod Queries
 pub mod CommandSignals
 pub mod DecoderReply
 pub mod Reply
+pub mod SessionLines
+pub mod LineRunEnds
 pub mod Run
 pub mod HollowRun
 pub mod HollowPart

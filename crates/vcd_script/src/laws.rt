@@ -1,6 +1,7 @@
 //! Laws about the definitions: each function has an empty body, and its contract is the law.
 
 ghost use Rattle.vcd_script.specs.FileLaws.{CutFileIsReadAgain, SameBytesSameResult};
+ghost use Rattle.vcd_script.specs.SessionLines.{SessionLinesAreRun};
 ghost use Rattle.vcd_script.specs.HollowPart.{HollowIsPart};
 ghost use Rattle.vcd_script.specs.HollowRun.{CommandIsOfOutline, ReplyWithOthers};
 ghost use Rattle.vcd_script.specs.HollowRun.{HistoryIsOfOutline};
@@ -17,6 +18,12 @@ pub fn same_bytes_same_result()
 /// waves from there on.
 pub fn cut_file_is_read_again()
     ensures { CutFileIsReadAgain }
+{}
+
+/// Lines that are carried out on a new session, as [`run_lines`](crate::run_lines) does, have the
+/// replies of a run, and leave its last capture.
+pub fn session_lines_are_run()
+    ensures { SessionLinesAreRun }
 {}
 
 /// What a line asks for, which lines are refused, which edits are in force, and whose changes lines

@@ -15,7 +15,7 @@ use Rattle.vcd_journal.specs.Machine.{Machine, step_outcome, edit_outcome, undo_
 use Rattle.vcd_journal.specs.Machine.{redo_outcome}
 use Rattle.vcd_journal.specs.Machine.{accepted_outcome, refused_outcome, machine_after_depth}
 use Rattle.vcd_script.specs.Reply.{ok_reply, step_reply, edit_reply}
-use Rattle.vcd_script.specs.inside.running.MachineRun.{answer_reply}
+use Rattle.vcd_script.specs.inside.replies.Answering.{answer_reply}
 
 reply_to_edit_is : (found : Option EditError) (e : Edit) (m : Machine)
     → edit_reply found ≡ answer_reply (edit_outcome found e m).answer

@@ -28,10 +28,10 @@ use Rattle.vcd_script.specs.Reply.{LineReply, line_reply, command_reply, reply_t
 use Rattle.vcd_script.specs.Run.{IsRun, history_after_command, line_answer, history_after_line}
 use Rattle.vcd_script.specs.Run.{answers, capture_at, outcome}
 use Rattle.vcd_script.specs.inside.running.LineAnswers.{line_answers}
-use Rattle.vcd_script.specs.inside.running.MachineRun.{answer_reply, machine_after_command}
-use Rattle.vcd_script.specs.inside.running.MachineRun.{machine_after_line}
-use Rattle.vcd_script.specs.inside.running.MachineRun.{machine_after_lines}
-use Rattle.vcd_script.specs.inside.running.MachineRun.{answer_on, refusal_count, line_replies}
+use Rattle.vcd_script.specs.SessionLines.{machine_after_command, machine_after_line}
+use Rattle.vcd_script.specs.SessionLines.{machine_after_lines, answer_on, refusal_count}
+use Rattle.vcd_script.specs.SessionLines.{line_replies}
+use Rattle.vcd_script.specs.inside.replies.Answering.{answer_reply}
 use Rattle.vcd_script.proofs.replies.StepReplies.{reply_is_answer}
 
 -- ---- a line
@@ -137,6 +137,15 @@ answers_are c skipped depth lines = sym (answers_from c skipped (initial_history
 
 -- ---- runs
 
+-- the capture that the machine is left with
+pub last_capture : (c : Contents) (skipped depth : ℕ) (lines : List (List ℕ))
+    → capture_at c skipped depth lines (length lines) ≡ (machine_after_lines (initial_machine c depth) lines).now
+last_capture c skipped depth lines =
+    let m : Machine = initial_machine c depth in
+    let h : History = initial_history depth in
+    ap (λ (ls : List (List ℕ)). replay c (fold (history_after_line c skipped) h ls).edits) (take-length lines)
+    ∙ ap (λ (n : Machine). n.now) (sym (lines_follow c h m skipped lines (first_follows c depth)).is)
+
 -- what the machine writes where lines are run
 pub outcome_is : (c : Contents) (skipped depth : ℕ) (lines : List (List ℕ)) → outcome c skipped depth lines
     ≡ record {
@@ -151,10 +160,7 @@ outcome_is c skipped depth lines =
     let here = answers_are c skipped depth lines in
     let replies = sym (replies_are c h m skipped 1 lines first ∙ ap (numbered 1) here) in
     let refused = sym (refusals_are c h m skipped lines first ∙ ap (count_by is_err) here) in
-    let all : take (length lines) lines ≡ lines = take-length lines in
-    let last : capture_at c skipped depth lines (length lines) ≡ (machine_after_lines m lines).now =
-    ap (λ (ls : List (List ℕ)). replay c (fold (history_after_line c skipped) h ls).edits) all
-    ∙ ap (λ (n : Machine). n.now) (sym (lines_follow c h m skipped lines first).is) in
+    let last = last_capture c skipped depth lines in
     λ i. record { replies = replies i; output = text (last i); refused = refused i }
 
 -- what the equations say is what a run writes, as a file means one thing

@@ -27,8 +27,8 @@ use Rattle.vcd_script.specs.declared.running.run_error.Summary.{Summary}
 use Rattle.vcd_script.specs.Script.{script_lines}
 use Rattle.vcd_script.specs.Run.{RunOutcome, outcome}
 use Rattle.vcd_script.specs.RunEnds.{IsAccepted, IsFlushedAt, ForRun, RunEnds}
-use Rattle.vcd_script.specs.inside.running.RunLines.{HasFailedAt, EndsAtLine, RunsLines, StopsInReplies}
-use Rattle.vcd_script.specs.inside.running.RunLines.{StopsInLines}
+use Rattle.vcd_script.specs.LineRunEnds.{HasFailedAt, EndsAtLine, RunsLines, StopsInReplies}
+use Rattle.vcd_script.specs.LineRunEnds.{StopsInLines}
 use Rattle.vcd_script.specs.inside.running.Stages.{EndsBeforeOutput, EndsBeforeReplies, EndsAfterCapture}
 use Rattle.vcd_script.specs.inside.running.Run.{ScriptGives}
 use Rattle.vcd_script.proofs.running.LinesAndHistory.{outcome_is, run_is}

@@ -1,6 +1,5 @@
 -- Definitions that `running` and its proofs cite.
 pub mod LineAnswers
-pub mod MachineRun
 pub mod Stages
 pub mod Run
 pub mod RunLines

@@ -3,10 +3,9 @@
 ghost use Rattle.std.specs.Prelude.{◌≡◌, false, Err, IfOk, OnErr};
 ghost use Rattle.vcd_journal.specs.StepErrorNames.{step_error_name};
 ghost use Rattle.vcd_script.specs.CommandSignals.{HasCommandSignals};
+ghost use Rattle.vcd_script.specs.SessionLines.{AnswersLine, IsReplyTo};
 ghost use Rattle.vcd_script.specs.inside.replies.Answering.{AnswersStep, AnswersCommand};
-ghost use Rattle.vcd_script.specs.inside.replies.Answering.{AnswersLine};
 ghost use Rattle.vcd_script.specs.inside.replies.Answering.{is_no_memory};
-ghost use Rattle.vcd_script.specs.inside.replies.Reply.{IsReplyTo};
 
 use crate::replies::decoding::{i2c_text, spi_text, uart_text};
 use crate::replies::listing::listing_text;

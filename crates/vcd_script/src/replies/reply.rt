@@ -3,7 +3,7 @@
 ghost use Rattle.std.specs.Prelude.{◌≡◌, ◌++◌, ℕ, Ok, Err, OnOk, IfOk, false};
 ghost use Rattle.vcd_script.specs.Reply.{reply_text};
 ghost use Rattle.vcd_script.specs.Reply.{ok_reply};
-ghost use Rattle.vcd_script.specs.inside.replies.Reply.{IsReplyTo};
+ghost use Rattle.vcd_script.specs.SessionLines.{IsReplyTo};
 
 use crate::replies::MemoryResult;
 use crate::replies::appending::{append_bytes, append_number};
@@ -20,7 +20,7 @@ pub struct Reply {
 
 impl Reply {
     /// The reply to a line that is not refused.
-    pub fn of_text(text: Vec<u8>) -> Reply
+    pub(crate) fn of_text(text: Vec<u8>) -> Reply
         ensures text { result.text ≡ text }
         ensures accepted { result.is_refused ≡ false }
     {
@@ -31,7 +31,7 @@ impl Reply {
     }
 
     /// The reply to an accepted step.
-    pub fn accepted(alloc: Global) -> MemoryResult<Reply>
+    pub(crate) fn accepted(alloc: Global) -> MemoryResult<Reply>
         ensures { IfOk result (λ reply. (number : ℕ) → IsReplyTo number ok_reply reply) }
     {
         let mut text = Vec::new(alloc);
@@ -40,7 +40,7 @@ impl Reply {
     }
 
     /// The reply to a refused line: its number, counted from 1, and the name of its fault.
-    pub fn refused(alloc: Global, number: u64, name: &str) -> MemoryResult<Reply>
+    pub(crate) fn refused(alloc: Global, number: u64, name: &str) -> MemoryResult<Reply>
         ensures { IfOk result (λ reply. IsReplyTo number (Err name.now) reply) }
     {
         let mut text = Vec::new(alloc);

@@ -3,9 +3,9 @@
 ghost use Rattle.std.specs.Prelude.{◌≡◌, ◌≤◌, ◌<◌, ◌^◌, ℕ, false, true, length, IfOk, IfErr, OnOk};
 ghost use Rattle.std.specs.Io.KnownBytes.{Appends, Keeps};
 ghost use Rattle.vcd_script.specs.Script.{script_lines};
-ghost use Rattle.vcd_script.specs.inside.replies.Answering.{AnswersLine};
-ghost use Rattle.vcd_script.specs.inside.running.RunLines.{HasFailedAt, RunsLines, EndsAtLine};
-ghost use Rattle.vcd_script.specs.inside.running.RunLines.{StopsAtReply, StopsAtLine, StopsInLines};
+ghost use Rattle.vcd_script.specs.LineRunEnds.{HasFailedAt, RunsLines, EndsAtLine, StopsInLines};
+ghost use Rattle.vcd_script.specs.SessionLines.{AnswersLine};
+ghost use Rattle.vcd_script.specs.inside.running.RunLines.{StopsAtReply, StopsAtLine};
 
 use crate::replies::{Reply, answer_line};
 use crate::running::RunError;

@@ -20,14 +20,13 @@ use Rattle.vcd_script.specs.declared.script.command.Command.TheVariants as comma
 use Rattle.vcd_script.specs.declared.script.line_error.LineError.{LineError}
 use Rattle.vcd_script.specs.WithoutAddress.{edit_without_address, step_without_address}
 use Rattle.vcd_script.specs.WithoutAddress.{command_without_address}
-use Rattle.vcd_script.specs.inside.running.MachineRun.{answer_reply}
+use Rattle.vcd_script.specs.SessionLines.{machine_after_line, machine_after_command, AnswersLine}
+use Rattle.vcd_script.specs.SessionLines.{IsReplyTo}
+use Rattle.vcd_script.specs.inside.replies.Answering.{answer_reply, AnswersStep, AnswersCommand}
 use Rattle.vcd_script.specs.ScriptCommands.{command_of_line}
 use Rattle.vcd_script.specs.Reply.{LineReply, ok_reply}
 use Rattle.vcd_script.specs.Reply.{line_reply, step_reply, edit_reply, command_reply}
-use Rattle.vcd_script.specs.inside.running.MachineRun.{machine_after_line, machine_after_command}
 use Rattle.vcd_script.specs.declared.replies.reply.Reply.{Reply}
-use Rattle.vcd_script.specs.inside.replies.Answering.{AnswersStep, AnswersCommand, AnswersLine}
-use Rattle.vcd_script.specs.inside.replies.Reply.{IsReplyTo}
 use Rattle.vcd_script.proofs.replies.StepReplies.{reply_is_answer}
 
 -- ---- the address of a word

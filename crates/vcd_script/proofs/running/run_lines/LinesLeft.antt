@@ -8,14 +8,12 @@ use Rattle.std.proofs.lemmas.List.Folds.{concat-append}
 use Rattle.std.specs.Io.KnownBytes.{Appends}
 use Rattle.std.proofs.KnownBytes.{Appends-trans}
 use Rattle.vcd_journal.specs.Machine.{Machine}
-use Rattle.vcd_script.specs.inside.running.MachineRun.{reply_on, is_refused_on, machine_after_line}
-use Rattle.vcd_script.specs.inside.running.MachineRun.{machine_after_lines}
-use Rattle.vcd_script.specs.inside.running.MachineRun.{refusal_count}
-use Rattle.vcd_script.specs.inside.running.MachineRun.{line_replies}
+use Rattle.vcd_script.specs.LineRunEnds.{RunsLines}
+use Rattle.vcd_script.specs.SessionLines.{reply_on, is_refused_on, machine_after_line}
+use Rattle.vcd_script.specs.SessionLines.{machine_after_lines, refusal_count, line_replies}
+use Rattle.vcd_script.specs.SessionLines.{AnswersLine}
 use Rattle.vcd_script.specs.Script.{script_lines}
 use Rattle.vcd_script.specs.declared.replies.reply.Reply.{Reply}
-use Rattle.vcd_script.specs.inside.replies.Answering.{AnswersLine}
-use Rattle.vcd_script.specs.inside.running.RunLines.{RunsLines}
 
 -- after so many lines these are left on this machine; the replies so far are written, and so many
 -- lines refused

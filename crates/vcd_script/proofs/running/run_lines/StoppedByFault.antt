@@ -11,9 +11,9 @@ use Rattle.std.proofs.KnownBytes.{Appends-trans, Appends-kept}
 use Rattle.vcd_journal.specs.Machine.{Machine}
 use Rattle.vcd_script.specs.declared.running.run_error.RunError.{RunError}
 use Rattle.vcd_script.specs.declared.running.run_error.RunError.TheVariants as run_errors
-use Rattle.vcd_script.specs.inside.running.MachineRun.{reply_on, machine_after_line}
-use Rattle.vcd_script.specs.inside.running.MachineRun.{line_replies}
-use Rattle.vcd_script.specs.inside.running.RunLines.{StopsAtReply, StopsAtLine, StopsInReplies, StopsInLines}
+use Rattle.vcd_script.specs.LineRunEnds.{StopsInReplies, StopsInLines}
+use Rattle.vcd_script.specs.SessionLines.{reply_on, machine_after_line, line_replies}
+use Rattle.vcd_script.specs.inside.running.RunLines.{StopsAtReply, StopsAtLine}
 use Rattle.vcd_script.proofs.running.run_lines.LinesLeft.{RepliesSoFar}
 
 -- ---- texts, written one after another

@@ -1,22 +1,29 @@
--- The effect of a line on a history, and the reply to it.
-use Rattle.std.specs.Prelude.{◌≡◌, ℕ, Bool, true, false, List, length, Ok}
+-- The effect of a command on a machine, and the reply to it.
+use Rattle.std.specs.Prelude.{◌≡◌, ℕ, Bool, true, false, List, length, Ok, Err}
 use Rattle.vcd_edit.specs.declared.fault.EditError.TheVariants as errors
+use Rattle.vcd_journal.specs.declared.step.Answer.{Answer}
+use Rattle.vcd_journal.specs.declared.step.Answer.TheVariants.{Done, Refused}
 use Rattle.vcd_journal.specs.declared.step.Step.{Step}
 use Rattle.vcd_journal.specs.declared.step.StepError.{StepError}
 use Rattle.vcd_journal.specs.declared.step.StepError.TheVariants as refusals
 use Rattle.vcd_journal.specs.Machine.{Machine, step_outcome}
+use Rattle.vcd_journal.specs.StepErrorNames.{step_error_name}
 use Rattle.vcd_script.specs.declared.replies.reply.Reply.{Reply}
 use Rattle.vcd_script.specs.declared.script.command.Command.{Command}
 use Rattle.vcd_script.specs.WithoutAddress.{command_without_address}
-use Rattle.vcd_script.specs.Reply.{command_reply, line_reply, step_reply}
-use Rattle.vcd_script.specs.inside.running.MachineRun.{machine_after_command, machine_after_line}
-use Rattle.vcd_script.specs.inside.replies.Reply.{IsReplyTo}
+use Rattle.vcd_script.specs.Reply.{LineReply, command_reply, ok_reply, step_reply}
+use Rattle.vcd_script.specs.SessionLines.{machine_after_command, IsReplyTo}
 
 -- whether a step is refused because memory ran out
 abbrev pub is_no_memory : StepError → Bool
 is_no_memory refusals.NoMemory = true
 is_no_memory (refusals.Edit errors.NoMemory) = true
 is_no_memory refusal = false
+
+-- the reply for an answer of the machine
+abbrev pub answer_reply : Answer → LineReply
+answer_reply Done = ok_reply
+answer_reply (Refused refusal) = Err (step_error_name refusal)
 
 -- the line of this number asks for the step; with enough memory the step changes one machine into
 -- the other and has this reply
@@ -32,9 +39,3 @@ AnswersCommand skipped number command old new reply =
     × IsReplyTo number (command_reply (Ok (command_without_address command)) old.now skipped
     (length old.past)
     (length old.future)) reply
-
--- the same for the line
-abbrev pub AnswersLine : (skipped number : ℕ) → List ℕ → Machine → Machine → Reply → Type 0
-AnswersLine skipped number line old new reply =
-    (machine_after_line old line ≡ new)
-    × IsReplyTo number (line_reply line old.now skipped (length old.past) (length old.future)) reply
