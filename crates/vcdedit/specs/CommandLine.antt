@@ -9,7 +9,7 @@ use Rattle.clap.specs.declared.builder.action.ArgAction.TheVariants.{Set}
 use Rattle.clap.specs.declared.builder.value_parser.ValueParser.TheVariants as parsers
 use Rattle.vcd_journal.specs.declared.step.TheConstants.{DEPTH_LIMIT}
 use Rattle.vcd_shell.specs.Options.{input_option, output_option, value_option}
-use Rattle.vcdedit.specs.declared.shell.command_line.Options.{Options}
+use Rattle.vcdedit.specs.declared.command_line.Options.{Options}
 
 -- `--depth N`, a number from 1 to the limit, by default 100
 abbrev pub depth_option : Rule

@@ -5,11 +5,15 @@
 //! how words of the command line may end.
 #![tactic(auto)]
 
-mod shell;
+mod command_line;
+mod opening;
+mod program;
+mod reporting;
 #[cfg(test)]
 mod tests;
 
-pub use shell::{Vcdedit, report};
+pub use program::Vcdedit;
+pub use reporting::report;
 use std::env;
 use std::process::ExitCode;
 use vcd_core::ToWrite;

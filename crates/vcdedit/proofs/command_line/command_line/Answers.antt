@@ -2,7 +2,7 @@
 use Rattle.std.proofs.Common.{◌≡◌, ◌∙◌, ap₂, rules, codes, true}
 use Rattle.std.proofs.lemmas.Result.{IfOk-weaker}
 use Rattle.clap.specs.Words.{app_of, new_app, with_rule}
-use Rattle.vcdedit.proofs.shell.command_line.command_line.Goals as goal
+use Rattle.vcdedit.proofs.command_line.command_line.Goals as goal
 
 pub returns : goal.returns
 returns c =

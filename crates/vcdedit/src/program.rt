@@ -6,9 +6,9 @@ ghost use Rattle.vcdedit.specs.CommandLine.{options_in};
 ghost use Rattle.vcdedit.specs.ProgramEnds.{IsOutcomeOn, IsOutcomeOfOptions};
 ghost use Rattle.vcd_script.specs.RunEnds.{RunEnds};
 
-use crate::shell::command_line::{Options, command_line, options_of};
-use crate::shell::opening::open_script;
-use crate::shell::reporting::{PROGRAM, report, status_when_done};
+use crate::command_line::{Options, command_line, options_of};
+use crate::opening::open_script;
+use crate::reporting::{PROGRAM, report, status_when_done};
 use clap::{ArgMatches, Command};
 use std::alloc::{AllocError, Global};
 use std::io;

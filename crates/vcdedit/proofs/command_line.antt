@@ -1,3 +1,3 @@
--- Lemmas of `shell/command_line`.
+-- Lemmas of `command_line`.
 pub mod AskedDepth
 pub mod AskedOptions

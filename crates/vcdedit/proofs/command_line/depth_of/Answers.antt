@@ -1,7 +1,7 @@
 -- The number that is read of the text is the one asked for.
 use Rattle.std.proofs.Common.{◌≡◌, ◌∙◌, rules, sym, Some, None}
-use Rattle.vcdedit.proofs.shell.command_line.AskedDepth.{number_asked, other_asked}
-use Rattle.vcdedit.proofs.shell.command_line.depth_of.Goals as goal
+use Rattle.vcdedit.proofs.command_line.AskedDepth.{number_asked, other_asked}
+use Rattle.vcdedit.proofs.command_line.depth_of.Goals as goal
 
 pub returns-in-Some-clause-depth : goal.returns-in-Some-clause-depth
 returns-in-Some-clause-depth c =

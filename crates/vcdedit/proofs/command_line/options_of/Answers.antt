@@ -1,6 +1,6 @@
 -- The getters read the rows of the words.
-use Rattle.vcdedit.proofs.shell.command_line.AskedOptions.{read_options}
-use Rattle.vcdedit.proofs.shell.command_line.options_of.Goals as goal
+use Rattle.vcdedit.proofs.command_line.AskedOptions.{read_options}
+use Rattle.vcdedit.proofs.command_line.options_of.Goals as goal
 
 pub returns-clause-asked : goal.returns-clause-asked
 returns-clause-asked c = λ words rows. read_options c.args.matches.now words _ _ _ _ rows
