@@ -6,3 +6,4 @@ pub mod WaveAfterChange
 pub mod LettersOfPlanes
 pub mod FullNames
 pub mod TicksInARow
+pub mod Outlines

@@ -7,7 +7,6 @@ pub mod Wave
 pub mod WavePush
 pub mod Splice
 pub mod Contents
-pub mod Outline
 pub mod CaptureContents
 pub mod TimeUnits
 pub mod Word
@@ -15,6 +14,7 @@ pub mod Tests
 pub mod Decimal
 pub mod BoundedNumber
 pub mod Sound
+pub mod Outline
 pub mod Laws
 pub mod Names
 pub mod FullName

@@ -2,6 +2,7 @@
 
 ghost use Rattle.vcd_core.specs.Laws.{SameValuesSameChanges, ChangesOfOwnValues, ValuesOfChanges};
 ghost use Rattle.vcd_core.specs.Laws.{ChangesAreWave, SpliceAndBack, SpliceBackIsAllowed};
+ghost use Rattle.vcd_core.specs.Outline.{OutlineIsSound};
 
 /// Two waves of one width are equal lists if they have the same value at each tick 0 to `end`
 /// and no change past `end`. So equality tick by tick is equality of every change.
@@ -33,4 +34,9 @@ pub fn splice_and_back()
 /// the later ticks fit, and the result is a wave.
 pub fn splice_back_is_allowed()
     ensures { SpliceBackIsAllowed }
+{}
+
+/// A sound capture is sound without its changes.
+pub fn outline_is_sound()
+    ensures { OutlineIsSound }
 {}

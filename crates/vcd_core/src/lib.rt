@@ -38,8 +38,8 @@ pub use device::{
 };
 pub use edges::{Edge, Edges};
 pub use laws::{
-    changes_are_wave, changes_of_own_values, same_values_same_changes, splice_and_back,
-    splice_back_is_allowed, values_of_changes,
+    changes_are_wave, changes_of_own_values, outline_is_sound, same_values_same_changes,
+    splice_and_back, splice_back_is_allowed, values_of_changes,
 };
 pub use letter_block::LetterBlock;
 pub use memory::NoMemory;

@@ -7,4 +7,3 @@ pub mod TouchedBySplice
 pub mod StoredAtMostTouched
 pub mod Outlines
 pub mod OtherWaves
-pub mod SoundWithOthers

@@ -2,3 +2,4 @@
 pub mod EffectLaws
 pub mod Records
 pub mod Touched
+pub mod OtherWaves

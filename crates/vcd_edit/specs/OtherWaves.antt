@@ -1,16 +1,14 @@
 -- What edits make of a capture with other waves. The project's own.
-use Rattle.std.specs.Prelude.{ℕ, ◌≡◌, ◌≤◌, List, [], ◌∷◌, length, slice_index_or, Option, Some}
-use Rattle.std.specs.Prelude.{None, IfSome}
+use Rattle.std.specs.Prelude.{ℕ, ◌≡◌, ◌≤◌, ◌-◌, List, [], ◌∷◌, length, slice_index_or, Option, Some}
+use Rattle.std.specs.Prelude.{None, option_map}
 use Rattle.std.specs.List.{AllByRecursion, remove}
 use Rattle.vcd_core.specs.declared.wave.Change.{Change}
 use Rattle.vcd_core.specs.Contents.{Contents, SignalContents}
 use Rattle.vcd_core.specs.Outline.{outline}
-use Rattle.vcd_core.specs.Sound.{IsSound}
 use Rattle.vcd_edit.specs.declared.edit.Edit.{Edit}
 use Rattle.vcd_edit.specs.declared.edit.Edit.TheVariants.{Remove, Invert, Shift, Cut, Deglitch}
-use Rattle.vcd_edit.specs.declared.edit.Edit.TheVariants.{Force}
-use Rattle.vcd_edit.specs.declared.edit.Edit.TheVariants.{Derive}
-use Rattle.vcd_edit.specs.Effect.{formula, effect}
+use Rattle.vcd_edit.specs.declared.edit.Edit.TheVariants.{Force, Derive}
+use Rattle.vcd_edit.specs.Effect.{signal_after_cut, formula, effect}
 use Rattle.vcd_edit.specs.EditFaults.{operands, edit_fault}
 
 -- ---- other waves
@@ -35,9 +33,10 @@ signals_with_others (other ∷ others) (s ∷ signals) =
 abbrev pub with_others : List OtherChanges → Contents → Contents
 with_others others c = record c { signals = signals_with_others others c.signals }
 
--- ---- edits that leave other waves alone
+-- ---- edits that do not read them
 
--- the positions of the signals whose changes an edit asks for; a cut asks for all changes there are
+-- the positions of the signals whose changes an edit reads; a cut reads none, as it moves each wave
+-- by itself
 abbrev pub waves_read : Edit → List ℕ
 waves_read (Invert k) = k ∷ []
 waves_read (Shift k by) = k ∷ []
@@ -50,20 +49,26 @@ waves_read e = []
 abbrev pub HaveOwn : List OtherChanges → List ℕ → Type 0
 HaveOwn others = AllByRecursion (λ k. slice_index_or others k None ≡ None)
 
--- the other changes are none at all
-abbrev pub AreEmpty : List OtherChanges → Type 0
-AreEmpty = AllByRecursion (λ other. IfSome other (λ changes. changes ≡ []))
+-- what a cut makes of the changes that a signal has in place of its own; `end` is the end after it
+abbrev pub other_after_cut : (end from to : ℕ) → OtherChanges → SignalContents → OtherChanges
+other_after_cut end from to other s =
+    option_map (λ changes. (signal_after_cut end from to (record s { changes = changes })).changes)
+    other
 
--- an edit reads none of the other changes; a cut moves them all, so there has to be none
-abbrev pub LeavesAlone : List OtherChanges → Edit → Type 0
-LeavesAlone others (Cut from to) = AreEmpty others
-LeavesAlone others e = HaveOwn others (waves_read e)
+-- the same for signals one after another
+abbrev pub others_after_cut : (end from to : ℕ) → List OtherChanges → List SignalContents
+    → List OtherChanges
+others_after_cut end from to (other ∷ others) (s ∷ signals) =
+    other_after_cut end from to other s ∷ others_after_cut end from to others signals
+others_after_cut end from to others signals = []
 
--- what is said of the first signals, one after another, after an edit: what is said of a signal
--- goes with it if it is removed, and a derived one comes after all of them
-abbrev pub left_after : {X : Type 0} → Edit → List X → List X
-left_after (Remove k) xs = remove xs k
-left_after e xs = xs
+-- what is left of other changes after an edit of a capture with them: those of a removed signal go
+-- with it, and a derived signal comes after all of them
+abbrev pub others_after : Edit → Contents → List OtherChanges → List OtherChanges
+others_after (Remove k) c others = remove others k
+others_after (Cut from to) c others =
+    others_after_cut (c.end - (to - from)) from to others c.signals
+others_after e c others = others
 
 -- ---- the laws
 
@@ -83,25 +88,16 @@ abbrev pub OthersKeepOutline : Type 0
 OthersKeepOutline =
     (others : List OtherChanges) (c : Contents) → outline (with_others others c) ≡ outline c
 
--- an edit that leaves the other waves alone makes the same of the capture with them as of the
--- capture itself, with the other waves that are left
+-- an edit that reads none of the other waves makes the same of the capture with them as of the
+-- capture itself, with what is left of them
 abbrev pub EffectWithOthers : Type 0
 EffectWithOthers =
     (e : Edit) (others : List OtherChanges) (c : Contents) → length others ≤ length c.signals
-    → LeavesAlone others e
-    → effect e (with_others others c) ≡ with_others (left_after e others) (effect e c)
+    → HaveOwn others (waves_read e)
+    → effect e (with_others others c) ≡ with_others (others_after e c others) (effect e c)
 
 -- those that are left are no more than the signals that are left
-abbrev pub LeftFitsEffect : Type 0
-LeftFitsEffect =
+abbrev pub OthersFitEffect : Type 0
+OthersFitEffect =
     (e : Edit) (others : List OtherChanges) (c : Contents) → length others ≤ length c.signals
-    → length (left_after e others) ≤ length (effect e c).signals
-
--- a sound capture is sound without some of its changes, or without all of them
-abbrev pub EmptyOthersAreSound : Type 0
-EmptyOthersAreSound =
-    (others : List OtherChanges) (c : Contents) → AreEmpty others → IsSound c
-    → IsSound (with_others others c)
-
-abbrev pub OutlineIsSound : Type 0
-OutlineIsSound = (c : Contents) → IsSound c → IsSound (outline c)
+    → length (others_after e c others) ≤ length (effect e c).signals

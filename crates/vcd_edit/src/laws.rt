@@ -12,8 +12,7 @@ ghost use Rattle.vcd_edit.specs.EffectLaws.{BitOfOneBit, RenameAndBack};
 ghost use Rattle.vcd_edit.specs.EffectLaws.{RemoveAndBack};
 ghost use Rattle.vcd_edit.specs.OperatorTables.{NotHasItsTable, OperatorsHaveTheirTables};
 ghost use Rattle.vcd_edit.specs.OtherWaves.{FaultIsOfOutline, EffectKeepsOutlines};
-ghost use Rattle.vcd_edit.specs.OtherWaves.{OthersKeepOutline, EffectWithOthers, LeftFitsEffect};
-ghost use Rattle.vcd_edit.specs.OtherWaves.{EmptyOthersAreSound, OutlineIsSound};
+ghost use Rattle.vcd_edit.specs.OtherWaves.{OthersKeepOutline, EffectWithOthers, OthersFitEffect};
 
 /// An edit with no fault keeps a sound capture sound.
 pub fn effect_is_sound()
@@ -105,15 +104,10 @@ pub fn outline_decides_faults()
 {}
 
 /// A capture with other waves at some of its signals has the same outline. An edit that reads none
-/// of these waves makes the same of it, with the same other waves. So they need not be known.
+/// of these waves makes the same of it, with what is left of them: only a cut changes any. So they
+/// need not be known.
 pub fn edits_leave_other_waves_alone()
     ensures outline { OthersKeepOutline }
     ensures effect { EffectWithOthers }
-    ensures fit { LeftFitsEffect }
-{}
-
-/// A sound capture is sound without some of its changes, or without all of them.
-pub fn fewer_changes_are_sound()
-    ensures some { EmptyOthersAreSound }
-    ensures all { OutlineIsSound }
+    ensures fit { OthersFitEffect }
 {}

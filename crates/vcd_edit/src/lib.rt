@@ -24,8 +24,8 @@ pub use exchange::Kept;
 pub use fault::EditError;
 pub use laws::{
     bit_of_one_bit, cut_keeps_other_ticks, cuts_commute, deglitch_takes_short_runs_out,
-    effect_is_sound, force_is_local, invert_twice, last_force_counts, remove_and_back,
-    rename_and_back, shift_and_back,
+    edits_leave_other_waves_alone, effect_is_sound, force_is_local, invert_twice,
+    last_force_counts, outline_decides_faults, remove_and_back, rename_and_back, shift_and_back,
 };
 pub use record::Record;
 pub use reverting::revert;

@@ -1,10 +1,8 @@
 -- Lemmas: shared.
 pub mod Steps
 pub mod Replay
+pub mod Origins
+pub mod Cuts
 pub mod OtherWaves
 pub mod SameSteps
 pub mod Hollow
-pub mod CutSilence
-pub mod HollowMachine
-pub mod Origins
-pub mod CutTicks

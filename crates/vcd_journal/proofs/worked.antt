@@ -1,3 +1,4 @@
 -- Lemmas: worked.
 pub mod History
-pub mod OtherWaves
+pub mod Origins
+pub mod Hollow

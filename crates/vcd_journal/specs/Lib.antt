@@ -5,5 +5,7 @@ pub mod Machine
 pub mod HistoryMachine
 pub mod Laws
 pub mod ReachedCaptures
-pub mod OtherWaves
+pub mod Origins
+pub mod Cuts
+pub mod Hollow
 pub mod inside

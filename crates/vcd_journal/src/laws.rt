@@ -1,11 +1,10 @@
 //! Laws about the definitions: each function has an empty body, and its contract is the law.
 
 ghost use Rattle.vcd_journal.specs.Laws.{HistoryIsBounded, SessionIsReplay};
-ghost use Rattle.vcd_journal.specs.OtherWaves.{OriginsRise, OriginIsInList, SignalsComeFromOrigins};
-ghost use Rattle.vcd_journal.specs.OtherWaves.{ReplayWithOthers, ReplayKeepsOutlines};
-ghost use Rattle.vcd_journal.specs.OtherWaves.{StepsAreOfOutline, ReplayOnHollow};
-ghost use Rattle.vcd_journal.specs.OtherWaves.{MachineOnHollow, SilentStayAsTheyWere};
-ghost use Rattle.vcd_journal.specs.OtherWaves.{SilentAreCutAlone, CutsKeepOrder, CutsAreOne};
+ghost use Rattle.vcd_journal.specs.Origins.{OriginsRise, OriginIsInList, SignalsComeFromOrigins};
+ghost use Rattle.vcd_journal.specs.Cuts.{CutsKeepOrder, CutsAreOne};
+ghost use Rattle.vcd_journal.specs.Hollow.{ReplayKeepsOutlines, StepsAreOfOutline};
+ghost use Rattle.vcd_journal.specs.Hollow.{ReplayOnHollow, SilentAreCutAlone, HollowIsSound};
 
 /// After any steps, accepted or refused, the capture is what the edits in force make of the first
 /// capture.
@@ -30,30 +29,24 @@ pub fn signals_keep_their_places()
     ensures places { SignalsComeFromOrigins }
 {}
 
-/// Edits that leave other waves alone make the same of a capture with them. So what they make of
-/// the waves that they read does not depend on the others.
-pub fn replays_leave_other_waves_alone()
-    ensures replay { ReplayWithOthers }
-    ensures outline { ReplayKeepsOutlines }
+/// All cuts among edits together move ticks as one: in their order, each with its values.
+pub fn cuts_are_one()
+    ensures order { CutsKeepOrder }
+    ensures capture { CutsAreOne }
 {}
 
-/// Steps have the same answers on each capture of one outline, and the same edits are then in
-/// force.
+/// Steps have the same answers on each capture of one outline. The same edits are then in force,
+/// and leave one outline.
 pub fn steps_are_of_outline()
-    ensures { StepsAreOfOutline }
+    ensures steps { StepsAreOfOutline }
+    ensures replay { ReplayKeepsOutlines }
 {}
 
 /// Edits that read no silent wave make of a capture that lacks these waves the same, without them.
-/// The whole capture is known from that, as cuts alone change the silent waves.
+/// The whole capture is known from that, as cuts alone change the silent waves. What lacks waves is
+/// as sound as the whole.
 pub fn replays_on_hollow_captures()
     ensures replay { ReplayOnHollow }
-    ensures machine { MachineOnHollow }
-    ensures whole { SilentStayAsTheyWere }
-    ensures cut { SilentAreCutAlone }
-{}
-
-/// All cuts among edits together move ticks as one: in their order, each with its value.
-pub fn cuts_are_one()
-    ensures order { CutsKeepOrder }
-    ensures changes { CutsAreOne }
+    ensures whole { SilentAreCutAlone }
+    ensures sound { HollowIsSound }
 {}

@@ -1,14 +1,13 @@
 -- A capture without the waves of silent signals, from its declarations and a part of it. The
 -- project's own.
 use Rattle.std.specs.Prelude.{◌≡◌, ◌≤◌, ◌<◌, ℕ, Bool, not, if◌then◌else◌, List, [], ◌∷◌, length}
-use Rattle.std.specs.Prelude.{drop}
-use Rattle.std.specs.Prelude.{slice_index_or, All}
+use Rattle.std.specs.Prelude.{drop, slice_index_or, All}
 use Rattle.vcd_core.specs.Contents.{Contents, SignalContents, signal_at}
 use Rattle.vcd_core.specs.Sound.{IsSoundSignal}
 use Rattle.vcd_core.specs.Outline.{without_changes, outline}
 use Rattle.vcd_text.specs.Parts.{part_of}
 use Rattle.vcd_text.specs.declared.reading.choice.TickRange.{TickRange}
-use Rattle.vcd_journal.specs.OtherWaves.{hollow}
+use Rattle.vcd_journal.specs.Hollow.{hollow}
 
 -- the signals as they are declared; in place of those that a test takes there are these, one after
 -- another

@@ -3,10 +3,9 @@
 ghost use Rattle.vcd_script.specs.FileLaws.{CutFileIsReadAgain, SameBytesSameResult};
 ghost use Rattle.vcd_script.specs.SessionLines.{SessionLinesAreRun};
 ghost use Rattle.vcd_script.specs.HollowPart.{HollowIsPart};
-ghost use Rattle.vcd_script.specs.HollowRun.{CommandIsOfOutline, ReplyWithOthers};
-ghost use Rattle.vcd_script.specs.HollowRun.{HistoryIsOfOutline};
-ghost use Rattle.vcd_script.specs.HollowRun.{AskedIsOfOutline, RunOnHollow, RunAfterDryRun};
-ghost use Rattle.vcd_script.specs.HollowRun.{CutsOfRunFit};
+ghost use Rattle.vcd_script.specs.HollowRun.{CommandIsOfOutline, HistoryIsOfOutline};
+ghost use Rattle.vcd_script.specs.HollowRun.{AskedIsOfOutline, ReplyWithOthers, RunOnHollow};
+ghost use Rattle.vcd_script.specs.HollowRun.{RunAfterDryRun, CutsOfRunFit};
 
 /// Two runs on the same bytes and of the same depth have the same result, if memory runs out in
 /// neither.

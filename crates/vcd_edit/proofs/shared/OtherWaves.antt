@@ -1,8 +1,7 @@
--- What an edit makes of a capture with other waves that it leaves alone.
-use Rattle.std.proofs.Common.{◌≡◌, ◌≤◌, ℕ, zero, suc, ◌-◌, Bool, true, false, if◌then◌else◌, nat_lt, List, []}
-use Rattle.std.proofs.Common.{◌∷◌, ◌++◌, length, map, take, drop, get_or, set, Some, None, refl, sym, ap}
-use Rattle.std.proofs.Common.{subst, ◌∙◌, arith}
-use Rattle.std.specs.Prelude.{codes, IfSome}
+-- What an edit makes of a capture with other waves that it does not read.
+use Rattle.std.proofs.Common.{◌≡◌, ◌≤◌, ℕ, zero, suc, ◌-◌, Bool, true, false, if◌then◌else◌, nat_lt, List, [], ◌∷◌}
+use Rattle.std.proofs.Common.{◌++◌, length, map, take, drop, get_or, set, Some, None, refl, sym, ap, subst, ◌∙◌, arith}
+use Rattle.std.specs.Prelude.{codes}
 use Rattle.std.specs.List.{remove}
 use Rattle.std.proofs.lemmas.List.{length-append, length-take, length-drop, length-set, length-map, length_push}
 use Rattle.vcd_core.specs.declared.bit.Bit.{Bit}
@@ -12,20 +11,17 @@ use Rattle.vcd_core.specs.Wave.{change, value_from, changes_from, changes_of}
 use Rattle.vcd_core.specs.Contents.{Contents, SignalContents, no_signal, signal_at, with_signal, signal_value}
 use Rattle.vcd_core.specs.Outline.{without_changes}
 use Rattle.vcd_core.proofs.shared.Waves.{put_cases}
-use Rattle.vcd_edit.specs.declared.edit.Edit.{Edit}
-use Rattle.vcd_edit.specs.declared.edit.Edit.TheVariants.{Rename, Remove, Invert, Shift, Cut}
-use Rattle.vcd_edit.specs.declared.edit.Edit.TheVariants.{Deglitch, Force, Derive}
+use Rattle.vcd_edit.specs.declared.edit.Edit.TheVariants.{Rename, Remove, Invert, Shift, Cut, Deglitch, Force, Derive}
 use Rattle.vcd_edit.specs.declared.edit.Rule.{Rule}
 use Rattle.vcd_edit.specs.declared.edit.Formula.{Formula}
 use Rattle.vcd_edit.specs.declared.edit.Formula.TheVariants.{Negation, Pair, BitSelect}
 use Rattle.vcd_edit.specs.Operators.{not_bit, operator_bit}
-use Rattle.vcd_edit.specs.Effect.{with_values, renamed_signal, inverse_value, shift_value, steady_value}
-use Rattle.vcd_edit.specs.Effect.{force_value, cut_value, signal_after_cut, formula, first_operand}
-use Rattle.vcd_edit.specs.Effect.{formula_bit, derived_signal, effect}
+use Rattle.vcd_edit.specs.Effect.{with_values, renamed_signal, inverse_value, shift_value, steady_value, force_value}
+use Rattle.vcd_edit.specs.Effect.{cut_value, signal_after_cut, formula, first_operand, formula_bit, derived_signal}
+use Rattle.vcd_edit.specs.Effect.{effect}
 use Rattle.vcd_edit.specs.EditFaults.{operands}
-use Rattle.vcd_edit.specs.OtherWaves.{OtherChanges, with_other, signals_with_others}
-use Rattle.vcd_edit.specs.OtherWaves.{with_others, HaveOwn, AreEmpty, left_after, OthersKeepOutline}
-use Rattle.vcd_edit.specs.OtherWaves.{EffectWithOthers, LeftFitsEffect}
+use Rattle.vcd_edit.specs.OtherWaves.{OtherChanges, with_other, signals_with_others, with_others, HaveOwn}
+use Rattle.vcd_edit.specs.OtherWaves.{others_after_cut, OthersKeepOutline, EffectWithOthers, OthersFitEffect}
 
 -- ---- lists of signals
 
@@ -81,6 +77,12 @@ others-push (other ∷ others) [] s fits = absurd (omega (arith, fits))
 others-push (other ∷ others) (r ∷ ss) s fits =
     ap (λ (rest : List SignalContents). with_other other r ∷ rest) (others-push others ss s (omega (arith, fits)))
 
+pub count_with_others : (others : List OtherChanges) (ss : List SignalContents)
+    → length (signals_with_others others ss) ≡ length ss
+count_with_others [] ss = refl
+count_with_others (other ∷ others) [] = refl
+count_with_others (other ∷ others) (s ∷ ss) = ap suc (count_with_others others ss)
+
 -- ---- the outline
 
 other_leaves_outline : (other : OtherChanges) (s : SignalContents)
@@ -98,41 +100,50 @@ pub others_keep_outline : OthersKeepOutline
 others_keep_outline others c =
     ap (λ (ss : List SignalContents). record c { signals = ss }) (outlines_same others c.signals)
 
--- ---- a cut leaves a wave without changes
+-- ---- a cut
+
+all_cut : (end from to : ℕ) (others : List OtherChanges) (ss : List SignalContents)
+    → map (signal_after_cut end from to) (signals_with_others others ss)
+    ≡ signals_with_others (others_after_cut end from to others ss) (map (signal_after_cut end from to) ss)
+all_cut end from to [] ss = refl
+all_cut end from to (other ∷ others) [] = refl
+all_cut end from to (None ∷ others) (s ∷ ss) =
+    ap (λ (rest : List SignalContents). signal_after_cut end from to s ∷ rest) (all_cut end from to others ss)
+all_cut end from to (Some changes ∷ others) (s ∷ ss) =
+    ap (λ (rest : List SignalContents). signal_after_cut end from to (record s { changes = changes }) ∷ rest)
+    (all_cut end from to others ss)
+
+cut_fits : (end from to : ℕ) (others : List OtherChanges) (ss : List SignalContents) → length others ≤ length ss
+    → length (others_after_cut end from to others ss) ≤ length ss
+cut_fits end from to [] ss fits = fits
+cut_fits end from to (other ∷ others) [] fits = omega arith
+cut_fits end from to (other ∷ others) (s ∷ ss) fits =
+    omega (arith, cut_fits end from to others ss (omega (arith, fits)))
 
 -- no change is listed where the value stays
-quiet : (before : List Bit) (t n : ℕ) (f : ℕ → List Bit) → ((u : ℕ) → f u ≡ before) → changes_from before t n f ≡ []
+none_listed : (before : List Bit) (t n : ℕ) (f : ℕ → List Bit) → ((u : ℕ) → f u ≡ before)
+    → changes_from before t n f ≡ []
 unfolding changes_from
-quiet before t zero f same = refl
-quiet before t (suc n) f same =
+none_listed before t zero f same = refl
+none_listed before t (suc n) f same =
     put_cases (λ l. l ≡ []) (f t) before (change t (f t)) (changes_from (f t) (suc t) n f)
-    (λ _. subst (λ b. changes_from b (suc t) n f ≡ []) (sym (same t)) (quiet before (suc t) n f same))
+    (λ _. subst (λ b. changes_from b (suc t) n f ≡ []) (sym (same t)) (none_listed before (suc t) n f same))
     (λ other. absurd (other (same t)))
 
 either_same : (b : Bool) (v : List Bit) → (if b then v else v) ≡ v
 either_same true v = refl
 either_same false v = refl
 
-cut_stays_quiet : (from to : ℕ) (s : SignalContents) (t : ℕ) → cut_value from to (without_changes s) t ≡ all_x s.width
+cut_stays_x : (from to : ℕ) (s : SignalContents) (t : ℕ) → cut_value from to (without_changes s) t ≡ all_x s.width
 unfolding value_from
-cut_stays_quiet from to s t = either_same (nat_lt t from) (all_x s.width)
+cut_stays_x from to s t = either_same (nat_lt t from) (all_x s.width)
 
-cut_with_other : (end from to : ℕ) (other : OtherChanges) (s : SignalContents)
-    → IfSome other (λ changes. changes ≡ [])
-    → signal_after_cut end from to (with_other other s) ≡ with_other other (signal_after_cut end from to s)
-cut_with_other end from to None s empty = refl
-cut_with_other end from to (Some changes) s empty =
-    ap (λ (cs : List Change). signal_after_cut end from to (record s { changes = cs })) empty
-    ∙ ap (λ (cs : List Change). record s { changes = cs })
-    (quiet (all_x s.width) 0 (suc end) (cut_value from to (without_changes s)) (cut_stays_quiet from to s) ∙ sym empty)
-
-all_cut : (end from to : ℕ) (others : List OtherChanges) (ss : List SignalContents) → AreEmpty others
-    → map (signal_after_cut end from to) (signals_with_others others ss)
-    ≡ signals_with_others others (map (signal_after_cut end from to) ss)
-all_cut end from to [] ss empty = refl
-all_cut end from to (other ∷ others) [] empty = refl
-all_cut end from to (other ∷ others) (s ∷ ss) empty = λ i.
-    cut_with_other end from to other s empty.0 i ∷ all_cut end from to others ss empty.1 i
+-- a cut leaves a wave without changes
+pub cut_of_none : (end from to : ℕ) (s : SignalContents)
+    → signal_after_cut end from to (without_changes s) ≡ without_changes s
+cut_of_none end from to s =
+    ap (λ (cs : List Change). record s { changes = cs })
+    (none_listed (all_x s.width) 0 (suc end) (cut_value from to (without_changes s)) (cut_stays_x from to s))
 
 -- ---- effects
 
@@ -183,25 +194,25 @@ renamed_with_other word (Some changes) s = refl
 
 pub effect_with_others : EffectWithOthers
 unfolding effect
-effect_with_others (Rename k word) others c fits alone =
+effect_with_others (Rename k word) others c fits own =
     ap (λ (ss : List SignalContents). record c { signals = ss })
     (others-update (renamed_signal word.now) (renamed_with_other word.now) others c.signals k)
-effect_with_others (Remove k) others c fits alone =
+effect_with_others (Remove k) others c fits own =
     ap (λ (ss : List SignalContents). record c { signals = ss }) (sym (others-remove others c.signals k))
-effect_with_others (Invert k) others c fits alone =
-    same_replaced others c (λ s. with_values c.end (inverse_value s) s) k alone.0
-effect_with_others (Shift k by) others c fits alone =
-    same_replaced others c (λ s. with_values c.end (shift_value c.end by s) s) k alone.0
-effect_with_others (Cut from to) others c fits alone =
+effect_with_others (Invert k) others c fits own =
+    same_replaced others c (λ s. with_values c.end (inverse_value s) s) k own.0
+effect_with_others (Shift k by) others c fits own =
+    same_replaced others c (λ s. with_values c.end (shift_value c.end by s) s) k own.0
+effect_with_others (Cut from to) others c fits own =
     ap (λ (ss : List SignalContents). record c { end = c.end - (to - from); signals = ss })
-    (all_cut (c.end - (to - from)) from to others c.signals alone)
-effect_with_others (Deglitch k ticks) others c fits alone =
-    same_replaced others c (λ s. with_values c.end (steady_value ticks c.end (signal_value s)) s) k alone.0
-effect_with_others (Force k from to value) others c fits alone =
-    same_replaced others c (λ s. with_values c.end (force_value from to value s) s) k alone.0
-effect_with_others (Derive word rule) others c fits alone =
+    (all_cut (c.end - (to - from)) from to others c.signals)
+effect_with_others (Deglitch k ticks) others c fits own =
+    same_replaced others c (λ s. with_values c.end (steady_value ticks c.end (signal_value s)) s) k own.0
+effect_with_others (Force k from to value) others c fits own =
+    same_replaced others c (λ s. with_values c.end (force_value from to value s) s) k own.0
+effect_with_others (Derive word rule) others c fits own =
     ap (λ (ss : List SignalContents). record c { signals = ss })
-    ((λ i. signals_with_others others c.signals ++ derived_same others c word.now rule alone i ∷ [])
+    ((λ i. signals_with_others others c.signals ++ derived_same others c word.now rule own i ∷ [])
     ∙ sym (others-push others c.signals (derived_signal word.now rule c) fits))
 
 -- ---- how many are left
@@ -224,20 +235,19 @@ set_fits : {X : Type 0} (xs : List X) (c : Contents) (k : ℕ) (s : SignalConten
     → length xs ≤ length (with_signal c k s).signals
 set_fits xs c k s fits = omega (arith, length-set c.signals k s, fits)
 
--- the same of anything that is said of the first signals
-pub left_fits : {X : Type 0} (e : Edit) (xs : List X) (c : Contents) → length xs ≤ length c.signals
-    → length (left_after e xs) ≤ length (effect e c).signals
+pub others_fit_effect : OthersFitEffect
 unfolding effect
-left_fits (Rename k word) xs c fits = set_fits xs c k _ fits
-left_fits (Remove k) xs c fits = removed_fits xs c.signals k fits
-left_fits (Invert k) xs c fits = set_fits xs c k _ fits
-left_fits (Shift k by) xs c fits = set_fits xs c k _ fits
-left_fits (Cut from to) xs c fits =
-    omega (arith, length-map c.signals (signal_after_cut (c.end - (to - from)) from to), fits)
-left_fits (Deglitch k ticks) xs c fits = set_fits xs c k _ fits
-left_fits (Force k from to value) xs c fits = set_fits xs c k _ fits
-left_fits (Derive word rule) xs c fits =
+others_fit_effect (Rename k word) others c fits = set_fits others c k _ fits
+others_fit_effect (Remove k) others c fits = removed_fits others c.signals k fits
+others_fit_effect (Invert k) others c fits = set_fits others c k _ fits
+others_fit_effect (Shift k by) others c fits = set_fits others c k _ fits
+others_fit_effect (Cut from to) others c fits =
+    omega (
+      arith,
+      length-map c.signals (signal_after_cut (c.end - (to - from)) from to),
+      cut_fits (c.end - (to - from)) from to others c.signals fits,
+    )
+others_fit_effect (Deglitch k ticks) others c fits = set_fits others c k _ fits
+others_fit_effect (Force k from to value) others c fits = set_fits others c k _ fits
+others_fit_effect (Derive word rule) others c fits =
     omega (arith, length_push c.signals (derived_signal word.now rule c), fits)
-
-pub left_fits_effect : LeftFitsEffect
-left_fits_effect = left_fits

@@ -1,55 +1,25 @@
 -- What a capture without its changes says of edits.
-use Rattle.std.proofs.Common.{◌≡◌, ℕ, suc, ◌-◌, List, [], ◌∷◌, ◌++◌, length, map, take, drop, set}
-use Rattle.std.proofs.Common.{refl, sym, ap, ◌∙◌, not, nat_lt, nat_le, ◌&&◌, ◌+◌, ◌==◌}
+use Rattle.std.proofs.Common.{◌≡◌, ℕ, ◌-◌, List, [], ◌∷◌, ◌++◌, length, map, set, refl, sym, ap, ◌∙◌, not, nat_lt}
+use Rattle.std.proofs.Common.{nat_le, ◌&&◌, ◌+◌, ◌==◌}
 use Rattle.std.specs.List.{list_all, list_any, remove}
 use Rattle.std.specs.Str.{bytes_eq}
-use Rattle.std.proofs.Math.ListN.{get_or-map}
-use Rattle.std.proofs.lemmas.List.{length-map, map-set, map-append, map_push, take-map, drop-map}
+use Rattle.std.proofs.lemmas.List.{map-set, map_push}
 use Rattle.vcd_core.specs.declared.capture.TheConstants.{SIGNAL_LIMIT}
-use Rattle.vcd_core.specs.Contents.{Contents, SignalContents, no_signal, signal_at, with_signal}
+use Rattle.vcd_core.specs.Contents.{Contents, SignalContents, signal_at, with_signal}
 use Rattle.vcd_core.specs.Names.{name_in, full_name, full_names}
 use Rattle.vcd_core.specs.Tests.{◌unless◌, first_fault}
 use Rattle.vcd_core.specs.Word.{is_word}
 use Rattle.vcd_core.specs.Outline.{without_changes, outline}
+use Rattle.vcd_core.proofs.shared.Outlines.{count_in_outline, at_outline, names_of_outline, twice, map-remove}
 use Rattle.vcd_edit.specs.declared.edit.Edit.{Edit}
-use Rattle.vcd_edit.specs.declared.edit.Edit.TheVariants.{Rename, Remove, Invert, Shift, Cut}
-use Rattle.vcd_edit.specs.declared.edit.Edit.TheVariants.{Deglitch, Force, Derive}
+use Rattle.vcd_edit.specs.declared.edit.Edit.TheVariants.{Rename, Remove, Invert, Shift, Cut, Deglitch, Force, Derive}
 use Rattle.vcd_edit.specs.declared.edit.Formula.{Formula}
 use Rattle.vcd_edit.specs.declared.edit.Formula.TheVariants.{BitSelect}
-use Rattle.vcd_edit.specs.declared.fault.EditError.TheVariants.{NoSuchSignal, NotScalar, BadBit}
-use Rattle.vcd_edit.specs.declared.fault.EditError.TheVariants.{BadRange, BadCount}
-use Rattle.vcd_edit.specs.declared.fault.EditError.TheVariants.{BadValue, BadWord, NameTaken}
-use Rattle.vcd_edit.specs.declared.fault.EditError.TheVariants.{TooManySignals}
-use Rattle.vcd_edit.specs.Effect.{renamed_signal, formula, first_operand, signal_after_cut}
-use Rattle.vcd_edit.specs.Effect.{derived_signal, effect}
+use Rattle.vcd_edit.specs.declared.fault.EditError.TheVariants.{NoSuchSignal, NotScalar, BadBit, BadRange, BadCount}
+use Rattle.vcd_edit.specs.declared.fault.EditError.TheVariants.{BadValue, BadWord, NameTaken, TooManySignals}
+use Rattle.vcd_edit.specs.Effect.{renamed_signal, formula, first_operand, signal_after_cut, derived_signal, effect}
 use Rattle.vcd_edit.specs.EditFaults.{operands, operand_tests, edit_fault}
 use Rattle.vcd_edit.specs.OtherWaves.{FaultIsOfOutline, EffectKeepsOutlines}
-
--- ---- lists of signals
-
-pub count_in_outline : (c : Contents) → length (outline c).signals ≡ length c.signals
-count_in_outline c = length-map c.signals without_changes
-
-pub at_outline : (c : Contents) (k : ℕ) → signal_at (outline c) k ≡ without_changes (signal_at c k)
-at_outline c k = get_or-map without_changes c.signals k no_signal
-
-pub names_of_outline : (ss : List SignalContents) → full_names (map without_changes ss) ≡ full_names ss
-names_of_outline [] = refl
-names_of_outline (s ∷ ss) = ap (λ (names : List (List ℕ)). full_name s ∷ names) (names_of_outline ss)
-
--- twice is once
-pub twice : (ss : List SignalContents) → map without_changes (map without_changes ss) ≡ map without_changes ss
-twice [] = refl
-twice (s ∷ ss) = ap (λ (rest : List SignalContents). without_changes s ∷ rest) (twice ss)
-
-pub outline_of_outline : (c : Contents) → outline (outline c) ≡ outline c
-outline_of_outline c = ap (λ (ss : List SignalContents). record c { signals = ss }) (twice c.signals)
-
-remove_outline : (ss : List SignalContents) (k : ℕ)
-    → map without_changes (remove ss k) ≡ remove (map without_changes ss) k
-remove_outline ss k =
-    map-append without_changes (take k ss) (drop (suc k) ss)
-    ∙ λ i. sym (take-map without_changes k ss) i ++ sym (drop-map without_changes (suc k) ss) i
 
 -- ---- faults
 
@@ -63,7 +33,7 @@ operand_tests_of_outline f c = λ i.
 
 -- the names of the signals other than one
 other_names : (c : Contents) (k : ℕ) → full_names (remove (outline c).signals k) ≡ full_names (remove c.signals k)
-other_names c k = ap full_names (sym (remove_outline c.signals k)) ∙ names_of_outline (remove c.signals k)
+other_names c k = ap full_names (sym (map-remove without_changes c.signals k)) ∙ names_of_outline (remove c.signals k)
 
 pub fault_of_outline : (e : Edit) (c : Contents) → edit_fault e (outline c) ≡ edit_fault e c
 unfolding edit_fault
@@ -127,8 +97,8 @@ effect_of_outline (Rename k word) c =
     replaced c k _ _ (λ i. without_changes (renamed_signal word.now (sym (at_outline c k) i)))
 effect_of_outline (Remove k) c =
     ap (λ (ss : List SignalContents). record c { signals = ss })
-    (remove_outline c.signals k ∙ (λ i. remove (sym (twice c.signals) i) k)
-    ∙ sym (remove_outline (map without_changes c.signals) k))
+    (map-remove without_changes c.signals k ∙ (λ i. remove (sym (twice c.signals) i) k)
+    ∙ sym (map-remove without_changes (map without_changes c.signals) k))
 effect_of_outline (Invert k) c = wave_replaced c k _ _ refl refl
 effect_of_outline (Shift k by) c = wave_replaced c k _ _ refl refl
 effect_of_outline (Cut from to) c =

@@ -1,120 +1,69 @@
 -- Replays on captures that lack the waves of silent signals.
-use Rattle.std.proofs.Common.{◌≡◌, ℕ, zero, suc, ◌+◌, Bool, true, false, if◌then◌else◌, List, [], ◌∷◌, ◌++◌}
-use Rattle.std.proofs.Common.{length, map, get_or, Some, None, refl, sym, ap, subst, ◌∙◌}
-use Rattle.std.specs.Prelude.{IfSome}
-use Rattle.std.specs.List.{AllByRecursion, cons_option, range_with_len, slice_get}
+use Rattle.std.proofs.Common.{◌≡◌, ℕ, ◌+◌, Bool, true, false, if◌then◌else◌, List, [], ◌∷◌, ◌++◌, length, map, get_or}
+use Rattle.std.proofs.Common.{Some, None, refl, sym, ap, subst, ◌∙◌}
+use Rattle.std.specs.List.{AllByRecursion, range_with_len}
 use Rattle.std.proofs.lemmas.List.{append_assoc, get_or_at, length-append}
+use Rattle.std.proofs.lemmas.List.Elements.{recursion_from_All, All-from_recursion}
+use Rattle.vcd_core.specs.declared.wave.Change.{Change}
 use Rattle.vcd_core.specs.Contents.{Contents, SignalContents, no_signal, signal_at}
+use Rattle.vcd_core.specs.Outline.{outline}
+use Rattle.vcd_core.specs.Sound.{IsSoundSignal}
+use Rattle.vcd_core.proofs.shared.Outlines.{at_outline, sound_without}
 use Rattle.vcd_edit.specs.declared.edit.Edit.{Edit}
-use Rattle.vcd_edit.specs.declared.edit.Edit.TheVariants.{Cut}
-use Rattle.vcd_edit.specs.OtherWaves.{OtherChanges, with_other, signals_with_others, with_others, waves_read}
-use Rattle.vcd_edit.specs.OtherWaves.{HaveOwn, AreEmpty, LeavesAlone}
-use Rattle.vcd_edit.proofs.shared.SoundWithOthers.{count_with_others}
+use Rattle.vcd_edit.specs.OtherWaves.{OtherChanges, with_other, signals_with_others, with_others}
+use Rattle.vcd_edit.proofs.shared.OtherWaves.{count_with_others, others_keep_outline}
 use Rattle.vcd_journal.specs.History.{replay}
-use Rattle.vcd_journal.specs.OtherWaves.{origins, others_after, LeaveAlone, emptied, hollow, filled, AreHeard}
-use Rattle.vcd_journal.specs.OtherWaves.{origins_at, ReadHeard, IsNoCut, ReplayOnHollow, SilentStayAsTheyWere}
-use Rattle.vcd_journal.proofs.shared.OtherWaves.{replay_with_others}
-
--- ---- what is heard keeps its own changes
-
--- the other changes are of silent signals alone
-abbrev pub OfSilent : (ℕ → Bool) → (ℕ → OtherChanges) → Type 0
-OfSilent silent other = (k : ℕ) → silent k ≡ false → other k ≡ None
-
-own_there : (silent : ℕ → Bool) (other : ℕ → OtherChanges) → OfSilent silent other → (ks : List ℕ) (k : ℕ)
-    (found : List ℕ) → AreHeard silent (cons_option (slice_get ks k) found)
-    → (get_or (map other ks) k None ≡ None) × AreHeard silent found
-own_there silent other of [] k found heard = (refl, heard)
-own_there silent other of (j ∷ ks) zero found heard = (of j heard.0, heard.1)
-own_there silent other of (j ∷ ks) (suc k) found heard = own_there silent other of ks k found heard
-
-pub own_from : (silent : ℕ → Bool) (other : ℕ → OtherChanges) → OfSilent silent other → (ks rest : List ℕ)
-    → AreHeard silent (origins_at ks rest) → HaveOwn (map other ks) rest
-own_from silent other of ks [] heard = tt
-own_from silent other of ks (k ∷ rest) heard =
-    let first = own_there silent other of ks k (origins_at ks rest) heard in
-    (first.0, own_from silent other of ks rest first.1)
-
--- a cut needs more
-abbrev pub CutLeaves : List OtherChanges → Edit → Type 0
-CutLeaves others (Cut from to) = AreEmpty others
-CutLeaves others e = Unit {0}
-
-pub alone_from : (silent : ℕ → Bool) (other : ℕ → OtherChanges) → OfSilent silent other → (ks : List ℕ) (e : Edit)
-    → CutLeaves (map other ks) e → AreHeard silent (origins_at ks (waves_read e)) → LeavesAlone (map other ks) e
-alone_from silent other of ks (Cut from to) cut heard = cut
-alone_from silent other of ks e cut heard = own_from silent other of ks (waves_read e) heard
-
--- each of the edits needs that
-AllCutsLeave : (ℕ → OtherChanges) → ℕ → List Edit → Type 0
-AllCutsLeave other count [] = Unit {0}
-AllCutsLeave other count (e ∷ es) = CutLeaves (others_after other count es) e × AllCutsLeave other count es
-
-all_alone : (silent : ℕ → Bool) (other : ℕ → OtherChanges) → OfSilent silent other → (count : ℕ) (es : List Edit)
-    → AllCutsLeave other count es → ReadHeard silent count es → LeaveAlone other count es
-unfolding AllCutsLeave ReadHeard LeaveAlone
-all_alone silent other of count [] cuts heard = tt
-all_alone silent other of count (e ∷ es) cuts heard = (
-  alone_from silent other of (origins count es) e cuts.0 heard.0,
-  all_alone silent other of count es cuts.1 heard.1,
-)
-
--- ---- the hollow capture
+use Rattle.vcd_journal.specs.Origins.{origins}
+use Rattle.vcd_journal.specs.Cuts.{cuts}
+use Rattle.vcd_journal.specs.Hollow.{ReadOwn, emptied, filled, hollow, ReplayOnHollow, SilentAreCutAlone, HollowIsSound}
+use Rattle.vcd_journal.proofs.shared.Cuts.{signal_after_cuts, cuts_of_none, signal_after_cuts_is}
+use Rattle.vcd_journal.proofs.shared.OtherWaves.{after_cuts, read_own, replay_same}
 
 -- no change in place of its own
 abbrev no_change : OtherChanges
 no_change = Some []
 
-module _ (silent : ℕ → Bool) where
-  pub emptied_of : OfSilent silent (emptied silent)
-  emptied_of k heard = ap (λ (b : Bool). if b then no_change else None) heard
+-- ---- the hollow capture
 
-  emptied_is : (b : Bool) → IfSome (if b then no_change else None) (λ changes. changes ≡ [])
-  emptied_is true = refl
-  emptied_is false = tt
-
-  emptied_are : (ks : List ℕ) → AreEmpty (map (emptied silent) ks)
-  emptied_are [] = tt
-  emptied_are (k ∷ ks) = (emptied_is (silent k), emptied_are ks)
-
-  cut_leaves_emptied : (ks : List ℕ) (e : Edit) → CutLeaves (map (emptied silent) ks) e
-  cut_leaves_emptied ks (Cut from to) = emptied_are ks
-  cut_leaves_emptied ks e = tt
-
-  cuts_leave_emptied : (count : ℕ) (es : List Edit) → AllCutsLeave (emptied silent) count es
-  unfolding AllCutsLeave
-  cuts_leave_emptied count [] = tt
-  cuts_leave_emptied count (e ∷ es) = (cut_leaves_emptied (origins count es) e, cuts_leave_emptied count es)
+-- cuts leave a signal without changes so
+emptied_stays : (end : ℕ) (es : List Edit) (r : SignalContents) (silent : Bool)
+    → after_cuts end es r (if silent then no_change else None) ≡ (if silent then no_change else None)
+emptied_stays end es r true =
+    ap (λ (s : SignalContents). Some s.changes) (cuts_of_none end es r)
+emptied_stays end es r false = refl
 
 pub replay_on_hollow : ReplayOnHollow
-replay_on_hollow silent c es heard =
-    let count = length c.signals in
-    replay_with_others (emptied silent) c es
-    (all_alone silent (emptied silent) (emptied_of silent) count es (cuts_leave_emptied silent count es) heard)
+replay_on_hollow silent c es own =
+    replay_same (emptied silent) c es own
+    ∙ λ i. with_others
+    (map (λ k. emptied_stays c.end es (signal_at c k) (silent k) i) (origins (length c.signals) es))
+    (replay c es)
 
 -- ---- the whole capture again
 
+-- a signal that was emptied has its changes again
+filled_again : (b : Bool) (s r : SignalContents) → r ≡ s
+    → with_other (if b then Some r.changes else None) (with_other (if b then no_change else None) s) ≡ s
+filled_again true s r is = ap (λ (t : SignalContents). record s { changes = t.changes }) is
+filled_again false s r is = refl
+
+not_emptied : (b : Bool) (changes : List Change) → (if b then no_change else None) ≡ None
+    → (if b then Some changes else None) ≡ None
+not_emptied true changes none = absurd (cc)
+not_emptied false changes none = refl
+
 module _ (silent : ℕ → Bool) (c : Contents) where
-  filled_of : OfSilent silent (filled silent c)
-  filled_of k heard = ap (λ (b : Bool). if b then Some (signal_at c k).changes else None) heard
+  abbrev d : Contents
+  d = hollow silent c
 
-  -- without cuts
-  cut_leaves_filled : (ks : List ℕ) (e : Edit) → IsNoCut e → CutLeaves (map (filled silent c) ks) e
-  cut_leaves_filled ks (Cut from to) none = absurd none
-  cut_leaves_filled ks e none = tt
+  abbrev count : ℕ
+  count = length c.signals
 
-  cuts_leave_filled : (count : ℕ) (es : List Edit) → AllByRecursion IsNoCut es
-      → AllCutsLeave (filled silent c) count es
-  unfolding AllCutsLeave
-  cuts_leave_filled count [] none = tt
-  cuts_leave_filled count (e ∷ es) none =
-      (cut_leaves_filled (origins count es) e none.0, cuts_leave_filled count es none.1)
+  pub hollow_outline : outline d ≡ outline c
+  hollow_outline = others_keep_outline (map (emptied silent) (range_with_len 0 count)) c
 
-  -- a signal that was emptied has its changes again
-  filled_again : (b : Bool) (s r : SignalContents) → r ≡ s
-      → with_other (if b then Some r.changes else None) (with_other (if b then Some [] else None) s) ≡ s
-  filled_again true s r is = ap (λ (t : SignalContents). record s { changes = t.changes }) is
-  filled_again false s r is = refl
+  same_count : length d.signals ≡ count
+  same_count = count_with_others (map (emptied silent) (range_with_len 0 count)) c.signals
 
   all_again : (before ss : List SignalContents) → c.signals ≡ before ++ ss
       → signals_with_others (map (filled silent c) (range_with_len (length before) (length ss)))
@@ -132,27 +81,59 @@ module _ (silent : ℕ → Bool) (c : Contents) where
       ∙ all_again (before ++ s ∷ []) ss (is ∙ sym (append_assoc before (s ∷ []) ss)) in
       λ i. filled_again (silent (length before)) s (signal_at c (length before)) here i ∷ rest i
 
-  abbrev count : ℕ
-  count = length c.signals
-
-  pub same_count : length (hollow silent c).signals ≡ count
-  same_count = count_with_others (others_after (emptied silent) count []) c.signals
-
-  pub whole_again : with_others (others_after (filled silent c) (length (hollow silent c).signals) [])
-      (hollow silent c) ≡ c
-  unfolding origins
+  whole_again : with_others (map (filled silent c) (range_with_len 0 (length d.signals))) d ≡ c
   whole_again =
-      ap (λ n. with_others (map (filled silent c) (range_with_len 0 n)) (hollow silent c)) same_count
+      ap (λ n. with_others (map (filled silent c) (range_with_len 0 n)) d) same_count
       ∙ ap (λ (ss : List SignalContents). record c { signals = ss }) (all_again [] c.signals refl)
 
-pub silent_stay_as_they_were : SilentStayAsTheyWere
-silent_stay_as_they_were silent c es heard none =
-    let other : ℕ → OtherChanges = filled silent c in
-    let d : Contents = hollow silent c in
-    let alone : LeaveAlone other (length c.signals) es =
-    all_alone silent other (filled_of silent c) (length c.signals) es (cuts_leave_filled silent c (length c.signals) es
-    none) heard in
-    sym (ap (λ (w : Contents). replay w es) (whole_again silent c))
-    ∙ replay_with_others other d es
-    (subst (λ n. LeaveAlone other n es) (sym (same_count silent c)) alone)
-    ∙ ap (λ n. with_others (others_after other n es) (replay d es)) (same_count silent c)
+  -- the two captures differ by changes alone
+  same_but_changes : (k : ℕ) → record (signal_at d k) { changes = (signal_at c k).changes } ≡ signal_at c k
+  same_but_changes k =
+      ap (λ (s : SignalContents). record s { changes = (signal_at c k).changes })
+      (sym (at_outline d k) ∙ ap (λ (o : Contents). signal_at o k) hollow_outline ∙ at_outline c k)
+
+  filled_after_cuts : (es : List Edit) (k : ℕ) (b : Bool)
+      → after_cuts d.end es (signal_at d k) (if b then Some (signal_at c k).changes else None)
+      ≡ (if b then Some (signal_at (replay c (cuts es)) k).changes else None)
+  filled_after_cuts es k true =
+      ap (λ (s : SignalContents). Some (signal_after_cuts c.end es s).changes) (same_but_changes k)
+      ∙ ap (λ (s : SignalContents). Some s.changes) (sym (signal_after_cuts_is c es k))
+  filled_after_cuts es k false = refl
+
+  all_known : (es : List Edit) → ReadOwn (emptied silent) count es
+      → replay c es ≡ with_others (map (filled silent (replay c (cuts es))) (origins count es)) (replay d es)
+  all_known es own =
+      let reads : ReadOwn (filled silent c) count es =
+      read_own (emptied silent) (filled silent c) (λ k. not_emptied (silent k) (signal_at c k).changes) count es own in
+      sym (ap (λ (whole : Contents). replay whole es) whole_again)
+      ∙ replay_same (filled silent c) d es (subst (λ n. ReadOwn (filled silent c) n es) (sym same_count) reads)
+      ∙ (λ i. with_others (map (λ k. filled_after_cuts es k (silent k) i) (origins (same_count i) es)) (replay d es))
+
+pub silent_are_cut_alone : SilentAreCutAlone
+silent_are_cut_alone = all_known
+
+-- ---- soundness
+
+sound_emptied : (end : ℕ) (b : Bool) (s : SignalContents) → IsSoundSignal end s
+    → IsSoundSignal end (with_other (if b then no_change else None) s)
+sound_emptied end true s sound = sound_without end s sound
+sound_emptied end false s sound = sound
+
+sound_list : (end : ℕ) (silent : ℕ → Bool) (ks : List ℕ) (ss : List SignalContents)
+    → AllByRecursion (IsSoundSignal end) ss
+    → AllByRecursion (IsSoundSignal end) (signals_with_others (map (emptied silent) ks) ss)
+sound_list end silent [] ss sound = sound
+sound_list end silent (k ∷ ks) [] sound = tt
+sound_list end silent (k ∷ ks) (s ∷ ss) sound =
+    (sound_emptied end (silent k) s sound.0, sound_list end silent ks ss sound.1)
+
+pub hollow_is_sound : HollowIsSound
+hollow_is_sound silent c sound = record {
+  header = sound.header;
+  timescale = sound.timescale;
+  end = sound.end;
+  few = rw (same_count silent c) (sound.few);
+  signals = All-from_recursion (IsSoundSignal c.end) (hollow silent c).signals
+      (sound_list c.end silent (range_with_len 0 (length c.signals)) c.signals
+      (recursion_from_All (IsSoundSignal c.end) c.signals sound.signals));
+}

@@ -10,8 +10,8 @@ use Rattle.vcd_edit.specs.declared.fault.EditError.{EditError}
 use Rattle.vcd_edit.specs.AppliedRecords.{PutsInOrKeepsNames}
 use Rattle.vcd_edit.specs.Effect.{effect}
 use Rattle.vcd_edit.specs.EditFaults.{edit_fault}
-use Rattle.vcd_edit.proofs.shared.Outlines.{count_in_outline, names_of_outline, fault_is_of_outline}
-use Rattle.vcd_edit.proofs.shared.Outlines.{effect_keeps_outlines}
+use Rattle.vcd_core.proofs.shared.Outlines.{count_in_outline, names_of_outline}
+use Rattle.vcd_edit.proofs.shared.Outlines.{fault_is_of_outline, effect_keeps_outlines}
 use Rattle.vcd_journal.specs.declared.step.Step.{Step}
 use Rattle.vcd_journal.specs.declared.step.Step.TheVariants as steps
 use Rattle.vcd_journal.specs.declared.step.Answer.{Answer}
@@ -20,7 +20,7 @@ use Rattle.vcd_journal.specs.Machine.{Machine, StepOutcome, edit_outcome, undo_o
 use Rattle.vcd_journal.specs.Machine.{redo_outcome, step_outcome, MayNeedMemory, IsStep, AreSteps}
 use Rattle.vcd_journal.specs.HistoryMachine.{earlier_replays, later_replays, machine_of}
 use Rattle.vcd_journal.specs.HistoryMachine.{history_after_answer, history_after_all}
-use Rattle.vcd_journal.specs.OtherWaves.{StepsAreOfOutline}
+use Rattle.vcd_journal.specs.Hollow.{StepsAreOfOutline}
 use Rattle.vcd_journal.proofs.shared.Replay.{depth_choice, future_count, outcome_follows}
 use Rattle.vcd_journal.proofs.shared.Replay.{refusal_counts_not, step_follows, first_follows}
 use Rattle.vcd_journal.proofs.shared.OtherWaves.{replay_keeps_outlines}

@@ -1,7 +1,6 @@
 -- A hollow capture is a part of the whole one, put into its declarations.
-use Rattle.std.proofs.Common.{◌≡◌, ◌<◌, ℕ, ◌+◌, ◌-◌, Bool, true, false, not, if◌then◌else◌, min, List, []}
-use Rattle.std.proofs.Common.{◌∷◌, ◌++◌, length, map, drop, get_or, Some, None, refl, sym, ap}
-use Rattle.std.proofs.Common.{◌∙◌, arith}
+use Rattle.std.proofs.Common.{◌≡◌, ◌<◌, ℕ, ◌+◌, ◌-◌, Bool, true, false, not, if◌then◌else◌, min, List, [], ◌∷◌, ◌++◌}
+use Rattle.std.proofs.Common.{length, map, drop, get_or, Some, None, refl, sym, ap, ◌∙◌, arith}
 use Rattle.std.specs.Prelude.{filter}
 use Rattle.std.specs.List.{AllByRecursion, range_with_len}
 use Rattle.std.proofs.lemmas.List.{append_assoc, get_or_at, length-append}
@@ -14,7 +13,7 @@ use Rattle.vcd_core.specs.Outline.{without_changes}
 use Rattle.vcd_core.proofs.shared.Waves.{changes_of-value_at}
 use Rattle.vcd_text.specs.Parts.{part_of_signal}
 use Rattle.vcd_edit.specs.OtherWaves.{with_other, signals_with_others}
-use Rattle.vcd_journal.specs.OtherWaves.{origins, emptied}
+use Rattle.vcd_journal.specs.Hollow.{emptied}
 use Rattle.vcd_script.specs.HollowPart.{with_taken, AreTaken, HollowIsPart}
 
 -- ---- the part of all ticks
@@ -71,7 +70,6 @@ module _ (takes : SignalContents → Bool) (silent : ℕ → Bool) (c : Contents
       ∙ λ i. with_other (if mark i then Some [] else None) s ∷ rest i
 
 pub hollow_is_part : HollowIsPart
-unfolding origins
 hollow_is_part takes silent ticks c sound none last are =
     let end : min ticks.last c.end - ticks.first ≡ c.end = omega (arith, none, last) in
     ap (λ (ss : List SignalContents). record c { signals = ss })

@@ -1,39 +1,39 @@
 -- Runs on captures that lack the waves of silent signals.
-use Rattle.std.proofs.Common.{◌≡◌, ℕ, Bool, true, false, ◌||◌, not, if◌then◌else◌, List, [], ◌∷◌, ◌++◌, length}
-use Rattle.std.proofs.Common.{take, map, Option, Result, Ok, is_err, refl, sym, ap, subst, ◌∙◌, arith}
-use Rattle.std.specs.Prelude.{fold, drop, nat_eq}
-use Rattle.std.specs.List.{AllByRecursion, list_any}
-use Rattle.std.proofs.Math.Seq.{take-length}
+use Rattle.std.proofs.Common.{◌≡◌, ℕ, zero, suc, ◌+◌, Bool, true, false, ◌||◌, not, if◌then◌else◌, List, [], ◌∷◌, ◌++◌}
+use Rattle.std.proofs.Common.{length, take, map, get_or, Some, None, Result, Ok, is_err, refl, sym, ap, subst, ◌∙◌}
+use Rattle.std.proofs.Common.{arith}
+use Rattle.std.specs.Prelude.{Option, fold, nat_eq}
+use Rattle.std.specs.List.{AllByRecursion, list_any, cons_option, slice_get, flat_map, enumerate_from}
 use Rattle.std.proofs.lemmas.Bool.Decides.{nat_tests}
 use Rattle.std.proofs.lemmas.List.{append_assoc}
 use Rattle.vcd_core.specs.Contents.{Contents}
 use Rattle.vcd_core.specs.Outline.{outline}
+use Rattle.vcd_core.proofs.shared.Outlines.{outline_of_outline}
+use Rattle.vcd_text.specs.Words.{words_of}
 use Rattle.vcd_edit.specs.declared.edit.Edit.{Edit}
 use Rattle.vcd_edit.specs.declared.fault.EditError.{EditError}
-use Rattle.vcd_edit.specs.OtherWaves.{with_others}
-use Rattle.vcd_edit.proofs.shared.Outlines.{fault_is_of_outline, outline_of_outline}
-use Rattle.vcd_edit.proofs.shared.OtherWaves.{others_keep_outline}
+use Rattle.vcd_edit.specs.OtherWaves.{OtherChanges, with_others, waves_read, HaveOwn}
+use Rattle.vcd_edit.proofs.shared.Outlines.{fault_is_of_outline}
 use Rattle.vcd_journal.specs.declared.step.Step.TheVariants as steps
 use Rattle.vcd_journal.specs.History.{History, initial_history, replay}
-use Rattle.vcd_journal.specs.OtherWaves.{origins, others_after, emptied, hollow, filled, AreHeard, origins_at}
-use Rattle.vcd_journal.specs.OtherWaves.{ReadHeard, all_edits, cut_alone}
+use Rattle.vcd_journal.specs.Origins.{origins}
+use Rattle.vcd_journal.specs.Cuts.{cuts}
+use Rattle.vcd_journal.specs.Hollow.{ReadOwn, emptied, filled, hollow}
 use Rattle.vcd_journal.proofs.shared.OtherWaves.{replay_keeps_outlines}
 use Rattle.vcd_journal.proofs.shared.SameSteps.{same_count}
-use Rattle.vcd_journal.proofs.shared.Hollow.{own_from, emptied_of, replay_on_hollow, silent_stay_as_they_were}
-use Rattle.vcd_journal.proofs.shared.HollowMachine.{in_force}
-use Rattle.vcd_journal.proofs.shared.CutSilence.{silent_are_cut_alone}
+use Rattle.vcd_journal.proofs.shared.Hollow.{hollow_outline, replay_on_hollow, silent_are_cut_alone}
 use Rattle.vcd_script.specs.declared.script.command.Command.{Command}
 use Rattle.vcd_script.specs.declared.script.command.Command.TheVariants as commands
 use Rattle.vcd_script.specs.declared.script.line_error.LineError.{LineError}
 use Rattle.vcd_script.specs.ScriptCommands.{command_of_line}
 use Rattle.vcd_script.specs.Reply.{edit_reply, command_reply, line_reply}
 use Rattle.vcd_script.specs.Run.{history_after_command, line_answer, history_after_line, history_at}
-use Rattle.vcd_script.specs.inside.running.LineAnswers.{line_answers}
-use Rattle.vcd_script.specs.HollowRun.{waves_asked, origins_asked, HistoryIsOfOutline, AskedIsOfOutline, IsSameRun}
-use Rattle.vcd_script.specs.HollowRun.{RunOnHollow, is_none_of, RunAfterDryRun}
+use Rattle.vcd_script.specs.HollowRun.{waves_asked, origins_at, origins_of_line, AreHeard, HistoryIsOfOutline}
+use Rattle.vcd_script.specs.HollowRun.{AskedIsOfOutline, origins_asked, IsSameRun, RunOnHollow, is_none_of}
+use Rattle.vcd_script.specs.HollowRun.{RunAfterDryRun}
 use Rattle.vcd_script.proofs.script.CommandsOfOutline.{command_is_of_outline}
 use Rattle.vcd_script.proofs.replies.RepliesWithOthers.{all_split, reply_with_others}
-use Rattle.vcd_script.proofs.running.LinesAndHistory.{answers_are}
+use Rattle.vcd_script.proofs.running.run_on_bytes.LawsOfRun.{AreMade, in_force_made}
 
 -- ---- captures of one outline
 
@@ -47,9 +47,9 @@ refused_same (Ok (commands.Step (steps.Edit e))) x y skipped undoable redoable s
 refused_same parsed x y skipped undoable redoable same = refl
 
 module _ (c d : Contents) (same : outline c ≡ outline d) (skipped : ℕ) where
-  asked_there : (h : History) (line : List ℕ)
+  command_same : (h : History) (line : List ℕ)
       → command_of_line (replay c h.edits) line ≡ command_of_line (replay d h.edits) line
-  asked_there h line =
+  command_same h line =
       command_is_of_outline (replay c h.edits) (replay d h.edits) line (replay_keeps_outlines c d h.edits same)
 
   next_same : (h : History) (line : List ℕ) → history_after_line c skipped h line ≡ history_after_line d skipped h line
@@ -59,10 +59,10 @@ module _ (c d : Contents) (same : outline c ≡ outline d) (skipped : ℕ) where
       let y : Contents = replay d h.edits in
       let refused : is_err (line_answer c skipped h line) ≡ is_err (line_answer d skipped h line) =
       ap (λ (parsed : Result Command LineError). is_err (command_reply parsed x skipped h.undoable (length h.undone)))
-      (asked_there h line)
+      (command_same h line)
       ∙ refused_same (command_of_line y line) x y skipped h.undoable (length h.undone)
       (replay_keeps_outlines c d h.edits same) in
-      λ i. if refused i then h else history_after_command h (asked_there h line i)
+      λ i. if refused i then h else history_after_command h (command_same h line i)
 
   all_same : (h : History) (lines : List (List ℕ))
       → fold (history_after_line c skipped) h lines ≡ fold (history_after_line d skipped) h lines
@@ -71,153 +71,141 @@ module _ (c d : Contents) (same : outline c ≡ outline d) (skipped : ℕ) where
       all_same (history_after_line c skipped h line) lines
       ∙ ap (λ (g : History). fold (history_after_line d skipped) g lines) (next_same h line)
 
-  asked_same : (h : History) (lines : List (List ℕ)) → origins_asked c skipped h lines ≡ origins_asked d skipped h lines
-  unfolding origins_asked
-  asked_same h [] = refl
-  asked_same h (line ∷ lines) =
-      let rest = asked_same (history_after_line c skipped h line) lines
-      ∙ ap (λ (g : History). origins_asked d skipped g lines) (next_same h line) in
-      λ i. origins_at (origins (same_count c d same i) h.edits) (waves_asked (asked_there h line i)) ++ rest i
+  module _ (depth : ℕ) (lines : List (List ℕ)) where
+    history_same : (count : ℕ) → history_at c skipped depth lines count ≡ history_at d skipped depth lines count
+    history_same count = all_same (initial_history depth) (take count lines)
+
+    asked_same : (count : ℕ) (line : List ℕ)
+        → origins_of_line c skipped depth lines count line ≡ origins_of_line d skipped depth lines count line
+    asked_same count line =
+        let h : History = history_at c skipped depth lines count in
+        (λ i. origins_at (origins (same_count c d same i) h.edits) (waves_asked (command_same h line i)))
+        ∙ ap (λ (g : History). origins_at (origins (length d.signals) g.edits)
+        (waves_asked (command_of_line (replay d g.edits) line))) (history_same count)
 
 pub history_is_of_outline : HistoryIsOfOutline
-history_is_of_outline c d skipped depth lines count same =
-    all_same c d same skipped (initial_history depth) (take count lines)
+history_is_of_outline c d skipped depth lines count same = history_same c d same skipped depth lines count
 
 pub asked_is_of_outline : AskedIsOfOutline
-asked_is_of_outline c d skipped h lines same = asked_same c d same skipped h lines
+asked_is_of_outline c d skipped depth lines same = λ i.
+    flat_map (λ (p : ℕ × List ℕ). asked_same c d same skipped depth lines p.0 p.1 i) (enumerate_from 0 lines)
 
--- ---- no edit reads a silent wave
+-- ---- what is heard keeps its own changes
 
-pub undo_restores : (es us : List Edit) → all_edits (drop 1 es) (take 1 es ++ us) ≡ all_edits es us
-unfolding all_edits
-undo_restores [] us = refl
-undo_restores (e ∷ es) us = refl
+-- no change in place of its own
+abbrev no_change : OtherChanges
+no_change = Some []
 
-pub redo_restores : (es us : List Edit) → all_edits (take 1 us ++ es) (drop 1 us) ≡ all_edits es us
-unfolding all_edits
-redo_restores es [] = refl
-redo_restores es (u ∷ us) = refl
+emptied_own : (silent : ℕ → Bool) (k : ℕ) → silent k ≡ false → emptied silent k ≡ None
+emptied_own silent k heard = ap (λ (b : Bool). if b then no_change else None) heard
 
-either : (P : History → Type 0) (b : Bool) (g h : History) → P g → P h → P (if b then g else h)
-either P true g h first second = first
-either P false g h first second = second
+own_there : (silent : ℕ → Bool) (ks : List ℕ) (k : ℕ) (found : List ℕ)
+    → AreHeard silent (cons_option (slice_get ks k) found)
+    → (get_or (map (emptied silent) ks) k None ≡ None) × AreHeard silent found
+own_there silent [] k found heard = (refl, heard)
+own_there silent (j ∷ ks) zero found heard = (emptied_own silent j heard.0, heard.1)
+own_there silent (j ∷ ks) (suc k) found heard = own_there silent ks k found heard
 
-module _ (silent : ℕ → Bool) (c : Contents) (skipped : ℕ) where
-  abbrev count : ℕ
-  count = length c.signals
+have_own : (silent : ℕ → Bool) (ks reads : List ℕ) → AreHeard silent (origins_at ks reads)
+    → HaveOwn (map (emptied silent) ks) reads
+have_own silent ks [] heard = tt
+have_own silent ks (k ∷ reads) heard =
+    let first = own_there silent ks k (origins_at ks reads) heard in (first.0, have_own silent ks reads first.1)
 
-  -- those in force, and those undone
-  abbrev NoneRead : History → Type 0
-  NoneRead h = ReadHeard silent count (all_edits h.edits h.undone)
+-- ---- lists
 
-  after_command : (h : History) (parsed : Result Command LineError) → NoneRead h
-      → AreHeard silent (origins_at (origins count h.edits) (waves_asked parsed))
-      → NoneRead (history_after_command h parsed)
-  unfolding ReadHeard all_edits
-  after_command h (Ok (commands.Step (steps.Edit e))) heard asked = (asked, in_force silent c h.edits h.undone heard)
-  after_command h (Ok (commands.Step steps.Undo)) heard asked =
-      subst (ReadHeard silent count) (sym (undo_restores h.edits h.undone)) heard
-  after_command h (Ok (commands.Step steps.Redo)) heard asked =
-      subst (ReadHeard silent count) (sym (redo_restores h.edits h.undone)) heard
-  after_command h (Ok (commands.Step (steps.Depth depth))) heard asked = heard
-  after_command h parsed heard asked = heard
+-- what holds of all that a function gives of some items
+all_of_each : {X A : Type 0} (P : A → Type 0) (f : X → List A) (xs : List X) → AllByRecursion P (flat_map f xs)
+    → AllByRecursion (λ x. AllByRecursion P (f x)) xs
+all_of_each P f [] all = tt
+all_of_each P f (x ∷ xs) all = let both = all_split P (f x) (flat_map f xs) all in (both.0, all_of_each P f xs both.1)
 
-  after_line : (h : History) (line : List ℕ) → NoneRead h
-      → AreHeard silent (origins_at (origins count h.edits) (waves_asked (command_of_line (replay c h.edits) line)))
-      → NoneRead (history_after_line c skipped h line)
-  after_line h line heard asked =
-      either NoneRead (is_err (line_answer c skipped h line)) h
-      (history_after_command h (command_of_line (replay c h.edits) line)) heard
-      (after_command h (command_of_line (replay c h.edits) line) heard asked)
+map_same : {X A : Type 0} (P : X → Type 0) (f g : X → A) → ((x : X) → P x → f x ≡ g x) → (xs : List X)
+    → AllByRecursion P xs → map f xs ≡ map g xs
+map_same P f g same [] all = refl
+map_same P f g same (x ∷ xs) all = λ i. same x all.0 i ∷ map_same P f g same xs all.1 i
 
-  -- what the first line asks for, and the others
-  parts : (h : History) (line : List ℕ) (lines : List (List ℕ))
-      → AreHeard silent (origins_asked c skipped h (line ∷ lines))
-      → AreHeard silent (origins_at (origins count h.edits) (waves_asked (command_of_line (replay c h.edits) line)))
-      × AreHeard silent (origins_asked c skipped (history_after_line c skipped h line) lines)
-  unfolding origins_asked
-  parts h line lines asked =
-      all_split (λ k. silent k ≡ false)
-      (origins_at (origins count h.edits) (waves_asked (command_of_line (replay c h.edits) line))) _ asked
+-- ---- runs
 
-  after_lines : (h : History) (lines : List (List ℕ)) → NoneRead h → AreHeard silent (origins_asked c skipped h lines)
-      → NoneRead (fold (history_after_line c skipped) h lines)
-  after_lines h [] heard asked = heard
-  after_lines h (line ∷ lines) heard asked =
-      let both = parts h line lines asked in
-      after_lines (history_after_line c skipped h line) lines (after_line h line heard both.0) both.1
-
-  -- ---- the answers
-
+module _ (silent : ℕ → Bool) (c : Contents) (skipped depth : ℕ) (lines : List (List ℕ)) where
   abbrev d : Contents
   d = hollow silent c
 
-  hollow_outline : outline d ≡ outline c
-  hollow_outline = others_keep_outline (others_after (emptied silent) count []) c
+  abbrev count : ℕ
+  count = length c.signals
 
-  answer_same : (h : History) (line : List ℕ) → ReadHeard silent count h.edits
-      → AreHeard silent (origins_at (origins count h.edits) (waves_asked (command_of_line (replay c h.edits) line)))
-      → line_answer d skipped h line ≡ line_answer c skipped h line
-  answer_same h line heard asked =
-      ap (λ (x : Contents). line_reply line x skipped h.undoable (length h.undone))
-      (replay_on_hollow silent c h.edits heard)
-      ∙ reply_with_others (others_after (emptied silent) count h.edits) (replay c h.edits) line skipped h.undoable
-      (length h.undone)
-      (own_from silent (emptied silent) (emptied_of silent) (origins count h.edits)
-      (waves_asked (command_of_line (replay c h.edits) line)) asked)
+  abbrev at_line : ℕ → History
+  at_line n = history_at c skipped depth lines n
 
-  answers_same : (h : History) (lines : List (List ℕ)) → NoneRead h → AreHeard silent (origins_asked c skipped h lines)
-      → line_answers d skipped h lines ≡ line_answers c skipped h lines
-  unfolding line_answers
-  answers_same h [] heard asked = refl
-  answers_same h (line ∷ lines) heard asked =
-      let both = parts h line lines asked in
-      let first = answer_same h line (in_force silent c h.edits h.undone heard) both.0 in
-      let rest = ap (λ (g : History). line_answers d skipped g lines) (next_same d c hollow_outline skipped h line)
-      ∙ answers_same (history_after_line c skipped h line) lines (after_line h line heard both.0) both.1 in
-      λ i. first i ∷ rest i
+  -- the line asks for the changes of no silent signal
+  abbrev IsHeard : ℕ → List ℕ → Type 0
+  IsHeard n line = AreHeard silent (origins_of_line c skipped depth lines n line)
 
-  -- ---- the run
+  -- past the last line there are only empty ones, which ask for none
+  line_heard : (n : ℕ) (left : List (List ℕ)) (i : ℕ) → AllByRecursion (λ p. IsHeard p.0 p.1) (enumerate_from n left)
+      → IsHeard (n + i) (get_or left i [])
+  unfolding command_of_line words_of
+  line_heard n [] i all = tt
+  line_heard n (line ∷ left) zero all = subst (λ m. IsHeard m line) {x = n} {y = n + 0} (omega arith) all.0
+  line_heard n (line ∷ left) (suc i) all =
+      subst (λ m. IsHeard m (get_or left i [])) {x = n + 1 + i} {y = n + suc i} (omega arith)
+      (line_heard (n + 1) left i all.1)
 
-  module _ (depth : ℕ) (lines : List (List ℕ))
-      (asked : AreHeard silent (origins_asked c skipped (initial_history depth) lines)) where
-    begun : NoneRead (initial_history depth)
-    unfolding ReadHeard all_edits
-    begun = tt
+  module _ (heard : AllByRecursion (λ p. IsHeard p.0 p.1) (enumerate_from 0 lines)) where
+    -- the edits in force were asked for by lines
+    none_read : (n : ℕ) (es : List Edit) → AreMade c skipped depth lines n es → ReadOwn (emptied silent) count es
+    unfolding AreMade ReadOwn
+    none_read n [] made = tt
+    none_read n (e ∷ es) made =
+        let at = made.0 in
+        let line : IsHeard at.0 (get_or lines at.0 []) =
+        subst (λ i. IsHeard i (get_or lines at.0 [])) {x = 0 + at.0} {y = at.0} (omega arith)
+        (line_heard 0 lines at.0 heard) in
+        let asked : AreHeard silent (origins_at (origins count (at_line at.0).edits) (waves_read e)) =
+        subst (λ (parsed : Result Command LineError). AreHeard silent (origins_at (origins count (at_line at.0).edits)
+        (waves_asked parsed))) at.2.0 line in
+        let here : AreHeard silent (origins_at (origins count es) (waves_read e)) =
+        subst (λ (before : List Edit). AreHeard silent (origins_at (origins count before) (waves_read e))) at.3 asked in
+        (have_own silent (origins count es) (waves_read e) here, none_read n es made.1)
 
-    -- the edits in force in the end
-    abbrev last : List Edit
-    last = (history_at c skipped depth lines (length lines)).edits
+    in_force_own : (n : ℕ) → ReadOwn (emptied silent) count (at_line n).edits
+    in_force_own n = none_read n (at_line n).edits (in_force_made c skipped depth lines n)
 
-    last_none : NoneRead (history_at c skipped depth lines (length lines))
-    last_none =
-        subst (λ (ls : List (List ℕ)). NoneRead (fold (history_after_line c skipped) (initial_history depth) ls))
-        (sym (take-length lines)) (after_lines (initial_history depth) lines begun asked)
+    histories : (n : ℕ) → history_at d skipped depth lines n ≡ at_line n
+    histories n = history_is_of_outline d c skipped depth lines n (hollow_outline silent c)
 
-    last_heard : ReadHeard silent count last
-    last_heard = in_force silent c last (history_at c skipped depth lines (length lines)).undone last_none
-
-    histories : (n : ℕ) → history_at d skipped depth lines n ≡ history_at c skipped depth lines n
-    histories n = history_is_of_outline d c skipped depth lines n hollow_outline
+    answer_same : (n : ℕ) (line : List ℕ) → IsHeard n line
+        → line_answer d skipped (history_at d skipped depth lines n) line ≡ line_answer c skipped (at_line n) line
+    answer_same n line asked =
+        let h : History = at_line n in
+        ap (λ (g : History). line_answer d skipped g line) (histories n)
+        ∙ ap (λ (x : Contents). line_reply line x skipped h.undoable (length h.undone))
+        (replay_on_hollow silent c h.edits (in_force_own n))
+        ∙ reply_with_others (map (emptied silent) (origins count h.edits)) (replay c h.edits) line skipped h.undoable
+        (length h.undone)
+        (have_own silent (origins count h.edits) (waves_asked (command_of_line (replay c h.edits) line)) asked)
 
     pub same_run : IsSameRun silent c skipped depth lines
-    same_run = record {
-      same_answers = sym (answers_are d skipped depth lines)
-          ∙ answers_same (initial_history depth) lines begun asked ∙ answers_are c skipped depth lines;
-      same_histories = histories;
-      capture = ap (λ (h : History). replay d h.edits) (histories (length lines))
-          ∙ replay_on_hollow silent c last last_heard;
-      heard = last_none;
-      whole = silent_are_cut_alone silent c last last_heard
-          ∙ ap (λ (h : History). with_others (map (cut_alone silent c last) (origins count last)) (replay d h.edits))
-          (sym (histories (length lines)));
-      uncut = λ none. silent_stay_as_they_were silent c last last_heard none
-          ∙ ap (λ (h : History). with_others (others_after (filled silent c) count last) (replay d h.edits))
-          (sym (histories (length lines)));
-    }
+    same_run =
+        let last : List Edit = (at_line (length lines)).edits in
+        record {
+          same_answers = map_same (λ (p : ℕ × List ℕ). IsHeard p.0 p.1)
+              (λ p. line_answer d skipped (history_at d skipped depth lines p.0) p.1)
+              (λ p. line_answer c skipped (at_line p.0) p.1) (λ p asked. answer_same p.0 p.1 asked)
+              (enumerate_from 0 lines) heard;
+          same_histories = histories;
+          hollow_capture = ap (λ (h : History). replay d h.edits) (histories (length lines))
+              ∙ replay_on_hollow silent c last (in_force_own (length lines));
+          whole_capture = silent_are_cut_alone silent c last (in_force_own (length lines))
+              ∙ ap (λ (h : History). with_others (map (filled silent (replay c (cuts last))) (origins count last))
+              (replay d h.edits)) (sym (histories (length lines)));
+        }
 
 pub run_on_hollow : RunOnHollow
-run_on_hollow silent c skipped depth lines asked = same_run silent c skipped depth lines asked
+run_on_hollow silent c skipped depth lines asked =
+    same_run silent c skipped depth lines
+    (all_of_each (λ k. silent k ≡ false) (λ (p : ℕ × List ℕ). origins_of_line c skipped depth lines p.0 p.1)
+    (enumerate_from 0 lines) asked)
 
 -- ---- after a dry run
 
@@ -242,8 +230,7 @@ none_silent before (k ∷ ks) = (
 
 pub run_after_dry_run : RunAfterDryRun
 run_after_dry_run c skipped depth lines =
-    let h : History = initial_history depth in
-    let ks : List ℕ = origins_asked (outline c) skipped h lines in
+    let ks : List ℕ = origins_asked (outline c) skipped depth lines in
     run_on_hollow (is_none_of ks) c skipped depth lines
-    (subst (AreHeard (is_none_of ks)) (asked_is_of_outline (outline c) c skipped h lines (outline_of_outline c))
+    (subst (AreHeard (is_none_of ks)) (asked_is_of_outline (outline c) c skipped depth lines (outline_of_outline c))
     (none_silent [] ks))

@@ -8,10 +8,11 @@ use Rattle.std.specs.Option.{option_map, option_to_list}
 use Rattle.vcd_core.specs.Value.{letter_at}
 use Rattle.vcd_core.specs.Contents.{Contents, SignalContents, signal_value}
 use Rattle.vcd_core.specs.Outline.{without_changes, outline}
+use Rattle.vcd_core.proofs.shared.Outlines.{count_in_outline}
 use Rattle.vcd_text.specs.Letters.{printed_letters}
 use Rattle.vcd_edit.specs.Effect.{signal_bit}
 use Rattle.vcd_edit.specs.OtherWaves.{OtherChanges, with_others, HaveOwn}
-use Rattle.vcd_edit.proofs.shared.Outlines.{fault_is_of_outline, count_in_outline}
+use Rattle.vcd_edit.proofs.shared.Outlines.{fault_is_of_outline}
 use Rattle.vcd_edit.proofs.shared.OtherWaves.{others_keep_outline, same_signal}
 use Rattle.vcd_journal.specs.declared.step.Step.TheVariants as steps
 use Rattle.vcd_decode.specs.Uart.{uart_annotations}

@@ -8,6 +8,7 @@ use Rattle.std.specs.Str.{bytes_eq}
 use Rattle.vcd_core.specs.Contents.{Contents}
 use Rattle.vcd_core.specs.Names.{is_numbered, number_in, lookup}
 use Rattle.vcd_core.specs.Outline.{outline}
+use Rattle.vcd_core.proofs.shared.Outlines.{count_in_outline, at_outline, names_of_outline}
 use Rattle.vcd_decode.specs.UartSetup.{uart_setup}
 use Rattle.vcd_decode.specs.SpiSetup.{spi_setup}
 use Rattle.vcd_decode.specs.SetupFaults.{uart_fault, spi_fault}
@@ -16,7 +17,6 @@ use Rattle.vcd_text.specs.Grammar.{word_texts}
 use Rattle.vcd_edit.specs.declared.edit.Edit.TheVariants.{Rename, Remove, Invert, Shift}
 use Rattle.vcd_edit.specs.declared.edit.Edit.TheVariants.{Deglitch, Force, Derive}
 use Rattle.vcd_edit.specs.declared.edit.Rule.TheVariants.{Not, And, Or, Xor, BitOf}
-use Rattle.vcd_edit.proofs.shared.Outlines.{count_in_outline, at_outline, names_of_outline}
 use Rattle.vcd_script.specs.declared.script.command.Command.TheVariants as commands
 use Rattle.vcd_script.specs.declared.script.keyword.Keyword.{Keyword}
 use Rattle.vcd_script.specs.declared.script.keyword.Keyword.TheVariants as keywords

@@ -7,8 +7,8 @@ use Rattle.vcd_text.specs.Words.{words_of}
 use Rattle.vcd_edit.specs.Effect.{effect}
 use Rattle.vcd_edit.specs.EditFaults.{edit_fault}
 use Rattle.vcd_edit.proofs.worked.Records.{wire, capture}
-use Rattle.vcd_journal.specs.History.{initial_history, replay}
-use Rattle.vcd_journal.specs.OtherWaves.{origins}
+use Rattle.vcd_journal.specs.History.{replay}
+use Rattle.vcd_journal.specs.Origins.{origins}
 use Rattle.vcd_script.specs.ScriptCommands.{command_of_line}
 use Rattle.vcd_script.specs.Reply.{line_reply}
 use Rattle.vcd_script.specs.HollowRun.{origins_asked}
@@ -22,6 +22,6 @@ abbrev script : List (List ℕ)
 script = codes "remove top.a" ∷ codes "derive n not top.b" ∷ codes "invert top.n" ∷ codes "undo" ∷ codes "value top.a 0"
     ∷ codes "rename top.b a" ∷ codes "value @1 3" ∷ []
 
-b_and_c : origins_asked names 0 (initial_history 9) script ≡ 1 ∷ 2 ∷ []
-unfolding origins_asked line_reply command_of_line words_of lookup name_in replay effect edit_fault origins
+b_and_c : origins_asked names 0 9 script ≡ 1 ∷ 2 ∷ []
+unfolding line_reply command_of_line words_of lookup name_in replay effect edit_fault origins
 b_and_c = refl

@@ -1,4 +1,4 @@
-use Rattle.vcd_edit.proofs.shared.OtherWaves.{others_keep_outline, effect_with_others, left_fits_effect}
+use Rattle.vcd_edit.proofs.shared.OtherWaves.{others_keep_outline, effect_with_others, others_fit_effect}
 use Rattle.vcd_edit.proofs.laws.edits_leave_other_waves_alone.Goals as goal
 
 pub returns-clause-outline : goal.returns-clause-outline
@@ -8,4 +8,4 @@ pub returns-clause-effect : goal.returns-clause-effect
 returns-clause-effect c = effect_with_others
 
 pub returns-clause-fit : goal.returns-clause-fit
-returns-clause-fit c = left_fits_effect
+returns-clause-fit c = others_fit_effect

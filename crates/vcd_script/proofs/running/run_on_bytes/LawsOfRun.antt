@@ -152,17 +152,17 @@ module _ (c : Contents) (skipped depth : ℕ) (lines : List (List ℕ)) where
   -- ---- the edits in force
 
   -- each of these edits was made by a line after fewer than `count`, on the edits after it in the
-  -- list, and gives a sound capture
-  AreMade : (count : ℕ) → List Edit → Type 0
+  -- list
+  unfoldable pub AreMade : (count : ℕ) → List Edit → Type 0
   AreMade count [] = Unit {0}
   AreMade count (e ∷ es) = ((i : ℕ) × (i < count) × IsStepAfter i (steps.Edit e)
-      × ((at_line i).edits ≡ es) × IsSound (replay c (e ∷ es))) × AreMade count es
+      × ((at_line i).edits ≡ es)) × AreMade count es
 
   made_later : (count : ℕ) (es : List Edit) → AreMade count es → AreMade (suc count) es
   unfolding AreMade
   made_later count [] made = tt
   made_later count (e ∷ es) made =
-      let at = made.0 in ((at.0, omega (arith, at.1), at.2, at.3, at.4), made_later count es made.1)
+      let at = made.0 in ((at.0, omega (arith, at.1), at.2, at.3), made_later count es made.1)
 
   -- those in force are among them
   made_in_force : (count : ℕ) (es us : List Edit) → AreMade count (restored es us) → AreMade count es
@@ -170,42 +170,49 @@ module _ (c : Contents) (skipped depth : ℕ) (lines : List (List ℕ)) where
   made_in_force count es [] made = made
   made_in_force count es (u ∷ us) made = (made_in_force count (u ∷ es) us made).1
 
+  -- none was refused
+  pub none_refused : (count : ℕ) (e : Edit) (es : List Edit) → AreMade count (e ∷ es)
+      → edit_fault e (replay c es) ≡ None
+  unfolding AreMade
+  none_refused count e es made =
+      let at = made.0 in
+      ap (λ (before : List Edit). edit_fault e (replay c before)) (sym at.3)
+      ∙ no_fault (edit_fault e (capture_at c skipped depth lines at.0)) (step_accepted at.0 (steps.Edit e) at.2)
+
+  -- so each leaves a sound capture
   replay_sound : (count : ℕ) (es : List Edit) → IsSound c → AreMade count es → IsSound (replay c es)
   unfolding AreMade replay
   replay_sound count [] sound made = sound
-  replay_sound count (e ∷ es) sound made = made.0.4
+  replay_sound count (e ∷ es) sound made =
+      effect_is_sound e (replay c es) (replay_sound count es sound made.1) (none_refused count e es made)
 
   abbrev AllMade : (count : ℕ) → History → Type 0
   AllMade count h = AreMade count (restored h.edits h.undone)
 
-  made_by_step : IsSound c → (count : ℕ) (s : Step) → IsStepAfter count s → AllMade count (at_line count)
+  made_by_step : (count : ℕ) (s : Step) → IsStepAfter count s → AllMade count (at_line count)
       → AllMade (suc count) (history_after (at_line count) s)
-  unfolding AreMade restored replay
-  made_by_step sound count (steps.Edit e) is made =
-      let in_force = made_in_force count (at_line count).edits (at_line count).undone made in
-      let now_sound = replay_sound count (at_line count).edits sound in_force in
-      let accepted = step_accepted count (steps.Edit e) is in
-      let none = no_fault (edit_fault e (capture_at c skipped depth lines count)) accepted in (
-        (count, omega arith, is, refl, effect_is_sound e (capture_at c skipped depth lines count) now_sound none),
-        made_later count _ in_force,
-      )
-  made_by_step sound count steps.Undo is made =
+  unfolding AreMade restored
+  made_by_step count (steps.Edit e) is made = (
+    (count, omega arith, is, refl),
+    made_later count _ (made_in_force count (at_line count).edits (at_line count).undone made),
+  )
+  made_by_step count steps.Undo is made =
       subst (AreMade (suc count)) (sym (undo_restores (at_line count).edits (at_line count).undone))
       (made_later count _ made)
-  made_by_step sound count steps.Redo is made =
+  made_by_step count steps.Redo is made =
       subst (AreMade (suc count)) (sym (redo_restores (at_line count).edits (at_line count).undone))
       (made_later count _ made)
-  made_by_step sound count (steps.Depth d) is made = made_later count _ made
+  made_by_step count (steps.Depth d) is made = made_later count _ made
 
-  all_made : IsSound c → (count : ℕ) → AllMade count (at_line count)
+  all_made : (count : ℕ) → AllMade count (at_line count)
   unfolding AreMade restored
-  all_made sound zero = tt
-  all_made sound (suc count) =
-      next_holds (AllMade (suc count)) count (made_later count _ (all_made sound count))
-      (λ s is. made_by_step sound count s is (all_made sound count))
+  all_made zero = tt
+  all_made (suc count) =
+      next_holds (AllMade (suc count)) count (made_later count _ (all_made count))
+      (λ s is. made_by_step count s is (all_made count))
 
-  in_force_made : IsSound c → (count : ℕ) → AreMade count (at_line count).edits
-  in_force_made sound count = made_in_force count (at_line count).edits (at_line count).undone (all_made sound count)
+  pub in_force_made : (count : ℕ) → AreMade count (at_line count).edits
+  in_force_made count = made_in_force count (at_line count).edits (at_line count).undone (all_made count)
 
   -- ---- the undone edits
 
@@ -330,12 +337,12 @@ module _ (c : Contents) (skipped depth : ℕ) (lines : List (List ℕ)) where
       let before = ap (λ (now : List Edit). replay c (drop 1 now)) is ∙ ap (replay c) (sym at.3) in
       (at.0, e, at.1, at.2, now, before)
 
-  undo_gives_back : IsSound c → (j : ℕ) → IsStepAfter j steps.Undo →
+  undo_gives_back : (j : ℕ) → IsStepAfter j steps.Undo →
       (i : ℕ) × (e : Edit) × (i < j) × IsStepAfter i (steps.Edit e) × ((at_line j).edits ≡ e ∷ (at_line i).edits)
       × (capture_at c skipped depth lines (suc j) ≡ capture_at c skipped depth lines i)
-  undo_gives_back sound j undo =
+  undo_gives_back j undo =
       let some : 1 ≤ length (at_line j).edits = omega (arith, some_undoable j undo, undoable_within j) in
-      let found = undone_edit j (at_line j).edits refl some (in_force_made sound j) in
+      let found = undone_edit j (at_line j).edits refl some (in_force_made j) in
       let back = ap (λ (h : History). replay c h.edits) (after_step j steps.Undo undo) ∙ found.5 in
       (found.0, found.1, found.2, found.3, found.4, back)
 
@@ -359,7 +366,7 @@ module _ (c : Contents) (skipped depth : ℕ) (lines : List (List ℕ)) where
   pub laws : IsSound c → RunLaws c skipped depth lines
   laws sound =
       let all_sound : (count : ℕ) → IsSound (capture_at c skipped depth lines count) =
-      λ count. replay_sound count (at_line count).edits sound (in_force_made sound count) in
+      λ count. replay_sound count (at_line count).edits sound (in_force_made count) in
       let last : Contents = capture_at c skipped depth lines (length lines) in
       record {
         sound = all_sound;
@@ -379,7 +386,7 @@ module _ (c : Contents) (skipped depth : ℕ) (lines : List (List ℕ)) where
             subst (λ n. 1 ≤ length (at_line n).undone) next (undo_can_be_redone (number - 1) undo);
         undo_restores = λ number least undo.
             let next : suc (number - 1) ≡ number = omega (arith, least) in
-            let found = undo_gives_back sound (number - 1) undo in
+            let found = undo_gives_back (number - 1) undo in
             let before : found.0 ≡ suc found.0 - 1 = omega arith in
             let edit = subst (λ n. IsStepAfter n (steps.Edit found.1)) before found.3 in
             let now = found.4 ∙ ap (λ n. found.1 ∷ (at_line n).edits) before in
