@@ -4,3 +4,4 @@ pub mod SameBytesSameResult
 pub mod HollowRuns
 pub mod HollowPart
 pub mod FittingCuts
+pub mod AmendedRuns

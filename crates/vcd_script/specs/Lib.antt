@@ -15,6 +15,7 @@ pub mod SessionLines
 pub mod LineRunEnds
 pub mod Run
 pub mod HollowRun
+pub mod AmendedRun
 pub mod HollowPart
 pub mod FileLaws
 pub mod RunEnds

@@ -6,6 +6,9 @@ ghost use Rattle.vcd_script.specs.HollowPart.{HollowIsPart};
 ghost use Rattle.vcd_script.specs.HollowRun.{CommandIsOfOutline, HistoryIsOfOutline};
 ghost use Rattle.vcd_script.specs.HollowRun.{AskedIsOfOutline, ReplyWithOthers, RunOnHollow};
 ghost use Rattle.vcd_script.specs.HollowRun.{RunAfterDryRun, CutsOfRunFit};
+ghost use Rattle.vcd_script.specs.AmendedRun.{RemainingThenDerived, RemainingAreOfVariables};
+ghost use Rattle.vcd_script.specs.AmendedRun.{RemainingByHollow, NoCutLeavesFile};
+ghost use Rattle.vcd_script.specs.AmendedRun.{AmendedRunMeansLastCapture};
 
 /// Two runs on the same bytes and of the same depth have the same result, if memory runs out in
 /// neither.
@@ -47,4 +50,20 @@ pub fn runs_on_hollow_captures()
 /// of the signals that are not taken.
 pub fn hollow_captures_are_parts()
     ensures { HollowIsPart }
+{}
+
+/// What a run leaves of the variables of a file can be left of them, in their order, and then come
+/// the derived signals. It is known from the run on a capture that lacks the waves of silent
+/// signals.
+pub fn signals_remain()
+    ensures order { RemainingThenDerived }
+    ensures variables { RemainingAreOfVariables }
+    ensures hollow { RemainingByHollow }
+{}
+
+/// The text of the file after the cuts alone, amended for the last capture of a run, means that
+/// capture. Without a cut that is the file itself.
+pub fn amended_run_is_read_again()
+    ensures capture { AmendedRunMeansLastCapture }
+    ensures no_cut { NoCutLeavesFile }
 {}
