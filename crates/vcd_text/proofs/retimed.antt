@@ -1,5 +1,11 @@
--- Lemmas: retimed files.
+-- Lemmas: files after ticks are cut out.
+pub mod Ticks
+pub mod Kinds
+pub mod StampTicks
+pub mod LastChanges
+pub mod Accepted
 pub mod Values
-pub mod Steps
-pub mod Whole
+pub mod Meaning
 pub mod Pieces
+pub mod Stamps
+pub mod Order

@@ -2,4 +2,4 @@
 pub mod AmendedItems
 pub mod AmendedTexts
 pub mod GivenCodes
-pub mod RetimedItems
+pub mod RetimedPieces

@@ -31,5 +31,5 @@ pub mod FreshCodes
 pub mod GivenCodes
 pub mod WhatStands
 pub mod Retimed
-pub mod RetimedText
+pub mod RetimedLaws
 pub mod inside

@@ -1,106 +1,134 @@
--- A file after ranges of ticks are cut out: its items and its meaning. The project's own.
-use Rattle.std.specs.Prelude.{◌≡◌, ℕ, ◌+◌, ◌-◌, ◌≤◌, ◌==◌, ◌&&◌, ◌||◌, Bool, true, false, not, min, nat_lt}
-use Rattle.std.specs.Prelude.{if◌then◌else◌, List, [], ◌∷◌, ◌++◌, map, bytes_eq, decimal, IsTrue, count_by}
+-- A file after ticks are cut out: its pieces and its meaning. The project's own.
+use Rattle.std.specs.Prelude.{◌≡◌, ℕ, zero, suc, ◌+◌, ◌-◌, ◌==◌, ◌&&◌, ◌||◌, Bool, true, false, not}
+use Rattle.std.specs.Prelude.{nat_lt, nat_le, if◌then◌else◌, List, [], ◌∷◌, ◌++◌, map, decimal}
+use Rattle.std.specs.Prelude.{Option, Some, None, is_some, bytes_eq, codes}
+use Rattle.std.specs.List.{filter, list_any, join_with_byte}
 use Rattle.vcd_core.specs.Decimal.{number_of}
 use Rattle.vcd_core.specs.Wave.{changes_of}
 use Rattle.vcd_core.specs.Contents.{Contents, SignalContents, signal_value}
-use Rattle.vcd_text.specs.Items.{Item, stamp, scalar, vector, real_or_string}
-use Rattle.vcd_text.specs.Grammar.{ParseState, initial_state, state_after, state_after_item, AllowsAll, is_skipped}
-use Rattle.vcd_text.specs.Meaning.{meaning}
-use Rattle.vcd_text.specs.AmendedItems.{ItemFate, stands, is_left_out, is_exchanged, items_in_place}
+use Rattle.vcd_text.specs.Items.{Item, stamp, scalar, vector, real_or_string, spelling}
+use Rattle.vcd_text.specs.Grammar.{ParseState, state_after_item}
+use Rattle.vcd_text.specs.AmendedItems.{ItemFate, stands, is_left_out, is_exchanged}
+use Rattle.vcd_text.specs.Pieces.{Piece}
 
 -- ---- ticks
 
--- the new tick of each tick, and for each new tick the last tick that comes to it or before it
-pub record IsRetiming (tau source : ℕ → ℕ) : Type 0 where
-  pub earlier : (u : ℕ) → tau u ≤ u
-  pub before : (u t : ℕ) → tau u ≤ t → u ≤ source t
-  pub after : (u t : ℕ) → u ≤ source t → tau u ≤ t
+-- the new tick of a tick: how many ticks below it are left
+unfoldable pub new_tick : (is_cut_out : ℕ → Bool) → ℕ → ℕ
+new_tick is_cut_out zero = 0
+new_tick is_cut_out (suc t) = new_tick is_cut_out t + (if is_cut_out t then 0 else 1)
 
--- the new tick of a tick, if the ticks from `from` to before `to` are cut out
-abbrev pub tick_after_cut : (from to : ℕ) → ℕ → ℕ
-tick_after_cut from to u = if nat_lt u to then min u from else u - (to - from)
+-- the old tick of each new tick is left
+pub record AreOldTicks (is_cut_out : ℕ → Bool) (old_tick : ℕ → ℕ) : Type 0 where
+  pub left : (t : ℕ) → is_cut_out (old_tick t) ≡ false
+  pub same : (t : ℕ) → new_tick is_cut_out (old_tick t) ≡ t
 
--- the tick that comes to a new tick
-abbrev pub tick_before_cut : (from to : ℕ) → ℕ → ℕ
-tick_before_cut from to t = if nat_lt t from then t else t + (to - from)
+-- ---- changes
 
--- ---- items
+-- a code, and which of its changes: those to digits, or those to a real or a string
+pub data ChangeKey : Type 0 where
+  digits_of : (code : List ℕ) → ChangeKey
+  text_of : (code : List ℕ) → ChangeKey
 
--- whether an item is a change of this code: to a real or a string, or to digits
-abbrev pub is_change_of : (real : Bool) → (code : List ℕ) → Item → Bool
-is_change_of false code (scalar digit c) = bytes_eq code c
-is_change_of false code (vector first digits c) = bytes_eq code c
-is_change_of true code (real_or_string first text c) = bytes_eq code c
-is_change_of real code i = false
+-- the key of an item, if it is a change
+abbrev pub change_key : Item → Option ChangeKey
+change_key (scalar digit code) = Some (digits_of code)
+change_key (vector first digits code) = Some (digits_of code)
+change_key (real_or_string first text code) = Some (text_of code)
+change_key item = None
 
--- whether such a change comes before the new tick is another one
-abbrev pub comes_again : (tau : ℕ → ℕ) → (now : ℕ) → (real : Bool) → (code : List ℕ) → List Item → Bool
-comes_again tau now real code [] = false
-comes_again tau now real code (stamp digits ∷ is) = (tau (number_of digits) == now) && comes_again tau now real code is
-comes_again tau now real code (i ∷ is) = is_change_of real code i || comes_again tau now real code is
+-- the code of a key
+abbrev pub code_of_key : ChangeKey → List ℕ
+code_of_key (digits_of code) = code
+code_of_key (text_of code) = code
 
--- what becomes of a change: if its tick is cut out, it stands only as the last one of its code
-abbrev pub retimed_change : (tau source : ℕ → ℕ) → ParseState → (real : Bool) → (code : List ℕ) → List Item → ItemFate
-retimed_change tau source s real code is =
-    if not (source (tau s.tick) == s.tick) && comes_again tau (tau s.tick) real code is then is_left_out
-    else stands
+-- whether two keys are the same
+abbrev pub same_key : ChangeKey → ChangeKey → Bool
+same_key (digits_of a) (digits_of b) = bytes_eq a b
+same_key (text_of a) (text_of b) = bytes_eq a b
+same_key a b = false
 
--- what becomes of a stamp: it has its new tick, if that is not the last one
-abbrev pub retimed_stamp : (tau : ℕ → ℕ) → ParseState → (digits : List ℕ) → ItemFate
-retimed_stamp tau s digits =
-    if (tau (number_of digits) == tau s.tick) && not (number_of digits == s.tick) then is_left_out
-    else (if tau (number_of digits) == number_of digits then stands
-    else is_exchanged (stamp (decimal (tau (number_of digits)))))
+-- whether an item is a change with this key
+abbrev pub has_key : ChangeKey → Option ChangeKey → Bool
+has_key key None = false
+has_key key (Some other) = same_key key other
 
--- what becomes of an item after this state, before these items
-abbrev pub retimed_outcome : (tau source : ℕ → ℕ) → ParseState → Item → List Item → ItemFate
-retimed_outcome tau source s (stamp digits) is = retimed_stamp tau s digits
-retimed_outcome tau source s (scalar digit code) is = retimed_change tau source s false code is
-retimed_outcome tau source s (vector first digits code) is = retimed_change tau source s false code is
-retimed_outcome tau source s (real_or_string first text code) is = retimed_change tau source s true code is
-retimed_outcome tau source s i is = stands
+-- whether the changes of a code last: it has a variable that is no event
+abbrev pub lasts : ParseState → (code : List ℕ) → Bool
+lasts s code =
+    list_any (λ d. bytes_eq code d.code && not (bytes_eq d.kind (codes "event"))) s.declared
 
--- the items in place of these after this state
-unfoldable pub retimed : (tau source : ℕ → ℕ) → ParseState → List Item → List Item
-retimed tau source s [] = []
-retimed tau source s (i ∷ is) =
-    items_in_place (retimed_outcome tau source s i is) i ++ retimed tau source (state_after_item s i) is
+-- ---- held changes
+
+-- the held changes and one more change, in the place of one with its key; it is not held itself if
+-- the last stamp is left, or the change does not last
+abbrev pub held_with : (is_cut_out : ℕ → Bool) → ParseState → List Piece → Piece → Option ChangeKey
+    → List Piece
+held_with is_cut_out s held p None = held
+held_with is_cut_out s held p (Some key) =
+    filter (λ h. not (has_key key (change_key h.item))) held
+    ++ (if is_cut_out s.tick && lasts s (code_of_key key) then p ∷ [] else [])
+
+-- whether an item is a stamp past the first tick, from the last stamp on, that is left
+abbrev pub is_past : (is_cut_out : ℕ → Bool) → ParseState → Item → Bool
+is_past is_cut_out s (stamp digits) =
+    nat_lt (new_tick is_cut_out s.tick) (new_tick is_cut_out (number_of digits))
+is_past is_cut_out s item = false
+
+-- a stamp on a line of its own
+abbrev pub stamp_line : ℕ → Piece
+stamp_line t = record { item = stamp (decimal t); space = 10 ∷ []; body = 35 ∷ decimal t }
+
+-- the held changes with their new tick, of which there is no stamp if the last one is left out
+abbrev pub released : (is_cut_out : ℕ → Bool) → ParseState → (held : List Piece) → List Piece
+released is_cut_out s [] = []
+released is_cut_out s (p ∷ ps) =
+    (if is_cut_out s.tick then stamp_line (new_tick is_cut_out s.tick) ∷ [] else []) ++ p ∷ ps
+
+-- ---- pieces
+
+-- what becomes of a stamp
+abbrev pub retimed_stamp : (is_cut_out : ℕ → Bool) → ℕ → ItemFate
+retimed_stamp is_cut_out t = if is_cut_out t then is_left_out
+    else (if new_tick is_cut_out t == t then stands
+    else is_exchanged (stamp (decimal (new_tick is_cut_out t))))
+
+-- what becomes of an item in its place
+abbrev pub retimed_fate : (is_cut_out : ℕ → Bool) → ParseState → Item → ItemFate
+retimed_fate is_cut_out s (stamp digits) = retimed_stamp is_cut_out (number_of digits)
+retimed_fate is_cut_out s item =
+    if is_some (change_key item) && is_cut_out s.tick then is_left_out else stands
+
+-- the pieces in the place of a piece with this outcome; another item has one space between its
+-- words
+abbrev pub pieces_in_place : ItemFate → Piece → List Piece
+pieces_in_place stands p = p ∷ []
+pieces_in_place is_left_out p = []
+pieces_in_place (is_exchanged j) p =
+    record { item = j; space = p.space; body = join_with_byte 32 (spelling j) } ∷ []
+
+-- the pieces in place of these after this state, while these changes are held
+unfoldable pub retimed : (is_cut_out : ℕ → Bool) → ParseState → (held : List Piece) → List Piece
+    → List Piece
+retimed is_cut_out s held [] = released is_cut_out s held
+retimed is_cut_out s held (p ∷ ps) =
+    (if is_past is_cut_out s p.item then released is_cut_out s held else [])
+    ++ pieces_in_place (retimed_fate is_cut_out s p.item) p
+    ++ retimed is_cut_out (state_after_item s p.item)
+    (if is_past is_cut_out s p.item then [] else held_with is_cut_out s held p (change_key p.item))
+    ps
 
 -- ---- the meaning
 
--- a signal with the values of the ticks that come to the new ones
-abbrev pub retimed_signal : (source : ℕ → ℕ) → (end : ℕ) → SignalContents → SignalContents
-retimed_signal source end s = record s { changes = changes_of s.width end (λ t. signal_value s (source t)) }
+-- a signal with the values of the old ticks at the new ones
+abbrev pub retimed_signal : (old_tick : ℕ → ℕ) → (end : ℕ) → SignalContents → SignalContents
+retimed_signal old_tick end s =
+    record s { changes = changes_of s.width end (λ t. signal_value s (old_tick t)) }
 
 -- the capture at the new ticks
-abbrev pub retimed_contents : (tau source : ℕ → ℕ) → Contents → Contents
-retimed_contents tau source c =
-    record c { end = tau c.end; signals = map (retimed_signal source (tau c.end)) c.signals }
-
--- items that are accepted, and mean what a state means at the new ticks
-pub record MeansRetimed (tau source : ℕ → ℕ) (limit : ℕ) (s : ParseState) (items : List Item) : Type 0 where
-  pub allowed : AllowsAll (initial_state limit) items
-  pub in_body : IsTrue (state_after (initial_state limit) items).in_body
-  pub means : meaning (state_after (initial_state limit) items) ≡ retimed_contents tau source (meaning s)
-  pub left_out : count_by is_skipped (state_after (initial_state limit) items).declared
-      ≡ count_by is_skipped s.declared
-
--- a retimed file means the retimed capture, if the end is not cut out
-abbrev pub RetimedFileMeansRetimedCapture : Type 0
-RetimedFileMeansRetimedCapture = (tau source : ℕ → ℕ) (limit : ℕ) (items : List Item) → IsRetiming tau source
-    → AllowsAll (initial_state limit) items
-    → IsTrue (state_after (initial_state limit) items).in_body
-    → source (tau (state_after (initial_state limit) items).tick) ≡ (state_after (initial_state limit) items).tick
-    → MeansRetimed tau source limit (state_after (initial_state limit) items)
-    (retimed tau source (initial_state limit) items)
-
--- a cut is a retiming, and so are two of them; the end that is not cut out comes to the end that is left
-abbrev pub CutsAreRetimings : Type 0
-CutsAreRetimings =
-    ((from to : ℕ) → from ≤ to → IsRetiming (tick_after_cut from to) (tick_before_cut from to))
-    × ((from to end : ℕ) → from ≤ to → to ≤ end
-    → (tick_after_cut from to end ≡ end - (to - from))
-    × (tick_before_cut from to (tick_after_cut from to end) ≡ end))
-    × ((tau source sigma origin : ℕ → ℕ) → IsRetiming tau source → IsRetiming sigma origin
-    → IsRetiming (λ u. sigma (tau u)) (λ t. source (origin t)))
+abbrev pub retimed_contents : (is_cut_out : ℕ → Bool) → (old_tick : ℕ → ℕ) → Contents → Contents
+retimed_contents is_cut_out old_tick c =
+    record c {
+      end = new_tick is_cut_out c.end;
+      signals = map (retimed_signal old_tick (new_tick is_cut_out c.end)) c.signals;
+    }

@@ -13,9 +13,9 @@ ghost use Rattle.vcd_text.specs.CodedAmendment.{CodedAmendmentGivesCapture};
 ghost use Rattle.vcd_text.specs.FreshCodes.{FreshCodesAreFresh, FreshCodesAreInOrder};
 ghost use Rattle.vcd_text.specs.GivenCodes.{GivenCodesFit, AmendedTextMeansOtherCapture};
 ghost use Rattle.vcd_text.specs.WhatStands.{UntouchedItemsStand};
-ghost use Rattle.vcd_text.specs.Retimed.{RetimedFileMeansRetimedCapture, CutsAreRetimings};
-ghost use Rattle.vcd_text.specs.RetimedText.{AmendedTextAfterCutsMeansCapture};
-ghost use Rattle.vcd_text.specs.RetimedText.{OtherCaptureAfterCuts};
+ghost use Rattle.vcd_text.specs.RetimedLaws.{RetimedFileMeansRetimedCapture, CutsLeaveTicks};
+ghost use Rattle.vcd_text.specs.RetimedLaws.{LastChangesStand, ChangesStandInOrder};
+ghost use Rattle.vcd_text.specs.RetimedLaws.{StampsStand, RetimedTextMeansRetimedCapture};
 
 /// A file has at most one result. It has no two meanings, no two faults, no two lines of one fault,
 /// and never both a meaning and a fault.
@@ -92,12 +92,15 @@ pub fn fresh_codes_are_fresh()
     ensures in_order { FreshCodesAreInOrder }
 {}
 
-/// The items of a file after cuts are accepted, and mean the capture after the cuts.
+/// The pieces of a file after cuts are cut from its bytes and accepted, and mean the capture after
+/// the cuts. At each tick that is left the last change of each code stands, with its bytes.
 pub fn retimed_file_is_meant()
-    ensures items { RetimedFileMeansRetimedCapture }
-    ensures cuts { CutsAreRetimings }
-    ensures text { AmendedTextAfterCutsMeansCapture }
-    ensures other { OtherCaptureAfterCuts }
+    ensures pieces { RetimedFileMeansRetimedCapture }
+    ensures bytes { RetimedTextMeansRetimedCapture }
+    ensures ticks { CutsLeaveTicks }
+    ensures changes { LastChangesStand }
+    ensures order { ChangesStandInOrder }
+    ensures stamps { StampsStand }
 {}
 
 /// Every file whose words spell items is cut into the pieces of these items, and in one way.

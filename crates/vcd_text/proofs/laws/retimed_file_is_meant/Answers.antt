@@ -1,17 +1,25 @@
-use Rattle.vcd_text.proofs.worked.RetimedItems as worked
-use Rattle.vcd_text.proofs.retimed.Pieces.{amended_after_cuts, other_capture_after_cuts}
-use Rattle.vcd_text.proofs.retimed.Whole.{retimed_is_meant}
-use Rattle.vcd_text.proofs.retimed.Values.{cuts_are_retimings}
+use Rattle.vcd_text.proofs.worked.RetimedPieces as worked
+use Rattle.vcd_text.proofs.retimed.LastChanges.{last_changes_stand}
+use Rattle.vcd_text.proofs.retimed.Stamps.{stamps_stand}
+use Rattle.vcd_text.proofs.retimed.Order.{changes_stand_in_order}
+use Rattle.vcd_text.proofs.retimed.Ticks.{cuts_leave_ticks}
+use Rattle.vcd_text.proofs.retimed.Pieces.{retimed_is_meant, retimed_text_is_meant}
 use Rattle.vcd_text.proofs.laws.retimed_file_is_meant.Goals as goal
 
-pub returns-clause-items : goal.returns-clause-items
-returns-clause-items c = retimed_is_meant
+pub returns-clause-pieces : goal.returns-clause-pieces
+returns-clause-pieces c = retimed_is_meant
 
-pub returns-clause-cuts : goal.returns-clause-cuts
-returns-clause-cuts c = cuts_are_retimings
+pub returns-clause-ticks : goal.returns-clause-ticks
+returns-clause-ticks c = cuts_leave_ticks
 
-pub returns-clause-text : goal.returns-clause-text
-returns-clause-text c = amended_after_cuts
+pub returns-clause-changes : goal.returns-clause-changes
+returns-clause-changes c = last_changes_stand
 
-pub returns-clause-other : goal.returns-clause-other
-returns-clause-other c = other_capture_after_cuts
+pub returns-clause-order : goal.returns-clause-order
+returns-clause-order c = changes_stand_in_order
+
+pub returns-clause-stamps : goal.returns-clause-stamps
+returns-clause-stamps c = stamps_stand
+
+pub returns-clause-bytes : goal.returns-clause-bytes
+returns-clause-bytes c = retimed_text_is_meant
