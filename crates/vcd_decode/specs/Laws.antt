@@ -1,5 +1,5 @@
--- The laws of the decoders: what is sent is found, what is apart is found apart, and an edge through
--- x or z counts for nothing. Each is the contract of a function of `laws`.
+-- The laws of the decoders: what is sent is found, what is apart is found apart, and an edge
+-- through x or z counts for nothing. Each is the contract of a function of `laws`.
 use Rattle.std.specs.Prelude.{ℕ, suc, ◌-◌, ◌≡◌, ◌<◌, ◌≤◌, ◌&&◌, nat_le, Bool, true, false}
 use Rattle.std.specs.Prelude.{if◌then◌else◌, Option, Some, None, List, [], ◌∷◌, ◌++◌, map, length}
 use Rattle.std.specs.List.{All}

@@ -17,8 +17,8 @@ use Rattle.vcd_decode.specs.SentLevels.{level, data_levels}
 
 -- ---- the bits of a frame
 
--- what is wrong with a frame: whether the parity bit is; a stop bit that is 0, counted from 0; a bit
--- after the start bit that is x or z, counted from 0, with its letter
+-- what is wrong with a frame: whether the parity bit is; a stop bit that is 0, counted from 0; a
+-- bit after the start bit that is x or z, counted from 0, with its letter
 pub record Flaws : Type 0 where
   pub wrong_parity : Bool
   pub low_stop : Option ℕ

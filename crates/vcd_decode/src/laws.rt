@@ -3,7 +3,8 @@
 ghost use Rattle.vcd_decode.specs.Laws.{UartFramesAreFound, SpiWordsAreFound, SpiPartIsFound};
 ghost use Rattle.vcd_decode.specs.Laws.{I2cMessagesAreFound, FramesBeginStraight};
 ghost use Rattle.vcd_decode.specs.Laws.{StraightClocksCount, StraightBusEdgesCount};
-ghost use Rattle.vcd_decode.specs.Laws.{SpiSelectionsAreApart, SpiLinesAreApart, I2cMessagesAreApart};
+ghost use Rattle.vcd_decode.specs.Laws.{SpiSelectionsAreApart, SpiLinesAreApart};
+ghost use Rattle.vcd_decode.specs.Laws.{I2cMessagesAreApart};
 
 /// A line that sends frames, and begins no other, decodes to one annotation for each frame. It
 /// goes from the frame's start to the sample of its last bit. Its kind is `byte` with the word that

@@ -35,7 +35,8 @@ unfolding sent flawed flawless sent_line bits_line data_levels
 line = refl
 
 -- the parity bit and the first of two stop bits
-flawed_line : map (sent_line (uart_setup 2 1 5 Even 2) (sent 1 3 (flawed true none none) ∷ sent 19 3 (flawed false (some 0) none) ∷ []))
+flawed_line : map (sent_line (uart_setup 2 1 5 Even 2)
+    (sent 1 3 (flawed true none none) ∷ sent 19 3 (flawed false (some 0) none) ∷ []))
     (range_with_len 0 37)
     ≡ One ∷ Zero ∷ Zero ∷ One ∷ One ∷ One ∷ One ∷ Zero ∷ Zero ∷ Zero ∷ Zero ∷ Zero ∷ Zero ∷ One ∷ One ∷ One ∷ One ∷ One
     ∷ One ∷ Zero ∷ Zero ∷ One ∷ One ∷ One ∷ One ∷ Zero ∷ Zero ∷ Zero ∷ Zero ∷ Zero ∷ Zero ∷ Zero ∷ Zero ∷ Zero ∷ Zero
@@ -44,24 +45,29 @@ unfolding sent flawed flawless sent_line bits_line data_levels
 flawed_line = refl
 
 eight_bits : found (uart_setup 10 1 8 None 1) 130 (sent 20 65 flawless ∷ []) ≡ annotation 20 115 (Byte 65) ∷ []
-unfolding sent flawed flawless found uart_annotations frames falls begun_frame sample_offset sent_line bits_line data_levels
+unfolding sent flawed flawless found uart_annotations frames falls begun_frame sample_offset sent_line bits_line
+    data_levels
 eight_bits = refl
 
 two_words : found (uart_setup 5 2 5 Odd 2) 46 (sent 1 31 flawless ∷ sent 23 0 flawless ∷ [])
     ≡ annotation 1 22 (Byte 31) ∷ annotation 23 44 (Byte 0) ∷ []
-unfolding sent flawed flawless found uart_annotations frames falls begun_frame sample_offset sent_line bits_line data_levels
+unfolding sent flawed flawless found uart_annotations frames falls begun_frame sample_offset sent_line bits_line
+    data_levels
 two_words = refl
 
-flaws : found (uart_setup 5 2 5 Odd 2) 70 (sent 1 31 (flawed true none none) ∷ sent 23 0 (flawed false (some 1) none) ∷ sent 47 1 flawless ∷ [])
+flaws : found (uart_setup 5 2 5 Odd 2) 70
+    (sent 1 31 (flawed true none none) ∷ sent 23 0 (flawed false (some 1) none) ∷ sent 47 1 flawless ∷ [])
     ≡ annotation 1 22 (ParityError 31) ∷ annotation 23 44 FrameError ∷ annotation 47 68 (Byte 1) ∷ []
-unfolding sent flawed flawless found uart_annotations frames falls begun_frame sample_offset sent_line bits_line data_levels
+unfolding sent flawed flawless found uart_annotations frames falls begun_frame sample_offset sent_line bits_line
+    data_levels
 flaws = refl
 
 -- a wrong parity bit and a low stop bit in one frame, and an unclear stop bit in the other
 two_flaws : found (uart_setup 5 2 5 Odd 2) 70
     (sent 1 31 (flawed true (some 0) none) ∷ sent 47 1 (flawed true (some 1) (some (6, Z))) ∷ [])
     ≡ annotation 1 22 FrameError ∷ annotation 47 68 Unknown ∷ []
-unfolding sent flawed flawless found uart_annotations frames falls begun_frame sample_offset sent_line bits_line data_levels
+unfolding sent flawed flawless found uart_annotations frames falls begun_frame sample_offset sent_line bits_line
+    data_levels
 two_flaws = refl
 
 -- a fall that is over half a bit later, and a frame whose bits are there in their middles alone

@@ -210,7 +210,8 @@ kind_of_sent u w within can =
 pub later_length : (u : UartSetup) (w : SentFrame) → CanHaveFlaws u w.flaws → length (later_levels u w) ≡ last_bit u
 later_length u w can = with_one w.flaws.unclear ∙ clear_length u w can
   where
-    with_one : (unclear : Option (ℕ × Bit)) → length (with_unclear unclear (clear_levels u w)) ≡ length (clear_levels u w)
+    with_one : (unclear : Option (ℕ × Bit))
+        → length (with_unclear unclear (clear_levels u w)) ≡ length (clear_levels u w)
     with_one None = refl
     with_one (Some (k, b)) = length-set (clear_levels u w) k b
 

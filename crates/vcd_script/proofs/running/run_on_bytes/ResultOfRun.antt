@@ -29,7 +29,8 @@ stage_at zero other = absurd (other refl)
 stage_at (suc before) other = refl
 
 -- a file is refused for one fault
-pub one_refused_file : (file : List ℕ) (e other : ReadError) → IsRefusedFile file e → IsRefusedFile file other → other ≡ e
+pub one_refused_file : (file : List ℕ) (e other : ReadError) → IsRefusedFile file e → IsRefusedFile file other
+    → other ≡ e
 one_refused_file file e other (has_fault short fault) (has_fault also fault_too) =
     one_error SIGNAL_LIMIT file other e fault_too fault
 one_refused_file file e other (has_fault short fault) (too_large long answer) = absurd (omega (arith, short, long))
