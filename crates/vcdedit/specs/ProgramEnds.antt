@@ -1,6 +1,6 @@
 -- How a run ends that the words of the command line ask for: its outcome, the exit status, and the
 -- text on standard error. The rules are the project's own.
-use Rattle.std.specs.Prelude.{◌≡◌, ◌⊎◌, ℕ, List, [], Option, Some, None, IsSome, is_some}
+use Rattle.std.specs.Prelude.{◌≡◌, ◌⊎◌, ℕ, false, List, [], Option, Some, None, IsSome, is_some}
 use Rattle.std.specs.Prelude.{Result, Ok, Err}
 use Rattle.vcd_core.specs.Devices.{DeviceEnd}
 use Rattle.vcd_text.specs.declared.fault.Fault.TheVariants as faults
@@ -37,10 +37,10 @@ IsOutcomeOn path outcome depth capture script = (replies : DeviceEnd) × (output
     × (is_some output ≡ is_some path) × RunEnds depth capture script replies output outcome
 
 -- the outcome is that of a run with these options, or the run does not begin; without a path the
--- script has the bytes of the default
+-- script has the bytes of the default, and does not fail
 abbrev pub IsOutcomeOfOptions : AskedOptions → Result Summary RunError → Type 0
 IsOutcomeOfOptions options outcome = ((e : RunError) × IsFaultBeforeRun options e
     × (outcome ≡ Err e))
     ⊎ ((capture : DeviceEnd) × (script : DeviceEnd)
-    × (options.script ≡ None → script.before ≡ Some default_script)
+    × (options.script ≡ None → (script.before ≡ Some default_script) × (script.has_failed ≡ false))
     × IsOutcomeOn options.output outcome options.depth capture script)

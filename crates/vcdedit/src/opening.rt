@@ -1,28 +1,19 @@
 //! The script that the command line names.
 
-ghost use Rattle.std.specs.Prelude.{◌≡◌, Some, None, IfOk, IfErr, IsSome};
-ghost use Rattle.vcdedit.specs.Opening.{ScriptComesFrom, default_script};
+ghost use Rattle.std.specs.Prelude.{IfOk};
+ghost use Rattle.vcd_shell.specs.Opening.{IsFile};
 
-use std::io::{Input, Read};
+use std::io::Input;
 use std::rt::Files;
 use std::{fs, io};
 use vcd_shell::Origin;
 
-/// The default script: the capture is listed.
-const SCRIPT_WITHOUT_FILE: &[u8] = b"list\n";
+/// The script without a path: the capture is listed.
+pub const DEFAULT_SCRIPT: &[u8] = b"list\n";
 
-/// Opens the script: the file at `path`, or the one line `list` without a path.
-pub fn open_script<R: Files + Input>(
-    rt: &R,
-    path: Option<&str>,
-) -> io::Result<Origin<R::Reader, R::File>>
-    ensures origin { IfOk result (ScriptComesFrom path.entry) }
-    ensures default { path.entry ≡ None → IfOk result (λ script.
-        ⟦<Origin<R::Reader, R::File> as Read>⟧.remaining script ≡ Some default_script) }
-    ensures named { IfErr result (λ _. IsSome path.entry) }
+/// Opens the script: the file at `path`.
+pub fn open_script<R: Files + Input>(rt: &R, path: &str) -> io::Result<Origin<R::Reader, R::File>>
+    ensures { IfOk result IsFile }
 {
-    match path {
-        Some(path) => Ok(Origin::File(fs::open(rt, path)?)),
-        None => Ok(Origin::Default(SCRIPT_WITHOUT_FILE)),
-    }
+    Ok(Origin::File(fs::open(rt, path)?))
 }

@@ -7,14 +7,14 @@ ghost use Rattle.vcdedit.specs.ProgramEnds.{IsOutcomeOn, IsOutcomeOfOptions};
 ghost use Rattle.vcd_script.specs.RunEnds.{RunEnds};
 
 use crate::command_line::{Options, command_line, options_of};
-use crate::opening::open_script;
+use crate::opening::{DEFAULT_SCRIPT, open_script};
 use crate::reporting::{PROGRAM, report, status_when_done};
 use clap::{ArgMatches, Command};
 use std::alloc::{AllocError, Global};
 use std::io;
 use std::io::BufWriter;
 use std::rt::Runtime;
-use vcd_core::{FromRead, Sink, Source, ToWrite};
+use vcd_core::{FromBytes, FromRead, Sink, Source, ToWrite};
 use vcd_journal::DEPTH_LIMIT;
 use vcd_script::{RunError, Summary, run};
 use vcd_shell::{LateFile, Program, open_capture};
@@ -90,14 +90,18 @@ fn run_options<R: Runtime + AllocGlobal>(rt: &R, options: &Options<'_>) -> Resul
     ensures { IsOutcomeOfOptions (options_in options.now) result }
 {
     let capture = open_capture(rt, options.input).map_err(|_| NOT_OPENED)?;
-    let script = open_script(rt, options.script).map_err(|_| RunError::ScriptReadFault)?;
-    run_inputs(
-        rt,
-        &mut FromRead::new(capture),
-        &mut FromRead::new(script),
-        options.output,
-        options.depth,
-    )
+    let capture = &mut FromRead::new(capture);
+    match options.script {
+        Some(path) => {
+            let script = open_script(rt, path).map_err(|_| RunError::ScriptReadFault)?;
+            let script = &mut FromRead::new(script);
+            run_inputs(rt, capture, script, options.output, options.depth)
+        }
+        None => {
+            let script = &mut FromBytes::new(DEFAULT_SCRIPT);
+            run_inputs(rt, capture, script, options.output, options.depth)
+        }
+    }
 }
 
 /// Runs with a buffer for the replies to standard output.
