@@ -9,6 +9,7 @@ pub mod Splice
 pub mod Contents
 pub mod CaptureContents
 pub mod TimeUnits
+pub mod UnitNames
 pub mod Word
 pub mod Tests
 pub mod Decimal

@@ -47,6 +47,7 @@ pub enum TimeUnit {
 impl TimeUnit {
     ghost use Rattle.std.specs.Prelude.{◌≡◌};
     ghost use Rattle.vcd_core.specs.TimeUnits.{unit_text};
+    ghost use Rattle.vcd_core.specs.UnitNames.{unit_named};
 
     /// The unit as a file spells it: `s`, `ms`, `us`, `ns`, `ps` or `fs`.
     pub fn symbol(self) -> &'static str
@@ -59,6 +60,28 @@ impl TimeUnit {
             TimeUnit::Nanosecond => "ns",
             TimeUnit::Picosecond => "ps",
             TimeUnit::Femtosecond => "fs",
+        }
+    }
+
+    /// The unit that a text names, if it names one.
+    pub fn from_symbol(text: &[u8]) -> Option<TimeUnit>
+        ensures { result ≡ unit_named text.now }
+    {
+        // Comparisons in a row: a `match` on byte strings leaves goals open.
+        if text == b"s".as_slice() {
+            Some(TimeUnit::Second)
+        } else if text == b"ms".as_slice() {
+            Some(TimeUnit::Millisecond)
+        } else if text == b"us".as_slice() {
+            Some(TimeUnit::Microsecond)
+        } else if text == b"ns".as_slice() {
+            Some(TimeUnit::Nanosecond)
+        } else if text == b"ps".as_slice() {
+            Some(TimeUnit::Picosecond)
+        } else if text == b"fs".as_slice() {
+            Some(TimeUnit::Femtosecond)
+        } else {
+            None
         }
     }
 }

@@ -2,11 +2,11 @@
 -- project's own.
 use Rattle.std.specs.Prelude.{ℕ, not, ◌+◌, ◌-◌, ◌*◌, ◌/◌, ◌%◌, ◌^◌, ◌==◌, ◌&&◌, nat_lt}
 use Rattle.std.specs.Prelude.{if◌then◌else◌, List, [], ◌∷◌, take, drop, Option, Some, None}
-use Rattle.std.specs.Prelude.{option_and_then, option_map, bytes_eq, find}
+use Rattle.std.specs.Prelude.{option_and_then, option_map}
 use Rattle.std.specs.List.{prefix_len}
 use Rattle.std.specs.Char.{is_ascii_digit}
 use Rattle.vcd_core.specs.Decimal.{is_number, number_of}
-use Rattle.vcd_core.specs.TimeUnits.{unit_text}
+use Rattle.vcd_core.specs.UnitNames.{unit_named}
 use Rattle.vcd_core.specs.declared.capture.TimeUnit.{TimeUnit}
 use Rattle.vcd_core.specs.declared.capture.TimeUnit.TheVariants.{Second, Millisecond, Microsecond}
 use Rattle.vcd_core.specs.declared.capture.TimeUnit.TheVariants.{Nanosecond}
@@ -23,11 +23,6 @@ bounded_number digits =
     if is_number digits && nat_lt (number_of digits) (2 ^ 64 - 1) then Some (number_of digits)
     else None
 
--- the unit of a name
-abbrev pub unit_of : List ℕ → Option TimeUnit
-unit_of name = find (λ unit. bytes_eq name (unit_text unit))
-    (Second ∷ Millisecond ∷ Microsecond ∷ Nanosecond ∷ Picosecond ∷ Femtosecond ∷ [])
-
 -- so many whole units, and a part of one: the fraction's digits as a number, of 10^decimals
 abbrev pub in_units : (whole fraction : Option ℕ) → (decimals : ℕ) → Option TimeUnit → Option Time
 in_units (Some whole) (Some fraction) decimals (Some unit) =
@@ -40,13 +35,13 @@ time_with_fraction digits rest =
     let decimals : ℕ = prefix_len is_ascii_digit rest in
     if nat_lt 15 decimals then None
     else in_units (bounded_number digits) (bounded_number (take decimals rest)) decimals
-    (unit_of (drop decimals rest))
+    (unit_named (drop decimals rest))
 
 -- the time of digits, and of what follows them: nothing, a unit, or `.` (46) and a fraction
 abbrev pub time_with : (digits rest : List ℕ) → Option Time
 time_with digits [] = option_map Ticks (bounded_number digits)
 time_with digits (c ∷ rest) = if c == 46 then time_with_fraction digits rest
-    else in_units (bounded_number digits) (Some 0) 0 (unit_of (c ∷ rest))
+    else in_units (bounded_number digits) (Some 0) 0 (unit_named (c ∷ rest))
 
 -- the time that a word writes, if it writes one
 abbrev pub time_of : List ℕ → Option Time

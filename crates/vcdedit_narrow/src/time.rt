@@ -3,6 +3,7 @@
 ghost use Rattle.std.specs.Prelude.{◌≡◌, ◌≤◌, ◌^◌, ◌-◌, min, length, option_map, IfSome};
 ghost use Rattle.std.specs.List.{prefix_len};
 ghost use Rattle.std.specs.Char.{is_ascii_digit};
+ghost use Rattle.vcd_core.specs.UnitNames.{unit_named};
 ghost use Rattle.vcdedit_narrow.specs.Times as spec;
 
 use vcd_core::{TimeUnit, Timescale, number_up_to};
@@ -61,13 +62,13 @@ fn time_with_fraction(digits: &[u8], rest: &[u8]) -> Option<Time>
 /// So many whole units, and a fraction of one with so many decimals, if `unit` names a unit.
 fn in_units(whole: u64, fraction: u64, decimals: u32, unit: &[u8]) -> Option<Time>
     requires { decimals ≤ 15 }
-    ensures { result ≡ spec.in_units (Some whole) (Some fraction) decimals (spec.unit_of unit.now) }
+    ensures { result ≡ spec.in_units (Some whole) (Some fraction) decimals (unit_named unit.now) }
 {
     Some(Time::Units {
         whole,
         fraction,
         parts: 10u64.pow(decimals),
-        unit: unit_of(unit)?,
+        unit: TimeUnit::from_symbol(unit)?,
     })
 }
 
@@ -88,28 +89,6 @@ fn bounded_number(digits: &[u8]) -> Option<u64>
         None
     } else {
         Some(number)
-    }
-}
-
-/// The unit of a name.
-fn unit_of(name: &[u8]) -> Option<TimeUnit>
-    ensures { result ≡ spec.unit_of name.now }
-{
-    // Comparisons in a row: a `match` on byte strings leaves goals open.
-    if name == b"s".as_slice() {
-        Some(TimeUnit::Second)
-    } else if name == b"ms".as_slice() {
-        Some(TimeUnit::Millisecond)
-    } else if name == b"us".as_slice() {
-        Some(TimeUnit::Microsecond)
-    } else if name == b"ns".as_slice() {
-        Some(TimeUnit::Nanosecond)
-    } else if name == b"ps".as_slice() {
-        Some(TimeUnit::Picosecond)
-    } else if name == b"fs".as_slice() {
-        Some(TimeUnit::Femtosecond)
-    } else {
-        None
     }
 }
 

@@ -2,9 +2,9 @@
 
 ghost use Rattle.std.specs.Prelude.{◌≡◌, IfOk};
 ghost use Rattle.std.specs.List.{concat};
+ghost use Rattle.vcd_core.specs.UnitNames.{unit_named};
 ghost use Rattle.vcd_text.specs.Items.{timescale_of};
 ghost use Rattle.vcd_text.specs.inside.reading.Timescale.{timescale_spelled, timescale_of_unit};
-ghost use Rattle.vcd_text.specs.inside.reading.Timescale.{unit_named};
 
 use std::alloc::Global;
 use vcd_core::{NoMemory, TimeUnit, Timescale, Word};
@@ -48,28 +48,6 @@ fn timescale_of_text(text: &[u8]) -> Option<Timescale>
 fn timescale_with(count: u64, unit: &[u8]) -> Option<Timescale>
     ensures { result ≡ timescale_of_unit count (unit_named unit.now) }
 {
-    let unit = unit_named(unit)?;
+    let unit = TimeUnit::from_symbol(unit)?;
     Some(Timescale { count, unit })
-}
-
-/// The unit that a text names; none if it names none.
-fn unit_named(text: &[u8]) -> Option<TimeUnit>
-    ensures { result ≡ unit_named text.now }
-{
-    // Comparisons in a row: a `match` on byte strings leaves goals open.
-    if text == b"s".as_slice() {
-        Some(TimeUnit::Second)
-    } else if text == b"ms".as_slice() {
-        Some(TimeUnit::Millisecond)
-    } else if text == b"us".as_slice() {
-        Some(TimeUnit::Microsecond)
-    } else if text == b"ns".as_slice() {
-        Some(TimeUnit::Nanosecond)
-    } else if text == b"ps".as_slice() {
-        Some(TimeUnit::Picosecond)
-    } else if text == b"fs".as_slice() {
-        Some(TimeUnit::Femtosecond)
-    } else {
-        None
-    }
 }

@@ -8,7 +8,8 @@ use Rattle.vcd_core.specs.declared.capture.TimeUnit.{TimeUnit}
 use Rattle.vcd_core.specs.declared.capture.TimeUnit.TheVariants.{Second, Millisecond, Microsecond}
 use Rattle.vcd_core.specs.declared.capture.TimeUnit.TheVariants.{Nanosecond}
 use Rattle.vcd_core.specs.declared.capture.TimeUnit.TheVariants.{Picosecond, Femtosecond}
-use Rattle.vcd_text.specs.inside.reading.Timescale.{timescale_spelled, unit_named, timescale_of_unit}
+use Rattle.vcd_core.specs.UnitNames.{unit_named}
+use Rattle.vcd_text.specs.inside.reading.Timescale.{timescale_spelled, timescale_of_unit}
 use Rattle.std.proofs.Math.Bool.{and-true}
 
 -- the first of the six units that fits
