@@ -3,17 +3,31 @@
 Words, names and codes are bytes, as they stand in the file; `shown` makes text of them.
 """
 
+import os
+import signal
+import sys
+
+
+def end_badly(kind, error, trace):
+    """Ends a tool that foresaw no such end, or had not begun. The status 1 would say something of a capture."""
+    sys.__excepthook__(kind, error, trace)
+    os._exit(5 if issubclass(kind, MemoryError) else 4)
+
+
+sys.excepthook = end_badly
+# While a tool starts, an interruption ends it without a word, unless it is passed over, as by `nohup`.
+if signal.getsignal(signal.SIGINT) == signal.default_int_handler:
+    signal.signal(signal.SIGINT, signal.SIG_DFL)
+
 import argparse
 import collections
 import contextlib
-import fnmatch
+import errno
 import fractions
+import io
 import itertools
-import os
 import re
 import shutil
-import signal
-import sys
 import tempfile
 
 VERSION = "1.0.0"
@@ -24,6 +38,8 @@ CHUNK = 65536
 # The first letters of changes.
 SCALARS, VECTORS, REALS = (frozenset(letters) for letters in (b"01lLhHxXuUwWzZ-", b"bB", b"rRsS"))
 STAMP, DOLLAR = b"#$"
+# The letters of values, each as the program writes it, and those at the front without which a value is the same.
+LETTERS, SPARE = bytes.maketrans(b"LlHhXUuWw-Z", b"0011xxxxxxz"), re.compile(rb"0+(?=[01])|x+(?=x)|z+(?=z)|").match
 LINES_SHOWN = 10
 
 # What a file is that is no plain VCD, and what to do, by its first bytes.
@@ -58,6 +74,15 @@ class Trouble(Exception):
         self.lines, self.status = [reason, *more], status
 
 
+def trouble_of(error, path=None):
+    """What went wrong, as trouble with this capture. Lack of memory has a status of its own."""
+    if isinstance(error, MemoryError) or getattr(error, "errno", None) == errno.ENOMEM:
+        return Trouble("out of memory", status=5)
+    if isinstance(error, OSError):
+        return Trouble("%s: " % error.filename * (error.filename not in (None, path)) + error.strerror)
+    return error
+
+
 @contextlib.contextmanager
 def about(path):
     """What goes wrong within is told of this capture."""
@@ -68,8 +93,26 @@ def about(path):
         raise
 
 
-def shown(name):
-    return name.decode("utf-8", "backslashreplace")
+# The text of a name, which is written as the bytes that the file has.
+shown = os.fsdecode
+
+
+def escaped(text):
+    """A text in which what can't be printed is written as bytes in hexadecimal."""
+    letters = (one if one.isprintable() else re.sub("(..)", r"\\x\1", os.fsencode(one).hex()) for one in text)
+    return text if text.isprintable() else "".join(letters)
+
+
+class Output(io.TextIOWrapper):
+    """A stream of text with names in it. On a terminal they can't do what escape sequences do."""
+
+    def write(self, text):
+        return super().write("\n".join(map(escaped, text.split("\n"))) if self.isatty() else text)
+
+
+def output(number):
+    # Without a buffer (PYTHONUNBUFFERED) a write that takes only a part would be passed over.
+    return Output(open(number, "wb", closefd=False), sys.getfilesystemencoding(), "surrogateescape")
 
 
 def counted(count, what):
@@ -93,12 +136,14 @@ def program():
     return found
 
 
-def words_of(file):
+def words_of(file, go_on):
     """The words of a file that is open for bytes. Another process may read the file, too."""
     def lists():
         place, rest = 0, b""
-        for chunk in iter(lambda: os.pread(file.fileno(), CHUNK, place), b""):
+        # The longer the word that may go on, the more is read.
+        for chunk in iter(lambda: os.pread(file.fileno(), max(CHUNK, len(rest)), place), b""):
             place += len(chunk)
+            go_on()
             # With a letter behind it a chunk ends in a word: the one that may go on.
             *words, rest = (rest + chunk + b".").split()
             rest = rest[:-1]
@@ -108,21 +153,22 @@ def words_of(file):
     return itertools.chain.from_iterable(lists())
 
 
-def losses_of(file, listing):
+def losses_of(file, listing, go_on=lambda: None):
     """What the file that is written of a capture lacks, by one pass over a regular file that is open for bytes. These
     are variables that are left out; of the others real and string changes, and changes that a later one of the same
-    tick replaces; and comments among the changes. The program tells faults, and which variables it keeps.
+    tick replaces; and comments among the changes. The program tells faults, and which variables it keeps. `go_on` is
+    called again and again, and may end the pass.
     """
-    words = words_of(file)
+    words = words_of(file, go_on)
     names, skipped = variables_in(words, listing.signals)
     if len(skipped) != listing.skipped:
         raise Trouble("what vcdedit leaves out of it can't be named")
     values, replaced, comments = lost_changes_in(words)
 
     def loss_of(counts, what, is_of_values):
-        kept = {names[code]: count for code, count in counts.items() if code in names}
-        told = ["%s: %s" % (name, counted(count, what)) for name, count in kept.items()]
-        return Loss(sum(kept.values()), what, told, is_of_values)
+        kept = [(names[code], count) for code, count in counts.items() if code in names]
+        told = ["%s: %s" % (name, counted(count, what)) for name, count in kept]
+        return Loss(sum(count for _, count in kept), what, told, is_of_values)
 
     found = [
         Loss(len(skipped), "variable%s", skipped, True),
@@ -158,23 +204,30 @@ def variables_in(words, signals):
 def lost_changes_in(words):
     """How many real and string changes each code has, how many that are replaced, and how many comments there are."""
     values, replaced, comments = collections.Counter(), collections.Counter(), 0
-    stamp, seen = b"#0", {}
+    tick, seen = b"", {}
     for word in words:
         first = word[0]
         if first in SCALARS or first in VECTORS:
-            code = word[1:] if first in SCALARS else next(words, None)
-            if seen.setdefault(code, word) != word:
+            value, code = (word[:1], word[1:]) if first in SCALARS else (word[1:], next(words, None))
+            before = seen.setdefault(code, value)
+            if before != value and shortest(before) != shortest(value):
                 replaced[code] += 1
-                seen[code] = word
+                seen[code] = value
         elif first == STAMP:
-            if word != stamp:
-                stamp, seen = word, {}
+            if word[1:].lstrip(b"0") != tick:
+                tick, seen = word[1:].lstrip(b"0"), {}
         elif first in REALS:
             values[next(words, None)] += 1
         elif first == DOLLAR and word not in DUMP_WORDS:
             comments += word == b"$comment"
             collections.deque(itertools.takewhile(b"$end".__ne__, words), 0)
     return values, replaced, comments
+
+
+def shortest(value):
+    """A value in as few letters as the program writes it."""
+    plain = value.translate(LETTERS)
+    return plain[SPARE(plain).end() :]
 
 
 def told_losses(losses):
@@ -192,25 +245,25 @@ def unit_ticks(unit, timescale):
 
 def ticks_of(text, timescale):
     """The tick that a text names: a number of ticks, or a time with a unit, as 1.5ms. The timescale may be `none`."""
-    found = re.fullmatch(r"([0-9]{1,19})|([0-9]{1,19}(?:\.[0-9]{1,19})?) ?([munpf]?s)", text, flags=re.ASCII)
-    if not found:
+    found = re.fullmatch(r"([0-9]+)(?:(\.[0-9]{1,15})?([munpf]?s))?", text)
+    if not found or int(found[1]) >= 2**64 - 1:
         raise Trouble("%s is no time: write ticks, or a number and s, ms, us, ns, ps or fs" % text)
-    ticks, number, unit = found.groups()
-    if ticks:
-        return int(ticks)
+    whole, part, unit = found.groups("")
+    if not unit:
+        return int(whole)
     if timescale == "none":
         raise Trouble("%s: the capture has no timescale: write ticks" % text)
-    tick = fractions.Fraction(number) * unit_ticks(unit, timescale)
+    tick = fractions.Fraction(whole + part) * unit_ticks(unit, timescale)
     if tick.denominator != 1:
         raise Trouble("%s is between tick %d and the next: write ticks" % (text, tick // 1))
     return int(tick)
 
 
 def matcher(pattern):
-    """A test of full names by a shell pattern. An index or a range in it, as [3] or [7:0], is meant as it stands."""
-    with_ranges = re.sub(rb"\[(-?[0-9]+(?::-?[0-9]+)?)\]", rb"[[]\1]", os.fsencode(pattern))
-    # `fnmatch` gets a letter for each byte.
-    return re.compile(fnmatch.translate(with_ranges.decode("latin-1")).encode("latin-1")).match
+    """A test of full names by a pattern: `*` stands for any bytes, `?` for any one, and all else for itself."""
+    parts = {b"*": b".*", b"?": b"."}
+    return re.compile(b"".join(parts.get(one, re.escape(one)) for one in re.findall(rb"(?s).", os.fsencode(pattern))),
+                      re.DOTALL).fullmatch
 
 
 def what_else(prefix):
@@ -242,29 +295,29 @@ def parser_of(name, usage, text, more):
 
 def tell(text):
     """Writes to standard error. If that can't be written, the status tells the rest."""
-    with contextlib.suppress(OSError):
-        os.write(2, os.fsencode(text))
+    with contextlib.suppress(OSError), output(2) as stream:
+        stream.write(text)
 
 
 def end(name, main, status_of_trouble=None):
-    """Runs a tool and ends with its status. A standard output that can't be written has a line and status 4."""
+    """Runs a tool and ends with its status. Trouble may have one of its own, but for want of memory."""
     try:
-        # Without a buffer (PYTHONUNBUFFERED) a write that takes only a part would be passed over.
-        sys.stdout = open(1, "w", encoding="utf-8", errors="surrogateescape", closefd=False)
         # A file that is opened would be in the place of a stream that is closed.
-        sys.stdin, sys.stderr = sys.stdin or open(os.devnull), sys.stderr or open(os.devnull, "w")
+        sys.stdout, sys.stdin = output(1), sys.stdin or open(os.devnull)
+        sys.stderr = sys.stderr or open(os.devnull, "w")
         try:
             status = main(sys.argv[1:])
         except SystemExit as ended:
             status = ended.code
-        except Trouble as trouble:
+        except (Trouble, MemoryError) as error:
+            trouble = trouble_of(error)
             tell("%s: %s\n" % (name, "\n    ".join(trouble.lines)))
-            status = status_of_trouble or trouble.status
+            status = trouble.status if trouble.status == 5 else status_of_trouble or trouble.status
         sys.stdout.flush()
-    except KeyboardInterrupt:
-        status = 128 + signal.SIGINT
     except OSError as error:
         os.dup2(os.open(os.devnull, os.O_WRONLY), 1)
-        tell("%s: %s: %s\n" % (name, error.filename or "standard output", error.strerror))
-        status = 4
+        error.filename = error.filename or "standard output"
+        trouble = trouble_of(error)
+        tell("%s: %s\n" % (name, trouble.lines[0]))
+        status = trouble.status
     sys.exit(status)

@@ -1,9 +1,10 @@
 """What vcdedit's faults and refusals mean for a capture and a script at hand: the line itself, and what to do."""
 
 import collections
-import difflib
 import functools
+import heapq
 import itertools
+import operator
 import pathlib
 import re
 import subprocess
@@ -11,8 +12,8 @@ import subprocess
 import vcd_files
 from vcd_files import program, shortened, shown
 
-# Letters of a line that are shown, names that are, and names in which near ones are looked for.
-LONGEST, NAMES_SHOWN, NAMES_COMPARED = 100, 3, 20000
+# Letters of a line that are shown, and near names that are.
+LONGEST, NAMES_SHOWN = 100, 3
 
 # A fault or a refusal, what it means, what to do, and what the line of a fault is that of.
 Message = collections.namedtuple("Message", "kind name means remedy line")
@@ -34,7 +35,7 @@ SIGNALS = {"NAME", "A", "B", "CLK", "MOSI", "MISO", "CS", "SCL", "SDA"}
 
 def short(text):
     """A line as it can be shown on a terminal."""
-    plain = re.sub(r"[\x00-\x1f\x7f]", lambda found: "\\x%02x" % ord(found.group()), shown(text.strip()))
+    plain = vcd_files.escaped(shown(text.strip()))
     return plain if len(plain) <= LONGEST else plain[:LONGEST] + " .."
 
 
@@ -92,7 +93,7 @@ def told_refusal(number, name, line, names):
         other = vcd_files.what_else(line) if number == 1 else None
         if other:
             return told + ["the script %s: %s" % tuple(other)]
-        told += ["is %s meant?" % near for near in difflib.get_close_matches(command.lower(), usages(), 1)]
+        told += ["is %s meant?" % near for near in usages() if likeness(near, command.lower()) > 0.6][:1]
     if name == "WrongCount" and command in usages():
         told.append("usage: %s (%s)" % usages()[command])
     return told + (name == "NoSuchName" and told_names(signals_in(line), names) or meaning)
@@ -110,12 +111,31 @@ def told_name(word, names):
     """A line about a name that a capture has not, if there is more to say."""
     if re.fullmatch(rb"@[0-9]+", word):
         return ["%s: the capture has %d signals, the first is @0" % (shown(word), len(names))]
-    same = [name for name in names if last_part(name) == last_part(word)]
-    texts = [shown(name) for name in (same or names)[:NAMES_COMPARED]]
-    near = difflib.get_close_matches(shown(word), texts, NAMES_SHOWN, 0 if same else 0.7)
+    near = nearest(shown(word), map(shown, names))
     return ["%s: near names are %s" % (shown(word), ", ".join(near))] if near else []
 
 
-def last_part(name):
-    """A name without scopes and range, in lower case."""
-    return name.rpartition(b".")[2].partition(b"[")[0].lower()
+def nearest(name, names):
+    """The names that are most like a name in the last part, then in the scopes. One of them is like it."""
+    *scopes, last = parts_of(name)
+    like, found = functools.lru_cache(None)(likeness), []
+    for other in names:
+        *scopes_there, last_there = parts_of(other)
+        alike = like(last, last_there), like(".".join(scopes), ".".join(scopes_there))
+        if max(alike) > 0.6:
+            found.append((alike, other))
+    return [other for _, other in heapq.nlargest(NAMES_SHOWN, found, key=lambda one: one[0])]
+
+
+def parts_of(name):
+    """The scopes of a name, and the last part without its range, in lower case."""
+    *scopes, last = name.lower().split(".")
+    return [*scopes, last.partition("[")[0]]
+
+
+def likeness(one, other):
+    """How much of the longer text both have at the front or, behind that, at the end: from 0 to 1."""
+    def alike(*texts):
+        return sum(1 for _ in itertools.takewhile(bool, map(operator.eq, *texts)))
+    front = alike(one, other)
+    return (front + alike(reversed(one[front:]), reversed(other[front:]))) / (max(len(one), len(other)) or 1)

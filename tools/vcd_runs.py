@@ -11,9 +11,12 @@ import subprocess
 import vcd_messages
 from vcd_files import Trouble, program, shown
 
+# The signals that end a run, and that a user or a system sends.
+INTERRUPTIONS = [signal.Signals["SIG" + name] for name in "INT TERM HUP QUIT ALRM USR1 USR2 XCPU".split()]
 # The commands of a script that edit.
 EDITS = b"rename remove invert shift cut deglitch force derive".split()
-INTERRUPTIONS = (signal.SIGINT, signal.SIGTERM, signal.SIGHUP)
+# Commands with one reply. Other lines have another number; the line that is refused behind each ends its replies.
+ONE_REPLY, LAST = EDITS + b"undo redo depth value".split(), b"\n-"
 # What a run begins with so that it ends with the tool, even if that is killed.
 GUARD = ["setpriv", "--pdeathsig", "TERM"] if shutil.which("setpriv") else []
 
@@ -48,9 +51,9 @@ class Run:
         """`words` are more options. `written` has the descriptor of a file for its output, if there is one."""
         self.source, self.lines = source, lines
         os.lseek(source.fileno(), 0, os.SEEK_SET)
-        with open(os.memfd_create("script"), "wb", 0) as script:
-            # The line that is refused behind each line ends its replies.
-            script.write(b"list\n" + b"".join(line + b"\n-\n" for line in lines))
+        with open(os.memfd_create("script"), "wb") as script:
+            script.write(b"list\n" + b"".join(line + LAST * (not has_one_reply(line)) + b"\n" for line in lines))
+            script.flush()
             words = [*GUARD, program(), "-i", "-", "--script", "/dev/fd/%d" % script.fileno(), *words]
             words += ["-o", "/dev/fd/%d" % written[0]] if written else []
             pipes = {"stdin": source, "stdout": subprocess.PIPE, "stderr": subprocess.PIPE, "bufsize": 1 << 20}
@@ -73,15 +76,20 @@ class Run:
 
     def replies(self):
         """(place of a line, reply) of each reply to the lines."""
-        place = 0
-        for reply in self.child.stdout:
-            if reply == b"line %d: refused: UnknownCommand\n" % (2 * place + 3):
-                place += 1
-            else:
+        number = 1
+        for place, line in enumerate(self.lines):
+            is_only = has_one_reply(line)
+            number += 1 if is_only else 2
+            for reply in self.child.stdout:
+                if reply == b"line %d: refused: UnknownCommand\n" % number and not is_only:
+                    break
                 yield place, reply[:-1]
+                if is_only:
+                    break
+            else:
+                self.want_end()
+                raise Trouble("%s left lines of the script without a reply" % program())
         self.want_end()
-        if place < len(self.lines):
-            raise Trouble("%s left lines of the script without a reply" % program())
 
     def want_end(self):
         """Waits for the run's end, and raises what went wrong. A line that is refused is nothing wrong."""
@@ -95,6 +103,14 @@ class Run:
             raise Trouble("the run was ended by signal %d; without memory the system does that" % -status, status=5)
         if status > 1:
             raise Trouble(*vcd_messages.told_end(errors, self.source), status=status)
+
+
+def command_of(line):
+    return b"".join(line.split()[:1])
+
+
+def has_one_reply(line):
+    return command_of(line) in ONE_REPLY
 
 
 def refusal_of(reply):

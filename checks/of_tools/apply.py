@@ -32,11 +32,10 @@ LIKE_DROPPED += "$comment see ! $end\n"
 UNASKED = " would be lost (--drop-skipped writes without)"
 WRITTEN = "deglitch tb.rx 3\n"
 FILE_BYTES = 10000
-# The listing is the real program's. It is given WRITTEN, each line with a line behind it that ends its replies.
+# The listing is the real program's. It is given WRITTEN; a line ends the replies to the empty one behind it.
 HALF = """#!/bin/sh
 while [ $# -gt 0 ]; do [ "$1" = -o ] && out=$2; shift; done
-done='line 3: refused: UnknownCommand
-line 5: refused: UnknownCommand'
+done='line 4: refused: UnknownCommand'
 printf 'half of it' > "$out"
 %s -i -
 %s

@@ -1,11 +1,19 @@
-"""What the tools share: what is left out, times, names and files that are no plain VCD."""
+"""What the tools share: how they start and end, what is left out, times, names and files that are no plain VCD."""
 
 import glob
 import os
+import pty
+import resource
+import signal
+import subprocess
+import sys
+import time
+import unittest.mock
 
 import vcd_files
+import vcd_messages
 import vcd_runs
-from common import TOP, run, store
+from common import TOP, run, store, store_program, toggling
 
 CAPTURES = ["examples/*/capture.vcd", "cases/captures/*.vcd", "cases/*/capture.vcd"]
 # A text, a timescale, and the tick, or None where it is refused.
@@ -14,19 +22,24 @@ TIMES = [
     ("92233720368547758070", "none", None),
     ("1us", "none", None),
     ("1.5us", "1 ps", 1500000),
-    ("1.0001 us", "1 ns", None),
+    ("1.0001us", "1 ns", None),
     ("922337203685.4775807s", "100 ns", 9223372036854775807),
     ("25ns", "10 ns", None),
     ("1e3", "1 ns", None),
     ("\N{ARABIC-INDIC DIGIT ONE}", "1 ns", None),
+    ("18446744073709551614", "none", 2**64 - 2),
+    ("18446744073709551615", "none", None),
+    ("1 us", "1 ns", None),
+    ("00000000000000000000001us", "1 ns", 1000),
 ]
 # A pattern, a name, and whether it is meant.
 MATCHES = [
     ("tb.q[7:0]", b"tb.q[7:0]", True),
     ("tb.q[7]*", b"tb.q[7][1:0]", True),
     ("tb.q[7]*", b"tb.q7", False),
-    ("tb.q[0-9]", b"tb.q7", True),
-    ("tb.[!q]", b"tb.q", False),
+    ("tb.q[0-9]", b"tb.q7", False),
+    ("tb.[!q]", b"tb.r", False),
+    ("tb.[?q]*", b"tb.[\nq].r", True),
     ("*[-1:0]", b"tb.q[-1:0]", True),
     ("tb.q", b"tb.q[7:0]", False),
     ("tb.?", b"tb.\xff", True),
@@ -36,9 +49,10 @@ DECLARED = b"$var wire 1 ! a $end $enddefinitions $end #0 1! #5\n"
 # What follows declarations of the kept `!` and `"` and of the skipped `#`, and how often each kind of loss is in it.
 LOST = [
     (b'0! b1 " #5 0! #6 1!', {}),
-    (b"0! 1! 0! #5 x! #5 z! #05 0!", {"change": 3}),
-    (b'b1 " b10 " b10 " #1 b1 " b01 "', {"change": 2}),
-    (b"r1.5 ! sx ! r2 # S #", {"real": 2}),
+    (b"0! 1! 0! #5 x! #5 z! #05 0! #6 1! #0 0!", {"change": 4}),
+    (b'b1 " b10 " b10 " #1 b1 " b01 "', {"change": 1}),
+    (b'0! L! l! #1 H! h! 1! x! u! - ! #2 bx " bXX " b00x " B0x " bz1 " bzz1 "', {"change": 3}),
+    (b'r1.5 ! sx ! r2 " r3 ( r2 # S #', {"real": 4}),
     (b"$comment 0! r1 ! $end $dumpvars 0! $end $attrbegin r1 ! $end $comment $end", {"comment": 2}),
     (b"$comment\n" + b"x" * 3 * vcd_files.CHUNK + b" y $end 0! 1!", {"change": 1, "comment": 1}),
     *((b" " * more + b"0! 1!" + b"\n#1 0!\n#2 1! 0!\n" * 9000, {"change": 9001}) for more in range(16)),
@@ -48,8 +62,18 @@ LOST = [
 NAMED = b"""$scope module t $end $var real 1 $ a $end $var wire 1 ! a $end
 $scope begin u v $end $var reg 8 " b [7:0] $end $upscope $end
 $var real 1 # c $end $comment $var wire 1 $ no $end $var wire 0 % d $end $var wire 01025 & e f $end $upscope $end
-$var event 1 ' g $end $enddefinitions $end\n"""
+$var event 1 ' g $end $scope module t $end $var wire 1 ( a $end $enddefinitions $end\n"""
 SKIPPED = ["real 1 t.a", "real 1 t.c", "wire 0 t.d", "wire 01025 t.ef", "event 1 g"]
+# A name, names, and which of them are near.
+NEAR = [
+    ("tb.dut.data", ["tb.data[7:0]", "top.dut.rx", "tb.dut.dat", "x.y", "tb.dut.DATA[3:0]"],
+     ["tb.dut.DATA[3:0]", "tb.data[7:0]", "tb.dut.dat"]),
+    ("bench.rx", ["bench.scl", "a.b", "bench.sda"], ["bench.scl", "bench.sda"]),
+    ("clkk", ["a.clk", "a.b"], ["a.clk"]),
+    ("q", ["a.b"], []),
+]
+TOOLS = ["vcdedit-apply", "vcdedit-compare", "vcdedit-view"]
+UNLIMITED = '#!/bin/sh\nulimit -S -v unlimited\nexec %s "$@"\n'
 # The first bytes of a file, and a word of what it is said to be.
 OTHERS = [
     (b"\x1f\x8b\x08\x00", "gzip"),
@@ -90,7 +114,84 @@ def listed(program, path):
     return vcd_runs.listing_of(lines.splitlines()) if status == 0 else None
 
 
+def starts_and_ends(folder, tool):
+    """A tool that is interrupted or lacks memory while it starts. A module of Python does that here."""
+    path, environment = os.path.join(TOP, "tools", tool), {**os.environ, "PYTHONPATH": folder}
+    for text, status, told in (
+        ("import os, signal; os.kill(os.getpid(), signal.SIGINT)", -signal.SIGINT, ""),
+        ("raise MemoryError", 5, "MemoryError\n"),
+        ("raise ValueError('seen')", 4, "ValueError: seen\n"),
+    ):
+        store(folder, "fractions.py", text=text)
+        default = lambda: signal.signal(signal.SIGINT, signal.SIG_DFL)
+        found = run([sys.executable, path, "--version"], env=environment, preexec_fn=default)
+        right = found[0] == status and found[2].endswith(told) and ("Traceback" in found[2]) == bool(told)
+        yield "%s, where a start ends with %s: %s" % (tool, text, found), right
+    os.remove(os.path.join(folder, "fractions.py"))
+
+
+def without_memory(program, folder):
+    """A comparison of a file with itself, in any memory: it never says that something differs."""
+    path = store(folder, "long", text=toggling(5000))
+    environment = {**os.environ, "VCDEDIT": store_program(folder, "program", text=UNLIMITED % program)}
+    words, found = [os.path.join(TOP, "tools/vcdedit-compare"), "--strict", path, path], set()
+    # With less, Python does not begin.
+    for megabytes in [*range(18, 26), 60]:
+        limit = lambda: resource.setrlimit(resource.RLIMIT_AS, (megabytes << 20, resource.RLIM_INFINITY))
+        done = run(words, env=environment, preexec_fn=limit)
+        found.add((done[0], "differ" in done[1]))
+    yield "statuses without memory: %s" % found, found == {(0, False), (5, False)}
+
+
+def on_a_terminal(program, folder):
+    """Names can't do there what escape sequences do; elsewhere they are the bytes of the file, in each locale."""
+    name = b"\x1b[2K\xc2\x9b1A\xe2\x82\xac\xff"
+    for place, letter in enumerate("ab"):
+        store(folder, letter, text=b"$var wire 1 ! %s $end $enddefinitions $end #0 %d! #5" % (name, place))
+    words = [os.path.join(TOP, "tools/vcdedit-compare"), "a", "b"]
+    for locale in ("C.UTF-8", "C", "POSIX"):
+        environment = {"VCDEDIT": program, "LC_ALL": locale, "PYTHONUTF8": "0", "PYTHONCOERCECLOCALE": "0"}
+        how = {"cwd": folder, "env": {**os.environ, **environment}}
+        yield "names in a file, %s" % locale, run(words, text=False, **how)[1].startswith(name + b": ")
+        terminal, side = pty.openpty()
+        subprocess.run(words, stdout=side, stderr=side, **how)
+        os.close(side)
+        found = os.read(terminal, 10000)
+        os.close(terminal)
+        right = found.startswith(rb"\x1b[2K\xc2\x9b1A") and rb"\xff: 1 difference" in found
+        yield "names on a terminal, %s: %s" % (locale, found), right and found.count(b"\x1b") == 0
+
+
+def near_names():
+    for name, names, wanted in NEAR:
+        yield "near %s" % name, vcd_messages.nearest(name, names) == wanted
+    names, began = ["top.u%d.stage%d_q[7:0]" % (place % 50, place) for place in range(65536)], time.process_time()
+    found = vcd_messages.nearest("top.u7.stge60007_q", names)
+    yield "the near of many: %s" % found, found[0] == names[60007] and time.process_time() - began < 2
+
+
+def long_ones(program, folder):
+    """A script of nearly a MiB, and a word that is longer than many reads."""
+    lines = [b"invert r"] * 116000
+    path = store(folder, "c", text="$var wire 1 ! r $end $enddefinitions $end #0 0! #5")
+    with open(path, "rb") as source, unittest.mock.patch.dict(os.environ, VCDEDIT=program):
+        with vcd_runs.Run(source, lines) as one:
+            one.listing()
+            found = list(one.replies())
+    yield "a script of %d bytes" % (9 * len(lines)), found == [(place, b"ok") for place in range(len(lines))]
+    reads = []
+    with open(store(folder, "word", text=b"x" * (200 * vcd_files.CHUNK) + b" y"), "rb") as file:
+        words = list(vcd_files.words_of(file, lambda: reads.append(1)))
+    yield "a long word", [len(word) for word in words] == [200 * vcd_files.CHUNK, 1] and len(reads) < 20
+
+
 def check(program, folder):
+    for tool in TOOLS:
+        yield from starts_and_ends(folder, tool)
+    yield from without_memory(program, folder)
+    yield from on_a_terminal(program, folder)
+    yield from near_names()
+    yield from long_ones(program, folder)
     paths = {path for pattern in CAPTURES for path in glob.glob(os.path.join(TOP, pattern))}
     yield "captures to read", len(paths) > 60
     for path in sorted(paths):
