@@ -1,10 +1,12 @@
 """Comparing two captures."""
 
+import collections
 import gzip
 import os
+import random
 import re
 
-from common import TOP, run, store
+from common import TOP, module_of, run, store
 
 TOOL = os.path.join(TOP, "tools/vcdedit-compare")
 
@@ -29,7 +31,7 @@ PAIRS = {
         (ONE, "0! #9223372036854775806 1! #9223372036854775807"), (ONE, "0! #9223372036854775807 1!"),
         "a: 1 difference, first at tick 9223372036854775806: 1, 0"),
     "a change that both have, while they are apart": ((ONE, "0! #3 1! #5 x! #6 1! #9"), (ONE, "0! #5 x! #9"),
-        "a: 2 differences, first at tick 3: 1, 0"),
+        "a: 2 differences, first at tick 3: 1, 0, last at tick 6: 1, x"),
     "two places": (("wire 4 a", "b1 ! #3 bz1 ! #5 b1 ! #9"), ("wire 4 a", "b1 ! #4 bx ! #9"),
         "a: 1 difference, first at tick 3: zzz1, 0001"),
 }
@@ -51,6 +53,9 @@ SKIPPED_LINES = [LEFT_OUT, "    real 64 r", "    event 1 e"]
 # Two captures, and which of them have variables that are left out.
 SKIPPED = [(REAL, PLAIN, "A"), (PLAIN, REAL, "B"), (REAL, REAL, "AB"), (PLAIN, PLAIN, "")]
 CLOCK = (ONE, "0! #10 1! #11 0! #20 1! #30 0! #50")
+PULSES = "0! #5 1! #10 0! #15 1! #20 0! #25 1! #30 0! #35 1! #40 0! #60"
+SHORT = "--within %s is half of a shortest run or more; pairs may be wrong:|    a: %s|"
+ALONE = "a: %d change%s without a pair, first at tick %s|"
 FINER = "timescale: 1 ns, 100 ps (ticks are those of 100 ps)|the same: 1 signal up to tick 90"
 NAMES = "wire 1 tb.u.a|wire 1 tb.u.b|wire 4 tb.q[3:0]"
 
@@ -61,14 +66,26 @@ def edited(old, new):
 
 # Options, two captures, the status, and what is said.
 OPTIONS = [
-    ("--within 2", CLOCK, edited("#20", "#22"), 0, "the same: 1 signal up to tick 50"),
-    ("--within 2", CLOCK, edited("#20", "#23"), 1, "a: 1 difference, first at tick 20: 1, 0"),
-    ("--within 9", CLOCK, edited("#10 1! #11 0! ", ""), 1, "a: 1 difference, first at tick 10: 1, 0"),
-    ("--within 9", CLOCK, edited("#10 1! #11 0! ", "#14 1! #15 0! "), 0, "the same: 1 signal up to tick 50"),
-    ("--within 5", (ONE, "0! #3 1! #5 x! #9"), (ONE, "0! #5 x! #9"), 1, "a: 1 difference, first at tick 3: 1, 0"),
-    ("--within 2", (ONE, "0! #9 1! #10"), (ONE, "0! #12 1!"), 1, "a: 1 difference, first at tick 9: 1, 0"),
+    ("--within 2", CLOCK, edited("#20", "#22"), 0, SHORT % (2, "1 tick") + "the same: 1 signal up to tick 50"),
+    ("--within 2", CLOCK, edited("#20", "#23"), 1,
+     ALONE % (2, "s", "20: to 1 in A, last at tick 23: to 1 in B") + SHORT % (2, "1 tick")),
+    ("--within 9", CLOCK, edited("#10 1! #11 0! ", ""), 1,
+     ALONE % (2, "s", "10: to 1 in A, last at tick 11: to 0 in A") + SHORT % (9, "1 tick")),
+    ("--within 9", CLOCK, edited("#10 1! #11 0! ", "#14 1! #15 0! "), 0,
+     SHORT % (9, "1 tick") + "the same: 1 signal up to tick 50"),
+    ("--within 4", (ONE, "0! #10 1! #20 0! #50"), (ONE, "0! #14 1! #23 0! #50"), 0, "the same: 1 signal up to tick 50"),
+    ("--within 5", (ONE, "0! #3 1! #5 x! #9"), (ONE, "0! #5 x! #9"), 1,
+     ALONE % (1, "", "3: to 1 in A") + SHORT % (5, "2 ticks")),
+    ("--within 2", (ONE, "0! #9 1! #10"), (ONE, "0! #12 1!"), 1, ALONE % (1, "", "9: to 1 in A|")),
+    ("--within 2", (ONE, "0! #5 1! #20"), (ONE, "0! #5 x! #20"), 1, ALONE % (2, "s", "5: to 1 in A, to x in B|")),
     ("--within 2", (ONE, "0! #9 1! #10"), (ONE, "0! #11 1! #12"), 0, "the same: 1 signal up to tick 10"),
     ("--within 2", (ONE, "0! #9"), (ONE, "0! #10 1! #11"), 0, "the same: 1 signal up to tick 9"),
+    # Two clocks that lack a pulse each, and a change before the window that has its pair in it, or none.
+    ("--within 10", (ONE, PULSES.replace("#15 1! #20 0! ", "")), (ONE, PULSES.replace("#35 1! #40 0! ", "")), 1,
+     ALONE % (4, "s", "15: to 1 in B, last at tick 40: to 0 in A") + SHORT % (10, "5 ticks")),
+    ("--within 3 --from 10", (ONE, "0! #9 1! #20"), (ONE, "0! #12 1! #20"), 0, "the same: 1 signal from tick 10 to 20"),
+    ("--within 3 --from 10", (ONE, "0! #5 1! #20"), (ONE, "0! #20"), 1, ALONE % (1, "", "5: to 1 in A|")),
+    ("--within 3 --to 10", (ONE, "0! #9 1! #20"), (ONE, "0! #12 1! #20"), 0, "the same: 1 signal up to tick 10"),
     ("--from 12 --to 40", CLOCK, (ONE, "0! #20 1! #30 0! #41 1! #60"), 0, "the same: 1 signal from tick 12 to 40"),
     ("--from 12", CLOCK, edited("#11 0! ", ""), 1, "a: 1 difference, first at tick 12: 0, 1"),
     ("--from 11", CLOCK, (ONE, "1! #11 0! #20 1! #30 0! #50"), 0, "the same: 1 signal from tick 11 to 50"),
@@ -82,6 +99,8 @@ OPTIONS = [
     ("--map tb.u.a=tb.u.b --map tb.u.b=tb.u.a", (NAMES, "0! #9"), (NAMES, '0" #9'), 0,
      "the same: 3 signals up to tick 9"),
     ("--map tb=top", (NAMES, "#9"), (NAMES, "#9"), 1, None),
+    *(("--map tb.u.a=tb.v --keep %s" % name, (NAMES, "0! #9"), (NAMES.replace("tb.u.a", "tb.v"), "0! #9"), 0,
+       "the same: 1 signal up to tick 9") for name in ("tb.u.a", "tb.v", "tb.?.a", "*.v")),
     ("--map t=top", (NAMES, "#9"), (NAMES, "#9"), 2, "no signal of A has this name"),
     ("--map top", (NAMES, "#9"), (NAMES, "#9"), 2, "write OLD=NEW"),
     ("--keep tb.u.*", (NAMES, "#9"), (NAMES, "b1 # #9"), 0, "the same: 2 signals up to tick 9"),
@@ -110,6 +129,7 @@ def check(program, folder):
     def compare(*words, given=None, before=()):
         return run([*before, TOOL, *words], cwd=folder, env=environment, input=given)
 
+    yield from random_cases()
     yield from pairs(folder, compare)
     yield from skipped(folder, compare)
     yield from paths(folder, compare)
@@ -126,14 +146,75 @@ def check(program, folder):
         store(folder, "B", text=text(*second))
         found = compare(*words.split(), "A", "B")
         lines = found[1].splitlines()[: None if status == 0 else -1]
-        right = wanted is None or (wanted in found[2] if status == 2 else lines == wanted.split("|"))
+        right = wanted is None or (wanted in found[2] if status == 2 else lines == wanted.strip("|").split("|"))
         yield "%s: %s" % (words, found), (found[0], right) == (status, True)
+    store(folder, "A", text=text(NAMES, "0! #9"))
+    found = compare("A", "B")
+    told = "tb.u.a: 1 difference, first at tick 0: 0, x\nlines that differ: 1; the same: 2 signals up to tick 9\n"
+    yield "how many are the same: %s" % (found,), found == (1, told, "")
+
+
+def events_of(one, other, within):
+    """(tick, value by side, whether it has no pair) in order, slowly: of all possible pairs the nearest come first."""
+    near = [(abs(tick - tick_there), min(tick, tick_there), place, place_there)
+            for place, (tick, value) in enumerate(one) for place_there, (tick_there, value_there) in enumerate(other)
+            if value == value_there and abs(tick - tick_there) <= within]
+    pairs, events, begins = [], [], (0, 0)
+    for *_, place, there in sorted(near):
+        pairs += [(place, there)] * all((place - i) * (there - j) > 0 for i, j in pairs)
+    for ends in [*sorted(pairs), (len(one), len(other))]:
+        alone = collections.defaultdict(dict)
+        for side, changes in enumerate((one, other)):
+            for tick, value in changes[begins[side] : ends[side]]:
+                alone[tick][side] = value
+        events += [(tick, alone[tick], True) for tick in sorted(alone)]
+        for (tick, value), (tick_there, _) in zip(one[ends[0] :][:1], other[ends[1] :][:1]):
+            events.append((min(tick, tick_there), {0: value, 1: value}, False))
+        begins = [end + 1 for end in ends]
+    return events
+
+
+def exact(one, other, within, first, last):
+    """How often two signals differ in a window, and where first and last."""
+    values, apart, is_inside, times, noted = {}, None, False, 0, []
+    for tick, changes, is_alone in [*events_of(one, other, within), (last + 1, {}, False)]:
+        if tick > first and not is_inside:
+            is_inside, times, noted = True, int(bool(apart)), [apart] if apart else []
+        were_alike = values.get(0) == values.get(1)
+        values.update(changes)
+        are_apart, both = values[0] != values.get(1), {0: values[0], 1: values.get(1)}
+        if is_alone and first < tick <= last and (within or were_alike and are_apart):
+            times, noted = times + (len(changes) if within else 1), [*noted, (tick, changes if within else both)]
+        apart = are_apart and (tick if within else first, changes if within else both)
+    return times, noted[:1] + noted[1:][-1:]
+
+
+def random_cases():
+    """What is compared, in the tool and slowly."""
+    tool, numbers, wrong = module_of(TOOL), random.Random(1), []
+    for _ in range(4000):
+        sides, letters, end = ([], []), numbers.choice([[b"0", b"1"], [b"0", b"1", b"x"]]), numbers.choice([6, 12, 30])
+        for tick in [0, *sorted(numbers.sample(range(1, end), numbers.randint(0, min(end - 1, 10))))]:
+            value, is_near = numbers.choice(letters), numbers.random() < 0.8
+            for changes in sides:
+                late = numbers.choice([0, 0, 1, 2]) if is_near and tick else 0
+                change = (tick + late, value if is_near or not tick else numbers.choice(letters))
+                if not changes or change[0] > changes[-1][0] and change[1] != changes[-1][1]:
+                    changes.append(change)
+        within, first = numbers.choice([0, 1, 2, 3, 5]), numbers.choice([0, numbers.randint(0, end)])
+        last, pair = numbers.randint(first, end), tool.Pair("a", 1)
+        streams = [[(tick, side, {0: value}) for tick, value in changes] for side, changes in enumerate(sides)]
+        tool.Comparison([pair], (first, last, within)).go_through(streams)
+        if (pair.times, pair.noted) != exact(*sides, within, first, last):
+            wrong.append((sides, within, first, last, pair.times, pair.noted, exact(*sides, within, first, last)))
+    yield "random cases: %s" % wrong[:1], not wrong
 
 
 def swapped(line):
     """A line on two captures in the other order."""
     line = re.sub(r"only in ([AB])", lambda side: "only in " + "AB"[side.group(1) == "A"], line)
-    return re.sub(r"^(.*: )([^,]+), ([^,(]+?)( \(.*\))?$", r"\1\3, \2\4", line)
+    parts = [re.sub(r"^(.*: )([^,]+), ([^,(]+?)( \(.*\))?$", r"\1\3, \2\4", part) for part in line.split(", last")]
+    return ", last".join(parts)
 
 
 def pairs(folder, compare):
@@ -144,8 +225,9 @@ def pairs(folder, compare):
             for path, capture in zip("AB", captures):
                 store(folder, path, text=text(*capture))
             found = compare("A", "B")
-            told = [*said, "lines that differ: %d" % len(lines), ""]
-            yield "%s: %s" % (name, found), found == (1, "\n".join(told), "")
+            told = [*map(re.escape, said), r"lines that differ: %d; the same: [01] signals? up to tick \d+\n"]
+            right = re.fullmatch("\n".join(told) % len(lines), found[1])
+            yield "%s: %s" % (name, found), right and (found[0], found[2]) == (1, "")
     for *captures, wanted in SAME:
         for place in (0, 1):
             store(folder, "A", text=text(*captures[place]))
