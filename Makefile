@@ -2,7 +2,7 @@
 PREFIX ?= /usr/local
 ZSH_FOLDER ?= share/zsh/site-functions
 PROGRAMS = vcdedit vcdedit-narrow
-TOOLS = vcdedit-apply vcdedit-compare vcdedit-view
+TOOLS = vcdedit-apply vcdedit-compare vcdedit-table vcdedit-view
 DOCUMENTS = CHANGELOG.md docs/COOKBOOK.md docs/SCRIPT.md docs/FORMATS.md examples
 # What install put below PREFIX, a line for each file and each folder that was not there. Uninstall takes it away.
 MADE = share/vcdedit/made

@@ -72,7 +72,7 @@ NEAR = [
     ("clkk", ["a.clk", "a.b"], ["a.clk"]),
     ("q", ["a.b"], []),
 ]
-TOOLS = ["vcdedit-apply", "vcdedit-compare", "vcdedit-view"]
+TOOLS = ["vcdedit-apply", "vcdedit-compare", "vcdedit-table", "vcdedit-view"]
 UNLIMITED = '#!/bin/sh\nulimit -S -v unlimited\nexec %s "$@"\n'
 # The first bytes of a file, and a word of what it is said to be.
 OTHERS = [
@@ -134,12 +134,16 @@ def without_memory(program, folder):
     """A comparison of a file with itself, in any memory: it never says that something differs."""
     path = store(folder, "long", text=toggling(5000))
     environment = {**os.environ, "VCDEDIT": store_program(folder, "program", text=UNLIMITED % program)}
-    words, found = [os.path.join(TOP, "tools/vcdedit-compare"), "--strict", path, path], set()
-    # With less, Python does not begin.
-    for megabytes in [*range(18, 26), 60]:
+
+    def limited(megabytes, *words):
         limit = lambda: resource.setrlimit(resource.RLIMIT_AS, (megabytes << 20, resource.RLIM_INFINITY))
-        done = run(words, env=environment, preexec_fn=limit)
-        found.add((done[0], "differ" in done[1]))
+        return run([os.path.join(TOP, "tools/vcdedit-compare"), *words], env=environment, preexec_fn=limit)
+
+    # With less, Python does not begin.
+    least, found = next(megabytes for megabytes in range(10, 90) if limited(megabytes, "--version")[0] == 0), set()
+    for megabytes in [*range(least, least + 6), least + 60]:
+        done = limited(megabytes, "--strict", path, path)
+        found.add((done[0], "differ" in done[1] or "Traceback" in done[2]))
     yield "statuses without memory: %s" % found, found == {(0, False), (5, False)}
 
 

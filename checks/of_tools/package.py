@@ -25,9 +25,10 @@ RUN = [
     (["vcdedit-apply", "--to", "/tmp", "/dev/null", "/dev/null"], 2, "is one of the captures"),
     (["vcdedit-apply", "--help"], 0, "Carries a script"),
     (["vcdedit-narrow", "/dev/null"], 3, "capture line 1: Truncated"),
+    (["vcdedit-table", "/dev/null", "list"], 3, "line 1: the file is empty"),
     (["vcdedit-view", "/dev/null", "-o", "none.vcd"], 3, "line 1: the file is empty"),
 ]
-COMMANDS = ["vcdedit", "vcdedit-apply", "vcdedit-compare", "vcdedit-narrow", "vcdedit-view"]
+COMMANDS = ["vcdedit", "vcdedit-apply", "vcdedit-compare", "vcdedit-narrow", "vcdedit-table", "vcdedit-view"]
 # What is installed of each command, and of all.
 FILES = ["bin/%s", "man/man1/%s.1", "bash-completion/completions/%s", "fish/vendor_completions.d/%s.fish"]
 DOCUMENTS = ["CHANGELOG.md", "COOKBOOK.md", "SCRIPT.md", "FORMATS.md", "messages.txt", "_vcdedit"]

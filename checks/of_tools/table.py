@@ -1,0 +1,100 @@
+"""What decoders say, as a table: its rows, in each form, times without rounding, and the test that the cookbook shows."""
+
+import csv
+import json
+import os
+import sys
+
+from common import EXAMPLES, TOP, module_of, run, store
+
+TOOL = os.path.join(TOP, "tools/vcdedit-table")
+I2C, I2C_LINE = os.path.join(EXAMPLES, "i2c/capture.vcd"), "i2c bench.scl bench.sda"
+# What is on a bus: S and P are START and STOP, 0, 1 and x are bits. Address, direction, data, acknowledges and end of
+# each transfer.
+BUS = [
+    ("S 1010000 0 0 00101010 0 S 1010000 1 0 11000101 1 P",
+     ["0x50 write|0x2a|ack ack|repeated-start", "0x50 read|0xc5|ack nack|stop"]),
+    ("S 1010000 0 1 P", ["0x50 write||nack|stop"]),
+    ("S 1111010 0 0 10101010 0 11110000 0 S 1111010 1 0 00000001 1 P",
+     ["0x2aa write|0xf0|ack ack ack|repeated-start", "0x2aa read|0x01|ack nack|stop"]),
+    ("S 1111010 0 0 1010101x 0 11110000 0 P", ["high-0x2? write|0xf0|ack ack ack|stop"]),
+    ("S 101000x 0 0 0000000x 0 00000001 x P", ["?|? 0x01|ack ack ?|stop"]),
+    ("S 1010000 0 0 10101 P S P", ["0x50 write|partial-6|ack|stop", "|||stop"]),
+    ("S 1010000 0 0 00000001 0", ["0x50 write|0x01|ack ack|"]),
+]
+# A tick, a timescale, and microseconds.
+TIMES = [
+    (1500, "1 ns", "1.5"), (5, "10 ns", "0.05"), (1, "1 fs", "0.000000001"), (0, "1 ps", "0"), (3, "100 us", "300"),
+    (2**63 - 1, "1 ps", "9223372036854.775807"), (2**63 - 1, "100 s", "922337203685477580700000000"), (7, "none", None),
+]
+SPI = "$timescale 10 ns $end $var wire 1 ! c $end $var wire 1 \" d $end $enddefinitions $end\n#0 0! 1\"\n" + "".join(
+    "#%d %d!\n%s" % (tick, tick % 2, "#%d x\"\n" % (tick + 1) if tick == 9 else "") for tick in range(1, 12)) + "#20\n"
+SPI_ROWS = """line  decoder  first  last  first_us  last_us  what       mosi  doubt
+1     spi      1      7     0.01      0.07     word       0xf
+1     spi      9      11    0.09      0.11     partial 2        ?x
+2     spi      1      3     0.01      0.03     word       0x3
+2     spi      5      7     0.05      0.07     word       0x3
+2     spi      9      11    0.09      0.11     word       ?     ?x
+"""
+SPI_LINES = ["spi c d - - 0 4 msb", "spi c d - - 0 2 msb"]
+DOUBT = "vcdedit-table: line %d: spi: d is x at 10-20: edges and bits there are lost\n"
+# Words, and the status and a part of what is told. There is no table then.
+REFUSED = [
+    ([I2C, "i2c bench.scl bench.sd"], 1, "bench.sd: NoSuchName\n    bench.sd: near names are bench.sda"),
+    ([I2C, *I2C_LINE.split()], 1, "\n    quote each line: vcdedit-table CAPTURE"),
+    ([I2C, I2C_LINE, "--csv", "--json"], 2, "not allowed with"),
+    ([I2C, I2C_LINE, "--script", "c"], 2, "--script, or words"),
+    (["c", "list"], 3, "c: line 1: frob: UnexpectedWord"),
+    (["none", "list"], 4, "none: No such file"),
+]
+
+
+def bus(text):
+    """A capture of a bus."""
+    changes = ["1! 1\""]
+    for sign in text.replace(" ", ""):
+        changes += {"S": ['1"', "1!", '0"', "0!"], "P": ['0"', "1!", '1"']}.get(sign, [sign + '"', "1!", "0!"])
+    stamps = "".join("#%d %s\n" % (10 * place, change) for place, change in enumerate(changes))
+    declared = '$timescale 100 ns $end $var wire 1 ! c $end $var wire 1 " d $end $enddefinitions $end\n'
+    return declared + stamps + "#%d\n" % (10 * len(changes))
+
+
+def transfer_text(row):
+    texts = [" ".join(filter(None, [row.get("address"), row.get("direction")]))]
+    return "|".join([*texts, " ".join(row["data"]), " ".join(row["acknowledges"]), row.get("end", "")])
+
+
+def check(program, folder):
+    environment = {**os.environ, "VCDEDIT": program}
+
+    def table(*words, given=None):
+        return run([TOOL, *words], cwd=folder, env=environment, input=given)
+
+    for text, wanted in BUS:
+        rows = json.loads(table("-", "--json", "i2c c d", given=bus(text))[1])
+        found = [transfer_text(row) for row in rows]
+        yield "the bus %s: %s" % (text, found), found == wanted
+        yield "doubt on the bus %s" % text, any(row["doubt"] for row in rows) == ("x" in text)
+    status, shown, errors = table(I2C, "--csv", I2C_LINE)
+    csv_rows = [{name: text for name, text in row.items() if text} for row in csv.DictReader(shown.splitlines())]
+    rows = json.loads(table(I2C, "--json", I2C_LINE)[1])
+    texts = [{name: " ".join(value) if isinstance(value, list) else str(value) for name, value in row.items() if value}
+             for row in rows]
+    yield "csv and json have the same: %s" % shown, (status, errors, csv_rows) == (0, "", texts) and len(rows) == 2
+    store(folder, "script", text="\n".join(["# asks", SPI_LINES[0], "list"]))
+    yield "the names of none", table("-", "--script", "script", given="$enddefinitions $end")[0] == 1
+    found = table("-", *SPI_LINES, given=SPI)
+    yield "aligned: %s" % (found,), found == (0, SPI_ROWS, DOUBT % 1 + DOUBT % 2)
+    yield "no rows", [table(I2C, *form, "list")[1] for form in ([], ["--json"])] == ["", "[\n]\n"]
+    tool = module_of("tools/vcdedit-table")
+    for tick, timescale, wanted in TIMES:
+        found = tool.microseconds(tick, timescale)
+        yield "%d at %s: %s us" % (tick, timescale, found), found == wanted
+    store(folder, "c", text="frob\n")
+    for words, status, told in REFUSED:
+        found = table(*words)
+        yield "%s: %s" % (words, found), (found[0], found[1]) == (status, "") and told in found[2]
+    path = os.pathsep.join([os.path.join(TOP, "tools"), os.environ["PATH"]])
+    words = [sys.executable, "-B", "-c", "import test_bus; test_bus.test_register_is_read()"]
+    found = run(words, cwd=TOP, env={**environment, "PATH": path, "PYTHONPATH": EXAMPLES})
+    yield "the test of the cookbook: %s" % (found,), found == (0, "", "")

@@ -1,0 +1,15 @@
+"""A test of a bus by its capture, for pytest: which bytes were sent, how they were acknowledged, and how long it took."""
+
+import json
+import subprocess
+from fractions import Fraction
+
+TABLE = ["vcdedit-table", "--json", "examples/i2c/capture.vcd", "i2c bench.scl bench.sda"]
+
+
+def test_register_is_read():
+    write, read = json.loads(subprocess.run(TABLE, check=True, stdout=subprocess.PIPE).stdout)
+    assert (write["address"], write["direction"], write["data"]) == ("0x50", "write", ["0x2a"])
+    assert (read["address"], read["acknowledges"], read["end"]) == ("0x50", ["ack", "nack"], "stop")
+    assert Fraction(read["last_us"]) - Fraction(write["first_us"]) < 400
+    assert not write["doubt"] and not read["doubt"]
