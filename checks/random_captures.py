@@ -50,7 +50,7 @@ def noise(chance, width, end):
 
 def spoilt_wave(chance, wave, end):
     """The same with a few ticks of another value."""
-    for _ in range(chance.choice([0, 0, 0, 1, 2, 4])):
+    for _ in range(chance.choice([0, 0, 0, 1, 2, 6])):
         tick = chance.randint(0, end)
         after = wave.get(tick + 1, next((wave[before] for before in range(tick, -1, -1) if before in wave), "x"))
         wave |= {tick: chance.choice("xz01"), tick + 1: after}
@@ -93,7 +93,7 @@ class Bus:
 
     def __init__(self, chance, end):
         self.chance, self.end, self.tick = chance, end, 0
-        self.high, self.is_tight = chance.choice(["1", "1", "z", "1z"]), chance.often(0.6)
+        self.high, self.is_tight = chance.choice(["1", "1", "z", "1z"]), chance.often(0.75)
         self.scl, self.sda, self.high_bits = {0: "1"}, {0: "1"}, chance.choice(["00", "01", "10", "11"])
         if chance.often(0.2):
             self.bits(chance.some("01", 12))
@@ -104,18 +104,18 @@ class Bus:
         """A START or a repeated one, bytes after it, and now and then a rest or a STOP."""
         chance = self.chance
         self.condition("0")
-        if chance.often(0.1):
+        if chance.often(0.2):
             self.high_bits = chance.choice(["00", "01", "10", "11"])
         first = chance.random()
-        if first < 0.75:
+        if first < 0.65:
             is_write = chance.often(0.5)
             self.byte("11110" + self.high_bits + ("0" if is_write else "1"))
             self.bytes(chance.choice([1, 1, 1, 2]) if is_write else chance.choice([0, 0, 1]))
-        elif first < 0.9:
+        elif first < 0.8:
             self.bytes(chance.choice([1, 1, 2]))
-        if chance.often(0.15):
+        if chance.often(0.25):
             self.bits(chance.some("01", 8))
-        if chance.often(0.3):
+        if chance.often(0.25):
             self.condition("1")
             self.bits(chance.some("01", 2))
 
@@ -166,7 +166,7 @@ class Capture:
         self.chance, self.end, self.signals, self.most = chance, chance.choice([0, 3, 10, 40, 40, 150]), [], most
         codes, self.protocol = chance.sample(CODES, 6), chance.choice(["", "", "uart", "spi", "i2c"])
         if self.protocol:
-            self.end = chance.randint(60, 300)
+            self.end = chance.randint(60, 500 if self.protocol == "i2c" else 300)
         self.uart = (chance.choice([(2, 1), (3, 1), (4, 1), (5, 2), (7, 3), (10, 4), (10, 1)]), chance.randint(5, 9),
                      chance.choice(["none", "none", "even", "odd"]), chance.choice([1, 1, 2]))
         waves = {"uart": lambda: [uart_wave(chance, self.end, self.uart)], "spi": lambda: spi_waves(chance, self.end),
@@ -190,7 +190,7 @@ class Capture:
     def declarations(self):
         chance, opened = self.chance, []
         yield from self.extras(0.4)
-        others = chance.some(self.nets, chance.choice([5] * 49 + [120])) if self.nets else []
+        others = chance.some(self.nets, chance.choice([5] * 39 + [300])) if self.nets else []
         for net in [*self.nets, *others][:self.most]:
             for _ in range(chance.choice([0, 0, 0, 1, 1, len(opened)])):
                 if opened:
