@@ -9,6 +9,7 @@ pub mod Along
 pub mod Fitting
 pub mod Declared
 pub mod Meaning
+pub mod Skipped
 pub mod Whole
 pub mod Bytes
 pub mod Cuts

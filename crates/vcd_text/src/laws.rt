@@ -7,6 +7,7 @@ ghost use Rattle.vcd_text.specs.Laws.{EveryPrefixHasAtMostOneFault, PrefixFaultI
 ghost use Rattle.vcd_text.specs.Laws.{TextIsReadBack, NothingElseIsReadBack, TextHasNoFault};
 ghost use Rattle.vcd_text.specs.PartLaws.{PartOfPartIsPart, AllIsPart};
 ghost use Rattle.vcd_text.specs.AmendedMeaning.{AmendedFileMeansAmendedCapture};
+ghost use Rattle.vcd_text.specs.AmendedMeaning.{SkippedVariablesStand};
 ghost use Rattle.vcd_text.specs.AmendedText.{AmendedTextMeansAmendedCapture};
 ghost use Rattle.vcd_text.specs.CutLaws.{EveryFileIsCut, CutIsUnique};
 ghost use Rattle.vcd_text.specs.CodedAmendment.{CodedAmendmentGivesCapture};
@@ -65,9 +66,10 @@ pub fn parts_agree()
 {}
 
 /// If an amendment fits an accepted file, the amended file is accepted, and means the amended
-/// capture. As many variables are skipped as before.
+/// capture. As many variables are skipped as before, and they stand with their changes.
 pub fn amended_file_is_read_again()
     ensures items { AmendedFileMeansAmendedCapture }
+    ensures skipped { SkippedVariablesStand }
     ensures text { AmendedTextMeansAmendedCapture }
 {}
 

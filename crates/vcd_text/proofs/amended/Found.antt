@@ -56,3 +56,20 @@ pub at_position : {A : Type 0} (P : A → Type 0) (xs : List A) (i : ℕ) (d : A
 at_position P [] i d all default = default
 at_position P (x ∷ xs) zero d all default = All-head P x xs all
 at_position P (x ∷ xs) (suc i) d all default = at_position P xs i d (All-tail P x xs all) default
+
+-- an element of either list passes
+pub some_first : {A : Type 0} (p : A → Bool) (xs ys : List A) → is_some (find p xs) ≡ true
+    → is_some (find p (xs ++ ys)) ≡ true
+some_first p [] ys some = absurd (false≢true some)
+some_first p (x ∷ xs) ys some = elim (cases_Bool (p x)) [
+  | inl here ↦ rw here refl
+  | inr there ↦ rw there (some_first p xs ys (rw there at some))
+]
+
+pub some_last : {A : Type 0} (p : A → Bool) (xs ys : List A) → is_some (find p ys) ≡ true
+    → is_some (find p (xs ++ ys)) ≡ true
+some_last p [] ys some = some
+some_last p (x ∷ xs) ys some = elim (cases_Bool (p x)) [
+  | inl here ↦ rw here refl
+  | inr there ↦ rw there (some_last p xs ys some)
+]

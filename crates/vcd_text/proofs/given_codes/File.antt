@@ -38,7 +38,8 @@ use Rattle.vcd_text.proofs.amended.WholeText.{SpellsItem, HasSpace, HasSomeSpace
 use Rattle.vcd_text.proofs.amended.WholeText.{text_of_pieces}
 use Rattle.vcd_text.proofs.given_codes.FreshCodes.{fresh_codes_are_fresh}
 use Rattle.vcd_text.proofs.given_codes.Gives.{amendment_fits, signals_are}
-use Rattle.vcd_text.proofs.given_codes.Fits.{some_first, all_fit, signals_given}
+use Rattle.vcd_text.proofs.amended.Found.{some_first}
+use Rattle.vcd_text.proofs.given_codes.Fits.{all_fit, signals_given}
 
 -- ---- classes
 

@@ -28,6 +28,7 @@ use Rattle.vcd_text.specs.FreshCodes.{AreFresh, fresh_code}
 use Rattle.vcd_text.proofs.given_codes.FreshCodes.{fresh_codes_are_fresh}
 use Rattle.vcd_text.proofs.amended.Codes.{itself}
 use Rattle.vcd_text.proofs.amended.Found.{found_has, found_is, all_parts, is_there, some_passes, each_of_both}
+use Rattle.vcd_text.proofs.amended.Found.{some_first, some_last}
 use Rattle.vcd_text.proofs.amended.Fitting.{found_apart}
 use Rattle.vcd_text.proofs.given_codes.Variables.{with_coded_signal, kept_to, later, declared_to, variables_to}
 use Rattle.vcd_text.proofs.given_codes.Gives.{kept_class}
@@ -64,20 +65,6 @@ drop_first (x ∷ xs) ys = drop_first xs ys
 
 found_first : {A : Type 0} (p : A → Bool) (xs ys : List A) (x : A) → find p xs ≡ Some x → find p (xs ++ ys) ≡ Some x
 found_first p xs ys x found = find-append p xs ys ∙ ap (λ o. option_or o (find p ys)) found
-
-pub some_first : {A : Type 0} (p : A → Bool) (xs ys : List A) → is_some (find p xs) ≡ true
-    → is_some (find p (xs ++ ys)) ≡ true
-some_first p xs ys some =
-    let there = is_there (find p xs) some in
-    ap is_some (found_first p xs ys there.0 there.1)
-
-some_last : {A : Type 0} (p : A → Bool) (xs ys : List A) → is_some (find p ys) ≡ true
-    → is_some (find p (xs ++ ys)) ≡ true
-some_last p [] ys some = some
-some_last p (x ∷ xs) ys some = elim (cases_Bool (p x)) [
-  | inl here ↦ rw here refl
-  | inr there ↦ rw there (some_last p xs ys some)
-]
 
 each_is_one : (cs : List (List ℕ)) → All (λ c. is_one_of cs c ≡ true) cs
 each_is_one [] = All-nil (λ c. is_one_of [] c ≡ true)

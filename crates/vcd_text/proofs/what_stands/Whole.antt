@@ -35,13 +35,13 @@ use Rattle.vcd_text.proofs.shared.ItemTests.{has_declaration, passed}
 use Rattle.vcd_text.proofs.part.FewSignals.{same_limit}
 use Rattle.vcd_text.proofs.read_back.Decimals.{number_of-decimal}
 use Rattle.vcd_text.proofs.amended.Codes.{itself, same_bytes}
-use Rattle.vcd_text.proofs.amended.Found.{found_has, found_is, is_there, each_of_both}
+use Rattle.vcd_text.proofs.amended.Found.{found_has, found_is, is_there, each_of_both, some_first}
 use Rattle.vcd_text.proofs.amended.Fitting.{found_apart}
 use Rattle.vcd_text.proofs.amended.Whole.{declared_grows, body_items}
 use Rattle.vcd_text.proofs.amended.WholeText.{items_of, SpellsItem}
 use Rattle.vcd_text.proofs.given_codes.CodedWaves.{waves_are}
 use Rattle.vcd_text.proofs.given_codes.File.{state_of_file, other_capture_of_pieces}
-use Rattle.vcd_text.proofs.given_codes.Fits.{all_fit, met, variables_are, all_of_map, some_first}
+use Rattle.vcd_text.proofs.given_codes.Fits.{all_fit, met, variables_are, all_of_map}
 use Rattle.vcd_text.proofs.given_codes.FreshCodes.{fresh_codes_are_fresh}
 use Rattle.vcd_text.proofs.given_codes.Gives.{amendment_fits}
 use Rattle.vcd_text.proofs.given_codes.NewWaves.{firsts_have, new_wave_parts}
