@@ -1,5 +1,5 @@
 -- The effect of a command on a machine, and the reply to it.
-use Rattle.std.specs.Prelude.{◌≡◌, ℕ, Bool, true, false, List, length, Ok, Err}
+use Rattle.std.specs.Prelude.{◌≡◌, ℕ, Bool, true, false, length, Ok, Err}
 use Rattle.vcd_edit.specs.declared.fault.EditError.TheVariants as errors
 use Rattle.vcd_journal.specs.declared.step.Answer.{Answer}
 use Rattle.vcd_journal.specs.declared.step.Answer.TheVariants.{Done, Refused}
