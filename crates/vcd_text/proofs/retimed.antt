@@ -9,3 +9,4 @@ pub mod Meaning
 pub mod Pieces
 pub mod Stamps
 pub mod Order
+pub mod OtherPieces

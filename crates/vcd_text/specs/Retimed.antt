@@ -1,6 +1,6 @@
 -- A file after ticks are cut out: its pieces and its meaning. The project's own.
-use Rattle.std.specs.Prelude.{◌≡◌, ℕ, zero, suc, ◌+◌, ◌-◌, ◌==◌, ◌&&◌, ◌||◌, Bool, true, false, not}
-use Rattle.std.specs.Prelude.{nat_lt, nat_le, if◌then◌else◌, List, [], ◌∷◌, ◌++◌, map, decimal}
+use Rattle.std.specs.Prelude.{◌≡◌, ℕ, zero, suc, ◌+◌, ◌==◌, ◌&&◌, Bool, false, not}
+use Rattle.std.specs.Prelude.{nat_lt, if◌then◌else◌, List, [], ◌∷◌, ◌++◌, map, decimal}
 use Rattle.std.specs.Prelude.{Option, Some, None, is_some, bytes_eq, codes}
 use Rattle.std.specs.List.{filter, list_any, join_with_byte}
 use Rattle.vcd_core.specs.Decimal.{number_of}
@@ -27,25 +27,25 @@ pub record AreOldTicks (is_cut_out : ℕ → Bool) (old_tick : ℕ → ℕ) : Ty
 
 -- a code, and which of its changes: those to digits, or those to a real or a string
 pub data ChangeKey : Type 0 where
-  digits_of : (code : List ℕ) → ChangeKey
-  text_of : (code : List ℕ) → ChangeKey
+  digits_key : (code : List ℕ) → ChangeKey
+  text_key : (code : List ℕ) → ChangeKey
 
 -- the key of an item, if it is a change
 abbrev pub change_key : Item → Option ChangeKey
-change_key (scalar digit code) = Some (digits_of code)
-change_key (vector first digits code) = Some (digits_of code)
-change_key (real_or_string first text code) = Some (text_of code)
+change_key (scalar digit code) = Some (digits_key code)
+change_key (vector first digits code) = Some (digits_key code)
+change_key (real_or_string first text code) = Some (text_key code)
 change_key item = None
 
 -- the code of a key
 abbrev pub code_of_key : ChangeKey → List ℕ
-code_of_key (digits_of code) = code
-code_of_key (text_of code) = code
+code_of_key (digits_key code) = code
+code_of_key (text_key code) = code
 
 -- whether two keys are the same
 abbrev pub same_key : ChangeKey → ChangeKey → Bool
-same_key (digits_of a) (digits_of b) = bytes_eq a b
-same_key (text_of a) (text_of b) = bytes_eq a b
+same_key (digits_key a) (digits_key b) = bytes_eq a b
+same_key (text_key a) (text_key b) = bytes_eq a b
 same_key a b = false
 
 -- whether an item is a change with this key
@@ -80,9 +80,10 @@ abbrev pub stamp_line : ℕ → Piece
 stamp_line t = record { item = stamp (decimal t); space = 10 ∷ []; body = 35 ∷ decimal t }
 
 -- the held changes with their new tick, of which there is no stamp if the last one is left out
-abbrev pub released : (is_cut_out : ℕ → Bool) → ParseState → (held : List Piece) → List Piece
-released is_cut_out s [] = []
-released is_cut_out s (p ∷ ps) =
+abbrev pub released_pieces : (is_cut_out : ℕ → Bool) → ParseState → (held : List Piece)
+    → List Piece
+released_pieces is_cut_out s [] = []
+released_pieces is_cut_out s (p ∷ ps) =
     (if is_cut_out s.tick then stamp_line (new_tick is_cut_out s.tick) ∷ [] else []) ++ p ∷ ps
 
 -- ---- pieces
@@ -108,13 +109,13 @@ pieces_in_place (is_exchanged j) p =
     record { item = j; space = p.space; body = join_with_byte 32 (spelling j) } ∷ []
 
 -- the pieces in place of these after this state, while these changes are held
-unfoldable pub retimed : (is_cut_out : ℕ → Bool) → ParseState → (held : List Piece) → List Piece
-    → List Piece
-retimed is_cut_out s held [] = released is_cut_out s held
-retimed is_cut_out s held (p ∷ ps) =
-    (if is_past is_cut_out s p.item then released is_cut_out s held else [])
+unfoldable pub retimed_pieces : (is_cut_out : ℕ → Bool) → ParseState → (held : List Piece)
+    → List Piece → List Piece
+retimed_pieces is_cut_out s held [] = released_pieces is_cut_out s held
+retimed_pieces is_cut_out s held (p ∷ ps) =
+    (if is_past is_cut_out s p.item then released_pieces is_cut_out s held else [])
     ++ pieces_in_place (retimed_fate is_cut_out s p.item) p
-    ++ retimed is_cut_out (state_after_item s p.item)
+    ++ retimed_pieces is_cut_out (state_after_item s p.item)
     (if is_past is_cut_out s p.item then [] else held_with is_cut_out s held p (change_key p.item))
     ps
 

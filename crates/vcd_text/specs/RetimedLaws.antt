@@ -1,7 +1,7 @@
 -- The laws of a file after ticks are cut out. The project's own.
-use Rattle.std.specs.Prelude.{◌≡◌, ℕ, ◌+◌, ◌-◌, ◌≤◌, ◌==◌, ◌&&◌, ◌||◌, Bool, true, false}
-use Rattle.std.specs.Prelude.{nat_lt, nat_le, if◌then◌else◌, List, [], ◌∷◌, ◌++◌, map, length, All}
-use Rattle.std.specs.Prelude.{Option, Some, None, is_some, IsTrue, count_by, ◌⊎◌, codes, ◌≢◌}
+use Rattle.std.specs.Prelude.{◌≡◌, ℕ, ◌+◌, ◌-◌, ◌≤◌, ◌==◌, ◌&&◌, ◌||◌, Bool, false}
+use Rattle.std.specs.Prelude.{nat_lt, nat_le, if◌then◌else◌, List, [], ◌∷◌, ◌++◌, map}
+use Rattle.std.specs.Prelude.{not, Option, Some, None, is_some, IsTrue, count_by, ◌⊎◌, codes, ◌≢◌}
 use Rattle.std.specs.List.{flat_map, filter, list_any, Any}
 use Rattle.vcd_core.specs.Decimal.{number_of}
 use Rattle.vcd_text.specs.Items.{Item, stamp}
@@ -10,7 +10,7 @@ use Rattle.vcd_text.specs.Grammar.{AllowsAll, is_skipped}
 use Rattle.vcd_text.specs.Meaning.{FileMeans, meaning}
 use Rattle.vcd_text.specs.Pieces.{Piece, IsCut, state_of_pieces}
 use Rattle.vcd_text.specs.Retimed.{new_tick, AreOldTicks, ChangeKey, change_key, has_key}
-use Rattle.vcd_text.specs.Retimed.{code_of_key, lasts, retimed, retimed_contents}
+use Rattle.vcd_text.specs.Retimed.{code_of_key, lasts, retimed_pieces, retimed_contents}
 
 -- ---- cuts
 
@@ -50,7 +50,7 @@ pub record CanBeRetimed (is_cut_out : ℕ → Bool) (old_tick : ℕ → ℕ) (li
 
 -- the pieces of the file after the cuts
 abbrev pub pieces_after : (is_cut_out : ℕ → Bool) → (limit : ℕ) → List Piece → List Piece
-pieces_after is_cut_out limit pieces = retimed is_cut_out (initial_state limit) [] pieces
+pieces_after is_cut_out limit pieces = retimed_pieces is_cut_out (initial_state limit) [] pieces
 
 -- the bytes of pieces, and of white space after them
 abbrev pub bytes_of : List Piece → (tail : List ℕ) → List ℕ
@@ -90,16 +90,16 @@ RetimedTextMeansRetimedCapture =
 -- ---- the changes that are left
 
 -- the tick after an item
-abbrev pub tick_after : ℕ → Item → ℕ
-tick_after now (stamp digits) = number_of digits
-tick_after now item = now
+abbrev pub tick_after_item : ℕ → Item → ℕ
+tick_after_item now (stamp digits) = number_of digits
+tick_after_item now item = now
 
 -- the last change with this key up to a tick, among pieces that come after a stamp of `now`, or
 -- else `before`
 unfoldable pub last_change : ChangeKey → (t now : ℕ) → (before : Option Piece) → List Piece
     → Option Piece
 last_change key t now before [] = before
-last_change key t now before (p ∷ ps) = last_change key t (tick_after now p.item)
+last_change key t now before (p ∷ ps) = last_change key t (tick_after_item now p.item)
     (if has_key key (change_key p.item) && nat_le now t then Some p else before) ps
 
 -- a variable has the code, and is no event
@@ -120,11 +120,11 @@ LastChangesStand =
 -- ---- the order of changes
 
 -- the changes at the ticks of a test, among pieces that come after a stamp of `now`
-unfoldable pub changes_at : (is_at : ℕ → Bool) → (now : ℕ) → List Piece → List Piece
-changes_at is_at now [] = []
-changes_at is_at now (p ∷ ps) =
+unfoldable pub changes_at_ticks : (is_at : ℕ → Bool) → (now : ℕ) → List Piece → List Piece
+changes_at_ticks is_at now [] = []
+changes_at_ticks is_at now (p ∷ ps) =
     (if is_some (change_key p.item) && is_at now then p ∷ [] else [])
-    ++ changes_at is_at (tick_after now p.item) ps
+    ++ changes_at_ticks is_at (tick_after_item now p.item) ps
 
 -- whether a key is that of a change
 abbrev pub is_key_of : Option ChangeKey → Piece → Bool
@@ -150,11 +150,26 @@ ChangesStandInOrder =
     (is_cut_out : ℕ → Bool) (old_tick : ℕ → ℕ) (limit : ℕ) (file : List ℕ) (pieces : List Piece)
     (tail : List ℕ) (t : ℕ) (here cut : List Piece)
     → CanBeRetimed is_cut_out old_tick limit file pieces tail
-    → here ≡ changes_at (λ u. u == old_tick t) 0 pieces
-    → cut ≡ changes_at (λ u. is_cut_out u && (new_tick is_cut_out u == t)) 0 pieces
-    → changes_at (λ u. u == t) 0 (pieces_after is_cut_out limit pieces)
+    → here ≡ changes_at_ticks (λ u. u == old_tick t) 0 pieces
+    → cut ≡ changes_at_ticks (λ u. is_cut_out u && (new_tick is_cut_out u == t)) 0 pieces
+    → changes_at_ticks (λ u. u == t) 0 (pieces_after is_cut_out limit pieces)
     ≡ here ++ last_ones
     (filter (λ p. lasts_with (state_of_pieces limit pieces) (change_key p.item)) cut) here
+
+-- ---- all else
+
+-- whether an item is neither a stamp nor a change
+abbrev pub is_neither : Item → Bool
+is_neither (stamp digits) = false
+is_neither item = not (is_some (change_key item))
+
+-- the pieces that are neither stand, in their order
+abbrev pub OtherPiecesStand : Type 0
+OtherPiecesStand =
+    (is_cut_out : ℕ → Bool) (old_tick : ℕ → ℕ) (limit : ℕ) (file : List ℕ) (pieces : List Piece)
+    (tail : List ℕ) → CanBeRetimed is_cut_out old_tick limit file pieces tail
+    → filter (λ p. is_neither p.item) (pieces_after is_cut_out limit pieces)
+    ≡ filter (λ p. is_neither p.item) pieces
 
 -- ---- the stamps that are put in
 

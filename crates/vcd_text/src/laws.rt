@@ -16,7 +16,8 @@ ghost use Rattle.vcd_text.specs.GivenCodes.{GivenCodesFit, AmendedTextMeansOther
 ghost use Rattle.vcd_text.specs.WhatStands.{UntouchedItemsStand};
 ghost use Rattle.vcd_text.specs.RetimedLaws.{RetimedFileMeansRetimedCapture, CutsLeaveTicks};
 ghost use Rattle.vcd_text.specs.RetimedLaws.{LastChangesStand, ChangesStandInOrder};
-ghost use Rattle.vcd_text.specs.RetimedLaws.{StampsStand, RetimedTextMeansRetimedCapture};
+ghost use Rattle.vcd_text.specs.RetimedLaws.{StampsStand, OtherPiecesStand};
+ghost use Rattle.vcd_text.specs.RetimedLaws.{RetimedTextMeansRetimedCapture};
 
 /// A file has at most one result. It has no two meanings, no two faults, no two lines of one fault,
 /// and never both a meaning and a fault.
@@ -103,6 +104,7 @@ pub fn retimed_file_is_meant()
     ensures changes { LastChangesStand }
     ensures order { ChangesStandInOrder }
     ensures stamps { StampsStand }
+    ensures others { OtherPiecesStand }
 {}
 
 /// Every file whose words spell items is cut into the pieces of these items, and in one way.

@@ -1,27 +1,27 @@
 -- A retimed file is accepted, piece by piece.
-use Rattle.std.proofs.Common.{◌≡◌, ℕ, ◌+◌, ◌<◌, ◌≤◌, ◌∙◌, ◌==◌, ◌^◌, Bool, true, false, not, nat_le, nat_lt}
-use Rattle.std.proofs.Common.{List, [], ◌∷◌, ◌++◌, refl, ap, sym, arith, if◌then◌else◌, ◌&&◌, Option, map}
-use Rattle.std.proofs.Common.{Some, None, IsTrue, subst, append_assoc, decimal, All}
-use Rattle.std.specs.List.{filter}
-use Rattle.std.proofs.lemmas.Bool.{false≢true, le-leb, ltb-true, ltb-false, eqb-true, and_from}
+use Rattle.std.proofs.Common.{◌≡◌, ℕ, ◌+◌, ◌<◌, ◌≤◌, ◌∙◌, ◌==◌, ◌^◌, Bool, true, false, not}
+use Rattle.std.proofs.Common.{List, [], ◌∷◌, ◌++◌, refl, ap, sym, arith, if◌then◌else◌, ◌&&◌}
+use Rattle.std.proofs.Common.{Some, IsTrue, subst, decimal, All}
+use Rattle.std.proofs.lemmas.Bool.{false≢true, le-leb, ltb-true, eqb-true, and_from}
 use Rattle.std.proofs.lemmas.List.{map-append}
 use Rattle.std.proofs.lemmas.List.Elements.{All-nil, All-cons, All-head, All-tail, All-append, All-filter, All-weaker}
 use Rattle.vcd_core.specs.Decimal.{number_of, is_number}
 use Rattle.vcd_core.specs.declared.capture.TheConstants.{END_LIMIT}
 use Rattle.vcd_text.specs.Items.{Item, stamp}
 use Rattle.vcd_text.specs.Grammar.{ParseState, ValueChange, Allows, AllowsAll, state_after_item, state_after}
-use Rattle.vcd_text.specs.AmendedItems.{ItemFate, stands, is_left_out, is_exchanged}
+use Rattle.vcd_text.specs.AmendedItems.{stands, is_left_out, is_exchanged}
 use Rattle.vcd_text.specs.Pieces.{Piece}
 use Rattle.vcd_text.specs.Retimed.{new_tick, ChangeKey, change_key, has_key, code_of_key, lasts}
-use Rattle.vcd_text.specs.Retimed.{held_with, is_past, stamp_line, released, retimed_stamp, pieces_in_place, retimed}
+use Rattle.vcd_text.specs.Retimed.{held_with, is_past, stamp_line, released_pieces, retimed_stamp, pieces_in_place}
+use Rattle.vcd_text.specs.Retimed.{retimed_pieces}
 use Rattle.vcd_text.proofs.shared.ItemTests.{allows_stamp}
-use Rattle.vcd_text.proofs.shared.ItemsInTurn.{Reaches, reaches_none, reaches_one, reaches_first, reaches_both}
+use Rattle.vcd_text.proofs.shared.ItemsInTurn.{Reaches, reaches_none, reaches_one, reaches_both}
 use Rattle.vcd_text.proofs.shared.ItemsInTurn.{reaches_same}
 use Rattle.vcd_text.proofs.read_back.Decimals.{decimal_is_number, number_of-decimal}
 use Rattle.vcd_text.proofs.retimed.Ticks.{is_earlier, rises}
 use Rattle.vcd_text.proofs.retimed.Kinds.{at, IsChange, IsStill, kind_of, is_stamp, is_change, is_still}
 use Rattle.vcd_text.proofs.retimed.Kinds.{change_of_key, body_stays, retimed_still, retimed_change, retimed_by_stamp}
-use Rattle.vcd_text.proofs.retimed.StampTicks.{IsTickAfter, small, stamp_ticks, items_of}
+use Rattle.vcd_text.proofs.retimed.StampTicks.{IsTickAfter, stamp_ticks, items_of}
 use Rattle.vcd_text.proofs.retimed.LastChanges.{IsHeld}
 
 -- a held change is allowed
@@ -93,7 +93,7 @@ module _ (is_cut_out : ℕ → Bool) where
 
   released_arrive : (s : ParseState) (vs : List ValueChange) (n : ℕ) (held : List Piece) → IsTickAfter is_cut_out s.tick
       n
-      → All (CanStand s) held → Arrives s vs n (items_of (released is_cut_out s held)) s
+      → All (CanStand s) held → Arrives s vs n (items_of (released_pieces is_cut_out s held)) s
   released_arrive s vs n [] is all = record {
     value_changes = vs;
     tick = n;
@@ -253,10 +253,11 @@ module _ (is_cut_out : ℕ → Bool) where
       (t : ParseState) (allows : Allows s p.item) (is : IsTickAfter is_cut_out s.tick n) (all : All (CanStand s) held)
       (next : (held : List Piece) (vs : List ValueChange) (n : ℕ)
       → IsTickAfter is_cut_out (state_after_item s p.item).tick n → All (CanStand (state_after_item s p.item)) held
-      → Arrives (state_after_item s p.item) vs n (items_of (retimed is_cut_out (state_after_item s p.item) held ps)) t)
+      → Arrives (state_after_item s p.item) vs n (items_of (retimed_pieces is_cut_out (state_after_item s p.item) held
+      ps)) t)
     where
       abbrev Goal : Type 0
-      Goal = Arrives s vs n (items_of (retimed is_cut_out s held (p ∷ ps))) t
+      Goal = Arrives s vs n (items_of (retimed_pieces is_cut_out s held (p ∷ ps))) t
 
       still_step : IsStill p.item → Goal
       still_step still =
@@ -289,12 +290,15 @@ module _ (is_cut_out : ℕ → Bool) where
           ))
           in
           let in_it : List Piece = pieces_in_place (retimed_stamp is_cut_out (number_of digits)) p in
-          let both : Arrives s vs n (items_of (released is_cut_out s held ++ in_it)) (state_after_item s p.item) =
+          let both : Arrives s vs n (items_of (released_pieces is_cut_out s held ++ in_it)) (state_after_item s p.item)
+          =
           both_arrive
-          s vs n (released is_cut_out s held) in_it s (state_after_item s p.item) out here in
-          arrives_as s t vs n ((released is_cut_out s held ++ in_it) ++ retimed is_cut_out (state_after_item s p.item)
+          s vs n (released_pieces is_cut_out s held) in_it s (state_after_item s p.item) out here in
+          arrives_as s t vs n ((released_pieces is_cut_out s held ++ in_it) ++ retimed_pieces is_cut_out
+          (state_after_item s p.item)
           [] ps)
-          _ (retimed_by_stamp is_cut_out s held p ps digits stamp_is ∙ rw past refl) (both_arrive s vs n (released
+          _ (retimed_by_stamp is_cut_out s held p ps digits stamp_is ∙ rw past refl) (both_arrive s vs n
+          (released_pieces
           is_cut_out
           s held ++ in_it) _ (state_after_item s p.item) t both (next [] both.value_changes both.tick both.is (All-nil
           (CanStand (state_after_item s p.item)))))
@@ -307,7 +311,8 @@ module _ (is_cut_out : ℕ → Bool) where
                 digits) later.2,
           ) in
           let here = stamp_arrives s vs n p allows digits stamp_is order in
-          arrives_as s t vs n (pieces_in_place (retimed_stamp is_cut_out (number_of digits)) p ++ retimed is_cut_out
+          arrives_as s t vs n (pieces_in_place (retimed_stamp is_cut_out (number_of digits)) p ++ retimed_pieces
+          is_cut_out
           (state_after_item s p.item) held ps) _ (retimed_by_stamp is_cut_out s held p ps digits stamp_is ∙ rw not_past
           refl)
           (both_arrive s vs n (pieces_in_place (retimed_stamp is_cut_out (number_of digits)) p) _ (state_after_item s
@@ -323,8 +328,8 @@ module _ (is_cut_out : ℕ → Bool) where
 
   pub retimed_arrives : (s : ParseState) (held : List Piece) (vs : List ValueChange) (n : ℕ) (ps : List Piece)
       → AllowsAll s (items_of ps) → IsTickAfter is_cut_out s.tick n → All (CanStand s) held
-      → Arrives s vs n (items_of (retimed is_cut_out s held ps)) (state_after s (items_of ps))
-  unfolding retimed
+      → Arrives s vs n (items_of (retimed_pieces is_cut_out s held ps)) (state_after s (items_of ps))
+  unfolding retimed_pieces
   retimed_arrives s held vs n [] allows is all = released_arrive s vs n held is all
   retimed_arrives s held vs n (p ∷ ps) allows is all = step s held vs n p ps (state_after s (items_of (p ∷ ps)))
       allows.0 is

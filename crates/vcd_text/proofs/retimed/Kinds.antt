@@ -1,31 +1,31 @@
 -- The items of a retimed file: stamps, changes, and those that are neither.
-use Rattle.std.proofs.Common.{◌≡◌, ℕ, ◌∙◌, ◌==◌, ◌^◌, Bool, true, false, not, ◌||◌, nat_lt}
-use Rattle.std.proofs.Common.{List, [], ◌∷◌, ◌++◌, refl, ap, sym, arith, if◌then◌else◌, inl, inr, ◌&&◌, Option, map}
-use Rattle.std.proofs.Common.{Some, None, IsTrue, subst, append_assoc}
-use Rattle.std.specs.Prelude.{bytes_eq, is_some}
+use Rattle.std.proofs.Common.{◌≡◌, ℕ, ◌∙◌, Bool, true, false, not}
+use Rattle.std.proofs.Common.{List, [], ◌∷◌, ◌++◌, refl, ap, sym, if◌then◌else◌, inl, inr, ◌&&◌, Option}
+use Rattle.std.proofs.Common.{Some, None}
+use Rattle.std.specs.Prelude.{is_some}
 use Rattle.std.proofs.lemmas.Bool.{cases_Bool, and_parts, false≢true}
 use Rattle.vcd_core.specs.Decimal.{number_of}
 use Rattle.vcd_text.specs.Items.{Item, entry, timescale, scope, upscope, variable, end_definitions}
 use Rattle.vcd_text.specs.Items.{stamp, scalar, vector, real_or_string, dump_word, other}
 use Rattle.vcd_text.specs.Grammar.{ParseState, ValueChange, Allows, AllowsAll, state_after_item, state_after}
-use Rattle.vcd_text.specs.AmendedItems.{ItemFate, stands, is_left_out, is_exchanged}
+use Rattle.vcd_text.specs.AmendedItems.{stands, is_left_out}
 use Rattle.vcd_text.specs.Pieces.{Piece}
-use Rattle.vcd_text.specs.Retimed.{ChangeKey, digits_of, text_of, change_key, same_key, has_key, held_with, is_past}
-use Rattle.vcd_text.specs.Retimed.{released, retimed_stamp, retimed_fate, pieces_in_place, retimed}
-use Rattle.vcd_text.specs.RetimedLaws.{tick_after, is_stamp_of}
+use Rattle.vcd_text.specs.Retimed.{ChangeKey, digits_key, text_key, change_key, same_key, held_with, is_past}
+use Rattle.vcd_text.specs.Retimed.{released_pieces, retimed_stamp, retimed_fate, pieces_in_place, retimed_pieces}
+use Rattle.vcd_text.specs.RetimedLaws.{tick_after_item, is_stamp_of, is_neither}
 use Rattle.vcd_text.proofs.amended.Codes.{same_bytes, itself}
 
 -- ---- keys
 
 pub keys_same : (a b : ChangeKey) → same_key a b ≡ true → a ≡ b
-keys_same (digits_of a) (digits_of b) same = ap digits_of (same_bytes a b same)
-keys_same (text_of a) (text_of b) same = ap text_of (same_bytes a b same)
-keys_same (digits_of a) (text_of b) same = absurd (false≢true same)
-keys_same (text_of a) (digits_of b) same = absurd (false≢true same)
+keys_same (digits_key a) (digits_key b) same = ap digits_key (same_bytes a b same)
+keys_same (text_key a) (text_key b) same = ap text_key (same_bytes a b same)
+keys_same (digits_key a) (text_key b) same = absurd (false≢true same)
+keys_same (text_key a) (digits_key b) same = absurd (false≢true same)
 
 pub key_itself : (a : ChangeKey) → same_key a a ≡ true
-key_itself (digits_of a) = itself a
-key_itself (text_of a) = itself a
+key_itself (digits_key a) = itself a
+key_itself (text_key a) = itself a
 
 -- ---- items
 
@@ -36,8 +36,9 @@ at s vs n = record s { tick = n; value_changes = vs }
 -- a change with this key
 pub record IsChange (i : Item) (key : ChangeKey) : Type 0 where
   pub is : change_key i ≡ Some key
-  pub tick : (now : ℕ) → tick_after now i ≡ now
+  pub tick : (now : ℕ) → tick_after_item now i ≡ now
   pub stamp : (t : ℕ) → is_stamp_of t i ≡ false
+  pub neither : is_neither i ≡ false
   pub outcome : (c : ℕ → Bool) (s : ParseState) → retimed_fate c s i
       ≡ (if c s.tick then is_left_out else stands)
   pub past : (c : ℕ → Bool) (s : ParseState) → is_past c s i ≡ false
@@ -48,8 +49,9 @@ pub record IsChange (i : Item) (key : ChangeKey) : Type 0 where
 -- an item that is neither a stamp nor a change
 pub record IsStill (i : Item) : Type 0 where
   pub is : change_key i ≡ None
-  pub tick : (now : ℕ) → tick_after now i ≡ now
+  pub tick : (now : ℕ) → tick_after_item now i ≡ now
   pub stamp : (t : ℕ) → is_stamp_of t i ≡ false
+  pub neither : is_neither i ≡ true
   pub outcome : (c : ℕ → Bool) (s : ParseState) → retimed_fate c s i ≡ stands
   pub past : (c : ℕ → Bool) (s : ParseState) → is_past c s i ≡ false
   pub allows : (s : ParseState) (vs : List ValueChange) (n : ℕ) → Allows s i → Allows (at s vs n) i
@@ -75,6 +77,7 @@ kind_of (entry kind words) = is_still (record {
   is = refl;
   tick = λ now. refl;
   stamp = λ t. refl;
+  neither = refl;
   outcome = λ c s. refl;
   past = λ c s. refl;
   allows = λ s vs n a. a;
@@ -87,6 +90,7 @@ kind_of (timescale words) = is_still (record {
   is = refl;
   tick = λ now. refl;
   stamp = λ t. refl;
+  neither = refl;
   outcome = λ c s. refl;
   past = λ c s. refl;
   allows = λ s vs n a. a;
@@ -99,6 +103,7 @@ kind_of (scope kind words) = is_still (record {
   is = refl;
   tick = λ now. refl;
   stamp = λ t. refl;
+  neither = refl;
   outcome = λ c s. refl;
   past = λ c s. refl;
   allows = λ s vs n a. a;
@@ -111,6 +116,7 @@ kind_of upscope = is_still (record {
   is = refl;
   tick = λ now. refl;
   stamp = λ t. refl;
+  neither = refl;
   outcome = λ c s. refl;
   past = λ c s. refl;
   allows = λ s vs n a. a;
@@ -123,6 +129,7 @@ kind_of (variable words) = is_still (record {
   is = refl;
   tick = λ now. refl;
   stamp = λ t. refl;
+  neither = refl;
   outcome = λ c s. refl;
   past = λ c s. refl;
   allows = λ s vs n a. a;
@@ -135,6 +142,7 @@ kind_of end_definitions = is_still (record {
   is = refl;
   tick = λ now. refl;
   stamp = λ t. refl;
+  neither = refl;
   outcome = λ c s. refl;
   past = λ c s. refl;
   allows = λ s vs n a. a;
@@ -144,30 +152,33 @@ kind_of end_definitions = is_still (record {
   body = λ s a b. (refl, refl);
 })
 kind_of (stamp digits) = is_stamp digits refl
-kind_of (scalar digit code) = is_change (digits_of code) (record {
+kind_of (scalar digit code) = is_change (digits_key code) (record {
   is = refl;
   tick = λ now. refl;
   stamp = λ t. refl;
+  neither = refl;
   outcome = λ c s. refl;
   past = λ c s. refl;
   in_body = λ s a. (and_parts s.in_body _ a.0).0;
   allows = λ s t b d a. rw (b, d) a;
   state = λ s. refl;
 })
-kind_of (vector first digits code) = is_change (digits_of code) (record {
+kind_of (vector first digits code) = is_change (digits_key code) (record {
   is = refl;
   tick = λ now. refl;
   stamp = λ t. refl;
+  neither = refl;
   outcome = λ c s. refl;
   past = λ c s. refl;
   in_body = λ s a. (and_parts s.in_body _ a.0).0;
   allows = λ s t b d a. rw (b, d) a;
   state = λ s. refl;
 })
-kind_of (real_or_string first text code) = is_change (text_of code) (record {
+kind_of (real_or_string first text code) = is_change (text_key code) (record {
   is = refl;
   tick = λ now. refl;
   stamp = λ t. refl;
+  neither = refl;
   outcome = λ c s. refl;
   past = λ c s. refl;
   in_body = λ s a. (and_parts s.in_body _ a.0).0;
@@ -178,6 +189,7 @@ kind_of (dump_word word) = is_still (record {
   is = refl;
   tick = λ now. refl;
   stamp = λ t. refl;
+  neither = refl;
   outcome = λ c s. refl;
   past = λ c s. refl;
   allows = λ s vs n a. a;
@@ -190,6 +202,7 @@ kind_of (other word words) = is_still (record {
   is = refl;
   tick = λ now. refl;
   stamp = λ t. refl;
+  neither = refl;
   outcome = λ c s. refl;
   past = λ c s. refl;
   allows = λ s vs n a. a;
@@ -226,23 +239,23 @@ declared_stays s (i ∷ is) allows body =
 -- ---- the pieces in place of one
 
 module _ (c : ℕ → Bool) (s : ParseState) (held : List Piece) (p : Piece) (ps : List Piece) where
-  pub retimed_still : IsStill p.item → retimed c s held (p ∷ ps)
-      ≡ p ∷ retimed c (state_after_item s p.item) held ps
-  unfolding retimed
+  pub retimed_still : IsStill p.item → retimed_pieces c s held (p ∷ ps)
+      ≡ p ∷ retimed_pieces c (state_after_item s p.item) held ps
+  unfolding retimed_pieces
   retimed_still still = rw (still.past c s, still.outcome c s, still.is) refl
 
-  pub retimed_change : (key : ChangeKey) → IsChange p.item key → retimed c s held (p ∷ ps)
+  pub retimed_change : (key : ChangeKey) → IsChange p.item key → retimed_pieces c s held (p ∷ ps)
       ≡ (if c s.tick then [] else p ∷ [])
-      ++ retimed c (state_after_item s p.item) (held_with c s held p (Some key)) ps
-  unfolding retimed
+      ++ retimed_pieces c (state_after_item s p.item) (held_with c s held p (Some key)) ps
+  unfolding retimed_pieces
   retimed_change key change = rw (change.past c s, change.outcome c s, change.is) (elim (cases_Bool (c s.tick)) [
     | inl cut ↦ rw cut refl
     | inr left ↦ rw left refl
   ])
 
-  pub retimed_by_stamp : (digits : List ℕ) → p.item ≡ stamp digits → retimed c s held (p ∷ ps)
-      ≡ (if is_past c s (stamp digits) then released c s held else [])
+  pub retimed_by_stamp : (digits : List ℕ) → p.item ≡ stamp digits → retimed_pieces c s held (p ∷ ps)
+      ≡ (if is_past c s (stamp digits) then released_pieces c s held else [])
       ++ pieces_in_place (retimed_stamp c (number_of digits)) p
-      ++ retimed c (state_after_item s p.item) (if is_past c s (stamp digits) then [] else held) ps
-  unfolding retimed
+      ++ retimed_pieces c (state_after_item s p.item) (if is_past c s (stamp digits) then [] else held) ps
+  unfolding retimed_pieces
   retimed_by_stamp digits is = rw is refl

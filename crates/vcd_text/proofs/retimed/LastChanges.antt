@@ -1,11 +1,11 @@
 -- The last change of each code stands in a retimed file.
-use Rattle.std.proofs.Common.{◌≡◌, ℕ, ◌+◌, ◌<◌, ◌≤◌, ◌∙◌, ◌==◌, ◌^◌, Bool, true, false, not, nat_le, nat_lt}
-use Rattle.std.proofs.Common.{List, [], ◌∷◌, ◌++◌, refl, ap, sym, arith, if◌then◌else◌, inl, inr, ◌&&◌, Option, map}
+use Rattle.std.proofs.Common.{◌≡◌, ℕ, ◌+◌, ◌<◌, ◌≤◌, ◌∙◌, Bool, true, false, not, nat_le}
+use Rattle.std.proofs.Common.{List, [], ◌∷◌, ◌++◌, refl, ap, sym, arith, if◌then◌else◌, inl, inr, ◌&&◌, Option}
 use Rattle.std.proofs.Common.{Some, None, IsTrue, subst, append_assoc, decimal, All}
 use Rattle.std.specs.Prelude.{bytes_eq, is_some}
 use Rattle.std.specs.List.{filter, list_any, Any}
 use Rattle.std.proofs.lemmas.List.Folds.{list_any-from_Any}
-use Rattle.std.proofs.lemmas.Bool.{cases_Bool, cases_lt, and_parts, false≢true, lt-ltb, le-ltb, leb-true, ltb-true}
+use Rattle.std.proofs.lemmas.Bool.{cases_Bool, false≢true, ltb-true}
 use Rattle.std.proofs.lemmas.Bool.{ltb-false}
 use Rattle.std.proofs.lemmas.List.Elements.{All-nil, All-cons, All-head, All-tail, All-append, All-filter}
 use Rattle.vcd_core.specs.Decimal.{number_of, is_number}
@@ -13,21 +13,19 @@ use Rattle.vcd_core.specs.declared.capture.TheConstants.{END_LIMIT}
 use Rattle.vcd_text.specs.Items.{Item, stamp}
 use Rattle.std.specs.Prelude.{codes}
 use Rattle.std.proofs.lemmas.List.{append-nil}
-use Rattle.std.proofs.lemmas.Bool.{eqb-true}
 use Rattle.vcd_text.specs.Grammar.{VariableDeclaration}
 use Rattle.vcd_text.specs.Grammar.{ParseState, Allows, AllowsAll, state_after_item, state_after, initial_state}
-use Rattle.vcd_text.specs.AmendedItems.{ItemFate, stands, is_left_out, is_exchanged}
 use Rattle.vcd_text.specs.Pieces.{Piece, state_of_pieces}
 use Rattle.vcd_text.specs.Retimed.{new_tick, AreOldTicks, ChangeKey, change_key, same_key, has_key, code_of_key, lasts}
-use Rattle.vcd_text.specs.Retimed.{held_with, is_past, stamp_line, released, retimed_stamp, pieces_in_place, retimed}
-use Rattle.vcd_text.specs.RetimedLaws.{tick_after, last_change, LastChangesStand, IsNoEvent, pieces_after, CanBeRetimed}
+use Rattle.vcd_text.specs.Retimed.{held_with, is_past, released_pieces, retimed_stamp, pieces_in_place, retimed_pieces}
+use Rattle.vcd_text.specs.RetimedLaws.{tick_after_item, last_change, LastChangesStand, IsNoEvent, pieces_after}
+use Rattle.vcd_text.specs.RetimedLaws.{CanBeRetimed}
 use Rattle.vcd_text.proofs.amended.Codes.{itself, differ}
-use Rattle.vcd_text.proofs.shared.ItemTests.{has_tick}
 use Rattle.vcd_text.proofs.read_back.Decimals.{number_of-decimal}
-use Rattle.vcd_text.proofs.retimed.Ticks.{is_earlier, rises, same_test}
+use Rattle.vcd_text.proofs.retimed.Ticks.{rises, same_test}
 use Rattle.vcd_text.proofs.retimed.Kinds.{IsChange, IsStill, kind_of, is_stamp, is_change, is_still, change_of_key}
 use Rattle.vcd_text.proofs.retimed.StampTicks.{items_of, IsTickAfter, small, stamp_ticks, placed}
-use Rattle.vcd_text.proofs.retimed.Kinds.{keys_same, key_itself, declared_stays, retimed_still, retimed_change}
+use Rattle.vcd_text.proofs.retimed.Kinds.{keys_same, declared_stays, retimed_still, retimed_change}
 use Rattle.vcd_text.proofs.retimed.Kinds.{retimed_by_stamp}
 
 -- a held piece is a change
@@ -93,13 +91,15 @@ module _ (key : ChangeKey) where
   pub at_still : (t n : ℕ) (b : Option Piece) (p : Piece) (ps : List Piece) → IsStill p.item
       → last_change key t n b (p ∷ ps) ≡ last_change key t n b ps
   unfolding last_change
-  at_still t n b p ps still = ap (λ (k : Option ChangeKey). last_change key t (tick_after n p.item) (if has_key key k &&
+  at_still t n b p ps still = ap (λ (k : Option ChangeKey). last_change key t (tick_after_item n p.item) (if has_key key
+      k &&
       nat_le n t then Some p else b) ps) still.is ∙ ap (λ (m : ℕ). last_change key t m b ps) (still.tick n)
 
   pub at_change : (t n : ℕ) (b : Option Piece) (p : Piece) (ps : List Piece) (k : ChangeKey) → IsChange p.item k
       → last_change key t n b (p ∷ ps) ≡ last_change key t n (if same_key key k && nat_le n t then Some p else b) ps
   unfolding last_change
-  at_change t n b p ps k change = ap (λ (k : Option ChangeKey). last_change key t (tick_after n p.item) (if has_key key
+  at_change t n b p ps k change = ap (λ (k : Option ChangeKey). last_change key t (tick_after_item n p.item) (if has_key
+      key
       k &&
       nat_le n t then Some p else b) ps) change.is ∙ ap (λ (m : ℕ). last_change key t m (if same_key key k && nat_le n t
       then Some p else b) ps) (change.tick n)
@@ -107,7 +107,8 @@ module _ (key : ChangeKey) where
   pub at_stamp : (t n : ℕ) (b : Option Piece) (p : Piece) (ps : List Piece) (digits : List ℕ) → p.item ≡ stamp digits
       → last_change key t n b (p ∷ ps) ≡ last_change key t (number_of digits) b ps
   unfolding last_change
-  at_stamp t n b p ps digits is = ap (λ (i : Item). last_change key t (tick_after n i) (if has_key key (change_key i) &&
+  at_stamp t n b p ps digits is = ap (λ (i : Item). last_change key t (tick_after_item n i) (if has_key key (change_key
+      i) &&
       nat_le n t then Some p else b) ps) is
 
   module _ (t : ℕ) where
@@ -184,7 +185,7 @@ module _ (key : ChangeKey) where
       record Written (s : ParseState) (n : ℕ) (b : Option Piece) (held rest : List Piece) : Type 0 where
         pub tick : ℕ
         pub is : IsTickAfter is_cut_out s.tick tick
-        pub last : last_change key t n b (released is_cut_out s held ++ rest)
+        pub last : last_change key t n b (released_pieces is_cut_out s held ++ rest)
             ≡ last_change key t tick (counted (nat_le (new_tick is_cut_out s.tick) t) b held) rest
 
       written : (s : ParseState) (n : ℕ) (b : Option Piece) (held rest : List Piece) → IsTickAfter is_cut_out s.tick n
@@ -223,7 +224,7 @@ module _ (key : ChangeKey) where
 
       abbrev Same : (s : ParseState) (held : List Piece) (n : ℕ) (b theirs : Option Piece) (ps : List Piece) → Type 0
       Same s held n b theirs ps =
-          last_change key t n b (retimed is_cut_out s held ps) ≡ last_change key (old_tick t) s.tick theirs ps
+          last_change key t n b (retimed_pieces is_cut_out s held ps) ≡ last_change key (old_tick t) s.tick theirs ps
 
       module _ (s : ParseState) (held : List Piece) (n : ℕ) (b theirs : Option Piece) (p : Piece) (ps : List Piece)
           (allows : Allows s p.item) (f : Follows s.tick held n b theirs)
@@ -237,7 +238,8 @@ module _ (key : ChangeKey) where
           still_follows : IsStill p.item → Same s held n b theirs (p ∷ ps)
           still_follows still = ap (λ (l : List Piece). last_change key t n b l) (retimed_still is_cut_out s held p ps
               still)
-              ∙ at_still t n b p (retimed is_cut_out after held ps) still ∙ next held n b theirs (subst (λ (u : ℕ).
+              ∙ at_still t n b p (retimed_pieces is_cut_out after held ps) still ∙ next held n b theirs (subst (λ (u :
+              ℕ).
               Follows u
               held n b theirs) (sym (still.same_tick s)) f) ∙ ap (λ (u : ℕ). last_change key (old_tick t) u theirs ps)
               (still.same_tick s) ∙ sym (at_still (old_tick t) s.tick theirs p ps still)
@@ -299,7 +301,8 @@ module _ (key : ChangeKey) where
                 } in
                 ap (λ (l : List Piece). last_change key t n b l) (retimed_change is_cut_out s held p ps k change ∙ rw
                 left
-                refl) ∙ at_change t n b p (retimed is_cut_out after held_after ps) k change ∙ next held_after n ours
+                refl) ∙ at_change t n b p (retimed_pieces is_cut_out after held_after ps) k change ∙ next held_after n
+                ours
                 theirs_after (subst (λ (u : ℕ). Follows u held_after n ours theirs_after) (sym same_tick) f_after) ∙
                 their_side
 
@@ -317,12 +320,12 @@ module _ (key : ChangeKey) where
             from_stamp : (held_after : List Piece) (m : ℕ) (o : Option Piece) → All IsHeld held_after
                 → m ≤ new_tick is_cut_out (number_of digits)
                 → counted (nat_le (new_tick is_cut_out (number_of digits)) t) o held_after ≡ theirs
-                → last_change key t m o (in_it ++ retimed is_cut_out after held_after ps)
+                → last_change key t m o (in_it ++ retimed_pieces is_cut_out after held_after ps)
                 ≡ last_change key (old_tick t) s.tick theirs (p ∷ ps)
             unfolding in_it
             from_stamp held_after m o all upto last =
                 let place = placed (λ n l. last_change key t n o l) (λ n p ps digits is. at_stamp t n o p ps digits is)
-                is_cut_out p digits m (retimed is_cut_out after held_after ps) is later.1 upto in
+                is_cut_out p digits m (retimed_pieces is_cut_out after held_after ps) is later.1 upto in
                 let f_after : Follows (number_of digits) held_after place.tick o theirs = record {
                   is = place.is;
                   all = all;
@@ -339,11 +342,12 @@ module _ (key : ChangeKey) where
             stamp_follows true past =
                 let order : new_tick is_cut_out s.tick < new_tick is_cut_out (number_of digits) = ltb-true (new_tick
                 is_cut_out s.tick) (new_tick is_cut_out (number_of digits)) past in
-                let rest : List Piece = in_it ++ retimed is_cut_out after [] ps in
+                let rest : List Piece = in_it ++ retimed_pieces is_cut_out after [] ps in
                 let w = written s n b held rest f.is f.all in
                 ap (λ (l : List Piece). last_change key t n b l) (retimed_by_stamp is_cut_out s held p ps digits is ∙ rw
                 past
-                (append_assoc (released is_cut_out s held) in_it (retimed is_cut_out after [] ps))) ∙ w.last ∙
+                (append_assoc (released_pieces is_cut_out s held) in_it (retimed_pieces is_cut_out after [] ps))) ∙
+                w.last ∙
                 from_stamp []
                 w.tick (counted (nat_le (new_tick is_cut_out s.tick) t) b held) (All-nil IsHeld) (omega (
                   arith,
@@ -366,10 +370,11 @@ module _ (key : ChangeKey) where
       follows : (s : ParseState) (held : List Piece) (n : ℕ) (b theirs : Option Piece) (ps : List Piece)
           → AllowsAll s (items_of ps) → lasts (state_after s (items_of ps)) (code_of_key key) ≡ true
           → Follows s.tick held n b theirs → Same s held n b theirs ps
-      unfolding retimed last_change
+      unfolding retimed_pieces last_change
       follows s held n b theirs [] allows lasting f =
           let end = written s n b held [] f.is f.all in
-          ap (λ (l : List Piece). last_change key t n b l) (sym (append-nil (released is_cut_out s held))) ∙ end.last
+          ap (λ (l : List Piece). last_change key t n b l) (sym (append-nil (released_pieces is_cut_out s held))) ∙
+          end.last
           ∙ f.last
       follows s held n b theirs (p ∷ ps) allows lasting f = elim (kind_of p.item) [
         | is_stamp digits is ↦ stamp_follows s held n b theirs p ps allows.0 f (λ held n b theirs. follows

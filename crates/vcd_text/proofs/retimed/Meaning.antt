@@ -1,28 +1,25 @@
 -- A retimed file means the retimed capture.
-use Rattle.std.proofs.Common.{◌≡◌, ℕ, ◌+◌, ◌<◌, ◌≤◌, ◌∙◌, Bool, true, false, IsTrue, nat_le, not, inl, inr}
-use Rattle.std.proofs.Common.{List, [], ◌∷◌, refl, ap, sym, arith, map, if◌then◌else◌, subst, ◌&&◌, ◌||◌, Option, Some}
+use Rattle.std.proofs.Common.{◌≡◌, ℕ, ◌∙◌, Bool, true, false, not, inl, inr}
+use Rattle.std.proofs.Common.{List, [], ◌∷◌, refl, ap, sym, arith, map, ◌&&◌}
 use Rattle.std.proofs.Common.{None}
-use Rattle.std.specs.Prelude.{count_by, bytes_eq, codes}
+use Rattle.std.specs.Prelude.{bytes_eq, codes}
 use Rattle.std.specs.List.{list_any}
 use Rattle.std.proofs.lemmas.Bool.{cases_Bool, false≢true}
 use Rattle.std.proofs.lemmas.List.Elements.{All-nil}
 use Rattle.vcd_core.specs.declared.bit.Bit.{Bit}
 use Rattle.vcd_core.specs.Value.{all_x}
 use Rattle.vcd_core.specs.Word.{is_skipped_kind}
-use Rattle.vcd_core.specs.Wave.{changes_of, value_at, value_from}
-use Rattle.vcd_core.specs.Contents.{SignalContents, signal_value}
+use Rattle.vcd_core.specs.Wave.{value_at, value_from}
 use Rattle.vcd_core.proofs.shared.Waves.{changes_same, value_at-changes_of}
-use Rattle.vcd_text.specs.Items.{Item}
-use Rattle.vcd_text.specs.Grammar.{ParseState, ValueChange, VariableDeclaration, AllowsAll, state_after, initial_state}
+use Rattle.vcd_text.specs.Grammar.{ParseState, VariableDeclaration, AllowsAll, initial_state}
 use Rattle.vcd_text.specs.Grammar.{is_skipped, kept_variables}
 use Rattle.vcd_text.specs.Meaning.{declared_signal, changes_of_code, meaning}
 use Rattle.vcd_text.specs.Amendment.{first_with_code}
-use Rattle.vcd_text.specs.Pieces.{Piece, IsCut, state_of_pieces}
-use Rattle.vcd_text.specs.Retimed.{new_tick, digits_of, lasts, retimed, retimed_signal, retimed_contents}
+use Rattle.vcd_text.specs.Pieces.{Piece, state_of_pieces}
+use Rattle.vcd_text.specs.Retimed.{new_tick, digits_key, retimed_signal, retimed_contents}
 use Rattle.vcd_text.specs.RetimedLaws.{CanBeRetimed, pieces_after, last_change}
 use Rattle.vcd_text.specs.inside.reading.Variables.{latest_value}
 use Rattle.vcd_text.proofs.amended.Codes.{same_bytes}
-use Rattle.vcd_text.proofs.shared.ItemsInTurn.{Reaches}
 use Rattle.vcd_text.proofs.retimed.Ticks.{old_of_new, old_rises}
 use Rattle.vcd_text.proofs.retimed.Kinds.{at}
 use Rattle.vcd_text.proofs.retimed.StampTicks.{items_of}
@@ -87,11 +84,11 @@ module _ (is_cut_out : ℕ → Bool) (old_tick : ℕ → ℕ) (limit : ℕ) (fil
 
     -- the same last change gives the same value, and no change none
     by_kept : (kept : Bool) → is_kept_code before_cuts code ≡ kept
-        → expected code t width before kept (last_change (digits_of code) t 0 None again)
-        ≡ expected code t width before kept (last_change (digits_of code) (old_tick t) 0 None pieces)
+        → expected code t width before kept (last_change (digits_key code) t 0 None again)
+        ≡ expected code t width before kept (last_change (digits_key code) (old_tick t) 0 None pieces)
     by_kept true kept = ap (λ o. expected code t width before true o) (lasting_change_stands is_cut_out old_tick limit
         file
-        pieces tail (digits_of code) t can (kept_lasts code before_cuts.declared kept))
+        pieces tail (digits_key code) t can (kept_lasts code before_cuts.declared kept))
     by_kept false skipped = refl
 
     pub same_values : latest_value width code t before arrives.value_changes
@@ -100,11 +97,11 @@ module _ (is_cut_out : ℕ → Bool) (old_tick : ℕ → ℕ) (limit : ℕ) (fil
     same_values =
         let kept : Bool = is_kept_code before_cuts code in
         let ours : latest_value width code t before (state_of_pieces limit again).value_changes
-        ≡ expected code t width before kept (last_change (digits_of code) t 0 None again) = values_are code t width
+        ≡ expected code t width before kept (last_change (digits_key code) t 0 None again) = values_are code t width
         before (initial_state limit) again None kept allowed_again (ap (λ s. is_kept_code s code) state_is) (none_yet
         kept) in
         let theirs : latest_value width code (old_tick t) before before_cuts.value_changes
-        ≡ expected code t width before kept (last_change (digits_of code) (old_tick t) 0 None pieces) = values_are code
+        ≡ expected code t width before kept (last_change (digits_key code) (old_tick t) 0 None pieces) = values_are code
         (old_tick t) width before (initial_state limit) pieces None kept can.allowed refl (none_yet kept) in
         sym (ap (λ (s : ParseState). latest_value width code t before s.value_changes) state_is) ∙ ours ∙ by_kept kept
         refl

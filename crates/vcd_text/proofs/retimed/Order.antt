@@ -1,27 +1,26 @@
 -- The changes of a retimed file, in their order.
-use Rattle.std.proofs.Common.{◌≡◌, ℕ, ◌+◌, ◌<◌, ◌≤◌, ◌∙◌, ◌==◌, ◌^◌, Bool, true, false, not, nat_le, nat_lt, ◌||◌}
-use Rattle.std.proofs.Common.{List, [], ◌∷◌, ◌++◌, refl, ap, sym, arith, if◌then◌else◌, inl, inr, ◌&&◌, Option, map}
+use Rattle.std.proofs.Common.{◌≡◌, ℕ, ◌+◌, ◌<◌, ◌≤◌, ◌∙◌, ◌==◌, Bool, true, false, not, ◌||◌}
+use Rattle.std.proofs.Common.{List, [], ◌∷◌, ◌++◌, refl, ap, sym, arith, if◌then◌else◌, inl, inr, ◌&&◌, Option}
 use Rattle.std.proofs.Common.{Some, None, IsTrue, subst, append_assoc, decimal, All}
 use Rattle.std.specs.Prelude.{is_some, bytes_eq, codes}
 use Rattle.std.specs.List.{filter, list_any}
-use Rattle.std.proofs.lemmas.Bool.{cases_Bool, cases_lt, false≢true, ltb-true, ltb-false, eqb-true, eq-eqb}
-use Rattle.std.proofs.lemmas.Bool.Decides.{nat_tests}
+use Rattle.std.proofs.lemmas.Bool.{cases_Bool, cases_lt, false≢true, ltb-true, ltb-false, eqb-true}
 use Rattle.std.proofs.lemmas.List.{append-nil}
 use Rattle.std.proofs.lemmas.List.Folds.{list_any-append}
 use Rattle.std.proofs.lemmas.List.Elements.{All-nil, All-cons, All-head, All-tail, All-append, All-filter}
-use Rattle.std.proofs.lemmas.List.Elements.{filter-append}
 use Rattle.vcd_core.specs.Decimal.{number_of, is_number}
 use Rattle.vcd_core.specs.declared.capture.TheConstants.{END_LIMIT}
 use Rattle.vcd_text.specs.Items.{Item, stamp}
 use Rattle.vcd_text.specs.Grammar.{ParseState, VariableDeclaration, Allows, AllowsAll, state_after_item, state_after}
 use Rattle.vcd_text.specs.Grammar.{initial_state}
-use Rattle.vcd_text.specs.AmendedItems.{ItemFate, stands, is_left_out, is_exchanged}
 use Rattle.vcd_text.specs.Pieces.{Piece, state_of_pieces}
 use Rattle.vcd_text.specs.Retimed.{new_tick, AreOldTicks, ChangeKey, change_key, same_key, has_key, code_of_key, lasts}
-use Rattle.vcd_text.specs.Retimed.{held_with, is_past, stamp_line, released, retimed_stamp, pieces_in_place, retimed}
-use Rattle.vcd_text.specs.RetimedLaws.{tick_after, changes_at, is_key_of, last_ones, lasts_with, ChangesStandInOrder}
+use Rattle.vcd_text.specs.Retimed.{held_with, is_past, stamp_line, released_pieces, retimed_stamp, pieces_in_place}
+use Rattle.vcd_text.specs.Retimed.{retimed_pieces}
+use Rattle.vcd_text.specs.RetimedLaws.{tick_after_item, changes_at_ticks, is_key_of, last_ones, lasts_with}
+use Rattle.vcd_text.specs.RetimedLaws.{ChangesStandInOrder}
 use Rattle.vcd_text.proofs.read_back.Decimals.{number_of-decimal}
-use Rattle.vcd_text.proofs.retimed.Ticks.{is_earlier, rises, rises_past}
+use Rattle.vcd_text.proofs.retimed.Ticks.{rises, rises_past}
 use Rattle.vcd_text.proofs.retimed.Kinds.{IsChange, IsStill, kind_of, is_stamp, is_change, is_still, change_of_key}
 use Rattle.vcd_text.proofs.retimed.Kinds.{keys_same, key_itself, declared_stays, retimed_still, retimed_change}
 use Rattle.vcd_text.proofs.retimed.Kinds.{retimed_by_stamp}
@@ -173,29 +172,33 @@ module _ (p : Piece) (k : ChangeKey) (is : change_key p.item ≡ Some k) where
 
 module _ (is_at : ℕ → Bool) where
   pub at_still : (n : ℕ) (p : Piece) (ps : List Piece) → IsStill p.item
-      → changes_at is_at n (p ∷ ps) ≡ changes_at is_at n ps
-  unfolding changes_at
-  at_still n p ps still = ap (λ (o : Option ChangeKey). (if is_some o && is_at n then p ∷ [] else []) ++ changes_at
+      → changes_at_ticks is_at n (p ∷ ps) ≡ changes_at_ticks is_at n ps
+  unfolding changes_at_ticks
+  at_still n p ps still = ap (λ (o : Option ChangeKey). (if is_some o && is_at n then p ∷ [] else []) ++
+      changes_at_ticks
       is_at
-      (tick_after n p.item) ps) still.is ∙ ap (λ (m : ℕ). changes_at is_at m ps) (still.tick n)
+      (tick_after_item n p.item) ps) still.is ∙ ap (λ (m : ℕ). changes_at_ticks is_at m ps) (still.tick n)
 
   pub at_change : (n : ℕ) (p : Piece) (ps : List Piece) (k : ChangeKey) → IsChange p.item k
-      → changes_at is_at n (p ∷ ps) ≡ (if is_at n then p ∷ [] else []) ++ changes_at is_at n ps
-  unfolding changes_at
-  at_change n p ps k change = ap (λ (o : Option ChangeKey). (if is_some o && is_at n then p ∷ [] else []) ++ changes_at
-      is_at (tick_after n p.item) ps) change.is ∙ ap (λ (m : ℕ). (if is_at n then p ∷ [] else []) ++ changes_at is_at m
+      → changes_at_ticks is_at n (p ∷ ps) ≡ (if is_at n then p ∷ [] else []) ++ changes_at_ticks is_at n ps
+  unfolding changes_at_ticks
+  at_change n p ps k change = ap (λ (o : Option ChangeKey). (if is_some o && is_at n then p ∷ [] else []) ++
+      changes_at_ticks
+      is_at (tick_after_item n p.item) ps) change.is ∙ ap (λ (m : ℕ). (if is_at n then p ∷ [] else []) ++
+      changes_at_ticks is_at m
       ps)
       (change.tick n)
 
   pub at_stamp : (n : ℕ) (p : Piece) (ps : List Piece) (digits : List ℕ) → p.item ≡ stamp digits
-      → changes_at is_at n (p ∷ ps) ≡ changes_at is_at (number_of digits) ps
-  unfolding changes_at
-  at_stamp n p ps digits is = ap (λ (i : Item). (if is_some (change_key i) && is_at n then p ∷ [] else []) ++ changes_at
-      is_at (tick_after n i) ps) is
+      → changes_at_ticks is_at n (p ∷ ps) ≡ changes_at_ticks is_at (number_of digits) ps
+  unfolding changes_at_ticks
+  at_stamp n p ps digits is = ap (λ (i : Item). (if is_some (change_key i) && is_at n then p ∷ [] else []) ++
+      changes_at_ticks
+      is_at (tick_after_item n i) ps) is
 
   -- held changes that are written
   changes_written : (n : ℕ) (held rest : List Piece) → All IsHeld held
-      → changes_at is_at n (held ++ rest) ≡ (if is_at n then held else []) ++ changes_at is_at n rest
+      → changes_at_ticks is_at n (held ++ rest) ≡ (if is_at n then held else []) ++ changes_at_ticks is_at n rest
   changes_written n [] rest all = elim (cases_Bool (is_at n)) [
     | inl now ↦ rw now refl
     | inr other ↦ rw other refl
@@ -205,15 +208,16 @@ module _ (is_at : ℕ → Bool) where
       at_change n h (hs ++ rest) change.0 change.1 ∙ ap (λ (l : List Piece). (if is_at n then h ∷ [] else []) ++ l)
       (changes_written n hs rest (All-tail IsHeld h hs all)) ∙ joined (is_at n)
     where
-      joined : (now : Bool) → (if now then h ∷ [] else []) ++ ((if now then hs else []) ++ changes_at is_at n rest)
-          ≡ (if now then h ∷ hs else []) ++ changes_at is_at n rest
+      joined : (now : Bool) → (if now then h ∷ [] else []) ++ ((if now then hs else []) ++ changes_at_ticks is_at n
+          rest)
+          ≡ (if now then h ∷ hs else []) ++ changes_at_ticks is_at n rest
       joined true = refl
       joined false = refl
 
   -- none, if no tick that comes is one of these
   pub none_from : (s : ParseState) (ps : List Piece) → AllowsAll s (items_of ps)
-      → ((v : ℕ) → s.tick ≤ v → is_at v ≡ false) → changes_at is_at s.tick ps ≡ []
-  unfolding changes_at
+      → ((v : ℕ) → s.tick ≤ v → is_at v ≡ false) → changes_at_ticks is_at s.tick ps ≡ []
+  unfolding changes_at_ticks
   none_from s [] allows none = refl
   none_from s (p ∷ ps) allows none = elim (kind_of p.item) [
     | is_stamp digits is ↦
@@ -221,17 +225,21 @@ module _ (is_at : ℕ → Bool) where
         let tick : (state_after_item s p.item).tick ≡ number_of digits = ap (λ (i : Item). (state_after_item s i).tick)
         is
         in
-        at_stamp s.tick p ps digits is ∙ ap (λ (m : ℕ). changes_at is_at m ps) (sym tick) ∙ none_from (state_after_item
+        at_stamp s.tick p ps digits is ∙ ap (λ (m : ℕ). changes_at_ticks is_at m ps) (sym tick) ∙ none_from
+        (state_after_item
         s
         p.item) ps allows.1 (λ v from. none v (omega (arith, from, tick, later.2)))
     | is_change k change ↦
         let tick : (state_after_item s p.item).tick ≡ s.tick = ap (λ (x : ParseState). x.tick) (change.state s) in
-        at_change s.tick p ps k change ∙ ap (λ (b : Bool). (if b then p ∷ [] else []) ++ changes_at is_at s.tick ps)
+        at_change s.tick p ps k change ∙ ap (λ (b : Bool). (if b then p ∷ [] else []) ++ changes_at_ticks is_at s.tick
+        ps)
         (none
-        s.tick (omega arith)) ∙ ap (λ (m : ℕ). changes_at is_at m ps) (sym tick) ∙ none_from (state_after_item s p.item)
+        s.tick (omega arith)) ∙ ap (λ (m : ℕ). changes_at_ticks is_at m ps) (sym tick) ∙ none_from (state_after_item s
+        p.item)
         ps
         allows.1 (λ v from. none v (omega (arith, from, tick)))
-    | is_still still ↦ at_still s.tick p ps still ∙ ap (λ (m : ℕ). changes_at is_at m ps) (sym (still.same_tick s))
+    | is_still still ↦ at_still s.tick p ps still ∙ ap (λ (m : ℕ). changes_at_ticks is_at m ps) (sym (still.same_tick
+        s))
         ∙ none_from (state_after_item s p.item) ps allows.1 (λ v from. none v (omega (arith, from, still.same_tick s)))
   ]
 
@@ -273,10 +281,10 @@ module _ (is_cut_out : ℕ → Bool) (old_tick : ℕ → ℕ) (old : AreOldTicks
   both waiting here cut = here ++ last_ones (waiting ++ filter lasting cut) here
 
   abbrev here : ParseState → List Piece → List Piece
-  here s ps = changes_at theirs s.tick ps
+  here s ps = changes_at_ticks theirs s.tick ps
 
   abbrev cut : ParseState → List Piece → List Piece
-  cut s ps = changes_at before s.tick ps
+  cut s ps = changes_at_ticks before s.tick ps
 
   record Waits (u n : ℕ) (held : List Piece) : Type 0 where
     pub is : IsTickAfter is_cut_out u n
@@ -286,20 +294,22 @@ module _ (is_cut_out : ℕ → Bool) (old_tick : ℕ → ℕ) (old : AreOldTicks
 
   abbrev Goal : ParseState → List Piece → ℕ → List Piece → Type 0
   Goal s held n ps =
-      changes_at ours n (retimed is_cut_out s held ps) ≡ both (mine s.tick held) (here s ps) (cut s ps)
+      changes_at_ticks ours n (retimed_pieces is_cut_out s held ps) ≡ both (mine s.tick held) (here s ps) (cut s ps)
 
   -- what is written of the held changes
   record Written (s : ParseState) (n : ℕ) (held rest : List Piece) : Type 0 where
     pub tick : ℕ
     pub is : IsTickAfter is_cut_out s.tick tick
-    pub changes : changes_at ours n (released is_cut_out s held ++ rest) ≡ mine s.tick held ++ changes_at ours tick rest
+    pub changes : changes_at_ticks ours n (released_pieces is_cut_out s held ++ rest) ≡ mine s.tick held ++
+        changes_at_ticks
+        ours tick rest
 
   written : (s : ParseState) (n : ℕ) (held rest : List Piece) → IsTickAfter is_cut_out s.tick n → All IsHeld held
       → Written s n held rest
   written s n [] rest is all = record {
     tick = n;
     is = is;
-    changes = ap (λ (l : List Piece). l ++ changes_at ours n rest) (sym (none_mine s.tick));
+    changes = ap (λ (l : List Piece). l ++ changes_at_ticks ours n rest) (sym (none_mine s.tick));
   }
   written s n (h ∷ hs) rest is all = by_test (is_cut_out s.tick) refl
     where
@@ -309,7 +319,8 @@ module _ (is_cut_out : ℕ → Bool) (old_tick : ℕ → ℕ) (old : AreOldTicks
         is = record { upto = omega arith; here = λ _. refl; most = is.most };
         changes = rw cut (at_stamp ours n (stamp_line (new_tick is_cut_out s.tick)) ((h ∷ hs) ++ rest) (decimal
             (new_tick
-            is_cut_out s.tick)) refl ∙ ap (λ (m : ℕ). changes_at ours m ((h ∷ hs) ++ rest)) (number_of-decimal (new_tick
+            is_cut_out s.tick)) refl ∙ ap (λ (m : ℕ). changes_at_ticks ours m ((h ∷ hs) ++ rest)) (number_of-decimal
+            (new_tick
             is_cut_out s.tick) (small is_cut_out s.tick is.most)) ∙ changes_written ours (new_tick is_cut_out s.tick) (h
             ∷
             hs) rest all);
@@ -318,7 +329,7 @@ module _ (is_cut_out : ℕ → Bool) (old_tick : ℕ → ℕ) (old : AreOldTicks
         tick = n;
         is = is;
         changes = rw left (changes_written ours n (h ∷ hs) rest all ∙ ap (λ (m : ℕ). (if m == t then h ∷ hs else [])
-            ++ changes_at ours n rest) (is.here left));
+            ++ changes_at_ticks ours n rest) (is.here left));
       }
 
   -- ---- one piece
@@ -345,14 +356,16 @@ module _ (is_cut_out : ℕ → Bool) (old_tick : ℕ → ℕ) (old : AreOldTicks
 
     still_goes : IsStill p.item → Goal s held n (p ∷ ps)
     still_goes still =
-        let rest : List Piece = retimed is_cut_out after held ps in
-        ap (λ (l : List Piece). changes_at ours n l) (retimed_still is_cut_out s held p ps still) ∙ at_still ours n p
+        let rest : List Piece = retimed_pieces is_cut_out after held ps in
+        ap (λ (l : List Piece). changes_at_ticks ours n l) (retimed_still is_cut_out s held p ps still) ∙ at_still ours
+        n p
         rest
         still ∙ next held n (subst (λ (u : ℕ). Waits u n held) (sym (still.same_tick s)) w) ∙ ap (λ (u : ℕ). both (mine
         u
-        held) (changes_at theirs u ps) (changes_at before u ps)) (still.same_tick s) ∙ ap (λ (l : List Piece). both
+        held) (changes_at_ticks theirs u ps) (changes_at_ticks before u ps)) (still.same_tick s) ∙ ap (λ (l : List
+        Piece). both
         (mine
-        s.tick held) l (changes_at before s.tick ps)) (sym (at_still theirs s.tick p ps still)) ∙ ap (λ (l : List
+        s.tick held) l (changes_at_ticks before s.tick ps)) (sym (at_still theirs s.tick p ps still)) ∙ ap (λ (l : List
         Piece).
         both (mine s.tick held) (here s (p ∷ ps)) l) (sym (at_still before s.tick p ps still))
 
@@ -393,17 +406,17 @@ module _ (is_cut_out : ℕ → Bool) (old_tick : ℕ → ℕ) (old : AreOldTicks
 
       -- what comes after the change
       abbrev rest : List Piece
-      rest = retimed is_cut_out after held_after ps
+      rest = retimed_pieces is_cut_out after held_after ps
 
       abbrev here_later : List Piece
-      here_later = changes_at theirs s.tick ps
+      here_later = changes_at_ticks theirs s.tick ps
 
       abbrev cut_later : List Piece
-      cut_later = changes_at before s.tick ps
+      cut_later = changes_at_ticks before s.tick ps
 
-      rest_is : changes_at ours n rest ≡ both (mine s.tick held_after) here_later cut_later
+      rest_is : changes_at_ticks ours n rest ≡ both (mine s.tick held_after) here_later cut_later
       rest_is = next held_after n (subst (λ (u : ℕ). Waits u n held_after) (sym tick) waits_after) ∙ ap (λ (u : ℕ). both
-          (mine u held_after) (changes_at theirs u ps) (changes_at before u ps)) tick
+          (mine u held_after) (changes_at_ticks theirs u ps) (changes_at_ticks before u ps)) tick
 
       their_side : both (mine s.tick held) ((if theirs s.tick then p ∷ [] else []) ++ here_later) ((if before s.tick
           then
@@ -447,7 +460,8 @@ module _ (is_cut_out : ℕ → Bool) (old_tick : ℕ → ℕ) (old : AreOldTicks
           same_lasts
           in
           let now : before s.tick ≡ at_t = rw is_cut refl in
-          ap (λ (l : List Piece). changes_at ours n l) (retimed_change is_cut_out s held p ps k change ∙ rw is_cut refl)
+          ap (λ (l : List Piece). changes_at_ticks ours n l) (retimed_change is_cut_out s held p ps k change ∙ rw is_cut
+          refl)
           ∙ rest_is ∙ ap (λ (b : Bool). both (if at_t then few ++ it_if b else []) here_later cut_later) held_is ∙
           cut_case
           at_t (lasts final (code_of_key k)) it_lasts refl ∙ ap (λ (b : Bool). both (mine s.tick held) (it_if b ++
@@ -470,7 +484,8 @@ module _ (is_cut_out : ℕ → Bool) (old_tick : ℕ → ℕ) (old : AreOldTicks
           Piece). last_ones (held ++ l) (p ∷ here_later)) (sym no_last))
 
       none_cut : is_cut_out s.tick ≡ false → at_t ≡ true → cut_later ≡ []
-      none_cut left now = ap (λ (u : ℕ). changes_at before u ps) (sym tick) ∙ none_from before after ps allows.1 (λ v
+      none_cut left now = ap (λ (u : ℕ). changes_at_ticks before u ps) (sym tick) ∙ none_from before after ps allows.1
+          (λ v
           from.
           by_tests v (omega (arith, from, tick)) (new_tick is_cut_out v == t) refl)
         where
@@ -498,7 +513,8 @@ module _ (is_cut_out : ℕ → Bool) (old_tick : ℕ → ℕ) (old : AreOldTicks
       left_goes left =
           let held_is : held_after ≡ few = rw left (append-nil few) in
           let not_cut : before s.tick ≡ false = rw left refl in
-          ap (λ (l : List Piece). changes_at ours n l) (retimed_change is_cut_out s held p ps k change ∙ rw left refl)
+          ap (λ (l : List Piece). changes_at_ticks ours n l) (retimed_change is_cut_out s held p ps k change ∙ rw left
+          refl)
           ∙ at_change ours n p rest k change ∙ ap (λ (l : List Piece). it_if (ours n) ++ l) rest_is ∙ ap (λ (m : ℕ).
           it_if
           (m == t) ++ both (mine s.tick held_after) here_later cut_later) (w.is.here left) ∙ ap (λ (l : List Piece).
@@ -527,10 +543,10 @@ module _ (is_cut_out : ℕ → Bool) (old_tick : ℕ → ℕ) (old : AreOldTicks
       in_it = pieces_in_place (retimed_stamp is_cut_out (number_of digits)) p
 
       abbrev here_then : List Piece
-      here_then = changes_at theirs (number_of digits) ps
+      here_then = changes_at_ticks theirs (number_of digits) ps
 
       abbrev cut_then : List Piece
-      cut_then = changes_at before (number_of digits) ps
+      cut_then = changes_at_ticks before (number_of digits) ps
 
       stamp_side : (waiting : List Piece) → both waiting here_then cut_then ≡ both waiting (here s (p ∷ ps)) (cut s (p ∷
           ps))
@@ -541,11 +557,12 @@ module _ (is_cut_out : ℕ → Bool) (old_tick : ℕ → ℕ) (old : AreOldTicks
       -- from the stamp on
       from_stamp : (waiting : List Piece) (m : ℕ) → m ≤ new_tick is_cut_out (number_of digits) → All IsHeld waiting
           → All Lasts waiting → AreApart waiting
-          → changes_at ours m (in_it ++ retimed is_cut_out after waiting ps)
+          → changes_at_ticks ours m (in_it ++ retimed_pieces is_cut_out after waiting ps)
           ≡ both (mine (number_of digits) waiting) here_then cut_then
       from_stamp waiting m upto all last apart =
-          let rest : List Piece = retimed is_cut_out after waiting ps in
-          let place = placed (λ (n : ℕ) (l : List Piece). changes_at ours n l) (at_stamp ours) is_cut_out p digits m
+          let rest : List Piece = retimed_pieces is_cut_out after waiting ps in
+          let place = placed (λ (n : ℕ) (l : List Piece). changes_at_ticks ours n l) (at_stamp ours) is_cut_out p digits
+          m
           rest is
           later.1 upto in
           let waits : Waits (number_of digits) place.tick waiting = record {
@@ -556,7 +573,7 @@ module _ (is_cut_out : ℕ → Bool) (old_tick : ℕ → ℕ) (old : AreOldTicks
           } in
           place.last ∙ next waiting place.tick (subst (λ (u : ℕ). Waits u place.tick waiting) (sym tick_is) waits) ∙ ap
           (λ
-          (u : ℕ). both (mine u waiting) (changes_at theirs u ps) (changes_at before u ps)) tick_is
+          (u : ℕ). both (mine u waiting) (changes_at_ticks theirs u ps) (changes_at_ticks before u ps)) tick_is
 
       past_case : (now : Bool) (h c : List Piece) → (now ≡ true → (h ≡ []) × (c ≡ []))
           → (if now then held else []) ++ both [] h c ≡ both (if now then held else []) h c
@@ -579,7 +596,7 @@ module _ (is_cut_out : ℕ → Bool) (old_tick : ℕ → ℕ) (old : AreOldTicks
           let above : new_tick is_cut_out s.tick < new_tick is_cut_out (number_of digits) = ltb-true (new_tick
           is_cut_out
           s.tick) (new_tick is_cut_out (number_of digits)) past in
-          let rest : List Piece = retimed is_cut_out after [] ps in
+          let rest : List Piece = retimed_pieces is_cut_out after [] ps in
           let out = written s n held (in_it ++ rest) w.is w.all in
           let none : (new_tick is_cut_out s.tick == t) ≡ true → (here_then ≡ []) × (cut_then ≡ []) = λ now. (
             none_then
@@ -587,8 +604,10 @@ module _ (is_cut_out : ℕ → Bool) (old_tick : ℕ → ℕ) (old : AreOldTicks
             none_then before (λ v
                 from. not_before v (eqb-true (new_tick is_cut_out s.tick) t now) above from),
           ) in
-          ap (λ (l : List Piece). changes_at ours n l) (retimed_by_stamp is_cut_out s held p ps digits is ∙ rw past
-          (append_assoc (released is_cut_out s held) in_it rest)) ∙ out.changes ∙ ap (λ (l : List Piece). mine s.tick
+          ap (λ (l : List Piece). changes_at_ticks ours n l) (retimed_by_stamp is_cut_out s held p ps digits is ∙ rw
+          past
+          (append_assoc (released_pieces is_cut_out s held) in_it rest)) ∙ out.changes ∙ ap (λ (l : List Piece). mine
+          s.tick
           held
           ++ l) (from_stamp [] out.tick (omega (arith, out.is.upto, above)) (All-nil IsHeld) (All-nil Lasts) tt) ∙ ap (λ
           (l :
@@ -597,8 +616,9 @@ module _ (is_cut_out : ℕ → Bool) (old_tick : ℕ → ℕ) (old : AreOldTicks
           is_cut_out s.tick == t) here_then cut_then none ∙ stamp_side (mine s.tick held)
         where
           none_then : (is_at : ℕ → Bool) → ((v : ℕ) → number_of digits ≤ v → is_at v ≡ false)
-              → changes_at is_at (number_of digits) ps ≡ []
-          none_then is_at never = ap (λ (u : ℕ). changes_at is_at u ps) (sym tick_is) ∙ none_from is_at after ps allows.1
+              → changes_at_ticks is_at (number_of digits) ps ≡ []
+          none_then is_at never = ap (λ (u : ℕ). changes_at_ticks is_at u ps) (sym tick_is) ∙ none_from is_at after ps
+              allows.1
               (λ v
               from. never v (omega (arith, from, tick_is)))
 
@@ -634,17 +654,19 @@ module _ (is_cut_out : ℕ → Bool) (old_tick : ℕ → ℕ) (old : AreOldTicks
           let from : new_tick is_cut_out s.tick ≤ new_tick is_cut_out (number_of digits) = rises is_cut_out s.tick
           (number_of digits) later.2 in
           let same : new_tick is_cut_out (number_of digits) ≡ new_tick is_cut_out s.tick = omega arith in
-          ap (λ (l : List Piece). changes_at ours n l) (retimed_by_stamp is_cut_out s held p ps digits is ∙ rw not_past
+          ap (λ (l : List Piece). changes_at_ticks ours n l) (retimed_by_stamp is_cut_out s held p ps digits is ∙ rw
+          not_past
           refl) ∙ from_stamp held n (omega (arith, w.is.upto, same)) w.all w.last w.apart ∙ ap (λ (u : ℕ). both (if u ==
           t
           then held else []) here_then cut_then) same ∙ stamp_side (mine s.tick held)
 
   goes : (s : ParseState) (held : List Piece) (n : ℕ) (ps : List Piece) → AllowsAll s (items_of ps)
       → (state_after s (items_of ps)).declared ≡ final.declared → Waits s.tick n held → Goal s held n ps
-  unfolding retimed changes_at
+  unfolding retimed_pieces changes_at_ticks
   goes s held n [] allows same w =
       let out = written s n held [] w.is w.all in
-      ap (λ (l : List Piece). changes_at ours n l) (sym (append-nil (released is_cut_out s held))) ∙ out.changes ∙
+      ap (λ (l : List Piece). changes_at_ticks ours n l) (sym (append-nil (released_pieces is_cut_out s held))) ∙
+      out.changes ∙
       append-nil
       (mine s.tick held) ∙ sym (ap (λ (l : List Piece). last_ones l []) (append-nil (mine s.tick held)) ∙ all_mine
       (new_tick
@@ -677,8 +699,9 @@ changes_stand_in_order is_cut_out old_tick limit file pieces tail t here cut can
       all = All-nil IsHeld;
       last = All-nil (λ p. lasts_with (state_of_pieces limit pieces) (change_key p.item) ≡ true);
       apart = tt;
-    }) ∙ ap (λ (l : List Piece). both is_cut_out old_tick can.ticks t (state_of_pieces limit pieces) l (changes_at (λ u.
+    }) ∙ ap (λ (l : List Piece). both is_cut_out old_tick can.ticks t (state_of_pieces limit pieces) l (changes_at_ticks
+    (λ u.
     u
-    == old_tick t) 0 pieces) (changes_at (λ u. is_cut_out u && (new_tick is_cut_out u == t)) 0 pieces)) (none_mine
+    == old_tick t) 0 pieces) (changes_at_ticks (λ u. is_cut_out u && (new_tick is_cut_out u == t)) 0 pieces)) (none_mine
     is_cut_out old_tick can.ticks t (state_of_pieces limit pieces) 0) ∙ (λ i. both is_cut_out old_tick can.ticks t
     (state_of_pieces limit pieces) [] (sym is_here i) (sym is_cut i))

@@ -1,12 +1,11 @@
 -- The pieces of a retimed file are cut from its bytes, and its text means the capture.
-use Rattle.std.proofs.Common.{◌≡◌, ℕ, ◌+◌, ◌-◌, ◌<◌, ◌≤◌, ◌∙◌, ◌^◌, ◌==◌, Bool, true, false, IsTrue, All, drop, length}
-use Rattle.std.proofs.Common.{List, [], ◌∷◌, ◌++◌, refl, ap, sym, arith, map, if◌then◌else◌, subst, decimal, not, ◌&&◌}
-use Rattle.std.proofs.Common.{Option, Some, None, nat_le}
+use Rattle.std.proofs.Common.{◌≡◌, ℕ, ◌+◌, ◌-◌, ◌<◌, ◌≤◌, ◌∙◌, ◌^◌, ◌==◌, Bool, true, false, All, drop, length}
+use Rattle.std.proofs.Common.{List, [], ◌∷◌, ◌++◌, refl, ap, sym, arith, if◌then◌else◌, subst, decimal, not, ◌&&◌}
+use Rattle.std.proofs.Common.{Some}
 use Rattle.std.specs.Prelude.{count_by}
-use Rattle.std.specs.List.{list_all, flat_map, join_with_byte, prefix_len, suffix_len, filter}
-use Rattle.std.proofs.lemmas.Bool.{and_parts, leb-true, false≢true}
+use Rattle.std.specs.List.{list_all, flat_map, prefix_len, suffix_len}
+use Rattle.std.proofs.lemmas.Bool.{and_parts, false≢true}
 use Rattle.std.proofs.Common.{append_assoc}
-use Rattle.std.proofs.lemmas.List.{append-nil}
 use Rattle.std.proofs.lemmas.List.Elements.{All-nil, All-cons, All-head, All-tail, All-append, All-filter, All-drop}
 use Rattle.std.proofs.lemmas.List.Sums.{suffix_len_is, AllPass-from_list_all}
 use Rattle.vcd_core.specs.Word.{is_white_space}
@@ -18,10 +17,10 @@ use Rattle.vcd_text.specs.Items.{Item, spelling, spellings, stamp}
 use Rattle.vcd_text.specs.Grammar.{ParseState, AllowsAll, Allows, state_after_item, initial_state, word_texts}
 use Rattle.vcd_text.specs.Grammar.{is_skipped}
 use Rattle.vcd_text.specs.Meaning.{meaning}
-use Rattle.vcd_text.specs.AmendedItems.{ItemFate, stands, is_left_out, is_exchanged}
-use Rattle.vcd_text.specs.Pieces.{Piece, IsCut, state_of_pieces}
+use Rattle.vcd_text.specs.AmendedItems.{stands, is_left_out, is_exchanged}
+use Rattle.vcd_text.specs.Pieces.{Piece, state_of_pieces}
 use Rattle.vcd_text.specs.Retimed.{new_tick, ChangeKey, change_key, has_key, code_of_key, lasts, held_with, is_past}
-use Rattle.vcd_text.specs.Retimed.{stamp_line, released, retimed_stamp, retimed_fate, pieces_in_place, retimed}
+use Rattle.vcd_text.specs.Retimed.{stamp_line, released_pieces, retimed_stamp, pieces_in_place, retimed_pieces}
 use Rattle.vcd_text.specs.Retimed.{retimed_contents}
 use Rattle.vcd_text.specs.RetimedLaws.{CanBeRetimed, MeansRetimed, pieces_after, RetimedFileMeansRetimedCapture}
 use Rattle.vcd_text.specs.RetimedLaws.{bytes_of, RetimedTextMeansRetimedCapture}
@@ -30,7 +29,7 @@ use Rattle.vcd_text.proofs.amended.Bytes.{texts, texts_are, joined_words, is_end
 use Rattle.vcd_text.proofs.amended.Spelled.{unbroken_has_no_space}
 use Rattle.vcd_text.proofs.amended.WholeText.{HasSpace, SpellsItem, HasSomeSpace, items_of}
 use Rattle.vcd_text.proofs.retimed.Ticks.{is_earlier}
-use Rattle.vcd_text.proofs.retimed.Kinds.{at, IsChange, IsStill, kind_of, is_stamp, is_change, is_still}
+use Rattle.vcd_text.proofs.retimed.Kinds.{kind_of, is_stamp, is_change, is_still}
 use Rattle.vcd_text.proofs.retimed.Kinds.{retimed_still, retimed_change, retimed_by_stamp}
 use Rattle.vcd_text.proofs.retimed.StampTicks.{stamp_ticks}
 use Rattle.vcd_text.proofs.retimed.Meaning.{state_is, allowed_again, means_retimed}
@@ -80,7 +79,8 @@ module _ (is_cut_out : ℕ → Bool) where
     few_new : (u : ℕ) → few u → few (new_tick is_cut_out u)
     few_new u most = omega (arith, is_earlier is_cut_out u, most)
 
-    all_released : (s : ParseState) (held : List Piece) → few s.tick → All P held → All P (released is_cut_out s held)
+    all_released : (s : ParseState) (held : List Piece) → few s.tick → All P held → All P (released_pieces is_cut_out s
+        held)
     all_released s [] most all = all
     all_released s (p ∷ ps) most all = by_test (is_cut_out s.tick)
       where
@@ -110,8 +110,8 @@ module _ (is_cut_out : ℕ → Bool) where
         (all_if (is_cut_out s.tick && lasts s (code_of_key k)) (p ∷ []) (All-cons P p [] is (All-nil P)))
 
     all_retimed : (s : ParseState) (held ps : List Piece) → AllowsAll s (items_of ps) → few s.tick → All P held
-        → All P ps → All P (retimed is_cut_out s held ps)
-    unfolding retimed
+        → All P ps → All P (retimed_pieces is_cut_out s held ps)
+    unfolding retimed_pieces
     all_retimed s held [] allows most all_of_held all = all_released s held most all_of_held
     all_retimed s held (p ∷ ps) allows most all_of_held all = elim (kind_of p.item) [
       | is_stamp digits is ↦
@@ -121,7 +121,8 @@ module _ (is_cut_out : ℕ → Bool) where
           in
           subst (All P) (sym (retimed_by_stamp is_cut_out s held p ps digits is)) (All-append P _ _ (All-append P _ _
           (all_if
-          (is_past is_cut_out s (stamp digits)) (released is_cut_out s held) (all_released s held most all_of_held))
+          (is_past is_cut_out s (stamp digits)) (released_pieces is_cut_out s held) (all_released s held most
+          all_of_held))
           (all_placed p (number_of digits) later.1 (All-head P p ps all))) (all_retimed (state_after_item s p.item) (if
           is_past is_cut_out s (stamp digits) then [] else held) ps allows.1 (omega (arith, later.1, tick)) (all_unless
           (is_past is_cut_out s (stamp digits)) held all_of_held) (All-tail P p ps all)))
@@ -145,8 +146,8 @@ module _ (is_cut_out : ℕ → Bool) where
 
   -- the first piece stands, so those after it are apart
   apart_again : (limit : ℕ) (ps : List Piece) → AllowsAll (initial_state limit) (items_of ps)
-      → All HasSomeSpace (drop 1 ps) → All HasSomeSpace (drop 1 (retimed is_cut_out (initial_state limit) [] ps))
-  unfolding retimed
+      → All HasSomeSpace (drop 1 ps) → All HasSomeSpace (drop 1 (retimed_pieces is_cut_out (initial_state limit) [] ps))
+  unfolding retimed_pieces
   apart_again limit [] allows some = All-nil HasSomeSpace
   apart_again limit (p ∷ ps) allows some = elim (kind_of p.item) [
     | is_stamp digits is ↦ absurd (false≢true (subst (λ (i : Item). Allows (initial_state limit) i) is allows.0).0)
@@ -214,7 +215,8 @@ module _ (tail : List ℕ) (white : list_all is_white_space tail ≡ true) where
   space_comes (b ∷ bs) rest some all = (and_parts (is_white_space b) (list_all is_white_space bs) all).0
 
   split : (p : Piece) (ps : List Piece) → bytes_of (p ∷ ps) tail ≡ p.space ++ (p.body ++ bytes_of ps tail)
-  split p ps = append_assoc (p.space ++ p.body) (flat_map (λ p. p.space ++ p.body) ps) tail ∙ append_assoc p.space p.body
+  split p ps = append_assoc (p.space ++ p.body) (flat_map (λ p. p.space ++ p.body) ps) tail ∙ append_assoc p.space
+      p.body
       (bytes_of ps tail)
 
   bytes_end : (ps : List Piece) → All HasSomeSpace ps → All HasSpace ps → is_end (bytes_of ps tail) ≡ true
@@ -226,9 +228,11 @@ module _ (tail : List ℕ) (white : list_all is_white_space tail ≡ true) where
       → texts (bytes_of ps tail) ≡ spellings (items_of ps)
   bytes_spell [] some spaces bodies = (lines_last [] tail refl white).0
   bytes_spell (p ∷ ps) some spaces bodies =
-      let rest = bytes_spell ps (All-drop HasSomeSpace 1 ps some) (All-tail HasSpace p ps spaces) (All-tail SpellsItem p ps
+      let rest = bytes_spell ps (All-drop HasSomeSpace 1 ps some) (All-tail HasSpace p ps spaces) (All-tail SpellsItem p
+      ps
       bodies) in
-      ap texts (split p ps) ∙ space_first p.space (p.body ++ bytes_of ps tail) (All-head HasSpace p ps spaces) ∙ both_parts
+      ap texts (split p ps) ∙ space_first p.space (p.body ++ bytes_of ps tail) (All-head HasSpace p ps spaces) ∙
+      both_parts
       p.body (bytes_of ps tail) (bytes_end ps some (All-tail HasSpace p ps spaces)) ∙ ap (λ ws. ws ++ texts (bytes_of ps
       tail)) (sym (texts_are p.body) ∙ All-head SpellsItem p ps bodies) ∙ ap (λ ws. spelling p.item ++ ws) rest
 
@@ -240,7 +244,8 @@ retimed_text_is_meant is_cut_out old_tick limit file pieces tail can =
       state = state_of_pieces limit again;
       accepted = record {
         items = items_of again;
-        spelled = texts_are (bytes_of again tail) ∙ bytes_spell tail means.cut.end again means.cut.apart means.cut.spaces
+        spelled = texts_are (bytes_of again tail) ∙ bytes_spell tail means.cut.end again means.cut.apart
+            means.cut.spaces
             means.cut.spelled;
         allowed = means.allowed;
         state_is = refl;

@@ -1,12 +1,12 @@
 -- The last stamp of a retimed file, and where the stamps of the file stand in it.
 use Rattle.std.proofs.Common.{◌≡◌, ℕ, ◌<◌, ◌≤◌, ◌∙◌, ◌==◌, ◌^◌, Bool, true, false, nat_le, map, decimal, IsTrue}
-use Rattle.std.proofs.Common.{List, [], ◌∷◌, ◌++◌, refl, ap, sym, arith, if◌then◌else◌}
+use Rattle.std.proofs.Common.{List, ◌∷◌, ◌++◌, refl, ap, sym, arith, if◌then◌else◌}
 use Rattle.std.proofs.lemmas.Bool.{and_parts, false≢true, leb-true, eqb-true}
 use Rattle.vcd_core.specs.Decimal.{number_of, is_number}
 use Rattle.vcd_core.specs.declared.capture.TheConstants.{END_LIMIT}
 use Rattle.vcd_text.specs.Items.{Item, stamp}
 use Rattle.vcd_text.specs.Grammar.{ParseState, Allows}
-use Rattle.vcd_text.specs.AmendedItems.{ItemFate, stands, is_left_out, is_exchanged}
+use Rattle.vcd_text.specs.AmendedItems.{stands, is_left_out, is_exchanged}
 use Rattle.vcd_text.specs.Pieces.{Piece}
 use Rattle.vcd_text.specs.Retimed.{new_tick, retimed_stamp, pieces_in_place}
 use Rattle.vcd_text.proofs.shared.ItemTests.{has_tick}

@@ -1,18 +1,18 @@
 -- A stamp is put into a retimed file only for a tick of which the file has none.
-use Rattle.std.proofs.Common.{◌≡◌, ℕ, ◌+◌, ◌<◌, ◌≤◌, ◌∙◌, ◌==◌, ◌^◌, ◌⊎◌, Bool, true, false, not, nat_le, nat_lt}
-use Rattle.std.proofs.Common.{List, [], ◌∷◌, ◌++◌, refl, ap, sym, arith, if◌then◌else◌, inl, inr, ◌&&◌, Option, map}
-use Rattle.std.proofs.Common.{Some, None, IsTrue, subst, append_assoc, decimal, All}
+use Rattle.std.proofs.Common.{◌≡◌, ℕ, ◌+◌, ◌<◌, ◌≤◌, ◌∙◌, ◌==◌, ◌⊎◌, Bool, true, false}
+use Rattle.std.proofs.Common.{List, [], ◌∷◌, ◌++◌, refl, ap, sym, arith, if◌then◌else◌, inl, inr}
+use Rattle.std.proofs.Common.{Some, subst, decimal, All}
 use Rattle.std.proofs.lemmas.Bool.{cases_Bool, cases_lt, false≢true, ltb-true, eqb-true, eq-eqb}
 use Rattle.std.proofs.lemmas.Bool.Decides.{nat_tests}
 use Rattle.std.proofs.lemmas.List.Elements.{All-nil, All-cons, All-head, All-tail}
-use Rattle.vcd_core.specs.Decimal.{number_of, is_number}
+use Rattle.vcd_core.specs.Decimal.{number_of}
 use Rattle.vcd_core.specs.declared.capture.TheConstants.{END_LIMIT}
 use Rattle.vcd_text.specs.Items.{Item, stamp}
 use Rattle.vcd_text.specs.Grammar.{ParseState, Allows, AllowsAll, state_after_item, initial_state}
-use Rattle.vcd_text.specs.AmendedItems.{ItemFate, stands, is_left_out, is_exchanged}
+use Rattle.vcd_text.specs.AmendedItems.{stands, is_left_out, is_exchanged}
 use Rattle.vcd_text.specs.Pieces.{Piece}
-use Rattle.vcd_text.specs.Retimed.{new_tick, AreOldTicks, ChangeKey, held_with, is_past, stamp_line, released}
-use Rattle.vcd_text.specs.Retimed.{retimed_stamp, pieces_in_place, retimed}
+use Rattle.vcd_text.specs.Retimed.{new_tick, AreOldTicks, ChangeKey, held_with, is_past, stamp_line, released_pieces}
+use Rattle.vcd_text.specs.Retimed.{retimed_stamp, pieces_in_place, retimed_pieces}
 use Rattle.vcd_text.specs.RetimedLaws.{is_stamp_of, stamp_count, StampsStand}
 use Rattle.vcd_text.proofs.read_back.Decimals.{number_of-decimal}
 use Rattle.vcd_text.proofs.retimed.Ticks.{rises, before_old, old_of_new}
@@ -138,7 +138,8 @@ module _ (is_cut_out : ℕ → Bool) (old_tick : ℕ → ℕ) (old : AreOldTicks
     pub cut : is_cut_out s.tick ≡ true
 
   released_count : (s : ParseState) (held : List Piece) → s.tick ≤ END_LIMIT → All IsHeld held
-      → (stamp_count t (released is_cut_out s held) ≡ 0) ⊎ PutIn s (stamp_count t (released is_cut_out s held))
+      → (stamp_count t (released_pieces is_cut_out s held) ≡ 0) ⊎ PutIn s (stamp_count t (released_pieces is_cut_out s
+      held))
   unfolding stamp_count
   released_count s [] most all = inl refl
   released_count s (p ∷ ps) most all = by_test (is_cut_out s.tick) refl
@@ -195,7 +196,7 @@ module _ (is_cut_out : ℕ → Bool) (old_tick : ℕ → ℕ) (old : AreOldTicks
   one_more put ours theirs u v order (inr later) (inr new) = absurd (omega (arith, later.2, new.1))
 
   abbrev Goal : ParseState → List Piece → List Piece → Type 0
-  Goal s held ps = Fits (stamp_count t (retimed is_cut_out s held ps)) (stamp_count there ps) s.tick
+  Goal s held ps = Fits (stamp_count t (retimed_pieces is_cut_out s held ps)) (stamp_count there ps) s.tick
 
   module _ (s : ParseState) (held : List Piece) (p : Piece) (ps : List Piece) (allows : AllowsAll s (items_of (p ∷ ps)))
       (most : s.tick ≤ END_LIMIT) (all : All IsHeld held)
@@ -213,7 +214,8 @@ module _ (is_cut_out : ℕ → Bool) (old_tick : ℕ → ℕ) (old : AreOldTicks
     unfolding stamp_count
     still_counts still =
         let none : one_if (is_stamp_of t p.item) ≡ 0 = rw (still.stamp t) refl in
-        let ours : stamp_count t (retimed is_cut_out s held (p ∷ ps)) ≡ stamp_count t (retimed is_cut_out after held ps)
+        let ours : stamp_count t (retimed_pieces is_cut_out s held (p ∷ ps)) ≡ stamp_count t (retimed_pieces is_cut_out
+        after held ps)
         = ap (λ (l : List Piece). stamp_count t l) (retimed_still is_cut_out s held p ps still) ∙ omega (arith, none) in
         fits_same _ _ s.tick _ _ after.tick ours (their_count false (still.stamp there) ∙ omega arith) (sym
         (still.same_tick s)) (next held (omega (arith, most, still.same_tick s)) all)
@@ -223,8 +225,9 @@ module _ (is_cut_out : ℕ → Bool) (old_tick : ℕ → ℕ) (old : AreOldTicks
     change_counts k change =
         let tick : after.tick ≡ s.tick = ap (λ (x : ParseState). x.tick) (change.state s) in
         let none : stamp_count t (if is_cut_out s.tick then [] else p ∷ []) ≡ 0 = by_test (is_cut_out s.tick) in
-        let rest : List Piece = retimed is_cut_out after (held_with is_cut_out s held p (Some k)) ps in
-        let ours : stamp_count t (retimed is_cut_out s held (p ∷ ps)) ≡ stamp_count t rest = ap (λ (l : List Piece).
+        let rest : List Piece = retimed_pieces is_cut_out after (held_with is_cut_out s held p (Some k)) ps in
+        let ours : stamp_count t (retimed_pieces is_cut_out s held (p ∷ ps)) ≡ stamp_count t rest = ap (λ (l : List
+        Piece).
         stamp_count t l) (retimed_change is_cut_out s held p ps k change) ∙ count_append t (if is_cut_out s.tick then []
         else
         p ∷ []) rest ∙ omega (arith, none) in
@@ -242,14 +245,15 @@ module _ (is_cut_out : ℕ → Bool) (old_tick : ℕ → ℕ) (old : AreOldTicks
         let u : ℕ = number_of digits in
         let later = stamp_ticks s digits (subst (λ (i : Item). Allows s i) is allows.0) in
         let tick : after.tick ≡ u = ap (λ (i : Item). (state_after_item s i).tick) is in
-        let put : List Piece = if past then released is_cut_out s held else [] in
+        let put : List Piece = if past then released_pieces is_cut_out s held else [] in
         let placed : List Piece = pieces_in_place (retimed_stamp is_cut_out u) p in
         let held_after : List Piece = if past then [] else held in
-        let rest : List Piece = retimed is_cut_out after held_after ps in
-        let split : retimed is_cut_out s held (p ∷ ps) ≡ (put ++ placed) ++ rest = retimed_by_stamp is_cut_out s held p
+        let rest : List Piece = retimed_pieces is_cut_out after held_after ps in
+        let split : retimed_pieces is_cut_out s held (p ∷ ps) ≡ (put ++ placed) ++ rest = retimed_by_stamp is_cut_out s
+        held p
         ps
         digits is ∙ rw is_it refl in
-        let ours : stamp_count t (retimed is_cut_out s held (p ∷ ps)) ≡ (stamp_count t put + one_if (u == there))
+        let ours : stamp_count t (retimed_pieces is_cut_out s held (p ∷ ps)) ≡ (stamp_count t put + one_if (u == there))
         + stamp_count t rest = ap (λ (l : List Piece). stamp_count t l) split ∙ count_append t (put ++ placed) rest ∙ ap
         (λ
         n. n + stamp_count t rest) (count_append t put placed ∙ ap (λ n. stamp_count t put + n) (placed_count p digits
@@ -270,8 +274,8 @@ module _ (is_cut_out : ℕ → Bool) (old_tick : ℕ → ℕ) (old : AreOldTicks
 
         put_in : (past : Bool) → is_past is_cut_out s (stamp digits) ≡ past → after.tick ≡ number_of digits
             → s.tick ≤ number_of digits
-            → (stamp_count t (if past then released is_cut_out s held else []) ≡ 0)
-            ⊎ ((stamp_count t (if past then released is_cut_out s held else []) ≡ 1) × (there < number_of digits)
+            → (stamp_count t (if past then released_pieces is_cut_out s held else []) ≡ 0)
+            ⊎ ((stamp_count t (if past then released_pieces is_cut_out s held else []) ≡ 1) × (there < number_of digits)
             × (stamp_count there ps ≡ 0) × (s.tick < there))
         put_in false not_past tick order = inl (no_held t [] (All-nil IsHeld))
         put_in true is_it tick order = elim (released_count s held most all) [
@@ -303,7 +307,7 @@ module _ (is_cut_out : ℕ → Bool) (old_tick : ℕ → ℕ) (old : AreOldTicks
 
   stamps : (s : ParseState) (held ps : List Piece) → AllowsAll s (items_of ps) → s.tick ≤ END_LIMIT → All IsHeld held
       → Goal s held ps
-  unfolding retimed stamp_count Fits
+  unfolding retimed_pieces stamp_count Fits
   stamps s held [] allows most all = elim (released_count s held most all) [
     | inl none ↦ inl none
     | inr new ↦ inr (refl, new.is, past_now new.now new.cut)

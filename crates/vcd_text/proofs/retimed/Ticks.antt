@@ -1,7 +1,7 @@
 -- The new ticks of ticks that are left, and the old ones of new ticks.
-use Rattle.std.proofs.Common.{◌≡◌, ℕ, zero, suc, ◌+◌, ◌-◌, ◌<◌, ◌≤◌, ◌∙◌, ◌==◌, Bool, true, false, nat_lt, nat_le}
-use Rattle.std.proofs.Common.{refl, ap, sym, arith, if◌then◌else◌, inl, inr, ◌&&◌, ◌||◌}
-use Rattle.std.proofs.lemmas.Bool.{cases_Bool, cases_lt, le-leb, lt-leb, lt-ltb, le-ltb}
+use Rattle.std.proofs.Common.{◌≡◌, ℕ, zero, suc, ◌+◌, ◌-◌, ◌<◌, ◌≤◌, ◌∙◌, Bool, true, false, nat_lt, nat_le}
+use Rattle.std.proofs.Common.{refl, ap, sym, arith, if◌then◌else◌, inl, inr}
+use Rattle.std.proofs.lemmas.Bool.{cases_Bool, cases_lt, le-leb, lt-leb}
 use Rattle.std.proofs.lemmas.Bool.Decides.{nat_tests}
 use Rattle.vcd_text.specs.Retimed.{new_tick, AreOldTicks}
 use Rattle.vcd_text.specs.RetimedLaws.{is_in_cut, tick_before_cut, is_in_either, CutsLeaveTicks}

@@ -1,23 +1,22 @@
 -- The values of a code are those of its last changes to digits.
-use Rattle.std.proofs.Common.{◌≡◌, ℕ, ◌∙◌, Bool, true, false, not, nat_le, refl, ap, sym, arith, if◌then◌else◌}
-use Rattle.std.proofs.Common.{List, [], ◌∷◌, ◌++◌, inl, inr, ◌&&◌, Option, Some, None, map, subst}
+use Rattle.std.proofs.Common.{◌≡◌, ℕ, ◌∙◌, Bool, true, false, not, nat_le, refl, ap, sym, if◌then◌else◌}
+use Rattle.std.proofs.Common.{List, [], ◌∷◌, ◌++◌, inl, inr, ◌&&◌, Option, Some, None, subst}
 use Rattle.std.specs.Prelude.{bytes_eq}
-use Rattle.std.proofs.lemmas.Bool.{cases_Bool, false≢true}
+use Rattle.std.proofs.lemmas.Bool.{cases_Bool}
 use Rattle.std.proofs.lemmas.List.{append-nil}
 use Rattle.vcd_core.specs.declared.bit.Bit.{Bit}
-use Rattle.vcd_core.specs.Decimal.{number_of}
 use Rattle.vcd_text.specs.Letters.{letters_of_digits, extension}
 use Rattle.vcd_text.specs.Items.{Item, entry, timescale, scope, upscope, variable, end_definitions}
 use Rattle.vcd_text.specs.Items.{stamp, scalar, vector, real_or_string, dump_word, other}
-use Rattle.vcd_text.specs.Grammar.{VariableDeclaration, ValueChange, ParseState, Allows, AllowsAll, state_after_item}
+use Rattle.vcd_text.specs.Grammar.{VariableDeclaration, ValueChange, ParseState, AllowsAll, state_after_item}
 use Rattle.vcd_text.specs.Grammar.{state_after, is_skipped, value_changes_after, variable_of}
 use Rattle.vcd_text.specs.Pieces.{Piece}
-use Rattle.vcd_text.specs.Retimed.{ChangeKey, digits_of, text_of, change_key, same_key, has_key}
-use Rattle.vcd_text.specs.RetimedLaws.{tick_after, last_change}
+use Rattle.vcd_text.specs.Retimed.{ChangeKey, digits_key, text_key, change_key, same_key}
+use Rattle.vcd_text.specs.RetimedLaws.{last_change}
 use Rattle.vcd_text.specs.inside.reading.Variables.{latest_value}
 use Rattle.vcd_text.proofs.reading.variables.ChangedVariable.{value_with}
 use Rattle.vcd_text.proofs.amended.Codes.{same_bytes, bytes_turned}
-use Rattle.vcd_text.proofs.retimed.Kinds.{IsChange, IsStill, kind_of, is_stamp, is_change, is_still, declared_stays}
+use Rattle.vcd_text.proofs.retimed.Kinds.{kind_of, is_stamp, is_change, is_still, declared_stays}
 use Rattle.vcd_text.specs.Amendment.{first_with_code}
 use Rattle.vcd_text.proofs.retimed.StampTicks.{items_of}
 use Rattle.vcd_text.proofs.retimed.LastChanges.{at_still, at_change, at_stamp}
@@ -38,8 +37,8 @@ letters_of i = []
 
 -- the value changes that a change adds
 abbrev adds : ParseState → ChangeKey → List Bit → List ValueChange
-adds s (digits_of code) letters = value_changes_after s code letters (variable_of s code)
-adds s (text_of code) letters = []
+adds s (digits_key code) letters = value_changes_after s code letters (variable_of s code)
+adds s (text_key code) letters = []
 
 change_adds : (s : ParseState) (i : Item) (k : ChangeKey) → change_key i ≡ Some k
     → (state_after_item s i).value_changes ≡ s.value_changes ++ adds s k (letters_of i)
@@ -51,13 +50,13 @@ change_adds s (variable words) k is = absurd (cc)
 change_adds s end_definitions k is = absurd (cc)
 change_adds s (stamp digits) k is = absurd (cc)
 change_adds s (scalar digit code) k is =
-    let same : digits_of code ≡ k = cc in
+    let same : digits_key code ≡ k = cc in
     ap (λ k. s.value_changes ++ adds s k (letters_of_digits (digit ∷ []))) same
 change_adds s (vector first digits code) k is =
-    let same : digits_of code ≡ k = cc in
+    let same : digits_key code ≡ k = cc in
     ap (λ k. s.value_changes ++ adds s k (letters_of_digits digits)) same
 change_adds s (real_or_string first text code) k is =
-    let same : text_of code ≡ k = cc in
+    let same : text_key code ≡ k = cc in
     sym (append-nil s.value_changes) ∙ ap (λ k. s.value_changes ++ adds s k []) same
 change_adds s (dump_word word) k is = absurd (cc)
 change_adds s (other word words) k is = absurd (cc)
@@ -67,7 +66,7 @@ module _ (code : List ℕ) (t width : ℕ) (before : List Bit) where
   value vs = latest_value width code t before vs
 
   abbrev own : ChangeKey
-  own = digits_of code
+  own = digits_key code
 
   -- a change counts if it is of the code, which is kept, and no later
   abbrev counts : ParseState → ChangeKey → Bool
@@ -110,8 +109,8 @@ module _ (code : List ℕ) (t width : ℕ) (before : List Bit) where
     ]
 
     gives : (k : ChangeKey) → value (s.value_changes ++ adds s k letters) ≡ with_it (counts s k)
-    gives (digits_of c) = of_option c (variable_of s c) ∙ ap (λ b. with_it (b && nat_le s.tick t)) (turned c)
-    gives (text_of c) = none_added (counts s (text_of c)) (ap (λ b. b && nat_le s.tick t) (and_false (is_kept_code s
+    gives (digits_key c) = of_option c (variable_of s c) ∙ ap (λ b. with_it (b && nat_le s.tick t)) (turned c)
+    gives (text_key c) = none_added (counts s (text_key c)) (ap (λ b. b && nat_le s.tick t) (and_false (is_kept_code s
         code)))
 
   -- the value that a last change gives

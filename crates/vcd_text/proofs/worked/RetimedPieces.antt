@@ -1,15 +1,14 @@
 -- Worked cases: a file after cuts, with its bytes, and its meaning.
 use Rattle.std.proofs.Common.{◌≡◌, refl}
-use Rattle.std.specs.Prelude.{ℕ, Bool, List, [], ◌∷◌, ◌++◌, codes, not, ◌==◌}
+use Rattle.std.specs.Prelude.{List, [], ◌∷◌, ◌++◌, codes}
 use Rattle.std.specs.List.{join_with_byte}
 use Rattle.std.specs.Fmt.{digits}
 use Rattle.vcd_core.specs.Wave.{value_from, changes_from}
 use Rattle.vcd_text.specs.Items.{Item, variable, end_definitions, stamp, scalar, vector, real_or_string}
 use Rattle.vcd_text.specs.Items.{dump_word, other, spelling}
-use Rattle.vcd_text.specs.Grammar.{initial_state}
 use Rattle.vcd_text.specs.Meaning.{meaning, changes_of_code}
 use Rattle.vcd_text.specs.Pieces.{Piece, state_of_pieces}
-use Rattle.vcd_text.specs.Retimed.{new_tick, retimed, retimed_contents}
+use Rattle.vcd_text.specs.Retimed.{new_tick, retimed_pieces, retimed_contents}
 use Rattle.vcd_text.specs.RetimedLaws.{is_in_cut, is_in_either, tick_before_cut, pieces_after}
 
 -- an item on a line of its own, and on the line of the item before it
@@ -69,7 +68,7 @@ after_first = declared ++ dumped
     ++ line (stamp (codes "7")) ∷ at_twelve ++ line (stamp (codes "15")) ∷ []
 
 first_cut : pieces_after (is_in_cut 3 8) 8 file ≡ after_first
-unfolding retimed new_tick digits
+unfolding retimed_pieces new_tick digits
 first_cut = refl
 
 first_means : meaning (state_of_pieces 8 after_first)
@@ -82,7 +81,7 @@ start_cut : pieces_after (is_in_cut 0 6) 8 file ≡ declared
     ++ line (dump_word (codes "$dumpvars")) ∷ line (dump_word (codes "$end")) ∷ line (stamp (codes "0")) ∷ line volts
     ∷ line idle ∷ line high ∷ line (stamp (codes "1")) ∷ beside low ∷ line (stamp (codes "1")) ∷ beside high
     ∷ line (stamp (codes "4")) ∷ at_ten ++ line (stamp (codes "6")) ∷ at_twelve ++ line (stamp (codes "14")) ∷ []
-unfolding retimed new_tick digits
+unfolding retimed_pieces new_tick digits
 start_cut = refl
 
 -- the last ticks but one: what is held stands after the stamp of the end
@@ -90,14 +89,14 @@ end_cut : pieces_after (is_in_cut 11 20) 8 file ≡ declared ++ dumped
     ++ line (stamp (codes "5")) ∷ line high ∷ beside (scalar 49 (codes "e")) ∷ line (stamp (codes "7")) ∷ beside low
     ∷ line (stamp (codes "7")) ∷ beside high ∷ line (stamp (codes "10")) ∷ at_ten
     ++ line (stamp (codes "11")) ∷ at_twelve
-unfolding retimed new_tick digits
+unfolding retimed_pieces new_tick digits
 end_cut = refl
 
 -- two cuts, the second of which counts without the first
 both_cuts : pieces_after (is_in_either (is_in_cut 3 8) (is_in_cut 2 4)) 8 file ≡ declared ++ dumped
     ++ line (stamp (codes "2")) ∷ beside high ∷ line (stamp (codes "3")) ∷ at_ten
     ++ line (stamp (codes "5")) ∷ at_twelve ++ line (stamp (codes "13")) ∷ []
-unfolding retimed new_tick digits
+unfolding retimed_pieces new_tick digits
 both_cuts = refl
 
 -- the event alone is left out
@@ -105,12 +104,12 @@ event_cut : pieces_after (is_in_cut 4 6) 8 file ≡ declared ++ dumped
     ++ line (stamp (codes "4")) ∷ line high ∷ line (stamp (codes "5")) ∷ beside low
     ∷ line (stamp (codes "5")) ∷ beside high ∷ line (stamp (codes "8")) ∷ at_ten
     ++ line (stamp (codes "10")) ∷ at_twelve ++ line (stamp (codes "18")) ∷ []
-unfolding retimed new_tick digits
+unfolding retimed_pieces new_tick digits
 event_cut = refl
 
 -- no tick: all stands
 no_cut : pieces_after (is_in_cut 3 3) 8 file ≡ file
-unfolding retimed new_tick digits
+unfolding retimed_pieces new_tick digits
 no_cut = refl
 
 -- two codes: each stands with its last change, in the order of these
@@ -123,7 +122,7 @@ spikes = declared ++ line (stamp (codes "0")) ∷ beside high ∷ beside (vector
 spikes_cut : pieces_after (is_in_cut 9 22) 8 spikes ≡ declared ++ line (stamp (codes "0")) ∷ beside high
     ∷ beside (vector 98 (codes "0") (codes "\"")) ∷ line (stamp (codes "9"))
     ∷ beside (vector 98 (codes "1") (codes "\"")) ∷ line high ∷ line (stamp (codes "27")) ∷ []
-unfolding retimed new_tick digits
+unfolding retimed_pieces new_tick digits
 spikes_cut = refl
 
 -- a real change does not take the place of one to digits; a change at the first tick that is left does
@@ -135,5 +134,5 @@ kinds = declared ++ line (stamp (codes "1")) ∷ beside high ∷ beside (real_or
 kinds_cut : pieces_after (is_in_cut 1 2) 8 kinds ≡ declared ++ line (stamp (codes "1")) ∷ beside volts
     ∷ beside (vector 98 (codes "10") (codes "\"")) ∷ beside high
     ∷ beside (real_or_string 114 (codes "2") (codes "!")) ∷ line (stamp (codes "2")) ∷ []
-unfolding retimed new_tick digits
+unfolding retimed_pieces new_tick digits
 kinds_cut = refl

@@ -2,6 +2,7 @@ use Rattle.vcd_text.proofs.worked.RetimedPieces as worked
 use Rattle.vcd_text.proofs.retimed.LastChanges.{last_changes_stand}
 use Rattle.vcd_text.proofs.retimed.Stamps.{stamps_stand}
 use Rattle.vcd_text.proofs.retimed.Order.{changes_stand_in_order}
+use Rattle.vcd_text.proofs.retimed.OtherPieces.{other_pieces_stand}
 use Rattle.vcd_text.proofs.retimed.Ticks.{cuts_leave_ticks}
 use Rattle.vcd_text.proofs.retimed.Pieces.{retimed_is_meant, retimed_text_is_meant}
 use Rattle.vcd_text.proofs.laws.retimed_file_is_meant.Goals as goal
@@ -23,3 +24,6 @@ returns-clause-stamps c = stamps_stand
 
 pub returns-clause-bytes : goal.returns-clause-bytes
 returns-clause-bytes c = retimed_text_is_meant
+
+pub returns-clause-others : goal.returns-clause-others
+returns-clause-others c = other_pieces_stand
