@@ -2,10 +2,10 @@
 //! and whole runs.
 
 mod devices;
+mod example;
 mod failures;
 mod lines;
 mod messages;
 mod notation;
-mod on_bytes;
 mod sessions;
 mod worked;

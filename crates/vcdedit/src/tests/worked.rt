@@ -1,5 +1,5 @@
-//! Worked cases of whole runs, in memory: what `run` answers and writes, and what `report` says of
-//! a run that failed.
+//! Worked cases of whole runs: what `run_on_bytes` answers and writes, and what `report` says of a
+//! run that failed.
 //!
 //! A table is one text, with an empty line between two cases. A case has a line for its name and
 //! one for each part: `capture`, `script`, `depth` (by default 100), `replies`, `refused` (how many
@@ -17,60 +17,54 @@ mod long_inputs;
 mod refusals;
 
 use crate::tests::notation::capture_text;
-use crate::{RunError, Summary, report, run};
+use crate::{RunError, RunRefusal, RunTexts, report, run_on_bytes};
 use std::alloc::Global;
 use std::process::Abort;
 use std::test::Fail;
-use vcd_core::{FromRead, ToWrite};
+use vcd_core::ToWrite;
 use vcd_journal::DEPTH_LIMIT;
 
 /// The depth of a case that gives none.
 const DEPTH: u64 = 100;
 
-/// How a run ended, and what it wrote.
-#[derive(Drop)]
-struct EndedRun {
-    ending: Result<Summary, RunError>,
-    replies: Vec<u8>,
-    output: Vec<u8>,
-}
+/// What a run gives.
+type EndedRun = Result<RunTexts, RunRefusal>;
 
-/// Runs a script on a capture, with an output.
-fn run_in_memory(
-    alloc: Global,
-    capture: &[u8],
-    script: &[u8],
-    depth: u64,
-) -> Result<EndedRun, Fail> {
+/// Runs a script on a capture, if the depth is one.
+fn run_case(alloc: Global, capture: &[u8], script: &[u8], depth: u64) -> Result<EndedRun, Fail> {
     if depth < 1 || DEPTH_LIMIT < depth {
         return Err(Fail::from("no depth"));
     }
-    let mut replies = ToWrite::new(Vec::new(alloc));
-    let mut output = ToWrite::new(Vec::new(alloc));
-    let ending = run(
-        alloc,
-        &mut FromRead::new(capture),
-        &mut FromRead::new(script),
-        &mut replies,
-        Some(&mut output),
-        depth,
-    );
-    Ok(EndedRun {
-        ending,
-        replies: replies.into_inner(),
-        output: output.into_inner(),
-    })
+    Ok(run_on_bytes(alloc, capture, script, depth))
 }
 
 /// Stops unless a run refused `refused` lines, and wrote these replies and this output.
-fn check_done(rt: &impl Abort, run: &EndedRun, refused: u64, replies: &[u8], output: &[u8]) {
-    assert!(rt; run.ending == Ok(Summary { refused }));
-    assert!(rt; run.replies.as_slice() == replies);
-    assert!(rt; run.output.as_slice() == output);
+fn check_done(
+    rt: &impl Abort,
+    run: &EndedRun,
+    refused: u64,
+    replies: &[u8],
+    output: &[u8],
+) -> Result<(), Fail> {
+    let Ok(texts) = run else {
+        return Err(Fail::from("the run did not reach its end"));
+    };
+    assert!(rt; texts.refused == refused);
+    assert!(rt; texts.replies.as_slice() == replies);
+    assert!(rt; texts.output.as_slice() == output);
+    Ok(())
 }
 
-/// Stops unless a run failed, wrote nothing, and has the report `expected`: its exit status and its
-/// line.
+/// The error of a run, by why it was refused.
+fn error_of(refusal: &RunRefusal) -> RunError {
+    match refusal {
+        RunRefusal::Capture(error) => RunError::Capture(*error),
+        RunRefusal::ScriptTooLarge => RunError::ScriptTooLarge,
+        RunRefusal::NoMemory { .. } => RunError::NoMemory { line: 0 },
+    }
+}
+
+/// Stops unless a run failed and has the report `expected`: its exit status and its line.
 ///
 /// An example of `expected` is `3 vcdedit: script: too large`.
 fn check_failed(
@@ -79,14 +73,13 @@ fn check_failed(
     run: &EndedRun,
     expected: &str,
 ) -> Result<(), Fail> {
-    let Err(error) = &run.ending else {
+    let Err(refusal) = run else {
         return Err(Fail::from("the run reached its end"));
     };
     let (status, line) = expected.split_once(' ').ok_or("no status")?;
     let mut sink = ToWrite::new(Vec::new(alloc));
-    assert!(rt; report(error, &mut sink) == status.parse::<u8>()?);
+    assert!(rt; report(&error_of(refusal), &mut sink) == status.parse::<u8>()?);
     assert!(rt; sink.into_inner().as_slice() == lines_of(alloc, line)?.as_slice());
-    assert!(rt; run.replies.is_empty() && run.output.is_empty());
     Ok(())
 }
 
@@ -145,7 +138,7 @@ fn check_case(rt: &impl Abort, alloc: Global, case: &str) -> Result<(), Fail> {
     let capture = capture_of(alloc, case)?;
     let script = lines_of(alloc, part(case, "script").unwrap_or(""))?;
     let depth = number_of(case, "depth", DEPTH)?;
-    let run = run_in_memory(alloc, capture.as_slice(), script.as_slice(), depth)?;
+    let run = run_case(alloc, capture.as_slice(), script.as_slice(), depth)?;
     if let Some(expected) = part(case, "report") {
         return check_failed(rt, alloc, &run, expected);
     }
@@ -155,8 +148,7 @@ fn check_case(rt: &impl Abort, alloc: Global, case: &str) -> Result<(), Fail> {
         Some(text) => file_of(alloc, text)?,
         None => capture,
     };
-    check_done(rt, &run, refused, replies.as_slice(), output.as_slice());
-    Ok(())
+    check_done(rt, &run, refused, replies.as_slice(), output.as_slice())
 }
 
 /// Stops at the first case of a table that ends otherwise.

@@ -1,6 +1,6 @@
 //! The codes that are written for the signals of a capture, by their positions.
 
-use super::{DEPTH, run_in_memory};
+use super::{DEPTH, run_case};
 use std::alloc::Global;
 use std::process::Abort;
 use std::test::Fail;
@@ -24,8 +24,13 @@ fn codes_of_two_bytes(rt: HostRuntime) -> Result<(), Fail> {
         file.extend_from_slice(b"$var wire 1 ! a $end\n")?;
     }
     file.extend_from_slice(b"$enddefinitions $end\n")?;
-    let run = run_in_memory(rt.alloc(), file.as_slice(), b"", DEPTH)?;
-    let lines: Vec<&[u8]> = run.output.split(|byte| *byte == b'\n').collect(rt.alloc())?;
+    let Ok(texts) = run_case(rt.alloc(), file.as_slice(), b"", DEPTH)? else {
+        return Err(Fail::from("the run did not reach its end"));
+    };
+    let lines: Vec<&[u8]> = texts
+        .output
+        .split(|byte| *byte == b'\n')
+        .collect(rt.alloc())?;
     for row in CODES.lines() {
         check_code(&rt, rt.alloc(), lines.as_slice(), row)?;
     }

@@ -1,6 +1,6 @@
 //! One file, cut off after each of its bytes, with the empty script.
 
-use super::{DEPTH, check_failed, run_in_memory};
+use super::{DEPTH, EndedRun, check_failed, run_case};
 use std::alloc::Global;
 use std::process::Abort;
 use std::test::Fail;
@@ -52,13 +52,20 @@ fn fault_at(len: usize) -> Result<Option<&'static str>, Fail> {
     Ok(None)
 }
 
+/// Stops unless a run with the empty script writes an output, and no reply.
+fn check_accepted(rt: &impl Abort, run: &EndedRun) -> Result<(), Fail> {
+    let Ok(texts) = run else {
+        return Err(Fail::from("the run did not reach its end"));
+    };
+    assert!(rt; texts.replies.is_empty() && !texts.output.is_empty());
+    Ok(())
+}
+
 fn check_cut(rt: &impl Abort, alloc: Global, len: usize) -> Result<(), Fail> {
     let file = FILE.as_bytes().get(..len).ok_or("past the end")?;
-    let run = run_in_memory(alloc, file, b"", DEPTH)?;
+    let run = run_case(alloc, file, b"", DEPTH)?;
     let Some(fault) = fault_at(len)? else {
-        assert!(rt; run.ending.is_ok());
-        assert!(rt; run.replies.is_empty() && !run.output.is_empty());
-        return Ok(());
+        return check_accepted(rt, &run);
     };
     let expected = format!(in alloc; "3 vcdedit: capture {fault}")?;
     check_failed(rt, alloc, &run, expected.as_str())

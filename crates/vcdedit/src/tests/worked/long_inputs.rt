@@ -1,6 +1,6 @@
 //! Cases of inputs that are too long for a table, at a limit and one past it.
 
-use super::{DEPTH, check_case, check_done, check_failed, run_in_memory};
+use super::{DEPTH, check_case, check_done, check_failed, run_case};
 use crate::SCRIPT_LIMIT;
 use std::alloc::Global;
 use std::process::Abort;
@@ -29,17 +29,16 @@ const NEARLY_A_BLOCK: usize = 4_090;
 #[test]
 fn words_over_the_end_of_a_block(rt: HostRuntime) -> Result<(), Fail> {
     let file = copies_then(rt.alloc(), b" ", NEARLY_A_BLOCK, b"$enddefinitions $end #0")?;
-    let run = run_in_memory(rt.alloc(), file.as_slice(), b"list\n", DEPTH)?;
+    let run = run_case(rt.alloc(), file.as_slice(), b"list\n", DEPTH)?;
     let replies = b"timescale none\nend 0\nsignals 0\nskipped 0\n";
     let output = b"$enddefinitions $end\n#0\n$dumpvars\n$end\n";
-    check_done(&rt, &run, 0, replies, output);
-    Ok(())
+    check_done(&rt, &run, 0, replies, output)
 }
 
 #[test]
 fn a_line_past_the_end_of_a_block(rt: HostRuntime) -> Result<(), Fail> {
     let file = copies_then(rt.alloc(), b"\n", NEARLY_A_BLOCK, b"$enddefinitions #0")?;
-    let run = run_in_memory(rt.alloc(), file.as_slice(), b"", DEPTH)?;
+    let run = run_case(rt.alloc(), file.as_slice(), b"", DEPTH)?;
     let line = NEARLY_A_BLOCK + 1;
     let expected = format!(in rt.alloc(); "3 vcdedit: capture line {line}: UnexpectedWord")?;
     check_failed(&rt, rt.alloc(), &run, expected.as_str())
@@ -51,9 +50,8 @@ fn a_word_longer_than_two_blocks(rt: HostRuntime) -> Result<(), Fail> {
     file.extend_from_slice(b"$comment ")?;
     push_copies(&mut file, b"w", 10_000)?;
     file.extend_from_slice(b" $end\n$enddefinitions $end\n#0\n$dumpvars\n$end\n")?;
-    let run = run_in_memory(rt.alloc(), file.as_slice(), b"", DEPTH)?;
-    check_done(&rt, &run, 0, b"", file.as_slice());
-    Ok(())
+    let run = run_case(rt.alloc(), file.as_slice(), b"", DEPTH)?;
+    check_done(&rt, &run, 0, b"", file.as_slice())
 }
 
 #[test]
@@ -64,7 +62,7 @@ fn one_signal_too_many(rt: HostRuntime) -> Result<(), Fail> {
         SIGNAL_LIMIT + 1,
         b"$enddefinitions $end\n",
     )?;
-    let run = run_in_memory(rt.alloc(), file.as_slice(), b"", DEPTH)?;
+    let run = run_case(rt.alloc(), file.as_slice(), b"", DEPTH)?;
     let line = SIGNAL_LIMIT + 1;
     let expected = format!(in rt.alloc(); "3 vcdedit: capture line {line}: TooManySignals")?;
     check_failed(&rt, rt.alloc(), &run, expected.as_str())
@@ -77,10 +75,10 @@ const EMPTY: &[u8] = b"$enddefinitions $end\n#0\n$dumpvars\n$end\n";
 #[test]
 fn the_longest_script(rt: HostRuntime) -> Result<(), Fail> {
     let mut script = copies_then(rt.alloc(), b"#", SCRIPT_LIMIT as usize, b"")?;
-    let run = run_in_memory(rt.alloc(), EMPTY, script.as_slice(), DEPTH)?;
-    check_done(&rt, &run, 0, b"", EMPTY);
+    let run = run_case(rt.alloc(), EMPTY, script.as_slice(), DEPTH)?;
+    check_done(&rt, &run, 0, b"", EMPTY)?;
     script.push(b'#')?;
-    let run = run_in_memory(rt.alloc(), EMPTY, script.as_slice(), DEPTH)?;
+    let run = run_case(rt.alloc(), EMPTY, script.as_slice(), DEPTH)?;
     check_failed(&rt, rt.alloc(), &run, "3 vcdedit: script: too large")
 }
 
