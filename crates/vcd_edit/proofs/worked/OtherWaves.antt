@@ -7,7 +7,7 @@ use Rattle.vcd_edit.specs.declared.edit.Edit.TheVariants.{Rename, Remove, Shift,
 use Rattle.vcd_edit.specs.declared.edit.Rule.TheVariants.{And, BitOf}
 use Rattle.vcd_edit.specs.Effect.{effect}
 use Rattle.vcd_edit.specs.OtherWaves.{OtherChanges, with_others, waves_read, others_after}
-use Rattle.vcd_edit.proofs.worked.Records.{from, wire, capture}
+use Rattle.vcd_edit.proofs.worked.Records.{from}
 use Rattle.vcd_edit.proofs.worked.EffectLaws.{lent, three_signals, two_signals}
 
 -- a name is given, a signal removed and time cut out without any wave
