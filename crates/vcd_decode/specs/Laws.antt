@@ -91,11 +91,12 @@ SpiSelectionsAreApart =
     ≡ spi_annotations u clk mosi miso (Some (line_until released cs)) end
     ++ spi_annotations u clk mosi miso (Some (line_after released cs)) end
 
--- a kind with nothing said of MOSI, and with nothing said of MISO
+-- a kind with nothing said of MOSI
 abbrev pub without_mosi : Kind → Kind
 without_mosi (Word mosi miso) = Word Absent miso
 without_mosi kind = kind
 
+-- a kind with nothing said of MISO
 abbrev pub without_miso : Kind → Kind
 without_miso (Word mosi miso) = Word mosi Absent
 without_miso kind = kind

@@ -100,7 +100,7 @@ retimed_fate is_cut_out s (stamp digits) = retimed_stamp is_cut_out (number_of d
 retimed_fate is_cut_out s item =
     if is_some (change_key item) && is_cut_out s.tick then is_left_out else stands
 
--- the pieces in the place of a piece with this outcome; another item has one space between its
+-- the pieces in the place of a piece with this fate; another item has one space between its
 -- words
 abbrev pub pieces_in_place : ItemFate → Piece → List Piece
 pieces_in_place stands p = p ∷ []

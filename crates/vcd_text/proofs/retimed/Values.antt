@@ -141,8 +141,8 @@ module _ (code : List ℕ) (t width : ℕ) (before : List Bit) where
         (λ (i
         : Item). (state_after_item s i).tick) is) ∙ ap (expected kept) (sym (at_stamp own t s.tick o p ps digits is))
     | is_change k change ↦
-        let same : is_kept_code s code ≡ kept = ap (λ (ds : List VariableDeclaration). is_kept (first_with_code code ds))
-        (sym (declared_stays s (p.item ∷ items_of ps) allows (change.in_body s allows.0))) ∙ is_kept_now in
+        let same : is_kept_code s code ≡ kept = ap (λ (ds : List VariableDeclaration). is_kept (first_with_code code
+        ds)) (sym (declared_stays s (p.item ∷ items_of ps) allows (change.in_body s allows.0))) ∙ is_kept_now in
         let more : Option Piece = if same_key own k && nat_le s.tick t then Some p else o in
         let then_is : value (state_after_item s p.item).value_changes ≡ expected kept more = ap (λ l. value l)
         (change_adds
