@@ -16,6 +16,7 @@
 //! | `held`: lets the record of an edit go | an edit | `undo`, or nothing |
 //! | `step` | a step | the steps made before it |
 //! | `run`: makes some steps | the position of the step that `omit` leaves out | |
+//! | `run_on_bytes`: runs a script | how many of its lines `omit` runs, or nothing for all | |
 //!
 //! The program makes all that the call needs, and writes `refuse`. With `make` it makes the call.
 //! Then it writes `allow`, and `done` or the name of a fault; or `unequal` if the call gave a copy
@@ -29,6 +30,7 @@ mod edits;
 mod files;
 mod parts;
 mod printing;
+mod scripts;
 mod sessions;
 mod waves;
 mod words;
