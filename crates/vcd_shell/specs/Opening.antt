@@ -1,27 +1,19 @@
 -- Where the bytes of an input come from. The rules are the project's own.
-use Rattle.std.specs.Prelude.{◌≡◌, ℕ, Bool, not, MatchBool, List, codes, Option, Some, None}
+use Rattle.std.specs.Prelude.{ℕ, Bool, not, MatchBool, List, codes, Option, Some, None}
 use Rattle.std.specs.Borrow.{Bor}
 use Rattle.std.specs.Str.{bytes_eq}
 use Rattle.vcd_shell.specs.declared.opening.Origin.{Origin}
-use Rattle.vcd_shell.specs.declared.opening.Origin.TheVariants.{Standard, File, Default}
+use Rattle.vcd_shell.specs.declared.opening.Origin.TheVariants.{Standard, File}
 
 -- an input that is read from standard input
 abbrev pub IsStandard : {S F : Type 0} → Origin S F → Type 0
 IsStandard (Standard reader) = Unit {0}
 IsStandard (File file) = ⊥
-IsStandard (Default bytes) = ⊥
 
 -- an input that is read from a file
 abbrev pub IsFile : {S F : Type 0} → Origin S F → Type 0
 IsFile (Standard reader) = ⊥
 IsFile (File file) = Unit {0}
-IsFile (Default bytes) = ⊥
-
--- an input with these bytes
-abbrev pub IsDefault : {S F : Type 0} → List ℕ → Origin S F → Type 0
-IsDefault text (Standard reader) = ⊥
-IsDefault text (File file) = ⊥
-IsDefault text (Default bytes) = bytes.now ≡ text
 
 -- whether a path names a file: `-` means standard input
 abbrev pub names_file : List ℕ → Bool
@@ -38,4 +30,3 @@ abbrev pub bytes_to_come : {S F : Type 0} → (S → Option (List ℕ)) → (F �
     → Origin S F → Option (List ℕ)
 bytes_to_come of_standard of_file (Standard reader) = of_standard reader
 bytes_to_come of_standard of_file (File file) = of_file file
-bytes_to_come of_standard of_file (Default bytes) = Some bytes.now

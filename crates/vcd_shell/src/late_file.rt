@@ -48,6 +48,7 @@ impl<'a, R: Files> LateFile<'a, R> {
 impl<R: Files> Write for LateFile<'_, R> {
     fn write(&mut self, buf: &[u8]) -> io::Result<usize>
         ensures bound { WritesAtMost result buf.now }
+        // the trait's own clause, which always holds of a file that shows no bytes
         ensures bytes { WriteAppends None None result buf.now }
         ensures without_bytes { buf.now ≡ [] → self.new.file ≡ self.old.file }
     {

@@ -12,8 +12,6 @@ use std::{fs, io};
 pub enum Origin<S, F> {
     Standard(S),
     File(F),
-    /// These bytes, of which no file is needed.
-    Default(&'static [u8]),
 }
 
 impl<S: Read, F: Read> Read for Origin<S, F> {
@@ -25,7 +23,6 @@ impl<S: Read, F: Read> Read for Origin<S, F> {
         match self {
             Origin::Standard(reader) => reader.read(buf),
             Origin::File(file) => file.read(buf),
-            Origin::Default(bytes) => bytes.read(buf),
         }
     }
 }
