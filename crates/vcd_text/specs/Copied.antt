@@ -55,12 +55,16 @@ pub record IsCopy (limit : ℕ) (r : CopyRules) (file text : List ℕ) : Type 0 
 
 -- ---- what an amender is shown
 
--- the code of a change
-abbrev pub change_code : Item → Option (List ℕ)
-change_code (scalar digit code) = Some code
-change_code (vector first digits code) = Some code
-change_code (real_or_string first text code) = Some code
-change_code item = None
+-- the code of a change to digits
+abbrev pub value_code : Item → Option (List ℕ)
+value_code (scalar digit code) = Some code
+value_code (vector first digits code) = Some code
+value_code item = None
+
+-- the code of a change to a real or a string
+abbrev pub real_or_string_code : Item → Option (List ℕ)
+real_or_string_code (real_or_string first text code) = Some code
+real_or_string_code item = None
 
 -- an item after a state is shown as this, with this code if it is a change
 abbrev pub Shows : ParseState → AmendableItem → (code : List ℕ) → Item → Type 0
@@ -69,7 +73,8 @@ Shows s (shown.EndDefinitions open_scopes) code i = (i ≡ end_definitions)
     × (open_scopes ≡ length s.scopes)
 Shows s (shown.Stamp tick) code i = (digits : List ℕ) × (i ≡ stamp digits)
     × (tick ≡ number_of digits)
-Shows s shown.Change code i = change_code i ≡ Some code
+Shows s shown.Value code i = value_code i ≡ Some code
+Shows s shown.RealOrString code i = real_or_string_code i ≡ Some code
 
 -- after these pieces comes this one, with these bytes
 pub record IsNext (limit : ℕ) (before : List Piece) (p : Piece) (space body : List ℕ) : Type 0 where

@@ -14,6 +14,7 @@ ghost use Rattle.vcd_text.specs.declared.fault.WriteError.TheVariants.{WriteFaul
 
 mod amender;
 mod copier;
+mod ended_items;
 mod pieces;
 
 use crate::fault::{CopyError, Fault, ReadError, WriteError};

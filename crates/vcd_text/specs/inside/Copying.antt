@@ -42,16 +42,16 @@ stands_open item = false
 
 -- what is shown of the item of one word, if it may be amended
 abbrev pub shown_word : List ℕ → (tick : ℕ) → Option AmendableItem
-shown_word [] tick = Some shown.Change
+shown_word [] tick = Some shown.Value
 shown_word (b ∷ bs) tick = if b == 35 then Some (shown.Stamp tick) else
-    (if b == 36 then None else Some shown.Change)
+    (if b == 36 then None else Some shown.Value)
 
 -- what is shown of the item that a word ends, if it may be amended
 abbrev pub shown_item : (item : OpenItem) → (text : List ℕ) → (tick open_scopes : ℕ)
     → Option AmendableItem
 shown_item items.Nothing text tick open_scopes = shown_word text tick
-shown_item items.Vector text tick open_scopes = Some shown.Change
-shown_item items.RealOrString text tick open_scopes = Some shown.Change
+shown_item items.Vector text tick open_scopes = Some shown.Value
+shown_item items.RealOrString text tick open_scopes = Some shown.RealOrString
 shown_item items.Variable text tick open_scopes = Some shown.Variable
 shown_item items.SizedVariable text tick open_scopes = Some shown.Variable
 shown_item items.EndDefinitions text tick open_scopes = Some (shown.EndDefinitions open_scopes)
@@ -88,10 +88,11 @@ pub record IsOpenItem (pieces : List Piece) (space body : List ℕ) (texts : Lis
   pub apart : 0 < length texts → 0 < length pieces → 0 < length space
   pub none : texts ≡ [] → (space ≡ []) × (body ≡ [])
 
--- these bytes were taken, and written but for those that are held
-pub record HasCopied {W : Type 0} (sink : sinks.Ghosts W) (limit : ℕ) (rules : CopyRules)
-    (has_seen : List Piece → Type 0)
-    (start now : Output W) (m : Parser) (held : Held) (bytes : List ℕ) : Type 0 where
+-- these bytes were taken: `written` holds of what is written of them, and the rest is held, where
+-- the first word of the open item comes after `space_len` bytes
+pub record HasCopied (limit : ℕ) (rules : CopyRules) (has_seen : List Piece → Type 0)
+    (written : List ℕ → Type 0) (m : Parser) (held : List ℕ) (space_len : ℕ) (bytes : List ℕ)
+    : Type 0 where
   pub asked : Asked
   pub pieces : List Piece
   pub begun : List WordOnLine
@@ -106,10 +107,57 @@ pub record HasCopied {W : Type 0} (sink : sinks.Ghosts W) (limit : ℕ) (rules :
   pub gap_some : has_complete_words bytes ≡ true → (0 < length gap) ⊎ ((pieces ≡ []) × (begun ≡ []))
   pub whole : bytes ≡ piece_bytes pieces ++ (space ++ (body ++ gap))
   pub seen : has_seen pieces
-  pub emits : Emits sink start now
-      (copied_pieces rules [] pieces ++ (if stands_open m.item then space ++ body else []))
-  pub held_is : held.bytes.items ≡ (if stands_open m.item then gap else space ++ (body ++ gap))
-  pub len : 0 < length (word_texts begun) → held.space_len ≡ length space
+  pub writes : written (copied_pieces rules [] pieces
+      ++ (if stands_open m.item then space ++ body else []))
+  pub held_is : held ≡ (if stands_open m.item then gap else space ++ (body ++ gap))
+  pub len : 0 < length (word_texts begun) → space_len ≡ length space
+
+-- with some bytes more, the text has this property
+abbrev pub Adds : (before after : List ℕ → Type 0) → (part : List ℕ) → Type 0
+Adds before after part = (text : List ℕ) → before text → after (text ++ part)
+
+-- the output took this text, but for these last bytes of it
+abbrev pub EmitsAllBut : {W : Type 0} → sinks.Ghosts W → (start now : Output W)
+    → (known text : List ℕ) → Type 0
+EmitsAllBut sink start now known text =
+    (sent : List ℕ) × Emits sink start now sent × (sent ++ known ≡ text)
+
+-- a part was added to the text, of which the output took all but its last bytes
+abbrev pub AddsToText : {W : Type 0} → sinks.Ghosts W → (old new : Output W)
+    → (known later part : List ℕ) → Type 0
+AddsToText sink old new known later part = EmitsAllBut sink old new later (known ++ part)
+
+-- of a chunk, `all` is what was not written and what comes after it, `item` is the open item and
+-- what comes after it, and `rest` is to come: first comes what is known to stand, then the open
+-- item. Where bytes of an earlier chunk are held, no byte is known to stand
+pub record IsUnwritten (held all item rest known begun : List ℕ) : Type 0 where
+  pub all_is : all ≡ known ++ item
+  pub item_is : item ≡ begun ++ rest
+  pub one : (held ≡ []) ⊎ (known ≡ [])
+
+-- the open item has ended, and this is added to the text in its place
+pub record HasEnded {W : Type 0} (sink : sinks.Ghosts W) (old new : Output W) (held : List ℕ)
+    (all item rest known part : List ℕ) : Type 0 where
+  pub later : List ℕ
+  pub all_is : all ≡ later ++ rest
+  pub item_is : item ≡ rest
+  pub none : held ≡ []
+  pub adds : AddsToText sink old new known later part
+
+-- these bytes were taken, up to `rest`
+pub record HasCopiedUpTo {W : Type 0} (sink : sinks.Ghosts W) (limit : ℕ) (rules : CopyRules)
+    (has_seen : List Piece → Type 0) (start now : Output W) (m : Parser) (held : Held)
+    (all item rest bytes : List ℕ) : Type 0 where
+  pub known : List ℕ
+  pub begun : List ℕ
+  pub unwritten : IsUnwritten held.bytes.items all item rest known begun
+  pub copied : HasCopied limit rules has_seen (EmitsAllBut sink start now known) m
+      (held.bytes.items ++ begun) held.space_len bytes
+
+-- these are the bytes of a piece that is not known to stand
+abbrev pub IsHeldPiece : (item : OpenItem) → (held : List ℕ) → (space_len : ℕ) → Piece → Type 0
+IsHeldPiece item held space_len p = stands_open item ≡ false
+    → (held ≡ p.space ++ p.body) × (space_len ≡ length p.space)
 
 -- these bytes are white space and a word, and can come after those before
 pub record IsSpacedWord (before : List ℕ) (bytes text : List ℕ) : Type 0 where
@@ -127,8 +175,8 @@ pub record HasCopiedFile {W : Type 0} (sink : sinks.Ghosts W) (limit : ℕ) (rul
   pub taken : List ℕ
   pub is : bytes ≡ taken ++ copier.progress.buffer.bytes
   pub complete : has_complete_words taken ≡ true
-  pub copied : HasCopied sink limit rules has_seen start now copier.progress.parser copier.held
-      taken
+  pub copied : HasCopied limit rules has_seen (Emits sink start now) copier.progress.parser
+      copier.held.bytes.items copier.held.space_len taken
 
 -- the output took the copy of a file of these bytes
 pub record TookCopy {W : Type 0} (sink : sinks.Ghosts W) (limit : ℕ) (rules : CopyRules)

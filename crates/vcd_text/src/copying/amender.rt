@@ -1,6 +1,6 @@
 //! What is done to a file while it is copied.
 
-ghost use Rattle.std.specs.Prelude.{◌≡◌, ◌++◌, ◌∷◌, [], ℕ, List, OnOk, false};
+ghost use Rattle.std.specs.Prelude.{◌≡◌, ◌++◌, ◌∷◌, [], ℕ, List, OnOk, true, false};
 ghost use Rattle.vcd_text.specs.Pieces.{Piece};
 ghost use Rattle.vcd_text.specs.Copied.{CopyRules, IsNext, IsShownNext, may_be_amended};
 ghost use Rattle.vcd_text.specs.inside.writing.Output.{Emits, EmitsMore};
@@ -17,8 +17,10 @@ pub enum AmendableItem {
     EndDefinitions { open_scopes: usize },
     /// The stamp of this tick.
     Stamp { tick: u64 },
-    /// A change, of any form.
-    Change,
+    /// A change to digits.
+    Value,
+    /// A change to a real number or a string.
+    RealOrString,
 }
 
 /// What is done to a file while it is copied. It is told of each item, in turn.
@@ -28,6 +30,19 @@ pub trait Amender<W: Sink> {
 
     // it was told of these items
     ghost has_seen: { Self → List Piece → Type 0 };
+
+    /// Lets an item stand, if it stands and nothing comes before it. Returns whether it does; if
+    /// not, `take` is called for it.
+    fn let_stand(&mut self, item: AmendableItem, code: &[u8]) -> bool
+        requires { (limit : ℕ) × (before : List Piece) × (p : Piece) × has_seen self.old before
+            × IsShownNext limit before p item code.now p.space p.body }
+        ensures stands { result ≡ true → (limit : ℕ) (before : List Piece) (p : Piece) →
+            has_seen self.old before →
+            IsShownNext limit before p item code.now p.space p.body →
+            ((rules self.old).in_place before p ≡ p.space ++ p.body)
+            × has_seen self.new (before ++ p ∷ []) }
+        ensures unchanged { result ≡ false → self.new ≡ self.old }
+        ensures same { rules self.new ≡ rules self.old };
 
     /// Writes what is in the place of an item: of the white space before it, and of its words with
     /// the white space between them. The code is that of a change, and else of no meaning.

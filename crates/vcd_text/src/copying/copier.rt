@@ -13,10 +13,10 @@ ghost use Rattle.vcd_text.specs.inside.reading.FileReader.{HasReadBytes, FileRea
 ghost use Rattle.vcd_text.specs.inside.reading.FileReader.{HasUntakenChunk, TakesChunk};
 ghost use Rattle.vcd_text.specs.Parts.{IsPartRefusal, answers_of};
 ghost use Rattle.std.specs.Io.KnownBytes.{Consumes, IsAtEnd};
-ghost use Rattle.vcd_text.specs.inside.writing.Output.{EmitsMore};
+ghost use Rattle.vcd_text.specs.inside.writing.Output.{Emits, EmitsMore};
 
 use super::amender::Amender;
-use super::pieces::{Held, copy_word, hold};
+use super::pieces::{Held, Unwritten, copy_word, hold, write_standing};
 use crate::fault::{Fault, ReadError};
 use crate::reading::choice::Choice;
 use crate::reading::file_reader::{FileReader, check_complete, complete_words_len};
@@ -204,8 +204,8 @@ fn copy_words<C: Choice, W: Sink, A: Amender<W>>(
         parser.old
         (words_left words) }
     requires copying { (limit : ℕ) × (start : Output W) × (before : List ℕ)
-        × HasCopied W.Sink limit (A.rules amender.old) (A.has_seen amender.old) start output.old
-        parser.old held.old before
+        × HasCopied limit (A.rules amender.old) (A.has_seen amender.old)
+        (Emits W.Sink start output.old) parser.old held.old.bytes.items held.old.space_len before
         × (has_complete_words before ≡ true) }
     ensures words { (limit : ℕ) (first : C) (words_so_far : List WordInFile) →
         HasTakenFrom limit C.takes C.answers first choice.old parser.old words_so_far →
@@ -215,23 +215,35 @@ fn copy_words<C: Choice, W: Sink, A: Amender<W>>(
     ensures line_feeds { IfOk result (λ line_feeds.
         line_feeds ≡ words.entry.line_feeds + line_feeds_in words.entry.rest.now) }
     ensures copied { OnOk result ((limit : ℕ) (start : Output W) (before : List ℕ) →
-        HasCopied W.Sink limit (A.rules amender.old) (A.has_seen amender.old) start output.old
-        parser.old held.old before →
+        HasCopied limit (A.rules amender.old) (A.has_seen amender.old)
+        (Emits W.Sink start output.old) parser.old held.old.bytes.items held.old.space_len before →
         has_complete_words before ≡ true →
-        HasCopied W.Sink limit (A.rules amender.old) (A.has_seen amender.new) start output.new
-        parser.new held.new (before ++ words.entry.rest.now)) }
+        HasCopied limit (A.rules amender.old) (A.has_seen amender.new)
+        (Emits W.Sink start output.new) parser.new held.new.bytes.items held.new.space_len
+        (before ++ words.entry.rest.now)) }
     ensures same { OnOk result (A.rules amender.new ≡ A.rules amender.old) }
     ensures more { EmitsMore W.Sink output.old output.new }
 {
     let mut left = words;
-    let mut rest = left.rest;
+    let mut unwritten = Unwritten {
+        all: left.rest,
+        item: left.rest,
+    };
     while let Some(word) = left.next_word() {
-        let bytes = &rest[..rest.len() - left.rest.len()];
         copy_word(
-            alloc, parser, choice, held, amender, output, bytes, word.text, word.line,
+            alloc,
+            parser,
+            choice,
+            held,
+            amender,
+            output,
+            &mut unwritten,
+            word.text,
+            word.line,
+            left.rest,
         )?;
-        rest = left.rest;
     }
-    hold(&mut held.bytes, rest)?;
+    write_standing(output, &unwritten);
+    hold(&mut held.bytes, unwritten.item)?;
     Ok(left.line_feeds)
 }

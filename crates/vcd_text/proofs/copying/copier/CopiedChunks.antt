@@ -47,9 +47,9 @@ chunk_read {sink = sink} {limit = limit} {rules = rules} {seen = seen} {start = 
       is = ap (λ l. l ++ chunk) h.is ∙ append_assoc h.taken old.progress.buffer.bytes chunk
           ∙ ap (λ l. h.taken ++ l) (sym is);
       complete = h.complete;
-      copied = subst (λ m. HasCopied sink limit rules seen start now m new.held h.taken) (sym parser) (subst
-          (λ k. HasCopied
-          sink limit rules seen start now old.progress.parser k h.taken) (sym held) h.copied);
+      copied = subst (λ m. HasCopied limit rules seen (Emits sink start now) m new.held.bytes.items
+          new.held.space_len h.taken) (sym parser) (subst (λ (k : Held). HasCopied limit rules seen
+          (Emits sink start now) old.progress.parser k.bytes.items k.space_len h.taken) (sym held) h.copied);
     }
 
 -- the words of the buffer's front are copied
@@ -58,7 +58,8 @@ pub chunk_copied : {W : Type 0} {sink : sinks.Ghosts W} {limit : ℕ} {rules : C
     {start o0 o1 : Output W} (old new : Copier) (len : ℕ) (bytes front : List ℕ)
     → (h : HasCopiedFile sink limit rules seen start o0 old bytes) → front ≡ take len old.progress.buffer.bytes
     → has_complete_words front ≡ true → new.progress.buffer.bytes ≡ drop len old.progress.buffer.bytes
-    → HasCopied sink limit rules later start o1 new.progress.parser new.held (h.taken ++ front)
+    → HasCopied limit rules later (Emits sink start o1) new.progress.parser new.held.bytes.items new.held.space_len
+    (h.taken ++ front)
     → HasCopiedFile sink limit rules later start o1 new bytes
 chunk_copied old new len bytes front h is complete left copied = record {
   taken = h.taken ++ front;
@@ -84,16 +85,16 @@ none_is_open items.RealOrString is = absurd (false≢true is)
 
 -- the whole file is copied
 pub whole_copied : {W : Type 0} {sink : sinks.Ghosts W} {limit : ℕ} {rules : CopyRules} {seen : List Piece → Type 0}
-    {start o1 o2 : Output W} {m : Parser} {held : Held} {bytes : List ℕ}
-    → (h : HasCopied sink limit rules seen start o1 m held bytes) → is_complete m ≡ true
-    → Emits sink o1 o2 (rules.at_end h.pieces held.bytes.items) → TookCopy sink limit rules start o2 bytes
+    {start o1 o2 : Output W} {m : Parser} {held bytes : List ℕ} {len : ℕ}
+    → (h : HasCopied limit rules seen (Emits sink start o1) m held len bytes) → is_complete m ≡ true
+    → Emits sink o1 o2 (rules.at_end h.pieces held) → TookCopy sink limit rules start o2 bytes
 whole_copied {rules = rules} {m = m} {held = held} {bytes = bytes} h complete writes =
     let parts = and_parts m.in_body (is_nothing m.item) complete in
     let nothing = none_is_open m.item parts.1 in
     let none : h.begun ≡ [] = subst (IsBegun m h.begun) nothing h.at.1 in
     let empty = h.opened.none (ap word_texts none) in
     let bare : h.space ++ (h.body ++ h.gap) ≡ h.gap = ap₂ (λ x y. x ++ (y ++ h.gap)) empty.0 empty.1 in
-    let gap : held.bytes.items ≡ h.gap = h.held_is ∙ ap (λ i. cond (stands_open i) h.gap (h.space ++ (h.body ++ h.gap)))
+    let gap : held ≡ h.gap = h.held_is ∙ ap (λ i. cond (stands_open i) h.gap (h.space ++ (h.body ++ h.gap)))
     nothing ∙ bare in
     record {
       text = copied rules h.pieces h.gap;
@@ -113,8 +114,8 @@ whole_copied {rules = rules} {m = m} {held = held} {bytes = bytes} h complete wr
         is = refl;
       };
       emits = writes_as (ap (λ i. (copied_pieces rules [] h.pieces ++ cond (stands_open i) (h.space ++ h.body) [])
-          ++ rules.at_end h.pieces held.bytes.items) nothing ∙ ap₂ (λ x y. x ++ rules.at_end h.pieces y) (append-nil
-          (copied_pieces rules [] h.pieces)) gap) (writes_both h.emits writes);
+          ++ rules.at_end h.pieces held) nothing ∙ ap₂ (λ x y. x ++ rules.at_end h.pieces y) (append-nil
+          (copied_pieces rules [] h.pieces)) gap) (writes_both h.writes writes);
     }
 
 -- ---- before the first word
@@ -137,8 +138,9 @@ both_none [] ys none = (refl, sym none)
 both_none (x ∷ xs) ys none = absurd (cc)
 
 pub nothing_copied : {W : Type 0} {sink : sinks.Ghosts W} {limit : ℕ} {rules : CopyRules} {seen : List Piece → Type 0}
-    {o : Output W} {asked : Asked} {m : Parser} {held : Held} → HasTakenWords limit asked m (complete_words [])
-    → held.bytes.items ≡ [] → seen [] → HasCopied sink limit rules seen o o m held []
+    {o : Output W} {asked : Asked} {m : Parser} {held : List ℕ} {len : ℕ}
+    → HasTakenWords limit asked m (complete_words []) → held ≡ [] → seen []
+    → HasCopied limit rules seen (Emits sink o o) m held len []
 unfolding copied_pieces words_of
 nothing_copied {limit = limit} {asked = asked} {m = m} {held = held} r empty seen =
     let none = both_none r.whole r.begun (sym no_complete ∙ r.parts) in
@@ -174,7 +176,7 @@ nothing_copied {limit = limit} {asked = asked} {m = m} {held = held} r empty see
       gap_some = λ complete. inr (refl, refl);
       whole = refl;
       seen = seen;
-      emits = writes_as (ap (λ i. cond (stands_open i) [] []) (sym nothing)) writes_none;
+      writes = writes_as (ap (λ i. cond (stands_open i) [] []) (sym nothing)) writes_none;
       held_is = empty ∙ ap (λ i. cond (stands_open i) [] []) (sym nothing);
       len = λ some. absurd (omega (arith, some));
     }

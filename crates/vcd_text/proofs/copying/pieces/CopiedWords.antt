@@ -5,7 +5,6 @@ use Rattle.std.proofs.Common.{length, length-take-le, refl, sym, ap, ap₂, subs
 use Rattle.std.proofs.lemmas.List.{append-nil, length-append, map-append}
 use Rattle.std.proofs.lemmas.Bool.{false≢true}
 use Rattle.vcd_core.specs.declared.capture.ScopeName.{ScopeName}
-use Rattle.vcd_core.specs.declared.device.Sink as sinks
 use Rattle.vcd_text.specs.Words.{WordOnLine}
 use Rattle.vcd_text.specs.Items.{Item, spelling}
 use Rattle.vcd_text.specs.Grammar.{ParseState, initial_state, state_after_item, AllowsAll, Allows, word_texts}
@@ -13,21 +12,18 @@ use Rattle.vcd_text.specs.Pieces.{state_of_pieces, Piece}
 use Rattle.vcd_text.specs.Copied.{CopyRules, copied_piece, copied_pieces, piece_items}
 use Rattle.vcd_text.specs.Copied.{may_be_amended}
 use Rattle.vcd_text.specs.inside.Words.{has_complete_words}
+use Rattle.vcd_text.specs.inside.Copying.{Adds}
 use Rattle.vcd_text.specs.inside.Copying.{IsOpenItem, HasCopied, IsSpacedWord, EndsPiece, piece_bytes, stands_open}
 use Rattle.vcd_text.specs.inside.reading.Part.{Asked}
 use Rattle.vcd_text.specs.inside.reading.Parser.{IsAtState, IsBegun, WordStep, goes_on, ends_item}
-use Rattle.vcd_text.specs.inside.writing.Output.{Emits}
-use Rattle.vcd_text.specs.declared.copying.pieces.Held.{Held}
 use Rattle.vcd_text.specs.declared.reading.parser.Parser.{Parser}
 use Rattle.vcd_text.specs.declared.reading.parser.OpenItem.{OpenItem}
 use Rattle.vcd_text.specs.declared.reading.parser.OpenItem.TheVariants as items
-use Rattle.vcd_text.specs.declared.writing.output.Output.{Output}
 use Rattle.vcd_text.proofs.read_back.Words.{is_unbroken}
 use Rattle.vcd_text.proofs.amended.Bytes.{texts_are}
 use Rattle.vcd_text.proofs.amended.Cuts.{SpellsItem}
 use Rattle.vcd_text.proofs.copying.pieces.EndedItems.{nothing_open, something_open, opened_as, ended, stands_at}
 use Rattle.vcd_text.proofs.copying.pieces.EndedItems.{IsShownAs}
-use Rattle.vcd_text.proofs.writing.output.Pieces.{writes_both, writes_as}
 use Rattle.vcd_text.proofs.copying.pieces.OneWordMore.{not_complete, no_texts, shuffled, both_held, copied_more}
 use Rattle.vcd_text.proofs.copying.pieces.OneWordMore.{cut_more, bytes_more, reaches_more, begins, goes_further}
 
@@ -48,19 +44,18 @@ not_shown items.RealOrString text tick depth i c stands is = absurd (false≢tru
 
 -- ---- one word
 
-module _ {W : Type 0} (sink : sinks.Ghosts W) (limit : ℕ) (rules : CopyRules) (seen_before : List Piece → Type 0)
-    (start o0 : Output W) (old : Parser) (held0 held1 : Held) (before bytes : List ℕ) (w : WordOnLine)
-    (h : HasCopied sink limit rules seen_before start o0 old held0 before) (s : IsSpacedWord before bytes w.text)
-    (whole : is_unbroken w.text ≡ true) (held_is : held1.bytes.items ≡ held0.bytes.items ++ bytes)
-    (len_first : old.item ≡ items.Nothing
-    → held1.space_len ≡ length held0.bytes.items + (length bytes - length w.text))
-    (len_later : (old.item ≡ items.Nothing → ⊥) → held1.space_len ≡ held0.space_len) where
+module _ (limit : ℕ) (rules : CopyRules) (seen_before : List Piece → Type 0) (written0 : List ℕ → Type 0)
+    (old : Parser) (held0 held1 : List ℕ) (len0 len1 : ℕ) (before bytes : List ℕ) (w : WordOnLine)
+    (h : HasCopied limit rules seen_before written0 old held0 len0 before) (s : IsSpacedWord before bytes w.text)
+    (whole : is_unbroken w.text ≡ true) (held_is : held1 ≡ held0 ++ bytes)
+    (len_first : old.item ≡ items.Nothing → len1 ≡ length held0 + (length bytes - length w.text))
+    (len_later : (old.item ≡ items.Nothing → ⊥) → len1 ≡ len0) where
   pub record Longer : Type 0 where
     pub more_space : List ℕ
     pub more_body : List ℕ
     pub opened : IsOpenItem h.pieces more_space more_body (word_texts (h.begun ++ w ∷ []))
     pub own : (h.space ++ (h.body ++ h.gap)) ++ bytes ≡ more_space ++ more_body
-    pub len : held1.space_len ≡ length more_space
+    pub len : len1 ≡ length more_space
 
   is_apart : (0 < length (h.gap ++ s.space)) ⊎ ((h.pieces ≡ []) × (h.begun ≡ []))
   is_apart = elim s.apart [
@@ -78,7 +73,7 @@ module _ {W : Type 0} (sink : sinks.Ghosts W) (limit : ℕ) (rules : CopyRules) 
       go [] none =
           let nothing : old.item ≡ items.Nothing = nothing_open old old.item (rw none at h.at.1) in
           let empty = h.opened.none (ap word_texts none) in
-          let held : held0.bytes.items ≡ h.space ++ (h.body ++ h.gap) = h.held_is ∙ ap (λ i. cond (stands_open i) h.gap
+          let held : held0 ≡ h.space ++ (h.body ++ h.gap) = h.held_is ∙ ap (λ i. cond (stands_open i) h.gap
           (h.space ++ (h.body ++ h.gap))) nothing in
           let bare : h.space ++ (h.body ++ h.gap) ≡ h.gap = ap₂ (λ x y. x ++ (y ++ h.gap)) empty.0 empty.1 in
           record {
@@ -121,15 +116,16 @@ module _ {W : Type 0} (sink : sinks.Ghosts W) (limit : ℕ) (rules : CopyRules) 
           word_texts (ws ++ w ∷ [])) is) in
           sym first ∙ ap (λ b. stands_at b v.text) (h.at.0.in_body ∙ sym at.0.in_body) ∙ again ∙ held
 
-  module _ (seen_after : List Piece → Type 0) (o1 : Output W) (held2 : Held) (later : Asked) (new : Parser) where
-    all_held : cond (stands_open old.item) (h.space ++ h.body) [] ++ held1.bytes.items ≡ longer.more_space
+  module _ (seen_after : List Piece → Type 0) (written1 : List ℕ → Type 0) (held2 : List ℕ) (len2 : ℕ) (later : Asked)
+      (new : Parser) where
+    all_held : cond (stands_open old.item) (h.space ++ h.body) [] ++ held1 ≡ longer.more_space
         ++ longer.more_body
     all_held = ap (λ l. cond (stands_open old.item) (h.space ++ h.body) [] ++ l) (held_is
         ∙ ap (λ l. l ++ bytes) h.held_is)
         ∙ both_held (stands_open old.item) h.space h.body h.gap bytes ∙ longer.own
 
-    own_held : stands_open old.item ≡ false → held1.bytes.items ≡ longer.more_space ++ longer.more_body
-    own_held held = ap (λ t. cond t (h.space ++ h.body) [] ++ held1.bytes.items) (sym held) ∙ all_held
+    own_held : stands_open old.item ≡ false → held1 ≡ longer.more_space ++ longer.more_body
+    own_held held = ap (λ t. cond t (h.space ++ h.body) [] ++ held1) (sym held) ∙ all_held
 
     taken_bytes : before ++ bytes ≡ piece_bytes h.pieces ++ (longer.more_space ++ longer.more_body)
     taken_bytes = ap (λ l. l ++ bytes) h.whole ∙ append_assoc (piece_bytes h.pieces) _ bytes
@@ -144,9 +140,9 @@ module _ {W : Type 0} (sink : sinks.Ghosts W) (limit : ℕ) (rules : CopyRules) 
     -- a word that goes on with an item
     pub goes_on_copied : IsAtState later new (state_of_pieces limit h.pieces) (h.begun ++ w ∷ [])
         → seen_after h.pieces
-        → Emits sink o0 o1 (cond (stands_open new.item) held1.bytes.items [])
-        → held2.bytes.items ≡ cond (stands_open new.item) [] held1.bytes.items → held2.space_len ≡ held1.space_len
-        → HasCopied sink limit rules seen_after start o1 new held2 (before ++ bytes)
+        → Adds written0 written1 (cond (stands_open new.item) held1 [])
+        → held2 ≡ cond (stands_open new.item) [] held1 → len2 ≡ len1
+        → HasCopied limit rules seen_after written1 new held2 len2 (before ++ bytes)
     goes_on_copied at seen writes is len = record {
       asked = later;
       pieces = h.pieces;
@@ -163,25 +159,25 @@ module _ {W : Type 0} (sink : sinks.Ghosts W) (limit : ℕ) (rules : CopyRules) 
       whole = taken_bytes ∙ ap (λ l. piece_bytes h.pieces ++ (longer.more_space ++ l)) (sym
           (append-nil longer.more_body));
       seen = seen;
-      emits = writes_as (emitted (stands_open new.item) refl) (writes_both h.emits writes);
+      writes = subst written1 (emitted (stands_open new.item) refl) (writes _ h.writes);
       held_is = held_now (stands_open new.item) refl;
       len = λ some. len ∙ longer.len;
     }
       where
         emitted : (t : Bool) → stands_open new.item ≡ t → (copied_pieces rules [] h.pieces ++ cond
             (stands_open old.item)
-            (h.space ++ h.body) []) ++ cond t held1.bytes.items [] ≡ copied_pieces rules [] h.pieces ++ cond t
+            (h.space ++ h.body) []) ++ cond t held1 [] ≡ copied_pieces rules [] h.pieces ++ cond t
             (longer.more_space ++ longer.more_body) []
-        emitted true stands = append_assoc (copied_pieces rules [] h.pieces) _ held1.bytes.items
+        emitted true stands = append_assoc (copied_pieces rules [] h.pieces) _ held1
             ∙ ap (λ l. copied_pieces
             rules [] h.pieces ++ l) all_held
         emitted false held = append-nil _ ∙ ap (λ t. copied_pieces rules [] h.pieces ++ cond t (h.space ++ h.body) [])
             (same_standing later new at held)
 
-        held_now : (t : Bool) → stands_open new.item ≡ t → held2.bytes.items ≡ cond t [] (longer.more_space
+        held_now : (t : Bool) → stands_open new.item ≡ t → held2 ≡ cond t [] (longer.more_space
             ++ (longer.more_body ++ []))
-        held_now true stands = is ∙ ap (λ t. cond t [] held1.bytes.items) stands
-        held_now false held = is ∙ ap (λ t. cond t [] held1.bytes.items) held
+        held_now true stands = is ∙ ap (λ t. cond t [] held1) stands
+        held_now false held = is ∙ ap (λ t. cond t [] held1) held
             ∙ own_held (same_standing later new at held)
             ∙ ap (λ l. longer.more_space ++ l) (sym (append-nil longer.more_body))
 
@@ -214,8 +210,8 @@ module _ {W : Type 0} (sink : sinks.Ghosts W) (limit : ℕ) (rules : CopyRules) 
         shown = shown_as;
       }
 
-      pub piece_held : stands_open old.item ≡ false → (held1.bytes.items ≡ piece.space ++ piece.body)
-          × (held1.space_len ≡ length piece.space)
+      pub piece_held : stands_open old.item ≡ false → (held1 ≡ piece.space ++ piece.body)
+          × (len1 ≡ length piece.space)
       piece_held held = (own_held held, longer.len)
 
       some_texts : 0 < length (word_texts (h.begun ++ w ∷ []))
@@ -228,8 +224,8 @@ module _ {W : Type 0} (sink : sinks.Ghosts W) (limit : ℕ) (rules : CopyRules) 
 
       -- a word that ends an item
       pub ended_copied : seen_after (h.pieces ++ piece ∷ [])
-          → Emits sink o0 o1 (cond (stands_open old.item) held1.bytes.items (copied_piece rules h.pieces piece))
-          → held2.bytes.items ≡ [] → HasCopied sink limit rules seen_after start o1 new held2 (before ++ bytes)
+          → Adds written0 written1 (cond (stands_open old.item) held1 (copied_piece rules h.pieces piece))
+          → held2 ≡ [] → HasCopied limit rules seen_after written1 new held2 len2 (before ++ bytes)
       ended_copied seen writes empty = record {
         asked = later;
         pieces = h.pieces ++ piece ∷ [];
@@ -252,9 +248,9 @@ module _ {W : Type 0} (sink : sinks.Ghosts W) (limit : ℕ) (rules : CopyRules) 
         gap_some = λ complete. absurd (not_complete_now complete);
         whole = taken_bytes ∙ sym (bytes_more h.pieces piece) ∙ sym (append-nil (piece_bytes (h.pieces ++ piece ∷ [])));
         seen = seen;
-        emits = writes_as (emitted (stands_open old.item) refl ∙ ap (λ l. copied_pieces rules []
+        writes = subst written1 (emitted (stands_open old.item) refl ∙ ap (λ l. copied_pieces rules []
             (h.pieces ++ piece ∷ []) ++ l)
-            (sym (ap (λ t. cond (stands_open t) ([] ++ []) []) nothing))) (writes_both h.emits writes);
+            (sym (ap (λ t. cond (stands_open t) ([] ++ []) []) nothing))) (writes _ h.writes);
         held_is = empty ∙ sym (ap (λ t. cond (stands_open t) [] ([] ++ ([] ++ []))) nothing);
         len = λ some. absurd (omega (arith, some));
       }
@@ -267,18 +263,18 @@ module _ {W : Type 0} (sink : sinks.Ghosts W) (limit : ℕ) (rules : CopyRules) 
               old.item w.text new.tick new.variables.scopes.depth i (state_of_pieces limit h.pieces) stands shown_as)
 
           all_written : (t : Bool) → stands_open old.item ≡ t → (copied_pieces rules [] h.pieces ++ cond (stands_open
-              old.item) (h.space ++ h.body) []) ++ cond (stands_open old.item) held1.bytes.items (copied_piece rules
+              old.item) (h.space ++ h.body) []) ++ cond (stands_open old.item) held1 (copied_piece rules
               h.pieces piece) ≡ copied_pieces rules [] h.pieces ++ copied_piece rules h.pieces piece
           all_written true stands = append_assoc (copied_pieces rules [] h.pieces) _ _ ∙ ap (λ l. copied_pieces rules []
-              h.pieces ++ l) (ap (λ t. cond (stands_open old.item) (h.space ++ h.body) [] ++ cond t held1.bytes.items
+              h.pieces ++ l) (ap (λ t. cond (stands_open old.item) (h.space ++ h.body) [] ++ cond t held1
               (copied_piece rules h.pieces piece)) stands ∙ all_held ∙ sym (stands_whole stands))
           all_written false held = ap (λ t. (copied_pieces rules [] h.pieces ++ cond t (h.space ++ h.body) []) ++ cond t
-              held1.bytes.items (copied_piece rules h.pieces piece)) held
+              held1 (copied_piece rules h.pieces piece)) held
               ∙ ap (λ l. l ++ copied_piece rules h.pieces piece)
               (append-nil (copied_pieces rules [] h.pieces))
 
           emitted : (t : Bool) → stands_open old.item ≡ t → (copied_pieces rules [] h.pieces ++ cond (stands_open
-              old.item) (h.space ++ h.body) []) ++ cond (stands_open old.item) held1.bytes.items (copied_piece rules
+              old.item) (h.space ++ h.body) []) ++ cond (stands_open old.item) held1 (copied_piece rules
               h.pieces piece) ≡ copied_pieces rules [] (h.pieces ++ piece ∷ []) ++ []
           emitted t is = all_written t is ∙ sym (copied_more rules [] h.pieces piece)
               ∙ sym (append-nil (copied_pieces rules
@@ -287,26 +283,7 @@ module _ {W : Type 0} (sink : sinks.Ghosts W) (limit : ℕ) (rules : CopyRules) 
     -- what is held of the piece that the word ends, if it ends one
     pub piece_ended : WordStep later (state_of_pieces limit h.pieces) (h.begun ++ w ∷ []) new
         → new.item ≡ items.Nothing → (p : Piece) × EndsPiece limit h.pieces p old.item w.text new
-        × (stands_open old.item ≡ false → (held1.bytes.items ≡ p.space ++ p.body) × (held1.space_len ≡ length p.space))
+        × (stands_open old.item ≡ false → (held1 ≡ p.space ++ p.body) × (len1 ≡ length p.space))
     piece_ended (goes_on at) nothing = absurd (something_open new h.begun w new.item at.1 nothing)
     piece_ended (ends_item i spelled allows at) nothing =
         (piece i spelled allows at, ends_piece i spelled allows at, piece_held i spelled allows at)
-
-    -- one more word is copied
-    pub word_copied : WordStep later (state_of_pieces limit h.pieces) (h.begun ++ w ∷ []) new
-        → (new.item ≡ items.Nothing → (p : Piece) → EndsPiece limit h.pieces p old.item w.text new
-        → (stands_open old.item ≡ false → (held1.bytes.items ≡ p.space ++ p.body) × (held1.space_len ≡ length p.space))
-        → Emits sink o0 o1 (cond (stands_open old.item) held1.bytes.items (copied_piece rules h.pieces p))
-        × seen_after (h.pieces ++ p ∷ []) × (held2.bytes.items ≡ []))
-        → ((new.item ≡ items.Nothing → ⊥) → Emits sink o0 o1 (cond (stands_open new.item) held1.bytes.items [])
-        × seen_after h.pieces × (held2.bytes.items ≡ cond (stands_open new.item) [] held1.bytes.items)
-        × (held2.space_len ≡ held1.space_len))
-        → HasCopied sink limit rules seen_after start o1 new held2 (before ++ bytes)
-    word_copied (goes_on at) ends goes =
-        let (writes, seen, is, len) = goes (something_open new h.begun w new.item at.1) in
-        goes_on_copied at seen writes is len
-    word_copied (ends_item i spelled allows at) ends goes =
-        let (writes, seen, empty) = ends (nothing_open new new.item at.1) (piece i spelled allows at)
-        (ends_piece i spelled
-        allows at) (piece_held i spelled allows at) in
-        ended_copied i spelled allows at seen writes empty

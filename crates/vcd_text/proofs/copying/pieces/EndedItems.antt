@@ -13,7 +13,8 @@ use Rattle.vcd_text.specs.Items.{Item, variable, end_definitions, stamp, scalar,
 use Rattle.vcd_text.specs.Items.{timescale, scope, upscope, dump_word, other, spelling, dump_words, header_word}
 use Rattle.vcd_text.specs.Items.{is_other, end_word, begins_section, declaration_words}
 use Rattle.vcd_text.specs.Grammar.{ParseState, fits, Allows, word_texts, state_after_item}
-use Rattle.vcd_text.specs.Copied.{may_be_amended, Shows, change_code}
+use Rattle.vcd_text.specs.Copied.{may_be_amended, Shows, value_code}
+use Rattle.vcd_text.specs.Copied.{real_or_string_code}
 use Rattle.vcd_text.specs.inside.Copying.{shown_item, shown_word, stands_open, code_in, code_after_digit}
 use Rattle.vcd_text.specs.inside.reading.DigitTests.{vector_prefixes, real_or_string_prefixes}
 use Rattle.vcd_text.specs.inside.reading.Part.{Asked}
@@ -42,14 +43,15 @@ scope_stands [] = refl
 scope_stands (w ∷ ws) = refl
 
 vector_has : (first : ℕ) (digits code : List ℕ) → IsTrue (is_among vector_prefixes first)
-    → change_code (first_item true ((first ∷ digits) ∷ code ∷ [])) ≡ Some code
-vector_has first digits code among = by_among (λ b. change_code (first_item true
+    → value_code (first_item true ((first ∷ digits) ∷ code ∷ [])) ≡ Some code
+vector_has first digits code among = by_among (λ b. value_code (first_item true
     ((b ∷ digits) ∷ code ∷ [])) ≡ Some code)
     vector_prefixes first among (refl, (refl, tt))
 
 real_or_string_has : (first : ℕ) (digits code : List ℕ) → IsTrue (is_among real_or_string_prefixes first)
-    → change_code (first_item true ((first ∷ digits) ∷ code ∷ [])) ≡ Some code
-real_or_string_has first digits code among = by_among (λ b. change_code (first_item true ((b ∷ digits) ∷ code ∷ []))
+    → real_or_string_code (first_item true ((first ∷ digits) ∷ code ∷ [])) ≡ Some code
+real_or_string_has first digits code among = by_among (λ b. real_or_string_code (first_item true
+    ((b ∷ digits) ∷ code ∷ []))
     ≡ Some code) real_or_string_prefixes first among (refl, (refl, (refl, (refl, tt))))
 
 -- the item is shown so, or stands
@@ -60,7 +62,7 @@ IsShownAs c item text tick depth i = MatchOption (shown_item item text tick dept
 -- ---- an item of one word
 
 scalar_shown : (digit : ℕ) (code : List ℕ) (tick : ℕ) → is_binary_digit digit ≡ true
-    → shown_word (digit ∷ code) tick ≡ Some shown.Change
+    → shown_word (digit ∷ code) tick ≡ Some shown.Value
 scalar_shown digit code tick is = elim (cases_Bool (digit == 35)) [
   | inl same ↦ let never : is_binary_digit 35 ≡ true = rw (eqb-true digit 35 same) at is in absurd (false≢true never)
   | inr differs ↦ elim (cases_Bool (digit == 36)) [
@@ -162,10 +164,10 @@ module _ (asked : Asked) (m : Parser) (c : ParseState) (begun : List WordOnLine)
       ap may_be_amended (is_first m.in_body (is.keyword ∷ is.words) refl is.spelled)
       ∙ other_stands m.in_body is.keyword (is.words ++ w.text ∷ []) is.other
   ended items.Vector is =
-      ap change_code (is_first true _ is.in_body (ap word_texts is.is ∙ ap (λ t. t ∷ []) is.spelled))
+      ap value_code (is_first true _ is.in_body (ap word_texts is.is ∙ ap (λ t. t ∷ []) is.spelled))
       ∙ vector_has is.letter _ w.text is.among
   ended items.RealOrString (text, is) =
-      ap change_code (is_first true _ is.in_body (ap word_texts is.is ∙ ap (λ t. t ∷ []) is.spelled))
+      ap real_or_string_code (is_first true _ is.in_body (ap word_texts is.is ∙ ap (λ t. t ∷ []) is.spelled))
       ∙ real_or_string_has is.letter _ w.text is.among
 
 -- ---- what is open stands or not by its first word

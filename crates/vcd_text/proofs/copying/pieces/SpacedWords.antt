@@ -1,30 +1,24 @@
 -- White space that is held, and a word after white space.
 use Rattle.std.proofs.Common.{◌≡◌, ◌∙◌, ◌⊎◌, inl, inr, ℕ, ◌+◌, ◌-◌, ◌<◌, Bool, true, false, not, cond, List, [], ◌∷◌}
 use Rattle.std.proofs.Common.{◌++◌}
-use Rattle.std.proofs.Common.{length, take, refl, sym, ap, arith, append_assoc}
+use Rattle.std.proofs.Common.{length, refl, sym, ap, arith, append_assoc}
 use Rattle.std.specs.List.{list_all}
-use Rattle.std.proofs.Math.Seq.{take-append_seam}
 use Rattle.std.proofs.lemmas.List.{append-nil, length-append}
 use Rattle.std.proofs.lemmas.List.Folds.{list_all-append}
 use Rattle.std.proofs.lemmas.Bool.{and_parts, and_from, not-true, false≢true}
 use Rattle.vcd_core.specs.Word.{is_white_space}
-use Rattle.vcd_core.specs.declared.device.Sink as sinks
 use Rattle.vcd_text.specs.Pieces.{Piece}
 use Rattle.vcd_text.specs.Copied.{CopyRules}
 use Rattle.vcd_text.specs.inside.Words.{has_complete_words, ends_before}
 use Rattle.vcd_text.specs.inside.Copying.{HasCopied, IsSpacedWord, piece_bytes, stands_open}
-use Rattle.vcd_text.specs.declared.copying.pieces.Held.{Held}
 use Rattle.vcd_text.specs.declared.reading.parser.Parser.{Parser}
-use Rattle.vcd_text.specs.declared.writing.output.Output.{Output}
-use Rattle.vcd_text.proofs.amended.Bytes.{texts}
 
 -- white space that is held
-pub gap_copied : {W : Type 0} {sink : sinks.Ghosts W} {limit : ℕ} {rules : CopyRules} {seen : List Piece → Type 0}
-    {start now : Output W} {m : Parser} {held : Held} {before : List ℕ} (later : Held) (rest : List ℕ)
-    → HasCopied sink limit rules seen start now m held before → list_all is_white_space rest ≡ true
-    → later.bytes.items ≡ held.bytes.items ++ rest → later.space_len ≡ held.space_len
-    → HasCopied sink limit rules seen start now m later (before ++ rest)
-gap_copied {m = m} {before = before} later rest h white is len = record {
+pub gap_copied : {limit : ℕ} {rules : CopyRules} {seen : List Piece → Type 0} {written : List ℕ → Type 0}
+    {m : Parser} {held before : List ℕ} {len : ℕ} (later rest : List ℕ)
+    → HasCopied limit rules seen written m held len before → list_all is_white_space rest ≡ true
+    → later ≡ held ++ rest → HasCopied limit rules seen written m later len (before ++ rest)
+gap_copied {m = m} {before = before} later rest h white is = record {
   asked = h.asked;
   pieces = h.pieces;
   begun = h.begun;
@@ -41,9 +35,9 @@ gap_copied {m = m} {before = before} later rest h white is len = record {
   gap_some = some rest refl;
   whole = ap (λ l. l ++ rest) h.whole ∙ regrouped (piece_bytes h.pieces) h.space h.body h.gap rest;
   seen = h.seen;
-  emits = h.emits;
+  writes = h.writes;
   held_is = is ∙ ap (λ l. l ++ rest) h.held_is ∙ held_more (stands_open m.item) h.space h.body h.gap rest;
-  len = λ texts. len ∙ h.len texts;
+  len = h.len;
 }
   where
     regrouped : (p a b c d : List ℕ) → (p ++ (a ++ (b ++ c))) ++ d ≡ p ++ (a ++ (b ++ (c ++ d)))
@@ -71,27 +65,14 @@ first_white [] (b ∷ bs) left ends none some =
     not (is_white_space b)) bs) none).0 in absurd (false≢true (sym no ∙ ends))
 first_white (b ∷ bs) text left ends none some = omega arith
 
-pub front_is : (space text left rest : List ℕ) → rest ≡ space ++ (text ++ left)
-    → take (length rest - length left) rest ≡ space ++ text
-front_is space text left rest is =
-    let long : length (space ++ text) ≡ length rest - length left = omega (
-      arith,
-      ap (length {A = ℕ}) is,
-      length-append space text,
-      length-append space (text ++ left),
-      length-append text left,
-    ) in
-    ap (λ n. take n rest) (sym long) ∙ ap (take (length (space ++ text))) (is ∙ sym (append_assoc space text left))
-    ∙ take-append_seam (space ++ text) left
-
 -- the next word with the white space before it
 pub next_is_spaced : (before done rest space text left : List ℕ) → has_complete_words before ≡ true
     → (done ≡ []) ⊎ (ends_before true rest ≡ true) → rest ≡ space ++ (text ++ left)
     → list_all is_white_space space ≡ true → list_all (λ b. not (is_white_space b)) text ≡ true → 0 < length text
-    → IsSpacedWord (before ++ done) (take (length rest - length left) rest) text
+    → IsSpacedWord (before ++ done) (space ++ text) text
 next_is_spaced before done rest space text left complete ends is white none some = record {
   space = space;
-  is = front_is space text left rest is;
+  is = refl;
   white = white;
   apart = elim ends [
     | inl nothing ↦ inr (ap has_complete_words (ap (λ l. before ++ l) nothing ∙ append-nil before) ∙ complete)

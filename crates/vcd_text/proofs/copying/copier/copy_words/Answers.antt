@@ -1,13 +1,13 @@
-use Rattle.std.proofs.Common.{◌≡◌, ◌-◌, inl, inr, ℕ, List, [], ◌∷◌, ◌++◌, length, take, sym, ap, ◌∙◌, subst}
+use Rattle.std.proofs.Common.{◌≡◌, ◌-◌, inl, inr, ℕ, List, [], ◌∷◌, ◌++◌, length, sym, ap, ◌∙◌, subst}
 use Rattle.std.proofs.Common.{arith, append_assoc}
 use Rattle.std.proofs.Common.{append-nil, length-append, refl}
 use Rattle.vcd_text.specs.declared.fault.ReadError.{ReadError}
-use Rattle.vcd_text.specs.declared.copying.pieces.Held.{Held}
 use Rattle.vcd_text.specs.Words.{WordOnLine}
 use Rattle.vcd_text.specs.LentWords.{word_contents, words_left}
-use Rattle.vcd_text.specs.inside.Copying.{HasCopied}
-use Rattle.vcd_text.proofs.copying.pieces.SpacedWords.{gap_copied, next_is_spaced, front_is}
-use Rattle.vcd_text.proofs.writing.output.Pieces.{more_none, more_both}
+use Rattle.vcd_text.specs.inside.Copying.{HasCopiedUpTo}
+use Rattle.vcd_text.proofs.copying.pieces.SpacedWords.{next_is_spaced}
+use Rattle.vcd_text.proofs.copying.pieces.StandingBytes.{chunk_begun, chunk_ended}
+use Rattle.vcd_text.proofs.writing.output.Pieces.{more_none, more_both, writes_more}
 use Rattle.vcd_text.proofs.copying.copier.copy_words.Goals as goal
 use Rattle.vcd_text.proofs.shared.FailedResults.{err_is}
 
@@ -24,26 +24,15 @@ loop-word-init g c = (
     λ limit first words_so_far reads. rw (append-nil words_so_far) reads,
   ),
   refl,
-  refl,
   (
     [],
     refl,
     inl refl,
-    λ limit start before h complete. rw (append-nil before) h,
+    λ limit start before h complete. rw (append-nil before) (chunk_begun c.args.held.now c.args.words.rest.now h),
   ),
   refl,
   more_none,
 )
-
-pub slice_bounds-bytes-count : goal.slice_bounds-bytes-count
-slice_bounds-bytes-count g c =
-    let (space, is, white) = c.in-Some.ensures.bytes in
-    omega (
-      arith,
-      ap (length {A = ℕ}) (c.loop-word.invariant.2 ∙ is),
-      length-append space (c.in-Some.word.text.now ++ c.next_word.new.self.rest.now),
-      length-append c.in-Some.word.text.now c.next_word.new.self.rest.now,
-    )
 
 pub copy_word-requires-clause-reading : goal.copy_word-requires-clause-reading
 copy_word-requires-clause-reading g c =
@@ -68,16 +57,20 @@ copy_word-requires-clause-reading g c =
 pub copy_word-requires-clause-copying : goal.copy_word-requires-clause-copying
 copy_word-requires-clause-copying g c =
     let (limit, start, before, h, complete) = c.requires.copying in
-    let (done, split, ends, copied) = c.loop-word.invariant.3 in
-    let (space, is, white) = c.in-Some.ensures.bytes in (
+    let (done, split, ends, copied) = c.loop-word.invariant.2 in
+    let (space, is, white) = c.in-Some.ensures.bytes in
+    let text = c.in-Some.word.text.now in
+    let left = c.next_word.new.self.rest.now in (
       limit,
       g.A.Amender.rules c.args.amender.now,
       start,
       before ++ done,
+      c.loop-word.left.rest.now,
+      space ++ text,
       copied limit start before h complete,
-      next_is_spaced before done c.loop-word.rest.now space c.in-Some.word.text.now c.next_word.new.self.rest.now
-          complete
-          (rw c.loop-word.invariant.2 ends) (c.loop-word.invariant.2 ∙ is) white c.in-Some.ensures.no_space
+      is ∙ sym (append_assoc space text left),
+      next_is_spaced before done
+          c.loop-word.left.rest.now space text left complete ends is white c.in-Some.ensures.no_space
           c.in-Some.ensures.some,
     )
 
@@ -88,12 +81,11 @@ pub loop-word-preserved : goal.loop-word-preserved
 loop-word-preserved g c =
     let came = c.loop-word.invariant.0.0 in
     let word = word_contents c.in-Some.word in
-    let (done, split, ends, copied) = c.loop-word.invariant.3 in
+    let (done, split, ends, copied) = c.loop-word.invariant.2 in
     let (space, is, white) = c.in-Some.ensures.bytes in
+    let text = c.in-Some.word.text.now in
     let left = c.next_word.new.self.rest.now in
-    let rest = c.loop-word.rest.now in
-    let front : take (length rest - length left) rest ≡ space ++ c.in-Some.word.text.now =
-    front_is space c.in-Some.word.text.now left rest (c.loop-word.invariant.2 ∙ is) in (
+    let old = c.loop-word.left.rest.now in (
       (
         came ++ word ∷ [],
         in_turn (words_left c.args.words) came (words_left c.loop-word.left) (words_left c.next_word.new.self) word
@@ -103,29 +95,29 @@ loop-word-preserved g c =
             (c.loop-word.invariant.0.2 limit first words_so_far reads)),
       ),
       c.in-Some.ensures.line_feeds ∙ c.loop-word.invariant.1,
-      refl,
       (
-        done ++ take (length rest - length left) rest,
-        parts c.args.words.rest.now done c.loop-word.left.rest.now space c.in-Some.word.text.now left _ split is front,
+        done ++ (space ++ text),
+        parts c.args.words.rest.now done old space text left split is,
         inr c.in-Some.ensures.ended,
-        λ limit start before h complete. rw (append_assoc before done (take (length rest - length left) rest))
-            at (subst (λ r. HasCopied g.W.Sink limit r (g.A.Amender.has_seen c.copy_word.new.amender) start
-            c.copy_word.new.output c.copy_word.new.parser c.copy_word.new.held ((before ++ done) ++ take (length rest
-            - length left) rest)) c.loop-word.invariant.4 (c.in_ok-copy_word.ensures.copied limit start (before ++ done)
-            (subst (λ r. HasCopied g.W.Sink limit r (g.A.Amender.has_seen c.loop-word.amender) start c.loop-word.output
-            c.loop-word.parser c.loop-word.held (before ++ done)) (sym c.loop-word.invariant.4)
-            (copied limit start before
-            h complete)) (next_is_spaced before done rest space c.in-Some.word.text.now left complete
-            (rw c.loop-word.invariant.2 ends) (c.loop-word.invariant.2 ∙ is) white c.in-Some.ensures.no_space
+        λ limit start before h complete. rw (append_assoc before done (space ++ text)) at (subst (λ r. HasCopiedUpTo
+            g.W.Sink limit r (g.A.Amender.has_seen c.copy_word.new.amender) start c.copy_word.new.output
+            c.copy_word.new.parser c.copy_word.new.held c.copy_word.new.unwritten.all.now
+            c.copy_word.new.unwritten.item.now left ((before ++ done) ++ (space ++ text))) c.loop-word.invariant.3
+            (c.in_ok-copy_word.ensures.copied limit start (before ++ done) old (space ++ text) (subst
+            (λ r. HasCopiedUpTo
+            g.W.Sink limit r (g.A.Amender.has_seen c.loop-word.amender) start c.loop-word.output c.loop-word.parser
+            c.loop-word.held c.loop-word.unwritten.all.now c.loop-word.unwritten.item.now old (before ++ done)) (sym
+            c.loop-word.invariant.3) (copied limit start before h complete)) (is ∙ sym (append_assoc space text left))
+            (next_is_spaced before done old space text left complete ends is white c.in-Some.ensures.no_space
             c.in-Some.ensures.some))),
       ),
-      c.in_ok-copy_word.ensures.same ∙ c.loop-word.invariant.4,
-      more_both c.loop-word.invariant.5 c.copy_word.ensures.more,
+      c.in_ok-copy_word.ensures.same ∙ c.loop-word.invariant.3,
+      more_both c.loop-word.invariant.4 c.copy_word.ensures.more,
     )
   where
-    parts : (all done old space text left front : List ℕ) → all ≡ done ++ old → old ≡ space ++ (text ++ left)
-        → front ≡ space ++ text → all ≡ (done ++ front) ++ left
-    parts all done old space text left front split is same = grind (arith, append_assoc)
+    parts : (all done old space text left : List ℕ) → all ≡ done ++ old → old ≡ space ++ (text ++ left)
+        → all ≡ (done ++ (space ++ text)) ++ left
+    parts all done old space text left split is = grind (arith, append_assoc)
 
 pub returns-in_err-copy_word-clause-words : goal.returns-in_err-copy_word-clause-words
 returns-in_err-copy_word-clause-words g c = λ limit first words_so_far reads.
@@ -148,16 +140,36 @@ returns-clause-words g c = λ limit first words_so_far reads.
     sym (c.loop-word.invariant.0.1 ∙ ap (λ ws. came ++ ws) c.in_default.ensures.words ∙ append-nil came) in
     rw all at (c.loop-word.invariant.0.2 limit first words_so_far reads)
 
+pub write_standing-requires : goal.write_standing-requires
+write_standing-requires g c =
+    let (limit, start, before, h, complete) = c.requires.copying in
+    let (done, split, ends, copied) = c.loop-word.invariant.2 in
+    let r = copied limit start before h complete in
+    (r.known, r.unwritten.all_is)
+
 pub returns-clause-copied : goal.returns-clause-copied
 returns-clause-copied g c = λ limit start before h complete.
-    let (done, split, ends, copied) = c.loop-word.invariant.3 in
-    let rest = c.loop-word.rest.now in
-    let later : Held = record { bytes = c.hold.new.held; space_len = c.loop-word.held.space_len } in
+    let (done, split, ends, copied) = c.loop-word.invariant.2 in
+    let rest = c.loop-word.left.rest.now in
+    let r = copied limit start before h complete in
     let all : (before ++ done) ++ rest ≡ before ++ c.args.words.rest.now =
-    append_assoc before done rest ∙ ap (λ l. before ++ (done ++ l)) c.loop-word.invariant.2
-    ∙ ap (λ l. before ++ l) (sym split) in
-    rw all at (gap_copied later rest (copied limit start before h complete)
-    (rw c.loop-word.invariant.2 c.in_default.ensures.space) c.in_ok-hold.ensures refl)
+    append_assoc before done rest ∙ ap (λ l. before ++ l) (sym split) in
+    rw all at (chunk_ended c.loop-word.held c.hold.new.held.items r c.in_default.ensures.space
+    (c.write_standing.ensures r.known r.unwritten.all_is) c.in_ok-hold.ensures)
 
 pub returns-in_err-copy_word-clause-more : goal.returns-in_err-copy_word-clause-more
-returns-in_err-copy_word-clause-more g c = more_both c.loop-word.invariant.5 c.copy_word.ensures.more
+returns-in_err-copy_word-clause-more g c = more_both c.loop-word.invariant.4 c.copy_word.ensures.more
+
+pub returns-in_err-hold-clause-more : goal.returns-in_err-hold-clause-more
+returns-in_err-hold-clause-more g c =
+    let (limit, start, before, h, complete) = c.requires.copying in
+    let (done, split, ends, copied) = c.loop-word.invariant.2 in
+    let r = copied limit start before h complete in
+    more_both c.loop-word.invariant.4 (writes_more (c.write_standing.ensures r.known r.unwritten.all_is))
+
+pub returns-clause-more : goal.returns-clause-more
+returns-clause-more g c =
+    let (limit, start, before, h, complete) = c.requires.copying in
+    let (done, split, ends, copied) = c.loop-word.invariant.2 in
+    let r = copied limit start before h complete in
+    more_both c.loop-word.invariant.4 (writes_more (c.write_standing.ensures r.known r.unwritten.all_is))

@@ -1,9 +1,9 @@
 use Rattle.std.proofs.Common.{◌≡◌, ◌⊎◌, ℕ, ◌+◌, List, [], ◌++◌, length, true}
 use Rattle.vcd_text.specs.Words.{WordOnLine}
 use Rattle.vcd_text.specs.inside.Words.{has_complete_words, ends_before}
-use Rattle.vcd_text.specs.inside.Copying.{HasCopied}
+use Rattle.vcd_text.specs.inside.Copying.{HasCopied, HasCopiedUpTo}
 use Rattle.vcd_text.specs.inside.reading.Choice.{HasTakenFrom}
-use Rattle.vcd_text.specs.inside.writing.Output.{EmitsMore}
+use Rattle.vcd_text.specs.inside.writing.Output.{Emits, EmitsMore}
 use Rattle.vcd_text.specs.declared.writing.output.Output.{Output}
 use Rattle.vcd_text.specs.LentWords.{words_left}
 use Rattle.vcd_text.specs.LineFeeds.{line_feeds_in}
@@ -17,15 +17,14 @@ invariant-loop-word g l =
     → HasTakenFrom limit g.C.Choice.takes g.C.Choice.answers first l.choice l.parser (words_so_far ++ came)))
     × (l.left.line_feeds + line_feeds_in l.left.rest.now
     ≡ l.fn.words.line_feeds + line_feeds_in l.fn.words.rest.now)
-    × (l.rest ≡ l.left.rest.now)
     × ((done : List ℕ) × (l.fn.words.rest.now ≡ done ++ l.left.rest.now)
     × ((done ≡ []) ⊎ (ends_before true l.left.rest.now ≡ true))
     × ((limit : ℕ) (start : Output g.row.W.Denot) (before : List ℕ)
-    → HasCopied g.W.Sink limit (g.A.Amender.rules l.fn.amender) (g.A.Amender.has_seen l.fn.amender) start l.fn.output
-    l.fn.parser l.fn.held before
+    → HasCopied limit (g.A.Amender.rules l.fn.amender) (g.A.Amender.has_seen l.fn.amender)
+    (Emits g.W.Sink start l.fn.output) l.fn.parser l.fn.held.bytes.items l.fn.held.space_len before
     → has_complete_words before ≡ true
-    → HasCopied g.W.Sink limit (g.A.Amender.rules l.fn.amender) (g.A.Amender.has_seen l.amender) start l.output
-    l.parser l.held (before ++ done)))
+    → HasCopiedUpTo g.W.Sink limit (g.A.Amender.rules l.fn.amender) (g.A.Amender.has_seen l.amender) start l.output
+    l.parser l.held l.unwritten.all.now l.unwritten.item.now l.left.rest.now (before ++ done)))
     × (g.A.Amender.rules l.amender ≡ g.A.Amender.rules l.fn.amender)
     × EmitsMore g.W.Sink l.fn.output l.output
 

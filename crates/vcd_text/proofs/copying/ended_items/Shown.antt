@@ -1,13 +1,15 @@
 -- What is shown of an item that a word ends.
-use Rattle.std.proofs.Common.{◌≡◌, ℕ, true, false, List, ◌++◌, length, take, drop, sym, refl}
+use Rattle.std.proofs.Common.{◌∙◌, cond, inl, inr, ◌≡◌, ℕ, true, false, List, ◌++◌, length, take, drop}
+use Rattle.std.proofs.Common.{sym, refl}
 use Rattle.std.proofs.Math.Seq.{take-append_seam}
 use Rattle.std.proofs.Math.Seq.{drop-append_seam}
-use Rattle.std.specs.Prelude.{Some}
+use Rattle.std.specs.Prelude.{Some, Result, Ok, Err, OnOk}
+use Rattle.std.proofs.lemmas.Bool.{cases_Bool}
 use Rattle.vcd_text.specs.Items.{Item, variable, end_definitions, stamp, scalar, vector, real_or_string, entry}
 use Rattle.vcd_text.specs.Items.{timescale, scope, upscope, dump_word, other}
 use Rattle.vcd_text.specs.Grammar.{ParseState}
 use Rattle.vcd_text.specs.Pieces.{Piece}
-use Rattle.vcd_text.specs.Copied.{may_be_amended, Shows, change_code, IsShownNext}
+use Rattle.vcd_text.specs.Copied.{may_be_amended, Shows, value_code, real_or_string_code, IsShownNext}
 use Rattle.vcd_text.specs.inside.Copying.{shown_item, stands_open, code_in, EndsPiece}
 use Rattle.vcd_text.specs.declared.copying.amender.AmendableItem.{AmendableItem}
 use Rattle.vcd_text.specs.declared.copying.amender.AmendableItem.TheVariants as shown
@@ -30,20 +32,34 @@ shown_is_held items.Scope text tick depth x is = absurd (cc)
 shown_is_held items.Upscope text tick depth x is = absurd (cc)
 shown_is_held items.Other text tick depth x is = absurd (cc)
 
--- a change has a code
-coded_is_amended : (i : Item) (code : List ℕ) → change_code i ≡ Some code → may_be_amended i ≡ true
-coded_is_amended (scalar digit code) c is = refl
-coded_is_amended (vector first digits code) c is = refl
-coded_is_amended (real_or_string first text code) c is = refl
-coded_is_amended (stamp digits) c is = refl
-coded_is_amended (variable words) c is = refl
-coded_is_amended end_definitions c is = refl
-coded_is_amended (entry kind words) c is = absurd (cc)
-coded_is_amended (timescale words) c is = absurd (cc)
-coded_is_amended (scope kind words) c is = absurd (cc)
-coded_is_amended upscope c is = absurd (cc)
-coded_is_amended (dump_word word) c is = absurd (cc)
-coded_is_amended (other word words) c is = absurd (cc)
+-- what has a code may be amended
+value_is_amended : (i : Item) (code : List ℕ) → value_code i ≡ Some code → may_be_amended i ≡ true
+value_is_amended (scalar digit code) c is = refl
+value_is_amended (vector first digits code) c is = refl
+value_is_amended (real_or_string first text code) c is = refl
+value_is_amended (stamp digits) c is = refl
+value_is_amended (variable words) c is = refl
+value_is_amended end_definitions c is = refl
+value_is_amended (entry kind words) c is = absurd (cc)
+value_is_amended (timescale words) c is = absurd (cc)
+value_is_amended (scope kind words) c is = absurd (cc)
+value_is_amended upscope c is = absurd (cc)
+value_is_amended (dump_word word) c is = absurd (cc)
+value_is_amended (other word words) c is = absurd (cc)
+
+real_is_amended : (i : Item) (code : List ℕ) → real_or_string_code i ≡ Some code → may_be_amended i ≡ true
+real_is_amended (scalar digit code) c is = refl
+real_is_amended (vector first digits code) c is = refl
+real_is_amended (real_or_string first text code) c is = refl
+real_is_amended (stamp digits) c is = refl
+real_is_amended (variable words) c is = refl
+real_is_amended end_definitions c is = refl
+real_is_amended (entry kind words) c is = absurd (cc)
+real_is_amended (timescale words) c is = absurd (cc)
+real_is_amended (scope kind words) c is = absurd (cc)
+real_is_amended upscope c is = absurd (cc)
+real_is_amended (dump_word word) c is = absurd (cc)
+real_is_amended (other word words) c is = absurd (cc)
 
 -- what is shown may be amended
 pub shown_is_amended : (s : ParseState) (x : AmendableItem) (code : List ℕ) (i : Item) → Shows s x code i
@@ -51,7 +67,8 @@ pub shown_is_amended : (s : ParseState) (x : AmendableItem) (code : List ℕ) (i
 shown_is_amended s shown.Variable code i (words, is) = rw is refl
 shown_is_amended s (shown.EndDefinitions open_scopes) code i (is, count) = rw is refl
 shown_is_amended s (shown.Stamp tick) code i (digits, is, at) = rw is refl
-shown_is_amended s shown.Change code i is = coded_is_amended i code is
+shown_is_amended s shown.Value code i is = value_is_amended i code is
+shown_is_amended s shown.RealOrString code i is = real_is_amended i code is
 
 -- the piece that a word ends is shown so
 pub piece_is_shown : (limit : ℕ) (before : List Piece) (p : Piece) (item : OpenItem) (text : List ℕ) (m : Parser)
@@ -81,3 +98,16 @@ shown_parts again front back shown same parts = record {
   };
   shows = rw same shown.shows;
 }
+
+-- what is added to the text, if the item stands
+pub standing_part : (item : OpenItem) (held bytes place : List ℕ) → (stands_open item ≡ false → held ≡ bytes)
+    → place ≡ bytes → held ≡ cond (stands_open item) held place
+standing_part item held bytes place is stands = elim (cases_Bool (stands_open item)) [
+  | inl open_still ↦ rw open_still refl
+  | inr still ↦ rw still (is still ∙ sym stands)
+]
+
+-- a result is an error, or both facts hold
+pub both_ok : {T E A B C : Type 0} (r : Result T E) → OnOk r A → OnOk r B → (A → B → C) → OnOk r C
+both_ok (Ok x) a b both = both a b
+both_ok (Err e) a b both = tt

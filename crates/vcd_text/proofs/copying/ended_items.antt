@@ -1,0 +1,2 @@
+-- Lemmas of `copying/ended_items`.
+pub mod Shown

@@ -1,0 +1,188 @@
+//! The item that a word ends: it stands, or an amender writes what is in its place.
+
+ghost use Rattle.std.specs.Prelude.{◌≡◌, ◌+◌, ◌-◌, ◌<◌, ◌++◌, ◌∷◌, ℕ, List, [], length};
+ghost use Rattle.std.specs.Prelude.{Some, IfSome, IfNone, OnOk, if◌then◌else◌, not};
+ghost use Rattle.vcd_text.specs.Pieces.{Piece};
+ghost use Rattle.vcd_text.specs.Copied.{copied_piece, IsShownNext};
+ghost use Rattle.vcd_text.specs.inside.Copying.{stands_open, shown_word, shown_item, code_in};
+ghost use Rattle.vcd_text.specs.inside.Copying.{code_after_digit, EndsPiece};
+ghost use Rattle.vcd_text.specs.inside.Copying.{IsUnwritten, IsHeldPiece, HasEnded};
+ghost use Rattle.vcd_text.specs.inside.writing.Output.{Emits, EmitsMore};
+
+use super::amender::{AmendableItem, Amender};
+use super::pieces::{Held, Unwritten, hold, write_held, write_standing};
+use crate::reading::parser::{OpenItem, Parser};
+use crate::writing::output::Output;
+use vcd_core::{NoMemory, Sink};
+
+/// Does what becomes of the item that this word ends; `earlier` is what was open before.
+pub fn end_item<'a, W: Sink, A: Amender<W>>(
+    parser: &Parser,
+    held: &mut Held,
+    amender: &mut A,
+    output: &mut Output<W>,
+    unwritten: &mut Unwritten<'a>,
+    earlier: OpenItem,
+    text: &[u8],
+    rest: &'a [u8],
+) -> Result<(), NoMemory>
+    requires { (limit : ℕ) × (before : List Piece) × (p : Piece)
+        × (known begun : List ℕ) × A.has_seen amender.old before
+        × EndsPiece limit before p earlier text.now parser.now
+        × IsUnwritten held.old.bytes.items unwritten.old.all.now unwritten.old.item.now rest.now
+        known begun
+        × IsHeldPiece earlier (held.old.bytes.items ++ begun) held.old.space_len p }
+    ensures ended { OnOk result (
+        (limit : ℕ) (before : List Piece) (p : Piece) (known begun : List ℕ) →
+        A.has_seen amender.old before → EndsPiece limit before p earlier text.now parser.now →
+        IsUnwritten held.old.bytes.items unwritten.old.all.now unwritten.old.item.now rest.now
+        known begun →
+        IsHeldPiece earlier (held.old.bytes.items ++ begun) held.old.space_len p →
+        HasEnded W.Sink output.old output.new held.new.bytes.items unwritten.new.all.now
+        unwritten.new.item.now rest.now known
+        (if stands_open earlier then held.old.bytes.items ++ begun
+        else copied_piece (A.rules amender.old) before p)
+        × A.has_seen amender.new (before ++ p ∷ [])) }
+    ensures same { OnOk result (A.rules amender.new ≡ A.rules amender.old) }
+    ensures more { EmitsMore W.Sink output.old output.new }
+{
+    match item_to_amend(parser, amender, earlier, text) {
+        Some(item) => {
+            let code = code_of(earlier, text);
+            amend_item(held, amender, output, unwritten, item, code, rest)?;
+            unwritten.all = rest;
+            unwritten.item = rest;
+            Ok(())
+        }
+        None => {
+            write_held(output, held);
+            unwritten.item = rest;
+            Ok(())
+        }
+    }
+}
+
+/// The item that this word ends, if it does not stand, or something comes before it.
+fn item_to_amend<W: Sink, A: Amender<W>>(
+    parser: &Parser,
+    amender: &mut A,
+    earlier: OpenItem,
+    text: &[u8],
+) -> Option<AmendableItem>
+    requires { (limit : ℕ) × (before : List Piece) × (p : Piece) × A.has_seen amender.old before
+        × EndsPiece limit before p earlier text.now parser.now }
+    ensures stands { IfNone result ((limit : ℕ) (before : List Piece) (p : Piece) →
+        A.has_seen amender.old before → EndsPiece limit before p earlier text.now parser.now →
+        (copied_piece (A.rules amender.old) before p ≡ p.space ++ p.body)
+        × A.has_seen amender.new (before ++ p ∷ [])) }
+    ensures amended { IfSome result (λ item. (amender.new ≡ amender.old)
+        × (shown_item earlier text.now parser.now.tick parser.now.variables.scopes.depth
+        ≡ Some item)) }
+    ensures same { A.rules amender.new ≡ A.rules amender.old }
+{
+    match amendable_item(earlier, text, parser.tick, parser.variables.scopes.depth) {
+        Some(item) => {
+            if amender.let_stand(item, code_of(earlier, text)) {
+                return None;
+            }
+            Some(item)
+        }
+        None => {
+            amender.pass();
+            None
+        }
+    }
+}
+
+/// Writes what stands before the open item, and what is in its place.
+fn amend_item<W: Sink, A: Amender<W>>(
+    held: &mut Held,
+    amender: &mut A,
+    output: &mut Output<W>,
+    unwritten: &Unwritten,
+    item: AmendableItem,
+    code: &[u8],
+    rest: &[u8],
+) -> Result<(), NoMemory>
+    requires { (limit : ℕ) × (before : List Piece) × (p : Piece)
+        × (known begun : List ℕ) × A.has_seen amender.old before
+        × IsShownNext limit before p item code.now p.space p.body
+        × IsUnwritten held.old.bytes.items unwritten.now.all.now unwritten.now.item.now rest.now
+        known begun
+        × (held.old.bytes.items ++ begun ≡ p.space ++ p.body)
+        × (held.old.space_len ≡ length p.space) }
+    ensures written { OnOk result (
+        (limit : ℕ) (before : List Piece) (p : Piece) (known begun : List ℕ) →
+        A.has_seen amender.old before → IsShownNext limit before p item code.now p.space p.body →
+        IsUnwritten held.old.bytes.items unwritten.now.all.now unwritten.now.item.now rest.now
+        known begun →
+        (held.old.bytes.items ++ begun ≡ p.space ++ p.body) →
+        (held.old.space_len ≡ length p.space) →
+        Emits W.Sink output.old output.new (known ++ (A.rules amender.old).in_place before p)
+        × A.has_seen amender.new (before ++ p ∷ [])) }
+    ensures none { OnOk result (held.new.bytes.items ≡ []) }
+    ensures same { OnOk result (A.rules amender.new ≡ A.rules amender.old) }
+    ensures more { EmitsMore W.Sink output.old output.new }
+{
+    let len = unwritten.item.len() - rest.len();
+    if held.bytes.is_empty() {
+        write_standing(output, unwritten);
+        let (space, body) = unwritten.item[..len].split_at(held.space_len);
+        return amender.take(output, item, code, space, body);
+    }
+    hold(&mut held.bytes, &unwritten.item[..len])?;
+    let (space, body) = held.bytes.as_slice().split_at(held.space_len);
+    amender.take(output, item, code, space, body)?;
+    held.bytes.clear();
+    Ok(())
+}
+
+/// The item that this word ends, if it may be amended; `earlier` is what was open before.
+fn amendable_item(
+    earlier: OpenItem,
+    text: &[u8],
+    tick: u64,
+    open_scopes: usize,
+) -> Option<AmendableItem>
+    ensures { result ≡ shown_item earlier text.now tick open_scopes }
+{
+    match earlier {
+        OpenItem::Nothing => item_of_word(text, tick),
+        OpenItem::Vector => Some(AmendableItem::Value),
+        OpenItem::RealOrString => Some(AmendableItem::RealOrString),
+        OpenItem::Variable | OpenItem::SizedVariable => Some(AmendableItem::Variable),
+        OpenItem::EndDefinitions => Some(AmendableItem::EndDefinitions { open_scopes }),
+        _ => None,
+    }
+}
+
+/// The item of one word, if it may be amended.
+fn item_of_word(text: &[u8], tick: u64) -> Option<AmendableItem>
+    ensures { result ≡ shown_word text.now tick }
+{
+    match text {
+        [b'#', ..] => Some(AmendableItem::Stamp { tick }),
+        [b'$', ..] => None,
+        _ => Some(AmendableItem::Value),
+    }
+}
+
+/// The code in the last word of a change.
+fn code_of(earlier: OpenItem, text: &[u8]) -> &[u8]
+    ensures { result.now ≡ code_in earlier text.now }
+{
+    match earlier {
+        OpenItem::Nothing => after_digit(text),
+        _ => text,
+    }
+}
+
+/// The bytes after the first one.
+fn after_digit(text: &[u8]) -> &[u8]
+    ensures { result.now ≡ code_after_digit text.now }
+{
+    match text {
+        [_, code @ ..] => code,
+        [] => text,
+    }
+}
