@@ -19,8 +19,8 @@ mod uart_setup;
 pub use annotation::{Annotation, Direction, Kind, LineData};
 pub use i2c_bus::i2c;
 pub use laws::{
-    i2c_messages_are_found, spi_words_are_found, uart_frames_are_found,
-    unclear_edges_count_for_nothing,
+    i2c_messages_are_apart, i2c_messages_are_found, spi_selections_and_lines_are_apart,
+    spi_words_are_found, uart_frames_are_found, unclear_edges_count_for_nothing,
 };
 pub use setup_error::SetupError;
 pub use spi_setup::{BitOrder, GREATEST_MODE, Spi, WORD_BITS_LIMIT};

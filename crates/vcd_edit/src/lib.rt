@@ -24,8 +24,9 @@ pub use exchange::Kept;
 pub use fault::EditError;
 pub use laws::{
     bit_of_one_bit, cut_keeps_other_ticks, cuts_commute, deglitch_takes_short_runs_out,
-    edits_leave_other_waves_alone, effect_is_sound, force_is_local, invert_twice,
-    last_force_counts, outline_decides_faults, remove_and_back, rename_and_back, shift_and_back,
+    derived_beside_first_operand, edits_leave_other_waves_alone, effect_is_sound, force_is_local,
+    invert_twice, last_force_counts, operators_have_their_tables, outline_decides_faults,
+    remove_and_back, rename_and_back, shift_and_back, shift_fills_gaps,
 };
 pub use record::Record;
 pub use reverting::revert;
