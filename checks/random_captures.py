@@ -161,8 +161,9 @@ class Net:
 class Capture:
     """A capture that is accepted: its text, its end, and of each signal its full name and its width."""
 
-    def __init__(self, chance, farthest=0.05, most=9):
-        """`farthest` is the share of those that end at the last tick there is, `most` bounds the variables."""
+    def __init__(self, chance, farthest=0.05, most=8):
+        """`farthest` is the share of those that end at the last tick there is. There are at most so many variables, and
+        one more if one is put in as a fault."""
         self.chance, self.end, self.signals, self.most = chance, chance.choice([0, 3, 10, 40, 40, 150]), [], most
         codes, self.protocol = chance.sample(CODES, 6), chance.choice(["", "", "uart", "spi", "i2c"])
         if self.protocol:
