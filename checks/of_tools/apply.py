@@ -4,6 +4,7 @@ Programs of our own stand for vcdedit where a run has to fail half-way: each wri
 """
 
 import contextlib
+import fcntl
 import gzip
 import itertools
 import os
@@ -53,6 +54,7 @@ FAILING = [
     ("kill -XFSZ $$", 4, "ulimit -f"),
     ("echo \"line 2: refused: NoSuchName\n$done\"; exit 1", 1, "1 line refused"),
     ('echo "ok\n$done"; echo changed >> ../moved/A; exit 0', 4, "by another program"),
+    ('echo "ok\n$done"; sleep 2 >> ../moved/A 2> /dev/null < /dev/null & exit 0', 4, "another program writes it"),
     ('echo "ok\n$done"; mv ../moved/A ../moved/away; cp ../moved/away ../moved/A; exit 0', 4, "by another program"),
 ]
 # A line that is refused, and what is told of it.
@@ -211,10 +213,11 @@ def stays(program, folder):
         words = ["sh", "-c", 'exec "$@" %s' % stream, "sh", APPLY, "script", "lossy", "B", "--to", "closed"]
         done = run(words, cwd=place.folder, env=place.environment)
         yield "streams: " + stream, (done[0], done[2]) == (status, told) and done[1].endswith(last)
-    for words in (["--help"], ["--version"], ["script", "A", "B"]):
+    for words in (["--help"], ["--version"], ["script", "lossy"]):
         told = "vcdedit-apply: standard output: No space left on device\n"
-        yield "a full standard output: %s" % words, on_a_full_disc(place, "/dev/full", *words) == (4, told)
-    yield "nothing is written then", (place.load("A"), place.load("B")) == (LINE, LINE)
+        found = on_a_full_disc(place, "/dev/full", *words)
+        yield "a full standard output: %s %s" % (words, found), found[0] == 4 and found[1].endswith(told)
+    yield "nothing is written then", place.load("lossy") == LOSSY
 
 
 def on_a_full_disc(place, path, *words):
@@ -229,24 +232,36 @@ def on_a_full_disc(place, path, *words):
 
 
 def goes_on(program, folder):
-    """If standard output is full within B's line, A is written and no other. What is told goes on with the rest."""
-    command = "vcdedit-apply --backup .orig -- 'its script' B C"
-    told = ["1 capture written. This goes on with the rest:\n    " + command, "standard output: File too large"]
+    """If standard output is full within B's line or its reply, the others are not written. What is told goes on with
+    the rest: each capture that is there."""
     for first, reply in (("", ""), ("value tb.rx 5\n", "%s:1: 0\n")):
-        place = Folder(program, "%s/goes on%d" % (folder, len(first)), A=LINE, B=LINE, C=LINE)
+        place = Folder(program, "%s/goes on%d" % (folder, len(first)), A=LINE, B=LINE, C=LINE, D=LINE)
         place.store("its script", first + WRITTEN)
-        lines = [(reply + "%s: written: 1 ok\n").replace("%s", name) for name in "ABC"]
+        command = "vcdedit-apply --backup .orig -- 'its script' %sC D" % ("B " * bool(first))
+        told = ["vcdedit-apply: %d written. This goes on with the rest:\n    " % (1 if first else 2) + command,
+                "vcdedit-apply: standard output: File too large\n"]
+        told[0] = told[0].replace("1 written", "1 capture written").replace("2 written", "2 captures written")
+        told = ["B: written, but standard output can't be written"] * (not first) + told
+        lines = [(reply + "%s: written: 1 ok\n").replace("%s", name) for name in "ABCD"]
         room = len(lines[0]) + 5
         output = store(folder, "output", text="-" * (FILE_BYTES - room))
-        found = on_a_full_disc(place, output, "--backup", ".orig", "its script", "A", "B", "C")
-        yield "%s" % (found,), found == (4, "".join("vcdedit-apply: %s\n" % line for line in told))
+        found = on_a_full_disc(place, output, "--backup", ".orig", "its script", *"ABCD")
+        yield "%s" % (found,), found == (4, "\n".join(told))
         yield "its lines", load_if_there(output, default=b"").decode().lstrip("-") == "".join(lines)[:room]
-        written = place.load("A")
-        kept = ["A", "A.orig", "B", "C", "its script", "script"]
-        yield "no other is written", written != LINE == place.load("B") == place.load("C") and place.names() == kept
+        written, kept = place.load("A"), ["A", "A.orig", "B", "B.orig", "C", "D", "its script", "script"]
+        kept = [name for name in kept if not first or name != "B.orig"]
+        is_kept = place.load("B") == (LINE if first else written) and LINE == place.load("C") == place.load("D")
+        yield "no other is written", written != LINE and is_kept and place.names() == kept
         done = run(["sh", "-c", command.replace("vcdedit-apply", APPLY)], cwd=place.folder, env=place.environment)
-        yield "the rest", done == (0, "".join([*lines[1:], "2 written, 0 not, status 0\n"]), "")
-        yield "all are the same", written == place.load("A") == place.load("B") == place.load("C")
+        rest = lines[1 if first else 2 :]
+        yield "the rest", done == (0, "".join([*rest, "%d written, 0 not, status 0\n" % len(rest)]), "")
+        yield "all are the same", {written} == {place.load(name) for name in "ABCD"}
+    place = Folder(program, folder + "/every", A=LINE, B=LINE, bad="no capture\n", other=LINE.replace("rx", "tx"))
+    os.mkdir(place.folder + "/sub")
+    place.store("B.orig", "")
+    told = place.run("script", "sub", "bad", "A", "other", "B", "none", "--backup", ".orig")[2]
+    command = "    vcdedit-apply --backup .orig -- script bad other B\n"
+    yield "every capture that is there: " + told, told.endswith(command)
 
 
 def answers(program, folder):
@@ -300,6 +315,7 @@ def fails(program, folder):
     status, shown, _ = place.run("script", "A", "--to", "new")
     yield "a file that can't be renamed", status == 4 and shown[-1].startswith("A: not written: ")
     yield "no other file is there", os.listdir(place.folder + "/new") == ["A"]
+    yield "it has one line: %s" % shown, len(shown) == 1
 
 
 def is_running(number):
@@ -329,7 +345,8 @@ def interrupted(program, folder):
     waits = "echo $$ > ../number.new; mv ../number.new ../number; exec sleep 60"
     lasting = store_program(folder, "lasting", text=FIRST % program + HALF % (program, waits))
     numbers = (signal.SIGINT, signal.SIGTERM, signal.SIGHUP)
-    for number, whom in [*itertools.product(numbers, ("tool", "run")), (signal.SIGKILL, "tool")]:
+    others = [signal.SIGQUIT, signal.SIGALRM, signal.SIGUSR1, signal.SIGXCPU, signal.SIGKILL]
+    for number, whom in [*itertools.product(numbers, ("tool", "run")), *((other, "tool") for other in others)]:
         place = Folder(lasting, "%s/%d %s/captures" % (folder, number, whom), A=LINE, B=LINE, C=LINE)
         how = {"cwd": place.folder, "env": place.environment, "preexec_fn": default_signals, "stderr": subprocess.PIPE}
         tool = subprocess.Popen([APPLY, "script", "A", "B", "C"], stdout=subprocess.PIPE, text=True, **how)
@@ -355,6 +372,66 @@ def interrupted(program, folder):
             yield "signal %d ends the run" % number, wait_for(lambda: not is_running(child))
 
 
+def alone(program, folder):
+    """A capture that others have open for writing, or edit, stays; so do files that are not the caller's to replace."""
+    place = Folder(program, folder + "/alone", A=LINE, B=LINE)
+    place.store("replies", "value tb.rx 5\n" + WRITTEN)
+    told, written = "another program writes it: run again when that has ended", "A: written: 1 ok"
+    for mode, lock in (("r+b", fcntl.LOCK_UN), ("rb", fcntl.LOCK_EX)):
+        with open(place.folder + "/A", mode) as file:
+            fcntl.flock(file, lock)
+            found = place.run("replies", "A", "B", "--to", "new")
+            yield "another program: %s" % (found,), found[0] == 4 and found[1][0] == "A: not written: " + told
+            yield "another that only asks", place.run("script", "A", "--dry-run")[0] == 0 and place.load("A") == LINE
+    with open(place.folder + "/A", "rb"):
+        yield "another program that reads", place.run("script", "A") == (0, [written], "")
+    store(place.folder, "in/p", text=LINE)
+    os.makedirs(place.folder + "/out")
+    os.symlink("../in/p", place.folder + "/out/B")
+    found = place.run("script", "B", "--to", "out")
+    yield "a link out of a folder: %s" % (found,), found[0] == 4 and "is no regular file" in found[1][0]
+    yield "what it leads to stays", place.load("in/p") == LINE and os.path.islink(place.folder + "/out/B")
+
+
+def edited(program, folder, name, act, *words):
+    """(the tool's Edit, what the capture has then, what is shown) of a run here, with another act in place of one."""
+    place, tool, shown = Folder(program, os.path.join(folder, name), A=LINE), module_of("tools/vcdedit-apply"), []
+    path = place.folder + "/A"
+    with unittest.mock.patch.dict(os.environ, VCDEDIT=program), contextlib.ExitStack() as patched:
+        work = tool.Work(tool.options_of([*words, place.folder + "/script", path]), [WRITTEN.encode().strip()])
+        work.show, edit = lambda text: shown.append((text, place.load("A"))), tool.Edit(work, path, 0)
+        act(patched, tool, work, path)
+        edit.carry_out()
+    return edit, place.load("A"), shown
+
+
+def within(program, folder):
+    """What happens at one moment of a run."""
+    def patch(place, act):
+        return lambda patched, *_: patched.enter_context(unittest.mock.patch(place, side_effect=act))
+
+    def change_meanwhile(patched, tool, _, path):
+        patched.enter_context(unittest.mock.patch.object(tool, "keep_old", lambda *_: store(path, text=LINE + "#31\n")))
+
+    def without_memory(patched, tool, *_):
+        patched.enter_context(unittest.mock.patch.object(tool.Edit, "run", side_effect=MemoryError))
+
+    def count_asks(_patched, _tool, work, path):
+        store(path, text=LINE + "".join("#%d %d!\n" % (tick, tick % 2) for tick in range(31, 100000)))
+        work.want_going_on = unittest.mock.Mock()
+
+    edit, left, shown = edited(program, folder, "after", lambda *_: None)
+    yield "the line comes after the capture", len(shown) == 1 and shown[0][1] == left != LINE
+    edit, left, shown = edited(program, folder, "changed", change_meanwhile, "--backup", ".orig")
+    yield "a change while the old one is kept", (edit.status, left) == (4, LINE + "#31\n") and len(shown) == 1
+    edit, left, shown = edited(program, folder, "access", patch("os.access", lambda *_: False))
+    yield "a file that the caller may not write", (edit.status, left) == (4, LINE) and b"write-protected" in shown[0][0]
+    edit, left, shown = edited(program, folder, "memory", without_memory)
+    yield "out of memory: %s" % shown, (edit.status, left) == (5, LINE) and b"as it was: out of memory" in shown[0][0]
+    edit, _, _ = edited(program, folder, "asks", count_asks)
+    yield "an interruption is looked for within a pass", edit.work.want_going_on.call_count > 10
+
+
 def on_a_terminal(program, folder):
     """A terminal shows how many captures are done; elsewhere standard error has nothing of it."""
     place = Folder(program, folder + "/terminal", A=LINE, B=LINE)
@@ -373,4 +450,6 @@ def check(program, folder):
     yield from goes_on(program, folder)
     yield from fails(program, folder)
     yield from interrupted(program, folder)
+    yield from alone(program, folder)
+    yield from within(program, folder)
     yield from on_a_terminal(program, folder)

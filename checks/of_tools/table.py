@@ -1,4 +1,4 @@
-"""What decoders say, as a table: its rows, in each form, times without rounding, and the test that the cookbook shows."""
+"""What decoders say, as a table: its rows in each form, times without rounding, the test that the cookbook shows."""
 
 import csv
 import json
