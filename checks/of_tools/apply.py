@@ -195,6 +195,7 @@ def stays(program, folder):
         (["none", "A"], 4),
         (["sub", "A"], 4),
         (["script", "A", "--jobs", "0"], 2),
+        (["script", "A", "--jobs", "1_0"], 2),
         (["script", "A", "./A"], 2),
         (["script", "A", "sub/../A", "--to", "sub"], 2),
         (["A", "A"], 2),

@@ -1,6 +1,7 @@
 """What the tools share: how they start and end, what is left out, times, names and files that are no plain VCD."""
 
 import glob
+import itertools
 import os
 import pty
 import resource
@@ -152,17 +153,19 @@ def on_a_terminal(program, folder):
     name = b"\x1b[2K\xc2\x9b1A\xe2\x82\xac\xff"
     for place, letter in enumerate("ab"):
         store(folder, letter, text=b"$var wire 1 ! %s $end $enddefinitions $end #0 %d! #5" % (name, place))
-    words = [os.path.join(TOP, "tools/vcdedit-compare"), "a", "b"]
-    for locale in ("C.UTF-8", "C", "POSIX"):
+    store(folder, "script", text="list\n")
+    tools = (["vcdedit-compare", "a", "b"], b""), (["vcdedit-apply", "script", "a"], b"a:1: @0 1 wire ")
+    for locale, (words, before) in itertools.product(("C.UTF-8", "C"), tools):
+        words = [os.path.join(TOP, "tools", words[0]), *words[1:]]
         environment = {"VCDEDIT": program, "LC_ALL": locale, "PYTHONUTF8": "0", "PYTHONCOERCECLOCALE": "0"}
         how = {"cwd": folder, "env": {**os.environ, **environment}}
-        yield "names in a file, %s" % locale, run(words, text=False, **how)[1].startswith(name + b": ")
+        yield "names in a file, %s" % locale, before + name in run(words, text=False, **how)[1]
         terminal, side = pty.openpty()
         subprocess.run(words, stdout=side, stderr=side, **how)
         os.close(side)
-        found = os.read(terminal, 10000)
+        found = os.read(terminal, 10000).replace(b"\r\x1b[K", b"")
         os.close(terminal)
-        right = found.startswith(rb"\x1b[2K\xc2\x9b1A") and rb"\xff: 1 difference" in found
+        right = before + rb"\x1b[2K\xc2\x9b1A" in found and rb"\xff" in found
         yield "names on a terminal, %s: %s" % (locale, found), right and found.count(b"\x1b") == 0
 
 
