@@ -293,9 +293,11 @@ def parser_of(name, usage, text, more):
     return parser
 
 
-def tell(text):
-    """Writes to standard error. If that can't be written, the status tells the rest."""
+def tell(text, control=""):
+    """Writes a text to standard error, behind letters that control a terminal. If that can't be written, the status
+    tells the rest."""
     with contextlib.suppress(OSError), output(2) as stream:
+        stream.buffer.write(control.encode())
         stream.write(text)
 
 

@@ -440,7 +440,7 @@ def on_a_terminal(program, folder):
     words = [APPLY, "script", "A", "B"]
     done = subprocess.run(words, cwd=place.folder, env=place.environment, stdout=subprocess.DEVNULL, stderr=side)
     os.close(side)
-    yield "progress", done.returncode == 0 and b"1 of 2, 0 not written" in os.read(terminal, 10000)
+    yield "progress", done.returncode == 0 and b"\r\033[K1 of 2, 0 not written" in os.read(terminal, 10000)
     os.close(terminal)
 
 
