@@ -208,11 +208,11 @@ def lost_changes_in(words):
     for word in words:
         first = word[0]
         if first in SCALARS or first in VECTORS:
-            value, code = (word[:1], word[1:]) if first in SCALARS else (word[1:], next(words, None))
-            before = seen.setdefault(code, value)
-            if before != value and shortest(before) != shortest(value):
+            code = word[1:] if first in SCALARS else next(words, None)
+            before = seen.setdefault(code, word)
+            if before != word and value_of(before) != value_of(word):
                 replaced[code] += 1
-                seen[code] = value
+                seen[code] = word
         elif first == STAMP:
             if word[1:].lstrip(b"0") != tick:
                 tick, seen = word[1:].lstrip(b"0"), {}
@@ -224,10 +224,10 @@ def lost_changes_in(words):
     return values, replaced, comments
 
 
-def shortest(value):
-    """A value in as few letters as the program writes it."""
-    plain = value.translate(LETTERS)
-    return plain[SPARE(plain).end() :]
+def value_of(word):
+    """The value that the first word of a change has, in as few letters as the program writes it."""
+    value = (word[1:] if word[0] in VECTORS else word[:1]).translate(LETTERS)
+    return value[SPARE(value).end() :]
 
 
 def told_losses(losses):
