@@ -18,8 +18,6 @@ use Rattle.vcd_core.specs.declared.capture.Timescale.{Timescale}
 use Rattle.vcd_text.specs.Refusals.{IsRefusal}
 use Rattle.vcd_core.specs.Outline.{without_changes}
 use Rattle.vcd_text.specs.Parts.{Answers, part_of_signal, part_of, PartMeans, IsPartRefusal}
-use Rattle.vcd_text.specs.Parts.{too_many_remain, declined}
-use Rattle.vcd_text.specs.Parts.{Answers, without_changes, part_of_signal, part_of, PartMeans, IsPartRefusal}
 use Rattle.vcd_text.specs.Parts.{too_many_remain, declined, signals_of}
 use Rattle.vcd_text.specs.inside.reading.Part.{Asked, remaining, all_ticks}
 use Rattle.vcd_text.specs.inside.reading.Parser.{MeansListed}
