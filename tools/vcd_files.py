@@ -247,15 +247,15 @@ def ticks_of(text, timescale):
     """The tick that a text names: a number of ticks, or a time with a unit, as 1.5ms. The timescale may be `none`."""
     found = re.fullmatch(r"([0-9]+)(?:(\.[0-9]{1,15})?([munpf]?s))?", text)
     if not found or int(found[1]) >= 2**64 - 1:
-        raise Trouble("%s is no time: write ticks, or a number and s, ms, us, ns, ps or fs" % text)
+        raise Trouble("%s is no time: write ticks, or a number and s, ms, us, ns, ps or fs" % text, status=2)
     whole, part, unit = found.groups("")
     if not unit:
         return int(whole)
     if timescale == "none":
-        raise Trouble("%s: the capture has no timescale: write ticks" % text)
+        raise Trouble("%s: the capture has no timescale: write ticks" % text, status=2)
     tick = fractions.Fraction(whole + part) * unit_ticks(unit, timescale)
     if tick.denominator != 1:
-        raise Trouble("%s is between tick %d and the next: write ticks" % (text, tick // 1))
+        raise Trouble("%s is between tick %d and the next: write ticks" % (text, tick // 1), status=2)
     return int(tick)
 
 

@@ -23,6 +23,7 @@ PAIRS = {
     "the last tick": ((ONE, "#5 0! #9 1!"), (ONE, "#5 0! #9"), "a: 1 difference, first at tick 9: 1, 0"),
     "a kind of digits": (("1 1 a", "0! #9"), ("01 1 a", "0! #9"), "a: 1, 01"),
     "a kind and a width": (("wire 2 a", "b1 ! #9"), ("reg 3 a", "b1 ! #9"), "a: wire, reg|a: 2 bits, 3 bits"),
+    "one bit": (("wire 1 a", "0! #9"), ("wire 12 a", "b0 ! #9"), "a: 1 bit, 12 bits"),
     "no timescale": (("1 ns|" + ONE, "#9"), (ONE, "#9"), "timescale: 1 ns, none (ticks are compared as they are)"),
     "a signal": ((ONE, "#9"), (ONE + "|wire 1 b", "#9"), "b: only in B"),
     "the second of a name": ((TWO, '0! 0" #3 1" #9'), (TWO, '0! 0" #9'), "a (2): 1 difference, first at tick 3: 1, 0"),
