@@ -18,7 +18,7 @@ use Rattle.vcd_text.specs.Grammar.{ParseState, AllowsAll, Allows, state_after_it
 use Rattle.vcd_text.specs.Grammar.{is_skipped}
 use Rattle.vcd_text.specs.Meaning.{meaning}
 use Rattle.vcd_text.specs.AmendedItems.{stands, is_left_out, is_exchanged}
-use Rattle.vcd_text.specs.Pieces.{Piece, state_of_pieces}
+use Rattle.vcd_text.specs.Pieces.{Piece, IsCut, state_of_pieces}
 use Rattle.vcd_text.specs.Retimed.{new_tick, ChangeKey, change_key, has_key, code_of_key, lasts, held_with, is_past}
 use Rattle.vcd_text.specs.Retimed.{stamp_line, released_pieces, retimed_stamp, pieces_in_place, retimed_pieces}
 use Rattle.vcd_text.specs.Retimed.{retimed_contents}
@@ -236,6 +236,13 @@ module _ (tail : List ℕ) (white : list_all is_white_space tail ≡ true) where
       p.body (bytes_of ps tail) (bytes_end ps some (All-tail HasSpace p ps spaces)) ∙ ap (λ ws. ws ++ texts (bytes_of ps
       tail)) (sym (texts_are p.body) ∙ All-head SpellsItem p ps bodies) ∙ ap (λ ws. spelling p.item ++ ws) rest
 
+-- a file that is cut into pieces spells their items
+pub cut_spells_items : (file : List ℕ) (pieces : List Piece) (tail : List ℕ) → IsCut file pieces tail
+    → word_texts (words_of file) ≡ spellings (items_of pieces)
+cut_spells_items file pieces tail cut =
+    ap (λ (bytes : List ℕ). word_texts (words_of bytes)) cut.whole ∙ texts_are (bytes_of pieces tail)
+    ∙ bytes_spell tail cut.end pieces cut.apart cut.spaces cut.spelled
+
 pub retimed_text_is_meant : RetimedTextMeansRetimedCapture
 retimed_text_is_meant is_cut_out old_tick limit file pieces tail can =
     let again : List Piece = pieces_after is_cut_out limit pieces in
@@ -244,9 +251,7 @@ retimed_text_is_meant is_cut_out old_tick limit file pieces tail can =
       state = state_of_pieces limit again;
       accepted = record {
         items = items_of again;
-        spelled = texts_are (bytes_of again tail) ∙ bytes_spell tail means.cut.end again means.cut.apart
-            means.cut.spaces
-            means.cut.spelled;
+        spelled = cut_spells_items (bytes_of again tail) again tail means.cut;
         allowed = means.allowed;
         state_is = refl;
         definitions_ended = means.in_body;
