@@ -239,10 +239,9 @@ def goes_on(program, folder):
         place = Folder(program, "%s/goes on%d" % (folder, len(first)), A=LINE, B=LINE, C=LINE, D=LINE)
         place.store("its script", first + WRITTEN)
         command = "vcdedit-apply --backup .orig -- 'its script' %sC D" % ("B " * bool(first))
-        told = ["vcdedit-apply: %d written. This goes on with the rest:\n    " % (1 if first else 2) + command,
-                "vcdedit-apply: standard output: File too large\n"]
-        told[0] = told[0].replace("1 written", "1 capture written").replace("2 written", "2 captures written")
-        told = ["B: written, but standard output can't be written"] * (not first) + told
+        told = ["B: written, but standard output can't be written"] * (not first)
+        told.append("vcdedit-apply: %s written. This goes on with the rest:" % ("1 capture" if first else "2 captures"))
+        told += ["    " + command, "vcdedit-apply: standard output: File too large\n"]
         lines = [(reply + "%s: written: 1 ok\n").replace("%s", name) for name in "ABCD"]
         room = len(lines[0]) + 5
         output = store(folder, "output", text="-" * (FILE_BYTES - room))
