@@ -1,4 +1,4 @@
-"""A test of a bus by its capture, for pytest: which bytes were sent, how they were acknowledged, and how long it took."""
+"""A test of a bus by its capture, for pytest: what was sent, and how long it took."""
 
 import json
 import subprocess
