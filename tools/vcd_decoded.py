@@ -11,7 +11,7 @@ import vcd_runs
 from vcd_files import Trouble, shortened, shown
 from vcd_messages import name_of, signals_in, told_refusals
 
-DECODERS, CHANGING = {b"uart", b"spi", b"i2c"}, vcd_runs.EDITS | {b"undo", b"redo"}
+DECODERS, CHANGING = {b"uart", b"spi", b"i2c"}, {*vcd_runs.EDITS, b"undo", b"redo"}
 
 # What a line decoded: its number, the names of its signals, annotations, doubts as (first tick, last tick), lines about
 # them, and whether a later line edits what it decodes.
