@@ -5,3 +5,4 @@ pub mod HollowRuns
 pub mod HollowPart
 pub mod FittingCuts
 pub mod AmendedRuns
+pub mod EditedFiles

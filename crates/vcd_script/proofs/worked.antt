@@ -1,3 +1,4 @@
 -- Worked cases.
 pub mod HollowRun
 pub mod AmendedRun
+pub mod EditedText

@@ -16,6 +16,7 @@ pub mod LineRunEnds
 pub mod Run
 pub mod HollowRun
 pub mod AmendedRun
+pub mod EditedText
 pub mod HollowPart
 pub mod FileLaws
 pub mod RunEnds

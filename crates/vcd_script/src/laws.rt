@@ -7,8 +7,10 @@ ghost use Rattle.vcd_script.specs.HollowRun.{CommandIsOfOutline, HistoryIsOfOutl
 ghost use Rattle.vcd_script.specs.HollowRun.{AskedIsOfOutline, ReplyWithOthers, RunOnHollow};
 ghost use Rattle.vcd_script.specs.HollowRun.{RunAfterDryRun, CutsOfRunFit};
 ghost use Rattle.vcd_script.specs.AmendedRun.{RemainingThenDerived, RemainingAreOfVariables};
-ghost use Rattle.vcd_script.specs.AmendedRun.{RemainingByHollow, NoCutLeavesFile};
-ghost use Rattle.vcd_script.specs.AmendedRun.{AmendedRunMeansLastCapture};
+ghost use Rattle.vcd_script.specs.AmendedRun.{RemainingByHollow};
+ghost use Rattle.vcd_script.specs.EditedText.{CutsInForceLeaveTicks, RetimedCaptureIsReplayOfCuts};
+ghost use Rattle.vcd_script.specs.EditedText.{AcceptedFileHasPieces, EditedTextMeansLastCapture};
+ghost use Rattle.vcd_script.specs.EditedText.{NoCutLeavesPieces};
 
 /// Two runs on the same bytes and of the same depth have the same result, if memory runs out in
 /// neither.
@@ -61,9 +63,19 @@ pub fn signals_remain()
     ensures hollow { RemainingByHollow }
 {}
 
-/// The text of the file after the cuts alone, amended for the last capture of a run, means that
-/// capture. Without a cut that is the file itself.
-pub fn amended_run_is_read_again()
-    ensures capture { AmendedRunMeansLastCapture }
-    ensures no_cut { NoCutLeavesFile }
+/// Each accepted file that is edited in place means the last capture of the run, with as many
+/// variables skipped. After the cuts every item stands in it that no difference of the captures
+/// touches. This holds for any lines and depth, and however the file is cut into items with their
+/// bytes; it can always be cut so.
+pub fn edited_file_is_read_again()
+    ensures pieces { AcceptedFileHasPieces }
+    ensures text { EditedTextMeansLastCapture }
+{}
+
+/// The cuts in force leave ticks of a file and its end, and the file after them means what the cuts
+/// alone make of its capture. Without a cut its items stay, with all their bytes.
+pub fn cuts_in_force_retime_files()
+    ensures ticks { CutsInForceLeaveTicks }
+    ensures capture { RetimedCaptureIsReplayOfCuts }
+    ensures no_cut { NoCutLeavesPieces }
 {}

@@ -21,9 +21,9 @@ mod running;
 mod script;
 
 pub use laws::{
-    amended_run_is_read_again, cut_file_is_read_again, hollow_captures_are_parts,
-    lines_are_of_outline, runs_on_hollow_captures, same_bytes_same_result, session_lines_are_run,
-    signals_remain,
+    cut_file_is_read_again, cuts_in_force_retime_files, edited_file_is_read_again,
+    hollow_captures_are_parts, lines_are_of_outline, runs_on_hollow_captures,
+    same_bytes_same_result, session_lines_are_run, signals_remain,
 };
 pub use replies::{Reply, answer_line};
 pub use running::run::run;

@@ -1,7 +1,7 @@
--- The amendment by which a file means the last capture of a run on it.
+-- What a run leaves of a file's signals, and the amendment by which the file means the last capture.
 use Rattle.std.proofs.Common.{◌≡◌, ◌≤◌, ◌<◌, ℕ, zero, suc, ◌+◌, Bool, true, false, if◌then◌else◌, List, [], ◌∷◌, ◌++◌}
 use Rattle.std.proofs.Common.{length, map, take, drop, get_or, Option, Some, None, refl, sym, ap, subst, ◌∙◌, arith}
-use Rattle.std.specs.Prelude.{nat_eq, option_map, count_by}
+use Rattle.std.specs.Prelude.{nat_eq, option_map, count_by, IsTrue}
 use Rattle.std.specs.List.{AllByRecursion, range_with_len}
 use Rattle.std.proofs.lemmas.Bool.Decides.{nat_tests}
 use Rattle.std.proofs.lemmas.List.{append_assoc, length-append, length-map, take-append-drop}
@@ -10,13 +10,17 @@ use Rattle.std.proofs.lemmas.Option.{same_Some}
 use Rattle.vcd_core.specs.declared.capture.TheConstants.{SIGNAL_LIMIT}
 use Rattle.vcd_core.specs.Contents.{Contents, SignalContents, no_signal, signal_at}
 use Rattle.vcd_core.specs.Sound.{IsSound, IsSoundSignal}
+use Rattle.vcd_text.specs.Words.{words_of}
 use Rattle.vcd_text.specs.Grammar.{ParseState, VariableDeclaration, initial_state, kept_variables, is_skipped}
+use Rattle.vcd_text.specs.Grammar.{AllowsAll, Accepts}
 use Rattle.vcd_text.specs.Meaning.{declared_signal, meaning, FileMeans}
-use Rattle.vcd_text.specs.Pieces.{state_of_pieces}
+use Rattle.vcd_text.specs.Pieces.{Piece, IsCut, state_of_pieces}
+use Rattle.vcd_text.specs.Amendment.{Amendment}
 use Rattle.vcd_text.specs.AmendedText.{amended_text}
+use Rattle.vcd_text.specs.WhatStands.{may_go, may_come, BecomesText}
 use Rattle.vcd_text.specs.GivenCodes.{IsSignalOf, AreSignalsOf, signals_left, amendment_for}
 use Rattle.vcd_text.proofs.shared.SoundMeaning.{meaning_is_sound}
-use Rattle.vcd_text.proofs.given_codes.File.{other_capture_is_meant}
+use Rattle.vcd_text.proofs.what_stands.Whole.{untouched_items_stand}
 use Rattle.vcd_edit.specs.declared.edit.Edit.{Edit}
 use Rattle.vcd_edit.specs.declared.edit.Edit.TheVariants.{Cut}
 use Rattle.vcd_edit.specs.Effect.{cut_contents, effect}
@@ -28,9 +32,8 @@ use Rattle.vcd_journal.specs.Hollow.{filled, hollow}
 use Rattle.vcd_journal.proofs.shared.Origins.{origins_rise, origins_fit, come_again, signals_come_from_origins}
 use Rattle.vcd_journal.proofs.shared.Cuts.{same_place_after_cuts, count_after_cuts}
 use Rattle.vcd_script.specs.HollowRun.{last_edits, last_capture}
-use Rattle.vcd_script.specs.AmendedRun.{signal_from, RemainingThenDerived, IsAfterCuts, NoCutLeavesFile}
-use Rattle.vcd_script.specs.AmendedRun.{RemainingAreOfVariables, RemainingByHollow, skipped_in_file, edits_of_file}
-use Rattle.vcd_script.specs.AmendedRun.{edited_file, remaining_in_file, derived_in_file, AmendedRunMeansLastCapture}
+use Rattle.vcd_script.specs.AmendedRun.{signal_from, signals_remaining, signals_derived, RemainingThenDerived}
+use Rattle.vcd_script.specs.AmendedRun.{IsAfterCuts, RemainingAreOfVariables, RemainingByHollow}
 use Rattle.vcd_script.proofs.running.run_on_bytes.LawsOfRun.{laws}
 
 -- ---- the signal with an origin
@@ -192,10 +195,6 @@ replay_after_cuts s t es after =
     all_but_signals (meaning s) es
     ∙ ap (λ (d : Contents). record d { signals = (replay (meaning s) es).signals }) (sym after.means)
 
-pub no_cut_leaves_file : NoCutLeavesFile
-unfolding replay
-no_cut_leaves_file s es none = record { means = sym (ap (replay (meaning s)) none); left_out = refl }
-
 pub remaining_are_of_variables : RemainingAreOfVariables
 remaining_are_of_variables s t es whole_sound after_cuts =
     let c : Contents = meaning s in
@@ -255,16 +254,32 @@ remaining_by_hollow silent c skipped depth lines same =
 
 -- ---- runs
 
-pub amended_run_means_last_capture : AmendedRunMeansLastCapture
-amended_run_means_last_capture file s depth lines after_cuts pieces tail accepted cut allows in_body same_cuts =
+-- where the state `s` is that of an accepted file, and these pieces are that file after the cuts in force: amended for
+-- the last capture of a run, they mean it, and each stands but those that may go
+pub amended_run_is_meant : (file : List ℕ) (s : ParseState) (depth : ℕ) (lines : List (List ℕ))
+    (after_cuts : List ℕ) (pieces : List Piece) (tail : List ℕ) → Accepts SIGNAL_LIMIT (words_of file) s
+    → IsCut after_cuts pieces tail → AllowsAll (initial_state SIGNAL_LIMIT) (map (λ p. p.item) pieces)
+    → IsTrue (state_of_pieces SIGNAL_LIMIT pieces).in_body →
     let c : Contents = meaning s in
+    let skipped : ℕ = count_by is_skipped s.declared in
     let t : ParseState = state_of_pieces SIGNAL_LIMIT pieces in
-    let es : List Edit = edits_of_file s depth lines in
-    let after : Contents = edited_file s depth lines in
-    let remaining : List (Option SignalContents) = remaining_in_file s depth lines in
-    let derived : List SignalContents = derived_in_file s depth lines in
-    let sound : IsSound after =
-    (laws c (skipped_in_file s depth lines) depth lines (meaning_is_sound file s accepted)).sound (length lines) in
+    let es : List Edit = last_edits c skipped depth lines in
+    let after : Contents = last_capture c skipped depth lines in
+    let remaining : List (Option SignalContents) = signals_remaining (length c.signals) es after in
+    let a : Amendment = amendment_for t remaining (signals_derived (length c.signals) es after) in
+    let text : List ℕ = amended_text a true (initial_state SIGNAL_LIMIT) pieces tail in
+    IsAfterCuts s t es
+    → FileMeans SIGNAL_LIMIT text after skipped
+    × BecomesText (may_go t remaining) (may_come a after.signals) tail (initial_state SIGNAL_LIMIT) pieces text
+amended_run_is_meant file s depth lines after_cuts pieces tail accepted cut allows in_body same_cuts =
+    let c : Contents = meaning s in
+    let skipped : ℕ = count_by is_skipped s.declared in
+    let t : ParseState = state_of_pieces SIGNAL_LIMIT pieces in
+    let es : List Edit = last_edits c skipped depth lines in
+    let after : Contents = last_capture c skipped depth lines in
+    let remaining : List (Option SignalContents) = signals_remaining (length c.signals) es after in
+    let derived : List SignalContents = signals_derived (length c.signals) es after in
+    let sound : IsSound after = (laws c skipped depth lines (meaning_is_sound file s accepted)).sound (length lines) in
     let parts = remaining_are_of_variables s t es sound same_cuts in
     let all : signals_left remaining ++ derived ≡ after.signals = remaining_then_derived c es in
     let few : length (signals_left remaining) + length derived ≤ SIGNAL_LIMIT =
@@ -274,11 +289,14 @@ amended_run_means_last_capture file s depth lines after_cuts pieces tail accepte
       ap (λ (ss : List SignalContents). length ss) all,
       sound.few,
     ) in
-    let text : List ℕ =
-    amended_text (amendment_for t remaining derived) true (initial_state SIGNAL_LIMIT) pieces tail in
-    subst (FileMeans SIGNAL_LIMIT text after) same_cuts.left_out
-    (subst (λ (d : Contents). FileMeans SIGNAL_LIMIT text d (count_by is_skipped t.declared))
-    (ap (λ (ss : List SignalContents). record (meaning t) { signals = ss }) all
-    ∙ sym (replay_after_cuts s t es same_cuts))
-    (other_capture_is_meant SIGNAL_LIMIT after_cuts pieces tail remaining derived cut allows in_body parts.0 parts.1
-    few))
+    let a : Amendment = amendment_for t remaining derived in
+    let text : List ℕ = amended_text a true (initial_state SIGNAL_LIMIT) pieces tail in
+    let stand = untouched_items_stand SIGNAL_LIMIT after_cuts pieces tail t remaining derived text cut allows refl
+    in_body parts.0 parts.1 few refl in (
+      subst (FileMeans SIGNAL_LIMIT text after) same_cuts.left_out
+          (subst (λ (d : Contents). FileMeans SIGNAL_LIMIT text d (count_by is_skipped t.declared))
+          (ap (λ (ss : List SignalContents). record (meaning t) { signals = ss }) all
+          ∙ sym (replay_after_cuts s t es same_cuts)) stand.0),
+      subst (λ (ss : List SignalContents).
+          BecomesText (may_go t remaining) (may_come a ss) tail (initial_state SIGNAL_LIMIT) pieces text) all stand.1,
+    )
