@@ -200,7 +200,7 @@ def check(program, folder):
     yield from near_names()
     yield from long_ones(program, folder)
     paths = {path for pattern in CAPTURES for path in glob.glob(os.path.join(TOP, pattern))}
-    yield "captures to read", len(paths) > 60
+    yield "captures to read", len(paths) > 50
     for path in sorted(paths):
         listing = listed(program, path)
         is_named = listing is None or refused(losses_of, path, listing) is not None
