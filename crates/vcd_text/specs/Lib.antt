@@ -2,6 +2,7 @@
 pub mod Words
 pub mod Letters
 pub mod FaultNames
+pub mod EmittedText
 pub mod WriteEnds
 pub mod Items
 pub mod Grammar

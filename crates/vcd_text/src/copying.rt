@@ -8,7 +8,7 @@ ghost use Rattle.vcd_text.specs.Parts.{IsPartRefusal, answers_of};
 ghost use Rattle.vcd_text.specs.Copied.{IsCopy};
 ghost use Rattle.vcd_text.specs.CopyEnds.{CopyFails, ReadFails};
 ghost use Rattle.vcd_text.specs.inside.Copying.{TookCopy};
-ghost use Rattle.vcd_text.specs.inside.writing.Output.{EmitsMore};
+ghost use Rattle.vcd_text.specs.EmittedText.{EmitsMore};
 ghost use Rattle.vcd_text.specs.declared.fault.CopyError.TheVariants as copy_errors;
 ghost use Rattle.vcd_text.specs.declared.fault.WriteError.TheVariants.{WriteFault};
 

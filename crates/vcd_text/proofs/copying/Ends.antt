@@ -18,7 +18,7 @@ use Rattle.vcd_text.specs.Copied.{CopyRules, IsCopy}
 use Rattle.vcd_text.specs.CopyEnds.{CopyFails, ReadFails}
 use Rattle.vcd_text.specs.Parts.{Answers, IsPartRefusal}
 use Rattle.vcd_text.specs.inside.Copying.{TookCopy}
-use Rattle.vcd_text.specs.inside.writing.Output.{Emits, EmitsMore, HasEmitted}
+use Rattle.vcd_text.specs.EmittedText.{Emits, EmitsMore, HasEmitted}
 use Rattle.vcd_text.specs.declared.reading.TheConstants.{VARIABLE_LIMIT, LONG_FILE_LIMIT}
 use Rattle.vcd_text.proofs.part.WholeParts.{no_part_refusal_of_copy}
 use Rattle.vcd_text.proofs.writing.output.Pieces.{writes_both, writes_as, writes_part, whole_written, all_taken}

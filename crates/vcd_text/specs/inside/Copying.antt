@@ -14,7 +14,7 @@ use Rattle.vcd_text.specs.Copied.{may_be_amended, Shows}
 use Rattle.vcd_text.specs.Copied.{IsNext, IsCopy}
 use Rattle.vcd_text.specs.declared.copying.copier.Copier.{Copier}
 use Rattle.vcd_text.specs.inside.Words.{has_complete_words}
-use Rattle.vcd_text.specs.inside.writing.Output.{Emits}
+use Rattle.vcd_text.specs.EmittedText.{Emits}
 use Rattle.vcd_text.specs.inside.reading.Part.{Asked}
 use Rattle.vcd_text.specs.inside.reading.Parser.{IsAtState}
 use Rattle.vcd_text.specs.declared.copying.amender.AmendableItem.{AmendableItem}

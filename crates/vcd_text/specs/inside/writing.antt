@@ -1,5 +1,4 @@
 -- Definitions that `writing` and its proofs cite.
-pub mod Output
 pub mod Lines
 pub mod Declarations
 pub mod Values

@@ -1,9 +1,9 @@
 //! What is done to a file while it is copied.
 
-ghost use Rattle.std.specs.Prelude.{◌≡◌, ◌++◌, ◌∷◌, [], ℕ, List, OnOk, true, false};
+ghost use Rattle.std.specs.Prelude.{◌≡◌, ◌++◌, ◌∷◌, [], ℕ, List, OnOk, OnErr, true, false};
 ghost use Rattle.vcd_text.specs.Pieces.{Piece};
 ghost use Rattle.vcd_text.specs.Copied.{CopyRules, IsNext, IsShownNext, may_be_amended};
-ghost use Rattle.vcd_text.specs.inside.writing.Output.{Emits, EmitsMore};
+ghost use Rattle.vcd_text.specs.EmittedText.{Emits, EmitsMore};
 
 use crate::writing::output::Output;
 use vcd_core::{NoMemory, Sink};
@@ -65,7 +65,7 @@ pub trait Amender<W: Sink> {
             IsShownNext limit before p item code.now space.now body.now →
             has_seen self.new (before ++ p ∷ [])) }
         ensures same { OnOk result (rules self.new ≡ rules self.old) }
-        ensures more { EmitsMore W.Sink output.old output.new };
+        ensures more { OnErr result (EmitsMore W.Sink output.old output.new) };
 
     /// Passes over any other item, which stands.
     fn pass(&mut self)
@@ -77,7 +77,7 @@ pub trait Amender<W: Sink> {
     /// Writes what is in the place of the white space at the end of the file.
     fn finish(&mut self, output: &mut Output<W>, space: &[u8]) -> Result<(), NoMemory>
         requires { (pieces : List Piece) × has_seen self.old pieces }
-        ensures more { EmitsMore W.Sink output.old output.new }
+        ensures more { OnErr result (EmitsMore W.Sink output.old output.new) }
         ensures written { OnOk result ((pieces : List Piece) → has_seen self.old pieces →
             Emits W.Sink output.old output.new ((rules self.old).at_end pieces space.now)) };
 }

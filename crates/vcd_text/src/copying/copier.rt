@@ -13,7 +13,7 @@ ghost use Rattle.vcd_text.specs.inside.reading.FileReader.{HasReadBytes, FileRea
 ghost use Rattle.vcd_text.specs.inside.reading.FileReader.{HasUntakenChunk, TakesChunk};
 ghost use Rattle.vcd_text.specs.Parts.{IsPartRefusal, answers_of};
 ghost use Rattle.std.specs.Io.KnownBytes.{Consumes, IsAtEnd};
-ghost use Rattle.vcd_text.specs.inside.writing.Output.{Emits, EmitsMore};
+ghost use Rattle.vcd_text.specs.EmittedText.{Emits, EmitsMore};
 
 use super::amender::Amender;
 use super::pieces::{Held, Unwritten, copy_word, hold, write_standing};

@@ -7,7 +7,7 @@ ghost use Rattle.vcd_text.specs.Copied.{copied_piece, IsShownNext};
 ghost use Rattle.vcd_text.specs.inside.Copying.{stands_open, shown_word, shown_item, code_in};
 ghost use Rattle.vcd_text.specs.inside.Copying.{code_after_digit, EndsPiece};
 ghost use Rattle.vcd_text.specs.inside.Copying.{IsUnwritten, IsHeldPiece, HasEnded};
-ghost use Rattle.vcd_text.specs.inside.writing.Output.{Emits, EmitsMore};
+ghost use Rattle.vcd_text.specs.EmittedText.{Emits, EmitsMore};
 
 use super::amender::{AmendableItem, Amender};
 use super::pieces::{Held, Unwritten, hold, write_held, write_standing};

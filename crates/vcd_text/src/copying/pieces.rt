@@ -11,7 +11,7 @@ ghost use Rattle.vcd_text.specs.inside.Copying.{stands_open};
 ghost use Rattle.vcd_text.specs.inside.Copying.{EndsPiece, IsSpacedWord};
 ghost use Rattle.vcd_text.specs.inside.Copying.{HasCopiedUpTo, IsUnwritten, IsHeldPiece, HasEnded};
 ghost use Rattle.vcd_text.specs.inside.reading.Choice.{HasTakenFrom, CanTake, TakesWord};
-ghost use Rattle.vcd_text.specs.inside.writing.Output.{Emits, EmitsMore};
+ghost use Rattle.vcd_text.specs.EmittedText.{Emits, EmitsMore};
 ghost use Rattle.vcd_text.specs.declared.reading.parser.OpenItem.TheVariants as items;
 
 use super::amender::Amender;

@@ -3,7 +3,7 @@
 ghost use Rattle.std.specs.Prelude.{◌≡◌, ◌<◌};
 ghost use Rattle.vcd_core.specs.declared.capture.TheConstants.{SIGNAL_LIMIT};
 ghost use Rattle.vcd_text.specs.Text.{code_of};
-ghost use Rattle.vcd_text.specs.inside.writing.Output.{Emits};
+ghost use Rattle.vcd_text.specs.EmittedText.{Emits};
 
 use super::output::{Output, write_byte};
 use vcd_core::Sink;

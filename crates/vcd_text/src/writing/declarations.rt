@@ -11,7 +11,7 @@ ghost use Rattle.vcd_text.specs.Text.{item_line, same_scope, scope_items};
 ghost use Rattle.vcd_text.specs.inside.writing.Declarations.{header_items};
 ghost use Rattle.vcd_text.specs.Text.{signal_items, timescale_items, variable_item};
 ghost use Rattle.vcd_text.specs.inside.writing.Declarations.{declarations_text};
-ghost use Rattle.vcd_text.specs.inside.writing.Output.{Emits};
+ghost use Rattle.vcd_text.specs.EmittedText.{Emits};
 
 use super::codes::write_code;
 use super::lines::{write_end, write_word, write_words};

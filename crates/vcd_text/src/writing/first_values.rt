@@ -5,7 +5,7 @@ ghost use Rattle.std.specs.List.{enumerate_from, flat_map};
 ghost use Rattle.vcd_core.specs.CaptureContents.{signal_contents};
 ghost use Rattle.vcd_core.specs.declared.capture.TheConstants.{SIGNAL_LIMIT};
 ghost use Rattle.vcd_text.specs.Text.{first_items, item_line, value_items};
-ghost use Rattle.vcd_text.specs.inside.writing.Output.{Emits};
+ghost use Rattle.vcd_text.specs.EmittedText.{Emits};
 
 use super::output::{Output, write_bytes};
 use super::stamps::write_stamp;

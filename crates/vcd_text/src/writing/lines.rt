@@ -2,7 +2,7 @@
 
 ghost use Rattle.std.specs.Prelude.{◌≡◌, ◌∷◌, [], codes};
 ghost use Rattle.vcd_text.specs.inside.writing.Lines.{spaced_words};
-ghost use Rattle.vcd_text.specs.inside.writing.Output.{Emits};
+ghost use Rattle.vcd_text.specs.EmittedText.{Emits};
 
 use super::output::{Output, write_byte, write_bytes};
 use vcd_core::{Sink, Word};

@@ -4,7 +4,7 @@ ghost use Rattle.std.specs.Prelude.{◌≡◌, ◌≤◌, ◌+◌, false, true, 
 ghost use Rattle.std.specs.Prelude.{nat_le, vec_len, vec_capacity, OnOk, OnErr, IfErr, IfOk};
 ghost use Rattle.std.specs.Io.KnownBytes.{Appends, Keeps};
 ghost use Rattle.vcd_text.specs.declared.fault.WriteError.TheVariants.{WriteFault};
-ghost use Rattle.vcd_text.specs.inside.writing.Output.{Emits};
+ghost use Rattle.vcd_text.specs.EmittedText.{Emits};
 
 use crate::fault::WriteError;
 use std::alloc::Global;

@@ -5,7 +5,7 @@ ghost use Rattle.std.specs.List.{flat_map};
 ghost use Rattle.vcd_text.specs.Text.{item_line};
 ghost use Rattle.vcd_text.specs.inside.writing.Transitions.{stamp_of};
 ghost use Rattle.vcd_text.specs.inside.writing.Transitions.{new_stamp};
-ghost use Rattle.vcd_text.specs.inside.writing.Output.{Emits};
+ghost use Rattle.vcd_text.specs.EmittedText.{Emits};
 
 use super::output::{Output, write_byte, write_bytes};
 use itoa::Buffer;

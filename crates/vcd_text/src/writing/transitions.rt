@@ -6,7 +6,7 @@ ghost use Rattle.vcd_core.specs.CaptureContents.{signal_contents};
 ghost use Rattle.vcd_core.specs.declared.capture.TheConstants.{END_LIMIT, SIGNAL_LIMIT};
 ghost use Rattle.vcd_text.specs.inside.writing.Transitions.{last_tick, transition_items};
 ghost use Rattle.vcd_text.specs.inside.writing.Window.{IsKey, IsReady, transitions_of};
-ghost use Rattle.vcd_text.specs.inside.writing.Output.{Emits};
+ghost use Rattle.vcd_text.specs.EmittedText.{Emits};
 ghost use Rattle.vcd_text.specs.declared.writing.window.TheConstants.{POSITIONS};
 ghost use Rattle.vcd_text.specs.Text.{item_line};
 ghost use Rattle.vcd_text.specs.inside.writing.Transitions.{items_of_ticks};

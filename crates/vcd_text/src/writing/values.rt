@@ -11,7 +11,7 @@ ghost use Rattle.vcd_text.specs.Letters.{pad_letter, printed_letters, short_form
 ghost use Rattle.vcd_text.specs.Text.{code_of, item_line, value_item};
 ghost use Rattle.vcd_text.specs.inside.writing.Values.{IsShortFormLen, is_redundant_above};
 ghost use Rattle.vcd_text.specs.inside.writing.Values.{value_before_code};
-ghost use Rattle.vcd_text.specs.inside.writing.Output.{Emits};
+ghost use Rattle.vcd_text.specs.EmittedText.{Emits};
 
 use super::codes::write_code;
 use super::output::{Output, write_byte, write_bytes};

@@ -16,7 +16,7 @@ use Rattle.vcd_text.specs.inside.Copying.{HasCopied, HasCopiedFile, TookCopy, st
 use Rattle.vcd_text.specs.inside.reading.Parser.{is_complete, IsBegun, HasTakenWords, IsAtState}
 use Rattle.vcd_text.specs.inside.reading.Part.{Asked}
 use Rattle.vcd_text.specs.inside.reading.OpenItems.{is_nothing}
-use Rattle.vcd_text.specs.inside.writing.Output.{Emits}
+use Rattle.vcd_text.specs.EmittedText.{Emits}
 use Rattle.vcd_text.specs.declared.copying.copier.Copier.{Copier}
 use Rattle.vcd_text.specs.declared.copying.pieces.Held.{Held}
 use Rattle.vcd_text.specs.declared.reading.parser.Parser.{Parser}

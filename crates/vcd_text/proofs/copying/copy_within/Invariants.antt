@@ -1,7 +1,7 @@
 use Rattle.std.proofs.Common.{◌≡◌, ℕ, List, false}
 use Rattle.std.specs.Io.KnownBytes.{Consumes}
 use Rattle.vcd_text.specs.inside.reading.Choice.{HasTakenFrom}
-use Rattle.vcd_text.specs.inside.writing.Output.{EmitsMore}
+use Rattle.vcd_text.specs.EmittedText.{EmitsMore}
 use Rattle.vcd_text.specs.inside.reading.FileReader.{FileReaderMatches}
 use Rattle.vcd_text.specs.inside.Copying.{HasCopiedFile}
 use Rattle.vcd_text.proofs.copying.copy_within.Given as goal

@@ -11,7 +11,7 @@ use Rattle.vcd_text.specs.Pieces.{Piece}
 use Rattle.vcd_text.specs.Copied.{CopyRules}
 use Rattle.vcd_text.specs.inside.Copying.{HasCopied, HasCopiedUpTo}
 use Rattle.vcd_text.specs.inside.Copying.{Adds, AddsToText, EmitsAllBut}
-use Rattle.vcd_text.specs.inside.writing.Output.{Emits}
+use Rattle.vcd_text.specs.EmittedText.{Emits}
 use Rattle.vcd_text.specs.declared.copying.pieces.Held.{Held}
 use Rattle.vcd_text.specs.declared.reading.parser.Parser.{Parser}
 use Rattle.vcd_text.specs.declared.writing.output.Output.{Output}

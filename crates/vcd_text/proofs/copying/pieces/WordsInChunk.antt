@@ -11,7 +11,7 @@ use Rattle.vcd_text.specs.inside.Copying.{HasCopiedUpTo, IsUnwritten, HasEnded, 
 use Rattle.vcd_text.specs.inside.Copying.{Adds, EmitsAllBut, IsSpacedWord, stands_open}
 use Rattle.vcd_text.specs.inside.reading.Part.{Asked}
 use Rattle.vcd_text.specs.inside.reading.Parser.{IsAtState, WordStep, goes_on, ends_item}
-use Rattle.vcd_text.specs.inside.writing.Output.{Emits}
+use Rattle.vcd_text.specs.EmittedText.{Emits}
 use Rattle.vcd_text.specs.declared.copying.pieces.Held.{Held}
 use Rattle.vcd_text.specs.declared.reading.parser.Parser.{Parser}
 use Rattle.vcd_text.specs.declared.reading.parser.OpenItem.TheVariants as items

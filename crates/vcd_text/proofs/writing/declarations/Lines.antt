@@ -8,7 +8,7 @@ use Rattle.vcd_core.specs.declared.device.Sink as sinks
 use Rattle.vcd_text.specs.declared.writing.output.Output.{Output}
 use Rattle.vcd_text.specs.Items.{end_word}
 use Rattle.vcd_text.specs.inside.writing.Lines.{spaced_words}
-use Rattle.vcd_text.specs.inside.writing.Output.{Emits}
+use Rattle.vcd_text.specs.EmittedText.{Emits}
 use Rattle.vcd_text.proofs.writing.output.Pieces.{writes_as, writes_both}
 
 joined : (w : List ℕ) (ws : List (List ℕ)) → join_with_byte 32 (w ∷ ws) ≡ w ++ spaced_words ws

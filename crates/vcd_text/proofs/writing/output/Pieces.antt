@@ -13,7 +13,7 @@ use Rattle.vcd_text.specs.declared.fault.WriteError.{WriteError}
 use Rattle.vcd_text.specs.declared.fault.WriteError.TheVariants.{WriteFault}
 use Rattle.vcd_text.specs.declared.writing.output.Output.{Output}
 use Rattle.vcd_text.specs.WriteEnds.{TookBefore}
-use Rattle.vcd_text.specs.inside.writing.Output.{HasEmitted, Emits, EmitsMore}
+use Rattle.vcd_text.specs.EmittedText.{HasEmitted, Emits, EmitsMore}
 
 -- a part from the front of the rest is written
 carried : (out part rest left whole : List ℕ) → left ≡ part ++ rest → out ++ left ≡ whole
@@ -49,6 +49,12 @@ more_none = writes_more writes_none
 pub more_both : {W : Type 0} {sink : sinks.Ghosts W} {o0 o1 o2 : Output W} → EmitsMore sink o0 o1
     → EmitsMore sink o1 o2 → EmitsMore sink o0 o2
 more_both first second = writes_more (writes_both (writes_part first) (writes_part second))
+
+-- whatever the result is
+pub more_ended : {W T E P : Type 0} {sink : sinks.Ghosts W} {o0 o1 : Output W} (r : Result T E) → OnOk r P
+    → OnErr r (EmitsMore sink o0 o1) → (P → EmitsMore sink o0 o1) → EmitsMore sink o0 o1
+more_ended (Ok x) holds more known = known holds
+more_ended (Err e) holds more known = more
 
 -- ---- loops
 

@@ -10,7 +10,7 @@ use Rattle.vcd_text.specs.declared.writing.output.Output.{Output}
 use Rattle.vcd_text.specs.Text.{first_items, item_line, text}
 use Rattle.vcd_text.specs.inside.writing.Transitions.{items_of_ticks}
 use Rattle.vcd_text.specs.inside.writing.Declarations.{declarations_text}
-use Rattle.vcd_text.specs.inside.writing.Output.{HasEmitted, Emits}
+use Rattle.vcd_text.specs.EmittedText.{HasEmitted, Emits}
 use Rattle.vcd_text.proofs.writing.TextParts.{whole_text}
 use Rattle.vcd_text.proofs.writing.output.Pieces.{failed_prefix, flushed_whole, whole_written, writes_as, writes_both}
 use Rattle.vcd_text.proofs.writing.write.Goals as goal

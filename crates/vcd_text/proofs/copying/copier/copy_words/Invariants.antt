@@ -3,7 +3,7 @@ use Rattle.vcd_text.specs.Words.{WordOnLine}
 use Rattle.vcd_text.specs.inside.Words.{has_complete_words, ends_before}
 use Rattle.vcd_text.specs.inside.Copying.{HasCopied, HasCopiedUpTo}
 use Rattle.vcd_text.specs.inside.reading.Choice.{HasTakenFrom}
-use Rattle.vcd_text.specs.inside.writing.Output.{Emits, EmitsMore}
+use Rattle.vcd_text.specs.EmittedText.{Emits, EmitsMore}
 use Rattle.vcd_text.specs.declared.writing.output.Output.{Output}
 use Rattle.vcd_text.specs.LentWords.{words_left}
 use Rattle.vcd_text.specs.LineFeeds.{line_feeds_in}

@@ -2,7 +2,7 @@ use Rattle.vcd_text.specs.Pieces.{state_of_pieces}
 use Rattle.std.proofs.Common.{◌∙◌, ◌++◌, [], refl, sym, ap, subst, append_assoc}
 use Rattle.vcd_text.specs.Copied.{CopyRules}
 use Rattle.vcd_text.specs.inside.Copying.{AddsToText}
-use Rattle.vcd_text.specs.inside.writing.Output.{Emits}
+use Rattle.vcd_text.specs.EmittedText.{Emits}
 use Rattle.vcd_text.proofs.copying.ended_items.Shown.{shown_is_held, shown_is_amended, piece_is_shown, shown_parts}
 use Rattle.vcd_text.proofs.copying.ended_items.Shown.{standing_part}
 use Rattle.vcd_text.proofs.copying.pieces.StandingBytes.{item_known, part_written}

@@ -1,6 +1,6 @@
 use Rattle.std.proofs.Common.{◌≡◌, ◌++◌, inr, inl, sym, ap, subst, ◌∙◌, arith}
 use Rattle.vcd_text.specs.inside.Copying.{TookCopy}
-use Rattle.vcd_text.specs.inside.writing.Output.{Emits}
+use Rattle.vcd_text.specs.EmittedText.{Emits}
 use Rattle.vcd_text.specs.declared.fault.ReadError.{ReadError}
 use Rattle.vcd_text.specs.Words.{complete_words}
 use Rattle.vcd_text.specs.FoundFaults.{too_early}
@@ -10,7 +10,7 @@ use Rattle.vcd_text.proofs.reading.file_reader.Chunks.{last_taken, last_refused}
 use Rattle.vcd_text.proofs.reading.parser.AskedParts.{chosen_words}
 use Rattle.vcd_text.proofs.reading.parser.NoWordLeft.{stops}
 use Rattle.vcd_text.proofs.copying.copier.CopiedChunks.{whole_copied}
-use Rattle.vcd_text.proofs.writing.output.Pieces.{more_both}
+use Rattle.vcd_text.proofs.writing.output.Pieces.{more_both, writes_more}
 use Rattle.vcd_text.proofs.words.WordsInTurn.{words_are_few}
 use Rattle.vcd_text.proofs.words.WordsByBytes.{complete_are_few}
 use Rattle.vcd_text.proofs.copying.copier.Copier.finish.Goals as goal
@@ -63,7 +63,10 @@ returns-clause-copied g c = λ limit start bytes h.
     (whole_copied {o2 = c.finish.new.output} now c.in_ok-check_complete.ensures.complete writes)
 
 pub returns-in_err-finish-clause-more : goal.returns-in_err-finish-clause-more
-returns-in_err-finish-clause-more g c = more_both c.copy_words.ensures.more c.finish.ensures.more
+returns-in_err-finish-clause-more g c = more_both c.copy_words.ensures.more c.in_err-finish.ensures.more
 
 pub returns-clause-more : goal.returns-clause-more
-returns-clause-more g c = more_both c.copy_words.ensures.more c.finish.ensures.more
+returns-clause-more g c =
+    let (limit, start, bytes, h) = c.requires.copying in
+    let now = c.in_ok-copy_words.ensures.copied limit start h.taken h.copied h.complete in
+    more_both c.copy_words.ensures.more (writes_more (c.in_ok-finish.ensures.written now.pieces now.seen))
