@@ -9,6 +9,8 @@
 #[cfg(test)]
 mod captures;
 #[cfg(test)]
+mod copying;
+#[cfg(test)]
 mod devices;
 #[cfg(test)]
 mod edges;
