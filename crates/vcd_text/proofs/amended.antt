@@ -17,3 +17,4 @@ pub mod OneCut
 pub mod OtherWords
 pub mod Spelled
 pub mod WholeText
+pub mod CopiedText

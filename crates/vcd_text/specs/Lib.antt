@@ -27,6 +27,7 @@ pub mod Amendment
 pub mod AmendedItems
 pub mod AmendedMeaning
 pub mod AmendedText
+pub mod AmendedCopy
 pub mod CodedAmendment
 pub mod FreshCodes
 pub mod GivenCodes

@@ -9,6 +9,7 @@ ghost use Rattle.vcd_text.specs.PartLaws.{PartOfPartIsPart, AllIsPart};
 ghost use Rattle.vcd_text.specs.AmendedMeaning.{AmendedFileMeansAmendedCapture};
 ghost use Rattle.vcd_text.specs.AmendedMeaning.{SkippedVariablesStand};
 ghost use Rattle.vcd_text.specs.AmendedText.{AmendedTextMeansAmendedCapture};
+ghost use Rattle.vcd_text.specs.AmendedCopy.{CopyIsAmendedText};
 ghost use Rattle.vcd_text.specs.CutLaws.{EveryFileIsCut, CutIsUnique};
 ghost use Rattle.vcd_text.specs.CodedAmendment.{CodedAmendmentGivesCapture};
 ghost use Rattle.vcd_text.specs.FreshCodes.{FreshCodesAreFresh, FreshCodesAreInOrder};
@@ -111,4 +112,10 @@ pub fn retimed_file_is_meant()
 pub fn file_is_cut()
     ensures cut { EveryFileIsCut }
     ensures one { CutIsUnique }
+{}
+
+/// The copy of a file by the rules of an amendment is the amended text: what `copy` writes for an
+/// amender with these rules.
+pub fn copy_is_amended_text()
+    ensures { CopyIsAmendedText }
 {}

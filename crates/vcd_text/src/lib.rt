@@ -19,9 +19,10 @@ mod writing;
 pub use copying::{AmendableItem, Amender, copy};
 pub use fault::{CopyError, Fault, ReadError, WriteError};
 pub use laws::{
-    amended_file_is_read_again, file_is_cut, fresh_codes_are_fresh, has_an_answer, has_one_answer,
-    nothing_else_is_read_back, other_capture_is_read_again, parts_agree, prefix_fault_stays,
-    prefix_has_one_fault, retimed_file_is_meant, text_is_read_back, untouched_items_stand,
+    amended_file_is_read_again, copy_is_amended_text, file_is_cut, fresh_codes_are_fresh,
+    has_an_answer, has_one_answer, nothing_else_is_read_back, other_capture_is_read_again,
+    parts_agree, prefix_fault_stays, prefix_has_one_fault, retimed_file_is_meant,
+    text_is_read_back, untouched_items_stand,
 };
 pub use reading::{
     Choice, Declarations, DeclaredSignal, FILE_LIMIT, LONG_FILE_LIMIT, Loaded, TickRange,
