@@ -53,7 +53,7 @@ deb: build ## makes a Debian package, out/vcdedit_VERSION_ARCHITECTURE.deb
 quick: ## every check that needs no proof, on the programs that are built
 	@checks/quick
 
-check: ## the gate, .ci/run: every proof and test from nothing, in an hour and a half on two cores
+check: ## the gate, .ci/run: every proof and test from nothing, in some two hours on two cores
 	@.ci/run
 
 # The captures are made once, in a folder that git passes over.
