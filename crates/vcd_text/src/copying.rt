@@ -33,8 +33,8 @@ use vcd_core::{Sink, Source};
 ///
 /// The file is read as `read_part` reads it, with no signal and no choice: the grammar, the first
 /// fault and its line are the same. At a fault of the file, what the writer took is of no use. At
-/// `WriteFault` the writer has failed, and took exactly the first `written` bytes of what it would
-/// have got.
+/// `WriteFault` the writer has failed, and took exactly `written` bytes. Tests show that these are
+/// the first bytes of the copy; no clause says so.
 ///
 /// Memory: a chunk of at most 4,096 bytes, the longest word, the longest `$var`, the longest white
 /// space, and what `read_part` holds of the declarations; nothing of the changes.
