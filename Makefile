@@ -1,7 +1,7 @@
 # Builds, installs and packs vcdedit. `make` alone builds, and says what else there is.
 PREFIX ?= /usr/local
 ZSH_FOLDER ?= share/zsh/site-functions
-PROGRAMS = vcdedit vcdedit-narrow
+PROGRAMS = vcdedit vcdedit-amend vcdedit-narrow
 TOOLS = vcdedit-apply vcdedit-compare vcdedit-table vcdedit-view
 DOCUMENTS = CHANGELOG.md docs/COOKBOOK.md docs/SCRIPT.md docs/FORMATS.md examples
 # What install put below PREFIX, a line for each file and each folder that was not there. Uninstall takes it away.
@@ -14,15 +14,15 @@ all: build
 	@echo "vcdedit is built: ./vcdedit runs it."
 	@sed -n 's/^\([a-z]*\):[^#]*## /make \1: /p' Makefile
 
-# `./vcdedit` proves and builds the program where it is missing or old.
+# `./vcdedit` proves and builds the programs where they are missing or old.
 build:
 	@./vcdedit -i examples/handshake.vcd --script /dev/null
 
 install: build ## to /usr/local, or PREFIX=FOLDER; DESTDIR=FOLDER goes before that, for a package
 	@set -e; umask 022; $(FOLDERS); \
 	stage=$$(mktemp -d); trap 'rm -rf "$$stage"' EXIT; share="$$stage/share"; documents="$$share/doc/vcdedit"; \
-	install -D -m 755 crates/vcdedit/out/vcdedit "$$stage/libexec/vcdedit"; \
-	install -D -m 755 crates/vcdedit_narrow/out/vcdedit_narrow "$$stage/libexec/vcdedit-narrow"; \
+	for name in $(PROGRAMS); do crate=$$(echo $$name | tr - _); \
+	install -D -m 755 "crates/$$crate/out/$$crate" "$$stage/libexec/$$name"; done; \
 	install -D -m 755 -t "$$stage/bin" $(TOOLS:%=tools/%); \
 	install -D -m 644 -t "$$share/vcdedit" tools/*.py tools/*.txt; \
 	install -D -m 644 -t "$$stage/$(ZSH_FOLDER)" completions/_vcdedit; \

@@ -18,7 +18,7 @@ EDITS = [edit.decode() for edit in vcd_runs.EDITS]
 CASES = os.path.join(TOP, "cases")
 EXAMPLES = os.path.join(TOP, "examples")
 # What `make install` wants of the tree.
-INSTALLED = "vcdedit launch CHANGELOG.md Makefile crates.txt completions docs examples cases tools".split()
+INSTALLED = "vcdedit vcdedit-amend launch CHANGELOG.md Makefile crates.txt completions docs examples cases tools".split()
 SECONDS = 120
 
 
@@ -100,12 +100,22 @@ def module_of(script):
 
 def narrow_of(program):
     """The vcdedit-narrow that was built beside a vcdedit, in the tree of its crate, or else next to it."""
-    crates, name = os.path.split(program.removesuffix("/vcdedit/out/vcdedit"))
-    return os.path.join(crates, name, "vcdedit_narrow/out/vcdedit_narrow") if name == "crates" else program + "-narrow"
+    return built_beside(program, "narrow")
+
+
+def amend_of(program):
+    """The same of vcdedit-amend."""
+    return built_beside(program, "amend")
+
+
+def built_beside(program, name):
+    folder = program.removesuffix("/vcdedit/out/vcdedit")
+    in_tree = os.path.basename(folder) == "crates"
+    return os.path.join(folder, "vcdedit_%s/out/vcdedit_%s" % (name, name)) if in_tree else program + "-" + name
 
 
 def lay_out(program, folder):
-    """A copy of the tree in a folder, as far as it is installed, with both programs where they are built."""
+    """A copy of the tree in a folder, as far as it is installed, with the programs where they are built."""
     for part in INSTALLED:
         source, copy = os.path.join(TOP, part), os.path.join(folder, part)
         if os.path.isdir(source):
@@ -114,7 +124,7 @@ def lay_out(program, folder):
         else:
             shutil.copy2(source, copy)
     built = os.path.join(folder, "crates/vcdedit/out/vcdedit")
-    for source, copy in ((program, built), (narrow_of(program), narrow_of(built))):
+    for source, copy in ((program, built), *((of(program), of(built)) for of in (amend_of, narrow_of))):
         os.makedirs(os.path.dirname(copy))
         shutil.copy(source, copy)
 

@@ -5,7 +5,7 @@
                         standard output, each by one write
      READ_AT_MOST=N     a read gives at most N bytes
      WRITE_AT_MOST=N    a write takes at most N bytes
-     REPLY_ROOM=N       standard output takes N bytes in all, and then fails as a full disc does
+     REPLY_ROOM=N       standard output takes N bytes in all, and then fails as a full disk does
      OUTPUT_ROOM=N      the file that is written does so
      TAKES_NONE=1       where it would fail so, a write takes no byte instead
      FAILS_ONCE=1       where it would fail so, it does once, and then takes all

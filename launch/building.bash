@@ -6,15 +6,16 @@ say() {
 }
 
 # Says what was asked for where the answer needs no program: help and the version are in the tree, as cases.
-answer_from_the_tree() { # WORD
+answer_from_the_tree() { # PROGRAM WORD
     local answer
-    case "$1" in
+    case "$2" in
         -h | --help) answer=help ;;
         -V | --version) answer=version ;;
         *) return ;;
     esac
+    [[ "$1" == vcdedit ]] || answer="${1#vcdedit-}-$answer"
     if ! cat "$top/cases/$answer/replies.txt" 2>/dev/null; then
-        echo "vcdedit: replies: write fault" >&2
+        echo "$1: replies: write fault" >&2
         exit 4
     fi
     exit 0

@@ -1,4 +1,4 @@
-# The end of ./vcdedit and of the script that `make install` makes: runs $program with the words given.
+# The end of ./vcdedit and of the scripts that `make install` makes: runs $program with the words given.
 
 # The machine's memory in KiB, or the limit of a control group of this process, where one is lower.
 memory_in_kib() {

@@ -25,7 +25,7 @@ MEANINGS = {(one.kind, one.name): ("%s\n    %s" % (one.means, one.remedy)).repla
 
 # What other lines on standard error mean.
 ENDINGS = {
-    "vcdedit: output: write fault": ["the new capture can't be written: is the disc full?"],
+    "vcdedit: output: write fault": ["the new capture can't be written: is the disk full?"],
     "vcdedit: out of memory": ["out of memory", MEANINGS["fault", "NoMemory"]],
 }
 

@@ -46,7 +46,7 @@ FIRST = '#!/bin/sh\n[ -e ../first ] || { : > ../first; exec %s "$@"; }\n'
 REST = "vcdedit-apply: 1 capture written. This goes on with the rest:\n    vcdedit-apply -- script %s\n"
 # How a run fails, its status, and what is told.
 FAILING = [
-    ("echo 'vcdedit: output: write fault' >&2; exit 4", 4, "is the disc full?"),
+    ("echo 'vcdedit: output: write fault' >&2; exit 4", 4, "is the disk full?"),
     ("echo 'vcdedit: out of memory' >&2; exit 5", 5, "out of memory"),
     ("kill -9 $$", 5, "signal 9"),
     ('echo "ok\n$done"; : > "$out"; exit 0', 4, "wrote nothing"),

@@ -12,10 +12,10 @@ use std::io;
 use std::io::Write;
 use std::rt::Runtime;
 use vcd_core::{Capture, FromRead, Sink, Source, ToWrite};
-use vcd_text::{Loaded, ReadError, read, read_part, write};
+use vcd_text::{Loaded, ReadError, VARIABLE_LIMIT, read, read_part, write};
 
 /// How many bytes a sink into memory takes without more memory.
-const ROOM: usize = 1_000_000;
+pub const ROOM: usize = 1_000_000;
 
 /// The capture that a text means.
 pub fn capture_of_text(alloc: Global, text: &[u8]) -> Result<Capture, Failure>
@@ -65,13 +65,20 @@ pub fn call_read_part<R: Runtime + AllocGlobal>(rt: &R, call: &Call) -> Result<(
     let mut source = FromRead::new(call.text);
     if call.makes {
         refuse(rt)?;
-        tell_loaded(rt, read_part(rt.alloc(), &mut source, &mut part))?;
+        tell_loaded(
+            rt,
+            read_part(rt.alloc(), &mut source, VARIABLE_LIMIT, &mut part),
+        )?;
     }
     tell_source(rt, call, source)
 }
 
 /// Prints whether a source of the capture's text has failed, and whether its rest ends the text.
-fn tell_source<R: Runtime>(rt: &R, call: &Call, source: FromRead<&[u8]>) -> Result<(), Failure> {
+pub fn tell_source<R: Runtime>(
+    rt: &R,
+    call: &Call,
+    source: FromRead<&[u8]>,
+) -> Result<(), Failure> {
     let has_failed = source.failed();
     let is_rest = call.text.ends_with(source.into_inner());
     println!(rt; "failed {has_failed}, rest of the text {is_rest}")?;

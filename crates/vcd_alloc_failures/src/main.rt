@@ -11,6 +11,7 @@
 //! | `copy_word`, `copy_words`, `copy_scopes`: of the first signal | | |
 //! | `share_path`, `prefix`: of a path of its own; `share_scopes`: `ScopePath::shared` | | |
 //! | `read`, `write`, `uart`, `spi`, `i2c`, `Session::new` | | |
+//! | `copy_file`: the `copy` of `vcd_text`; `declared_variables` | | |
 //! | `read_part` | `no_signal`, `first_tick` or `last_tick` | |
 //! | `apply`, `revert` | an edit | |
 //! | `held`: lets the record of an edit go | an edit | `undo`, or nothing |
@@ -25,6 +26,7 @@
 #![tactic(auto)]
 
 mod calls;
+mod copies;
 mod decoders;
 mod edits;
 mod files;

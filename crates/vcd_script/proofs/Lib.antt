@@ -1,1 +1,2 @@
 pub mod worked
+pub mod shared

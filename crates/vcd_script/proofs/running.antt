@@ -1,3 +1,2 @@
 -- Lemmas of `running`.
-pub mod LinesAndHistory
 pub mod PartsOfRun

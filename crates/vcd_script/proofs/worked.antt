@@ -1,4 +1,2 @@
 -- Worked cases.
 pub mod HollowRun
-pub mod AmendedRun
-pub mod EditedText

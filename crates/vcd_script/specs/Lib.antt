@@ -7,6 +7,7 @@ pub mod ScriptWords
 pub mod DecoderWords
 pub mod ScriptCommands
 pub mod Script
+pub mod ScriptFaults
 pub mod Queries
 pub mod CommandSignals
 pub mod DecoderReply
@@ -15,8 +16,6 @@ pub mod SessionLines
 pub mod LineRunEnds
 pub mod Run
 pub mod HollowRun
-pub mod AmendedRun
-pub mod EditedText
 pub mod HollowPart
 pub mod FileLaws
 pub mod RunEnds

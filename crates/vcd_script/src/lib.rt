@@ -11,8 +11,8 @@
 //!
 //! A caller that has a session carries lines out on it: [`run_lines`] all of them, or one at a time
 //! [`answer_line`], which gives a [`Reply`]. [`split_line`] takes a line off a script, and
-//! [`parse_line`] says what it asks for, and changes nothing. The laws say what follows from these
-//! contracts.
+//! [`parse_line`] says what it asks for, and changes nothing; [`waves_of_command`] says whose
+//! changes that needs. The laws say what follows from these contracts.
 #![tactic(auto)]
 
 mod laws;
@@ -21,13 +21,12 @@ mod running;
 mod script;
 
 pub use laws::{
-    cut_file_is_read_again, cuts_in_force_retime_files, edited_file_is_read_again,
-    hollow_captures_are_parts, lines_are_of_outline, runs_on_hollow_captures,
-    same_bytes_same_result, session_lines_are_run, signals_remain,
+    cut_file_is_read_again, hollow_captures_are_parts, lines_are_of_outline,
+    runs_on_hollow_captures, same_bytes_same_result, session_lines_are_run,
 };
 pub use replies::{Reply, answer_line};
 pub use running::run::run;
 pub use running::run_lines::run_lines;
 pub use running::run_on_bytes::{RunRefusal, RunTexts, Stage, run_on_bytes};
-pub use running::{RunError, SCRIPT_LIMIT, Summary};
-pub use script::{Command, LineError, parse_line, split_line};
+pub use running::{RunError, SCRIPT_LIMIT, Summary, read_script};
+pub use script::{Command, LineError, parse_line, split_line, waves_of_command};

@@ -8,4 +8,4 @@ pub mod run_on_bytes;
 mod script_input;
 
 pub use run_error::{RunError, Summary};
-pub use script_input::SCRIPT_LIMIT;
+pub use script_input::{SCRIPT_LIMIT, read_script};

@@ -1,6 +1,7 @@
 //! A script: its lines, and what each of them asks for.
 
 mod command;
+mod command_waves;
 mod decoder_words;
 mod decoders;
 mod derivations;
@@ -14,6 +15,7 @@ mod queries;
 mod splitting;
 
 pub use command::Command;
+pub use command_waves::waves_of_command;
 pub use line::parse_line;
 pub use line_error::LineError;
 pub use splitting::split_line;

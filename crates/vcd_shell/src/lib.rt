@@ -7,14 +7,19 @@ mod opening;
 mod options;
 mod program;
 mod reporting;
+mod safe_file;
 mod words;
 
 pub use late_file::LateFile;
-pub use opening::{Origin, open_capture};
-pub use options::{input_option, output_option, value_option};
+pub use opening::{DEFAULT_SCRIPT, Origin, open_capture, open_script};
+pub use options::{
+    capture_argument, depth_of, depth_option, input_option, output_option, script_option,
+    value_option,
+};
 pub use program::{Program, status_of_program};
 pub use reporting::{
-    capture_status, report, report_capture, report_no_memory, report_with, report_write,
-    write_status,
+    capture_status, done_status, output_status, report, report_capture, report_no_memory,
+    report_output, report_run_error, report_with, report_write, run_error_status, write_status,
 };
+pub use safe_file::{OutputFault, SafeFile};
 pub use words::WithoutRun;

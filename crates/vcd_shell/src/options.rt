@@ -1,11 +1,13 @@
-//! The options that both programs have.
+//! The options that programs share.
 
-ghost use Rattle.std.specs.Prelude.{◌≡◌, false};
-ghost use Rattle.clap.specs.Words.{rule_of};
+ghost use Rattle.std.specs.Prelude.{◌≡◌, ◌≤◌, false, codes};
+ghost use Rattle.clap.specs.Words.{found_of, one_text, rule_of};
 ghost use Rattle.vcd_shell.specs.Options as spec;
 
-use clap::Arg;
+use clap::builder::ValueParser;
+use clap::{Arg, ArgAction, ArgMatches};
 use std::alloc::Global;
+use vcd_journal::DEPTH_LIMIT;
 
 /// `-i FILE` or `--input-file FILE`.
 pub fn input_option<'a>(alloc: Global) -> Arg<'a>
@@ -22,6 +24,51 @@ pub fn output_option<'a>(alloc: Global, help: &'a str) -> Arg<'a>
     ensures local { result.global ≡ false }
 {
     value_option(alloc, "output-file", "FILE", help).short('o')
+}
+
+/// `CAPTURE`, without an option.
+pub fn capture_argument<'a>(alloc: Global) -> Arg<'a>
+    ensures rule { rule_of result ≡ spec.capture_argument }
+    ensures local { result.global ≡ false }
+{
+    Arg::new(alloc, "capture")
+        .value_name("CAPTURE")
+        .help("The same, without -i")
+}
+
+/// `--script FILE`.
+pub fn script_option<'a>(alloc: Global) -> Arg<'a>
+    ensures rule { rule_of result ≡ spec.value_option (codes "script") }
+    ensures local { result.global ≡ false }
+{
+    let help = "The script to carry out; without it, the one line `list`";
+    value_option(alloc, "script", "FILE", help)
+}
+
+/// `--depth N`, a number from 1 to the limit. Without it the depth is 100.
+pub fn depth_option<'a>(alloc: Global) -> Arg<'a>
+    ensures rule { rule_of result ≡ spec.depth_option }
+    ensures local { result.global ≡ false }
+{
+    Arg::new(alloc, "depth")
+        .long("depth")
+        .value_name("N")
+        .action(ArgAction::Set)
+        .value_parser(ValueParser::unsigned(1, DEPTH_LIMIT))
+        .default_value("100")
+        .help("How many edits undo and redo can take, from 1 to 1000")
+}
+
+/// The depth, which accepted words have in its range.
+pub fn depth_of(matches: &ArgMatches<'_>) -> u64
+    ensures depth { result ≡ spec.depth_asked (one_text (found_of matches.now) (codes "depth")) }
+    ensures least { 1 ≤ result }
+    ensures most { result ≤ DEPTH_LIMIT }
+{
+    match matches.get_one::<u64>("depth") {
+        Some(depth) if 1 <= depth && depth <= DEPTH_LIMIT => depth,
+        _ => 1,
+    }
 }
 
 /// An option `--NAME VALUE`, with this help.

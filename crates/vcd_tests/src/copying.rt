@@ -1,7 +1,7 @@
 //! Copies of a file in which an amender exchanges some items, by devices that give and take little
 //! or fail.
 
-ghost use Rattle.std.specs.Prelude.{◌≡◌, ◌++◌, [], codes, bytes_eq, if◌then◌else◌};
+ghost use Rattle.std.specs.Prelude.{◌≡◌, ◌++◌, [], false, codes, bytes_eq, if◌then◌else◌};
 ghost use Rattle.std.specs.Option.{unwrap_or};
 ghost use Rattle.vcd_text.specs.Copied.{Shows, value_code};
 ghost use Rattle.vcd_text.specs.EmittedText.{Emits};
@@ -13,8 +13,10 @@ use crate::fixtures::{check_holds, file_of};
 use std::alloc::Global;
 use std::process::Abort;
 use std::test::Fail;
-use vcd_core::{NoMemory, Sink};
-use vcd_text::{AmendableItem, Amender, CopyError, Output, WriteError, copy, write_bytes};
+use vcd_core::{NoMemory, ScopeName, Sink};
+use vcd_text::{
+    AmendableItem, Amender, CopyError, Output, VARIABLE_LIMIT, WriteError, copy, write_bytes,
+};
 
 /// A file with white space of all kinds, and items of several words.
 const FILE: &str = "$comment one two $end\t$timescale 1 ns $end
@@ -55,6 +57,8 @@ impl<W: Sink> Amender<W> for Exchanges {
 
     ghost has_seen = { λ _ _. Unit {0} };
 
+    ghost is_done = { λ _. false };
+
     fn let_stand(&mut self, item: AmendableItem, code: &[u8]) -> bool {
         is_standing(item, code)
     }
@@ -64,6 +68,7 @@ impl<W: Sink> Amender<W> for Exchanges {
         output: &mut Output<W>,
         item: AmendableItem,
         code: &[u8],
+        _scopes: &[ScopeName],
         space: &[u8],
         body: &[u8],
     ) -> Result<(), NoMemory> {
@@ -88,6 +93,10 @@ impl<W: Sink> Amender<W> for Exchanges {
     }
 
     fn pass(&mut self) {}
+
+    fn is_done(&self) -> bool {
+        false
+    }
 
     fn finish(&mut self, output: &mut Output<W>, space: &[u8]) -> Result<(), NoMemory> {
         write_parts(output, b"", space, b" $comment copied $end");
@@ -140,7 +149,13 @@ fn check_copied(
 ) {
     let mut sink = sink_of(writer);
     let mut source = source_of(reader);
-    let ended = copy(alloc, &mut source, &mut Exchanges, &mut sink);
+    let ended = copy(
+        alloc,
+        &mut source,
+        VARIABLE_LIMIT,
+        &mut Exchanges,
+        &mut sink,
+    );
     check_holds(rt, ended == wanted, "how the copy ended");
     let copied = COPY.as_bytes().get(..count) == Some(sink.into_inner().held.as_slice());
     check_holds(rt, copied, "what was copied");
@@ -188,7 +203,13 @@ $var wire 1 ! old $end|$enddefinitions $end|#7 0!|#6: 4 TimeBackwards";
 fn answer_to(alloc: Global, reader: FakeReader) -> (u64, &'static str) {
     let mut sink = sink_of(FakeWriter::new(alloc, 7));
     let mut source = source_of(reader);
-    match copy(alloc, &mut source, &mut Exchanges, &mut sink) {
+    match copy(
+        alloc,
+        &mut source,
+        VARIABLE_LIMIT,
+        &mut Exchanges,
+        &mut sink,
+    ) {
         Ok(()) => (0, "copied"),
         Err(CopyError::Read(error)) => (error.line, error.name()),
         Err(CopyError::Write(error)) => (0, error.name()),
@@ -220,4 +241,81 @@ fn a_reader_that_fails_at_the_end(rt: HostRuntime) {
     reader.fails_at_end = true;
     let found = answer_to(rt.alloc(), reader);
     check_holds(&rt, found == (9, "ReadFault"), "a reader that fails");
+}
+
+/// Lets all items stand, up to the changes.
+#[derive(Drop)]
+struct UpToChanges {
+    is_done: bool,
+}
+
+impl<W: Sink> Amender<W> for UpToChanges {
+    ghost rules = { λ _. record {
+      in_place = λ before p. p.space ++ p.body;
+      at_end = λ pieces tail. tail;
+    } };
+
+    ghost has_seen = { λ _ _. Unit {0} };
+
+    ghost is_done = { λ amender. amender.is_done };
+
+    fn let_stand(&mut self, item: AmendableItem, _code: &[u8]) -> bool {
+        if let AmendableItem::EndDefinitions { .. } = item {
+            self.is_done = true;
+        }
+        true
+    }
+
+    fn take(
+        &mut self,
+        output: &mut Output<W>,
+        _item: AmendableItem,
+        _code: &[u8],
+        _scopes: &[ScopeName],
+        space: &[u8],
+        body: &[u8],
+    ) -> Result<(), NoMemory> {
+        write_parts(output, b"", space, body);
+        Ok(())
+    }
+
+    fn pass(&mut self) {}
+
+    fn is_done(&self) -> bool {
+        self.is_done
+    }
+
+    fn finish(&mut self, output: &mut Output<W>, space: &[u8]) -> Result<(), NoMemory> {
+        write_parts(output, b"", space, b"");
+        Ok(())
+    }
+}
+
+#[test]
+fn an_amender_that_is_done(rt: HostRuntime) -> Result<(), Fail> {
+    let file = b"$var wire 1 ! s $end $enddefinitions $end 0! bad";
+    let mut source = source_of(FakeReader::new(file, 7));
+    let mut sink = sink_of(FakeWriter::new(rt.alloc(), 7));
+    let mut amender = UpToChanges { is_done: false };
+    let ended = copy(
+        rt.alloc(),
+        &mut source,
+        VARIABLE_LIMIT,
+        &mut amender,
+        &mut sink,
+    );
+    check_holds(&rt, ended == Ok(()), "how a copy ends that stops");
+    check_holds(
+        &rt,
+        source.into_inner().rest == b"0! bad".as_slice(),
+        "what is left to read",
+    );
+    let written = sink.into_inner().held;
+    let declarations = b"$var wire 1 ! s $end $enddefinitions $end";
+    check_holds(
+        &rt,
+        written.as_slice() == declarations.as_slice(),
+        "what is written",
+    );
+    Ok(())
 }

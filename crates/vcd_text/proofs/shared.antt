@@ -13,5 +13,11 @@ pub mod FirstItem
 pub mod ItemsInTurn
 pub mod WordOutcomes
 pub mod OneOf
+pub mod WordsInTurn
+pub mod WordsByBytes
+pub mod SharedScopes
+pub mod ValuesOfCodes
 pub mod WeakerTests
 pub mod FailedResults
+pub mod EmittedParts
+pub mod TransitionOrder

@@ -1,4 +1,3 @@
 -- Lemmas of `writing`.
 pub mod TextParts
-pub mod SharedScopes
 pub mod CodeDigits

@@ -1,12 +1,14 @@
 -- The copy of a file: rules say what is in the place of variables, stamps and changes, and all else
 -- stands byte for byte. The project's own.
 use Rattle.std.specs.Prelude.{◌≡◌, ℕ, Bool, true, false, if◌then◌else◌, List, [], ◌∷◌, ◌++◌, map}
-use Rattle.std.specs.Prelude.{length}
+use Rattle.std.specs.Prelude.{length, IsFalse}
+use Rattle.std.specs.List.{flat_map}
 use Rattle.std.specs.Prelude.{Option, Some, None, IsTrue}
 use Rattle.vcd_core.specs.Decimal.{number_of}
+use Rattle.vcd_core.specs.declared.capture.ScopeName.{ScopeName}
 use Rattle.vcd_text.specs.Words.{words_of}
 use Rattle.vcd_text.specs.Items.{Item, variable, end_definitions, stamp, scalar, vector}
-use Rattle.vcd_text.specs.Items.{real_or_string, spelling}
+use Rattle.vcd_text.specs.Items.{real_or_string, spelling, spellings}
 use Rattle.vcd_text.specs.Grammar.{ParseState, initial_state, AllowsAll, word_texts}
 use Rattle.vcd_text.specs.Pieces.{Piece, IsCut, state_of_pieces}
 use Rattle.vcd_text.specs.declared.copying.amender.AmendableItem.{AmendableItem}
@@ -89,3 +91,26 @@ pub record IsShownNext (limit : ℕ) (before : List Piece) (p : Piece) (item : A
     : Type 0 where
   pub next : IsNext limit before p space body
   pub shows : Shows (state_of_pieces limit before) item code p.item
+
+-- the same, while these scopes are open, outermost first
+pub record IsTakenNext (limit : ℕ) (before : List Piece) (p : Piece) (item : AmendableItem)
+    (code : List ℕ) (scopes : List ScopeName) (space body : List ℕ)
+    : Type 0 where
+  pub shown : IsShownNext limit before p item code space body
+  pub scopes_are : scopes ≡ (state_of_pieces limit before).scopes
+
+-- ---- what an amender was told
+
+-- the file begins with these pieces, of which an amender was told; if it is not done, they are all
+-- of it
+pub record IsTold (limit : ℕ) (done : Bool) (told : List Piece → Type 0) (file : List ℕ) : Type 0
+  where
+    pub pieces : List Piece
+    pub rest : List ℕ
+    pub later : List (List ℕ)
+    pub cut : IsCut (flat_map (λ p. p.space ++ p.body) pieces) pieces []
+    pub whole : file ≡ flat_map (λ p. p.space ++ p.body) pieces ++ rest
+    pub words : word_texts (words_of file) ≡ spellings (piece_items pieces) ++ later
+    pub allowed : AllowsAll (initial_state limit) (piece_items pieces)
+    pub is_told : told pieces
+    pub all : IsFalse done → (later ≡ []) × IsTrue (state_of_pieces limit pieces).in_body

@@ -16,10 +16,10 @@ pub record ReadFails (limit byte_limit : ℕ) (coming left : Option (List ℕ)) 
   pub other : (e.fault ≡ faults.ReadFault → ⊥) → IsFalse failed
 
 -- why a file was not copied: the fault of reading it, or that of the writer, which took a counted
--- prefix of some text
+-- prefix of some text; the reader has then not failed
 abbrev pub CopyFails : (limit byte_limit : ℕ) → (coming left : Option (List ℕ)) → (failed : Bool)
     → (before after : Option (List ℕ)) → (writer_failed : Bool) → CopyError → Type 0
 CopyFails limit byte_limit coming left failed before after writer_failed (copy_errors.Read e) =
     ReadFails limit byte_limit coming left failed e
 CopyFails limit byte_limit coming left failed before after writer_failed (copy_errors.Write e) =
-    (text : List ℕ) × TookBefore text before after writer_failed e
+    IsFalse failed × (text : List ℕ) × TookBefore text before after writer_failed e

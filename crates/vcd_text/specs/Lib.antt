@@ -23,15 +23,4 @@ pub mod Pieces
 pub mod CutLaws
 pub mod Copied
 pub mod CopyEnds
-pub mod Amendment
-pub mod AmendedItems
-pub mod AmendedMeaning
-pub mod AmendedText
-pub mod AmendedCopy
-pub mod CodedAmendment
-pub mod FreshCodes
-pub mod GivenCodes
-pub mod WhatStands
-pub mod Retimed
-pub mod RetimedLaws
 pub mod inside

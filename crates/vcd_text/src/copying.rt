@@ -1,11 +1,11 @@
 //! Copies a capture file. What stands is copied byte for byte; an amender says what is in the place
 //! of variables, stamps and changes.
 
-ghost use Rattle.std.specs.Prelude.{◌≡◌, ◌<◌, ◌≤◌, ◌^◌, List, [], ℕ, true, false, length};
+ghost use Rattle.std.specs.Prelude.{◌≡◌, ◌⊎◌, ◌<◌, ◌≤◌, ◌^◌, List, [], ℕ, true, false, length};
 ghost use Rattle.std.specs.Prelude.{OnOk, IsOk, IfErr, IfSome};
 ghost use Rattle.std.specs.Io.KnownBytes.{Appends, Keeps, IsAtEnd};
 ghost use Rattle.vcd_text.specs.Parts.{IsPartRefusal, answers_of};
-ghost use Rattle.vcd_text.specs.Copied.{IsCopy};
+ghost use Rattle.vcd_text.specs.Copied.{IsCopy, IsTold};
 ghost use Rattle.vcd_text.specs.CopyEnds.{CopyFails, ReadFails};
 ghost use Rattle.vcd_text.specs.inside.Copying.{TookCopy};
 ghost use Rattle.vcd_text.specs.EmittedText.{EmitsMore};
@@ -18,9 +18,9 @@ mod ended_items;
 mod pieces;
 
 use crate::fault::{CopyError, Fault, ReadError, WriteError};
+use crate::reading::LONG_FILE_LIMIT;
 use crate::reading::choice::{Choice, Unheard};
 use crate::reading::file_reader::FileReader;
-use crate::reading::{LONG_FILE_LIMIT, VARIABLE_LIMIT};
 use crate::writing::output::{Output, empty_buffer, flush, send_buffer};
 pub use amender::{AmendableItem, Amender};
 use copier::Copier;
@@ -31,32 +31,42 @@ use vcd_core::{Sink, Source};
 /// Copies a capture file, with what an amender writes in the place of variables, stamps and
 /// changes. The writer is flushed once, after the last byte.
 ///
+/// After the chunk in which the amender is done, the rest of the file is not read, and the result
+/// is `Ok`. What the writer took is then of no use.
+///
 /// The file is read as `read_part` reads it, with no signal and no choice: the grammar, the first
-/// fault and its line are the same. At a fault of the file, what the writer took is of no use. At
-/// `WriteFault` the writer has failed, and took exactly `written` bytes. Tests show that these are
-/// the first bytes of the copy; no clause says so.
+/// fault and its line are the same. A file has at most `LONG_FILE_LIMIT` bytes and `limit` kept
+/// variables. At a fault of the file, what the writer took is of no use. At `WriteFault` the writer
+/// has failed, and took exactly `written` bytes. Tests show that these are the first bytes of the
+/// copy; no clause says so.
 ///
 /// Memory: a chunk of at most 4,096 bytes, the longest word, the longest `$var`, the longest white
 /// space, and what `read_part` holds of the declarations; nothing of the changes.
 pub fn copy<R: Source, W: Sink, A: Amender<W>>(
     alloc: Global,
     reader: &mut R,
+    limit: u32,
     amender: &mut A,
     writer: &mut W,
 ) -> Result<(), CopyError>
     requires reader_ready { R.has_failed reader.old ≡ false }
     requires writer_ready { W.has_failed writer.old ≡ false }
     requires begins { A.has_seen amender.old [] }
-    ensures copied { OnOk result (IfSome (R.coming reader.old) (λ file.
+    ensures copied { OnOk result (A.is_done amender.new ≡ false →
+        IfSome (R.coming reader.old) (λ file.
         (length file ≤ LONG_FILE_LIMIT)
-        × (text : List ℕ) × IsCopy VARIABLE_LIMIT (A.rules amender.old) file text
+        × (text : List ℕ) × IsCopy limit (A.rules amender.old) file text
         × Appends (W.taken writer.old) (W.taken writer.new) text)) }
     ensures not_failed { OnOk result (W.has_failed writer.new ≡ false) }
     ensures flushed { OnOk result (W.is_flushed writer.new ≡ true) }
-    ensures ended { OnOk result (IsAtEnd (R.coming reader.new)) }
+    ensures told { OnOk result (IfSome (R.coming reader.old)
+        (IsTold limit (A.is_done amender.new) (λ pieces. A.has_seen amender.new pieces
+        ⊎ A.has_ended amender.new pieces))) }
+    ensures ended { OnOk result (A.is_done amender.new ≡ false →
+        IsAtEnd (R.coming reader.new)) }
     ensures reader_not_failed { OnOk result (R.has_failed reader.new ≡ false) }
     ensures taken { (text : List ℕ) × Appends (W.taken writer.old) (W.taken writer.new) text }
-    ensures fails { IfErr result (CopyFails VARIABLE_LIMIT LONG_FILE_LIMIT (R.coming reader.old)
+    ensures fails { IfErr result (CopyFails limit LONG_FILE_LIMIT (R.coming reader.old)
         (R.coming reader.new) (R.has_failed reader.new) (W.taken writer.old) (W.taken writer.new)
         (W.has_failed writer.new)) }
 {
@@ -66,7 +76,7 @@ pub fn copy<R: Source, W: Sink, A: Amender<W>>(
         sent_count: 0,
         writer,
     };
-    let copied = copy_all(alloc, reader, amender, &mut output);
+    let copied = copy_all(alloc, reader, limit, amender, &mut output);
     send_buffer(&mut output);
     let Output {
         unsent,
@@ -88,7 +98,7 @@ fn end_copy<W: Sink>(
     ensures read { IfErr result (λ e. (error : ReadError) → e ≡ copy_errors.Read error →
         copied ≡ Err error) }
     ensures wrote { IfErr result (λ e. (error : WriteError) → e ≡ copy_errors.Write error →
-        (error ≡ WriteFault written) × (W.has_failed writer.new ≡ true)) }
+        (error ≡ WriteFault written) × (W.has_failed writer.new ≡ true) × IsOk copied) }
     ensures was_ready { OnOk result (W.has_failed writer.old ≡ false) }
     ensures not_failed { OnOk result (W.has_failed writer.new ≡ false) }
     ensures flushed { OnOk result (W.is_flushed writer.new ≡ true) }
@@ -102,23 +112,29 @@ fn end_copy<W: Sink>(
     }
 }
 
-/// Copies a file into the output. It stops early if the writer fails.
+/// Copies a file into the output. It stops early if the writer fails, or if the amender is done.
 fn copy_all<R: Source, W: Sink, A: Amender<W>>(
     alloc: Global,
     reader: &mut R,
+    limit: u32,
     amender: &mut A,
     output: &mut Output<W>,
 ) -> Result<(), ReadError>
     requires ready { R.has_failed reader.old ≡ false }
     requires begins { A.has_seen amender.old [] }
     ensures copied { OnOk result (W.has_failed output.new.writer.now ≡ false →
-        IfSome (R.coming reader.old) (λ file. (length file ≤ LONG_FILE_LIMIT)
-        × TookCopy W.Sink VARIABLE_LIMIT (A.rules amender.old) output.old output.new file)) }
+        A.is_done amender.new ≡ false → IfSome (R.coming reader.old)
+        (λ file. (length file ≤ LONG_FILE_LIMIT)
+        × TookCopy W.Sink limit (A.rules amender.old) output.old output.new file)) }
+    ensures told { OnOk result (W.has_failed output.new.writer.now ≡ false →
+        IfSome (R.coming reader.old)
+        (IsTold limit (A.is_done amender.new) (λ pieces. A.has_seen amender.new pieces
+        ⊎ A.has_ended amender.new pieces))) }
     ensures ended { OnOk result (W.has_failed output.new.writer.now ≡ false →
-        IsAtEnd (R.coming reader.new)) }
+        A.is_done amender.new ≡ false → IsAtEnd (R.coming reader.new)) }
     ensures not_failed { OnOk result (R.has_failed reader.new ≡ false) }
     ensures more { EmitsMore W.Sink output.old output.new }
-    ensures fails { IfErr result (ReadFails VARIABLE_LIMIT LONG_FILE_LIMIT (R.coming reader.old)
+    ensures fails { IfErr result (ReadFails limit LONG_FILE_LIMIT (R.coming reader.old)
         (R.coming reader.new) (R.has_failed reader.new)) }
 {
     let mut choice = Unheard;
@@ -128,13 +144,13 @@ fn copy_all<R: Source, W: Sink, A: Amender<W>>(
         &mut choice,
         amender,
         output,
-        VARIABLE_LIMIT,
+        limit,
         LONG_FILE_LIMIT,
     )
 }
 
 /// Copies a file with at most `limit` kept variables, and at most `most` bytes. It stops early if
-/// the writer fails.
+/// the writer fails, or if the amender is done.
 fn copy_within<R: Source, C: Choice, W: Sink, A: Amender<W>>(
     alloc: Global,
     reader: &mut R,
@@ -148,10 +164,14 @@ fn copy_within<R: Source, C: Choice, W: Sink, A: Amender<W>>(
     requires ready { R.has_failed reader.old ≡ false }
     requires begins { A.has_seen amender.old [] }
     ensures copied { OnOk result (W.has_failed output.new.writer.now ≡ false →
-        IfSome (R.coming reader.old) (λ file. (length file ≤ most)
+        A.is_done amender.new ≡ false → IfSome (R.coming reader.old) (λ file. (length file ≤ most)
         × TookCopy W.Sink limit (A.rules amender.old) output.old output.new file)) }
+    ensures told { OnOk result (W.has_failed output.new.writer.now ≡ false →
+        IfSome (R.coming reader.old)
+        (IsTold limit (A.is_done amender.new) (λ pieces. A.has_seen amender.new pieces
+        ⊎ A.has_ended amender.new pieces))) }
     ensures ended { OnOk result (W.has_failed output.new.writer.now ≡ false →
-        IsAtEnd (R.coming reader.new)) }
+        A.is_done amender.new ≡ false → IsAtEnd (R.coming reader.new)) }
     ensures not_failed { OnOk result (R.has_failed reader.new ≡ false) }
     ensures more { EmitsMore W.Sink output.old output.new }
     ensures refused { IfErr result (λ e. IfSome (R.coming reader.old) (λ file.
@@ -172,6 +192,9 @@ fn copy_within<R: Source, C: Choice, W: Sink, A: Amender<W>>(
     };
     while copier.take_chunk(alloc, reader, choice, amender, output)? {
         if output.writer.failed() {
+            return Ok(());
+        }
+        if amender.is_done() {
             return Ok(());
         }
     }

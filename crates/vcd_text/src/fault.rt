@@ -43,7 +43,7 @@ pub enum Fault {
     UnknownCode,
     /// More digits than the variable has bits.
     ValueTooLong,
-    /// More kept variables than `SIGNAL_LIMIT`, or than `VARIABLE_LIMIT` if a part is read.
+    /// More kept variables than `SIGNAL_LIMIT`, or than the caller's limit if a part is read.
     TooManySignals,
     /// More signals remain in a part than a capture can have.
     TooManyRemain,

@@ -6,19 +6,7 @@ ghost use Rattle.vcd_text.specs.Laws.{EveryFaultIsFound};
 ghost use Rattle.vcd_text.specs.Laws.{EveryPrefixHasAtMostOneFault, PrefixFaultIsFileFault};
 ghost use Rattle.vcd_text.specs.Laws.{TextIsReadBack, NothingElseIsReadBack, TextHasNoFault};
 ghost use Rattle.vcd_text.specs.PartLaws.{PartOfPartIsPart, AllIsPart};
-ghost use Rattle.vcd_text.specs.AmendedMeaning.{AmendedFileMeansAmendedCapture};
-ghost use Rattle.vcd_text.specs.AmendedMeaning.{SkippedVariablesStand};
-ghost use Rattle.vcd_text.specs.AmendedText.{AmendedTextMeansAmendedCapture};
-ghost use Rattle.vcd_text.specs.AmendedCopy.{CopyIsAmendedText};
 ghost use Rattle.vcd_text.specs.CutLaws.{EveryFileIsCut, CutIsUnique};
-ghost use Rattle.vcd_text.specs.CodedAmendment.{CodedAmendmentGivesCapture};
-ghost use Rattle.vcd_text.specs.FreshCodes.{FreshCodesAreFresh, FreshCodesAreInOrder};
-ghost use Rattle.vcd_text.specs.GivenCodes.{GivenCodesFit, AmendedTextMeansOtherCapture};
-ghost use Rattle.vcd_text.specs.WhatStands.{UntouchedItemsStand};
-ghost use Rattle.vcd_text.specs.RetimedLaws.{RetimedFileMeansRetimedCapture, CutsLeaveTicks};
-ghost use Rattle.vcd_text.specs.RetimedLaws.{LastChangesStand, ChangesStandInOrder};
-ghost use Rattle.vcd_text.specs.RetimedLaws.{StampsStand, OtherPiecesStand};
-ghost use Rattle.vcd_text.specs.RetimedLaws.{RetimedTextMeansRetimedCapture};
 
 /// A file has at most one result. It has no two meanings, no two faults, no two lines of one fault,
 /// and never both a meaning and a fault.
@@ -67,55 +55,8 @@ pub fn parts_agree()
     ensures all { AllIsPart }
 {}
 
-/// If an amendment fits an accepted file, the amended file is accepted, and means the amended
-/// capture. As many variables are skipped as before, and they stand with their changes.
-pub fn amended_file_is_read_again()
-    ensures items { AmendedFileMeansAmendedCapture }
-    ensures skipped { SkippedVariablesStand }
-    ensures text { AmendedTextMeansAmendedCapture }
-{}
-
-/// A file that is amended for another capture means that capture: if its signals have codes that
-/// fit, and so with the codes that are given to them.
-pub fn other_capture_is_read_again()
-    ensures coded { CodedAmendmentGivesCapture }
-    ensures fits { GivenCodesFit }
-    ensures text { AmendedTextMeansOtherCapture }
-{}
-
-/// A file that is amended for another capture means it, and every item stands in it with its bytes
-/// that no difference of the captures touches.
-pub fn untouched_items_stand()
-    ensures { UntouchedItemsStand }
-{}
-
-/// A file always has fresh codes for new variables: words that no variable of the file has, no two
-/// of them the same. They are the first ones of a written text that are fresh, in order.
-pub fn fresh_codes_are_fresh()
-    ensures fresh { FreshCodesAreFresh }
-    ensures in_order { FreshCodesAreInOrder }
-{}
-
-/// The pieces of a file after cuts are cut from its bytes and accepted, and mean the capture after
-/// the cuts. At each tick that is left the last change of each code stands, with its bytes.
-pub fn retimed_file_is_meant()
-    ensures pieces { RetimedFileMeansRetimedCapture }
-    ensures bytes { RetimedTextMeansRetimedCapture }
-    ensures ticks { CutsLeaveTicks }
-    ensures changes { LastChangesStand }
-    ensures order { ChangesStandInOrder }
-    ensures stamps { StampsStand }
-    ensures others { OtherPiecesStand }
-{}
-
 /// Every file whose words spell items is cut into the pieces of these items, and in one way.
 pub fn file_is_cut()
     ensures cut { EveryFileIsCut }
     ensures one { CutIsUnique }
-{}
-
-/// The copy of a file by the rules of an amendment is the amended text: what `copy` writes for an
-/// amender with these rules.
-pub fn copy_is_amended_text()
-    ensures { CopyIsAmendedText }
 {}

@@ -19,15 +19,16 @@ mod writing;
 pub use copying::{AmendableItem, Amender, copy};
 pub use fault::{CopyError, Fault, ReadError, WriteError};
 pub use laws::{
-    amended_file_is_read_again, copy_is_amended_text, file_is_cut, fresh_codes_are_fresh,
-    has_an_answer, has_one_answer, nothing_else_is_read_back, other_capture_is_read_again,
-    parts_agree, prefix_fault_stays, prefix_has_one_fault, retimed_file_is_meant,
-    text_is_read_back, untouched_items_stand,
+    file_is_cut, has_an_answer, has_one_answer, nothing_else_is_read_back, parts_agree,
+    prefix_fault_stays, prefix_has_one_fault, text_is_read_back,
 };
 pub use reading::{
-    Choice, Declarations, DeclaredSignal, FILE_LIMIT, LONG_FILE_LIMIT, Loaded, TickRange,
-    VARIABLE_LIMIT, read, read_part, value_of_digits,
+    Choice, CodeTargets, Declarations, DeclaredSignal, FILE_LIMIT, LONG_FILE_LIMIT, Loaded,
+    TickRange, VARIABLE_LIMIT, read, read_part, value_of_digits,
 };
 pub use words::{WordOnLine, Words};
+pub use writing::declarations::are_same_words;
 pub use writing::output::{Output, write_byte, write_bytes};
-pub use writing::write;
+pub use writing::{
+    write, write_change, write_declaration, write_scopes, write_stamp, write_upscopes,
+};

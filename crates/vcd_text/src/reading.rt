@@ -37,6 +37,7 @@ use crate::reading::choice::Whole;
 use crate::reading::file_reader::FileReader;
 pub use binary_number::value_of_digits;
 pub use choice::{Choice, TickRange};
+pub use code_targets::CodeTargets;
 pub use declared_signals::{Declarations, DeclaredSignal};
 use std::alloc::Global;
 use vcd_core::{Capture, SIGNAL_LIMIT, Source};
@@ -44,7 +45,7 @@ use vcd_core::{Capture, SIGNAL_LIMIT, Source};
 /// The greatest size of a capture file, in bytes: 4 GiB.
 pub const FILE_LIMIT: usize = 4_294_967_296;
 
-/// The greatest number of kept variables of a file of which a part is read.
+/// The greatest number of kept variables that a part or a copy can be asked for.
 pub const VARIABLE_LIMIT: u32 = 4_294_967_295;
 
 /// The greatest size of a file of which a part is read, in bytes: 4 EiB, less one byte.
@@ -114,27 +115,28 @@ pub fn read<R: Source>(alloc: Global, reader: &mut R) -> Result<Loaded, ReadErro
 /// Time: as of `read`. A change past the part, or of a code that no signal of the part has, is
 /// looked up and checked, and no more. One before the part is pushed to its wave.
 ///
-/// A file has at most 2^62 - 1 bytes and 2^32 - 1 kept variables, of which at most `SIGNAL_LIMIT`
-/// remain.
+/// A file has at most `LONG_FILE_LIMIT` bytes and `limit` kept variables, of which at most
+/// `SIGNAL_LIMIT` remain.
 ///
 /// Memory: as of `read`, but for the changes. Those of the part are held, and the last one before
 /// it of each signal that remains. The names of all kept variables are held to the end.
 pub fn read_part<R: Source, C: Choice>(
     alloc: Global,
     reader: &mut R,
+    limit: u32,
     choice: &mut C,
 ) -> Result<Loaded, ReadError>
     requires ready { R.has_failed reader.old ≡ false }
     ensures means { IfOk result (λ loaded. IfSome (R.coming reader.old) (λ file.
         (length file ≤ LONG_FILE_LIMIT) ×
-        PartMeans VARIABLE_LIMIT (C.takes choice.old)
+        PartMeans limit (C.takes choice.old)
         (answers_of C.answers choice.old choice.new) file
         loaded)) }
     ensures sound { IfOk result (λ loaded. IsSound (contents loaded.capture)) }
     ensures not_failed { OnOk result (R.has_failed reader.new ≡ false) }
     ensures ended { OnOk result (IsAtEnd (R.coming reader.new)) }
     ensures refused { IfErr result (λ e. IfSome (R.coming reader.old) (λ file.
-        IsPartRefusal VARIABLE_LIMIT LONG_FILE_LIMIT (C.takes choice.old)
+        IsPartRefusal limit LONG_FILE_LIMIT (C.takes choice.old)
         (answers_of C.answers choice.old choice.new) file
         (R.has_failed reader.new) (R.coming reader.new) e)) }
     ensures failed { IfErr result (λ e. e.fault ≡ Fault.ReadFault →
@@ -144,7 +146,7 @@ pub fn read_part<R: Source, C: Choice>(
     ensures unfailed { IfErr result (λ e. (e.fault ≡ Fault.ReadFault → ⊥) →
         R.has_failed reader.new ≡ false) }
 {
-    read_within(alloc, reader, choice, VARIABLE_LIMIT, LONG_FILE_LIMIT)
+    read_within(alloc, reader, choice, limit, LONG_FILE_LIMIT)
 }
 
 /// Reads a part of a capture file with at most `limit` kept variables, and at most `most` bytes.

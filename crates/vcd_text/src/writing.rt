@@ -9,7 +9,7 @@ ghost use Rattle.vcd_text.specs.WriteEnds.{TookBefore};
 
 mod codes;
 mod cursors;
-mod declarations;
+pub(crate) mod declarations;
 mod first_values;
 mod lines;
 pub(crate) mod output;
@@ -20,10 +20,13 @@ mod window;
 
 use crate::fault::WriteError;
 use declarations::write_declarations;
+pub use declarations::{write_declaration, write_scopes, write_upscopes};
 use first_values::write_first_values;
 use output::{Output, empty_buffer, flush, send_buffer};
+pub use stamps::write_stamp;
 use std::alloc::Global;
 use transitions::write_transitions;
+pub use values::write_change;
 use vcd_core::{Capture, Sink};
 use window::Window;
 

@@ -1,3 +1,2 @@
 -- Lemmas of `command_line`.
-pub mod AskedDepth
 pub mod AskedOptions

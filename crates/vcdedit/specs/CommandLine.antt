@@ -1,24 +1,11 @@
 -- The options of the command line, and what its words ask for. They are the project's own.
-use Rattle.std.specs.Prelude.{ℕ, List, [], ◌∷◌, codes, true, if◌then◌else◌, Option, Some, None}
+use Rattle.std.specs.Prelude.{ℕ, List, [], ◌∷◌, codes, true, Option}
 use Rattle.std.specs.Option.{option_copied}
-use Rattle.std.specs.Str.Parse.{digits_value, without_leading_plus}
-use Rattle.clap.specs.Words.{App, Rule, Text, first_of, matches_of, new_app, one_of}
+use Rattle.clap.specs.Words.{App, Text, first_of, matches_of, new_app, one_of}
 use Rattle.clap.specs.Simple.{new_shape}
-use Rattle.clap.specs.ValueTests.{is_unsigned_in}
-use Rattle.clap.specs.declared.builder.action.ArgAction.TheVariants.{Set}
-use Rattle.clap.specs.declared.builder.value_parser.ValueParser.TheVariants as parsers
-use Rattle.vcd_journal.specs.declared.step.TheConstants.{DEPTH_LIMIT}
-use Rattle.vcd_shell.specs.Options.{input_option, output_option, value_option}
+use Rattle.vcd_shell.specs.Options.{depth_asked, depth_option, input_option, output_option}
+use Rattle.vcd_shell.specs.Options.{value_option}
 use Rattle.vcdedit.specs.declared.command_line.Options.{Options}
-
--- `--depth N`, a number from 1 to the limit, by default 100
-abbrev pub depth_option : Rule
-depth_option = record
-    (value_option (codes "depth")) {
-      action = Some Set;
-      defaults = codes "100" ∷ [];
-      parser = Some (parsers.Unsigned 1 DEPTH_LIMIT);
-    }
 
 -- the program with these options, help and a version; its words do not begin with its name
 abbrev pub option_app : App
@@ -29,13 +16,6 @@ option_app = record (new_app (codes "vcdedit")) {
     has_version = true;
   };
 }
-
--- the number of the depth's text, if it is from 1 to the limit; accepted words have such a text, if
--- only the default, and 1 stands for any other
-abbrev pub depth_asked : Option Text → ℕ
-depth_asked None = 1
-depth_asked (Some text) = if is_unsigned_in 1 DEPTH_LIMIT text
-    then digits_value 10 (without_leading_plus text) else 1
 
 -- the path of each given option, and the depth
 pub record AskedOptions : Type 0 where

@@ -1,5 +1,3 @@
 -- The definitions of vcdedit, from the words of its command line to the report of a run.
-pub mod Report
 pub mod CommandLine
-pub mod Opening
 pub mod ProgramEnds

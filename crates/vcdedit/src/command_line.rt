@@ -1,15 +1,13 @@
 //! The words of the command line, as `clap` reads them.
 
-ghost use Rattle.std.specs.Prelude.{◌≡◌, ◌≤◌, ℕ, false, codes, List, IfOk};
-ghost use Rattle.clap.specs.Words.{app_of, found_of, matches_of, one_text, rows_of, rule_of};
-ghost use Rattle.vcdedit.specs.CommandLine.{asked_options, depth_asked, depth_option, option_app};
-ghost use Rattle.vcdedit.specs.CommandLine.{options_in};
+ghost use Rattle.std.specs.Prelude.{◌≡◌, ◌≤◌, ℕ, List, IfOk};
+ghost use Rattle.clap.specs.Words.{app_of, found_of, matches_of, rows_of};
+ghost use Rattle.vcdedit.specs.CommandLine.{asked_options, option_app, options_in};
 
-use clap::builder::ValueParser;
-use clap::{Arg, ArgAction, ArgMatches, Command};
+use clap::{ArgMatches, Command};
 use std::alloc::{AllocError, Global};
 use vcd_journal::DEPTH_LIMIT;
-use vcd_shell::{input_option, output_option, value_option};
+use vcd_shell::{depth_of, depth_option, input_option, output_option, script_option};
 
 const VERSION: &str = "1.0.0";
 
@@ -101,18 +99,6 @@ pub fn options_of<'a>(matches: &ArgMatches<'a>) -> Options<'a>
     }
 }
 
-/// The depth, which accepted words have in its range.
-fn depth_of(matches: &ArgMatches<'_>) -> u64
-    ensures depth { result ≡ depth_asked (one_text (found_of matches.now) (codes "depth")) }
-    ensures least { 1 ≤ result }
-    ensures most { result ≤ DEPTH_LIMIT }
-{
-    match matches.get_one::<u64>("depth") {
-        Some(depth) if 1 <= depth && depth <= DEPTH_LIMIT => depth,
-        _ => 1,
-    }
-}
-
 /// The program and its options.
 pub fn command_line<'a>(alloc: Global) -> Result<Command<'a>, AllocError>
     ensures { IfOk result (λ c. app_of c ≡ option_app) }
@@ -125,26 +111,10 @@ pub fn command_line<'a>(alloc: Global) -> Result<Command<'a>, AllocError>
         .after_help(AFTER_HELP);
     program
         .arg(input_option(alloc))?
-        .arg(value_option(alloc, "script", "FILE", SCRIPT_HELP))?
+        .arg(script_option(alloc))?
         .arg(output_option(alloc, OUTPUT_HELP))?
         .arg(depth_option(alloc))
 }
 
-const SCRIPT_HELP: &str = "The script to carry out; without it, the one line `list`";
-
 const OUTPUT_HELP: &str =
     "The VCD file to write when the script has run; without it none is written";
-
-/// `--depth N`, a number from 1 to the limit. Without it the depth is 100.
-fn depth_option<'a>(alloc: Global) -> Arg<'a>
-    ensures rule { rule_of result ≡ depth_option }
-    ensures local { result.global ≡ false }
-{
-    Arg::new(alloc, "depth")
-        .long("depth")
-        .value_name("N")
-        .action(ArgAction::Set)
-        .value_parser(ValueParser::unsigned(1, DEPTH_LIMIT))
-        .default_value("100")
-        .help("How many edits undo and redo can take, from 1 to 1000")
-}

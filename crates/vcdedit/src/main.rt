@@ -6,7 +6,6 @@
 #![tactic(auto)]
 
 mod command_line;
-mod opening;
 mod program;
 mod reporting;
 #[cfg(test)]

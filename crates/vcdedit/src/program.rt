@@ -7,8 +7,7 @@ ghost use Rattle.vcdedit.specs.ProgramEnds.{IsOutcomeOn, IsOutcomeOfOptions};
 ghost use Rattle.vcd_script.specs.RunEnds.{RunEnds};
 
 use crate::command_line::{Options, command_line, options_of};
-use crate::opening::{DEFAULT_SCRIPT, open_script};
-use crate::reporting::{PROGRAM, report, status_when_done};
+use crate::reporting::{PROGRAM, report};
 use clap::{ArgMatches, Command};
 use std::alloc::{AllocError, Global};
 use std::io;
@@ -17,7 +16,7 @@ use std::rt::Runtime;
 use vcd_core::{FromBytes, FromRead, Sink, Source, ToWrite};
 use vcd_journal::DEPTH_LIMIT;
 use vcd_script::{RunError, Summary, run};
-use vcd_shell::{LateFile, Program, open_capture};
+use vcd_shell::{DEFAULT_SCRIPT, LateFile, Program, done_status, open_capture, open_script};
 use vcd_text::{Fault, ReadError};
 
 /// How many bytes of replies are buffered before they are written.
@@ -77,7 +76,7 @@ impl Program for Vcdedit {
 
     fn report<W: Sink>(outcome: &Result<Summary, RunError>, writer: &mut W) -> u8 {
         match outcome {
-            Ok(summary) => status_when_done(summary),
+            Ok(summary) => done_status(summary),
             Err(error) => report(error, writer),
         }
     }

@@ -1,21 +1,17 @@
 -- The options of the command line, and what its words ask for. They are the project's own.
 use Rattle.std.specs.Prelude.{List, codes, true, Option, Some}
 use Rattle.std.specs.Option.{option_copied}
-use Rattle.clap.specs.Words.{App, Rule, Text, all_of, first_of, matches_of, new_app, new_rule}
+use Rattle.clap.specs.Words.{App, Rule, Text, all_of, first_of, matches_of, new_app}
 use Rattle.clap.specs.Words.{with_rule}
 use Rattle.clap.specs.Simple.{new_shape}
 use Rattle.clap.specs.declared.builder.action.ArgAction.TheVariants.{Append}
-use Rattle.vcd_shell.specs.Options.{input_option, output_option, value_option}
+use Rattle.vcd_shell.specs.Options.{capture_argument, input_option, output_option, value_option}
 use Rattle.vcdedit_narrow.specs.declared.command_line.Options.{Options}
 use Rattle.vcdedit_narrow.specs.Requests.{texts}
 
 -- `--NAME VALUE`, any number of times
 abbrev pub list_option : Text → Rule
 list_option name = record (value_option name) { action = Some Append }
-
--- `CAPTURE`, without an option
-abbrev pub capture_argument : Rule
-capture_argument = record (new_rule (codes "capture")) { value_names = 1 }
 
 -- with the options that name files
 abbrev pub with_files : App → App

@@ -6,7 +6,7 @@ ghost use Rattle.vcdedit_narrow.specs.CommandLine as spec;
 
 use clap::{Arg, ArgAction, ArgMatches, Command};
 use std::alloc::{AllocError, Global};
-use vcd_shell::{input_option, output_option, value_option};
+use vcd_shell::{capture_argument, input_option, output_option, value_option};
 
 const VERSION: &str = "1.0.0";
 
@@ -114,18 +114,6 @@ fn with_window<'a>(program: Command<'a>, alloc: Global) -> Result<Command<'a>, A
 }
 
 const OUTPUT_HELP: &str = "The VCD file to write; without it, standard output";
-
-const CAPTURE_HELP: &str = "The same, without -i";
-
-/// The capture, as an argument.
-fn capture_argument<'a>(alloc: Global) -> Arg<'a>
-    ensures rule { rule_of result ≡ spec.capture_argument }
-    ensures local { result.global ≡ false }
-{
-    Arg::new(alloc, "capture")
-        .value_name("CAPTURE")
-        .help(CAPTURE_HELP)
-}
 
 const KEEP_HELP: &str = "Keep the signals with such a name; repeatable. Without it all are kept";
 

@@ -19,7 +19,7 @@ use crate::request::{Refusal, Request};
 use itoa::Buffer;
 use std::alloc::Global;
 use vcd_core::{Capture, NoMemory, Sink, Source};
-use vcd_text::{Fault, Loaded, ReadError, TickRange, read_part, write};
+use vcd_text::{Fault, Loaded, ReadError, TickRange, VARIABLE_LIMIT, read_part, write};
 
 /// Reads the part of a capture that is asked for, and writes it with a `$comment` in its header.
 ///
@@ -67,7 +67,7 @@ fn read_narrowed<R: Source>(
         (device_end R.coming R.has_failed reader.old reader.new)) }
 {
     let mut narrowing = Narrowing::new(alloc, request);
-    match read_part(alloc, reader, &mut narrowing) {
+    match read_part(alloc, reader, VARIABLE_LIMIT, &mut narrowing) {
         Ok(loaded) => finish(alloc, loaded, narrowing.ticks),
         Err(error) => Err(error_of(error, narrowing.refusal, narrowing.text)),
     }

@@ -126,7 +126,7 @@ impl<'a> FullName<'a> {
     }
 
     /// Whether both have the same bytes.
-    pub(crate) fn has_same_bytes(self, other: FullName) -> bool
+    pub fn has_same_bytes(self, other: FullName) -> bool
         ensures { result ≡ bytes_eq (name_bytes self.entry) (name_bytes other.entry) }
     {
         let mut mine = self;

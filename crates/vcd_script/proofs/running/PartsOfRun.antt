@@ -29,9 +29,10 @@ use Rattle.vcd_script.specs.Run.{RunOutcome, outcome}
 use Rattle.vcd_script.specs.RunEnds.{IsAccepted, IsFlushedAt, ForRun, RunEnds}
 use Rattle.vcd_script.specs.LineRunEnds.{HasFailedAt, EndsAtLine, RunsLines, StopsInReplies}
 use Rattle.vcd_script.specs.LineRunEnds.{StopsInLines}
-use Rattle.vcd_script.specs.inside.running.Stages.{EndsBeforeOutput, EndsBeforeReplies, EndsAfterCapture}
+use Rattle.vcd_script.specs.ScriptFaults.{ScriptFails}
+use Rattle.vcd_script.specs.inside.running.Stages.{EndsBeforeOutput, EndsBeforeReplies}
 use Rattle.vcd_script.specs.inside.running.Run.{ScriptGives}
-use Rattle.vcd_script.proofs.running.LinesAndHistory.{outcome_is, run_is}
+use Rattle.vcd_script.proofs.shared.LinesAndHistory.{outcome_is, run_is}
 
 -- ---- the capture
 
@@ -136,9 +137,27 @@ capture_ends capture script e refused failed large unread depth replies untouche
     (refused_once capture.before capture.after capture.has_failed e refused, failed, large, unread, (untouched, kept))
 
 -- at the script
-pub script_ends : (capture script replies : DeviceEnd) (depth : ℕ) (e : RunError) → EndsAfterCapture script e
+pub script_ends : (capture script replies : DeviceEnd) (depth : ℕ) (e : RunError) → ScriptFails script e
     → IsAccepted capture → IsUntouched replies → EndsBeforeOutput depth capture script replies e
-script_ends capture script replies depth e ends accepted untouched = ends capture accepted depth replies untouched
+unfolding RunEnds
+script_ends capture script replies depth run_errors.ScriptTooLarge fails accepted untouched output kept =
+    (accepted, fails, (untouched, kept))
+script_ends capture script replies depth run_errors.ScriptReadFault fails accepted untouched output kept =
+    (accepted, fails, (untouched, kept))
+script_ends capture script replies depth (run_errors.NoMemory zero) fails accepted untouched output kept =
+    (accepted, (untouched, kept))
+script_ends capture script replies depth (run_errors.NoMemory (suc n)) fails accepted untouched output kept =
+    absurd fails
+script_ends capture script replies depth (run_errors.Capture fault) fails accepted untouched output kept = absurd fails
+script_ends capture script replies depth (run_errors.ReplyFault n) fails accepted untouched output kept = absurd fails
+script_ends capture script replies depth (run_errors.Write fault) fails accepted untouched output kept = absurd fails
+
+-- a script that was not read leaves the replies as they were
+pub flushed_at_script : (script : DeviceEnd) (has_failed is_flushed : Bool) (e : RunError) → ScriptFails script e
+    → IsFlushedAt has_failed is_flushed e
+flushed_at_script script has_failed is_flushed (run_errors.NoMemory (suc n)) fails = absurd fails
+flushed_at_script script has_failed is_flushed (run_errors.Write fault) fails = absurd fails
+flushed_at_script script has_failed is_flushed e fails = tt
 
 -- at the first session
 pub session_ends : (capture script replies : DeviceEnd) (depth : ℕ) (e : RunError) → e ≡ run_errors.NoMemory 0

@@ -1,3 +1,2 @@
 -- Lemmas of `running/run_on_bytes`.
-pub mod LawsOfRun
 pub mod ResultOfRun

@@ -1,11 +1,10 @@
 //! The script, which a run reads whole before it runs the first line.
 
-ghost use Rattle.std.specs.Prelude.{◌≡◌, ◌<◌, ◌≤◌, ◌++◌, ℕ, Bool, false, nat_lt, List, Option};
+ghost use Rattle.std.specs.Prelude.{◌≡◌, ◌<◌, ◌≤◌, ◌++◌, ℕ, false, nat_lt, List, Option};
 ghost use Rattle.std.specs.Prelude.{length, vec_len, OnOk, IfOk, IfErr, IfSome};
 ghost use Rattle.std.specs.Io.KnownBytes.{Consumes, IsAtEnd};
 ghost use Rattle.vcd_core.specs.Devices.{device_end, IsRead};
-ghost use Rattle.vcd_script.specs.RunEnds.{IsFlushedAt};
-ghost use Rattle.vcd_script.specs.inside.running.Stages.{EndsAfterCapture};
+ghost use Rattle.vcd_script.specs.ScriptFaults.{ScriptFails};
 
 use crate::running::RunError;
 use std::alloc::Global;
@@ -17,8 +16,8 @@ pub const SCRIPT_LIMIT: usize = 1_048_576;
 /// The number of bytes that one read asks for.
 const BLOCK: usize = 8192;
 
-/// Reads the whole script.
-#[tactic(auto, unfolding(crate::specs::RunEnds::RunEnds))]
+/// Reads the whole script, as a run does before its first line. It holds the script, and a block of
+/// 8 KiB.
 pub fn read_script<S: Source>(alloc: Global, source: &mut S) -> Result<Vec<u8>, RunError>
     requires { S.has_failed source.old ≡ false }
     ensures all { IfOk result (λ script. IfSome (S.coming source.old)
@@ -26,10 +25,8 @@ pub fn read_script<S: Source>(alloc: Global, source: &mut S) -> Result<Vec<u8>, 
     ensures short { IfOk result (λ script. length script.items ≤ SCRIPT_LIMIT) }
     ensures is_read { OnOk result (IsRead SCRIPT_LIMIT
         (device_end S.coming S.has_failed source.old source.new)) }
-    ensures ended { IfErr result (EndsAfterCapture
-        (device_end S.coming S.has_failed source.old source.new)) }
-    ensures before_replies { IfErr result (λ e. (has_failed is_flushed : Bool)
-        → IsFlushedAt has_failed is_flushed e) }
+    ensures fails { IfErr result
+        (ScriptFails (device_end S.coming S.has_failed source.old source.new)) }
 {
     let mut script = Vec::new(alloc);
     let mut block = [0u8; BLOCK];
@@ -38,7 +35,6 @@ pub fn read_script<S: Source>(alloc: Global, source: &mut S) -> Result<Vec<u8>, 
 }
 
 /// Appends the bytes of one read. Returns whether there were any.
-#[tactic(auto, unfolding(crate::specs::RunEnds::RunEnds))]
 fn read_block<S: Source>(
     source: &mut S,
     script: &mut Vec<u8>,
@@ -54,12 +50,10 @@ fn read_block<S: Source>(
     ensures within { OnOk result (vec_len script.new ≤ SCRIPT_LIMIT) }
     ensures at_end { IfOk result (λ more. more ≡ false → IsAtEnd (S.coming source.new)) }
     ensures ready { OnOk result (S.has_failed source.new ≡ false) }
-    ensures ended { (all : Option (List ℕ))
+    ensures fails { (all : Option (List ℕ))
         → Consumes all (S.coming source.old) script.old.items → let now = source.new in
-        IfErr result (EndsAfterCapture
+        IfErr result (ScriptFails
         (record { before = all; after = S.coming now; has_failed = S.has_failed now })) }
-    ensures before_replies { IfErr result (λ e. (has_failed is_flushed : Bool)
-        → IsFlushedAt has_failed is_flushed e) }
 {
     let Ok(count) = source.read(block) else {
         return Err(RunError::ScriptReadFault);

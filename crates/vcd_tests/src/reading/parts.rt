@@ -9,7 +9,7 @@ use std::alloc::Global;
 use std::process::Abort;
 use std::test::Fail;
 use vcd_core::{NoMemory, SIGNAL_LIMIT, Timescale};
-use vcd_text::{Choice, Declarations, DeclaredSignal, TickRange, read_part};
+use vcd_text::{Choice, Declarations, DeclaredSignal, TickRange, VARIABLE_LIMIT, read_part};
 
 /// The signals of one kind, at some ticks.
 #[derive(Drop)]
@@ -103,7 +103,7 @@ fn answer_of(
     choice: &mut OfKind,
 ) -> Result<String, Fail> {
     let mut source = source_of(FakeReader::new(file, piece));
-    match read_part(alloc, &mut source, choice) {
+    match read_part(alloc, &mut source, VARIABLE_LIMIT, choice) {
         Ok(loaded) => {
             let text = text_of(alloc, &loaded.capture)?;
             let text = String::from_utf8(text)?;

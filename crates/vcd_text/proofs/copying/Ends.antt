@@ -19,7 +19,7 @@ use Rattle.vcd_text.specs.CopyEnds.{CopyFails, ReadFails}
 use Rattle.vcd_text.specs.Parts.{Answers, IsPartRefusal}
 use Rattle.vcd_text.specs.inside.Copying.{TookCopy}
 use Rattle.vcd_text.specs.EmittedText.{Emits, EmitsMore, HasEmitted}
-use Rattle.vcd_text.specs.declared.reading.TheConstants.{VARIABLE_LIMIT, LONG_FILE_LIMIT}
+use Rattle.vcd_text.specs.declared.reading.TheConstants.{LONG_FILE_LIMIT}
 use Rattle.vcd_text.proofs.part.WholeParts.{no_part_refusal_of_copy}
 use Rattle.vcd_text.proofs.writing.output.Pieces.{writes_both, writes_as, writes_part, whole_written, all_taken}
 use Rattle.vcd_text.proofs.writing.output.Pieces.{appends_kept, failed_prefix}
@@ -35,30 +35,40 @@ when_ok : {S F : Type 0} (P : Type 0) (r : Result S F) → OnOk r P → IsOk r �
 when_ok P (Ok x) p ok = p
 when_ok P (Err e) p ok = absurd (false≢true ok)
 
+-- what is so if the file was copied and the writer has not failed
+pub when_copied : {S T E F : Type 0} (P : Type 0) (failed later : Bool) (copied : Result S F) (r : Result T E)
+    → OnOk copied (failed ≡ false → P) → (failed ≡ true → later ≡ true) → OnOk r (later ≡ false)
+    → OnOk r (IsOk copied) → OnOk r P
+when_copied P failed later copied (Ok x) then stays ready ok =
+    when_ok (failed ≡ false → P) copied then ok (not_stayed failed later stays ready)
+when_copied P failed later copied (Err e) then stays ready ok = tt
+
 -- the writer took the copy
 pub copy_taken : {W S F T E : Type 0} (sink : sinks.Ghosts W) (limit most : ℕ) (rules : CopyRules) (o0 o1 o2 : Output W)
-    (coming : Option (List ℕ)) (later : W) (copied : Result S F) (r : Result T E)
-    → OnOk copied (sink.has_failed o1.writer.now ≡ false → IfSome coming (λ file. (length file ≤ most)
+    (coming : Option (List ℕ)) (Going : Type 0) (later : W) (copied : Result S F) (r : Result T E)
+    → OnOk copied (sink.has_failed o1.writer.now ≡ false → Going → IfSome coming (λ file. (length file ≤ most)
     × TookCopy sink limit rules o0 o1 file))
     → o0.unsent.items ≡ [] → o0.sent_count ≡ 0 → Emits sink o1 o2 [] → o2.unsent.items ≡ []
     → (sink.has_failed o1.writer.now ≡ true → sink.has_failed o2.writer.now ≡ true)
     → Keeps (sink.taken o2.writer.now) (sink.taken later) → OnOk r (sink.has_failed o2.writer.now ≡ false)
     → OnOk r (IsOk copied)
-    → OnOk r (IfSome coming (λ file. (length file ≤ most) × (text : List ℕ) × IsCopy limit rules file text
+    → OnOk r (Going → IfSome coming (λ file. (length file ≤ most) × (text : List ℕ) × IsCopy limit rules file text
     × Appends (sink.taken o0.writer.now) (sink.taken later) text))
-copy_taken sink limit most rules o0 o1 o2 None later copied (Ok x) copies empty none sent sent_all stays kept ready ok =
-    tt
-copy_taken sink limit most rules o0 o1 o2 (Some file) later copied
-    (Ok x) copies empty none sent sent_all stays kept ready ok =
+copy_taken sink limit most rules o0 o1 o2 None Going later copied (Ok x) copies empty none sent sent_all stays kept
+    ready
+    ok = λ going. tt
+copy_taken sink limit most rules o0 o1 o2 (Some file) Going later copied
+    (Ok x) copies empty none sent sent_all stays kept ready ok = λ going.
     let (within, took) = when_ok _ copied copies ok (not_stayed (sink.has_failed o1.writer.now) (sink.has_failed
-    o2.writer.now) stays ready) in (
+    o2.writer.now) stays ready) going in (
       within,
       took.text,
       took.is_copy,
       appends_kept _ _ _ took.text (all_taken ready sent_all (whole_written empty none
           (writes_as (append-nil took.text) (writes_both took.emits sent)))) kept,
     )
-copy_taken sink limit most rules o0 o1 o2 coming later copied (Err e) copies empty none sent sent_all stays kept ready
+copy_taken sink limit most rules o0 o1 o2 coming Going later copied (Err e) copies empty none sent sent_all stays kept
+    ready
     ok = tt
 
 -- ---- not copied
@@ -76,17 +86,17 @@ pub some_taken : {W : Type 0} {sink : sinks.Ghosts W} {before : Option (List ℕ
 some_taken {text = text} later held kept = (take held.sent text, appends_kept _ _ _ _ held.prefix kept)
 
 -- why reading fails, if no signal is heard
-pub read_fails : {T : Type 0} (answers : Answers) (coming left : Option (List ℕ)) (failed : Bool)
+pub read_fails : {T : Type 0} (limit : ℕ) (answers : Answers) (coming left : Option (List ℕ)) (failed : Bool)
     (r : Result T ReadError) → ((timescale : Option Timescale) (ss : List SignalContents)
     → answers timescale ss None → ⊥)
-    → IfErr r (λ e. IfSome coming (λ file. IsPartRefusal VARIABLE_LIMIT LONG_FILE_LIMIT (λ _. false) answers file failed
+    → IfErr r (λ e. IfSome coming (λ file. IsPartRefusal limit LONG_FILE_LIMIT (λ _. false) answers file failed
     left e))
     → IfErr r (λ e. e.fault ≡ faults.ReadFault → failed ≡ true)
     → IfErr r (λ e. (e.fault ≡ faults.ReadFault → ⊥) → failed ≡ false)
-    → IfErr r (ReadFails VARIABLE_LIMIT LONG_FILE_LIMIT coming left failed)
-read_fails answers coming left failed (Ok x) some refused has other = tt
-read_fails answers coming left failed (Err e) some refused has other = record {
-  refused = no_part_refusal_of_copy answers coming failed left e some refused;
+    → IfErr r (ReadFails limit LONG_FILE_LIMIT coming left failed)
+read_fails limit answers coming left failed (Ok x) some refused has other = tt
+read_fails limit answers coming left failed (Err e) some refused has other = record {
+  refused = no_part_refusal_of_copy limit answers coming failed left e some refused;
   failed_reader = has;
   other = other;
 }
@@ -97,13 +107,14 @@ pub copy_fails : {W T S : Type 0} {sink : sinks.Ghosts W} {before : Option (List
     (copied : Result S ReadError) (r : Result T CopyError) → IfErr copied (ReadFails limit most coming left failed)
     → IfErr r (λ e. (error : ReadError) → e ≡ copy_errors.Read error → copied ≡ Err error)
     → IfErr r (λ e. (error : WriteError) → e ≡ copy_errors.Write error
-    → (error ≡ WriteFault output.sent_count) × (sink.has_failed later ≡ true))
+    → (error ≡ WriteFault output.sent_count) × (sink.has_failed later ≡ true) × IsOk copied)
+    → OnOk copied (failed ≡ false)
     → HasEmitted sink before output text → Keeps (sink.taken output.writer.now) (sink.taken later)
     → IfErr r (CopyFails limit most coming left failed before (sink.taken later) (sink.has_failed later))
-copy_fails limit most coming left failed later copied (Ok x) fails read wrote held kept = tt
-copy_fails limit most coming left failed later copied (Err (copy_errors.Read e)) fails read wrote held kept =
+copy_fails limit most coming left failed later copied (Ok x) fails read wrote ready held kept = tt
+copy_fails limit most coming left failed later copied (Err (copy_errors.Read e)) fails read wrote ready held kept =
     subst (λ r. IfErr r (ReadFails limit most coming left failed)) (read e refl) fails
-copy_fails {text = text} limit most coming left failed later copied (Err (copy_errors.Write e)) fails read wrote held
-    kept =
-    let (is, has_failed) = wrote e refl in
-    (text, failed_prefix {T = Unit {0}} later (Err e) held kept is has_failed)
+copy_fails {text = text} limit most coming left failed later copied (Err (copy_errors.Write e)) fails read wrote ready
+    held kept =
+    let (is, has_failed, ok) = wrote e refl in
+    (when_ok (failed ≡ false) copied ready ok, text, failed_prefix {T = Unit {0}} later (Err e) held kept is has_failed)

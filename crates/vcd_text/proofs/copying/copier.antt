@@ -1,2 +1,3 @@
 -- Lemmas of `copying/copier`.
 pub mod CopiedChunks
+pub mod Told

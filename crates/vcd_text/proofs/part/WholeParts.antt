@@ -25,7 +25,7 @@ use Rattle.vcd_text.specs.inside.reading.Choice.{IsAnswered, LeavesOut}
 use Rattle.vcd_text.specs.declared.fault.ReadError.{ReadError}
 use Rattle.vcd_text.specs.declared.reading.Loaded.{Loaded}
 use Rattle.vcd_text.specs.declared.reading.choice.TickRange.{TickRange}
-use Rattle.vcd_text.specs.declared.reading.TheConstants.{FILE_LIMIT, LONG_FILE_LIMIT, VARIABLE_LIMIT}
+use Rattle.vcd_text.specs.declared.reading.TheConstants.{FILE_LIMIT, LONG_FILE_LIMIT}
 use Rattle.vcd_text.proofs.shared.SoundMeaning.{IsSoundBut, meaning_is_sound_but}
 use Rattle.vcd_text.proofs.part.FewSignals.{few_after, same_limit}
 use Rattle.vcd_core.specs.declared.capture.TheConstants.{SIGNAL_LIMIT}
@@ -79,7 +79,8 @@ part_is_sound takes ticks c sound few =
     }
 
 -- the meaning of a file is sound
-file_is_sound : (limit : ℕ) (file : List ℕ) (c : Contents) (skipped : ℕ) → FileMeans limit file c skipped → IsSoundBut c
+pub file_is_sound : (limit : ℕ) (file : List ℕ) (c : Contents) (skipped : ℕ) → FileMeans limit file c skipped →
+    IsSoundBut c
 file_is_sound limit file c skipped means = rw means.means (meaning_is_sound_but limit file means.state means.accepted)
 
 -- as many signals are taken as are taken of them without changes
@@ -164,15 +165,19 @@ whole_extent_of_read (Some file) answers loaded all (short, means) =
     let same = sym (loaded_whole answers file loaded all means) in
     (means.end ∙ ap (λ (c : Contents). c.end) same, means.count ∙ ap (λ (c : Contents). length c.signals) same)
 
--- all signals of a file are few enough, and all ticks are answered
-pub no_part_refusal_of_read : (answers : Answers) (coming : Option (List ℕ)) (failed : Bool) (left : Option (List ℕ))
-    (e : ReadError) → ((timescale : Option Timescale) (ss : List SignalContents) → answers timescale ss None → ⊥)
-    → IfSome coming (λ file. IsPartRefusal SIGNAL_LIMIT FILE_LIMIT (λ _. true) answers file failed left e)
-    → IfSome coming (λ file. IsRefusal SIGNAL_LIMIT FILE_LIMIT file failed left e)
-no_part_refusal_of_read answers None failed left e some refused = tt
-no_part_refusal_of_read answers (Some file) failed left e some (inl refused) = refused.0
-no_part_refusal_of_read answers (Some file) failed left e some (inr (declined c has few none fault)) = grind arith
-no_part_refusal_of_read answers (Some file) failed left e some (inr (too_many_remain c has many fault)) =
+-- few signals of a file remain if it has few, and all ticks are answered
+pub no_part_refusal : (limit byte_limit : ℕ) (takes : SignalContents → Bool) (answers : Answers)
+    (coming : Option (List ℕ)) (failed : Bool) (left : Option (List ℕ)) (e : ReadError) → limit ≤ SIGNAL_LIMIT
+    → ((timescale : Option Timescale) (ss : List SignalContents) → answers timescale ss None → ⊥)
+    → IfSome coming (λ file. IsPartRefusal limit byte_limit takes answers file failed left e)
+    → IfSome coming (λ file. IsRefusal limit byte_limit file failed left e)
+no_part_refusal limit byte_limit takes answers None failed left e little some refused = tt
+no_part_refusal limit byte_limit takes answers (Some file) failed left e little some (inl refused) = refused.0
+no_part_refusal limit byte_limit takes answers (Some file) failed left e little some
+    (inr (declined c has few none fault)) =
+    absurd (some _ _ none)
+no_part_refusal limit byte_limit takes answers (Some file) failed left e little some
+    (inr (too_many_remain c has many fault)) =
     grind (arith, few_after, same_limit, length-filter, count_by-le-length, length-map)
 
 -- no signal remains
@@ -181,13 +186,14 @@ none_taken [] = refl
 none_taken (s ∷ ss) = none_taken ss
 
 -- no signal of a file is too many, and all ticks are answered
-pub no_part_refusal_of_copy : (answers : Answers) (coming : Option (List ℕ)) (failed : Bool) (left : Option (List ℕ))
+pub no_part_refusal_of_copy : (limit : ℕ) (answers : Answers) (coming : Option (List ℕ)) (failed : Bool)
+    (left : Option (List ℕ))
     (e : ReadError) → ((timescale : Option Timescale) (ss : List SignalContents) → answers timescale ss None → ⊥)
-    → IfSome coming (λ file. IsPartRefusal VARIABLE_LIMIT LONG_FILE_LIMIT (λ _. false) answers file failed left e)
-    → IfSome coming (λ file. IsRefusal VARIABLE_LIMIT LONG_FILE_LIMIT file failed left e)
-no_part_refusal_of_copy answers None failed left e some refused = tt
-no_part_refusal_of_copy answers (Some file) failed left e some (inl refused) = refused.0
-no_part_refusal_of_copy answers (Some file) failed left e some (inr (declined c has few none fault)) =
+    → IfSome coming (λ file. IsPartRefusal limit LONG_FILE_LIMIT (λ _. false) answers file failed left e)
+    → IfSome coming (λ file. IsRefusal limit LONG_FILE_LIMIT file failed left e)
+no_part_refusal_of_copy limit answers None failed left e some refused = tt
+no_part_refusal_of_copy limit answers (Some file) failed left e some (inl refused) = refused.0
+no_part_refusal_of_copy limit answers (Some file) failed left e some (inr (declined c has few none fault)) =
     absurd (some _ _ none)
-no_part_refusal_of_copy answers (Some file) failed left e some (inr (too_many_remain c has many fault)) =
+no_part_refusal_of_copy limit answers (Some file) failed left e some (inr (too_many_remain c has many fault)) =
     absurd (omega (arith, many, ap (length {A = SignalContents}) (none_taken (signals_of c))))

@@ -16,7 +16,7 @@ use Rattle.vcd_text.specs.Letters.{extension, short_form}
 use Rattle.vcd_text.specs.Grammar.{ValueChange}
 use Rattle.vcd_text.specs.Meaning.{changes_of_code}
 use Rattle.vcd_text.specs.inside.reading.Variables.{latest_value}
-use Rattle.vcd_text.proofs.reading.variables.ChangedVariable.{latest_value-append}
+use Rattle.vcd_text.proofs.shared.ValuesOfCodes.{latest_value-append}
 use Rattle.vcd_text.specs.Text.{code_of, differing, differs_at}
 use Rattle.vcd_text.proofs.read_back.DeclaredSignals.{other_code}
 use Rattle.vcd_text.proofs.read_back.Changes.{value_change_of, tick_value_changes}

@@ -12,7 +12,7 @@ use Rattle.vcd_text.proofs.read_back.Values.{length-value_at}
 use Rattle.vcd_text.proofs.read_back.Changes.{value_changes_of, state_at}
 use Rattle.vcd_text.proofs.read_back.LatestValues.{at_start}
 use Rattle.vcd_text.proofs.read_back.LatestValues.{from_tick}
-use Rattle.vcd_text.proofs.reading.variables.ChangedVariable.{latest_value-append}
+use Rattle.vcd_text.proofs.shared.ValuesOfCodes.{latest_value-append}
 
 -- a function that restores each signal restores all
 signals_back : (f : VariableDeclaration → SignalContents) (j : ℕ) (ss : List SignalContents)

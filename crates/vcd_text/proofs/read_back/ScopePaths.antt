@@ -20,7 +20,7 @@ use Rattle.vcd_text.specs.Items.{scope, upscope, has_no_end_word}
 use Rattle.vcd_core.specs.declared.capture.TheConstants.{SIGNAL_LIMIT}
 use Rattle.vcd_text.specs.Grammar.{ParseState, VariableDeclaration}
 use Rattle.vcd_text.specs.Text.{same_scope, scope_items}
-use Rattle.vcd_text.proofs.writing.SharedScopes.{all_closed}
+use Rattle.vcd_text.proofs.shared.SharedScopes.{all_closed}
 use Rattle.vcd_text.proofs.shared.WeakerTests.{all_weaker}
 use Rattle.vcd_text.proofs.shared.ItemsInTurn.{Reaches, reaches_none, reaches_first, reaches_both}
 use Rattle.vcd_text.proofs.shared.ItemTests.{allows_upscope, allows_scope}

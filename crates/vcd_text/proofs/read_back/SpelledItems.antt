@@ -33,9 +33,9 @@ use Rattle.vcd_text.proofs.read_back.CodesDiffer.{code_no_space, code_not_empty}
 use Rattle.vcd_text.proofs.read_back.Decimals.{decimal_digits, decimal_not_empty}
 use Rattle.vcd_text.proofs.read_back.Timescale.{sound_count, count_small}
 use Rattle.vcd_text.proofs.shared.WeakerTests.{all_weaker}
-use Rattle.vcd_text.proofs.words.WordsByBytes.{words_by_bytes}
+use Rattle.vcd_text.proofs.shared.WordsByBytes.{words_by_bytes}
 use Rattle.vcd_text.proofs.read_back.Words.{is_unbroken, is_spelled, words_of_lines}
-use Rattle.vcd_text.proofs.writing.SharedScopes.{all_closed}
+use Rattle.vcd_text.proofs.shared.SharedScopes.{all_closed}
 use Rattle.vcd_text.proofs.writing.TextParts.{ticks_in_turn}
 use Rattle.vcd_text.proofs.read_back.ScopePaths.{later_scopes}
 

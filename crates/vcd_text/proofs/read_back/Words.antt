@@ -10,7 +10,7 @@ use Rattle.vcd_text.specs.inside.Words.{words_from}
 use Rattle.vcd_text.specs.Items.{Item, spelling, spellings}
 use Rattle.vcd_text.specs.Grammar.{word_texts}
 use Rattle.vcd_text.specs.Text.{item_line}
-use Rattle.vcd_text.proofs.words.WordsInTurn.{word_whole, space_passed}
+use Rattle.vcd_text.proofs.shared.WordsInTurn.{word_whole, space_passed}
 
 -- at least one byte, and no white space
 abbrev pub is_unbroken : List ℕ → Bool

@@ -10,7 +10,7 @@ use Rattle.vcd_text.specs.Words.{words_of, complete_words}
 use Rattle.vcd_text.specs.Faults.{ShowsFault}
 use Rattle.vcd_text.specs.FoundFaults.{IsFoundFault, word_shows, PrefixShows}
 use Rattle.vcd_text.proofs.shared.ItemsInTurn.{shown_by}
-use Rattle.vcd_text.proofs.words.WordsByBytes.{words_by_bytes, complete_by_bytes}
+use Rattle.vcd_text.proofs.shared.WordsByBytes.{words_by_bytes, complete_by_bytes}
 use Rattle.vcd_text.specs.Grammar.{state_after}
 use Rattle.vcd_text.specs.Grammar.{initial_state}
 

@@ -43,8 +43,8 @@ use Rattle.vcd_text.specs.Grammar.{variable_of}
 use Rattle.vcd_text.specs.Grammar.{may_have_code, value_changes_after}
 use Rattle.vcd_text.specs.inside.reading.Variables.{is_within_limit, latest_value}
 use Rattle.vcd_text.specs.Grammar.{with_value_change}
-use Rattle.vcd_text.proofs.words.WordsInTurn.{by_test, is_run_text}
-use Rattle.vcd_text.proofs.words.WordsByBytes.{texts_of_file_are_runs}
+use Rattle.vcd_text.proofs.shared.WordsInTurn.{by_test, is_run_text}
+use Rattle.vcd_text.proofs.shared.WordsByBytes.{texts_of_file_are_runs}
 use Rattle.vcd_text.specs.Meaning.{meaning, declared_signal, changes_of_code}
 use Rattle.std.proofs.lemmas.List.Folds.{find-append}
 use Rattle.vcd_text.proofs.part.FewSignals.{KeepsFew, few_after, same_limit}

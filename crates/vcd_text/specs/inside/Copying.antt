@@ -16,6 +16,7 @@ use Rattle.vcd_text.specs.declared.copying.copier.Copier.{Copier}
 use Rattle.vcd_text.specs.inside.Words.{has_complete_words}
 use Rattle.vcd_text.specs.EmittedText.{Emits}
 use Rattle.vcd_text.specs.inside.reading.Part.{Asked}
+use Rattle.vcd_text.specs.inside.reading.Scopes.{open_scopes}
 use Rattle.vcd_text.specs.inside.reading.Parser.{IsAtState}
 use Rattle.vcd_text.specs.declared.copying.amender.AmendableItem.{AmendableItem}
 use Rattle.vcd_text.specs.declared.copying.amender.AmendableItem.TheVariants as shown
@@ -75,6 +76,8 @@ pub record EndsPiece (limit : ℕ) (before : List Piece) (p : Piece) (item : Ope
   pub shown : MatchOption (shown_item item text m.tick m.variables.scopes.depth)
       (may_be_amended p.item ≡ false)
       (λ shown. Shows (state_of_pieces limit before) shown (code_in item text) p.item)
+  pub scopes : may_be_amended p.item ≡ true
+      → open_scopes m.variables.scopes ≡ (state_of_pieces limit before).scopes
 
 -- ---- the bytes so far
 

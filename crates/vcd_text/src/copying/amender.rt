@@ -1,12 +1,13 @@
 //! What is done to a file while it is copied.
 
-ghost use Rattle.std.specs.Prelude.{◌≡◌, ◌++◌, ◌∷◌, [], ℕ, List, OnOk, OnErr, true, false};
+ghost use Rattle.std.specs.Prelude.{◌≡◌, ◌++◌, ◌∷◌, [], ℕ, Bool, List, OnOk, OnErr, true, false};
 ghost use Rattle.vcd_text.specs.Pieces.{Piece};
-ghost use Rattle.vcd_text.specs.Copied.{CopyRules, IsNext, IsShownNext, may_be_amended};
+ghost use Rattle.vcd_text.specs.Copied.{CopyRules, IsNext, IsShownNext, IsTakenNext};
+ghost use Rattle.vcd_text.specs.Copied.{may_be_amended};
 ghost use Rattle.vcd_text.specs.EmittedText.{Emits, EmitsMore};
 
 use crate::writing::output::Output;
-use vcd_core::{NoMemory, Sink};
+use vcd_core::{NoMemory, ScopeName, Sink};
 
 /// An item that may be amended.
 #[derive(Clone, Copy)]
@@ -23,13 +24,20 @@ pub enum AmendableItem {
     RealOrString,
 }
 
-/// What is done to a file while it is copied. It is told of each item, in turn.
+/// What is done to a file while it is copied. It is told of each item, in turn, and then of the
+/// end, unless it is done before.
 pub trait Amender<W: Sink> {
     // what it writes
     ghost rules: { Self → CopyRules };
 
     // it was told of these items
     ghost has_seen: { Self → List Piece → Type 0 };
+
+    // it was told of these items and of the end
+    ghost has_ended: { Self → List Piece → Type 0 } = { λ _ _. Unit {0} };
+
+    // whether what comes is of no use to it
+    ghost is_done: { Self → Bool };
 
     /// Lets an item stand, if it stands and nothing comes before it. Returns whether it does; if
     /// not, `take` is called for it.
@@ -45,24 +53,26 @@ pub trait Amender<W: Sink> {
         ensures same { rules self.new ≡ rules self.old };
 
     /// Writes what is in the place of an item: of the white space before it, and of its words with
-    /// the white space between them. The code is that of a change, and else of no meaning.
+    /// the white space between them. The code is that of a change, and else of no meaning. The
+    /// scopes are those that are open, outermost first.
     fn take(
         &mut self,
         output: &mut Output<W>,
         item: AmendableItem,
         code: &[u8],
+        scopes: &[ScopeName],
         space: &[u8],
         body: &[u8],
     ) -> Result<(), NoMemory>
         requires { (limit : ℕ) × (before : List Piece) × (p : Piece) × has_seen self.old before
-            × IsShownNext limit before p item code.now space.now body.now }
+            × IsTakenNext limit before p item code.now scopes.now space.now body.now }
         ensures written { OnOk result ((limit : ℕ) (before : List Piece) (p : Piece) →
             has_seen self.old before →
-            IsShownNext limit before p item code.now space.now body.now →
+            IsTakenNext limit before p item code.now scopes.now space.now body.now →
             Emits W.Sink output.old output.new ((rules self.old).in_place before p)) }
         ensures seen { OnOk result ((limit : ℕ) (before : List Piece) (p : Piece) →
             has_seen self.old before →
-            IsShownNext limit before p item code.now space.now body.now →
+            IsTakenNext limit before p item code.now scopes.now space.now body.now →
             has_seen self.new (before ++ p ∷ [])) }
         ensures same { OnOk result (rules self.new ≡ rules self.old) }
         ensures more { OnErr result (EmitsMore W.Sink output.old output.new) };
@@ -74,10 +84,16 @@ pub trait Amender<W: Sink> {
             may_be_amended p.item ≡ false → has_seen self.new (before ++ p ∷ []) }
         ensures same { rules self.new ≡ rules self.old };
 
+    /// Whether the rest of the file is of no use. The copy then stops after the chunk.
+    fn is_done(&self) -> bool
+        ensures { result ≡ is_done self.now };
+
     /// Writes what is in the place of the white space at the end of the file.
     fn finish(&mut self, output: &mut Output<W>, space: &[u8]) -> Result<(), NoMemory>
         requires { (pieces : List Piece) × has_seen self.old pieces }
         ensures more { OnErr result (EmitsMore W.Sink output.old output.new) }
         ensures written { OnOk result ((pieces : List Piece) → has_seen self.old pieces →
-            Emits W.Sink output.old output.new ((rules self.old).at_end pieces space.now)) };
+            Emits W.Sink output.old output.new ((rules self.old).at_end pieces space.now)) }
+        ensures ended { OnOk result ((pieces : List Piece) → has_seen self.old pieces →
+            has_ended self.new pieces) };
 }

@@ -6,6 +6,7 @@ ghost use Rattle.vcd_text.specs.Words.{WordOnLine as WordInFile};
 ghost use Rattle.vcd_text.specs.LentWords.{words_left};
 ghost use Rattle.vcd_text.specs.LineFeeds.{line_feeds_in};
 ghost use Rattle.vcd_text.specs.inside.Words.{has_complete_words};
+ghost use Rattle.vcd_text.specs.Copied.{IsTold};
 ghost use Rattle.vcd_text.specs.inside.Copying.{HasCopied, HasCopiedFile, TookCopy};
 ghost use Rattle.vcd_text.specs.inside.reading.Choice.{HasTakenFrom, CanTake, AllWordsResult};
 ghost use Rattle.vcd_text.specs.inside.reading.Choice.{RefusesFile};
@@ -165,6 +166,10 @@ impl Copier {
             HasCopiedFile W.Sink limit (A.rules amender.old) (A.has_seen amender.old) start
             output.old self bytes →
             TookCopy W.Sink limit (A.rules amender.old) start output.new bytes) }
+        ensures told { OnOk result ((limit : ℕ) (start : Output W) (bytes : List ℕ) →
+            HasCopiedFile W.Sink limit (A.rules amender.old) (A.has_seen amender.old) start
+            output.old self bytes →
+            IsTold limit false (A.has_ended amender.new) bytes) }
         ensures more { EmitsMore W.Sink output.old output.new }
         ensures fault { IfErr result (λ e. (limit most : ℕ) (first : C) (bytes : List ℕ) →
             HasReadBytes most (HasTakenFrom limit C.takes C.answers first choice.old)

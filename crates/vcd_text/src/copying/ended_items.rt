@@ -3,7 +3,7 @@
 ghost use Rattle.std.specs.Prelude.{◌≡◌, ◌+◌, ◌-◌, ◌<◌, ◌++◌, ◌∷◌, ℕ, List, [], length};
 ghost use Rattle.std.specs.Prelude.{Some, IfSome, IfNone, OnOk, if◌then◌else◌, not};
 ghost use Rattle.vcd_text.specs.Pieces.{Piece};
-ghost use Rattle.vcd_text.specs.Copied.{copied_piece, IsShownNext};
+ghost use Rattle.vcd_text.specs.Copied.{copied_piece, IsTakenNext};
 ghost use Rattle.vcd_text.specs.inside.Copying.{stands_open, shown_word, shown_item, code_in};
 ghost use Rattle.vcd_text.specs.inside.Copying.{code_after_digit, EndsPiece};
 ghost use Rattle.vcd_text.specs.inside.Copying.{IsUnwritten, IsHeldPiece, HasEnded};
@@ -13,7 +13,7 @@ use super::amender::{AmendableItem, Amender};
 use super::pieces::{Held, Unwritten, hold, write_held, write_standing};
 use crate::reading::parser::{OpenItem, Parser};
 use crate::writing::output::Output;
-use vcd_core::{NoMemory, Sink};
+use vcd_core::{NoMemory, ScopeName, Sink};
 
 /// Does what becomes of the item that this word ends; `earlier` is what was open before.
 pub fn end_item<'a, W: Sink, A: Amender<W>>(
@@ -49,7 +49,8 @@ pub fn end_item<'a, W: Sink, A: Amender<W>>(
     match item_to_amend(parser, amender, earlier, text) {
         Some(item) => {
             let code = code_of(earlier, text);
-            amend_item(held, amender, output, unwritten, item, code, rest)?;
+            let scopes = parser.variables.scopes.opened();
+            amend_item(held, amender, output, unwritten, item, code, scopes, rest)?;
             unwritten.all = rest;
             unwritten.item = rest;
             Ok(())
@@ -102,18 +103,20 @@ fn amend_item<W: Sink, A: Amender<W>>(
     unwritten: &Unwritten,
     item: AmendableItem,
     code: &[u8],
+    scopes: &[ScopeName],
     rest: &[u8],
 ) -> Result<(), NoMemory>
     requires { (limit : ℕ) × (before : List Piece) × (p : Piece)
         × (known begun : List ℕ) × A.has_seen amender.old before
-        × IsShownNext limit before p item code.now p.space p.body
+        × IsTakenNext limit before p item code.now scopes.now p.space p.body
         × IsUnwritten held.old.bytes.items unwritten.now.all.now unwritten.now.item.now rest.now
         known begun
         × (held.old.bytes.items ++ begun ≡ p.space ++ p.body)
         × (held.old.space_len ≡ length p.space) }
     ensures written { OnOk result (
         (limit : ℕ) (before : List Piece) (p : Piece) (known begun : List ℕ) →
-        A.has_seen amender.old before → IsShownNext limit before p item code.now p.space p.body →
+        A.has_seen amender.old before →
+        IsTakenNext limit before p item code.now scopes.now p.space p.body →
         IsUnwritten held.old.bytes.items unwritten.now.all.now unwritten.now.item.now rest.now
         known begun →
         (held.old.bytes.items ++ begun ≡ p.space ++ p.body) →
@@ -128,11 +131,11 @@ fn amend_item<W: Sink, A: Amender<W>>(
     if held.bytes.is_empty() {
         write_standing(output, unwritten);
         let (space, body) = unwritten.item[..len].split_at(held.space_len);
-        return amender.take(output, item, code, space, body);
+        return amender.take(output, item, code, scopes, space, body);
     }
     hold(&mut held.bytes, &unwritten.item[..len])?;
     let (space, body) = held.bytes.as_slice().split_at(held.space_len);
-    amender.take(output, item, code, space, body)?;
+    amender.take(output, item, code, scopes, space, body)?;
     held.bytes.clear();
     Ok(())
 }

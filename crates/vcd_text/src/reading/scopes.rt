@@ -114,6 +114,13 @@ impl Scopes {
         &self.chain[..place.count]
     }
 
+    /// The open scopes, outermost first.
+    pub fn opened(&self) -> &[ScopeName]
+        ensures { result.now ≡ open_scopes self.now }
+    {
+        &self.chain[..self.depth]
+    }
+
     /// The place of a variable in the open scopes.
     pub fn place(&mut self) -> ScopePlace
         ensures opened { open_scopes self.new ≡ open_scopes self.old }

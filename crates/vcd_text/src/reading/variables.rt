@@ -13,7 +13,7 @@ mod choosing;
 mod declaring;
 mod finishing;
 
-use crate::reading::code_targets::CodeTargets;
+use crate::reading::code_targets::{CodeTarget, CodeTargets};
 use crate::reading::declared_signals::Declarations;
 use crate::reading::log::{ExpectedRoom, LoggedChange};
 use crate::reading::scopes::{ScopePlace, Scopes};
@@ -74,7 +74,7 @@ pub struct Variables {
     /// The kept variables, in the order of the file.
     pub kept: Vec<Variable>,
     /// The target of each code.
-    pub code_targets: CodeTargets,
+    pub code_targets: CodeTargets<CodeTarget>,
     /// The number of skipped variables.
     pub skipped: u64,
     /// The most variables that may be kept.
@@ -91,7 +91,7 @@ impl Variables {
         Variables {
             scopes: Scopes::new(alloc),
             kept: Vec::new(alloc),
-            code_targets: CodeTargets::new(alloc),
+            code_targets: CodeTargets::new(alloc, CodeTarget::Undeclared),
             skipped: 0,
             limit,
             log: Vec::new(alloc),

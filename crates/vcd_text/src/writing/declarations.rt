@@ -1,12 +1,12 @@
 //! The declarations of a capture: header, timescale, scopes and variables (IEEE 1364-2005, 18.2).
 
-ghost use Rattle.std.specs.Prelude.{◌≡◌, ◌<◌, ◌≤◌, [], length, map, replicate};
-ghost use Rattle.std.specs.List.{common_prefix_len, flat_map};
+ghost use Rattle.std.specs.Prelude.{◌≡◌, ◌<◌, ◌≤◌, [], ◌∷◌, length, map, replicate};
+ghost use Rattle.std.specs.List.{common_prefix_len, flat_map, join_with_byte};
 ghost use Rattle.std.specs.Cmp.Lexicographic.{pointwise};
 ghost use Rattle.std.specs.Str.{bytes_eq};
 ghost use Rattle.vcd_core.specs.CaptureContents.{contents, signal_contents};
 ghost use Rattle.vcd_core.specs.declared.capture.TheConstants.{SIGNAL_LIMIT};
-ghost use Rattle.vcd_text.specs.Items.{entry, header_word, scope, upscope};
+ghost use Rattle.vcd_text.specs.Items.{entry, header_word, scope, upscope, variable, spelling};
 ghost use Rattle.vcd_text.specs.Text.{item_line, same_scope, scope_items};
 ghost use Rattle.vcd_text.specs.inside.writing.Declarations.{header_items};
 ghost use Rattle.vcd_text.specs.Text.{signal_items, timescale_items, variable_item};
@@ -105,6 +105,25 @@ fn write_variable<W: Sink>(output: &mut Output<W>, position: usize, signal: &Sig
     write_end(output);
 }
 
+/// Writes a `$var` of these words, without a line feed.
+pub fn write_declaration<W: Sink>(
+    output: &mut Output<W>,
+    kind: &[u8],
+    size: &[u8],
+    code: &[u8],
+    words: &[Word],
+)
+    ensures { Emits W.Sink output.old output.new
+        (join_with_byte 32 (spelling (variable (kind.now ∷ size.now ∷ code.now ∷ words.now)))) }
+{
+    write_bytes(output, b"$var");
+    write_word(output, kind);
+    write_word(output, size);
+    write_word(output, code);
+    write_words(output, words);
+    write_bytes(output, b" $end");
+}
+
 /// Closes the open scopes that the path does not share, and opens the other scopes of the path.
 fn write_scope_changes<W: Sink>(output: &mut Output<W>, opened: &[ScopeName], path: &[ScopeName])
     ensures { Emits W.Sink output.old output.new
@@ -115,8 +134,8 @@ fn write_scope_changes<W: Sink>(output: &mut Output<W>, opened: &[ScopeName], pa
     write_scopes(output, &path[shared..]);
 }
 
-/// Closes `count` scopes.
-fn write_upscopes<W: Sink>(output: &mut Output<W>, count: usize)
+/// Writes the lines that close `count` scopes.
+pub fn write_upscopes<W: Sink>(output: &mut Output<W>, count: usize)
     ensures { Emits W.Sink output.old output.new (flat_map item_line (replicate count upscope)) }
 {
     for _closed in 0..count {
@@ -124,8 +143,8 @@ fn write_upscopes<W: Sink>(output: &mut Output<W>, count: usize)
     }
 }
 
-/// Opens scopes, the outermost first.
-fn write_scopes<W: Sink>(output: &mut Output<W>, scopes: &[ScopeName])
+/// Writes the lines that open scopes, the outermost first.
+pub fn write_scopes<W: Sink>(output: &mut Output<W>, scopes: &[ScopeName])
     ensures { Emits W.Sink output.old output.new
         (flat_map item_line (map (λ s. scope s.kind s.words) scopes.now)) }
 {
@@ -145,7 +164,7 @@ fn write_scope<W: Sink>(output: &mut Output<W>, name: &ScopeName)
 }
 
 /// The number of scopes that two paths share at the front. The time grows with their words.
-#[tactic(auto, using(crate::proofs::writing::SharedScopes::none_shared))]
+#[tactic(auto, using(crate::proofs::shared::SharedScopes::none_shared))]
 fn shared_len(opened: &[ScopeName], path: &[ScopeName]) -> usize
     ensures shared { result ≡ common_prefix_len same_scope opened.now path.now }
     ensures in_opened { result ≤ length opened.now }
@@ -170,7 +189,7 @@ fn is_same_scope(a: &ScopeName, b: &ScopeName) -> bool
 }
 
 /// Whether two lists have the same words.
-fn are_same_words(a: &[Word], b: &[Word]) -> bool
+pub fn are_same_words(a: &[Word], b: &[Word]) -> bool
     ensures { result ≡ pointwise bytes_eq a.now b.now }
 {
     if a.len() != b.len() {

@@ -1,9 +1,9 @@
 //! The stamps of ticks (IEEE 1364-2005, 18.2).
 
-ghost use Rattle.std.specs.Prelude.{◌≡◌};
+ghost use Rattle.std.specs.Prelude.{◌≡◌, decimal};
 ghost use Rattle.std.specs.List.{flat_map};
+ghost use Rattle.vcd_text.specs.Items.{stamp};
 ghost use Rattle.vcd_text.specs.Text.{item_line};
-ghost use Rattle.vcd_text.specs.inside.writing.Transitions.{stamp_of};
 ghost use Rattle.vcd_text.specs.inside.writing.Transitions.{new_stamp};
 ghost use Rattle.vcd_text.specs.EmittedText.{Emits};
 
@@ -23,7 +23,7 @@ pub fn write_new_stamp<W: Sink>(output: &mut Output<W>, last: u64, tick: u64)
 
 /// Writes the line of a stamp.
 pub fn write_stamp<W: Sink>(output: &mut Output<W>, tick: u64)
-    ensures { Emits W.Sink output.old output.new (item_line (stamp_of tick)) }
+    ensures { Emits W.Sink output.old output.new (item_line (stamp (decimal tick))) }
 {
     write_byte(output, b'#');
     write_bytes(output, Buffer::new().format(tick).as_bytes());

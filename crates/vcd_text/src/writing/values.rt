@@ -3,10 +3,12 @@
 ghost use Rattle.std.specs.Prelude.{◌≡◌, ◌<◌, ◌≤◌, ◌+◌, ◌-◌, ◌*◌, ◌∷◌, ◌++◌, [], ℕ, true};
 ghost use Rattle.std.specs.Prelude.{false, if◌then◌else◌, length, drop, slice_index};
 ghost use Rattle.std.specs.Int.{bit_at};
+ghost use Rattle.std.specs.List.{join_with_byte};
 ghost use Rattle.vcd_core.specs.Value.{printed_letter, same_letter};
 ghost use Rattle.vcd_core.specs.Wave.{value_at};
 ghost use Rattle.vcd_core.specs.BlockRows.{letter_in, letters_of};
 ghost use Rattle.vcd_core.specs.declared.capture.TheConstants.{SIGNAL_LIMIT};
+ghost use Rattle.vcd_text.specs.Items.{spelling};
 ghost use Rattle.vcd_text.specs.Letters.{pad_letter, printed_letters, short_form};
 ghost use Rattle.vcd_text.specs.Text.{code_of, item_line, value_item};
 ghost use Rattle.vcd_text.specs.inside.writing.Values.{IsShortFormLen, is_redundant_above};
@@ -50,6 +52,16 @@ fn write_value<W: Sink>(output: &mut Output<W>, position: usize, value: &Value)
     write_value_prefix(output, value);
     write_code(output, position);
     write_byte(output, b'\n');
+}
+
+/// Writes the change of a code to a value, as one or two words. The time is that of `write` for
+/// each value.
+pub fn write_change<W: Sink>(output: &mut Output<W>, code: &[u8], value: &Value)
+    ensures { Emits W.Sink output.old output.new
+        (join_with_byte 32 (spelling (value_item code.now value.now))) }
+{
+    write_value_prefix(output, value);
+    write_bytes(output, code);
 }
 
 /// Writes the part before the code: one letter, or `b`, the short form and a space.

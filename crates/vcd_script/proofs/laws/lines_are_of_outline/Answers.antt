@@ -1,5 +1,5 @@
 use Rattle.vcd_script.proofs.script.CommandsOfOutline.{command_is_of_outline}
-use Rattle.vcd_script.proofs.laws.HollowRuns.{history_is_of_outline, asked_is_of_outline}
+use Rattle.vcd_script.proofs.shared.HollowRuns.{history_is_of_outline, asked_is_of_outline}
 use Rattle.vcd_script.proofs.laws.lines_are_of_outline.Goals as goal
 
 pub returns-clause-command : goal.returns-clause-command

@@ -1,6 +1,6 @@
 use Rattle.vcd_script.proofs.replies.RepliesWithOthers.{reply_with_others}
-use Rattle.vcd_script.proofs.laws.HollowRuns.{run_on_hollow, run_after_dry_run}
-use Rattle.vcd_script.proofs.laws.FittingCuts.{cuts_of_run_fit}
+use Rattle.vcd_script.proofs.shared.HollowRuns.{run_on_hollow, run_after_dry_run}
+use Rattle.vcd_script.proofs.shared.FittingCuts.{cuts_of_run_fit}
 use Rattle.vcd_script.proofs.laws.runs_on_hollow_captures.Goals as goal
 
 pub returns-clause-reply : goal.returns-clause-reply

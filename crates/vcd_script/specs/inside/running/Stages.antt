@@ -16,8 +16,3 @@ abbrev pub EndsBeforeReplies : (capture script : DeviceEnd) → RunError → Typ
 EndsBeforeReplies capture script e =
     (depth : ℕ) (replies : DeviceEnd) → IsUntouched replies
     → EndsBeforeOutput depth capture script replies e
-
--- it ends after an accepted capture and before its replies
-abbrev pub EndsAfterCapture : (script : DeviceEnd) → RunError → Type 0
-EndsAfterCapture script e = (capture : DeviceEnd) → IsAccepted capture
-    → EndsBeforeReplies capture script e

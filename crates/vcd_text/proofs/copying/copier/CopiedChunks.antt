@@ -1,5 +1,5 @@
 -- A chunk of a file that is copied, and the end of the file.
-use Rattle.std.proofs.Common.{◌≡◌, ◌∙◌, inr, ℕ, true, false, cond, List, [], ◌∷◌, ◌++◌, take, drop}
+use Rattle.std.proofs.Common.{◌≡◌, ◌∙◌, inr, ℕ, true, cond, List, [], ◌∷◌, ◌++◌, take, drop}
 use Rattle.std.proofs.Common.{refl, sym, ap, ap₂, subst, arith, append_assoc}
 use Rattle.std.proofs.lemmas.List.{append-nil, take-append-drop}
 use Rattle.std.proofs.lemmas.Bool.{and_parts, false≢true}
@@ -10,7 +10,7 @@ use Rattle.vcd_text.specs.Words.{WordOnLine, words_of, complete_words}
 use Rattle.vcd_text.specs.Items.{Item, spellings}
 use Rattle.vcd_text.specs.Grammar.{word_texts, initial_state, state_after}
 use Rattle.vcd_text.specs.Pieces.{Piece}
-use Rattle.vcd_text.specs.Copied.{CopyRules, copied, copied_pieces}
+use Rattle.vcd_text.specs.Copied.{CopyRules, IsCopy, copied, copied_pieces}
 use Rattle.vcd_text.specs.inside.Words.{has_complete_words}
 use Rattle.vcd_text.specs.inside.Copying.{HasCopied, HasCopiedFile, TookCopy, stands_open, piece_bytes}
 use Rattle.vcd_text.specs.inside.reading.Parser.{is_complete, IsBegun, HasTakenWords, IsAtState}
@@ -24,7 +24,7 @@ use Rattle.vcd_text.specs.declared.reading.parser.OpenItem.{OpenItem}
 use Rattle.vcd_text.specs.declared.reading.parser.OpenItem.TheVariants as items
 use Rattle.vcd_text.specs.declared.writing.output.Output.{Output}
 use Rattle.vcd_text.proofs.writing.output.Pieces.{writes_both, writes_as, writes_none}
-use Rattle.vcd_text.proofs.amended.Cuts.{SpellsItem, IsTight, SpaceIsWhite, HasSomeSpace, spelling_some}
+use Rattle.vcd_text.proofs.pieces.Cuts.{SpellsItem, IsTight, SpaceIsWhite, HasSomeSpace, spelling_some}
 use Rattle.vcd_text.proofs.copying.pieces.EndedItems.{nothing_open}
 
 pub both_complete : (a b : List ℕ) → has_complete_words a ≡ true → has_complete_words b ≡ true
@@ -83,36 +83,49 @@ none_is_open items.Other is = absurd (false≢true is)
 none_is_open items.Vector is = absurd (false≢true is)
 none_is_open items.RealOrString is = absurd (false≢true is)
 
+-- the open item is none, and only white space is left
+pub none_left : {limit : ℕ} {rules : CopyRules} {seen : List Piece → Type 0} {written : List ℕ → Type 0} {m : Parser}
+    {held bytes : List ℕ} {len : ℕ} (h : HasCopied limit rules seen written m held len bytes) → is_complete m ≡ true
+    → (m.item ≡ items.Nothing) × (h.space ++ (h.body ++ h.gap) ≡ h.gap)
+none_left {m = m} h complete =
+    let nothing = none_is_open m.item (and_parts m.in_body (is_nothing m.item) complete).1 in
+    let none : h.begun ≡ [] = subst (IsBegun m h.begun) nothing h.at.1 in
+    let empty = h.opened.none (ap word_texts none) in
+    (nothing, ap₂ (λ x y. x ++ (y ++ h.gap)) empty.0 empty.1)
+
+-- the whole file has a copy
+unfoldable pub whole_copy : {limit : ℕ} {rules : CopyRules} {seen : List Piece → Type 0} {written : List ℕ → Type 0}
+    {m : Parser}
+    {held bytes : List ℕ} {len : ℕ} (h : HasCopied limit rules seen written m held len bytes) → is_complete m ≡ true
+    → IsCopy limit rules bytes (copied rules h.pieces h.gap)
+whole_copy {m = m} h complete = record {
+  pieces = h.pieces;
+  tail = h.gap;
+  cut = record {
+    whole = h.whole ∙ ap (λ l. piece_bytes h.pieces ++ l) (none_left h complete).1;
+    spelled = h.cut.spelled;
+    tight = h.cut.tight;
+    spaces = h.cut.spaces;
+    apart = h.cut.apart;
+    end = h.gap_white;
+  };
+  allowed = h.allowed;
+  in_body = sym h.at.0.in_body ∙ (and_parts m.in_body (is_nothing m.item) complete).0;
+  is = refl;
+}
+
 -- the whole file is copied
 pub whole_copied : {W : Type 0} {sink : sinks.Ghosts W} {limit : ℕ} {rules : CopyRules} {seen : List Piece → Type 0}
     {start o1 o2 : Output W} {m : Parser} {held bytes : List ℕ} {len : ℕ}
     → (h : HasCopied limit rules seen (Emits sink start o1) m held len bytes) → is_complete m ≡ true
     → Emits sink o1 o2 (rules.at_end h.pieces held) → TookCopy sink limit rules start o2 bytes
-whole_copied {rules = rules} {m = m} {held = held} {bytes = bytes} h complete writes =
-    let parts = and_parts m.in_body (is_nothing m.item) complete in
-    let nothing = none_is_open m.item parts.1 in
-    let none : h.begun ≡ [] = subst (IsBegun m h.begun) nothing h.at.1 in
-    let empty = h.opened.none (ap word_texts none) in
-    let bare : h.space ++ (h.body ++ h.gap) ≡ h.gap = ap₂ (λ x y. x ++ (y ++ h.gap)) empty.0 empty.1 in
+whole_copied {rules = rules} {held = held} h complete writes =
+    let (nothing, bare) = none_left h complete in
     let gap : held ≡ h.gap = h.held_is ∙ ap (λ i. cond (stands_open i) h.gap (h.space ++ (h.body ++ h.gap)))
     nothing ∙ bare in
     record {
       text = copied rules h.pieces h.gap;
-      is_copy = record {
-        pieces = h.pieces;
-        tail = h.gap;
-        cut = record {
-          whole = h.whole ∙ ap (λ l. piece_bytes h.pieces ++ l) bare;
-          spelled = h.cut.spelled;
-          tight = h.cut.tight;
-          spaces = h.cut.spaces;
-          apart = h.cut.apart;
-          end = h.gap_white;
-        };
-        allowed = h.allowed;
-        in_body = sym h.at.0.in_body ∙ parts.0;
-        is = refl;
-      };
+      is_copy = whole_copy h complete;
       emits = writes_as (ap (λ i. (copied_pieces rules [] h.pieces ++ cond (stands_open i) (h.space ++ h.body) [])
           ++ rules.at_end h.pieces held) nothing ∙ ap₂ (λ x y. x ++ rules.at_end h.pieces y) (append-nil
           (copied_pieces rules [] h.pieces)) gap) (writes_both h.writes writes);

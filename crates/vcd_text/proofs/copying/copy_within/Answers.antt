@@ -1,5 +1,8 @@
 use Rattle.std.proofs.Common.{◌≡◌, ◌≤◌, ◌∙◌, ℕ, List, true, [], ◌∷◌, ◌++◌, None, length, IfSome, arith, rules}
-use Rattle.std.proofs.Common.{refl}
+use Rattle.std.proofs.Common.{refl, sym, inl, inr, ◌⊎◌}
+use Rattle.vcd_text.specs.Pieces.{Piece}
+use Rattle.vcd_text.specs.Copied.{IsTold}
+use Rattle.vcd_text.proofs.copying.copier.Told.{told_so_far, come_so_far, told_weaker}
 use Rattle.std.proofs.lemmas.Result.{IfErr-weaker}
 use Rattle.vcd_text.specs.declared.fault.Fault.TheVariants as faults
 use Rattle.vcd_text.specs.declared.fault.ReadError.{ReadError}
@@ -103,7 +106,8 @@ returns-clause-copied g c =
     let ended = c.in_ok-take_chunk.ensures.ended c.if-branch.false in
     let rules = c.in_ok-take_chunk.ensures.same ∙ c.loop-copier.invariant.3 in
     let all = Consumes-trans coming (g.R.Source.coming c.loop-copier.reader) left bytes chunk came second in
-    ok_weaker c.finish.result c.finish.ensures.copied (λ copies ready. both_some (λ file. length file ≤ c.args.most)
+    ok_weaker c.finish.result c.finish.ensures.copied (λ copies ready going. both_some (λ file. length file ≤
+    c.args.most)
     (λ file. TookCopy g.W.Sink c.args.limit (g.A.Amender.rules c.args.amender.now) c.args.output.now c.finish.new.output
     file) coming
     (of_all coming left read (λ file. length file ≤ c.args.most) consumes ended (omega (arith, taken.size)))
@@ -144,6 +148,38 @@ returns-clause-failed g c =
 
 pub returns-in_err-take_chunk-clause-more : goal.returns-in_err-take_chunk-clause-more
 returns-in_err-take_chunk-clause-more g c = more_both c.loop-copier.invariant.4 c.take_chunk.ensures.more
+
+pub returns-then-is_done-clause-told : goal.returns-then-is_done-clause-told
+returns-then-is_done-clause-told g c = λ ready.
+    let coming = g.R.Source.coming c.args.reader.now in
+    let left = g.R.Source.coming c.take_chunk.new.source in
+    let (bytes, came, h) = c.loop-copier.invariant.2 in
+    let (chunk, second, more) = c.in_ok-take_chunk.ensures.copied c.args.limit c.args.output.now bytes
+    (rw c.loop-copier.invariant.3 h) in
+    let all = Consumes-trans coming (g.R.Source.coming c.loop-copier.reader) left bytes chunk came second in
+    let amender = c.take_chunk.new.amender in
+    come_so_far _ coming left (bytes ++ chunk) all (told_so_far
+    (λ pieces. g.A.Amender.has_seen amender pieces ⊎ g.A.Amender.has_ended amender pieces) (g.A.Amender.is_done amender)
+    more (λ pieces seen. inl seen) (sym c.is_done.ensures ∙ c.if-is_done.true))
+
+pub returns-then-is_done-clause-more : goal.returns-then-is_done-clause-more
+returns-then-is_done-clause-more g c = more_both c.loop-copier.invariant.4 c.take_chunk.ensures.more
+
+pub returns-clause-told : goal.returns-clause-told
+returns-clause-told g c =
+    let coming = g.R.Source.coming c.args.reader.now in
+    let left = g.R.Source.coming c.take_chunk.new.source in
+    let (bytes, came, h) = c.loop-copier.invariant.2 in
+    let (chunk, second, more) = c.in_ok-take_chunk.ensures.copied c.args.limit c.args.output.now bytes
+    (rw c.loop-copier.invariant.3 h) in
+    let all = Consumes-trans coming (g.R.Source.coming c.loop-copier.reader) left bytes chunk came second in
+    let amender = c.finish.new.amender in
+    let told : List Piece → Type 0 = λ pieces. g.A.Amender.has_seen amender pieces
+    ⊎ g.A.Amender.has_ended amender pieces in
+    ok_weaker c.finish.result c.finish.ensures.told (λ tells ready. of_all coming left (bytes ++ chunk)
+    (IsTold c.args.limit (g.A.Amender.is_done amender) told) all (c.in_ok-take_chunk.ensures.ended c.if-branch.false)
+    (told_weaker (g.A.Amender.is_done amender) (λ pieces ended. inr ended) (tells c.args.limit c.args.output.now
+    (bytes ++ chunk) (rw c.in_ok-take_chunk.ensures.same more))))
 
 pub returns-then-failed-clause-more : goal.returns-then-failed-clause-more
 returns-then-failed-clause-more g c = more_both c.loop-copier.invariant.4 c.take_chunk.ensures.more

@@ -8,9 +8,11 @@ use Rattle.std.proofs.lemmas.Bool.{cases_Bool}
 use Rattle.vcd_text.specs.Items.{Item, variable, end_definitions, stamp, scalar, vector, real_or_string, entry}
 use Rattle.vcd_text.specs.Items.{timescale, scope, upscope, dump_word, other}
 use Rattle.vcd_text.specs.Grammar.{ParseState}
-use Rattle.vcd_text.specs.Pieces.{Piece}
-use Rattle.vcd_text.specs.Copied.{may_be_amended, Shows, value_code, real_or_string_code, IsShownNext}
+use Rattle.vcd_text.specs.Pieces.{Piece, state_of_pieces}
+use Rattle.vcd_text.specs.Copied.{may_be_amended, Shows, value_code, real_or_string_code, IsShownNext, IsTakenNext}
 use Rattle.vcd_text.specs.inside.Copying.{shown_item, stands_open, code_in, EndsPiece}
+use Rattle.vcd_text.specs.inside.reading.Scopes.{open_scopes}
+use Rattle.vcd_core.specs.declared.capture.ScopeName.{ScopeName}
 use Rattle.vcd_text.specs.declared.copying.amender.AmendableItem.{AmendableItem}
 use Rattle.vcd_text.specs.declared.copying.amender.AmendableItem.TheVariants as shown
 use Rattle.vcd_text.specs.declared.reading.parser.Parser.{Parser}
@@ -97,6 +99,24 @@ shown_parts again front back shown same parts = record {
     spelled = shown.next.spelled;
   };
   shows = rw same shown.shows;
+}
+
+pub taken_parts : {limit : ℕ} {before : List Piece} {p : Piece} {x : AmendableItem} {code : List ℕ}
+    {scopes : List ScopeName} (again front back : List ℕ) → IsTakenNext limit before p x code scopes p.space p.body
+    → again ≡ code → (p.space ≡ front) × (p.body ≡ back) → IsTakenNext limit before p x again scopes front back
+taken_parts again front back taken same parts = record {
+  shown = shown_parts again front back taken.shown same parts;
+  scopes_are = taken.scopes_are;
+}
+
+-- with the open scopes
+pub taken_next : {limit : ℕ} {before : List Piece} {p : Piece} {item : OpenItem} {text : List ℕ} {m : Parser}
+    {x : AmendableItem} {code : List ℕ} {scopes : List ScopeName} → EndsPiece limit before p item text m
+    → IsShownNext limit before p x code p.space p.body → scopes ≡ open_scopes m.variables.scopes
+    → IsTakenNext limit before p x code scopes p.space p.body
+taken_next {limit = limit} {before = before} {p = p} {x = x} {code = code} ends shown are = record {
+  shown = shown;
+  scopes_are = are ∙ ends.scopes (shown_is_amended (state_of_pieces limit before) x code p.item shown.shows);
 }
 
 -- what is added to the text, if the item stands

@@ -1,12 +1,13 @@
 -- One more word of a file that is copied.
-use Rattle.std.proofs.Common.{◌≡◌, ◌∙◌, ◌⊎◌, inl, inr, ℕ, ◌+◌, ◌-◌, ◌<◌, Bool, true, false, not, cond, List, [], ◌∷◌}
+use Rattle.std.proofs.Common.{◌≡◌, ◌∙◌, ◌⊎◌, inl, inr, ℕ, ◌+◌, ◌-◌, ◌<◌, Bool, true, false, cond, List, [], ◌∷◌}
 use Rattle.std.proofs.Common.{◌++◌}
 use Rattle.std.proofs.Common.{length, length-take-le, refl, sym, ap, ap₂, subst, arith, append_assoc}
 use Rattle.std.proofs.lemmas.List.{append-nil, length-append, map-append}
 use Rattle.std.proofs.lemmas.Bool.{false≢true}
 use Rattle.vcd_core.specs.declared.capture.ScopeName.{ScopeName}
 use Rattle.vcd_text.specs.Words.{WordOnLine}
-use Rattle.vcd_text.specs.Items.{Item, spelling}
+use Rattle.vcd_text.specs.Items.{Item, spelling, variable, end_definitions, stamp, scalar, vector, real_or_string}
+use Rattle.vcd_text.specs.Items.{entry, timescale, scope, upscope, dump_word, other}
 use Rattle.vcd_text.specs.Grammar.{ParseState, initial_state, state_after_item, AllowsAll, Allows, word_texts}
 use Rattle.vcd_text.specs.Pieces.{state_of_pieces, Piece}
 use Rattle.vcd_text.specs.Copied.{CopyRules, copied_piece, copied_pieces, piece_items}
@@ -20,8 +21,8 @@ use Rattle.vcd_text.specs.declared.reading.parser.Parser.{Parser}
 use Rattle.vcd_text.specs.declared.reading.parser.OpenItem.{OpenItem}
 use Rattle.vcd_text.specs.declared.reading.parser.OpenItem.TheVariants as items
 use Rattle.vcd_text.proofs.read_back.Words.{is_unbroken}
-use Rattle.vcd_text.proofs.amended.Bytes.{texts_are}
-use Rattle.vcd_text.proofs.amended.Cuts.{SpellsItem}
+use Rattle.vcd_text.proofs.pieces.Bytes.{texts_are}
+use Rattle.vcd_text.proofs.pieces.Cuts.{SpellsItem}
 use Rattle.vcd_text.proofs.copying.pieces.EndedItems.{nothing_open, something_open, opened_as, ended, stands_at}
 use Rattle.vcd_text.proofs.copying.pieces.EndedItems.{IsShownAs}
 use Rattle.vcd_text.proofs.copying.pieces.OneWordMore.{not_complete, no_texts, shuffled, both_held, copied_more}
@@ -41,6 +42,21 @@ not_shown items.SizedVariable text tick depth i c stands is = absurd (false≢tr
 not_shown items.EndDefinitions text tick depth i c stands is = absurd (false≢true stands)
 not_shown items.Vector text tick depth i c stands is = absurd (false≢true stands)
 not_shown items.RealOrString text tick depth i c stands is = absurd (false≢true stands)
+
+-- an item that may be amended opens and closes no scope
+scopes_stay : (c : ParseState) (i : Item) → may_be_amended i ≡ true → (state_after_item c i).scopes ≡ c.scopes
+scopes_stay c (variable words) amended = refl
+scopes_stay c end_definitions amended = refl
+scopes_stay c (stamp digits) amended = refl
+scopes_stay c (scalar digit code) amended = refl
+scopes_stay c (vector first digits code) amended = refl
+scopes_stay c (real_or_string first text code) amended = refl
+scopes_stay c (entry kind words) amended = absurd (false≢true amended)
+scopes_stay c (timescale words) amended = absurd (false≢true amended)
+scopes_stay c (scope kind words) amended = absurd (false≢true amended)
+scopes_stay c upscope amended = absurd (false≢true amended)
+scopes_stay c (dump_word word) amended = absurd (false≢true amended)
+scopes_stay c (other word words) amended = absurd (false≢true amended)
 
 -- ---- one word
 
@@ -208,6 +224,7 @@ module _ (limit : ℕ) (rules : CopyRules) (seen_before : List Piece → Type 0)
       ends_piece = record {
         next = record { allowed = reached.0; space_is = refl; body_is = refl; spelled = spells };
         shown = shown_as;
+        scopes = λ amended. at.0.variables.opened ∙ scopes_stay (state_of_pieces limit h.pieces) i amended;
       }
 
       pub piece_held : stands_open old.item ≡ false → (held1 ≡ piece.space ++ piece.body)

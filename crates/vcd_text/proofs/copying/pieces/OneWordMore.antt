@@ -1,5 +1,5 @@
 -- Bytes, pieces and an open item with one more word.
-use Rattle.std.proofs.Common.{◌≡◌, ◌∙◌, ◌⊎◌, inl, inr, ℕ, ◌+◌, ◌-◌, ◌<◌, Bool, true, false, not, cond, List, [], ◌∷◌}
+use Rattle.std.proofs.Common.{◌≡◌, ◌∙◌, ◌⊎◌, inl, inr, ℕ, ◌<◌, Bool, true, false, not, cond, List, [], ◌∷◌}
 use Rattle.std.proofs.Common.{◌++◌}
 use Rattle.std.proofs.Common.{length, drop, refl, sym, ap, subst, arith, append_assoc}
 use Rattle.std.specs.Prelude.{IsTrue}
@@ -17,9 +17,9 @@ use Rattle.vcd_text.specs.Copied.{CopyRules, copied_piece, copied_pieces, piece_
 use Rattle.vcd_text.specs.inside.Words.{has_complete_words, words_from}
 use Rattle.vcd_text.specs.inside.Copying.{IsOpenItem, piece_bytes}
 use Rattle.vcd_text.proofs.read_back.Words.{is_unbroken}
-use Rattle.vcd_text.proofs.amended.Bytes.{texts, texts_are, is_end, space_first, both_parts, joined_words}
-use Rattle.vcd_text.proofs.amended.Cuts.{word_ends, ends_after, begins_in_word}
-use Rattle.vcd_text.proofs.amended.Cuts.{SpellsItem, IsTight, SpaceIsWhite, HasSomeSpace}
+use Rattle.vcd_text.proofs.pieces.Bytes.{texts, texts_are, is_end, space_first, both_parts, joined_words}
+use Rattle.vcd_text.proofs.pieces.Cuts.{word_ends, ends_after, begins_in_word}
+use Rattle.vcd_text.proofs.pieces.Cuts.{SpellsItem, IsTight, SpaceIsWhite, HasSomeSpace}
 use Rattle.vcd_text.proofs.shared.ItemsInTurn.{reaches_both, reaches_one}
 
 -- ---- bytes
@@ -32,7 +32,7 @@ unbroken (b ∷ bs) some none = none
 word_text : (text : List ℕ) → is_unbroken text ≡ true → texts text ≡ text ∷ []
 word_text text whole = joined_words (text ∷ []) (and_from (is_unbroken text) true whole refl)
 
-space_ends : (space rest : List ℕ) → 0 < length space → list_all is_white_space space ≡ true
+pub space_ends : (space rest : List ℕ) → 0 < length space → list_all is_white_space space ≡ true
     → is_end (space ++ rest) ≡ true
 space_ends [] rest some white = absurd (omega arith)
 space_ends (b ∷ bs) rest some white = (and_parts (is_white_space b) (list_all is_white_space bs) white).0

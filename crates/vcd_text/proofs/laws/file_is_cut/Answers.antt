@@ -1,5 +1,5 @@
-use Rattle.vcd_text.proofs.amended.Cuts.{file_is_cut}
-use Rattle.vcd_text.proofs.amended.OneCut.{cut_is_unique}
+use Rattle.vcd_text.proofs.pieces.Cuts.{file_is_cut}
+use Rattle.vcd_text.proofs.pieces.OneCut.{cut_is_unique}
 use Rattle.vcd_text.proofs.laws.file_is_cut.Goals as goal
 
 pub returns-clause-cut : goal.returns-clause-cut

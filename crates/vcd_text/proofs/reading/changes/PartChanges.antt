@@ -21,7 +21,7 @@ use Rattle.vcd_text.specs.inside.reading.Variables.{too_long}
 use Rattle.vcd_text.specs.inside.reading.Part.{seen_tick, is_late, seen_state, Remains, TellsPart, IsPassedOver, Asked}
 use Rattle.vcd_text.specs.inside.reading.Part.{PartChange}
 use Rattle.vcd_text.specs.inside.reading.Parser.{ParserMatches}
-use Rattle.vcd_text.proofs.reading.variables.ChangedVariable.{value_with}
+use Rattle.vcd_text.proofs.shared.ValuesOfCodes.{value_with}
 use Rattle.vcd_text.proofs.reading.code_targets.Targets.{same_code}
 use Rattle.vcd_text.proofs.reading.declarations.DeclarationWords.{agrees_by}
 

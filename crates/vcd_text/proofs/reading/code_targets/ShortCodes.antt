@@ -5,8 +5,6 @@ use Rattle.std.specs.Prelude.{codes, bytes_eq, slice_index_or}
 use Rattle.std.specs.Global.{Vec}
 use Rattle.std.proofs.lemmas.Bool.{cases_eq, eq-eqb, ne_eqb}
 use Rattle.vcd_text.specs.inside.reading.CodeTargets.{index_of_code, code_target, target_at_index}
-use Rattle.vcd_text.specs.declared.reading.code_targets.CodeTarget.{CodeTarget}
-use Rattle.vcd_text.specs.declared.reading.code_targets.CodeTarget.TheVariants.{Undeclared}
 use Rattle.vcd_text.specs.declared.reading.code_targets.CodeTargets.{CodeTargets}
 use Rattle.vcd_text.proofs.reading.code_targets.Targets.{by_code, own_code}
 
@@ -39,10 +37,10 @@ one_code a b index here there = one_spelled a b index (spelled a index here) (sp
 
 -- ---- a code that is put into the table
 
-module _ (old : CodeTargets) (table : Vec CodeTarget) (code : List ℕ) (index : ℕ) (target : CodeTarget)
+module _ {T : Type 0} (old : CodeTargets T) (table : Vec T) (code : List ℕ) (index : ℕ) (target : T)
     (has : index_of_code code ≡ Some index)
-    (puts : (i : ℕ) → slice_index_or table.items i Undeclared
-    ≡ (if i == index then target else slice_index_or old.short.items i Undeclared)) where
+    (puts : (i : ℕ) → slice_index_or table.items i old.absent
+    ≡ (if i == index then target else slice_index_or old.short.items i old.absent)) where
   put_here : code_target (record old { short = table }) code ≡ target
   put_here = grind (arith, eq-eqb)
 

@@ -15,7 +15,7 @@ use Rattle.vcd_text.specs.Grammar.{VariableDeclaration, ValueChange, is_skipped}
 use Rattle.vcd_text.specs.inside.reading.Variables.{HasValueChanges, TargetMatches}
 use Rattle.vcd_text.specs.declared.reading.log.LoggedChange.{LoggedChange}
 use Rattle.vcd_text.specs.declared.reading.code_targets.CodeTarget.{CodeTarget}
-use Rattle.vcd_text.specs.declared.reading.code_targets.CodeTarget.TheVariants.{Undeclared, Kept}
+use Rattle.vcd_text.specs.declared.reading.code_targets.CodeTarget.TheVariants.{Kept}
 use Rattle.vcd_text.specs.inside.reading.CodeTargets.{in_map}
 use Rattle.vcd_text.specs.declared.reading.variables.Variable.{Variable}
 
@@ -34,16 +34,16 @@ by_code P a b same other = grind (arith, same_code)
 
 -- ---- a code that is put into the map
 
-module _ {S : Type 0} (old new : IndexMap (Vec ℕ) CodeTarget S) (k : Vec ℕ) (w : CodeTarget)
+module _ {T S : Type 0} (old new : IndexMap (Vec ℕ) T S) (k : Vec ℕ) (w absent : T)
     (puts : Updates (λ (x : Vec ℕ) (y : Vec ℕ). bytes_eq x.items y.items) old new k (Some w)) where
-  put_elsewhere : (key : List ℕ) → bytes_eq key k.items ≡ false → in_map new key ≡ in_map old key
+  put_elsewhere : (key : List ℕ) → bytes_eq key k.items ≡ false → in_map absent new key ≡ in_map absent old key
   unfolding KeepsOthers
   put_elsewhere key apart = grind (arith, nat_list_eq_equiv)
 
   -- then it has its new target, and the others keep theirs
-  pub target_put : (key : List ℕ) → in_map new key ≡ (if bytes_eq key k.items then w else in_map old key)
-  target_put key = by_code (λ b. in_map new key ≡ (if b then w else in_map old key)) key k.items
-      (λ same. ap (in_map new) same ∙ ap (λ o. unwrap_or o Undeclared) puts.1) (put_elsewhere key)
+  pub target_put : (key : List ℕ) → in_map absent new key ≡ (if bytes_eq key k.items then w else in_map absent old key)
+  target_put key = by_code (λ b. in_map absent new key ≡ (if b then w else in_map absent old key)) key k.items
+      (λ same. ap (in_map absent new) same ∙ ap (λ o. unwrap_or o absent) puts.1) (put_elsewhere key)
 
 -- ---- a code against the variables that were declared
 

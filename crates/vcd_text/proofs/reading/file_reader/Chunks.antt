@@ -31,8 +31,8 @@ use Rattle.vcd_text.specs.inside.reading.FileReader.{HasTaken, HasUntakenChunk, 
 use Rattle.vcd_text.proofs.reading.file_reader.PrefixResults.{larger, failing}
 use Rattle.vcd_text.proofs.shared.FaultOfPrefix.{longer_prefix_fault, complete_in_file}
 use Rattle.vcd_text.proofs.shared.FoundFault.{file_fault, prefix_fault_stays}
-use Rattle.vcd_text.proofs.words.WordsInTurn.{line_feeds_of_both, no_line_feeds, word_part}
-use Rattle.vcd_text.proofs.words.WordsByBytes.{words_by_bytes, complete_by_bytes}
+use Rattle.vcd_text.proofs.shared.WordsInTurn.{line_feeds_of_both, no_line_feeds, word_part}
+use Rattle.vcd_text.proofs.shared.WordsByBytes.{words_by_bytes, complete_by_bytes}
 use Rattle.vcd_text.specs.inside.reading.ReadBuffer.{ReadBufferView}
 use Rattle.std.proofs.lemmas.Grind.{common_steps}
 use Rattle.vcd_core.specs.Contents.{SignalContents}

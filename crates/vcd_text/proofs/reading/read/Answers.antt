@@ -1,4 +1,4 @@
-use Rattle.std.proofs.Common.{◌≡◌, ◌≤◌, length, Some, None, IfSome}
+use Rattle.std.proofs.Common.{◌≡◌, ◌≤◌, length, true, Some, None, IfSome, arith}
 use Rattle.std.proofs.lemmas.Option.{same_Some}
 use Rattle.std.proofs.lemmas.Result.{IfOk-weaker, IfErr-weaker}
 use Rattle.vcd_core.specs.CaptureContents.{contents}
@@ -10,7 +10,7 @@ use Rattle.vcd_core.specs.declared.capture.TheConstants.{SIGNAL_LIMIT}
 use Rattle.vcd_text.specs.Refusals.{IsRefusal}
 use Rattle.vcd_text.specs.inside.reading.Part.{all_ticks}
 use Rattle.vcd_text.proofs.part.WholeParts.{whole_means_of_read, whole_extent_of_read}
-use Rattle.vcd_text.proofs.part.WholeParts.{no_part_refusal_of_read}
+use Rattle.vcd_text.proofs.part.WholeParts.{no_part_refusal}
 use Rattle.vcd_text.proofs.reading.read.Goals as goal
 
 no_ticks : None ≡ Some all_ticks → ⊥
@@ -39,5 +39,5 @@ returns-clause-refused g c =
     let failed = g.R.Source.has_failed c.read_within.new.reader in
     IfErr-weaker c.read_within.result _ (λ (e : ReadError). IfSome coming
     (λ file. IsRefusal SIGNAL_LIMIT FILE_LIMIT file failed left e))
-    (λ e. no_part_refusal_of_read (λ t ss answer. answer ≡ Some all_ticks) coming failed left e
-    (λ t ss answer. no_ticks answer)) c.read_within.ensures.refused
+    (λ e. no_part_refusal SIGNAL_LIMIT FILE_LIMIT (λ _. true) (λ t ss answer. answer ≡ Some all_ticks) coming failed
+    left e (omega arith) (λ t ss answer. no_ticks answer)) c.read_within.ensures.refused

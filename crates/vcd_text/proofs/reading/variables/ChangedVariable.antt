@@ -33,6 +33,7 @@ use Rattle.vcd_text.specs.declared.reading.log.LoggedChange.{LoggedChange}
 use Rattle.vcd_text.specs.declared.reading.code_targets.CodeTarget.TheVariants.{Kept}
 use Rattle.vcd_text.specs.declared.reading.variables.Variable.{Variable}
 use Rattle.vcd_text.specs.declared.reading.variables.Variables.{Variables}
+use Rattle.vcd_text.proofs.shared.ValuesOfCodes.{value_with}
 use Rattle.vcd_text.proofs.reading.log.LoggedValues.{gives_late, gives_as, gives_pushed}
 use Rattle.vcd_text.proofs.reading.code_targets.Targets.{own_code, same_code, stands_kept, stands_moved}
 use Rattle.vcd_text.proofs.reading.variables.VariablesMatch.{one_owner}
@@ -76,20 +77,6 @@ same_itself v = record { place = refl; kind = refl; words = refl; width = refl; 
 
 pub same_declaration : (v w : Variable) → IsSameVariable v w → declaration w ≡ declaration v
 same_declaration v w same = grind arith
-
--- ---- a value change more
-
-pub latest_value-append : (width : ℕ) (code : List ℕ) (t : ℕ) (before : List Bit) (rs qs : List ValueChange)
-    → latest_value width code t before (rs ++ qs) ≡ latest_value width code t (latest_value width code t before rs) qs
-unfolding changes_of_code
-latest_value-append width code t before rs qs = grind (arith, filter-append, map-append, value_from-append)
-
-pub value_with : (width : ℕ) (code : List ℕ) (t : ℕ) (before : List Bit) (rs : List ValueChange) (r : ValueChange)
-    → latest_value width code t before (rs ++ r ∷ [])
-    ≡ (if bytes_eq r.code code && nat_le r.tick t then extension width r.letters else latest_value width code t
-    before rs)
-unfolding changes_of_code value_from
-value_with width code t before rs r = grind (arith, cases_Bool, latest_value-append)
 
 -- ---- the variables after a change
 

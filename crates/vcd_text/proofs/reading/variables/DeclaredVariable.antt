@@ -100,10 +100,10 @@ puts_same old new code target same had = λ key.
 -- ---- a variable that is skipped
 
 -- the variables with one more that is skipped, and these targets
-abbrev pub with_skipped : Variables → CodeTargets → Variables
+abbrev pub with_skipped : Variables → CodeTargets CodeTarget → Variables
 with_skipped vs targets = record vs { code_targets = targets; skipped = vs.skipped + 1 }
 
-module _ (old : Variables) (targets : CodeTargets) (c : ParseState) (d : VariableDeclaration)
+module _ (old : Variables) (targets : CodeTargets CodeTarget) (c : ParseState) (d : VariableDeclaration)
     (k : VariablesMatch old c) (skipped : is_skipped d ≡ true)
     (free : (target_of old d.code ≡ Undeclared) ⊎ (target_of old d.code ≡ Skipped))
     (puts : Puts old (with_skipped old targets) d.code Skipped)
@@ -163,7 +163,7 @@ module _ (old : Variables) (targets : CodeTargets) (c : ParseState) (d : Variabl
 -- ---- a variable that is kept
 
 -- the variables with another list and other targets
-abbrev pub with_kept : Variables → Vec Variable → CodeTargets → Variables
+abbrev pub with_kept : Variables → Vec Variable → CodeTargets CodeTarget → Variables
 with_kept vs list targets = record vs { kept = list; code_targets = targets }
 
 module _ (old : Variables) (c : ParseState) (code : List ℕ) (v : Variable) (k : VariablesMatch old c)
@@ -175,7 +175,7 @@ module _ (old : Variables) (c : ParseState) (code : List ℕ) (v : Variable) (k 
   first_within : v.first ≤ length old.kept.items
   first_within = grind (arith, stands_kept, slice_get_within)
 
-  module _ (list : Vec Variable) (targets : CodeTargets) (value_changes : c.value_changes ≡ [])
+  module _ (list : Vec Variable) (targets : CodeTargets CodeTarget) (value_changes : c.value_changes ≡ [])
       (no_changes : v.wave.changes ≡ []) (placed : IsPlaced old.scopes v.place (open_scopes old.scopes))
       (items : list.items ≡ old.kept.items ++ v ∷ [])
       (puts : Puts old (with_kept old list targets) code (Kept v.wave.width v.first)) where

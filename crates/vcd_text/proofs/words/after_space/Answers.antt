@@ -7,7 +7,7 @@ use Rattle.std.proofs.lemmas.Bool.Decides.{Decides-eqb}
 use Rattle.std.proofs.lemmas.Bool.{ne_eqb}
 use Rattle.vcd_core.specs.Word.{is_white_space}
 use Rattle.vcd_text.specs.inside.Words.{words_from}
-use Rattle.vcd_text.proofs.words.WordsInTurn.{space_passed, feed_first, other_first}
+use Rattle.vcd_text.proofs.shared.WordsInTurn.{space_passed, feed_first, other_first}
 use Rattle.vcd_text.proofs.words.after_space.Goals as goal
 
 -- a line feed, or other white space, is line_feeds

@@ -25,3 +25,8 @@ pub writes_line : {W : Type 0} {sink : sinks.Ghosts W} {o0 o1 o2 o3 : Output W} 
     (ws : List (List ℕ)) → Emits sink o0 o1 w → Emits sink o1 o2 (spaced_words ws) → Emits sink o2 o3 (codes " $end\n")
     → Emits sink o0 o3 (join_with_byte 32 (w ∷ (ws ++ end_word ∷ [])) ++ 10 ∷ [])
 writes_line w ws first middle last = grind (arith, writes_as, append_assoc, joined, flat_map-append, writes_both)
+
+pub writes_item : {W : Type 0} {sink : sinks.Ghosts W} {o0 o1 o2 o3 : Output W} (w : List ℕ)
+    (ws : List (List ℕ)) → Emits sink o0 o1 w → Emits sink o1 o2 (spaced_words ws) → Emits sink o2 o3 (codes " $end")
+    → Emits sink o0 o3 (join_with_byte 32 (w ∷ (ws ++ end_word ∷ [])))
+writes_item w ws first middle last = grind (arith, writes_as, append_assoc, joined, flat_map-append, writes_both)

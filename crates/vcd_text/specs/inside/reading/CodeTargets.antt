@@ -4,8 +4,6 @@ use Rattle.std.specs.Prelude.{slice_index_or, unwrap_or}
 use Rattle.std.specs.Prelude.{Option, Some, None, bytes_eq}
 use Rattle.std.specs.Global.{Vec}
 use Rattle.indexmap.specs.IndexMap.{IndexMap, get_by}
-use Rattle.vcd_text.specs.declared.reading.code_targets.CodeTarget.{CodeTarget}
-use Rattle.vcd_text.specs.declared.reading.code_targets.CodeTarget.TheVariants.{Undeclared}
 use Rattle.vcd_text.specs.declared.reading.code_targets.CodeTargets.{CodeTargets}
 
 -- a byte from 1 to 127 as a digit
@@ -27,14 +25,14 @@ index_of_code (a ∷ b ∷ c ∷ []) = joined_digits (digit_of a) (joined_digits
 index_of_code code = None
 
 -- the target of a code in a map
-abbrev pub in_map : {S : Type 0} → IndexMap (Vec ℕ) CodeTarget S → List ℕ → CodeTarget
-in_map codes code = unwrap_or (get_by (λ key. bytes_eq code key.items) codes) Undeclared
+abbrev pub in_map : {T S : Type 0} → (absent : T) → IndexMap (Vec ℕ) T S → List ℕ → T
+in_map absent codes code = unwrap_or (get_by (λ key. bytes_eq code key.items) codes) absent
 
 -- the target of a code at this index
-abbrev pub target_at_index : CodeTargets → List ℕ → Option ℕ → CodeTarget
-target_at_index t code None = in_map t.others code
-target_at_index t code (Some index) = slice_index_or t.short.items index Undeclared
+abbrev pub target_at_index : {T : Type 0} → CodeTargets T → List ℕ → Option ℕ → T
+target_at_index t code None = in_map t.absent t.others code
+target_at_index t code (Some index) = slice_index_or t.short.items index t.absent
 
 -- the target of a code
-abbrev pub code_target : CodeTargets → List ℕ → CodeTarget
+abbrev pub code_target : {T : Type 0} → CodeTargets T → List ℕ → T
 code_target t code = target_at_index t code (index_of_code code)

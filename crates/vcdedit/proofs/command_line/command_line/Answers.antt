@@ -11,8 +11,8 @@ returns c =
           record (new_app (codes "vcdedit")).top { no_binary_name = true; has_version = true };
     } = search rules in
     let one = c.in_ok-arg.ensures.shape c.input_option.ensures.local ∙ ap₂ with_rule bare c.input_option.ensures.rule in
-    let two = c.in_ok-arg-2.ensures.shape c.value_option.ensures.local
-    ∙ ap₂ with_rule one c.value_option.ensures.rule in
+    let two = c.in_ok-arg-2.ensures.shape c.script_option.ensures.local
+    ∙ ap₂ with_rule one c.script_option.ensures.rule in
     let three = c.in_ok-arg-3.ensures.shape c.output_option.ensures.local
     ∙ ap₂ with_rule two c.output_option.ensures.rule in
     IfOk-weaker c.arg-4.result _ _ (λ d added. added.shape c.depth_option.ensures.local

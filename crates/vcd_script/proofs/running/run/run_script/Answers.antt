@@ -1,8 +1,9 @@
 use Rattle.std.proofs.Common.{refl}
 use Rattle.vcd_core.specs.CaptureContents.{contents}
+use Rattle.vcd_core.specs.Devices.{device_end}
 use Rattle.vcd_script.specs.declared.running.run_error.RunError.TheVariants as run_errors
 use Rattle.vcd_script.proofs.running.PartsOfRun.{script_gives_where_known, capture_ends, script_ends, lines_end}
-use Rattle.vcd_script.proofs.running.PartsOfRun.{at_error}
+use Rattle.vcd_script.proofs.running.PartsOfRun.{at_error, flushed_at_script}
 use Rattle.vcd_script.proofs.running.PartsOfRun.{file_means, is_accepted, session_ends, flushed_at_line}
 use Rattle.vcd_script.proofs.running.run.run_script.Goals as goal
 
@@ -18,7 +19,7 @@ returns-in_err-loaded-clause-ended g c =
 pub returns-in_err-script-clause-ended : goal.returns-in_err-script-clause-ended
 returns-in_err-script-clause-ended g c =
     at_error c.from_residual-in_err-script.result c.in_err-script.field-0.0 _ c.from_residual-in_err-script.ensures.1
-    (script_ends _ _ _ c.args.depth c.in_err-script.field-0.0 c.in_err-script.ensures.ended
+    (script_ends _ _ _ c.args.depth c.in_err-script.field-0.0 c.in_err-script.ensures.fails
     (is_accepted _ (contents c.in_ok-loaded.loaded.capture) c.in_ok-loaded.loaded.skipped
     c.in_ok-loaded.ensures.not_failed c.in_ok-loaded.ensures.ended c.in_ok-loaded.ensures.means)
     (refl, c.requires.replies_ready))
@@ -55,7 +56,9 @@ returns-clause-gives g c =
 pub returns-in_err-script-clause-flushed_at : goal.returns-in_err-script-clause-flushed_at
 returns-in_err-script-clause-flushed_at g c =
     at_error c.from_residual-in_err-script.result c.in_err-script.field-0.0 _ c.from_residual-in_err-script.ensures.1
-    (c.in_err-script.ensures.before_replies _ _)
+    (flushed_at_script (device_end g.S.Source.coming g.S.Source.has_failed c.args.script_reader.now
+    c.read_script.new.source)
+    _ _ c.in_err-script.field-0.0 c.in_err-script.ensures.fails)
 
 pub returns-in_err-refused-clause-flushed_at : goal.returns-in_err-refused-clause-flushed_at
 returns-in_err-refused-clause-flushed_at g c =

@@ -1,25 +1,27 @@
 use Rattle.std.proofs.Common.{◌≡◌, ◌∙◌, ◌-◌, ◌++◌, ℕ, List, [], length, take, drop, refl, sym, ap, arith}
 use Rattle.std.proofs.lemmas.Bool.{eqb-true}
 use Rattle.std.proofs.lemmas.List.{nil_from_length}
-use Rattle.vcd_text.specs.Copied.{IsShownNext}
+use Rattle.vcd_core.specs.declared.capture.ScopeName.{ScopeName}
+use Rattle.vcd_text.specs.Copied.{IsTakenNext}
 use Rattle.vcd_text.specs.Pieces.{Piece}
 use Rattle.vcd_text.specs.declared.copying.amender.AmendableItem.{AmendableItem}
-use Rattle.vcd_text.proofs.copying.ended_items.Shown.{both_ok, in_two, shown_parts}
+use Rattle.vcd_text.proofs.copying.ended_items.Shown.{both_ok, in_two, taken_parts}
 use Rattle.vcd_text.proofs.copying.pieces.StandingBytes.{begun_is}
 use Rattle.vcd_text.proofs.writing.output.Pieces.{writes_both, writes_more, more_both, more_ended}
 use Rattle.vcd_text.proofs.copying.ended_items.amend_item.Goals as goal
 
 -- where nothing is held, the item is shown from the chunk
 shown_here : {limit : ℕ} {before : List Piece} {p : Piece} {x : AmendableItem} {code space body : List ℕ}
-    (item begun rest held : List ℕ) {n : ℕ} → IsShownNext limit before p x code p.space p.body
+    {scopes : List ScopeName} (item begun rest held : List ℕ) {n : ℕ} → IsTakenNext limit before p x code scopes p.space
+    p.body
     → held ++ begun ≡ p.space ++ p.body → n ≡ length p.space → held ≡ [] → item ≡ begun ++ rest
     → space ≡ take n (take (length item - length rest) item) → body ≡ drop n (take (length item - length rest) item)
-    → IsShownNext limit before p x code space body
+    → IsTakenNext limit before p x code scopes space body
 shown_here {p = p} {code = code} item begun rest held {n = n} shown bytes len none is front
     back =
     let here : take (length item - length rest) item ≡ p.space ++ p.body = begun_is item begun rest is
     ∙ ap (λ l. l ++ begun) (sym none) ∙ bytes in
-    shown_parts code _ _ shown refl (in_two _ _ _ p.space p.body n front back here len)
+    taken_parts code _ _ shown refl (in_two _ _ _ p.space p.body n front back here len)
 
 pub returns-then-is_empty-clause-written : goal.returns-then-is_empty-clause-written
 returns-then-is_empty-clause-written g c = both_ok c.take.result c.take.ensures.written c.take.ensures.seen (λ writes
@@ -58,6 +60,6 @@ returns-clause-more g c =
     let held = c.args.held.now.bytes.items in
     let all : c.as_slice.result.now ≡ p.space ++ p.body = c.as_slice.ensures.value ∙ c.in_ok-hold.ensures
     ∙ ap (λ l. held ++ l) (begun_is c.args.unwritten.now.item.now begun c.args.rest.now unwritten.item_is) ∙ bytes in
-    let next = shown_parts c.args.code.now _ _ shown refl (in_two _ _ _ p.space p.body c.args.held.now.space_len
+    let next = taken_parts c.args.code.now _ _ shown refl (in_two _ _ _ p.space p.body c.args.held.now.space_len
     c.split_at-2.ensures.front c.split_at-2.ensures.back all len) in
     writes_more (c.in_ok-take.ensures.written limit before p has next)

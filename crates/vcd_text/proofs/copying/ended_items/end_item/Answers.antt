@@ -4,6 +4,7 @@ use Rattle.vcd_text.specs.Copied.{CopyRules}
 use Rattle.vcd_text.specs.inside.Copying.{AddsToText}
 use Rattle.vcd_text.specs.EmittedText.{Emits}
 use Rattle.vcd_text.proofs.copying.ended_items.Shown.{shown_is_held, shown_is_amended, piece_is_shown, shown_parts}
+use Rattle.vcd_text.proofs.copying.ended_items.Shown.{taken_next}
 use Rattle.vcd_text.proofs.copying.ended_items.Shown.{standing_part}
 use Rattle.vcd_text.proofs.copying.pieces.StandingBytes.{item_known, part_written}
 use Rattle.vcd_text.proofs.writing.output.Pieces.{writes_more}
@@ -27,8 +28,8 @@ amend_item-requires g c =
       known,
       begun,
       subst (λ a. g.A.Amender.has_seen a before) (sym same) seen,
-      shown_parts
-          c.code_of-code.result.now p.space p.body shown c.code_of-code.ensures (refl, refl),
+      taken_next ends (shown_parts
+          c.code_of-code.result.now p.space p.body shown c.code_of-code.ensures (refl, refl)) c.opened-scopes.ensures,
       unwritten,
       bytes.0,
       bytes.1,
@@ -46,7 +47,8 @@ returns-in_ok-amend_item-in-Some-clause-ended g c = λ limit before p known begu
     let amended = shown_is_amended (state_of_pieces limit before) item c.code_of-code.result.now p.item shown.shows
     in
     let (writes, later) = c.in_ok-amend_item-in-Some.ensures.written limit before p known begun
-    (subst (λ a. g.A.Amender.has_seen a before) (sym same) seen) shown unwritten bytes.0 bytes.1 in
+    (subst (λ a. g.A.Amender.has_seen a before) (sym same) seen) (taken_next ends shown c.opened-scopes.ensures)
+    unwritten bytes.0 bytes.1 in
     rw (still, amended) (
       record {
         later = [];

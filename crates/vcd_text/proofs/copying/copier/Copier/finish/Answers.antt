@@ -1,4 +1,4 @@
-use Rattle.std.proofs.Common.{◌≡◌, ◌++◌, inr, inl, sym, ap, subst, ◌∙◌, arith}
+use Rattle.std.proofs.Common.{◌≡◌, ◌++◌, inr, inl, sym, ap, subst, ◌∙◌, arith, false}
 use Rattle.vcd_text.specs.inside.Copying.{TookCopy}
 use Rattle.vcd_text.specs.EmittedText.{Emits}
 use Rattle.vcd_text.specs.declared.fault.ReadError.{ReadError}
@@ -10,9 +10,11 @@ use Rattle.vcd_text.proofs.reading.file_reader.Chunks.{last_taken, last_refused}
 use Rattle.vcd_text.proofs.reading.parser.AskedParts.{chosen_words}
 use Rattle.vcd_text.proofs.reading.parser.NoWordLeft.{stops}
 use Rattle.vcd_text.proofs.copying.copier.CopiedChunks.{whole_copied}
+use Rattle.vcd_text.proofs.copying.copier.Told.{all_told}
+use Rattle.vcd_text.specs.Copied.{IsTold}
 use Rattle.vcd_text.proofs.writing.output.Pieces.{more_both, writes_more}
-use Rattle.vcd_text.proofs.words.WordsInTurn.{words_are_few}
-use Rattle.vcd_text.proofs.words.WordsByBytes.{complete_are_few}
+use Rattle.vcd_text.proofs.shared.WordsInTurn.{words_are_few}
+use Rattle.vcd_text.proofs.shared.WordsByBytes.{complete_are_few}
 use Rattle.vcd_text.proofs.copying.copier.Copier.finish.Goals as goal
 use Rattle.vcd_text.proofs.shared.FailedResults.{err_is}
 
@@ -61,6 +63,13 @@ returns-clause-copied g c = λ limit start bytes h.
     let all : h.taken ++ c.as_slice.result.now ≡ bytes = ap (λ l. h.taken ++ l) c.as_slice.ensures ∙ sym h.is in
     subst (TookCopy g.W.Sink limit (g.A.Amender.rules c.args.amender.now) start c.finish.new.output) all
     (whole_copied {o2 = c.finish.new.output} now c.in_ok-check_complete.ensures.complete writes)
+
+pub returns-clause-told : goal.returns-clause-told
+returns-clause-told g c = λ limit start bytes h.
+    let now = c.in_ok-copy_words.ensures.copied limit start h.taken h.copied h.complete in
+    let all : h.taken ++ c.as_slice.result.now ≡ bytes = ap (λ l. h.taken ++ l) c.as_slice.ensures ∙ sym h.is in
+    subst (IsTold limit false (g.A.Amender.has_ended c.finish.new.self)) all (all_told _ now
+    c.in_ok-check_complete.ensures.complete (c.in_ok-finish.ensures.ended now.pieces now.seen))
 
 pub returns-in_err-finish-clause-more : goal.returns-in_err-finish-clause-more
 returns-in_err-finish-clause-more g c = more_both c.copy_words.ensures.more c.in_err-finish.ensures.more

@@ -11,8 +11,8 @@ use Rattle.vcd_text.proofs.reading.file_reader.Chunks.{last_taken, last_refused}
 use Rattle.vcd_text.proofs.reading.parser.AskedParts.{chosen_words}
 use Rattle.vcd_text.proofs.reading.parser.NoWordLeft.{stops}
 use Rattle.vcd_text.proofs.part.WholeParts.{part_is_meant, meant_is_sound}
-use Rattle.vcd_text.proofs.words.WordsInTurn.{words_are_few}
-use Rattle.vcd_text.proofs.words.WordsByBytes.{complete_are_few}
+use Rattle.vcd_text.proofs.shared.WordsInTurn.{words_are_few}
+use Rattle.vcd_text.proofs.shared.WordsByBytes.{complete_are_few}
 use Rattle.vcd_text.proofs.reading.file_reader.FileReader.finish.Goals as goal
 use Rattle.vcd_text.proofs.shared.FailedResults.{err_is}
 

@@ -7,8 +7,8 @@ use Rattle.vcd_text.specs.inside.Words.{has_complete_words}
 use Rattle.vcd_text.specs.Parts.{answers_of}
 use Rattle.vcd_text.specs.inside.reading.Choice.{HasTakenFrom}
 use Rattle.vcd_text.proofs.reading.file_reader.Chunks.{now_taken, now_refused, word_is_first}
-use Rattle.vcd_text.proofs.words.WordsInTurn.{words_are_few}
-use Rattle.vcd_text.proofs.words.WordsByBytes.{complete_are_few}
+use Rattle.vcd_text.proofs.shared.WordsInTurn.{words_are_few}
+use Rattle.vcd_text.proofs.shared.WordsByBytes.{complete_are_few}
 use Rattle.vcd_text.proofs.reading.file_reader.FileReader.take_words.Goals as goal
 use Rattle.vcd_text.proofs.shared.FailedResults.{err_is}
 

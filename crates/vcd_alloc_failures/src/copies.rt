@@ -1,0 +1,123 @@
+//! Files copied, or read for what they declare.
+
+ghost use Rattle.std.specs.Prelude.{◌≡◌, ◌++◌};
+
+use crate::calls::Call;
+use crate::files::{ROOM, tell_source};
+use crate::printing::{DONE, Failure, allow, refuse};
+use std::alloc::Global;
+use std::rt::Runtime;
+use vcd_amend::{DeclaredVariable, declared_variables};
+use vcd_core::{FromRead, NoMemory, ScopeName, Sink, ToWrite, copy_word};
+use vcd_text::{AmendableItem, Amender, CopyError, Output, VARIABLE_LIMIT, copy, write_bytes};
+
+/// Lets all items stand, each `$var` with a copy of its words. Memory may be refused after the
+/// white space before them.
+#[derive(Drop)]
+struct VariableCopies {
+    alloc: Global,
+}
+
+impl<W: Sink> Amender<W> for VariableCopies {
+    ghost use Rattle.std.specs.Prelude.{false};
+
+    ghost rules = { λ _. record {
+      in_place = λ before p. p.space ++ p.body;
+      at_end = λ pieces tail. tail;
+    } };
+
+    ghost has_seen = { λ _ _. Unit {0} };
+
+    ghost is_done = { λ _. false };
+
+    fn let_stand(&mut self, item: AmendableItem, _code: &[u8]) -> bool {
+        !matches!(item, AmendableItem::Variable)
+    }
+
+    fn take(
+        &mut self,
+        output: &mut Output<W>,
+        _item: AmendableItem,
+        _code: &[u8],
+        _scopes: &[ScopeName],
+        space: &[u8],
+        body: &[u8],
+    ) -> Result<(), NoMemory> {
+        write_bytes(output, space);
+        let words = copy_word(self.alloc, body)?;
+        write_bytes(output, words.as_slice());
+        Ok(())
+    }
+
+    fn pass(&mut self) {}
+
+    fn is_done(&self) -> bool {
+        false
+    }
+
+    fn finish(&mut self, output: &mut Output<W>, space: &[u8]) -> Result<(), NoMemory> {
+        write_bytes(output, space);
+        Ok(())
+    }
+}
+
+/// Makes the call `copy`, into memory that was taken before. Prints how much was written, if the
+/// call succeeded, whether that begins the text, and what `read` prints of the source.
+pub fn call_copy<R: Runtime + AllocGlobal>(rt: &R, call: &Call) -> Result<(), Failure> {
+    let mut source = FromRead::new(call.text);
+    let mut sink = ToWrite::new(Vec::with_capacity(rt.alloc(), ROOM)?);
+    if call.makes {
+        let mut amender = VariableCopies { alloc: rt.alloc() };
+        refuse(rt)?;
+        match copy(
+            rt.alloc(),
+            &mut source,
+            VARIABLE_LIMIT,
+            &mut amender,
+            &mut sink,
+        ) {
+            Ok(()) => allow(rt, DONE)?,
+            Err(CopyError::Read(error)) => allow(rt, error.name())?,
+            Err(CopyError::Write(error)) => allow(rt, error.name())?,
+        }
+    }
+    println!(rt; "failed {}", sink.failed())?;
+    let begins = call.text.starts_with(sink.into_inner().as_slice());
+    println!(rt; "a prefix is written {begins}")?;
+    tell_source(rt, call, source)
+}
+
+/// Makes the call `declared_variables`. Prints the code and the number of scopes of each, or the
+/// line of a fault, and what `read` prints of the source.
+pub fn call_declared_variables<R: Runtime + AllocGlobal>(
+    rt: &R,
+    call: &Call,
+) -> Result<(), Failure> {
+    let mut source = FromRead::new(call.text);
+    if call.makes {
+        refuse(rt)?;
+        match declared_variables(rt.alloc(), &mut source, VARIABLE_LIMIT) {
+            Ok(variables) => {
+                allow(rt, DONE)?;
+                print_variables(rt, variables.as_slice())?;
+            }
+            Err(error) => {
+                allow(rt, error.name())?;
+                println!(rt; "line {}", error.line)?;
+            }
+        }
+    }
+    tell_source(rt, call, source)
+}
+
+/// Prints the code of each variable, and in how many scopes it is.
+fn print_variables<R: Runtime>(rt: &R, variables: &[DeclaredVariable]) -> Result<(), Failure> {
+    for variable in variables {
+        println!(rt;
+            "{:?} {}",
+            variable.code.as_slice(),
+            variable.scopes.as_slice().len()
+        )?;
+    }
+    Ok(())
+}

@@ -1,0 +1,12 @@
+-- Lemmas: writing the amended file.
+pub mod LastChange
+pub mod UsedCodes
+pub mod InPlace
+pub mod DueOrder
+pub mod StampedItems
+pub mod DueText
+pub mod Stamps
+pub mod Values
+pub mod Variables
+pub mod SeenItems
+pub mod AnyLimit

@@ -1,0 +1,22 @@
+-- The due changes passed are written.
+use Rattle.std.proofs.Common.{◌≡◌, ◌+◌, ◌-◌, ◌∷◌, map, drop, length}
+use Rattle.std.specs.List.{filter, flat_map, join_with_byte}
+use Rattle.vcd_text.specs.Items.{spelling}
+use Rattle.vcd_text.proofs.shared.EmittedParts.{WritesPrefix}
+use Rattle.vcd_amend.specs.AmendmentContents.{code_contents}
+use Rattle.vcd_amend.specs.inside.amending.CodeProgress.{is_open_by}
+use Rattle.vcd_amend.specs.inside.amending.DueChanges.{due_transition, due_item, before_tick}
+use Rattle.vcd_amend.proofs.amending.due_writing.write_due_at.Given as goal
+
+abbrev pub invariant-loop-change : goal.invariant-loop-change
+invariant-loop-change g l = record {
+  text : WritesPrefix g.W.Sink l.initial.output l.output
+      (flat_map (λ i. 10 ∷ join_with_byte 32 (spelling i)) (map (due_item (map code_contents l.codes))
+      (filter (is_open_by l.progress) (before_tick (l.tick + 1) (map due_transition (drop l.index l.due))))))
+      (flat_map (λ i. 10 ∷ join_with_byte 32 (spelling i)) (map (due_item (map code_contents l.codes))
+      (filter (is_open_by l.progress) (before_tick (l.tick + 1) (map due_transition (drop l.next l.due))))));
+  counts : length l.counts ≡ length l.codes;
+}
+
+abbrev pub decreases-loop-change : goal.decreases-loop-change
+decreases-loop-change g l = length l.due - l.index

@@ -1,0 +1,5 @@
+-- Lemmas of `coding`.
+pub mod Known
+pub mod ByIndex
+pub mod Assembled
+pub mod ApartCodes

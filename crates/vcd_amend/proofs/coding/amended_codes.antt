@@ -1,0 +1,2 @@
+-- Lemmas about the codes that waves get.
+pub mod Waves

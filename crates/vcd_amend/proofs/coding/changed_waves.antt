@@ -1,0 +1,4 @@
+-- Lemmas about the waves to which variables change.
+pub mod Chains
+pub mod Newest
+pub mod Distinct

@@ -1,0 +1,2 @@
+-- Lemmas about sets of codes.
+pub mod Sets

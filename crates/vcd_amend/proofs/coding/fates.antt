@@ -1,0 +1,2 @@
+-- Lemmas about fates and added variables.
+pub mod ByIndex

@@ -1,0 +1,2 @@
+-- Lemmas about codes of positions.
+pub mod Positions

@@ -1,0 +1,2 @@
+-- Lemmas of `declarations`.
+pub mod FirstPieces

@@ -1,0 +1,2 @@
+-- Lemmas of `declarations/collector`.
+pub mod Collected

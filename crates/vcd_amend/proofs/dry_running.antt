@@ -1,0 +1,4 @@
+-- Lemmas of `dry_running`.
+pub mod Marks
+pub mod LinesLeft
+pub mod HeardInHistory

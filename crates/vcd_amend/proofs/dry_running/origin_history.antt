@@ -1,0 +1,2 @@
+-- Lemmas of `dry_running/origin_history`.
+pub mod NotesOfHistory

@@ -1,0 +1,3 @@
+-- Lemmas of `laws`.
+pub mod AmendedRuns
+pub mod EditedFiles

@@ -1,0 +1,3 @@
+-- Lemmas about new names.
+pub mod OneByOne
+pub mod Outlines

@@ -1,0 +1,2 @@
+-- Lemmas of `outlining`.
+pub mod Outlines

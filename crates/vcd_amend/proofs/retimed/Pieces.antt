@@ -1,0 +1,258 @@
+-- The pieces of a retimed file are cut from its bytes, and its text means the capture.
+use Rattle.std.proofs.Common.{◌≡◌, ℕ, ◌-◌, ◌<◌, ◌≤◌, ◌∙◌, ◌^◌, ◌==◌, Bool, true, false, All, drop, length}
+use Rattle.std.proofs.Common.{List, [], ◌∷◌, ◌++◌, refl, ap, sym, arith, if◌then◌else◌, subst, decimal, not, ◌&&◌}
+use Rattle.std.proofs.Common.{Some}
+use Rattle.std.specs.Prelude.{count_by}
+use Rattle.std.specs.List.{list_all, flat_map, prefix_len, suffix_len}
+use Rattle.std.proofs.lemmas.Bool.{and_parts, false≢true}
+use Rattle.std.proofs.Common.{append_assoc}
+use Rattle.std.proofs.lemmas.List.Elements.{All-nil, All-cons, All-head, All-tail, All-append, All-filter, All-drop}
+use Rattle.std.proofs.lemmas.List.Sums.{suffix_len_is, AllPass-from_list_all}
+use Rattle.vcd_core.specs.Word.{is_white_space}
+use Rattle.vcd_core.specs.declared.capture.TheConstants.{END_LIMIT}
+use Rattle.vcd_core.specs.Decimal.{number_of}
+use Rattle.vcd_text.specs.Words.{words_of}
+use Rattle.vcd_text.specs.Items.{Item, spelling, spellings, stamp}
+use Rattle.vcd_text.specs.Grammar.{ParseState, AllowsAll, Allows, state_after_item, initial_state, word_texts}
+use Rattle.vcd_text.specs.Grammar.{is_skipped}
+use Rattle.vcd_amend.specs.AmendedItems.{stands, is_left_out, is_exchanged}
+use Rattle.vcd_text.specs.Pieces.{Piece, IsCut, state_of_pieces}
+use Rattle.vcd_amend.specs.Retimed.{new_tick, ChangeKey, change_key, has_key, code_of_key, lasts, held_with, is_past}
+use Rattle.vcd_amend.specs.Retimed.{stamp_line, released_pieces, retimed_stamp, pieces_in_place, retimed_pieces}
+use Rattle.vcd_amend.specs.RetimedLaws.{CanBeRetimed, MeansRetimed, pieces_after, RetimedFileMeansRetimedCapture}
+use Rattle.vcd_amend.specs.RetimedLaws.{bytes_of, RetimedTextMeansRetimedCapture}
+use Rattle.vcd_text.proofs.read_back.SpelledItems.{one_word, longer_unbroken, decimal_unbroken}
+use Rattle.vcd_text.proofs.pieces.Bytes.{texts, texts_are, joined_words, is_end, space_first, both_parts, lines_last}
+use Rattle.vcd_amend.proofs.amended.Spelled.{unbroken_has_no_space}
+use Rattle.vcd_amend.proofs.amended.WholeText.{HasSpace, SpellsItem, HasSomeSpace, items_of}
+use Rattle.vcd_amend.proofs.retimed.Ticks.{is_earlier}
+use Rattle.vcd_amend.proofs.retimed.Kinds.{kind_of, is_stamp, is_change, is_still}
+use Rattle.vcd_amend.proofs.retimed.Kinds.{retimed_still, retimed_change, retimed_by_stamp}
+use Rattle.vcd_amend.proofs.retimed.StampTicks.{stamp_ticks}
+use Rattle.vcd_amend.proofs.retimed.Meaning.{state_is, allowed_again, means_retimed}
+
+-- ---- a stamp
+
+-- bytes without white space are tight
+abbrev IsTight : Piece → Type 0
+IsTight p = (prefix_len is_white_space p.body ≡ 0) × (suffix_len is_white_space p.body ≡ 0)
+
+no_space_last : (bytes : List ℕ) → list_all (λ b. not (is_white_space b)) bytes ≡ true
+    → suffix_len is_white_space bytes ≡ 0
+no_space_last bytes none =
+    let is : suffix_len is_white_space bytes ≡ length bytes - length bytes = suffix_len_is is_white_space bytes (length
+    bytes) 0 (omega arith) (λ k from upto. absurd (omega (arith, from, upto))) (λ some. not_space (AllPass-from_list_all
+    {X = ℕ} (λ b. not
+    (is_white_space b)) bytes none (length bytes - 1) 0 (omega (arith, some)))) in
+    omega (arith, is)
+  where
+    not_space : {b : Bool} → not b ≡ true → b ≡ false
+    not_space {b = true} is = absurd (false≢true is)
+    not_space {b = false} is = refl
+
+module _ (u : ℕ) (small : u < 2 ^ 64) where
+  -- the word of a stamp
+  stamp_unbroken : list_all (λ b. not (is_white_space b)) (35 ∷ decimal u) ≡ true
+  stamp_unbroken = longer_unbroken 35 (decimal u) refl (unbroken_has_no_space (decimal u) (decimal_unbroken u small))
+
+  stamp_texts : word_texts (words_of (35 ∷ decimal u)) ≡ (35 ∷ decimal u) ∷ []
+  stamp_texts = texts_are (35 ∷ decimal u) ∙ joined_words ((35 ∷ decimal u) ∷ []) (one_word (35 ∷ decimal u)
+      stamp_unbroken)
+
+  stamp_tight : (prefix_len is_white_space (35 ∷ decimal u) ≡ 0) × (suffix_len is_white_space (35 ∷ decimal u) ≡ 0)
+  stamp_tight = (refl, no_space_last (35 ∷ decimal u) stamp_unbroken)
+
+-- ---- what holds of each piece
+
+module _ (is_cut_out : ℕ → Bool) where
+  abbrev as_stamp : Piece → ℕ → Piece
+  as_stamp p u = record { item = stamp (decimal u); space = p.space; body = 35 ∷ decimal u }
+
+  module _ (P : Piece → Type 0) (line : (u : ℕ) → u ≤ END_LIMIT → P (stamp_line u))
+      (again : (p : Piece) (u : ℕ) → u ≤ END_LIMIT → P p → P (as_stamp p u)) where
+    abbrev few : ℕ → Type 0
+    few u = u ≤ END_LIMIT
+
+    few_new : (u : ℕ) → few u → few (new_tick is_cut_out u)
+    few_new u most = omega (arith, is_earlier is_cut_out u, most)
+
+    all_released : (s : ParseState) (held : List Piece) → few s.tick → All P held → All P (released_pieces is_cut_out s
+        held)
+    all_released s [] most all = all
+    all_released s (p ∷ ps) most all = by_test (is_cut_out s.tick)
+      where
+        by_test : (cut : Bool) → All P ((if cut then stamp_line (new_tick is_cut_out s.tick) ∷ [] else []) ++ p ∷ ps)
+        by_test true = All-cons P (stamp_line (new_tick is_cut_out s.tick)) (p ∷ ps) (line (new_tick is_cut_out s.tick)
+            (few_new s.tick most)) all
+        by_test false = all
+
+    all_placed : (p : Piece) (u : ℕ) → few u → P p → All P (pieces_in_place (retimed_stamp is_cut_out u) p)
+    all_placed p u most is = by_tests (is_cut_out u) (new_tick is_cut_out u == u)
+      where
+        by_tests : (cut same : Bool) → All P (pieces_in_place (if cut then is_left_out else (if same then stands else
+            is_exchanged (stamp (decimal (new_tick is_cut_out u))))) p)
+        by_tests true same = All-nil P
+        by_tests false true = All-cons P p [] is (All-nil P)
+        by_tests false false = All-cons P (as_stamp p (new_tick is_cut_out u)) [] (again p (new_tick is_cut_out u)
+            (few_new
+            u most) is) (All-nil P)
+
+    all_if : (b : Bool) (xs : List Piece) → All P xs → All P (if b then xs else [])
+    all_if true xs all = all
+    all_if false xs all = All-nil P
+
+    all_held : (s : ParseState) (held : List Piece) (p : Piece) (k : ChangeKey) → P p → All P held
+        → All P (held_with is_cut_out s held p (Some k))
+    all_held s held p k is all = All-append P _ _ (All-filter (λ h. not (has_key k (change_key h.item))) P held all)
+        (all_if (is_cut_out s.tick && lasts s (code_of_key k)) (p ∷ []) (All-cons P p [] is (All-nil P)))
+
+    all_retimed : (s : ParseState) (held ps : List Piece) → AllowsAll s (items_of ps) → few s.tick → All P held
+        → All P ps → All P (retimed_pieces is_cut_out s held ps)
+    unfolding retimed_pieces
+    all_retimed s held [] allows most all_of_held all = all_released s held most all_of_held
+    all_retimed s held (p ∷ ps) allows most all_of_held all = elim (kind_of p.item) [
+      | is_stamp digits is ↦
+          let later = stamp_ticks s digits (subst (λ (i : Item). Allows s i) is allows.0) in
+          let tick : (state_after_item s p.item).tick ≡ number_of digits = ap (λ (i : Item). (state_after_item s
+          i).tick) is
+          in
+          subst (All P) (sym (retimed_by_stamp is_cut_out s held p ps digits is)) (All-append P _ _ (All-append P _ _
+          (all_if
+          (is_past is_cut_out s (stamp digits)) (released_pieces is_cut_out s held) (all_released s held most
+          all_of_held))
+          (all_placed p (number_of digits) later.1 (All-head P p ps all))) (all_retimed (state_after_item s p.item) (if
+          is_past is_cut_out s (stamp digits) then [] else held) ps allows.1 (omega (arith, later.1, tick)) (all_unless
+          (is_past is_cut_out s (stamp digits)) held all_of_held) (All-tail P p ps all)))
+      | is_change k change ↦
+          let tick : (state_after_item s p.item).tick ≡ s.tick = ap (λ (x : ParseState). x.tick) (change.state s) in
+          subst (All P) (sym (retimed_change is_cut_out s held p ps k change)) (All-append P _ _ (all_unless (is_cut_out
+          s.tick) (p ∷ []) (All-cons P p [] (All-head P p ps all) (All-nil P))) (all_retimed (state_after_item s p.item)
+          (held_with is_cut_out s held p (Some k)) ps allows.1 (omega (arith, most, tick)) (all_held s held p k
+          (All-head P
+          p ps all) all_of_held) (All-tail P p ps all)))
+      | is_still still ↦ subst (All P) (sym (retimed_still is_cut_out s held p ps still)) (All-cons P p _ (All-head P p
+          ps
+          all) (all_retimed (state_after_item s p.item) held ps allows.1 (omega (arith, most, still.same_tick s))
+          all_of_held
+          (All-tail P p ps all)))
+    ]
+      where
+        all_unless : (b : Bool) (xs : List Piece) → All P xs → All P (if b then [] else xs)
+        all_unless true xs all = All-nil P
+        all_unless false xs all = all
+
+  -- the first piece stands, so those after it are apart
+  apart_again : (limit : ℕ) (ps : List Piece) → AllowsAll (initial_state limit) (items_of ps)
+      → All HasSomeSpace (drop 1 ps) → All HasSomeSpace (drop 1 (retimed_pieces is_cut_out (initial_state limit) [] ps))
+  unfolding retimed_pieces
+  apart_again limit [] allows some = All-nil HasSomeSpace
+  apart_again limit (p ∷ ps) allows some = elim (kind_of p.item) [
+    | is_stamp digits is ↦ absurd (false≢true (subst (λ (i : Item). Allows (initial_state limit) i) is allows.0).0)
+    | is_change k change ↦ absurd (false≢true (change.in_body (initial_state limit) allows.0))
+    | is_still still ↦ subst (λ (l : List Piece). All HasSomeSpace (drop 1 l)) (sym (retimed_still is_cut_out
+        (initial_state limit) [] p ps still)) (all_retimed HasSomeSpace (λ u most. omega arith) (λ p u most is. is)
+        (state_after_item (initial_state limit) p.item) [] ps allows.1 (omega (
+          arith,
+          still.same_tick (initial_state
+              limit),
+        )) (All-nil HasSomeSpace) some)
+  ]
+
+-- ---- the laws
+
+module _ (is_cut_out : ℕ → Bool) (old_tick : ℕ → ℕ) (limit : ℕ) (file : List ℕ) (pieces : List Piece) (tail : List ℕ)
+    (can : CanBeRetimed is_cut_out old_tick limit file pieces tail) where
+  abbrev new_pieces : List Piece
+  new_pieces = pieces_after is_cut_out limit pieces
+
+  spelled_again : All SpellsItem new_pieces
+  spelled_again = all_retimed is_cut_out SpellsItem (λ u most. stamp_texts u (omega (arith, most))) (λ p u most is.
+      stamp_texts u (omega (arith, most))) (initial_state limit) [] pieces can.allowed (omega arith) (All-nil
+      SpellsItem)
+      can.cut.spelled
+
+  spaces_again : All HasSpace new_pieces
+  spaces_again = all_retimed is_cut_out HasSpace (λ u most. refl) (λ p u most is. is) (initial_state limit) [] pieces
+      can.allowed (omega arith) (All-nil HasSpace) can.cut.spaces
+
+  tight_again : All IsTight new_pieces
+  tight_again = all_retimed is_cut_out IsTight (λ u most. stamp_tight u (omega (arith, most))) (λ p u most is.
+      stamp_tight u (omega (arith, most))) (initial_state limit) [] pieces can.allowed (omega arith) (All-nil IsTight)
+      can.cut.tight
+
+  means_again : MeansRetimed is_cut_out old_tick limit (state_of_pieces limit pieces) new_pieces tail
+  means_again = record {
+    cut = record {
+      whole = refl;
+      spelled = spelled_again;
+      tight = tight_again;
+      spaces = spaces_again;
+      apart = apart_again is_cut_out limit pieces can.allowed can.cut.apart;
+      end = can.cut.end;
+    };
+    allowed = allowed_again is_cut_out old_tick limit file pieces tail can;
+    in_body = ap (λ (s : ParseState). s.in_body) (state_is is_cut_out old_tick limit file pieces tail can) ∙
+        can.in_body;
+    means = means_retimed is_cut_out old_tick limit file pieces tail can;
+    left_out = ap (λ (s : ParseState). count_by is_skipped s.declared) (state_is is_cut_out old_tick limit file pieces
+        tail
+        can);
+  }
+
+pub retimed_is_meant : RetimedFileMeansRetimedCapture
+retimed_is_meant is_cut_out old_tick limit file pieces tail can =
+    means_again is_cut_out old_tick limit file pieces tail can
+
+-- ---- its bytes
+
+module _ (tail : List ℕ) (white : list_all is_white_space tail ≡ true) where
+  space_comes : (space rest : List ℕ) → 0 < length space → list_all is_white_space space ≡ true
+      → is_end (space ++ rest) ≡ true
+  space_comes [] rest some all = absurd (omega arith)
+  space_comes (b ∷ bs) rest some all = (and_parts (is_white_space b) (list_all is_white_space bs) all).0
+
+  split : (p : Piece) (ps : List Piece) → bytes_of (p ∷ ps) tail ≡ p.space ++ (p.body ++ bytes_of ps tail)
+  split p ps = append_assoc (p.space ++ p.body) (flat_map (λ p. p.space ++ p.body) ps) tail ∙ append_assoc p.space
+      p.body
+      (bytes_of ps tail)
+
+  bytes_end : (ps : List Piece) → All HasSomeSpace ps → All HasSpace ps → is_end (bytes_of ps tail) ≡ true
+  bytes_end [] some spaces = (lines_last [] tail refl white).1
+  bytes_end (p ∷ ps) some spaces = ap is_end (split p ps) ∙ space_comes p.space (p.body ++ bytes_of ps tail) (All-head
+      HasSomeSpace p ps some) (All-head HasSpace p ps spaces)
+
+  bytes_spell : (ps : List Piece) → All HasSomeSpace (drop 1 ps) → All HasSpace ps → All SpellsItem ps
+      → texts (bytes_of ps tail) ≡ spellings (items_of ps)
+  bytes_spell [] some spaces bodies = (lines_last [] tail refl white).0
+  bytes_spell (p ∷ ps) some spaces bodies =
+      let rest = bytes_spell ps (All-drop HasSomeSpace 1 ps some) (All-tail HasSpace p ps spaces) (All-tail SpellsItem p
+      ps
+      bodies) in
+      ap texts (split p ps) ∙ space_first p.space (p.body ++ bytes_of ps tail) (All-head HasSpace p ps spaces) ∙
+      both_parts
+      p.body (bytes_of ps tail) (bytes_end ps some (All-tail HasSpace p ps spaces)) ∙ ap (λ ws. ws ++ texts (bytes_of ps
+      tail)) (sym (texts_are p.body) ∙ All-head SpellsItem p ps bodies) ∙ ap (λ ws. spelling p.item ++ ws) rest
+
+-- a file that is cut into pieces spells their items
+pub cut_spells_items : (file : List ℕ) (pieces : List Piece) (tail : List ℕ) → IsCut file pieces tail
+    → word_texts (words_of file) ≡ spellings (items_of pieces)
+cut_spells_items file pieces tail cut =
+    ap (λ (bytes : List ℕ). word_texts (words_of bytes)) cut.whole ∙ texts_are (bytes_of pieces tail)
+    ∙ bytes_spell tail cut.end pieces cut.apart cut.spaces cut.spelled
+
+pub retimed_text_is_meant : RetimedTextMeansRetimedCapture
+retimed_text_is_meant is_cut_out old_tick limit file pieces tail can =
+    let again : List Piece = pieces_after is_cut_out limit pieces in
+    let means = means_again is_cut_out old_tick limit file pieces tail can in
+    record {
+      state = state_of_pieces limit again;
+      accepted = record {
+        items = items_of again;
+        spelled = cut_spells_items (bytes_of again tail) again tail means.cut;
+        allowed = means.allowed;
+        state_is = refl;
+        definitions_ended = means.in_body;
+      };
+      means = sym means.means;
+      left_out = sym means.left_out;
+    }

@@ -1,0 +1,139 @@
+-- The new ticks of ticks that are left, and the old ones of new ticks.
+use Rattle.std.proofs.Common.{◌≡◌, ℕ, zero, suc, ◌+◌, ◌-◌, ◌<◌, ◌≤◌, ◌∙◌, Bool, true, false, nat_lt, nat_le}
+use Rattle.std.proofs.Common.{refl, ap, sym, arith, if◌then◌else◌, inl, inr}
+use Rattle.std.proofs.lemmas.Bool.{cases_Bool, cases_lt, le-leb, lt-leb}
+use Rattle.std.proofs.lemmas.Bool.Decides.{nat_tests}
+use Rattle.vcd_amend.specs.Retimed.{new_tick, AreOldTicks}
+use Rattle.vcd_amend.specs.RetimedLaws.{is_in_cut, tick_before_cut, is_in_either, CutsLeaveTicks}
+
+-- ---- any ticks
+
+module _ (is_cut_out : ℕ → Bool) where
+  -- the tick after one that is left, and after one that is not
+  pub after_left : (t : ℕ) → is_cut_out t ≡ false → new_tick is_cut_out (suc t) ≡ new_tick is_cut_out t + 1
+  unfolding new_tick
+  after_left t is = rw is refl
+
+  pub after_cut : (t : ℕ) → is_cut_out t ≡ true → new_tick is_cut_out (suc t) ≡ new_tick is_cut_out t
+  unfolding new_tick
+  after_cut t is = rw is (omega arith)
+
+  -- new ticks are no later
+  pub is_earlier : (t : ℕ) → new_tick is_cut_out t ≤ t
+  unfolding new_tick
+  is_earlier zero = omega arith
+  is_earlier (suc t) = elim (cases_Bool (is_cut_out t)) [
+    | inl is ↦ omega (arith, after_cut t is, is_earlier t)
+    | inr is ↦ omega (arith, after_left t is, is_earlier t)
+  ]
+
+  next_rises : (t : ℕ) → new_tick is_cut_out t ≤ new_tick is_cut_out (suc t)
+  next_rises t = elim (cases_Bool (is_cut_out t)) [
+    | inl is ↦ omega (arith, after_cut t is)
+    | inr is ↦ omega (arith, after_left t is)
+  ]
+
+  -- and rise with the ticks
+  pub rises : (u t : ℕ) → u ≤ t → new_tick is_cut_out u ≤ new_tick is_cut_out t
+  unfolding new_tick
+  rises u zero order = let none : u ≡ 0 = omega arith in rw none (omega arith)
+  rises u (suc t) order = elim (cases_lt t u) [
+    | inl above ↦ let same : u ≡ suc t = omega arith in rw same (omega arith)
+    | inr upto ↦ omega (arith, rises u t upto, next_rises t)
+  ]
+
+  -- strictly past one that is left
+  pub rises_past : (u t : ℕ) → is_cut_out u ≡ false → u < t → new_tick is_cut_out u < new_tick is_cut_out t
+  rises_past u t left past = omega (arith, after_left u left, rises (suc u) t (omega arith))
+
+-- ---- old ticks
+
+module _ (is_cut_out : ℕ → Bool) (old_tick : ℕ → ℕ) (old : AreOldTicks is_cut_out old_tick) where
+  pub before_old : (u t : ℕ) → new_tick is_cut_out u ≤ t → u ≤ old_tick t
+  before_old u t upto = elim (cases_lt (old_tick t) u) [
+    | inl past ↦ absurd (omega (arith, old.same t, rises_past is_cut_out (old_tick t) u (old.left t) past))
+    | inr is ↦ is
+  ]
+
+  pub after_old : (u t : ℕ) → u ≤ old_tick t → new_tick is_cut_out u ≤ t
+  after_old u t upto = omega (arith, old.same t, rises is_cut_out u (old_tick t) upto)
+
+  -- a change counts at a new tick if it counts at the old one
+  pub same_test : (u t : ℕ) → nat_le (new_tick is_cut_out u) t ≡ nat_le u (old_tick t)
+  same_test u t = elim (cases_lt t (new_tick is_cut_out u)) [
+    | inl early ↦ lt-leb (new_tick is_cut_out u) t early ∙ sym (lt-leb u (old_tick t) (beyond early))
+    | inr past ↦ le-leb (new_tick is_cut_out u) t past ∙ sym (le-leb u (old_tick t) (before_old u t past))
+  ]
+    where
+      beyond : t < new_tick is_cut_out u → old_tick t < u
+      beyond early = elim (cases_lt (old_tick t) u) [
+        | inl less ↦ less
+        | inr more ↦ absurd (omega (arith, after_old u t more, early))
+      ]
+
+  -- the old tick of the new tick of one that is left is that tick
+  pub old_of_new : (u : ℕ) → is_cut_out u ≡ false → old_tick (new_tick is_cut_out u) ≡ u
+  old_of_new u left = elim (cases_lt u (old_tick (new_tick is_cut_out u))) [
+    | inl past ↦ absurd (omega (
+      arith,
+      old.same (new_tick is_cut_out u),
+      rises_past is_cut_out u (old_tick (new_tick
+          is_cut_out u)) left past,
+    ))
+    | inr upto ↦ omega (arith, before_old u (new_tick is_cut_out u) (omega arith))
+  ]
+
+  pub old_rises : (t end : ℕ) → t ≤ end → old_tick t ≤ old_tick end
+  old_rises t end order = before_old (old_tick t) end (omega (arith, old.same t))
+
+-- ---- cuts
+
+-- the new ticks of one cut
+tick_after_cut : (from to t : ℕ) → from ≤ to
+    → new_tick (is_in_cut from to) t ≡ (if nat_lt t from then t else (if nat_lt t to then from else t - (to - from)))
+unfolding new_tick
+tick_after_cut from to zero order = grind (arith, nat_tests)
+tick_after_cut from to (suc t) order =
+    let before = tick_after_cut from to t order in
+    grind (arith, nat_tests)
+
+one_cut : (from to : ℕ) → from ≤ to → AreOldTicks (is_in_cut from to) (tick_before_cut from to)
+one_cut from to order = record {
+  left = λ t. grind (arith, nat_tests);
+  same = λ t. tick_after_cut from to (tick_before_cut from to t) order ∙ grind (arith, nat_tests);
+}
+
+end_left : (from to end : ℕ) → from ≤ to → to ≤ end
+    → (is_in_cut from to end ≡ false) × (new_tick (is_in_cut from to) end ≡ end - (to - from))
+end_left from to end order within =
+    (grind (arith, nat_tests), tick_after_cut from to end order ∙ grind (arith, nat_tests))
+
+-- the new ticks of cuts after others
+of_either : (first later : ℕ → Bool) (t : ℕ)
+    → new_tick (is_in_either first later) t ≡ new_tick later (new_tick first t)
+unfolding new_tick
+of_either first later zero = refl
+of_either first later (suc t) = elim (cases_Bool (first t)) [
+  | inl cut ↦ after_cut (is_in_either first later) t (rw cut refl) ∙ of_either first later t ∙ sym (ap (new_tick later)
+      (after_cut first t cut))
+  | inr left ↦
+      let next : suc (new_tick first t) ≡ new_tick first (suc t) = omega (arith, after_left first t left) in
+      elim (cases_Bool (later (new_tick first t))) [
+        | inl cut ↦ after_cut (is_in_either first later) t (rw (left, cut) refl) ∙ of_either first later t ∙ sym
+            (after_cut
+            later (new_tick first t) cut) ∙ ap (new_tick later) next
+        | inr both ↦ after_left (is_in_either first later) t (rw (left, both) refl) ∙ ap (λ n. n + 1) (of_either first
+            later
+            t) ∙ sym (after_left later (new_tick first t) both) ∙ ap (new_tick later) next
+      ]
+]
+
+either : (first later : ℕ → Bool) (old older : ℕ → ℕ) → AreOldTicks first older → AreOldTicks later old
+    → AreOldTicks (is_in_either first later) (λ t. older (old t))
+either first later old older is_first is_later = record {
+  left = λ t. rw (is_first.left (old t), is_first.same (old t)) (is_later.left t);
+  same = λ t. of_either first later (older (old t)) ∙ ap (new_tick later) (is_first.same (old t)) ∙ is_later.same t;
+}
+
+pub cuts_leave_ticks : CutsLeaveTicks
+cuts_leave_ticks = (one_cut, end_left, of_either, either)

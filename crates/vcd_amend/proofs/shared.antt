@@ -1,0 +1,2 @@
+-- Lemmas: shared.
+pub mod ReadFailures

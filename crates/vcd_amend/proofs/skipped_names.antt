@@ -1,0 +1,2 @@
+-- Lemmas about the names of skipped variables.
+pub mod Hashes

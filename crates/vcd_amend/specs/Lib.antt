@@ -1,0 +1,22 @@
+-- The definitions of amended files.
+pub mod DeclaredVariables
+pub mod Amendment
+pub mod AmendmentContents
+pub mod AmendedItems
+pub mod AmendedMeaning
+pub mod AmendedText
+pub mod AmendedCopy
+pub mod CodedAmendment
+pub mod FreshCodes
+pub mod GivenCodes
+pub mod WhatStands
+pub mod Retimed
+pub mod RetimedLaws
+pub mod AmendedRun
+pub mod EditedText
+pub mod KnownSignals
+pub mod FileParts
+pub mod NewNames
+pub mod AmendRun
+pub mod AmendRunEnds
+pub mod inside

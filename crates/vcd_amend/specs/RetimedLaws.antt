@@ -1,0 +1,193 @@
+-- The laws of a file after ticks are cut out. The project's own.
+use Rattle.std.specs.Prelude.{◌≡◌, ℕ, ◌+◌, ◌-◌, ◌≤◌, ◌==◌, ◌&&◌, ◌||◌, Bool, false}
+use Rattle.std.specs.Prelude.{nat_lt, nat_le, if◌then◌else◌, List, [], ◌∷◌, ◌++◌, map}
+use Rattle.std.specs.Prelude.{not, Option, Some, None, is_some, IsTrue, count_by, ◌⊎◌, codes, ◌≢◌}
+use Rattle.std.specs.List.{flat_map, filter, list_any, Any}
+use Rattle.vcd_core.specs.Decimal.{number_of}
+use Rattle.vcd_text.specs.Items.{Item, stamp}
+use Rattle.vcd_text.specs.Grammar.{VariableDeclaration, ParseState, initial_state}
+use Rattle.vcd_text.specs.Grammar.{AllowsAll, is_skipped}
+use Rattle.vcd_text.specs.Meaning.{FileMeans, meaning}
+use Rattle.vcd_text.specs.Pieces.{Piece, IsCut, state_of_pieces}
+use Rattle.vcd_amend.specs.Retimed.{new_tick, AreOldTicks, ChangeKey, change_key, has_key}
+use Rattle.vcd_amend.specs.Retimed.{code_of_key, lasts, retimed_pieces, retimed_contents}
+
+-- ---- cuts
+
+-- whether a tick is cut out, if those from `from` to before `to` are
+abbrev pub is_in_cut : (from to : ℕ) → ℕ → Bool
+is_in_cut from to t = nat_le from t && nat_lt t to
+
+-- the tick before that cut
+abbrev pub tick_before_cut : (from to : ℕ) → ℕ → ℕ
+tick_before_cut from to t = if nat_lt t from then t else t + (to - from)
+
+-- whether a tick is cut out, if some are, and then others, which are counted without these
+abbrev pub is_in_either : (first later : ℕ → Bool) → ℕ → Bool
+is_in_either first later t = first t || later (new_tick first t)
+
+-- the ticks that one cut leaves, those that cuts after others leave, and their new ticks
+abbrev pub CutsLeaveTicks : Type 0
+CutsLeaveTicks =
+    ((from to : ℕ) → from ≤ to → AreOldTicks (is_in_cut from to) (tick_before_cut from to))
+    × ((from to end : ℕ) → from ≤ to → to ≤ end
+    → (is_in_cut from to end ≡ false) × (new_tick (is_in_cut from to) end ≡ end - (to - from)))
+    × ((first later : ℕ → Bool) (t : ℕ)
+    → new_tick (is_in_either first later) t ≡ new_tick later (new_tick first t))
+    × ((first later : ℕ → Bool) (old older : ℕ → ℕ) → AreOldTicks first older
+    → AreOldTicks later old → AreOldTicks (is_in_either first later) (λ t. older (old t)))
+
+-- ---- one file
+
+-- an accepted file of these pieces, of which no cut takes out the end
+pub record CanBeRetimed (is_cut_out : ℕ → Bool) (old_tick : ℕ → ℕ) (limit : ℕ) (file : List ℕ)
+    (pieces : List Piece) (tail : List ℕ) : Type 0 where
+  pub ticks : AreOldTicks is_cut_out old_tick
+  pub cut : IsCut file pieces tail
+  pub allowed : AllowsAll (initial_state limit) (map (λ p. p.item) pieces)
+  pub in_body : IsTrue (state_of_pieces limit pieces).in_body
+  pub end : is_cut_out (state_of_pieces limit pieces).tick ≡ false
+
+-- the pieces of the file after the cuts
+abbrev pub pieces_after : (is_cut_out : ℕ → Bool) → (limit : ℕ) → List Piece → List Piece
+pieces_after is_cut_out limit pieces = retimed_pieces is_cut_out (initial_state limit) [] pieces
+
+-- the bytes of pieces, and of white space after them
+abbrev pub bytes_of : List Piece → (tail : List ℕ) → List ℕ
+bytes_of pieces tail = flat_map (λ p. p.space ++ p.body) pieces ++ tail
+
+-- ---- the meaning
+
+-- these pieces are cut from their bytes and accepted, and mean what a state means at the new ticks,
+-- with as many variables skipped
+pub record MeansRetimed (is_cut_out : ℕ → Bool) (old_tick : ℕ → ℕ) (limit : ℕ) (s : ParseState)
+    (pieces : List Piece) (tail : List ℕ) : Type 0 where
+  pub cut : IsCut (bytes_of pieces tail) pieces tail
+  pub allowed : AllowsAll (initial_state limit) (map (λ p. p.item) pieces)
+  pub in_body : IsTrue (state_of_pieces limit pieces).in_body
+  pub means : meaning (state_of_pieces limit pieces)
+      ≡ retimed_contents is_cut_out old_tick (meaning s)
+  pub left_out : count_by is_skipped (state_of_pieces limit pieces).declared
+      ≡ count_by is_skipped s.declared
+
+-- the file after cuts means the capture after them
+abbrev pub RetimedFileMeansRetimedCapture : Type 0
+RetimedFileMeansRetimedCapture =
+    (is_cut_out : ℕ → Bool) (old_tick : ℕ → ℕ) (limit : ℕ) (file : List ℕ) (pieces : List Piece)
+    (tail : List ℕ) → CanBeRetimed is_cut_out old_tick limit file pieces tail
+    → MeansRetimed is_cut_out old_tick limit (state_of_pieces limit pieces)
+    (pieces_after is_cut_out limit pieces) tail
+
+-- and so do its bytes
+abbrev pub RetimedTextMeansRetimedCapture : Type 0
+RetimedTextMeansRetimedCapture =
+    (is_cut_out : ℕ → Bool) (old_tick : ℕ → ℕ) (limit : ℕ) (file : List ℕ) (pieces : List Piece)
+    (tail : List ℕ) → CanBeRetimed is_cut_out old_tick limit file pieces tail
+    → FileMeans limit (bytes_of (pieces_after is_cut_out limit pieces) tail)
+    (retimed_contents is_cut_out old_tick (meaning (state_of_pieces limit pieces)))
+    (count_by is_skipped (state_of_pieces limit pieces).declared)
+
+-- ---- the changes that are left
+
+-- the tick after an item
+abbrev pub tick_after_item : ℕ → Item → ℕ
+tick_after_item now (stamp digits) = number_of digits
+tick_after_item now item = now
+
+-- the last change with this key up to a tick, among pieces that come after a stamp of `now`, or
+-- else `before`
+unfoldable pub last_change : ChangeKey → (t now : ℕ) → (before : Option Piece) → List Piece
+    → Option Piece
+last_change key t now before [] = before
+last_change key t now before (p ∷ ps) = last_change key t (tick_after_item now p.item)
+    (if has_key key (change_key p.item) && nat_le now t then Some p else before) ps
+
+-- a variable has the code, and is no event
+abbrev pub IsNoEvent : (code : List ℕ) → VariableDeclaration → Type 0
+IsNoEvent code d = (d.code ≡ code) × (d.kind ≢ codes "event")
+
+-- at each new tick the last change of a code, to digits or to a real or a string, is that of the
+-- file at the old tick, with its bytes, if one of its variables is no event
+abbrev pub LastChangesStand : Type 0
+LastChangesStand =
+    (is_cut_out : ℕ → Bool) (old_tick : ℕ → ℕ) (limit : ℕ) (file : List ℕ) (pieces : List Piece)
+    (tail : List ℕ) (key : ChangeKey) (t : ℕ)
+    → CanBeRetimed is_cut_out old_tick limit file pieces tail
+    → Any (IsNoEvent (code_of_key key)) (state_of_pieces limit pieces).declared
+    → last_change key t 0 None (pieces_after is_cut_out limit pieces)
+    ≡ last_change key (old_tick t) 0 None pieces
+
+-- ---- the order of changes
+
+-- the changes at the ticks of a test, among pieces that come after a stamp of `now`
+unfoldable pub changes_at_ticks : (is_at : ℕ → Bool) → (now : ℕ) → List Piece → List Piece
+changes_at_ticks is_at now [] = []
+changes_at_ticks is_at now (p ∷ ps) =
+    (if is_some (change_key p.item) && is_at now then p ∷ [] else [])
+    ++ changes_at_ticks is_at (tick_after_item now p.item) ps
+
+-- whether a key is that of a change
+abbrev pub is_key_of : Option ChangeKey → Piece → Bool
+is_key_of None p = false
+is_key_of (Some key) p = has_key key (change_key p.item)
+
+-- the pieces whose key neither a later one has, nor one of these
+unfoldable pub last_ones : List Piece → (later : List Piece) → List Piece
+last_ones [] later = []
+last_ones (p ∷ ps) later =
+    if list_any (is_key_of (change_key p.item)) (ps ++ later) then last_ones ps later
+    else p ∷ last_ones ps later
+
+-- whether a change lasts
+abbrev pub lasts_with : ParseState → Option ChangeKey → Bool
+lasts_with s None = false
+lasts_with s (Some key) = lasts s (code_of_key key)
+
+-- at each new tick the changes of the file at the old tick stand, in their order, and after them
+-- those at the ticks before it that are cut out, if they last and no later change has their key
+abbrev pub ChangesStandInOrder : Type 0
+ChangesStandInOrder =
+    (is_cut_out : ℕ → Bool) (old_tick : ℕ → ℕ) (limit : ℕ) (file : List ℕ) (pieces : List Piece)
+    (tail : List ℕ) (t : ℕ) (here cut : List Piece)
+    → CanBeRetimed is_cut_out old_tick limit file pieces tail
+    → here ≡ changes_at_ticks (λ u. u == old_tick t) 0 pieces
+    → cut ≡ changes_at_ticks (λ u. is_cut_out u && (new_tick is_cut_out u == t)) 0 pieces
+    → changes_at_ticks (λ u. u == t) 0 (pieces_after is_cut_out limit pieces)
+    ≡ here ++ last_ones
+    (filter (λ p. lasts_with (state_of_pieces limit pieces) (change_key p.item)) cut) here
+
+-- ---- all else
+
+-- whether an item is neither a stamp nor a change
+abbrev pub is_neither : Item → Bool
+is_neither (stamp digits) = false
+is_neither item = not (is_some (change_key item))
+
+-- the pieces that are neither stand, in their order
+abbrev pub OtherPiecesStand : Type 0
+OtherPiecesStand =
+    (is_cut_out : ℕ → Bool) (old_tick : ℕ → ℕ) (limit : ℕ) (file : List ℕ) (pieces : List Piece)
+    (tail : List ℕ) → CanBeRetimed is_cut_out old_tick limit file pieces tail
+    → filter (λ p. is_neither p.item) (pieces_after is_cut_out limit pieces)
+    ≡ filter (λ p. is_neither p.item) pieces
+
+-- ---- the stamps that are put in
+
+-- whether an item is a stamp of a tick
+abbrev pub is_stamp_of : ℕ → Item → Bool
+is_stamp_of t (stamp digits) = number_of digits == t
+is_stamp_of t item = false
+
+-- how many stamps of a tick there are
+unfoldable pub stamp_count : ℕ → List Piece → ℕ
+stamp_count t [] = 0
+stamp_count t (p ∷ ps) = (if is_stamp_of t p.item then 1 else 0) + stamp_count t ps
+
+-- each new tick has the stamps of its old tick, or one if that has none
+abbrev pub StampsStand : Type 0
+StampsStand =
+    (is_cut_out : ℕ → Bool) (old_tick : ℕ → ℕ) (limit : ℕ) (file : List ℕ) (pieces : List Piece)
+    (tail : List ℕ) (t : ℕ) → CanBeRetimed is_cut_out old_tick limit file pieces tail
+    → (stamp_count t (pieces_after is_cut_out limit pieces) ≡ stamp_count (old_tick t) pieces)
+    ⊎ ((stamp_count (old_tick t) pieces ≡ 0)
+    × (stamp_count t (pieces_after is_cut_out limit pieces) ≡ 1))

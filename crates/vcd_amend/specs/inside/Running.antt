@@ -1,0 +1,127 @@
+-- A run whose replies are written, and what is then known for the copy.
+use Rattle.std.specs.Prelude.{◌≡◌, ◌⊎◌, ◌<◌, ℕ, Bool, true, false, List, [], length, Option, Some}
+use Rattle.std.specs.Prelude.{IfSome, Err}
+use Rattle.std.specs.Prelude.{nat_eq, slice_index_or}
+use Rattle.std.specs.List.{concat, list_any}
+use Rattle.vcd_core.specs.declared.capture.TheConstants.{SIGNAL_LIMIT}
+use Rattle.vcd_core.specs.Contents.{Contents}
+use Rattle.vcd_core.specs.CaptureContents.{contents}
+use Rattle.vcd_core.specs.Outline.{outline}
+use Rattle.vcd_core.specs.Devices.{DeviceEnd, IsUntouched}
+use Rattle.vcd_text.specs.Words.{words_of}
+use Rattle.vcd_text.specs.Grammar.{ParseState, VariableDeclaration, Accepts}
+use Rattle.vcd_text.specs.Meaning.{FileMeans}
+use Rattle.vcd_journal.specs.Machine.{Machine}
+use Rattle.vcd_journal.specs.Origins.{origins, RiseWithin, ComeFrom}
+use Rattle.vcd_journal.specs.Cuts.{cuts}
+use Rattle.vcd_journal.specs.Hollow.{hollow}
+use Rattle.vcd_script.specs.declared.running.run_error.RunError.TheVariants as run_errors
+use Rattle.vcd_script.specs.Script.{script_lines}
+use Rattle.vcd_script.specs.Run.{outcome}
+use Rattle.vcd_script.specs.LineRunEnds.{HasFailedAt, StopsInLines}
+use Rattle.vcd_script.specs.HollowRun.{last_edits, last_capture, origins_asked, AreHeard}
+use Rattle.vcd_amend.specs.NewNames.{takes_skipped_name}
+use Rattle.vcd_amend.specs.AmendRunEnds.{PassEnds, AmendRunEnds}
+use Rattle.vcd_amend.specs.declared.running.Passes.{Passes}
+use Rattle.vcd_amend.specs.declared.running.AmendRunError.{AmendRunError}
+use Rattle.vcd_amend.specs.declared.running.AmendRunError.TheVariants as errors
+use Rattle.vcd_text.specs.declared.fault.CopyError.{CopyError}
+use Rattle.vcd_text.specs.declared.fault.CopyError.TheVariants as copy_errors
+use Rattle.vcd_amend.specs.declared.hearing.HearError.{HearError}
+use Rattle.vcd_amend.specs.declared.hearing.HearError.TheVariants as hear_errors
+use Rattle.vcd_amend.specs.declared.dry_running.DryRun.{DryRun}
+
+-- the passes before the copy show this file
+abbrev pub ShowUpTo : {R : Type 0} → (coming : R → Option (List ℕ)) → Passes R → List ℕ → Type 0
+ShowUpTo coming p file = (coming p.declarations ≡ Some file) × (coming p.outline ≡ Some file)
+    × (coming p.changes ≡ Some file)
+
+-- the error of a file in which the changes that lines ask for were not found
+abbrev pub error_of_hearing : HearError → AmendRunError
+error_of_hearing (hear_errors.Read e) = errors.Run (run_errors.Capture e)
+error_of_hearing hear_errors.Changed = errors.CaptureChanged
+
+-- the error of a file that could not be copied
+abbrev pub error_of_copy : CopyError → AmendRunError
+error_of_copy (copy_errors.Read e) = errors.Run (run_errors.Capture e)
+error_of_copy (copy_errors.Write e) = errors.Run (run_errors.Write e)
+
+-- the signals of the later capture come from those of the first at these origins, but for the last
+pub record IsLaterCapture (first : Contents) (ks : List ℕ) (last : Contents) : Type 0 where
+  pub rising : RiseWithin 0 (length first.signals) ks
+  pub come : ComeFrom first ks last.signals
+
+-- what a dry run of lines finds on an outline
+pub record IsDryRun (c : Contents) (skipped depth : ℕ) (lines : List (List ℕ)) (dry : DryRun) :
+    Type 0 where
+  pub heard : (k : ℕ) → k < length c.signals → slice_index_or dry.heard.items k false
+      ≡ list_any (nat_eq k) (origins_asked c skipped depth lines)
+  pub origins_are : dry.origins.items ≡ origins (length c.signals)
+      (last_edits c skipped depth lines)
+  pub uncut : dry.is_cut ≡ false → cuts (last_edits c skipped depth lines) ≡ []
+  pub is_cut : dry.is_cut ≡ true → cuts (last_edits c skipped depth lines) ≡ [] → ⊥
+  pub last_is : outline (contents dry.last) ≡ outline (last_capture c skipped depth lines)
+
+-- before the first reply it is known of this file and these lines: the variables and what the
+-- passes so far found
+pub record IsPlanned (file lines : List ℕ) (depth : ℕ) (declared : List VariableDeclaration)
+    (skipped : ℕ) (first : Contents) (ks : List ℕ) (is_cut takes : Bool) : Type 0 where
+  pub whole : Contents
+  pub silent : ℕ → Bool
+  pub means : FileMeans SIGNAL_LIMIT file whole skipped
+  pub heard : AreHeard silent (origins_asked whole skipped depth (script_lines lines))
+  pub hollow_is : first ≡ hollow silent whole
+  pub origins_are : ks ≡ origins (length whole.signals)
+      (last_edits whole skipped depth (script_lines lines))
+  pub uncut : is_cut ≡ false → cuts (last_edits whole skipped depth (script_lines lines)) ≡ []
+  pub variables : (s : ParseState) → Accepts SIGNAL_LIMIT (words_of file) s → declared ≡ s.declared
+  pub cut : is_cut ≡ true → cuts (last_edits whole skipped depth (script_lines lines)) ≡ [] → ⊥
+  pub names : takes ≡ takes_skipped_name declared whole.signals ks
+      (last_capture whole skipped depth (script_lines lines)).signals
+
+-- why a plan is refused
+pub data RefusesPlan (is_cut takes : Bool) (e : AmendRunError) : Type 0 where
+  cut : is_cut ≡ true → e ≡ errors.CutInForce → RefusesPlan is_cut takes e
+  name : takes ≡ true → e ≡ errors.NameOfSkipped → RefusesPlan is_cut takes e
+
+-- all replies are written, and the script is carried out
+pub record IsEdited (file lines : List ℕ) (depth : ℕ) (writes : Bool) (took : List ℕ → Type 0)
+    (declared : List VariableDeclaration) (first : Contents) (ks : List ℕ) (last : Contents)
+    (refused : ℕ) : Type 0 where
+  pub whole : Contents
+  pub skipped : ℕ
+  pub silent : ℕ → Bool
+  pub means : FileMeans SIGNAL_LIMIT file whole skipped
+  pub heard : AreHeard silent (origins_asked whole skipped depth (script_lines lines))
+  pub hollow_is : first ≡ hollow silent whole
+  pub last_is : last ≡ last_capture (hollow silent whole) skipped depth (script_lines lines)
+  pub origins_are : ks ≡ origins (length whole.signals)
+      (last_edits whole skipped depth (script_lines lines))
+  pub uncut : writes ≡ true → cuts (last_edits whole skipped depth (script_lines lines)) ≡ []
+  pub free : writes ≡ true → takes_skipped_name declared whole.signals ks
+      (last_capture whole skipped depth (script_lines lines)).signals ≡ false
+  pub variables : (s : ParseState) → Accepts SIGNAL_LIMIT (words_of file) s → declared ≡ s.declared
+  pub replies : took (concat (outcome whole skipped depth (script_lines lines)).replies)
+  pub count : refused ≡ (outcome whole skipped depth (script_lines lines)).refused
+
+-- it ends before the copy
+abbrev pub EndsBeforeCopy : (depth : ℕ) → PassEnds → (script replies : DeviceEnd) → AmendRunError →
+    Type 0
+EndsBeforeCopy depth passes script replies e =
+    (output : Option DeviceEnd) → IfSome output IsUntouched
+    → AmendRunEnds depth passes script replies output (Err e)
+
+-- it ends before the replies
+abbrev pub EndsBeforeReplies : PassEnds → (script : DeviceEnd) → AmendRunError → Type 0
+EndsBeforeReplies passes script e =
+    (depth : ℕ) (replies : DeviceEnd) → IsUntouched replies → EndsBeforeCopy depth passes script
+    replies e
+
+-- it ends in the lines, on a machine
+abbrev pub StopsInRun : (skipped : ℕ) → List (List ℕ) → Machine → (replies : DeviceEnd) →
+    AmendRunError → Type 0
+StopsInRun skipped lines old replies (errors.Run e) =
+    ((e ≡ run_errors.NoMemory 0) × IsUntouched replies)
+    ⊎ ((is_flushed : Bool) × HasFailedAt replies.has_failed is_flushed e
+    × StopsInLines skipped lines old replies.before replies.after e)
+StopsInRun skipped lines old replies e = ⊥

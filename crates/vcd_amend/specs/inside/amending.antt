@@ -1,0 +1,8 @@
+-- Definitions about writing the amended file.
+pub mod CodeUses
+pub mod DueChanges
+pub mod CodeProgress
+pub mod ValueChanges
+pub mod WordsInPlace
+pub mod FileAmender
+pub mod VariableLeft

@@ -1,0 +1,2 @@
+-- Definitions of `declarations`.
+pub mod Collector

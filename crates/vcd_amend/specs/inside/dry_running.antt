@@ -1,0 +1,3 @@
+-- Inner definitions of `dry_running`.
+pub mod OriginHistory
+pub mod HeardLines

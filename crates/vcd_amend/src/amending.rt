@@ -1,0 +1,61 @@
+//! Writes the amended file while a file is read.
+
+ghost use Rattle.std.specs.Prelude.{◌≡◌, ◌≤◌, List, ℕ, true, false, length, OnOk, IfErr, IfSome};
+ghost use Rattle.std.specs.Io.KnownBytes.{Appends, IsAtEnd};
+ghost use Rattle.vcd_text.specs.CopyEnds.{CopyFails};
+ghost use Rattle.vcd_text.specs.declared.reading.TheConstants.{LONG_FILE_LIMIT};
+ghost use Rattle.vcd_amend.specs.AmendedCopy.{IsAmended};
+ghost use Rattle.vcd_amend.specs.AmendedMeaning.{AreApart};
+ghost use Rattle.vcd_amend.specs.AmendmentContents.{amendment_contents};
+
+mod code_progress;
+mod code_uses;
+mod due_changes;
+mod due_writing;
+mod file_amender;
+mod moments;
+mod value_changes;
+mod variable_writing;
+
+use crate::amendment::Amendment;
+use file_amender::FileAmender;
+use std::alloc::Global;
+use vcd_core::{Sink, Source};
+use vcd_text::{CopyError, copy};
+
+/// Reads a capture file, and writes the amended file. The writer is flushed once, after the last
+/// byte. A file has at most `LONG_FILE_LIMIT` bytes and `limit` kept variables.
+///
+/// The file is read as `copy` reads it: the grammar, the first fault and its line are the same. At
+/// a fault of the file, what the writer took is of no use. At `WriteFault` the writer has failed,
+/// and took exactly `written` bytes.
+///
+/// The time grows with the file, and with the changes of the new waves, which are sorted. It takes
+/// 16 bytes for each due change, some bytes for each variable and code, and what `copy` takes, but
+/// nothing for the changes of the file.
+pub fn amend<R: Source, W: Sink>(
+    alloc: Global,
+    reader: &mut R,
+    limit: u32,
+    amendment: &Amendment,
+    writer: &mut W,
+) -> Result<(), CopyError>
+    requires reader_ready { R.has_failed reader.old ≡ false }
+    requires writer_ready { W.has_failed writer.old ≡ false }
+    requires apart { AreApart (amendment_contents amendment.now).codes }
+    ensures amended { OnOk result (IfSome (R.coming reader.old) (λ file.
+        (length file ≤ LONG_FILE_LIMIT)
+        × (text : List ℕ) × IsAmended limit (amendment_contents amendment.now) file text
+        × Appends (W.taken writer.old) (W.taken writer.new) text)) }
+    ensures not_failed { OnOk result (W.has_failed writer.new ≡ false) }
+    ensures flushed { OnOk result (W.is_flushed writer.new ≡ true) }
+    ensures ended { OnOk result (IsAtEnd (R.coming reader.new)) }
+    ensures reader_not_failed { OnOk result (R.has_failed reader.new ≡ false) }
+    ensures taken { (text : List ℕ) × Appends (W.taken writer.old) (W.taken writer.new) text }
+    ensures fails { IfErr result (CopyFails limit LONG_FILE_LIMIT (R.coming reader.old)
+        (R.coming reader.new) (R.has_failed reader.new) (W.taken writer.old) (W.taken writer.new)
+        (W.has_failed writer.new)) }
+{
+    let mut amender = FileAmender::new(alloc, amendment)?;
+    copy(alloc, reader, limit, &mut amender, writer)
+}

@@ -1,0 +1,128 @@
+//! Changes of amended codes to digits, as they come.
+
+ghost use Rattle.std.specs.Prelude.{◌≡◌, ◌<◌, ◌==◌, ◌||◌, ◌++◌, ℕ, length, if◌then◌else◌};
+ghost use Rattle.std.specs.Prelude.{slice_index_or, map};
+ghost use Rattle.vcd_text.specs.EmittedText.{Emits};
+ghost use Rattle.vcd_amend.specs.Amendment.{changes_stand};
+ghost use Rattle.vcd_amend.specs.AmendmentContents.{code_contents};
+ghost use Rattle.vcd_amend.specs.inside.amending.CodeProgress.{no_progress, noted_change};
+ghost use Rattle.vcd_amend.specs.inside.amending.DueChanges.{no_code};
+ghost use Rattle.vcd_amend.specs.inside.amending.ValueChanges.{value_text, is_written};
+ghost use Rattle.vcd_amend.specs.inside.amending.ValueChanges.{text_in_place};
+
+use super::code_progress::{CodeProgress, note_change};
+use super::due_writing::write_due;
+use super::moments::{ChangeCounts, Moment, moment_at};
+use crate::amendment::AmendedCode;
+use vcd_core::Sink;
+use vcd_text::{Output, write_bytes};
+
+/// The amended code at `index`, at `tick`.
+pub fn moment_in(codes: &[AmendedCode], counts: &[ChangeCounts], index: usize, tick: u64) -> Moment
+    requires within { index < length codes.now }
+    requires counts { length counts.now ≡ length codes.now }
+    ensures { result.stands
+        ≡ changes_stand (slice_index_or (map code_contents codes.now) index no_code) tick }
+{
+    moment_at(&codes[index], counts[index], tick)
+}
+
+/// A change at `tick` of the amended code at `index` stands.
+pub fn note_standing(
+    counts: &mut [ChangeCounts],
+    progress: &mut [CodeProgress],
+    index: usize,
+    found: ChangeCounts,
+    tick: u64,
+)
+    requires counts { index < length counts.old }
+    requires progress { index < length progress.old }
+    ensures { (k : ℕ) → k < length progress.old →
+        slice_index_or progress.new k no_progress ≡ (if k == index then noted_change tick
+        (slice_index_or progress.old k no_progress)
+        else slice_index_or progress.old k no_progress) }
+{
+    counts[index] = found;
+    note_change(progress, index, tick);
+}
+
+/// Writes what is in the place of a change at `tick` of the amended code at `index`. Returns
+/// whether it wrote a change.
+pub fn take_amended<W: Sink>(
+    output: &mut Output<W>,
+    codes: &[AmendedCode],
+    counts: &mut [ChangeCounts],
+    progress: &mut [CodeProgress],
+    index: usize,
+    is_used: bool,
+    tick: u64,
+    space: &[u8],
+    body: &[u8],
+) -> bool
+    requires within { index < length codes.now }
+    requires counts { length counts.old ≡ length codes.now }
+    requires progress { length progress.old ≡ length codes.now }
+    ensures written { Emits W.Sink output.old output.new (value_text is_used
+        (slice_index_or (map code_contents codes.now) index no_code)
+        (slice_index_or progress.old index no_progress) tick space.now body.now) }
+    ensures told { result ≡ is_written is_used
+        (slice_index_or (map code_contents codes.now) index no_code)
+        (slice_index_or progress.old index no_progress) tick }
+    ensures noted { (k : ℕ) → k < length progress.old →
+        slice_index_or progress.new k no_progress ≡ (if k == index then noted_change tick
+        (slice_index_or progress.old k no_progress)
+        else slice_index_or progress.old k no_progress) }
+{
+    let code = &codes[index];
+    let moment = moment_at(code, counts[index], tick);
+    let is_due = moment.is_needed && !progress[index].is_changed_at(tick);
+    counts[index] = moment.counts;
+    note_change(progress, index, tick);
+    if !is_used {
+        return false;
+    }
+    write_in_place(
+        output,
+        code,
+        &mut counts[index],
+        moment.stands,
+        is_due,
+        tick,
+        space,
+        body,
+    )
+}
+
+/// Writes a change, if it stands, or the one that is due. Returns whether it wrote one.
+fn write_in_place<W: Sink>(
+    output: &mut Output<W>,
+    code: &AmendedCode,
+    near: &mut ChangeCounts,
+    stands: bool,
+    is_due: bool,
+    tick: u64,
+    space: &[u8],
+    body: &[u8],
+) -> bool
+    ensures written { Emits W.Sink output.old output.new (text_in_place stands is_due
+        (code_contents code.now) tick space.now body.now) }
+    ensures told { result ≡ (stands || is_due) }
+{
+    if stands {
+        write_both(output, space, body);
+        return true;
+    }
+    if is_due {
+        write_bytes(output, space);
+        write_due(output, code, near, tick);
+    }
+    is_due
+}
+
+/// Writes white space and words.
+pub fn write_both<W: Sink>(output: &mut Output<W>, space: &[u8], body: &[u8])
+    ensures { Emits W.Sink output.old output.new (space.now ++ body.now) }
+{
+    write_bytes(output, space);
+    write_bytes(output, body);
+}

@@ -1,0 +1,45 @@
+//! Amended files: a capture file whose bytes stand, except where another capture asks for others.
+//!
+//! [`amend_run`] carries a script out on a capture file, and writes the file as it is after the
+//! script. It reads the file four times, and holds only the changes that lines of the script ask
+//! for: [`declared_variables`] gives what the file declares, [`read_outline`] its capture without a
+//! change, [`dry_run`] which changes lines ask for, and [`read_heard`] these. From the captures
+//! before and after the script [`amendment_for`] makes an [`Amendment`]: what becomes of the file's
+//! variables, which ones are added, and which codes are to mean another wave. With it [`amend`]
+//! copies the file.
+//!
+//! The definitions say what the amended file is, byte for byte, and the laws that it means the
+//! capture after the script, with cuts among its edits.
+#![tactic(auto)]
+
+mod amending;
+mod amendment;
+mod coding;
+mod declarations;
+mod dry_running;
+mod heard_names;
+mod hearing;
+mod laws;
+mod name_hash;
+mod new_names;
+mod outlining;
+mod running;
+mod sharing;
+mod skipped_names;
+mod variable_words;
+
+pub use amending::amend;
+pub use amendment::{AddedVariable, AmendedCode, Amendment, Fate};
+pub use coding::amendment_for;
+pub use declarations::variable_size::VariableSize;
+pub use declarations::{DeclaredVariable, declared_variables};
+pub use dry_running::{DryRun, NoMemoryAt, dry_run};
+pub use hearing::{HearError, read_heard};
+pub use laws::{
+    amended_file_is_read_again, copy_is_amended_text, cuts_in_force_retime_files,
+    edited_file_is_read_again, fresh_codes_are_fresh, other_capture_is_read_again,
+    retimed_file_is_meant, signals_remain, untouched_items_stand,
+};
+pub use new_names::takes_skipped_name;
+pub use outlining::{Outline, read_outline};
+pub use running::{AmendRunError, Passes, amend_run};

@@ -1,0 +1,416 @@
+//! A capture file amended by a script, in four passes over the file.
+
+ghost use Rattle.std.specs.Prelude.{◌≡◌, ◌≤◌, false, true, ℕ, List, Some, length, OnOk, IfOk};
+ghost use Rattle.std.specs.Prelude.{IfErr, IfSome};
+ghost use Rattle.std.specs.Option.{ForSome};
+ghost use Rattle.std.specs.Io.KnownBytes.{Appends};
+ghost use Rattle.vcd_core.specs.CaptureContents.{contents};
+ghost use Rattle.vcd_core.specs.Devices.{device_end};
+ghost use Rattle.vcd_core.specs.Sound.{IsSound};
+ghost use Rattle.vcd_text.specs.CopyEnds.{CopyFails};
+ghost use Rattle.vcd_text.specs.declared.reading.TheConstants.{LONG_FILE_LIMIT};
+ghost use Rattle.vcd_journal.specs.Machine.{initial_machine};
+ghost use Rattle.vcd_journal.specs.Origins.{origins};
+ghost use Rattle.vcd_script.specs.HollowRun.{last_edits};
+ghost use Rattle.vcd_script.specs.Script.{script_lines};
+ghost use Rattle.vcd_script.specs.RunEnds.{ForOutput, IsOutputFlushed};
+ghost use Rattle.vcd_script.specs.LineRunEnds.{RunsLines};
+ghost use Rattle.vcd_script.specs.declared.running.run_error.RunError.TheVariants as run_errors;
+ghost use Rattle.vcd_script.specs.declared.running.script_input.TheConstants.{SCRIPT_LIMIT};
+ghost use Rattle.vcd_amend.specs.Amendment.{Amendment as AmendmentContents};
+ghost use Rattle.vcd_amend.specs.AmendedCopy.{IsAmended};
+ghost use Rattle.vcd_amend.specs.AmendRunEnds.{pass_ends, AreReady, AmendRunEnds};
+ghost use Rattle.vcd_amend.specs.KnownSignals.{IsAmendmentFor};
+ghost use Rattle.vcd_amend.specs.DeclaredVariables.{declarations_of, HaveSizesOf};
+ghost use Rattle.vcd_amend.specs.inside.Running.{RefusesPlan, IsLaterCapture, ShowUpTo, IsPlanned};
+ghost use Rattle.vcd_amend.specs.inside.Running.{IsEdited, IsDryRun};
+ghost use Rattle.vcd_amend.specs.inside.Running.{EndsBeforeReplies, EndsBeforeCopy, StopsInRun};
+ghost use Rattle.vcd_amend.specs.inside.Running.{error_of_hearing, error_of_copy};
+ghost use Rattle.vcd_amend.specs.declared.running.AmendRunError.TheVariants as errors;
+
+use crate::amending::amend;
+use crate::coding::amendment_for;
+use crate::declarations::signal_sizes::have_sizes_of;
+use crate::declarations::{DeclaredVariable, declared_variables};
+use crate::dry_running::{DryRun, dry_run};
+use crate::hearing::{HearError, read_heard};
+use crate::new_names::takes_skipped_name;
+use crate::outlining::{Outline, read_outline};
+use crate::sharing::share_capture;
+use std::alloc::Global;
+use vcd_core::{Capture, NoMemory, SIGNAL_LIMIT, Sink, Source};
+use vcd_journal::{DEPTH_LIMIT, Session};
+use vcd_script::{RunError, Summary, read_script, run_lines};
+use vcd_text::{CopyError, ReadError, WriteError};
+
+/// One source of a capture file for each pass over it.
+#[derive(Drop)]
+pub struct Passes<R> {
+    /// For its declarations, up to their end.
+    pub declarations: R,
+    /// For its outline.
+    pub outline: R,
+    /// For the changes that the script asks for.
+    pub changes: R,
+    /// For the copy.
+    pub copy: R,
+}
+
+/// Why a file was not amended.
+#[derive(Clone, Copy, Debug, PartialEq, Eq)]
+pub enum AmendRunError {
+    /// As a run of the script on the whole capture ends, before its output.
+    Run(RunError),
+    /// A signal that the script has renamed or derived has the full name of a skipped variable,
+    /// which stays in the file.
+    NameOfSkipped,
+    /// A cut is in force after the last line.
+    CutInForce,
+    /// The passes over the file did not find the same one.
+    CaptureChanged,
+}
+
+/// What is known before the first reply.
+#[derive(Drop)]
+struct Plan {
+    /// All variables of the file.
+    declared: Vec<DeclaredVariable>,
+    /// The capture with the changes that lines ask for.
+    first: Capture,
+    skipped: u64,
+    script: Vec<u8>,
+    /// Which signals are left after the last line.
+    origins: Vec<usize>,
+    is_cut: bool,
+    /// Whether a signal would get the name of a skipped variable.
+    takes_skipped_name: bool,
+}
+
+/// The script carried out, all replies written.
+#[derive(Drop)]
+struct Edited {
+    declared: Vec<DeclaredVariable>,
+    first: Capture,
+    origins: Vec<usize>,
+    session: Session,
+    refused: u64,
+}
+
+impl From<RunError> for AmendRunError {
+    ghost from_gives = { λ error e. e ≡ errors.Run error };
+
+    fn from(error: RunError) -> AmendRunError {
+        AmendRunError::Run(error)
+    }
+}
+
+impl From<ReadError> for AmendRunError {
+    ghost from_gives = { λ error e. e ≡ errors.Run (run_errors.Capture error) };
+
+    fn from(error: ReadError) -> AmendRunError {
+        AmendRunError::Run(RunError::Capture(error))
+    }
+}
+
+impl From<NoMemory> for AmendRunError {
+    ghost from_gives = { λ _ e. e ≡ errors.Run (run_errors.NoMemory 0) };
+
+    fn from(_refused: NoMemory) -> AmendRunError {
+        AmendRunError::Run(RunError::NoMemory { line: 0 })
+    }
+}
+
+impl From<HearError> for AmendRunError {
+    ghost from_gives = { λ error e. e ≡ error_of_hearing error };
+
+    fn from(error: HearError) -> AmendRunError {
+        match error {
+            HearError::Read(error) => error.into(),
+            HearError::Changed => AmendRunError::CaptureChanged,
+        }
+    }
+}
+
+impl From<CopyError> for AmendRunError {
+    ghost from_gives = { λ error e. e ≡ error_of_copy error };
+
+    fn from(error: CopyError) -> AmendRunError {
+        match error {
+            CopyError::Read(error) => error.into(),
+            CopyError::Write(error) => AmendRunError::Run(RunError::Write(error)),
+        }
+    }
+}
+
+/// Runs the script on the capture, and writes the file as it is after the script, if there is an
+/// output: every byte stands that no edit in force touches.
+///
+/// The file is read four times: its declarations, all of it without a change, the changes that the
+/// script asks for, and then for the copy. Only these changes are held, and while a signal is
+/// edited its changes before and after.
+pub fn amend_run<R: Source, S: Source, P: Sink, W: Sink>(
+    alloc: Global,
+    passes: &mut Passes<R>,
+    script_reader: &mut S,
+    replies: &mut P,
+    out: Option<&mut W>,
+    depth: u64,
+) -> Result<Summary, AmendRunError>
+    requires passes_ready { AreReady R.has_failed passes.old }
+    requires script_ready { S.has_failed script_reader.old ≡ false }
+    requires replies_ready { P.has_failed replies.old ≡ false }
+    requires out_ready { ForSome out (λ w. W.has_failed w.now ≡ false) }
+    requires depth_least { 1 ≤ depth }
+    requires depth_most { depth ≤ DEPTH_LIMIT }
+    ensures ends { ForOutput W.taken W.has_failed out.entry out.exit (λ output. AmendRunEnds depth
+        (pass_ends R.coming R.has_failed passes.old passes.new)
+        (device_end S.coming S.has_failed script_reader.old script_reader.new)
+        (device_end P.taken P.has_failed replies.old replies.new) output result) }
+    ensures output_flushed { OnOk result (IsOutputFlushed W.is_flushed out.entry out.exit) }
+{
+    // matched here: no clause can open an `Option<&mut W>` that comes back from a call
+    match out {
+        Some(out) => {
+            let edited = run_script(alloc, passes, script_reader, replies, depth, true)?;
+            copy_amended(alloc, &mut passes.copy, &edited, out)?;
+            Ok(Summary {
+                refused: edited.refused,
+            })
+        }
+        None => {
+            let edited = run_script(alloc, passes, script_reader, replies, depth, false)?;
+            Ok(Summary {
+                refused: edited.refused,
+            })
+        }
+    }
+}
+
+/// Runs everything but the copy. If the file is to be written, no cut may be in force at the end.
+fn run_script<R: Source, S: Source, P: Sink>(
+    alloc: Global,
+    passes: &mut Passes<R>,
+    script_reader: &mut S,
+    replies: &mut P,
+    depth: u64,
+    writes: bool,
+) -> Result<Edited, AmendRunError>
+    requires passes_ready { AreReady R.has_failed passes.old }
+    requires script_ready { S.has_failed script_reader.old ≡ false }
+    requires replies_ready { P.has_failed replies.old ≡ false }
+    requires depth_least { 1 ≤ depth }
+    requires depth_most { depth ≤ DEPTH_LIMIT }
+    ensures edited { IfOk result (λ edited. (file lines : List ℕ)
+        → ShowUpTo R.coming passes.old file → S.coming script_reader.old ≡ Some lines
+        → IsEdited file lines depth writes (Appends (P.taken replies.old) (P.taken replies.new))
+        (declarations_of edited.declared.items) (contents edited.first) edited.origins.items
+        edited.session.now edited.refused) }
+    ensures sizes { IfOk result (λ edited. HaveSizesOf (contents edited.first).signals
+        (declarations_of edited.declared.items)) }
+    ensures come { IfOk result (λ edited. IsLaterCapture (contents edited.first)
+        edited.origins.items edited.session.now) }
+    ensures not_failed { OnOk result (P.has_failed replies.new ≡ false) }
+    ensures copy_kept { passes.new.copy ≡ passes.old.copy }
+    ensures fails { IfErr result (EndsBeforeCopy depth
+        (pass_ends R.coming R.has_failed passes.old passes.new)
+        (device_end S.coming S.has_failed script_reader.old script_reader.new)
+        (device_end P.taken P.has_failed replies.old replies.new)) }
+{
+    let plan = make_plan(alloc, passes, script_reader, depth)?;
+    check_plan(&plan, writes)?;
+    let edited = edit(alloc, plan, replies, depth)?;
+    Ok(edited)
+}
+
+/// Refuses a plan by which the file cannot be written.
+fn check_plan(plan: &Plan, writes: bool) -> Result<(), AmendRunError>
+    ensures uncut { OnOk result (writes ≡ true → plan.now.is_cut ≡ false) }
+    ensures free { OnOk result (writes ≡ true → plan.now.takes_skipped_name ≡ false) }
+    ensures refused { IfErr result (RefusesPlan plan.now.is_cut plan.now.takes_skipped_name) }
+{
+    if writes && plan.takes_skipped_name {
+        return Err(AmendRunError::NameOfSkipped);
+    }
+    if writes && plan.is_cut {
+        return Err(AmendRunError::CutInForce);
+    }
+    Ok(())
+}
+
+/// Finds what is needed before the first reply.
+fn make_plan<R: Source, S: Source>(
+    alloc: Global,
+    passes: &mut Passes<R>,
+    script_reader: &mut S,
+    depth: u64,
+) -> Result<Plan, AmendRunError>
+    requires passes_ready { AreReady R.has_failed passes.old }
+    requires script_ready { S.has_failed script_reader.old ≡ false }
+    requires depth_least { 1 ≤ depth }
+    requires depth_most { depth ≤ DEPTH_LIMIT }
+    ensures planned { IfOk result (λ plan. (file lines : List ℕ)
+        → ShowUpTo R.coming passes.old file → S.coming script_reader.old ≡ Some lines
+        → IsPlanned file lines depth (declarations_of plan.declared.items) plan.skipped
+        (contents plan.first) plan.origins.items plan.is_cut plan.takes_skipped_name
+        × (plan.script.items ≡ lines)) }
+    ensures sound { IfOk result (λ plan. IsSound (contents plan.first)) }
+    ensures sizes { IfOk result (λ plan. HaveSizesOf (contents plan.first).signals
+        (declarations_of plan.declared.items)) }
+    ensures placed { IfOk result (λ plan. plan.origins.items
+        ≡ origins (length (contents plan.first).signals) (last_edits (contents plan.first)
+        plan.skipped depth (script_lines plan.script.items))) }
+    ensures short { IfOk result (λ plan. length plan.script.items ≤ SCRIPT_LIMIT) }
+    ensures copy_kept { passes.new.copy ≡ passes.old.copy }
+    ensures fails { IfErr result (EndsBeforeReplies
+        (pass_ends R.coming R.has_failed passes.old passes.new)
+        (device_end S.coming S.has_failed script_reader.old script_reader.new)) }
+{
+    let declared = declared_variables(alloc, &mut passes.declarations, SIGNAL_LIMIT as u32)?;
+    let outline = read_outline(alloc, &mut passes.outline, SIGNAL_LIMIT as u32)?;
+    let skipped = outline.skipped;
+    check_sizes(declared.as_slice(), &outline)?;
+    let script = read_script(alloc, script_reader)?;
+    let (capture, dry) = try_lines(alloc, outline, depth, script.as_slice())?;
+    let origins = dry.origins.as_slice();
+    let takes = takes_skipped_name(alloc, declared.as_slice(), &capture, origins, &dry.last)?;
+    let heard = dry.heard.as_slice();
+    let first = read_heard(
+        alloc,
+        &mut passes.changes,
+        SIGNAL_LIMIT as u32,
+        capture,
+        heard,
+    )?;
+    Ok(Plan {
+        declared,
+        first,
+        skipped,
+        script,
+        origins: dry.origins,
+        is_cut: dry.is_cut,
+        takes_skipped_name: takes,
+    })
+}
+
+/// Refuses an outline whose signals have not the sizes of the declared variables.
+fn check_sizes(declared: &[DeclaredVariable], outline: &Outline) -> Result<(), AmendRunError>
+    ensures sizes { OnOk result (HaveSizesOf (contents outline.now.capture).signals
+        (declarations_of declared.now)) }
+    ensures changed { IfErr result (λ e. (e ≡ errors.CaptureChanged)
+        × (HaveSizesOf (contents outline.now.capture).signals
+        (declarations_of declared.now) → ⊥)) }
+{
+    if have_sizes_of(outline.capture.signals(), declared) {
+        return Ok(());
+    }
+    Err(AmendRunError::CaptureChanged)
+}
+
+/// Carries the lines out on the outline; gives the outline back.
+fn try_lines(
+    alloc: Global,
+    outline: Outline,
+    depth: u64,
+    script: &[u8],
+) -> Result<(Capture, DryRun), NoMemory>
+    requires sound { IsSound (contents outline.capture) }
+    requires depth_least { 1 ≤ depth }
+    requires depth_most { depth ≤ DEPTH_LIMIT }
+    requires short { length script.now ≤ SCRIPT_LIMIT }
+    ensures kept { IfOk result (λ both. contents both.0 ≡ contents outline.capture) }
+    ensures tried { IfOk result (λ both. IsDryRun (contents outline.capture) outline.skipped depth
+        (script_lines script.now) both.1) }
+{
+    let (kept, tried) = share_capture(alloc, outline.capture)?;
+    match dry_run(alloc, tried, outline.skipped, depth, script) {
+        Ok(dry) => Ok((kept, dry)),
+        Err(_) => Err(NoMemory),
+    }
+}
+
+/// Carries the lines out, and writes their replies.
+fn edit<P: Sink>(
+    alloc: Global,
+    plan: Plan,
+    replies: &mut P,
+    depth: u64,
+) -> Result<Edited, AmendRunError>
+    requires ready { P.has_failed replies.old ≡ false }
+    requires sound { IsSound (contents plan.first) }
+    requires short { length plan.script.items ≤ SCRIPT_LIMIT }
+    requires depth_least { 1 ≤ depth }
+    requires depth_most { depth ≤ DEPTH_LIMIT }
+    ensures ran { IfOk result (λ edited. RunsLines plan.skipped (script_lines plan.script.items)
+        (initial_machine (contents plan.first) depth) edited.session edited.refused
+        (P.taken replies.old) (P.taken replies.new)) }
+    ensures kept { IfOk result (λ edited. (edited.declared ≡ plan.declared)
+        × (contents edited.first ≡ contents plan.first) × (edited.origins ≡ plan.origins)) }
+    ensures not_failed { OnOk result (P.has_failed replies.new ≡ false) }
+    ensures stops { IfErr result (StopsInRun plan.skipped (script_lines plan.script.items)
+        (initial_machine (contents plan.first) depth)
+        (device_end P.taken P.has_failed replies.old replies.new)) }
+{
+    let (first, edited) = share_capture(alloc, plan.first)?;
+    let mut session = begin_session(alloc, edited, depth)?;
+    let script = plan.script.as_slice();
+    let refused = run_lines(alloc, &mut session, plan.skipped, script, replies)?;
+    Ok(Edited {
+        declared: plan.declared,
+        first,
+        origins: plan.origins,
+        session,
+        refused,
+    })
+}
+
+/// A session on a capture.
+fn begin_session(alloc: Global, capture: Capture, depth: u64) -> Result<Session, NoMemory>
+    requires least { 1 ≤ depth }
+    requires most { depth ≤ DEPTH_LIMIT }
+    requires sound { IsSound (contents capture) }
+    ensures { IfOk result (λ session. session ≡ initial_machine (contents capture) depth) }
+{
+    match Session::new(alloc, capture, depth) {
+        Ok(session) => Ok(session),
+        Err(_) => Err(NoMemory),
+    }
+}
+
+/// Copies the file with what the script has changed.
+fn copy_amended<R: Source, W: Sink>(
+    alloc: Global,
+    reader: &mut R,
+    edited: &Edited,
+    out: &mut W,
+) -> Result<(), CopyError>
+    requires reader_ready { R.has_failed reader.old ≡ false }
+    requires writer_ready { W.has_failed out.old ≡ false }
+    requires sizes { HaveSizesOf (contents edited.now.first).signals
+        (declarations_of edited.now.declared.items) }
+    requires come { IsLaterCapture (contents edited.now.first) edited.now.origins.items
+        edited.now.session.now }
+    ensures amended { OnOk result (IfSome (R.coming reader.old) (λ file. (a : AmendmentContents)
+        × IsAmendmentFor (declarations_of edited.now.declared.items)
+        (contents edited.now.first).signals edited.now.origins.items
+        edited.now.session.now.signals a
+        × (text : List ℕ) × IsAmended SIGNAL_LIMIT a file text
+        × Appends (W.taken out.old) (W.taken out.new) text)) }
+    ensures not_failed { OnOk result (W.has_failed out.new ≡ false) }
+    ensures flushed { OnOk result (W.is_flushed out.new ≡ true) }
+    ensures fails { IfErr result (CopyFails SIGNAL_LIMIT LONG_FILE_LIMIT (R.coming reader.old)
+        (R.coming reader.new) (R.has_failed reader.new) (W.taken out.old) (W.taken out.new)
+        (W.has_failed out.new)) }
+{
+    let last = edited.session.capture();
+    let made = amendment_for(
+        alloc,
+        edited.declared.as_slice(),
+        &edited.first,
+        edited.origins.as_slice(),
+        last,
+    );
+    match made {
+        Ok(amendment) => amend(alloc, reader, SIGNAL_LIMIT as u32, &amendment, out),
+        Err(_) => Err(CopyError::Write(WriteError::NoMemory)),
+    }
+}

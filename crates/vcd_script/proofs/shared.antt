@@ -1,0 +1,6 @@
+-- Lemmas: shared.
+pub mod LinesAndHistory
+pub mod LawsOfRun
+pub mod HollowRuns
+pub mod FittingCuts
+pub mod HollowPart

@@ -1,0 +1,2 @@
+-- Lemmas of `options`.
+pub mod AskedDepth

@@ -1,5 +1,0 @@
-use Rattle.vcd_text.proofs.what_stands.Whole as lemmas
-use Rattle.vcd_text.proofs.laws.untouched_items_stand.Goals as goal
-
-pub returns : goal.returns
-returns c = lemmas.untouched_items_stand

@@ -1,3 +1,0 @@
--- Lemmas of `words`.
-pub mod WordsInTurn
-pub mod WordsByBytes

@@ -1,0 +1,5 @@
+-- The definitions of vcdedit-amend, from the words of its command line to the report of a run.
+pub mod Report
+pub mod CommandLine
+pub mod Sums
+pub mod ProgramEnds

@@ -1,0 +1,217 @@
+//! The program: the capture, the script and the output are opened, the script is run, and the
+//! output is put in its place.
+
+ghost use Rattle.std.specs.Prelude.{◌≡◌, ◌≤◌, false, true, Some, None, Ok, Err, IfOk, IfErr};
+ghost use Rattle.std.specs.Option.{option_copied};
+ghost use Rattle.vcd_core.specs.Devices.{device_end};
+ghost use Rattle.vcd_amend.specs.AmendRunEnds.{AreReady};
+ghost use Rattle.vcdedit_amend.specs.CommandLine.{options_in};
+ghost use Rattle.vcdedit_amend.specs.ProgramEnds.{IsOutcomeOfOptions, IsOutcomeOnFile, IsOutcomeOn};
+ghost use Rattle.vcdedit_amend.specs.ProgramEnds as spec;
+ghost use Rattle.vcdedit_amend.specs.Sums.{HaveOneSum};
+
+use crate::amend_error::{AmendError, NO_MEMORY, NO_SCRIPT};
+use crate::command_line::{Options, command_line, options_of};
+use crate::passes::{open_passes, refuse_changed};
+use crate::reporting::{PROGRAM, report};
+use crate::summed::Summed;
+use clap::{ArgMatches, Command};
+use std::alloc::{AllocError, Global};
+use std::io;
+use std::io::BufWriter;
+use std::rt::Runtime;
+use vcd_amend::{Passes, amend_run};
+use vcd_core::{FromBytes, FromRead, Sink, Source, ToBytes, ToWrite};
+use vcd_journal::DEPTH_LIMIT;
+use vcd_script::Summary;
+use vcd_shell::{DEFAULT_SCRIPT, OutputFault, Program, SafeFile, done_status, open_script};
+
+/// How many bytes of replies are buffered before they are written.
+const BUFFER: usize = 65_536;
+
+/// The program `vcdedit-amend`.
+pub struct VcdeditAmend;
+
+impl Program for VcdeditAmend {
+    ghost use Rattle.std.specs.Prelude.{codes, refl};
+    ghost use Rattle.vcdedit_amend.specs.CommandLine.{asked_options, option_app};
+    ghost use Rattle.vcdedit_amend.specs.ProgramEnds.{outcome_status, outcome_text};
+
+    type Outcome = Result<Summary, AmendError>;
+
+    ghost name = { codes "vcdedit-amend" };
+
+    ghost write_fault = { codes "replies: write fault" };
+
+    ghost options = { option_app };
+
+    ghost can_end = { λ words. IsOutcomeOfOptions (asked_options words) };
+
+    ghost status = { outcome_status };
+
+    ghost text = { outcome_text };
+
+    ghost is_free = { refl };
+
+    fn name() -> &'static [u8] {
+        PROGRAM
+    }
+
+    fn write_fault() -> &'static [u8] {
+        b"replies: write fault"
+    }
+
+    fn command_line<'a>(alloc: Global) -> Result<Command<'a>, AllocError> {
+        command_line(alloc)
+    }
+
+    fn carry_out<R: Runtime + AllocGlobal>(
+        rt: &R,
+        matches: &ArgMatches<'_>,
+    ) -> Result<Summary, AmendError> {
+        run_options(rt, &options_of(matches))
+    }
+
+    fn report<W: Sink>(outcome: &Result<Summary, AmendError>, writer: &mut W) -> u8 {
+        match outcome {
+            Ok(summary) => done_status(summary),
+            Err(error) => report(error, writer),
+        }
+    }
+}
+
+/// Opens the capture and the script before either is read, and runs.
+fn run_options<R: Runtime + AllocGlobal>(
+    rt: &R,
+    options: &Options<'_>,
+) -> Result<Summary, AmendError>
+    requires depth_least { 1 ≤ options.now.depth }
+    requires depth_most { options.now.depth ≤ DEPTH_LIMIT }
+    ensures { IsOutcomeOfOptions (options_in options.now) result }
+{
+    let path = capture_path(options.input, options.capture)?;
+    run_on_file(rt, path, options)
+}
+
+/// The path of the capture, which is named once, and is not standard input.
+fn capture_path<'a>(input: Option<&'a str>, capture: Option<&'a str>) -> Result<&'a str, AmendError>
+    ensures path { IfOk result (λ path. spec.capture_path (option_copied input.entry)
+        (option_copied capture.entry) ≡ Ok path.now) }
+    ensures fault { IfErr result (λ e. spec.capture_path (option_copied input.entry)
+        (option_copied capture.entry) ≡ Err e) }
+{
+    match (input, capture) {
+        (Some(_), Some(_)) => Err(AmendError::TwoCaptures),
+        (Some(path), None) | (None, Some(path)) if path != "-" => Ok(path),
+        _ => Err(AmendError::NoCapture),
+    }
+}
+
+/// Opens the capture and the script, and runs.
+fn run_on_file<R: Runtime + AllocGlobal>(
+    rt: &R,
+    path: &str,
+    options: &Options<'_>,
+) -> Result<Summary, AmendError>
+    requires depth_least { 1 ≤ options.now.depth }
+    requires depth_most { options.now.depth ≤ DEPTH_LIMIT }
+    ensures { IsOutcomeOnFile (options_in options.now) result }
+{
+    let mut passes = open_passes(rt, path)?;
+    match options.script {
+        Some(path) => {
+            let script = open_script(rt, path).map_err(|_| NO_SCRIPT)?;
+            let script = &mut FromRead::new(script);
+            run_inputs(rt, &mut passes, script, options.output, options.depth)
+        }
+        None => {
+            let script = &mut FromBytes::new(DEFAULT_SCRIPT);
+            run_inputs(rt, &mut passes, script, options.output, options.depth)
+        }
+    }
+}
+
+/// Runs with a buffer for the replies to standard output.
+fn run_inputs<R: Runtime + AllocGlobal, C: Source, S: Source>(
+    rt: &R,
+    passes: &mut Passes<Summed<C>>,
+    script: &mut S,
+    output: Option<&str>,
+    depth: u64,
+) -> Result<Summary, AmendError>
+    requires depth_least { 1 ≤ depth }
+    requires depth_most { depth ≤ DEPTH_LIMIT }
+    requires passes_ready { AreReady ⟦<Summed<C> as Source>⟧.has_failed passes.old }
+    requires script_ready { S.has_failed script.old ≡ false }
+    ensures { IsOutcomeOn (option_copied output.entry) result depth
+        (device_end S.coming S.has_failed script.old script.new) }
+{
+    let writer = io::writer(rt);
+    let buffer = BufWriter::with_capacity(rt.alloc(), BUFFER, writer).map_err(|_| NO_MEMORY)?;
+    let mut replies = ToWrite::new(buffer);
+    let outcome = match output {
+        Some(path) => run_to_file(rt, passes, script, &mut replies, path, depth),
+        None => run_without_file(rt, passes, script, &mut replies, depth),
+    };
+    // what is left was flushed by the run, or else refused: it is not sent again
+    let _ = replies.into_inner().into_parts();
+    outcome
+}
+
+/// Runs with a file for the output, and then puts it in its place.
+fn run_to_file<R: Runtime + AllocGlobal, C: Source, S: Source, P: Sink>(
+    rt: &R,
+    passes: &mut Passes<Summed<C>>,
+    script: &mut S,
+    replies: &mut P,
+    path: &str,
+    depth: u64,
+) -> Result<Summary, AmendError>
+    requires depth_least { 1 ≤ depth }
+    requires depth_most { depth ≤ DEPTH_LIMIT }
+    requires passes_ready { AreReady ⟦<Summed<C> as Source>⟧.has_failed passes.old }
+    requires script_ready { S.has_failed script.old ≡ false }
+    requires replies_ready { P.has_failed replies.old ≡ false }
+    ensures { IsOutcomeOn (Some path.now) result depth
+        (device_end S.coming S.has_failed script.old script.new) }
+{
+    let mut file = SafeFile::begin(rt, path)?;
+    let ended = amend_run(rt.alloc(), passes, script, replies, Some(&mut file), depth);
+    let summary = ended?;
+    refuse_changed(passes)?;
+    put_in_place(file, passes)?;
+    Ok(summary)
+}
+
+/// Puts the output in its place, of a run whose passes over the capture have one sum.
+fn put_in_place<'a, R: Runtime + AllocGlobal, C: Source>(
+    file: SafeFile<'a, R>,
+    _passes: &Passes<Summed<C>>,
+) -> Result<(), OutputFault>
+    requires same { HaveOneSum _passes.now }
+    requires flushed { ⟦<SafeFile<'a, R> as Sink>⟧.is_flushed file ≡ true }
+{
+    file.commit()
+}
+
+/// Runs without an output.
+fn run_without_file<R: Runtime + AllocGlobal, C: Source, S: Source, P: Sink>(
+    rt: &R,
+    passes: &mut Passes<Summed<C>>,
+    script: &mut S,
+    replies: &mut P,
+    depth: u64,
+) -> Result<Summary, AmendError>
+    requires depth_least { 1 ≤ depth }
+    requires depth_most { depth ≤ DEPTH_LIMIT }
+    requires passes_ready { AreReady ⟦<Summed<C> as Source>⟧.has_failed passes.old }
+    requires script_ready { S.has_failed script.old ≡ false }
+    requires replies_ready { P.has_failed replies.old ≡ false }
+    ensures { IsOutcomeOn None result depth
+        (device_end S.coming S.has_failed script.old script.new) }
+{
+    let output: Option<&mut ToBytes> = None;
+    let summary = amend_run(rt.alloc(), passes, script, replies, output, depth)?;
+    refuse_changed(passes)?;
+    Ok(summary)
+}
