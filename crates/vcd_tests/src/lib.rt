@@ -17,6 +17,8 @@ mod edges;
 #[cfg(test)]
 mod editing;
 #[cfg(test)]
+mod examples;
+#[cfg(test)]
 mod fake_devices;
 #[cfg(test)]
 mod fixtures;
