@@ -128,4 +128,4 @@ def doubt_test(doubts):
 def tell(tool, one, lines):
     """Tells lines about what a line decoded."""
     for text in lines:
-        vcd_files.tell("%s: line %d: %s: %s\n" % (tool, one.number, one.decoder, text))
+        vcd_files.tell(tool, "line %d: %s: %s" % (one.number, one.decoder, text))

@@ -23,6 +23,7 @@ import argparse
 import collections
 import contextlib
 import errno
+import fcntl
 import fractions
 import io
 import itertools
@@ -62,8 +63,8 @@ OTHER_FILES = [
      "write four-state VCD ($dumpvars in place of $dumpports), or evcd2vcd FILE > NEW.vcd (GTKWave)"),
 ]
 
-# A kind of what the written file lacks: how much, of what, by which variables, and whether values are lost by it.
-Loss = collections.namedtuple("Loss", "count what names is_of_values")
+# A kind of what a comparison does not see: how much, of what, and by which variables.
+Loss = collections.namedtuple("Loss", "count what names")
 
 
 class Trouble(Exception):
@@ -126,24 +127,41 @@ def shortened(rows, told=lambda row: [row]):
     return [line for row in rows[:LINES_SHOWN] for line in told(row)] + ["and %d more" % more] * (more > 0)
 
 
-def program():
-    """The vcdedit that VCDEDIT names, or that is next to this tool or one folder above, or on the path."""
-    here, name = os.path.dirname(os.path.realpath(sys.argv[0])), os.environ.get("VCDEDIT") or "vcdedit"
+def state_of(path):
+    """What tells a file, and a state of it, from others. None if it is not there."""
+    with contextlib.suppress(OSError):
+        found = os.stat(path)
+        return found.st_dev, found.st_ino, found.st_size, found.st_mtime_ns
+
+
+def has_writer(file):
+    """Whether a program has a file open for writing. The system tells this of the caller's files on a local disk."""
+    with contextlib.suppress(OSError):
+        try:
+            fcntl.fcntl(file, fcntl.F_SETLEASE, fcntl.F_RDLCK)
+        except BlockingIOError:
+            return True
+        fcntl.fcntl(file, fcntl.F_SETLEASE, fcntl.F_UNLCK)
+        return False
+
+
+def program(name="vcdedit"):
+    """The program that VCDEDIT, or VCDEDIT_AMEND, names, or that is next to this tool, one folder above, or on the path."""
+    here, variable = os.path.dirname(os.path.realpath(sys.argv[0])), name.upper().replace("-", "_")
     folders = os.pathsep.join([here, os.path.dirname(here), os.environ.get("PATH", os.defpath)])
-    found = shutil.which(name, path=folders)
+    found = shutil.which(os.environ.get(variable) or name, path=folders)
     if not found:
-        raise Trouble("there is no program %s: say in VCDEDIT where it is" % name)
+        raise Trouble("there is no program %s: say in %s where it is" % (os.environ.get(variable) or name, variable))
     return found
 
 
-def words_of(file, go_on):
+def words_of(file):
     """The words of a file that is open for bytes. Another process may read the file, too."""
     def lists():
         place, rest = 0, b""
         # The longer the word that may go on, the more is read.
         for chunk in iter(lambda: os.pread(file.fileno(), max(CHUNK, len(rest)), place), b""):
             place += len(chunk)
-            go_on()
             # With a letter behind it a chunk ends in a word: the one that may go on.
             *words, rest = (rest + chunk + b".").split()
             rest = rest[:-1]
@@ -153,28 +171,27 @@ def words_of(file, go_on):
     return itertools.chain.from_iterable(lists())
 
 
-def losses_of(file, listing, go_on=lambda: None):
-    """What the file that is written of a capture lacks, by one pass over a regular file that is open for bytes. These
-    are variables that are left out; of the others real and string changes, and changes that a later one of the same
-    tick replaces; and comments among the changes. The program tells faults, and which variables it keeps. `go_on` is
-    called again and again, and may end the pass.
+def losses_of(file, listing):
+    """What vcdedit leaves out of a capture, by one pass over a regular file that is open for bytes. These are variables;
+    of the others real and string changes, and changes that a later one of the same tick replaces; and comments among
+    the changes. The program tells faults, and which variables it keeps.
     """
-    words = words_of(file, go_on)
+    words = words_of(file)
     names, skipped = variables_in(words, listing.signals)
     if len(skipped) != listing.skipped:
         raise Trouble("what vcdedit leaves out of it can't be named")
     values, replaced, comments = lost_changes_in(words)
 
-    def loss_of(counts, what, is_of_values):
+    def loss_of(counts, what):
         kept = [(names[code], count) for code, count in counts.items() if code in names]
         told = ["%s: %s" % (name, counted(count, what)) for name, count in kept]
-        return Loss(sum(count for _, count in kept), what, told, is_of_values)
+        return Loss(sum(count for _, count in kept), what, told)
 
     found = [
-        Loss(len(skipped), "variable%s", skipped, True),
-        loss_of(values, "real or string change%s", True),
-        loss_of(replaced, "change%s replaced within a tick", False),
-        Loss(comments, "comment%s among the changes", [], False),
+        Loss(len(skipped), "variable%s", skipped),
+        loss_of(values, "real or string change%s"),
+        loss_of(replaced, "change%s replaced within a tick"),
+        Loss(comments, "comment%s among the changes", []),
     ]
     return [loss for loss in found if loss.count]
 
@@ -293,12 +310,10 @@ def parser_of(name, usage, text, more):
     return parser
 
 
-def tell(text, control=""):
-    """Writes a text to standard error, behind letters that control a terminal. If that can't be written, the status
-    tells the rest."""
+def tell(name, *lines):
+    """Writes lines about what has this name to standard error. If that can't be written, the status tells the rest."""
     with contextlib.suppress(OSError), output(2) as stream:
-        stream.buffer.write(control.encode())
-        stream.write(text)
+        stream.write("%s: %s\n" % (name, "\n    ".join(lines)))
 
 
 def end(name, main, status_of_trouble=None):
@@ -313,13 +328,13 @@ def end(name, main, status_of_trouble=None):
             status = ended.code
         except (Trouble, MemoryError) as error:
             trouble = trouble_of(error)
-            tell("%s: %s\n" % (name, "\n    ".join(trouble.lines)))
+            tell(name, *trouble.lines)
             status = trouble.status if trouble.status == 5 else status_of_trouble or trouble.status
         sys.stdout.flush()
     except OSError as error:
         os.dup2(os.open(os.devnull, os.O_WRONLY), 1)
         error.filename = error.filename or "standard output"
         trouble = trouble_of(error)
-        tell("%s: %s\n" % (name, trouble.lines[0]))
+        tell(name, *trouble.lines)
         status = trouble.status
     sys.exit(status)

@@ -25,8 +25,8 @@ MEANINGS = {(one.kind, one.name): ("%s\n    %s" % (one.means, one.remedy)).repla
 
 # What other lines on standard error mean.
 ENDINGS = {
-    "vcdedit: output: write fault": ["the new capture can't be written: is the disk full?"],
-    "vcdedit: out of memory": ["out of memory", MEANINGS["fault", "NoMemory"]],
+    "output: write fault": ["the new capture can't be written: is the disk full?"],
+    "out of memory": ["out of memory", MEANINGS["fault", "NoMemory"]],
 }
 
 # The words of a command's usage that stand for a signal.
@@ -42,8 +42,8 @@ def short(text):
 def told_end(errors, file):
     """Lines about a run on a file that did not end well, by its standard error. The reason may stand behind others."""
     lines = errors.splitlines() or ["vcdedit does not say why it ended"]
-    reason = next((line for line in lines if line.startswith("error: ")), lines[-1])
-    fault = re.fullmatch(r"vcdedit: capture line ([0-9]+): (\w+)", reason)
+    reason = re.sub("^vcdedit(-amend)?: ", "", next((line for line in lines if line.startswith("error: ")), lines[-1]))
+    fault = re.fullmatch(r"capture line ([0-9]+): (\w+)", reason)
     return told_fault(file, int(fault[1]), fault[2]) if fault else ENDINGS.get(reason, [reason])
 
 

@@ -35,29 +35,26 @@ def on_interruption(act):
 def listing_of(lines):
     """The listing that some lines begin with, of which no more are taken."""
     lines = iter(lines)
-    try:
-        head = dict(line.rstrip(b"\n").split(b" ", 1) for line in itertools.islice(lines, 4))
-        rows = [line.rstrip(b"\n").split(b" ", 3) for line in itertools.islice(lines, int(head[b"signals"]))]
-        signals = [Signal(int(width), kind, name) for _, width, kind, name in rows]
-        return Listing(shown(head[b"timescale"]), int(head[b"end"]), int(head[b"skipped"]), signals)
-    except (KeyError, ValueError):
-        raise Trouble("%s is no vcdedit" % program()) from None
+    head = dict(line.rstrip(b"\n").split(b" ", 1) for line in itertools.islice(lines, 4))
+    rows = [line.rstrip(b"\n").split(b" ", 3) for line in itertools.islice(lines, int(head[b"signals"]))]
+    signals = [Signal(int(width), kind, name) for _, width, kind, name in rows]
+    return Listing(shown(head[b"timescale"]), int(head[b"end"]), int(head[b"skipped"]), signals)
 
 
 class Run:
-    """A run of the program on a capture that is open for bytes. It lists, and then answers lines of a script."""
+    """A run of a program on a capture that is open for bytes. It lists, and then answers lines of a script."""
 
-    def __init__(self, source, lines=(), words=(), written=()):
+    def __init__(self, source, lines=(), words=(), written=(), name="vcdedit", **how):
         """`words` are more options. `written` has the descriptor of a file for its output, if there is one."""
-        self.source, self.lines = source, lines
-        os.lseek(source.fileno(), 0, os.SEEK_SET)
+        self.source, self.lines, self.program = source, lines, program(name)
         with open(os.memfd_create("script"), "wb") as script:
             script.write(b"list\n" + b"".join(line + LAST * (not has_one_reply(line)) + b"\n" for line in lines))
             script.flush()
-            words = [*GUARD, program(), "-i", "-", "--script", "/dev/fd/%d" % script.fileno(), *words]
+            # Opened by this name the file can be read more than once.
+            words = [*GUARD, self.program, "-i", "/dev/stdin", "--script", "/dev/fd/%d" % script.fileno(), *words]
             words += ["-o", "/dev/fd/%d" % written[0]] if written else []
-            pipes = {"stdin": source, "stdout": subprocess.PIPE, "stderr": subprocess.PIPE, "bufsize": 1 << 20}
-            self.child = subprocess.Popen(words, pass_fds=[script.fileno(), *written], **pipes)
+            how = {"stdout": subprocess.PIPE, "stderr": subprocess.PIPE, "bufsize": 1 << 20, **how}
+            self.child = subprocess.Popen(words, stdin=source, pass_fds=[script.fileno(), *written], **how)
 
     def __enter__(self):
         return self
@@ -70,9 +67,9 @@ class Run:
         """What the program lists of the capture first."""
         try:
             return listing_of(self.child.stdout)
-        except Trouble:
+        except (KeyError, ValueError):
             self.want_end()
-            raise
+            raise Trouble("%s is no vcdedit" % self.program) from None
 
     def replies(self):
         """(place of a line, reply) of each reply to the lines."""
@@ -88,7 +85,7 @@ class Run:
                     break
             else:
                 self.want_end()
-                raise Trouble("%s left lines of the script without a reply" % program())
+                raise Trouble("%s left lines of the script without a reply" % self.program)
         self.want_end()
 
     def want_end(self):
@@ -101,7 +98,7 @@ class Run:
             raise Trouble("the new capture is larger than a file may be (ulimit -f)")
         if status < 0:
             raise Trouble("the run was ended by signal %d; without memory the system does that" % -status, status=5)
-        if status > 1:
+        if status > 1 or status and errors:
             raise Trouble(*vcd_messages.told_end(errors, self.source), status=status)
 
 

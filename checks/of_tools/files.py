@@ -14,7 +14,7 @@ import unittest.mock
 import vcd_files
 import vcd_messages
 import vcd_runs
-from common import TOP, run, store, store_program, toggling
+from common import TOP, amend_of, run, store, store_program, toggling
 
 CAPTURES = ["examples/*/capture.vcd", "cases/captures/*.vcd", "cases/*/capture.vcd"]
 # A text, a timescale, and the tick, or None where it is refused.
@@ -157,13 +157,14 @@ def on_a_terminal(program, folder):
     tools = (["vcdedit-compare", "a", "b"], b""), (["vcdedit-apply", "script", "a"], b"a:1: @0 1 wire ")
     for locale, (words, before) in itertools.product(("C.UTF-8", "C"), tools):
         words = [os.path.join(TOP, "tools", words[0]), *words[1:]]
-        environment = {"VCDEDIT": program, "LC_ALL": locale, "PYTHONUTF8": "0", "PYTHONCOERCECLOCALE": "0"}
+        environment = {"LC_ALL": locale, "PYTHONUTF8": "0", "PYTHONCOERCECLOCALE": "0"}
+        environment.update(VCDEDIT=program, VCDEDIT_AMEND=amend_of(program))
         how = {"cwd": folder, "env": {**os.environ, **environment}}
         yield "names in a file, %s" % locale, before + name in run(words, text=False, **how)[1]
         terminal, side = pty.openpty()
         subprocess.run(words, stdout=side, stderr=side, **how)
         os.close(side)
-        found = os.read(terminal, 10000).replace(b"\r\x1b[K", b"")
+        found = os.read(terminal, 10000)
         os.close(terminal)
         right = before + rb"\x1b[2K\xc2\x9b1A" in found and rb"\xff" in found
         yield "names on a terminal, %s: %s" % (locale, found), right and found.count(b"\x1b") == 0
@@ -186,10 +187,10 @@ def long_ones(program, folder):
             one.listing()
             found = list(one.replies())
     yield "a script of %d bytes" % (9 * len(lines)), found == [(place, b"ok") for place in range(len(lines))]
-    reads = []
     with open(store(folder, "word", text=b"x" * (200 * vcd_files.CHUNK) + b" y"), "rb") as file:
-        words = list(vcd_files.words_of(file, lambda: reads.append(1)))
-    yield "a long word", [len(word) for word in words] == [200 * vcd_files.CHUNK, 1] and len(reads) < 20
+        with unittest.mock.patch("os.pread", side_effect=os.pread) as reads:
+            words = list(vcd_files.words_of(file))
+    yield "a long word", [len(word) for word in words] == [200 * vcd_files.CHUNK, 1] and reads.call_count < 20
 
 
 def check(program, folder):
