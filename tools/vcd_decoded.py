@@ -12,6 +12,8 @@ from vcd_files import Trouble, shortened, shown
 from vcd_messages import name_of, signals_in, told_refusals
 
 DECODERS, CHANGING = {b"uart", b"spi", b"i2c"}, {*vcd_runs.EDITS, b"undo", b"redo"}
+# Words that are hardly meant as the ticks of a bit.
+RATES = b"1200 2400 4800 9600 19200 31250 38400 57600 115200 230400 460800 921600".split()
 
 # What a line decoded: its number, the names of its signals, annotations, doubts as (first tick, last tick), lines about
 # them, and whether a later line edits what it decodes.
@@ -63,17 +65,17 @@ def outcome_of(tool, options, source, written=()):
         first = run.listing()
         for place, reply in run.replies():
             replies[asked[place][0]].append(reply)
-    want_no_refusal(tool, lines, replies, [signal.name for signal in first.signals])
+    want_no_refusal(tool, lines, replies, first)
     last = vcd_runs.listing_of(replies["list", 0])
     commands = enumerate(map(vcd_runs.command_of, lines), 1)
     edits = [number for number, command in commands if command in CHANGING and replies[number] == [b"ok"]]
     return Outcome(lines, edits, first, last, list(decoded_of(lines, replies, first, last)))
 
 
-def want_no_refusal(tool, lines, replies, names):
+def want_no_refusal(tool, lines, replies, listing):
     """Ends if a line is refused, with what that means."""
     found = [(number, vcd_runs.refusal_of(b"".join(replies[number]))) for number in range(1, len(lines) + 1)]
-    told = told_refusals([(number, name) for number, name in found if name], lines, names)
+    told = told_refusals([(number, name) for number, name in found if name], lines, listing)
     if told and lines[1:] and not any(b" " in line for line in lines):
         told.append("quote each line: %s CAPTURE 'uart top.rx 100 8 none 1'" % tool)
     if told:
@@ -97,12 +99,22 @@ def decoded_of(lines, replies, first, last):
                 doubts, told = doubts + found, told + lines_told
                 is_edited |= changes != replies.get((word, 0), changes) or name_of(word, names_after) != name
             annotations = list(map(annotation_of, replies[number]))
+            told += told_rate(line, listing.timescale) * (not any(" 0x" in one.text for one in annotations))
             yield Decoded(number, line, decoder, signals, listing.end, annotations, doubts, told, is_edited)
 
 
 def annotation_of(reply):
     first, last, text = re.fullmatch(r"(\d+)-(\d+) \w+ (.*)", shown(reply)).groups()
     return Annotation(int(first), int(last), text)
+
+
+def told_rate(line, timescale):
+    """A line about a BIT that is a baud rate."""
+    rate = line.split()[2]
+    if timescale == "none" or rate not in RATES:
+        return []
+    bit = vcd_files.unit_ticks("s", timescale) / int(rate)
+    return ["is %s a baud rate? BIT is how many ticks a bit lasts: %s" % (shown(rate), bit)]
 
 
 def doubts_of(decoder, name, changes, end):

@@ -81,12 +81,13 @@ def name_of(word, names):
     return names[int(position[1])] if position and int(position[1]) < len(names) else word
 
 
-def told_refusals(refused, lines, names):
-    """Lines about the refused lines of a script, by number and refusal, for a capture with these full names."""
-    return shortened(refused, lambda one: told_refusal(*one, lines[one[0] - 1], names))
+def told_refusals(refused, lines, listing):
+    """Lines about the refused lines of a script, by number and refusal, for a capture with this listing."""
+    names = [signal.name for signal in listing.signals]
+    return shortened(refused, lambda one: told_refusal(*one, lines[one[0] - 1], names, listing.timescale))
 
 
-def told_refusal(number, name, line, names):
+def told_refusal(number, name, line, names, timescale):
     told, command = ["line %d: %s: %s" % (number, short(line), name)], shown(line.split()[0])
     meaning = [MEANINGS.get(("refusal", name), "")]
     if name == "UnknownCommand":
@@ -96,7 +97,17 @@ def told_refusal(number, name, line, names):
         told += ["is %s meant?" % near for near in usages() if likeness(near, command.lower()) > 0.6][:1]
     if name == "WrongCount" and command in usages():
         told.append("usage: %s (%s)" % usages()[command])
+    if name == "BadNumber":
+        told += [told_time(shown(word), timescale) for word in line.split() if re.fullmatch(rb"[0-9.]+[munpf]?s", word)]
     return told + (name == "NoSuchName" and told_names(signals_in(line), names) or meaning)
+
+
+def told_time(text, timescale):
+    """A line about a time with a unit."""
+    try:
+        return "%s: write %d" % (text, vcd_files.ticks_of(text, timescale))
+    except vcd_files.Trouble as trouble:
+        return trouble.lines[0]
 
 
 def told_names(words, names):

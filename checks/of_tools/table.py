@@ -38,8 +38,20 @@ SPI_ROWS = """line  decoder  first  last  first_us  last_us  what       mosi  do
 """
 SPI_LINES = ["spi c d - - 0 4 msb", "spi c d - - 0 2 msb"]
 DOUBT = "vcdedit-table: line %d: spi: d is x at 10-20: edges and bits there are lost\n"
+# A capture, a line, and what is told of it beside the table.
+UART, GLITCHES = (os.path.join(EXAMPLES, name, "capture.vcd") for name in ("sigrok-uart", "glitches"))
+RATE = "line 1: uart: is %s a baud rate? BIT is how many ticks a bit lasts: %s"
+TOLD = [
+    (UART, "uart libsigrok.rx 115200 8 none 1", RATE % ("115200", "78125/9")),
+    (GLITCHES, "uart bench.rx 19200 8 none 1", RATE % ("19200", "625/12")),
+    (UART, "uart libsigrok.rx 9600 8 none 1", ""),
+    (UART, "uart libsigrok.rx 115201 8 none 1", ""),
+    (UART, "value libsigrok.rx 0", "no line decodes: write uart, spi or i2c, as in 'i2c bench.scl bench.sda'"),
+]
 # Words, and the status and a part of what is told. There is no table then.
 REFUSED = [
+    ([GLITCHES, "deglitch bench.rx 3us"], 1, "BadNumber\n    3us: write 3\n"),
+    ([GLITCHES, "shift bench.rx 3.5us"], 1, "BadNumber\n    3.5us is between tick 3 and the next: write ticks\n"),
     ([I2C, "i2c bench.scl bench.sd"], 1, "bench.sd: NoSuchName\n    bench.sd: near names are bench.sda"),
     ([I2C, *I2C_LINE.split()], 1, "\n    quote each line: vcdedit-table CAPTURE"),
     ([I2C, I2C_LINE, "--csv", "--json"], 2, "not allowed with"),
@@ -86,6 +98,9 @@ def check(program, folder):
     found = table("-", *SPI_LINES, given=SPI)
     yield "aligned: %s" % (found,), found == (0, SPI_ROWS, DOUBT % 1 + DOUBT % 2)
     yield "no rows", [table(I2C, *form, "list")[1] for form in ([], ["--json"])] == ["", "[\n]\n"]
+    for capture, line, told in TOLD:
+        found = table(capture, line)
+        yield "told of %s: %s" % (line, found), found[0] == 0 and found[2] == "vcdedit-table: %s\n" % told * bool(told)
     tool = module_of("tools/vcdedit-table")
     for tick, timescale, wanted in TIMES:
         found = tool.microseconds(tick, timescale)
