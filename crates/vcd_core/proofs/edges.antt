@@ -1,3 +1,2 @@
 -- Lemmas of `edges`.
-pub mod EdgesOfSeveralWaves
 pub mod EdgesInTurn

@@ -1,9 +1,8 @@
 -- Lemmas: shared.
-pub mod Waves
+pub mod FullNames
+pub mod LettersOfPlanes
+pub mod Outlines
 pub mod Pushes
 pub mod Splices
-pub mod WaveAfterChange
-pub mod LettersOfPlanes
-pub mod FullNames
 pub mod TicksInARow
-pub mod Outlines
+pub mod Waves

@@ -1,7 +1,7 @@
 -- What a device shows: by the result of a call whether it has failed, and its bytes before a run
 -- and after it. The rules are the project's own.
-use Rattle.std.specs.Prelude.{◌≡◌, ◌≤◌, ℕ, Bool, true, false, List, length, take}
-use Rattle.std.specs.Prelude.{Option, IfSome, Result, OnOk, OnErr, IsErr}
+use Rattle.std.specs.Prelude.{◌≡◌, ◌≤◌, ℕ, Bool, true, false, List, length, take, Option, IfSome}
+use Rattle.std.specs.Prelude.{Result, OnOk, OnErr, IsErr}
 use Rattle.std.specs.Io.KnownBytes.{Appends, IsAtEnd}
 
 -- how the result of a call shows whether the device has failed

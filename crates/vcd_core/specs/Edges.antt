@@ -1,7 +1,6 @@
 -- Edges of several waves, where an absent wave has no value: the project's own.
 use Rattle.std.specs.Prelude.{ℕ, zero, suc, Bool, Option, Some, None, true, false, not, List, []}
-use Rattle.std.specs.Prelude.{◌∷◌, map, filter}
-use Rattle.std.specs.Prelude.{IfSome}
+use Rattle.std.specs.Prelude.{◌∷◌, map, filter, IfSome}
 use Rattle.std.specs.List.{list_any, range_with_len}
 use Rattle.std.specs.Option.{option_map}
 use Rattle.vcd_core.specs.declared.bit.Bit.{Bit}

@@ -1,7 +1,6 @@
 -- How the names of scopes and variables are joined and looked up: the project's own.
 use Rattle.std.specs.Prelude.{ℕ, Bool, Option, Some, ◌==◌, ◌&&◌, ◌++◌, false, if◌then◌else◌, nat_lt}
-use Rattle.std.specs.Prelude.{List, [], ◌∷◌}
-use Rattle.std.specs.Prelude.{length, map, drop}
+use Rattle.std.specs.Prelude.{List, [], ◌∷◌, length, map, drop}
 use Rattle.std.specs.List.{concat, join_with_byte, position}
 use Rattle.std.specs.Str.{bytes_eq}
 use Rattle.vcd_core.specs.declared.capture.ScopeName.{ScopeName}

@@ -2,8 +2,8 @@
 use Rattle.std.specs.Prelude.{ℕ, List, codes}
 use Rattle.vcd_core.specs.declared.capture.TimeUnit.{TimeUnit}
 use Rattle.vcd_core.specs.declared.capture.TimeUnit.TheVariants.{Second, Millisecond, Microsecond}
-use Rattle.vcd_core.specs.declared.capture.TimeUnit.TheVariants.{Nanosecond}
-use Rattle.vcd_core.specs.declared.capture.TimeUnit.TheVariants.{Picosecond, Femtosecond}
+use Rattle.vcd_core.specs.declared.capture.TimeUnit.TheVariants.{Nanosecond, Picosecond}
+use Rattle.vcd_core.specs.declared.capture.TimeUnit.TheVariants.{Femtosecond}
 
 -- the spelling of a unit of time
 abbrev pub unit_text : TimeUnit → List ℕ

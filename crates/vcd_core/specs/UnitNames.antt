@@ -2,8 +2,8 @@
 use Rattle.std.specs.Prelude.{ℕ, List, [], ◌∷◌, Option, find, bytes_eq}
 use Rattle.vcd_core.specs.declared.capture.TimeUnit.{TimeUnit}
 use Rattle.vcd_core.specs.declared.capture.TimeUnit.TheVariants.{Second, Millisecond, Microsecond}
-use Rattle.vcd_core.specs.declared.capture.TimeUnit.TheVariants.{Nanosecond}
-use Rattle.vcd_core.specs.declared.capture.TimeUnit.TheVariants.{Picosecond, Femtosecond}
+use Rattle.vcd_core.specs.declared.capture.TimeUnit.TheVariants.{Nanosecond, Picosecond}
+use Rattle.vcd_core.specs.declared.capture.TimeUnit.TheVariants.{Femtosecond}
 use Rattle.vcd_core.specs.TimeUnits.{unit_text}
 
 -- the unit that a text names, or none

@@ -22,7 +22,7 @@ pub struct BitEdge {
 /// has the bits just before it and at it.
 ///
 /// It is [`Edges`](crate::Edges) with a letter in place of a whole value. Contracts see the list of
-/// the edges to come. Each edge takes a constant number of steps and no memory.
+/// the edges to come. Each edge takes a constant number of steps.
 #[derive(Drop)]
 pub struct BitEdges<'a> {
     walk: EdgeWalk<'a>,

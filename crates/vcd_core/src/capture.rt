@@ -119,7 +119,7 @@ pub struct Capture {
 }
 
 impl Capture {
-    /// The capture of these parts. It checks nothing and takes no memory.
+    /// The capture of these parts. It checks nothing.
     pub fn new(
         header: Vec<Header>,
         timescale: Option<Timescale>,

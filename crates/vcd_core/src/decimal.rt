@@ -8,8 +8,6 @@ ghost use Rattle.vcd_core.specs.BoundedNumber.{number_up_to};
 
 /// The number that `text` writes in decimal digits, or `most` if it is greater. The result is none
 /// if `text` is no decimal number. There may be any number of digits and of leading zeros.
-///
-/// The time grows with the number of digits. It takes no memory.
 pub fn number_up_to(text: &[u8], most: u64) -> Option<u64>
     ensures { result ≡ number_up_to text.now most }
 {
@@ -27,7 +25,6 @@ fn is_number(text: &[u8]) -> bool
     !text.is_empty() && are_digits(text)
 }
 
-/// Whether each byte is a decimal digit.
 fn are_digits(text: &[u8]) -> bool
     ensures { result ≡ list_all is_ascii_digit text.now }
 {

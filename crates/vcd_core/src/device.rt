@@ -19,7 +19,7 @@ pub struct DeviceFault;
 impl DeviceFault {
     ghost use lib.Chars.{codes};
 
-    /// The name of the fault. It takes no memory.
+    /// The name of the fault.
     pub fn name(self) -> &'static str
         ensures { result.now ≡ codes "DeviceFault" }
     {

@@ -159,7 +159,6 @@ impl<'a> EdgeWalk<'a> {
     }
 }
 
-/// The tick of the first change.
 fn next_tick(changes: &[Change]) -> Option<u64>
     ensures { result ≡ next_tick changes.now }
 {
@@ -169,7 +168,6 @@ fn next_tick(changes: &[Change]) -> Option<u64>
     }
 }
 
-/// The lesser of two ticks that may be absent.
 fn earlier_tick(left: Option<u64>, right: Option<u64>) -> Option<u64>
     ensures { result ≡ earlier_tick left right }
 {

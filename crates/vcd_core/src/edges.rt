@@ -21,8 +21,7 @@ pub struct Edge {
 /// The ticks at which at least one of up to four waves changes, in rising order. Each has the
 /// values just before it and at it.
 ///
-/// Contracts see the list of the edges to come. Each edge takes a constant number of steps and no
-/// memory.
+/// Contracts see the list of the edges to come. Each edge takes a constant number of steps.
 #[derive(Drop)]
 pub struct Edges<'a> {
     walk: EdgeWalk<'a>,

@@ -61,14 +61,12 @@ impl LetterBlock {
     }
 }
 
-/// The word whose 64 bits are all set, or all clear.
 fn repeated(set: bool) -> u64
     ensures { (i : ℕ) → i < 64 → bit_at result i ≡ (if set then 1 else 0) }
 {
     if set { u64::MAX } else { 0 }
 }
 
-/// The word shifted left by one bit, with a new lowest bit. The highest bit is lost.
 fn with_lowest(word: u64, set: bool) -> u64
     ensures lowest { bit_at result 0 ≡ (if set then 1 else 0) }
     ensures rest { (i : ℕ) → i + 1 < 64 → bit_at result (i + 1) ≡ bit_at word i }

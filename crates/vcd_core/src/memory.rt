@@ -10,7 +10,7 @@ use std::alloc::{AllocError, AllocFailed};
 pub struct NoMemory;
 
 impl NoMemory {
-    /// The name of the fault. It takes no memory.
+    /// The name of the fault.
     pub fn name(self) -> &'static str
         ensures { result.now ≡ codes "NoMemory" }
     {

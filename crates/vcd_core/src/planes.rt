@@ -12,7 +12,6 @@ use crate::bit::Bit;
 use crate::letter_block::LetterBlock;
 use crate::value::BLOCKS;
 
-/// The letter with these bits in the two planes.
 pub(crate) fn letter(low: bool, high: bool) -> Bit
     ensures { result ≡ letter_of (if low then 1 else 0) (if high then 1 else 0) }
 {
@@ -50,7 +49,6 @@ pub(crate) fn plane_word(words: &[u64], plane: usize, k: usize) -> u64
     words[2 * k + plane]
 }
 
-/// `count` ones, at most 64, at the low end of a word.
 pub(crate) fn ones(count: u64) -> u64
     ensures { result ≡ 2 ^ min count 64 - 1 }
 {

@@ -23,7 +23,6 @@ impl<T> Model for Seq<T> {
 impl<T> Seq<T> {
     ghost use Rattle.vcd_core.specs.Lending.{lends_item};
 
-    /// An empty list. It takes no memory.
     pub fn new(alloc: Global) -> Seq<T>
         ensures { result ≡ [] }
     {

@@ -40,7 +40,7 @@ impl Signal {
     /// Whether a file whose last tick is `end` can represent this signal. Its words and scopes are
     /// sound, it has a name, its kind is not skipped, and no change is past the end.
     ///
-    /// It takes no memory. Its time grows with the words and the scopes, not with the changes.
+    /// Its time grows with the words and the scopes, not with the changes.
     pub fn is_sound(&self, end: u64) -> bool
         ensures { IsTrue result ↔ IsSoundSignal end (signal_contents self.now) }
     {
@@ -69,8 +69,7 @@ pub fn is_wave_sound(wave: &Wave, end: u64) -> bool
     ensures most { wave.now.width ≤ WIDTH_LIMIT }
     ensures form { IsWave wave.now.width wave.now.changes }
 {
-    // Its clauses bound the width.
-    let _width = wave.width();
+    wave.width_fits();
     ends_by(wave.changes(), end)
 }
 
@@ -87,7 +86,7 @@ impl Capture {
     /// 100. Every tick is at most the end, and the end at most [`END_LIMIT`]. There are at most
     /// [`SIGNAL_LIMIT`] signals.
     ///
-    /// It takes no memory. Its time grows with the words and the signals, not with their changes.
+    /// Its time grows with the words and the signals, not with their changes.
     pub fn is_sound(&self) -> bool
         ensures { IsTrue result ↔ IsSound (contents self.now) }
     {

@@ -109,6 +109,14 @@ impl Value {
         self.width
     }
 
+    /// States that a value has 1 to [`WIDTH_LIMIT`] bits.
+    fn width_fits(&self)
+        ensures least { 1 ≤ length self.now }
+        ensures most { length self.now ≤ WIDTH_LIMIT }
+    {
+        let _width = self.width;
+    }
+
     /// Bit `k`, counted from the least significant end.
     pub fn bit(self, k: u64) -> Bit
         requires { k < length self }
@@ -122,8 +130,7 @@ impl Value {
     pub(crate) fn lowest_bit(&self) -> Bit
         ensures { result ≡ letter_at self.now 0 }
     {
-        // The clause of `width` says that there is one.
-        let _width = self.width();
+        self.width_fits();
         letter(plane_bit(&self.planes, 0, 0), plane_bit(&self.planes, 1, 0))
     }
 

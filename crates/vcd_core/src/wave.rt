@@ -34,7 +34,7 @@ pub struct Change {
     pub value: Value,
 }
 
-/// The values of a signal at every tick, kept as the list of its changes.
+/// The values of a signal at every tick, as the list of its changes.
 ///
 /// Ticks rise strictly. Each value differs from the one before it, and the first from all x. All
 /// values have one width. A wave that is x throughout has no change.
@@ -71,7 +71,7 @@ impl Model for Wave {
 }
 
 impl Wave {
-    /// A wave of `width` bits that is x throughout. It takes no memory.
+    /// A wave of `width` bits that is x throughout.
     pub fn new(alloc: Global, width: u64) -> Wave
         requires least { 1 ≤ width }
         requires most { width ≤ WIDTH_LIMIT }
@@ -95,6 +95,14 @@ impl Wave {
         ensures most { result ≤ WIDTH_LIMIT }
     {
         self.width
+    }
+
+    /// States that the values of a wave have 1 to [`WIDTH_LIMIT`] bits.
+    pub(crate) fn width_fits(&self)
+        ensures least { 1 ≤ self.now.width }
+        ensures most { self.now.width ≤ WIDTH_LIMIT }
+    {
+        let _width = self.width;
     }
 
     /// The changes, in rising order of ticks.
@@ -141,7 +149,7 @@ impl Wave {
     /// nothing. A change at an equal tick is replaced, and removed if it then equals the one
     /// before it.
     ///
-    /// It looks only at the end of the list. It may run out of memory.
+    /// It looks only at the end of the list.
     pub fn push(&mut self, tick: u64, value: Value) -> Result<(), NoMemory>
         requires width { length value ≡ self.old.width }
         requires none_later { All (λ c. c.tick ≤ tick) self.old.changes }
@@ -247,8 +255,7 @@ impl Wave {
         })
     }
 
-    /// Gives the wave its own list with room for `more` changes. The changes of the wave stay the
-    /// same, even if memory is refused.
+    /// Gives the wave its own list with room for `more` changes.
     ///
     /// It takes no memory if the room is there already. Else the list is at least doubled, so that
     /// a list that grows change by change is seldom moved. A shared list that no other wave has any
@@ -328,7 +335,7 @@ impl Wave {
     /// The wave that [`Wave::splice`] would make of this one, beside it. [`Wave::copy`] shares its
     /// list.
     ///
-    /// It takes memory for the changes that are kept and those of the piece; each is copied once.
+    /// It takes memory for the changes that stay and those of the piece; each is copied once.
     pub fn spliced(
         &self,
         from: usize,
@@ -358,9 +365,9 @@ impl Wave {
     /// Swaps the changes of the range `from..to` with the contents of `piece`, and moves the later
     /// changes by `by` ticks.
     ///
-    /// It takes no memory: each list has the room for what it gets. The cost is that of the piece
-    /// and the range; if `by` is not 0, or their lengths differ, each later change is copied once.
-    /// A wave that shares its list gets its own, into which each change is copied.
+    /// The cost is that of the piece and the range; if `by` is not 0, or their lengths differ, each
+    /// later change is copied once. A wave that shares its list gets its own, into which each
+    /// change is copied.
     pub fn splice(&mut self, from: usize, to: usize, piece: &mut Vec<Change>, by: i64)
         requires ordered { from ≤ to }
         requires within { to ≤ length self.old.changes }

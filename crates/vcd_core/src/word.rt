@@ -22,7 +22,6 @@ pub fn is_word(bytes: &[u8]) -> bool
     !bytes.is_empty() && has_no_space(bytes) && bytes != b"$end".as_slice()
 }
 
-/// Whether no byte is white space.
 fn has_no_space(bytes: &[u8]) -> bool
     ensures { result ≡ list_all (λ b. not (spec.is_white_space b)) bytes.now }
 {

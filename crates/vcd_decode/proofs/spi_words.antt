@@ -1,3 +1,2 @@
 -- Lemmas of `spi_words`.
-pub mod GroupAfterTick
 pub mod EdgeByEdge

@@ -1,5 +1,4 @@
 -- Lemmas: worked.
-pub mod BusEvents
-pub mod SentI2c
-pub mod SentSpi
-pub mod SentUart
+pub mod I2c
+pub mod Spi
+pub mod Uart

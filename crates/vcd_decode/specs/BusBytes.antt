@@ -1,12 +1,10 @@
 -- The bytes of an I2C bus: addresses of seven and of ten bits, data, acknowledges (UM10204, 3.1.5,
 -- 3.1.6, 3.1.10 and 3.1.11).
 use Rattle.std.specs.Prelude.{ℕ, zero, suc, ◌+◌, ◌*◌, ◌/◌, ◌%◌, ◌==◌, Bool, Option, Some, None}
-use Rattle.std.specs.Prelude.{List}
-use Rattle.std.specs.Prelude.{fold}
+use Rattle.std.specs.Prelude.{List, fold, if◌then◌else◌}
 use Rattle.vcd_decode.specs.declared.annotation.Kind.{Kind}
 use Rattle.vcd_decode.specs.declared.annotation.Kind.TheVariants.{Unknown, Address, AddressHigh}
-use Rattle.vcd_decode.specs.declared.annotation.Kind.TheVariants.{TenBitAddress, Ack}
-use Rattle.vcd_decode.specs.declared.annotation.Kind.TheVariants.{Nack}
+use Rattle.vcd_decode.specs.declared.annotation.Kind.TheVariants.{TenBitAddress, Ack, Nack}
 use Rattle.vcd_decode.specs.declared.annotation.Kind.TheVariants as kinds
 use Rattle.vcd_decode.specs.declared.annotation.Direction.{Direction}
 use Rattle.vcd_decode.specs.declared.annotation.Direction.TheVariants.{Write, Read}
@@ -15,7 +13,6 @@ use Rattle.vcd_decode.specs.declared.i2c_bus.bytes.ByteRole.{ByteRole}
 use Rattle.vcd_decode.specs.declared.i2c_bus.bytes.ByteRole.TheVariants as roles
 use Rattle.vcd_decode.specs.Lines.{is_zero}
 use Rattle.vcd_decode.specs.BusEvents.{is_line_high}
-use Rattle.std.specs.Prelude.{if◌then◌else◌}
 
 -- a number with one more bit after it; none if the bit is neither high nor low
 abbrev pub number_with : Option ℕ → BusBit → Option ℕ

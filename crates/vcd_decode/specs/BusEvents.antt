@@ -1,13 +1,13 @@
 -- The events on the two lines of an I2C bus at each tick: conditions and bits (UM10204, 3.1.3 and
 -- 3.1.4). The project's own: z is high, and two changes at once are no condition.
 use Rattle.std.specs.Prelude.{ℕ, suc, Bool, true, false, ◌&&◌, Option, Some, None, List, filter_map}
+use Rattle.std.specs.Prelude.{if◌then◌else◌}
 use Rattle.std.specs.List.{range_with_len}
 use Rattle.vcd_core.specs.declared.bit.Bit.{Bit}
 use Rattle.vcd_core.specs.declared.bit.Bit.TheVariants.{One, Z}
 use Rattle.vcd_decode.specs.Lines.{letter_before, is_zero}
 use Rattle.vcd_decode.specs.declared.i2c_bus.events.BusEvent.{BusEvent}
 use Rattle.vcd_decode.specs.declared.i2c_bus.events.BusEvent.TheVariants as events
-use Rattle.std.specs.Prelude.{if◌then◌else◌}
 
 -- whether a level is high: 1, or z, where a resistor pulls the line up; low is 0, and x is neither
 abbrev pub is_line_high : Bit → Bool

@@ -1,8 +1,8 @@
 -- The annotations of an I2C bus (UM10204, 3.1); those of rests and unclear levels are the project's
 -- own.
-use Rattle.std.specs.Prelude.{ℕ, ◌-◌, ◌==◌, ◌&&◌, nat_le, Bool, true, false, Option, None}
-use Rattle.std.specs.Prelude.{List, [], slice_get, filter_map}
-use Rattle.std.specs.Prelude.{◌∷◌, ◌++◌, length, take, drop, map, slice_index}
+use Rattle.std.specs.Prelude.{ℕ, ◌-◌, ◌==◌, ◌&&◌, nat_le, Bool, true, false, Option, None, List, []}
+use Rattle.std.specs.Prelude.{slice_get, filter_map, ◌∷◌, ◌++◌, length, take, drop, map}
+use Rattle.std.specs.Prelude.{slice_index, if◌then◌else◌}
 use Rattle.std.specs.List.{list_any}
 use Rattle.vcd_core.specs.declared.bit.Bit.{Bit}
 use Rattle.vcd_decode.specs.declared.annotation.Annotation.{Annotation}
@@ -18,7 +18,6 @@ use Rattle.vcd_decode.specs.Groups.{groups_of}
 use Rattle.vcd_decode.specs.BusEvents.{bus_events}
 use Rattle.vcd_decode.specs.BusBytes.{number_of_bits, byte_kind, role_after, acknowledge_kind}
 use Rattle.vcd_decode.specs.BusBytes.{ten_bit_address}
-use Rattle.std.specs.Prelude.{if◌then◌else◌}
 
 -- ---- the bits from a START to the next condition
 

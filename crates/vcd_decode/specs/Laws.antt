@@ -17,7 +17,7 @@ use Rattle.vcd_decode.specs.Uart.{uart_annotations}
 use Rattle.vcd_decode.specs.SpiSetup.{SpiSetup}
 use Rattle.vcd_decode.specs.Spi.{spi_annotations}
 use Rattle.vcd_decode.specs.SpiSent.{SpiWord, HasHalves, WordsFit, SendsClock, MaySendData}
-use Rattle.vcd_decode.specs.SpiSent.{IsChipSelect, sent_word_annotation, sent_part_annotation}
+use Rattle.vcd_decode.specs.SpiSent.{IsChipSelect, sent_word_annotation, sent_partial_annotation}
 use Rattle.vcd_decode.specs.Lines.{letter_before}
 use Rattle.vcd_decode.specs.I2c.{i2c_annotations}
 use Rattle.vcd_decode.specs.I2cSent.{Transfer, AreTransfers, message_levels, HaveLevels}
@@ -49,8 +49,8 @@ SpiWordsAreFound =
 
 -- if the chip is released within a word, once `count` of its bits have been sampled, that word is
 -- partial
-abbrev pub SpiPartIsFound : Type 0
-SpiPartIsFound =
+abbrev pub SpiPartialWordIsFound : Type 0
+SpiPartialWordIsFound =
     (u : SpiSetup) (select release end : ℕ) (ws : List SpiWord) (w : SpiWord) (count : ℕ)
     (clk : ℕ → Bit) (mosi miso cs : Option (ℕ → Bit))
     → spi_fault u ≡ None → WordsFit u select (w.bit_start 0) ws → HasHalves w → release ≤ suc end
@@ -59,7 +59,7 @@ SpiPartIsFound =
     → IsChipSelect cs select release end → SendsClock u clk (select - 1) release (ws ++ w ∷ [])
     → MaySendData u (λ w. w.out) mosi ws → MaySendData u (λ w. w.back) miso ws
     → spi_annotations u clk mosi miso cs end
-    ≡ map (sent_word_annotation u mosi miso) ws ++ sent_part_annotation w count ∷ []
+    ≡ map (sent_word_annotation u mosi miso) ws ++ sent_partial_annotation w count ∷ []
 
 -- an I2C message, decoded, gives its conditions, addresses, directions, data and acknowledges, at
 -- any tick distances: the level at index i begins at the tick `at i`, and the last one lasts to the

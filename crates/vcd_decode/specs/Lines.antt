@@ -1,10 +1,10 @@
 -- A line of one bit as a function of the tick, and annotations: shared by the three decoders.
 use Rattle.std.specs.Prelude.{ℕ, zero, suc, ◌+◌, ◌*◌, ◌||◌, Bool, true, false, not, List, ◌∷◌, []}
+use Rattle.std.specs.Prelude.{if◌then◌else◌}
 use Rattle.vcd_core.specs.declared.bit.Bit.{Bit}
 use Rattle.vcd_core.specs.declared.bit.Bit.TheVariants.{Zero, One, X}
 use Rattle.vcd_decode.specs.declared.annotation.Annotation.{Annotation}
 use Rattle.vcd_decode.specs.declared.annotation.Kind.{Kind}
-use Rattle.std.specs.Prelude.{if◌then◌else◌}
 
 -- the letter of a line just before a tick: x before tick 0
 abbrev pub letter_before : (ℕ → Bit) → ℕ → Bit

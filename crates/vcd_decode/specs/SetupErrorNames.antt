@@ -2,8 +2,8 @@
 use Rattle.std.specs.Prelude.{ℕ, List, codes}
 use Rattle.vcd_decode.specs.declared.setup_error.SetupError.{SetupError}
 use Rattle.vcd_decode.specs.declared.setup_error.SetupError.TheVariants.{BadRatio, BitTooShort}
-use Rattle.vcd_decode.specs.declared.setup_error.SetupError.TheVariants.{BadData, BadStop}
-use Rattle.vcd_decode.specs.declared.setup_error.SetupError.TheVariants.{BadMode, BadBits}
+use Rattle.vcd_decode.specs.declared.setup_error.SetupError.TheVariants.{BadData, BadStop, BadMode}
+use Rattle.vcd_decode.specs.declared.setup_error.SetupError.TheVariants.{BadBits}
 
 -- the printed name of a fault
 abbrev pub setup_error_name : SetupError → List ℕ

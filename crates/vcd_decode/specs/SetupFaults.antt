@@ -5,8 +5,8 @@ use Rattle.vcd_decode.specs.declared.uart_setup.TheConstants.{RATIO_LIMIT}
 use Rattle.vcd_decode.specs.declared.spi_setup.TheConstants.{GREATEST_MODE, WORD_BITS_LIMIT}
 use Rattle.vcd_decode.specs.declared.setup_error.SetupError.{SetupError}
 use Rattle.vcd_decode.specs.declared.setup_error.SetupError.TheVariants.{BadRatio, BitTooShort}
-use Rattle.vcd_decode.specs.declared.setup_error.SetupError.TheVariants.{BadData, BadStop}
-use Rattle.vcd_decode.specs.declared.setup_error.SetupError.TheVariants.{BadMode, BadBits}
+use Rattle.vcd_decode.specs.declared.setup_error.SetupError.TheVariants.{BadData, BadStop, BadMode}
+use Rattle.vcd_decode.specs.declared.setup_error.SetupError.TheVariants.{BadBits}
 use Rattle.vcd_decode.specs.UartSetup.{UartSetup}
 use Rattle.vcd_decode.specs.SpiSetup.{SpiSetup}
 

@@ -1,8 +1,7 @@
 -- The words of a serial peripheral interface. The edge at which a mode samples is the field's
 -- common rule (clock polarity and phase). How ticks are cut into words is the project's own.
 use Rattle.std.specs.Prelude.{ℕ, suc, ◌-◌, ◌==◌, ◌&&◌, ◌||◌, nat_lt, Bool, true, not, Option, Some}
-use Rattle.std.specs.Prelude.{None}
-use Rattle.std.specs.Prelude.{List, map, filter, length, reverse, slice_index}
+use Rattle.std.specs.Prelude.{None, List, map, filter, length, reverse, slice_index, if◌then◌else◌}
 use Rattle.std.specs.List.{flat_map, list_any, range_with_len, slice_split}
 use Rattle.vcd_core.specs.declared.bit.Bit.{Bit}
 use Rattle.vcd_decode.specs.declared.annotation.Annotation.{Annotation}
@@ -15,7 +14,6 @@ use Rattle.vcd_decode.specs.SpiSetup.{SpiSetup}
 use Rattle.vcd_decode.specs.Groups.{groups_of}
 use Rattle.vcd_decode.specs.Lines.{letter_before, is_zero, is_one, is_unclear, number_from_letters}
 use Rattle.vcd_decode.specs.Lines.{annotation}
-use Rattle.std.specs.Prelude.{if◌then◌else◌}
 
 -- ---- the sampling ticks
 

@@ -104,6 +104,6 @@ sent_word_annotation u mosi miso w =
     (Word (sent_line_data mosi w.out) (sent_line_data miso w.back))
 
 -- the annotation of the first bits of a word
-abbrev pub sent_part_annotation : SpiWord → ℕ → Annotation
-sent_part_annotation w count =
+abbrev pub sent_partial_annotation : SpiWord → ℕ → Annotation
+sent_partial_annotation w count =
     annotation (w.bit_middle 0) (w.bit_middle (count - 1)) (Unfinished count)

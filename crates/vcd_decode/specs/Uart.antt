@@ -2,9 +2,8 @@
 -- significant first, perhaps a parity bit, and stop bits 1 (ISO 1177). Its beginning and its sample
 -- ticks are the project's own.
 use Rattle.std.specs.Prelude.{ℕ, suc, ◌+◌, ◌*◌, ◌/◌, ◌%◌, ◌==◌, ◌&&◌, nat_lt, nat_le, Bool, false}
-use Rattle.std.specs.Prelude.{not, []}
-use Rattle.std.specs.Prelude.{Option, Some, None, List, ◌∷◌, ◌++◌, map, filter, take, drop}
-use Rattle.std.specs.Prelude.{count_by}
+use Rattle.std.specs.Prelude.{not, [], Option, Some, None, List, ◌∷◌, ◌++◌, map, filter, take, drop}
+use Rattle.std.specs.Prelude.{count_by, if◌then◌else◌}
 use Rattle.std.specs.List.{list_any, range_with_len}
 use Rattle.std.specs.Option.{option_map_or, option_to_list}
 use Rattle.vcd_core.specs.declared.bit.Bit.{Bit}
@@ -17,7 +16,6 @@ use Rattle.vcd_decode.specs.declared.uart_setup.Parity.TheVariants as parities
 use Rattle.vcd_decode.specs.UartSetup.{UartSetup}
 use Rattle.vcd_decode.specs.Lines.{letter_before, is_zero, is_one, is_unclear, number_from_letters}
 use Rattle.vcd_decode.specs.Lines.{annotation}
-use Rattle.std.specs.Prelude.{if◌then◌else◌}
 
 -- ---- where a frame is sampled
 

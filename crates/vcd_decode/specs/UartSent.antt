@@ -1,7 +1,7 @@
 -- The line that a sender of frames drives (ISO 1177): what the frames of `Uart` are to give back.
-use Rattle.std.specs.Prelude.{ℕ, suc, ◌+◌, ◌*◌, ◌-◌, ◌/◌, ◌^◌, ◌<◌, ◌≤◌, ◌≡◌, ◌≢◌}
-use Rattle.std.specs.Prelude.{Bool, true, if◌then◌else◌, Option, Some, None, IfSome, is_some}
-use Rattle.std.specs.Prelude.{List, [], ◌∷◌, ◌++◌, replicate, get_or, set, count_by}
+use Rattle.std.specs.Prelude.{ℕ, suc, ◌+◌, ◌*◌, ◌-◌, ◌/◌, ◌^◌, ◌<◌, ◌≤◌, ◌≡◌, ◌≢◌, Bool, true}
+use Rattle.std.specs.Prelude.{if◌then◌else◌, Option, Some, None, IfSome, is_some, List, [], ◌∷◌}
+use Rattle.std.specs.Prelude.{◌++◌, replicate, get_or, set, count_by}
 use Rattle.vcd_core.specs.declared.bit.Bit.{Bit}
 use Rattle.vcd_core.specs.declared.bit.Bit.TheVariants.{Zero, One}
 use Rattle.vcd_decode.specs.declared.annotation.Annotation.{Annotation}

@@ -1,10 +1,10 @@
 //! Laws about the definitions of the decoders, as contracts of functions that do nothing.
 
-ghost use Rattle.vcd_decode.specs.Laws.{UartFramesAreFound, SpiWordsAreFound, SpiPartIsFound};
-ghost use Rattle.vcd_decode.specs.Laws.{I2cMessagesAreFound, FramesBeginStraight};
-ghost use Rattle.vcd_decode.specs.Laws.{StraightClocksCount, StraightBusEdgesCount};
-ghost use Rattle.vcd_decode.specs.Laws.{SpiSelectionsAreApart, SpiLinesAreApart};
-ghost use Rattle.vcd_decode.specs.Laws.{I2cMessagesAreApart};
+ghost use Rattle.vcd_decode.specs.Laws.{UartFramesAreFound, SpiWordsAreFound};
+ghost use Rattle.vcd_decode.specs.Laws.{SpiPartialWordIsFound, I2cMessagesAreFound};
+ghost use Rattle.vcd_decode.specs.Laws.{FramesBeginStraight, StraightClocksCount};
+ghost use Rattle.vcd_decode.specs.Laws.{StraightBusEdgesCount, SpiSelectionsAreApart};
+ghost use Rattle.vcd_decode.specs.Laws.{SpiLinesAreApart, I2cMessagesAreApart};
 
 /// A line that sends frames, and begins no other, decodes to one annotation for each frame. It
 /// goes from the frame's start to the sample of its last bit. Its kind is `byte` with the word that
@@ -23,7 +23,7 @@ pub fn uart_frames_are_found()
 /// `partial`, with the count of its bits.
 pub fn spi_words_are_found()
     ensures words { SpiWordsAreFound }
-    ensures part { SpiPartIsFound }
+    ensures partial { SpiPartialWordIsFound }
 {}
 
 /// What is found of a serial peripheral interface falls in two parts at each tick at which the chip

@@ -5,7 +5,6 @@ ghost use Rattle.vcd_decode.specs.Lines as spec;
 
 use vcd_core::Bit;
 
-/// Whether a letter is 0.
 pub fn is_zero(bit: Bit) -> bool
     ensures { result ≡ spec.is_zero bit }
 {
@@ -15,7 +14,6 @@ pub fn is_zero(bit: Bit) -> bool
     }
 }
 
-/// Whether a letter is 1.
 pub fn is_one(bit: Bit) -> bool
     ensures { result ≡ spec.is_one bit }
 {

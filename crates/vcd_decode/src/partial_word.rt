@@ -3,8 +3,7 @@
 ghost use Rattle.std.specs.Prelude.{◌≡◌, ◌<◌, ◌==◌, ◌^◌};
 ghost use Rattle.vcd_decode.specs.inside.PartialWord.{digit_of, longer_number, data_after};
 ghost use Rattle.vcd_decode.specs.inside.PartialWord.{data_before, first_data, DataFits};
-ghost use Rattle.vcd_decode.specs.inside.PartialWord.{group_before};
-ghost use Rattle.vcd_decode.specs.inside.PartialWord.{group_after, word_annotation};
+ghost use Rattle.vcd_decode.specs.inside.PartialWord.{group_before, group_after, word_annotation};
 ghost use Rattle.vcd_decode.specs.inside.PartialWord.{unfinished_annotation};
 
 use crate::annotation::{Annotation, Kind, LineData};
@@ -75,7 +74,6 @@ impl PartialWord {
         }
     }
 
-    /// The annotation of a whole word.
     pub(crate) fn whole_word(&self) -> Annotation
         ensures { result ≡ word_annotation self.now }
     {
@@ -89,7 +87,6 @@ impl PartialWord {
         }
     }
 
-    /// The annotation of an unfinished word.
     pub(crate) fn unfinished_word(&self) -> Annotation
         ensures { result ≡ unfinished_annotation self.now }
     {
@@ -137,7 +134,6 @@ fn data_after(order: BitOrder, count: u64, shown: LineData, bit: Option<Bit>) ->
     }
 }
 
-/// 0 or 1 as a number.
 fn digit_of(bit: Bit) -> Option<u32>
     ensures { result ≡ digit_of bit }
 {

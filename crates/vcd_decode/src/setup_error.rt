@@ -2,6 +2,7 @@
 
 ghost use Rattle.std.specs.Prelude.{◌≡◌};
 ghost use Rattle.vcd_decode.specs.SetupErrorNames.{setup_error_name};
+ghost use Rattle.vcd_decode.specs.SetupFaults as spec;
 
 use thiserror::Error;
 
@@ -27,7 +28,7 @@ pub enum SetupError {
 }
 
 impl SetupError {
-    /// The printed name of the fault. It takes no memory.
+    /// The printed name of the fault.
     pub fn name(&self) -> &'static str
         ensures { result.now ≡ setup_error_name self.now }
     {
@@ -40,4 +41,11 @@ impl SetupError {
             SetupError::BadBits => "BadBits",
         }
     }
+}
+
+/// Whether a number is in this range, both ends included.
+pub(crate) fn is_between(least: u64, greatest: u64, number: u64) -> bool
+    ensures { result ≡ spec.is_between least greatest number }
+{
+    least <= number && number <= greatest
 }

@@ -8,7 +8,7 @@ ghost use Rattle.vcd_decode.specs.Lines as spec;
 ghost use Rattle.vcd_decode.specs.inside.SpiSetup.{is_present_and};
 
 use crate::letters::{is_one, is_zero};
-use crate::setup_error::SetupError;
+use crate::setup_error::{SetupError, is_between};
 use std::marker::Model;
 use vcd_core::Bit;
 
@@ -60,7 +60,7 @@ impl Spi {
     /// The setup with this mode, this number of bits in a word and this order of bits.
     ///
     /// The error is `BadMode` if the mode is above 3, else `BadBits` if the number of bits is not 1
-    /// to 32. It takes no memory.
+    /// to 32.
     pub fn new(mode: u64, bits: u64, order: BitOrder) -> Result<Spi, SetupError>
         ensures setup { IfOk result (λ s. s ≡ spi_setup mode bits order) }
         ensures fault { SetupFaultIs result (spi_fault (spi_setup mode bits order)) }
@@ -68,7 +68,7 @@ impl Spi {
         if mode > GREATEST_MODE {
             return Err(SetupError::BadMode);
         }
-        if bits < 1 || bits > WORD_BITS_LIMIT {
+        if !is_between(1, WORD_BITS_LIMIT, bits) {
             return Err(SetupError::BadBits);
         }
         Ok(Spi { mode, bits, order })
@@ -88,6 +88,14 @@ impl Spi {
         ensures most { result ≤ WORD_BITS_LIMIT }
     {
         self.bits
+    }
+
+    /// States that a word has 1 to [`WORD_BITS_LIMIT`] bits.
+    pub(crate) fn bits_fit(&self)
+        ensures least { 1 ≤ self.now.bits }
+        ensures most { self.now.bits ≤ WORD_BITS_LIMIT }
+    {
+        let _bits = self.bits;
     }
 
     /// The order of the bits of a word.
@@ -116,7 +124,6 @@ impl Spi {
     }
 }
 
-/// Whether the bit is present and 0.
 fn shows_zero(bit: Option<Bit>) -> bool
     ensures { result ≡ is_present_and spec.is_zero bit }
 {
@@ -126,7 +133,6 @@ fn shows_zero(bit: Option<Bit>) -> bool
     }
 }
 
-/// Whether the bit is present and 1.
 fn shows_one(bit: Option<Bit>) -> bool
     ensures { result ≡ is_present_and spec.is_one bit }
 {

@@ -27,7 +27,7 @@ use vcd_core::{Bit, BitEdge, BitEdges, NoMemory, Wave};
 /// or z.
 ///
 /// It is one walk over the changes of the four waves, with a constant number of steps and at most
-/// one annotation for each. It may run out of memory.
+/// one annotation for each.
 pub fn spi<'a>(
     alloc: Global,
     clk: &'a Wave,
@@ -46,8 +46,7 @@ pub fn spi<'a>(
         (option_map line_of (option_copied miso.entry))
         (option_map line_of (option_copied cs.entry)) end) }
 {
-    // The call shows the prover that a word has a bit.
-    let _bits = setup.bits();
+    setup.bits_fit();
     let edges = BitEdges::new(Some(clk), mosi, miso, cs);
     let mut found = Vec::new(alloc);
     let mut group = PartialWord::new(mosi.is_some(), miso.is_some());
@@ -121,7 +120,6 @@ fn deselects_chip(edge: &BitEdge) -> bool
     selects_chip(edge.before[3]) & !selects_chip(edge.at[3])
 }
 
-/// Whether the data lines are sampled at an edge.
 fn is_sampling(setup: &Spi, edge: &BitEdge) -> bool
     ensures { result ≡ is_sampling setup.now edge.now }
 {

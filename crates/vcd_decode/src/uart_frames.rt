@@ -26,7 +26,7 @@ use vcd_core::{Bit, NoMemory, Wave};
 /// `CutOff`, up to the end.
 ///
 /// It takes a step for each change, and for each sample a binary search among the changes of its
-/// frame. The memory is that of the annotations; it may run out of memory.
+/// frame. The memory is that of the annotations.
 pub fn uart(alloc: Global, wave: &Wave, end: u64, setup: &Uart) -> Result<Vec<Annotation>, NoMemory>
     requires one_bit { wave.now.width ≡ 1 }
     requires within { AllUpTo end wave.now.changes }
@@ -125,7 +125,6 @@ fn read_letters(wave: &Wave, near: usize, setup: &Uart, start: u64, letters: &mu
     }
 }
 
-/// The kind of a frame with these letters.
 fn frame_kind(setup: &Uart, letters: &[Bit]) -> Kind
     requires { length letters.now ≡ last_bit setup.now }
     ensures { result ≡ spec.frame_kind setup.now letters.now }
@@ -163,21 +162,18 @@ fn letter_near(wave: &Wave, near: usize, tick: u64) -> Bit
     }
 }
 
-/// Whether some letter is x or z.
 fn has_unclear(letters: &[Bit]) -> bool
     ensures { result ≡ list_any lines_spec.is_unclear letters.now }
 {
     letters.iter().any(|bit| is_unclear(*bit))
 }
 
-/// Whether some letter is 0.
 fn has_zero(letters: &[Bit]) -> bool
     ensures { result ≡ list_any lines_spec.is_zero letters.now }
 {
     letters.iter().any(|bit| is_zero(*bit))
 }
 
-/// The number of letters that are 1.
 fn count_ones(letters: &[Bit]) -> usize
     ensures { result ≡ count_by lines_spec.is_one letters.now }
 {

@@ -1,12 +1,11 @@
 //! The setup of an asynchronous serial line.
 
 ghost use Rattle.std.specs.Prelude.{◌≡◌, ◌≤◌, IfOk};
-ghost use Rattle.vcd_decode.specs.SetupFaults.{is_between};
 ghost use Rattle.vcd_decode.specs.SetupFaults.{uart_fault};
 ghost use Rattle.vcd_decode.specs.SetupResults.{SetupFaultIs};
 ghost use Rattle.vcd_decode.specs.UartSetup.{uart_setup};
 
-use crate::setup_error::SetupError;
+use crate::setup_error::{SetupError, is_between};
 use std::marker::Model;
 
 /// The greatest number in the ratio of ticks to bits.
@@ -83,16 +82,16 @@ impl Uart {
         ensures fault { SetupFaultIs result
             (uart_fault (uart_setup numerator denominator data_bits parity stop_bits)) }
     {
-        if !is_ratio_number(numerator) || !is_ratio_number(denominator) {
+        if !is_between(1, RATIO_LIMIT, numerator) || !is_between(1, RATIO_LIMIT, denominator) {
             return Err(SetupError::BadRatio);
         }
         if numerator < 2 * denominator {
             return Err(SetupError::BitTooShort);
         }
-        if data_bits < 5 || 9 < data_bits {
+        if !is_between(5, 9, data_bits) {
             return Err(SetupError::BadData);
         }
-        if stop_bits < 1 || 2 < stop_bits {
+        if !is_between(1, 2, stop_bits) {
             return Err(SetupError::BadStop);
         }
         Ok(Uart {
@@ -176,11 +175,4 @@ impl Uart {
             Parity::Odd => ones % 2 == 0,
         }
     }
-}
-
-/// Whether a number is allowed in the ratio.
-fn is_ratio_number(number: u64) -> bool
-    ensures { result ≡ is_between 1 RATIO_LIMIT number }
-{
-    1 <= number && number <= RATIO_LIMIT
 }

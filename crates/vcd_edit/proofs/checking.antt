@@ -1,2 +1,2 @@
 -- Lemmas of `checking`.
-pub mod NoFault
+pub mod Faults

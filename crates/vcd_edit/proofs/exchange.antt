@@ -1,5 +1,4 @@
 -- Lemmas of `exchange`.
-pub mod ContentsAfterPiece
+pub mod ExchangedPieces
+pub mod ExchangedRecords
 pub mod PiecesInTurn
-pub mod OppositePieces
-pub mod OppositeRecords

@@ -1,4 +1,3 @@
 -- Lemmas of `fitting`.
-pub mod AdjacencyTests
-pub mod RecordKinds
-pub mod TestsOfParts
+pub mod FittingPieces
+pub mod FittingRecords

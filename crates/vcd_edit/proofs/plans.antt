@@ -1,8 +1,6 @@
 -- Lemmas of `plans`.
+pub mod CutPieces
 pub mod EffectOfRecord
+pub mod Ranges
 pub mod Runs
 pub mod WithoutRepeats
-pub mod CutPiece
-pub mod ForcePiece
-pub mod Ranges
-pub mod WholeListPiece

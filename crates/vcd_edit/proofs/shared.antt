@@ -1,9 +1,8 @@
 -- Lemmas: shared.
 pub mod EffectLaws
-pub mod SoundEffects
 pub mod Lists
-pub mod SignalCounts
-pub mod TouchedBySplice
-pub mod StoredAtMostTouched
-pub mod Outlines
 pub mod OtherWaves
+pub mod Outlines
+pub mod SignalCounts
+pub mod SoundEffects
+pub mod TouchedChanges

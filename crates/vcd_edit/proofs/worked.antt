@@ -1,5 +1,3 @@
 -- Lemmas: worked.
-pub mod EffectLaws
+pub mod Effects
 pub mod Records
-pub mod Touched
-pub mod OtherWaves

@@ -31,7 +31,7 @@ unfoldable pub with_pieces : Contents → List PieceView → Contents
 with_pieces c [] = c
 with_pieces c (p ∷ ps) = with_pieces (with_piece c p) ps
 
--- ---- the other parts of a record
+-- ---- the other fields of a record
 
 -- the capture after a signal's first word is replaced
 abbrev pub with_first_word : Option (ℕ × List ℕ) → Contents → Contents
@@ -114,7 +114,7 @@ RiseFrom k [] = Unit {0}
 RiseFrom k (p ∷ ps) = (k ≤ p.signal) × RiseFrom (suc p.signal) ps
 
 -- a record has pieces, or a word, or a signal to put in or take out: at most one of the three
-pub record HasOneKindOfPart (r : RecordView) : Type 0 where
+pub record IsOfOneKind (r : RecordView) : Type 0 where
   pub rise : RiseFrom 0 r.pieces
   pub word_alone : r.word ≢ None → r.pieces ≡ []
   pub signal_alone : r.signal ≢ None → (r.pieces ≡ []) × (r.word ≡ None)

@@ -2,9 +2,9 @@
 use Rattle.std.specs.Prelude.{ℕ, List, codes}
 use Rattle.vcd_edit.specs.declared.fault.EditError.{EditError}
 use Rattle.vcd_edit.specs.declared.fault.EditError.TheVariants.{NoSuchSignal, NotScalar, BadBit}
-use Rattle.vcd_edit.specs.declared.fault.EditError.TheVariants.{BadRange, BadCount}
-use Rattle.vcd_edit.specs.declared.fault.EditError.TheVariants.{BadValue, BadWord, NameTaken}
-use Rattle.vcd_edit.specs.declared.fault.EditError.TheVariants.{TooManySignals, NoMemory}
+use Rattle.vcd_edit.specs.declared.fault.EditError.TheVariants.{BadRange, BadCount, BadValue}
+use Rattle.vcd_edit.specs.declared.fault.EditError.TheVariants.{BadWord, NameTaken, TooManySignals}
+use Rattle.vcd_edit.specs.declared.fault.EditError.TheVariants.{NoMemory}
 
 -- the name that is printed for a refused edit; NoMemory is no reply, as a run ends there
 abbrev pub edit_error_name : EditError → List ℕ

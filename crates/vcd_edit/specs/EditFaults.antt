@@ -15,9 +15,8 @@ use Rattle.vcd_edit.specs.declared.edit.Formula.{Formula}
 use Rattle.vcd_edit.specs.declared.edit.Formula.TheVariants.{Negation, Pair, BitSelect}
 use Rattle.vcd_edit.specs.declared.fault.EditError.{EditError}
 use Rattle.vcd_edit.specs.declared.fault.EditError.TheVariants.{NoSuchSignal, NotScalar, BadBit}
-use Rattle.vcd_edit.specs.declared.fault.EditError.TheVariants.{BadRange, BadCount}
-use Rattle.vcd_edit.specs.declared.fault.EditError.TheVariants.{BadValue, BadWord, NameTaken}
-use Rattle.vcd_edit.specs.declared.fault.EditError.TheVariants.{TooManySignals}
+use Rattle.vcd_edit.specs.declared.fault.EditError.TheVariants.{BadRange, BadCount, BadValue}
+use Rattle.vcd_edit.specs.declared.fault.EditError.TheVariants.{BadWord, NameTaken, TooManySignals}
 use Rattle.vcd_edit.specs.Effect.{renamed_signal, derived_signal, formula}
 
 -- ---- what is tested

@@ -1,8 +1,7 @@
 -- What an accepted edit makes of a capture, as values at each tick. The rules are the project's
 -- own.
 use Rattle.std.specs.Prelude.{ℕ, zero, suc, ◌+◌, ◌-◌, ◌==◌, ◌&&◌, ◌||◌, nat_lt, nat_le, ℤ, pos}
-use Rattle.std.specs.Prelude.{negsuc, ◌-ℤ◌, Bool}
-use Rattle.std.specs.Prelude.{if◌then◌else◌, List, [], ◌∷◌, map, drop, codes}
+use Rattle.std.specs.Prelude.{negsuc, ◌-ℤ◌, Bool, if◌then◌else◌, List, [], ◌∷◌, map, drop, codes}
 use Rattle.std.specs.List.{push, remove}
 use Rattle.vcd_core.specs.declared.bit.Bit.{Bit}
 use Rattle.vcd_core.specs.Value.{all_x, letter_at, same_letters}

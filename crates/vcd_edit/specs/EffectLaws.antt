@@ -1,7 +1,6 @@
 -- What the edits are for, in the subject's own words: each is the contract of a function of `laws`.
 use Rattle.std.specs.Prelude.{ℕ, ◌+◌, ◌-◌, ◌≡◌, ◌⊎◌, ◌<◌, ◌≤◌, ℤ, pos, ◌+ℤ◌, neg_ℤ, IsTrue, not}
-use Rattle.std.specs.Prelude.{List, [], ◌∷◌}
-use Rattle.std.specs.Prelude.{length, map, None, Some}
+use Rattle.std.specs.Prelude.{List, [], ◌∷◌, length, map, None, Some}
 use Rattle.std.specs.List.{All, list_all}
 use Rattle.std.specs.Borrow.{Bor}
 use Rattle.vcd_core.specs.declared.bit.Bit.{Bit}

@@ -32,7 +32,7 @@ abbrev pub signal_view : Option (ℕ × Option Signal) → Option (ℕ × Option
 signal_view None = None
 signal_view (Some m) = Some (m.0, contents_of_signal m.1)
 
--- a record of these parts
+-- a record of these fields
 abbrev pub record_view : List Piece → Option (ℕ × Vec ℕ) → Option (ℕ × Option Signal) → Option ℕ
     → RecordView
 record_view pieces word signal end =

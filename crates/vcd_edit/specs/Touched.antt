@@ -1,8 +1,7 @@
 -- How many changes a step touches in each signal: the bound on what a record stores. It is the
 -- project's own.
 use Rattle.std.specs.Prelude.{ℕ, suc, ◌+◌, ◌-◌, ◌==◌, ◌&&◌, if◌then◌else◌, ℤ, pos, ◌-ℤ◌, neg_ℤ}
-use Rattle.std.specs.Prelude.{Bool, List, [], ◌∷◌}
-use Rattle.std.specs.Prelude.{length, drop, map, reverse, Option, Some, None}
+use Rattle.std.specs.Prelude.{Bool, List, [], ◌∷◌, length, drop, map, reverse, Option, Some, None}
 use Rattle.std.specs.List.{common_prefix_len, insert, remove, sum_by}
 use Rattle.std.specs.Ordering.{int_eq}
 use Rattle.vcd_core.specs.declared.wave.Change.{Change}

@@ -21,10 +21,9 @@ use vcd_core::Capture;
 
 /// Applies an edit to a capture, and gives the record that undoes it.
 ///
-/// An edit that has a fault, as [`check`] shows it, is refused with that fault, and takes no
-/// memory. An edit without a fault is refused only if memory runs out; a remove never is. A refused
-/// edit leaves the capture as it was. The record stores touched changes only, and that of a rename
-/// none: it has neither pieces nor a signal.
+/// An edit that has a fault, as [`check`] shows it, is refused with that fault. An edit without a
+/// fault is refused only if memory runs out; a remove never is. The record stores touched changes
+/// only, and that of a rename none: it has neither pieces nor a signal.
 ///
 /// A force and a shift cost a binary search, the changes that they put in and take out, and one
 /// move of the later ones. A cut costs as much for each signal that changes at or after `from`. An

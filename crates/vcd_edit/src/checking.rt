@@ -19,7 +19,7 @@ use vcd_core::{Capture, Value};
 
 /// The fault of an edit on a capture: the first that applies, in the order of [`EditError`].
 ///
-/// It takes no memory. Its time grows with the signals and their names if the edit gives a name;
+/// Its time grows with the signals and their names if the edit gives a name;
 /// otherwise it is bounded.
 #[tactic(auto, unfolding(crate::specs::EditFaults::edit_fault))]
 pub fn check(capture: &Capture, edit: &Edit) -> Result<(), EditError>
@@ -53,7 +53,6 @@ fn check_signal(capture: &Capture, signal: usize) -> Result<(), EditError>
     Ok(())
 }
 
-/// The fault of a cut.
 #[tactic(auto, unfolding(crate::specs::EditFaults::edit_fault))]
 fn check_cut(capture: &Capture, from: u64, to: u64) -> Result<(), EditError>
     ensures { FaultIs result (edit_fault (edits.Cut from to) (contents capture.now)) }
@@ -64,7 +63,6 @@ fn check_cut(capture: &Capture, from: u64, to: u64) -> Result<(), EditError>
     Ok(())
 }
 
-/// The fault of a deglitch.
 #[tactic(auto, unfolding(crate::specs::EditFaults::edit_fault))]
 fn check_deglitch(capture: &Capture, signal: usize, ticks: u64) -> Result<(), EditError>
     ensures { FaultIs result (edit_fault (edits.Deglitch signal ticks) (contents capture.now)) }
@@ -78,7 +76,6 @@ fn check_deglitch(capture: &Capture, signal: usize, ticks: u64) -> Result<(), Ed
     Ok(())
 }
 
-/// The fault of a force.
 #[tactic(auto, unfolding(crate::specs::EditFaults::edit_fault))]
 fn check_force(
     capture: &Capture,

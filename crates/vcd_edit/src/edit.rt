@@ -112,7 +112,6 @@ impl Rule {
 }
 
 impl Formula {
-    /// The position of the first operand.
     pub(crate) fn first_operand(self) -> usize
         ensures { result ≡ first_operand self }
     {

@@ -1,6 +1,6 @@
-//! How a record is exchanged with a capture: its pieces with ranges of waves, and its other parts.
+//! How a record is exchanged with a capture: its pieces with ranges of waves, and its other fields.
 
-mod parts;
+mod fields;
 mod pieces;
 mod records;
 mod reservations;

@@ -35,7 +35,7 @@ pub enum EditError {
 }
 
 impl EditError {
-    /// The fault's name, as it is printed. It takes no memory.
+    /// The fault's name, as it is printed.
     pub fn name(&self) -> &'static str
         ensures { result.now ≡ edit_error_name self.now }
     {

@@ -1,15 +1,14 @@
 //! Whether a record fits a capture.
 
-ghost use Rattle.std.specs.Prelude.{◌≡◌, ◌↔◌, ◌<◌, ◌≤◌, IsTrue, Some, map};
-ghost use Rattle.std.specs.Prelude.{length};
+ghost use Rattle.std.specs.Prelude.{◌≡◌, ◌↔◌, ◌<◌, ◌≤◌, IsTrue, Some, map, length};
 ghost use Rattle.vcd_core.specs.Contents.{Contents};
 ghost use Rattle.vcd_core.specs.CaptureContents.{contents, signal_contents};
 ghost use Rattle.std.specs.List.{insert, remove};
 ghost use Rattle.vcd_edit.specs.AppliedRecords.{with_first_word, with_signal_in_out};
 ghost use Rattle.vcd_edit.specs.AppliedRecords.{MayPutInOrTakeOut, Fits, RiseFrom};
 ghost use Rattle.vcd_edit.specs.Records.{piece_view, word_view, contents_of_signal, signal_view};
-ghost use Rattle.vcd_edit.specs.inside.fitting.TestsOfParts.{AreSoundSignals, KindFits};
-ghost use Rattle.vcd_edit.specs.inside.fitting.TestsOfParts.{HasSoundMetadata};
+ghost use Rattle.vcd_edit.specs.inside.fitting.FittingTests.{AreSoundSignals, KindFits};
+ghost use Rattle.vcd_edit.specs.inside.fitting.FittingTests.{HasSoundMetadata};
 
 mod adjacency;
 mod sound_names;
@@ -69,9 +68,9 @@ fn signal_fits(at: usize, signal: &Option<Signal>, signals: &[Signal], end: u64)
     }
 }
 
-/// Whether the parts of a record lie within a capture, and the resulting signals are sound up to an
-/// end. A record has pieces, or a word, or a signal to put in or take out.
-fn parts_fit(
+/// Whether the fields of a record lie within a capture, and the resulting signals are sound up to
+/// an end. A record has pieces, or a word, or a signal to put in or take out.
+fn fields_fit(
     pieces: &[Piece],
     word: &Option<(usize, Vec<u8>)>,
     signal: &Option<(usize, Option<Signal>)>,
@@ -101,10 +100,10 @@ fn is_metadata_sound(capture: &Capture, end: u64) -> bool
 }
 
 impl Record {
-    /// Whether the record fits a capture: its parts lie within it, and the resulting capture is
+    /// Whether the record fits a capture: its fields lie within it, and the resulting capture is
     /// sound.
     ///
-    /// It takes no memory. Its time grows with the words and the signals of the capture, with the
+    /// Its time grows with the words and the signals of the capture, with the
     /// changes in the pieces, and with those after the ranges of the pieces.
     pub fn fits(&self, capture: &Capture) -> bool
         ensures { IsTrue result ↔ Fits self.now (contents capture.now) }
@@ -113,7 +112,7 @@ impl Record {
         if !is_metadata_sound(capture, end) {
             return false;
         }
-        parts_fit(
+        fields_fit(
             self.pieces.as_slice(),
             &self.word,
             &self.signal,

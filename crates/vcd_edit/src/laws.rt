@@ -1,14 +1,12 @@
 //! Laws about the definitions, as contracts of functions that do nothing.
 
-ghost use Rattle.vcd_edit.specs.Laws.{EffectIsSound};
-ghost use Rattle.vcd_edit.specs.Laws.{DeglitchLeavesNoShortRun, DeglitchKeepsLongRuns};
-ghost use Rattle.vcd_edit.specs.Laws.{DeglitchFillsShortRuns, DeglitchWithoutShortRuns};
-ghost use Rattle.vcd_edit.specs.Laws.{DeglitchTwice};
+ghost use Rattle.vcd_edit.specs.Laws.{EffectIsSound, DeglitchLeavesNoShortRun};
+ghost use Rattle.vcd_edit.specs.Laws.{DeglitchKeepsLongRuns, DeglitchFillsShortRuns};
+ghost use Rattle.vcd_edit.specs.Laws.{DeglitchWithoutShortRuns, DeglitchTwice};
 ghost use Rattle.vcd_edit.specs.EffectLaws.{InvertTwice, InvertTwiceWithoutZ, CutKeepsOtherTicks};
 ghost use Rattle.vcd_edit.specs.EffectLaws.{CutsCommute, ShiftAndBack, ForceIsLocal};
 ghost use Rattle.vcd_edit.specs.EffectLaws.{LastForceCounts, ShiftFillsGaps};
-ghost use Rattle.vcd_edit.specs.EffectLaws.{DerivedBesideFirstOperand};
-ghost use Rattle.vcd_edit.specs.EffectLaws.{BitOfOneBit, RenameAndBack};
+ghost use Rattle.vcd_edit.specs.EffectLaws.{DerivedBesideFirstOperand, BitOfOneBit, RenameAndBack};
 ghost use Rattle.vcd_edit.specs.EffectLaws.{RemoveAndBack};
 ghost use Rattle.vcd_edit.specs.OperatorTables.{NotHasItsTable, OperatorsHaveTheirTables};
 ghost use Rattle.vcd_edit.specs.OtherWaves.{FaultIsOfOutline, EffectKeepsOutlines};

@@ -14,7 +14,7 @@ mod derive;
 mod force;
 mod invert;
 mod operators;
-mod parts;
+mod pieces;
 mod remove;
 mod rename;
 mod shift;

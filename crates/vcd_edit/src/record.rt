@@ -34,14 +34,14 @@ pub struct Record {
 
 impl Model for Record {
     ghost use Rattle.vcd_edit.specs.RecordView.{RecordView};
-    ghost use Rattle.vcd_edit.specs.AppliedRecords.{HasOneKindOfPart};
+    ghost use Rattle.vcd_edit.specs.AppliedRecords.{IsOfOneKind};
     ghost use Rattle.vcd_edit.specs.Records.{record_view};
 
     ghost Value = { RecordView };
 
     ghost view = { λ r. record_view r.pieces.items r.word r.signal r.other_end };
 
-    ghost invariant = { λ r. HasOneKindOfPart
+    ghost invariant = { λ r. IsOfOneKind
         (record_view r.pieces.items r.word r.signal r.other_end) };
 }
 
@@ -49,8 +49,7 @@ impl Record {
     ghost use Rattle.std.specs.Prelude.{◌≡◌};
     ghost use Rattle.vcd_edit.specs.Touched.{stored_changes};
 
-    /// How many changes the record holds, in its pieces and in a signal to put in. It takes no
-    /// memory.
+    /// How many changes the record holds, in its pieces and in a signal to put in.
     pub fn stored(&self) -> u128
         ensures { result ≡ stored_changes self.now }
     {
@@ -64,8 +63,7 @@ fn count_in_pieces(pieces: &[Piece]) -> u128
 {
     let mut count = 0;
     for piece in pieces {
-        // Each field is named, so that a further one, such as a whole wave that is kept, does not
-        // compile.
+        // Each field is named, so that a further one, such as a whole wave, does not compile.
         let Piece {
             signal: _,
             from: _,

@@ -18,8 +18,7 @@ use vcd_core::Capture;
 /// piece, these are the changes that the step takes away or moves by another number of ticks than
 /// the piece. In a signal that is taken out, they are all changes. It is refused only if memory
 /// runs out. A record with neither pieces nor a signal to put in never needs memory, so a step that
-/// removes a signal or changes a name is never refused. A refused record comes back in [`Kept`],
-/// and the capture is as it was.
+/// removes a signal or changes a name is never refused.
 ///
 /// The cost is the pieces, their ranges, and for each piece one move of its signal's later changes.
 /// A signal that is put in or taken out costs one move of the later signals. Signals that share one

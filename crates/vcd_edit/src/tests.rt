@@ -1,5 +1,5 @@
-//! The fields of a record and of a piece. A further one, such as a whole wave that is kept, does
-//! not compile here.
+//! The fields of a record and of a piece. A further one, such as a whole wave, does not compile
+//! here.
 
 use crate::record::{Piece, Record};
 use crate::{Edit, apply};

@@ -3,8 +3,8 @@
 ghost use Rattle.vcd_journal.specs.Laws.{HistoryIsBounded, SessionIsReplay};
 ghost use Rattle.vcd_journal.specs.Origins.{OriginsRise, OriginIsInList, SignalsComeFromOrigins};
 ghost use Rattle.vcd_journal.specs.Cuts.{CutsKeepOrder, CutsAreOne};
-ghost use Rattle.vcd_journal.specs.Hollow.{ReplayKeepsOutlines, StepsAreOfOutline};
-ghost use Rattle.vcd_journal.specs.Hollow.{ReplayOnHollow, SilentAreCutAlone, HollowIsSound};
+ghost use Rattle.vcd_journal.specs.Hollow.{ReplayKeepsOutlines, StepsAreOfOutline, ReplayOnHollow};
+ghost use Rattle.vcd_journal.specs.Hollow.{SilentAreCutAlone, HollowIsSound};
 
 /// After any steps, accepted or refused, the capture is what the edits in force make of the first
 /// capture.

@@ -7,8 +7,7 @@ ghost use Rattle.std.specs.Prelude.{◌≡◌, ◌≤◌, ◌<◌, max, [], ◌�
 ghost use Rattle.circular_buffer.specs.Buffer.{buffer};
 ghost use Rattle.vcd_core.specs.CaptureContents.{contents};
 ghost use Rattle.vcd_core.specs.Sound.{IsSound};
-ghost use Rattle.vcd_journal.specs.inside.Rings.{AllRecordsFit, FirstMayNeedMemory};
-ghost use Rattle.vcd_journal.specs.inside.Rings.{PopsRecord};
+ghost use Rattle.vcd_journal.specs.inside.Rings.{AllRecordsFit, FirstMayNeedMemory, PopsRecord};
 
 use circular_buffer::HeapCircularBuffer;
 use std::alloc::Global;
@@ -27,18 +26,17 @@ pub fn empty_rings(alloc: Global, capacity: usize) -> Result<(Ring, Ring), NoMem
     Ok((past, future))
 }
 
-/// Puts a record in front, and keeps the newest `depth` records. The ring may have more room than
-/// that.
+/// Puts a record in front, and drops all but the newest `depth` records. The ring may have more
+/// room than that.
 pub fn push_newest(ring: &mut Ring, newest: Record, depth: usize)
     requires { depth ≤ ring.old.capacity }
     ensures items { ring.new.items ≡ take depth (newest ∷ ring.old.items) }
     ensures capacity { ring.new.capacity ≡ ring.old.capacity }
 {
     let _oldest = ring.push_front(newest);
-    keep_newest(ring, depth);
+    drop_older(ring, depth);
 }
 
-/// Puts a record in front. The ring has room for it.
 fn push_record_in_room(ring: &mut Ring, newest: Record)
     requires { length ring.old.items < ring.old.capacity }
     ensures items { ring.new.items ≡ newest ∷ ring.old.items }
@@ -49,13 +47,13 @@ fn push_record_in_room(ring: &mut Ring, newest: Record)
 }
 
 /// Drops all records but the newest `count`.
-pub fn keep_newest(ring: &mut Ring, count: usize)
+pub fn drop_older(ring: &mut Ring, count: usize)
     ensures { ring.new ≡ buffer (take count ring.old.items) ring.old.capacity }
 {
     ring.truncate_back(count);
 }
 
-/// Gives a ring room for `capacity` records. A ring that has the room takes no memory.
+/// Gives a ring room for `capacity` records.
 pub fn enlarge(ring: &mut Ring, capacity: usize) -> Result<(), NoMemory>
     ensures items { ring.new.items ≡ ring.old.items }
     ensures room { OnOk result (capacity ≤ ring.new.capacity) }

@@ -10,7 +10,7 @@ ghost use Rattle.vcd_journal.specs.declared.step.Step.TheVariants as steps;
 #[cfg(test)]
 mod tests;
 
-use crate::rings::{Ring, apply_newest, empty_rings, enlarge, keep_newest, push_newest};
+use crate::rings::{Ring, apply_newest, drop_older, empty_rings, enlarge, push_newest};
 use crate::step::{DEPTH_LIMIT, Step, StepError};
 use std::alloc::Global;
 use std::marker::Model;
@@ -57,7 +57,6 @@ impl Model for Session {
 
 impl Session {
     /// A session on a capture, with an empty history. It holds at most `depth` steps at any time.
-    /// If memory is refused, the capture is given back.
     pub fn new(alloc: Global, capture: Capture, depth: u64) -> Result<Session, (Capture, NoMemory)>
         requires least { 1 ≤ depth }
         requires most { depth ≤ DEPTH_LIMIT }
@@ -80,9 +79,9 @@ impl Session {
     /// Makes an edit, which can then be undone. Nothing is left to redo. If the history is full,
     /// the oldest step is dropped.
     ///
-    /// An edit with a fault is refused by its first fault, and takes no memory. Otherwise it is
-    /// refused only if memory runs out (`StepError::Edit` of `NoMemory`; see [`Session`]). The cost
-    /// is that of the edit, and of dropping the records of undone edits.
+    /// An edit with a fault is refused by its first fault. Otherwise it is refused only if memory
+    /// runs out (`StepError::Edit` of `NoMemory`; see [`Session`]). The cost is that of the edit,
+    /// and of dropping the records of undone edits.
     pub fn apply(&mut self, edit: &Edit) -> Result<(), StepError>
         ensures step { IsStepCall self.old (steps.Edit edit.now) result self.new }
         ensures unchanged { OnErr result (self.new ≡ self.old) }
@@ -95,7 +94,7 @@ impl Session {
 
     /// Undoes the newest edit in the history.
     ///
-    /// If there is none, the step is refused, and takes no memory. Otherwise it is refused only if
+    /// If there is none, the step is refused. Otherwise it is refused only if
     /// memory runs out (see [`Session`]). The cost is that of the changes that the edit touched,
     /// and one move of the later ones of each touched signal.
     pub fn undo(&mut self) -> Result<(), StepError>
@@ -116,7 +115,7 @@ impl Session {
 
     /// Makes the edit again that was undone last.
     ///
-    /// If there is none, the step is refused, and takes no memory. Otherwise it is refused only if
+    /// If there is none, the step is refused. Otherwise it is refused only if
     /// memory runs out (see [`Session`]). The cost is that of an undo.
     pub fn redo(&mut self) -> Result<(), StepError>
         ensures step { IsStepCall self.old steps.Redo result self.new }
@@ -154,7 +153,7 @@ impl Session {
         }
         enlarge(&mut self.past, depth as usize)?;
         enlarge(&mut self.future, depth as usize)?;
-        keep_newest(&mut self.past, depth as usize - redoable);
+        drop_older(&mut self.past, depth as usize - redoable);
         self.depth = depth;
         Ok(())
     }
@@ -172,7 +171,6 @@ impl Session {
         }
     }
 
-    /// The current capture. It takes no memory.
     pub fn capture(&self) -> &Capture
         ensures now { contents result.now ≡ self.now.now }
         ensures sound { IsSound (contents result.now) }
@@ -180,7 +178,7 @@ impl Session {
         &self.capture
     }
 
-    /// Returns the current capture, and drops the history. It takes no memory.
+    /// Returns the current capture, and drops the history.
     pub fn into_capture(self) -> Capture
         ensures now { contents result ≡ self.now }
         ensures sound { IsSound (contents result) }
@@ -196,7 +194,7 @@ impl Session {
         capture
     }
 
-    /// How many steps can be undone. It takes no memory.
+    /// How many steps can be undone.
     pub fn undoable(&self) -> usize
         ensures count { result ≡ length self.now.past }
         ensures most { length self.now.past + length self.now.future ≤ self.now.depth }
@@ -204,7 +202,7 @@ impl Session {
         self.past.len()
     }
 
-    /// How many steps can be redone. It takes no memory.
+    /// How many steps can be redone.
     pub fn redoable(&self) -> usize
         ensures count { result ≡ length self.now.future }
         ensures most { length self.now.past + length self.now.future ≤ self.now.depth }
@@ -213,7 +211,6 @@ impl Session {
     }
 }
 
-/// Whether a session may have this depth.
 fn is_depth(depth: u64) -> bool
     ensures { result ≡ spec.is_depth depth }
 {

@@ -42,7 +42,7 @@ pub enum StepError {
 }
 
 impl StepError {
-    /// The refusal's name, as it is printed. It takes no memory.
+    /// The refusal's name, as it is printed.
     pub fn name(&self) -> &'static str
         ensures { result.now ≡ step_error_name self.now }
     {

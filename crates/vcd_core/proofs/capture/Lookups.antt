@@ -1,6 +1,5 @@
 -- Looking a name up: the numbers of positions, and the list of full names.
-use Rattle.std.proofs.Common.{◌≡◌, ℕ, ◌+◌, ◌<◌, ◌&&◌, ◌↔◌, nat_lt, Bool, true, false, cond, not}
-use Rattle.std.proofs.Common.{if◌then◌else◌, Option}
+use Rattle.std.proofs.Common.{◌≡◌, ℕ, ◌+◌, ◌<◌, ◌&&◌, ◌↔◌, nat_lt, Bool, true, false, cond, not, if◌then◌else◌, Option}
 use Rattle.std.proofs.Common.{Some, None, List, [], ◌∷◌, length, get_or, map, refl, sym, ◌∙◌, ap}
 use Rattle.std.specs.List.{position, position_or_len, slice_get}
 use Rattle.std.specs.Bool.{IsTrue}

@@ -1,15 +1,11 @@
 -- The beginning of a full name, and the tests of full names.
-use Rattle.std.proofs.Common.{◌≡◌, Bool, true, false, suc, append_assoc, length-append}
-use Rattle.std.proofs.Common.{if◌then◌else◌, ◌||◌, ℕ, ◌-◌}
-use Rattle.std.proofs.Common.{◌+◌, ◌*◌, slice_index_or}
-use Rattle.std.proofs.Common.{◌<◌, ◌≤◌, List, [], ◌∷◌, ◌++◌, length, get_or, take, drop, map, refl}
-use Rattle.std.proofs.Common.{sym, ap, ◌∙◌}
-use Rattle.std.proofs.Common.{append-nil, arith}
+use Rattle.std.proofs.Common.{◌≡◌, Bool, true, false, append_assoc, if◌then◌else◌, ◌||◌, ℕ, ◌-◌, ◌+◌, ◌<◌, ◌≤◌, List}
+use Rattle.std.proofs.Common.{[], ◌∷◌, ◌++◌, length, get_or, take, drop, map, refl, sym, ap, ◌∙◌, append-nil, arith}
 use Rattle.std.specs.List.{concat, list_any}
 use Rattle.std.proofs.lemmas.Bool.{false_from_ne_true, both_ways}
 use Rattle.std.proofs.lemmas.Slice.Eq.{bytes_eq-Decides}
 use Rattle.std.specs.Str.{bytes_eq}
-use Rattle.std.proofs.lemmas.List.{take_all, get_or-append-add, length-drop, take-append-drop}
+use Rattle.std.proofs.lemmas.List.{take_all}
 use Rattle.vcd_core.specs.declared.capture.ScopeName.{ScopeName}
 use Rattle.vcd_core.specs.declared.capture.Signal.{Signal}
 use Rattle.vcd_core.specs.declared.names.full_name.FullName.{FullName}

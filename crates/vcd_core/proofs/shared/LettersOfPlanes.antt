@@ -1,14 +1,10 @@
 -- The letters that two planes show.
-use Rattle.std.proofs.Common.{◌≡◌, ◌≢◌, ℕ, ◌+◌, ◌-◌, ◌*◌, ◌/◌, ◌%◌, ◌<◌, ◌≤◌, inl, inr}
-use Rattle.std.proofs.Common.{List, []}
-use Rattle.std.proofs.Common.{◌∷◌, ◌↔◌, min, ◌^◌, length, take, map, replicate, get_or}
-use Rattle.std.proofs.Common.{refl, sym, ap}
-use Rattle.std.proofs.Common.{◌∙◌, arith}
+use Rattle.std.proofs.Common.{◌≡◌, ◌≢◌, ℕ, ◌+◌, ◌-◌, ◌*◌, ◌/◌, ◌%◌, ◌<◌, ◌≤◌, inl, inr, List, [], ◌∷◌, ◌↔◌, min, ◌^◌}
+use Rattle.std.proofs.Common.{length, take, map, replicate, get_or, refl, sym, ap, ◌∙◌, arith}
 use Rattle.std.proofs.Math.ListN.{set}
 use Rattle.std.specs.Int.{bit_at}
 use Rattle.std.specs.Int.Bits.{bit_and, mask_lt}
-use Rattle.std.proofs.lemmas.List.{ext_get_or, get_or-set_same, get_or-set_other, get_or-replicate}
-use Rattle.std.proofs.lemmas.List.{get_or-take}
+use Rattle.std.proofs.lemmas.List.{ext_get_or, get_or-set_same, get_or-set_other, get_or-replicate, get_or-take}
 use Rattle.std.proofs.lemmas.List.{length-replicate, length-set}
 use Rattle.std.proofs.lemmas.List.FromFn.{length-map-range_with_len}
 use Rattle.std.proofs.lemmas.Nat.Bits.{bit_at-lt}
@@ -22,12 +18,10 @@ use Rattle.vcd_core.specs.declared.bit.Bit.TheVariants.{Zero, One, X, Z}
 use Rattle.vcd_core.specs.declared.value.Value.TheInside.{Inside}
 use Rattle.vcd_core.specs.Value.{letter_at}
 use Rattle.vcd_core.specs.declared.letter_block.LetterBlock.{LetterBlock}
-use Rattle.vcd_core.specs.BlockRows.{letter_of, low_of, high_of, letter_in, block_at, letters_of}
-use Rattle.vcd_core.specs.BlockRows.{letter_or}
+use Rattle.vcd_core.specs.BlockRows.{letter_of, low_of, high_of, letter_in, block_at, letters_of, letter_or}
 use Rattle.vcd_core.specs.inside.Planes.{plane_bit, letters_in, view_value, value_of, bit_in, IsValue}
-use Rattle.vcd_core.specs.inside.value.PlanesOfLetters.{letter_at-letters_in, length-letters_in}
-use Rattle.vcd_core.specs.inside.value.PlanesOfLetters.{bit_in-letter_of, letter_at-by_bit}
-use Rattle.vcd_core.specs.inside.value.PlanesOfLetters.{value_of-view_value}
+use Rattle.vcd_core.specs.inside.value.PlanesOfLetters.{letter_at-letters_in, length-letters_in, bit_in-letter_of}
+use Rattle.vcd_core.specs.inside.value.PlanesOfLetters.{letter_at-by_bit, value_of-view_value}
 use Rattle.vcd_core.proofs.planes.WrittenBits.{HoldsBlocks, both_set, block_held}
 
 pub letter_of-letter : (b : Bit) → letter_of (low_of b) (high_of b) ≡ b

@@ -1,7 +1,6 @@
 -- The two planes of bits that hold the letters of a value, in alternating words.
 use Rattle.std.specs.Prelude.{ℕ, zero, suc, ◌+◌, ◌-◌, ◌*◌, ◌/◌, ◌%◌, ◌^◌, ◌≡◌, ◌<◌, ◌≤◌}
-use Rattle.std.specs.Prelude.{if◌then◌else◌, nat_lt, List}
-use Rattle.std.specs.Prelude.{length, map, slice_index, All}
+use Rattle.std.specs.Prelude.{if◌then◌else◌, nat_lt, List, length, map, slice_index, All}
 use Rattle.std.specs.List.{range_with_len}
 use Rattle.std.specs.Int.{bit_at}
 use Rattle.vcd_core.specs.declared.bit.Bit.{Bit}

@@ -15,7 +15,7 @@ pub struct ShortWrite {
 impl ShortWrite {
     ghost use lib.Chars.{codes};
 
-    /// The name of the fault. It takes no memory.
+    /// The name of the fault.
     pub fn name(self) -> &'static str
         ensures { result.now ≡ codes "ShortWrite" }
     {
@@ -23,7 +23,7 @@ impl ShortWrite {
     }
 }
 
-/// Writes all of `bytes`, in order. It takes no memory.
+/// Writes all of `bytes`, in order.
 ///
 /// An error means that the sink has failed. It gives the number of bytes that the sink took before:
 /// these are the first ones, and not all.
@@ -50,7 +50,7 @@ pub fn write_all<W: Sink>(sink: &mut W, bytes: &[u8]) -> Result<(), ShortWrite>
     Ok(())
 }
 
-/// Writes all of `bytes`, in order, and flushes the sink once after the last. It takes no memory.
+/// Writes all of `bytes`, in order, and flushes the sink once after the last.
 ///
 /// An error means that the sink has failed. It gives the number of bytes that the sink took before:
 /// these are the first ones, and all of them if the flush failed.

@@ -12,9 +12,8 @@ use crate::names::text_end::TextEnd;
 /// A full name: the names of scopes, outermost first, and a name, joined by `.`. Several words of
 /// one name are run together.
 ///
-/// It borrows its parts and is never built. Contracts see its bytes. A comparison takes no memory.
-/// A search looks at the ends first: signals share the beginnings of their names, and most differ
-/// in their words.
+/// It borrows its parts and is never built. Contracts see its bytes. A search looks at the ends
+/// first: signals share the beginnings of their names, and most differ in their words.
 #[derive(Clone, Copy)]
 pub struct FullName<'a> {
     /// The rest of the current word.
@@ -113,7 +112,6 @@ impl<'a> FullName<'a> {
         end.may_end_with(signal.words.end()) && self.has_same_bytes(FullName::of(signal))
     }
 
-    /// The end of the name.
     pub(crate) fn end(self) -> TextEnd
         ensures { result ≡ text_end (name_bytes self.entry) }
     {

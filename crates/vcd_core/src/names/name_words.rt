@@ -34,7 +34,6 @@ impl Model for NameWords {
 }
 
 impl NameWords {
-    /// The name of these words. It takes no memory.
     pub fn new(words: Seq<Word>) -> NameWords
         ensures { result ≡ words }
     {
@@ -42,35 +41,31 @@ impl NameWords {
         NameWords { words, end }
     }
 
-    /// The words, lent.
     pub fn as_slice(&self) -> &[Word]
         ensures { result.now ≡ self.now }
     {
         self.words.as_slice()
     }
 
-    /// Whether there is no word.
     pub fn is_empty(&self) -> bool
         ensures { result ≡ (length self.now == 0) }
     {
         self.words.is_empty()
     }
 
-    /// The words. It takes no memory.
     pub fn into_words(self) -> Seq<Word>
         ensures { result ≡ self }
     {
         self.words
     }
 
-    /// The end of the words, run together.
     pub(crate) fn end(&self) -> TextEnd
         ensures { result ≡ text_end (concat self.now) }
     {
         self.end
     }
 
-    /// Puts a word in the place of the first, and gives that back. It takes no memory.
+    /// Puts a word in the place of the first, and gives that back.
     pub fn replace_first(&mut self, word: Word) -> Word
         requires { 0 < length self.old }
         ensures new { self.new ≡ word ∷ drop 1 self.old }
@@ -82,7 +77,6 @@ impl NameWords {
     }
 }
 
-/// The end of the words of a name, run together.
 fn end_of_words(words: &[Word]) -> TextEnd
     ensures { result ≡ text_end (concat words.now) }
 {

@@ -42,7 +42,7 @@ impl Model for ScopePath {
 }
 
 impl ScopePath {
-    /// The path of these scopes, outermost first, not shared. It takes no memory.
+    /// The path of these scopes, outermost first, not shared.
     pub fn from_vec(scopes: Vec<ScopeName>) -> ScopePath
         ensures { result ≡ scopes.items }
     {
@@ -90,7 +90,6 @@ impl ScopePath {
     }
 
     /// The scopes, outermost first, if no other path can share them; otherwise the path as it is.
-    /// It takes no memory.
     pub fn into_vec(self) -> Result<Vec<ScopeName>, ScopePath>
         ensures { MatchResult result (λ scopes. scopes.items ≡ self) (λ path. path ≡ self) }
     {

@@ -13,14 +13,12 @@ pub(crate) struct TextEnd {
 }
 
 impl TextEnd {
-    /// The end of the empty text.
     pub(crate) fn new() -> TextEnd
         ensures { result ≡ text_end [] }
     {
         TextEnd { bytes: 0, mask: 0 }
     }
 
-    /// The end of the text with one more byte.
     pub(crate) fn with_byte(self, byte: u8) -> TextEnd
         ensures { result ≡ longer_end self byte }
     {

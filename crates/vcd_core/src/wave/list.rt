@@ -35,7 +35,6 @@ fn copy_with_room(alloc: Global, changes: &[Change], more: usize) -> Result<Vec<
 }
 
 impl WaveList {
-    /// The changes.
     pub fn as_slice(&self) -> &[Change]
         ensures { result.now ≡ changes_of_list self.now }
     {

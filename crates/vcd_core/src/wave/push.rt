@@ -40,7 +40,6 @@ pub fn ends_by(changes: &[Change], end: u64) -> bool
     }
 }
 
-/// Removes the last change if it is at `tick`.
 fn pop_at(changes: &mut Vec<Change>, tick: u64)
     requires form { (width : ℕ) × IsWave width changes.old.items }
     requires none_later { All (λ c. c.tick ≤ tick) changes.old.items }

@@ -5,7 +5,6 @@ ghost use Rattle.vcd_core.specs.Wave.{IsWave};
 
 use crate::wave::Change;
 
-/// The number of changes at or before `tick`, whatever `near` is.
 pub(crate) fn count_through_near(changes: &[Change], near: usize, tick: u64) -> usize
     requires { (width : ℕ) × IsWave width changes.now }
     ensures { result ≡ count_by (λ c. nat_le c.tick tick) changes.now }

@@ -35,8 +35,8 @@ fn swap_prefix(changes: &mut Vec<Change>, at: usize, piece: &mut Vec<Change>, co
 {
     let (prefix, _) = piece.as_mut_slice().split_at_mut(count);
     let (_, rest) = changes.as_mut_slice().split_at_mut(at);
-    let (part, _) = rest.split_at_mut(count);
-    part.swap_with_slice(prefix);
+    let (range, _) = rest.split_at_mut(count);
+    range.swap_with_slice(prefix);
 }
 
 /// Moves the changes from `to` on to `from`, and each by `by` ticks. The old changes at the
@@ -81,8 +81,8 @@ fn write_at(changes: &mut Vec<Change>, at: usize, others: &[Change])
     ensures capacity { vec_capacity changes.new ≡ vec_capacity changes.old }
 {
     let (_, rest) = changes.as_mut_slice().split_at_mut(at);
-    let (part, _) = rest.split_at_mut(others.len());
-    part.copy_from_slice(others);
+    let (range, _) = rest.split_at_mut(others.len());
+    range.copy_from_slice(others);
 }
 
 /// Moves the changes at indexes `from` to before `to` to the end of the piece, which has room for
@@ -103,30 +103,30 @@ fn take_out(changes: &mut Vec<Change>, from: usize, to: usize, piece: &mut Vec<C
     if from == to && by == 0 {
         return;
     }
-    let kept = changes.len() - (to - from);
+    let len_left = changes.len() - (to - from);
     piece.extend_from_slice(&changes[from..to]).unwrap();
     move_to_front(changes.as_mut_slice(), from, to, by);
-    changes.truncate(kept);
+    changes.truncate(len_left);
 }
 
-/// Moves the changes of the piece from `kept` on into the list at `at`, which has room for them.
+/// Moves the changes of the piece from `from` on into the list at `at`, which has room for them.
 /// The later ones move to the end and get their new ticks.
-fn put_in(changes: &mut Vec<Change>, at: usize, piece: &mut Vec<Change>, kept: usize, by: i64)
+fn put_in(changes: &mut Vec<Change>, at: usize, piece: &mut Vec<Change>, from: usize, by: i64)
     requires within { at ≤ vec_len changes.old }
-    requires prefix { kept ≤ vec_len piece.old }
-    requires room { vec_len changes.old + (vec_len piece.old - kept) ≤ vec_capacity changes.old }
+    requires prefix { from ≤ vec_len piece.old }
+    requires room { vec_len changes.old + (vec_len piece.old - from) ≤ vec_capacity changes.old }
     requires ticks { AllTicksFit by (drop at changes.old.items) }
-    ensures changes { changes.new.items ≡ take at changes.old.items ++ drop kept piece.old.items
+    ensures changes { changes.new.items ≡ take at changes.old.items ++ drop from piece.old.items
         ++ map (moved_change by) (drop at changes.old.items) }
-    ensures piece { piece.new.items ≡ take kept piece.old.items }
+    ensures piece { piece.new.items ≡ take from piece.old.items }
     ensures capacity { vec_capacity changes.old ≤ vec_capacity changes.new }
     ensures piece_capacity { vec_capacity piece.new ≡ vec_capacity piece.old }
 {
-    let rest = &piece[kept..];
+    let rest = &piece[from..];
     changes.extend_from_slice(rest).unwrap();
     move_to_end(changes.as_mut_slice(), at, rest.len(), by);
     write_at(changes, at, rest);
-    piece.truncate(kept);
+    piece.truncate(from);
 }
 
 /// A splice of two lists that both have the room.
@@ -166,7 +166,7 @@ pub(crate) fn splice_changes(
 
 /// Puts the result of a splice of `list` into `copy`, which has the room.
 ///
-/// Each change that is kept is copied once.
+/// Each change that stays is copied once.
 fn fill_spliced(
     copy: &mut Vec<Change>,
     list: &[Change],
@@ -209,7 +209,7 @@ pub(crate) fn spliced_copy(
     Ok(copy)
 }
 
-/// Makes in `copy` the result of a splice of `list`, and puts the replaced part into the piece.
+/// Makes in `copy` the result of a splice of `list`, and puts the replaced range into the piece.
 /// Both have the room.
 pub(crate) fn splice_into(
     copy: &mut Vec<Change>,

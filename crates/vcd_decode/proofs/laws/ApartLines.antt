@@ -1,7 +1,7 @@
 -- What is found of lines that are cut at a tick: before it, and after it.
-use Rattle.std.proofs.Common.{◌≡◌, ℕ, zero, suc, ◌+◌, ◌-◌, ◌<◌, ◌≤◌, ◌&&◌, not, Bool, true, false}
-use Rattle.std.proofs.Common.{if◌then◌else◌, inl, inr, Option, Some, None, List, [], ◌∷◌, ◌++◌, length, map}
-use Rattle.std.proofs.Common.{append_assoc, append-nil, refl, sym, ap, ◌∙◌, arith}
+use Rattle.std.proofs.Common.{◌≡◌, ℕ, zero, suc, ◌+◌, ◌-◌, ◌<◌, ◌≤◌, ◌&&◌, not, Bool, true, false, if◌then◌else◌, inl}
+use Rattle.std.proofs.Common.{inr, Option, Some, None, List, [], ◌∷◌, ◌++◌, length, map, append_assoc, append-nil, refl}
+use Rattle.std.proofs.Common.{sym, ap, ◌∙◌, arith}
 use Rattle.std.specs.Prelude.{filter_map}
 use Rattle.std.specs.List.{cons_option, filter, flat_map, list_any, range_with_len, slice_split, onto_first}
 use Rattle.std.proofs.lemmas.Bool.{cases_lt, le-leb, lt-leb, and_parts, and_right}
@@ -22,15 +22,15 @@ use Rattle.vcd_decode.specs.Lines.{letter_before, is_zero, annotation}
 use Rattle.vcd_decode.specs.Groups.{groups_of}
 use Rattle.vcd_decode.specs.Spi.{has_sampling_edge, is_selected, group_annotation, spi_annotations}
 use Rattle.vcd_decode.specs.BusEvents.{is_line_high, is_start_at, is_stop_at, bus_event_at, bus_events}
-use Rattle.vcd_decode.specs.I2c.{annotations_of_events, nines_annotations, bits_until, is_condition}
-use Rattle.vcd_decode.specs.I2c.{shown_address, i2c_annotations}
+use Rattle.vcd_decode.specs.I2c.{annotations_of_events, nines_annotations, bits_until, is_condition, shown_address}
+use Rattle.vcd_decode.specs.I2c.{i2c_annotations}
 use Rattle.vcd_decode.specs.I2cSent.{levels}
-use Rattle.vcd_decode.specs.Laws.{line_until, line_after, without_mosi, without_miso, with_kind}
-use Rattle.vcd_decode.specs.Laws.{SpiSelectionsAreApart, SpiLinesAreApart, I2cMessagesAreApart}
+use Rattle.vcd_decode.specs.Laws.{line_until, line_after, without_mosi, without_miso, with_kind, SpiSelectionsAreApart}
+use Rattle.vcd_decode.specs.Laws.{SpiLinesAreApart, I2cMessagesAreApart}
 use Rattle.vcd_decode.proofs.shared.Groups.{groups_none}
 use Rattle.vcd_decode.proofs.shared.EdgeTicks.{nothing_happens}
 use Rattle.vcd_decode.proofs.laws.StraightEdges.{stop_is}
-use Rattle.vcd_decode.proofs.laws.sent.SelectedTicks.{zero_is}
+use Rattle.vcd_decode.proofs.laws.sent.SpiSamples.{zero_is}
 
 -- ---- ticks in a row, and lines, cut at a tick
 

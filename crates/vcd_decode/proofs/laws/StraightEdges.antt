@@ -1,7 +1,7 @@
 -- An edge through x or z counts for nothing.
 use Rattle.std.proofs.Common.{◌≡◌, ℕ, zero, suc, ◌&&◌, ◌||◌, ◌==◌, nat_le, nat_lt, Bool, true, false, not}
-use Rattle.std.proofs.Common.{if◌then◌else◌, Option, Some, None, IfSome, List, [], ◌∷◌, ◌++◌, map, All}
-use Rattle.std.proofs.Common.{refl, sym, ap, subst, ◌∙◌}
+use Rattle.std.proofs.Common.{if◌then◌else◌, Option, Some, None, IfSome, List, [], ◌∷◌, ◌++◌, map, All, refl, sym, ap}
+use Rattle.std.proofs.Common.{subst, ◌∙◌}
 use Rattle.std.specs.List.{filter, filter_map, flat_map, range_with_len, slice_split}
 use Rattle.std.specs.Option.{option_to_list, option_map_or}
 use Rattle.std.proofs.Math.Bool.{and_assoc}
@@ -14,15 +14,14 @@ use Rattle.vcd_decode.specs.declared.i2c_bus.events.BusEvent.{BusEvent}
 use Rattle.vcd_decode.specs.declared.i2c_bus.events.BusEvent.TheVariants as events
 use Rattle.vcd_decode.specs.Lines.{letter_before, is_zero, is_one}
 use Rattle.vcd_decode.specs.UartSetup.{UartSetup}
-use Rattle.vcd_decode.specs.Uart.{sample_tick, last_bit, begun_frame, falls, frames}
-use Rattle.vcd_decode.specs.Uart.{uart_annotations}
+use Rattle.vcd_decode.specs.Uart.{sample_tick, last_bit, begun_frame, falls, frames, uart_annotations}
 use Rattle.vcd_decode.specs.Groups.{groups_of}
 use Rattle.vcd_decode.specs.Spi.{is_selected, group_annotation, spi_annotations}
 use Rattle.vcd_decode.specs.BusEvents.{is_line_high, is_start_at, is_stop_at, bus_event_at, bus_events}
 use Rattle.vcd_decode.specs.I2c.{annotations_of_events}
-use Rattle.vcd_decode.specs.Laws.{goes_straight, pulled_up, goes_while_high, FramesBeginStraight}
+use Rattle.vcd_decode.specs.Laws.{goes_straight, pulled_up, goes_while_high, FramesBeginStraight, StraightClocksCount}
+use Rattle.vcd_decode.specs.Laws.{StraightBusEdgesCount}
 use Rattle.vcd_core.specs.Value.{same_letter}
-use Rattle.vcd_decode.specs.Laws.{StraightClocksCount, StraightBusEdgesCount}
 
 -- ---- the tests of the decoders are those of letters
 

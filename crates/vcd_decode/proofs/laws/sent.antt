@@ -1,13 +1,6 @@
 -- Lemmas: sent.
-pub mod EvenClocks
-pub mod ExactFrames
+pub mod I2c
 pub mod Levels
-pub mod UartBits
-pub mod UartFrames
-pub mod SelectedTicks
-pub mod SpiClock
-pub mod SpiBits
+pub mod SpiSamples
 pub mod SpiWords
-pub mod I2cEvents
-pub mod I2cBytes
-pub mod I2cMessages
+pub mod Uart

@@ -1,7 +1,6 @@
 -- A list that is empty where no line changes: over all ticks it is the list over the edges.
-use Rattle.std.proofs.Common.{◌≡◌, ℕ, zero, suc, Bool, false, not, Option, Some}
-use Rattle.std.proofs.Common.{None, List, [], ◌∷◌}
-use Rattle.std.proofs.Common.{◌++◌, map, replicate, get_or, All, refl, sym, ap, subst, ◌∙◌}
+use Rattle.std.proofs.Common.{◌≡◌, ℕ, zero, suc, Bool, false, not, Option, Some, None, List, [], ◌∷◌, ◌++◌, map}
+use Rattle.std.proofs.Common.{replicate, get_or, All, refl, sym, ap, subst, ◌∙◌}
 use Rattle.std.specs.List.{cons_option, filter, flat_map, list_any, range_with_len, AllByRecursion}
 use Rattle.std.specs.Option.{option_map, option_to_list}
 use Rattle.vcd_core.specs.declared.bit.Bit.{Bit}
@@ -10,8 +9,7 @@ use Rattle.vcd_core.specs.declared.bit_edges.BitEdge.{BitEdge}
 use Rattle.vcd_core.specs.Value.{same_letters}
 use Rattle.vcd_core.specs.inside.value.EqualByLetters.{same_letters-Decides}
 use Rattle.vcd_core.specs.WaveView.{WaveView}
-use Rattle.vcd_core.specs.Edges.{Trace, trace_of, value_on, value_before, same_value, changes_at}
-use Rattle.vcd_core.specs.Edges.{edge_on, edges_on}
+use Rattle.vcd_core.specs.Edges.{Trace, trace_of, value_on, value_before, same_value, changes_at, edge_on, edges_on}
 use Rattle.std.proofs.lemmas.Bool.{cond_both, not-false, or_parts}
 use Rattle.std.proofs.lemmas.Simd.{map-map}
 use Rattle.std.proofs.lemmas.List.Elements.{All-map, recursion_from_All}

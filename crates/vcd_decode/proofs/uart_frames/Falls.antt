@@ -1,13 +1,13 @@
--- The falls of a line, by its changes.
-use Rattle.std.proofs.Common.{◌≡◌, ℕ, zero, suc, ◌+◌, ◌<◌, ◌≤◌, Bool, true, false, cond, ◌&&◌}
-use Rattle.std.proofs.Common.{nat_lt, if◌then◌else◌}
-use Rattle.std.proofs.Common.{Option, None, List, [], ◌∷◌, ◌++◌, length, get_or, drop, drop-cons}
-use Rattle.std.proofs.Common.{append_assoc}
-use Rattle.std.proofs.Common.{append-nil, refl, sym, ap, subst, ◌∙◌, inl, inr, arith, add-one}
+-- The frames that the falls of a line begin, their samples, and the letters of the line.
+use Rattle.std.proofs.Common.{◌≡◌, ℕ, ◌<◌, ◌≤◌, true, false, Some, None, refl, zero, suc, ◌+◌, ◌*◌, ◌/◌, arith, Bool}
+use Rattle.std.proofs.Common.{cond, ◌&&◌, nat_lt, if◌then◌else◌, Option, List, [], ◌∷◌, ◌++◌, length, get_or, drop}
+use Rattle.std.proofs.Common.{drop-cons, append_assoc, append-nil, sym, ap, subst, ◌∙◌, inl, inr, add-one, ◌-◌, nat_le}
+use Rattle.std.proofs.Common.{count_by, take}
+use Rattle.std.proofs.lemmas.Bool.{lt-ltb, le-ltb, cases_eq, cases_lt, lt-leb, le-leb}
+use Rattle.std.proofs.Math.Nat.{mul-le-mul_right, le-div_iff_mul-le, div-mul-le_self, div-zero, le_trans}
 use Rattle.std.specs.List.{filter, range_with_len}
 use Rattle.std.specs.Option.{option_to_list, option_map_or}
-use Rattle.std.proofs.lemmas.Bool.{cases_eq, cases_lt, lt-leb, le-leb, lt-ltb, le-ltb}
-use Rattle.std.proofs.lemmas.List.{drop_all}
+use Rattle.std.proofs.lemmas.List.{drop_all, length-replicate, take_all, take_more}
 use Rattle.vcd_core.specs.declared.bit.Bit.{Bit}
 use Rattle.vcd_core.specs.declared.bit.Bit.TheVariants.{Zero, X}
 use Rattle.vcd_core.specs.declared.wave.Change.{Change}
@@ -15,12 +15,57 @@ use Rattle.vcd_core.specs.Value.{letter_at, all_x}
 use Rattle.vcd_core.specs.Wave.{value_from, AreChangesFrom, IsWave, AllUpTo}
 use Rattle.vcd_core.specs.WaveView.{WaveView}
 use Rattle.vcd_core.proofs.shared.Waves.{value_past, value_early}
-use Rattle.vcd_decode.specs.declared.annotation.Annotation.{Annotation}
-use Rattle.vcd_decode.specs.Lines.{letter_before, is_zero, is_one}
-use Rattle.vcd_decode.specs.WaveLines.{line_of}
+use Rattle.vcd_core.specs.WavePush.{last_value}
+use Rattle.vcd_core.proofs.shared.Pushes.{value_counted, all_from_upto, last_value-none, last_value-split}
+use Rattle.vcd_decode.specs.declared.annotation.Kind.TheVariants.{CutOff}
 use Rattle.vcd_decode.specs.UartSetup.{UartSetup}
+use Rattle.vcd_decode.specs.Lines.{is_zero, annotation, letter_before, is_one}
+use Rattle.vcd_decode.specs.Uart.{sample_tick, last_bit, frame_kind, frame_letters, begun_frame, sample_offset, falls}
+use Rattle.vcd_decode.specs.Uart.{frames, uart_annotations}
+use Rattle.vcd_decode.specs.declared.annotation.Annotation.{Annotation}
+use Rattle.vcd_decode.specs.WaveLines.{line_of}
 use Rattle.vcd_decode.specs.inside.UartFrames.{is_fall}
-use Rattle.vcd_decode.specs.Uart.{falls, frames, begun_frame, uart_annotations}
+
+-- ==== the frame that a fall begins, case by case
+
+module _ (f : ℕ → Bit) (end : ℕ) (u : UartSetup) (start : ℕ) where
+  pub cut_in_start_bit : end < sample_tick u start 0 → begun_frame f end u start ≡ Some (annotation start end CutOff)
+  unfolding begun_frame
+  cut_in_start_bit past = rw (lt-ltb end (sample_tick u start 0) past) refl
+
+  module _ (within : sample_tick u start 0 ≤ end) where
+    pub glitch : is_zero (f (sample_tick u start 0)) ≡ false → begun_frame f end u start ≡ None
+    unfolding begun_frame
+    glitch over = rw (le-ltb end (sample_tick u start 0) within, over) refl
+
+    module _ (low : is_zero (f (sample_tick u start 0)) ≡ true) where
+      pub cut_later : end < sample_tick u start (last_bit u)
+          → begun_frame f end u start ≡ Some (annotation start end CutOff)
+      unfolding begun_frame
+      cut_later past =
+          rw (le-ltb end (sample_tick u start 0) within, low, lt-ltb end (sample_tick u start (last_bit u)) past) refl
+
+      pub whole : sample_tick u start (last_bit u) ≤ end → begun_frame f end u start
+          ≡ Some (annotation start (sample_tick u start (last_bit u)) (frame_kind u (frame_letters f u start)))
+      unfolding begun_frame
+      whole all =
+          rw (le-ltb end (sample_tick u start 0) within, low, le-ltb end (sample_tick u start (last_bit u)) all) refl
+
+-- ==== the ticks at which a frame is sampled
+
+pub quotients_rise : (a b d : ℕ) → a ≤ b → a / d ≤ b / d
+quotients_rise a b zero le = rw (div-zero a, div-zero b) (omega arith)
+quotients_rise a b (suc d) le =
+    (le-div_iff_mul-le {k = suc d} {x = a / suc d} {y = b} (omega arith)).1 (le_trans (div-mul-le_self a (suc d)) le)
+
+-- later bits are sampled no earlier
+pub offsets_rise : (u : UartSetup) (k m : ℕ) → k ≤ m → sample_offset u k ≤ sample_offset u m
+unfolding sample_offset
+offsets_rise u k m le =
+    quotients_rise ((2 * k + 1) * u.numerator) ((2 * m + 1) * u.numerator) (2 * u.denominator)
+    (mul-le-mul_right u.numerator (omega arith))
+
+-- ==== the falls of a line, by its changes
 
 -- the letter of a change
 abbrev pub letter_of : Change → Bit
@@ -154,3 +199,64 @@ frames_by_changes wave changes end u one same is upto =
     ap (λ cs. frames (begun_frame (line_of wave) end u) 0 (fall_ticks X cs)) same
     ∙ ap (frames (begun_frame (line_of wave) end u) 0)
     (sym (falls_are wave end one (subst (IsWave wave.width) same is) upto))
+
+-- ==== the letter of a line of one bit, by the changes up to a tick
+
+-- whether a change is at or before a tick
+abbrev pub is_up_to : ℕ → Change → Bool
+is_up_to t c = nat_le c.tick t
+
+wide_from : (floor : ℕ) (before : List Bit) (cs : List Change) (i : ℕ) (d : Change) → AreChangesFrom floor before cs
+    → i < length cs → length (get_or cs i d).value ≡ length before
+wide_from floor before [] i d rise within = absurd (omega (arith, within))
+wide_from floor before (c ∷ cs) zero d rise within = rise.2
+wide_from floor before (c ∷ cs) (suc i) d (from, other, wide, rest) within =
+    wide_from (c.tick + 1) c.value cs i d rest (omega (arith, within)) ∙ wide
+
+-- the last value is at the end of the list
+last_at : (before : List Bit) (cs : List Change) (n : ℕ) (d : Change) → n + 1 ≡ length cs
+    → last_value before cs ≡ (get_or cs n d).value
+last_at before cs n d all =
+    let split = sym (take_all (n + 1) cs (omega arith)) ∙ take_more cs n d (omega arith) in
+    sym (last_value-split before cs (take n cs) (get_or cs n d) split)
+
+-- the value of a line at a tick is the last of the changes counted
+value_there : (wave : WaveView) (changes : List Change) (t n : ℕ) → changes ≡ wave.changes → IsWave wave.width changes
+    → n ≡ count_by (is_up_to t) wave.changes
+    → value_from (all_x wave.width) wave.changes t ≡ last_value (all_x wave.width) (take n changes)
+value_there wave changes t n same is counted =
+    let x = all_x wave.width in
+    ap (λ cs. value_from x cs t) (sym same) ∙ value_counted changes t 0 x x is.rise
+    ∙ ap (λ cs. last_value x (take (count_by (is_up_to t) cs) changes)) same
+    ∙ ap (λ m. last_value x (take m changes)) (sym counted)
+
+-- the letter at a tick is that of the last change up to it
+pub letter_counted : (wave : WaveView) (changes : List Change) (t n : ℕ) (c : Change) → changes ≡ wave.changes
+    → IsWave wave.width changes → n ≡ count_by (is_up_to t) wave.changes → 1 ≤ length (take n changes)
+    → c ≡ get_or (take n changes) (length (take n changes) - 1) c → letter_at c.value 0 ≡ line_of wave t
+letter_counted wave changes t n c same is counted some at =
+    let value = value_there wave changes t n same is counted
+    ∙ last_at (all_x wave.width) (take n changes) (length (take n changes) - 1) c (omega arith)
+    ∙ ap (λ (d : Change). d.value) (sym at) in
+    ap (λ (v : List Bit). letter_at v 0) (sym value)
+
+-- it is x where there is no change
+pub no_letter_counted : (wave : WaveView) (changes : List Change) (t n : ℕ) → wave.width ≡ 1 → changes ≡ wave.changes
+    → IsWave wave.width changes
+    → n ≡ count_by (is_up_to t) wave.changes → length (take n changes) < 1 → X ≡ line_of wave t
+no_letter_counted wave changes t n one same is counted none =
+    let value = value_there wave changes t n same is counted
+    ∙ sym (last_value-none (all_x wave.width) (take n changes) (omega arith)) in
+    sym (ap (λ (v : List Bit). letter_at v 0) value ∙ ap (λ w. letter_at (all_x w) 0) one)
+
+-- the tick of an item is not past the end
+pub up_to_at : (end : ℕ) (cs : List Change) (i : ℕ) (c : Change) → AllUpTo end cs → i < length cs → c ≡ get_or cs i c
+    → c.tick ≤ end
+up_to_at end cs i c upto within at = omega (arith, all_from_upto end cs upto i c within, ap (λ (d : Change). d.tick) at)
+
+-- an item has one letter
+pub letter_at_item : (width : ℕ) (cs : List Change) (i : ℕ) (c : Change) → width ≡ 1 → IsWave width cs → i < length cs
+    → c ≡ get_or cs i c → 0 < length c.value
+letter_at_item width cs i c one is within at =
+    let wide = wide_from 0 (all_x width) cs i c is.rise within ∙ length-replicate width _ in
+    omega (arith, ap (λ (d : Change). length d.value) at, wide)

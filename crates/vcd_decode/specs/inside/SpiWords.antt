@@ -1,7 +1,6 @@
 -- The walk over edges for SPI words: the annotations of each edge, and the group of bits after it.
 use Rattle.std.specs.Prelude.{ℕ, ◌≡◌, ◌+◌, ◌==◌, ◌<◌, ◌&&◌, nat_lt, Bool, true, not, if◌then◌else◌}
-use Rattle.std.specs.Prelude.{Option, Some, None}
-use Rattle.std.specs.Prelude.{List, [], ◌∷◌, ◌++◌, length}
+use Rattle.std.specs.Prelude.{Option, Some, None, List, [], ◌∷◌, ◌++◌, length}
 use Rattle.std.specs.List.{flat_map, AllByRecursion}
 use Rattle.vcd_core.specs.declared.bit.Bit.{Bit}
 use Rattle.vcd_core.specs.declared.bit_edges.BitEdge.{BitEdge}
@@ -14,8 +13,7 @@ use Rattle.vcd_decode.specs.inside.SpiParts.{group_start, group_end, segment_ann
 use Rattle.vcd_decode.specs.inside.LineEdges.{line_edge}
 use Rattle.vcd_decode.specs.inside.SpiSetup.{samples_at}
 use Rattle.vcd_decode.specs.inside.PartialWord.{line_bit, DataFits, group_before, group_after}
-use Rattle.vcd_decode.specs.inside.PartialWord.{word_annotation}
-use Rattle.vcd_decode.specs.inside.PartialWord.{unfinished_annotation}
+use Rattle.vcd_decode.specs.inside.PartialWord.{word_annotation, unfinished_annotation}
 
 -- ---- the tests of an edge
 

@@ -17,16 +17,16 @@ use vcd_core::{Bit, BitEdge, BitEdges, NoMemory, Wave};
 /// The annotations of an I2C bus with the lines `scl` and `sda`, up to the tick `end` (UM10204,
 /// 3.1).
 ///
-/// A START or STOP condition is annotated at its tick. A byte is an address of seven bits, a part
-/// of an address of ten bits, or data. It is annotated from its first to its eighth bit, and its
-/// acknowledge follows it. A line that is z is high.
+/// A START or STOP condition is annotated at its tick. A byte is an address of seven bits, one of
+/// the two of an address of ten bits, or data. It is annotated from its first to its eighth bit,
+/// and its acknowledge follows it. A line that is z is high.
 ///
 /// A byte or an acknowledge with an x is `Unknown`. Bits that a condition cuts off are `Unfinished`
 /// if there are at least two, since SCL rises once before each condition. Bits that the capture's
 /// end cuts off give no annotation.
 ///
 /// It is one walk over the changes of both lines, with a constant number of steps and at most two
-/// annotations for each. The memory is that of the annotations; it may run out of memory.
+/// annotations for each. The memory is that of the annotations.
 pub fn i2c<'a>(
     alloc: Global,
     scl: &'a Wave,
@@ -63,13 +63,13 @@ fn take_line_edge(
     transfer: Option<Transfer>,
     edge: BitEdge,
 ) -> Result<Option<Transfer>, NoMemory>
-    requires part { walk.IsSoundTransfer transfer }
+    requires sound { walk.IsSoundTransfer transfer }
     requires lines { walk.IsBusEdge edge }
     ensures annotations { IfOk result (λ next. (es : List BusEvent)
         → found.new.items ++ walk.walk_annotations next es
         ≡ found.old.items ++ walk.walk_annotations transfer
         (cons_option (walk.edge_event edge) es)) }
-    ensures part { IfOk result walk.IsSoundTransfer }
+    ensures sound { IfOk result walk.IsSoundTransfer }
 {
     let before = levels_of(edge.before);
     match bus_event(edge.tick, before, levels_of(edge.at)) {
@@ -78,7 +78,6 @@ fn take_line_edge(
     }
 }
 
-/// The levels of the two lines.
 fn levels_of(bits: [Option<Bit>; 4]) -> BusLevels
     requires { walk.HasBothLines bits }
     ensures { result ≡ walk.levels_of bits }

@@ -35,7 +35,7 @@ impl PartialByte {
     /// No bits.
     pub(super) fn new() -> PartialByte
         ensures bits { result ≡ no_bits }
-        ensures part { IsPartialByte result }
+        ensures partial { IsPartialByte result }
     {
         PartialByte {
             count: 0,
@@ -47,10 +47,10 @@ impl PartialByte {
 
     /// These bits and one more. There are eight at most.
     pub(super) fn with(self, bit: BusBit) -> PartialByte
-        requires part { IsPartialByte self }
+        requires partial { IsPartialByte self }
         requires not_full { self.count < 8 }
         ensures bits { result ≡ partial_byte_with self bit }
-        ensures part { IsPartialByte result }
+        ensures partial { IsPartialByte result }
     {
         PartialByte {
             count: self.count + 1,
@@ -97,7 +97,6 @@ pub(super) fn byte_kind(role: ByteRole, byte: Option<u8>) -> Kind
     }
 }
 
-/// The role of the byte after a byte.
 pub(super) fn role_after(role: ByteRole, byte: Option<u8>) -> ByteRole
     ensures { result ≡ spec.role_after role byte }
 {
@@ -145,7 +144,6 @@ fn ten_bit_kind(given: Option<u16>, bits: u8, direction: Direction) -> Kind
     }
 }
 
-/// The direction in the last bit of an address.
 fn direction_of(byte: u8) -> Direction
     ensures { result ≡ spec.direction_of byte }
 {
@@ -170,7 +168,6 @@ fn high_bits(byte: u8) -> u8
     byte / 2 % 4
 }
 
-/// The kind of an acknowledge.
 pub(super) fn acknowledge_kind(bit: Option<u8>) -> Kind
     ensures { result ≡ spec.acknowledge_kind bit }
 {

@@ -17,7 +17,7 @@ pub(super) struct Transfer {
     /// The role of the current byte.
     pub(super) role: ByteRole,
     /// The bits of the current byte, at most eight.
-    pub(super) part: PartialByte,
+    pub(super) byte: PartialByte,
     /// The address of ten bits that came since the START.
     pub(super) address: Option<u16>,
 }
@@ -28,11 +28,11 @@ pub(super) fn take_event(
     transfer: Option<Transfer>,
     event: BusEvent,
 ) -> Result<Option<Transfer>, NoMemory>
-    requires part { walk.IsSoundTransfer transfer }
+    requires sound { walk.IsSoundTransfer transfer }
     ensures annotations { OnOk result
         (found.new.items ≡ found.old.items ++ walk.event_annotations transfer event) }
     ensures transfer { IfOk result (λ next. next ≡ walk.bus_after transfer event) }
-    ensures part { IfOk result walk.IsSoundTransfer }
+    ensures sound { IfOk result walk.IsSoundTransfer }
 {
     match event {
         BusEvent::Start(tick) => {
@@ -55,16 +55,16 @@ fn take_bit(
     transfer: Option<Transfer>,
     bit: BusBit,
 ) -> Result<Option<Transfer>, NoMemory>
-    requires part { walk.IsSoundTransfer transfer }
+    requires sound { walk.IsSoundTransfer transfer }
     ensures annotations { OnOk result
         (found.new.items ≡ found.old.items ++ walk.event_annotations transfer (BusEvent.Bit bit)) }
     ensures transfer { IfOk result (λ next. next ≡ walk.bus_after transfer (BusEvent.Bit bit)) }
-    ensures part { IfOk result walk.IsSoundTransfer }
+    ensures sound { IfOk result walk.IsSoundTransfer }
 {
     let Some(transfer) = transfer else {
         return Ok(None);
     };
-    if transfer.part.count < 8 {
+    if transfer.byte.count < 8 {
         return Ok(Some(transfer_with_bit(transfer, bit)));
     }
     Ok(Some(end_byte(found, transfer, bit)?))
@@ -72,14 +72,14 @@ fn take_bit(
 
 /// The transfer with one more bit of the current byte.
 fn transfer_with_bit(transfer: Transfer, bit: BusBit) -> Transfer
-    requires part { walk.IsPartialByte transfer.part }
-    requires not_full { transfer.part.count < 8 }
-    ensures bits { result ≡ record transfer { part = walk.partial_byte_with transfer.part bit } }
-    ensures part { walk.IsPartialByte result.part }
+    requires partial { walk.IsPartialByte transfer.byte }
+    requires not_full { transfer.byte.count < 8 }
+    ensures bits { result ≡ record transfer { byte = walk.partial_byte_with transfer.byte bit } }
+    ensures partial { walk.IsPartialByte result.byte }
 {
     Transfer {
         role: transfer.role,
-        part: transfer.part.with(bit),
+        byte: transfer.byte.with(bit),
         address: transfer.address,
     }
 }
@@ -94,14 +94,14 @@ fn end_byte(
         (found.new.items ≡ found.old.items ++ walk.whole_byte_annotations transfer bit) }
     ensures transfer { IfOk result (λ next. next ≡ walk.transfer_after_byte transfer) }
 {
-    let part = transfer.part;
-    let kind = byte_kind(transfer.role, part.number);
-    append_annotation(found, part.first, part.last, kind)?;
+    let byte = transfer.byte;
+    let kind = byte_kind(transfer.role, byte.number);
+    append_annotation(found, byte.first, byte.last, kind)?;
     let acknowledge = acknowledge_kind(number_with(Some(0), bit));
     append_annotation(found, bit.tick, bit.tick, acknowledge)?;
     Ok(Transfer {
-        role: role_after(transfer.role, part.number),
-        part: PartialByte::new(),
+        role: role_after(transfer.role, byte.number),
+        byte: PartialByte::new(),
         address: transfer.address.or(ten_bit_address(kind)),
     })
 }
@@ -115,11 +115,11 @@ fn append_rest(found: &mut Vec<Annotation>, transfer: Option<Transfer>) -> Resul
     let Some(transfer) = transfer else {
         return Ok(());
     };
-    let part = transfer.part;
-    if part.count < 2 {
+    let byte = transfer.byte;
+    if byte.count < 2 {
         return Ok(());
     }
-    append_annotation(found, part.first, part.last, Kind::Unfinished(part.count))
+    append_annotation(found, byte.first, byte.last, Kind::Unfinished(byte.count))
 }
 
 fn append_annotation(
@@ -134,14 +134,13 @@ fn append_annotation(
     Ok(())
 }
 
-/// The transfer that a START begins.
 fn new_transfer(transfer: Option<Transfer>) -> Transfer
     ensures bits { result ≡ walk.new_transfer transfer }
-    ensures part { walk.IsPartialByte result.part }
+    ensures partial { walk.IsPartialByte result.byte }
 {
     Transfer {
         role: ByteRole::Address(transfer.and_then(|transfer| transfer.address)),
-        part: PartialByte::new(),
+        byte: PartialByte::new(),
         address: None,
     }
 }

@@ -1,15 +1,13 @@
 -- Walks over the pieces of a record: what holds after one more piece.
-use Rattle.std.proofs.Common.{◌-◌, ◌≡◌, ◌≢◌, ℕ, suc, refl, vec_capacity, ◌+◌, ◌<◌, ◌≤◌}
-use Rattle.std.proofs.Common.{List, [], ◌∷◌, ◌++◌, length, take, drop, map}
-use Rattle.std.proofs.Common.{get_or, set, All, Option, Some, None, sym, ap, subst, ◌∙◌, inl, inr}
+use Rattle.std.proofs.Common.{◌-◌, ◌≡◌, ◌≢◌, ℕ, suc, refl, vec_capacity, ◌+◌, ◌<◌, ◌≤◌, List, [], ◌∷◌, ◌++◌, length}
+use Rattle.std.proofs.Common.{take, drop, map, get_or, set, All, Option, Some, None, sym, ap, subst, ◌∙◌, inl, inr}
 use Rattle.std.proofs.Common.{arith}
-use Rattle.std.proofs.lemmas.List.{length-map, length-drop, get_or-map, get_or-drop, set-get_or}
-use Rattle.std.proofs.lemmas.List.{map-set, map-append}
+use Rattle.std.proofs.lemmas.List.{length-map, length-drop, get_or-map, get_or-drop, set-get_or, map-set, map-append}
+use Rattle.std.proofs.lemmas.List.{get_or_default, get_or-set_same, get_or-set_other, drop-set-lt, drop-drop, drop_more}
+use Rattle.std.proofs.lemmas.List.{take_more_set}
 use Rattle.std.specs.Option.{unwrap_or}
 use Rattle.std.specs.Prelude.{MatchOption}
 use Rattle.std.proofs.lemmas.Bool.{cases_eq}
-use Rattle.std.proofs.lemmas.List.{get_or_default, get_or-set_same, get_or-set_other}
-use Rattle.std.proofs.lemmas.List.{drop-set-lt, drop-drop, drop_more, take_more_set}
 use Rattle.std.proofs.lemmas.List.Elements.{All-head, All-tail}
 use Rattle.vcd_core.specs.declared.capture.Signal.{Signal}
 use Rattle.vcd_core.specs.Contents.{Contents, SignalContents, signal_at}
@@ -19,17 +17,14 @@ use Rattle.vcd_core.specs.WaveView.{WaveView}
 use Rattle.vcd_core.specs.Splice.{spliced_changes}
 use Rattle.vcd_edit.specs.declared.record.Piece.{Piece}
 use Rattle.vcd_edit.specs.RecordView.{PieceView}
-use Rattle.vcd_edit.specs.AppliedRecords.{changes_with_piece, with_piece, with_pieces}
-use Rattle.vcd_edit.specs.AppliedRecords.{RiseFrom}
+use Rattle.vcd_edit.specs.AppliedRecords.{changes_with_piece, with_piece, with_pieces, RiseFrom}
 use Rattle.vcd_edit.specs.Records.{piece_view}
-use Rattle.vcd_edit.specs.inside.exchange.Pieces.{IsOppositePiece, PieceReady, PieceReadyIn, AreOppositePieces}
-use Rattle.vcd_edit.specs.inside.exchange.Pieces.{wave_at, HasNoLessRoom}
-use Rattle.vcd_edit.specs.inside.exchange.Pieces.{HasRoomForPiece, CanBePutIn, IsComing, HaveRoom}
+use Rattle.vcd_edit.specs.inside.exchange.Pieces.{IsOppositePiece, PieceReady, PieceReadyIn, AreOppositePieces, wave_at}
+use Rattle.vcd_edit.specs.inside.exchange.Pieces.{HasNoLessRoom, HasRoomForPiece, CanBePutIn, IsComing, HaveRoom}
 use Rattle.vcd_edit.specs.inside.exchange.Pieces.{ExchangedSoFar}
 use Rattle.vcd_edit.proofs.shared.Lists.{drop_here, take_here}
-use Rattle.vcd_edit.proofs.exchange.OppositePieces.{ready_after, with_pieces-push, AreOppositePieces-push}
-use Rattle.vcd_edit.proofs.exchange.OppositePieces.{all_from}
-use Rattle.vcd_edit.proofs.exchange.ContentsAfterPiece.{contents_at, wave_is_there, piece_put, other_waves}
+use Rattle.vcd_edit.proofs.exchange.ExchangedPieces.{ready_after, with_pieces-push, AreOppositePieces-push, all_from}
+use Rattle.vcd_edit.proofs.exchange.ExchangedPieces.{contents_at, wave_is_there, piece_put, other_waves}
 
 pub views_kept : (ps : List Piece) (i : ℕ) (x y : Piece) → i < length ps → x ≡ get_or ps i x
     → piece_view y ≡ piece_view x → map piece_view (set ps i y) ≡ map piece_view ps

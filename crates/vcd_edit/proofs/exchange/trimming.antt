@@ -1,3 +1,2 @@
 -- Lemmas of `exchange/trimming`.
-pub mod ChangeTests
 pub mod TrimmedPieces

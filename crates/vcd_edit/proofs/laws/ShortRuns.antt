@@ -1,24 +1,20 @@
 -- The short runs of a wave, of which a deglitch leaves none.
-use Rattle.std.proofs.Common.{◌≡◌, ◌≢◌, ℕ, zero, suc, ◌+◌, ◌-◌, ◌<◌, ◌≤◌, ◌==◌, ◌||◌, true}
-use Rattle.std.proofs.Common.{false, nat_le}
-use Rattle.std.proofs.Common.{if◌then◌else◌, List, length, None, ◌⊎◌, inl, inr, refl, sym, ap}
-use Rattle.std.proofs.Common.{◌∙◌, arith}
+use Rattle.std.proofs.Common.{◌≡◌, ◌≢◌, ℕ, zero, suc, ◌+◌, ◌-◌, ◌<◌, ◌≤◌, ◌==◌, ◌||◌, true, false, nat_le}
+use Rattle.std.proofs.Common.{if◌then◌else◌, List, length, None, ◌⊎◌, inl, inr, refl, sym, ap, ◌∙◌, arith}
 use Rattle.std.proofs.lemmas.Bool.{cases_eq, true_from_ne_false}
 use Rattle.std.proofs.lemmas.Bool.Decides.{nat_tests}
 use Rattle.std.proofs.lemmas.List.{length-set, get_or-set_same, set-get_or}
 use Rattle.vcd_core.specs.declared.bit.Bit.{Bit}
 use Rattle.vcd_core.specs.Wave.{changes_of}
-use Rattle.vcd_core.specs.Contents.{Contents, SignalContents, no_signal, signal_at, with_signal}
-use Rattle.vcd_core.specs.Contents.{signal_value}
+use Rattle.vcd_core.specs.Contents.{Contents, SignalContents, no_signal, signal_at, with_signal, signal_value}
 use Rattle.vcd_core.proofs.shared.Waves.{value_at-changes_of, changes_of-value_at, changes_same}
 use Rattle.vcd_edit.specs.declared.edit.Edit.TheVariants.{Deglitch}
 use Rattle.vcd_edit.specs.Effect.{run_start, run_end, is_steady, steady_value, with_values, effect}
 use Rattle.vcd_edit.specs.EditFaults.{edit_fault}
 use Rattle.vcd_edit.specs.EffectLaws.{value_of}
-use Rattle.vcd_edit.specs.Laws.{IsRunOfOneValue, HasNoShortRun, DeglitchLeavesNoShortRun}
-use Rattle.vcd_edit.specs.Laws.{DeglitchKeepsLongRuns, DeglitchFillsShortRuns}
-use Rattle.vcd_edit.specs.Laws.{DeglitchWithoutShortRuns, DeglitchTwice}
-use Rattle.vcd_edit.proofs.checking.NoFault.{no_fault, position_below}
+use Rattle.vcd_edit.specs.Laws.{IsRunOfOneValue, HasNoShortRun, DeglitchLeavesNoShortRun, DeglitchKeepsLongRuns}
+use Rattle.vcd_edit.specs.Laws.{DeglitchFillsShortRuns, DeglitchWithoutShortRuns, DeglitchTwice}
+use Rattle.vcd_edit.proofs.checking.Faults.{no_fault, position_below}
 use Rattle.vcd_edit.proofs.shared.SoundEffects.{effect_is_sound, sound_at}
 use Rattle.vcd_edit.proofs.plans.Runs.{StartsAt, EndsAt, start_is, end_is, run_same, starts_before, ends_after}
 use Rattle.vcd_edit.proofs.plans.Runs.{run_stays, run_falls, deglitch_is_wave}

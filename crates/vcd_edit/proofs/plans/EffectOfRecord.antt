@@ -1,6 +1,6 @@
 -- Records whose result is the effect of an edit.
-use Rattle.std.proofs.Common.{Option, ◌≡◌, ◌<◌, ℕ, ◌+◌, ◌≤◌, IsTrue, List, [], ◌∷◌, length, map, get_or}
-use Rattle.std.proofs.Common.{All, Some, None, refl, sym, ap, subst, ◌∙◌, arith}
+use Rattle.std.proofs.Common.{Option, ◌≡◌, ◌<◌, ℕ, ◌+◌, ◌≤◌, IsTrue, List, [], ◌∷◌, length, map, get_or, All, Some}
+use Rattle.std.proofs.Common.{None, refl, sym, ap, subst, ◌∙◌, arith}
 use Rattle.std.specs.Borrow.{Bor}
 use Rattle.std.specs.Prelude.{ℤ, neg_ℤ, Result, IfOk}
 use Rattle.std.proofs.lemmas.List.{length-map, set-get_or}
@@ -12,9 +12,8 @@ use Rattle.vcd_core.specs.declared.capture.Capture.{Capture}
 use Rattle.vcd_core.specs.declared.wave.Change.{Change}
 use Rattle.vcd_core.specs.declared.memory.NoMemory.{NoMemory}
 use Rattle.vcd_core.specs.Wave.{changes_of}
-use Rattle.vcd_core.specs.Contents.{Contents, SignalContents, no_signal, signal_at}
+use Rattle.vcd_core.specs.Contents.{Contents, SignalContents, no_signal, signal_at, with_signal}
 use Rattle.vcd_core.specs.CaptureContents.{contents, signal_contents}
-use Rattle.vcd_core.specs.Contents.{with_signal}
 use Rattle.vcd_core.specs.Sound.{IsSound, IsSoundSignal}
 use Rattle.vcd_edit.specs.declared.edit.Edit.{Edit}
 use Rattle.vcd_edit.specs.declared.edit.Edit.TheVariants.{Rename, Remove, Force}
@@ -24,16 +23,14 @@ use Rattle.vcd_edit.specs.Effect.{with_wave, renamed_signal, effect}
 use Rattle.vcd_edit.specs.Touched.{stays, record_pairing}
 use Rattle.vcd_edit.specs.TouchedByEdit.{edit_advance, edit_pairing}
 use Rattle.vcd_edit.specs.EditFaults.{is_signal, edit_fault}
-use Rattle.vcd_edit.specs.AppliedRecords.{changes_with_piece, signal_with_changes, with_pieces}
-use Rattle.vcd_edit.specs.AppliedRecords.{apply_record, PieceFits}
+use Rattle.vcd_edit.specs.AppliedRecords.{changes_with_piece, signal_with_changes, with_pieces, apply_record, PieceFits}
 use Rattle.vcd_edit.specs.AppliedRecords.{WordFits, SignalFits}
-use Rattle.vcd_edit.proofs.exchange.ContentsAfterPiece.{contents_at}
-use Rattle.vcd_edit.proofs.exchange.OppositePieces.{fits_there}
-use Rattle.vcd_edit.proofs.exchange.OppositeRecords.{parts}
+use Rattle.vcd_edit.proofs.exchange.ExchangedPieces.{contents_at, fits_there}
+use Rattle.vcd_edit.proofs.exchange.ExchangedRecords.{parts}
 use Rattle.vcd_edit.specs.inside.plans.Ranges.{GivesChanges}
 use Rattle.vcd_edit.specs.Records.{piece_view}
 use Rattle.vcd_edit.specs.inside.plans.Plan.{IsPlan, GivesValues}
-use Rattle.vcd_edit.proofs.checking.NoFault.{no_fault, position_below, range_within}
+use Rattle.vcd_edit.proofs.checking.Faults.{no_fault, position_below, range_within}
 use Rattle.vcd_edit.proofs.shared.SoundEffects.{sound_at, effect_is_sound}
 
 -- a record with that result is a plan if its parts lie within the capture

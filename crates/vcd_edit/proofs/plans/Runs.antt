@@ -1,8 +1,6 @@
 -- Runs of one value, and the values without the short ones.
-use Rattle.std.proofs.Common.{◌≡◌, ◌≢◌, ℕ, zero, suc, ◌+◌, ◌-◌, ◌<◌, ◌≤◌, ◌==◌, ◌||◌, Bool, true}
-use Rattle.std.proofs.Common.{false, nat_le}
-use Rattle.std.proofs.Common.{if◌then◌else◌, List, [], ◌∷◌, length, inl, inr, refl, sym, ap, subst}
-use Rattle.std.proofs.Common.{◌∙◌, arith}
+use Rattle.std.proofs.Common.{◌≡◌, ◌≢◌, ℕ, zero, suc, ◌+◌, ◌-◌, ◌<◌, ◌≤◌, ◌==◌, ◌||◌, Bool, true, false, nat_le}
+use Rattle.std.proofs.Common.{if◌then◌else◌, List, [], ◌∷◌, length, inl, inr, refl, sym, ap, subst, ◌∙◌, arith}
 use Rattle.std.proofs.Math.Bool.{or-false}
 use Rattle.std.proofs.lemmas.Bool.{cases_lt, cases_eq, both_ways, cond_both, iff_false, eq-eqb}
 use Rattle.std.proofs.lemmas.Bool.Decides.{nat_tests}
@@ -17,8 +15,7 @@ use Rattle.vcd_core.specs.Contents.{Contents, SignalContents, signal_at, signal_
 use Rattle.vcd_core.proofs.shared.Waves.{value_past, value_early}
 use Rattle.vcd_edit.specs.declared.edit.Edit.TheVariants.{Deglitch}
 use Rattle.vcd_edit.specs.Effect.{run_start, run_end, is_steady, steady_value, with_wave, effect}
-use Rattle.vcd_edit.specs.inside.plans.RemainingChanges.{TicksRise, without_repeats, begins_steady}
-use Rattle.vcd_edit.specs.inside.plans.RemainingChanges.{steady_changes}
+use Rattle.vcd_edit.specs.inside.plans.RemainingChanges.{TicksRise, without_repeats, begins_steady, steady_changes}
 use Rattle.vcd_edit.proofs.plans.WithoutRepeats.{either_same, rise_lower, early_value, wave_rises, without_repeats_is}
 
 -- ---- ranges with one value

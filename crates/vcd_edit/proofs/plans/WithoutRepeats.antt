@@ -1,6 +1,5 @@
 -- Changes without those that leave the value as it is, and the functions that have these changes.
-use Rattle.std.proofs.Common.{◌≡◌, ℕ, ◌+◌, ◌<◌, ◌≤◌, Bool, true, false, nat_le, if◌then◌else◌, List}
-use Rattle.std.proofs.Common.{[], ◌∷◌, length}
+use Rattle.std.proofs.Common.{◌≡◌, ℕ, ◌+◌, ◌<◌, ◌≤◌, Bool, true, false, nat_le, if◌then◌else◌, List, [], ◌∷◌, length}
 use Rattle.std.proofs.Common.{map, inl, inr, refl, sym, ap, subst, ◌∙◌, arith}
 use Rattle.std.proofs.lemmas.Bool.{cases_lt}
 use Rattle.std.proofs.lemmas.List.{length-replicate}
@@ -9,8 +8,7 @@ use Rattle.vcd_core.specs.declared.bit.Bit.TheVariants.{X}
 use Rattle.vcd_core.specs.declared.wave.Change.{Change}
 use Rattle.vcd_core.specs.Value.{all_x}
 use Rattle.vcd_core.specs.Wave.{value_from, changes_of, AreChangesFrom, AllUpTo}
-use Rattle.vcd_core.proofs.shared.Waves.{put_cases, value_past, value_skip, value_early, lower_floor}
-use Rattle.vcd_core.proofs.shared.Waves.{wave_is}
+use Rattle.vcd_core.proofs.shared.Waves.{put_cases, value_past, value_skip, value_early, lower_floor, wave_is}
 use Rattle.vcd_edit.specs.inside.plans.RemainingChanges.{TicksRise, without_repeats, mapped_change}
 
 -- ---- a choice

@@ -1,3 +1,2 @@
 -- Lemmas of `plans/deglitch`.
-pub mod DeglitchPiece
-pub mod KeptChanges
+pub mod RemainingChanges

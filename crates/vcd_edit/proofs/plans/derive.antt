@@ -1,3 +1,2 @@
 -- Lemmas of `plans/derive`.
 pub mod DerivedSignal
-pub mod DerivedWave

@@ -1,3 +1,2 @@
 -- Lemmas of `plans/invert`.
-pub mod InverseBlocks
 pub mod InversePiece

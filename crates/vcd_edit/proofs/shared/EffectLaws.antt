@@ -1,16 +1,13 @@
 -- The laws of what the edits are for.
-use Rattle.std.proofs.Common.{◌≡◌, ◌<◌, ◌≤◌, ℕ, ◌+◌, ◌-◌, ◌&&◌, nat_le, nat_lt, Bool, true, false}
-use Rattle.std.proofs.Common.{if◌then◌else◌}
-use Rattle.std.proofs.Common.{IsTrue, not, ℤ, pos, negsuc, ◌-ℤ◌, List, [], ◌∷◌, length, map, drop, inl, inr}
-use Rattle.std.proofs.Common.{refl, sym, ap, suc}
-use Rattle.std.proofs.Common.{◌∙◌, arith}
+use Rattle.std.proofs.Common.{◌≡◌, ◌<◌, ◌≤◌, ℕ, ◌+◌, ◌-◌, ◌&&◌, nat_le, nat_lt, Bool, true, false, if◌then◌else◌}
+use Rattle.std.proofs.Common.{IsTrue, not, ℤ, pos, negsuc, ◌-ℤ◌, List, [], ◌∷◌, length, map, drop, inl, inr, refl, sym}
+use Rattle.std.proofs.Common.{ap, suc, ◌∙◌, arith}
 use Rattle.std.specs.Prelude.{neg_ℤ}
 use Rattle.std.specs.List.{All, list_all}
 use Rattle.std.proofs.lemmas.Bool.{le-ltb, lt-ltb, and_parts}
 use Rattle.std.proofs.lemmas.Bool.Decides.{nat_tests}
 use Rattle.std.proofs.lemmas.Int.{ints}
-use Rattle.std.proofs.lemmas.List.{length-set, set-set, set-get_or, get_or-set_same, get_or-map}
-use Rattle.std.proofs.lemmas.List.{get_or_push}
+use Rattle.std.proofs.lemmas.List.{length-set, set-set, set-get_or, get_or-set_same, get_or-map, get_or_push}
 use Rattle.std.proofs.lemmas.List.Elements.{All-nil, All-cons}
 use Rattle.std.proofs.lemmas.List.Edits.{get_or-remove_below, get_or-remove_above}
 use Rattle.vcd_core.specs.declared.bit.Bit.{Bit}
@@ -18,30 +15,25 @@ use Rattle.vcd_core.specs.declared.bit.Bit.TheVariants.{Zero, Z}
 use Rattle.vcd_core.specs.declared.wave.Change.{Change}
 use Rattle.vcd_core.specs.Value.{letter_at, same_letter}
 use Rattle.vcd_core.specs.Wave.{changes_of}
-use Rattle.vcd_core.specs.Contents.{Contents, SignalContents, no_signal, signal_at, with_signal}
-use Rattle.vcd_core.specs.Contents.{signal_value}
+use Rattle.vcd_core.specs.Contents.{Contents, SignalContents, no_signal, signal_at, with_signal, signal_value}
 use Rattle.vcd_core.specs.Sound.{IsSound}
 use Rattle.vcd_core.proofs.shared.Waves.{value_at-changes_of, changes_of-value_at, changes_same}
 use Rattle.vcd_edit.specs.declared.edit.Edit.TheVariants.{Derive}
 use Rattle.vcd_edit.specs.declared.edit.Rule.{Rule}
 use Rattle.vcd_edit.specs.declared.edit.Rule.TheVariants.{Not, And, Or, Xor, BitOf}
 use Rattle.vcd_edit.specs.Operators.{not_bit}
-use Rattle.vcd_edit.specs.Effect.{with_values, with_wave, renamed_signal, inverse_value}
-use Rattle.vcd_edit.specs.Effect.{value_at_any_tick, shift_value}
-use Rattle.vcd_edit.specs.Effect.{cut_value, force_value, signal_after_cut, cut_contents}
-use Rattle.vcd_edit.specs.Effect.{formula, first_operand, derived_signal, effect}
+use Rattle.vcd_edit.specs.Effect.{with_values, with_wave, renamed_signal, inverse_value, value_at_any_tick, shift_value}
+use Rattle.vcd_edit.specs.Effect.{cut_value, force_value, signal_after_cut, cut_contents, formula, first_operand}
+use Rattle.vcd_edit.specs.Effect.{derived_signal, effect}
 use Rattle.vcd_edit.specs.AppliedRecords.{with_pieces, apply_record}
-use Rattle.vcd_edit.specs.EffectLaws.{value_of, x_for_z, InvertTwice, InvertTwiceWithoutZ}
-use Rattle.vcd_edit.specs.EffectLaws.{CutKeepsOtherTicks}
-use Rattle.vcd_edit.specs.EffectLaws.{CutsCommute, ShiftAndBack, ForceIsLocal, LastForceCounts}
-use Rattle.vcd_edit.specs.EffectLaws.{RenameAndBack}
-use Rattle.vcd_edit.specs.EffectLaws.{RemoveAndBack, BitOfOneBit, ShiftFillsGaps}
-use Rattle.vcd_edit.specs.EffectLaws.{DerivedBesideFirstOperand}
+use Rattle.vcd_edit.specs.EffectLaws.{value_of, x_for_z, InvertTwice, InvertTwiceWithoutZ, CutKeepsOtherTicks}
+use Rattle.vcd_edit.specs.EffectLaws.{CutsCommute, ShiftAndBack, ForceIsLocal, LastForceCounts, RenameAndBack}
+use Rattle.vcd_edit.specs.EffectLaws.{RemoveAndBack, BitOfOneBit, ShiftFillsGaps, DerivedBesideFirstOperand}
 use Rattle.vcd_edit.proofs.shared.SoundEffects.{sound_at, value_at_width}
-use Rattle.vcd_edit.proofs.plans.CutPiece.{before_cut, after_cut}
+use Rattle.vcd_edit.proofs.plans.CutPieces.{before_cut, after_cut}
 use Rattle.vcd_edit.proofs.plans.WithoutRepeats.{either_value}
-use Rattle.vcd_edit.proofs.plans.ForcePiece.{before_range, after_range, in_range}
-use Rattle.vcd_edit.proofs.exchange.OppositeRecords.{insert-remove}
+use Rattle.vcd_edit.proofs.plans.Ranges.{before_range, after_range, in_range}
+use Rattle.vcd_edit.proofs.exchange.ExchangedRecords.{insert-remove}
 
 -- ---- a signal with other values
 

@@ -1,6 +1,6 @@
 -- How many signals a record or an edit leaves, and with which names.
-use Rattle.std.proofs.Common.{◌≡◌, ℕ, ◌≤◌, ◌-◌, List, [], ◌∷◌, length, Option, Some, None, refl}
-use Rattle.std.proofs.Common.{◌∙◌, ap, arith, inl, inr, Result, Ok, Err}
+use Rattle.std.proofs.Common.{◌≡◌, ℕ, ◌≤◌, ◌-◌, List, [], ◌∷◌, length, Option, Some, None, refl, ◌∙◌, ap, arith, inl}
+use Rattle.std.proofs.Common.{inr, Result, Ok, Err}
 use Rattle.std.specs.Prelude.{IsOk, OnErr}
 use Rattle.std.proofs.Math.Seq.{map-set_same}
 use Rattle.std.proofs.lemmas.Bool.{false≢true}
@@ -11,18 +11,15 @@ use Rattle.vcd_core.specs.Names.{full_name, full_names}
 use Rattle.vcd_core.specs.declared.bit.Bit.{Bit}
 use Rattle.vcd_edit.specs.RecordView.{PieceView, RecordView}
 use Rattle.vcd_edit.specs.declared.edit.Edit.{Edit}
-use Rattle.vcd_edit.specs.declared.edit.Edit.TheVariants.{Rename, Remove, Invert, Shift, Cut}
-use Rattle.vcd_edit.specs.declared.edit.Edit.TheVariants.{Deglitch, Force, Derive}
-use Rattle.vcd_edit.specs.Effect.{effect, with_values, with_wave, renamed_signal, derived_signal}
-use Rattle.vcd_edit.specs.Effect.{signal_after_cut}
+use Rattle.vcd_edit.specs.declared.edit.Edit.TheVariants.{Rename, Remove, Invert, Shift, Cut, Deglitch, Force, Derive}
+use Rattle.vcd_edit.specs.Effect.{effect, with_values, with_wave, renamed_signal, derived_signal, signal_after_cut}
 use Rattle.vcd_edit.specs.Effect.{inverse_value, shift_value, steady_value, force_value}
 use Rattle.vcd_edit.specs.TouchedByEdit.{IsRemove}
-use Rattle.vcd_edit.specs.AppliedRecords.{apply_record, with_pieces}
-use Rattle.vcd_edit.specs.AppliedRecords.{with_piece, changes_with_piece, signal_with_changes}
-use Rattle.vcd_edit.specs.AppliedRecords.{with_end, with_signal_in_out, PutsInOrKeepsNames}
-use Rattle.vcd_edit.specs.AppliedRecords.{PutsNoSignalIn, SignalFits, Fits, HasOneKindOfPart}
+use Rattle.vcd_edit.specs.AppliedRecords.{apply_record, with_pieces, with_piece, changes_with_piece}
+use Rattle.vcd_edit.specs.AppliedRecords.{signal_with_changes, with_end, with_signal_in_out, PutsInOrKeepsNames}
+use Rattle.vcd_edit.specs.AppliedRecords.{PutsNoSignalIn, SignalFits, Fits, IsOfOneKind}
 use Rattle.vcd_edit.specs.declared.exchange.records.Kept.{Kept}
-use Rattle.vcd_edit.proofs.exchange.OppositeRecords.{by_kind, signals_of_end}
+use Rattle.vcd_edit.proofs.exchange.ExchangedRecords.{by_kind, signals_of_end}
 
 -- pieces leave all names
 names_kept : (c : Contents) (ps : List PieceView) → full_names (with_pieces c ps).signals ≡ full_names c.signals
@@ -41,7 +38,7 @@ signal_needs c (k, Some s) e fits never =
     inl (omega (arith, same, length-insert c.signals k s fits))
 
 -- a record has neither pieces nor a signal to put in, or it puts one in, or it leaves all names
-record_needs : (c : Contents) (r : RecordView) → HasOneKindOfPart r → SignalFits c r.signal
+record_needs : (c : Contents) (r : RecordView) → IsOfOneKind r → SignalFits c r.signal
     → (r.pieces ≡ [] → PutsNoSignalIn r.signal → ⊥) → PutsInOrKeepsNames c (apply_record r c)
 unfolding apply_record with_pieces
 record_needs c =
@@ -51,7 +48,7 @@ record_needs c =
     (λ w e fits never. absurd (never refl tt)) (λ m e fits never. signal_needs c m e fits (never refl))
 
 -- a step by a record that is refused only if it needs memory
-pub refused_where : {T : Type 0} (result : Result T Kept) (r : RecordView) (c : Contents) → HasOneKindOfPart r
+pub refused_where : {T : Type 0} (result : Result T Kept) (r : RecordView) (c : Contents) → IsOfOneKind r
     → Fits r c → (r.pieces ≡ [] → PutsNoSignalIn r.signal → IsOk result)
     → OnErr result (PutsInOrKeepsNames c (apply_record r c))
 refused_where (Ok done) r c one fits never = tt

@@ -1,16 +1,13 @@
 -- An edit with no fault keeps a sound capture sound.
-use Rattle.std.proofs.Common.{◌≡◌, ◌<◌, ◌≤◌, ℕ, zero, suc, ◌+◌, ◌-◌, ◌==◌, ◌&&◌, nat_le, nat_lt, Bool}
-use Rattle.std.proofs.Common.{true, false}
-use Rattle.std.proofs.Common.{if◌then◌else◌, IsTrue, ℤ, pos, negsuc, ◌-ℤ◌, List, [], ◌∷◌, length}
-use Rattle.std.proofs.Common.{take, drop, get_or, set}
-use Rattle.std.proofs.Common.{None, refl, ◌∙◌, arith}
+use Rattle.std.proofs.Common.{◌≡◌, ◌<◌, ◌≤◌, ℕ, zero, suc, ◌+◌, ◌-◌, ◌==◌, ◌&&◌, nat_le, nat_lt, Bool, true, false}
+use Rattle.std.proofs.Common.{if◌then◌else◌, IsTrue, ℤ, pos, negsuc, ◌-ℤ◌, List, [], ◌∷◌, length, take, drop, get_or}
+use Rattle.std.proofs.Common.{set, None, refl, ◌∙◌, arith}
 use Rattle.std.specs.List.{list_all, push, remove}
 use Rattle.std.proofs.lemmas.Bool.{and_from, and_parts}
 use Rattle.std.proofs.lemmas.Bool.Decides.{nat_tests}
 use Rattle.std.proofs.lemmas.List.{length-replicate, length-map, length-set, length_push}
 use Rattle.std.proofs.lemmas.List.Edits.{length-remove}
-use Rattle.std.proofs.lemmas.List.Elements.{All-append, All-take, All-drop, All-push, All-set}
-use Rattle.std.proofs.lemmas.List.Elements.{All-get_or, All-map}
+use Rattle.std.proofs.lemmas.List.Elements.{All-append, All-take, All-drop, All-push, All-set, All-get_or, All-map}
 use Rattle.vcd_core.specs.declared.bit.Bit.{Bit}
 use Rattle.vcd_core.specs.declared.bit.Bit.TheVariants.{X}
 use Rattle.vcd_core.specs.declared.wave.Change.{Change}
@@ -18,22 +15,18 @@ use Rattle.vcd_core.specs.declared.capture.TheConstants.{SIGNAL_LIMIT}
 use Rattle.vcd_core.specs.Value.{all_x}
 use Rattle.vcd_core.specs.Wave.{value_from, value_at, AreChangesFrom, IsWave}
 use Rattle.vcd_core.specs.Word.{is_word}
-use Rattle.vcd_core.specs.Contents.{Contents, SignalContents, no_signal, signal_at, with_signal}
-use Rattle.vcd_core.specs.Contents.{signal_value}
+use Rattle.vcd_core.specs.Contents.{Contents, SignalContents, no_signal, signal_at, with_signal, signal_value}
 use Rattle.vcd_core.specs.Sound.{IsSound, IsSoundSignal}
 use Rattle.vcd_core.proofs.shared.Waves.{changes_rise, changes_end}
 use Rattle.vcd_edit.specs.declared.edit.Edit.{Edit}
-use Rattle.vcd_edit.specs.declared.edit.Edit.TheVariants.{Rename, Remove, Invert, Shift, Cut}
-use Rattle.vcd_edit.specs.declared.edit.Edit.TheVariants.{Deglitch, Force, Derive}
+use Rattle.vcd_edit.specs.declared.edit.Edit.TheVariants.{Rename, Remove, Invert, Shift, Cut, Deglitch, Force, Derive}
 use Rattle.vcd_edit.specs.declared.edit.Rule.{Rule}
 use Rattle.vcd_edit.specs.Operators.{not_bit}
-use Rattle.vcd_edit.specs.Effect.{with_values, with_wave, renamed_signal, inverse_value}
-use Rattle.vcd_edit.specs.Effect.{value_at_any_tick, shift_value}
-use Rattle.vcd_edit.specs.Effect.{cut_value, force_value, is_steady, steady_value, formula}
-use Rattle.vcd_edit.specs.Effect.{first_operand}
-use Rattle.vcd_edit.specs.Effect.{formula_bit, derived_signal, cut_contents, effect}
+use Rattle.vcd_edit.specs.Effect.{with_values, with_wave, renamed_signal, inverse_value, value_at_any_tick, shift_value}
+use Rattle.vcd_edit.specs.Effect.{cut_value, force_value, is_steady, steady_value, formula, first_operand, formula_bit}
+use Rattle.vcd_edit.specs.Effect.{derived_signal, cut_contents, effect}
 use Rattle.vcd_edit.specs.EditFaults.{edit_fault, is_signal}
-use Rattle.vcd_edit.proofs.checking.NoFault.{no_fault, position_below, first_operand_there}
+use Rattle.vcd_edit.proofs.checking.Faults.{no_fault, position_below, first_operand_there}
 
 -- ---- the width of values
 

@@ -10,8 +10,7 @@ use Rattle.vcd_core.specs.Splice.{moved_change, spliced_changes}
 use Rattle.vcd_core.specs.Contents.{Contents, SignalContents}
 use Rattle.vcd_edit.specs.RecordView.{PieceView, RecordView}
 use Rattle.vcd_edit.specs.AppliedRecords.{with_pieces, apply_record}
-use Rattle.vcd_edit.specs.Touched.{touched_count, touched_from, touched_by_record, piece_advance}
-use Rattle.vcd_edit.specs.Touched.{partners, takes_out}
+use Rattle.vcd_edit.specs.Touched.{touched_count, touched_from, touched_by_record, piece_advance, partners, takes_out}
 use Rattle.vcd_edit.specs.Touched.{puts_in, stored_changes}
 
 -- ---- captures and records

@@ -1,3 +1,3 @@
 -- Definitions that `fitting` and its proofs cite.
 pub mod Adjacency
-pub mod TestsOfParts
+pub mod FittingTests

@@ -16,7 +16,6 @@ use crate::edit::Rule;
 use crate::fault::EditError;
 use vcd_core::{Capture, FullName, SIGNAL_LIMIT, Signal, Word, is_word};
 
-/// The fault of a rename.
 #[tactic(auto, unfolding(crate::specs::EditFaults::edit_fault))]
 pub(crate) fn check_rename(capture: &Capture, signal: usize, word: &[u8]) -> Result<(), EditError>
     ensures { FaultIs result
@@ -49,7 +48,6 @@ fn is_name_taken(signals: &[Signal], signal: usize, word: &[u8]) -> bool
     name.is_taken(&signals[..signal]) || name.is_taken(&signals[signal + 1..])
 }
 
-/// The words of a name after the first.
 pub(crate) fn after_first(words: &[Word]) -> &[Word]
     ensures { result.now ≡ drop 1 words.now }
 {
@@ -59,7 +57,6 @@ pub(crate) fn after_first(words: &[Word]) -> &[Word]
     }
 }
 
-/// The fault of a derive.
 #[tactic(auto, unfolding(crate::specs::EditFaults::edit_fault))]
 pub(crate) fn check_derive(capture: &Capture, word: &[u8], rule: Rule) -> Result<(), EditError>
     ensures { FaultIs result (edit_fault (edits.Derive word.entry rule) (contents capture.now)) }

@@ -29,8 +29,6 @@ fn opposite(by: i64) -> i64
 
 /// Swaps a range of changes with the piece: in place, or by the wave that comes in the place of
 /// this one.
-///
-/// It takes no memory.
 fn splice_or_replace(piece: &mut Piece, wave: &mut Wave, coming: Option<Wave>)
     requires ordered { piece.old.from ≤ piece.old.to }
     requires within { piece.old.to ≤ length wave.old.changes }
@@ -60,7 +58,7 @@ fn splice_or_replace(piece: &mut Piece, wave: &mut Wave, coming: Option<Wave>)
 /// Swaps a range of changes with a trimmed piece. The piece then undoes this, and gives back the
 /// room that it does not need.
 ///
-/// It takes no memory. The cost is the piece, its range and, without a wave that comes, one move of
+/// The cost is the piece, its range and, without a wave that comes, one move of
 /// the later changes.
 fn exchange_with_wave(piece: &mut Piece, wave: &mut Wave, coming: Option<Wave>)
     requires ready { PieceReady wave.old.width wave.old.changes (piece_view piece.old) }

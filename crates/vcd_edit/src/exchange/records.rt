@@ -1,13 +1,13 @@
-//! How a record is exchanged with a capture: its parts and those of the capture that differ.
+//! How a record is exchanged with a capture: each of its fields with what differs in the capture.
 
 ghost use Rattle.std.specs.Prelude.{◌≡◌, [], IsOk, IfOk, OnOk, OnErr, IfErr};
 ghost use Rattle.vcd_core.specs.CaptureContents.{contents};
 ghost use Rattle.vcd_core.specs.Sound.{IsSound};
-ghost use Rattle.vcd_edit.specs.AppliedRecords.{apply_record, Fits, HasOneKindOfPart};
-ghost use Rattle.vcd_edit.specs.AppliedRecords.{PutsNoSignalIn, HasNeitherPiecesNorSignal};
+ghost use Rattle.vcd_edit.specs.AppliedRecords.{apply_record, Fits, IsOfOneKind, PutsNoSignalIn};
+ghost use Rattle.vcd_edit.specs.AppliedRecords.{HasNeitherPiecesNorSignal};
 ghost use Rattle.vcd_edit.specs.inside.exchange.Opposites.{IsOppositeRecord};
 
-use crate::exchange::parts::{exchange_end, exchange_signal, exchange_word};
+use crate::exchange::fields::{exchange_end, exchange_signal, exchange_word};
 use crate::exchange::pieces::exchange_pieces;
 use crate::exchange::reservations::reserve_all;
 use crate::record::Record;
@@ -20,7 +20,7 @@ pub struct Kept {
     pub held: Record,
 }
 
-/// Applies the record to the capture. The replaced parts become the record of the opposite step.
+/// Applies the record to the capture. What it replaces becomes the record of the opposite step.
 /// All memory is reserved before the first change.
 pub(crate) fn exchange_record(
     alloc: Global,
@@ -38,10 +38,9 @@ pub(crate) fn exchange_record(
     ensures unchanged { OnErr result (contents capture.new ≡ contents capture.old) }
     ensures never_refused { applied_record.pieces ≡ [] → PutsNoSignalIn applied_record.signal
         → IsOk result }
-    ensures one_kind_of_part { HasOneKindOfPart applied_record }
+    ensures one_kind { IsOfOneKind applied_record }
 {
-    // Each field is named, so that a further one, such as a whole capture that is kept, does not
-    // compile.
+    // Each field is named, so that a further one, such as a whole capture, does not compile.
     let Record {
         mut pieces,
         word,

@@ -17,8 +17,7 @@ use vcd_core::{Capture, NoMemory, Wave};
 /// A piece is compared with this many pieces before it, whose waves may share the list of its own.
 const LOOK_BACK: usize = 1024;
 
-/// Makes room in a wave for `more` changes, unless it shares its list. Returns whether it does. The
-/// changes stay the same, even if memory is refused.
+/// Makes room in a wave for `more` changes, unless it shares its list. Returns whether it does.
 fn reserve_in_own_list(wave: &mut Wave, more: usize) -> Result<bool, NoMemory>
     ensures never_less { HasNoLessRoom wave.old wave.new }
     ensures room { IfOk result (λ is_shared. is_shared ≡ false → (wave.new.is_shared ≡ false)
@@ -32,8 +31,7 @@ fn reserve_in_own_list(wave: &mut Wave, more: usize) -> Result<bool, NoMemory>
 }
 
 /// Makes room for the exchange of one piece: in the piece for just the changes that it gets, and in
-/// its wave for the growth, unless the wave shares its list. Returns whether it does. The contents
-/// of both stay the same, even if memory is refused.
+/// its wave for the growth, unless the wave shares its list. Returns whether it does.
 fn reserve_piece(capture: &mut Capture, piece: &mut Piece) -> Result<bool, NoMemory>
     requires signal { piece.old.signal < length capture.old.signals }
     ensures contents { contents capture.new ≡ contents capture.old }
@@ -147,8 +145,7 @@ fn reserve_next(
 }
 
 /// Makes what each piece needs, in order. Returns the waves that come, up to the last. While no
-/// wave shares its list, that list takes no memory. The contents of the capture and the pieces stay
-/// the same, even if memory is refused.
+/// wave shares its list, that list takes no memory.
 pub(crate) fn reserve_all(
     alloc: Global,
     capture: &mut Capture,

@@ -12,21 +12,18 @@ ghost use Rattle.vcd_edit.specs.inside.exchange.Trimming.{IsTrimmed};
 use crate::record::Piece;
 use vcd_core::Change;
 
-/// Whether two changes have the same tick and value.
 fn is_same(old: &Change, new: &Change) -> bool
     ensures { result ≡ same_change old.now new.now }
 {
     old.tick == new.tick && old.value == new.value
 }
 
-/// Whether `moved` is the tick `tick`, moved by `by` ticks.
 fn is_moved_tick(tick: u64, by: i64, moved: u64) -> bool
     ensures { result ≡ int_eq (pos tick -ℤ neg_ℤ by) (pos moved) }
 {
     tick.checked_add_signed(by) == Some(moved)
 }
 
-/// Whether the old change, moved by `by` ticks, is the new one.
 fn is_moved(old: &Change, by: i64, new: &Change) -> bool
     ensures { result ≡ same_moved_change (neg_ℤ by) old.now new.now }
 {
@@ -68,15 +65,15 @@ fn remove_prefix(list: &mut Vec<Change>, count: usize)
     ensures items { list.new.items ≡ drop count list.old.items }
     ensures capacity { vec_capacity list.new ≡ vec_capacity list.old }
 {
-    let kept = list.len() - count;
+    let len_left = list.len() - count;
     list.as_mut_slice().rotate_left(count);
-    list.truncate(kept);
+    list.truncate(len_left);
 }
 
 /// Drops changes at both ends of the piece that the wave has already: the same changes at the
 /// front, and those at the end that move with the later ones.
 ///
-/// It looks at the range and the piece only, and takes no memory.
+/// It looks at the range and the piece only.
 pub(crate) fn trim(piece: &mut Piece, changes: &[Change])
     requires ordered { piece.old.from ≤ piece.old.to }
     requires within { piece.old.to ≤ length changes.now }
@@ -85,12 +82,12 @@ pub(crate) fn trim(piece: &mut Piece, changes: &[Change])
     ensures trimmed { IsTrimmed changes.now (piece_view piece.old) (piece_view piece.new) }
     ensures capacity { vec_capacity piece.new.changes ≡ vec_capacity piece.old.changes }
 {
-    let part = &changes[piece.from..piece.to];
-    let prefix = common_prefix(part, piece.changes.as_slice());
+    let range = &changes[piece.from..piece.to];
+    let prefix = common_prefix(range, piece.changes.as_slice());
     remove_prefix(&mut piece.changes, prefix);
-    let suffix = common_suffix(&part[prefix..], piece.changes.as_slice(), piece.by);
-    let kept = piece.changes.len() - suffix;
-    piece.changes.truncate(kept);
+    let suffix = common_suffix(&range[prefix..], piece.changes.as_slice(), piece.by);
+    let len_left = piece.changes.len() - suffix;
+    piece.changes.truncate(len_left);
     piece.from += prefix;
     piece.to -= suffix;
 }

@@ -1,8 +1,8 @@
 //! Whether a wave with a piece is still in its one form: ticks rise, and each value differs from
 //! the one before.
 
-ghost use Rattle.std.specs.Prelude.{◌≡◌, ◌↔◌, ◌+◌, ◌≤◌, IsTrue, MatchOption, map, All, pos};
-ghost use Rattle.std.specs.Prelude.{◌+ℤ◌, unsigned_abs};
+ghost use Rattle.std.specs.Prelude.{◌≡◌, ◌↔◌, ◌+◌, ◌≤◌, IsTrue, MatchOption, map, All, pos, ◌+ℤ◌};
+ghost use Rattle.std.specs.Prelude.{unsigned_abs};
 ghost use Rattle.std.specs.Int.{w64, FitsUnsigned};
 ghost use Rattle.vcd_core.specs.Splice.{moved_change};
 ghost use Rattle.vcd_core.specs.Value.{all_x};
@@ -78,7 +78,6 @@ fn floor_and_value_after(
     Some((from, last))
 }
 
-/// The first free tick after changes.
 fn floor_after(changes: &[Change]) -> u64
     requires { All (λ c. c.tick ≤ END_LIMIT) changes.now }
     ensures { result ≡ floor_after 0 changes.now }
@@ -119,7 +118,7 @@ fn join_to_wave(
 /// Whether the piece's range lies within the changes of the wave, and the result is a wave up to
 /// the end.
 ///
-/// It reads the piece and the changes after its range. It takes no memory.
+/// It reads the piece and the changes after its range.
 pub(crate) fn is_valid_piece(piece: &Piece, wave: &Wave, end: u64) -> bool
     requires { end ≤ END_LIMIT }
     ensures { IsTrue result ↔ IsValidPiece wave.now.width end wave.now.changes

@@ -1,21 +1,30 @@
 //! Whether the names of signals can be written to a file.
 
-ghost use Rattle.std.specs.Prelude.{◌↔◌, IsTrue, All, map, ◌<◌, length};
+ghost use Rattle.std.specs.Prelude.{◌↔◌, IsTrue, All, map, ◌<◌, ◌≤◌, length};
 ghost use Rattle.std.specs.List.{remove};
 ghost use Rattle.vcd_core.specs.CaptureContents.{signal_contents};
 ghost use Rattle.vcd_core.specs.Sound.{IsSoundSignal};
 ghost use Rattle.vcd_edit.specs.Effect.{renamed_signal};
-ghost use Rattle.vcd_edit.specs.inside.fitting.TestsOfParts.{HasSoundNames};
+ghost use Rattle.vcd_edit.specs.inside.fitting.FittingTests.{HasSoundNames};
 
 use crate::checking::after_first;
-use vcd_core::{Signal, are_scopes_sound, are_words, is_skipped_kind, is_wave_sound, is_word};
+use vcd_core::{
+    Signal, WIDTH_LIMIT, Wave, are_scopes_sound, are_words, is_skipped_kind, is_wave_sound, is_word,
+};
+
+/// States that the values of a wave have 1 to [`WIDTH_LIMIT`] bits.
+fn width_fits(wave: &Wave)
+    ensures least { 1 ≤ wave.now.width }
+    ensures most { wave.now.width ≤ WIDTH_LIMIT }
+{
+    let _width = wave.width();
+}
 
 /// Whether all of a signal except its changes is sound, with another first word of its name.
 fn has_sound_names_with(signal: &Signal, word: &[u8]) -> bool
     ensures { IsTrue result ↔ HasSoundNames (renamed_signal word.now (signal_contents signal.now)) }
 {
-    // Its clauses bound the width.
-    let _width = signal.wave.width();
+    width_fits(&signal.wave);
     is_word(word)
         && are_words(after_first(signal.words.as_slice()))
         && is_word(signal.kind.as_slice())
@@ -33,14 +42,12 @@ pub(crate) fn has_sound_names(signal: &Signal) -> bool
     }
 }
 
-/// Whether each signal is sound up to an end.
 pub(crate) fn are_sound(signals: &[Signal], end: u64) -> bool
     ensures { IsTrue result ↔ All (IsSoundSignal end) (map signal_contents signals.now) }
 {
     signals.iter().all(|signal| signal.is_sound(end))
 }
 
-/// Whether each signal except the one at a position is sound up to an end.
 pub(crate) fn are_others_sound(signals: &[Signal], at: usize, end: u64) -> bool
     requires { at < length signals.now }
     ensures { IsTrue result
@@ -49,7 +56,6 @@ pub(crate) fn are_others_sound(signals: &[Signal], at: usize, end: u64) -> bool
     are_sound(&signals[..at], end) && are_sound(&signals[at + 1..], end)
 }
 
-/// Whether a signal with another first word of its name is sound up to an end.
 pub(crate) fn is_sound_with_word(signal: &Signal, word: &[u8], end: u64) -> bool
     ensures { IsTrue result
         ↔ IsSoundSignal end (renamed_signal word.now (signal_contents signal.now)) }

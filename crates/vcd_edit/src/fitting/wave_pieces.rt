@@ -6,15 +6,14 @@ ghost use Rattle.vcd_core.specs.Contents.{Contents};
 ghost use Rattle.vcd_core.specs.CaptureContents.{signal_contents};
 ghost use Rattle.vcd_edit.specs.AppliedRecords.{with_pieces, PieceFits, RiseFrom};
 ghost use Rattle.vcd_edit.specs.Records.{piece_view};
-ghost use Rattle.vcd_edit.specs.inside.fitting.TestsOfParts.{IsSoundWith, AreSoundTo};
-ghost use Rattle.vcd_edit.specs.inside.fitting.TestsOfParts.{AreSoundFrom, AreSoundSignals};
+ghost use Rattle.vcd_edit.specs.inside.fitting.FittingTests.{IsSoundWith, AreSoundTo, AreSoundFrom};
+ghost use Rattle.vcd_edit.specs.inside.fitting.FittingTests.{AreSoundSignals};
 
 use crate::fitting::adjacency::is_valid_piece;
 use crate::fitting::sound_names::{are_sound, has_sound_names};
 use crate::record::Piece;
 use vcd_core::{END_LIMIT, SIGNAL_LIMIT, Signal};
 
-/// Whether a signal with a piece is sound up to an end.
 fn is_sound_with(signal: &Signal, piece: &Piece, end: u64) -> bool
     requires { end ≤ END_LIMIT }
     ensures { IsTrue result ↔ IsSoundWith end (signal_contents signal.now) (piece_view piece.now) }

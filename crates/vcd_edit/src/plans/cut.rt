@@ -11,7 +11,7 @@ ghost use Rattle.vcd_edit.specs.Records.{piece_view};
 ghost use Rattle.vcd_edit.specs.inside.plans.Plan.{IsPlan, GivesValues, PiecesForEach};
 ghost use Rattle.vcd_edit.specs.declared.edit.Edit.TheVariants as edits;
 
-use crate::plans::parts::{negative_offset, push_if_new, value_after};
+use crate::plans::pieces::{negative_offset, push_if_new, value_after};
 use crate::record::{Piece, Record};
 use std::alloc::Global;
 use vcd_core::{Capture, END_LIMIT, NoMemory, Signal, Wave, ends_by};

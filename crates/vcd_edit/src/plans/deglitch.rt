@@ -6,17 +6,16 @@ ghost use Rattle.vcd_core.specs.Sound.{IsSound};
 ghost use Rattle.vcd_core.specs.WavePush as push_spec;
 ghost use Rattle.vcd_edit.specs.EditFaults.{edit_fault};
 ghost use Rattle.vcd_edit.specs.inside.plans.RemainingChanges as spec;
-ghost use Rattle.vcd_edit.specs.inside.plans.RemainingChanges.{kept_changes};
+ghost use Rattle.vcd_edit.specs.inside.plans.RemainingChanges.{remaining_changes};
 ghost use Rattle.vcd_edit.specs.inside.plans.Plan.{IsPlan};
 ghost use Rattle.vcd_edit.specs.declared.edit.Edit.TheVariants as edits;
 
-use crate::plans::parts::{empty_record, piece_record, signal_at, x_value};
+use crate::plans::pieces::{empty_record, piece_record, signal_at, x_value};
 use crate::record::{Piece, Record};
 use std::alloc::Global;
 use vcd_core::{Capture, Change, NoMemory, Value, last_value};
 
-/// The record of the changes from the first to the last one taken out. If none is, the record is
-/// empty and takes no memory.
+/// The record of the changes from the first to the last one taken out, which is empty if none is.
 pub(crate) fn plan(
     alloc: Global,
     capture: &Capture,
@@ -30,34 +29,34 @@ pub(crate) fn plan(
     let wave = &signal_at(capture, signal).wave;
     let changes = wave.changes();
     let x = x_value(wave);
-    let from = kept_prefix_len(changes, &x, ticks);
+    let from = remaining_prefix_len(changes, &x, ticks);
     if from == changes.len() {
         return Ok(empty_record(alloc));
     }
     let before = last_value(&changes[..from], wave.width());
     let later = &changes[from..];
-    let part = part_with_glitches(later, &before, ticks);
+    let glitches = glitch_range(later, &before, ticks);
     let piece = Piece {
         signal,
         from,
-        to: from + part.to,
-        changes: kept_list(alloc, later, &before, ticks, part)?,
+        to: from + glitches.to,
+        changes: remaining_list(alloc, later, &before, ticks, glitches)?,
         by: 0,
     };
     piece_record(alloc, piece)
 }
 
 /// How many changes come before the first one taken out.
-fn kept_prefix_len(changes: &[Change], before: &Value, ticks: u64) -> usize
+fn remaining_prefix_len(changes: &[Change], before: &Value, ticks: u64) -> usize
     ensures within { result ≤ length changes.now }
-    ensures kept { kept_changes ticks before.now changes.now ≡ take result changes.now
-        ++ kept_changes ticks (push_spec.last_value before.now (take result changes.now))
+    ensures remaining { remaining_changes ticks before.now changes.now ≡ take result changes.now
+        ++ remaining_changes ticks (push_spec.last_value before.now (take result changes.now))
         (drop result changes.now) }
 {
     let mut last = before;
     for i in 0..changes.len() {
         let change = &changes[i];
-        if !is_kept(change, &changes[i + 1..], last, ticks) {
+        if !remains(change, &changes[i + 1..], last, ticks) {
             return i;
         }
         last = &change.value;
@@ -65,65 +64,68 @@ fn kept_prefix_len(changes: &[Change], before: &Value, ticks: u64) -> usize
     changes.len()
 }
 
-/// The part of a list up to its last glitch: its first `to` changes, of which `kept` remain.
+/// The range of a list up to its last glitch: its first `to` changes, of which `remaining` stay.
 #[derive(Clone, Copy)]
-struct PartWithGlitches {
-    kept: usize,
+struct GlitchRange {
+    remaining: usize,
     to: usize,
 }
 
-/// The shortest part that contains all changes that are taken out.
-fn part_with_glitches(changes: &[Change], before: &Value, ticks: u64) -> PartWithGlitches
+/// The shortest range from the front that contains all changes that are taken out.
+fn glitch_range(changes: &[Change], before: &Value, ticks: u64) -> GlitchRange
     ensures within { result.to ≤ length changes.now }
-    ensures kept { kept_changes ticks before.now changes.now
-        ≡ take result.kept (kept_changes ticks before.now changes.now)
+    ensures remaining { remaining_changes ticks before.now changes.now
+        ≡ take result.remaining (remaining_changes ticks before.now changes.now)
         ++ drop result.to changes.now }
 {
     let mut last = before;
-    let mut part = PartWithGlitches { kept: 0, to: 0 };
+    let mut glitches = GlitchRange {
+        remaining: 0,
+        to: 0,
+    };
     for i in 0..changes.len() {
         let change = &changes[i];
-        if is_kept(change, &changes[i + 1..], last, ticks) {
+        if remains(change, &changes[i + 1..], last, ticks) {
             last = &change.value;
             continue;
         }
-        part.kept += i - part.to;
-        part.to = i + 1;
+        glitches.remaining += i - glitches.to;
+        glitches.to = i + 1;
     }
-    part
+    glitches
 }
 
-/// The changes of a part that remain, with room for all changes that it has now.
-fn kept_list(
+/// The changes of a range that remain, with room for all that it has now.
+fn remaining_list(
     alloc: Global,
     changes: &[Change],
     before: &Value,
     ticks: u64,
-    part: PartWithGlitches,
+    glitches: GlitchRange,
 ) -> Result<Vec<Change>, NoMemory>
-    ensures { IfOk result (λ kept. kept.items
-        ≡ take part.kept (kept_changes ticks before.now changes.now)) }
+    ensures { IfOk result (λ remaining. remaining.items
+        ≡ take glitches.remaining (remaining_changes ticks before.now changes.now)) }
 {
-    let mut kept = Vec::new(alloc);
-    kept.reserve_exact(part.to)?;
+    let mut remaining = Vec::new(alloc);
+    remaining.reserve_exact(glitches.to)?;
     let mut last = before;
     for i in 0..changes.len() {
-        if kept.len() >= part.kept {
+        if remaining.len() >= glitches.remaining {
             break;
         }
         let change = &changes[i];
-        if !is_kept(change, &changes[i + 1..], last, ticks) {
+        if !remains(change, &changes[i + 1..], last, ticks) {
             continue;
         }
-        kept.push(*change)?;
+        remaining.push(*change)?;
         last = &change.value;
     }
-    Ok(kept)
+    Ok(remaining)
 }
 
-/// Whether a change remains after the value `before`, the last one kept.
-fn is_kept(change: &Change, later: &[Change], before: &Value, ticks: u64) -> bool
-    ensures { result ≡ spec.is_kept ticks before.now change.now later.now }
+/// Whether a change remains after the value `before`, the last one that does.
+fn remains(change: &Change, later: &[Change], before: &Value, ticks: u64) -> bool
+    ensures { result ≡ spec.remains ticks before.now change.now later.now }
 {
     begins_steady(change, later, ticks) && change.value != *before
 }

@@ -6,7 +6,7 @@ ghost use Rattle.std.specs.List.{list_all};
 ghost use Rattle.vcd_core.specs.CaptureContents.{contents, signal_contents};
 ghost use Rattle.vcd_core.specs.Sound.{IsSound};
 ghost use Rattle.vcd_core.specs.Value.{letter_at};
-ghost use Rattle.vcd_core.specs.Wave.{value_at, AllUpTo};
+ghost use Rattle.vcd_core.specs.Wave.{value_at, AllUpTo, IsWave};
 ghost use Rattle.vcd_edit.specs.Operators.{operator_bit};
 ghost use Rattle.vcd_edit.specs.Effect.{derived_signal, formula, formula_bit};
 ghost use Rattle.vcd_edit.specs.EditFaults.{is_signal, operands, width_test, edit_fault};
@@ -16,7 +16,7 @@ ghost use Rattle.vcd_edit.specs.declared.edit.Edit.TheVariants as edits;
 
 use crate::edit::{Formula, Operator, Rule};
 use crate::plans::operators::not;
-use crate::plans::parts::signal_at;
+use crate::plans::pieces::signal_at;
 use crate::record::Record;
 use std::alloc::Global;
 use vcd_core::{Bit, BitEdges, Capture, NameWords, NoMemory, Seq, Signal, Value, Wave, copy_word};
@@ -85,6 +85,13 @@ fn derived_wave(alloc: Global, capture: &Capture, formula: Formula) -> Result<Wa
     }
 }
 
+/// States that the changes of a wave have the form of a wave's.
+fn changes_have_form(wave: &Wave)
+    ensures { IsWave wave.now.width wave.now.changes }
+{
+    let _changes = wave.changes();
+}
+
 /// The wave of bit `k` of another wave, negated or as it is.
 fn wave_of_one(alloc: Global, operand: &Wave, k: u64, is_negated: bool) -> Result<Wave, NoMemory>
     requires { k < operand.now.width }
@@ -97,8 +104,7 @@ fn wave_of_one(alloc: Global, operand: &Wave, k: u64, is_negated: bool) -> Resul
         wave.push(change.tick, Value::filled(1, bit))?;
     }
     wave.shrink_to_fit();
-    // The call shows the prover that the list has the form of a wave's.
-    let _changes = wave.changes();
+    changes_have_form(&wave);
     Ok(wave)
 }
 
@@ -122,8 +128,7 @@ fn wave_of_two<'a>(
         wave.push(edge.tick, Value::filled(1, bit))?;
     }
     wave.shrink_to_fit();
-    // The call shows the prover that the list has the form of a wave's.
-    let _changes = wave.changes();
+    changes_have_form(&wave);
     Ok(wave)
 }
 

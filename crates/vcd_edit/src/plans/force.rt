@@ -8,7 +8,9 @@ ghost use Rattle.vcd_edit.specs.EditFaults.{edit_fault};
 ghost use Rattle.vcd_edit.specs.inside.plans.Plan.{IsPlan, GivesValues};
 ghost use Rattle.vcd_edit.specs.declared.edit.Edit.TheVariants as edits;
 
-use crate::plans::parts::{piece_between, piece_record, push_if_new, signal_at, value_just_before};
+use crate::plans::pieces::{
+    piece_between, piece_record, push_if_new, signal_at, value_just_before,
+};
 use crate::record::{Piece, Record};
 use std::alloc::Global;
 use vcd_core::{Capture, END_LIMIT, NoMemory, Signal, Value};

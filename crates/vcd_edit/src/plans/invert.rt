@@ -15,7 +15,7 @@ ghost use Rattle.vcd_edit.specs.inside.plans.Invert.{ShowsInverse};
 ghost use Rattle.vcd_edit.specs.inside.plans.Plan.{IsPlan, GivesValues};
 ghost use Rattle.vcd_edit.specs.declared.edit.Edit.TheVariants as edits;
 
-use crate::plans::parts::{piece_record, push_if_new, signal_at, whole_piece, x_value};
+use crate::plans::pieces::{piece_record, push_if_new, signal_at, whole_piece, x_value};
 use crate::record::Record;
 use std::alloc::Global;
 use vcd_core::{BLOCKS, Bit, Capture, Change, LetterBlock, NoMemory, Value, blocks_in};

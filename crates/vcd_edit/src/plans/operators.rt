@@ -18,7 +18,6 @@ pub(crate) fn not(a: Bit) -> Bit
 }
 
 impl Operator {
-    /// The result of the operator on two bits.
     pub(crate) fn apply(self, a: Bit, b: Bit) -> Bit
         ensures { result ≡ operator_bit self a b }
     {

@@ -12,7 +12,7 @@ use crate::record::Record;
 use std::alloc::Global;
 use vcd_core::Capture;
 
-/// The record that takes the signal out. It takes no memory.
+/// The record that takes the signal out.
 pub(crate) fn plan(alloc: Global, capture: &Capture, signal: usize) -> Record
     requires sound { IsSound (contents capture.now) }
     requires allowed { edit_fault (edits.Remove signal) (contents capture.now) ≡ None }

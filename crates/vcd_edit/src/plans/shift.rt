@@ -12,7 +12,7 @@ ghost use Rattle.vcd_edit.specs.inside.plans.Plan.{IsPlan, GivesValues};
 ghost use Rattle.vcd_edit.specs.declared.edit.Edit.TheVariants as edits;
 
 use crate::plans::cut::cut_piece;
-use crate::plans::parts::{piece_record, push_if_new, signal_at, x_value};
+use crate::plans::pieces::{piece_record, push_if_new, signal_at, x_value};
 use crate::record::{Piece, Record};
 use std::alloc::Global;
 use vcd_core::{Capture, Change, END_LIMIT, NoMemory, Signal, Value};
@@ -94,8 +94,8 @@ fn delay_piece(
         return constant_piece(alloc, signal, position, by, x_value(wave));
     }
     let changes = wave.changes();
-    let kept = wave.count_until(end - ticks + 1);
-    if kept == changes.len() {
+    let inside = wave.count_until(end - ticks + 1);
+    if inside == changes.len() {
         return Ok(Piece {
             signal: position,
             from: 0,
@@ -108,7 +108,7 @@ fn delay_piece(
         signal: position,
         from: 0,
         to: changes.len(),
-        changes: later_changes(alloc, &changes[..kept], ticks, changes.len())?,
+        changes: later_changes(alloc, &changes[..inside], ticks, changes.len())?,
         by,
     })
 }

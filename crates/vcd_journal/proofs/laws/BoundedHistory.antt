@@ -1,7 +1,6 @@
 -- The history is bounded: past and future together hold at most as many captures as the depth.
-use Rattle.std.proofs.Common.{◌≡◌, ◌≤◌, ◌+◌, ◌-◌, ℕ, Bool, false, List, [], ◌∷◌, length}
-use Rattle.std.proofs.Common.{Option, Some, None, sym}
-use Rattle.std.proofs.Common.{subst, refl, inl, inr, arith}
+use Rattle.std.proofs.Common.{◌≡◌, ◌≤◌, ◌+◌, ◌-◌, ℕ, Bool, false, List, [], ◌∷◌, length, Option, Some, None, sym, subst}
+use Rattle.std.proofs.Common.{refl, inl, inr, arith}
 use Rattle.std.specs.Prelude.{nat_lt, not}
 use Rattle.std.proofs.lemmas.List.{length-take}
 use Rattle.std.proofs.lemmas.Bool.Decides.{nat_tests}
@@ -12,8 +11,7 @@ use Rattle.vcd_edit.specs.EditFaults.{edit_fault}
 use Rattle.vcd_journal.specs.declared.step.Step.{Step}
 use Rattle.vcd_journal.specs.declared.step.Step.TheVariants as steps
 use Rattle.vcd_journal.specs.declared.step.Answer.{Answer}
-use Rattle.vcd_journal.specs.Machine.{Machine, StepOutcome, initial_machine, edit_outcome}
-use Rattle.vcd_journal.specs.Machine.{undo_outcome, redo_outcome}
+use Rattle.vcd_journal.specs.Machine.{Machine, StepOutcome, initial_machine, edit_outcome, undo_outcome, redo_outcome}
 use Rattle.vcd_journal.specs.Machine.{step_outcome, IsStep, AreSteps}
 use Rattle.vcd_journal.specs.History.{is_depth}
 use Rattle.vcd_journal.specs.Laws.{HistoryIsBounded}

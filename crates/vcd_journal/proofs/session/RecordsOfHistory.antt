@@ -1,7 +1,6 @@
 -- The records of a session and the captures that they reach.
-use Rattle.std.proofs.Common.{◌≡◌, ◌<◌, ◌≤◌, ◌+◌, ℕ, suc, List, [], ◌∷◌, ◌-◌, length, take}
-use Rattle.std.proofs.Common.{refl, sym, ◌∙◌}
-use Rattle.std.proofs.Common.{ap, subst, inr, arith}
+use Rattle.std.proofs.Common.{◌≡◌, ◌<◌, ◌≤◌, ◌+◌, ℕ, suc, List, [], ◌∷◌, ◌-◌, length, take, refl, sym, ◌∙◌, ap, subst}
+use Rattle.std.proofs.Common.{inr, arith}
 use Rattle.std.proofs.lemmas.List.{length-take}
 use Rattle.vcd_core.specs.Contents.{Contents}
 use Rattle.circular_buffer.specs.Buffer.{Buffer}
@@ -12,8 +11,7 @@ use Rattle.vcd_edit.specs.AppliedRecords.{apply_record, Fits}
 use Rattle.vcd_journal.specs.declared.step.Step.TheVariants as steps
 use Rattle.vcd_journal.specs.declared.step.StepError.TheVariants.{NoMemory}
 use Rattle.vcd_journal.specs.declared.step.Answer.TheVariants.{Refused}
-use Rattle.vcd_journal.specs.Machine.{Machine, machine_after_edit, machine_after_depth}
-use Rattle.vcd_journal.specs.Machine.{IsStep}
+use Rattle.vcd_journal.specs.Machine.{Machine, machine_after_edit, machine_after_depth, IsStep}
 use Rattle.vcd_journal.specs.inside.Rings.{AllRecordsFit, FirstMayNeedMemory, AreSessionRings}
 use Rattle.vcd_journal.specs.ReachedCaptures.{reached_captures}
 

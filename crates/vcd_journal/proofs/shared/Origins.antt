@@ -1,20 +1,17 @@
 -- The origins of the signals that edits leave.
-use Rattle.std.proofs.Common.{◌≡◌, ◌≤◌, ℕ, zero, suc, ◌+◌, ◌-◌, true, false, if◌then◌else◌, nat_lt}
-use Rattle.std.proofs.Common.{List, [], ◌∷◌, ◌++◌, length, map, get_or, set, Some, None, refl, sym}
-use Rattle.std.proofs.Common.{ap, subst, ◌∙◌, arith}
+use Rattle.std.proofs.Common.{◌≡◌, ◌≤◌, ℕ, zero, suc, ◌+◌, ◌-◌, true, false, if◌then◌else◌, nat_lt, List, [], ◌∷◌, ◌++◌}
+use Rattle.std.proofs.Common.{length, map, get_or, set, Some, None, refl, sym, ap, subst, ◌∙◌, arith}
 use Rattle.std.specs.List.{range_with_len, remove, slice_get}
 use Rattle.std.proofs.lemmas.Bool.Decides.{nat_tests}
 use Rattle.std.proofs.lemmas.List.{append_assoc, get_or_at, length-append}
 use Rattle.vcd_core.specs.Contents.{Contents, SignalContents, no_signal, signal_at, signal_value}
 use Rattle.vcd_edit.specs.declared.edit.Edit.{Edit}
-use Rattle.vcd_edit.specs.declared.edit.Edit.TheVariants.{Rename, Remove, Invert, Shift, Cut}
-use Rattle.vcd_edit.specs.declared.edit.Edit.TheVariants.{Deglitch, Force, Derive}
-use Rattle.vcd_edit.specs.Effect.{with_values, renamed_signal, inverse_value, shift_value}
-use Rattle.vcd_edit.specs.Effect.{steady_value, force_value, signal_after_cut, derived_signal}
-use Rattle.vcd_edit.specs.Effect.{effect}
+use Rattle.vcd_edit.specs.declared.edit.Edit.TheVariants.{Rename, Remove, Invert, Shift, Cut, Deglitch, Force, Derive}
+use Rattle.vcd_edit.specs.Effect.{with_values, renamed_signal, inverse_value, shift_value, steady_value, force_value}
+use Rattle.vcd_edit.specs.Effect.{signal_after_cut, derived_signal, effect}
 use Rattle.vcd_journal.specs.History.{replay}
-use Rattle.vcd_journal.specs.Origins.{origins, origin, RiseWithin, HaveSamePlace, ComeFrom}
-use Rattle.vcd_journal.specs.Origins.{OriginsRise, OriginIsInList, SignalsComeFromOrigins}
+use Rattle.vcd_journal.specs.Origins.{origins, origin, RiseWithin, HaveSamePlace, ComeFrom, OriginsRise, OriginIsInList}
+use Rattle.vcd_journal.specs.Origins.{SignalsComeFromOrigins}
 
 -- ---- origins rise
 

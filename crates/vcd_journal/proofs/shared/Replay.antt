@@ -1,8 +1,6 @@
 -- The replay law: after each step the machine is that of the history.
-use Rattle.std.proofs.Common.{◌≡◌, ◌≤◌, ◌+◌, ◌-◌, ℕ, zero, suc, Bool, false, if◌then◌else◌}
-use Rattle.std.proofs.Common.{List, [], ◌∷◌}
-use Rattle.std.proofs.Common.{length, take, Option, Some, None, sym, ap, subst, refl, inl, inr, ◌∙◌}
-use Rattle.std.proofs.Common.{arith}
+use Rattle.std.proofs.Common.{◌≡◌, ◌≤◌, ◌+◌, ◌-◌, ℕ, zero, suc, Bool, false, if◌then◌else◌, List, [], ◌∷◌, length, take}
+use Rattle.std.proofs.Common.{Option, Some, None, sym, ap, subst, refl, inl, inr, ◌∙◌, arith}
 use Rattle.std.specs.Prelude.{nat_lt, not, min}
 use Rattle.std.proofs.lemmas.Bool.{cases_lt}
 use Rattle.std.proofs.lemmas.List.{length-take, take-take, take_all}
@@ -15,13 +13,10 @@ use Rattle.vcd_journal.specs.declared.step.Step.TheVariants as steps
 use Rattle.vcd_journal.specs.declared.step.StepError.TheVariants as refusals
 use Rattle.vcd_journal.specs.declared.step.Answer.{Answer}
 use Rattle.vcd_journal.specs.History.{History, initial_history, replay, is_depth}
-use Rattle.vcd_journal.specs.Machine.{Machine, StepOutcome, initial_machine, machine_after_depth}
-use Rattle.vcd_journal.specs.Machine.{accepted_outcome}
-use Rattle.vcd_journal.specs.Machine.{refused_outcome, edit_outcome, undo_outcome, redo_outcome}
-use Rattle.vcd_journal.specs.Machine.{step_outcome}
+use Rattle.vcd_journal.specs.Machine.{Machine, StepOutcome, initial_machine, machine_after_depth, accepted_outcome}
+use Rattle.vcd_journal.specs.Machine.{refused_outcome, edit_outcome, undo_outcome, redo_outcome, step_outcome}
 use Rattle.vcd_journal.specs.Machine.{memory_refusal, IsStep, AreSteps}
-use Rattle.vcd_journal.specs.HistoryMachine.{earlier_replays, later_replays, machine_of}
-use Rattle.vcd_journal.specs.HistoryMachine.{history_after_answer}
+use Rattle.vcd_journal.specs.HistoryMachine.{earlier_replays, later_replays, machine_of, history_after_answer}
 use Rattle.vcd_journal.specs.HistoryMachine.{history_after_all}
 use Rattle.vcd_journal.specs.Laws.{SessionIsReplay}
 

@@ -1,6 +1,6 @@
 -- Steps have the same answers on captures of the same outline.
-use Rattle.std.proofs.Common.{◌≡◌, ◌≤◌, ℕ, zero, suc, Bool, false, List, [], ◌∷◌, length, take}
-use Rattle.std.proofs.Common.{Option, Some, None, refl, sym, ap, subst, ◌∙◌, inl, inr, arith}
+use Rattle.std.proofs.Common.{◌≡◌, ◌≤◌, ℕ, zero, suc, Bool, false, List, [], ◌∷◌, length, take, Option, Some, None}
+use Rattle.std.proofs.Common.{refl, sym, ap, subst, ◌∙◌, inl, inr, arith}
 use Rattle.std.specs.Prelude.{nat_lt, not}
 use Rattle.vcd_core.specs.Contents.{Contents}
 use Rattle.vcd_core.specs.Names.{full_names}
@@ -16,13 +16,13 @@ use Rattle.vcd_journal.specs.declared.step.Step.{Step}
 use Rattle.vcd_journal.specs.declared.step.Step.TheVariants as steps
 use Rattle.vcd_journal.specs.declared.step.Answer.{Answer}
 use Rattle.vcd_journal.specs.History.{History, initial_history, replay, is_depth}
-use Rattle.vcd_journal.specs.Machine.{Machine, StepOutcome, edit_outcome, undo_outcome}
-use Rattle.vcd_journal.specs.Machine.{redo_outcome, step_outcome, MayNeedMemory, IsStep, AreSteps}
-use Rattle.vcd_journal.specs.HistoryMachine.{earlier_replays, later_replays, machine_of}
-use Rattle.vcd_journal.specs.HistoryMachine.{history_after_answer, history_after_all}
+use Rattle.vcd_journal.specs.Machine.{Machine, StepOutcome, edit_outcome, undo_outcome, redo_outcome, step_outcome}
+use Rattle.vcd_journal.specs.Machine.{MayNeedMemory, IsStep, AreSteps}
+use Rattle.vcd_journal.specs.HistoryMachine.{earlier_replays, later_replays, machine_of, history_after_answer}
+use Rattle.vcd_journal.specs.HistoryMachine.{history_after_all}
 use Rattle.vcd_journal.specs.Hollow.{StepsAreOfOutline}
-use Rattle.vcd_journal.proofs.shared.Replay.{depth_choice, future_count, outcome_follows}
-use Rattle.vcd_journal.proofs.shared.Replay.{refusal_counts_not, step_follows, first_follows}
+use Rattle.vcd_journal.proofs.shared.Replay.{depth_choice, future_count, outcome_follows, refusal_counts_not}
+use Rattle.vcd_journal.proofs.shared.Replay.{step_follows, first_follows}
 use Rattle.vcd_journal.proofs.shared.OtherWaves.{replay_keeps_outlines}
 
 -- ---- what an outline says

@@ -1,7 +1,6 @@
 -- Steps of the machine, each from the contract of its call.
-use Rattle.std.proofs.Common.{◌≡◌, ◌≢◌, ◌<◌, ◌≤◌, ℕ, true, false, List, [], ◌∷◌, ◌++◌, None, length}
-use Rattle.std.proofs.Common.{refl, ap}
-use Rattle.std.proofs.Common.{subst, inl, inr, arith}
+use Rattle.std.proofs.Common.{◌≡◌, ◌≢◌, ◌<◌, ◌≤◌, ℕ, true, false, List, [], ◌∷◌, ◌++◌, None, length, refl, ap, subst}
+use Rattle.std.proofs.Common.{inl, inr, arith}
 use Rattle.std.specs.Prelude.{nat_lt}
 use Rattle.std.proofs.lemmas.Bool.Decides.{nat_tests}
 use Rattle.vcd_edit.specs.declared.edit.Edit.{Edit}
@@ -16,8 +15,7 @@ use Rattle.vcd_journal.specs.declared.step.Step.TheVariants as steps
 use Rattle.vcd_journal.specs.declared.step.StepError.TheVariants as refusals
 use Rattle.vcd_journal.specs.declared.step.Answer.{Answer}
 use Rattle.vcd_journal.specs.declared.step.Answer.TheVariants.{Done, Refused}
-use Rattle.vcd_journal.specs.Machine.{Machine, machine_after_edit, machine_after_depth}
-use Rattle.vcd_journal.specs.Machine.{step_outcome, memory_refusal}
+use Rattle.vcd_journal.specs.Machine.{Machine, machine_after_edit, machine_after_depth, step_outcome, memory_refusal}
 use Rattle.vcd_journal.specs.Machine.{IsStep, AreSteps}
 use Rattle.vcd_journal.specs.History.{is_depth}
 

@@ -7,7 +7,7 @@ use Rattle.vcd_edit.specs.declared.edit.Edit.{Edit}
 use Rattle.vcd_edit.specs.declared.edit.Edit.TheVariants.{Rename}
 use Rattle.vcd_edit.specs.Effect.{effect}
 use Rattle.vcd_edit.proofs.worked.Records.{capture, wire}
-use Rattle.vcd_edit.proofs.worked.EffectLaws.{lent}
+use Rattle.vcd_edit.proofs.worked.Effects.{lent}
 use Rattle.vcd_journal.specs.declared.step.Step.{Step}
 use Rattle.vcd_journal.specs.declared.step.Step.TheVariants as steps
 use Rattle.vcd_journal.specs.declared.step.StepError.TheVariants as refusals

@@ -4,7 +4,7 @@ use Rattle.std.specs.Prelude.{List, [], ◌∷◌, Some, None, codes}
 use Rattle.vcd_edit.specs.declared.edit.Edit.{Edit}
 use Rattle.vcd_edit.specs.declared.edit.Edit.TheVariants.{Rename, Remove, Cut, Derive}
 use Rattle.vcd_edit.specs.declared.edit.Rule.TheVariants.{Not}
-use Rattle.vcd_edit.proofs.worked.EffectLaws.{lent}
+use Rattle.vcd_edit.proofs.worked.Effects.{lent}
 use Rattle.vcd_journal.specs.Origins.{origins, origin}
 use Rattle.vcd_journal.specs.Cuts.{cuts, tick_before_cuts}
 

@@ -1,5 +1,4 @@
-use Rattle.std.proofs.Common.{◌≡◌, ℕ, ◌<◌, nat_eq, if◌then◌else◌, zero, suc, refl, arith, ◌∙◌, sym}
-use Rattle.std.proofs.Common.{ap}
+use Rattle.std.proofs.Common.{◌≡◌, ℕ, ◌<◌, nat_eq, if◌then◌else◌, zero, suc, refl, arith, ◌∙◌, sym, ap}
 use Rattle.std.proofs.lemmas.Nat.Bits.{shr_and_one, bit_at-lt}
 use Rattle.vcd_core.specs.inside.Planes.{plane_bit}
 use Rattle.vcd_core.proofs.planes.plane_bit.Goals as goal

@@ -1,6 +1,5 @@
 use Rattle.std.proofs.Common.{◌∙◌, ◌%◌, arith, refl}
-use Rattle.std.proofs.lemmas.Nat.Bits.{bit_at_set_same, bit_at_set_other, bit_at_clear_same}
-use Rattle.std.proofs.lemmas.Nat.Bits.{bit_at_clear_other}
+use Rattle.std.proofs.lemmas.Nat.Bits.{bit_at_set_same, bit_at_set_other, bit_at_clear_same, bit_at_clear_other}
 use Rattle.std.specs.Int.{w64}
 use Rattle.vcd_core.proofs.planes.WrittenBits.{plane_bit-set_same, plane_bit-write}
 use Rattle.vcd_core.proofs.planes.write_plane_bit.Goals as goal

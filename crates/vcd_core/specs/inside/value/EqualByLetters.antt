@@ -1,8 +1,7 @@
 -- Comparing values letter by letter decides whether they are equal.
 use Rattle.std.proofs.Common.{◌≡◌, ℕ, List, zero, suc, refl, sym, ap, ◌∙◌}
 use Rattle.std.specs.Bool.{Decides}
-use Rattle.std.specs.Cmp.{IsPartialEquivalence}
-use Rattle.std.specs.Cmp.{partial_equiv_from_equiv, on_equiv, nat_eq_equiv}
+use Rattle.std.specs.Cmp.{IsPartialEquivalence, partial_equiv_from_equiv, on_equiv, nat_eq_equiv}
 use Rattle.std.proofs.lemmas.Cmp.{lists_equiv}
 use Rattle.std.specs.Cmp.Lexicographic.{pointwise_decides}
 use Rattle.std.proofs.lemmas.Bool.Decides.{Decides-like, Decides-eqb}

@@ -1,9 +1,8 @@
 -- The planes of the letters of a value are the value: its model needs this to restore its fields.
 use Rattle.std.proofs.Common.{◌≡◌, ℕ, zero, suc, ◌+◌, ◌-◌, ◌*◌, ◌/◌, ◌%◌, ◌^◌, ◌<◌, ◌≤◌, nat_lt}
-use Rattle.std.proofs.Common.{List, length, map, get_or, refl, sym, ap, pow-suc}
-use Rattle.std.proofs.Common.{◌∙◌}
+use Rattle.std.proofs.Common.{List, length, map, get_or, refl, sym, ap, pow-suc, ◌∙◌, arith, inl}
+use Rattle.std.proofs.Common.{inr}
 use Rattle.std.specs.List.{range_with_len}
-use Rattle.std.proofs.Common.{arith, inl, inr}
 use Rattle.std.specs.Int.{bit_at}
 use Rattle.std.proofs.lemmas.Nat.Bits.{bit_at-lt, bit_at_cat_low, bit_at_cat_high}
 use Rattle.std.proofs.lemmas.Nat.Bits.{same_from_bits_below, bit_at_lowest}
@@ -17,8 +16,7 @@ use Rattle.vcd_core.specs.declared.value.Value.TheInside.{Inside}
 use Rattle.vcd_core.specs.Value.{letter_at}
 use Rattle.vcd_core.specs.BlockRows.{letter_of, low_of, high_of}
 use Rattle.vcd_core.specs.inside.Planes.{plane_bit, letters_in, view_value, number, bit_in}
-use Rattle.vcd_core.specs.inside.Planes.{bit_below, planes_of}
-use Rattle.vcd_core.specs.inside.Planes.{value_of, ArePlanes, IsValue}
+use Rattle.vcd_core.specs.inside.Planes.{bit_below, planes_of, value_of, ArePlanes, IsValue}
 
 bit_times-≤ : (b m : ℕ) → b < 2 → b * m ≤ m
 bit_times-≤ zero m small = omega arith

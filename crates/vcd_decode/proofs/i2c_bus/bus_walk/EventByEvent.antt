@@ -1,44 +1,120 @@
--- Events taken one at a time give the annotations of the whole bus.
-use Rattle.std.proofs.Common.{◌≡◌, ℕ, zero, ◌<◌, ◌≤◌, ◌==◌, nat_le, Bool, true, false}
-use Rattle.std.proofs.Common.{if◌then◌else◌, Option}
-use Rattle.std.proofs.Common.{Some, None, Result, Ok, Err, OnOk, IfOk, List, [], ◌∷◌, ◌++◌, length}
-use Rattle.std.proofs.Common.{take, refl, sym, ap}
-use Rattle.std.proofs.Common.{◌∙◌, inl, inr, arith}
+-- The walk over a bus: its events are those at the edges, and taken one at a time they give all annotations.
+use Rattle.std.proofs.Common.{◌≡◌, ℕ, zero, suc, Option, Some, None, List, [], ◌∷◌, ◌++◌, refl, sym, ap, ◌∙◌}
+use Rattle.std.proofs.Common.{option_to_list, map, All, ◌+◌, ◌-◌, ◌<◌, if◌then◌else◌, length, fold, arith, add-zero}
+use Rattle.std.proofs.Common.{◌≤◌, ◌==◌, nat_le, Bool, true, false, Result, Ok, Err, OnOk, IfOk, take, inl, inr}
+use Rattle.std.specs.Prelude.{filter, slice_index}
+use Rattle.std.specs.List.{filter_map, flat_map, range_with_len, list_any, cons_option, slice_get}
+use Rattle.std.proofs.lemmas.List.Elements.{All-map}
+use Rattle.std.proofs.lemmas.Bool.{ne_eqb, cases_eq, cond_both}
 use Rattle.std.specs.Option.{option_or}
-use Rattle.std.specs.List.{cons_option, filter_map, list_any, slice_get}
-use Rattle.vcd_core.specs.declared.memory.NoMemory.{NoMemory}
-use Rattle.std.proofs.lemmas.Bool.{cases_eq, cond_both, ne_eqb}
 use Rattle.std.proofs.lemmas.Bool.Decides.{Decides-eqb}
 use Rattle.std.proofs.lemmas.List.{length_push, take_at, drop_at, append-nil, append_assoc}
 use Rattle.std.proofs.lemmas.List.Sums.{fold-append}
+use Rattle.vcd_core.specs.declared.bit.Bit.{Bit}
+use Rattle.vcd_core.specs.Edges.{trace_of, changes_at, edge_on, edges_on}
+use Rattle.vcd_core.specs.BitEdges.{bit_edge, bit_edges_of}
+use Rattle.vcd_core.specs.WaveView.{WaveView}
+use Rattle.vcd_core.specs.declared.memory.NoMemory.{NoMemory}
+use Rattle.vcd_decode.specs.Lines.{letter_before, annotation}
+use Rattle.vcd_decode.specs.WaveLines.{line_of}
+use Rattle.vcd_decode.specs.BusEvents.{bus_event_at, bus_events}
+use Rattle.vcd_decode.specs.inside.i2c_bus.Events.{bus_event}
+use Rattle.vcd_decode.specs.inside.i2c_bus.BusWalk.{levels_of, IsBusEdge, edge_event, edge_events, no_bits}
+use Rattle.vcd_decode.specs.inside.i2c_bus.BusWalk.{partial_byte_with, partial_byte_of, transfer_rest_annotations}
+use Rattle.vcd_decode.specs.inside.i2c_bus.BusWalk.{whole_byte_annotations, transfer_after_byte, event_annotations}
+use Rattle.vcd_decode.specs.inside.i2c_bus.BusWalk.{bus_after, walk_annotations}
+use Rattle.vcd_decode.specs.inside.LineEdges.{lines_of, line_edge}
+use Rattle.vcd_decode.specs.declared.i2c_bus.events.BusBit.{BusBit}
+use Rattle.vcd_decode.specs.declared.i2c_bus.bytes.PartialByte.{PartialByte}
+use Rattle.vcd_decode.specs.BusBytes.{number_with, number_of_bits, byte_kind, role_after, acknowledge_kind}
+use Rattle.vcd_decode.specs.BusBytes.{ten_bit_address}
+use Rattle.vcd_decode.specs.I2c.{ticks_of, bits_annotation, byte_annotations, rest_annotations, nines_annotations}
+use Rattle.vcd_decode.specs.I2c.{bits_until, is_condition, shown_address, annotations_of_events}
 use Rattle.vcd_decode.specs.declared.annotation.Annotation.{Annotation}
 use Rattle.vcd_decode.specs.declared.annotation.Kind.TheVariants as kinds
-use Rattle.vcd_decode.specs.declared.i2c_bus.events.BusBit.{BusBit}
 use Rattle.vcd_decode.specs.declared.i2c_bus.events.BusEvent.{BusEvent}
 use Rattle.vcd_decode.specs.declared.i2c_bus.events.BusEvent.TheVariants as events
 use Rattle.vcd_decode.specs.declared.i2c_bus.bytes.ByteRole.{ByteRole}
 use Rattle.vcd_decode.specs.declared.i2c_bus.bytes.ByteRole.TheVariants as roles
-use Rattle.vcd_decode.specs.declared.i2c_bus.bytes.PartialByte.{PartialByte}
 use Rattle.vcd_decode.specs.declared.i2c_bus.transfer.Transfer.{Transfer}
-use Rattle.vcd_decode.specs.Lines.{annotation}
-use Rattle.vcd_decode.specs.BusBytes.{number_with, number_of_bits, byte_kind, role_after}
-use Rattle.vcd_decode.specs.BusBytes.{acknowledge_kind}
-use Rattle.vcd_decode.specs.BusBytes.{ten_bit_address}
-use Rattle.vcd_decode.specs.I2c.{bits_annotation, byte_annotations, rest_annotations}
-use Rattle.vcd_decode.specs.I2c.{nines_annotations, bits_until}
-use Rattle.vcd_decode.specs.I2c.{is_condition, shown_address, annotations_of_events}
-use Rattle.vcd_decode.specs.inside.i2c_bus.BusWalk.{no_bits, partial_byte_with, partial_byte_of}
-use Rattle.vcd_decode.specs.inside.i2c_bus.BusWalk.{transfer_rest_annotations}
-use Rattle.vcd_decode.specs.inside.i2c_bus.BusWalk.{whole_byte_annotations}
-use Rattle.vcd_decode.specs.inside.i2c_bus.BusWalk.{transfer_after_byte, event_annotations, bus_after}
-use Rattle.vcd_decode.specs.inside.i2c_bus.BusWalk.{walk_annotations}
 use Rattle.vcd_decode.specs.Groups.{groups_of}
+use Rattle.vcd_decode.proofs.shared.EdgeTicks.{over_edges, cons_is, nothing_happens}
 use Rattle.vcd_decode.proofs.shared.Groups.{groups_none, groups_short, groups_whole}
-use Rattle.vcd_decode.proofs.i2c_bus.bus_walk.CurrentBits.{part_count, part_first, part_last, part_number}
+
+-- ==== the events at the edges of two lines are those at all ticks
+
+as_lists : {A B : Type 0} (f : A → Option B) (xs : List A) → filter_map f xs ≡ flat_map (λ x. option_to_list (f x)) xs
+as_lists f [] = refl
+as_lists f (x ∷ xs) = cons_is (f x) (filter_map f xs) ∙ ap (λ ys. option_to_list (f x) ++ ys) (as_lists f xs)
+
+module _ (scl sda : WaveView) where
+  abbrev pub bus_waves : List (Option WaveView)
+  bus_waves = Some scl ∷ Some sda ∷ None ∷ None ∷ []
+
+  -- each edge has both lines
+  pub each_is_bus_edge : (end : ℕ) → All IsBusEdge (bit_edges_of bus_waves end)
+  unfolding edges_on
+  each_is_bus_edge end = All-map IsBusEdge bit_edge _
+      (All-map (λ e. IsBusEdge (bit_edge e)) (edge_on (map trace_of bus_waves))
+      (filter (λ t. list_any (changes_at t) (map trace_of bus_waves)) (range_with_len 0 (suc end)))
+      (λ k d within. has_both _))
+    where
+      has_both : (t : ℕ) → IsBusEdge (bit_edge (edge_on (map trace_of bus_waves) t))
+      has_both zero = ((_, _, refl), (_, _, refl))
+      has_both (suc t) = ((_, _, refl), (_, _, refl))
+
+  still : (t : ℕ) → (line_edge (lines_of bus_waves) t).at ≡ (line_edge (lines_of bus_waves) t).before
+      → option_to_list (edge_event (line_edge (lines_of bus_waves) t)) ≡ []
+  still t same =
+      ap (λ (letters : List (Option Bit)). option_to_list
+      (bus_event t (levels_of (line_edge (lines_of bus_waves) t).before) (levels_of letters))) same
+      ∙ ap option_to_list (nothing_happens t (letter_before (line_of scl) t) (letter_before (line_of sda) t))
+
+  pub events_are : (end : ℕ) → edge_events (bit_edges_of bus_waves end) ≡ bus_events (line_of scl) (line_of sda) end
+  unfolding bus_events
+  events_are end =
+      as_lists edge_event (bit_edges_of bus_waves end)
+      ∙ over_edges bus_waves (λ e. option_to_list (edge_event e)) still end
+      ∙ sym (as_lists (bus_event_at (line_of scl) (line_of sda)) (range_with_len 0 (suc end)))
+
+-- ==== the state of the current bits
+
+kept_count : (g : List BusBit) (p : PartialByte) → (fold partial_byte_with p g).count ≡ p.count + length g
+kept_count [] p = sym (add-zero p.count)
+kept_count (b ∷ g) p = kept_count g (partial_byte_with p b) ∙ omega arith
+
+kept_first : (g : List BusBit) (p : PartialByte) → 0 < p.count → (fold partial_byte_with p g).first ≡ p.first
+kept_first [] p some = refl
+kept_first (b ∷ g) p some = kept_first g (partial_byte_with p b) (omega arith)
+    ∙ ap (λ e. if e then b.tick else p.first) (ne_eqb p.count 0 (omega arith))
+
+kept_last : (g : List BusBit) (b : BusBit) (p : PartialByte)
+    → (fold partial_byte_with p (b ∷ g)).last ≡ slice_index (ticks_of (b ∷ g)) (length g)
+kept_last [] b p = refl
+kept_last (c ∷ g) b p = kept_last g c (partial_byte_with p b)
+
+kept_number : (g : List BusBit) (p : PartialByte) → (fold partial_byte_with p g).number ≡ fold number_with p.number g
+kept_number [] p = refl
+kept_number (b ∷ g) p = kept_number g (partial_byte_with p b)
+
+pub byte_count : (g : List BusBit) → (partial_byte_of g).count ≡ length g
+byte_count g = kept_count g no_bits ∙ omega arith
+
+pub byte_number : (g : List BusBit) → (partial_byte_of g).number ≡ number_of_bits g
+byte_number g = kept_number g no_bits
+
+pub byte_first : (b : BusBit) (g : List BusBit) → (partial_byte_of (b ∷ g)).first ≡ b.tick
+byte_first b g = kept_first g (partial_byte_with no_bits b) (omega arith)
+
+pub byte_last : (b : BusBit) (g : List BusBit)
+    → (partial_byte_of (b ∷ g)).last ≡ slice_index (ticks_of (b ∷ g)) (length (b ∷ g) - 1)
+byte_last b g = kept_last g b no_bits ∙ ap (slice_index (ticks_of (b ∷ g))) (omega arith)
+
+-- ==== events taken one at a time give the annotations of the whole bus
 
 -- a transfer of these parts
 abbrev pub transfer_of : ByteRole → PartialByte → Option ℕ → Transfer
-transfer_of role part given = record { role = role; part = part; address = given }
+transfer_of role byte given = record { role = role; byte = byte; address = given }
 
 -- ---- fewer than nine bits
 
@@ -56,9 +132,9 @@ left_is : (role : ByteRole) (g : List BusBit) (given : Option ℕ)
     → transfer_rest_annotations (Some (transfer_of role (partial_byte_of g) given)) ≡ rest_annotations true g
 left_is role [] given = refl
 left_is role (b ∷ g) given =
-    let count = part_count (b ∷ g) in
-    let first = part_first b g in
-    let last = part_last b g in
+    let count = byte_count (b ∷ g) in
+    let first = byte_first b g in
+    let last = byte_last b g in
     λ i. if nat_le 2 (count i) then annotation (first i) (last i) (kinds.Unfinished (count i)) ∷ [] else []
 
 -- they show no address
@@ -76,9 +152,9 @@ whole_is role [] given b eight = absurd (omega arith)
 whole_is role (a ∷ g) given b eight =
     let prefix = take_at (a ∷ g) (b ∷ []) 8 eight in
     let ninth = drop_at (a ∷ g) (b ∷ []) 8 eight in
-    let first = part_first a g in
-    let last = part_last a g in
-    let number = part_number (a ∷ g) in
+    let first = byte_first a g in
+    let last = byte_last a g in
+    let number = byte_number (a ∷ g) in
     (λ i. bits_annotation (prefix i) (byte_kind role (number_of_bits (prefix i)))
     ∷ bits_annotation (ninth i) (acknowledge_kind (number_of_bits (ninth i))) ∷ [])
     ∙ sym (λ i. annotation (first i) (last i) (byte_kind role (number i))
@@ -105,7 +181,7 @@ given_past : (t : Transfer) (b : BusBit) (others : List Annotation)
 unfolding shown_address
 given_past t b others =
     let more : List ℕ = filter_map (λ (a : Annotation). ten_bit_address a.kind) others in
-    let byte = ten_bit_address (byte_kind t.role t.part.number) in
+    let byte = ten_bit_address (byte_kind t.role t.byte.number) in
     ap (λ (o : Option ℕ). option_or t.address (slice_get (cons_option byte (cons_option o more)) 0))
     (acknowledge_none (number_with (Some 0) b))
     ∙ or_first t.address byte more
@@ -125,7 +201,7 @@ stretch_past es role g given b eight =
     let full : (length (g ++ b ∷ []) == 9) ≡ true = (Decides-eqb (length (g ++ b ∷ [])) 9).1 nine in
     let prefix = take_at g (b ∷ []) 8 eight in
     let number : number_of_bits (take 8 (g ++ b ∷ [])) ≡ (partial_byte_of g).number = ap number_of_bits prefix
-    ∙ sym (part_number g) in
+    ∙ sym (byte_number g) in
     let annotations = whole_is role g given b eight in
     ap (λ (bs : List BusBit). nines_annotations (list_any is_condition es) role (groups_of 9 bs))
     (sym (append_assoc g (b ∷ []) (bits_until es)))
@@ -163,21 +239,21 @@ at_condition c es role g given few none ended =
     )
 
 -- a bit that ends a byte, or does not
-bit_taken : (t : Transfer) (b : BusBit) (es : List BusEvent) (full : Bool) → (t.part.count == 8) ≡ full
+bit_taken : (t : Transfer) (b : BusBit) (es : List BusEvent) (full : Bool) → (t.byte.count == 8) ≡ full
     → walk_annotations (Some t) (events.Bit b ∷ es) ≡ (if full then whole_byte_annotations t b else [])
     ++ walk_annotations (Some
-    (if full then transfer_after_byte t else record t { part = partial_byte_with t.part b })) es
+    (if full then transfer_after_byte t else record t { byte = partial_byte_with t.byte b })) es
 unfolding walk_annotations
 bit_taken t b es full is = λ i. (if is i then whole_byte_annotations t b else [])
     ++ walk_annotations (Some
-    (if is i then transfer_after_byte t else record t { part = partial_byte_with t.part b })) es
+    (if is i then transfer_after_byte t else record t { byte = partial_byte_with t.byte b })) es
 
 held_byte : (b : BusBit) (es : List BusEvent) (role : ByteRole) (g : List BusBit) (given : Option ℕ) → WalksTransfer es
     → length g ≡ 8 → WalksFrom (events.Bit b ∷ es) role g given
 unfolding bits_until annotations_of_events
 held_byte b es role g given later eight =
     let t : Transfer = transfer_of role (partial_byte_of g) given in
-    let count : (t.part.count == 8) ≡ true = (Decides-eqb t.part.count 8).1 (part_count g ∙ eight) in
+    let count : (t.byte.count == 8) ≡ true = (Decides-eqb t.byte.count 8).1 (byte_count g ∙ eight) in
     let whole : List Annotation = whole_byte_annotations t b in
     let next : ByteRole = role_after role (partial_byte_of g).number in
     let rest : List Annotation = stretch es next [] in
@@ -194,7 +270,7 @@ held_bit : (b : BusBit) (es : List BusEvent) (role : ByteRole) (g : List BusBit)
 unfolding bits_until annotations_of_events
 held_bit b es role g given later few =
     let t : Transfer = transfer_of role (partial_byte_of g) given in
-    let count : (t.part.count == 8) ≡ false = ne_eqb t.part.count 8 (λ eight. omega (arith, part_count g)) in
+    let count : (t.byte.count == 8) ≡ false = ne_eqb t.byte.count 8 (λ eight. omega (arith, byte_count g)) in
     let more : partial_byte_with (partial_byte_of g) b
     ≡ partial_byte_of (g ++ b ∷ []) = sym (fold-append partial_byte_with no_bits g (b ∷ [])) in
     let longer = append_assoc g (b ∷ []) (bits_until es) in

@@ -1,13 +1,12 @@
-use Rattle.std.proofs.Common.{◌≡◌, ◌∙◌, ◌&&◌, nat_lt, if◌then◌else◌, Option, None, sym, ap, subst}
-use Rattle.std.proofs.Common.{arith}
+use Rattle.std.proofs.Common.{◌≡◌, ◌∙◌, ◌&&◌, nat_lt, if◌then◌else◌, Option, None, sym, ap, subst, arith}
 use Rattle.vcd_core.specs.declared.bit.Bit.TheVariants.{X}
 use Rattle.vcd_core.specs.Wave.{AllUpTo}
 use Rattle.vcd_decode.specs.declared.annotation.Annotation.{Annotation}
 use Rattle.vcd_decode.specs.Lines.{is_one, is_zero}
 use Rattle.vcd_decode.specs.WaveLines.{line_of}
 use Rattle.vcd_decode.specs.Uart.{begun_frame, frames}
-use Rattle.vcd_decode.proofs.uart_frames.Falls.{fall_ticks, walked, all_walked, frames_by_changes}
-use Rattle.vcd_decode.proofs.uart_frames.LineLetters.{letter_at_item, up_to_at}
+use Rattle.vcd_decode.proofs.uart_frames.Falls.{fall_ticks, walked, all_walked, frames_by_changes, letter_at_item}
+use Rattle.vcd_decode.proofs.uart_frames.Falls.{up_to_at}
 use Rattle.vcd_decode.proofs.uart_frames.uart.Goals as goal
 use Rattle.vcd_decode.proofs.uart_frames.uart.Goals.{then-begins_frame, else-begins_frame}
 

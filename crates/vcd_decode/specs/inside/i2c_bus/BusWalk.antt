@@ -1,7 +1,6 @@
 -- The walk over the events of an I2C bus: the state between two events, and the annotations of one.
 use Rattle.std.specs.Prelude.{◌≡◌, ℕ, ◌+◌, ◌^◌, ◌<◌, ◌≤◌, ◌==◌, nat_le, if◌then◌else◌, Option, Some}
-use Rattle.std.specs.Prelude.{None, IfSome, List, []}
-use Rattle.std.specs.Prelude.{◌∷◌, ◌++◌, fold, filter_map}
+use Rattle.std.specs.Prelude.{None, IfSome, List, [], ◌∷◌, ◌++◌, fold, filter_map}
 use Rattle.std.specs.Option.{option_or}
 use Rattle.vcd_core.specs.declared.bit.Bit.{Bit}
 use Rattle.vcd_core.specs.declared.bit.Bit.TheVariants.{X}
@@ -49,7 +48,7 @@ IsPartialByte p = (p.count ≤ 8) × IfSome p.number (λ n. n < 2 ^ p.count)
 
 -- the current transfer, if there is one, is sound
 abbrev pub IsSoundTransfer : Option Transfer → Type 0
-IsSoundTransfer bus = IfSome bus (λ t. IsPartialByte t.part)
+IsSoundTransfer bus = IfSome bus (λ t. IsPartialByte t.byte)
 
 -- the address of ten bits that came since the START
 abbrev pub bus_address : Option Transfer → Option ℕ
@@ -58,7 +57,7 @@ bus_address (Some t) = t.address
 
 -- a new transfer
 abbrev pub new_transfer : Option Transfer → Transfer
-new_transfer bus = record { role = roles.Address (bus_address bus); part = no_bits; address = None }
+new_transfer bus = record { role = roles.Address (bus_address bus); byte = no_bits; address = None }
 
 -- the kind of a START
 abbrev pub bus_start_kind : Option Transfer → Kind
@@ -69,34 +68,34 @@ bus_start_kind (Some t) = kinds.RepeatedStart
 abbrev pub transfer_rest_annotations : Option Transfer → List Annotation
 transfer_rest_annotations None = []
 transfer_rest_annotations (Some t) =
-    if nat_le 2 t.part.count
-    then annotation t.part.first t.part.last (kinds.Unfinished t.part.count) ∷ [] else []
+    if nat_le 2 t.byte.count
+    then annotation t.byte.first t.byte.last (kinds.Unfinished t.byte.count) ∷ [] else []
 
 -- ---- one bit
 
 -- the current byte and the acknowledge
 abbrev pub whole_byte_annotations : Transfer → BusBit → List Annotation
 whole_byte_annotations t b =
-    annotation t.part.first t.part.last (byte_kind t.role t.part.number)
+    annotation t.byte.first t.byte.last (byte_kind t.role t.byte.number)
     ∷ annotation b.tick b.tick (acknowledge_kind (number_with (Some 0) b)) ∷ []
 
 -- the transfer after them
 abbrev pub transfer_after_byte : Transfer → Transfer
 transfer_after_byte t = record {
-  role = role_after t.role t.part.number;
-  part = no_bits;
-  address = option_or t.address (ten_bit_address (byte_kind t.role t.part.number));
+  role = role_after t.role t.byte.number;
+  byte = no_bits;
+  address = option_or t.address (ten_bit_address (byte_kind t.role t.byte.number));
 }
 
 -- the annotations of a bit of a transfer
 abbrev pub bit_annotations : Transfer → BusBit → List Annotation
-bit_annotations t b = if t.part.count == 8 then whole_byte_annotations t b else []
+bit_annotations t b = if t.byte.count == 8 then whole_byte_annotations t b else []
 
 -- the transfer after a bit of it
 abbrev pub transfer_after_bit : Transfer → BusBit → Transfer
 transfer_after_bit t b =
-    if t.part.count == 8 then transfer_after_byte t
-    else record t { part = partial_byte_with t.part b }
+    if t.byte.count == 8 then transfer_after_byte t
+    else record t { byte = partial_byte_with t.byte b }
 
 -- ---- any event
 

@@ -1,6 +1,6 @@
 use Rattle.vcd_core.specs.CaptureContents.{signal_contents}
-use Rattle.vcd_edit.proofs.fitting.AdjacencyTests.{both_pass, one_fails}
-use Rattle.vcd_edit.proofs.fitting.RecordKinds.{put_tells}
+use Rattle.vcd_edit.proofs.fitting.FittingPieces.{both_pass, one_fails}
+use Rattle.vcd_edit.proofs.fitting.FittingRecords.{put_tells}
 use Rattle.vcd_edit.proofs.fitting.may_be_put_in.Goals as goal
 
 pub returns-then-is_sound : goal.returns-then-is_sound

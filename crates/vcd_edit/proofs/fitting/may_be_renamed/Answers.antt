@@ -1,5 +1,5 @@
-use Rattle.vcd_edit.proofs.fitting.AdjacencyTests.{both_pass, one_fails}
-use Rattle.vcd_edit.proofs.fitting.RecordKinds.{word_tells}
+use Rattle.vcd_edit.proofs.fitting.FittingPieces.{both_pass, one_fails}
+use Rattle.vcd_edit.proofs.fitting.FittingRecords.{word_tells}
 use Rattle.vcd_edit.proofs.fitting.may_be_renamed.Goals as goal
 
 pub returns-then-is_sound_with_word : goal.returns-then-is_sound_with_word

@@ -1,9 +1,6 @@
 -- The pieces of a delayed or advanced signal.
-use Rattle.std.proofs.Common.{◌≡◌, ℕ, zero, suc, ◌+◌, ◌-◌, ◌^◌, ◌<◌, ◌≤◌, nat_lt}
-use Rattle.std.proofs.Common.{if◌then◌else◌, ℤ}
-use Rattle.std.proofs.Common.{pos, negsuc, ◌-ℤ◌, List, [], ◌∷◌, ◌++◌, length, take, map, get_or}
-use Rattle.std.proofs.Common.{inl, inr, refl, sym}
-use Rattle.std.proofs.Common.{ap, ◌∙◌, arith}
+use Rattle.std.proofs.Common.{◌≡◌, ℕ, zero, suc, ◌+◌, ◌-◌, ◌^◌, ◌<◌, ◌≤◌, nat_lt, if◌then◌else◌, ℤ, pos, negsuc, ◌-ℤ◌}
+use Rattle.std.proofs.Common.{List, [], ◌∷◌, ◌++◌, length, take, map, get_or, inl, inr, refl, sym, ap, ◌∙◌, arith}
 use Rattle.std.specs.Prelude.{neg_ℤ, Result, IfOk}
 use Rattle.std.specs.List.{count_by}
 use Rattle.std.proofs.lemmas.Bool.{cases_lt, lt-ltb, le-ltb}
@@ -17,9 +14,8 @@ use Rattle.vcd_core.specs.inside.value.EqualByLetters.{same_letters-Decides}
 use Rattle.vcd_core.specs.Wave.{change, unless_same, changes_from, IsWave, AllUpTo}
 use Rattle.vcd_core.specs.Splice.{moved_change}
 use Rattle.vcd_core.specs.Contents.{SignalContents, signal_value}
-use Rattle.vcd_core.proofs.shared.Waves.{changes_same}
+use Rattle.vcd_core.proofs.shared.Waves.{changes_same, value_last}
 use Rattle.vcd_core.proofs.shared.Pushes.{upto_from_all, count_is, no_change}
-use Rattle.vcd_core.proofs.shared.WaveAfterChange.{value_last}
 use Rattle.vcd_core.specs.declared.memory.NoMemory.{NoMemory}
 use Rattle.vcd_edit.specs.declared.record.Piece.{Piece}
 use Rattle.vcd_edit.specs.Records.{piece_view}
@@ -28,11 +24,9 @@ use Rattle.vcd_edit.specs.RecordView.{PieceView}
 use Rattle.vcd_edit.specs.Effect.{value_at_any_tick, shift_value, cut_value}
 use Rattle.vcd_edit.specs.inside.plans.Ranges.{value_just_before, changes_in, GivesChanges}
 use Rattle.vcd_edit.proofs.shared.Lists.{take_here}
-use Rattle.vcd_edit.proofs.plans.CutPiece.{after_cut, all_counted}
-use Rattle.vcd_edit.proofs.plans.Ranges.{changes_in-split, changes_in-constant, changes_in-moved}
-use Rattle.vcd_edit.proofs.plans.Ranges.{changes_before_tick}
-use Rattle.vcd_edit.proofs.plans.Ranges.{replacement_leads}
-use Rattle.vcd_edit.proofs.plans.WholeListPiece.{whole_leads}
+use Rattle.vcd_edit.proofs.plans.CutPieces.{after_cut, all_counted}
+use Rattle.vcd_edit.proofs.plans.Ranges.{changes_in-split, changes_in-constant, changes_in-moved, changes_before_tick}
+use Rattle.vcd_edit.proofs.plans.Ranges.{replacement_leads, whole_leads}
 
 -- past the end the value stays
 past_end : (end t : ℕ) (s : SignalContents) → AllUpTo end s.changes → end ≤ t → signal_value s t ≡ signal_value s end

@@ -1,7 +1,6 @@
--- The parts of a capture that a record replaces: they make the record for the opposite step.
-use Rattle.std.specs.Prelude.{◌≡◌, ℕ, ◌<◌, ◌≤◌, neg_ℤ, ℤ, All, length, List, []}
-use Rattle.std.specs.Prelude.{slice_index_or, Option, Some}
-use Rattle.std.specs.Prelude.{None}
+-- What a record replaces of a capture: it makes the record for the opposite step.
+use Rattle.std.specs.Prelude.{◌≡◌, ℕ, ◌<◌, ◌≤◌, neg_ℤ, ℤ, All, length, List, [], slice_index_or}
+use Rattle.std.specs.Prelude.{Option, Some, None}
 use Rattle.vcd_core.specs.Contents.{Contents, SignalContents, signal_at}
 use Rattle.vcd_edit.specs.RecordView.{RecordView}
 use Rattle.vcd_edit.specs.AppliedRecords.{apply_record, Fits}

@@ -1,7 +1,7 @@
 -- How a piece and a range of a wave are exchanged: what must hold before, and what holds after.
 use Rattle.std.specs.Prelude.{◌≡◌, ℕ, ◌+◌, ◌-◌, ◌^◌, ◌<◌, ◌≤◌, neg_ℤ, List, [], ◌∷◌, length, take}
-use Rattle.std.specs.Prelude.{drop, map}
-use Rattle.std.specs.Prelude.{slice_index_or, All, Option, Some, None, false, vec_len, vec_capacity}
+use Rattle.std.specs.Prelude.{drop, map, slice_index_or, All, Option, Some, None, false, vec_len}
+use Rattle.std.specs.Prelude.{vec_capacity}
 use Rattle.vcd_core.specs.declared.wave.Change.{Change}
 use Rattle.vcd_core.specs.declared.capture.Signal.{Signal}
 use Rattle.vcd_core.specs.declared.capture.TheConstants.{END_LIMIT}
@@ -11,8 +11,7 @@ use Rattle.vcd_core.specs.Wave.{IsWave}
 use Rattle.vcd_core.specs.Splice.{AllTicksFit}
 use Rattle.vcd_edit.specs.declared.record.Piece.{Piece}
 use Rattle.vcd_edit.specs.RecordView.{PieceView}
-use Rattle.vcd_edit.specs.AppliedRecords.{changes_with_piece, with_piece, with_pieces}
-use Rattle.vcd_edit.specs.AppliedRecords.{RiseFrom}
+use Rattle.vcd_edit.specs.AppliedRecords.{changes_with_piece, with_piece, with_pieces, RiseFrom}
 use Rattle.vcd_edit.specs.Records.{piece_view}
 use Rattle.vcd_edit.specs.Touched.{touched_count}
 

@@ -8,8 +8,7 @@ use Rattle.vcd_edit.specs.RecordView.{PieceView, RecordView}
 use Rattle.vcd_edit.specs.Effect.{effect}
 use Rattle.vcd_edit.specs.Touched.{record_pairing}
 use Rattle.vcd_edit.specs.TouchedByEdit.{edit_advance, edit_pairing}
-use Rattle.vcd_edit.specs.AppliedRecords.{with_pieces, apply_record, PieceFits, Fits}
-use Rattle.vcd_edit.specs.AppliedRecords.{RiseFrom}
+use Rattle.vcd_edit.specs.AppliedRecords.{with_pieces, apply_record, PieceFits, Fits, RiseFrom}
 use Rattle.vcd_edit.specs.inside.plans.Ranges.{GivesChanges}
 use Rattle.vcd_edit.specs.Records.{piece_view}
 

@@ -1,7 +1,6 @@
 -- Changes without those that leave the value as it is.
 use Rattle.std.specs.Prelude.{ℕ, Bool, ◌==◌, ◌||◌, ◌&&◌, not, ◌-◌, ◌+◌, ◌≤◌, ◌≡◌, length, true}
-use Rattle.std.specs.Prelude.{if◌then◌else◌, nat_le}
-use Rattle.std.specs.Prelude.{List, [], ◌∷◌}
+use Rattle.std.specs.Prelude.{if◌then◌else◌, nat_le, List, [], ◌∷◌}
 use Rattle.vcd_core.specs.declared.bit.Bit.{Bit}
 use Rattle.vcd_core.specs.declared.wave.Change.{Change}
 use Rattle.vcd_core.specs.Value.{same_letters}
@@ -35,10 +34,10 @@ steady_changes ticks [] = []
 steady_changes ticks (c ∷ cs) =
     if begins_steady ticks c cs then c ∷ steady_changes ticks cs else steady_changes ticks cs
 
--- whether a change begins such a run, and its value differs from the last one kept
-abbrev pub is_kept : ℕ → List Bit → Change → List Change → Bool
-is_kept ticks before c later = begins_steady ticks c later && not (same_letters c.value before)
+-- whether a change begins such a run, and its value differs from the last one that remains
+abbrev pub remains : ℕ → List Bit → Change → List Change → Bool
+remains ticks before c later = begins_steady ticks c later && not (same_letters c.value before)
 
 -- the changes after a value that remain when short runs are taken out
-abbrev pub kept_changes : ℕ → List Bit → List Change → List Change
-kept_changes ticks before cs = without_repeats before (steady_changes ticks cs)
+abbrev pub remaining_changes : ℕ → List Bit → List Change → List Change
+remaining_changes ticks before cs = without_repeats before (steady_changes ticks cs)

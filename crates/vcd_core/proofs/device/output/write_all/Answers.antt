@@ -1,6 +1,5 @@
 -- The bytes of a turn follow those that were taken before it.
-use Rattle.std.proofs.Common.{◌≡◌, ℕ, ◌+◌, ◌-◌, List, ◌++◌, length, take, drop, arith, subst, sym}
-use Rattle.std.proofs.Common.{ap, ◌∙◌}
+use Rattle.std.proofs.Common.{◌≡◌, ℕ, ◌+◌, ◌-◌, List, ◌++◌, length, take, drop, arith, subst, sym, ap, ◌∙◌}
 use Rattle.std.proofs.Math.Seq.{take-add}
 use Rattle.std.proofs.lemmas.List.{take_rest, length-take, length-drop}
 use Rattle.std.proofs.KnownBytes.{Appends-trans}

@@ -7,8 +7,7 @@ use Rattle.vcd_core.specs.Value.{letter_at}
 use Rattle.vcd_core.specs.BlockRows.{low_of, high_of}
 use Rattle.vcd_core.specs.inside.Planes.{view_value, plane_bit}
 use Rattle.vcd_core.proofs.shared.LettersOfPlanes.{letters_in-shown, letter_at-set_same, letter_at-set_other}
-use Rattle.vcd_core.proofs.shared.LettersOfPlanes.{length-shown}
-use Rattle.vcd_core.proofs.shared.LettersOfPlanes.{bit-shown, in_planes}
+use Rattle.vcd_core.proofs.shared.LettersOfPlanes.{length-shown, bit-shown, in_planes}
 use Rattle.vcd_core.proofs.value.Value.with_bit.Goals as goal
 
 -- a plane after the write has the bits of the letters after the write

@@ -1,5 +1,4 @@
-use Rattle.std.proofs.Common.{rules, w64, List, ◌≡◌, ◌++◌, ◌-◌, length, take, drop, map, ap, ◌∙◌}
-use Rattle.std.proofs.Common.{refl, arith}
+use Rattle.std.proofs.Common.{rules, w64, List, ◌≡◌, ◌++◌, ◌-◌, length, take, drop, map, ap, ◌∙◌, refl, arith}
 use Rattle.std.proofs.Common.{length-drop}
 use Rattle.std.proofs.lemmas.List.{take_all}
 use Rattle.std.proofs.lemmas.Int.{to_z-of_z}
@@ -13,10 +12,10 @@ pub returns-clause-changes : goal.returns-clause-changes
 returns-clause-changes c =
     let xs = c.args.changes.now.items in
     let given = c.deref.result.now in
-    let rest : List Change = take (length given - c.args.kept) (drop c.args.kept given) in
-    let is : rest ≡ drop c.args.kept c.args.piece.now.items =
-    take_all (length given - c.args.kept) (drop c.args.kept given) (omega (arith, length-drop c.args.kept given))
-    ∙ ap (drop c.args.kept) c.deref.ensures.value in
+    let rest : List Change = take (length given - c.args.from) (drop c.args.from given) in
+    let is : rest ≡ drop c.args.from c.args.piece.now.items =
+    take_all (length given - c.args.from) (drop c.args.from given) (omega (arith, length-drop c.args.from given))
+    ∙ ap (drop c.args.from) c.deref.ensures.value in
     let whole : c.as_mut_slice.result.now ≡ xs ++ rest = search rules in
     put_into_gap _ xs rest c.as_mut_slice.result.now c.move_to_end.new.changes _ c.write_at.new.changes.items c.args.at
     (length rest) refl (omega arith)

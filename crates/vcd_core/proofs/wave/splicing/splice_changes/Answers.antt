@@ -1,7 +1,6 @@
 use Rattle.std.proofs.Common.{w64, ◌+◌, ◌-◌, ◌++◌, slice_range, ap, ◌∙◌, arith}
 use Rattle.std.proofs.lemmas.Int.{to_z-of_z}
-use Rattle.vcd_core.proofs.shared.Splices.{later_fit, spliced_without_rest, piece_with_rest}
-use Rattle.vcd_core.proofs.shared.Splices.{spliced_with_rest}
+use Rattle.vcd_core.proofs.shared.Splices.{later_fit, spliced_without_rest, piece_with_rest, spliced_with_rest}
 use Rattle.vcd_core.proofs.wave.splicing.splice_changes.Goals as goal
 
 pub take_out-requires-clause-ticks : goal.take_out-requires-clause-ticks

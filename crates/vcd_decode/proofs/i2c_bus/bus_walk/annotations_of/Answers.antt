@@ -25,7 +25,7 @@ loop-edge-preserved c =
       c.in_ok-transfer.ensures.annotations (edge_events c.next.new.self)
           ∙ sym (ap (λ (es : List BitEdge). c.loop-edge.found.items ++ walk_annotations c.loop-edge.transfer
           (edge_events es)) c.in-Some.ensures.steps) ∙ c.loop-edge.invariant.0,
-      c.in_ok-transfer.ensures.part,
+      c.in_ok-transfer.ensures.sound,
       λ k d less. all (suc k) d (omega (arith, less)),
     )
 

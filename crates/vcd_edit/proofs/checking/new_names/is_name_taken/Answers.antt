@@ -3,7 +3,7 @@ use Rattle.vcd_core.specs.FullName.{name_bytes}
 use Rattle.vcd_core.specs.CaptureContents.{signal_contents}
 use Rattle.vcd_core.specs.Names.{full_name, name_in}
 use Rattle.vcd_edit.specs.Effect.{renamed_signal}
-use Rattle.vcd_edit.proofs.checking.new_names.TakenNames.{taken_before, taken_after}
+use Rattle.vcd_edit.proofs.checking.Faults.{taken_before, taken_after}
 use Rattle.vcd_edit.proofs.checking.new_names.is_name_taken.Goals as goal
 
 pub returns-then-is_taken : goal.returns-then-is_taken

@@ -1,14 +1,12 @@
-use Rattle.std.proofs.Common.{◌∙◌, All, refl, subst, sym, ap, map}
-use Rattle.std.proofs.Common.{get_or, None, arith}
+use Rattle.std.proofs.Common.{◌∙◌, All, refl, subst, sym, ap, map, get_or, None, arith}
 use Rattle.std.proofs.lemmas.List.{take_all}
 use Rattle.vcd_core.specs.CaptureContents.{contents}
 use Rattle.vcd_edit.specs.AppliedRecords.{with_pieces, RiseFrom}
 use Rattle.vcd_edit.specs.Records.{piece_view}
-use Rattle.vcd_edit.specs.inside.exchange.Pieces.{AreOppositePieces, PieceReadyIn}
-use Rattle.vcd_edit.specs.inside.exchange.Pieces.{HasRoomForPiece, CanBePutIn}
-use Rattle.vcd_edit.proofs.shared.TouchedBySplice.{whole_list}
-use Rattle.vcd_edit.proofs.exchange.PiecesInTurn.{next_signal, next_piece_room, next_coming}
-use Rattle.vcd_edit.proofs.exchange.PiecesInTurn.{wave_ready, wave_room, put_more}
+use Rattle.vcd_edit.specs.inside.exchange.Pieces.{AreOppositePieces, PieceReadyIn, HasRoomForPiece, CanBePutIn}
+use Rattle.vcd_edit.proofs.shared.TouchedChanges.{whole_list}
+use Rattle.vcd_edit.proofs.exchange.PiecesInTurn.{next_signal, next_piece_room, next_coming, wave_ready, wave_room}
+use Rattle.vcd_edit.proofs.exchange.PiecesInTurn.{put_more}
 use Rattle.vcd_edit.proofs.exchange.pieces.exchange_pieces.Goals as goal
 
 pub loop-piece-init : goal.loop-piece-init

@@ -1,12 +1,11 @@
-use Rattle.std.proofs.Common.{◌≡◌, ◌∙◌, ◌+◌, ap, sym, subst, pos, ◌+ℤ◌, w64, FitsSigned, ℤ, ℕ}
-use Rattle.std.proofs.Common.{◌≤◌, to_z, of_z}
-use Rattle.std.proofs.Common.{length, rules}
+use Rattle.std.proofs.Common.{◌≡◌, ◌∙◌, ◌+◌, ap, sym, subst, pos, ◌+ℤ◌, w64, FitsSigned, ℤ, ℕ, ◌≤◌, to_z, of_z, length}
+use Rattle.std.proofs.Common.{rules}
 use Rattle.std.specs.Int.{FitsUnsigned}
 use Rattle.std.proofs.lemmas.Int.{to_z-of_z}
 use Rattle.vcd_core.specs.declared.capture.TheConstants.{END_LIMIT}
 use Rattle.vcd_edit.specs.inside.exchange.Trimming.{IsTrimmed}
 use Rattle.vcd_edit.specs.Records.{piece_view}
-use Rattle.vcd_edit.proofs.exchange.pieces.OppositeSplices.{led_back}
+use Rattle.vcd_edit.proofs.exchange.ExchangedPieces.{led_back}
 use Rattle.vcd_edit.proofs.exchange.pieces.exchange_with_wave.Goals as goal
 
 pub returns-clause-restores : goal.returns-clause-restores

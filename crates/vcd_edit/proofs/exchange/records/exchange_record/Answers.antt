@@ -1,16 +1,14 @@
 use Rattle.std.proofs.Common.{◌∙◌, ◌++◌, All, ap, refl, sym, subst, length, map, take, drop, arith}
 use Rattle.std.proofs.lemmas.List.{length-map}
 use Rattle.vcd_core.specs.CaptureContents.{contents}
-use Rattle.vcd_edit.specs.AppliedRecords.{apply_record, with_signal_in_out, Fits}
-use Rattle.vcd_edit.specs.AppliedRecords.{HasNeitherPiecesNorSignal}
+use Rattle.vcd_edit.specs.AppliedRecords.{apply_record, with_signal_in_out, Fits, HasNeitherPiecesNorSignal}
 use Rattle.vcd_edit.specs.Records.{piece_view, record_view, signal_view}
 use Rattle.vcd_edit.specs.inside.exchange.Opposites.{opposite_signal}
 use Rattle.vcd_edit.specs.inside.exchange.Pieces.{PieceReadyIn, HaveRoom}
 use Rattle.vcd_core.specs.declared.capture.Capture.{Capture}
-use Rattle.vcd_edit.proofs.exchange.OppositeRecords.{pieces_ready, IsExchanged}
-use Rattle.vcd_edit.proofs.shared.TouchedBySplice.{whole_list}
-use Rattle.vcd_edit.proofs.exchange.records.RecordExchanges.{ready_then, word_then, room_then, Begun}
-use Rattle.vcd_edit.proofs.exchange.records.RecordExchanges.{exchanged}
+use Rattle.vcd_edit.proofs.exchange.ExchangedRecords.{pieces_ready, IsExchanged, ready_then, word_then, room_then}
+use Rattle.vcd_edit.proofs.exchange.ExchangedRecords.{Begun, exchanged}
+use Rattle.vcd_edit.proofs.shared.TouchedChanges.{whole_list}
 use Rattle.vcd_edit.proofs.exchange.records.exchange_record.Goals.{In-Ok-exchange_signal, After-exchange_end-other_end}
 use Rattle.vcd_edit.proofs.exchange.records.exchange_record.Goals as goal
 

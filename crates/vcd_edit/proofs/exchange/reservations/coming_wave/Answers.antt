@@ -1,6 +1,5 @@
 -- The earlier piece is ready, and what comes for it comes for this piece.
-use Rattle.std.proofs.Common.{◌≡◌, ◌∙◌, Some, None, sym, subst, refl}
-use Rattle.std.proofs.Common.{get_or, arith}
+use Rattle.std.proofs.Common.{◌≡◌, ◌∙◌, Some, None, sym, subst, refl, get_or, arith}
 use Rattle.std.proofs.lemmas.List.{get_or_default}
 use Rattle.vcd_core.specs.CaptureContents.{contents}
 use Rattle.vcd_edit.specs.inside.exchange.Pieces.{CanBePutIn, wave_at}

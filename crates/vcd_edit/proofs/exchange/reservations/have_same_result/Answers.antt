@@ -4,9 +4,9 @@ use Rattle.std.proofs.lemmas.Slice.Eq.{slice_eq-Decides}
 use Rattle.vcd_core.specs.declared.capture.Signal.{Signal}
 use Rattle.vcd_core.specs.WaveView.{WaveView}
 use Rattle.vcd_edit.specs.inside.exchange.Pieces.{wave_at}
-use Rattle.vcd_edit.proofs.exchange.ContentsAfterPiece.{wave_is_there}
+use Rattle.vcd_edit.proofs.exchange.ExchangedPieces.{wave_is_there}
 use Rattle.vcd_edit.proofs.exchange.PiecesInTurn.{same_coming}
-use Rattle.vcd_edit.proofs.shared.TouchedBySplice.{same_change-Decides}
+use Rattle.vcd_edit.proofs.shared.TouchedChanges.{same_change-Decides}
 use Rattle.vcd_edit.proofs.exchange.reservations.have_same_result.Goals as goal
 
 pub returns-then-eq : goal.returns-then-eq

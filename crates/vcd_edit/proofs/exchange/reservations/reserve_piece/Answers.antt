@@ -1,7 +1,7 @@
 use Rattle.std.proofs.Common.{◌+◌, ◌-◌, ◌≤◌, ◌∙◌, vec_len, length, ap, subst, sym, arith}
 use Rattle.std.proofs.lemmas.Result.{IfOk-weaker}
 use Rattle.vcd_core.specs.WaveView.{WaveView}
-use Rattle.vcd_edit.proofs.exchange.ContentsAfterPiece.{contents_kept, rooms_grow, wave_there}
+use Rattle.vcd_edit.proofs.exchange.ExchangedPieces.{contents_kept, rooms_grow, wave_there}
 use Rattle.vcd_edit.proofs.exchange.reservations.reserve_piece.Goals as goal
 
 pub returns-clause-contents : goal.returns-clause-contents

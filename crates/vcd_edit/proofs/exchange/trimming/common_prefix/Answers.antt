@@ -1,6 +1,6 @@
 use Rattle.std.proofs.Common.{arith}
 use Rattle.vcd_edit.specs.Touched.{same_change}
-use Rattle.vcd_edit.proofs.exchange.trimming.ChangeTests.{walk_end}
+use Rattle.vcd_edit.proofs.exchange.trimming.TrimmedPieces.{walk_end}
 use Rattle.vcd_edit.proofs.exchange.trimming.common_prefix.Goals as goal
 
 pub returns-clause-count : goal.returns-clause-count

@@ -2,7 +2,7 @@ use Rattle.std.proofs.Common.{◌≡◌, ◌∙◌, sym, subst, reverse, neg_ℤ
 use Rattle.std.proofs.lemmas.List.{length-reverse}
 use Rattle.std.proofs.lemmas.Int.{to_z-of_z}
 use Rattle.vcd_edit.specs.Touched.{same_moved_change, common_moved_suffix}
-use Rattle.vcd_edit.proofs.exchange.trimming.ChangeTests.{walk_end, back_stops, back_more}
+use Rattle.vcd_edit.proofs.exchange.trimming.TrimmedPieces.{walk_end, back_stops, back_more}
 use Rattle.vcd_edit.proofs.exchange.trimming.common_suffix.Goals as goal
 
 pub returns-then-not-is_moved-clause-count : goal.returns-then-not-is_moved-clause-count

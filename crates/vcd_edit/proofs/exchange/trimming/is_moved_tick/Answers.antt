@@ -1,6 +1,6 @@
 use Rattle.std.proofs.Common.{w64, arith}
 use Rattle.std.proofs.lemmas.Int.{to_z-of_z}
-use Rattle.vcd_edit.proofs.exchange.trimming.ChangeTests.{moved_test}
+use Rattle.vcd_edit.proofs.exchange.trimming.TrimmedPieces.{moved_test}
 use Rattle.vcd_edit.proofs.exchange.trimming.is_moved_tick.Goals as goal
 
 pub returns : goal.returns

@@ -1,6 +1,6 @@
 use Rattle.std.proofs.Common.{◌∙◌, sym, ap}
 use Rattle.vcd_edit.specs.inside.fitting.Adjacency.{floor_after}
-use Rattle.vcd_edit.proofs.fitting.AdjacencyTests.{floor_after-push, floor_of_none}
+use Rattle.vcd_edit.proofs.fitting.FittingPieces.{floor_after-push, floor_of_none}
 use Rattle.vcd_edit.proofs.fitting.adjacency.floor_after.Goals as goal
 
 pub returns-in-Some : goal.returns-in-Some

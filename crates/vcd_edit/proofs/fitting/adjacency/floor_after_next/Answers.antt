@@ -4,7 +4,7 @@ use Rattle.std.proofs.lemmas.Int.{to_z-of_z}
 use Rattle.vcd_core.specs.inside.value.EqualByLetters.{same_letters-Decides}
 use Rattle.vcd_core.specs.Splice.{moved_change}
 use Rattle.vcd_edit.specs.inside.fitting.Adjacency.{MayComeNext}
-use Rattle.vcd_edit.proofs.fitting.AdjacencyTests.{next_tells}
+use Rattle.vcd_edit.proofs.fitting.FittingPieces.{next_tells}
 use Rattle.vcd_edit.proofs.fitting.adjacency.floor_after_next.Goals as goal
 
 pub returns-then-eq : goal.returns-then-eq

@@ -1,12 +1,11 @@
-use Rattle.std.proofs.Common.{◌↔◌, ◌∙◌, IsTrue, w64, FitsSigned, ap, subst, sym, length, take, drop}
-use Rattle.std.proofs.Common.{arith, rules}
+use Rattle.std.proofs.Common.{◌↔◌, ◌∙◌, IsTrue, w64, FitsSigned, ap, subst, sym, length, take, drop, arith, rules}
 use Rattle.std.proofs.lemmas.Int.{to_z-of_z}
 use Rattle.std.proofs.lemmas.List.{take_rest}
 use Rattle.vcd_core.specs.Wave.{IsWave, AreChangesFrom}
 use Rattle.vcd_core.specs.Value.{all_x}
 use Rattle.vcd_edit.specs.Records.{piece_view}
 use Rattle.vcd_edit.specs.inside.fitting.Adjacency.{JoinToWave}
-use Rattle.vcd_edit.proofs.fitting.AdjacencyTests.{prefix_rises, valid_tells}
+use Rattle.vcd_edit.proofs.fitting.FittingPieces.{prefix_rises, valid_tells}
 use Rattle.vcd_edit.proofs.fitting.adjacency.is_valid_piece.Goals as goal
 
 pub join_to_wave-requires-clause-rise : goal.join_to_wave-requires-clause-rise

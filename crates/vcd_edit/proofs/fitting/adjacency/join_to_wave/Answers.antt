@@ -6,7 +6,7 @@ use Rattle.vcd_core.proofs.shared.Splices.{moved_nowhere}
 use Rattle.vcd_core.specs.Value.{all_x}
 use Rattle.vcd_core.specs.WavePush.{last_value}
 use Rattle.vcd_edit.specs.inside.fitting.Adjacency.{floor_after, MayFollow}
-use Rattle.vcd_edit.proofs.fitting.AdjacencyTests.{refused, some_tells}
+use Rattle.vcd_edit.proofs.fitting.FittingPieces.{refused, some_tells}
 use Rattle.vcd_edit.proofs.fitting.adjacency.join_to_wave.Goals as goal
 
 pub returns-then-not-ends_by : goal.returns-then-not-ends_by

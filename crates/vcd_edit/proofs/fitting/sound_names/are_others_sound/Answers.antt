@@ -1,5 +1,5 @@
-use Rattle.vcd_edit.proofs.fitting.AdjacencyTests.{both_pass, one_fails}
-use Rattle.vcd_edit.proofs.fitting.RecordKinds.{others_tell}
+use Rattle.vcd_edit.proofs.fitting.FittingPieces.{both_pass, one_fails}
+use Rattle.vcd_edit.proofs.fitting.FittingRecords.{others_tell}
 use Rattle.vcd_edit.proofs.fitting.sound_names.are_others_sound.Goals as goal
 
 pub returns-then-are_sound : goal.returns-then-are_sound

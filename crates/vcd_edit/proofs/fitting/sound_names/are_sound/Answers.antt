@@ -3,7 +3,7 @@ use Rattle.std.proofs.lemmas.List.Elements.{All-map}
 use Rattle.vcd_core.specs.declared.capture.Signal.{Signal}
 use Rattle.vcd_core.specs.CaptureContents.{signal_contents}
 use Rattle.vcd_core.specs.Sound.{IsSoundSignal}
-use Rattle.vcd_edit.proofs.fitting.TestsOfParts.{unmapped}
+use Rattle.vcd_edit.proofs.fitting.FittingPieces.{unmapped}
 use Rattle.vcd_edit.proofs.fitting.sound_names.are_sound.Goals as goal
 
 pub returns : goal.returns

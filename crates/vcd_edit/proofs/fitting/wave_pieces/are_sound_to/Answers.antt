@@ -1,6 +1,5 @@
 use Rattle.vcd_edit.specs.Records.{piece_view}
-use Rattle.vcd_edit.proofs.fitting.AdjacencyTests.{both_pass, one_fails}
-use Rattle.vcd_edit.proofs.fitting.TestsOfParts.{to_tells}
+use Rattle.vcd_edit.proofs.fitting.FittingPieces.{both_pass, one_fails, to_tells}
 use Rattle.vcd_edit.proofs.fitting.wave_pieces.are_sound_to.Goals as goal
 
 pub returns-then-is_sound_with : goal.returns-then-is_sound_with

@@ -4,7 +4,7 @@ use Rattle.vcd_core.specs.Contents.{Contents}
 use Rattle.vcd_core.specs.CaptureContents.{signal_contents}
 use Rattle.vcd_edit.specs.AppliedRecords.{RiseFrom}
 use Rattle.vcd_edit.specs.Records.{piece_view}
-use Rattle.vcd_edit.specs.inside.fitting.TestsOfParts.{AreSoundFrom}
+use Rattle.vcd_edit.specs.inside.fitting.FittingTests.{AreSoundFrom}
 use Rattle.vcd_edit.proofs.fitting.wave_pieces.are_sound_with.Given as goal
 
 abbrev pub invariant-loop-piece : goal.invariant-loop-piece

@@ -3,7 +3,7 @@ use Rattle.std.proofs.lemmas.Bool.{false≢true}
 use Rattle.std.proofs.lemmas.List.{length-map}
 use Rattle.vcd_core.specs.CaptureContents.{signal_contents}
 use Rattle.vcd_edit.specs.Records.{piece_view}
-use Rattle.vcd_edit.proofs.exchange.OppositePieces.{counts_kept}
+use Rattle.vcd_edit.proofs.exchange.ExchangedPieces.{counts_kept}
 use Rattle.vcd_edit.proofs.fitting.wave_pieces.pieces_fit.Goals as goal
 
 pub returns-then-signals-gt-SIGNAL_LIMIT : goal.returns-then-signals-gt-SIGNAL_LIMIT

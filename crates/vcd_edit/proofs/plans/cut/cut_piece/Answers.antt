@@ -6,7 +6,7 @@ use Rattle.vcd_core.specs.Wave.{value_at}
 use Rattle.vcd_core.specs.CaptureContents.{signal_contents}
 use Rattle.vcd_edit.specs.inside.plans.Ranges.{value_just_before}
 use Rattle.vcd_edit.proofs.plans.Ranges.{last_before_tick}
-use Rattle.vcd_edit.proofs.plans.CutPiece.{cut_leads}
+use Rattle.vcd_edit.proofs.plans.CutPieces.{cut_leads}
 use Rattle.vcd_edit.proofs.plans.cut.cut_piece.Goals as goal
 
 pub returns : goal.returns

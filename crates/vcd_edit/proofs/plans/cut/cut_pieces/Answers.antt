@@ -1,7 +1,6 @@
 use Rattle.std.proofs.Common.{map, ap, arith}
 use Rattle.vcd_edit.specs.Records.{piece_view}
-use Rattle.vcd_edit.proofs.plans.cut.PiecesOfSignals.{lead_none}
-use Rattle.vcd_edit.proofs.plans.cut.PlanOfCut.{cut_without, cut_with, cut_end}
+use Rattle.vcd_edit.proofs.plans.CutPieces.{lead_none, cut_without, cut_with, cut_end}
 use Rattle.vcd_edit.proofs.plans.cut.cut_pieces.Goals as goal
 
 pub loop-position-init : goal.loop-position-init

@@ -2,7 +2,7 @@ use Rattle.std.proofs.Common.{◌≤◌, map, refl, arith}
 use Rattle.vcd_core.specs.Contents.{Contents}
 use Rattle.vcd_core.specs.CaptureContents.{contents}
 use Rattle.vcd_edit.specs.Records.{piece_view}
-use Rattle.vcd_edit.proofs.plans.cut.PlanOfCut.{cut_ticks, cut_plan, cut_is_one_step}
+use Rattle.vcd_edit.proofs.plans.CutPieces.{cut_ticks, cut_plan, cut_is_one_step}
 use Rattle.vcd_edit.proofs.plans.cut.plan.Goals as goal
 
 pub cut_pieces-requires-clause-not_empty : goal.cut_pieces-requires-clause-not_empty

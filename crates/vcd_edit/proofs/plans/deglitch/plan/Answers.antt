@@ -1,5 +1,4 @@
-use Rattle.std.proofs.Common.{ℕ, ◌+◌, ◌-◌, ◌≡◌, List, length, take, drop, refl, pos, sym, ap, ◌∙◌}
-use Rattle.std.proofs.Common.{arith, length-drop}
+use Rattle.std.proofs.Common.{ℕ, ◌+◌, ◌-◌, ◌≡◌, List, length, take, drop, refl, pos, sym, ap, ◌∙◌, arith, length-drop}
 use Rattle.std.proofs.lemmas.List.{take_all}
 use Rattle.vcd_core.specs.declared.wave.Change.{Change}
 use Rattle.vcd_core.specs.Value.{all_x}
@@ -9,10 +8,10 @@ use Rattle.vcd_core.specs.Contents.{SignalContents, signal_value}
 use Rattle.vcd_core.specs.CaptureContents.{contents, signal_contents}
 use Rattle.vcd_edit.specs.declared.edit.Edit.TheVariants.{Deglitch}
 use Rattle.vcd_edit.specs.Effect.{steady_value}
-use Rattle.vcd_edit.proofs.checking.NoFault.{no_fault}
+use Rattle.vcd_edit.proofs.checking.Faults.{no_fault}
 use Rattle.vcd_edit.proofs.plans.EffectOfRecord.{wave_plan, nothing_plan}
 use Rattle.vcd_edit.proofs.plans.Runs.{steady_are, deglitch_is_wave}
-use Rattle.vcd_edit.proofs.plans.deglitch.DeglitchPiece.{none_left_out, deglitch_gives}
+use Rattle.vcd_edit.proofs.plans.deglitch.RemainingChanges.{none_left_out, deglitch_gives}
 use Rattle.vcd_edit.proofs.plans.deglitch.plan.Goals as goal
 
 pub signal_at-requires-clause-position_exists : goal.signal_at-requires-clause-position_exists
@@ -30,7 +29,7 @@ returns-then-from-changes c =
     c.signal_at.ensures.signal (deglitch_is_wave c.args.signal n (contents c.args.capture.now)) refl
     (sym (steady_are n end s c.signal_at.ensures.sound.wave c.signal_at.ensures.sound.ticks)
     ∙ none_left_out n s c.changes-changes.result.now c.x_value-x.result c.changes-changes.ensures.changes
-    c.x_value-x.ensures c.kept_prefix_len-from.result (omega arith) c.kept_prefix_len-from.ensures.kept
+    c.x_value-x.ensures c.remaining_prefix_len-from.result (omega arith) c.remaining_prefix_len-from.ensures.remaining
     c.if-from-changes.true)
 
 pub returns : goal.returns
@@ -39,15 +38,15 @@ returns c =
     let n = c.args.ticks in
     let end = c.args.capture.now.end in
     let cs = c.changes-changes.result.now in
-    let from = c.kept_prefix_len-from.result in
-    let part = c.part_with_glitches-part.result in
+    let from = c.remaining_prefix_len-from.result in
+    let glitches = c.glitch_range-glitches.result in
     let later : List Change = take (length cs - from) (drop from cs) in
     let rest : later ≡ drop from cs = take_all (length cs - from) (drop from cs) (omega (arith, length-drop from cs)) in
     let piece : Piece = record {
       signal = c.args.signal;
       from = from;
-      to = from + part.to;
-      changes = c.in_ok-kept_list.field-0;
+      to = from + glitches.to;
+      changes = c.in_ok-remaining_list.field-0;
       by = pos 0;
     } in
     wave_plan (Deglitch c.args.signal n) (contents c.args.capture.now) c.args.signal
@@ -56,9 +55,10 @@ returns c =
     c.signal_at.ensures.within c.signal_at.ensures.signal
     (deglitch_is_wave c.args.signal n (contents c.args.capture.now)) refl refl
     (deglitch_gives n s cs c.x_value-x.result c.changes-changes.ensures.changes c.x_value-x.ensures from (omega arith)
-    c.kept_prefix_len-from.ensures.kept
-    c.last_value-before.result later c.in_ok-kept_list.field-0.items part.kept part.to (c.last_value-before.ensures
+    c.remaining_prefix_len-from.ensures.remaining
+    c.last_value-before.result later c.in_ok-remaining_list.field-0.items glitches.remaining glitches.to
+    (c.last_value-before.ensures
     ∙ ap (λ (w : ℕ). last_value (all_x w) (take from cs)) c.width.ensures.width) rest
-    c.part_with_glitches-part.ensures.kept c.in_ok-kept_list.ensures
-    c.args.signal end piece c.signal_at.ensures.sound c.requires.sound.end c.part_with_glitches-part.ensures.within
+    c.glitch_range-glitches.ensures.remaining c.in_ok-remaining_list.ensures
+    c.args.signal end piece c.signal_at.ensures.sound c.requires.sound.end c.glitch_range-glitches.ensures.within
     refl) c.piece_record.ensures

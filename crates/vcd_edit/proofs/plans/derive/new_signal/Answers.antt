@@ -5,7 +5,7 @@ use Rattle.vcd_core.specs.CaptureContents.{contents}
 use Rattle.vcd_edit.specs.declared.edit.Formula.{Formula}
 use Rattle.vcd_edit.specs.Effect.{first_operand, formula}
 use Rattle.vcd_edit.specs.inside.plans.Derive.{HasOperands}
-use Rattle.vcd_edit.proofs.checking.NoFault.{first_operand_there, operands_there}
+use Rattle.vcd_edit.proofs.checking.Faults.{first_operand_there, operands_there}
 use Rattle.vcd_edit.proofs.plans.derive.DerivedSignal.{derived_parts}
 use Rattle.vcd_edit.proofs.plans.derive.new_signal.Goals as goal
 

@@ -1,5 +1,4 @@
-use Rattle.std.proofs.Common.{◌≡◌, ◌+◌, ◌<◌, ◌≤◌, [], ◌∷◌, List, length, get_or, map, drop, ap}
-use Rattle.std.proofs.Common.{subst, ◌∙◌, arith}
+use Rattle.std.proofs.Common.{◌≡◌, ◌+◌, ◌<◌, ◌≤◌, [], ◌∷◌, List, length, get_or, map, drop, ap, subst, ◌∙◌, arith}
 use Rattle.std.proofs.lemmas.List.{length-replicate}
 use Rattle.vcd_core.specs.declared.bit.Bit.{Bit}
 use Rattle.vcd_core.specs.declared.bit.Bit.TheVariants.{X}
@@ -7,8 +6,8 @@ use Rattle.vcd_core.specs.Value.{all_x}
 use Rattle.vcd_core.specs.declared.wave.Change.{Change}
 use Rattle.vcd_core.specs.Wave.{change, IsWave}
 use Rattle.vcd_edit.specs.inside.plans.Derive.{selected_change}
-use Rattle.vcd_edit.proofs.plans.derive.DerivedWave.{no_change_made, change_next, one_made, late_enough}
-use Rattle.vcd_edit.proofs.plans.derive.DerivedWave.{selected_is, width_at}
+use Rattle.vcd_edit.proofs.plans.derive.DerivedSignal.{no_change_made, change_next, one_made, late_enough, selected_is}
+use Rattle.vcd_edit.proofs.plans.derive.DerivedSignal.{width_at}
 use Rattle.vcd_edit.proofs.plans.WithoutRepeats.{wave_rises}
 use Rattle.vcd_edit.proofs.plans.derive.wave_of_one.Goals as goal
 
@@ -64,7 +63,7 @@ returns c = λ end upto. (
       ∙ selected_is c.args.k c.args.is_negated c.args.operand.now end c.loop-change.change-index c.loop-change.wave upto
       (subst (λ (ds : List Change). length ds ≤ c.loop-change.change-index) c.changes-change-items.ensures.changes
       c.loop-change-test.false) c.loop-change.invariant
-      (subst (IsWave c.loop-change.wave.width) (c.changes-changes.ensures.changes ∙ c.shrink_to_fit.ensures.changes)
-      (subst (λ n. IsWave n c.changes-changes.result.now) c.shrink_to_fit.ensures.width
-      c.changes-changes.ensures.form)),
+      (subst (IsWave c.loop-change.wave.width) c.shrink_to_fit.ensures.changes
+      (subst (λ n. IsWave n c.shrink_to_fit.new.self.changes) c.shrink_to_fit.ensures.width
+      c.changes_have_form.ensures)),
 )

@@ -3,8 +3,8 @@ use Rattle.vcd_core.specs.declared.bit.Bit.{Bit}
 use Rattle.vcd_core.specs.declared.bit_edges.BitEdge.{BitEdge}
 use Rattle.vcd_core.specs.Wave.{change, IsWave}
 use Rattle.vcd_edit.specs.inside.plans.Derive.{edge_change, HasBits, DerivedSoFar}
-use Rattle.vcd_edit.proofs.plans.derive.DerivedWave.{pair_edges, no_edge_made, each_has_bits, edge_bit_is}
-use Rattle.vcd_edit.proofs.plans.derive.DerivedWave.{one_made, late_enough, pair_is}
+use Rattle.vcd_edit.proofs.plans.derive.DerivedSignal.{pair_edges, no_edge_made, each_has_bits, edge_bit_is, one_made}
+use Rattle.vcd_edit.proofs.plans.derive.DerivedSignal.{late_enough, pair_is}
 use Rattle.vcd_edit.proofs.plans.derive.wave_of_two.Goals as goal
 
 pub loop-edge-init : goal.loop-edge-init
@@ -67,7 +67,7 @@ returns c = λ end first last. (
       (subst (λ (es : List BitEdge). DerivedSoFar (map (edge_change c.args.operator)
       (pair_edges c.args.operator c.args.first.now c.args.last.now end)) (map (edge_change c.args.operator) es)
       c.loop-edge.wave) c.in-None.ensures.steps.0 (c.loop-edge.invariant.1 end first last))
-      (subst (IsWave c.loop-edge.wave.width) (c.changes-changes.ensures.changes ∙ c.shrink_to_fit.ensures.changes)
-      (subst (λ n. IsWave n c.changes-changes.result.now) c.shrink_to_fit.ensures.width
-      c.changes-changes.ensures.form)),
+      (subst (IsWave c.loop-edge.wave.width) c.shrink_to_fit.ensures.changes
+      (subst (λ n. IsWave n c.shrink_to_fit.new.self.changes) c.shrink_to_fit.ensures.width
+      c.changes_have_form.ensures)),
 )

@@ -1,7 +1,7 @@
 use Rattle.std.proofs.Common.{ℕ, map, All}
 use Rattle.vcd_core.specs.Wave.{AllUpTo}
 use Rattle.vcd_edit.specs.inside.plans.Derive.{edge_change, HasBits, DerivedSoFar}
-use Rattle.vcd_edit.proofs.plans.derive.DerivedWave.{pair_edges}
+use Rattle.vcd_edit.proofs.plans.derive.DerivedSignal.{pair_edges}
 use Rattle.vcd_edit.proofs.plans.derive.wave_of_two.Given as goal
 
 -- the wave and the remaining edges are all

@@ -3,7 +3,7 @@ use Rattle.vcd_core.specs.Contents.{SignalContents}
 use Rattle.vcd_core.specs.CaptureContents.{signal_contents}
 use Rattle.vcd_edit.specs.RecordView.{PieceView}
 use Rattle.vcd_edit.specs.Records.{piece_view}
-use Rattle.vcd_edit.proofs.plans.ForcePiece.{force_to_end, force_before_end}
+use Rattle.vcd_edit.proofs.plans.Ranges.{force_to_end, force_before_end}
 use Rattle.vcd_edit.proofs.plans.force.force_piece.Goals as goal
 
 pub returns-then-to-end : goal.returns-then-to-end

@@ -2,7 +2,7 @@ use Rattle.std.proofs.Common.{refl, pos}
 use Rattle.vcd_core.specs.CaptureContents.{contents, signal_contents}
 use Rattle.vcd_edit.specs.declared.edit.Edit.TheVariants.{Force}
 use Rattle.vcd_edit.specs.Effect.{effect, force_value}
-use Rattle.vcd_edit.proofs.checking.NoFault.{no_fault}
+use Rattle.vcd_edit.proofs.checking.Faults.{no_fault}
 use Rattle.vcd_edit.proofs.plans.EffectOfRecord.{wave_plan, force_ticks}
 use Rattle.vcd_edit.proofs.plans.force.plan.Goals as goal
 

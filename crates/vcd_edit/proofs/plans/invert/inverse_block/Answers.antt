@@ -2,7 +2,7 @@ use Rattle.std.proofs.Common.{◌∙◌, ap, max}
 use Rattle.std.specs.Int.{bit_at}
 use Rattle.std.proofs.lemmas.Nat.Bits.{bit_at_or, bit_at-lt}
 use Rattle.vcd_core.specs.BlockRows.{letter_of}
-use Rattle.vcd_edit.proofs.plans.invert.InverseBlocks.{not_letter}
+use Rattle.vcd_edit.proofs.plans.invert.InversePiece.{not_letter}
 use Rattle.vcd_edit.proofs.plans.invert.inverse_block.Goals as goal
 
 pub returns : goal.returns

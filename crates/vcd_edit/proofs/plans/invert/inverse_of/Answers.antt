@@ -1,6 +1,6 @@
 use Rattle.std.proofs.Common.{◌∙◌, ap}
 use Rattle.vcd_core.specs.BlockRows.{letters_of}
-use Rattle.vcd_edit.proofs.plans.invert.InverseBlocks.{inverse_letters}
+use Rattle.vcd_edit.proofs.plans.invert.InversePiece.{inverse_letters}
 use Rattle.vcd_edit.proofs.plans.invert.inverse_of.Goals as goal
 
 pub returns : goal.returns

@@ -5,9 +5,9 @@ use Rattle.vcd_edit.specs.declared.edit.Edit.TheVariants.{Invert}
 use Rattle.vcd_edit.specs.Operators.{not_bit}
 use Rattle.vcd_edit.specs.Effect.{effect, inverse_value}
 use Rattle.vcd_edit.specs.inside.plans.RemainingChanges.{without_repeats, mapped_change}
-use Rattle.vcd_edit.proofs.checking.NoFault.{no_fault}
+use Rattle.vcd_edit.proofs.checking.Faults.{no_fault}
 use Rattle.vcd_edit.proofs.plans.EffectOfRecord.{wave_plan}
-use Rattle.vcd_edit.proofs.plans.WholeListPiece.{whole_gives}
+use Rattle.vcd_edit.proofs.plans.Ranges.{whole_gives}
 use Rattle.vcd_edit.proofs.plans.invert.InversePiece.{inverse_changes}
 use Rattle.vcd_edit.proofs.plans.invert.plan.Goals as goal
 

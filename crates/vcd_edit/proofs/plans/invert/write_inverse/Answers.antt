@@ -1,6 +1,6 @@
 use Rattle.std.proofs.Common.{◌∙◌, arith}
 use Rattle.std.proofs.lemmas.List.{length-set}
-use Rattle.vcd_edit.proofs.plans.invert.InverseBlocks.{shows_none, shows_more, shows_all}
+use Rattle.vcd_edit.proofs.plans.invert.InversePiece.{shows_none, shows_more, shows_all}
 use Rattle.vcd_edit.proofs.plans.invert.write_inverse.Goals as goal
 
 pub loop-j-init : goal.loop-j-init

@@ -3,7 +3,7 @@ use Rattle.std.specs.Int.{w64}
 use Rattle.std.proofs.lemmas.Int.{to_z-of_z}
 use Rattle.vcd_core.specs.Value.{same_letters}
 use Rattle.vcd_core.specs.Wave.{change, unless_same}
-use Rattle.vcd_edit.proofs.plans.WholeListPiece.{whole_leads, one_value_changes}
+use Rattle.vcd_edit.proofs.plans.Ranges.{whole_leads, one_value_changes}
 use Rattle.vcd_edit.proofs.plans.shift.constant_piece.Goals as goal
 
 pub returns : goal.returns

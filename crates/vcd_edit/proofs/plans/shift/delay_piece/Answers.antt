@@ -1,6 +1,4 @@
-use Rattle.std.proofs.Common.{◌≡◌, ◌≤◌, ℤ, pos, List, length, take, map, All, ap}
-use Rattle.std.proofs.Common.{subst, refl, sym, ◌∙◌}
-use Rattle.std.proofs.Common.{arith}
+use Rattle.std.proofs.Common.{◌≡◌, ◌≤◌, ℤ, pos, List, length, take, map, All, ap, subst, refl, sym, ◌∙◌, arith}
 use Rattle.std.specs.Int.{w64}
 use Rattle.std.proofs.lemmas.Int.{ints, to_z-of_z}
 use Rattle.std.proofs.lemmas.List.Elements.{All-take}
@@ -26,8 +24,8 @@ returns-then-ticks-end c =
     ∙ shift_before c.unsigned_abs-ticks.result c.args.end s t (omega (arith, c.if-ticks-end.true))
     ∙ sym c.x_value.ensures))
 
-pub returns-then-kept-changes : goal.returns-then-kept-changes
-returns-then-kept-changes c =
+pub returns-then-inside-changes : goal.returns-then-inside-changes
+returns-then-inside-changes c =
     let s : SignalContents = signal_contents c.args.signal.now in
     let same : pos c.unsigned_abs-ticks.result ≡ c.args.by =
     omega (arith, ints, c.requires.later, c.unsigned_abs-ticks.ensures.value, to_z-of_z w64 c.args.by c.ranges.by) in
@@ -37,15 +35,15 @@ returns-then-kept-changes c =
       leads = leads_same _ s.changes s.width c.args.end (shift_value c.args.end (pos c.unsigned_abs-ticks.result) s)
           (shift_value c.args.end c.args.by s) (λ t to. ap (λ (by : ℤ). shift_value c.args.end by s t) same)
           (later_all_stay c.unsigned_abs-ticks.result c.args.end s c.requires.sound.wave c.requires.sound.ticks
-          c.if-ticks-end.false (omega (arith, c.requires.end)) _ refl c.count_until-kept.result
-          c.count_until-kept.ensures
-          (c.if-kept-changes.true ∙ ap length c.changes-changes.ensures.changes) refl c.new.ensures.items
+          c.if-ticks-end.false (omega (arith, c.requires.end)) _ refl c.count_until-inside.result
+          c.count_until-inside.ensures
+          (c.if-inside-changes.true ∙ ap length c.changes-changes.ensures.changes) refl c.new.ensures.items
           (to_z-of_z w64 c.args.by c.ranges.by ∙ sym same));
     }
 
 pub later_changes-requires : goal.later_changes-requires
 later_changes-requires c = λ k d within.
-    let tick = All-take (λ (x : Change). x.tick ≤ c.args.end) c.count_until-kept.result c.changes-changes.result.now
+    let tick = All-take (λ (x : Change). x.tick ≤ c.args.end) c.count_until-inside.result c.changes-changes.result.now
     (subst (All (λ (x : Change). x.tick ≤ c.args.end)) (sym c.changes-changes.ensures.changes)
     (all_from_upto c.args.end c.args.signal.now.wave.changes c.requires.sound.ticks)) k d within in
     omega (arith, tick, c.if-ticks-end.false, c.requires.end)
@@ -61,9 +59,9 @@ returns c =
       leads = leads_same _ s.changes s.width c.args.end (shift_value c.args.end (pos c.unsigned_abs-ticks.result) s)
           (shift_value c.args.end c.args.by s) (λ t to. ap (λ (by : ℤ). shift_value c.args.end by s t) same)
           (later_some_stay c.unsigned_abs-ticks.result c.args.end s c.requires.sound.wave c.requires.sound.ticks
-          c.if-ticks-end.false (omega (arith, c.requires.end)) _ refl c.count_until-kept.result
-          c.count_until-kept.ensures (ap length c.changes-changes.ensures.changes)
+          c.if-ticks-end.false (omega (arith, c.requires.end)) _ refl c.count_until-inside.result
+          c.count_until-inside.ensures (ap length c.changes-changes.ensures.changes)
           (c.in_ok-later_changes.ensures
           ∙ ap (λ (cs : List Change). map (moved_change (pos c.unsigned_abs-ticks.result))
-          (take c.count_until-kept.result cs)) c.changes-changes.ensures.changes));
+          (take c.count_until-inside.result cs)) c.changes-changes.ensures.changes));
     }

@@ -4,7 +4,7 @@ use Rattle.std.proofs.lemmas.Int.{to_z-of_z}
 use Rattle.vcd_core.specs.CaptureContents.{contents, signal_contents}
 use Rattle.vcd_edit.specs.declared.edit.Edit.TheVariants.{Shift}
 use Rattle.vcd_edit.specs.Effect.{effect, shift_value}
-use Rattle.vcd_edit.proofs.checking.NoFault.{no_fault}
+use Rattle.vcd_edit.proofs.checking.Faults.{no_fault}
 use Rattle.vcd_edit.proofs.plans.EffectOfRecord.{wave_plan}
 use Rattle.vcd_edit.proofs.plans.shift.plan.Goals as goal
 

@@ -2,8 +2,7 @@ use Rattle.std.proofs.Common.{refl, arith}
 use Rattle.std.proofs.lemmas.Result.{err_from_is_err_and}
 use Rattle.vcd_core.specs.CaptureContents.{contents}
 use Rattle.vcd_journal.proofs.shared.Steps.{edit_accepted, edit_refused}
-use Rattle.vcd_journal.proofs.session.RecordsOfHistory.{fit_after_edit, few_after_edit, machine_of_edit}
-use Rattle.vcd_journal.proofs.session.RecordsOfHistory.{same_machine}
+use Rattle.vcd_journal.proofs.session.RecordsOfHistory.{fit_after_edit, few_after_edit, machine_of_edit, same_machine}
 use Rattle.vcd_journal.proofs.session.Session.apply.Goals as goal
 
 pub invariant_of-self-2 : goal.invariant_of-self-2

@@ -51,7 +51,7 @@ invariant_of-self-2 c =
     let old = c.self.inside in
     let held = c.self.invariant in
     let kept = length-take (c.args.depth - c.len-redoable.result) old.past.items in
-    rw (c.keep_newest.ensures) (record {
+    rw (c.drop_older.ensures) (record {
       sound = held.sound;
       past_fits = rw (c.in_ok-enlarge.ensures.items)
           (AllRecordsFit_take (contents old.capture) (c.args.depth - c.len-redoable.result) old.past.items
@@ -70,7 +70,7 @@ returns-clause-step c =
     let is = known (goal.at.returns-clause-step c).After-len-redoable in
     rw (
       ← c.self.view_is,
-      c.keep_newest.ensures,
+      c.drop_older.ensures,
       c.in_ok-enlarge.ensures.items,
       c.in_ok-enlarge-2.ensures.items,
       c.len-redoable.ensures.len,

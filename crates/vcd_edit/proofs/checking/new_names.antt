@@ -1,2 +1,0 @@
--- Lemmas of `checking/new_names`.
-pub mod TakenNames

@@ -1,2 +1,0 @@
--- Lemmas of `exchange/pieces`.
-pub mod OppositeSplices

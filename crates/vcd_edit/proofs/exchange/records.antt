@@ -1,2 +1,0 @@
--- Lemmas of `exchange/records`.
-pub mod RecordExchanges

@@ -1,3 +1,0 @@
--- Lemmas of `plans/cut`.
-pub mod PlanOfCut
-pub mod PiecesOfSignals
