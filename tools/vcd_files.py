@@ -1,4 +1,4 @@
-"""What the tools around vcdedit share: how they begin and end, files, what a written file lacks, times and patterns.
+"""What the tools around vcdedit share: how they begin and end, files, what vcdedit leaves out, times and patterns.
 
 Words, names and codes are bytes, as they stand in the file; `shown` makes text of them.
 """
