@@ -146,7 +146,7 @@ def has_writer(file):
 
 
 def program(name="vcdedit"):
-    """The program that VCDEDIT, or VCDEDIT_AMEND, names, or that is next to this tool, one folder above, or on the path."""
+    """A program: the one that VCDEDIT, or VCDEDIT_AMEND, names, or next to this tool, one folder above, or on the path."""
     here, variable = os.path.dirname(os.path.realpath(sys.argv[0])), name.upper().replace("-", "_")
     folders = os.pathsep.join([here, os.path.dirname(here), os.environ.get("PATH", os.defpath)])
     found = shutil.which(os.environ.get(variable) or name, path=folders)
@@ -172,9 +172,9 @@ def words_of(file):
 
 
 def losses_of(file, listing):
-    """What vcdedit leaves out of a capture, by one pass over a regular file that is open for bytes. These are variables;
-    of the others real and string changes, and changes that a later one of the same tick replaces; and comments among
-    the changes. The program tells faults, and which variables it keeps.
+    """What vcdedit leaves out of a capture, by one pass over a regular file that is open for bytes. These are
+    variables; of the others real and string changes, and changes that a later one of the same tick replaces; and
+    comments among the changes. The program tells faults, and which variables it keeps.
     """
     words = words_of(file)
     names, skipped = variables_in(words, listing.signals)

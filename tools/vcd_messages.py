@@ -29,6 +29,8 @@ ENDINGS = {
     "out of memory": ["out of memory", MEANINGS["fault", "NoMemory"]],
 }
 
+# What is written in place of numbers, where they are refused.
+NUMBERS = {"BadNumber": re.compile("[0-9.]+[munpf]?s").fullmatch, "BadValueText": re.compile("0x[0-9A-Fa-f]+").fullmatch}
 # The words of a command's usage that stand for a signal.
 SIGNALS = {"NAME", "A", "B", "CLK", "MOSI", "MISO", "CS", "SCL", "SDA"}
 
@@ -97,15 +99,16 @@ def told_refusal(number, name, line, names, timescale):
         told += ["is %s meant?" % near for near in usages() if likeness(near, command.lower()) > 0.6][:1]
     if name == "WrongCount" and command in usages():
         told.append("usage: %s (%s)" % usages()[command])
-    if name == "BadNumber":
-        told += [told_time(shown(word), timescale) for word in line.split() if re.fullmatch(rb"[0-9.]+[munpf]?s", word)]
+    if name in NUMBERS:
+        told += [told_number(word, timescale) for word in map(shown, line.split()) if NUMBERS[name](word)]
     return told + (name == "NoSuchName" and told_names(signals_in(line), names) or meaning)
 
 
-def told_time(text, timescale):
-    """A line about a time with a unit."""
+def told_number(word, timescale):
+    """A line about a time with a unit, or a hexadecimal number."""
     try:
-        return "%s: write %d" % (text, vcd_files.ticks_of(text, timescale))
+        is_time = not word.startswith("0x")
+        return "%s: write %s" % (word, vcd_files.ticks_of(word, timescale) if is_time else format(int(word, 16), "b"))
     except vcd_files.Trouble as trouble:
         return trouble.lines[0]
 

@@ -96,14 +96,14 @@ class Folder:
 
 
 def writes(program, folder):
-    place = Folder(program, folder)
-    run([amend_of(program), "A", "--script", "script", "-o", "../plain"], cwd=place.folder)
+    place = Folder(program, folder, ["sub/A", "B"])
+    run([amend_of(program), "B", "--script", "script", "-o", "../plain"], cwd=place.folder)
     wanted = load_if_there(folder, "../plain", default=b"").decode()
-    os.symlink("A", place.folder + "/link")
-    os.chmod(place.folder + "/A", 0o640)
-    yield "one capture", place.run("script", "link") == (0, ["link: written: 1 ok"], "")
-    yield "it is as the program writes it", place.load("A") == wanted != LINE
-    is_link, mode = os.path.islink(place.folder + "/link"), stat.S_IMODE(os.stat(place.folder + "/A").st_mode)
+    os.symlink("sub/A", place.folder + "/link")
+    os.chmod(place.folder + "/sub/A", 0o640)
+    yield "one capture", place.run("script", "link", "--backup", ".old") == (0, ["link: written: 1 ok"], "")
+    yield "it is as the program writes it", place.load("sub/A") == wanted != LINE == place.load("sub/A.old")
+    is_link, mode = os.path.islink(place.folder + "/link"), stat.S_IMODE(os.stat(place.folder + "/sub/A").st_mode)
     yield "the link is kept, and the mode", (is_link, mode) == (True, 0o640)
     place.store("bad", "no capture\n")
     found = place.run("script", "bad", "B", "--jobs", "2", "--backup", ".orig")
@@ -124,7 +124,7 @@ def writes(program, folder):
     odd = "\N{EURO SIGN} odd\n-name"
     place.store(odd, LINE)
     yield "an odd name", place.run("script", "./" + odd)[0] == 0 and place.load(odd) == wanted
-    kept = ["A", "B", "B.orig", "C", "bad", "link", "new", "script", "some", odd]
+    kept = ["B", "B.orig", "C", "bad", "link", "new", "script", "some", "sub", odd]
     yield "nothing else is there: %s" % place.names(), place.names() == sorted(kept)
 
 

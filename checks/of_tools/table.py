@@ -52,6 +52,7 @@ TOLD = [
 REFUSED = [
     ([GLITCHES, "deglitch bench.rx 3us"], 1, "BadNumber\n    3us: write 3\n"),
     ([GLITCHES, "shift bench.rx 3.5us"], 1, "BadNumber\n    3.5us is between tick 3 and the next: write ticks\n"),
+    ([GLITCHES, "force bench.rx 3 5 0x2F"], 1, "BadValueText\n    0x2F: write 101111\n"),
     ([I2C, "i2c bench.scl bench.sd"], 1, "bench.sd: NoSuchName\n    bench.sd: near names are bench.sda"),
     ([I2C, *I2C_LINE.split()], 1, "\n    quote each line: vcdedit-table CAPTURE"),
     ([I2C, I2C_LINE, "--csv", "--json"], 2, "not allowed with"),
