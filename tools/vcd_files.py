@@ -146,7 +146,7 @@ def has_writer(file):
 
 
 def program(name="vcdedit"):
-    """A program: the one that VCDEDIT, or VCDEDIT_AMEND, names, or next to this tool, one folder above, or on the path."""
+    """A program: what VCDEDIT, or VCDEDIT_AMEND, names, or is next to this tool, one folder above, or on the path."""
     here, variable = os.path.dirname(os.path.realpath(sys.argv[0])), name.upper().replace("-", "_")
     folders = os.pathsep.join([here, os.path.dirname(here), os.environ.get("PATH", os.defpath)])
     found = shutil.which(os.environ.get(variable) or name, path=folders)

@@ -30,7 +30,7 @@ ENDINGS = {
 }
 
 # What is written in place of numbers, where they are refused.
-NUMBERS = {"BadNumber": re.compile("[0-9.]+[munpf]?s").fullmatch, "BadValueText": re.compile("0x[0-9A-Fa-f]+").fullmatch}
+NUMBERS = {"BadNumber": "[0-9.]+[munpf]?s", "BadValueText": "0x[0-9A-Fa-f]+"}
 # The words of a command's usage that stand for a signal.
 SIGNALS = {"NAME", "A", "B", "CLK", "MOSI", "MISO", "CS", "SCL", "SDA"}
 
@@ -100,7 +100,8 @@ def told_refusal(number, name, line, names, timescale):
     if name == "WrongCount" and command in usages():
         told.append("usage: %s (%s)" % usages()[command])
     if name in NUMBERS:
-        told += [told_number(word, timescale) for word in map(shown, line.split()) if NUMBERS[name](word)]
+        words = [word for word in map(shown, line.split()) if re.fullmatch(NUMBERS[name], word)]
+        told += [told_number(word, timescale) for word in words]
     return told + (name == "NoSuchName" and told_names(signals_in(line), names) or meaning)
 
 
