@@ -22,7 +22,7 @@ NAMES = [
 RUN = [
     (["vcdedit-compare", "--help"], 0, "ompares"),
     (["vcdedit-compare", "/dev/null", "/dev/null"], 2, "line 1: the file is empty"),
-    (["vcdedit-apply", "--to", "/tmp", "/dev/null", "/dev/null"], 2, "is one of the captures"),
+    (["vcdedit-apply", "/dev/null", "/etc/passwd"], 3, "line 1: .*: UnexpectedWord"),
     (["vcdedit-apply", "--help"], 0, "Carries a script"),
     (["vcdedit-amend", "/dev/null"], 4, "NotAFile"),
     (["vcdedit-narrow", "/dev/null"], 3, "capture line 1: Truncated"),
