@@ -147,11 +147,16 @@ def has_writer(file):
 
 def program(name="vcdedit"):
     """A program: what VCDEDIT, or VCDEDIT_AMEND, names, or is next to this tool, one folder above, or on the path."""
-    here, variable = os.path.dirname(os.path.realpath(sys.argv[0])), name.upper().replace("-", "_")
+    here, crate = os.path.dirname(os.path.realpath(sys.argv[0])), name.replace("-", "_")
+    named = os.environ.get(crate.upper())
     folders = os.pathsep.join([here, os.path.dirname(here), os.environ.get("PATH", os.defpath)])
-    found = shutil.which(os.environ.get(variable) or name, path=folders)
+    found = shutil.which(named or name, path=folders)
     if not found:
-        raise Trouble("there is no program %s: say in %s where it is" % (os.environ.get(variable) or name, variable))
+        raise Trouble("there is no program %s: say in %s where it is" % (named or name, crate.upper()))
+    # A tree that is not built would build within the run, and nobody sees for how long.
+    crates = os.path.join(os.path.dirname(found), "crates")
+    if os.path.isdir(crates) and not named and not os.path.exists(os.path.join(crates, crate, "out", crate)):
+        raise Trouble("%s is not built: `make` does that, in some twenty minutes" % name)
     return found
 
 

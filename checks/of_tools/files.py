@@ -178,6 +178,15 @@ def near_names():
     yield "the near of many: %s" % found, found[0] == names[60007] and time.process_time() - began < 2
 
 
+def not_built(folder):
+    """A tree without a program that is built, and with one."""
+    launcher, argv = store_program(folder, "tree/vcdedit", text=""), [os.path.join(folder, "tree/tools/some")]
+    with unittest.mock.patch("sys.argv", argv), unittest.mock.patch.dict(os.environ, VCDEDIT=""):
+        for name, found in (("crates/none", None), ("crates/vcdedit/out/vcdedit", launcher)):
+            store(folder, "tree", name, text="")
+            yield "a tree with %s" % name, refused(vcd_files.program) == found
+
+
 def long_ones(program, folder):
     """A script of nearly a MiB, and a word that is longer than many reads."""
     lines = [b"invert r"] * 116000
@@ -199,6 +208,7 @@ def check(program, folder):
     yield from without_memory(program, folder)
     yield from on_a_terminal(program, folder)
     yield from near_names()
+    yield from not_built(folder)
     yield from long_ones(program, folder)
     paths = {path for pattern in CAPTURES for path in glob.glob(os.path.join(TOP, pattern))}
     yield "captures to read", len(paths) > 50
