@@ -135,9 +135,13 @@ def state_of(path):
 
 
 def has_writer(file):
-    """Whether a program has a file open for writing. The system tells this of the caller's files on a local disk."""
+    """Whether a program has a file open for writing, which the system tells of the caller's files on a local disk, or
+    a tool has asked this before and not closed it yet."""
     with contextlib.suppress(OSError):
+        # What another program opens meanwhile sends this signal, which is passed over.
+        fcntl.fcntl(file, fcntl.F_SETSIG, signal.SIGURG)
         try:
+            fcntl.flock(file, fcntl.LOCK_EX | fcntl.LOCK_NB)
             fcntl.fcntl(file, fcntl.F_SETLEASE, fcntl.F_RDLCK)
         except BlockingIOError:
             return True

@@ -44,14 +44,14 @@ def listing_of(lines):
 class Run:
     """A run of a program on a capture that is open for bytes. It lists, and then answers lines of a script."""
 
-    def __init__(self, source, lines=(), words=(), written=(), name="vcdedit", **how):
-        """`words` are more options. `written` has the descriptor of a file for its output, if there is one."""
+    def __init__(self, source, lines=(), words=(), written=(), name="vcdedit", path="/dev/stdin", **how):
+        """`words` are more options. `written` has the descriptor of a file for its output, if there is one. The program
+        opens the capture by a path, so that it can read it more than once."""
         self.source, self.lines, self.program = source, lines, program(name)
         with open(os.memfd_create("script"), "wb") as script:
             script.write(b"list\n" + b"".join(line + LAST * (not has_one_reply(line)) + b"\n" for line in lines))
             script.flush()
-            # Opened by this name the file can be read more than once.
-            words = [*GUARD, self.program, "-i", "/dev/stdin", "--script", "/dev/fd/%d" % script.fileno(), *words]
+            words = [*GUARD, self.program, "-i", path, "--script", "/dev/fd/%d" % script.fileno(), *words]
             words += ["-o", "/dev/fd/%d" % written[0]] if written else []
             how = {"stdout": subprocess.PIPE, "stderr": subprocess.PIPE, "bufsize": 1 << 20, **how}
             self.child = subprocess.Popen(words, stdin=source, pass_fds=[script.fileno(), *written], **how)
