@@ -20,6 +20,8 @@ EXAMPLES = os.path.join(TOP, "examples")
 # What `make install` wants of the tree.
 INSTALLED = "vcdedit vcdedit-amend launch CHANGELOG.md Makefile crates.txt completions docs examples cases tools".split()
 SECONDS = 120
+# The crates of the programs. What the prover said of each is in its out/proof.txt (checks/write_proofs).
+PROGRAMS = ["vcdedit", "vcdedit_amend", "vcdedit_narrow"]
 
 
 def load(*path):
