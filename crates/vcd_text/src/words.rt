@@ -33,7 +33,7 @@ impl<'a> Words<'a> {
     ghost use Rattle.vcd_text.specs.LentWords.{word_contents, words_left};
 
     /// All words of a text.
-    #[tactic(auto, using(crate::proofs::shared::WordsInTurn::words_are_few))]
+    #[tactic(auto, using(crate::proofs::shared::WordsByBytes::after_are_few))]
     pub fn new(text: &'a [u8]) -> Words<'a>
         ensures words { words_left result ≡ words_of text.now }
         ensures few { length (words_left result) < 2 ^ 63 }
@@ -46,7 +46,7 @@ impl<'a> Words<'a> {
     }
 
     /// The next word; none at the end. It moves past the word, or to the end.
-    #[tactic(auto, using(crate::proofs::shared::WordsInTurn::next_word_steps))]
+    #[tactic(auto, using(crate::proofs::shared::WordsByBytes::next_word_steps))]
     pub fn next_word(&mut self) -> Option<WordOnLine<'a>>
         ensures words { MatchOption result (words_left self.old ≡ []) (λ word.
             words_left self.old ≡ word_contents word ∷ words_left self.new) }

@@ -1,11 +1,11 @@
 -- The walk over a text finds the words between its white space, each on its line.
 use Rattle.std.proofs.Common.{◌≡◌, ◌⊎◌, inl, inr, ℕ, ◌+◌, ◌-◌, ◌≤◌, ◌==◌, Bool, true, false, not}
 use Rattle.std.proofs.Common.{List, [], ◌∷◌, ◌++◌, length, map, take, get_or, refl, sym, ap, ◌∙◌, arith}
-use Rattle.std.proofs.Common.{cond, append_assoc, length-append, suc}
+use Rattle.std.proofs.Common.{cond, append_assoc, length-append, suc, ap₂}
 use Rattle.std.specs.List.{list_all, filter, flat_map, enumerate_from, slice_split, onto_first}
 use Rattle.std.specs.List.{before_last, suffix_len}
-use Rattle.std.proofs.lemmas.Bool.{cases_Bool, and_parts, not-true, ne_eqb}
-use Rattle.std.proofs.lemmas.List.{append-nil}
+use Rattle.std.proofs.lemmas.Bool.{cases_Bool, and_parts, not-true, ne_eqb, eqb-true, eqb-false}
+use Rattle.std.proofs.lemmas.List.{append-nil, map-append}
 use Rattle.std.proofs.lemmas.List.Splits.{slice_split-cons_yes, slice_split-cons_no}
 use Rattle.std.proofs.lemmas.List.Sums.{suffix_len_is, AllPass-from_list_all}
 use Rattle.std.proofs.lemmas.List.{get_or-append_right}
@@ -13,10 +13,11 @@ use Rattle.std.proofs.lemmas.List.Folds.{list_all-append}
 use Rattle.std.proofs.Math.Seq.{get_or-append_seam, take-append_seam}
 use Rattle.vcd_core.specs.Word.{is_white_space}
 use Rattle.vcd_text.specs.Words.{WordOnLine, word_on, words_in, words_of, complete_words}
+use Rattle.vcd_text.specs.LentWords.{words_after}
 use Rattle.vcd_text.specs.inside.Words.{line_after, word_of, words_from}
 use Rattle.vcd_text.specs.Grammar.{word_texts}
 use Rattle.vcd_text.proofs.shared.WordsInTurn.{by_test, no_space_is_no_feed, word_part, same_line}
-use Rattle.vcd_text.proofs.shared.WordsInTurn.{is_run_text, words_are_few}
+use Rattle.vcd_text.proofs.shared.WordsInTurn.{is_run_text, words_are_few, no_word, word_split, line_feeds_after}
 use Rattle.vcd_text.proofs.shared.WordsInTurn.{runs_from}
 use Rattle.vcd_text.proofs.shared.WordsInTurn.{texts_pass}
 
@@ -134,6 +135,35 @@ pub words_by_bytes : (bytes : List ℕ) → words_of bytes ≡ words_from true [
 unfolding words_of
 words_by_bytes bytes = sym (walk_finds 1 [] bytes refl)
 
+-- ---- after some line feeds
+
+-- a word so many lines later
+abbrev later : ℕ → WordOnLine → WordOnLine
+later n p = word_on p.text (n + p.line)
+
+word_later : (n : ℕ) (begun : List ℕ) (line : ℕ) → map (later n) (word_of begun line) ≡ word_of begun (n + line)
+word_later n [] line = refl
+word_later n (b ∷ bs) line = refl
+
+line_later : (n b line : ℕ) → n + line_after b line ≡ line_after b (n + line)
+line_later n b line = by_test (λ t. n + cond t (line + 1) line ≡ cond t ((n + line) + 1) (n + line)) (b == 10)
+    (λ _. omega arith) (λ _. refl)
+
+walk_later : (n : ℕ) (begun : List ℕ) (line : ℕ) (bytes : List ℕ)
+    → map (later n) (words_from true begun line bytes) ≡ words_from true begun (n + line) bytes
+unfolding words_from
+walk_later n begun line [] = word_later n begun line
+walk_later n begun line (b ∷ bs) =
+    by_test (λ t. map (later n) (cond t (word_of begun line) [] ++ words_from true (cond t [] (begun ++ b ∷ []))
+    (line_after b line) bs) ≡ cond t (word_of begun (n + line)) [] ++ words_from true (cond t [] (begun ++ b ∷ []))
+    (line_after b (n + line)) bs) (is_white_space b) (λ _. map-append (later n) (word_of begun line) _ ∙ ap₂ (λ ws vs.
+    ws ++ vs) (word_later n begun line) (walk_later n [] (line_after b line) bs ∙ ap (λ l. words_from true [] l bs)
+    (line_later n b line))) (λ _. walk_later n (begun ++ b ∷ []) (line_after b line) bs ∙ ap (λ l. words_from true
+    (begun ++ b ∷ []) l bs) (line_later n b line))
+
+pub after_by_bytes : (n : ℕ) (bytes : List ℕ) → words_after n bytes ≡ words_from true [] (n + 1) bytes
+after_by_bytes n bytes = ap (map (later n)) (words_by_bytes bytes) ∙ walk_later n [] 1 bytes
+
 -- ---- the complete words
 
 -- of bytes after the last white space no word counts
@@ -220,6 +250,12 @@ texts_of_file_are_runs bytes =
     ap (λ words. list_all is_run_text (word_texts words)) (words_by_bytes bytes)
     ∙ search (arith, texts_pass, runs_from)
 
+pub after_are_few : (n : ℕ) (bytes : List ℕ) → length (words_after n bytes) ≤ length bytes
+after_are_few n bytes =
+    omega (arith, ap (length {A = WordOnLine}) (after_by_bytes n bytes), words_are_few true (n + 1) bytes)
+
 pub complete_are_few : (bytes : List ℕ) → length (complete_words bytes) ≤ length bytes
 complete_are_few bytes =
     omega (arith, ap (length {A = WordOnLine}) (complete_by_bytes bytes), words_are_few false 1 bytes)
+
+pub ruleset next_word_steps = (eqb-true, eqb-false, after_by_bytes, no_word, word_split, line_feeds_after)

@@ -18,8 +18,6 @@ use Rattle.vcd_text.specs.Words.{word_on}
 use Rattle.vcd_text.specs.inside.Words.{word_of, words_from}
 use Rattle.std.proofs.lemmas.Bool.{and_parts, not-true}
 use Rattle.std.proofs.lemmas.Grind.{common_steps}
-use Rattle.std.proofs.lemmas.Bool.{eqb-false}
-use Rattle.std.proofs.lemmas.Bool.{eqb-true}
 
 -- a fact of a test, in both cases
 pub by_test : (P : Bool → Type 0) (b : Bool) → (b ≡ true → P true) → (b ≡ false → P false) → P b
@@ -165,5 +163,3 @@ few_from end_counts begun line (b ∷ bs) = grind (
 pub words_are_few : (end_counts : Bool) (line : ℕ) (bytes : List ℕ)
     → length (words_from end_counts [] line bytes) ≤ length bytes
 words_are_few end_counts line bytes = omega (arith, few_from end_counts [] line bytes)
-
-pub ruleset next_word_steps = (eqb-true, eqb-false, no_word, word_split, line_feeds_after)

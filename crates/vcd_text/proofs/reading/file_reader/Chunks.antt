@@ -20,6 +20,7 @@ use Rattle.vcd_text.specs.declared.reading.parser.Parser.{Parser}
 use Rattle.vcd_text.specs.Words.{WordOnLine}
 use Rattle.vcd_text.specs.inside.Words.{line_after, word_of, words_from}
 use Rattle.vcd_text.specs.Words.{words_of, complete_words}
+use Rattle.vcd_text.specs.LentWords.{words_after}
 use Rattle.vcd_text.specs.FoundFaults.{word_shows}
 use Rattle.vcd_text.specs.FoundFaults.{PrefixShows}
 use Rattle.vcd_text.specs.Refusals.{IsRefusal, has_fault, no_memory}
@@ -32,7 +33,7 @@ use Rattle.vcd_text.proofs.reading.file_reader.PrefixResults.{larger, failing}
 use Rattle.vcd_text.proofs.shared.FaultOfPrefix.{longer_prefix_fault, complete_in_file}
 use Rattle.vcd_text.proofs.shared.FoundFault.{file_fault, prefix_fault_stays}
 use Rattle.vcd_text.proofs.shared.WordsInTurn.{line_feeds_of_both, no_line_feeds, word_part}
-use Rattle.vcd_text.proofs.shared.WordsByBytes.{words_by_bytes, complete_by_bytes}
+use Rattle.vcd_text.proofs.shared.WordsByBytes.{after_by_bytes, words_by_bytes, complete_by_bytes}
 use Rattle.vcd_text.specs.inside.reading.ReadBuffer.{ReadBufferView}
 use Rattle.std.proofs.lemmas.Grind.{common_steps}
 use Rattle.vcd_core.specs.Contents.{SignalContents}
@@ -98,7 +99,7 @@ module _ (limit most : ℕ) (taken_by : Parser → List WordOnLine → Type 0) (
 
   -- the complete words
   abbrev complete : List WordOnLine
-  complete = words_from true [] (p.line_feeds + 1) complete_text
+  complete = words_after p.line_feeds complete_text
 
   in_two : come.word ++ come.chunk ≡ complete_text ++ back
   in_two = sym come.text ∙ sym (take-append-drop len p.buffer.bytes) ∙ ap (λ text. text ++ back) (sym prefix)
@@ -107,7 +108,7 @@ module _ (limit most : ℕ) (taken_by : Parser → List WordOnLine → Type 0) (
   words_now : (end_counts : Bool) (rest : List ℕ) → words_from end_counts [] 1 (bytes ++ rest)
       ≡ complete_words come.before
       ++ (complete ++ words_from end_counts [] ((p.line_feeds + line_feeds_in complete_text) + 1) (back ++ rest))
-  words_now end_counts rest = grind (arith, append_assoc, in_two, words_complete)
+  words_now end_counts rest = grind (arith, append_assoc, in_two, words_complete, after_by_bytes)
 
   closed_now : complete_words bytes ≡ complete_words come.before ++ complete
   closed_now =
@@ -166,22 +167,24 @@ consumes_none coming = grind arith
 -- the words so far, and the last one
 all_words : (most : ℕ) (taken_by : Parser → List WordOnLine → Type 0) (p : FileReader) (text bytes : List ℕ) →
     HasReadBytes most taken_by p bytes → text ≡ p.buffer.bytes
-    → complete_words bytes ++ words_from true [] (p.line_feeds + 1) text ≡ words_of bytes
+    → complete_words bytes ++ words_after p.line_feeds text ≡ words_of bytes
 all_words most taken_by p text bytes taken is =
-    ap (λ word. complete_words bytes ++ words_from true [] (p.line_feeds + 1) word) (is ∙ sym (append-nil
-    p.buffer.bytes)) ∙ sym (taken.words true []) ∙ ap (words_from true [] 1) (append-nil bytes) ∙ sym (words_by_bytes _)
+    ap (λ ws. complete_words bytes ++ ws) (after_by_bytes p.line_feeds text)
+    ∙ ap (λ word. complete_words bytes ++ words_from true [] (p.line_feeds + 1) word)
+    (is ∙ sym (append-nil p.buffer.bytes))
+    ∙ sym (taken.words true []) ∙ ap (words_from true [] 1) (append-nil bytes) ∙ sym (words_by_bytes _)
 
 -- so all words of the bytes have been taken, or one is refused
 pub last_taken : (most : ℕ) (taken_by later : Parser → List WordOnLine → Type 0) (p : FileReader) (new : Parser)
     (text bytes : List ℕ) → HasReadBytes most taken_by p bytes → text ≡ p.buffer.bytes
-    → later new (complete_words bytes ++ words_from true [] (p.line_feeds + 1) text) → later new (words_of bytes)
+    → later new (complete_words bytes ++ words_after p.line_feeds text) → later new (words_of bytes)
 last_taken most taken_by later p new text bytes taken is reads =
     rw (all_words most taken_by p text bytes taken is) at reads
 
 pub last_refused : (limit most : ℕ) (taken_by : Parser → List WordOnLine → Type 0) (takes : SignalContents → Bool)
     (answers : Answers) (p : FileReader) (text bytes : List ℕ) (e : ReadError) → HasReadBytes most taken_by p bytes
     → text ≡ p.buffer.bytes
-    → RefusesWords limit takes answers (complete_words bytes ++ words_from true [] (p.line_feeds + 1) text) e
+    → RefusesWords limit takes answers (complete_words bytes ++ words_after p.line_feeds text) e
     → RefusesFile limit takes answers bytes e
 last_refused limit most taken_by takes answers p text bytes e taken is (inl none) = inl none
 last_refused limit most taken_by takes answers p text bytes e taken is (inr (inl shows)) =

@@ -1,9 +1,10 @@
-use Rattle.std.proofs.Common.{◌≡◌, ◌∙◌, ◌+◌, ◌++◌, ◌∷◌, [], ap, arith}
+use Rattle.std.proofs.Common.{◌≡◌, ◌∙◌, ◌+◌, ◌++◌, ◌∷◌, [], ap, sym, arith}
 use Rattle.std.specs.Prelude.{codes}
 use Rattle.vcd_text.specs.Grammar.{word_texts}
 use Rattle.vcd_text.specs.Items.{end_word}
 use Rattle.vcd_text.specs.LentWords.{texts_left}
 use Rattle.vcd_text.proofs.pieces.Bytes.{texts_are, any_line}
+use Rattle.vcd_text.proofs.shared.WordsByBytes.{after_by_bytes}
 use Rattle.vcd_amend.proofs.variable_words.VariableWords.read.Goals as goal
 
 pub returns : goal.returns
@@ -21,4 +22,6 @@ returns c = λ kind size code names is.
       ap word_texts c.in_ok-code.ensures.words,
     ) in
     let left : texts_left rest ≡ names ++ end_word ∷ [] = cc all in
-    (cc all, cc all, cc all, texts_are rest.rest.now ∙ any_line [] rest.rest.now 1 (rest.line_feeds + 1) ∙ left)
+    let walked = ap word_texts (sym (after_by_bytes rest.line_feeds rest.rest.now)) in
+    let line = rest.line_feeds + 1 in
+    (cc all, cc all, cc all, texts_are rest.rest.now ∙ any_line [] rest.rest.now 1 line ∙ walked ∙ left)

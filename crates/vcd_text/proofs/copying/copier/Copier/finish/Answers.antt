@@ -13,15 +13,14 @@ use Rattle.vcd_text.proofs.copying.copier.CopiedChunks.{whole_copied}
 use Rattle.vcd_text.proofs.copying.copier.Told.{all_told}
 use Rattle.vcd_text.specs.Copied.{IsTold}
 use Rattle.vcd_text.proofs.writing.output.Pieces.{more_both, writes_more}
-use Rattle.vcd_text.proofs.shared.WordsInTurn.{words_are_few}
-use Rattle.vcd_text.proofs.shared.WordsByBytes.{complete_are_few}
+use Rattle.vcd_text.proofs.shared.WordsByBytes.{complete_are_few, after_are_few}
 use Rattle.vcd_text.proofs.copying.copier.Copier.finish.Goals as goal
 use Rattle.vcd_text.proofs.shared.FailedResults.{err_is}
 
 pub copy_words-requires-clause-reading : goal.copy_words-requires-clause-reading
 copy_words-requires-clause-reading g c =
     let (limit, most, first, bytes, taken) = c.requires.reading in
-    (limit, first, (complete_words bytes, taken.taken_words, grind (arith, words_are_few, complete_are_few)))
+    (limit, first, (complete_words bytes, taken.taken_words, grind (arith, after_are_few, complete_are_few)))
 
 pub returns-in_err-copy_words-clause-fault : goal.returns-in_err-copy_words-clause-fault
 returns-in_err-copy_words-clause-fault g c =

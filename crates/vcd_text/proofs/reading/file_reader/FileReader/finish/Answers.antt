@@ -11,15 +11,14 @@ use Rattle.vcd_text.proofs.reading.file_reader.Chunks.{last_taken, last_refused}
 use Rattle.vcd_text.proofs.reading.parser.AskedParts.{chosen_words}
 use Rattle.vcd_text.proofs.reading.parser.NoWordLeft.{stops}
 use Rattle.vcd_text.proofs.part.WholeParts.{part_is_meant, meant_is_sound}
-use Rattle.vcd_text.proofs.shared.WordsInTurn.{words_are_few}
-use Rattle.vcd_text.proofs.shared.WordsByBytes.{complete_are_few}
+use Rattle.vcd_text.proofs.shared.WordsByBytes.{complete_are_few, after_are_few}
 use Rattle.vcd_text.proofs.reading.file_reader.FileReader.finish.Goals as goal
 use Rattle.vcd_text.proofs.shared.FailedResults.{err_is}
 
 pub read_words-requires : goal.read_words-requires
 read_words-requires g c =
     let (limit, most, first, bytes, taken) = c.requires in
-    (limit, first, (complete_words bytes, taken.taken_words, grind (arith, words_are_few, complete_are_few)))
+    (limit, first, (complete_words bytes, taken.taken_words, grind (arith, after_are_few, complete_are_few)))
 
 pub returns-in_err-read_words-clause-fault : goal.returns-in_err-read_words-clause-fault
 returns-in_err-read_words-clause-fault g c =

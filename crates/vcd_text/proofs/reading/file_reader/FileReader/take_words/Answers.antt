@@ -7,8 +7,7 @@ use Rattle.vcd_text.specs.inside.Words.{has_complete_words}
 use Rattle.vcd_text.specs.Parts.{answers_of}
 use Rattle.vcd_text.specs.inside.reading.Choice.{HasTakenFrom}
 use Rattle.vcd_text.proofs.reading.file_reader.Chunks.{now_taken, now_refused, word_is_first}
-use Rattle.vcd_text.proofs.shared.WordsInTurn.{words_are_few}
-use Rattle.vcd_text.proofs.shared.WordsByBytes.{complete_are_few}
+use Rattle.vcd_text.proofs.shared.WordsByBytes.{complete_are_few, after_are_few}
 use Rattle.vcd_text.proofs.reading.file_reader.FileReader.take_words.Goals as goal
 use Rattle.vcd_text.proofs.shared.FailedResults.{err_is}
 
@@ -20,7 +19,7 @@ read_words-requires g c =
       (
         complete_words come.before,
         come.taken.taken_words,
-        grind (arith, word_is_first most, length-append, length-take, words_are_few, complete_are_few),
+        grind (arith, word_is_first most, length-append, length-take, after_are_few, complete_are_few),
       ),
     )
 
