@@ -7,6 +7,8 @@
 #![tactic(auto)]
 
 #[cfg(test)]
+mod amending;
+#[cfg(test)]
 mod captures;
 #[cfg(test)]
 mod copying;
