@@ -1,4 +1,4 @@
--- Worked cases: the codes that are given for another capture.
+-- Worked cases: the codes that are given for another capture, and the amendment for it.
 use Rattle.std.proofs.Common.{◌≡◌, refl}
 use Rattle.std.specs.Prelude.{ℕ, List, [], ◌∷◌, Option, Some, None, codes, map, drop, length}
 use Rattle.std.specs.Fmt.{digits}
@@ -10,8 +10,9 @@ use Rattle.vcd_text.specs.Items.{Item, variable, end_definitions, stamp, scalar}
 use Rattle.vcd_text.specs.Grammar.{ParseState, initial_state, state_after, kept_variables}
 use Rattle.vcd_text.specs.Meaning.{changes_of_code}
 use Rattle.vcd_text.specs.Text.{code_digits}
+use Rattle.vcd_amend.specs.Amendment.{Amendment, stays, is_removed, is_changed}
 use Rattle.vcd_amend.specs.CodedAmendment.{CodedSignal}
-use Rattle.vcd_amend.specs.GivenCodes.{coded_signals, coded_derived, coded_waves, changed_waves}
+use Rattle.vcd_amend.specs.GivenCodes.{coded_signals, coded_derived, coded_waves, changed_waves, amendment_for}
 
 -- ---- three wires, two of them with one code, and a real, which is skipped
 
@@ -82,3 +83,24 @@ apart = Some (signal (codes "a") high) ∷ Some (signal (codes "b") pulse) ∷ N
 parted : left_codes apart [] ≡ codes "!" ∷ codes "#" ∷ [] ∷ []
 unfolding changes_of_code value_from changes_from digits code_digits
 parted = refl
+
+-- ---- amendments
+
+unchanged : amendment_for file (Some (signal (codes "a") low) ∷ Some (signal (codes "b") low) ∷ Some (signal (codes "c")
+    high) ∷ []) [] ≡ record { fates = stays ∷ stays ∷ stays ∷ []; added = []; codes = [] }
+unfolding changes_of_code value_from changes_from digits code_digits
+unchanged = refl
+
+-- a gets another name, b another wave, c is removed, and d is derived
+abbrev edited : Amendment
+edited = amendment_for file (Some (signal (codes "x") low) ∷ Some (signal (codes "b") pulse) ∷ None ∷ [])
+    (signal (codes "d") high ∷ [])
+
+amended : edited ≡ record {
+  fates = is_changed (codes "x" ∷ []) (codes "!") ∷ is_changed (codes "b" ∷ []) (codes "#") ∷ is_removed ∷ [];
+  added = record { scopes = []; kind = codes "wire"; size = 1; code = codes "$"; words = codes "d" ∷ [] } ∷ [];
+  codes = record { code = codes "#"; width = 1; old = []; new = pulse }
+      ∷ record { code = codes "$"; width = 1; old = []; new = high } ∷ [];
+}
+unfolding changes_of_code value_from changes_from digits code_digits
+amended = refl
