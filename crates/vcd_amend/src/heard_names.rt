@@ -9,7 +9,7 @@ ghost use Rattle.vcd_amend.specs.inside.NameHash.{name_hash};
 use crate::name_hash::name_hash;
 use std::alloc::Global;
 use std::collections::HashSet;
-use vcd_core::{END_LIMIT, FullName, NoMemory, Signal, Timescale};
+use vcd_core::{FullName, NoMemory, Signal, Timescale};
 use vcd_text::{Choice, Declarations, DeclaredSignal, TickRange};
 
 /// The full names of the signals whose changes are read. As a choice of a part of a file, it takes
@@ -65,9 +65,6 @@ impl Choice for HeardNames {
         _timescale: Option<Timescale>,
         _signals: &Declarations,
     ) -> Result<Option<TickRange>, NoMemory> {
-        Ok(Some(TickRange {
-            first: 0,
-            last: END_LIMIT,
-        }))
+        Ok(Some(TickRange::all()))
     }
 }

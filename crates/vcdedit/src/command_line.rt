@@ -54,7 +54,7 @@ Examples:
                                                          within a pipe
 
 Take care:
-  -o onto the capture itself: after a refused line or on a full disc the old capture is gone.
+  -o onto the capture itself: after a refused line or on a full disk the old capture is gone.
   A capture that was cut short may still be accepted: look at `end` in the listing.
   Variables of one code, such as a clock in many scopes, are edited one by one.
   Files with a byte order mark, in UTF-16 or packed by gzip are refused at line 1.

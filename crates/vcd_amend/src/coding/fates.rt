@@ -1,7 +1,6 @@
 //! What becomes of the kept variables, and the variables of derived signals.
 
-ghost use Rattle.std.specs.Prelude.{◌≡◌, ◌≤◌, length, map, IfOk, Some, bytes_eq};
-ghost use Rattle.std.specs.Cmp.Lexicographic.{pointwise};
+ghost use Rattle.std.specs.Prelude.{◌≡◌, ◌≤◌, length, map, IfOk, Some};
 ghost use Rattle.vcd_core.specs.CaptureContents.{signal_contents};
 ghost use Rattle.vcd_amend.specs.CodedAmendment.{fate_for, derived_variable};
 ghost use Rattle.vcd_amend.specs.AmendmentContents.{fate_contents, added_contents, code_contents};
@@ -14,7 +13,8 @@ use super::kept_signal::KeptSignal;
 use crate::amendment::{AddedVariable, AmendedCode, Fate};
 use crate::declarations::DeclaredVariable;
 use std::alloc::Global;
-use vcd_core::{NoMemory, Signal, Word, copy_word, copy_words};
+use vcd_core::{NoMemory, Signal, copy_word, copy_words};
+use vcd_text::are_same_words;
 
 /// The fates of kept variables, each with the index of its amended code, if it changes.
 pub fn fates(
@@ -78,28 +78,13 @@ fn fate_with(
         (Some (record { signal = signal_contents signal.now; code = code.now }))) }
 {
     let words = signal.words.as_slice();
-    if same_words(variable.words.as_slice(), words) && variable.code.as_slice() == code {
+    if are_same_words(variable.words.as_slice(), words) && variable.code.as_slice() == code {
         return Ok(Fate::Stays);
     }
     Ok(Fate::IsChanged {
         words: copy_words(alloc, words)?,
         code: copy_word(alloc, code)?,
     })
-}
-
-/// Whether two names have the same words.
-fn same_words(words: &[Word], others: &[Word]) -> bool
-    ensures { result ≡ pointwise bytes_eq words.now others.now }
-{
-    if words.len() != others.len() {
-        return false;
-    }
-    for k in 0..words.len() {
-        if words[k].as_slice() != others[k].as_slice() {
-            return false;
-        }
-    }
-    true
 }
 
 /// The variables of derived signals, whose amended codes come one after another.

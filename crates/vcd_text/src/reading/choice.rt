@@ -22,6 +22,18 @@ pub struct TickRange {
     pub last: u64,
 }
 
+impl TickRange {
+    /// All ticks that a capture may have.
+    pub fn all() -> TickRange
+        ensures { result ≡ record { first = 0; last = END_LIMIT } }
+    {
+        TickRange {
+            first: 0,
+            last: END_LIMIT,
+        }
+    }
+}
+
 /// A choice of a part of a capture.
 ///
 /// It is asked at the end of a file's declarations: once for each signal, in their order, and then
@@ -76,10 +88,7 @@ impl Choice for Whole {
         _timescale: Option<Timescale>,
         _signals: &Declarations,
     ) -> Result<Option<TickRange>, NoMemory> {
-        Ok(Some(TickRange {
-            first: 0,
-            last: END_LIMIT,
-        }))
+        Ok(Some(TickRange::all()))
     }
 }
 
@@ -105,10 +114,7 @@ impl Choice for Unheard {
         _timescale: Option<Timescale>,
         _signals: &Declarations,
     ) -> Result<Option<TickRange>, NoMemory> {
-        Ok(Some(TickRange {
-            first: 0,
-            last: END_LIMIT,
-        }))
+        Ok(Some(TickRange::all()))
     }
 }
 

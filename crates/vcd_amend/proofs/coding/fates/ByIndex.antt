@@ -1,33 +1,12 @@
--- Fates and added variables, one more at a time, and whether names have the same words.
-use Rattle.std.proofs.Common.{◌≡◌, ℕ, zero, suc, ◌+◌, ◌<◌, Bool, true, false, ◌&&◌, List, [], ◌∷◌, ◌++◌}
+-- Fates and added variables, one more at a time.
+use Rattle.std.proofs.Common.{◌≡◌, ℕ, ◌+◌, ◌<◌, List, [], ◌∷◌, ◌++◌}
 use Rattle.std.proofs.Common.{length, take, get_or, map, Option, None, refl, sym, ap, ◌∙◌, arith}
-use Rattle.std.specs.Prelude.{bytes_eq}
-use Rattle.std.specs.Cmp.Lexicographic.{pointwise}
 use Rattle.std.proofs.lemmas.List.{take_more, map-append, length-take, length-map}
 use Rattle.vcd_core.specs.Contents.{SignalContents}
 use Rattle.vcd_amend.specs.Amendment.{AmendedCode}
 use Rattle.vcd_amend.specs.CodedAmendment.{derived_variable}
 use Rattle.vcd_amend.specs.inside.coding.KeptSignals.{KeptContents}
 use Rattle.vcd_amend.specs.inside.coding.Codes.{fate_by_index, fates_by_index, variables_by_codes}
-
--- ---- words
-
-pub differ_at : (ws os : List (List ℕ)) (k : ℕ) (a b : List ℕ) → a ≡ get_or ws k a → b ≡ get_or os k b
-    → k < length ws → k < length os → bytes_eq a b ≡ false → pointwise bytes_eq ws os ≡ false
-differ_at [] os k a b here there early late apart = absurd (omega arith)
-differ_at (w ∷ ws) [] k a b here there early late apart = absurd (omega arith)
-differ_at (w ∷ ws) (o ∷ os) zero a b here there early late apart =
-    let is : bytes_eq w o ≡ false = sym (ap (λ x. bytes_eq x b) here ∙ ap (bytes_eq w) there) ∙ apart in
-    rw is refl
-differ_at (w ∷ ws) (o ∷ os) (suc k) a b here there early late apart =
-    let rest = differ_at ws os k a b here there (omega arith) (omega arith) apart in
-    rw rest (none (bytes_eq w o))
-  where
-    none : (b : Bool) → (b && false) ≡ false
-    none true = refl
-    none false = refl
-
--- ---- one more
 
 one_more_fate : (cs : List AmendedCode) (ks : List KeptContents) (os : List (Option ℕ)) (k : KeptContents)
     (o : Option ℕ) → length ks ≡ length os
