@@ -75,7 +75,7 @@ write_report program (write_errors.WriteFault written) =
 abbrev pub output_text : OutputFault → List ℕ
 output_text output_faults.Protected = codes "OutputProtected: the output is write-protected"
 output_text output_faults.InUse =
-    codes "OutputInUse: another run writes the output, or a killed one left .NAME.vcdedit"
+    codes "OutputInUse: another run writes the output; if none does, remove .NAME.vcdedit"
 output_text output_faults.Failed = codes "output: write fault"
 output_text output_faults.NoMemory = codes "out of memory"
 

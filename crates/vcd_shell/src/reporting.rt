@@ -78,7 +78,7 @@ fn output_text(fault: OutputFault) -> &'static str
     match fault {
         OutputFault::Protected => "OutputProtected: the output is write-protected",
         OutputFault::InUse =>
-            "OutputInUse: another run writes the output, or a killed one left .NAME.vcdedit",
+            "OutputInUse: another run writes the output; if none does, remove .NAME.vcdedit",
         OutputFault::Failed => "output: write fault",
         OutputFault::NoMemory => "out of memory",
     }
