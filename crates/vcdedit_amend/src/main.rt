@@ -9,6 +9,7 @@ mod amend_error;
 mod command_line;
 mod passes;
 mod program;
+mod progress;
 mod reporting;
 mod summed;
 

@@ -12,7 +12,7 @@ ghost use Rattle.vcdedit_amend.specs.Sums.{HaveOneSum};
 
 use crate::amend_error::{AmendError, NO_MEMORY, NO_SCRIPT};
 use crate::command_line::{Options, command_line, options_of};
-use crate::passes::{open_passes, refuse_changed};
+use crate::passes::{Pass, clear_progress, open_passes, refuse_changed};
 use crate::reporting::{PROGRAM, report};
 use crate::summed::Summed;
 use clap::{ArgMatches, Command};
@@ -118,15 +118,31 @@ fn run_on_file<R: Runtime + AllocGlobal>(
     ensures { IsOutcomeOnFile (options_in options.now) result }
 {
     let mut passes = open_passes(rt, path)?;
+    let outcome = run_passes(rt, &mut passes, options);
+    clear_progress(&mut passes);
+    outcome
+}
+
+/// Opens the script, and runs.
+fn run_passes<'a, R: Runtime + AllocGlobal>(
+    rt: &'a R,
+    passes: &mut Passes<Pass<'a, R>>,
+    options: &Options<'_>,
+) -> Result<Summary, AmendError>
+    requires depth_least { 1 ≤ options.now.depth }
+    requires depth_most { options.now.depth ≤ DEPTH_LIMIT }
+    requires passes_ready { AreReady ⟦<Pass<'a, R> as Source>⟧.has_failed passes.old }
+    ensures { IsOutcomeOnFile (options_in options.now) result }
+{
     match options.script {
         Some(path) => {
             let script = open_script(rt, path).map_err(|_| NO_SCRIPT)?;
             let script = &mut FromRead::new(script);
-            run_inputs(rt, &mut passes, script, options.output, options.depth)
+            run_inputs(rt, passes, script, options.output, options.depth)
         }
         None => {
             let script = &mut FromBytes::new(DEFAULT_SCRIPT);
-            run_inputs(rt, &mut passes, script, options.output, options.depth)
+            run_inputs(rt, passes, script, options.output, options.depth)
         }
     }
 }

@@ -41,6 +41,11 @@ impl<S: Source> Summed<S> {
         }
     }
 
+    /// The source below it.
+    pub fn source(&mut self) -> &mut S {
+        &mut self.source
+    }
+
     /// Whether a read was tried.
     pub fn is_begun(&self) -> bool
         ensures { result ≡ self.now.is_begun }
