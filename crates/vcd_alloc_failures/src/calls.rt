@@ -5,7 +5,7 @@ use crate::decoders::call_decoder;
 use crate::edits::{call_apply, call_held, call_revert};
 use crate::files::{call_read, call_read_part, call_write};
 use crate::printing::Failure;
-use crate::scripts::call_run_on_bytes;
+use crate::scripts::{call_amend_on_bytes, call_run_on_bytes};
 use crate::sessions::{call_new, call_run, call_step};
 use crate::waves::call_on_wave;
 use crate::words::call_on_words;
@@ -47,6 +47,7 @@ pub fn make_call<R: Runtime + AllocGlobal>(rt: &R, call: &Call) -> Result<(), Fa
         "step" => call_step(rt, call),
         "run" => call_run(rt, call),
         "run_on_bytes" => call_run_on_bytes(rt, call),
+        "amend_on_bytes" => call_amend_on_bytes(rt, call),
         _ => Err(Failure),
     }
 }

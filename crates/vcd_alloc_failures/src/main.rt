@@ -17,7 +17,7 @@
 //! | `held`: lets the record of an edit go | an edit | `undo`, or nothing |
 //! | `step` | a step | the steps made before it |
 //! | `run`: makes some steps | the position of the step that `omit` leaves out | |
-//! | `run_on_bytes`: runs a script | how many of its lines `omit` runs, or nothing for all | |
+//! | `run_on_bytes`, `amend_on_bytes` | how many lines `omit` runs, or nothing for all | |
 //!
 //! The program makes all that the call needs, and writes `refuse`. With `make` it makes the call.
 //! Then it writes `allow`, and `done` or the name of a fault; or `unequal` if the call gave a copy

@@ -4,3 +4,4 @@ pub mod Walk
 pub mod GoingChanges
 pub mod GoingDeclarations
 pub mod Whole
+pub mod KeptWaves

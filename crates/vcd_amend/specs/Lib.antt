@@ -19,4 +19,5 @@ pub mod FileParts
 pub mod NewNames
 pub mod AmendRun
 pub mod AmendRunEnds
+pub mod AmendOnBytes
 pub mod inside

@@ -6,7 +6,14 @@
 //! change, [`dry_run`] which changes lines ask for, and [`read_heard`] these. From the captures
 //! before and after the script [`amendment_for`] makes an [`Amendment`]: what becomes of the file's
 //! variables, which ones are added, and which codes are to mean another wave. With it [`amend`]
-//! copies the file.
+//! copies the file. [`amend_on_bytes`] is `amend_run` with bytes in memory:
+//!
+//! ```rust
+//! let capture = b"$var real 64 % volt $end $var wire 1 ! rx $end $enddefinitions $end
+//! #0 1! r2.5 % #20 0! #22 1! r3.25 % #90";
+//! let texts = amend_on_bytes(alloc, capture, b"deglitch rx 3\nvalue rx 21\n", 100)?;
+//! // texts.output has `#0 1! r2.5 % #20 #22 r3.25 % #90` in its last line
+//! ```
 //!
 //! The definitions say what the amended file is, byte for byte, and the laws that it means the
 //! capture after the script, with cuts among its edits.
@@ -22,6 +29,7 @@ mod hearing;
 mod laws;
 mod name_hash;
 mod new_names;
+mod on_bytes;
 mod outlining;
 mod running;
 mod sharing;
@@ -41,5 +49,6 @@ pub use laws::{
     retimed_file_is_meant, signals_remain, untouched_items_stand,
 };
 pub use new_names::takes_skipped_name;
+pub use on_bytes::{AmendRefusal, amend_on_bytes};
 pub use outlining::{Outline, read_outline};
 pub use running::{AmendRunError, Passes, amend_run};

@@ -12,6 +12,8 @@ mod program;
 mod progress;
 mod reporting;
 mod summed;
+#[cfg(test)]
+mod tests;
 
 pub use amend_error::AmendError;
 pub use program::VcdeditAmend;

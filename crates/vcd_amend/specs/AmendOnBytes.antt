@@ -1,0 +1,124 @@
+-- What amending the bytes of a file by a script gives: the second headline, without devices. The
+-- project's own.
+use Rattle.std.specs.Prelude.{◌≡◌, ◌<◌, ◌≤◌, ◌⊎◌, ℕ, zero, suc, Bool, true, false, not, ◌&&◌, ◌||◌}
+use Rattle.std.specs.Prelude.{List, [], length, take, bytes_eq, Option, Result, Ok, Err}
+use Rattle.std.specs.List.{concat, list_any}
+use Rattle.vcd_core.specs.declared.capture.TheConstants.{SIGNAL_LIMIT}
+use Rattle.vcd_core.specs.Contents.{Contents, SignalContents}
+use Rattle.vcd_core.specs.Word.{is_one_of}
+use Rattle.vcd_text.specs.Words.{words_of}
+use Rattle.vcd_text.specs.Items.{Item, scope, upscope, variable, stamp, scalar, vector}
+use Rattle.vcd_text.specs.Grammar.{ParseState, initial_state, kept_variables, is_skipped, Accepts}
+use Rattle.vcd_text.specs.Meaning.{FileMeans}
+use Rattle.vcd_text.specs.Faults.{IsFileFault, IsPrefixAnswer}
+use Rattle.vcd_text.specs.Pieces.{Piece, IsCut, state_of_pieces}
+use Rattle.vcd_text.specs.declared.fault.Fault.TheVariants as faults
+use Rattle.vcd_text.specs.declared.fault.ReadError.{ReadError}
+use Rattle.vcd_text.specs.declared.reading.TheConstants.{LONG_FILE_LIMIT}
+use Rattle.vcd_journal.specs.Cuts.{cuts}
+use Rattle.vcd_script.specs.declared.running.script_input.TheConstants.{SCRIPT_LIMIT}
+use Rattle.vcd_script.specs.declared.running.run_error.RunError.TheVariants as run_errors
+use Rattle.vcd_script.specs.declared.running.run_on_bytes.RunTexts.{RunTexts}
+use Rattle.vcd_script.specs.Script.{script_lines}
+use Rattle.vcd_script.specs.Run.{RunOutcome, IsRun}
+use Rattle.vcd_script.specs.HollowRun.{last_edits, last_capture}
+use Rattle.vcd_amend.specs.declared.running.AmendRunError.{AmendRunError}
+use Rattle.vcd_amend.specs.declared.running.AmendRunError.TheVariants.{Run, NameOfSkipped}
+use Rattle.vcd_amend.specs.declared.running.AmendRunError.TheVariants.{CutInForce, CaptureChanged}
+use Rattle.vcd_amend.specs.declared.on_bytes.AmendRefusal.{AmendRefusal}
+use Rattle.vcd_amend.specs.GivenCodes.{held_codes}
+use Rattle.vcd_amend.specs.WhatStands.{may_go, declares, BecomesText}
+use Rattle.vcd_amend.specs.AmendedRun.{signals_remaining}
+use Rattle.vcd_amend.specs.AmendRunEnds.{TakesSkippedName}
+
+-- ---- the file after a run
+
+-- whether a code keeps its wave, if these signals are left of the kept variables of a file: a
+-- skipped variable has it, or one that is left with its wave
+abbrev pub keeps_wave : ParseState → (remaining : List (Option SignalContents))
+    → (code : List ℕ) → Bool
+keeps_wave s remaining code =
+    list_any (λ d. is_skipped d && bytes_eq code d.code) s.declared
+    || is_one_of (held_codes s (kept_variables s.declared) remaining) code
+
+-- whether an item may be put in: a stamp, a scope or its end, the declaration of one of these
+-- signals, or a change of a code that does not keep its wave
+abbrev pub may_be_put_in : ParseState → (remaining : List (Option SignalContents))
+    → (signals : List SignalContents) → Item → Bool
+may_be_put_in s remaining signals (stamp digits) = true
+may_be_put_in s remaining signals (scope kind words) = true
+may_be_put_in s remaining signals upscope = true
+may_be_put_in s remaining signals (variable words) = list_any (declares words) signals
+may_be_put_in s remaining signals (scalar digit code) = not (keeps_wave s remaining code)
+may_be_put_in s remaining signals (vector first digits code) = not (keeps_wave s remaining code)
+may_be_put_in s remaining signals item = false
+
+-- the text is a file after lines on the capture that it means: read again, it means the last
+-- capture, with as many variables skipped; if no cut is in force, every item of the file stands but
+-- those that may go
+pub record IsEditedFile (file : List ℕ) (c : Contents) (skipped depth : ℕ) (lines : List (List ℕ))
+    (text : List ℕ) : Type 0 where
+  pub read_again : FileMeans SIGNAL_LIMIT text (last_capture c skipped depth lines) skipped
+  pub pieces : List Piece
+  pub tail : List ℕ
+  pub cut : IsCut file pieces tail
+  pub stands : cuts (last_edits c skipped depth lines) ≡ [] →
+      let s : ParseState = state_of_pieces SIGNAL_LIMIT pieces in
+      let last : Contents = last_capture c skipped depth lines in
+      let remaining : List (Option SignalContents) =
+      signals_remaining (length c.signals) (last_edits c skipped depth lines) last in
+      BecomesText (may_go s remaining) (may_be_put_in s remaining last.signals) tail
+      (initial_state SIGNAL_LIMIT) pieces text
+
+-- ---- the headline
+
+-- why a file of any length that is allowed here is refused: for its fault, or its length
+pub data IsRefusedLongFile (file : List ℕ) (e : ReadError) : Type 0 where
+  has_fault : length file ≤ LONG_FILE_LIMIT → IsFileFault SIGNAL_LIMIT file e.line e.fault
+      → IsRefusedLongFile file e
+  too_large : LONG_FILE_LIMIT < length file
+      → IsPrefixAnswer SIGNAL_LIMIT (take LONG_FILE_LIMIT file) faults.TooLarge e
+      → IsRefusedLongFile file e
+
+-- the bytes of a file are not amended for this error, and these are the replies before it
+abbrev pub AmendFails : (file script : List ℕ) → (depth : ℕ) → (replies : List ℕ) → AmendRunError
+    → Type 0
+-- the file is refused for this, or memory ran out as it was read
+AmendFails file script depth replies (Run (run_errors.Capture e)) = IsRefusedLongFile file e
+    ⊎ (e ≡ record { line = 0; fault = faults.NoMemory })
+AmendFails file script depth replies (Run run_errors.ScriptTooLarge) =
+    (SCRIPT_LIMIT < length script) × (replies ≡ [])
+AmendFails file script depth replies (Run run_errors.ScriptReadFault) = ⊥
+-- memory ran out before the first line, or at a line, counted from 1
+AmendFails file script depth replies (Run (run_errors.NoMemory zero)) = replies ≡ []
+AmendFails file script depth replies (Run (run_errors.NoMemory (suc before))) =
+    (written : RunOutcome) × IsRun file script depth written × (before < length written.replies)
+    × (replies ≡ concat (take before written.replies))
+-- memory ran out for the replies, after `count` bytes of them
+AmendFails file script depth replies (Run (run_errors.ReplyFault count)) =
+    (written : RunOutcome) × IsRun file script depth written
+    × (replies ≡ take count (concat written.replies))
+-- memory ran out for the file: all replies are given
+AmendFails file script depth replies (Run (run_errors.Write e)) =
+    (written : RunOutcome) × IsRun file script depth written × (replies ≡ concat written.replies)
+-- what the script leaves can't be written
+AmendFails file script depth replies NameOfSkipped = (replies ≡ [])
+    × (s : ParseState) × Accepts SIGNAL_LIMIT (words_of file) s
+    × TakesSkippedName depth (script_lines script) s
+AmendFails file script depth replies CutInForce = (replies ≡ [])
+    × (written : RunOutcome) × (ran : IsRun file script depth written)
+    × (cuts (last_edits ran.contents ran.skipped depth (script_lines script)) ≡ [] → ⊥)
+AmendFails file script depth replies CaptureChanged = ⊥
+
+-- what amending the bytes of a file by a script gives: the replies of the script's run on what the
+-- file means, and the file after it
+abbrev pub AmendGives : (file script : List ℕ) → (depth : ℕ) → Result RunTexts AmendRefusal
+    → Type 0
+AmendGives file script depth (Ok texts) = (written : RunOutcome)
+    × (ran : IsRun file script depth written)
+    × (texts.replies.items ≡ concat written.replies) × (texts.refused ≡ written.refused)
+    × IsEditedFile file ran.contents ran.skipped depth (script_lines script) texts.output.items
+    × (s : ParseState) × Accepts SIGNAL_LIMIT (words_of file) s
+    × (TakesSkippedName depth (script_lines script) s → ⊥)
+AmendGives file script depth (Err refused) =
+    AmendFails file script depth refused.replies.items refused.error
