@@ -1,12 +1,15 @@
 -- Reading decimal digits, one after another, up to a greatest number.
-use Rattle.std.proofs.Common.{◌≡◌, ℕ, zero, suc, ◌+◌, ◌-◌, ◌*◌, ◌<◌, true, List, [], ◌∷◌, length, min, take, get_or}
+use Rattle.std.proofs.Common.{◌≡◌, ℕ, zero, suc, ◌+◌, ◌-◌, ◌*◌, ◌^◌, ◌<◌, true, List, [], ◌∷◌, length}
+use Rattle.std.proofs.Common.{min, take, get_or}
 use Rattle.std.proofs.Common.{arith}
 use Rattle.std.specs.List.{list_all}
 use Rattle.std.specs.Char.{is_ascii_digit, digit_value}
-use Rattle.std.specs.Str.Parse.{digits_value}
+use Rattle.std.specs.Str.Parse.{digits_value, AllDigits}
 use Rattle.std.specs.Int.{IsInRange}
 use Rattle.std.proofs.lemmas.Str.{digit_value_digit}
-use Rattle.std.proofs.lemmas.Int.Digits.{digits_value_more}
+use Rattle.std.proofs.lemmas.Int.Digits.{digits_value_more, digits_value-lt}
+use Rattle.std.proofs.lemmas.Str.Parse.{digits_value-take-le}
+use Rattle.std.proofs.Math.Nat.{pow-le-pow_right}
 use Rattle.std.proofs.lemmas.Bool.Decides.{nat_tests}
 
 -- each byte of a list of digits is a digit
@@ -30,3 +33,31 @@ numeral_more bytes i limit number product digit all within number_is product_is 
     omega (arith, digit_value_digit (get_or bytes i 0) (digit_within bytes i all within)) in
     rw (product_is, number_is, value, digits_value_more 10 bytes i within)
     (capped_more (digits_value 10 (take i bytes)) limit (digit_value (get_or bytes i 0)))
+
+-- digits are digits to the base 10
+all_digits : (bytes : List ℕ) → list_all is_ascii_digit bytes ≡ true → AllDigits 10 bytes
+all_digits [] all = _
+all_digits (b ∷ bytes) all =
+    let within : IsInRange 48 57 b = digit_within (b ∷ bytes) 0 all (omega arith) in
+    (omega (arith, within, digit_value_digit b within), all_digits bytes (grind (arith, nat_tests)))
+
+-- fewer than 20 digits write a number of 64 bits
+short_fits : (bytes : List ℕ) → list_all is_ascii_digit bytes ≡ true → length bytes < 20
+    → digits_value 10 bytes < 10 ^ 19
+short_fits bytes all short = omega (
+  arith,
+  digits_value-lt 10 bytes (all_digits bytes all),
+  pow-le-pow_right {n = 10} (omega arith) {i = length bytes} {j = 19} (omega arith),
+)
+
+-- the step of reading a number of fewer than 20 digits
+pub short_more : (bytes : List ℕ) (i number digit : ℕ) → list_all is_ascii_digit bytes ≡ true
+    → length bytes < 20 → i < length bytes → number ≡ digits_value 10 (take i bytes)
+    → digit ≡ get_or bytes i 0 - 48
+    → (10 * number + digit ≡ digits_value 10 (take (i + 1) bytes)) × (10 * number + digit < 10 ^ 19)
+short_more bytes i number digit all short within number_is digit_is =
+    let value : digit ≡ digit_value (get_or bytes i 0) =
+    omega (arith, digit_value_digit (get_or bytes i 0) (digit_within bytes i all within)) in
+    let next : 10 * number + digit ≡ digits_value 10 (take (i + 1) bytes) =
+    omega (arith, number_is, value, digits_value_more 10 bytes i within) in
+    (next, omega (arith, next, digits_value-take-le 10 bytes (i + 1) (omega arith), short_fits bytes all short))

@@ -1,6 +1,6 @@
 use Rattle.std.proofs.Common.{◌∙◌}
 use Rattle.vcd_core.proofs.decimal.DigitsInTurn.{numeral_more}
-use Rattle.vcd_core.proofs.decimal.number_or_greatest.Goals as goal
+use Rattle.vcd_core.proofs.decimal.long_number.Goals as goal
 
 pub loop-digit-preserved : goal.loop-digit-preserved
 loop-digit-preserved c =

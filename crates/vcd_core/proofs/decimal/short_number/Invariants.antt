@@ -1,0 +1,6 @@
+use Rattle.std.proofs.Common.{◌≡◌, take}
+use Rattle.vcd_core.specs.Decimal.{number_of}
+use Rattle.vcd_core.proofs.decimal.short_number.Given as goal
+
+abbrev pub invariant-loop-digit : goal.invariant-loop-digit
+invariant-loop-digit l = l.number ≡ number_of (take l.digit-index l.digits)
