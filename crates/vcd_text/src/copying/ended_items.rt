@@ -96,6 +96,7 @@ fn item_to_amend<W: Sink, A: Amender<W>>(
 }
 
 /// Writes what stands before the open item, and what is in its place.
+#[inline(never)]
 fn amend_item<W: Sink, A: Amender<W>>(
     held: &mut Held,
     amender: &mut A,

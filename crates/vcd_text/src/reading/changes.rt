@@ -60,6 +60,7 @@ impl Parser {
     /// Takes a word of a dump, or begins a command that is passed over. A word of the
     /// declarations is `UnexpectedWord`.
     #[tactic(auto, using(crate::proofs::reading::changes::ChangeWords::passes_over))]
+    #[inline(never)]
     fn take_command(&mut self, text: &[u8]) -> Result<(), Fault>
         requires between { self.old.item ≡ items.Nothing }
         requires in_body { self.old.in_body ≡ true }

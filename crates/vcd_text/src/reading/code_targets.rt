@@ -44,6 +44,7 @@ impl<T: Copy> CodeTargets<T> {
     }
 
     /// The target of a code.
+    #[inline(always)]
     pub fn get(&self, code: &[u8]) -> T
         ensures { result ≡ code_target self.now code.now }
     {
@@ -67,6 +68,7 @@ impl<T: Copy> CodeTargets<T> {
 }
 
 /// The target at an index. Past the end of the table no code has got one.
+#[inline(always)]
 fn target_at<T: Copy>(table: &[T], index: usize, absent: T) -> T
     ensures { result ≡ slice_index_or table.now index absent }
 {
@@ -74,6 +76,7 @@ fn target_at<T: Copy>(table: &[T], index: usize, absent: T) -> T
 }
 
 /// The target of a code in the map.
+#[inline(never)]
 fn target_in<T: Copy>(codes: &IndexMap<Vec<u8>, T>, code: &[u8], absent: T) -> T
     ensures { result ≡ in_map absent codes.now code.now }
 {
@@ -122,6 +125,7 @@ fn put_in<T: Copy>(
 }
 
 /// The index of a code of one to three bytes, each from 1 to 127; none for any other code.
+#[inline(always)]
 fn table_index(code: &[u8]) -> Option<usize>
     ensures index { result ≡ index_of_code code.now }
     ensures fits { IfSome result (λ index. index < 2 ^ 32) }
@@ -135,6 +139,7 @@ fn table_index(code: &[u8]) -> Option<usize>
 }
 
 /// A byte from 1 to 127 as a digit.
+#[inline(always)]
 fn code_digit(byte: u8) -> Option<usize>
     ensures digit { result ≡ digit_of byte }
     ensures few { IfSome result (λ digit. digit < 128) }

@@ -28,6 +28,7 @@ impl Parser {
     ///
     /// The error is `UpscopeAtTop` for `$upscope` if no scope is open, and `UnexpectedWord` for a
     /// word that begins no declaration.
+    #[inline(never)]
     pub fn begin_declaration(&mut self, text: &[u8]) -> Result<(), Fault>
         requires between { self.old.item ≡ items.Nothing }
         requires in_declarations { self.old.in_body ≡ false }
@@ -48,6 +49,7 @@ impl Parser {
     ///
     /// The error is `UnexpectedWord` after `$upscope` and `$enddefinitions`, and `BadVar` for a
     /// size that is no decimal number.
+    #[inline(never)]
     pub fn continue_item(&mut self, alloc: Global, text: &[u8]) -> Result<(), Fault>
         requires inside { is_inside self.old.item ≡ true }
         requires word { is_end_word text.now ≡ false }
@@ -104,6 +106,7 @@ impl Parser {
     ///
     /// The error is `BadTimescale` for words that spell no timescale, `BadScope` for a scope
     /// without a kind, and for a variable that of `Variables::declare`.
+    #[inline(never)]
     pub fn close(&mut self, alloc: Global) -> Result<(), Fault>
         requires inside { is_inside self.old.item ≡ true }
         requires no_end { is_end_definitions self.old.item ≡ false }

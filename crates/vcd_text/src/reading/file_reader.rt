@@ -254,6 +254,7 @@ pub fn take_word<C: Choice>(
 }
 
 /// Takes the `$end` of `$enddefinitions`. The choice is asked for the part that is read.
+#[inline(never)]
 fn begin_part<C: Choice>(parser: &mut Parser, alloc: Global, choice: &mut C) -> Result<(), Fault>
     requires item { parser.old.item ≡ items.EndDefinitions }
     requires known { (c : ParseState) × VariablesMatch parser.old.variables c }

@@ -37,6 +37,7 @@ impl Variables {
     ///
     /// The change is pushed to the log or a wave, at its tick in the part. If it is past the part,
     /// or its code is `silent` by the position of its first variable, it is only checked.
+    #[inline(always)]
     pub fn change(
         &mut self,
         alloc: Global,
@@ -75,6 +76,7 @@ impl Variables {
     /// While the log is empty, a change before the part (`early`) goes to the wave at once. It
     /// replaces the one before it there; the log would hold both. `tick` does not tell that it is
     /// early: up to the first tick of the part it is 0.
+    #[inline(never)]
     fn change_at(
         &mut self,
         alloc: Global,
