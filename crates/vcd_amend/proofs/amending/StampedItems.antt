@@ -89,6 +89,18 @@ pub from_step : (t : ℕ) (due : List DueChange) (k : ℕ) (d : DueChange) → k
 from_step t due k d within is early = sym (ap (from_tick t) (first_due due k d within is)
     ∙ from_one t (due_transition d) (map due_transition (drop (k + 1) due)) early)
 
+-- one that is not open adds nothing
+pub closed_step : (p : Transition → Bool) (t : ℕ) (due : List DueChange) (k : ℕ) (d : DueChange) → k < length due
+    → slice_index_or due k d ≡ d → d.tick < t → p (due_transition d) ≡ false
+    → filter p (before_tick t (map due_transition (drop (k + 1) due)))
+    ≡ filter p (before_tick t (map due_transition (drop k due)))
+closed_step p t due k d within is early closed =
+    let m = due_transition d in
+    let ms = before_tick t (map due_transition (drop (k + 1) due)) in
+    sym (ap (λ l. filter p (before_tick t l)) (first_due due k d within is)
+    ∙ ap (filter p) (before_one t m (map due_transition (drop (k + 1) due)) early)
+    ∙ ap (λ (b : Bool). if b then m ∷ filter p ms else filter p ms) closed)
+
 pub stamped_none : (p : Transition → Bool) (cs : List AmendedCode) (last : Option ℕ) (t : ℕ) (ms : List Transition)
     → begins_before t ms ≡ false → stamped_text p cs last (before_tick t ms) ≡ []
 unfolding stamped_items

@@ -15,12 +15,11 @@ use Rattle.vcd_amend.specs.declared.amending.due_changes.DueChange.{DueChange}
 use Rattle.vcd_amend.specs.AmendedItems.{items_due_until, items_due_at}
 use Rattle.vcd_amend.specs.inside.amending.CodeProgress.{is_open_by}
 use Rattle.vcd_amend.specs.inside.amending.DueChanges.{due_transition, due_item, stamped_items, before_tick, from_tick}
-use Rattle.vcd_amend.specs.inside.amending.DueChanges.{begins_before, due_at, due_in, is_open, AreDueFrom}
+use Rattle.vcd_amend.specs.inside.amending.DueChanges.{due_at, due_in, is_open, AreDueFrom}
 use Rattle.vcd_amend.specs.inside.amending.FileAmender.{IsAt}
 use Rattle.vcd_amend.specs.declared.amending.file_amender.FileAmender.{FileAmender}
 use Rattle.vcd_amend.specs.declared.amending.moments.ChangeCounts.{ChangeCounts}
 use Rattle.vcd_amend.proofs.amending.DueText.{due_before_tick, due_later, until_items, open_same, in_within, at_items}
-use Rattle.vcd_amend.proofs.amending.StampedItems.{before_none}
 
 module _ (m : FileAmender) (s : ParseState) (none_yet : Bool) (at : IsAt m s none_yet) where
   abbrev left : List Transition
@@ -89,13 +88,12 @@ module _ (m : FileAmender) (s : ParseState) (none_yet : Bool) (at : IsAt m s non
         none_yet = refl;
       }
 
-  -- where none is due before it, it stands
-  pub none_due : (tick : ℕ) → s.tick ≤ tick → begins_before tick left ≡ false
+  -- where none of those due before it is open, it stands
+  pub none_open : (tick : ℕ) → s.tick ≤ tick → filter (is_open_by m.progress.items) (before_tick tick left) ≡ []
       → items_due_until (amendment_contents m.amendment.now) none_yet s tick ≡ []
   unfolding stamped_items
-  none_due tick later none = sym (stamp_items tick later)
-      ∙ ap (λ l. stamped_items (amendment_contents m.amendment.now).codes (if none_yet then None else Some s.tick)
-      (filter (is_open_by m.progress.items) l)) (before_none tick left none)
+  none_open tick later none = sym (stamp_items tick later)
+      ∙ ap (stamped_items (amendment_contents m.amendment.now).codes (if none_yet then None else Some s.tick)) none
 
   -- what is due at the end
   pub end_items : map (due_item (amendment_contents m.amendment.now).codes)

@@ -22,19 +22,32 @@ pub struct DueChange {
     pub index: usize,
 }
 
-/// The due changes of amended codes, by tick, and at one tick in the order of the codes. It takes
-/// 16 bytes for each, and the time of sorting them.
+/// The due changes of amended codes, by tick, and at one tick in the order of the codes.
+///
+/// It takes 16 bytes for each, and as many more while it merges those of several codes. The time
+/// grows with their number, and with the logarithm of that of the codes.
 pub fn due_changes(alloc: Global, codes: &[AmendedCode]) -> Result<Vec<DueChange>, NoMemory>
     ensures due { IfOk result (λ due. AreDueFrom (map code_contents codes.now) 0
         (map due_transition due.items)) }
     ensures within { IfOk result (λ due. All (λ d. d.index < length codes.now) due.items) }
 {
-    let mut due = Vec::new(alloc);
+    let mut due = Vec::with_capacity(alloc, due_count(codes))?;
     for (index, code) in codes.iter().enumerate() {
         add_due_changes(&mut due, index, code)?;
     }
-    due.sort_unstable();
+    // those of one code are in order, and this sort merges what is
+    due.sort()?;
     Ok(due)
+}
+
+/// How many due changes there can be: those of the new waves, and one more for each code.
+fn due_count(codes: &[AmendedCode]) -> usize {
+    let mut count = 0usize;
+    for code in codes {
+        let more = code.new.changes().len().saturating_add(1);
+        count = count.saturating_add(more);
+    }
+    count
 }
 
 /// Adds the due changes of one code.

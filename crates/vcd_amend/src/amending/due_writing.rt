@@ -1,7 +1,7 @@
 //! Writes due changes.
 
 ghost use Rattle.std.specs.Prelude.{◌≡◌, ◌+◌, ◌<◌, ◌∷◌, ◌++◌, [], All, length, map, drop, decimal};
-ghost use Rattle.std.specs.Prelude.{if◌then◌else◌};
+ghost use Rattle.std.specs.Prelude.{if◌then◌else◌, IfSome};
 ghost use Rattle.std.specs.List.{filter, flat_map, join_with_byte};
 ghost use Rattle.vcd_text.specs.EmittedText.{Emits};
 ghost use Rattle.vcd_text.specs.Items.{spelling, stamp};
@@ -78,6 +78,30 @@ fn write_stamped<W: Sink>(
     write_due(output, &codes[index], &mut counts[index], change.tick);
     write_byte(output, b'\n');
     Some(change.tick)
+}
+
+/// The index of the first due change that is not before `tick`, if the file has had a change at
+/// each of those before it, from the one at `next` on.
+pub fn next_if_none_open(
+    progress: &[CodeProgress],
+    due: &[DueChange],
+    next: usize,
+    tick: u64,
+) -> Option<usize>
+    requires { All (λ d. d.index < length progress.now) due.now }
+    ensures none_open { IfSome result (λ _. filter (is_open_by progress.now)
+        (before_tick tick (map due_transition (drop next due.now))) ≡ []) }
+    ensures next { IfSome result (λ index. map due_transition (drop index due.now)
+        ≡ from_tick tick (map due_transition (drop next due.now))) }
+{
+    let mut index = next;
+    while let Some(change) = due_before(due, index, tick) {
+        if is_open(progress, change) {
+            return None;
+        }
+        index += 1;
+    }
+    Some(index)
 }
 
 /// Whether the file has had no change of the code of a due change at its tick.

@@ -27,8 +27,8 @@ ghost use Rattle.vcd_text.specs.inside.reading.CodeTargets.{code_target};
 
 use super::code_progress::{CodeProgress, NO_PROGRESS, note_variable};
 use super::code_uses::{CodeUse, first_uses, use_code};
-use super::due_changes::{DueChange, due_before, due_changes};
-use super::due_writing::{write_due_at, write_due_before};
+use super::due_changes::{DueChange, due_changes};
+use super::due_writing::{next_if_none_open, write_due_at, write_due_before};
 use super::moments::ChangeCounts;
 use super::value_changes::{moment_in, note_standing, take_amended, write_both};
 use super::variable_writing::{write_added, write_changed};
@@ -87,8 +87,9 @@ impl<'a> FileAmender<'a> {
         })
     }
 
-    /// Lets a stamp stand, if no change is due before it.
+    /// Lets a stamp stand, if nothing is put before it.
     fn let_stamp_stand(&mut self, tick: u64) -> bool
+        requires { (s : ParseState) × (none_yet : Bool) × IsAt self.old s none_yet }
         ensures stands { result ≡ true → (s : ParseState) (none_yet : Bool) →
             IsAt self.old s none_yet → s.tick ≤ tick →
             (items_due_until (amendment_contents self.old.amendment.now) none_yet s tick ≡ [])
@@ -96,9 +97,11 @@ impl<'a> FileAmender<'a> {
         ensures unchanged { result ≡ false → self.new ≡ self.old }
         ensures same { self.new.amendment.now ≡ self.old.amendment.now }
     {
-        if due_before(self.due.as_slice(), self.next, tick).is_some() {
+        let progress = self.progress.as_slice();
+        let Some(next) = next_if_none_open(progress, self.due.as_slice(), self.next, tick) else {
             return false;
-        }
+        };
+        self.next = next;
         self.tick = tick;
         self.none_yet = false;
         true

@@ -57,7 +57,7 @@ loop-index-preserved c =
 
 pub returns-clause-within : goal.returns-clause-within
 returns-clause-within c = All-permutation (λ (d : DueChange). d.index < length c.args.codes.now) _ _
-    c.sort_unstable.ensures.permutation c.loop-index.invariant.within
+    c.sort.ensures.permutation c.loop-index.invariant.within
 
 pub returns-clause-due : goal.returns-clause-due
 returns-clause-due c =
@@ -65,8 +65,8 @@ returns-clause-due c =
     let sound = subst (λ (l : List CodeInMemory). All (λ (x : CodeInMemory). IsWave x.new.width x.new.changes) l)
     (take_all c.loop-index.index codes (omega arith)) c.loop-index.invariant.sound in
     sorted_due due_cmp not_less_at (map code_contents codes)
-    c.loop-index.due.items c.sort_unstable.new.self.items (All-map (λ (x : AmendedCode). IsWave x.width x.new)
+    c.loop-index.due.items c.sort.new.self.items (All-map (λ (x : AmendedCode). IsWave x.width x.new)
     code_contents codes sound)
     (all_listed codes c.loop-index.index (map due_transition c.loop-index.due.items) _ (omega arith)
     c.loop-index.invariant.listed)
-    c.sort_unstable.ensures.permutation c.sort_unstable.ensures.sorted
+    c.sort.ensures.permutation c.in_ok-sort.ensures.sorted

@@ -14,6 +14,10 @@ use Rattle.vcd_amend.specs.AmendedText.{bytes_in_place}
 use Rattle.vcd_amend.proofs.amending.SeenItems.{before_state, before_none, seen_more, stamp_is_later, value_is, real_is}
 use Rattle.vcd_amend.proofs.amending.file_amender.FileAmenderAmender.let_stand.Goals as goal
 
+pub let_stamp_stand-requires : goal.let_stamp_stand-requires
+let_stamp_stand-requires g c = let (limit, before, p, seen, shows) = c.requires in
+    (before_state before, before_none (amendment_contents c.args.self.now.amendment.now) before, seen)
+
 pub let_value_stand-requires : goal.let_value_stand-requires
 let_value_stand-requires g c = let (limit, before, p, seen, shows) = c.requires in
     (before_state before, before_none (amendment_contents c.args.self.now.amendment.now) before, seen)
