@@ -14,7 +14,8 @@ returns-clause-stands c = λ stands s none_yet at later.
     let next = c.in-Some.next in
     let progress = c.as_slice-progress.ensures.value in
     let due = c.as_slice.ensures.value in
-    let none : filter (is_open_by m.progress.items) (before_tick tick (map due_transition (drop m.next m.due.items))) ≡ []
+    let none : filter (is_open_by m.progress.items)
+    (before_tick tick (map due_transition (drop m.next m.due.items))) ≡ []
     = subst (λ (l : List CodeProgress). filter (is_open_by l) (before_tick tick
     (map due_transition (drop m.next m.due.items))) ≡ []) progress
     (subst (λ (l : List DueChange). filter (is_open_by c.as_slice-progress.result.now) (before_tick tick
