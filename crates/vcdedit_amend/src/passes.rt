@@ -11,6 +11,8 @@ use crate::amend_error::{AmendError, NOT_READ};
 use crate::progress::{Watch, Watched};
 use crate::summed::Summed;
 use std::fs;
+use std::fs::Metadata;
+use std::os::unix::fs::MetadataExt;
 use std::rt::{Files, Runtime};
 use vcd_amend::{AmendRunError, Passes};
 use vcd_core::{FromRead, Source};
@@ -18,22 +20,74 @@ use vcd_core::{FromRead, Source};
 /// A pass over a capture file, which shows how far it is.
 pub type Pass<'a, R> = Summed<Watched<'a, R, FromRead<<R as Files>::File>>>;
 
-/// Opens the capture for each pass, if it is a regular file: a pipe would have no second one.
-pub fn open_passes<'a, R: Runtime>(rt: &'a R, path: &str) -> Result<Passes<Pass<'a, R>>, AmendError>
-    ensures ready { IfOk result (AreReady ⟦<Pass<'a, R> as Source>⟧.has_failed) }
-    ensures fault { IfErr result (λ e. (e ≡ AmendError.NotAFile) ⊎ (e ≡ not_read)) }
-{
-    let found = fs::metadata(rt, path).map_err(|_| NOT_READ)?;
-    if !found.is_file() {
-        return Err(AmendError::NotAFile);
+/// A capture file, as it was before it was opened.
+#[derive(Clone, Copy)]
+pub struct CaptureFile<'a> {
+    path: &'a str,
+    state: FileState,
+}
+
+/// What tells a file from another one in its place, and from itself after a change.
+#[derive(Clone, Copy, PartialEq, Eq)]
+struct FileState {
+    device: u64,
+    inode: u64,
+    length: u64,
+    // the time of the last change, in seconds and nanoseconds
+    seconds: i64,
+    nanoseconds: i64,
+}
+
+impl FileState {
+    fn of(found: &Metadata) -> FileState {
+        FileState {
+            device: found.dev(),
+            inode: found.ino(),
+            length: found.len(),
+            seconds: found.mtime(),
+            nanoseconds: found.mtime_nsec(),
+        }
     }
-    let watch = Watch::begin(rt, found.len());
-    Ok(Passes {
-        declarations: open_pass(rt, path, watch, "compares the passes")?,
-        outline: open_pass(rt, path, watch, "checks the capture")?,
-        changes: open_pass(rt, path, watch, "reads the changes")?,
-        copy: open_pass(rt, path, watch, "writes the output")?,
-    })
+}
+
+impl<'a> CaptureFile<'a> {
+    /// Looks at a capture, which is a regular file: a pipe would have no second pass.
+    pub fn find<R: Files>(files: &R, path: &'a str) -> Result<CaptureFile<'a>, AmendError>
+        ensures fault { IfErr result (λ e. (e ≡ AmendError.NotAFile) ⊎ (e ≡ not_read)) }
+    {
+        let found = fs::metadata(files, path).map_err(|_| NOT_READ)?;
+        if !found.is_file() {
+            return Err(AmendError::NotAFile);
+        }
+        let state = FileState::of(&found);
+        Ok(CaptureFile { path, state })
+    }
+
+    /// Opens it for each pass.
+    pub fn open_passes<'b, R: Runtime>(&self, rt: &'b R) -> Result<Passes<Pass<'b, R>>, AmendError>
+        ensures ready { IfOk result (AreReady ⟦<Pass<'b, R> as Source>⟧.has_failed) }
+        ensures fault { IfErr result (λ e. e ≡ not_read) }
+    {
+        let watch = Watch::begin(rt, self.state.length);
+        Ok(Passes {
+            declarations: open_pass(rt, self.path, watch, "compares the passes")?,
+            outline: open_pass(rt, self.path, watch, "checks the capture")?,
+            changes: open_pass(rt, self.path, watch, "reads the changes")?,
+            copy: open_pass(rt, self.path, watch, "writes the output")?,
+        })
+    }
+
+    /// Refuses a run if its path leads to another file by now, or the file has changed since it was
+    /// found. So the edit that another program made meanwhile is not lost.
+    pub fn refuse_replaced<R: Files>(&self, files: &R) -> Result<(), AmendError>
+        ensures fault { IfErr result IsCaptureFault }
+    {
+        let found = fs::metadata(files, self.path).map_err(|_| NOT_READ)?;
+        if FileState::of(&found) == self.state {
+            return Ok(());
+        }
+        Err(AmendError::Run(AmendRunError::CaptureChanged))
+    }
 }
 
 /// Opens the capture for one pass.

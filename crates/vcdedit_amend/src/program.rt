@@ -12,7 +12,7 @@ ghost use Rattle.vcdedit_amend.specs.Sums.{HaveOneSum};
 
 use crate::amend_error::{AmendError, NO_MEMORY, NO_SCRIPT};
 use crate::command_line::{Options, command_line, options_of};
-use crate::passes::{Pass, clear_progress, open_passes, refuse_changed};
+use crate::passes::{CaptureFile, Pass, clear_progress, refuse_changed};
 use crate::reporting::{PROGRAM, report};
 use crate::summed::Summed;
 use clap::{ArgMatches, Command};
@@ -117,8 +117,9 @@ fn run_on_file<R: Runtime + AllocGlobal>(
     requires depth_most { options.now.depth ≤ DEPTH_LIMIT }
     ensures { IsOutcomeOnFile (options_in options.now) result }
 {
-    let mut passes = open_passes(rt, path)?;
-    let outcome = run_passes(rt, &mut passes, options);
+    let capture = CaptureFile::find(rt, path)?;
+    let mut passes = capture.open_passes(rt)?;
+    let outcome = run_passes(rt, &capture, &mut passes, options);
     clear_progress(&mut passes);
     outcome
 }
@@ -126,6 +127,7 @@ fn run_on_file<R: Runtime + AllocGlobal>(
 /// Opens the script, and runs.
 fn run_passes<'a, R: Runtime + AllocGlobal>(
     rt: &'a R,
+    capture: &CaptureFile<'_>,
     passes: &mut Passes<Pass<'a, R>>,
     options: &Options<'_>,
 ) -> Result<Summary, AmendError>
@@ -138,11 +140,11 @@ fn run_passes<'a, R: Runtime + AllocGlobal>(
         Some(path) => {
             let script = open_script(rt, path).map_err(|_| NO_SCRIPT)?;
             let script = &mut FromRead::new(script);
-            run_inputs(rt, passes, script, options.output, options.depth)
+            run_inputs(rt, capture, passes, script, options.output, options.depth)
         }
         None => {
             let script = &mut FromBytes::new(DEFAULT_SCRIPT);
-            run_inputs(rt, passes, script, options.output, options.depth)
+            run_inputs(rt, capture, passes, script, options.output, options.depth)
         }
     }
 }
@@ -150,6 +152,7 @@ fn run_passes<'a, R: Runtime + AllocGlobal>(
 /// Runs with a buffer for the replies to standard output.
 fn run_inputs<R: Runtime + AllocGlobal, C: Source, S: Source>(
     rt: &R,
+    capture: &CaptureFile<'_>,
     passes: &mut Passes<Summed<C>>,
     script: &mut S,
     output: Option<&str>,
@@ -166,7 +169,7 @@ fn run_inputs<R: Runtime + AllocGlobal, C: Source, S: Source>(
     let buffer = BufWriter::with_capacity(rt.alloc(), BUFFER, writer).map_err(|_| NO_MEMORY)?;
     let mut replies = ToWrite::new(buffer);
     let outcome = match output {
-        Some(path) => run_to_file(rt, passes, script, &mut replies, path, depth),
+        Some(path) => run_to_file(rt, capture, passes, script, &mut replies, path, depth),
         None => run_without_file(rt, passes, script, &mut replies, depth),
     };
     // what is left was flushed by the run, or else refused: it is not sent again
@@ -177,6 +180,7 @@ fn run_inputs<R: Runtime + AllocGlobal, C: Source, S: Source>(
 /// Runs with a file for the output, and then puts it in its place.
 fn run_to_file<R: Runtime + AllocGlobal, C: Source, S: Source, P: Sink>(
     rt: &R,
+    capture: &CaptureFile<'_>,
     passes: &mut Passes<Summed<C>>,
     script: &mut S,
     replies: &mut P,
@@ -195,6 +199,8 @@ fn run_to_file<R: Runtime + AllocGlobal, C: Source, S: Source, P: Sink>(
     let ended = amend_run(rt.alloc(), passes, script, replies, Some(&mut file), depth);
     let summary = ended?;
     refuse_changed(passes)?;
+    // last, as another run may have put its output in the place of the capture
+    capture.refuse_replaced(rt)?;
     put_in_place(file, passes)?;
     Ok(summary)
 }
