@@ -10,3 +10,7 @@ pub mod Values
 pub mod Variables
 pub mod SeenItems
 pub mod AnyLimit
+pub mod HeldPieces
+pub mod CutPieces
+pub mod CutSteps
+pub mod CutTexts

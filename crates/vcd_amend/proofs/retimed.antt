@@ -1,5 +1,6 @@
 -- Lemmas: files after ticks are cut out.
 pub mod Ticks
+pub mod Copies
 pub mod Kinds
 pub mod StampTicks
 pub mod LastChanges

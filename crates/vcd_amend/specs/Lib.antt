@@ -12,6 +12,7 @@ pub mod GivenCodes
 pub mod WhatStands
 pub mod Retimed
 pub mod RetimedLaws
+pub mod RetimedCopy
 pub mod AmendedRun
 pub mod EditedText
 pub mod KnownSignals

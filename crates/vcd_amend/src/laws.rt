@@ -4,6 +4,7 @@ ghost use Rattle.vcd_amend.specs.AmendedMeaning.{AmendedFileMeansAmendedCapture}
 ghost use Rattle.vcd_amend.specs.AmendedMeaning.{SkippedVariablesStand};
 ghost use Rattle.vcd_amend.specs.AmendedText.{AmendedTextMeansAmendedCapture};
 ghost use Rattle.vcd_amend.specs.AmendedCopy.{CopyIsAmendedText};
+ghost use Rattle.vcd_amend.specs.RetimedCopy.{RetimedCopyIsCopyOfRetimed};
 ghost use Rattle.vcd_amend.specs.CodedAmendment.{CodedAmendmentGivesCapture};
 ghost use Rattle.vcd_amend.specs.FreshCodes.{FreshCodesAreFresh, FreshCodesAreInOrder};
 ghost use Rattle.vcd_amend.specs.GivenCodes.{GivenCodesFit, AmendedTextMeansOtherCapture};
@@ -51,6 +52,11 @@ pub fn fresh_codes_are_fresh()
 /// amender with these rules.
 pub fn copy_is_amended_text()
     ensures { CopyIsAmendedText }
+{}
+
+/// What is copied by rules for the file after cuts is the copy of its pieces after the cuts.
+pub fn retimed_copy_is_copy_of_retimed()
+    ensures { RetimedCopyIsCopyOfRetimed }
 {}
 
 /// The pieces of a file after cuts are cut from its bytes and accepted, and mean the capture after

@@ -22,6 +22,7 @@
 mod amending;
 mod amendment;
 mod coding;
+mod cut_ticks;
 mod declarations;
 mod dry_running;
 mod heard_names;
@@ -36,9 +37,10 @@ mod sharing;
 mod skipped_names;
 mod variable_words;
 
-pub use amending::amend;
+pub use amending::{amend, amend_after_cuts};
 pub use amendment::{AddedVariable, AmendedCode, Amendment, Fate};
 pub use coding::amendment_for;
+pub use cut_ticks::{CutTicks, RetimedTick, retimed_tick};
 pub use declarations::variable_size::VariableSize;
 pub use declarations::{DeclaredVariable, declared_variables};
 pub use dry_running::{DryRun, NoMemoryAt, dry_run};
@@ -46,7 +48,7 @@ pub use hearing::{HearError, read_heard};
 pub use laws::{
     amended_file_is_read_again, copy_is_amended_text, cuts_in_force_retime_files,
     edited_file_is_read_again, fresh_codes_are_fresh, other_capture_is_read_again,
-    retimed_file_is_meant, signals_remain, untouched_items_stand,
+    retimed_copy_is_copy_of_retimed, retimed_file_is_meant, signals_remain, untouched_items_stand,
 };
 pub use new_names::takes_skipped_name;
 pub use on_bytes::{AmendRefusal, amend_on_bytes};

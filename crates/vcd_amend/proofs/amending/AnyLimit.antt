@@ -14,7 +14,7 @@ use Rattle.vcd_amend.specs.AmendedCopy.{amendment_rules, IsAmended}
 use Rattle.vcd_amend.proofs.amended.CopiedText.{copy_is_amended_text}
 use Rattle.vcd_amend.proofs.declarations.collector.Collected.{item_at_limit}
 
-abbrev at_limit : ℕ → ParseState → ParseState
+abbrev pub at_limit : ℕ → ParseState → ParseState
 at_limit n s = record s { limit = n }
 
 fate_at : (a : Amendment) (n : ℕ) (s : ParseState) (i : Item) → item_fate a (at_limit n s) i ≡ item_fate a s i
@@ -50,7 +50,7 @@ inserted_at a none n s (stamp digits) = refl
 inserted_at a none n s (dump_word word) = refl
 inserted_at a none n s (other word words) = refl
 
-text_at : (a : Amendment) (none : Bool) (n : ℕ) (s : ParseState) (ps : List Piece) (tail : List ℕ)
+pub text_at : (a : Amendment) (none : Bool) (n : ℕ) (s : ParseState) (ps : List Piece) (tail : List ℕ)
     → amended_text a none (at_limit n s) ps tail ≡ amended_text a none s ps tail
 unfolding amended_text
 text_at a none n s [] tail = refl

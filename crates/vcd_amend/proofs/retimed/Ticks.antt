@@ -89,7 +89,7 @@ module _ (is_cut_out : ℕ → Bool) (old_tick : ℕ → ℕ) (old : AreOldTicks
 -- ---- cuts
 
 -- the new ticks of one cut
-tick_after_cut : (from to t : ℕ) → from ≤ to
+pub tick_after_cut : (from to t : ℕ) → from ≤ to
     → new_tick (is_in_cut from to) t ≡ (if nat_lt t from then t else (if nat_lt t to then from else t - (to - from)))
 unfolding new_tick
 tick_after_cut from to zero order = grind (arith, nat_tests)
@@ -109,7 +109,7 @@ end_left from to end order within =
     (grind (arith, nat_tests), tick_after_cut from to end order ∙ grind (arith, nat_tests))
 
 -- the new ticks of cuts after others
-of_either : (first later : ℕ → Bool) (t : ℕ)
+pub of_either : (first later : ℕ → Bool) (t : ℕ)
     → new_tick (is_in_either first later) t ≡ new_tick later (new_tick first t)
 unfolding new_tick
 of_either first later zero = refl

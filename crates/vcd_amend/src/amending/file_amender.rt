@@ -108,7 +108,7 @@ impl<'a> FileAmender<'a> {
     }
 
     /// Lets a change to digits stand, if it stands.
-    fn let_value_stand(&mut self, code: &[u8]) -> bool
+    pub fn let_value_stand(&mut self, code: &[u8]) -> bool
         requires { (s : ParseState) × (none_yet : Bool) × IsAt self.old s none_yet }
         ensures stands { result ≡ true → (s : ParseState) (none_yet : Bool) (letters : List Letter)
             → IsAt self.old s none_yet →
@@ -142,7 +142,7 @@ impl<'a> FileAmender<'a> {
     }
 
     /// Lets a change to a real number or a string stand, if its code is used.
-    fn let_real_stand(&mut self, code: &[u8]) -> bool
+    pub fn let_real_stand(&mut self, code: &[u8]) -> bool
         ensures stands { (s : ParseState) (none_yet : Bool) → IsAt self.old s none_yet →
             result ≡ is_used (amendment_contents self.old.amendment.now) s code.now }
         ensures at { (s : ParseState) (none_yet : Bool) → IsAt self.old s none_yet →
@@ -158,7 +158,7 @@ impl<'a> FileAmender<'a> {
     }
 
     /// Writes what is in the place of a `$var`.
-    fn take_variable<W: Sink>(
+    pub fn take_variable<W: Sink>(
         &mut self,
         output: &mut Output<W>,
         space: &[u8],
@@ -196,7 +196,13 @@ impl<'a> FileAmender<'a> {
     }
 
     /// Writes what is in the place of a stamp.
-    fn take_stamp<W: Sink>(&mut self, output: &mut Output<W>, tick: u64, space: &[u8], body: &[u8])
+    pub fn take_stamp<W: Sink>(
+        &mut self,
+        output: &mut Output<W>,
+        tick: u64,
+        space: &[u8],
+        body: &[u8],
+    )
         requires { (s : ParseState) × (none_yet : Bool) × IsAt self.old s none_yet }
         ensures written { (s : ParseState) (none_yet : Bool) → IsAt self.old s none_yet →
             s.tick ≤ tick → Emits W.Sink output.old output.new (space.now ++ (flat_map item_line
@@ -223,7 +229,7 @@ impl<'a> FileAmender<'a> {
     }
 
     /// Writes what is in the place of a change to digits.
-    fn take_value<W: Sink>(
+    pub fn take_value<W: Sink>(
         &mut self,
         output: &mut Output<W>,
         code: &[u8],
@@ -371,7 +377,7 @@ fn write_left<W: Sink>(
 }
 
 /// Writes white space and words, if they stand.
-fn write_if<W: Sink>(output: &mut Output<W>, stands: bool, space: &[u8], body: &[u8])
+pub fn write_if<W: Sink>(output: &mut Output<W>, stands: bool, space: &[u8], body: &[u8])
     ensures { Emits W.Sink output.old output.new (if stands then space.now ++ body.now else []) }
 {
     if stands {
@@ -449,7 +455,7 @@ impl<'a, W: Sink> Amender<W> for FileAmender<'a> {
 }
 
 /// Writes what is in the place of the end of the declarations.
-fn write_ended<W: Sink>(
+pub fn write_ended<W: Sink>(
     output: &mut Output<W>,
     amendment: &Amendment,
     open_scopes: usize,

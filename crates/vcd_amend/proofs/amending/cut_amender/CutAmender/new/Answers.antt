@@ -1,0 +1,22 @@
+use Rattle.std.proofs.Common.{[], List, refl, sym, subst, arith}
+use Rattle.vcd_amend.specs.declared.amending.held_changes.HeldChange.{HeldChange}
+use Rattle.vcd_amend.specs.inside.amending.HeldChanges.{last_held, ArePieces}
+use Rattle.vcd_amend.specs.RetimedCopy.{pieces_so_far, held_after}
+use Rattle.vcd_amend.proofs.amending.cut_amender.CutAmender.new.Goals as goal
+
+pub returns : goal.returns
+unfolding last_held pieces_so_far held_after
+returns c = (
+  record {
+    seen = c.in_ok-inner.ensures.0;
+    holds = subst (λ (l : List HeldChange). ArePieces (last_held l) []) (sym c.new-3.ensures.items) tt;
+    lasting = c.new-2.ensures;
+    is_cut = c.retimed_tick-first.ensures.cut;
+    tick = c.retimed_tick-first.ensures.tick;
+    behind = omega arith;
+    scopes = refl;
+    ordered = c.requires.ordered;
+  },
+  c.in_ok-inner.ensures.1,
+  refl,
+)

@@ -1,0 +1,123 @@
+//! Changes at removed ticks, which are held until the first tick after them that is left.
+
+ghost use Rattle.std.specs.Prelude.{◌≡◌, ◌++◌, ◌∷◌, ◌&&◌, [], ℕ, List, true, false, bytes_eq};
+ghost use Rattle.std.specs.Prelude.{OnOk, IfOk, if◌then◌else◌, not};
+ghost use Rattle.vcd_text.specs.inside.reading.CodeTargets.{code_target};
+ghost use Rattle.vcd_amend.specs.inside.amending.HeldChanges as spec;
+
+use std::alloc::Global;
+use vcd_core::{NoMemory, Word, copy_word};
+use vcd_text::CodeTargets;
+
+/// A change to digits, or to a real number or a string, that comes while changes are held.
+#[derive(Drop)]
+pub struct HeldChange {
+    /// Whether it is to a real number or a string.
+    pub is_text: bool,
+    /// Whether it is held itself. If not, it only takes the place of an earlier one.
+    pub is_held: bool,
+    pub code: Word,
+    pub space: Word,
+    pub body: Word,
+}
+
+/// A change to hold.
+pub fn held_change(
+    alloc: Global,
+    is_text: bool,
+    is_held: bool,
+    code: &[u8],
+    space: &[u8],
+    body: &[u8],
+) -> Result<HeldChange, NoMemory>
+    ensures { IfOk result (λ change. change ≡ record {
+      is_text = is_text;
+      is_held = is_held;
+      code = code.now;
+      space = space.now;
+      body = body.now;
+    }) }
+{
+    Ok(HeldChange {
+        is_text,
+        is_held,
+        code: copy_word(alloc, code)?,
+        space: copy_word(alloc, space)?,
+        body: copy_word(alloc, body)?,
+    })
+}
+
+/// The codes of some changes: of those to digits, and of those to a real number or a string.
+#[derive(Drop)]
+struct SeenCodes {
+    digits: CodeTargets<bool>,
+    text: CodeTargets<bool>,
+}
+
+impl SeenCodes {
+    /// No codes.
+    fn new(alloc: Global) -> SeenCodes
+        ensures { spec.AreCodesOf result [] }
+    {
+        SeenCodes {
+            digits: CodeTargets::new(alloc, false),
+            text: CodeTargets::new(alloc, false),
+        }
+    }
+
+    /// Whether one of the changes has the kind and code of this one.
+    fn contains(&self, change: &HeldChange) -> bool
+        ensures { (later : List HeldChange) → spec.AreCodesOf self.now later →
+            result ≡ spec.is_replaced change.now later }
+    {
+        if change.is_text {
+            return self.text.get(change.code.as_slice());
+        }
+        self.digits.get(change.code.as_slice())
+    }
+
+    /// Adds a change before these.
+    fn insert(&mut self, alloc: Global, change: &HeldChange) -> Result<(), NoMemory>
+        ensures { OnOk result ((later : List HeldChange) → spec.AreCodesOf self.old later →
+            spec.AreCodesOf self.new (change.now ∷ later)) }
+    {
+        if change.is_text {
+            return self.text.insert(alloc, change.code.as_slice(), true);
+        }
+        self.digits.insert(alloc, change.code.as_slice(), true)
+    }
+}
+
+/// The changes that are held after all of these: the last one of each kind and code, if it is held.
+pub fn last_held(alloc: Global, changes: Vec<HeldChange>) -> Result<Vec<HeldChange>, NoMemory>
+    ensures { IfOk result (λ held. held.items ≡ spec.last_held changes.items) }
+{
+    let mut left = changes;
+    let mut seen = SeenCodes::new(alloc);
+    let mut held = Vec::new(alloc);
+    while let Some(change) = left.pop() {
+        take_last(alloc, &mut seen, &mut held, change)?;
+    }
+    held.reverse();
+    Ok(held)
+}
+
+/// Takes a change before others, of which those that are held were taken, from the last one on.
+fn take_last(
+    alloc: Global,
+    seen: &mut SeenCodes,
+    held: &mut Vec<HeldChange>,
+    change: HeldChange,
+) -> Result<(), NoMemory>
+    ensures seen { OnOk result ((later : List HeldChange) → spec.AreCodesOf seen.old later →
+        spec.AreCodesOf seen.new (change ∷ later)) }
+    ensures held { OnOk result ((later : List HeldChange) → spec.AreCodesOf seen.old later →
+        held.new.items ≡ held.old.items ++ spec.held_before change later) }
+{
+    let is_last = !seen.contains(&change);
+    seen.insert(alloc, &change)?;
+    if is_last && change.is_held {
+        held.push(change)?;
+    }
+    Ok(())
+}
