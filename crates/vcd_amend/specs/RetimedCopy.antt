@@ -75,4 +75,5 @@ pub record IsAmendedAfterCuts (limit : ℕ) (is_cut_out : ℕ → Bool) (a : Ame
   pub cut : IsCut file pieces tail
   pub allowed : AllowsAll (initial_state limit) (map (λ p. p.item) pieces)
   pub in_body : IsTrue (state_of_pieces limit pieces).in_body
-  pub is : text ≡ amended_text a true (initial_state limit) (pieces_after is_cut_out limit pieces) tail
+  pub is : text ≡ amended_text a true (initial_state limit) (pieces_after is_cut_out limit pieces)
+      tail

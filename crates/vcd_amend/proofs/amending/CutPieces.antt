@@ -1,5 +1,6 @@
 -- The pieces that come in the place of a file's, as an amender is told of them.
-use Rattle.std.proofs.Common.{◌≡◌, ◌∙◌, ◌<◌, ◌+◌, ◌-◌, ◌==◌, ℕ, zero, suc, Bool, true, false, if◌then◌else◌, List, [], ◌∷◌}
+use Rattle.std.proofs.Common.{◌≡◌, ◌∙◌, ◌<◌, ◌+◌, ◌-◌, ◌==◌, ℕ, zero, suc, Bool, true, false, if◌then◌else◌, List, []}
+use Rattle.std.proofs.Common.{◌∷◌}
 use Rattle.std.proofs.Common.{◌++◌, refl, sym, ap, subst, arith, Some, decimal, cond, append_assoc}
 use Rattle.std.proofs.Common.{take, length, get_or}
 use Rattle.std.proofs.lemmas.Bool.Decides.{nat_tests}

@@ -1,5 +1,6 @@
 -- An amender after cuts, one piece later.
-use Rattle.std.proofs.Common.{◌≡◌, ◌∙◌, ◌≤◌, ◌<◌, ◌^◌, ◌==◌, ◌&&◌, ◌||◌, ℕ, Bool, true, false, not, if◌then◌else◌, List, [], ◌∷◌, ◌++◌}
+use Rattle.std.proofs.Common.{◌≡◌, ◌∙◌, ◌≤◌, ◌<◌, ◌^◌, ◌==◌, ◌&&◌, ◌||◌, ℕ, Bool, true, false, not, if◌then◌else◌, List}
+use Rattle.std.proofs.Common.{[], ◌∷◌, ◌++◌}
 use Rattle.std.proofs.Common.{refl, sym, ap, ap₂, subst, arith, nat_lt, decimal, append_assoc}
 use Rattle.std.proofs.lemmas.Bool.{eqb-true, lt-ltb}
 use Rattle.vcd_core.specs.Decimal.{number_of}
@@ -327,7 +328,8 @@ module _ (m n : CutAmender) (before : List Piece) (p : Piece) (digits : List ℕ
       subst (λ l. HasWritten next l (held_of_step (cut_of m) s (held_for (cut_of m) before) p)
       (state_after_item s p.item)) sent
       (subst (λ l. HasWritten next (all_before ++ last) l (state_after_item s p.item)) (sym stamped_held)
-      (subst (λ u. HasWritten next (all_before ++ last) (if nat_lt m.tick new then [] else held_for (cut_of m) before) u)
+      (subst (λ u. HasWritten next (all_before ++ last) (if nat_lt m.tick new then [] else held_for
+      (cut_of m) before) u)
       (sym state) written)) in
       written_more next before p (subst (λ (cs : List CutTicks). HasWritten next
       (sent_for (is_cut_by cs) before ++ step_for (is_cut_by cs) before p)
@@ -343,7 +345,8 @@ pub none_holds : (m : CutAmender) (before : List Piece) → HasSeenAll m before 
 unfolding last_held
 none_holds m before at left none p is_text code =
     let held = held_for (cut_of m) before in
-    let empty : held ≡ [] = no_pieces held (subst (λ (l : List HeldChange). ArePieces (last_held l) held) none at.holds) in
+    let empty : held ≡ [] = no_pieces held (subst (λ (l : List HeldChange). ArePieces (last_held l) held) none
+    at.holds) in
     subst (λ (qs : List Piece). ArePieces (last_held m.held.items)
     (filter (λ q. not (has_key (key_of is_text code) (change_key q.item))) qs
     ++ (if m.is_cut && code_target m.lasting code then p ∷ [] else []))) (sym empty)
@@ -368,7 +371,8 @@ plain_seen m before at p plain inner codes seen lasting =
     ap (λ (t : ParseState). t.tick) here ∙ is.tick (state_of_pieces 0 sent) in
     let scopes : (state_of_pieces 0 (sent ++ p ∷ [])).scopes ≡ (state_after_item s p.item).scopes =
     ap (λ (t : ParseState). t.scopes) here ∙ is.scopes (state_of_pieces 0 sent) s at.scopes in
-    written_more next before p (subst (λ l. HasWritten next (sent ++ l) (held_of_step cut s (held_for cut before) p) (state_after_item s p.item))
+    written_more next before p (subst (λ l. HasWritten next (sent ++ l) (held_of_step cut s (held_for cut before) p)
+    (state_after_item s p.item))
     (sym is.step)
     (subst (λ l. HasWritten next (sent ++ p ∷ []) l (state_after_item s p.item)) (sym is.holds) (record {
       seen = seen;

@@ -79,7 +79,8 @@ held_again (x ∷ hs) = by_first (held_again hs) (is_replaced x hs) refl x.is_he
         (λ i. (if none i then [] else (if held i then x ∷ [] else [])) ++ again i)
 
 -- and so with one more
-pub held_again_with : (h : HeldChange) (hs : List HeldChange) → last_held (last_held hs ++ h ∷ []) ≡ last_held (hs ++ h ∷
+pub held_again_with : (h : HeldChange) (hs : List HeldChange) → last_held (last_held hs ++ h ∷ []) ≡ last_held
+    (hs ++ h ∷
     [])
 held_again_with h hs = held_with_one h (last_held hs)
     ∙ ap (λ l. filter (apart h) l ++ (if h.is_held then h ∷ [] else [])) (held_again hs) ∙ sym (held_with_one h hs)

@@ -1,6 +1,7 @@
 //! What cuts, and then an amendment, do to a file while it is copied.
 
-ghost use Rattle.std.specs.Prelude.{◌≡◌, ◌≤◌, ◌&&◌, ◌∷◌, ◌++◌, [], ℕ, List, All, OnOk, OnErr, IfOk, true, nat_lt};
+ghost use Rattle.std.specs.Prelude.{◌≡◌, ◌≤◌, ◌&&◌, ◌∷◌, ◌++◌, [], ℕ, List, All, OnOk, OnErr, IfOk};
+ghost use Rattle.std.specs.Prelude.{true, nat_lt};
 ghost use Rattle.std.specs.Prelude.{decimal, not, if◌then◌else◌, bytes_eq, codes, ◌||◌, false};
 ghost use Rattle.std.specs.List.{filter};
 ghost use Rattle.vcd_core.specs.Decimal.{number_of};

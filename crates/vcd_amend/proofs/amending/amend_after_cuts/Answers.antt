@@ -20,7 +20,8 @@ returns-clause-amended g c = on_ok_weaker c.copy.result (λ copied. some_weaker 
     let (small, text, copy, appends) = is in (
       small,
       text,
-      copy_is_amended_after_cuts c.args.limit (is_cut_by c.args.cuts.now) (amendment_contents c.args.amendment.now) file text
+      copy_is_amended_after_cuts c.args.limit (is_cut_by c.args.cuts.now) (amendment_contents c.args.amendment.now)
+          file text
           (subst (λ (cs : List CutTicks). IsCopy c.args.limit (retimed_rules (is_cut_by cs)
           (amendment_rules (amendment_contents c.args.amendment.now) 0)) file text) c.in_ok-amender.ensures.2
           (subst (λ (a : Amendment). IsCopy c.args.limit (retimed_rules (is_cut_by c.in_ok-amender.amender.cuts.now)

@@ -17,8 +17,11 @@ without_code false false = refl
 
 pub returns-then-is_event : goal.returns-then-is_event
 returns-then-is_event c = λ key. without_code (code_target c.args.lasting.now key) (bytes_eq key c.args.code.now)
-    ∙ ap (λ (e : Bool). code_target c.args.lasting.now key || (bytes_eq key c.args.code.now && not e)) (sym c.if-is_event.true ∙ c.is_event.ensures)
+    ∙ ap (λ (e : Bool). code_target c.args.lasting.now key || (bytes_eq key c.args.code.now && not e))
+    (sym c.if-is_event.true ∙ c.is_event.ensures)
 
 pub returns : goal.returns
-returns c = λ key. c.in_ok-insert.ensures key ∙ with_code (code_target c.args.lasting.now key) (bytes_eq key c.args.code.now)
-    ∙ ap (λ (e : Bool). code_target c.args.lasting.now key || (bytes_eq key c.args.code.now && not e)) (sym c.if-is_event.false ∙ c.is_event.ensures)
+returns c = λ key. c.in_ok-insert.ensures key ∙ with_code (code_target c.args.lasting.now key)
+    (bytes_eq key c.args.code.now)
+    ∙ ap (λ (e : Bool). code_target c.args.lasting.now key || (bytes_eq key c.args.code.now && not e))
+    (sym c.if-is_event.false ∙ c.is_event.ensures)

@@ -30,9 +30,11 @@ returns-then-is_empty-clause-written g c = λ r ps seen are later.
       eqb-true held.len 0 (sym c.is_empty.ensures
           ∙ c.if-is_empty.true),
     )) in
-    let no_ps : ps ≡ [] = no_pieces ps (subst (λ (l : List HeldChange). ArePieces l ps) (sym c.in_ok-held.ensures ∙ none)
+    let no_ps : ps ≡ [] = no_pieces ps (subst (λ (l : List HeldChange). ArePieces l ps) (sym c.in_ok-held.ensures
+    ∙ none)
     are) in
-    writes_as (sym (ap (λ (l : List Piece). copied_pieces (rules_of c.args.inner.now) r (released c.args.is_cut c.args.tick
+    writes_as (sym (ap (λ (l : List Piece). copied_pieces (rules_of c.args.inner.now) r (released c.args.is_cut
+    c.args.tick
     l)) no_ps)) writes_none
 
 pub returns-then-is_empty-clause-seen : goal.returns-then-is_empty-clause-seen
@@ -44,7 +46,8 @@ returns-then-is_empty-clause-seen g c = λ r ps seen are later.
       eqb-true held.len 0 (sym c.is_empty.ensures
           ∙ c.if-is_empty.true),
     )) in
-    let no_ps : ps ≡ [] = no_pieces ps (subst (λ (l : List HeldChange). ArePieces l ps) (sym c.in_ok-held.ensures ∙ none)
+    let no_ps : ps ≡ [] = no_pieces ps (subst (λ (l : List HeldChange). ArePieces l ps) (sym c.in_ok-held.ensures
+    ∙ none)
     are) in
     subst (λ (l : List Piece). HasSeen c.args.inner.now (r ++ released c.args.is_cut c.args.tick l)) (sym no_ps)
     (subst (HasSeen c.args.inner.now) (sym (append-nil r)) seen)
@@ -52,7 +55,8 @@ returns-then-is_empty-clause-seen g c = λ r ps seen are later.
 pub returns-clause-written : goal.returns-clause-written
 returns-clause-written g c = λ r ps seen are later.
     let held = c.in_ok-held.held in
-    let here : ArePieces held.items ps = subst (λ (l : List HeldChange). ArePieces l ps) (sym c.in_ok-held.ensures) are in
+    let here : ArePieces held.items ps = subst (λ (l : List HeldChange). ArePieces l ps) (sym c.in_ok-held.ensures) are
+    in
     let some : held.items ≡ [] → ⊥ = λ none. false≢true (sym c.if-is_empty.false ∙ c.is_empty.ensures
     ∙ same_number held.len 0 (held.ok.0 ∙ ap (λ (l : List HeldChange). length l) none)) in
     let line = if c.args.is_cut then stamp_line c.args.tick ∷ [] else [] in
@@ -69,7 +73,8 @@ returns-clause-written g c = λ r ps seen are later.
 pub returns-clause-seen : goal.returns-clause-seen
 returns-clause-seen g c = λ r ps seen are later.
     let held = c.in_ok-held.held in
-    let here : ArePieces held.items ps = subst (λ (l : List HeldChange). ArePieces l ps) (sym c.in_ok-held.ensures) are in
+    let here : ArePieces held.items ps = subst (λ (l : List HeldChange). ArePieces l ps) (sym c.in_ok-held.ensures) are
+    in
     let some : held.items ≡ [] → ⊥ = λ none. false≢true (sym c.if-is_empty.false ∙ c.is_empty.ensures
     ∙ same_number held.len 0 (held.ok.0 ∙ ap (λ (l : List HeldChange). length l) none)) in
     let line = if c.args.is_cut then stamp_line c.args.tick ∷ [] else [] in

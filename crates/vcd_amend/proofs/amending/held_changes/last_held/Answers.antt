@@ -43,7 +43,8 @@ loop-change-preserved c =
       later = c.in-Some.change ∷ kept.later;
       whole = kept.whole ∙ ap (λ l. l ++ kept.later) c.in-Some.ensures.items
           ∙ append_assoc c.pop.new.self.items (c.in-Some.change ∷ []) kept.later;
-      held = one_more c.in-Some.change kept.later c.loop-change.held.items _ (taken.held kept.later kept.seen) kept.held;
+      held = one_more c.in-Some.change kept.later c.loop-change.held.items _ (taken.held kept.later kept.seen)
+          kept.held;
       seen = taken.seen kept.later kept.seen;
     }
 

@@ -33,7 +33,8 @@ returns-then-self-clause-at g c = λ before p at here.
     (subst (λ (b : Bool). HasSeen m.inner (sent ++ (if b then [] else p ∷ []))) (sym c.if-self.true)
     (subst (HasSeen m.inner) (sym (append-nil sent)) at.seen))
     (subst (λ (b : Bool). ArePieces (last_held c.hold.new.held.items)
-    (filter (λ q. not (has_key (key_of c.args.is_text c.args.code.now) (change_key q.item))) (held_for (cut_of m) before)
+    (filter (λ q. not (has_key (key_of c.args.is_text c.args.code.now) (change_key q.item))) (held_for
+    (cut_of m) before)
     ++ (if b then p ∷ [] else []))) c.is_held-is_held.ensures
     (c.in_ok-hold.ensures (held_for (cut_of m) before) p at.holds here))
 
@@ -54,6 +55,7 @@ returns-clause-at g c = λ before p at here.
     (subst (λ (b : Bool). HasSeen c.put_change.new.inner (sent ++ (if b then [] else p ∷ []))) (sym c.if-self.false)
     (c.put_change.ensures.seen sent p at.seen here))
     (subst (λ (b : Bool). ArePieces (last_held c.hold.new.held.items)
-    (filter (λ q. not (has_key (key_of c.args.is_text c.args.code.now) (change_key q.item))) (held_for (cut_of m) before)
+    (filter (λ q. not (has_key (key_of c.args.is_text c.args.code.now) (change_key q.item))) (held_for
+    (cut_of m) before)
     ++ (if b then p ∷ [] else []))) c.is_held-is_held.ensures
     (c.in_ok-hold.ensures (held_for (cut_of m) before) p at.holds here))

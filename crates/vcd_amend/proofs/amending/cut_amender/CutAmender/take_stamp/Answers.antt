@@ -27,9 +27,11 @@ returns-then-retimed-clause-written g c = λ before p digits at is number sp bo 
     let sent = sent_for (cut_of m) before in
     let first = released_before m new (held_for (cut_of m) before) in
     let small : new < 2 ^ 64 = omega (arith, found.tick, is_earlier (cut_of m) c.args.tick, c.ranges.tick.fits) in
-    let step = stamped_step m n before p digits c.retimed_tick-retimed.result.is_cut new at is c.in_ok-release_before.ensures.cuts
+    let step = stamped_step m n before p digits c.retimed_tick-retimed.result.is_cut new at is
+    c.in_ok-release_before.ensures.cuts
     (found.cut ∙ ap (cut_of m) (sym number)) (found.tick ∙ ap (new_tick (cut_of m)) (sym number)) small
-    ∙ ap (λ (b : Bool). first ++ (if b then [] else retimed_stamp_piece new (number_of digits) p ∷ [])) c.if-retimed.true
+    ∙ ap (λ (b : Bool). first ++ (if b then [] else retimed_stamp_piece new (number_of digits) p ∷ []))
+    c.if-retimed.true
     ∙ append-nil first in
     writes_as (ap (copied_pieces (rules_of m.inner) sent) (sym step)) (c.in_ok-release_before.ensures.written before at)
 
@@ -45,13 +47,15 @@ returns-then-retimed-clause-at g c = λ before p digits at is number sp bo later
     stamped_seen m n before p digits c.retimed_tick-retimed.result.is_cut new at is c.in_ok-release_before.ensures.cuts
     (found.cut ∙ ap (cut_of m) (sym number)) (found.tick ∙ ap (new_tick (cut_of m)) (sym number)) small has
     (subst (λ (t : ℕ). (state_of_pieces 0 before).tick ≤ t) (sym number) later) n.inner n.stamp
-    (subst (λ (b : Bool). HasSeen n.inner (all ++ (if b then [] else retimed_stamp_piece new (number_of digits) p ∷ [])))
+    (subst (λ (b : Bool). HasSeen n.inner (all ++ (if b then [] else retimed_stamp_piece new
+    (number_of digits) p ∷ [])))
     (sym c.if-retimed.true) (subst (HasSeen n.inner) (sym (append-nil all)) has.seen))
 
 pub returns-in_err-put_stamp-clause-more : goal.returns-in_err-put_stamp-clause-more
 returns-in_err-put_stamp-clause-more g c =
     let (before, at) = c.requires in
-    on_error c.from_residual-in_err-put_stamp.result (more_both (writes_more (c.in_ok-release_before.ensures.written before at))
+    on_error c.from_residual-in_err-put_stamp.result (more_both (writes_more (c.in_ok-release_before.ensures.written
+    before at))
     c.in_err-put_stamp.ensures.more)
 
 pub returns-clause-written : goal.returns-clause-written
@@ -101,7 +105,8 @@ returns-clause-at g c = λ before p digits at is number sp bo later.
     let new_is = found.tick ∙ ap (new_tick (cut_of m)) (sym number) in
     let small : new < 2 ^ 64 = omega (arith, found.tick, is_earlier (cut_of m) c.args.tick, c.ranges.tick.fits) in
     let late = subst (λ (t : ℕ). (state_of_pieces 0 before).tick ≤ t) (sym number) later in
-    let upto = before_new m n before p digits c.retimed_tick-retimed.result.is_cut new at is cuts b_is new_is small has late in
+    let upto = before_new m n before p digits c.retimed_tick-retimed.result.is_cut new at is cuts b_is new_is small has
+    late in
     let all = sent_for (cut_of m) before ++ released_before m new (held_for (cut_of m) before) in
     let here : IsRetimedStamp q new c.args.tick c.args.space.now c.args.body.now = record {
       p = p;

@@ -22,7 +22,8 @@ finish-requires g c =
     let held = held_for (cut_of m) before in (
       sent ++ released m.is_cut m.tick held,
       c.in_ok-release.ensures.seen sent held at.seen
-          (subst (λ (v : Vec HeldChange). ArePieces (last_held v.items) held) (sym c.replace-held.ensures.value) at.holds)
+          (subst (λ (v : Vec HeldChange). ArePieces (last_held v.items) held) (sym c.replace-held.ensures.value)
+          at.holds)
           at.behind,
     )
 

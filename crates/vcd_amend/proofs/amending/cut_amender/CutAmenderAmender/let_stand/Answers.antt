@@ -27,7 +27,8 @@ returns-in-Value-clause-stands g c = λ yes_it limit before p at next.
     let (text, seen) = c.let_change_stand.ensures.stands yes_it sent p at.seen here in (
       ap (copied_pieces (rules_of m.inner) sent) step ∙ text,
       change_seen m before at p false code p.space p.body here c.let_change_stand.new.inner m.held m.room
-          (subst (λ (b : Bool). HasSeen c.let_change_stand.new.inner (sent ++ (if b then [] else p ∷ []))) (sym left) seen)
+          (subst (λ (b : Bool). HasSeen c.let_change_stand.new.inner (sent ++ (if b then [] else p ∷ [])))
+          (sym left) seen)
           (none_holds m before at left none p false code),
     )
 
@@ -47,6 +48,7 @@ returns-in-RealOrString-clause-stands g c = λ yes_it limit before p at next.
     let (text, seen) = c.let_change_stand-in-RealOrString.ensures.stands yes_it sent p at.seen here in (
       ap (copied_pieces (rules_of m.inner) sent) step ∙ text,
       change_seen m before at p true code p.space p.body here c.let_change_stand-in-RealOrString.new.inner m.held m.room
-          (subst (λ (b : Bool). HasSeen c.let_change_stand-in-RealOrString.new.inner (sent ++ (if b then [] else p ∷ []))) (sym left) seen)
+          (subst (λ (b : Bool). HasSeen c.let_change_stand-in-RealOrString.new.inner (sent ++
+          (if b then [] else p ∷ []))) (sym left) seen)
           (none_holds m before at left none p true code),
     )

@@ -15,6 +15,8 @@ returns-clause-seen g c = λ limit before p at next not_it.
     let sent = sent_for (cut_of m) before in
     let (plain, declared) = passed_is p.item not_it in
     plain_seen m before at p plain m.inner m.lasting
-    (seen_more m.inner a sent p _ _ refl refl refl (other_passes m.inner a (before_state sent) (before_none a sent) p.item
+    (seen_more m.inner a sent p _ _ refl refl refl (other_passes m.inner a (before_state sent)
+    (before_none a sent) p.item
     not_it at.seen))
-    (λ code. at.lasting code ∙ sym (lasts_as (state_after_item (state_of_pieces 0 before) p.item) (state_of_pieces 0 before) code (declared (state_of_pieces 0 before))))
+    (λ code. at.lasting code ∙ sym (lasts_as (state_after_item (state_of_pieces 0 before) p.item)
+    (state_of_pieces 0 before) code (declared (state_of_pieces 0 before))))

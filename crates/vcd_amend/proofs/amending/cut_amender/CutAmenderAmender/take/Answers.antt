@@ -46,7 +46,8 @@ pub returns-in_err-note_lasting-in-Variable-clause-more : goal.returns-in_err-no
 returns-in_err-note_lasting-in-Variable-clause-more g c = on_error _ more_none
 
 pub returns-in_ok-note_lasting-in-Variable-clause-written : goal.returns-in_ok-note_lasting-in-Variable-clause-written
-returns-in_ok-note_lasting-in-Variable-clause-written g c = on_ok_weaker c.take_variable.result (λ written limit before p at taken.
+returns-in_ok-note_lasting-in-Variable-clause-written g c = on_ok_weaker c.take_variable.result
+    (λ written limit before p at taken.
     let m = c.args.self.now in
     let a = amendment_contents m.inner.amendment.now in
     let cut = cut_of m in
@@ -65,10 +66,12 @@ returns-in_ok-note_lasting-in-Variable-clause-written g c = on_ok_weaker c.take_
     writes_as (sym (ap₂ (λ f l. bytes_in_place f (flat_map item_line l) p) fate inserted)
     ∙ sym (one_copied a sent p (ap may_be_amended v.item_is))
     ∙ ap (copied_pieces (rules_of m.inner) sent) (sym step))
-    (written s none v.kind v.size v.code v.names p at.seen v.is_variable v.number piece)) c.take_variable.ensures.written
+    (written s none v.kind v.size v.code v.names p at.seen v.is_variable v.number piece))
+    c.take_variable.ensures.written
 
 pub returns-in_ok-note_lasting-in-Variable-clause-seen : goal.returns-in_ok-note_lasting-in-Variable-clause-seen
-returns-in_ok-note_lasting-in-Variable-clause-seen g c = on_ok_weaker c.take_variable.result (λ moved limit before p at taken.
+returns-in_ok-note_lasting-in-Variable-clause-seen g c = on_ok_weaker c.take_variable.result
+    (λ moved limit before p at taken.
     let m = c.args.self.now in
     let a = amendment_contents m.inner.amendment.now in
     let sent = sent_for (cut_of m) before in
@@ -154,7 +157,8 @@ returns-in-Value-clause-seen g c = on_ok_weaker c.take_change.result (λ holds l
     })) c.take_change.ensures.at
 
 pub returns-in-RealOrString-clause-written : goal.returns-in-RealOrString-clause-written
-returns-in-RealOrString-clause-written g c = on_ok_weaker c.take_change-in-RealOrString.result (λ holds limit before p at taken.
+returns-in-RealOrString-clause-written g c = on_ok_weaker c.take_change-in-RealOrString.result
+    (λ holds limit before p at taken.
     holds before p at (record {
       key = key_of_text p.item c.args.code.now (rw c.in-RealOrString.is at taken.shown.shows);
       space_is = taken.shown.next.space_is;
@@ -162,7 +166,8 @@ returns-in-RealOrString-clause-written g c = on_ok_weaker c.take_change-in-RealO
     })) c.take_change-in-RealOrString.ensures.written
 
 pub returns-in-RealOrString-clause-seen : goal.returns-in-RealOrString-clause-seen
-returns-in-RealOrString-clause-seen g c = on_ok_weaker c.take_change-in-RealOrString.result (λ holds limit before p at taken.
+returns-in-RealOrString-clause-seen g c = on_ok_weaker c.take_change-in-RealOrString.result
+    (λ holds limit before p at taken.
     holds before p at (record {
       key = key_of_text p.item c.args.code.now (rw c.in-RealOrString.is at taken.shown.shows);
       space_is = taken.shown.next.space_is;
