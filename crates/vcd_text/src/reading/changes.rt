@@ -24,6 +24,7 @@ use std::alloc::Global;
 impl Parser {
     /// Takes a word between two changes, which is on this line. By its first byte it is a stamp, a
     /// command, or the first word of a change of a value. Any other word is `BadChange`.
+    #[inline(always)]
     pub fn take_body_word(&mut self, alloc: Global, text: &[u8], line: u64) -> Result<(), Fault>
         requires between { self.old.item ≡ items.Nothing }
         requires in_body { self.old.in_body ≡ true }
@@ -41,6 +42,7 @@ impl Parser {
 
     /// Moves to the tick of a stamp, which is `#` and these digits. The error is `BadTime` if they
     /// write no tick, and `TimeBackwards` if the tick is below the one before.
+    #[inline(always)]
     fn stamp(&mut self, digits: &[u8]) -> Result<(), Fault>
         requires between { self.old.item ≡ items.Nothing }
         requires in_body { self.old.in_body ≡ true }
@@ -78,6 +80,7 @@ impl Parser {
     }
 
     /// Takes the first word of a change of a value: this byte, and the rest.
+    #[inline(always)]
     fn take_value_word(
         &mut self,
         alloc: Global,
@@ -105,6 +108,7 @@ impl Parser {
 
     /// Sets a code to the value that a binary digit writes. The error is `BadChange` if there is no
     /// code, and `UnknownCode` if the code was not declared.
+    #[inline(always)]
     fn take_scalar_change(&mut self, alloc: Global, digit: u8, code: &[u8]) -> Result<(), Fault>
         requires between { self.old.item ≡ items.Nothing }
         requires in_body { self.old.in_body ≡ true }
@@ -129,6 +133,7 @@ impl Parser {
     }
 
     /// Begins a change by a binary number, and keeps its digits.
+    #[inline(always)]
     fn take_vector_value(&mut self, digits: &[u8], line: u64) -> Result<(), Fault>
         requires between { self.old.item ≡ items.Nothing }
         requires in_body { self.old.in_body ≡ true }
@@ -157,6 +162,7 @@ impl Parser {
     /// `UnknownCode` if the code was not declared, `BadChange` if the digits are no value, and
     /// `ValueTooLong` if they are too many.
     #[tactic(auto, using(crate::proofs::reading::changes::ChangeWords::ends_vector))]
+    #[inline(always)]
     pub fn take_vector_code(&mut self, alloc: Global, code: &[u8]) -> Result<(), Fault>
         requires item { self.old.item ≡ items.Vector }
         requires reading { IsUnderway self.old }

@@ -226,6 +226,7 @@ fn read_words<C: Choice>(
 }
 
 /// Takes a word, which is on this line. If it ends the declarations, the part is chosen.
+#[inline(always)]
 pub fn take_word<C: Choice>(
     parser: &mut Parser,
     alloc: Global,

@@ -101,6 +101,7 @@ impl Parser {
     }
 
     /// Takes the next word of the file, which is on this line. It does not end the declarations.
+    #[inline(always)]
     pub fn take_word(&mut self, alloc: Global, text: &[u8], line: u64) -> Result<(), ReadError>
         requires reading { IsUnderway self.old }
         requires word { 0 < length text.now }
@@ -129,6 +130,7 @@ impl Parser {
     }
 
     /// Takes the next word.
+    #[inline(always)]
     fn take(&mut self, alloc: Global, text: &[u8], line: u64) -> Result<(), Fault>
         requires reading { IsUnderway self.old }
         requires word { 0 < length text.now }
