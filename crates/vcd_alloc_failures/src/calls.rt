@@ -1,6 +1,6 @@
 //! The calls by their names.
 
-use crate::copies::{call_copy, call_declared_variables};
+use crate::copies::{call_amend, call_copy, call_declared_variables};
 use crate::decoders::call_decoder;
 use crate::edits::{call_apply, call_held, call_revert};
 use crate::files::{call_read, call_read_part, call_write};
@@ -38,6 +38,7 @@ pub fn make_call<R: Runtime + AllocGlobal>(rt: &R, call: &Call) -> Result<(), Fa
         "read_part" => call_read_part(rt, call),
         "write" => call_write(rt, call),
         "copy_file" => call_copy(rt, call),
+        "amend" => call_amend(rt, call),
         "declared_variables" => call_declared_variables(rt, call),
         "apply" => call_apply(rt, call),
         "held" => call_held(rt, call),

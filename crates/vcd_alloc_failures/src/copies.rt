@@ -1,14 +1,18 @@
 //! Files copied, or read for what they declare.
 
-ghost use Rattle.std.specs.Prelude.{◌≡◌, ◌++◌};
+ghost use Rattle.std.specs.Prelude.{◌≡◌, ◌++◌, IfOk};
+ghost use Rattle.vcd_amend.specs.AmendedMeaning.{AreApart};
+ghost use Rattle.vcd_amend.specs.AmendmentContents.{amendment_contents};
 
 use crate::calls::Call;
 use crate::files::{ROOM, tell_source};
 use crate::printing::{DONE, Failure, allow, refuse};
 use std::alloc::Global;
 use std::rt::Runtime;
-use vcd_amend::{DeclaredVariable, declared_variables};
-use vcd_core::{FromRead, NoMemory, ScopeName, Sink, ToWrite, copy_word};
+use vcd_amend::{AmendedCode, Amendment, DeclaredVariable, amend, declared_variables};
+use vcd_core::{
+    Bit, DeviceFault, FromRead, NoMemory, ScopeName, Sink, ToWrite, Value, Wave, copy_word,
+};
 use vcd_text::{AmendableItem, Amender, CopyError, Output, VARIABLE_LIMIT, copy, write_bytes};
 
 /// Lets all items stand, each `$var` with a copy of its words. Memory may be refused after the
@@ -84,6 +88,78 @@ pub fn call_copy<R: Runtime + AllocGlobal>(rt: &R, call: &Call) -> Result<(), Fa
     println!(rt; "failed {}", sink.failed())?;
     let begins = call.text.starts_with(sink.into_inner().as_slice());
     println!(rt; "a prefix is written {begins}")?;
+    tell_source(rt, call, source)
+}
+
+/// A sink that drops what it takes, so that it takes no memory.
+#[derive(Drop)]
+struct Dropping {
+    // read by contracts alone
+    is_flushed: bool,
+}
+
+impl Sink for Dropping {
+    ghost use Rattle.std.specs.Prelude.{false};
+
+    ghost has_failed = { λ _. false };
+
+    ghost is_flushed = { λ sink. sink.is_flushed };
+
+    fn write(&mut self, bytes: &[u8]) -> Result<usize, DeviceFault> {
+        self.is_flushed = false;
+        Ok(bytes.len())
+    }
+
+    fn flush(&mut self) -> Result<(), DeviceFault> {
+        self.is_flushed = true;
+        Ok(())
+    }
+
+    fn failed(&self) -> bool {
+        false
+    }
+}
+
+/// Gives the code `!` two changes, in the place of all that the file has of it.
+fn two_changes(alloc: Global) -> Result<Amendment, NoMemory>
+    ensures { IfOk result (λ amendment. AreApart (amendment_contents amendment).codes) }
+{
+    let mut new = Wave::new(alloc, 1);
+    new.push(2, Value::filled(1, Bit::One))?;
+    new.push(5, Value::filled(1, Bit::Zero))?;
+    let code = AmendedCode {
+        code: copy_word(alloc, b"!")?,
+        old: Wave::new(alloc, 1),
+        new,
+    };
+    let mut codes = Vec::new(alloc);
+    codes.push(code)?;
+    Ok(Amendment {
+        fates: Vec::new(alloc),
+        added: Vec::new(alloc),
+        codes,
+    })
+}
+
+/// Makes the call `amend`. The amended text is dropped. Prints what `read` prints of the source.
+pub fn call_amend<R: Runtime + AllocGlobal>(rt: &R, call: &Call) -> Result<(), Failure> {
+    let amendment = two_changes(rt.alloc())?;
+    let mut source = FromRead::new(call.text);
+    let mut sink = Dropping { is_flushed: false };
+    if call.makes {
+        refuse(rt)?;
+        match amend(
+            rt.alloc(),
+            &mut source,
+            VARIABLE_LIMIT,
+            &amendment,
+            &mut sink,
+        ) {
+            Ok(()) => allow(rt, DONE)?,
+            Err(CopyError::Read(error)) => allow(rt, error.name())?,
+            Err(CopyError::Write(error)) => allow(rt, error.name())?,
+        }
+    }
     tell_source(rt, call, source)
 }
 

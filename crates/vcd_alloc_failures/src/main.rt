@@ -11,7 +11,7 @@
 //! | `copy_word`, `copy_words`, `copy_scopes`: of the first signal | | |
 //! | `share_path`, `prefix`: of a path of its own; `share_scopes`: `ScopePath::shared` | | |
 //! | `read`, `write`, `uart`, `spi`, `i2c`, `Session::new` | | |
-//! | `copy_file`: the `copy` of `vcd_text`; `declared_variables` | | |
+//! | `copy_file`: the `copy` of `vcd_text`; `amend`, into nothing; `declared_variables` | | |
 //! | `read_part` | `no_signal`, `first_tick` or `last_tick` | |
 //! | `apply`, `revert` | an edit | |
 //! | `held`: lets the record of an edit go | an edit | `undo`, or nothing |
