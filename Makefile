@@ -24,7 +24,7 @@ install: build ## to /usr/local, or PREFIX=FOLDER; DESTDIR=FOLDER goes before th
 	for name in $(PROGRAMS); do crate=$$(echo $$name | tr - _); \
 	install -D -m 755 "crates/$$crate/out/$$crate" "$$stage/libexec/$$name"; done; \
 	install -D -m 755 -t "$$stage/bin" $(TOOLS:%=tools/%); \
-	install -D -m 644 -t "$$share/vcdedit" tools/*.py tools/*.txt; \
+	install -D -m 644 -t "$$share/vcdedit" tools/*.py docs/messages.txt; \
 	install -D -m 644 -t "$$stage/$(ZSH_FOLDER)" completions/_vcdedit; \
 	for name in $(PROGRAMS) $(TOOLS); do \
 	install -D -m 644 -t "$$share/man/man1" "docs/$$name.1"; \
@@ -48,7 +48,7 @@ uninstall: ## takes away what install put there
 	rm -f "$$path" 2> /dev/null || rmdir "$$path" 2> /dev/null || true; done
 
 deb: build ## makes a Debian package, out/vcdedit_VERSION_ARCHITECTURE.deb
-	@tools/make_package
+	@generate/package
 
 quick: ## every check that needs no proof, on the programs that are built
 	@checks/quick

@@ -5,7 +5,7 @@ say() {
     echo "$me: $*" >&2
 }
 
-# Says what was asked for where the answer needs no program: help and the version are in the tree, as cases.
+# Says what was asked for where the answer needs no program: help and the version are files here, each shown by a case.
 answer_from_the_tree() { # PROGRAM WORD
     local answer
     case "$2" in
@@ -13,8 +13,7 @@ answer_from_the_tree() { # PROGRAM WORD
         -V | --version) answer=version ;;
         *) return ;;
     esac
-    [[ "$1" == vcdedit ]] || answer="${1#vcdedit-}-$answer"
-    if ! cat "$top/cases/$answer/replies.txt" 2>/dev/null; then
+    if ! cat "$top/launch/$1-$answer.txt" 2>/dev/null; then
         echo "$1: replies: write fault" >&2
         exit 4
     fi

@@ -18,7 +18,9 @@ LONGEST, NAMES_SHOWN = 100, 3
 # A fault or a refusal, what it means, what to do, and what the line of a fault is that of.
 Message = collections.namedtuple("Message", "kind name means remedy line")
 MESSAGE = re.compile(r"^(fault|refusal) (\w+): (.*)\n    (.*)\n(?:    (.*)\n)?", flags=re.M)
-TEXT = pathlib.Path(__file__).with_name("messages.txt").read_text("utf-8")
+HERE = pathlib.Path(__file__).resolve().parent
+# In the repository it is among the documents, and where the tools are installed beside them.
+TEXT = next(path for path in (HERE / "messages.txt", HERE.parent / "docs/messages.txt") if path.exists()).read_text("utf-8")
 MESSAGES = [Message(*found) for found in MESSAGE.findall(TEXT)]
 # What each means, and on a further line what to do.
 MEANINGS = {(one.kind, one.name): ("%s\n    %s" % (one.means, one.remedy)).replace("`", "") for one in MESSAGES}

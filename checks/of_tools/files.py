@@ -16,7 +16,7 @@ import vcd_messages
 import vcd_runs
 from common import TOP, amend_of, run, store, store_program, toggling
 
-CAPTURES = ["examples/*/capture.vcd", "cases/captures/*.vcd", "cases/*/capture.vcd"]
+CAPTURES = ["examples/*/capture.vcd", "cases/captures/*.vcd", "cases/*/*/capture.vcd"]
 # A text, a timescale, and the tick, or None where it is refused.
 TIMES = [
     ("9223372036854775807", "none", 9223372036854775807),
