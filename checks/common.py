@@ -18,7 +18,8 @@ EDITS = [edit.decode() for edit in vcd_runs.EDITS]
 CASES = os.path.join(TOP, "cases")
 EXAMPLES = os.path.join(TOP, "examples")
 # What `make install` and `make deb` want of the tree.
-INSTALLED = "vcdedit vcdedit-amend launch CHANGELOG.md Makefile crates.txt completions docs examples generate tools".split()
+INSTALLED = """vcdedit vcdedit-amend launch CHANGELOG.md Makefile crates.txt completions docs examples generate
+    tools""".split()
 SECONDS = 120
 # The crates of the programs. What the prover said of each is in its out/proof.txt (generate/proofs).
 PROGRAMS = ["vcdedit", "vcdedit_amend", "vcdedit_narrow"]
