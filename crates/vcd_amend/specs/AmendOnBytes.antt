@@ -83,9 +83,11 @@ pub data IsRefusedLongFile (file : List ℕ) (e : ReadError) : Type 0 where
 -- the bytes of a file are not amended for this error, and these are the replies before it
 abbrev pub AmendFails : (file script : List ℕ) → (depth : ℕ) → (replies : List ℕ) → AmendRunError
     → Type 0
--- the file is refused for this, or memory ran out as it was read
-AmendFails file script depth replies (Run (run_errors.Capture e)) = IsRefusedLongFile file e
-    ⊎ (e ≡ record { line = 0; fault = faults.NoMemory })
+-- the file is refused for this, or memory ran out as it was read: before any reply, or for the copy
+AmendFails file script depth replies (Run (run_errors.Capture e)) =
+    (IsRefusedLongFile file e ⊎ (e ≡ record { line = 0; fault = faults.NoMemory }))
+    × ((replies ≡ []) ⊎ ((written : RunOutcome) × IsRun file script depth written
+    × (replies ≡ concat written.replies)))
 AmendFails file script depth replies (Run run_errors.ScriptTooLarge) =
     (SCRIPT_LIMIT < length script) × (replies ≡ [])
 AmendFails file script depth replies (Run run_errors.ScriptReadFault) = ⊥

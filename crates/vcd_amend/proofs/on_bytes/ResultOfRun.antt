@@ -79,13 +79,17 @@ module _ (file script : List ℕ) (depth : ℕ) (made : List ℕ) (passes : Pass
         → AmendFails file script depth made e
     unfolding AmendRunEnds
     refusal_of_run (errors.Run (run_errors.Capture e)) (inl (inl fails, unwritten)) =
-        refused_in file passes.declarations e shows.0 declarations_ready fails
+        (refused_in file passes.declarations e shows.0 declarations_ready fails, inl (nothing_made unwritten.0))
     refusal_of_run (errors.Run (run_errors.Capture e)) (inl (inr (inl fails), unwritten)) =
-        refused_in file passes.outline e shows.1 outline_ready fails
+        (refused_in file passes.outline e shows.1 outline_ready fails, inl (nothing_made unwritten.0))
     refusal_of_run (errors.Run (run_errors.Capture e)) (inl (inr (inr fails), unwritten)) =
-        refused_in file passes.changes e shows.2 changes_ready fails
+        (refused_in file passes.changes e shows.2 changes_ready fails, inl (nothing_made unwritten.0))
     refusal_of_run (errors.Run (run_errors.Capture e)) (inr (fails, replied)) =
-        refused_in file passes.copy e shows.3 copy_ready fails
+        let one = rw (was_empty, sym made_is) at (replied file script shows is_script) in
+        let run = run_of_amend_run file script depth one.0 one.1 in (
+          refused_in file passes.copy e shows.3 copy_ready fails,
+          inr (run.0, run.1, one.2 ∙ ap concat run.2),
+        )
     refusal_of_run (errors.Run run_errors.ScriptTooLarge) ends = (rw is_script at ends.0, nothing_made ends.1.0)
     refusal_of_run (errors.Run run_errors.ScriptReadFault) ends =
         let no : false ≡ true = sym lines_ready ∙ ends.0 in absurd (cc)
