@@ -1,6 +1,6 @@
 -- Worked cases: the codes that are given for another capture, and the amendment for it.
 use Rattle.std.proofs.Common.{◌≡◌, refl}
-use Rattle.std.specs.Prelude.{ℕ, List, [], ◌∷◌, Option, Some, None, codes, map, drop, length}
+use Rattle.std.specs.Prelude.{ℕ, List, [], ◌∷◌, Option, Some, None, codes, map, drop, length, true, false}
 use Rattle.std.specs.Fmt.{digits}
 use Rattle.vcd_core.specs.declared.bit.Bit.TheVariants.{Zero, One}
 use Rattle.vcd_core.specs.declared.wave.Change.{Change}
@@ -12,6 +12,7 @@ use Rattle.vcd_text.specs.Meaning.{changes_of_code}
 use Rattle.vcd_text.specs.Text.{code_digits}
 use Rattle.vcd_amend.specs.Amendment.{Amendment, stays, is_removed, is_changed}
 use Rattle.vcd_amend.specs.CodedAmendment.{CodedSignal}
+use Rattle.vcd_amend.specs.AmendOnBytes.{may_be_put_in}
 use Rattle.vcd_amend.specs.GivenCodes.{coded_signals, coded_derived, coded_waves, changed_waves, amendment_for}
 
 -- ---- three wires, two of them with one code, and a real, which is skipped
@@ -75,6 +76,12 @@ held = refl
 derived : derived_codes one_pulse (signal (codes "d") low ∷ signal (codes "e") low ∷ []) ≡ codes "$" ∷ codes "&" ∷ []
 unfolding changes_of_code value_from changes_from digits code_digits
 derived = refl
+
+-- of the file's codes changes may be put in of c's alone, whose wave nothing keeps, and of fresh ones
+put_in : map (λ code. may_be_put_in file one_pulse [] (scalar 48 code))
+    (codes "!" ∷ codes "\"" ∷ codes "%" ∷ codes "#" ∷ []) ≡ false ∷ false ∷ true ∷ true ∷ []
+unfolding changes_of_code value_from changes_from
+put_in = refl
 
 -- they change to two waves: the first one keeps the code, the other one gets a fresh code; c is removed
 abbrev apart : List (Option SignalContents)
