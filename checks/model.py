@@ -30,6 +30,11 @@ WIDEST, LATEST = limit("width of a kept variable"), limit("time stamp, end")
 MOST_SIGNALS, DEEPEST = limit("signals"), limit("edits that can be undone")
 
 
+def is_kept(kind, size):
+    """Whether a variable of this kind and size is kept; it is skipped otherwise."""
+    return kind not in SKIPPED_KINDS and 1 <= int(size) <= WIDEST
+
+
 class Fault(Exception):
     """The name of a capture's first fault, and its line."""
 
@@ -149,10 +154,9 @@ class Reader:
         kind, size = words.take_part("BadVar"), words.take_part("BadVar")
         words.want(re.fullmatch("[0-9]+", size), "BadVar")
         code, name = words.take_part("BadVar"), (words.take_part("BadVar"), *words.take_up_to_end())
-        is_kept = kind not in SKIPPED_KINDS and 1 <= int(size) <= WIDEST
-        width = int(size) if is_kept else None
+        width = int(size) if is_kept(kind, size) else None
         words.want(self.width_of.setdefault(code, width) == width, "MixedCode")
-        if is_kept:
+        if width:
             words.want(len(self.declared) < MOST_SIGNALS, "TooManySignals")
             self.declared.append((Signal(kind, width, name, tuple(self.scopes)), code))
         else:

@@ -1,9 +1,13 @@
 # The end of ./vcdedit and of the scripts that `make install` makes: runs $program with the words given.
 
-# The machine's memory in KiB, or the limit of a control group of this process, where one is lower.
+# The memory in KiB that the machine can still give, or the limit of a control group of this process, where one is
+# lower. Kernels before 3.14 do not say what they can give: then it is the machine's memory.
 memory_in_kib() {
-    while read -r name least _; do
-        [ "$name" = MemTotal: ] && break
+    while read -r name size _; do
+        case $name in
+            MemTotal:) least=$size ;;
+            MemAvailable:) least=$size && break ;;
+        esac
     done < /proc/meminfo
     while IFS=: read -r _ controllers group; do
         case ",$controllers," in
@@ -27,7 +31,7 @@ lower_to_limits() { # FOLDER FILE
     done
 }
 
-# A growth past the machine's memory is refused, and the run ends with status 5, before the system would end it.
+# A growth past this memory is refused, and the run ends with status 5, before the system would end it.
 if [ "$(ulimit -v)" = unlimited ] && [ -r /proc/meminfo ] && [ -r /proc/self/cgroup ]; then
     ulimit -S -v "$(memory_in_kib)" 2> /dev/null
 fi

@@ -261,7 +261,8 @@ def default_signals():
 
 def interrupted(program, folder):
     """The tool is interrupted while the second capture is written. It ends within a second."""
-    lasts = "exec 5> %s && echo $$ > number.new && mv number.new number && exec sleep 20" % BESIDE
+    # `mv` does not inherit the hidden file: it may outlive the run for a moment, and would pass for a writer.
+    lasts = "exec 5> %s && echo $$ > number.new && mv number.new number 5>&- && exec sleep 20" % BESIDE
     lasting = store_program(folder, "lasting", text=OTHER % (lasts, amend_of(program)))
     for number in "INT TERM HUP QUIT ALRM USR1 XCPU KILL".split():
         place = Folder(program, "%s/%s" % (folder, number), "ABC", lasting)

@@ -10,8 +10,8 @@ use vcd_amend::{AmendRefusal, AmendRunError, amend_on_bytes};
 use vcd_core::NoMemory;
 use vcd_script::{RunError, RunRefusal, RunTexts, Stage, run_on_bytes};
 
-/// Questions, edits, a step back, a decoder and a refused line.
-const LINES: [&[u8]; 8] = [
+/// Questions, edits, a step back, a decoder, a refused line, and a cut.
+const LINES: [&[u8]; 9] = [
     b"list\n",
     b"rename @0 renamed\n",
     b"changes @0\n",
@@ -20,6 +20,7 @@ const LINES: [&[u8]; 8] = [
     b"undo\n",
     b"uart @0 2 5 none 1\n",
     b"uart @0 1 5 none 1\n",
+    b"cut 1 2\n",
 ];
 
 /// How many edits can be undone.

@@ -1,5 +1,6 @@
 -- Lemmas of `coding`.
-pub mod Known
-pub mod ByIndex
-pub mod Assembled
-pub mod ApartCodes
+pub mod ChangedWaves
+pub mod KeptSignals
+pub mod CodesInTurn
+pub mod FatesByIndex
+pub mod AmendmentForCapture

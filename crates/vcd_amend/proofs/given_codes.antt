@@ -1,6 +1,5 @@
 -- Lemmas: the codes that the signals of another capture get.
 pub mod FreshCodes
-pub mod Variables
 pub mod Gives
 pub mod CodedWaves
 pub mod NewWaves

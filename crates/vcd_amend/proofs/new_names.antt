@@ -1,3 +1,2 @@
 -- Lemmas about new names.
-pub mod OneByOne
 pub mod Outlines

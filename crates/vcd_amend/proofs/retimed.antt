@@ -2,12 +2,10 @@
 pub mod Ticks
 pub mod Copies
 pub mod Kinds
-pub mod StampTicks
 pub mod LastChanges
 pub mod Accepted
-pub mod Values
 pub mod Meaning
 pub mod Pieces
 pub mod Stamps
+pub mod ChangesAtTicks
 pub mod Order
-pub mod OtherPieces

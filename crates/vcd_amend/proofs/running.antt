@@ -1,4 +1,7 @@
 -- Lemmas: a file amended by a script.
+pub mod CutsInForce
 pub mod KnownRun
 pub mod AmendedRun
-pub mod PartsOfRun
+pub mod PlannedRun
+pub mod CarriedOut
+pub mod EndsOfRun

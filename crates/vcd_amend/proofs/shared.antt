@@ -1,2 +1,3 @@
 -- Lemmas: shared.
 pub mod ReadFailures
+pub mod Lists

@@ -1,7 +1,3 @@
 -- Worked cases.
-pub mod AmendedItems
-pub mod AmendedTexts
-pub mod GivenCodes
-pub mod RetimedPieces
-pub mod AmendedRun
-pub mod EditedText
+pub mod AmendedFiles
+pub mod EditedFiles

@@ -24,7 +24,7 @@ use Rattle.vcd_script.specs.Run.{RunOutcome, IsRun}
 use Rattle.vcd_script.specs.HollowRun.{last_edits, last_capture}
 use Rattle.vcd_amend.specs.declared.running.AmendRunError.{AmendRunError}
 use Rattle.vcd_amend.specs.declared.running.AmendRunError.TheVariants.{Run, NameOfSkipped}
-use Rattle.vcd_amend.specs.declared.running.AmendRunError.TheVariants.{CutInForce, CaptureChanged}
+use Rattle.vcd_amend.specs.declared.running.AmendRunError.TheVariants.{CaptureChanged}
 use Rattle.vcd_amend.specs.declared.on_bytes.AmendRefusal.{AmendRefusal}
 use Rattle.vcd_amend.specs.GivenCodes.{held_codes}
 use Rattle.vcd_amend.specs.WhatStands.{may_go, declares, BecomesText}
@@ -107,16 +107,13 @@ AmendFails file script depth replies (Run (run_errors.Write e)) =
 AmendFails file script depth replies NameOfSkipped = (replies ≡ [])
     × (s : ParseState) × Accepts SIGNAL_LIMIT (words_of file) s
     × TakesSkippedName depth (script_lines script) s
-AmendFails file script depth replies CutInForce = (replies ≡ [])
-    × (written : RunOutcome) × (ran : IsRun file script depth written)
-    × (cuts (last_edits ran.contents ran.skipped depth (script_lines script)) ≡ [] → ⊥)
 AmendFails file script depth replies CaptureChanged = ⊥
 
 -- what amending the bytes of a file by a script gives: the replies of the script's run on what the
 -- file means, and the file after it
 abbrev pub AmendGives : (file script : List ℕ) → (depth : ℕ) → Result RunTexts AmendRefusal
     → Type 0
-AmendGives file script depth (Ok texts) = (written : RunOutcome)
+AmendGives file script depth (Ok texts) = (length file ≤ LONG_FILE_LIMIT) × (written : RunOutcome)
     × (ran : IsRun file script depth written)
     × (texts.replies.items ≡ concat written.replies) × (texts.refused ≡ written.refused)
     × IsEditedFile file ran.contents ran.skipped depth (script_lines script) texts.output.items

@@ -1,6 +1,6 @@
 -- How amending a file by a script ends on any devices, by its result. The project's own.
-use Rattle.std.specs.Prelude.{◌≡◌, ◌<◌, ◌⊎◌, ℕ, zero, suc, Bool, true, false, List, [], length}
-use Rattle.std.specs.Prelude.{take, count_by}
+use Rattle.std.specs.Prelude.{◌≡◌, ◌<◌, ◌⊎◌, ℕ, zero, suc, Bool, true, false, List, length}
+use Rattle.std.specs.Prelude.{take, count_by, ◌≤◌, is_some}
 use Rattle.std.specs.Prelude.{Option, Some, Result, Ok, Err, IfSome, IsSomeAnd}
 use Rattle.std.specs.List.{concat}
 use Rattle.vcd_core.specs.declared.capture.TheConstants.{SIGNAL_LIMIT}
@@ -8,13 +8,12 @@ use Rattle.vcd_core.specs.Contents.{Contents}
 use Rattle.vcd_core.specs.Devices.{DeviceEnd, device_end, HasPrefix, HasText, IsUntouched}
 use Rattle.vcd_text.specs.Words.{words_of}
 use Rattle.vcd_text.specs.Grammar.{ParseState, Accepts, is_skipped}
-use Rattle.vcd_text.specs.Meaning.{meaning, FileMeans}
+use Rattle.vcd_text.specs.Meaning.{meaning}
 use Rattle.vcd_text.specs.CopyEnds.{ReadFails}
 use Rattle.vcd_text.specs.WriteEnds.{TookBefore}
 use Rattle.vcd_text.specs.declared.fault.ReadError.{ReadError}
 use Rattle.vcd_text.specs.declared.reading.TheConstants.{LONG_FILE_LIMIT}
 use Rattle.vcd_journal.specs.Origins.{origins}
-use Rattle.vcd_journal.specs.Cuts.{cuts}
 use Rattle.vcd_script.specs.declared.running.script_input.TheConstants.{SCRIPT_LIMIT}
 use Rattle.vcd_script.specs.declared.running.run_error.RunError.TheVariants as run_errors
 use Rattle.vcd_script.specs.declared.running.run_error.Summary.{Summary}
@@ -24,7 +23,7 @@ use Rattle.vcd_script.specs.HollowRun.{last_edits, last_capture}
 use Rattle.vcd_amend.specs.declared.running.Passes.{Passes}
 use Rattle.vcd_amend.specs.declared.running.AmendRunError.{AmendRunError}
 use Rattle.vcd_amend.specs.declared.running.AmendRunError.TheVariants.{Run, NameOfSkipped}
-use Rattle.vcd_amend.specs.declared.running.AmendRunError.TheVariants.{CutInForce, CaptureChanged}
+use Rattle.vcd_amend.specs.declared.running.AmendRunError.TheVariants.{CaptureChanged}
 use Rattle.vcd_amend.specs.NewNames.{takes_skipped_name}
 use Rattle.vcd_amend.specs.AmendRun.{IsAmendRun}
 
@@ -57,6 +56,10 @@ abbrev pub AllShow : PassEnds → List ℕ → Type 0
 AllShow p file = (p.declarations.before ≡ Some file) × (p.outline.before ≡ Some file)
     × (p.changes.before ≡ Some file) × (p.copy.before ≡ Some file)
 
+-- a file that every pass shows has at most so many bytes
+abbrev pub IsShortFile : PassEnds → Type 0
+IsShortFile p = (file : List ℕ) → AllShow p file → length file ≤ LONG_FILE_LIMIT
+
 -- of a file with this state, these lines give a signal the full name of a skipped variable
 abbrev pub TakesSkippedName : (depth : ℕ) → (lines : List (List ℕ)) → ParseState → Type 0
 TakesSkippedName depth lines s =
@@ -84,8 +87,6 @@ module _ (depth : ℕ) (passes : PassEnds) (script replies : DeviceEnd) (output 
     CanBeWritten = (file lines : List ℕ) → AllShow passes file → script.before ≡ Some lines
         → (s : ParseState) × Accepts SIGNAL_LIMIT (words_of file) s
         × (TakesSkippedName depth (script_lines lines) s → ⊥)
-        × (cuts (last_edits (meaning s) (count_by is_skipped s.declared) depth (script_lines lines))
-        ≡ [])
 
     -- nothing is written
     abbrev pub IsUnwritten : Type 0
@@ -95,7 +96,7 @@ module _ (depth : ℕ) (passes : PassEnds) (script replies : DeviceEnd) (output 
     unfoldable pub AmendRunEnds : Result Summary AmendRunError → Type 0
     -- all replies are written, and the amended file if it is asked for and can be
     AmendRunEnds (Ok summary) = (replies.has_failed ≡ false) × IfSome output
-        (λ out. (out.has_failed ≡ false) × CanBeWritten)
+        (λ out. (out.has_failed ≡ false) × CanBeWritten) × IsShortFile passes
         × ForAmendRun (λ written. HasText replies (concat written.replies)
         × IfSome output (λ out. HasText out written.output) × (summary.refused ≡ written.refused))
     -- one of the passes before the replies refuses the capture, or all replies are written, and it
@@ -123,16 +124,12 @@ module _ (depth : ℕ) (passes : PassEnds) (script replies : DeviceEnd) (output 
         IsSomeAnd output (λ out. (text : List ℕ)
         × TookBefore text out.before out.after out.has_failed e)
         × ForAmendRun (λ written. HasText replies (concat written.replies))
-    -- a signal that the script has renamed or derived has the full name of a skipped variable
-    AmendRunEnds (Err NameOfSkipped) = IsUnwritten
+    -- the file is to be written, and a signal that the script has renamed or derived has the full
+    -- name of a skipped variable
+    AmendRunEnds (Err NameOfSkipped) = (is_some output ≡ true) × IsUnwritten
         × ((file lines : List ℕ) → AllShow passes file → script.before ≡ Some lines
         → (s : ParseState) × Accepts SIGNAL_LIMIT (words_of file) s
         × TakesSkippedName depth (script_lines lines) s)
-    -- a cut is in force after the last line
-    AmendRunEnds (Err CutInForce) = IsUnwritten
-        × ((file lines : List ℕ) → AllShow passes file → script.before ≡ Some lines
-        → (c : Contents) × (skipped : ℕ) × FileMeans SIGNAL_LIMIT file c skipped
-        × (cuts (last_edits c skipped depth (script_lines lines)) ≡ [] → ⊥))
     -- the passes do not show one file: no byte of the output is written
     AmendRunEnds (Err CaptureChanged) = IfSome output IsUntouched
         × ((file : List ℕ) → AllShow passes file → ⊥)

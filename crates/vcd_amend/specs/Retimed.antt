@@ -7,7 +7,7 @@ use Rattle.vcd_core.specs.Decimal.{number_of}
 use Rattle.vcd_core.specs.Wave.{changes_of}
 use Rattle.vcd_core.specs.Contents.{Contents, SignalContents, signal_value}
 use Rattle.vcd_text.specs.Items.{Item, stamp, scalar, vector, real_or_string, spelling}
-use Rattle.vcd_text.specs.Grammar.{ParseState, state_after_item}
+use Rattle.vcd_text.specs.Grammar.{ParseState, state_after_item, is_skipped}
 use Rattle.vcd_amend.specs.AmendedItems.{ItemFate, stands, is_left_out, is_exchanged}
 use Rattle.vcd_text.specs.Pieces.{Piece}
 
@@ -25,7 +25,7 @@ pub record AreOldTicks (is_cut_out : ℕ → Bool) (old_tick : ℕ → ℕ) : Ty
 
 -- ---- changes
 
--- a code, and which of its changes: those to digits, or those to a real or a string
+-- a code, and a form of its changes: to digits, or to a real or a string
 pub data ChangeKey : Type 0 where
   digits_key : (code : List ℕ) → ChangeKey
   text_key : (code : List ℕ) → ChangeKey
@@ -42,16 +42,18 @@ abbrev pub code_of_key : ChangeKey → List ℕ
 code_of_key (digits_key code) = code
 code_of_key (text_key code) = code
 
--- whether two keys are the same
-abbrev pub same_key : ChangeKey → ChangeKey → Bool
-same_key (digits_key a) (digits_key b) = bytes_eq a b
-same_key (text_key a) (text_key b) = bytes_eq a b
-same_key a b = false
+-- whether a kept variable has the code
+abbrev pub has_kept_variable : ParseState → (code : List ℕ) → Bool
+has_kept_variable s code = list_any (λ d. bytes_eq code d.code && not (is_skipped d)) s.declared
 
--- whether an item is a change with this key
-abbrev pub has_key : ChangeKey → Option ChangeKey → Bool
-has_key key None = false
-has_key key (Some other) = same_key key other
+-- whether an item is a change that counts together with those of a key: it has the code, and the
+-- form if a kept variable has the code
+abbrev pub counts_with : (is_kept : List ℕ → Bool) → ChangeKey → Option ChangeKey → Bool
+counts_with is_kept (digits_key a) (Some (digits_key b)) = bytes_eq a b
+counts_with is_kept (text_key a) (Some (text_key b)) = bytes_eq a b
+counts_with is_kept a (Some b) = bytes_eq (code_of_key a) (code_of_key b)
+    && not (is_kept (code_of_key a))
+counts_with is_kept a None = false
 
 -- whether the changes of a code last: it has a variable that is no event
 abbrev pub lasts : ParseState → (code : List ℕ) → Bool
@@ -60,13 +62,13 @@ lasts s code =
 
 -- ---- held changes
 
--- the held changes and one more change, in the place of one with its key; it is not held itself if
--- the last stamp is left, or the change does not last
+-- the held changes and one more change, in the place of those that count together with it; it is
+-- not held itself if the last stamp is left, or the change does not last
 abbrev pub held_with : (is_cut_out : ℕ → Bool) → ParseState → List Piece → Piece → Option ChangeKey
     → List Piece
 held_with is_cut_out s held p None = held
 held_with is_cut_out s held p (Some key) =
-    filter (λ h. not (has_key key (change_key h.item))) held
+    filter (λ h. not (counts_with (has_kept_variable s) key (change_key h.item))) held
     ++ (if is_cut_out s.tick && lasts s (code_of_key key) then p ∷ [] else [])
 
 -- whether an item is a stamp past the first tick, from the last stamp on, that is left

@@ -9,8 +9,9 @@ use Rattle.vcd_text.specs.Grammar.{VariableDeclaration, ParseState, initial_stat
 use Rattle.vcd_text.specs.Grammar.{AllowsAll, is_skipped}
 use Rattle.vcd_text.specs.Meaning.{FileMeans, meaning}
 use Rattle.vcd_text.specs.Pieces.{Piece, IsCut, state_of_pieces}
-use Rattle.vcd_amend.specs.Retimed.{new_tick, AreOldTicks, ChangeKey, change_key, has_key}
-use Rattle.vcd_amend.specs.Retimed.{code_of_key, lasts, retimed_pieces, retimed_contents}
+use Rattle.vcd_amend.specs.Retimed.{new_tick, AreOldTicks, ChangeKey, change_key, code_of_key}
+use Rattle.vcd_amend.specs.Retimed.{has_kept_variable, counts_with, lasts, retimed_pieces}
+use Rattle.vcd_amend.specs.Retimed.{retimed_contents}
 
 -- ---- cuts
 
@@ -94,28 +95,31 @@ abbrev pub tick_after_item : ℕ → Item → ℕ
 tick_after_item now (stamp digits) = number_of digits
 tick_after_item now item = now
 
--- the last change with this key up to a tick, among pieces that come after a stamp of `now`, or
--- else `before`
-unfoldable pub last_change : ChangeKey → (t now : ℕ) → (before : Option Piece) → List Piece
-    → Option Piece
-last_change key t now before [] = before
-last_change key t now before (p ∷ ps) = last_change key t (tick_after_item now p.item)
-    (if has_key key (change_key p.item) && nat_le now t then Some p else before) ps
+-- the last change up to a tick of those that count together with this key, among pieces that come
+-- after a stamp of `now`, or else `before`
+unfoldable pub last_change : (is_kept : List ℕ → Bool) → ChangeKey → (t now : ℕ)
+    → (before : Option Piece) → List Piece → Option Piece
+last_change is_kept key t now before [] = before
+last_change is_kept key t now before (p ∷ ps) =
+    last_change is_kept key t (tick_after_item now p.item)
+    (if counts_with is_kept key (change_key p.item) && nat_le now t then Some p else before) ps
 
 -- a variable has the code, and is no event
 abbrev pub IsNoEvent : (code : List ℕ) → VariableDeclaration → Type 0
 IsNoEvent code d = (d.code ≡ code) × (d.kind ≢ codes "event")
 
--- at each new tick the last change of a code, to digits or to a real or a string, is that of the
--- file at the old tick, with its bytes, if one of its variables is no event
+-- at each new tick the last change of a code is that of the file at the old tick, with its bytes,
+-- if one of its variables is no event; of a code of a kept variable both the last one to digits and
+-- the last one to a real or a string
 abbrev pub LastChangesStand : Type 0
 LastChangesStand =
     (is_cut_out : ℕ → Bool) (old_tick : ℕ → ℕ) (limit : ℕ) (file : List ℕ) (pieces : List Piece)
     (tail : List ℕ) (key : ChangeKey) (t : ℕ)
     → CanBeRetimed is_cut_out old_tick limit file pieces tail
     → Any (IsNoEvent (code_of_key key)) (state_of_pieces limit pieces).declared
-    → last_change key t 0 None (pieces_after is_cut_out limit pieces)
-    ≡ last_change key (old_tick t) 0 None pieces
+    → last_change (has_kept_variable (state_of_pieces limit pieces)) key t 0 None
+    (pieces_after is_cut_out limit pieces)
+    ≡ last_change (has_kept_variable (state_of_pieces limit pieces)) key (old_tick t) 0 None pieces
 
 -- ---- the order of changes
 
@@ -126,17 +130,18 @@ changes_at_ticks is_at now (p ∷ ps) =
     (if is_some (change_key p.item) && is_at now then p ∷ [] else [])
     ++ changes_at_ticks is_at (tick_after_item now p.item) ps
 
--- whether a key is that of a change
-abbrev pub is_key_of : Option ChangeKey → Piece → Bool
-is_key_of None p = false
-is_key_of (Some key) p = has_key key (change_key p.item)
+-- whether a change counts together with those of a key
+abbrev pub is_key_of : (is_kept : List ℕ → Bool) → Option ChangeKey → Piece → Bool
+is_key_of is_kept None p = false
+is_key_of is_kept (Some key) p = counts_with is_kept key (change_key p.item)
 
--- the pieces whose key neither a later one has, nor one of these
-unfoldable pub last_ones : List Piece → (later : List Piece) → List Piece
-last_ones [] later = []
-last_ones (p ∷ ps) later =
-    if list_any (is_key_of (change_key p.item)) (ps ++ later) then last_ones ps later
-    else p ∷ last_ones ps later
+-- the pieces that count together neither with a later one, nor with one of these
+unfoldable pub last_ones : (is_kept : List ℕ → Bool) → List Piece → (later : List Piece)
+    → List Piece
+last_ones is_kept [] later = []
+last_ones is_kept (p ∷ ps) later =
+    if list_any (is_key_of is_kept (change_key p.item)) (ps ++ later)
+    then last_ones is_kept ps later else p ∷ last_ones is_kept ps later
 
 -- whether a change lasts
 abbrev pub lasts_with : ParseState → Option ChangeKey → Bool
@@ -144,7 +149,7 @@ lasts_with s None = false
 lasts_with s (Some key) = lasts s (code_of_key key)
 
 -- at each new tick the changes of the file at the old tick stand, in their order, and after them
--- those at the ticks before it that are cut out, if they last and no later change has their key
+-- those at the ticks before it that are cut out, if they last and count together with no later one
 abbrev pub ChangesStandInOrder : Type 0
 ChangesStandInOrder =
     (is_cut_out : ℕ → Bool) (old_tick : ℕ → ℕ) (limit : ℕ) (file : List ℕ) (pieces : List Piece)
@@ -153,7 +158,7 @@ ChangesStandInOrder =
     → here ≡ changes_at_ticks (λ u. u == old_tick t) 0 pieces
     → cut ≡ changes_at_ticks (λ u. is_cut_out u && (new_tick is_cut_out u == t)) 0 pieces
     → changes_at_ticks (λ u. u == t) 0 (pieces_after is_cut_out limit pieces)
-    ≡ here ++ last_ones
+    ≡ here ++ last_ones (has_kept_variable (state_of_pieces limit pieces))
     (filter (λ p. lasts_with (state_of_pieces limit pieces) (change_key p.item)) cut) here
 
 -- ---- all else

@@ -7,11 +7,11 @@ ghost use Rattle.vcd_core.specs.CaptureContents.{contents};
 ghost use Rattle.vcd_core.specs.Sound.{IsSound};
 ghost use Rattle.vcd_journal.specs.Machine.{initial_machine};
 ghost use Rattle.vcd_journal.specs.Origins.{origins};
-ghost use Rattle.vcd_journal.specs.Cuts.{cuts};
 ghost use Rattle.vcd_script.specs.Script.{script_lines};
 ghost use Rattle.vcd_script.specs.SessionLines.{machine_after_lines};
 ghost use Rattle.vcd_script.specs.HollowRun.{origins_asked, last_edits, last_capture};
-ghost use Rattle.vcd_amend.specs.inside.dry_running.OriginHistory.{notes_before_edits, is_cut_note};
+ghost use Rattle.vcd_amend.specs.inside.dry_running.OriginHistory.{notes_before_edits};
+ghost use Rattle.vcd_amend.specs.inside.dry_running.OriginHistory.{ticks_of_cuts};
 ghost use Rattle.vcd_amend.specs.inside.dry_running.HeardLines.{HearsLine, marked};
 ghost use Rattle.vcd_amend.specs.inside.dry_running.HeardLines.{notes_after_lines};
 ghost use Rattle.vcd_amend.specs.inside.dry_running.HeardLines.{origins_heard_in};
@@ -19,6 +19,7 @@ ghost use Rattle.vcd_amend.specs.inside.dry_running.HeardLines.{origins_heard_in
 mod heard_signals;
 mod origin_history;
 
+use crate::cut_ticks::CutTicks;
 use crate::dry_running::heard_signals::{hear, none_heard};
 use crate::dry_running::origin_history::OriginHistory;
 use std::alloc::Global;
@@ -34,8 +35,8 @@ pub struct DryRun {
     /// The positions in the first capture of the signals that are left, in the order in which they
     /// stand.
     pub origins: Vec<usize>,
-    /// Whether a cut is in force.
-    pub is_cut: bool,
+    /// The cuts in force, the oldest first.
+    pub cuts: Vec<CutTicks>,
     /// The capture after the last line, without changes.
     pub last: Capture,
 }
@@ -73,8 +74,8 @@ pub fn dry_run(
     ensures origins { IfOk result (λ dry. dry.origins.items
         ≡ origins (length (contents outline).signals)
         (last_edits (contents outline) skipped depth (script_lines script.now))) }
-    ensures cut { IfOk result (λ dry. dry.is_cut ≡ false
-        ↔ cuts (last_edits (contents outline) skipped depth (script_lines script.now)) ≡ []) }
+    ensures cuts { IfOk result (λ dry. dry.cuts.items
+        ≡ ticks_of_cuts (last_edits (contents outline) skipped depth (script_lines script.now))) }
     ensures last { IfOk result (λ dry. contents dry.last
         ≡ last_capture (contents outline) skipped depth (script_lines script.now)) }
     ensures line { IfErr result (λ e. e.line ≤ length (script_lines script.now)) }
@@ -90,7 +91,10 @@ pub fn dry_run(
         &mut heard,
         &mut history,
     )?;
-    Ok(found(session, history, heard))
+    match history.cuts(alloc) {
+        Ok(cuts) => Ok(found(session, history, heard, cuts)),
+        Err(_) => Err(NoMemoryAt { line: 0 }),
+    }
 }
 
 /// Before the first line: no edit is made, and no signal is heard.
@@ -117,17 +121,16 @@ fn begin(
 }
 
 /// What is found after the last line.
-fn found(session: Session, history: OriginHistory, heard: Vec<bool>) -> DryRun
+fn found(session: Session, history: OriginHistory, heard: Vec<bool>, cuts: Vec<CutTicks>) -> DryRun
     ensures heard { result.heard ≡ heard }
     ensures origins { result.origins.items ≡ history.origins }
-    ensures cut { result.is_cut ≡ list_any is_cut_note history.in_force }
+    ensures cuts { result.cuts ≡ cuts }
     ensures last { contents result.last ≡ session.now }
 {
-    let is_cut = history.has_cut();
     DryRun {
         heard,
         origins: history.into_origins(),
-        is_cut,
+        cuts,
         last: session.into_capture(),
     }
 }

@@ -19,6 +19,7 @@
 //! capture after the script, with cuts among its edits.
 #![tactic(auto)]
 
+mod after_cuts;
 mod amending;
 mod amendment;
 mod coding;

@@ -1,7 +1,7 @@
 //! A capture file amended by a script, in four passes over the file.
 
 ghost use Rattle.std.specs.Prelude.{◌≡◌, ◌≤◌, false, true, ℕ, List, Some, length, OnOk, IfOk};
-ghost use Rattle.std.specs.Prelude.{IfErr, IfSome};
+ghost use Rattle.std.specs.Prelude.{IfErr, IfSome, All};
 ghost use Rattle.std.specs.Option.{ForSome};
 ghost use Rattle.std.specs.Io.KnownBytes.{Appends};
 ghost use Rattle.vcd_core.specs.CaptureContents.{contents};
@@ -18,18 +18,21 @@ ghost use Rattle.vcd_script.specs.LineRunEnds.{RunsLines};
 ghost use Rattle.vcd_script.specs.declared.running.run_error.RunError.TheVariants as run_errors;
 ghost use Rattle.vcd_script.specs.declared.running.script_input.TheConstants.{SCRIPT_LIMIT};
 ghost use Rattle.vcd_amend.specs.Amendment.{Amendment as AmendmentContents};
-ghost use Rattle.vcd_amend.specs.AmendedCopy.{IsAmended};
 ghost use Rattle.vcd_amend.specs.AmendRunEnds.{pass_ends, AreReady, AmendRunEnds};
 ghost use Rattle.vcd_amend.specs.KnownSignals.{IsAmendmentFor};
 ghost use Rattle.vcd_amend.specs.DeclaredVariables.{declarations_of, HaveSizesOf};
+ghost use Rattle.vcd_amend.specs.RetimedCopy.{IsAmendedAfterCuts, is_cut_by};
+ghost use Rattle.vcd_amend.specs.inside.CaptureAfterCuts.{capture_after_cuts};
 ghost use Rattle.vcd_amend.specs.inside.Running.{RefusesPlan, IsLaterCapture, ShowUpTo, IsPlanned};
 ghost use Rattle.vcd_amend.specs.inside.Running.{IsEdited, IsDryRun};
 ghost use Rattle.vcd_amend.specs.inside.Running.{EndsBeforeReplies, EndsBeforeCopy, StopsInRun};
 ghost use Rattle.vcd_amend.specs.inside.Running.{error_of_hearing, error_of_copy};
 ghost use Rattle.vcd_amend.specs.declared.running.AmendRunError.TheVariants as errors;
 
-use crate::amending::amend;
+use crate::after_cuts::after_cuts;
+use crate::amending::amend_after_cuts;
 use crate::coding::amendment_for;
+use crate::cut_ticks::CutTicks;
 use crate::declarations::signal_sizes::have_sizes_of;
 use crate::declarations::{DeclaredVariable, declared_variables};
 use crate::dry_running::{DryRun, dry_run};
@@ -41,7 +44,7 @@ use std::alloc::Global;
 use vcd_core::{Capture, NoMemory, SIGNAL_LIMIT, Sink, Source};
 use vcd_journal::{DEPTH_LIMIT, Session};
 use vcd_script::{RunError, Summary, read_script, run_lines};
-use vcd_text::{CopyError, ReadError, WriteError};
+use vcd_text::{CopyError, ReadError};
 
 /// One source of a capture file for each pass over it.
 #[derive(Drop)]
@@ -64,8 +67,6 @@ pub enum AmendRunError {
     /// A signal that the script has renamed or derived has the full name of a skipped variable,
     /// which stays in the file.
     NameOfSkipped,
-    /// A cut is in force after the last line.
-    CutInForce,
     /// The passes over the file did not find the same one.
     CaptureChanged,
 }
@@ -81,7 +82,8 @@ struct Plan {
     script: Vec<u8>,
     /// Which signals are left after the last line.
     origins: Vec<usize>,
-    is_cut: bool,
+    /// The cuts in force after the last line, the oldest first.
+    cuts: Vec<CutTicks>,
     /// Whether a signal would get the name of a skipped variable.
     takes_skipped_name: bool,
 }
@@ -92,6 +94,7 @@ struct Edited {
     declared: Vec<DeclaredVariable>,
     first: Capture,
     origins: Vec<usize>,
+    cuts: Vec<CutTicks>,
     session: Session,
     refused: u64,
 }
@@ -172,10 +175,9 @@ pub fn amend_run<R: Source, S: Source, P: Sink, W: Sink>(
     match out {
         Some(out) => {
             let edited = run_script(alloc, passes, script_reader, replies, depth, true)?;
-            copy_amended(alloc, &mut passes.copy, &edited, out)?;
-            Ok(Summary {
-                refused: edited.refused,
-            })
+            let refused = edited.refused;
+            copy_amended(alloc, &mut passes.copy, edited, out)?;
+            Ok(Summary { refused })
         }
         None => {
             let edited = run_script(alloc, passes, script_reader, replies, depth, false)?;
@@ -186,7 +188,8 @@ pub fn amend_run<R: Source, S: Source, P: Sink, W: Sink>(
     }
 }
 
-/// Runs everything but the copy. If the file is to be written, no cut may be in force at the end.
+/// Runs everything but the copy. If the file is to be written, no signal may get the name of a
+/// skipped variable.
 fn run_script<R: Source, S: Source, P: Sink>(
     alloc: Global,
     passes: &mut Passes<R>,
@@ -204,14 +207,18 @@ fn run_script<R: Source, S: Source, P: Sink>(
         → ShowUpTo R.coming passes.old file → S.coming script_reader.old ≡ Some lines
         → IsEdited file lines depth writes (Appends (P.taken replies.old) (P.taken replies.new))
         (declarations_of edited.declared.items) (contents edited.first) edited.origins.items
-        edited.session.now edited.refused) }
+        edited.cuts.items edited.session.now edited.refused) }
     ensures sizes { IfOk result (λ edited. HaveSizesOf (contents edited.first).signals
         (declarations_of edited.declared.items)) }
     ensures come { IfOk result (λ edited. IsLaterCapture (contents edited.first)
         edited.origins.items edited.session.now) }
     ensures not_failed { OnOk result (P.has_failed replies.new ≡ false) }
+    ensures file_short { OnOk result (IfSome (R.coming passes.old.outline) (λ file.
+        length file ≤ LONG_FILE_LIMIT)) }
+    ensures sound { IfOk result (λ edited. IsSound (contents edited.first)) }
+    ensures ordered { IfOk result (λ edited. All (λ cut. cut.from ≤ cut.to) edited.cuts.items) }
     ensures copy_kept { passes.new.copy ≡ passes.old.copy }
-    ensures fails { IfErr result (EndsBeforeCopy depth
+    ensures fails { IfErr result (EndsBeforeCopy depth writes
         (pass_ends R.coming R.has_failed passes.old passes.new)
         (device_end S.coming S.has_failed script_reader.old script_reader.new)
         (device_end P.taken P.has_failed replies.old replies.new)) }
@@ -224,15 +231,11 @@ fn run_script<R: Source, S: Source, P: Sink>(
 
 /// Refuses a plan by which the file cannot be written.
 fn check_plan(plan: &Plan, writes: bool) -> Result<(), AmendRunError>
-    ensures uncut { OnOk result (writes ≡ true → plan.now.is_cut ≡ false) }
     ensures free { OnOk result (writes ≡ true → plan.now.takes_skipped_name ≡ false) }
-    ensures refused { IfErr result (RefusesPlan plan.now.is_cut plan.now.takes_skipped_name) }
+    ensures refused { IfErr result (RefusesPlan writes plan.now.takes_skipped_name) }
 {
     if writes && plan.takes_skipped_name {
         return Err(AmendRunError::NameOfSkipped);
-    }
-    if writes && plan.is_cut {
-        return Err(AmendRunError::CutInForce);
     }
     Ok(())
 }
@@ -251,9 +254,12 @@ fn make_plan<R: Source, S: Source>(
     ensures planned { IfOk result (λ plan. (file lines : List ℕ)
         → ShowUpTo R.coming passes.old file → S.coming script_reader.old ≡ Some lines
         → IsPlanned file lines depth (declarations_of plan.declared.items) plan.skipped
-        (contents plan.first) plan.origins.items plan.is_cut plan.takes_skipped_name
+        (contents plan.first) plan.origins.items plan.cuts.items plan.takes_skipped_name
         × (plan.script.items ≡ lines)) }
+    ensures file_short { OnOk result (IfSome (R.coming passes.old.outline) (λ file.
+        length file ≤ LONG_FILE_LIMIT)) }
     ensures sound { IfOk result (λ plan. IsSound (contents plan.first)) }
+    ensures ordered { IfOk result (λ plan. All (λ cut. cut.from ≤ cut.to) plan.cuts.items) }
     ensures sizes { IfOk result (λ plan. HaveSizesOf (contents plan.first).signals
         (declarations_of plan.declared.items)) }
     ensures placed { IfOk result (λ plan. plan.origins.items
@@ -287,7 +293,7 @@ fn make_plan<R: Source, S: Source>(
         skipped,
         script,
         origins: dry.origins,
-        is_cut: dry.is_cut,
+        cuts: dry.cuts,
         takes_skipped_name: takes,
     })
 }
@@ -344,7 +350,8 @@ fn edit<P: Sink>(
         (initial_machine (contents plan.first) depth) edited.session edited.refused
         (P.taken replies.old) (P.taken replies.new)) }
     ensures kept { IfOk result (λ edited. (edited.declared ≡ plan.declared)
-        × (contents edited.first ≡ contents plan.first) × (edited.origins ≡ plan.origins)) }
+        × (contents edited.first ≡ contents plan.first) × (edited.origins ≡ plan.origins)
+        × (edited.cuts ≡ plan.cuts)) }
     ensures not_failed { OnOk result (P.has_failed replies.new ≡ false) }
     ensures stops { IfErr result (StopsInRun plan.skipped (script_lines plan.script.items)
         (initial_machine (contents plan.first) depth)
@@ -358,6 +365,7 @@ fn edit<P: Sink>(
         declared: plan.declared,
         first,
         origins: plan.origins,
+        cuts: plan.cuts,
         session,
         refused,
     })
@@ -376,24 +384,27 @@ fn begin_session(alloc: Global, capture: Capture, depth: u64) -> Result<Session,
     }
 }
 
-/// Copies the file with what the script has changed.
+/// Copies the file after the cuts with what else the script has changed.
 fn copy_amended<R: Source, W: Sink>(
     alloc: Global,
     reader: &mut R,
-    edited: &Edited,
+    edited: Edited,
     out: &mut W,
 ) -> Result<(), CopyError>
     requires reader_ready { R.has_failed reader.old ≡ false }
     requires writer_ready { W.has_failed out.old ≡ false }
-    requires sizes { HaveSizesOf (contents edited.now.first).signals
-        (declarations_of edited.now.declared.items) }
-    requires come { IsLaterCapture (contents edited.now.first) edited.now.origins.items
-        edited.now.session.now }
+    requires sound { IsSound (contents edited.first) }
+    requires ordered { All (λ cut. cut.from ≤ cut.to) edited.cuts.items }
+    requires sizes { HaveSizesOf (contents edited.first).signals
+        (declarations_of edited.declared.items) }
+    requires come { IsLaterCapture (contents edited.first) edited.origins.items
+        edited.session.now }
     ensures amended { OnOk result (IfSome (R.coming reader.old) (λ file. (a : AmendmentContents)
-        × IsAmendmentFor (declarations_of edited.now.declared.items)
-        (contents edited.now.first).signals edited.now.origins.items
-        edited.now.session.now.signals a
-        × (text : List ℕ) × IsAmended SIGNAL_LIMIT a file text
+        × IsAmendmentFor (declarations_of edited.declared.items)
+        (capture_after_cuts (contents edited.first) edited.cuts.items).signals
+        edited.origins.items edited.session.now.signals a
+        × (text : List ℕ)
+        × IsAmendedAfterCuts SIGNAL_LIMIT (is_cut_by edited.cuts.items) a file text
         × Appends (W.taken out.old) (W.taken out.new) text)) }
     ensures not_failed { OnOk result (W.has_failed out.new ≡ false) }
     ensures flushed { OnOk result (W.is_flushed out.new ≡ true) }
@@ -401,16 +412,17 @@ fn copy_amended<R: Source, W: Sink>(
         (R.coming reader.new) (R.has_failed reader.new) (W.taken out.old) (W.taken out.new)
         (W.has_failed out.new)) }
 {
-    let last = edited.session.capture();
-    let made = amendment_for(
-        alloc,
-        edited.declared.as_slice(),
-        &edited.first,
-        edited.origins.as_slice(),
-        last,
-    );
-    match made {
-        Ok(amendment) => amend(alloc, reader, SIGNAL_LIMIT as u32, &amendment, out),
-        Err(_) => Err(CopyError::Write(WriteError::NoMemory)),
-    }
+    let Edited {
+        declared,
+        first,
+        origins,
+        cuts,
+        session,
+        ..
+    } = edited;
+    let cuts = cuts.as_slice();
+    let first = after_cuts(alloc, first, cuts)?;
+    let last = session.capture();
+    let amendment = amendment_for(alloc, declared.as_slice(), &first, origins.as_slice(), last)?;
+    amend_after_cuts(alloc, reader, SIGNAL_LIMIT as u32, cuts, &amendment, out)
 }

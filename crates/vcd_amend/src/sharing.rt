@@ -7,7 +7,7 @@ use std::alloc::Global;
 use vcd_core::{Capture, Header, NameWords, NoMemory, Signal, copy_word, copy_words};
 
 /// Two captures with the contents of this one. A signal and its copy share their list of changes
-/// until one of them changes; names and headers are copied.
+/// until one of them changes, and their headers share their words; names are copied.
 pub fn share_capture(alloc: Global, capture: Capture) -> Result<(Capture, Capture), NoMemory>
     ensures { IfOk result (λ both. (contents both.0 ≡ contents capture)
         × (contents both.1 ≡ contents capture)) }
@@ -27,7 +27,7 @@ pub fn share_capture(alloc: Global, capture: Capture) -> Result<(Capture, Captur
     ))
 }
 
-/// A copy of each entry of a header.
+/// A copy of each entry of a header, which shares its words.
 fn copy_header(alloc: Global, header: &[Header]) -> Result<Vec<Header>, NoMemory>
     ensures { IfOk result (λ copies. copies.items ≡ header.now) }
 {
@@ -35,7 +35,7 @@ fn copy_header(alloc: Global, header: &[Header]) -> Result<Vec<Header>, NoMemory
     for entry in header {
         copies.push(Header {
             kind: entry.kind,
-            words: copy_words(alloc, entry.words.as_slice())?,
+            words: entry.words.share()?,
         })?;
     }
     Ok(copies)

@@ -2,6 +2,7 @@
 -- them.
 pub mod Planes
 pub mod EdgeWalk
+pub mod HeaderWords
 pub mod names
 pub mod wave
 pub mod value

@@ -4,6 +4,7 @@ ghost use Rattle.std.specs.Prelude.{◌≡◌, ◌↔◌, IsTrue};
 ghost use Rattle.vcd_core.specs.CaptureContents.{contents};
 ghost use Rattle.vcd_core.specs.Sound.{IsSound};
 
+use crate::header_words::HeaderWords;
 use crate::names::name_words::NameWords;
 use crate::names::scope_path::ScopePath;
 use crate::seq::Seq;
@@ -30,7 +31,7 @@ pub enum HeaderKind {
 #[derive(Drop)]
 pub struct Header {
     pub kind: HeaderKind,
-    pub words: Seq<Word>,
+    pub words: HeaderWords,
 }
 
 /// The unit of a timescale, from a second down to a femtosecond (IEEE 1364-2005, 18.2).

@@ -1,6 +1,7 @@
 //! Decimal numbers, as files, scripts and names write them.
 
-ghost use Rattle.std.specs.Prelude.{◌≡◌, ◌<◌, ◌-◌, ◌^◌, min, length, IsTrue};
+ghost use Rattle.std.specs.Prelude.{◌≡◌, ◌<◌, ◌-◌, ◌^◌, true, false, min, length, IsTrue};
+ghost use Rattle.std.specs.Prelude.{MatchOption};
 ghost use Rattle.std.specs.List.{list_all};
 ghost use Rattle.std.specs.Char.{is_ascii_digit};
 ghost use Rattle.vcd_core.specs.Decimal.{is_number, number_of};
@@ -11,18 +12,14 @@ ghost use Rattle.vcd_core.specs.BoundedNumber.{number_up_to};
 pub fn number_up_to(text: &[u8], most: u64) -> Option<u64>
     ensures { result ≡ number_up_to text.now most }
 {
-    if is_number(text) {
-        Some(number_or_greatest(text).min(most))
-    } else {
-        None
+    // nearly all numbers are short, and no step can pass `u64::MAX` then
+    if text.len() < 20 {
+        return Some(short_number(text)?.min(most));
     }
-}
-
-/// Whether a text is a decimal number: one digit or more, and nothing else.
-fn is_number(text: &[u8]) -> bool
-    ensures { result ≡ is_number text.now }
-{
-    !text.is_empty() && are_digits(text)
+    if !are_digits(text) {
+        return None;
+    }
+    Some(long_number(text).min(most))
 }
 
 fn are_digits(text: &[u8]) -> bool
@@ -31,29 +28,24 @@ fn are_digits(text: &[u8]) -> bool
     text.iter().all(|byte| byte.is_ascii_digit())
 }
 
-/// The number that decimal digits write, or `u64::MAX` if it is greater.
-fn number_or_greatest(digits: &[u8]) -> u64
-    requires { IsTrue (list_all is_ascii_digit digits.now) }
-    ensures { result ≡ min (number_of digits.now) (2 ^ 64 - 1) }
+/// The number that fewer than 20 bytes write; none if they are no decimal number. Each byte is
+/// looked at once.
+fn short_number(text: &[u8]) -> Option<u64>
+    requires { length text.now < 20 }
+    ensures { MatchOption result (is_number text.now ≡ false) (λ number.
+        (is_number text.now ≡ true) × (number ≡ number_of text.now)) }
 {
-    // nearly all numbers are short, and no step can pass `u64::MAX` then
-    if digits.len() < 20 {
-        return short_number(digits);
+    if text.is_empty() {
+        return None;
     }
-    long_number(digits)
-}
-
-/// The number that fewer than 20 decimal digits write.
-fn short_number(digits: &[u8]) -> u64
-    requires digits { IsTrue (list_all is_ascii_digit digits.now) }
-    requires short { length digits.now < 20 }
-    ensures { result ≡ min (number_of digits.now) (2 ^ 64 - 1) }
-{
     let mut number = 0u64;
-    for digit in digits {
-        number = 10 * number + u64::from(*digit - b'0');
+    for byte in text {
+        if !byte.is_ascii_digit() {
+            return None;
+        }
+        number = 10 * number + u64::from(*byte - b'0');
     }
-    number
+    Some(number)
 }
 
 /// The number that decimal digits write, or `u64::MAX` if it is greater.

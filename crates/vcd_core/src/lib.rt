@@ -13,6 +13,7 @@ mod decimal;
 mod device;
 mod edge_walk;
 mod edges;
+mod header_words;
 mod laws;
 mod letter_block;
 mod memory;
@@ -37,6 +38,7 @@ pub use device::{
     write_and_flush,
 };
 pub use edges::{Edge, Edges};
+pub use header_words::{HeaderWords, SpacedWords};
 pub use laws::{
     changes_are_wave, changes_of_own_values, outline_is_sound, same_values_same_changes,
     splice_and_back, splice_back_is_allowed, values_of_changes,

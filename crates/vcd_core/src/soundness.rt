@@ -16,7 +16,7 @@ impl Header {
     fn is_sound(&self) -> bool
         ensures { result ≡ is_sound_header self.now }
     {
-        are_words(self.words.as_slice())
+        self.words.are_words()
     }
 }
 

@@ -1,2 +1,2 @@
 -- Lemmas of `laws`.
-pub mod ShortRuns
+pub mod ShortAndLongRuns

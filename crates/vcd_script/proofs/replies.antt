@@ -1,3 +1,3 @@
 -- Lemmas of `replies`.
-pub mod StepReplies
-pub mod RepliesWithOthers
+pub mod AnsweredLines
+pub mod PrintedSignals

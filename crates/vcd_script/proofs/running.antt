@@ -1,2 +1,4 @@
 -- Lemmas of `running`.
 pub mod PartsOfRun
+pub mod ResultOfRun
+pub mod LinesLeft

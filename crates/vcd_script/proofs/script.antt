@@ -1,4 +1,5 @@
 -- Lemmas of `script`.
 pub mod WrongCounts
-pub mod NamedSignals
 pub mod CommandsOfOutline
+pub mod FirstLine
+pub mod ParsedNumbers

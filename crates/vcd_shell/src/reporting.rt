@@ -141,7 +141,7 @@ pub fn report_without_run<W: Sink>(
     }
 }
 
-/// Writes the text that says why the words of the command line are refused, and flushes the writer.
+/// Writes the text that says why the command line is refused, and flushes the writer.
 fn report_refusal<W: Sink>(text: &str, writer: &mut W)
     ensures { IsReported (W.has_failed writer.new) (W.is_flushed writer.new)
         (W.taken writer.old) (W.taken writer.new) text.now }

@@ -4,7 +4,10 @@ use crate::fixtures::{check_holds, load_file};
 use std::alloc::{AllocError, Global};
 use std::process::Abort;
 use std::test::Fail;
-use vcd_core::{Capture, END_LIMIT, HeaderKind, NameWords, Seq, TimeUnit, Timescale, Word};
+use vcd_core::{
+    Capture, END_LIMIT, HeaderKind, HeaderWords, NameWords, Seq, SpacedWords, TimeUnit, Timescale,
+    Word,
+};
 
 /// A signal that is 1 from tick 5 on, with a scope of one word.
 const FILE: &[u8] = b"\
@@ -52,6 +55,31 @@ fn a_capture_gives_its_parts(rt: HostRuntime) -> Result<(), Fail> {
     assert!(rt; capture.end() == 9);
     assert!(rt; capture.signals().len() == 1);
     assert!(rt; capture.signals()[0].kind.as_slice() == b"wire".as_slice());
+    Ok(())
+}
+
+#[test]
+fn the_words_of_a_header_entry_are_one_text(rt: HostRuntime) -> Result<(), Fail> {
+    let mut words = SpacedWords::new(rt.alloc());
+    words.push(b"a")?;
+    words.clear();
+    words.push(b"two")?;
+    words.push(b"words")?;
+    let entry = HeaderWords::shared(words)?;
+    let other = entry.share()?;
+    assert!(rt; entry.text() == b" two words".as_slice());
+    drop(entry);
+    assert!(rt; other.text() == b" two words".as_slice());
+    assert!(rt; other.are_words());
+    Ok(())
+}
+
+#[test]
+fn the_word_that_ends_an_entry_is_none_of_its_words(rt: HostRuntime) -> Result<(), Fail> {
+    let mut words = SpacedWords::new(rt.alloc());
+    words.push(b"two")?;
+    words.push(b"$end")?;
+    assert!(rt; !HeaderWords::shared(words)?.are_words());
     Ok(())
 }
 

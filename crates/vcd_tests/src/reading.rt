@@ -1,7 +1,7 @@
 //! Files that are read: their meaning and faults, in pieces of any size, and readers that fail.
 
-mod broken_off;
 mod chunks;
+mod failing_readers;
 mod faults;
 mod limits;
 mod parts;

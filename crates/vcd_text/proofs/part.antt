@@ -1,6 +1,5 @@
 -- Lemmas: part.
 pub mod FewSignals
-pub mod PartOfPart
 pub mod LateChanges
 pub mod PartMeanings
 pub mod WholeParts

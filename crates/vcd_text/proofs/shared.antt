@@ -1,12 +1,9 @@
 -- Lemmas: shared.
 pub mod Unfinished
 pub mod ItemTests
-pub mod ItemFaults
-pub mod BoundedNumbers
 pub mod SoundMeaning
 pub mod ResultExists
 pub mod ResultIsUnique
-pub mod OneRefusal
 pub mod FoundFault
 pub mod FaultOfPrefix
 pub mod FirstItem
@@ -15,9 +12,8 @@ pub mod WordOutcomes
 pub mod OneOf
 pub mod WordsInTurn
 pub mod WordsByBytes
-pub mod SharedScopes
-pub mod ValuesOfCodes
-pub mod WeakerTests
 pub mod FailedResults
 pub mod EmittedParts
 pub mod TransitionOrder
+pub mod CodesDiffer
+pub mod ScopePaths

@@ -62,7 +62,7 @@ Take care:
 Exit status:
   0  done, or help or the version is shown
   1  done, but a line of the script was refused
-  2  the words of the command line are refused
+  2  the command line is refused
   3  the capture has a fault, which is shown with its line, or the script is too large
   4  a file can't be opened, read or written, or standard output can't be written
   5  out of memory

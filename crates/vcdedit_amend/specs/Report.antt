@@ -12,7 +12,6 @@ use Rattle.vcdedit_amend.specs.declared.amend_error.AmendError.TheVariants as er
 abbrev pub run_status : AmendRunError → ℕ
 run_status (run_errors.Run e) = run_error_status e
 run_status run_errors.NameOfSkipped = 1
-run_status run_errors.CutInForce = 1
 run_status run_errors.CaptureChanged = 4
 
 -- the exit status of a file that was not amended
@@ -32,8 +31,6 @@ abbrev pub run_text : AmendRunError → List ℕ
 run_text (run_errors.Run e) = run_error_report (codes "vcdedit-amend") e
 run_text run_errors.NameOfSkipped = own_report
     (codes "NameOfSkipped: a signal would get the full name of a variable that is not edited")
-run_text run_errors.CutInForce =
-    own_report (codes "CutInForce: a cut is in force at the end of the script")
 run_text run_errors.CaptureChanged =
     own_report (codes "CaptureChanged: the capture was changed while it was read")
 

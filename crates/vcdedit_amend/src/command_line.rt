@@ -28,7 +28,6 @@ then it is beside it, as .NAME.vcdedit. A link is followed. Anything but a regul
 /dev/stdout, is written as it is.
 
 Not edited here:
-  A cut that is in force at the end of the script is refused.
   A variable of real numbers, strings or events stays, with its changes; no signal can get its name.
 
 Examples:
@@ -39,7 +38,7 @@ Examples:
 Exit status:
   0  done, or help or the version is shown
   1  done, but a line of the script was refused; or what the script leaves can't be written
-  2  the words of the command line are refused
+  2  the command line is refused
   3  the capture has a fault, which is shown with its line, or the script is too large
   4  a file can't be opened, read or written, or standard output can't be written
   5  out of memory

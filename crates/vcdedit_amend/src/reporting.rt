@@ -43,7 +43,7 @@ fn run_status(error: &AmendRunError) -> u8
 {
     match error {
         AmendRunError::Run(error) => vcd_shell::run_error_status(error),
-        AmendRunError::NameOfSkipped | AmendRunError::CutInForce => 1,
+        AmendRunError::NameOfSkipped => 1,
         AmendRunError::CaptureChanged => 4,
     }
 }
@@ -82,11 +82,6 @@ fn report_run<W: Sink>(error: &AmendRunError, writer: &mut W)
         AmendRunError::NameOfSkipped => vcd_shell::report(
             PROGRAM,
             b"NameOfSkipped: a signal would get the full name of a variable that is not edited",
-            writer,
-        ),
-        AmendRunError::CutInForce => vcd_shell::report(
-            PROGRAM,
-            b"CutInForce: a cut is in force at the end of the script",
             writer,
         ),
         AmendRunError::CaptureChanged => vcd_shell::report(

@@ -12,6 +12,9 @@ use vcd_core::{DeviceFault, Source};
 /// What a sum is multiplied by for each byte: one more than a power of 2, which is fast.
 pub const FACTOR: u64 = 8_193;
 
+/// What it is multiplied by for eight bytes: the same eight times.
+const FACTOR_OF_EIGHT: u64 = 315_282_762_120_626_177;
+
 /// How many bytes of a file are read at once to its end.
 const CHUNK: usize = 65_536;
 
@@ -98,6 +101,26 @@ impl<S: Source> Source for Summed<S> {
 
 /// The sum with these bytes after those that it has.
 fn sum_with(sum: u64, bytes: &[u8]) -> u64
+    ensures { result ≡ fold spec.with_byte sum bytes.now }
+{
+    let mut sum = sum;
+    let (eights, rest) = bytes.as_chunks::<8>();
+    for eight in eights {
+        sum = with_eight(sum, eight);
+    }
+    with_bytes(sum, rest)
+}
+
+/// The sum with eight bytes more. Their own sum does not wait for the one before.
+fn with_eight(sum: u64, eight: &[u8; 8]) -> u64
+    ensures { result ≡ fold spec.with_byte sum eight.now }
+{
+    sum.wrapping_mul(FACTOR_OF_EIGHT)
+        .wrapping_add(with_bytes(0, eight))
+}
+
+/// The sum with these bytes, one after another.
+fn with_bytes(sum: u64, bytes: &[u8]) -> u64
     ensures { result ≡ fold spec.with_byte sum bytes.now }
 {
     bytes.iter().fold(sum, |sum, byte| with_byte(sum, *byte))

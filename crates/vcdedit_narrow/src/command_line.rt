@@ -35,8 +35,8 @@ numbers, strings and events.
 
 Exit status:
   0  the part is written, or help or the version is shown
-  1  the capture has not what is asked for
-  2  the words of the command line are refused
+  1  the request does not match the capture
+  2  the command line is refused
   3  the capture has a fault, which is shown with its line
   4  a file can't be opened, read or written
   5  out of memory

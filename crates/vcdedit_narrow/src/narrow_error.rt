@@ -21,7 +21,7 @@ pub enum NarrowError {
     Words(WordsFault),
     /// The capture could not be read.
     Capture(ReadError),
-    /// The capture has not what is asked for; the text says what.
+    /// The request does not match the capture; the text says how.
     Refused { refusal: Refusal, text: Vec<u8> },
     /// The part could not be written.
     Write(WriteError),

@@ -28,7 +28,7 @@ pub struct Request<'m, 'a> {
     pub to: Time,
 }
 
-/// Why a capture has not what is asked for.
+/// Why a request does not match the capture.
 #[derive(Clone, Copy, Debug, PartialEq, Eq)]
 pub enum Refusal {
     /// No signal's full name meets one of the patterns.

@@ -1,8 +1,7 @@
 -- The changes of an amended file are allowed, and its value changes are those of the file for each code
 -- that is not amended, and have the values of the new wave for each one that is.
-use Rattle.std.proofs.Common.{◌≡◌, ℕ, ◌<◌, Bool, true, false, ◌==◌}
-use Rattle.std.proofs.Common.{List, [], ◌∷◌, ◌++◌, length, Option, Some, None, ◌∙◌, All}
-use Rattle.std.proofs.Common.{refl, sym, ap, arith, inl, inr, subst, if◌then◌else◌, not, ◌&&◌}
+use Rattle.std.proofs.Common.{◌≡◌, ℕ, ◌<◌, Bool, true, false, ◌==◌, List, [], ◌∷◌, ◌++◌, length, Option, Some, None}
+use Rattle.std.proofs.Common.{◌∙◌, All, refl, sym, ap, arith, inl, inr, subst, if◌then◌else◌, not, ◌&&◌}
 use Rattle.std.specs.Prelude.{bytes_eq, is_some}
 use Rattle.std.specs.List.{flat_map}
 use Rattle.std.proofs.lemmas.Bool.{cases_Bool, ne_eqb, or_from}
@@ -12,18 +11,18 @@ use Rattle.std.proofs.lemmas.Option.{same_Some}
 use Rattle.vcd_core.specs.declared.bit.Bit.{Bit}
 use Rattle.vcd_core.specs.Tests.{first_fault}
 use Rattle.vcd_text.specs.Items.{Item}
-use Rattle.vcd_text.specs.Grammar.{ValueChange, VariableDeclaration, ParseState, is_skipped}
-use Rattle.vcd_text.specs.Grammar.{value_changes_after, digit_tests}
+use Rattle.vcd_text.specs.Grammar.{ValueChange, VariableDeclaration, ParseState, is_skipped, value_changes_after}
+use Rattle.vcd_text.specs.Grammar.{digit_tests}
+use Rattle.vcd_text.proofs.shared.ItemsInTurn.{Reaches, reaches_none}
 use Rattle.vcd_amend.specs.Amendment.{Amendment, AmendedCode, amended_variables, first_with_code, amended_code}
 use Rattle.vcd_amend.specs.Amendment.{new_value, changes_stand, needs_change}
 use Rattle.vcd_amend.specs.AmendedItems.{is_left_out, items_in_place, file_has_change, due_items, exchange_for}
 use Rattle.vcd_amend.specs.AmendedItems.{value_fate, change_fate}
 use Rattle.vcd_amend.specs.AmendedMeaning.{AreApart, class_of}
-use Rattle.vcd_text.proofs.shared.ItemsInTurn.{Reaches, reaches_none}
-use Rattle.vcd_amend.proofs.amended.Codes.{of_code, same_bytes, of_both, of_own, of_other, bytes_turned}
-use Rattle.vcd_amend.proofs.amended.Found.{found_has, found_is}
-use Rattle.vcd_amend.proofs.amended.OneCode.{value_by, value_early, any_at, of, new_change, due_changes, HoldsNew}
-use Rattle.vcd_amend.proofs.amended.OneCode.{change_stands, change_goes, wave_is_wide}
+use Rattle.vcd_amend.proofs.amended.OneCode.{of_code, same_bytes, of_both, of_own, of_other, bytes_turned, value_by}
+use Rattle.vcd_amend.proofs.amended.OneCode.{value_early, any_at, of, new_change, due_changes, HoldsNew, change_stands}
+use Rattle.vcd_amend.proofs.amended.OneCode.{change_goes, wave_is_wide}
+use Rattle.vcd_amend.proofs.shared.Lists.{found_has, found_is}
 use Rattle.vcd_amend.proofs.amended.Due.{body_of, scopes_left, TakesValues, due_of, due_leads}
 
 -- ---- classes

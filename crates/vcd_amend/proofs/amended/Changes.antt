@@ -1,7 +1,7 @@
 -- All changes of an amended file are allowed, and after them it has the values of the new waves.
-use Rattle.std.proofs.Common.{◌≡◌, ℕ, zero, suc, ◌+◌, ◌-◌, ◌<◌, ◌≤◌, Bool, true, false}
-use Rattle.std.proofs.Common.{List, [], ◌∷◌, ◌++◌, Option, Some, None, ◌∙◌, IsTrue}
-use Rattle.std.proofs.Common.{refl, sym, ap, append_assoc, arith, subst, if◌then◌else◌, not, nat_le, ◌&&◌}
+use Rattle.std.proofs.Common.{◌≡◌, ℕ, zero, suc, ◌+◌, ◌-◌, ◌<◌, ◌≤◌, Bool, true, false, List, [], ◌∷◌, ◌++◌, Option}
+use Rattle.std.proofs.Common.{Some, None, ◌∙◌, IsTrue, refl, sym, ap, append_assoc, arith, subst, if◌then◌else◌, not}
+use Rattle.std.proofs.Common.{nat_le, ◌&&◌}
 use Rattle.std.specs.Prelude.{is_some}
 use Rattle.std.specs.List.{flat_map}
 use Rattle.std.proofs.lemmas.Bool.{and_parts, false≢true, leb-true}
@@ -11,8 +11,8 @@ use Rattle.vcd_core.specs.declared.bit.Bit.{Bit}
 use Rattle.vcd_core.specs.Decimal.{number_of, is_number}
 use Rattle.vcd_core.specs.Tests.{first_fault}
 use Rattle.vcd_text.specs.Letters.{letters_of_digits}
-use Rattle.vcd_text.specs.Items.{Item, entry, timescale, scope, upscope, variable, end_definitions}
-use Rattle.vcd_text.specs.Items.{stamp, scalar, vector, real_or_string, dump_word, other}
+use Rattle.vcd_text.specs.Items.{Item, entry, timescale, scope, upscope, variable, end_definitions, stamp, scalar}
+use Rattle.vcd_text.specs.Items.{vector, real_or_string, dump_word, other}
 use Rattle.vcd_text.specs.Grammar.{ValueChange, VariableDeclaration, ParseState, is_skipped, Allows, variable_of}
 use Rattle.vcd_text.specs.Grammar.{AllowsAll, state_after_item, state_after, value_changes_after, digit_tests}
 use Rattle.vcd_amend.specs.Amendment.{Amendment, AmendedCode, first_with_code, amended_code, old_value}
@@ -21,8 +21,7 @@ use Rattle.vcd_amend.specs.AmendedItems.{items_due_until, amended_items, still_n
 use Rattle.vcd_amend.specs.AmendedMeaning.{class_of}
 use Rattle.vcd_text.proofs.shared.ItemsInTurn.{Reaches, reaches_both, reaches_none, reaches_one}
 use Rattle.vcd_text.proofs.shared.ItemTests.{has_tick, allows_stamp}
-use Rattle.vcd_amend.proofs.amended.Codes.{of_code, of_both}
-use Rattle.vcd_amend.proofs.amended.OneCode.{value_by, any_at, of, HoldsNew, tick_ends}
+use Rattle.vcd_amend.proofs.amended.OneCode.{of_code, of_both, value_by, any_at, of, HoldsNew, tick_ends}
 use Rattle.vcd_amend.proofs.amended.Due.{body_of, due_of, over, all_due_lead, ticks_lead}
 use Rattle.vcd_amend.proofs.amended.Body.{Serves, same_skipped, same_digit_tests, HoldsFor, due_for, due_of_code}
 use Rattle.vcd_amend.proofs.amended.Body.{early_more, ours, rescoped, at, Holds, InBody, Leads, wide_of, change_leads}

@@ -1,36 +1,47 @@
--- The declarations of an amended file are allowed, and declare its variables.
-use Rattle.std.proofs.Common.{◌≡◌, ℕ, zero, suc, ◌-◌, ◌<◌, ◌≤◌, ◌^◌, Bool, true, false, not, ◌∙◌, All, ◌||◌}
-use Rattle.std.proofs.Common.{List, [], ◌∷◌, ◌++◌, map, length, take, replicate}
-use Rattle.std.proofs.Common.{refl, sym, ap, append_assoc, arith, IsTrue, nat_lt, decimal, subst}
-use Rattle.std.specs.List.{flat_map, list_all}
-use Rattle.std.proofs.lemmas.Bool.{false≢true, and_from, and_parts}
+-- The declarations of an amended file are allowed, and declare its variables, which mean the amended capture.
+use Rattle.std.proofs.Common.{◌≡◌, ℕ, zero, suc, ◌-◌, ◌<◌, ◌≤◌, ◌^◌, Bool, true, false, not, ◌∙◌, All, ◌||◌, List, []}
+use Rattle.std.proofs.Common.{◌∷◌, ◌++◌, map, length, take, replicate, refl, sym, ap, append_assoc, arith, IsTrue}
+use Rattle.std.proofs.Common.{nat_lt, decimal, subst, ◌+◌, Option, Some, None, ap₂, inl, inr}
+use Rattle.std.specs.List.{flat_map, list_all, filter}
+use Rattle.std.proofs.lemmas.Bool.{false≢true, and_from, and_parts, cases_Bool}
 use Rattle.std.proofs.lemmas.List.{append-nil, length-take-le}
-use Rattle.std.proofs.lemmas.List.Elements.{All-head, All-tail}
+use Rattle.std.proofs.lemmas.List.Elements.{All-head, All-tail, filter-append}
+use Rattle.std.specs.Prelude.{bytes_eq, count_by, is_some}
+use Rattle.std.proofs.lemmas.List.Sums.{length-filter}
 use Rattle.vcd_core.specs.declared.capture.ScopeName.{ScopeName}
 use Rattle.vcd_core.specs.declared.value.TheConstants.{WIDTH_LIMIT}
 use Rattle.vcd_core.specs.Decimal.{number_of, is_number}
 use Rattle.vcd_core.specs.Sound.{is_sound_scope, IsSoundSignal}
 use Rattle.vcd_core.specs.Word.{is_word}
-use Rattle.vcd_text.specs.Items.{Item, entry, timescale, scope, upscope, variable, end_definitions}
-use Rattle.vcd_text.specs.Items.{stamp, scalar, vector, real_or_string, dump_word, other, has_no_end_word}
-use Rattle.vcd_text.specs.Grammar.{ParseState, VariableDeclaration, is_skipped, kept_variables, may_have_code}
-use Rattle.vcd_text.specs.Grammar.{Allows, state_after_item}
-use Rattle.vcd_amend.specs.Amendment.{flat_map_along, Amendment, Fate, stays, is_removed, is_changed, fate_of}
-use Rattle.vcd_amend.specs.Amendment.{variable_left, variables_left, amended_variables, first_with_code}
-use Rattle.vcd_amend.specs.AmendedItems.{items_in_place, declaration_fate, item_fate, inserted_items, added_items}
-use Rattle.vcd_amend.specs.AmendedItems.{added_declarations}
-use Rattle.vcd_amend.proofs.amended.Due.{scopes_left}
-use Rattle.vcd_amend.specs.AmendedMeaning.{FitsFate, FitsFile, amended_signal}
+use Rattle.vcd_core.specs.declared.wave.Change.{Change}
+use Rattle.vcd_core.specs.Wave.{changes_of}
+use Rattle.vcd_core.proofs.shared.Waves.{changes_of-value_at, changes_same}
+use Rattle.vcd_text.specs.Items.{Item, entry, timescale, scope, upscope, variable, end_definitions, stamp, scalar}
+use Rattle.vcd_text.specs.Items.{vector, real_or_string, dump_word, other, has_no_end_word}
+use Rattle.vcd_text.specs.Grammar.{ParseState, VariableDeclaration, is_skipped, kept_variables, may_have_code, Allows}
+use Rattle.vcd_text.specs.Grammar.{state_after_item, ValueChange}
 use Rattle.vcd_text.specs.inside.reading.Declarations.{is_end_word}
-use Rattle.vcd_text.proofs.shared.SharedScopes.{all_closed}
+use Rattle.vcd_text.proofs.shared.ScopePaths.{all_closed, words_have_no_end}
 use Rattle.vcd_text.proofs.shared.ItemsInTurn.{Reaches, reaches_none, reaches_first, reaches_both, reaches_one}
 use Rattle.vcd_text.proofs.shared.ItemsInTurn.{reaches_same}
 use Rattle.vcd_text.proofs.shared.ItemTests.{has_declaration, allows_upscope, allows_scope, allows_variable}
-use Rattle.vcd_text.proofs.read_back.ScopePaths.{words_have_no_end}
-use Rattle.vcd_text.proofs.read_back.Declarations.{decimal_no_end}
+use Rattle.vcd_text.proofs.read_back.Declarations.{decimal_no_end, sound_is_kept}
 use Rattle.vcd_text.proofs.read_back.Decimals.{decimal_is_number, number_of-decimal}
-use Rattle.vcd_amend.proofs.amended.Along.{flat_map_along-append}
-use Rattle.vcd_amend.proofs.amended.Fitting.{ours, may_have, has_room, fate_fits}
+use Rattle.vcd_text.specs.Meaning.{declared_signal, changes_of_code}
+use Rattle.vcd_amend.specs.Amendment.{flat_map_along, Amendment, Fate, stays, is_removed, is_changed, fate_of}
+use Rattle.vcd_amend.specs.Amendment.{variable_left, variables_left, amended_variables, first_with_code, AmendedCode}
+use Rattle.vcd_amend.specs.Amendment.{amended_code}
+use Rattle.vcd_amend.specs.AmendedItems.{items_in_place, declaration_fate, item_fate, inserted_items, added_items}
+use Rattle.vcd_amend.specs.AmendedItems.{added_declarations}
+use Rattle.vcd_amend.specs.AmendedMeaning.{FitsFate, FitsFile, amended_signal, amended_wave, FitsCode, amended_meaning}
+use Rattle.vcd_amend.proofs.amended.Due.{scopes_left}
+use Rattle.vcd_amend.proofs.amended.Along.{flat_map_along-append, flat_map_along_by}
+use Rattle.vcd_amend.proofs.amended.Fitting.{ours, may_have, has_room, fate_fits, fits_here, fits_of, size_of_class}
+use Rattle.vcd_amend.proofs.amended.OneCode.{of_code, itself, value_by}
+use Rattle.vcd_amend.proofs.shared.Lists.{is_there, some_passes}
+use Rattle.vcd_amend.proofs.amended.Body.{HoldsFor, Holds}
+
+-- ==== the declarations of an amended file are allowed, and declare its variables
 
 -- a state with these open scopes and these variables
 abbrev pub declaring : ParseState → List ScopeName → List VariableDeclaration → ParseState
@@ -49,7 +60,7 @@ module _ (s : ParseState) (declares : s.in_body ≡ false) where
       reaches_first _ _ _ _ (allows_upscope (declaring s scopes ds) declares (omega arith)) (close_n n outer ds (omega
       arith))
 
-  pub scopes_close : (scopes : List ScopeName) (ds : List VariableDeclaration)
+  scopes_close : (scopes : List ScopeName) (ds : List VariableDeclaration)
       → Reaches (declaring s scopes ds) (map (λ s. upscope) scopes) (declaring s [] ds)
   scopes_close scopes ds = rw (all_closed scopes) (close_n (length scopes) scopes ds refl)
 
@@ -112,7 +123,7 @@ module _ (s : ParseState) (declares : s.in_body ≡ false) where
         (reaches_same _ _ _ _ declares_it (ap (λ d. declaring s e.scopes (xs ++ d ∷ [])) it)) (scopes_close e.scopes (xs
         ++ e ∷ [])))
 
-    pub all_added_lead : (xs ys : List VariableDeclaration) → ours a final fit ≡ xs ++ ys
+    all_added_lead : (xs ys : List VariableDeclaration) → ours a final fit ≡ xs ++ ys
         → All (λ d. IsTrue (is_word d.code) × IsSoundSignal final.tick (amended_signal a final d)) ys
         → Reaches (declaring s [] xs) (flat_map added_items ys) (declaring s [] (xs ++ ys))
     all_added_lead xs [] is all = rw (append-nil xs) (reaches_none (declaring s [] xs))
@@ -179,7 +190,7 @@ module _ (s : ParseState) (declares : s.in_body ≡ false) where
             variable_leads s.scopes before kind size new words named (and_from _ _ front_no_end.0 (and_from _ _
             front_no_end.1 (words_have_no_end (new ∷ words) (and_from _ _ coded word)))) fit_words.1 able.0 able.1
 
-        pub declared_leads : Reaches (amending s) (items_in_place (item_fate a s (variable (kind ∷ size ∷ code ∷ name
+        declared_leads : Reaches (amending s) (items_in_place (item_fate a s (variable (kind ∷ size ∷ code ∷ name
             ∷ names))) (variable (kind ∷ size ∷ code ∷ name ∷ names))) (amending (state_after_item s (variable (kind ∷
             size ∷ code ∷ name ∷ names))))
         declared_leads = reaches_same _ _ _ _ (by_fate (fate_of a s.declared d) (fate_fits a final fit s.declared d)
@@ -222,3 +233,93 @@ module _ (s : ParseState) (declares : s.in_body ≡ false) where
     declaration_leads none_yet (dump_word word) more allows goes_on whole =
         absurd (false≢true (sym declares ∙ (and_parts s.in_body _ allows.0).0))
     declaration_leads none_yet (other word words) more allows goes_on whole = reaches_one _ _ _ allows refl
+
+-- ==== the state after an amended file means the amended capture
+
+-- the changes of a code, from its value changes
+abbrev wave_by : ℕ → ℕ → List ValueChange → List Change
+wave_by width end xs = changes_of width end (λ t. value_by width xs t)
+
+module _ (a : Amendment) (s : ParseState) (fit : FitsFile a s) where
+  module _ (vs : List ValueChange) (holds : Holds a s.declared s.value_changes (s.tick + 1) vs) where
+    -- the wave of a variable
+    one_wave : (d : VariableDeclaration) (o : Option AmendedCode) → amended_code d.code a.codes ≡ o
+        → FitsCode o (first_with_code d.code s.declared) d → is_skipped d ≡ false
+        → HoldsFor o (of_code d.code s.value_changes) (s.tick + 1) (of_code d.code vs)
+        → wave_by d.size s.tick (of_code d.code vs)
+        ≡ amended_wave o (wave_by d.size s.tick (of_code d.code s.value_changes))
+    one_wave d None is fits kept same = ap (wave_by d.size s.tick) same
+    one_wave d (Some c) is fits kept new =
+        let size : d.size ≡ c.width = (size_of_class d c.width fits).1 in
+        let fit_c = (fits_of a s fit d.code c is).0 in
+        ap (λ n. wave_by n s.tick (of_code d.code vs)) size ∙ changes_same c.width s.tick _ _ (λ t upto. new.early t
+        (omega arith)) ∙ changes_of-value_at c.width s.tick c.new fit_c.new fit_c.upto
+
+    one_signal : (xs : List VariableDeclaration) (d : VariableDeclaration) (ys : List VariableDeclaration)
+        → ours a s fit ≡ xs ++ d ∷ ys → is_skipped d ≡ false
+        → declared_signal vs s.tick d ≡ amended_signal a s d
+    unfolding changes_of_code
+    one_signal xs d ys is kept =
+        let some : is_some (first_with_code d.code (ours a s fit)) ≡ true = ap (λ l. is_some (first_with_code d.code l))
+        is
+        ∙ some_passes (λ (e : VariableDeclaration). bytes_eq d.code e.code) xs d ys (itself d.code) in
+        let there = is_there (first_with_code d.code (ours a s fit)) some in
+        ap (λ cs. record { scopes = d.scopes; kind = d.kind; words = d.words; width = d.size; changes = cs })
+        (one_wave d (amended_code d.code a.codes) refl (fits_here a s fit xs d ys is) kept (holds d.code there.0
+        there.1))
+
+    signals_from : (xs ys : List VariableDeclaration) → ours a s fit ≡ xs ++ ys
+        → map (declared_signal vs s.tick) (kept_variables ys) ≡ map (amended_signal a s) (kept_variables ys)
+    signals_from xs [] is = refl
+    signals_from xs (d ∷ ys) is =
+        let rest = signals_from (xs ++ d ∷ []) ys (is ∙ sym (append_assoc xs (d ∷ []) ys)) in
+        elim (cases_Bool (is_skipped d)) [
+          | inl skipped ↦ rw skipped rest
+          | inr kept ↦ rw kept (ap₂ (λ x l. x ∷ l) (one_signal xs d ys is kept) rest)
+        ]
+
+    pub signals_mean : map (declared_signal vs s.tick) (kept_variables (ours a s fit)) ≡ (amended_meaning a s).signals
+    signals_mean = signals_from [] (ours a s fit) refl
+
+  -- ---- skipped variables
+
+  skipped_by_fate : (f : Fate) (d : VariableDeclaration) → is_skipped d ≡ false
+      → filter is_skipped (variable_left f d) ≡ filter is_skipped (d ∷ [])
+  skipped_by_fate stays d kept = refl
+  skipped_by_fate is_removed d kept = rw kept refl
+  skipped_by_fate (is_changed words code) d kept = rw kept refl
+
+  skipped_left : (before : List VariableDeclaration) (d : VariableDeclaration)
+      → filter is_skipped (variable_left (fate_of a before d) d) ≡ filter is_skipped (d ∷ [])
+  skipped_left before d = elim (cases_Bool (is_skipped d)) [
+    | inl skipped ↦
+        let fate : fate_of a before d ≡ stays = rw skipped refl in
+        ap (λ f. filter is_skipped (variable_left f d)) fate
+    | inr kept ↦ skipped_by_fate (fate_of a before d) d kept
+  ]
+
+  itself_along : (before ds : List VariableDeclaration) → flat_map_along (λ before d. filter is_skipped (d ∷ [])) before
+      ds
+      ≡ filter is_skipped ds
+  itself_along before [] = refl
+  itself_along before (d ∷ ds) = ap (λ l. filter is_skipped (d ∷ []) ++ l) (itself_along (before ++ d ∷ []) ds)
+      ∙ sym (filter-append is_skipped (d ∷ []) ds)
+
+  none_skipped : (ds : List VariableDeclaration)
+      → All (λ d. IsTrue (is_word d.code) × IsSoundSignal s.tick (amended_signal a s d)) ds → filter is_skipped ds ≡ []
+  none_skipped [] all = refl
+  none_skipped (d ∷ ds) all =
+      let P = λ (d : VariableDeclaration). IsTrue (is_word d.code) × IsSoundSignal s.tick (amended_signal a s d) in
+      let kept : is_skipped d ≡ false = sound_is_kept s.tick 0 (amended_signal a s d) (All-head P d ds all).1 in
+      rw kept (none_skipped ds (All-tail P d ds all))
+
+  pub as_many_skipped : count_by is_skipped (ours a s fit) ≡ count_by is_skipped s.declared
+  as_many_skipped =
+      let left : filter is_skipped (variables_left a s.declared) ≡ filter is_skipped s.declared = flat_map_along_by
+      (filter is_skipped) (λ before d. variable_left (fate_of a before d) d) (λ before d. filter is_skipped (d ∷ []))
+      refl (filter-append is_skipped) s.declared [] s.declared refl (λ xs d ys is. skipped_left xs d) ∙ itself_along []
+      s.declared in
+      let same : filter is_skipped (ours a s fit) ≡ filter is_skipped s.declared = filter-append is_skipped
+      (variables_left a s.declared) a.added ∙ ap₂ (λ x y. x ++ y) left (none_skipped a.added fit.added) ∙ append-nil
+      (filter is_skipped s.declared) in
+      sym (length-filter is_skipped (ours a s fit)) ∙ ap length same ∙ length-filter is_skipped s.declared

@@ -1,7 +1,6 @@
 -- The changes that are due are allowed, and these are their value changes.
-use Rattle.std.proofs.Common.{◌≡◌, ℕ, zero, suc, ◌+◌, ◌<◌, ◌≤◌, Bool, true, false, not, ◌==◌, ◌&&◌}
-use Rattle.std.proofs.Common.{List, [], ◌∷◌, ◌++◌, length, Some, if◌then◌else◌, ◌∙◌}
-use Rattle.std.proofs.Common.{All, refl, sym, ap, append_assoc, arith}
+use Rattle.std.proofs.Common.{◌≡◌, ℕ, zero, suc, ◌+◌, ◌<◌, ◌≤◌, Bool, true, false, not, ◌==◌, ◌&&◌, List, [], ◌∷◌, ◌++◌}
+use Rattle.std.proofs.Common.{length, Some, if◌then◌else◌, ◌∙◌, All, refl, sym, ap, append_assoc, arith}
 use Rattle.std.specs.Prelude.{decimal}
 use Rattle.std.specs.List.{flat_map, range_with_len}
 use Rattle.std.proofs.lemmas.Bool.{eq-eqb, le-leb, ne_eqb}
@@ -19,9 +18,8 @@ use Rattle.vcd_amend.specs.AmendedItems.{due_items, file_has_change}
 use Rattle.vcd_text.proofs.read_back.Decimals.{decimal_is_number, number_of-decimal}
 use Rattle.vcd_core.specs.declared.capture.ScopeName.{ScopeName}
 use Rattle.vcd_text.proofs.shared.ItemsInTurn.{Reaches, reaches_both, reaches_none, reaches_same}
-use Rattle.vcd_text.proofs.read_back.Values.{letter_back, letters_back, short_within, short_one, all_letters}
-use Rattle.vcd_amend.proofs.amended.Codes.{of_code}
-use Rattle.vcd_amend.proofs.amended.OneCode.{due_changes, new_change, wave_is_wide}
+use Rattle.vcd_text.proofs.read_back.Changes.{letter_back, letters_back, short_within, short_one, all_letters}
+use Rattle.vcd_amend.proofs.amended.OneCode.{of_code, due_changes, new_change, wave_is_wide}
 
 -- the scopes that are open after the declarations, if these are before added variables
 abbrev pub scopes_left : (added : List VariableDeclaration) → List ScopeName → List ScopeName

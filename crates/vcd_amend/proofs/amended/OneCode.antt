@@ -1,11 +1,12 @@
 -- The value changes of one code: in the amended file they have the values of its new wave.
-use Rattle.std.proofs.Common.{◌≡◌, ℕ, zero, suc, ◌+◌, ◌<◌, ◌≤◌, ◌∙◌, ◌==◌, Bool, true, false, not, ◌&&◌}
-use Rattle.std.proofs.Common.{List, [], ◌∷◌, ◌++◌, map, length, nat_le, if◌then◌else◌}
-use Rattle.std.proofs.Common.{refl, sym, ap, arith, inl, inr, subst}
-use Rattle.std.specs.List.{list_any}
+use Rattle.std.proofs.Common.{◌≡◌, ℕ, true, false, List, [], ◌∷◌, ◌++◌, refl, arith, inl, inr, Bool, ◌∙◌, sym, ap}
+use Rattle.std.proofs.Common.{subst, zero, suc, ◌+◌, ◌<◌, ◌≤◌, ◌==◌, not, ◌&&◌, map, length, nat_le, if◌then◌else◌}
+use Rattle.std.specs.Prelude.{bytes_eq}
+use Rattle.std.specs.List.{filter, list_any}
 use Rattle.std.proofs.lemmas.Bool.{cases_Bool, cases_lt, and_parts, and_from, or_parts, or_right, or_left, le-leb}
-use Rattle.std.proofs.lemmas.Bool.{lt-leb}
-use Rattle.std.proofs.lemmas.Bool.{eq-eqb, eqb-false}
+use Rattle.std.proofs.lemmas.Bool.{lt-leb, eq-eqb, eqb-false}
+use Rattle.std.proofs.lemmas.List.Elements.{filter-append}
+use Rattle.std.proofs.lemmas.Slice.Eq.{bytes_eq-Decides}
 use Rattle.std.proofs.lemmas.List.{append-nil, map-append, length-replicate}
 use Rattle.std.proofs.lemmas.List.Folds.{list_any-append}
 use Rattle.vcd_core.specs.declared.bit.Bit.{Bit}
@@ -14,10 +15,45 @@ use Rattle.vcd_core.specs.Value.{all_x, same_letters}
 use Rattle.vcd_core.specs.inside.value.EqualByLetters.{same_letters-Decides}
 use Rattle.vcd_core.specs.Wave.{change, value_from, value_at, AreChangesFrom, IsWave}
 use Rattle.vcd_core.proofs.shared.Waves.{value_from-append}
-use Rattle.vcd_text.specs.Letters.{extension, short_form}
 use Rattle.vcd_text.specs.Grammar.{ValueChange}
+use Rattle.vcd_text.specs.Letters.{extension, short_form}
+use Rattle.vcd_text.proofs.read_back.Changes.{found_passes}
 use Rattle.vcd_amend.specs.Amendment.{AmendedCode, old_value, new_value, changes_stand, needs_change, wave_has_change}
-use Rattle.vcd_text.proofs.read_back.Values.{found_passes}
+
+-- ==== the value changes of a code among those of all
+
+-- the value changes of a code
+abbrev pub of_code : List ℕ → List ValueChange → List ValueChange
+of_code code vs = filter (λ v. bytes_eq v.code code) vs
+
+-- equal codes, in either order
+pub same_bytes : (a b : List ℕ) → bytes_eq a b ≡ true → a ≡ b
+same_bytes a b same = (bytes_eq-Decides a b).0 same
+
+pub bytes_turned : (a b : List ℕ) → bytes_eq a b ≡ bytes_eq b a
+bytes_turned a b = grind (arith, bytes_eq-Decides, cases_Bool)
+
+pub itself : (a : List ℕ) → bytes_eq a a ≡ true
+itself a = (bytes_eq-Decides a a).1 refl
+
+pub differ : (a b : List ℕ) → (a ≡ b → ⊥) → bytes_eq a b ≡ false
+differ a b apart = elim (cases_Bool (bytes_eq a b)) [
+  | inl same ↦ absurd (apart (same_bytes a b same))
+  | inr other ↦ other
+]
+
+-- those of two lists
+pub of_both : (code : List ℕ) (xs ys : List ValueChange) → of_code code (xs ++ ys) ≡ of_code code xs ++ of_code code ys
+of_both code xs ys = filter-append (λ v. bytes_eq v.code code) xs ys
+
+-- one of the code, and one of another one
+pub of_own : (v : ValueChange) → of_code v.code (v ∷ []) ≡ v ∷ []
+of_own v = rw (itself v.code) refl
+
+pub of_other : (code : List ℕ) (v : ValueChange) → bytes_eq v.code code ≡ false → of_code code (v ∷ []) ≡ []
+of_other code v apart = rw apart refl
+
+-- ==== in the amended file
 
 -- ---- values by value changes
 
@@ -43,7 +79,7 @@ unfolding value_from
 value_more width xs v t = ap (λ cs. value_from (all_x width) cs t) (map-append (read_change width) xs (v ∷ []))
     ∙ value_from-append (all_x width) (map (read_change width) xs) (read_change width v ∷ []) t
 
-pub value_past : (width : ℕ) (xs : List ValueChange) (v : ValueChange) (t : ℕ) → v.tick ≤ t
+value_past : (width : ℕ) (xs : List ValueChange) (v : ValueChange) (t : ℕ) → v.tick ≤ t
     → value_by width (xs ++ v ∷ []) t ≡ extension width v.letters
 value_past width xs v t past = value_more width xs v t ∙ ap (λ (b : Bool). if b then extension width v.letters else
     value_by width xs t) (le-leb v.tick t past)
@@ -57,7 +93,7 @@ any_more : (xs : List ValueChange) (v : ValueChange) (t : ℕ) → v.tick ≡ t 
 any_more xs v t is = list_any-append (λ v. v.tick == t) xs (v ∷ []) ∙ or_right _ _ (or_left _ _ (eq-eqb v.tick t is))
 
 -- a value is read back from its short form
-pub whole_value : (v : List Bit) → extension (length v) (short_form v) ≡ v
+whole_value : (v : List Bit) → extension (length v) (short_form v) ≡ v
 unfolding short_form
 whole_value v = grind (arith, same_letters-Decides, found_passes)
 

@@ -1,7 +1,7 @@
 -- Every word of the items that are put into an amended file has a byte and no white space.
-use Rattle.std.proofs.Common.{◌≡◌, ◌+◌, ◌-◌, ◌<◌, ◌≤◌, ◌^◌, ◌∙◌, ◌==◌, ℕ, zero, suc, Bool, true, false, not, All}
-use Rattle.std.proofs.Common.{List, [], ◌∷◌, ◌++◌, refl, length, sym, arith, map, inl, inr, decimal, ◌&&◌}
-use Rattle.std.proofs.Common.{if◌then◌else◌, nat_le, Option, Some, None, IsTrue}
+use Rattle.std.proofs.Common.{◌≡◌, ◌+◌, ◌-◌, ◌<◌, ◌≤◌, ◌^◌, ◌∙◌, ◌==◌, ℕ, zero, suc, Bool, true, false, not, All, List}
+use Rattle.std.proofs.Common.{[], ◌∷◌, ◌++◌, refl, length, sym, arith, map, inl, inr, decimal, ◌&&◌, if◌then◌else◌}
+use Rattle.std.proofs.Common.{nat_le, Option, Some, None, IsTrue}
 use Rattle.std.specs.List.{list_all, flat_map, range_with_len}
 use Rattle.std.proofs.lemmas.Bool.{and_parts, and_from, cases_Bool, leb-true}
 use Rattle.std.proofs.lemmas.List.Elements.{All-head, All-tail}
@@ -15,25 +15,23 @@ use Rattle.vcd_core.specs.Word.{is_word, is_white_space}
 use Rattle.vcd_core.specs.Decimal.{is_number, number_of}
 use Rattle.vcd_core.specs.Sound.{IsSoundSignal}
 use Rattle.vcd_text.specs.Letters.{printed_letters, short_form}
-use Rattle.vcd_text.specs.Items.{Item, entry, timescale, scope, upscope, variable, end_definitions}
-use Rattle.vcd_text.specs.Items.{stamp, scalar, vector, real_or_string, dump_word, other, end_word}
+use Rattle.vcd_text.specs.Items.{Item, entry, timescale, scope, upscope, variable, end_definitions, stamp, scalar}
+use Rattle.vcd_text.specs.Items.{vector, real_or_string, dump_word, other, end_word}
 use Rattle.vcd_text.specs.Grammar.{ParseState, VariableDeclaration, Allows}
 use Rattle.vcd_text.specs.Text.{value_item, with_stamp}
+use Rattle.vcd_text.proofs.shared.ItemTests.{has_tick}
+use Rattle.vcd_text.proofs.shared.ScopePaths.{all_closed}
+use Rattle.vcd_text.proofs.read_back.Words.{is_unbroken, is_spelled}
+use Rattle.vcd_text.proofs.read_back.WholeText.{word_is_unbroken, words_are_unbroken, decimal_unbroken}
+use Rattle.vcd_text.proofs.read_back.WholeText.{with_end_unbroken, both_spelled, one_word, longer_unbroken}
+use Rattle.vcd_text.proofs.read_back.WholeText.{printed_no_space, stamped_spelled, upscopes_spelled, scopes_spelled}
 use Rattle.vcd_amend.specs.Amendment.{Amendment, AmendedCode, Fate, stays, is_removed, is_changed, new_value}
 use Rattle.vcd_amend.specs.Amendment.{needs_change, fate_of, changes_stand, amended_code, is_used}
 use Rattle.vcd_amend.specs.AmendedItems.{ItemFate, stands, is_left_out, is_exchanged, file_has_change, due_items}
 use Rattle.vcd_amend.specs.AmendedItems.{items_due_at, items_due_now, added_items, inserted_items, item_fate}
-use Rattle.vcd_amend.specs.AmendedItems.{added_declarations}
-use Rattle.vcd_amend.specs.AmendedItems.{declaration_fate, exchange_for, value_fate}
+use Rattle.vcd_amend.specs.AmendedItems.{added_declarations, declaration_fate, exchange_for, value_fate}
 use Rattle.vcd_amend.specs.AmendedMeaning.{FitsFate, amended_signal}
-use Rattle.vcd_text.proofs.shared.ItemTests.{has_tick}
-use Rattle.vcd_text.proofs.shared.SharedScopes.{all_closed}
-use Rattle.vcd_text.proofs.read_back.Words.{is_unbroken, is_spelled}
-use Rattle.vcd_text.proofs.read_back.SpelledItems.{word_is_unbroken, words_are_unbroken, decimal_unbroken}
-use Rattle.vcd_text.proofs.read_back.SpelledItems.{with_end_unbroken, both_spelled, one_word, longer_unbroken}
-use Rattle.vcd_text.proofs.read_back.SpelledItems.{printed_no_space, stamped_spelled, upscopes_spelled}
-use Rattle.vcd_text.proofs.read_back.SpelledItems.{scopes_spelled}
-use Rattle.vcd_amend.proofs.amended.Found.{found_has}
+use Rattle.vcd_amend.proofs.shared.Lists.{found_has}
 
 pub unbroken_has_no_space : (w : List ℕ) → is_unbroken w ≡ true → list_all (λ b. not (is_white_space b)) w ≡ true
 unbroken_has_no_space [] unbroken = refl

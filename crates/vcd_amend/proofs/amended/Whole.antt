@@ -1,28 +1,25 @@
 -- The items of an amended file are accepted, and mean the amended capture.
-use Rattle.std.proofs.Common.{◌≡◌, ◌⊎◌, ℕ, ◌+◌, Bool, true, false, not, ◌∙◌}
-use Rattle.std.proofs.Common.{List, [], ◌∷◌, ◌++◌, Option, Some, None}
+use Rattle.std.proofs.Common.{◌≡◌, ◌⊎◌, ℕ, ◌+◌, Bool, true, false, not, ◌∙◌, List, [], ◌∷◌, ◌++◌, Option, Some, None}
 use Rattle.std.proofs.Common.{refl, sym, ap, append_assoc, inl, inr, subst}
 use Rattle.std.specs.Prelude.{option_to_list, count_by}
 use Rattle.std.proofs.lemmas.Bool.{false≢true, and_parts, not_from_false}
 use Rattle.std.proofs.lemmas.List.{append-nil}
-use Rattle.vcd_text.specs.Items.{Item, entry, timescale, scope, upscope, variable, end_definitions}
-use Rattle.vcd_text.specs.Items.{stamp, scalar, vector, real_or_string, dump_word, other}
-use Rattle.vcd_text.specs.Grammar.{ParseState, ValueChange, VariableDeclaration, Allows, AllowsAll}
-use Rattle.vcd_text.specs.Grammar.{state_after_item, state_after, declaration_of, initial_state, is_skipped}
+use Rattle.vcd_text.specs.Items.{Item, entry, timescale, scope, upscope, variable, end_definitions, stamp, scalar}
+use Rattle.vcd_text.specs.Items.{vector, real_or_string, dump_word, other}
+use Rattle.vcd_text.specs.Grammar.{ParseState, ValueChange, VariableDeclaration, Allows, AllowsAll, state_after_item}
+use Rattle.vcd_text.specs.Grammar.{state_after, declaration_of, initial_state, is_skipped}
 use Rattle.vcd_text.specs.Meaning.{meaning}
 use Rattle.vcd_amend.specs.Amendment.{Amendment, AmendedCode, variables_left, amended_variables, amended_code}
 use Rattle.vcd_amend.specs.AmendedItems.{amended_items, item_fate, still_none_yet}
 use Rattle.vcd_amend.specs.AmendedMeaning.{FitsFile, MeansAmended, AmendedFileMeansAmendedCapture}
 use Rattle.vcd_text.proofs.shared.ItemsInTurn.{Reaches, reaches_both, reaches_one}
 use Rattle.vcd_text.proofs.part.FewSignals.{same_limit}
-use Rattle.vcd_amend.proofs.amended.Codes.{of_code}
-use Rattle.vcd_amend.proofs.amended.OneCode.{any_at, nothing_holds}
+use Rattle.vcd_amend.proofs.amended.OneCode.{of_code, any_at, nothing_holds}
 use Rattle.vcd_amend.proofs.amended.Due.{body_of, scopes_left}
 use Rattle.vcd_amend.proofs.amended.Body.{HoldsFor, Holds, InBody, rescoped, at, Serves}
 use Rattle.vcd_amend.proofs.amended.Changes.{LeadsOn, all_lead, IsOldAt}
-use Rattle.vcd_amend.proofs.amended.Declared.{declaring, end_leads, declaration_leads}
+use Rattle.vcd_amend.proofs.amended.Declared.{declaring, end_leads, declaration_leads, signals_mean, as_many_skipped}
 use Rattle.vcd_amend.proofs.amended.Fitting.{serves, is_old}
-use Rattle.vcd_amend.proofs.amended.Meaning.{signals_mean, as_many_skipped}
 
 -- ---- what items leave as it is
 

@@ -15,13 +15,14 @@ use Rattle.std.specs.Global.{Vec}
 use Rattle.std.specs.List.{filter, list_any}
 use Rattle.std.specs.Prelude.{bytes_eq, codes}
 use Rattle.std.proofs.lemmas.List.{append-nil}
-use Rattle.vcd_text.specs.Grammar.{ParseState, VariableDeclaration, initial_state, state_after_item}
+use Rattle.vcd_text.specs.Grammar.{ParseState, VariableDeclaration, initial_state, state_after_item, is_skipped}
 use Rattle.vcd_text.specs.Pieces.{Piece, state_of_pieces}
 use Rattle.vcd_text.specs.inside.reading.CodeTargets.{code_target}
-use Rattle.vcd_amend.specs.Retimed.{change_key, has_key, new_tick, lasts}
+use Rattle.vcd_amend.specs.Retimed.{change_key, counts_with, new_tick, lasts, has_kept_variable}
 use Rattle.vcd_amend.specs.RetimedCopy.{pieces_of_step, held_of_step}
 use Rattle.vcd_amend.specs.declared.amending.file_amender.FileAmender.{FileAmender}
 use Rattle.vcd_amend.specs.declared.amending.cut_amender.CutAmender.{CutAmender}
+use Rattle.vcd_amend.specs.declared.amending.cut_amender.CodeVariables.{CodeVariables}
 use Rattle.vcd_amend.specs.declared.amending.held_changes.HeldChange.{HeldChange}
 use Rattle.std.proofs.lemmas.List.Folds.{list_any-append}
 use Rattle.vcd_amend.specs.inside.amending.FileAmender.{HasSeen, with_declared}
@@ -58,6 +59,11 @@ lasts_as s t code same =
     ap (λ (ds : List VariableDeclaration). list_any (λ d. bytes_eq code d.code && not (bytes_eq d.kind (codes
     "event"))) ds) same
 
+pub kept_as : (s t : ParseState) (code : List ℕ) → s.declared ≡ t.declared
+    → has_kept_variable s code ≡ has_kept_variable t code
+kept_as s t code same =
+    ap (λ (ds : List VariableDeclaration). list_any (λ d. bytes_eq code d.code && not (is_skipped d)) ds) same
+
 module _ (m : CutAmender) (before : List Piece) (at : HasSeenAll m before) (p : Piece) (is_text : Bool)
     (code space body : List ℕ) (here : IsChangePiece p is_text code space body) where
   abbrev cut : ℕ → Bool
@@ -78,11 +84,11 @@ module _ (m : CutAmender) (before : List Piece) (at : HasSeenAll m before) (p : 
       ∙ ap (λ (b : Bool). if b then [] else p ∷ []) (sym at.is_cut)
 
   change_held : held_of_step cut s held p
-      ≡ filter (λ q. not (has_key (key_of is_text code) (change_key q.item))) held
-      ++ (if m.is_cut && code_target m.lasting code then p ∷ [] else [])
+      ≡ filter (λ q. not (counts_with (has_kept_variable s) (key_of is_text code) (change_key q.item))) held
+      ++ (if m.is_cut && (code_target m.variables code).lasts then p ∷ [] else [])
   change_held = (change_after cut s held p (key_of is_text code) here.key).holds
-      ∙ ap₂ (λ (a b : Bool). filter (λ q. not (has_key (key_of is_text code) (change_key q.item))) held
-      ++ (if a && b then p ∷ [] else [])) (sym at.is_cut)
+      ∙ ap₂ (λ (a b : Bool). filter (λ q. not (counts_with (has_kept_variable s) (key_of is_text code) (change_key
+      q.item))) held ++ (if a && b then p ∷ [] else [])) (sym at.is_cut)
       (ap (lasts s) (code_is is_text code) ∙ sym (at.lasting code))
 
   with_change : (b : Bool) → (q : List Piece) → q ≡ (if b then [] else p ∷ [])
@@ -106,8 +112,8 @@ module _ (m : CutAmender) (before : List Piece) (at : HasSeenAll m before) (p : 
   pub change_seen : (inner : FileAmender) (holding : Vec HeldChange) (room : ℕ)
       → HasSeen inner (sent ++ (if m.is_cut then [] else p ∷ []))
       → ArePieces (last_held holding.items)
-      (filter (λ q. not (has_key (key_of is_text code) (change_key q.item))) held
-      ++ (if m.is_cut && code_target m.lasting code then p ∷ [] else []))
+      (filter (λ q. not (counts_with (has_kept_variable s) (key_of is_text code) (change_key q.item))) held
+      ++ (if m.is_cut && (code_target m.variables code).lasts then p ∷ [] else []))
       → HasSeenAll (record m { inner = inner; held = holding; room = room }) (before ++ p ∷ [])
   change_seen inner holding room seen holds =
       let c = change_after cut s held p (key_of is_text code) here.key in
@@ -116,6 +122,7 @@ module _ (m : CutAmender) (before : List Piece) (at : HasSeenAll m before) (p : 
         seen = subst (λ l. HasSeen inner (sent ++ l)) (sym change_step) seen;
         holds = subst (ArePieces (last_held holding.items)) (sym change_held) holds;
         lasting = λ key. at.lasting key ∙ sym (lasts_as (state_after_item s p.item) s key (c.declared s));
+        kept = λ key. at.kept key ∙ sym (kept_as (state_after_item s p.item) s key (c.declared s));
         is_cut = at.is_cut ∙ sym (ap cut (c.tick s));
         tick = at.tick ∙ sym (ap (new_tick cut) (c.tick s));
         behind = subst (λ (t : ℕ). t ≤ m.tick) (sym same.0) at.behind;
@@ -168,6 +175,7 @@ released_written m before at small inner empty line none seen =
       seen = seen;
       holds = subst (λ (l : List HeldChange). ArePieces (last_held l) []) (sym none) tt;
       lasting = at.lasting;
+      kept = at.kept;
       is_cut = at.is_cut;
       tick = at.tick;
       behind = after.0;
@@ -317,6 +325,7 @@ module _ (m n : CutAmender) (before : List Piece) (p : Piece) (digits : List ℕ
         seen = seen;
         holds = has.holds;
         lasting = has.lasting;
+        kept = has.kept;
         is_cut = b_is ∙ ap (λ (cs : List CutTicks). is_cut_by cs (number_of digits)) (sym same);
         tick = new_is ∙ ap (λ (cs : List CutTicks). new_tick (is_cut_by cs) (number_of digits)) (sym same);
         behind = after.0;
@@ -340,32 +349,38 @@ module _ (m n : CutAmender) (before : List Piece) (p : Piece) (digits : List ℕ
 pub none_holds : (m : CutAmender) (before : List Piece) → HasSeenAll m before → m.is_cut ≡ false → m.held.items ≡ []
     → (p : Piece) (is_text : Bool) (code : List ℕ)
     → ArePieces (last_held m.held.items)
-    (filter (λ q. not (has_key (key_of is_text code) (change_key q.item))) (held_for (cut_of m) before)
-    ++ (if m.is_cut && code_target m.lasting code then p ∷ [] else []))
+    (filter (λ q. not (counts_with (has_kept_variable (state_of_pieces 0 before)) (key_of is_text code) (change_key
+    q.item))) (held_for (cut_of m) before)
+    ++ (if m.is_cut && (code_target m.variables code).lasts then p ∷ [] else []))
 unfolding last_held
 none_holds m before at left none p is_text code =
     let held = held_for (cut_of m) before in
     let empty : held ≡ [] = no_pieces held (subst (λ (l : List HeldChange). ArePieces (last_held l) held) none
     at.holds) in
     subst (λ (qs : List Piece). ArePieces (last_held m.held.items)
-    (filter (λ q. not (has_key (key_of is_text code) (change_key q.item))) qs
-    ++ (if m.is_cut && code_target m.lasting code then p ∷ [] else []))) (sym empty)
-    (subst (λ (b : Bool). ArePieces (last_held m.held.items) (if b && code_target m.lasting code then p ∷ [] else []))
-    (sym left)
+    (filter (λ q. not (counts_with (has_kept_variable (state_of_pieces 0 before)) (key_of is_text code) (change_key
+    q.item))) qs
+    ++ (if m.is_cut && (code_target m.variables code).lasts then p ∷ [] else []))) (sym empty)
+    (subst (λ (b : Bool). ArePieces (last_held m.held.items) (if b && (code_target m.variables code).lasts then p ∷ []
+    else [])) (sym left)
     (subst (λ (l : List HeldChange). ArePieces (last_held l) []) (sym none) tt))
 
 -- ---- items that stand
 
 pub plain_seen : (m : CutAmender) (before : List Piece) → HasSeenAll m before → (p : Piece) → is_neither p.item ≡ true
-    → (inner : FileAmender) (codes : CodeTargets Bool) → HasSeen inner (sent_for (cut_of m) before ++ p ∷ [])
-    → ((code : List ℕ) → code_target codes code ≡ lasts (state_after_item (state_of_pieces 0 before) p.item) code)
-    → HasSeenAll (record m { inner = inner; lasting = codes }) (before ++ p ∷ [])
-plain_seen m before at p plain inner codes seen lasting =
+    → (inner : FileAmender) (variables : CodeTargets CodeVariables)
+    → HasSeen inner (sent_for (cut_of m) before ++ p ∷ [])
+    → ((code : List ℕ) → (code_target variables code).lasts
+    ≡ lasts (state_after_item (state_of_pieces 0 before) p.item) code)
+    → ((code : List ℕ) → (code_target variables code).is_kept
+    ≡ has_kept_variable (state_after_item (state_of_pieces 0 before) p.item) code)
+    → HasSeenAll (record m { inner = inner; variables = variables }) (before ++ p ∷ [])
+plain_seen m before at p plain inner variables seen lasting kept =
     let cut = cut_of m in
     let s = state_of_pieces 0 before in
     let sent = sent_for cut before in
     let is = plain_is cut s (held_for cut before) p plain in
-    let next : CutAmender = record m { inner = inner; lasting = codes } in
+    let next : CutAmender = record m { inner = inner; variables = variables } in
     let here = state_with sent p in
     let tick : (state_of_pieces 0 (sent ++ p ∷ [])).tick ≡ (state_of_pieces 0 sent).tick =
     ap (λ (t : ParseState). t.tick) here ∙ is.tick (state_of_pieces 0 sent) in
@@ -378,6 +393,7 @@ plain_seen m before at p plain inner codes seen lasting =
       seen = seen;
       holds = at.holds;
       lasting = lasting;
+      kept = kept;
       is_cut = at.is_cut ∙ sym (ap cut (is.tick s));
       tick = at.tick ∙ sym (ap (new_tick cut) (is.tick s));
       behind = subst (λ (t : ℕ). t ≤ m.tick) (sym tick) at.behind;
@@ -390,9 +406,16 @@ or_none true b = refl
 or_none false true = refl
 or_none false false = refl
 
--- the lasting codes with one variable more
+-- the codes that last, and those of kept variables, with one variable more
 pub lasts_more : (s : ParseState) (d : VariableDeclaration) (key : List ℕ)
     → (lasts s key || (bytes_eq key d.code && not (bytes_eq d.kind (codes "event")))) ≡ lasts (with_declared s d) key
 lasts_more s d key =
     let f : VariableDeclaration → Bool = λ e. bytes_eq key e.code && not (bytes_eq e.kind (codes "event")) in
+    sym (list_any-append f s.declared (d ∷ []) ∙ or_none (list_any f s.declared) (f d))
+
+pub kept_more : (s : ParseState) (d : VariableDeclaration) (key : List ℕ)
+    → (has_kept_variable s key || (bytes_eq key d.code && not (is_skipped d)))
+    ≡ has_kept_variable (with_declared s d) key
+kept_more s d key =
+    let f : VariableDeclaration → Bool = λ e. bytes_eq key e.code && not (is_skipped e) in
     sym (list_any-append f s.declared (d ∷ []) ∙ or_none (list_any f s.declared) (f d))

@@ -2,15 +2,14 @@
 use Rattle.std.proofs.Common.{◌≡◌, ◌<◌, ◌+◌, ℕ, Bool, true, false, if◌then◌else◌, List, [], ◌∷◌}
 use Rattle.std.proofs.Common.{◌++◌, length, take, get_or, Result, Ok, is_err, refl, sym, ap}
 use Rattle.std.proofs.Common.{◌∙◌, append_assoc}
-use Rattle.std.specs.Prelude.{fold, nat_eq, replicate, ◌↔◌}
-use Rattle.std.specs.List.{list_any, flat_map, enumerate_from}
+use Rattle.std.specs.Prelude.{fold, nat_eq, replicate, reverse}
+use Rattle.std.specs.List.{list_any, filter_map, flat_map, enumerate_from}
 use Rattle.std.proofs.Math.Seq.{take-length, take-append_seam}
 use Rattle.std.proofs.lemmas.List.{length-append, length-replicate}
 use Rattle.std.proofs.lemmas.List.Sums.{fold-append}
 use Rattle.vcd_core.specs.Contents.{Contents}
 use Rattle.vcd_journal.specs.History.{History, initial_history, replay}
 use Rattle.vcd_journal.specs.Origins.{origins}
-use Rattle.vcd_journal.specs.Cuts.{cuts}
 use Rattle.vcd_journal.specs.Machine.{Machine, initial_machine}
 use Rattle.vcd_journal.proofs.shared.Replay.{IsMachineOf, first_follows}
 use Rattle.vcd_script.specs.declared.script.command.Command.{Command}
@@ -24,11 +23,11 @@ use Rattle.vcd_script.specs.HollowRun.{waves_asked, origins_at, origins_asked, l
 use Rattle.vcd_script.proofs.shared.LinesAndHistory.{answer_is, line_follows}
 use Rattle.vcd_script.proofs.shared.LinesAndHistory.{last_capture as run_capture}
 use Rattle.vcd_amend.specs.inside.dry_running.OriginHistory.{OriginNotes, notes_after_command}
-use Rattle.vcd_amend.specs.inside.dry_running.OriginHistory.{notes_before_edits, is_cut_note}
+use Rattle.vcd_amend.specs.inside.dry_running.OriginHistory.{notes_before_edits, cut_of_note, ticks_of_cuts}
 use Rattle.vcd_amend.specs.inside.dry_running.HeardLines.{origins_heard, notes_after_line, notes_after_lines}
 use Rattle.vcd_amend.specs.inside.dry_running.HeardLines.{origins_heard_in, marked}
 use Rattle.vcd_amend.proofs.dry_running.origin_history.NotesOfHistory.{notes_of, step_follows}
-use Rattle.vcd_amend.proofs.dry_running.origin_history.NotesOfHistory.{first_notes, cut_is_noted}
+use Rattle.vcd_amend.proofs.dry_running.origin_history.NotesOfHistory.{first_notes, cuts_are_noted}
 use Rattle.vcd_amend.proofs.dry_running.Marks.{length-marked, marked_alone}
 
 -- ---- one line
@@ -132,7 +131,7 @@ pub record IsFound (c : Contents) (skipped depth : ℕ) (lines : List (List ℕ)
       → get_or heard k false ≡ list_any (nat_eq k) (origins_asked c skipped depth lines)
   pub one_each : length heard ≡ length c.signals
   pub left : notes.origins ≡ origins (length c.signals) (last_edits c skipped depth lines)
-  pub cut : list_any is_cut_note notes.in_force ≡ false ↔ cuts (last_edits c skipped depth lines) ≡ []
+  pub cuts_are : filter_map cut_of_note (reverse notes.in_force) ≡ ticks_of_cuts (last_edits c skipped depth lines)
   pub last : now.now ≡ last_capture c skipped depth lines
 
 pub found_in_lines : (c : Contents) (skipped depth : ℕ) (lines : List (List ℕ)) (old now : Machine)
@@ -159,7 +158,8 @@ found_in_lines c skipped depth lines old now before notes marks heard first none
       one_each = ap (λ (l : List Bool). length l) asked
           ∙ length-marked (replicate n false) (origins_asked c skipped depth lines) ∙ length-replicate n false;
       left = ap (λ (o : OriginNotes). o.origins) noted_last;
-      cut = rw (ap (λ (o : OriginNotes). o.in_force) noted_last) (cut_is_noted n last.edits);
+      cuts_are = ap (λ (o : OriginNotes). filter_map cut_of_note (reverse o.in_force)) noted_last
+          ∙ cuts_are_noted n last.edits;
       last = ap (λ (m : Machine). m.now) (sym machine ∙ ap (λ (m : Machine). machine_after_lines m lines) first)
           ∙ sym (run_capture c skipped depth lines);
     }

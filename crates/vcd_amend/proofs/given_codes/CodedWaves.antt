@@ -1,6 +1,5 @@
 -- The codes that are given to new waves.
-use Rattle.std.proofs.Common.{◌≡◌, ℕ, ◌+◌, ◌<◌, true, false, ◌∙◌, All}
-use Rattle.std.proofs.Common.{List, [], ◌∷◌, map, Option, Some, None, IsTrue}
+use Rattle.std.proofs.Common.{◌≡◌, ℕ, ◌+◌, ◌<◌, true, false, ◌∙◌, All, List, [], ◌∷◌, map, Option, Some, None, IsTrue}
 use Rattle.std.proofs.Common.{refl, sym, ap, arith, inl, inr}
 use Rattle.std.specs.Prelude.{bytes_eq, is_some}
 use Rattle.std.proofs.lemmas.Bool.{cases_Bool, false≢true, or_left, or_right}
@@ -15,9 +14,9 @@ use Rattle.vcd_text.specs.Meaning.{changes_of_code}
 use Rattle.vcd_amend.specs.Amendment.{AmendedCode, first_with_code, amended_code}
 use Rattle.vcd_amend.specs.AmendedMeaning.{AreApart, class_of}
 use Rattle.vcd_amend.specs.GivenCodes.{NewWave, CodedWave, free_code, coded_wave, coded_waves_from, next_fresh}
-use Rattle.vcd_amend.specs.FreshCodes.{AreFresh}
 use Rattle.vcd_amend.specs.GivenCodes.{also_taken}
-use Rattle.vcd_amend.proofs.amended.Codes.{of_code, itself, differ}
+use Rattle.vcd_amend.specs.FreshCodes.{AreFresh}
+use Rattle.vcd_amend.proofs.amended.OneCode.{of_code, itself, differ}
 
 -- a free code is the own one, and not taken
 pub free_is : (taken : List (List ℕ)) (own : Option (List ℕ)) (code : List ℕ) → free_code taken own ≡ Some code

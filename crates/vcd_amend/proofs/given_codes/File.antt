@@ -1,44 +1,41 @@
 -- The text of a file that is amended for another capture means that capture.
-use Rattle.std.proofs.Common.{◌≡◌, ℕ, ◌+◌, ◌≤◌, Bool, true, false, not, ◌∙◌, All, ◌&&◌, ◌||◌, ◌==◌}
-use Rattle.std.proofs.Common.{List, [], ◌∷◌, ◌++◌, length, Option, Some, None, IsTrue, if◌then◌else◌}
-use Rattle.std.proofs.Common.{refl, sym, ap, arith, inl, inr, subst}
-use Rattle.std.specs.Prelude.{bytes_eq, is_some, codes}
+use Rattle.std.proofs.Common.{◌≡◌, ℕ, ◌+◌, ◌≤◌, Bool, true, false, not, ◌∙◌, All, ◌&&◌, ◌||◌, ◌==◌, List, [], ◌∷◌, ◌++◌}
+use Rattle.std.proofs.Common.{length, Option, Some, None, IsTrue, if◌then◌else◌, refl, sym, ap, arith, inl, inr, subst}
+use Rattle.std.specs.Prelude.{bytes_eq, is_some, codes, drop, count_by}
 use Rattle.std.specs.List.{list_all}
 use Rattle.std.specs.Option.{option_or}
 use Rattle.std.proofs.lemmas.Bool.{cases_Bool, false≢true, and_parts, and_from, eqb-true}
 use Rattle.std.proofs.lemmas.Option.{same_Some}
 use Rattle.std.proofs.lemmas.List.Elements.{All-nil, All-cons, All-head, All-tail, All-weaker, All-append}
 use Rattle.std.proofs.lemmas.List.Folds.{find-append}
-use Rattle.vcd_core.specs.Word.{is_word}
+use Rattle.vcd_core.specs.Word.{is_word, is_white_space}
 use Rattle.vcd_core.specs.Decimal.{number_of}
 use Rattle.vcd_core.specs.declared.bit.Bit.{Bit}
-use Rattle.vcd_text.specs.Items.{Item, entry, timescale, scope, upscope, variable, end_definitions, end_word}
-use Rattle.vcd_text.specs.Items.{stamp, scalar, vector, real_or_string, dump_word, other, has_no_end_word}
+use Rattle.vcd_core.specs.Contents.{SignalContents}
+use Rattle.vcd_core.specs.Sound.{IsSoundSignal}
+use Rattle.vcd_text.specs.Items.{Item, entry, timescale, scope, upscope, variable, end_definitions, end_word, stamp}
+use Rattle.vcd_text.specs.Items.{scalar, vector, real_or_string, dump_word, other, has_no_end_word}
 use Rattle.vcd_text.specs.Grammar.{ParseState, ValueChange, VariableDeclaration, is_skipped, may_have_code, Allows}
 use Rattle.vcd_text.specs.Grammar.{AllowsAll, state_after_item, state_after, initial_state, value_changes_after}
 use Rattle.vcd_text.specs.Grammar.{variable_of, kept_variables}
 use Rattle.vcd_text.specs.Meaning.{FileMeans, meaning}
+use Rattle.vcd_text.specs.Pieces.{Piece}
+use Rattle.vcd_text.proofs.shared.ItemTests.{has_declaration}
+use Rattle.vcd_text.proofs.part.FewSignals.{same_limit}
+use Rattle.vcd_text.proofs.read_back.Words.{is_unbroken, is_spelled}
 use Rattle.vcd_amend.specs.Amendment.{first_with_code}
 use Rattle.vcd_amend.specs.AmendedMeaning.{class_of, FitsFile, amended_meaning}
-use Rattle.vcd_text.specs.Pieces.{Piece}
 use Rattle.vcd_amend.specs.AmendedText.{amended_text}
 use Rattle.vcd_amend.specs.CodedAmendment.{AreAlike}
 use Rattle.vcd_amend.specs.GivenCodes.{AreSignalsOf, IsFileState, AmendedTextMeansOtherCapture, amendment_for}
 use Rattle.vcd_amend.specs.GivenCodes.{signals_left}
 use Rattle.vcd_amend.specs.FreshCodes.{fresh_code}
-use Rattle.vcd_core.specs.Contents.{SignalContents}
-use Rattle.vcd_core.specs.Sound.{IsSoundSignal}
-use Rattle.std.specs.Prelude.{drop, count_by}
-use Rattle.vcd_core.specs.Word.{is_white_space}
-use Rattle.vcd_text.proofs.shared.ItemTests.{has_declaration}
-use Rattle.vcd_text.proofs.part.FewSignals.{same_limit}
-use Rattle.vcd_text.proofs.read_back.Words.{is_unbroken, is_spelled}
-use Rattle.vcd_amend.proofs.amended.Codes.{itself}
+use Rattle.vcd_amend.proofs.amended.OneCode.{itself}
+use Rattle.vcd_amend.proofs.shared.Lists.{some_first}
 use Rattle.vcd_amend.proofs.amended.WholeText.{SpellsItem, HasSpace, HasSomeSpace, items_of, body_is_unbroken}
 use Rattle.vcd_amend.proofs.amended.WholeText.{text_of_pieces}
 use Rattle.vcd_amend.proofs.given_codes.FreshCodes.{fresh_codes_are_fresh}
 use Rattle.vcd_amend.proofs.given_codes.Gives.{amendment_fits, signals_are}
-use Rattle.vcd_amend.proofs.amended.Found.{some_first}
 use Rattle.vcd_amend.proofs.given_codes.Fits.{all_fit, signals_given}
 
 -- ---- classes

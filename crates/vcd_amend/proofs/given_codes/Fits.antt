@@ -1,21 +1,21 @@
 -- The codes that are given fit the other capture.
-use Rattle.std.proofs.Common.{◌≡◌, ℕ, zero, suc, ◌+◌, ◌≤◌, Bool, true, false, ◌∙◌, All}
-use Rattle.std.proofs.Common.{List, [], ◌∷◌, ◌++◌, map, length, Option, Some, None, if◌then◌else◌, take, drop}
-use Rattle.std.proofs.Common.{refl, sym, ap, ap₂, append_assoc, arith, inl, inr, subst}
+use Rattle.std.proofs.Common.{◌≡◌, ℕ, ◌+◌, ◌≤◌, Bool, true, false, ◌∙◌, All, List, [], ◌∷◌, ◌++◌, map, length, Option}
+use Rattle.std.proofs.Common.{Some, None, if◌then◌else◌, take, drop, refl, sym, ap, ap₂, append_assoc, arith, inl, inr}
+use Rattle.std.proofs.Common.{subst}
 use Rattle.std.specs.Prelude.{find, bytes_eq, is_some}
 use Rattle.std.specs.List.{list_any}
-use Rattle.std.specs.Option.{option_or}
 use Rattle.std.proofs.lemmas.Bool.{cases_Bool, false≢true, or_left, or_right}
 use Rattle.std.proofs.lemmas.Option.{same_Some}
-use Rattle.std.proofs.lemmas.List.{take-append-drop, length-map}
+use Rattle.std.proofs.lemmas.List.{take-append-drop, length-map, take-map, drop-map}
+use Rattle.std.proofs.Math.Seq.{take-append_seam, drop-append_seam}
 use Rattle.std.proofs.lemmas.List.Elements.{All-nil, All-cons, All-head, All-tail, All-weaker, All-append, All-map}
-use Rattle.std.proofs.lemmas.List.Folds.{find-append}
 use Rattle.vcd_core.specs.Word.{is_word, is_one_of}
 use Rattle.vcd_core.specs.Wave.{IsWave, AllUpTo}
 use Rattle.vcd_core.specs.Contents.{SignalContents}
 use Rattle.vcd_core.specs.Sound.{IsSoundSignal}
 use Rattle.vcd_text.specs.Grammar.{ParseState, VariableDeclaration, is_skipped, kept_variables}
 use Rattle.vcd_text.specs.Meaning.{declared_signal}
+use Rattle.vcd_text.proofs.pieces.Cuts.{all_parts}
 use Rattle.vcd_amend.specs.Amendment.{Amendment, AmendedCode, first_with_code, amended_code, amended_variables}
 use Rattle.vcd_amend.specs.AmendedMeaning.{AreApart, class_of, FitsAmendedCode}
 use Rattle.vcd_amend.specs.CodedAmendment.{CodedSignal, derived_variable, coded_amendment, signals_of_coded, HasWave}
@@ -26,46 +26,17 @@ use Rattle.vcd_amend.specs.GivenCodes.{code_for_wave, coded_signal, coded_signal
 use Rattle.vcd_amend.specs.GivenCodes.{AreSignalsOf, signals_left, IsFileState, GivenCodesFit}
 use Rattle.vcd_amend.specs.FreshCodes.{AreFresh, fresh_code}
 use Rattle.vcd_amend.proofs.given_codes.FreshCodes.{fresh_codes_are_fresh}
-use Rattle.vcd_amend.proofs.amended.Codes.{itself}
-use Rattle.vcd_text.proofs.pieces.Cuts.{all_parts}
-use Rattle.vcd_amend.proofs.amended.Found.{found_has, found_is, is_there, some_passes, each_of_both}
-use Rattle.vcd_amend.proofs.amended.Found.{some_first, some_last}
+use Rattle.vcd_amend.proofs.amended.OneCode.{itself}
+use Rattle.vcd_amend.proofs.shared.Lists.{found_has, found_is, is_there, some_passes, each_of_both, some_first}
+use Rattle.vcd_amend.proofs.shared.Lists.{some_last, found_first, all_of_map}
 use Rattle.vcd_amend.proofs.amended.Fitting.{found_apart}
-use Rattle.vcd_amend.proofs.given_codes.Variables.{with_coded_signal, kept_to, later, declared_to, variables_to}
-use Rattle.vcd_amend.proofs.given_codes.Gives.{kept_class}
+use Rattle.vcd_amend.proofs.given_codes.Gives.{with_coded_signal, kept_to, later, declared_to, variables_to, kept_class}
 use Rattle.vcd_amend.proofs.given_codes.CodedWaves.{OwnKnown, taken_not_given, coded_apart, waves_are, IsOwn, IsNewWave}
 use Rattle.vcd_amend.proofs.given_codes.CodedWaves.{IsCodedWave, are_coded_waves}
 use Rattle.vcd_amend.proofs.given_codes.NewWaves.{HasOwn, changes_from_test, new_wave_parts, is_first, WavesApart}
-use Rattle.vcd_amend.proofs.given_codes.NewWaves.{firsts_apart}
-use Rattle.vcd_amend.proofs.given_codes.NewWaves.{firsts_have, found_by_wave, found_itself}
+use Rattle.vcd_amend.proofs.given_codes.NewWaves.{firsts_apart, firsts_have, found_by_wave, found_itself}
 
 -- ---- lists
-
-pub all_of_map : {A B : Type 0} (P : B → Type 0) (f : A → B) (xs : List A) → All P (map f xs) → All (λ x. P (f x)) xs
-all_of_map P f [] all = All-nil (λ x. P (f x))
-all_of_map P f (x ∷ xs) all = All-cons (λ x. P (f x)) x xs (All-head P (f x) (map f xs) all)
-    (all_of_map P f xs (All-tail P (f x) (map f xs) all))
-
-map_take : {A B : Type 0} (f : A → B) (n : ℕ) (xs : List A) → map f (take n xs) ≡ take n (map f xs)
-map_take f zero xs = refl
-map_take f (suc n) [] = refl
-map_take f (suc n) (x ∷ xs) = ap (λ l. f x ∷ l) (map_take f n xs)
-
-map_drop : {A B : Type 0} (f : A → B) (n : ℕ) (xs : List A) → map f (drop n xs) ≡ drop n (map f xs)
-map_drop f zero xs = refl
-map_drop f (suc n) [] = refl
-map_drop f (suc n) (x ∷ xs) = map_drop f n xs
-
-take_first : {A : Type 0} (xs ys : List A) → take (length xs) (xs ++ ys) ≡ xs
-take_first [] ys = refl
-take_first (x ∷ xs) ys = ap (λ l. x ∷ l) (take_first xs ys)
-
-drop_first : {A : Type 0} (xs ys : List A) → drop (length xs) (xs ++ ys) ≡ ys
-drop_first [] ys = refl
-drop_first (x ∷ xs) ys = drop_first xs ys
-
-found_first : {A : Type 0} (p : A → Bool) (xs ys : List A) (x : A) → find p xs ≡ Some x → find p (xs ++ ys) ≡ Some x
-found_first p xs ys x found = find-append p xs ys ∙ ap (λ o. option_or o (find p ys)) found
 
 each_is_one : (cs : List (List ℕ)) → All (λ c. is_one_of cs c ≡ true) cs
 each_is_one [] = All-nil (λ c. is_one_of [] c ≡ true)
@@ -202,12 +173,14 @@ module _ (fresh : ℕ → List ℕ) (s : ParseState) (are_fresh : AreFresh s fre
       both = sym (take-append-drop (length firsts) gs)
 
       waves_in_front : map (λ g. g.wave) front ≡ firsts
-      waves_in_front = map_take (λ (g : CodedWave). g.wave) (length firsts) gs ∙ ap (take (length firsts)) waves_of_all
-          ∙ take_first firsts (map derived_new_wave derived)
+      waves_in_front = sym (take-map (λ (g : CodedWave). g.wave) (length firsts) gs)
+          ∙ ap (take (length firsts)) waves_of_all
+          ∙ take-append_seam firsts (map derived_new_wave derived)
 
       waves_behind : map (λ g. g.wave) back ≡ map derived_new_wave derived
-      waves_behind = map_drop (λ (g : CodedWave). g.wave) (length firsts) gs ∙ ap (drop (length firsts)) waves_of_all
-          ∙ drop_first firsts (map derived_new_wave derived)
+      waves_behind = sym (drop-map (λ (g : CodedWave). g.wave) (length firsts) gs)
+          ∙ ap (drop (length firsts)) waves_of_all
+          ∙ drop-append_seam firsts (map derived_new_wave derived)
 
       -- each new wave of a changed variable is met
       abbrev IsMet : NewWave → Type 0

@@ -1,13 +1,14 @@
 -- There are always fresh codes, no two of them are the same, and they come in the order of positions.
-use Rattle.std.proofs.Common.{◌≡◌, ℕ, zero, suc, ◌+◌, ◌<◌, ◌≤◌, Bool, true, false, not, ◌∙◌, ◌&&◌, ◌||◌}
-use Rattle.std.proofs.Common.{List, [], ◌∷◌, ◌++◌, map, length, if◌then◌else◌, get_or, add-one}
-use Rattle.std.proofs.Common.{refl, sym, ap, arith, inl, inr, subst, ◌-◌, Option, Some, None}
+use Rattle.std.proofs.Common.{◌≡◌, ℕ, zero, suc, ◌+◌, ◌<◌, ◌≤◌, Bool, true, false, not, ◌∙◌, ◌&&◌, ◌||◌, List, [], ◌∷◌}
+use Rattle.std.proofs.Common.{◌++◌, map, length, if◌then◌else◌, get_or, add-one, refl, sym, ap, arith, inl, inr, subst}
+use Rattle.std.proofs.Common.{◌-◌, Option, Some, None}
 use Rattle.std.specs.Prelude.{bytes_eq, is_some}
 use Rattle.std.specs.List.{filter, range_with_len, list_all}
 use Rattle.std.proofs.lemmas.Bool.{cases_Bool, cases_lt, and_parts, and_from, false≢true}
 use Rattle.std.proofs.lemmas.List.{append-nil, length-append, get_or_append_left}
 use Rattle.std.proofs.lemmas.List.FromFn.{filter_of_map_range_with_len_more, length-map-range_with_len}
 use Rattle.std.proofs.lemmas.List.Filters.{length-filter_both}
+use Rattle.std.proofs.Math.Seq.{get_or-append_seam}
 use Rattle.vcd_core.specs.Word.{is_word, is_white_space}
 use Rattle.vcd_text.specs.Items.{end_word}
 use Rattle.vcd_text.specs.Grammar.{ParseState, VariableDeclaration, variable_of}
@@ -15,8 +16,8 @@ use Rattle.vcd_text.specs.Text.{code_of}
 use Rattle.vcd_amend.specs.Amendment.{first_with_code}
 use Rattle.vcd_amend.specs.FreshCodes.{is_fresh, fresh_codes, fresh_code, AreFresh, FreshCodesAreFresh}
 use Rattle.vcd_amend.specs.FreshCodes.{FreshCodesAreInOrder}
-use Rattle.vcd_text.proofs.read_back.CodesDiffer.{codes_differ, code_not_empty, code_no_space}
-use Rattle.vcd_amend.proofs.amended.Codes.{same_bytes, differ}
+use Rattle.vcd_text.proofs.shared.CodesDiffer.{codes_differ, code_not_empty, code_no_space}
+use Rattle.vcd_amend.proofs.amended.OneCode.{same_bytes, differ}
 
 -- ---- how many codes are not fresh
 
@@ -166,10 +167,6 @@ module _ (s : ParseState) where
     count : length (fresh_codes s position) ≡ n
     is : get_or (fresh_codes s most) n [] ≡ code_of position
 
-  seam : {A : Type 0} (xs : List A) (y d : A) → get_or (xs ++ y ∷ []) (length xs) d ≡ y
-  seam [] y d = refl
-  seam (x ∷ xs) y d = seam xs y d
-
   module _ (n : ℕ) where
     one_more : (most : ℕ) → (n < length (fresh_codes s most) → HasPosition n most)
         → n < length (fresh_codes s (most + 1)) → HasPosition n (most + 1)
@@ -196,7 +193,8 @@ module _ (s : ParseState) where
               count = last;
               is = ap (λ l. get_or l n []) (more most) ∙ ap (λ (b : Bool). get_or (fresh_codes s most
                   ++ (if b then code_of most ∷ [] else [])) n []) fresh ∙ subst (λ m. get_or (fresh_codes s most
-                  ++ code_of most ∷ []) m [] ≡ code_of most) last (seam (fresh_codes s most) (code_of most) []);
+                  ++ code_of most ∷ []) m [] ≡ code_of most) last
+                  (get_or-append_seam (fresh_codes s most) (code_of most) [] []);
             }
         by_test false taken late = let long = as_long most taken in absurd (omega (arith, long, some))
 

@@ -1,30 +1,130 @@
--- Codes that fit another capture give an amendment that fits the file, and that capture.
-use Rattle.std.proofs.Common.{◌≡◌, ℕ, suc, ◌+◌, ◌<◌, Bool, true, false, not, ◌∙◌, All, ◌&&◌}
-use Rattle.std.proofs.Common.{List, [], ◌∷◌, ◌++◌, map, length, Option, Some, None, IsTrue}
-use Rattle.std.proofs.Common.{refl, sym, ap, ap₂, append_assoc, arith, if◌then◌else◌, subst}
-use Rattle.std.specs.Prelude.{bytes_eq, is_some}
-use Rattle.std.specs.List.{list_all}
+-- Codes that fit another capture give an amendment that fits the file, with its variables, and that capture.
+use Rattle.std.proofs.Common.{◌≡◌, ◌+◌, Bool, true, false, not, ◌∙◌, ◌&&◌, List, [], ◌∷◌, ◌++◌, length, Option, Some}
+use Rattle.std.proofs.Common.{None, get_or, refl, sym, ap, ap₂, append_assoc, arith, inl, inr, if◌then◌else◌, ℕ, suc}
+use Rattle.std.proofs.Common.{◌<◌, All, map, IsTrue, subst}
 use Rattle.std.specs.Str.{bytes_eq}
-use Rattle.std.specs.Cmp.Lexicographic.{pointwise}
+use Rattle.std.specs.Cmp.Lexicographic.{pointwise, pointwise_decides}
+use Rattle.std.proofs.lemmas.Bool.{cases_Bool, and_parts}
 use Rattle.std.proofs.lemmas.List.{length-append, length-map, map-append}
-use Rattle.std.proofs.lemmas.List.Elements.{All-nil, All-cons, All-head, All-tail, All-append, filter-append}
+use Rattle.std.proofs.lemmas.List.Elements.{filter-append, All-nil, All-cons, All-head, All-tail, All-append}
+use Rattle.std.proofs.lemmas.Slice.Eq.{bytes_eq-Decides}
+use Rattle.std.specs.Prelude.{is_some}
+use Rattle.std.specs.List.{list_all}
 use Rattle.vcd_core.specs.Word.{is_word}
 use Rattle.vcd_core.specs.Sound.{IsSoundSignal}
-use Rattle.vcd_text.specs.Grammar.{ParseState, VariableDeclaration, is_skipped, kept_variables}
+use Rattle.vcd_text.specs.Grammar.{VariableDeclaration, is_skipped, kept_variables, ParseState}
 use Rattle.vcd_text.specs.Meaning.{declared_signal, meaning}
-use Rattle.vcd_amend.specs.Amendment.{Amendment, AmendedCode, stays, is_changed, first_with_code, amended_code}
-use Rattle.vcd_amend.specs.Amendment.{amended_variables}
+use Rattle.vcd_text.proofs.read_back.Declarations.{sound_is_kept}
+use Rattle.vcd_text.proofs.pieces.Cuts.{all_parts}
+use Rattle.vcd_amend.specs.Amendment.{Amendment, Fate, stays, fate_of, variable_left, flat_map_along, AmendedCode}
+use Rattle.vcd_amend.specs.Amendment.{is_changed, first_with_code, amended_code, amended_variables}
+use Rattle.vcd_amend.specs.CodedAmendment.{CodedSignal, fate_for, fates_for, derived_variable, coded_amendment}
+use Rattle.vcd_amend.specs.CodedAmendment.{signals_of_coded, HasWave, IsCodedSignalOf, AreCodedSignalsOf}
+use Rattle.vcd_amend.specs.CodedAmendment.{IsCodedDerived, CodesFit, CodedAmendmentGivesCapture}
 use Rattle.vcd_amend.specs.AmendedMeaning.{class_of, FitsFate, FitsCode, FitsAmendedCode, FitsFile, amended_signal}
 use Rattle.vcd_amend.specs.AmendedMeaning.{amended_meaning, amended_wave}
-use Rattle.vcd_amend.specs.CodedAmendment.{CodedSignal, fates_for, derived_variable, coded_amendment, signals_of_coded}
-use Rattle.vcd_amend.specs.CodedAmendment.{HasWave, IsCodedSignalOf, AreCodedSignalsOf, IsCodedDerived, CodesFit}
-use Rattle.vcd_amend.specs.CodedAmendment.{CodedAmendmentGivesCapture}
-use Rattle.vcd_text.proofs.read_back.DeclaredSignals.{sound_is_kept}
-use Rattle.vcd_amend.proofs.amended.Codes.{itself}
-use Rattle.vcd_text.proofs.pieces.Cuts.{all_parts}
-use Rattle.vcd_amend.proofs.amended.Found.{is_there, some_passes, found_has, found_is}
-use Rattle.vcd_amend.proofs.amended.Codes.{same_bytes}
-use Rattle.vcd_amend.proofs.given_codes.Variables.{with_coded_signal, declared_to, variables_to}
+use Rattle.vcd_amend.proofs.amended.OneCode.{itself, same_bytes}
+use Rattle.vcd_amend.proofs.shared.Lists.{is_there, some_passes, found_has, found_is}
+
+-- ==== the variables of a file that is amended to mean another capture
+
+-- what is declared in place of a variable, if this is left of it
+abbrev pub with_coded_signal : VariableDeclaration → CodedSignal → VariableDeclaration
+with_coded_signal d t = record d { words = t.signal.words; code = t.code }
+
+-- what is declared in place of variables, if these are left of the kept ones
+abbrev pub kept_to : (skipped : Bool) → VariableDeclaration → List (Option CodedSignal) → List VariableDeclaration
+kept_to true d os = d ∷ []
+kept_to false d [] = d ∷ []
+kept_to false d (None ∷ os) = []
+kept_to false d (Some t ∷ os) = with_coded_signal d t ∷ []
+
+abbrev pub later : {A : Type 0} → (skipped : Bool) → List A → List A
+later true os = os
+later false [] = []
+later false (o ∷ os) = os
+
+abbrev pub declared_to : List VariableDeclaration → List (Option CodedSignal) → List VariableDeclaration
+declared_to [] os = []
+declared_to (d ∷ ds) os = kept_to (is_skipped d) d os ++ declared_to ds (later (is_skipped d) os)
+
+-- a variable that stays is what is left of it
+declared_one : (d : VariableDeclaration) (t : CodedSignal) → variable_left (fate_for d (Some t)) d
+    ≡ with_coded_signal d t ∷ []
+declared_one d t = elim (cases_Bool (pointwise bytes_eq d.words t.signal.words && bytes_eq d.code t.code)) [
+  | inl same ↦
+      let parts = and_parts (pointwise bytes_eq d.words t.signal.words) (bytes_eq d.code t.code) same in
+      let words : d.words ≡ t.signal.words = (pointwise_decides bytes_eq-Decides d.words t.signal.words).0 parts.0 in
+      let code : d.code ≡ t.code = (bytes_eq-Decides d.code t.code).0 parts.1 in
+      rw same (ap₂ (λ w c. record d { words = w; code = c } ∷ []) words code)
+  | inr apart ↦ rw apart refl
+]
+
+-- the element after a list
+at_end : (fs : List Fate) (f : Fate) (gs : List Fate) → get_or (fs ++ f ∷ gs) (length fs) stays ≡ f
+at_end [] f gs = refl
+at_end (x ∷ fs) f gs = at_end fs f gs
+
+one_kept : (before : List VariableDeclaration) (d : VariableDeclaration) (skipped : Bool) → is_skipped d ≡ skipped
+    → length (kept_variables (before ++ d ∷ [])) ≡ length (kept_variables before) + (if skipped then 0 else 1)
+one_kept before d true is = ap length (filter-append (λ d. not (is_skipped d)) before (d ∷ [])) ∙ length-append
+    (kept_variables before) _ ∙ rw is refl
+one_kept before d false is = ap length (filter-append (λ d. not (is_skipped d)) before (d ∷ [])) ∙ length-append
+    (kept_variables before) _ ∙ rw is refl
+
+-- as many are left as variables are kept
+abbrev pub AsMany : List VariableDeclaration → List (Option CodedSignal) → Type 0
+AsMany ds os = length (kept_variables ds) ≡ length os
+
+-- the variables that are left
+pub variables_to : (a : Amendment) (before ds : List VariableDeclaration) (os : List (Option CodedSignal))
+    (fs : List Fate)
+    → a.fates ≡ fs ++ fates_for (kept_variables ds) os → length fs ≡ length (kept_variables before) → AsMany ds os
+    → flat_map_along (λ before d. variable_left (fate_of a before d) d) before ds ≡ declared_to ds os
+variables_to a before [] os fs is long many = refl
+variables_to a before (d ∷ ds) os fs is long many =
+    by_kind (is_skipped d) refl os is many (λ os fs is long many. variables_to a (before ++ d ∷ []) ds os fs is long
+    many)
+  where
+    by_kind : (skipped : Bool) → is_skipped d ≡ skipped → (os : List (Option CodedSignal))
+        → a.fates ≡ fs ++ fates_for (kept_variables (d ∷ ds)) os → AsMany (d ∷ ds) os
+        → ((os : List (Option CodedSignal)) (fs : List Fate) → a.fates ≡ fs ++ fates_for (kept_variables ds) os
+        → length fs ≡ length (kept_variables (before ++ d ∷ [])) → AsMany ds os
+        → flat_map_along (λ before d. variable_left (fate_of a before d) d) (before ++ d ∷ []) ds ≡ declared_to ds os)
+        → variable_left (fate_of a before d) d ++ flat_map_along (λ before d. variable_left (fate_of a before d) d)
+        (before ++ d ∷ []) ds ≡ kept_to skipped d os ++ declared_to ds (later skipped os)
+    by_kind true skips os is many again =
+        let fate : fate_of a before d ≡ stays = rw skips refl in
+        let none : kept_variables (d ∷ ds) ≡ kept_variables ds = rw skips refl in
+        ap₂ (λ x y. x ++ y) (ap (λ f. variable_left f d) fate) (again os fs (is ∙ ap (λ l. fs
+        ++ fates_for l os) none) (omega (arith, long, one_kept before d true skips)) (ap length (sym none) ∙ many))
+    by_kind false kept [] is many again =
+        let one : kept_variables (d ∷ ds) ≡ d ∷ kept_variables ds = rw kept refl in
+        let never : length (d ∷ kept_variables ds) ≡ 0 = ap length (sym one) ∙ many in
+        absurd (omega (arith, never))
+    by_kind false kept (o ∷ os) is many again =
+        let one : kept_variables (d ∷ ds) ≡ d ∷ kept_variables ds = rw kept refl in
+        let all : a.fates ≡ fs ++ fate_for d o ∷ fates_for (kept_variables ds) os = is ∙ ap
+        (λ l. fs ++ fates_for l (o ∷ os)) one in
+        let fate : fate_of a before d ≡ fate_for d o = ap (λ (b : Bool). if b then stays else get_or a.fates (length
+        (kept_variables before)) stays) kept ∙ ap (λ l. get_or l (length (kept_variables before)) stays) all ∙ ap (λ n.
+        get_or (fs ++ fate_for d o ∷ fates_for (kept_variables ds) os) n stays) (sym long) ∙ at_end fs (fate_for d o) _
+        in
+        let more : length (d ∷ kept_variables ds) ≡ length (o ∷ os) = ap length (sym one) ∙ many in
+        let rest = again os (fs ++ fate_for d o ∷ []) (all ∙ sym (append_assoc fs (fate_for d o
+        ∷ []) (fates_for (kept_variables ds) os))) (length-append fs _ ∙ omega (
+          arith,
+          long,
+          one_kept before d false
+              kept,
+        )) (omega (arith, more)) in
+        ap₂ (λ x y. x ++ y) (ap (λ f. variable_left f d) fate ∙ here o) rest
+      where
+        here : (o : Option CodedSignal) → variable_left (fate_for d o) d ≡ kept_to false d (o ∷ os)
+        here None = refl
+        here (Some t) = declared_one d t
+
+-- ==== codes that fit another capture give an amendment that fits the file, and that capture
 
 -- a kept variable has its size
 pub kept_class : (d : VariableDeclaration) → is_skipped d ≡ false → class_of d ≡ Some d.size
@@ -42,7 +142,7 @@ module _ (s : ParseState) (left : List (Option CodedSignal)) (derived : List Cod
   a = coded_amendment s left derived cs
 
   -- as many are left as variables are kept
-  pub as_many : (ds : List VariableDeclaration) (os : List (Option CodedSignal)) → AreCodedSignalsOf s cs ds os
+  as_many : (ds : List VariableDeclaration) (os : List (Option CodedSignal)) → AreCodedSignalsOf s cs ds os
       → length ds ≡ length os
   as_many [] [] all = refl
   as_many [] (o ∷ os) all = absurd all

@@ -1,7 +1,6 @@
 -- Each new wave of a changed variable is met by one coded wave.
-use Rattle.std.proofs.Common.{◌≡◌, ℕ, ◌==◌, Bool, true, false, ◌∙◌, All, ◌&&◌, ◌||◌}
-use Rattle.std.proofs.Common.{List, [], ◌∷◌, map, Option, Some, None, if◌then◌else◌}
-use Rattle.std.proofs.Common.{refl, sym, ap, ap₂, inl, inr}
+use Rattle.std.proofs.Common.{◌≡◌, ℕ, ◌==◌, Bool, true, false, ◌∙◌, All, ◌&&◌, ◌||◌, List, [], ◌∷◌, map, Option, Some}
+use Rattle.std.proofs.Common.{None, if◌then◌else◌, refl, sym, ap, ap₂, inl, inr}
 use Rattle.std.specs.Prelude.{find, is_some}
 use Rattle.std.specs.List.{list_any}
 use Rattle.std.proofs.lemmas.Bool.{cases_Bool, false≢true, or_left, or_right, or_from, and_parts, and_from, eqb-true}
@@ -11,7 +10,7 @@ use Rattle.vcd_core.specs.declared.wave.Change.{Change}
 use Rattle.vcd_core.specs.Value.{same_letters}
 use Rattle.vcd_core.specs.inside.value.EqualByLetters.{same_letters-Decides}
 use Rattle.vcd_amend.specs.GivenCodes.{NewWave, CodedWave, same_changes, same_own_code, same_new_wave, distinct_waves}
-use Rattle.vcd_amend.proofs.amended.Codes.{itself, same_bytes}
+use Rattle.vcd_amend.proofs.amended.OneCode.{itself, same_bytes}
 
 -- ---- equal new waves
 

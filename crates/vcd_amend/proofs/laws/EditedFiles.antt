@@ -17,9 +17,11 @@ use Rattle.vcd_amend.specs.Retimed.{new_tick, retimed_signal, retimed_pieces, re
 use Rattle.vcd_amend.specs.Retimed.{change_key, held_with}
 use Rattle.vcd_amend.specs.AmendedItems.{stands, is_exchanged}
 use Rattle.vcd_amend.specs.RetimedLaws.{is_in_cut, tick_before_cut, pieces_after, bytes_of, MeansRetimed}
+use Rattle.vcd_amend.specs.RetimedLaws.{CanBeRetimed}
 use Rattle.vcd_text.proofs.shared.SoundMeaning.{meaning_is_sound}
 use Rattle.vcd_text.proofs.pieces.Cuts.{file_is_cut}
 use Rattle.vcd_amend.proofs.retimed.Ticks.{cuts_leave_ticks}
+use Rattle.vcd_amend.proofs.retimed.Meaning.{state_is}
 use Rattle.vcd_amend.proofs.retimed.Pieces.{retimed_is_meant, cut_spells_items}
 use Rattle.vcd_edit.specs.declared.edit.Edit.{Edit}
 use Rattle.vcd_edit.specs.declared.edit.Edit.TheVariants.{Cut}
@@ -39,7 +41,7 @@ use Rattle.vcd_script.proofs.shared.FittingCuts.{cuts_of_run_fit}
 -- ---- ticks
 
 -- if none is cut out, ticks stay
-all_stay : (t : ℕ) → new_tick (λ (u : ℕ). false) t ≡ t
+pub all_stay : (t : ℕ) → new_tick (λ (u : ℕ). false) t ≡ t
 unfolding new_tick
 all_stay zero = refl
 all_stay (suc t) = omega (arith, all_stay t)
@@ -67,7 +69,7 @@ retimed_is_replay c es sound fit =
 
 -- ---- without a cut
 
-abbrev none : ℕ → Bool
+abbrev pub none : ℕ → Bool
 none t = false
 
 none_cut_out : (es : List Edit) → cuts es ≡ [] → is_cut_out_by es ≡ none
@@ -96,7 +98,7 @@ none_held s p (vector first digits code) = refl
 none_held s p (real_or_string first text code) = refl
 none_held s p i = refl
 
-pieces_stay : (s : ParseState) (ps : List Piece) → retimed_pieces none s [] ps ≡ ps
+pub pieces_stay : (s : ParseState) (ps : List Piece) → retimed_pieces none s [] ps ≡ ps
 unfolding retimed_pieces
 pieces_stay s [] = refl
 pieces_stay s (p ∷ ps) =
@@ -155,14 +157,23 @@ module _ (file : List ℕ) (pieces : List Piece) (tail : List ℕ) (depth : ℕ)
   fit : CutsFit (meaning s) es
   fit = cuts_of_run_fit (meaning s) skipped depth lines (length lines)
 
+  can : CanBeRetimed (is_cut_out_by es) (tick_before_cuts es) SIGNAL_LIMIT file pieces tail
+  can =
+      let ticks = cuts_in_force_leave_ticks (meaning s) es fit in
+      record { ticks = ticks.0; cut = cut; allowed = allowed; in_body = in_body; end = ticks.1 }
+
   retimed : MeansRetimed (is_cut_out_by es) (tick_before_cuts es) SIGNAL_LIMIT s
       (pieces_after (is_cut_out_by es) SIGNAL_LIMIT pieces) tail
-  retimed =
-      let ticks = cuts_in_force_leave_ticks (meaning s) es fit in
-      retimed_is_meant (is_cut_out_by es) (tick_before_cuts es) SIGNAL_LIMIT file pieces tail
-      (record { ticks = ticks.0; cut = cut; allowed = allowed; in_body = in_body; end = ticks.1 })
+  retimed = retimed_is_meant (is_cut_out_by es) (tick_before_cuts es) SIGNAL_LIMIT file pieces tail can
 
-  is_after_cuts : IsAfterCuts s (state_of_pieces SIGNAL_LIMIT (pieces_after (is_cut_out_by es) SIGNAL_LIMIT pieces)) es
+  -- the file after the cuts has the variables of the file
+  pub same_declared : (state_of_pieces SIGNAL_LIMIT (pieces_after (is_cut_out_by es) SIGNAL_LIMIT pieces)).declared
+      ≡ s.declared
+  same_declared = ap (λ (t : ParseState). t.declared)
+      (state_is (is_cut_out_by es) (tick_before_cuts es) SIGNAL_LIMIT file pieces tail can)
+
+  pub is_after_cuts : IsAfterCuts s
+      (state_of_pieces SIGNAL_LIMIT (pieces_after (is_cut_out_by es) SIGNAL_LIMIT pieces)) es
   is_after_cuts = record {
     means = retimed.means ∙ retimed_is_replay (meaning s) es (meaning_is_sound file s accepted) fit;
     left_out = retimed.left_out;

@@ -1,13 +1,12 @@
 -- The file after a run means the last capture, and without a cut what may not go stands in it.
-use Rattle.std.proofs.Common.{◌≡◌, ◌≤◌, ◌+◌, ℕ, true, List, [], ◌∷◌, Option, refl, sym, ap, subst, ◌∙◌, map, length}
+use Rattle.std.proofs.Common.{◌≡◌, ◌≤◌, ◌+◌, ℕ, List, [], ◌∷◌, Option, refl, sym, ap, subst, map, length}
 use Rattle.std.proofs.Common.{arith, IsTrue}
 use Rattle.std.specs.Prelude.{count_by}
 use Rattle.std.proofs.lemmas.List.{length-append}
 use Rattle.vcd_core.specs.declared.capture.TheConstants.{SIGNAL_LIMIT}
 use Rattle.vcd_core.specs.Contents.{Contents, SignalContents}
 use Rattle.vcd_core.specs.Sound.{IsSound}
-use Rattle.vcd_text.specs.Words.{words_of}
-use Rattle.vcd_text.specs.Grammar.{ParseState, initial_state, is_skipped, AllowsAll, Accepts}
+use Rattle.vcd_text.specs.Grammar.{ParseState, initial_state, is_skipped, AllowsAll}
 use Rattle.vcd_text.specs.Meaning.{meaning, FileMeans}
 use Rattle.vcd_text.specs.Pieces.{Piece, IsCut, state_of_pieces}
 use Rattle.vcd_text.proofs.part.FewSignals.{same_limit}
@@ -19,10 +18,10 @@ use Rattle.vcd_script.specs.Script.{script_lines}
 use Rattle.vcd_script.specs.Run.{RunOutcome, outcome, IsRun}
 use Rattle.vcd_script.specs.HollowRun.{last_edits, last_capture}
 use Rattle.vcd_script.proofs.shared.LawsOfRun.{laws}
-use Rattle.vcd_amend.specs.GivenCodes.{IsFileState, signals_left, amendment_for}
+use Rattle.vcd_amend.specs.GivenCodes.{signals_left, amendment_for}
 use Rattle.vcd_amend.specs.WhatStands.{may_go, may_come, BecomesText}
 use Rattle.vcd_amend.specs.AmendedRun.{signals_remaining, signals_derived, IsAfterCuts}
-use Rattle.vcd_amend.specs.EditedText.{PiecesMean, edited_text, pieces_after_cuts}
+use Rattle.vcd_amend.specs.EditedText.{PiecesMean, edited_text}
 use Rattle.vcd_amend.specs.AmendRun.{IsAmendRun}
 use Rattle.vcd_amend.specs.AmendOnBytes.{IsEditedFile, may_be_put_in}
 use Rattle.vcd_amend.proofs.given_codes.File.{state_of_file}

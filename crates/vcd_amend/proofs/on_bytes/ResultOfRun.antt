@@ -1,6 +1,6 @@
 -- Bytes in memory amended by a script: what is given follows from how the run ended.
-use Rattle.std.proofs.Common.{◌≡◌, Ok, Err, ℕ, zero, suc, List, [], Option, Some, Bool, false, true, IsFalse, IsTrue}
-use Rattle.std.proofs.Common.{sym, ap, subst, ◌∙◌, ◌<◌, inl, inr, take, length, refl}
+use Rattle.std.proofs.Common.{◌≡◌, Ok, Err, ℕ, zero, suc, List, [], Option, Some, false, true}
+use Rattle.std.proofs.Common.{sym, ap, subst, ◌∙◌, ◌<◌, ◌≤◌, inl, inr, take, length}
 use Rattle.std.specs.Prelude.{◌⊎◌}
 use Rattle.std.specs.List.{concat}
 use Rattle.vcd_core.specs.declared.capture.TheConstants.{SIGNAL_LIMIT}
@@ -14,7 +14,7 @@ use Rattle.vcd_text.specs.declared.reading.TheConstants.{LONG_FILE_LIMIT}
 use Rattle.vcd_script.specs.declared.running.run_error.RunError.TheVariants as run_errors
 use Rattle.vcd_script.specs.declared.running.run_error.Summary.{Summary}
 use Rattle.vcd_script.specs.Script.{script_lines}
-use Rattle.vcd_script.specs.Run.{RunOutcome, outcome, IsRun}
+use Rattle.vcd_script.specs.Run.{RunOutcome, IsRun}
 use Rattle.vcd_amend.specs.declared.running.AmendRunError.{AmendRunError}
 use Rattle.vcd_amend.specs.declared.running.AmendRunError.TheVariants as errors
 use Rattle.vcd_amend.specs.AmendRun.{IsAmendRun}
@@ -47,7 +47,8 @@ module _ (file script : List ℕ) (depth : ℕ) (made : List ℕ) (passes : Pass
   -- what is given where a run reached its end
   pub texts_of_run : (text : List ℕ) (summary : Summary) → output.before ≡ Some [] → Some text ≡ output.after
       → AmendRunEnds depth passes lines replies (Some output) (Ok summary)
-      → ((written : RunOutcome) × (ran : IsRun file script depth written) × (made ≡ concat written.replies)
+      → ((length file ≤ LONG_FILE_LIMIT)
+      × (written : RunOutcome) × (ran : IsRun file script depth written) × (made ≡ concat written.replies)
       × (summary.refused ≡ written.refused)
       × IsEditedFile file ran.contents ran.skipped depth (script_lines script) text
       × (s : ParseState) × Accepts SIGNAL_LIMIT (words_of file) s
@@ -55,10 +56,11 @@ module _ (file script : List ℕ) (depth : ℕ) (made : List ℕ) (passes : Pass
       × ((written : RunOutcome) × IsAmendRun file script depth written × (text ≡ written.output))
   unfolding AmendRunEnds
   texts_of_run text summary output_empty output_is ends =
-      let one = rw (was_empty, sym made_is, output_empty, sym output_is) at (ends.2 file script shows is_script) in
+      let one = rw (was_empty, sym made_is, output_empty, sym output_is) at (ends.3 file script shows is_script) in
       let run = run_of_amend_run file script depth one.0 one.1 in
       let can = ends.1.1 file script shows is_script in (
         (
+          ends.2 file shows,
           run.0,
           run.1,
           one.2.0 ∙ ap concat run.2,
@@ -111,12 +113,5 @@ module _ (file script : List ℕ) (depth : ℕ) (made : List ℕ) (passes : Pass
         let run = run_of_amend_run file script depth one.0 one.1 in
         (run.0, run.1, one.2 ∙ ap concat run.2)
     refusal_of_run errors.NameOfSkipped ends =
-        let found = ends.1 file script shows is_script in (nothing_made ends.0.0, found.0, found.1, found.2)
-    refusal_of_run errors.CutInForce ends =
-        let found = ends.1 file script shows is_script in (
-          nothing_made ends.0.0,
-          outcome found.0 found.1 depth (script_lines script),
-          record { contents = found.0; skipped = found.1; means = found.2; run = refl },
-          found.3,
-        )
+        let found = ends.2 file script shows is_script in (nothing_made ends.1.0, found.0, found.1, found.2)
     refusal_of_run errors.CaptureChanged ends = absurd (ends.1 file shows)

@@ -1,7 +1,6 @@
 -- A retimed file is accepted, piece by piece.
-use Rattle.std.proofs.Common.{◌≡◌, ℕ, ◌<◌, ◌≤◌, ◌∙◌, ◌==◌, ◌^◌, Bool, true, false, not}
-use Rattle.std.proofs.Common.{List, [], ◌∷◌, ◌++◌, refl, ap, sym, arith, if◌then◌else◌, ◌&&◌}
-use Rattle.std.proofs.Common.{Some, IsTrue, subst, decimal, All}
+use Rattle.std.proofs.Common.{◌≡◌, ℕ, ◌<◌, ◌≤◌, ◌∙◌, ◌==◌, ◌^◌, Bool, true, false, not, List, [], ◌∷◌, ◌++◌, refl, ap}
+use Rattle.std.proofs.Common.{sym, arith, if◌then◌else◌, ◌&&◌, Some, IsTrue, subst, decimal, All}
 use Rattle.std.proofs.lemmas.Bool.{false≢true, le-leb, ltb-true, eqb-true, and_from}
 use Rattle.std.proofs.lemmas.List.{map-append}
 use Rattle.std.proofs.lemmas.List.Elements.{All-nil, All-cons, All-head, All-tail, All-append, All-filter, All-weaker}
@@ -11,17 +10,15 @@ use Rattle.vcd_text.specs.Items.{Item, stamp}
 use Rattle.vcd_text.specs.Grammar.{ParseState, ValueChange, Allows, AllowsAll, state_after_item, state_after}
 use Rattle.vcd_amend.specs.AmendedItems.{stands, is_left_out, is_exchanged}
 use Rattle.vcd_text.specs.Pieces.{Piece}
-use Rattle.vcd_amend.specs.Retimed.{new_tick, ChangeKey, change_key, has_key, code_of_key, lasts}
-use Rattle.vcd_amend.specs.Retimed.{held_with, is_past, stamp_line, released_pieces, retimed_stamp, pieces_in_place}
-use Rattle.vcd_amend.specs.Retimed.{retimed_pieces}
+use Rattle.vcd_amend.specs.Retimed.{new_tick, ChangeKey, change_key, counts_with, code_of_key, lasts, held_with}
+use Rattle.vcd_amend.specs.Retimed.{is_past, has_kept_variable, stamp_line, released_pieces, retimed_stamp}
+use Rattle.vcd_amend.specs.Retimed.{pieces_in_place, retimed_pieces}
 use Rattle.vcd_text.proofs.shared.ItemTests.{allows_stamp}
-use Rattle.vcd_text.proofs.shared.ItemsInTurn.{Reaches, reaches_none, reaches_one, reaches_both}
-use Rattle.vcd_text.proofs.shared.ItemsInTurn.{reaches_same}
+use Rattle.vcd_text.proofs.shared.ItemsInTurn.{Reaches, reaches_none, reaches_one, reaches_both, reaches_same}
 use Rattle.vcd_text.proofs.read_back.Decimals.{decimal_is_number, number_of-decimal}
-use Rattle.vcd_amend.proofs.retimed.Ticks.{is_earlier, rises}
-use Rattle.vcd_amend.proofs.retimed.Kinds.{at, IsChange, IsStill, kind_of, is_stamp, is_change, is_still}
-use Rattle.vcd_amend.proofs.retimed.Kinds.{change_of_key, body_stays, retimed_still, retimed_change, retimed_by_stamp}
-use Rattle.vcd_amend.proofs.retimed.StampTicks.{IsTickAfter, stamp_ticks, items_of}
+use Rattle.vcd_amend.proofs.retimed.Ticks.{is_earlier, rises, IsTickAfter, stamp_ticks, items_of}
+use Rattle.vcd_amend.proofs.retimed.Kinds.{at, IsChange, IsStill, kind_of, is_stamp, is_change, is_still, change_of_key}
+use Rattle.vcd_amend.proofs.retimed.Kinds.{body_stays, retimed_still, retimed_change, retimed_by_stamp}
 use Rattle.vcd_amend.proofs.retimed.LastChanges.{IsHeld}
 
 -- a held change is allowed
@@ -226,8 +223,8 @@ module _ (is_cut_out : ℕ → Bool) where
   held_can : (s : ParseState) (held : List Piece) (p : Piece) (k : ChangeKey) → IsChange p.item k → Allows s p.item
       → All (CanStand s) held → All (CanStand (state_after_item s p.item)) (held_with is_cut_out s held p (Some k))
   held_can s held p k change allows all = All-append (CanStand (state_after_item s p.item)) _ _ (All-filter (λ h. not
-      (has_key k (change_key h.item))) (CanStand (state_after_item s p.item)) held (all_can_after s p.item allows held
-      all))
+      (counts_with (has_kept_variable s) k (change_key h.item))) (CanStand (state_after_item s p.item)) held
+      (all_can_after s p.item allows held all))
       (one (is_cut_out s.tick && lasts s (code_of_key k)))
     where
       itself : CanStand s p

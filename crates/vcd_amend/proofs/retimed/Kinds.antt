@@ -1,31 +1,119 @@
 -- The items of a retimed file: stamps, changes, and those that are neither.
-use Rattle.std.proofs.Common.{◌≡◌, ℕ, ◌∙◌, Bool, true, false, not}
-use Rattle.std.proofs.Common.{List, [], ◌∷◌, ◌++◌, refl, ap, sym, if◌then◌else◌, inl, inr, ◌&&◌, Option}
-use Rattle.std.proofs.Common.{Some, None}
-use Rattle.std.specs.Prelude.{is_some}
+use Rattle.std.proofs.Common.{◌≡◌, ℕ, ◌∙◌, Bool, true, false, not, List, [], ◌∷◌, ◌++◌, refl, ap, sym, if◌then◌else◌}
+use Rattle.std.proofs.Common.{inl, inr, ◌&&◌, ◌||◌, Option, Some, None}
+use Rattle.std.specs.Prelude.{is_some, bytes_eq}
 use Rattle.std.proofs.lemmas.Bool.{cases_Bool, and_parts, false≢true}
 use Rattle.vcd_core.specs.Decimal.{number_of}
-use Rattle.vcd_text.specs.Items.{Item, entry, timescale, scope, upscope, variable, end_definitions}
-use Rattle.vcd_text.specs.Items.{stamp, scalar, vector, real_or_string, dump_word, other}
-use Rattle.vcd_text.specs.Grammar.{ParseState, ValueChange, Allows, AllowsAll, state_after_item, state_after}
+use Rattle.vcd_text.specs.Items.{Item, entry, timescale, scope, upscope, variable, end_definitions, stamp, scalar}
+use Rattle.vcd_text.specs.Items.{vector, real_or_string, dump_word, other}
+use Rattle.vcd_text.specs.Grammar.{ParseState, VariableDeclaration, ValueChange, Allows, AllowsAll, state_after_item}
+use Rattle.vcd_text.specs.Grammar.{state_after, is_skipped}
 use Rattle.vcd_amend.specs.AmendedItems.{stands, is_left_out}
 use Rattle.vcd_text.specs.Pieces.{Piece}
-use Rattle.vcd_amend.specs.Retimed.{ChangeKey, digits_key, text_key, change_key, same_key, held_with, is_past}
+use Rattle.std.specs.List.{list_any}
+use Rattle.vcd_amend.specs.Retimed.{ChangeKey, digits_key, text_key, change_key, code_of_key}
+use Rattle.vcd_amend.specs.Retimed.{counts_with, held_with, is_past, has_kept_variable}
 use Rattle.vcd_amend.specs.Retimed.{released_pieces, retimed_stamp, retimed_fate, pieces_in_place, retimed_pieces}
 use Rattle.vcd_amend.specs.RetimedLaws.{tick_after_item, is_stamp_of, is_neither}
-use Rattle.vcd_amend.proofs.amended.Codes.{same_bytes, itself}
+use Rattle.vcd_amend.proofs.amended.OneCode.{same_bytes, bytes_turned, itself}
 
 -- ---- keys
 
-pub keys_same : (a b : ChangeKey) → same_key a b ≡ true → a ≡ b
-keys_same (digits_key a) (digits_key b) same = ap digits_key (same_bytes a b same)
-keys_same (text_key a) (text_key b) same = ap text_key (same_bytes a b same)
-keys_same (digits_key a) (text_key b) same = absurd (false≢true same)
-keys_same (text_key a) (digits_key b) same = absurd (false≢true same)
+or_true : (b : Bool) → (b || true) ≡ true
+or_true true = refl
+or_true false = refl
 
-pub key_itself : (a : ChangeKey) → same_key a a ≡ true
-key_itself (digits_key a) = itself a
-key_itself (text_key a) = itself a
+-- whether two keys have one form
+abbrev pub same_form : ChangeKey → ChangeKey → Bool
+same_form (digits_key a) (digits_key b) = true
+same_form (text_key a) (text_key b) = true
+same_form a b = false
+
+-- keys of one form have one form with the same others
+same_forms : (a b x : ChangeKey) (one : Bool) → (same_form a b || one) ≡ true
+    → (same_form a x || one) ≡ (same_form b x || one)
+same_forms a b x true same = or_true (same_form a x) ∙ sym (or_true (same_form b x))
+same_forms (digits_key a) (digits_key b) (digits_key x) false same = refl
+same_forms (digits_key a) (digits_key b) (text_key x) false same = refl
+same_forms (text_key a) (text_key b) (digits_key x) false same = refl
+same_forms (text_key a) (text_key b) (text_key x) false same = refl
+same_forms (digits_key a) (text_key b) x false same = absurd (false≢true same)
+same_forms (text_key a) (digits_key b) x false same = absurd (false≢true same)
+
+form_turned : (a b : ChangeKey) → same_form a b ≡ same_form b a
+form_turned (digits_key a) (digits_key b) = refl
+form_turned (digits_key a) (text_key b) = refl
+form_turned (text_key a) (digits_key b) = refl
+form_turned (text_key a) (text_key b) = refl
+
+form_itself : (a : ChangeKey) → same_form a a ≡ true
+form_itself (digits_key a) = refl
+form_itself (text_key a) = refl
+
+and_true : (b : Bool) → b ≡ (b && true)
+and_true true = refl
+and_true false = refl
+
+module _ (is_kept : List ℕ → Bool) where
+  -- whether changes with these keys count together
+  abbrev pub count_together : ChangeKey → ChangeKey → Bool
+  count_together a b = counts_with is_kept a (Some b)
+
+  together_is : (a b : ChangeKey) → count_together a b
+      ≡ (bytes_eq (code_of_key a) (code_of_key b) && (same_form a b || not (is_kept (code_of_key a))))
+  together_is (digits_key a) (digits_key b) = and_true (bytes_eq a b)
+  together_is (text_key a) (text_key b) = and_true (bytes_eq a b)
+  together_is (digits_key a) (text_key b) = refl
+  together_is (text_key a) (digits_key b) = refl
+
+  pub key_itself : (a : ChangeKey) → count_together a a ≡ true
+  key_itself a = together_is a a ∙ rw (itself (code_of_key a), form_itself a) refl
+
+  -- changes that count together are of one code, and of one form if a kept variable has it
+  parts : (a b : ChangeKey) → count_together a b ≡ true → (code_of_key a ≡ code_of_key b)
+      × ((same_form a b || not (is_kept (code_of_key a))) ≡ true)
+  parts a b same =
+      let both = and_parts (bytes_eq (code_of_key a) (code_of_key b)) _ (sym (together_is a b) ∙ same) in
+      (same_bytes (code_of_key a) (code_of_key b) both.0, both.1)
+
+  pub code_together : (a b : ChangeKey) → count_together a b ≡ true → code_of_key a ≡ code_of_key b
+  code_together a b same = (parts a b same).0
+
+  turned : (a b : ChangeKey) → count_together a b ≡ count_together b a
+  turned a b = together_is a b ∙ by_test ∙ sym (together_is b a)
+    where
+      by_test : (bytes_eq (code_of_key a) (code_of_key b) && (same_form a b || not (is_kept (code_of_key a))))
+          ≡ (bytes_eq (code_of_key b) (code_of_key a) && (same_form b a || not (is_kept (code_of_key b))))
+      by_test = elim (cases_Bool (bytes_eq (code_of_key a) (code_of_key b))) [
+        | inl same ↦
+            let code : code_of_key a ≡ code_of_key b = same_bytes (code_of_key a) (code_of_key b) same in
+            let other : bytes_eq (code_of_key b) (code_of_key a) ≡ true = sym (bytes_turned (code_of_key a) (code_of_key
+            b)) ∙ same in
+            rw (same, other) (λ i. form_turned a b i || not (is_kept (code i)))
+        | inr apart ↦
+            let other : bytes_eq (code_of_key b) (code_of_key a) ≡ false = sym (bytes_turned (code_of_key a)
+            (code_of_key b)) ∙ apart in
+            rw (apart, other) refl
+      ]
+
+  -- and count together with the same others
+  pub together_first : (a b : ChangeKey) → count_together a b ≡ true → (x : ChangeKey)
+      → count_together a x ≡ count_together b x
+  together_first a b same x =
+      let both = parts a b same in
+      together_is a x
+      ∙ ap (λ n. bytes_eq (code_of_key a) (code_of_key x) && n) (same_forms a b x (not (is_kept (code_of_key a)))
+      both.1) ∙ ap (λ c. bytes_eq c (code_of_key x) && (same_form b x || not (is_kept c))) both.0
+      ∙ sym (together_is b x)
+
+  pub together_second : (a b : ChangeKey) → count_together a b ≡ true → (x : ChangeKey)
+      → count_together x a ≡ count_together x b
+  together_second a b same x = turned x a ∙ together_first a b same x ∙ turned b x
+
+  pub counts_first : (a b : ChangeKey) → count_together a b ≡ true → (o : Option ChangeKey)
+      → counts_with is_kept a o ≡ counts_with is_kept b o
+  counts_first a b same None = refl
+  counts_first a b same (Some x) = together_first a b same x
 
 -- ---- items
 
@@ -235,6 +323,13 @@ declared_stays s [] allows body = refl
 declared_stays s (i ∷ is) allows body =
     let here = body_stays s i allows.0 body in
     declared_stays (state_after_item s i) is allows.1 here.0 ∙ here.1
+
+-- so the same codes are those of kept variables
+pub kept_same : (s t : ParseState) → s.declared ≡ t.declared → has_kept_variable s ≡ has_kept_variable t
+kept_same s t same =
+    let codes_of : List VariableDeclaration → List ℕ → Bool = λ ds code. list_any (λ d. bytes_eq code d.code && not
+    (is_skipped d)) ds in
+    ap codes_of same
 
 -- ---- the pieces in place of one
 

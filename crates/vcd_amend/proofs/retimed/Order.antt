@@ -1,252 +1,38 @@
--- The changes of a retimed file, in their order.
-use Rattle.std.proofs.Common.{◌≡◌, ℕ, ◌<◌, ◌≤◌, ◌∙◌, ◌==◌, Bool, true, false, not, ◌||◌}
-use Rattle.std.proofs.Common.{List, [], ◌∷◌, ◌++◌, refl, ap, sym, arith, if◌then◌else◌, inl, inr, ◌&&◌, Option}
-use Rattle.std.proofs.Common.{Some, None, IsTrue, subst, append_assoc, decimal, All}
-use Rattle.std.specs.Prelude.{is_some, bytes_eq, codes}
+-- The changes of a retimed file at one new tick, in their order.
+use Rattle.std.proofs.Common.{◌≡◌, ℕ, ◌<◌, ◌≤◌, ◌∙◌, ◌==◌, Bool, true, false, not, List, [], ◌∷◌, ◌++◌, refl, ap, sym}
+use Rattle.std.proofs.Common.{arith, if◌then◌else◌, inl, inr, ◌&&◌, Option, Some, None, IsTrue, subst, append_assoc}
+use Rattle.std.proofs.Common.{decimal, All}
+use Rattle.std.specs.Prelude.{bytes_eq, codes}
 use Rattle.std.specs.List.{filter, list_any}
 use Rattle.std.proofs.lemmas.Bool.{cases_Bool, cases_lt, false≢true, ltb-true, ltb-false, eqb-true}
 use Rattle.std.proofs.lemmas.List.{append-nil}
-use Rattle.std.proofs.lemmas.List.Folds.{list_any-append}
 use Rattle.std.proofs.lemmas.List.Elements.{All-nil, All-cons, All-head, All-tail, All-append, All-filter}
+use Rattle.std.proofs.Math.Bool.{and-false}
 use Rattle.vcd_core.specs.Decimal.{number_of, is_number}
 use Rattle.vcd_core.specs.declared.capture.TheConstants.{END_LIMIT}
 use Rattle.vcd_text.specs.Items.{Item, stamp}
 use Rattle.vcd_text.specs.Grammar.{ParseState, VariableDeclaration, Allows, AllowsAll, state_after_item, state_after}
 use Rattle.vcd_text.specs.Grammar.{initial_state}
 use Rattle.vcd_text.specs.Pieces.{Piece, state_of_pieces}
-use Rattle.vcd_amend.specs.Retimed.{new_tick, AreOldTicks, ChangeKey, change_key, same_key, has_key, code_of_key, lasts}
+use Rattle.vcd_amend.specs.Retimed.{new_tick, AreOldTicks, ChangeKey, change_key, counts_with, code_of_key, lasts}
 use Rattle.vcd_amend.specs.Retimed.{held_with, is_past, stamp_line, released_pieces, retimed_stamp, pieces_in_place}
-use Rattle.vcd_amend.specs.Retimed.{retimed_pieces}
-use Rattle.vcd_amend.specs.RetimedLaws.{tick_after_item, changes_at_ticks, is_key_of, last_ones, lasts_with}
-use Rattle.vcd_amend.specs.RetimedLaws.{ChangesStandInOrder}
+use Rattle.vcd_amend.specs.Retimed.{retimed_pieces, has_kept_variable}
+use Rattle.vcd_amend.specs.RetimedLaws.{changes_at_ticks, last_ones, lasts_with, ChangesStandInOrder}
 use Rattle.vcd_text.proofs.read_back.Decimals.{number_of-decimal}
-use Rattle.vcd_amend.proofs.retimed.Ticks.{rises, rises_past}
-use Rattle.vcd_amend.proofs.retimed.Kinds.{IsChange, IsStill, kind_of, is_stamp, is_change, is_still, change_of_key}
-use Rattle.vcd_amend.proofs.retimed.Kinds.{keys_same, key_itself, declared_stays, retimed_still, retimed_change}
-use Rattle.vcd_amend.proofs.retimed.Kinds.{retimed_by_stamp}
-use Rattle.vcd_amend.proofs.retimed.StampTicks.{items_of, IsTickAfter, small, stamp_ticks, placed}
+use Rattle.vcd_amend.proofs.retimed.Ticks.{rises, rises_past, items_of, IsTickAfter, small, stamp_ticks, placed}
+use Rattle.vcd_amend.proofs.retimed.Kinds.{IsChange, IsStill, kind_of, is_stamp, is_change, is_still, code_together}
+use Rattle.vcd_amend.proofs.retimed.Kinds.{declared_stays, kept_same, retimed_still, retimed_change, retimed_by_stamp}
 use Rattle.vcd_amend.proofs.retimed.LastChanges.{IsHeld, held_change}
 use Rattle.vcd_amend.proofs.retimed.Stamps.{same_when_left, not_when_cut}
-
--- ---- the last ones
-
--- one key has one owner
-key_of_both : (key k : ChangeKey) (q : Piece) → same_key key k ≡ false → has_key k (change_key q.item) ≡ true
-    → has_key key (change_key q.item) ≡ false
-key_of_both key k q apart has = by_option (change_key q.item) has
-  where
-    by_option : (o : Option ChangeKey) → has_key k o ≡ true → has_key key o ≡ false
-    by_option None has = absurd (false≢true has)
-    by_option (Some other) has = subst (λ k. same_key key k ≡ false) (keys_same k other has) apart
-
-module _ (p : Piece) (k : ChangeKey) (is : change_key p.item ≡ Some k) where
-  abbrev without : List Piece → List Piece
-  without held = filter (λ h. not (has_key k (change_key h.item))) held
-
-  -- the piece has the key of those that have its key, and of no other
-  seen : (o : Option ChangeKey) → has_key k o ≡ true → is_key_of o p ≡ true
-  seen None has = absurd (false≢true has)
-  seen (Some key) has = ap (has_key key) is ∙ ap (λ key. same_key key k) (sym (keys_same k key has)) ∙ key_itself k
-
-  unseen : (o : Option ChangeKey) → has_key k o ≡ false → is_key_of o p ≡ false
-  unseen None has = refl
-  unseen (Some key) has = elim (cases_Bool (same_key key k)) [
-    | inl same ↦ absurd (false≢true (sym has ∙ ap (same_key k) (keys_same key k same) ∙ key_itself k))
-    | inr apart ↦ ap (has_key key) is ∙ apart
-  ]
-
-  -- others do not see those that are left out
-  others_see : (o : Option ChangeKey) → has_key k o ≡ false → (hs : List Piece)
-      → list_any (is_key_of o) (without hs) ≡ list_any (is_key_of o) hs
-  others_see o apart [] = refl
-  others_see o apart (h ∷ hs) = elim (cases_Bool (has_key k (change_key h.item))) [
-    | inl has ↦ rw (has, by_option o apart has) (others_see o apart hs)
-    | inr none ↦ rw none (ap (λ b. is_key_of o h || b) (others_see o apart hs))
-  ]
-    where
-      by_option : (o : Option ChangeKey) → has_key k o ≡ false → has_key k (change_key h.item) ≡ true
-          → is_key_of o h ≡ false
-      by_option None apart has = refl
-      by_option (Some key) apart has = elim (cases_Bool (same_key key k)) [
-        | inl same ↦ absurd (false≢true (sym apart ∙ ap (same_key k) (keys_same key k same) ∙ key_itself k))
-        | inr other ↦ key_of_both key k h other has
-      ]
-
-  any_here : (o : Option ChangeKey) (xs ys : List Piece) → is_key_of o p ≡ true
-      → list_any (is_key_of o) (xs ++ p ∷ ys) ≡ true
-  any_here o [] ys has = rw has refl
-  any_here o (x ∷ xs) ys has = ap (λ b. is_key_of o x || b) (any_here o xs ys has) ∙ or_true (is_key_of o x)
-    where
-      or_true : (b : Bool) → (b || true) ≡ true
-      or_true true = refl
-      or_true false = refl
-
-  -- the piece is held after them
-  held_last : (held more later : List Piece) → last_ones (held ++ p ∷ more) later
-      ≡ last_ones (without held ++ p ∷ more) later
-  unfolding last_ones
-  held_last [] more later = refl
-  held_last (h ∷ hs) more later = elim (cases_Bool (has_key k (change_key h.item))) [
-    | inl has ↦ rw (has, any_whole has) (held_last hs more later)
-    | inr none ↦ rw (none, same_any none) (ap (λ l. if list_any (is_key_of (change_key h.item)) ((hs ++ p ∷ more) ++
-        later)
-        then l else h ∷ l) (held_last hs more later))
-  ]
-    where
-      any_whole : has_key k (change_key h.item) ≡ true
-          → list_any (is_key_of (change_key h.item)) ((hs ++ p ∷ more) ++ later) ≡ true
-      any_whole has = rw (append_assoc hs (p ∷ more) later) (any_here (change_key h.item) hs (more ++ later) (seen
-          (change_key h.item) has))
-
-      same_any : has_key k (change_key h.item) ≡ false
-          → list_any (is_key_of (change_key h.item)) ((without hs ++ p ∷ more) ++ later)
-          ≡ list_any (is_key_of (change_key h.item)) ((hs ++ p ∷ more) ++ later)
-      same_any none = rw (append_assoc (without hs) (p ∷ more) later, append_assoc hs (p ∷ more) later) (list_any-append
-          (is_key_of (change_key h.item)) (without hs) (p ∷ (more ++ later)) ∙ ap (λ b. b || list_any (is_key_of
-          (change_key h.item)) (p ∷ (more ++ later))) (others_see (change_key h.item) none hs) ∙ sym (list_any-append
-          (is_key_of (change_key h.item)) hs (p ∷ (more ++ later))))
-
-  -- the piece stands after them
-  stands_last : (held later : List Piece) → last_ones held (p ∷ later) ≡ last_ones (without held) later
-  unfolding last_ones
-  stands_last [] later = refl
-  stands_last (h ∷ hs) later = elim (cases_Bool (has_key k (change_key h.item))) [
-    | inl has ↦ rw (has, any_here (change_key h.item) hs later (seen (change_key h.item) has)) (stands_last hs later)
-    | inr none ↦ rw (none, same_any none) (ap (λ l. if list_any (is_key_of (change_key h.item)) (without hs ++ later)
-        then l
-        else h ∷ l) (stands_last hs later))
-  ]
-    where
-      same_any : has_key k (change_key h.item) ≡ false → list_any (is_key_of (change_key h.item)) (hs ++ p ∷ later)
-          ≡ list_any (is_key_of (change_key h.item)) (without hs ++ later)
-      same_any none = list_any-append (is_key_of (change_key h.item)) hs (p ∷ later) ∙ ap (λ b. list_any (is_key_of
-          (change_key h.item)) hs || (b || list_any (is_key_of (change_key h.item)) later)) (unseen (change_key h.item)
-          none) ∙ ap (λ b. b || list_any (is_key_of (change_key h.item)) later) (sym (others_see (change_key h.item)
-          none
-          hs)) ∙ sym (list_any-append (is_key_of (change_key h.item)) (without hs) later)
-
--- ---- what is held has other keys each
-
-abbrev AreApart : List Piece → Type 0
-AreApart [] = Unit {0}
-AreApart (h ∷ hs) = (list_any (is_key_of (change_key h.item)) hs ≡ false) × AreApart hs
-
-all_last : (held : List Piece) → AreApart held → last_ones held [] ≡ held
-unfolding last_ones
-all_last [] apart = refl
-all_last (h ∷ hs) apart = rw (append-nil hs, apart.0) (ap (λ l. h ∷ l) (all_last hs apart.1))
-
-module _ (p : Piece) (k : ChangeKey) (is : change_key p.item ≡ Some k) where
-  still_apart : (held : List Piece) → AreApart held → AreApart (without p k is held)
-  still_apart [] apart = tt
-  still_apart (h ∷ hs) apart = elim (cases_Bool (has_key k (change_key h.item))) [
-    | inl has ↦ subst (λ b. AreApart (if not b then h ∷ without p k is hs else without p k is hs)) (sym has)
-        (still_apart hs
-        apart.1)
-    | inr none ↦ subst (λ b. AreApart (if not b then h ∷ without p k is hs else without p k is hs)) (sym none) (
-      others_see p
-          k is (change_key h.item) none hs ∙ apart.0,
-      still_apart hs apart.1,
-    )
-  ]
-
-  with_it_apart : (held : List Piece) → AreApart held → AreApart (without p k is held ++ p ∷ [])
-  with_it_apart [] apart = (refl, tt)
-  with_it_apart (h ∷ hs) apart = elim (cases_Bool (has_key k (change_key h.item))) [
-    | inl has ↦ subst (λ b. AreApart ((if not b then h ∷ without p k is hs else without p k is hs) ++ p ∷ [])) (sym has)
-        (with_it_apart hs apart.1)
-    | inr none ↦ subst (λ b. AreApart ((if not b then h ∷ without p k is hs else without p k is hs) ++ p ∷ [])) (sym
-        none) (
-          list_any-append (is_key_of (change_key h.item)) (without p k is hs) (p ∷ []) ∙ rw (
-            others_see p k is
-                (change_key
-                h.item) none hs,
-            apart.0,
-            unseen p k is (change_key h.item) none,
-          ) refl,
-          with_it_apart hs apart.1,
-        )
-  ]
-
--- ---- the changes at some ticks
-
-module _ (is_at : ℕ → Bool) where
-  pub at_still : (n : ℕ) (p : Piece) (ps : List Piece) → IsStill p.item
-      → changes_at_ticks is_at n (p ∷ ps) ≡ changes_at_ticks is_at n ps
-  unfolding changes_at_ticks
-  at_still n p ps still = ap (λ (o : Option ChangeKey). (if is_some o && is_at n then p ∷ [] else []) ++
-      changes_at_ticks
-      is_at
-      (tick_after_item n p.item) ps) still.is ∙ ap (λ (m : ℕ). changes_at_ticks is_at m ps) (still.tick n)
-
-  pub at_change : (n : ℕ) (p : Piece) (ps : List Piece) (k : ChangeKey) → IsChange p.item k
-      → changes_at_ticks is_at n (p ∷ ps) ≡ (if is_at n then p ∷ [] else []) ++ changes_at_ticks is_at n ps
-  unfolding changes_at_ticks
-  at_change n p ps k change = ap (λ (o : Option ChangeKey). (if is_some o && is_at n then p ∷ [] else []) ++
-      changes_at_ticks
-      is_at (tick_after_item n p.item) ps) change.is ∙ ap (λ (m : ℕ). (if is_at n then p ∷ [] else []) ++
-      changes_at_ticks is_at m
-      ps)
-      (change.tick n)
-
-  pub at_stamp : (n : ℕ) (p : Piece) (ps : List Piece) (digits : List ℕ) → p.item ≡ stamp digits
-      → changes_at_ticks is_at n (p ∷ ps) ≡ changes_at_ticks is_at (number_of digits) ps
-  unfolding changes_at_ticks
-  at_stamp n p ps digits is = ap (λ (i : Item). (if is_some (change_key i) && is_at n then p ∷ [] else []) ++
-      changes_at_ticks
-      is_at (tick_after_item n i) ps) is
-
-  -- held changes that are written
-  changes_written : (n : ℕ) (held rest : List Piece) → All IsHeld held
-      → changes_at_ticks is_at n (held ++ rest) ≡ (if is_at n then held else []) ++ changes_at_ticks is_at n rest
-  changes_written n [] rest all = elim (cases_Bool (is_at n)) [
-    | inl now ↦ rw now refl
-    | inr other ↦ rw other refl
-  ]
-  changes_written n (h ∷ hs) rest all =
-      let change = change_of_key h.item (All-head IsHeld h hs all) in
-      at_change n h (hs ++ rest) change.0 change.1 ∙ ap (λ (l : List Piece). (if is_at n then h ∷ [] else []) ++ l)
-      (changes_written n hs rest (All-tail IsHeld h hs all)) ∙ joined (is_at n)
-    where
-      joined : (now : Bool) → (if now then h ∷ [] else []) ++ ((if now then hs else []) ++ changes_at_ticks is_at n
-          rest)
-          ≡ (if now then h ∷ hs else []) ++ changes_at_ticks is_at n rest
-      joined true = refl
-      joined false = refl
-
-  -- none, if no tick that comes is one of these
-  pub none_from : (s : ParseState) (ps : List Piece) → AllowsAll s (items_of ps)
-      → ((v : ℕ) → s.tick ≤ v → is_at v ≡ false) → changes_at_ticks is_at s.tick ps ≡ []
-  unfolding changes_at_ticks
-  none_from s [] allows none = refl
-  none_from s (p ∷ ps) allows none = elim (kind_of p.item) [
-    | is_stamp digits is ↦
-        let later = stamp_ticks s digits (subst (λ (i : Item). Allows s i) is allows.0) in
-        let tick : (state_after_item s p.item).tick ≡ number_of digits = ap (λ (i : Item). (state_after_item s i).tick)
-        is
-        in
-        at_stamp s.tick p ps digits is ∙ ap (λ (m : ℕ). changes_at_ticks is_at m ps) (sym tick) ∙ none_from
-        (state_after_item
-        s
-        p.item) ps allows.1 (λ v from. none v (omega (arith, from, tick, later.2)))
-    | is_change k change ↦
-        let tick : (state_after_item s p.item).tick ≡ s.tick = ap (λ (x : ParseState). x.tick) (change.state s) in
-        at_change s.tick p ps k change ∙ ap (λ (b : Bool). (if b then p ∷ [] else []) ++ changes_at_ticks is_at s.tick
-        ps)
-        (none
-        s.tick (omega arith)) ∙ ap (λ (m : ℕ). changes_at_ticks is_at m ps) (sym tick) ∙ none_from (state_after_item s
-        p.item)
-        ps
-        allows.1 (λ v from. none v (omega (arith, from, tick)))
-    | is_still still ↦ at_still s.tick p ps still ∙ ap (λ (m : ℕ). changes_at_ticks is_at m ps) (sym (still.same_tick
-        s))
-        ∙ none_from (state_after_item s p.item) ps allows.1 (λ v from. none v (omega (arith, from, still.same_tick s)))
-  ]
-
--- ---- one new tick
+use Rattle.vcd_amend.proofs.retimed.ChangesAtTicks.{without, held_last, stands_last, AreApart, all_last, still_apart}
+use Rattle.vcd_amend.proofs.retimed.ChangesAtTicks.{with_it_apart, at_still, at_change, at_stamp, changes_written}
+use Rattle.vcd_amend.proofs.retimed.ChangesAtTicks.{none_from}
 
 module _ (is_cut_out : ℕ → Bool) (old_tick : ℕ → ℕ) (old : AreOldTicks is_cut_out old_tick) (t : ℕ)
     (final : ParseState) where
+  abbrev is_kept : List ℕ → Bool
+  is_kept = has_kept_variable final
+
   abbrev ours : ℕ → Bool
   ours u = u == t
 
@@ -278,7 +64,7 @@ module _ (is_cut_out : ℕ → Bool) (old_tick : ℕ → ℕ) (old : AreOldTicks
 
   -- the changes at the new tick, if these come at its old tick, and these at ticks that are cut out
   abbrev both : List Piece → List Piece → List Piece → List Piece
-  both waiting here cut = here ++ last_ones (waiting ++ filter lasting cut) here
+  both waiting here cut = here ++ last_ones is_kept (waiting ++ filter lasting cut) here
 
   abbrev here : ParseState → List Piece → List Piece
   here s ps = changes_at_ticks theirs s.tick ps
@@ -290,7 +76,7 @@ module _ (is_cut_out : ℕ → Bool) (old_tick : ℕ → ℕ) (old : AreOldTicks
     pub is : IsTickAfter is_cut_out u n
     pub all : All IsHeld held
     pub last : All Lasts held
-    pub apart : AreApart held
+    pub apart : AreApart is_kept held
 
   abbrev Goal : ParseState → List Piece → ℕ → List Piece → Type 0
   Goal s held n ps =
@@ -336,16 +122,16 @@ module _ (is_cut_out : ℕ → Bool) (old_tick : ℕ → ℕ) (old : AreOldTicks
 
   -- what lasts has other keys than what does not
   keeps_lasting : (p : Piece) (k : ChangeKey) (is : change_key p.item ≡ Some k) → lasts final (code_of_key k) ≡ false
-      → (held : List Piece) → All Lasts held → without p k is held ≡ held
+      → (held : List Piece) → All Lasts held → without is_kept p k is held ≡ held
   keeps_lasting p k is not_k [] last = refl
-  keeps_lasting p k is not_k (h ∷ hs) last = elim (cases_Bool (has_key k (change_key h.item))) [
+  keeps_lasting p k is not_k (h ∷ hs) last = elim (cases_Bool (counts_with is_kept k (change_key h.item))) [
     | inl has ↦ absurd (false≢true (sym (by_option (change_key h.item) has) ∙ All-head Lasts h hs last))
     | inr none ↦ rw none (ap (λ (l : List Piece). h ∷ l) (keeps_lasting p k is not_k hs (All-tail Lasts h hs last)))
   ]
     where
-      by_option : (o : Option ChangeKey) → has_key k o ≡ true → lasts_with final o ≡ false
+      by_option : (o : Option ChangeKey) → counts_with is_kept k o ≡ true → lasts_with final o ≡ false
       by_option None has = absurd (false≢true has)
-      by_option (Some key) has = ap (λ k. lasts final (code_of_key k)) (sym (keys_same k key has)) ∙ not_k
+      by_option (Some key) has = ap (lasts final) (sym (code_together is_kept k key has)) ∙ not_k
 
   module _ (s : ParseState) (held : List Piece) (n : ℕ) (p : Piece) (ps : List Piece)
       (allows : AllowsAll s (items_of (p ∷ ps))) (w : Waits s.tick n held)
@@ -369,17 +155,20 @@ module _ (is_cut_out : ℕ → Bool) (old_tick : ℕ → ℕ) (old : AreOldTicks
         Piece).
         both (mine s.tick held) (here s (p ∷ ps)) l) (sym (at_still before s.tick p ps still))
 
-    module _ (k : ChangeKey) (change : IsChange p.item k) (same_lasts : lasts s (code_of_key k) ≡ lasts final
-        (code_of_key
-        k)) where
+    module _ (k : ChangeKey) (change : IsChange p.item k) (kept : has_kept_variable s ≡ is_kept)
+        (same_lasts : lasts s (code_of_key k) ≡ lasts final (code_of_key k)) where
       tick : after.tick ≡ s.tick
       tick = ap (λ (x : ParseState). x.tick) (change.state s)
 
-      abbrev held_after : List Piece
-      held_after = held_with is_cut_out s held p (Some k)
-
       abbrev few : List Piece
-      few = without p k change.is held
+      few = without is_kept p k change.is held
+
+      abbrev held_after : List Piece
+      held_after = few ++ (if is_cut_out s.tick && lasts s (code_of_key k) then p ∷ [] else [])
+
+      held_are : held_with is_cut_out s held p (Some k) ≡ held_after
+      held_are = ap (λ (test : List ℕ → Bool). filter (λ h. not (counts_with test k (change_key h.item))) held
+          ++ (if is_cut_out s.tick && lasts s (code_of_key k) then p ∷ [] else [])) kept
 
       it_lasts : lasting p ≡ lasts final (code_of_key k)
       it_lasts = ap (lasts_with final) change.is
@@ -387,9 +176,9 @@ module _ (is_cut_out : ℕ → Bool) (old_tick : ℕ → ℕ) (old : AreOldTicks
       waits_after : Waits s.tick n held_after
       waits_after = record {
         is = w.is;
-        all = held_change is_cut_out s held p k change w.all;
-        last = All-append Lasts few _ (All-filter (λ h. not (has_key k (change_key h.item))) Lasts held w.last) (last_if
-            (is_cut_out s.tick) (lasts s (code_of_key k)) refl);
+        all = subst (All IsHeld) held_are (held_change is_cut_out s held p k change w.all);
+        last = All-append Lasts few _ (All-filter (λ h. not (counts_with is_kept k (change_key h.item))) Lasts held
+            w.last) (last_if (is_cut_out s.tick) (lasts s (code_of_key k)) refl);
         apart = apart_if (is_cut_out s.tick && lasts s (code_of_key k));
       }
         where
@@ -398,15 +187,19 @@ module _ (is_cut_out : ℕ → Bool) (old_tick : ℕ → ℕ) (old : AreOldTicks
           last_if true false is = All-nil Lasts
           last_if false last is = All-nil Lasts
 
-          apart_if : (b : Bool) → AreApart (without p k change.is held ++ (if b then p ∷ [] else []))
-          apart_if true = with_it_apart p k change.is held w.apart
-          apart_if false = subst AreApart (sym (append-nil (without p k change.is held))) (still_apart p k change.is
-              held
+          apart_if : (b : Bool) → AreApart is_kept (without is_kept p k change.is held ++ (if b then p ∷ [] else []))
+          apart_if true = with_it_apart is_kept p k change.is held w.apart
+          apart_if false = subst (AreApart is_kept) (sym (append-nil (without is_kept p k change.is held))) (still_apart
+              is_kept p k change.is held
               w.apart)
 
       -- what comes after the change
       abbrev rest : List Piece
       rest = retimed_pieces is_cut_out after held_after ps
+
+      change_is : retimed_pieces is_cut_out s held (p ∷ ps) ≡ (if is_cut_out s.tick then [] else p ∷ []) ++ rest
+      change_is = retimed_change is_cut_out s held p ps k change ∙ ap (λ (l : List Piece). (if is_cut_out s.tick then []
+          else p ∷ []) ++ retimed_pieces is_cut_out after l ps) held_are
 
       abbrev here_later : List Piece
       here_later = changes_at_ticks theirs s.tick ps
@@ -441,17 +234,19 @@ module _ (is_cut_out : ℕ → Bool) (old_tick : ℕ → ℕ) (old : AreOldTicks
       cut_case true true is code_is =
           let rest_last : List Piece = filter lasting cut_later in
           let with_it : filter lasting (p ∷ cut_later) ≡ p ∷ rest_last = rw is refl in
-          ap (λ (l : List Piece). here_later ++ l) (ap (λ (l : List Piece). last_ones l here_later) (append_assoc few (p
+          ap (λ (l : List Piece). here_later ++ l) (ap (λ (l : List Piece). last_ones is_kept l here_later)
+          (append_assoc few (p
           ∷
-          []) rest_last) ∙ sym (held_last p k change.is held rest_last here_later) ∙ ap (λ (l : List Piece). last_ones
-          (held
+          []) rest_last) ∙ sym (held_last is_kept p k change.is held rest_last here_later)
+          ∙ ap (λ (l : List Piece). last_ones is_kept (held
           ++ l) here_later) (sym with_it))
       cut_case true false is code_is =
           let rest_last : List Piece = filter lasting cut_later in
           let without_it : filter lasting (p ∷ cut_later) ≡ rest_last = rw is refl in
-          ap (λ (l : List Piece). here_later ++ l) (ap (λ (l : List Piece). last_ones (l ++ rest_last) here_later)
-          (append-nil few ∙ keeps_lasting p k change.is code_is held w.last) ∙ ap (λ (l : List Piece). last_ones (held
-          ++ l)
+          ap (λ (l : List Piece). here_later ++ l) (ap (λ (l : List Piece). last_ones is_kept (l ++ rest_last)
+          here_later)
+          (append-nil few ∙ keeps_lasting p k change.is code_is held w.last) ∙ ap (λ (l : List Piece). last_ones is_kept
+          (held ++ l)
           here_later) (sym without_it))
 
       cut_goes : is_cut_out s.tick ≡ true → Goal s held n (p ∷ ps)
@@ -460,7 +255,7 @@ module _ (is_cut_out : ℕ → Bool) (old_tick : ℕ → ℕ) (old : AreOldTicks
           same_lasts
           in
           let now : before s.tick ≡ at_t = rw is_cut refl in
-          ap (λ (l : List Piece). changes_at_ticks ours n l) (retimed_change is_cut_out s held p ps k change ∙ rw is_cut
+          ap (λ (l : List Piece). changes_at_ticks ours n l) (change_is ∙ rw is_cut
           refl)
           ∙ rest_is ∙ ap (λ (b : Bool). both (if at_t then few ++ it_if b else []) here_later cut_later) held_is ∙
           cut_case
@@ -477,11 +272,13 @@ module _ (is_cut_out : ℕ → Bool) (old_tick : ℕ → ℕ) (old : AreOldTicks
       left_case false none = refl
       left_case true none =
           let no_last : filter lasting cut_later ≡ [] = ap (filter lasting) (none refl) in
-          ap (λ (l : List Piece). p ∷ (here_later ++ l)) (ap (λ (l : List Piece). last_ones (few ++ l) here_later)
+          ap (λ (l : List Piece). p ∷ (here_later ++ l)) (ap (λ (l : List Piece). last_ones is_kept (few ++ l)
+          here_later)
           no_last
-          ∙ ap (λ (l : List Piece). last_ones l here_later) (append-nil few) ∙ sym (stands_last p k change.is held
-          here_later) ∙ ap (λ (l : List Piece). last_ones l (p ∷ here_later)) (sym (append-nil held)) ∙ ap (λ (l : List
-          Piece). last_ones (held ++ l) (p ∷ here_later)) (sym no_last))
+          ∙ ap (λ (l : List Piece). last_ones is_kept l here_later) (append-nil few)
+          ∙ sym (stands_last is_kept p k change.is held here_later) ∙ ap (λ (l : List Piece). last_ones is_kept l (p ∷
+          here_later)) (sym (append-nil held)) ∙ ap (λ (l : List Piece). last_ones is_kept (held ++ l) (p ∷ here_later))
+          (sym no_last))
 
       none_cut : is_cut_out s.tick ≡ false → at_t ≡ true → cut_later ≡ []
       none_cut left now = ap (λ (u : ℕ). changes_at_ticks before u ps) (sym tick) ∙ none_from before after ps allows.1
@@ -491,11 +288,7 @@ module _ (is_cut_out : ℕ → Bool) (old_tick : ℕ → ℕ) (old : AreOldTicks
         where
           by_tests : (v : ℕ) → s.tick ≤ v → (same : Bool) → (new_tick is_cut_out v == t) ≡ same
               → (is_cut_out v && same) ≡ false
-          by_tests v from false other = and_false (is_cut_out v)
-            where
-              and_false : (b : Bool) → (b && false) ≡ false
-              and_false true = refl
-              and_false false = refl
+          by_tests v from false other = and-false (is_cut_out v)
           by_tests v from true same = elim (cases_lt s.tick v) [
             | inl past ↦ absurd (omega (
               arith,
@@ -513,7 +306,7 @@ module _ (is_cut_out : ℕ → Bool) (old_tick : ℕ → ℕ) (old : AreOldTicks
       left_goes left =
           let held_is : held_after ≡ few = rw left (append-nil few) in
           let not_cut : before s.tick ≡ false = rw left refl in
-          ap (λ (l : List Piece). changes_at_ticks ours n l) (retimed_change is_cut_out s held p ps k change ∙ rw left
+          ap (λ (l : List Piece). changes_at_ticks ours n l) (change_is ∙ rw left
           refl)
           ∙ at_change ours n p rest k change ∙ ap (λ (l : List Piece). it_if (ours n) ++ l) rest_is ∙ ap (λ (m : ℕ).
           it_if
@@ -556,7 +349,7 @@ module _ (is_cut_out : ℕ → Bool) (old_tick : ℕ → ℕ) (old : AreOldTicks
 
       -- from the stamp on
       from_stamp : (waiting : List Piece) (m : ℕ) → m ≤ new_tick is_cut_out (number_of digits) → All IsHeld waiting
-          → All Lasts waiting → AreApart waiting
+          → All Lasts waiting → AreApart is_kept waiting
           → changes_at_ticks ours m (in_it ++ retimed_pieces is_cut_out after waiting ps)
           ≡ both (mine (number_of digits) waiting) here_then cut_then
       from_stamp waiting m upto all last apart =
@@ -580,16 +373,13 @@ module _ (is_cut_out : ℕ → Bool) (old_tick : ℕ → ℕ) (old : AreOldTicks
       unfolding last_ones
       past_case false h c none = refl
       past_case true h c none =
-          let whole : held ++ [] ≡ last_ones (held ++ []) [] = append-nil held ∙ sym (ap (λ (l : List Piece). last_ones
+          let whole : held ++ [] ≡ last_ones is_kept (held ++ []) [] = append-nil held
+          ∙ sym (ap (λ (l : List Piece). last_ones is_kept
           l
-          []) (append-nil held) ∙ all_last held w.apart) in
+          []) (append-nil held) ∙ all_last is_kept held w.apart) in
           subst (λ (h : List Piece). held ++ both [] h c ≡ both held h c) (sym (none refl).0) (subst (λ (c : List
           Piece).
           held ++ both [] [] c ≡ both held [] c) (sym (none refl).1) whole)
-
-      and_none : (b : Bool) → (b && false) ≡ false
-      and_none true = refl
-      and_none false = refl
 
       stamp_goes : (past : Bool) → is_past is_cut_out s (stamp digits) ≡ past → Goal s held n (p ∷ ps)
       stamp_goes true past =
@@ -645,7 +435,7 @@ module _ (is_cut_out : ℕ → Bool) (old_tick : ℕ → ℕ) (old : AreOldTicks
               rises is_cut_out
                   (number_of digits) v from,
             ))
-            | inr other ↦ rw other (and_none (is_cut_out v))
+            | inr other ↦ rw other (and-false (is_cut_out v))
           ]
       stamp_goes false not_past =
           let upto : new_tick is_cut_out (number_of digits) ≤ new_tick is_cut_out s.tick = ltb-false (new_tick
@@ -668,22 +458,22 @@ module _ (is_cut_out : ℕ → Bool) (old_tick : ℕ → ℕ) (old : AreOldTicks
       ap (λ (l : List Piece). changes_at_ticks ours n l) (sym (append-nil (released_pieces is_cut_out s held))) ∙
       out.changes ∙
       append-nil
-      (mine s.tick held) ∙ sym (ap (λ (l : List Piece). last_ones l []) (append-nil (mine s.tick held)) ∙ all_mine
-      (new_tick
+      (mine s.tick held) ∙ sym (ap (λ (l : List Piece). last_ones is_kept l []) (append-nil (mine s.tick held))
+      ∙ all_mine (new_tick
       is_cut_out s.tick == t))
     where
-      all_mine : (now : Bool) → last_ones (if now then held else []) [] ≡ (if now then held else [])
-      all_mine true = all_last held w.apart
-      all_mine false = all_last [] tt
+      all_mine : (now : Bool) → last_ones is_kept (if now then held else []) [] ≡ (if now then held else [])
+      all_mine true = all_last is_kept held w.apart
+      all_mine false = all_last is_kept [] tt
   goes s held n (p ∷ ps) allows same w = elim (kind_of p.item) [
     | is_stamp digits is ↦ stamp_goes s held n p ps allows w (λ held n w. goes (state_after_item s p.item) held n ps
         allows.1 same w) digits is (is_past is_cut_out s (stamp digits)) refl
-    | is_change k change ↦ change_goes s held n p ps allows w (λ held n w. goes (state_after_item s p.item) held n ps
-        allows.1 same w) k change (ap (λ (ds : List VariableDeclaration). list_any (λ d. bytes_eq (code_of_key k) d.code
-        &&
-        not (bytes_eq d.kind (codes "event"))) ds) (sym (declared_stays s (p.item ∷ items_of ps) allows (change.in_body
-        s
-        allows.0)) ∙ same))
+    | is_change k change ↦
+        let here : s.declared ≡ final.declared = sym (declared_stays s (p.item ∷ items_of ps) allows (change.in_body s
+        allows.0)) ∙ same in
+        change_goes s held n p ps allows w (λ held n w. goes (state_after_item s p.item) held n ps
+        allows.1 same w) k change (kept_same s final here) (ap (λ (ds : List VariableDeclaration). list_any (λ d.
+        bytes_eq (code_of_key k) d.code && not (bytes_eq d.kind (codes "event"))) ds) here)
     | is_still still ↦ still_goes s held n p ps allows w (λ held n w. goes (state_after_item s p.item) held n ps
         allows.1
         same w) still

@@ -1,12 +1,13 @@
--- The pieces of a retimed file are cut from its bytes, and its text means the capture.
-use Rattle.std.proofs.Common.{◌≡◌, ℕ, ◌-◌, ◌<◌, ◌≤◌, ◌∙◌, ◌^◌, ◌==◌, Bool, true, false, All, drop, length}
-use Rattle.std.proofs.Common.{List, [], ◌∷◌, ◌++◌, refl, ap, sym, arith, if◌then◌else◌, subst, decimal, not, ◌&&◌}
-use Rattle.std.proofs.Common.{Some}
-use Rattle.std.specs.Prelude.{count_by}
-use Rattle.std.specs.List.{list_all, flat_map, prefix_len, suffix_len}
-use Rattle.std.proofs.lemmas.Bool.{and_parts, false≢true}
+-- The pieces of a retimed file: what is neither a stamp nor a change stands, all are cut from its bytes, and
+-- its text means the capture.
+use Rattle.std.proofs.Common.{◌≡◌, ℕ, ◌-◌, ◌<◌, ◌≤◌, ◌∙◌, ◌^◌, ◌==◌, Bool, true, false, All, drop, length, List, []}
+use Rattle.std.proofs.Common.{◌∷◌, ◌++◌, refl, ap, sym, arith, if◌then◌else◌, subst, decimal, not, ◌&&◌, Some}
 use Rattle.std.proofs.Common.{append_assoc}
+use Rattle.std.specs.Prelude.{count_by}
+use Rattle.std.specs.List.{list_all, flat_map, prefix_len, suffix_len, filter}
+use Rattle.std.proofs.lemmas.Bool.{and_parts, false≢true}
 use Rattle.std.proofs.lemmas.List.Elements.{All-nil, All-cons, All-head, All-tail, All-append, All-filter, All-drop}
+use Rattle.std.proofs.lemmas.List.Elements.{filter-append}
 use Rattle.std.proofs.lemmas.List.Sums.{suffix_len_is, AllPass-from_list_all}
 use Rattle.vcd_core.specs.Word.{is_white_space}
 use Rattle.vcd_core.specs.declared.capture.TheConstants.{END_LIMIT}
@@ -15,21 +16,24 @@ use Rattle.vcd_text.specs.Words.{words_of}
 use Rattle.vcd_text.specs.Items.{Item, spelling, spellings, stamp}
 use Rattle.vcd_text.specs.Grammar.{ParseState, AllowsAll, Allows, state_after_item, initial_state, word_texts}
 use Rattle.vcd_text.specs.Grammar.{is_skipped}
-use Rattle.vcd_amend.specs.AmendedItems.{stands, is_left_out, is_exchanged}
 use Rattle.vcd_text.specs.Pieces.{Piece, IsCut, state_of_pieces}
-use Rattle.vcd_amend.specs.Retimed.{new_tick, ChangeKey, change_key, has_key, code_of_key, lasts, held_with, is_past}
-use Rattle.vcd_amend.specs.Retimed.{stamp_line, released_pieces, retimed_stamp, pieces_in_place, retimed_pieces}
-use Rattle.vcd_amend.specs.RetimedLaws.{CanBeRetimed, MeansRetimed, pieces_after, RetimedFileMeansRetimedCapture}
-use Rattle.vcd_amend.specs.RetimedLaws.{bytes_of, RetimedTextMeansRetimedCapture}
-use Rattle.vcd_text.proofs.read_back.SpelledItems.{one_word, longer_unbroken, decimal_unbroken}
+use Rattle.vcd_text.proofs.read_back.WholeText.{one_word, longer_unbroken, decimal_unbroken}
 use Rattle.vcd_text.proofs.pieces.Bytes.{texts, texts_are, joined_words, is_end, space_first, both_parts, lines_last}
+use Rattle.vcd_amend.specs.AmendedItems.{stands, is_left_out, is_exchanged}
+use Rattle.vcd_amend.specs.Retimed.{new_tick, ChangeKey, change_key, counts_with, code_of_key, lasts, held_with}
+use Rattle.vcd_amend.specs.Retimed.{is_past, has_kept_variable, stamp_line, released_pieces, retimed_stamp}
+use Rattle.vcd_amend.specs.Retimed.{pieces_in_place, retimed_pieces}
+use Rattle.vcd_amend.specs.RetimedLaws.{CanBeRetimed, MeansRetimed, pieces_after, RetimedFileMeansRetimedCapture}
+use Rattle.vcd_amend.specs.RetimedLaws.{bytes_of, RetimedTextMeansRetimedCapture, is_neither, OtherPiecesStand}
 use Rattle.vcd_amend.proofs.amended.Spelled.{unbroken_has_no_space}
 use Rattle.vcd_amend.proofs.amended.WholeText.{HasSpace, SpellsItem, HasSomeSpace, items_of}
-use Rattle.vcd_amend.proofs.retimed.Ticks.{is_earlier}
-use Rattle.vcd_amend.proofs.retimed.Kinds.{kind_of, is_stamp, is_change, is_still}
-use Rattle.vcd_amend.proofs.retimed.Kinds.{retimed_still, retimed_change, retimed_by_stamp}
-use Rattle.vcd_amend.proofs.retimed.StampTicks.{stamp_ticks}
+use Rattle.vcd_amend.proofs.retimed.Ticks.{is_earlier, stamp_ticks}
+use Rattle.vcd_amend.proofs.retimed.Kinds.{kind_of, is_stamp, is_change, is_still, retimed_still, retimed_change}
+use Rattle.vcd_amend.proofs.retimed.Kinds.{retimed_by_stamp, change_of_key}
 use Rattle.vcd_amend.proofs.retimed.Meaning.{state_is, allowed_again, means_retimed}
+use Rattle.vcd_amend.proofs.retimed.LastChanges.{IsHeld, held_change}
+
+-- ==== the bytes, and what they mean
 
 -- ---- a stamp
 
@@ -103,8 +107,9 @@ module _ (is_cut_out : ℕ → Bool) where
 
     all_held : (s : ParseState) (held : List Piece) (p : Piece) (k : ChangeKey) → P p → All P held
         → All P (held_with is_cut_out s held p (Some k))
-    all_held s held p k is all = All-append P _ _ (All-filter (λ h. not (has_key k (change_key h.item))) P held all)
-        (all_if (is_cut_out s.tick && lasts s (code_of_key k)) (p ∷ []) (All-cons P p [] is (All-nil P)))
+    all_held s held p k is all = All-append P _ _ (All-filter (λ h. not (counts_with (has_kept_variable s) k (change_key
+        h.item))) P held all) (all_if (is_cut_out s.tick && lasts s (code_of_key k)) (p ∷ []) (All-cons P p [] is
+        (All-nil P)))
 
     all_retimed : (s : ParseState) (held ps : List Piece) → AllowsAll s (items_of ps) → few s.tick → All P held
         → All P ps → All P (retimed_pieces is_cut_out s held ps)
@@ -256,3 +261,87 @@ retimed_text_is_meant is_cut_out old_tick limit file pieces tail can =
       means = sym means.means;
       left_out = sym means.left_out;
     }
+
+-- ==== what is neither a stamp nor a change
+
+abbrev others : List Piece → List Piece
+others ps = filter (λ p. is_neither p.item) ps
+
+-- what is held is none of them
+none_held : (held : List Piece) → All IsHeld held → others held ≡ []
+none_held [] all = refl
+none_held (p ∷ ps) all =
+    let change = change_of_key p.item (All-head IsHeld p ps all) in
+    rw (change.1.neither) (none_held ps (All-tail IsHeld p ps all))
+
+module _ (is_cut_out : ℕ → Bool) where
+  none_released : (s : ParseState) (held : List Piece) → All IsHeld held → others (released_pieces is_cut_out s held) ≡
+      []
+  none_released s [] all = refl
+  none_released s (p ∷ ps) all = by_test (is_cut_out s.tick)
+    where
+      by_test : (cut : Bool)
+          → others ((if cut then stamp_line (new_tick is_cut_out s.tick) ∷ [] else []) ++ p ∷ ps) ≡ []
+      by_test true = none_held (p ∷ ps) all
+      by_test false = none_held (p ∷ ps) all
+
+  none_placed : (p : Piece) (digits : List ℕ) → p.item ≡ stamp digits
+      → others (pieces_in_place (retimed_stamp is_cut_out (number_of digits)) p) ≡ []
+  none_placed p digits is = by_tests (is_cut_out (number_of digits)) (new_tick is_cut_out (number_of digits) ==
+      number_of
+      digits)
+    where
+      by_tests : (cut same : Bool) → others (pieces_in_place (if cut then is_left_out else (if same then stands else
+          is_exchanged (stamp (decimal (new_tick is_cut_out (number_of digits)))))) p) ≡ []
+      by_tests true same = refl
+      by_tests false true = rw is refl
+      by_tests false false = refl
+
+  stand : (s : ParseState) (held ps : List Piece) → All IsHeld held → others (retimed_pieces is_cut_out s held ps) ≡
+      others ps
+  unfolding retimed_pieces
+  stand s held [] all = none_released s held all
+  stand s held (p ∷ ps) all = elim (kind_of p.item) [
+    | is_stamp digits is ↦
+        let past : Bool = is_past is_cut_out s (stamp digits) in
+        let put : List Piece = if past then released_pieces is_cut_out s held else [] in
+        let placed : List Piece = pieces_in_place (retimed_stamp is_cut_out (number_of digits)) p in
+        let rest : List Piece = retimed_pieces is_cut_out (state_after_item s p.item) (if past then [] else held) ps in
+        let none_put : others put ≡ [] = put_none past in
+        let neither : is_neither p.item ≡ false = ap is_neither is in
+        ap others (retimed_by_stamp is_cut_out s held p ps digits is) ∙ filter-append (λ (p : Piece). is_neither p.item)
+        (put ++ placed) rest ∙ ap (λ (l : List Piece). l ++ others rest) (filter-append (λ (p : Piece). is_neither
+        p.item)
+        put placed ∙ ap (λ (l : List Piece). l ++ others placed) none_put ∙ none_placed p digits is) ∙ stand
+        (state_after_item s p.item) (if past then [] else held) ps (all_after past) ∙ sym (rw neither refl)
+    | is_change k change ↦
+        let rest : List Piece = retimed_pieces is_cut_out (state_after_item s p.item) (held_with is_cut_out s held p
+        (Some k))
+        ps
+        in
+        ap others (retimed_change is_cut_out s held p ps k change) ∙ filter-append (λ (p : Piece). is_neither p.item)
+        (if
+        is_cut_out s.tick then [] else p ∷ []) rest ∙ ap (λ (l : List Piece). l ++ others rest) (one_none (is_cut_out
+        s.tick) change.neither) ∙ stand (state_after_item s p.item) (held_with is_cut_out s held p (Some k)) ps
+        (held_change
+        is_cut_out s held p k change all) ∙ sym (rw (change.neither) refl)
+    | is_still still ↦ ap others (retimed_still is_cut_out s held p ps still) ∙ rw (still.neither) (ap (λ (l : List
+        Piece).
+        p ∷ l) (stand (state_after_item s p.item) held ps all))
+  ]
+    where
+      put_none : (past : Bool) → others (if past then released_pieces is_cut_out s held else []) ≡ []
+      put_none true = none_released s held all
+      put_none false = refl
+
+      all_after : (past : Bool) → All IsHeld (if past then [] else held)
+      all_after true = All-nil IsHeld
+      all_after false = all
+
+      one_none : (cut : Bool) → is_neither p.item ≡ false → others (if cut then [] else p ∷ []) ≡ []
+      one_none true neither = refl
+      one_none false neither = rw neither refl
+
+pub other_pieces_stand : OtherPiecesStand
+other_pieces_stand is_cut_out old_tick limit file pieces tail can =
+    stand is_cut_out (initial_state limit) [] pieces (All-nil IsHeld)

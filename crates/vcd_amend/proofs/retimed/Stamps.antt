@@ -1,7 +1,6 @@
 -- A stamp is put into a retimed file only for a tick of which the file has none.
-use Rattle.std.proofs.Common.{◌≡◌, ℕ, ◌+◌, ◌<◌, ◌≤◌, ◌∙◌, ◌==◌, ◌⊎◌, Bool, true, false}
-use Rattle.std.proofs.Common.{List, [], ◌∷◌, ◌++◌, refl, ap, sym, arith, if◌then◌else◌, inl, inr}
-use Rattle.std.proofs.Common.{Some, subst, decimal, All}
+use Rattle.std.proofs.Common.{◌≡◌, ℕ, ◌+◌, ◌<◌, ◌≤◌, ◌∙◌, ◌==◌, ◌⊎◌, Bool, true, false, List, [], ◌∷◌, ◌++◌, refl, ap}
+use Rattle.std.proofs.Common.{sym, arith, if◌then◌else◌, inl, inr, Some, subst, decimal, All}
 use Rattle.std.proofs.lemmas.Bool.{cases_Bool, cases_lt, false≢true, ltb-true, eqb-true, eq-eqb}
 use Rattle.std.proofs.lemmas.Bool.Decides.{nat_tests}
 use Rattle.std.proofs.lemmas.List.Elements.{All-nil, All-cons, All-head, All-tail}
@@ -15,10 +14,9 @@ use Rattle.vcd_amend.specs.Retimed.{new_tick, AreOldTicks, ChangeKey, held_with,
 use Rattle.vcd_amend.specs.Retimed.{retimed_stamp, pieces_in_place, retimed_pieces}
 use Rattle.vcd_amend.specs.RetimedLaws.{is_stamp_of, stamp_count, StampsStand}
 use Rattle.vcd_text.proofs.read_back.Decimals.{number_of-decimal}
-use Rattle.vcd_amend.proofs.retimed.Ticks.{rises, before_old, old_of_new}
+use Rattle.vcd_amend.proofs.retimed.Ticks.{rises, before_old, old_of_new, items_of, small, stamp_ticks}
 use Rattle.vcd_amend.proofs.retimed.Kinds.{IsChange, IsStill, kind_of, is_stamp, is_change, is_still, change_of_key}
 use Rattle.vcd_amend.proofs.retimed.Kinds.{retimed_still, retimed_change, retimed_by_stamp}
-use Rattle.vcd_amend.proofs.retimed.StampTicks.{items_of, small, stamp_ticks}
 use Rattle.vcd_amend.proofs.retimed.LastChanges.{IsHeld, held_change}
 
 -- ---- counts

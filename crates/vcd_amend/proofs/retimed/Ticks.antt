@@ -1,20 +1,30 @@
--- The new ticks of ticks that are left, and the old ones of new ticks.
-use Rattle.std.proofs.Common.{◌≡◌, ℕ, zero, suc, ◌+◌, ◌-◌, ◌<◌, ◌≤◌, ◌∙◌, Bool, true, false, nat_lt, nat_le}
-use Rattle.std.proofs.Common.{refl, ap, sym, arith, if◌then◌else◌, inl, inr}
-use Rattle.std.proofs.lemmas.Bool.{cases_Bool, cases_lt, le-leb, lt-leb}
+-- The new ticks of ticks that are left, the old ones of new ticks, and the stamps of a retimed file.
+use Rattle.std.proofs.Common.{◌≡◌, ℕ, zero, suc, ◌+◌, ◌-◌, ◌<◌, ◌≤◌, ◌∙◌, Bool, true, false, nat_lt, nat_le, refl, ap}
+use Rattle.std.proofs.Common.{sym, arith, if◌then◌else◌, inl, inr, ◌==◌, ◌^◌, map, decimal, IsTrue, List, ◌∷◌, ◌++◌}
+use Rattle.std.proofs.lemmas.Bool.{cases_Bool, cases_lt, le-leb, lt-leb, and_parts, false≢true, leb-true, eqb-true}
 use Rattle.std.proofs.lemmas.Bool.Decides.{nat_tests}
-use Rattle.vcd_amend.specs.Retimed.{new_tick, AreOldTicks}
+use Rattle.vcd_core.specs.Decimal.{number_of, is_number}
+use Rattle.vcd_core.specs.declared.capture.TheConstants.{END_LIMIT}
+use Rattle.vcd_text.specs.Items.{Item, stamp}
+use Rattle.vcd_text.specs.Grammar.{ParseState, Allows}
+use Rattle.vcd_text.specs.Pieces.{Piece}
+use Rattle.vcd_text.proofs.shared.ItemTests.{has_tick}
+use Rattle.vcd_text.proofs.read_back.Decimals.{number_of-decimal}
+use Rattle.vcd_amend.specs.Retimed.{new_tick, AreOldTicks, retimed_stamp, pieces_in_place}
 use Rattle.vcd_amend.specs.RetimedLaws.{is_in_cut, tick_before_cut, is_in_either, CutsLeaveTicks}
+use Rattle.vcd_amend.specs.AmendedItems.{stands, is_left_out, is_exchanged}
+
+-- ==== the new ticks of ticks that are left, and the old ones of new ticks
 
 -- ---- any ticks
 
 module _ (is_cut_out : ℕ → Bool) where
   -- the tick after one that is left, and after one that is not
-  pub after_left : (t : ℕ) → is_cut_out t ≡ false → new_tick is_cut_out (suc t) ≡ new_tick is_cut_out t + 1
+  after_left : (t : ℕ) → is_cut_out t ≡ false → new_tick is_cut_out (suc t) ≡ new_tick is_cut_out t + 1
   unfolding new_tick
   after_left t is = rw is refl
 
-  pub after_cut : (t : ℕ) → is_cut_out t ≡ true → new_tick is_cut_out (suc t) ≡ new_tick is_cut_out t
+  after_cut : (t : ℕ) → is_cut_out t ≡ true → new_tick is_cut_out (suc t) ≡ new_tick is_cut_out t
   unfolding new_tick
   after_cut t is = rw is (omega arith)
 
@@ -55,7 +65,7 @@ module _ (is_cut_out : ℕ → Bool) (old_tick : ℕ → ℕ) (old : AreOldTicks
     | inr is ↦ is
   ]
 
-  pub after_old : (u t : ℕ) → u ≤ old_tick t → new_tick is_cut_out u ≤ t
+  after_old : (u t : ℕ) → u ≤ old_tick t → new_tick is_cut_out u ≤ t
   after_old u t upto = omega (arith, old.same t, rises is_cut_out u (old_tick t) upto)
 
   -- a change counts at a new tick if it counts at the old one
@@ -137,3 +147,78 @@ either first later old older is_first is_later = record {
 
 pub cuts_leave_ticks : CutsLeaveTicks
 cuts_leave_ticks = (one_cut, end_left, of_either, either)
+
+-- ==== the last stamp of a retimed file, and where the stamps of the file stand in it
+
+abbrev pub items_of : List Piece → List Item
+items_of ps = map (λ p. p.item) ps
+
+-- ---- the ticks of stamps
+
+-- the last stamp of the retimed file, after the stamp `u` of the file
+pub record IsTickAfter (is_cut_out : ℕ → Bool) (u n : ℕ) : Type 0 where
+  pub upto : n ≤ new_tick is_cut_out u
+  pub here : is_cut_out u ≡ false → n ≡ new_tick is_cut_out u
+  pub most : u ≤ END_LIMIT
+
+-- new ticks are few
+pub small : (is_cut_out : ℕ → Bool) (t : ℕ) → t ≤ END_LIMIT → new_tick is_cut_out t < 2 ^ 64
+small is_cut_out t most = omega (arith, is_earlier is_cut_out t)
+
+-- what the test of a stamp says
+pub stamp_ticks : (s : ParseState) (digits : List ℕ) → Allows s (stamp digits)
+    → IsTrue (is_number digits) × (number_of digits ≤ END_LIMIT) × (s.tick ≤ number_of digits)
+stamp_ticks s digits allows =
+    let has = has_tick s digits allows in
+    let tests = and_parts (is_number digits) (nat_le (number_of digits) END_LIMIT) has.0 in
+    (tests.0, leb-true (number_of digits) END_LIMIT tests.1, has.1)
+
+-- ---- what takes the tick of a stamp, and nothing else
+
+module _ {X : Type 0} (seen : ℕ → List Piece → X)
+    (at_stamp : (n : ℕ) (p : Piece) (ps : List Piece) (digits : List ℕ) → p.item ≡ stamp digits
+    → seen n (p ∷ ps) ≡ seen (number_of digits) ps) (is_cut_out : ℕ → Bool) where
+  -- sees no more than the new tick of a stamp in its place
+  pub record Placed (u n : ℕ) (pieces rest : List Piece) : Type 0 where
+    pub tick : ℕ
+    pub is : IsTickAfter is_cut_out u tick
+    pub last : seen n (pieces ++ rest) ≡ seen tick rest
+
+  module _ (p : Piece) (digits : List ℕ) (n : ℕ) (rest : List Piece) (is : p.item ≡ stamp digits)
+      (most : number_of digits ≤ END_LIMIT) where
+    abbrev new : ℕ
+    new = new_tick is_cut_out (number_of digits)
+
+    exchanged : number_of (decimal new) ≡ new
+    exchanged = number_of-decimal new (small is_cut_out (number_of digits) most)
+
+    by_number : (same : Bool) → (new == number_of digits) ≡ same
+        → Placed (number_of digits) n (pieces_in_place (if same then stands else is_exchanged (stamp (decimal new))) p)
+        rest
+    by_number true same =
+        let it : new ≡ number_of digits = eqb-true new (number_of digits) same in
+        record {
+          tick = number_of digits;
+          is = record { upto = omega arith; here = λ _. sym it; most = most };
+          last = at_stamp n p rest digits is;
+        }
+    by_number false other = record {
+      tick = new;
+      is = record { upto = omega arith; here = λ _. refl; most = most };
+      last = at_stamp n _ rest (decimal new) refl ∙ ap (λ (m : ℕ). seen m rest) exchanged;
+    }
+
+    by_test : (cut : Bool) → is_cut_out (number_of digits) ≡ cut → n ≤ new
+        → Placed (number_of digits) n (pieces_in_place (if cut then is_left_out else (if new == number_of digits then
+        stands
+        else is_exchanged (stamp (decimal new)))) p) rest
+    by_test true cut upto = record {
+      tick = n;
+      is = record { upto = upto; here = λ left. absurd (false≢true (sym left ∙ cut)); most = most };
+      last = refl;
+    }
+    by_test false left upto = by_number (new == number_of digits) refl
+
+    pub placed : n ≤ new → Placed (number_of digits) n (pieces_in_place (retimed_stamp is_cut_out (number_of digits)) p)
+        rest
+    placed upto = by_test (is_cut_out (number_of digits)) refl upto

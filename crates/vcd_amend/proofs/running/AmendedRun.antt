@@ -24,17 +24,14 @@ use Rattle.vcd_amend.specs.Amendment.{Amendment}
 use Rattle.vcd_amend.specs.AmendedText.{amended_text}
 use Rattle.vcd_amend.specs.GivenCodes.{amendment_for}
 use Rattle.vcd_amend.specs.AmendedRun.{signal_from, signals_remaining, signals_derived}
-use Rattle.vcd_amend.specs.EditedText.{PiecesMean, edited_text}
+use Rattle.vcd_amend.specs.AmendedRun.{IsAfterCuts}
+use Rattle.vcd_amend.specs.EditedText.{PiecesMean, edited_text, pieces_after_cuts, amendment_of_run}
 use Rattle.vcd_amend.specs.KnownSignals.{KnowsSignals}
 use Rattle.vcd_amend.proofs.laws.AmendedRuns.{remaining_by_hollow}
-use Rattle.vcd_amend.proofs.laws.EditedFiles.{no_cut_leaves_pieces}
+use Rattle.vcd_journal.proofs.shared.Cuts.{count_after_cuts}
+use Rattle.vcd_amend.proofs.laws.EditedFiles.{is_after_cuts, same_declared}
 use Rattle.vcd_amend.proofs.retimed.Pieces.{cut_spells_items}
 use Rattle.vcd_amend.proofs.running.KnownRun.{all_known}
-
-replay_without_cuts : (c : Contents) (es : List Edit) → es ≡ [] → replay c es ≡ c
-unfolding replay
-replay_without_cuts c [] none = refl
-replay_without_cuts c (e ∷ es) none = absurd (cc)
 
 as_many : (others : List OtherChanges) (ss : List SignalContents)
     → length (signals_with_others others ss) ≡ length ss
@@ -51,62 +48,68 @@ IsKnownAmendment s firsts ks ss a =
     (map (λ k. signal_from k ks ss) (range_with_len 0 (length firsts))) whole
     → a ≡ amendment_for s whole (drop (length ks) ss)
 
-module _ (s : ParseState) (silent : ℕ → Bool) (skipped depth : ℕ) (lines : List (List ℕ)) (a : Amendment)
+-- where the state `t` is that of the file after the cuts in force
+module _ (s t : ParseState) (silent : ℕ → Bool) (skipped depth : ℕ) (lines : List (List ℕ)) (a : Amendment)
     (asked : AreHeard silent (origins_asked (meaning s) skipped depth lines))
-    (no_cut : cuts (last_edits (meaning s) skipped depth lines) ≡ []) where
+    (after : IsAfterCuts s t (last_edits (meaning s) skipped depth lines)) where
   abbrev c : Contents
   c = meaning s
 
   abbrev es : List Edit
   es = last_edits c skipped depth lines
 
-  abbrev count : ℕ
-  count = length c.signals
+  abbrev d : Contents
+  d = meaning t
 
   abbrev ks : List ℕ
-  ks = origins count es
+  ks = origins (length c.signals) es
 
   abbrev h : Contents
-  h = hollow silent c
+  h = hollow silent d
 
   abbrev ss : List SignalContents
-  ss = (last_capture h skipped depth lines).signals
+  ss = (last_capture (hollow silent c) skipped depth lines).signals
 
   same : IsSameRun silent c skipped depth lines
   same = run_on_hollow silent c skipped depth lines asked
 
+  count : length d.signals ≡ length c.signals
+  count = ap (λ (e : Contents). length e.signals) after.means ∙ count_after_cuts c es
+
   -- the kept variables are as many as the signals
-  kept_count : length (kept_variables s.declared) ≡ count
-  kept_count = sym (length-map (kept_variables s.declared) (declared_signal s.value_changes s.tick))
+  kept_count : length (kept_variables t.declared) ≡ length d.signals
+  kept_count = sym (length-map (kept_variables t.declared) (declared_signal t.value_changes t.tick))
 
-  hollow_count : length h.signals ≡ count
-  hollow_count = as_many (map (emptied silent) (range_with_len 0 count)) c.signals
+  hollow_count : length h.signals ≡ length d.signals
+  hollow_count = as_many (map (emptied silent) (range_with_len 0 (length d.signals))) d.signals
 
-  known : KnowsSignals s (kept_variables s.declared) h.signals
+  known : KnowsSignals t (kept_variables t.declared) h.signals
       (map (λ k. signal_from k ks ss) (range_with_len 0 (length h.signals)))
-      (map (λ k. option_map (with_other (filled silent c k)) (signal_from k ks ss)) (range_with_len 0 count))
+      (map (λ k. option_map (with_other (filled silent d k)) (signal_from k ks ss))
+      (range_with_len 0 (length d.signals)))
   known =
-      let Known : (m n : ℕ) → Type 0 = λ m n. KnowsSignals s (kept_variables s.declared)
-      (signals_with_others (map (emptied silent) (range_with_len 0 n)) c.signals)
+      let Known : (m n : ℕ) → Type 0 = λ m n. KnowsSignals t (kept_variables t.declared)
+      (signals_with_others (map (emptied silent) (range_with_len 0 n)) d.signals)
       (map (λ k. signal_from k ks ss) (range_with_len 0 m))
-      (map (λ k. option_map (with_other (filled silent c k)) (signal_from k ks ss)) (range_with_len 0 n)) in
-      subst (λ m. Known m count) (sym hollow_count)
+      (map (λ k. option_map (with_other (filled silent d k)) (signal_from k ks ss)) (range_with_len 0 n)) in
+      subst (λ m. Known m (length d.signals)) (sym hollow_count)
       (subst (λ n. Known n n) kept_count
-      (all_known s silent ks ss (last_capture c skipped depth lines).signals
-      (ap (λ (d : Contents). d.signals) same.hollow_capture) [] (kept_variables s.declared) refl))
+      (all_known t silent ks ss (last_capture c skipped depth lines).signals
+      (ap (λ (e : Contents). e.signals) same.hollow_capture) [] (kept_variables t.declared) refl))
 
-  pub amendment_is_for_run : IsKnownAmendment s h.signals ks ss a
-      → a ≡ amendment_for s (signals_remaining count es (last_capture c skipped depth lines))
-      (signals_derived count es (last_capture c skipped depth lines))
+  pub amendment_is_for_run : IsKnownAmendment t (hollow silent (replay c (cuts es))).signals ks ss a
+      → a ≡ amendment_for t (signals_remaining (length c.signals) es (last_capture c skipped depth lines))
+      (signals_derived (length c.signals) es (last_capture c skipped depth lines))
   amendment_is_for_run is_known =
       let by_hollow = remaining_by_hollow silent c skipped depth lines same in
-      let whole : signals_remaining count es (last_capture c skipped depth lines)
-      ≡ map (λ k. option_map (with_other (filled silent c k)) (signal_from k ks ss)) (range_with_len 0 count) =
-      by_hollow.0
-      ∙ ap (λ (d : Contents). map (λ k. option_map (with_other (filled silent d k)) (signal_from k ks ss))
-      (range_with_len 0 count)) (replay_without_cuts c (cuts es) no_cut) in
-      is_known _ known
-      ∙ ap₂ (amendment_for s) (sym whole) (sym by_hollow.1)
+      let left : Contents → ℕ → List (Option SignalContents) = λ e n.
+      map (λ k. option_map (with_other (filled silent e k)) (signal_from k ks ss)) (range_with_len 0 n) in
+      let whole : signals_remaining (length c.signals) es (last_capture c skipped depth lines)
+      ≡ left d (length d.signals) =
+      by_hollow.0 ∙ (λ i. left (sym after.means i) (sym count i)) in
+      let here : IsKnownAmendment t h.signals ks ss a =
+      subst (λ (e : Contents). IsKnownAmendment t (hollow silent e).signals ks ss a) (sym after.means) is_known in
+      here _ known ∙ ap₂ (amendment_for t) (sym whole) (sym by_hollow.1)
 
 -- a file that is cut into accepted pieces is accepted
 pub cut_is_accepted : (file : List ℕ) (pieces : List Piece) (tail : List ℕ) → IsCut file pieces tail
@@ -121,6 +124,15 @@ cut_is_accepted file pieces tail cut allowed in_body = record {
   definitions_ended = in_body;
 }
 
+-- the amendment of the file after the cuts in force, known from the hollow captures, is that of the run
+abbrev pub IsKnownForRun : (silent : ℕ → Bool) → Contents → (skipped depth : ℕ) → (lines : List (List ℕ))
+    → List Piece → Amendment → Type 0
+IsKnownForRun silent c skipped depth lines pieces a =
+    IsKnownAmendment (state_of_pieces SIGNAL_LIMIT (pieces_after_cuts c skipped depth lines pieces))
+    (hollow silent (replay c (cuts (last_edits c skipped depth lines)))).signals
+    (origins (length c.signals) (last_edits c skipped depth lines))
+    (last_capture (hollow silent c) skipped depth lines).signals a
+
 -- the amended file is the edited one
 pub amended_text_is_edited : (file : List ℕ) (pieces : List Piece) (tail : List ℕ) (silent : ℕ → Bool)
     (c : Contents) (skipped depth : ℕ) (lines : List (List ℕ)) (a : Amendment)
@@ -128,42 +140,41 @@ pub amended_text_is_edited : (file : List ℕ) (pieces : List Piece) (tail : Lis
     → IsCut file pieces tail → AllowsAll (initial_state SIGNAL_LIMIT) (map (λ p. p.item) pieces)
     → IsTrue (state_of_pieces SIGNAL_LIMIT pieces).in_body
     → AreHeard silent (origins_asked c skipped depth lines)
-    → cuts (last_edits c skipped depth lines) ≡ []
-    → IsKnownAmendment (state_of_pieces SIGNAL_LIMIT pieces) (hollow silent c).signals
-    (origins (length c.signals) (last_edits c skipped depth lines))
-    (last_capture (hollow silent c) skipped depth lines).signals a
+    → IsKnownForRun silent c skipped depth lines pieces a
     → PiecesMean file pieces tail c skipped
-    × (amended_text a true (initial_state SIGNAL_LIMIT) pieces tail
+    × (amended_text a true (initial_state SIGNAL_LIMIT) (pieces_after_cuts c skipped depth lines pieces) tail
     ≡ edited_text c skipped depth lines pieces tail)
-amended_text_is_edited file pieces tail silent c skipped depth lines a means cut allowed in_body asked no_cut is_known =
+amended_text_is_edited file pieces tail silent c skipped depth lines a means cut allowed in_body asked is_known =
     let s : ParseState = state_of_pieces SIGNAL_LIMIT pieces in
+    let count : ℕ = count_by is_skipped s.declared in
     let accepted : Accepts SIGNAL_LIMIT (words_of file) s = cut_is_accepted file pieces tail cut allowed in_body in
-    let again : FileMeans SIGNAL_LIMIT file (meaning s) (count_by is_skipped s.declared) =
+    let again : FileMeans SIGNAL_LIMIT file (meaning s) count =
     record { state = s; accepted = accepted; means = refl; left_out = refl } in
-    let one = one_meaning SIGNAL_LIMIT file c (meaning s) skipped (count_by is_skipped s.declared) means again in
+    let one = one_meaning SIGNAL_LIMIT file c (meaning s) skipped count means again in
     let is : PiecesMean file pieces tail c skipped =
     record { cut = cut; allowed = allowed; in_body = in_body; means = one.0; left_out = one.1 } in
-    let all : (d : Contents) → d ≡ meaning s → AreHeard silent (origins_asked d skipped depth lines)
-    → cuts (last_edits d skipped depth lines) ≡ []
-    → IsKnownAmendment s (hollow silent d).signals
-    (origins (length d.signals) (last_edits d skipped depth lines))
-    (last_capture (hollow silent d) skipped depth lines).signals a
-    → amended_text a true (initial_state SIGNAL_LIMIT) pieces tail
-    ≡ edited_text d skipped depth lines pieces tail = λ d same_c asks uncut knows.
-    (λ i. amended_text ((subst (λ (e : Contents). (AreHeard silent (origins_asked e skipped depth lines)
-    → cuts (last_edits e skipped depth lines) ≡ []
-    → IsKnownAmendment s (hollow silent e).signals
-    (origins (length e.signals) (last_edits e skipped depth lines))
-    (last_capture (hollow silent e) skipped depth lines).signals a
-    → a ≡ amendment_for s (signals_remaining (length e.signals) (last_edits e skipped depth lines)
-    (last_capture e skipped depth lines)) (signals_derived (length e.signals) (last_edits e skipped depth lines)
-    (last_capture e skipped depth lines)))) (sym same_c)
-    (λ heard cutless known. amendment_is_for_run s silent skipped depth lines a heard cutless known)
-    asks uncut knows) i) true (initial_state SIGNAL_LIMIT) pieces tail)
-    ∙ sym (λ i. amended_text (amendment_for (state_of_pieces SIGNAL_LIMIT
-    (no_cut_leaves_pieces (last_edits d skipped depth lines) SIGNAL_LIMIT pieces uncut i))
-    (signals_remaining (length d.signals) (last_edits d skipped depth lines) (last_capture d skipped depth lines))
-    (signals_derived (length d.signals) (last_edits d skipped depth lines) (last_capture d skipped depth lines)))
-    true (initial_state SIGNAL_LIMIT)
-    (no_cut_leaves_pieces (last_edits d skipped depth lines) SIGNAL_LIMIT pieces uncut i) tail) in
-    (is, all c one.0 asked no_cut is_known)
+    let IsForRun : Contents → ℕ → Type 0 = λ d n. AreHeard silent (origins_asked d n depth lines)
+    → IsKnownForRun silent d n depth lines pieces a → a ≡ amendment_of_run d n depth lines pieces in
+    let here : IsForRun (meaning s) count = λ heard known.
+    amendment_is_for_run s (state_of_pieces SIGNAL_LIMIT (pieces_after_cuts (meaning s) count depth lines pieces))
+    silent count depth lines a heard
+    (is_after_cuts file pieces tail depth lines cut allowed in_body accepted) known in
+    let for_run : IsForRun c skipped =
+    subst (λ (d : Contents). IsForRun d skipped) (sym one.0) (subst (IsForRun (meaning s)) (sym one.1) here) in (
+      is,
+      ap (λ (b : Amendment). amended_text b true (initial_state SIGNAL_LIMIT)
+          (pieces_after_cuts c skipped depth lines pieces) tail) (for_run asked is_known),
+    )
+
+-- the file after the cuts in force has the variables of the file
+pub declared_after_cuts : (file : List ℕ) (pieces : List Piece) (tail : List ℕ) (c : Contents) (skipped depth : ℕ)
+    (lines : List (List ℕ)) → PiecesMean file pieces tail c skipped
+    → (state_of_pieces SIGNAL_LIMIT (pieces_after_cuts c skipped depth lines pieces)).declared
+    ≡ (state_of_pieces SIGNAL_LIMIT pieces).declared
+declared_after_cuts file pieces tail c skipped depth lines is =
+    let s : ParseState = state_of_pieces SIGNAL_LIMIT pieces in
+    let AreSame : Contents → ℕ → Type 0 = λ d n.
+    (state_of_pieces SIGNAL_LIMIT (pieces_after_cuts d n depth lines pieces)).declared ≡ s.declared in
+    subst (λ (d : Contents). AreSame d skipped) (sym is.means) (subst (AreSame (meaning s)) (sym is.left_out)
+    (same_declared file pieces tail depth lines is.cut is.allowed is.in_body
+    (cut_is_accepted file pieces tail is.cut is.allowed is.in_body)))

@@ -1,15 +1,13 @@
 -- Why a part of a file is not read: as the file is not, since few signals remain and all choices answer.
-use Rattle.std.proofs.Common.{◌≡◌, ◌≤◌, ℕ, Bool, true, false, List, refl}
-use Rattle.std.specs.Prelude.{Option, Some, None, IfSome}
+use Rattle.std.proofs.Common.{◌≡◌, ◌≤◌, ℕ, Bool, true, false, List}
+use Rattle.std.specs.Prelude.{Option, None, IfSome}
 use Rattle.vcd_core.specs.declared.capture.TheConstants.{SIGNAL_LIMIT}
 use Rattle.vcd_core.specs.declared.capture.Timescale.{Timescale}
 use Rattle.vcd_core.specs.Contents.{SignalContents}
 use Rattle.vcd_text.specs.declared.fault.Fault.TheVariants as faults
 use Rattle.vcd_text.specs.declared.fault.ReadError.{ReadError}
 use Rattle.vcd_text.specs.CopyEnds.{ReadFails}
-use Rattle.vcd_text.specs.MemoryErrors.{memory_error}
 use Rattle.vcd_text.specs.Parts.{Answers, IsPartRefusal}
-use Rattle.vcd_text.specs.Refusals.{IsRefusal, no_memory}
 use Rattle.vcd_text.proofs.part.WholeParts.{no_part_refusal}
 
 pub read_fails : (limit most : ℕ) (takes : SignalContents → Bool) (answers : Answers)
@@ -23,18 +21,4 @@ read_fails limit most takes answers coming left failed e few some refused has ot
   refused = no_part_refusal limit most takes answers coming failed left e few some refused;
   failed_reader = has;
   other = other;
-}
-
-out_of_memory : (limit most : ℕ) (coming left : Option (List ℕ)) (failed : Bool)
-    → IfSome coming (λ file. IsRefusal limit most file failed left memory_error)
-out_of_memory limit most None left failed = tt
-out_of_memory limit most (Some file) left failed = no_memory refl
-
--- memory ran out, and the reader has not failed
-pub memory_fails : (limit most : ℕ) (coming left : Option (List ℕ)) (failed : Bool) → failed ≡ false
-    → ReadFails limit most coming left failed memory_error
-memory_fails limit most coming left failed ready = record {
-  refused = out_of_memory limit most coming left failed;
-  failed_reader = λ is. absurd (cc is);
-  other = λ _. ready;
 }

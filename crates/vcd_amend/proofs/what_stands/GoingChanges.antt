@@ -1,7 +1,6 @@
 -- A change is left out or exchanged only if it may go.
-use Rattle.std.proofs.Common.{◌≡◌, ℕ, ◌+◌, Bool, true, false, not, ◌&&◌, ◌||◌, ◌∙◌, All}
-use Rattle.std.proofs.Common.{List, [], ◌∷◌, ◌++◌, map, Option, Some, None, refl, sym, ap, inl, inr}
-use Rattle.std.proofs.Common.{subst}
+use Rattle.std.proofs.Common.{◌≡◌, ℕ, ◌+◌, Bool, true, false, not, ◌&&◌, ◌||◌, ◌∙◌, All, List, [], ◌∷◌, ◌++◌, map}
+use Rattle.std.proofs.Common.{Option, Some, None, refl, sym, ap, inl, inr, subst}
 use Rattle.std.specs.Prelude.{bytes_eq, is_some, ◌⊎◌}
 use Rattle.std.proofs.lemmas.Bool.{cases_Bool, false≢true, or_left, or_right}
 use Rattle.std.proofs.lemmas.Option.{same_Some}
@@ -13,13 +12,13 @@ use Rattle.vcd_core.specs.Contents.{SignalContents}
 use Rattle.vcd_text.specs.Grammar.{ParseState, VariableDeclaration, is_skipped, kept_variables}
 use Rattle.vcd_amend.specs.Amendment.{AmendedCode, first_with_code, amended_code, wave_has_change, changes_stand}
 use Rattle.vcd_amend.specs.FreshCodes.{AreFresh}
-use Rattle.vcd_amend.specs.GivenCodes.{NewWave, CodedWave, AreSignalsOf, is_unchanged, new_wave_of}
-use Rattle.vcd_amend.specs.GivenCodes.{held_codes, waves_of_changed, free_code, coded_wave, coded_waves_from}
-use Rattle.vcd_amend.specs.GivenCodes.{next_fresh, also_taken, coded_signals}
+use Rattle.vcd_amend.specs.GivenCodes.{NewWave, CodedWave, AreSignalsOf, is_unchanged, new_wave_of, held_codes}
+use Rattle.vcd_amend.specs.GivenCodes.{waves_of_changed, free_code, coded_wave, coded_waves_from, next_fresh}
+use Rattle.vcd_amend.specs.GivenCodes.{also_taken, coded_signals}
 use Rattle.vcd_amend.specs.WhatStands.{change_may_go, any_with_code}
-use Rattle.vcd_amend.proofs.amended.Codes.{itself, same_bytes}
+use Rattle.vcd_amend.proofs.amended.OneCode.{itself, same_bytes}
 use Rattle.vcd_amend.proofs.given_codes.CodedWaves.{free_is}
-use Rattle.vcd_amend.proofs.given_codes.Variables.{kept_to, later, declared_to}
+use Rattle.vcd_amend.proofs.given_codes.Gives.{kept_to, later, declared_to}
 
 -- ---- where a code comes from
 

@@ -1,15 +1,15 @@
 -- An amendment names no code that keeps its wave, so no change of such a code is put in.
-use Rattle.std.proofs.Common.{◌≡◌, ℕ, zero, ◌+◌, ◌≤◌, Bool, true, false, not, ◌∙◌, All, ◌&&◌, ◌||◌, if◌then◌else◌}
-use Rattle.std.proofs.Common.{List, [], ◌∷◌, map, length, Option, Some, None, refl, sym, ap, inl, inr, IsTrue}
+use Rattle.std.proofs.Common.{◌≡◌, ℕ, ◌+◌, ◌≤◌, Bool, true, false, not, ◌∙◌, All, ◌&&◌, ◌||◌, List}
+use Rattle.std.proofs.Common.{[], ◌∷◌, length, Option, Some, None, refl, sym, ap, inl, inr}
 use Rattle.std.specs.Prelude.{bytes_eq, find, is_some}
 use Rattle.std.specs.List.{list_all, list_any}
-use Rattle.std.proofs.lemmas.Bool.{cases_Bool, false≢true, and_parts, and_from, or_right}
+use Rattle.std.proofs.lemmas.Bool.{cases_Bool, false≢true, and_parts, and_from}
 use Rattle.std.proofs.lemmas.List.Elements.{All-nil, All-cons, All-head, All-tail, All-weaker}
 use Rattle.vcd_core.specs.Contents.{SignalContents}
 use Rattle.vcd_core.specs.Sound.{IsSoundSignal}
 use Rattle.vcd_core.specs.Word.{is_one_of}
-use Rattle.vcd_text.specs.Items.{Item, entry, timescale, scope, upscope, variable, end_definitions}
-use Rattle.vcd_text.specs.Items.{stamp, scalar, vector, real_or_string, dump_word, other}
+use Rattle.vcd_text.specs.Items.{Item, entry, timescale, scope, upscope, variable, end_definitions, stamp, scalar}
+use Rattle.vcd_text.specs.Items.{vector, real_or_string, dump_word, other}
 use Rattle.vcd_text.specs.Grammar.{ParseState, VariableDeclaration, kept_variables, is_skipped, state_after_item}
 use Rattle.vcd_text.specs.Pieces.{Piece}
 use Rattle.vcd_amend.specs.Amendment.{AmendedCode, Amendment, first_with_code, amended_code}
@@ -17,10 +17,10 @@ use Rattle.vcd_amend.specs.AmendedMeaning.{class_of, FitsFile, FitsAmendedCode}
 use Rattle.vcd_amend.specs.FreshCodes.{fresh_code}
 use Rattle.vcd_amend.specs.GivenCodes.{AreSignalsOf, IsFileState, amendment_for, held_codes, is_unchanged, new_waves}
 use Rattle.vcd_amend.specs.GivenCodes.{signals_left}
-use Rattle.vcd_amend.specs.WhatStands.{may_come, declares, BecomesText, at_end, standing, going, exchanged}
+use Rattle.vcd_amend.specs.WhatStands.{may_come, BecomesText, at_end, standing, going, exchanged}
 use Rattle.vcd_amend.specs.AmendOnBytes.{keeps_wave, may_be_put_in}
-use Rattle.vcd_amend.proofs.amended.Codes.{itself, same_bytes}
-use Rattle.vcd_amend.proofs.amended.Found.{found_has, found_is}
+use Rattle.vcd_amend.proofs.amended.OneCode.{itself, same_bytes}
+use Rattle.vcd_amend.proofs.shared.Lists.{found_has, found_is}
 use Rattle.vcd_amend.proofs.given_codes.CodedWaves.{taken_not_given}
 use Rattle.vcd_amend.proofs.given_codes.Fits.{all_fit}
 use Rattle.vcd_amend.proofs.given_codes.FreshCodes.{fresh_codes_are_fresh}

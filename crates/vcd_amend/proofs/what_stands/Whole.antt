@@ -1,8 +1,7 @@
 -- What is untouched stands, and the rest may come.
-use Rattle.std.proofs.Common.{◌≡◌, ℕ, ◌+◌, ◌<◌, ◌≤◌, ◌^◌, Bool, true, false, ◌∙◌, if◌then◌else◌, All}
-use Rattle.std.proofs.Common.{List, [], ◌∷◌, ◌++◌, map, length, drop, Option, Some, None, refl, sym, ap, arith, inl}
-use Rattle.std.proofs.Common.{inr}
-use Rattle.std.proofs.Common.{subst, append_assoc, decimal}
+use Rattle.std.proofs.Common.{◌≡◌, ℕ, ◌+◌, ◌<◌, ◌≤◌, ◌^◌, Bool, true, false, ◌∙◌, if◌then◌else◌, All, List, [], ◌∷◌}
+use Rattle.std.proofs.Common.{◌++◌, map, length, drop, Option, Some, None, refl, sym, ap, arith, inl, inr, subst}
+use Rattle.std.proofs.Common.{append_assoc, decimal}
 use Rattle.std.specs.Prelude.{bytes_eq, is_some, find, count_by}
 use Rattle.std.specs.List.{list_all}
 use Rattle.std.specs.Cmp.Lexicographic.{pointwise_decides}
@@ -15,11 +14,14 @@ use Rattle.vcd_core.specs.Contents.{SignalContents}
 use Rattle.vcd_core.specs.Sound.{IsSoundSignal}
 use Rattle.vcd_core.specs.Word.{is_one_of}
 use Rattle.vcd_text.specs.declared.fault.Fault.TheVariants.{UnknownCode}
-use Rattle.vcd_text.specs.Items.{Item, entry, timescale, scope, upscope, variable, end_definitions}
-use Rattle.vcd_text.specs.Items.{stamp, scalar, vector, real_or_string, dump_word, other}
+use Rattle.vcd_text.specs.Items.{Item, entry, timescale, scope, upscope, variable, end_definitions, stamp, scalar}
+use Rattle.vcd_text.specs.Items.{vector, real_or_string, dump_word, other}
 use Rattle.vcd_text.specs.Grammar.{ParseState, VariableDeclaration, kept_variables, is_skipped, AllowsAll, Allows}
 use Rattle.vcd_text.specs.Grammar.{initial_state, state_after, state_after_item, variable_of}
 use Rattle.vcd_text.specs.Meaning.{FileMeans, meaning}
+use Rattle.vcd_text.proofs.shared.ItemTests.{passed}
+use Rattle.vcd_text.proofs.part.FewSignals.{same_limit}
+use Rattle.vcd_text.proofs.read_back.Decimals.{number_of-decimal}
 use Rattle.vcd_amend.specs.Amendment.{AmendedCode, Amendment, first_with_code, amended_code, is_used, changes_stand}
 use Rattle.vcd_amend.specs.Amendment.{amended_variables}
 use Rattle.vcd_amend.specs.AmendedItems.{ItemFate, is_left_out, stands, value_fate, item_fate, exchange_for, due_items}
@@ -27,30 +29,25 @@ use Rattle.vcd_amend.specs.AmendedMeaning.{FitsFile, FitsAmendedCode}
 use Rattle.vcd_amend.specs.CodedAmendment.{derived_variable}
 use Rattle.vcd_amend.specs.FreshCodes.{fresh_code}
 use Rattle.vcd_amend.specs.GivenCodes.{NewWave, CodedWave, AreSignalsOf, IsFileState, amendment_for, coded_waves}
-use Rattle.vcd_amend.specs.GivenCodes.{held_codes, new_waves, waves_of_changed, derived_new_wave}
-use Rattle.vcd_amend.specs.GivenCodes.{same_new_wave, coded_signals, coded_derived, signals_left, changed_waves}
+use Rattle.vcd_amend.specs.GivenCodes.{held_codes, new_waves, waves_of_changed, derived_new_wave, same_new_wave}
+use Rattle.vcd_amend.specs.GivenCodes.{coded_signals, coded_derived, signals_left, changed_waves}
 use Rattle.vcd_amend.specs.WhatStands.{may_go, may_come, any_with_code, change_may_go, declares, BecomesText}
 use Rattle.vcd_amend.specs.WhatStands.{UntouchedItemsStand}
-use Rattle.vcd_text.proofs.shared.ItemTests.{passed}
-use Rattle.vcd_text.proofs.part.FewSignals.{same_limit}
-use Rattle.vcd_text.proofs.read_back.Decimals.{number_of-decimal}
-use Rattle.vcd_amend.proofs.amended.Codes.{itself, same_bytes}
-use Rattle.vcd_amend.proofs.amended.Found.{found_has, found_is, is_there, each_of_both, some_first}
+use Rattle.vcd_amend.proofs.amended.OneCode.{itself, same_bytes}
+use Rattle.vcd_amend.proofs.shared.Lists.{found_has, found_is, is_there, each_of_both, some_first, all_of_map}
 use Rattle.vcd_amend.proofs.amended.Fitting.{found_apart}
 use Rattle.vcd_amend.proofs.amended.Whole.{declared_grows, body_items}
 use Rattle.vcd_amend.proofs.amended.WholeText.{items_of}
 use Rattle.vcd_amend.proofs.given_codes.CodedWaves.{waves_are}
 use Rattle.vcd_amend.proofs.given_codes.File.{state_of_file, other_capture_of_pieces}
-use Rattle.vcd_amend.proofs.given_codes.Fits.{all_fit, met, variables_are, all_of_map}
+use Rattle.vcd_amend.proofs.given_codes.Fits.{all_fit, met, variables_are}
 use Rattle.vcd_amend.proofs.given_codes.FreshCodes.{fresh_codes_are_fresh}
-use Rattle.vcd_amend.proofs.given_codes.Gives.{amendment_fits}
+use Rattle.vcd_amend.proofs.given_codes.Gives.{amendment_fits, declared_to}
 use Rattle.vcd_amend.proofs.given_codes.NewWaves.{firsts_have, new_wave_parts}
-use Rattle.vcd_amend.proofs.given_codes.Variables.{declared_to}
-use Rattle.vcd_amend.proofs.what_stands.Coming.{DeclaresOne, due_comes, due_come, inserted_come}
+use Rattle.vcd_amend.proofs.what_stands.ComingAndGoing.{DeclaresOne, due_comes, due_come, inserted_come, declared_may}
+use Rattle.vcd_amend.proofs.what_stands.ComingAndGoing.{MayHave, pieces_become}
 use Rattle.vcd_amend.proofs.what_stands.GoingChanges.{IsGiven, all_given, OwnInUse, IsInUse, all_in_use, GoesOwn}
 use Rattle.vcd_amend.proofs.what_stands.GoingChanges.{changed_go, GoesCode, one_goes, held_is_left, gone_goes, IsNotOwn}
-use Rattle.vcd_amend.proofs.what_stands.GoingDeclarations.{declared_may}
-use Rattle.vcd_amend.proofs.what_stands.Walk.{MayHave, pieces_become}
 
 -- ---- derived signals
 

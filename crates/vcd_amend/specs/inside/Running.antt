@@ -1,6 +1,6 @@
 -- A run whose replies are written, and what is then known for the copy.
-use Rattle.std.specs.Prelude.{◌≡◌, ◌⊎◌, ◌<◌, ℕ, Bool, true, false, List, [], length, Option, Some}
-use Rattle.std.specs.Prelude.{IfSome, Err}
+use Rattle.std.specs.Prelude.{◌≡◌, ◌⊎◌, ◌<◌, ℕ, Bool, true, false, List, length, Option, Some}
+use Rattle.std.specs.Prelude.{IfSome, Err, is_some}
 use Rattle.std.specs.Prelude.{nat_eq, slice_index_or}
 use Rattle.std.specs.List.{concat, list_any}
 use Rattle.vcd_core.specs.declared.capture.TheConstants.{SIGNAL_LIMIT}
@@ -13,13 +13,14 @@ use Rattle.vcd_text.specs.Grammar.{ParseState, VariableDeclaration, Accepts}
 use Rattle.vcd_text.specs.Meaning.{FileMeans}
 use Rattle.vcd_journal.specs.Machine.{Machine}
 use Rattle.vcd_journal.specs.Origins.{origins, RiseWithin, ComeFrom}
-use Rattle.vcd_journal.specs.Cuts.{cuts}
 use Rattle.vcd_journal.specs.Hollow.{hollow}
 use Rattle.vcd_script.specs.declared.running.run_error.RunError.TheVariants as run_errors
 use Rattle.vcd_script.specs.Script.{script_lines}
 use Rattle.vcd_script.specs.Run.{outcome}
 use Rattle.vcd_script.specs.LineRunEnds.{HasFailedAt, StopsInLines}
 use Rattle.vcd_script.specs.HollowRun.{last_edits, last_capture, origins_asked, AreHeard}
+use Rattle.vcd_amend.specs.declared.cut_ticks.CutTicks.{CutTicks}
+use Rattle.vcd_amend.specs.inside.dry_running.OriginHistory.{ticks_of_cuts}
 use Rattle.vcd_amend.specs.NewNames.{takes_skipped_name}
 use Rattle.vcd_amend.specs.AmendRunEnds.{PassEnds, AmendRunEnds}
 use Rattle.vcd_amend.specs.declared.running.Passes.{Passes}
@@ -58,14 +59,14 @@ pub record IsDryRun (c : Contents) (skipped depth : ℕ) (lines : List (List ℕ
       ≡ list_any (nat_eq k) (origins_asked c skipped depth lines)
   pub origins_are : dry.origins.items ≡ origins (length c.signals)
       (last_edits c skipped depth lines)
-  pub uncut : dry.is_cut ≡ false → cuts (last_edits c skipped depth lines) ≡ []
-  pub is_cut : dry.is_cut ≡ true → cuts (last_edits c skipped depth lines) ≡ [] → ⊥
+  pub cuts_are : dry.cuts.items ≡ ticks_of_cuts (last_edits c skipped depth lines)
   pub last_is : outline (contents dry.last) ≡ outline (last_capture c skipped depth lines)
 
 -- before the first reply it is known of this file and these lines: the variables and what the
 -- passes so far found
 pub record IsPlanned (file lines : List ℕ) (depth : ℕ) (declared : List VariableDeclaration)
-    (skipped : ℕ) (first : Contents) (ks : List ℕ) (is_cut takes : Bool) : Type 0 where
+    (skipped : ℕ) (first : Contents) (ks : List ℕ) (cuts : List CutTicks) (takes : Bool) :
+    Type 0 where
   pub whole : Contents
   pub silent : ℕ → Bool
   pub means : FileMeans SIGNAL_LIMIT file whole skipped
@@ -73,21 +74,20 @@ pub record IsPlanned (file lines : List ℕ) (depth : ℕ) (declared : List Vari
   pub hollow_is : first ≡ hollow silent whole
   pub origins_are : ks ≡ origins (length whole.signals)
       (last_edits whole skipped depth (script_lines lines))
-  pub uncut : is_cut ≡ false → cuts (last_edits whole skipped depth (script_lines lines)) ≡ []
+  pub cuts_are : cuts ≡ ticks_of_cuts (last_edits whole skipped depth (script_lines lines))
   pub variables : (s : ParseState) → Accepts SIGNAL_LIMIT (words_of file) s → declared ≡ s.declared
-  pub cut : is_cut ≡ true → cuts (last_edits whole skipped depth (script_lines lines)) ≡ [] → ⊥
   pub names : takes ≡ takes_skipped_name declared whole.signals ks
       (last_capture whole skipped depth (script_lines lines)).signals
 
--- why a plan is refused
-pub data RefusesPlan (is_cut takes : Bool) (e : AmendRunError) : Type 0 where
-  cut : is_cut ≡ true → e ≡ errors.CutInForce → RefusesPlan is_cut takes e
-  name : takes ≡ true → e ≡ errors.NameOfSkipped → RefusesPlan is_cut takes e
+-- why a plan is refused: the file is to be written, and a name of a skipped variable is taken
+abbrev pub RefusesPlan : (writes takes : Bool) → AmendRunError → Type 0
+RefusesPlan writes takes e =
+    (writes ≡ true) × (takes ≡ true) × (e ≡ errors.NameOfSkipped)
 
 -- all replies are written, and the script is carried out
 pub record IsEdited (file lines : List ℕ) (depth : ℕ) (writes : Bool) (took : List ℕ → Type 0)
-    (declared : List VariableDeclaration) (first : Contents) (ks : List ℕ) (last : Contents)
-    (refused : ℕ) : Type 0 where
+    (declared : List VariableDeclaration) (first : Contents) (ks : List ℕ) (cuts : List CutTicks)
+    (last : Contents) (refused : ℕ) : Type 0 where
   pub whole : Contents
   pub skipped : ℕ
   pub silent : ℕ → Bool
@@ -97,25 +97,25 @@ pub record IsEdited (file lines : List ℕ) (depth : ℕ) (writes : Bool) (took 
   pub last_is : last ≡ last_capture (hollow silent whole) skipped depth (script_lines lines)
   pub origins_are : ks ≡ origins (length whole.signals)
       (last_edits whole skipped depth (script_lines lines))
-  pub uncut : writes ≡ true → cuts (last_edits whole skipped depth (script_lines lines)) ≡ []
+  pub cuts_are : cuts ≡ ticks_of_cuts (last_edits whole skipped depth (script_lines lines))
   pub free : writes ≡ true → takes_skipped_name declared whole.signals ks
       (last_capture whole skipped depth (script_lines lines)).signals ≡ false
   pub variables : (s : ParseState) → Accepts SIGNAL_LIMIT (words_of file) s → declared ≡ s.declared
   pub replies : took (concat (outcome whole skipped depth (script_lines lines)).replies)
   pub count : refused ≡ (outcome whole skipped depth (script_lines lines)).refused
 
--- it ends before the copy
-abbrev pub EndsBeforeCopy : (depth : ℕ) → PassEnds → (script replies : DeviceEnd) → AmendRunError →
-    Type 0
-EndsBeforeCopy depth passes script replies e =
-    (output : Option DeviceEnd) → IfSome output IsUntouched
+-- it ends before the copy, where the file is to be written or not
+abbrev pub EndsBeforeCopy : (depth : ℕ) → (writes : Bool) → PassEnds → (script replies : DeviceEnd)
+    → AmendRunError → Type 0
+EndsBeforeCopy depth writes passes script replies e =
+    (output : Option DeviceEnd) → is_some output ≡ writes → IfSome output IsUntouched
     → AmendRunEnds depth passes script replies output (Err e)
 
 -- it ends before the replies
 abbrev pub EndsBeforeReplies : PassEnds → (script : DeviceEnd) → AmendRunError → Type 0
 EndsBeforeReplies passes script e =
-    (depth : ℕ) (replies : DeviceEnd) → IsUntouched replies → EndsBeforeCopy depth passes script
-    replies e
+    (depth : ℕ) (writes : Bool) (replies : DeviceEnd) → IsUntouched replies
+    → EndsBeforeCopy depth writes passes script replies e
 
 -- it ends in the lines, on a machine
 abbrev pub StopsInRun : (skipped : ℕ) → List (List ℕ) → Machine → (replies : DeviceEnd) →

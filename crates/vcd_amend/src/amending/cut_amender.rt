@@ -1,10 +1,11 @@
 //! What cuts, and then an amendment, do to a file while it is copied.
 
 ghost use Rattle.std.specs.Prelude.{◌≡◌, ◌≤◌, ◌&&◌, ◌∷◌, ◌++◌, [], ℕ, List, All, OnOk, OnErr, IfOk};
-ghost use Rattle.std.specs.Prelude.{true, nat_lt};
+ghost use Rattle.std.specs.Prelude.{true, nat_lt, Bool, ◌==◌};
 ghost use Rattle.std.specs.Prelude.{decimal, not, if◌then◌else◌, bytes_eq, codes, ◌||◌, false};
 ghost use Rattle.std.specs.List.{filter};
-ghost use Rattle.vcd_core.specs.Decimal.{number_of};
+ghost use Rattle.vcd_core.specs.Decimal.{number_of, is_number};
+ghost use Rattle.vcd_core.specs.Word.{is_skipped_kind};
 ghost use Rattle.vcd_text.specs.Items.{stamp};
 ghost use Rattle.vcd_text.specs.EmittedText.{Emits, EmitsMore};
 ghost use Rattle.vcd_text.specs.Pieces.{Piece, state_of_pieces};
@@ -12,7 +13,7 @@ ghost use Rattle.vcd_text.specs.Copied.{copied_pieces};
 ghost use Rattle.vcd_text.specs.inside.reading.CodeTargets.{code_target};
 ghost use Rattle.vcd_amend.specs.AmendmentContents.{amendment_contents};
 ghost use Rattle.vcd_amend.specs.AmendedMeaning.{AreApart};
-ghost use Rattle.vcd_amend.specs.Retimed.{change_key, has_key, stamp_line};
+ghost use Rattle.vcd_amend.specs.Retimed.{change_key, counts_with, stamp_line};
 ghost use Rattle.vcd_amend.specs.inside.VariableWords.{IsVariable};
 ghost use Rattle.vcd_amend.specs.inside.amending.FileAmender.{HasSeen};
 ghost use Rattle.vcd_amend.specs.declared.amending.held_changes.HeldChange.{HeldChange as Change};
@@ -31,11 +32,26 @@ use crate::variable_words::VariableWords;
 use itoa::Buffer;
 use std::alloc::Global;
 use std::mem::replace;
-use vcd_core::{NoMemory, ScopeName, Sink};
+use vcd_core::{NoMemory, ScopeName, Sink, WIDTH_LIMIT};
 use vcd_text::{AmendableItem, Amender, CodeTargets, Output};
 
 /// How many changes may be held before those that later ones replace are dropped.
 const FIRST_ROOM: usize = 1024;
+
+/// What the variables of a code are, of those so far.
+#[derive(Clone, Copy)]
+pub struct CodeVariables {
+    /// Whether one is no event, so that changes of the code last.
+    pub lasts: bool,
+    /// Whether one is kept, so that changes to digits count apart from the others.
+    pub is_kept: bool,
+}
+
+/// Of a code of no variable.
+const NO_VARIABLES: CodeVariables = CodeVariables {
+    lasts: false,
+    is_kept: false,
+};
 
 /// What cuts do to a file, and an amendment to the file after these, and how far the file is.
 #[derive(Drop)]
@@ -44,9 +60,9 @@ pub struct CutAmender<'a> {
     /// The amendment of the file after the cuts.
     pub inner: FileAmender<'a>,
     pub cuts: &'a [CutTicks],
-    /// Whether a code has a variable that is no event.
-    pub lasting: CodeTargets<bool>,
-    /// The changes that came since one was held, with it; of those of one kind and code the last
+    /// What the variables of each code are.
+    pub variables: CodeTargets<CodeVariables>,
+    /// The changes that came since one was held, with it; of those that count together the last
     /// one counts.
     pub held: Vec<HeldChange>,
     /// How many of them there may be before some are dropped.
@@ -77,7 +93,7 @@ impl<'a> CutAmender<'a> {
             alloc,
             inner,
             cuts,
-            lasting: CodeTargets::new(alloc, false),
+            variables: CodeTargets::new(alloc, NO_VARIABLES),
             held: Vec::new(alloc),
             room: FIRST_ROOM,
             is_cut: first.is_cut,
@@ -180,12 +196,13 @@ impl<'a> CutAmender<'a> {
         ensures same { OnOk result (cut_rules_of self.new ≡ cut_rules_of self.old) }
         ensures more { OnErr result (EmitsMore W.Sink output.old output.new) }
     {
-        let is_held = is_held(self.is_cut, &self.lasting, code);
+        let variables = self.variables.get(code);
         hold(
             self.alloc,
             &mut self.held,
             &mut self.room,
-            is_held,
+            is_held(self.is_cut, variables),
+            variables.is_kept,
             is_text,
             code,
             space,
@@ -199,35 +216,36 @@ impl<'a> CutAmender<'a> {
     }
 }
 
-/// Whether a change of a code is held.
-fn is_held(is_cut: bool, lasting: &CodeTargets<bool>, code: &[u8]) -> bool
-    ensures { result ≡ (is_cut && code_target lasting.now code.now) }
+/// Whether a change of a code with these variables is held.
+fn is_held(is_cut: bool, variables: CodeVariables) -> bool
+    ensures { result ≡ (is_cut && variables.lasts) }
 {
-    is_cut && lasting.get(code)
+    is_cut && variables.lasts
 }
 
-/// Holds a change, or takes those of its kind and code away.
+/// Holds a change, or takes those away that count together with it.
 fn hold(
     alloc: Global,
     held: &mut Vec<HeldChange>,
     room: &mut usize,
     is_held: bool,
+    is_kept: bool,
     is_text: bool,
     code: &[u8],
     space: &[u8],
     body: &[u8],
 ) -> Result<(), NoMemory>
-    ensures { OnOk result ((ps : List Piece) (p : Piece) →
-        ArePieces (spec.last_held held.old.items) ps →
+    ensures { OnOk result ((kept : List ℕ → Bool) (ps : List Piece) (p : Piece) →
+        kept code.now ≡ is_kept → ArePieces (spec.last_held held.old.items) ps →
         IsChangePiece p is_text code.now space.now body.now →
         ArePieces (spec.last_held held.new.items)
-        (filter (λ q. not (has_key (spec.key_of is_text code.now) (change_key q.item))) ps
+        (filter (λ q. not (counts_with kept (spec.key_of is_text code.now) (change_key q.item))) ps
         ++ (if is_held then p ∷ [] else []))) }
 {
     if is_idle(is_held, held) {
         return Ok(());
     }
-    let change = held_change(alloc, is_text, is_held, code, space, body)?;
+    let change = held_change(alloc, is_text, is_held, is_kept, code, space, body)?;
     push_held(alloc, held, room, change)?;
     Ok(())
 }
@@ -428,36 +446,61 @@ fn let_change_stand(inner: &mut FileAmender, is_text: bool, code: &[u8]) -> bool
     inner.let_value_stand(code)
 }
 
-/// Notes the code of a variable, if it is no event.
-fn note_lasting(lasting: &mut CodeTargets<bool>, alloc: Global, body: &[u8]) -> Result<(), NoMemory>
-    ensures { OnOk result ((kind size code : List ℕ) (names : List (List ℕ)) →
+/// Notes a variable at its code.
+fn note_at_code(
+    variables: &mut CodeTargets<CodeVariables>,
+    alloc: Global,
+    body: &[u8],
+) -> Result<(), NoMemory>
+    ensures lasts { OnOk result ((kind size code : List ℕ) (names : List (List ℕ)) →
         IsVariable body.now kind size code names → (key : List ℕ) →
-        code_target lasting.new key ≡ (code_target lasting.old key
+        (code_target variables.new key).lasts ≡ ((code_target variables.old key).lasts
         || (bytes_eq key code && not (bytes_eq kind (codes "event"))))) }
+    ensures kept { OnOk result ((kind size code : List ℕ) (names : List (List ℕ)) →
+        IsVariable body.now kind size code names → is_number size ≡ true → (key : List ℕ) →
+        (code_target variables.new key).is_kept ≡ ((code_target variables.old key).is_kept
+        || (bytes_eq key code && not (is_skipped_kind kind
+        || (number_of size == 0 || nat_lt WIDTH_LIMIT (number_of size)))))) }
 {
     let Some(declared) = VariableWords::read(body) else {
         return Ok(());
     };
-    note_code(lasting, alloc, declared.kind, declared.code)?;
+    let lasts = !is_event(declared.kind);
+    let is_kept = !declared.is_skipped();
+    note_code(variables, alloc, declared.code, lasts, is_kept)?;
     Ok(())
 }
 
-/// Notes a code, unless its variable is of kind event.
+/// Notes one more variable of a code.
 fn note_code(
-    lasting: &mut CodeTargets<bool>,
+    variables: &mut CodeTargets<CodeVariables>,
     alloc: Global,
-    kind: &[u8],
     code: &[u8],
+    lasts: bool,
+    is_kept: bool,
 ) -> Result<(), NoMemory>
-    ensures { OnOk result ((key : List ℕ) → code_target lasting.new key
-        ≡ (code_target lasting.old key
-        || (bytes_eq key code.now && not (bytes_eq kind.now (codes "event"))))) }
+    ensures lasts { OnOk result ((key : List ℕ) → (code_target variables.new key).lasts
+        ≡ ((code_target variables.old key).lasts || (bytes_eq key code.now && lasts))) }
+    ensures kept { OnOk result ((key : List ℕ) → (code_target variables.new key).is_kept
+        ≡ ((code_target variables.old key).is_kept || (bytes_eq key code.now && is_kept))) }
 {
-    if is_event(kind) {
-        return Ok(());
-    }
-    lasting.insert(alloc, code, true)?;
+    let found = variables.get(code);
+    let target = CodeVariables {
+        lasts: either(found.lasts, lasts),
+        is_kept: either(found.is_kept, is_kept),
+    };
+    variables.insert(alloc, code, target)?;
     Ok(())
+}
+
+/// Whether one of both holds.
+fn either(first: bool, second: bool) -> bool
+    ensures { result ≡ (first || second) }
+{
+    if first {
+        return true;
+    }
+    second
 }
 
 /// Whether variables of this kind are events, whose changes do not last.
@@ -496,7 +539,7 @@ impl<'a, W: Sink> Amender<W> for CutAmender<'a> {
     ) -> Result<(), NoMemory> {
         match item {
             AmendableItem::Variable => {
-                note_lasting(&mut self.lasting, self.alloc, body)?;
+                note_at_code(&mut self.variables, self.alloc, body)?;
                 self.inner.take_variable(output, space, body)
             }
             AmendableItem::EndDefinitions { open_scopes } => {

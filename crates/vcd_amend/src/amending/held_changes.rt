@@ -1,7 +1,7 @@
 //! Changes at removed ticks, which are held until the first tick after them that is left.
 
 ghost use Rattle.std.specs.Prelude.{◌≡◌, ◌++◌, ◌∷◌, ◌&&◌, [], ℕ, List, true, false, bytes_eq};
-ghost use Rattle.std.specs.Prelude.{OnOk, IfOk, if◌then◌else◌, not};
+ghost use Rattle.std.specs.Prelude.{OnOk, IfOk, if◌then◌else◌, not, ◌||◌};
 ghost use Rattle.vcd_text.specs.inside.reading.CodeTargets.{code_target};
 ghost use Rattle.vcd_amend.specs.inside.amending.HeldChanges as spec;
 
@@ -16,6 +16,8 @@ pub struct HeldChange {
     pub is_text: bool,
     /// Whether it is held itself. If not, it only takes the place of an earlier one.
     pub is_held: bool,
+    /// Whether a kept variable has the code. If not, changes to digits and others count together.
+    pub is_kept: bool,
     pub code: Word,
     pub space: Word,
     pub body: Word,
@@ -26,6 +28,7 @@ pub fn held_change(
     alloc: Global,
     is_text: bool,
     is_held: bool,
+    is_kept: bool,
     code: &[u8],
     space: &[u8],
     body: &[u8],
@@ -33,6 +36,7 @@ pub fn held_change(
     ensures { IfOk result (λ change. change ≡ record {
       is_text = is_text;
       is_held = is_held;
+      is_kept = is_kept;
       code = code.now;
       space = space.now;
       body = body.now;
@@ -41,13 +45,15 @@ pub fn held_change(
     Ok(HeldChange {
         is_text,
         is_held,
+        is_kept,
         code: copy_word(alloc, code)?,
         space: copy_word(alloc, space)?,
         body: copy_word(alloc, body)?,
     })
 }
 
-/// The codes of some changes: of those to digits, and of those to a real number or a string.
+/// The codes of which some changes take the place of those to digits, and of those to a real number
+/// or a string.
 #[derive(Drop)]
 struct SeenCodes {
     digits: CodeTargets<bool>,
@@ -65,7 +71,7 @@ impl SeenCodes {
         }
     }
 
-    /// Whether one of the changes has the kind and code of this one.
+    /// Whether one of the changes takes the place of this one.
     fn contains(&self, change: &HeldChange) -> bool
         ensures { (later : List HeldChange) → spec.AreCodesOf self.now later →
             result ≡ spec.is_replaced change.now later }
@@ -81,14 +87,51 @@ impl SeenCodes {
         ensures { OnOk result ((later : List HeldChange) → spec.AreCodesOf self.old later →
             spec.AreCodesOf self.new (change.now ∷ later)) }
     {
-        if change.is_text {
-            return self.text.insert(alloc, change.code.as_slice(), true);
-        }
-        self.digits.insert(alloc, change.code.as_slice(), true)
+        let code = change.code.as_slice();
+        note_if(&mut self.text, alloc, code, replaces_text(change))?;
+        note_if(&mut self.digits, alloc, code, replaces_digits(change))?;
+        Ok(())
     }
 }
 
-/// The changes that are held after all of these: the last one of each kind and code, if it is held.
+/// Notes a code, or leaves it as it is.
+fn note_if(
+    codes: &mut CodeTargets<bool>,
+    alloc: Global,
+    code: &[u8],
+    is_noted: bool,
+) -> Result<(), NoMemory>
+    ensures { OnOk result ((key : List ℕ) → code_target codes.new key
+        ≡ ((is_noted && bytes_eq key code.now) || code_target codes.old key)) }
+{
+    if !is_noted {
+        return Ok(());
+    }
+    codes.insert(alloc, code, true)?;
+    Ok(())
+}
+
+/// Whether a change takes the place of those of its code to digits.
+fn replaces_digits(change: &HeldChange) -> bool
+    ensures { result ≡ spec.replaces_digits change.now }
+{
+    if !change.is_text {
+        return true;
+    }
+    !change.is_kept
+}
+
+/// Whether a change takes the place of those of its code to a real number or a string.
+fn replaces_text(change: &HeldChange) -> bool
+    ensures { result ≡ spec.replaces_text change.now }
+{
+    if change.is_text {
+        return true;
+    }
+    !change.is_kept
+}
+
+/// The changes that are held after all of these: those of which no later one takes the place.
 pub fn last_held(alloc: Global, changes: Vec<HeldChange>) -> Result<Vec<HeldChange>, NoMemory>
     ensures { IfOk result (λ held. held.items ≡ spec.last_held changes.items) }
 {

@@ -1,10 +1,11 @@
 //! The origins of the signals of a capture under edit.
 
 ghost use Rattle.std.specs.Prelude.{◌≡◌, ◌∷◌, [], reverse, IfOk, OnOk};
-ghost use Rattle.std.specs.List.{list_any, range_with_len, slice_get};
+ghost use Rattle.std.specs.List.{filter_map, range_with_len, slice_get};
 ghost use Rattle.vcd_amend.specs.inside.dry_running.OriginHistory as spec;
 ghost use Rattle.vcd_journal.specs.declared.step.Step.TheVariants as steps;
 
+use crate::cut_ticks::CutTicks;
 use std::alloc::Global;
 use std::marker::Model;
 use vcd_core::NoMemory;
@@ -17,8 +18,8 @@ use vcd_script::{Command, LineError};
 pub enum EditNote {
     /// The signal at this position was removed, which had this origin.
     Removal { position: usize, origin: usize },
-    /// Ticks were cut out.
-    Cut,
+    /// These ticks were cut out.
+    Cut(CutTicks),
     /// Any other edit, and the removal of a derived signal: all origins stay.
     Other,
 }
@@ -72,12 +73,12 @@ impl OriginHistory {
         self.origins
     }
 
-    /// Whether a cut is in force.
-    #[tactic(auto, using(crate::proofs::dry_running::origin_history::NotesOfHistory::any_reversed))]
-    pub fn has_cut(&self) -> bool
-        ensures { result ≡ list_any spec.is_cut_note self.now.in_force }
+    /// The cuts in force, the oldest first.
+    pub fn cuts(&self, alloc: Global) -> Result<Vec<CutTicks>, NoMemory>
+        ensures { IfOk result (λ cuts. cuts.items
+            ≡ filter_map spec.cut_of_note (reverse self.now.in_force)) }
     {
-        has_cut(self.in_force.as_slice())
+        cuts_of_notes(alloc, self.in_force.as_slice())
     }
 
     /// Follows a line that asks for this and is not refused: a step, or what changes nothing here.
@@ -143,20 +144,25 @@ fn first_origins(alloc: Global, count: usize) -> Result<Vec<usize>, NoMemory>
     Ok((0..count).collect(alloc)?)
 }
 
-/// Whether one of the edits is a cut.
-fn has_cut(notes: &[EditNote]) -> bool
-    ensures { result ≡ list_any spec.is_cut_note notes.now }
+/// The cuts among edits with these notes, in their order.
+fn cuts_of_notes(alloc: Global, notes: &[EditNote]) -> Result<Vec<CutTicks>, NoMemory>
+    ensures { IfOk result (λ cuts. cuts.items ≡ filter_map spec.cut_of_note notes.now) }
 {
-    notes.iter().any(|note| is_cut(*note))
+    Ok(
+        notes
+            .iter()
+            .filter_map(|note| cut_of_note(*note))
+            .collect(alloc)?,
+    )
 }
 
-/// Whether the edit is a cut.
-fn is_cut(note: EditNote) -> bool
-    ensures { result ≡ spec.is_cut_note note }
+/// The ticks that an edit cuts out, if it is a cut.
+fn cut_of_note(note: EditNote) -> Option<CutTicks>
+    ensures { result ≡ spec.cut_of_note note }
 {
     match note {
-        EditNote::Cut => true,
-        _ => false,
+        EditNote::Cut(ticks) => Some(ticks),
+        _ => None,
     }
 }
 
@@ -166,7 +172,10 @@ fn note_of(edit: &Edit, origins: &[usize]) -> EditNote
 {
     match edit {
         Edit::Remove { signal } => removal_note(*signal, origins),
-        Edit::Cut { .. } => EditNote::Cut,
+        Edit::Cut { from, to } => EditNote::Cut(CutTicks {
+            from: *from,
+            to: *to,
+        }),
         _ => EditNote::Other,
     }
 }

@@ -1,6 +1,5 @@
 -- The parts of a run, put together.
-use Rattle.std.proofs.Common.{◌≡◌, ◌⊎◌, inl, inr, Result, Ok, Err, ℕ, zero, suc, ◌-◌, List, Option}
-use Rattle.std.proofs.Common.{Some, None, refl}
+use Rattle.std.proofs.Common.{◌≡◌, ◌⊎◌, inl, inr, Result, Ok, Err, ℕ, zero, suc, ◌-◌, List, Option, Some, None, refl}
 use Rattle.std.proofs.Common.{◌≤◌, Bool, sym, subst, ap, ◌∙◌, true, false, arith, length, take}
 use Rattle.std.specs.Prelude.{IfSome, IfErr, IsErrAnd}
 use Rattle.std.proofs.lemmas.Option.{IfSome_then}
@@ -11,7 +10,7 @@ use Rattle.vcd_core.specs.declared.capture.TheConstants.{SIGNAL_LIMIT}
 use Rattle.vcd_core.specs.Devices.{DeviceEnd, IsRead, IsUntouched, HasText}
 use Rattle.vcd_text.specs.Meaning.{FileMeans}
 use Rattle.vcd_text.specs.Refusals.{IsRefusal, IsOnlyRefusal}
-use Rattle.vcd_text.proofs.shared.OneRefusal.{one_refusal}
+use Rattle.vcd_text.proofs.shared.FoundFault.{one_refusal}
 use Rattle.vcd_text.specs.Text.{text}
 use Rattle.vcd_text.specs.WriteEnds.{TookBefore}
 use Rattle.vcd_text.specs.declared.reading.TheConstants.{FILE_LIMIT}
@@ -27,8 +26,7 @@ use Rattle.vcd_script.specs.declared.running.run_error.Summary.{Summary}
 use Rattle.vcd_script.specs.Script.{script_lines}
 use Rattle.vcd_script.specs.Run.{RunOutcome, outcome}
 use Rattle.vcd_script.specs.RunEnds.{IsAccepted, IsFlushedAt, ForRun, RunEnds}
-use Rattle.vcd_script.specs.LineRunEnds.{HasFailedAt, EndsAtLine, RunsLines, StopsInReplies}
-use Rattle.vcd_script.specs.LineRunEnds.{StopsInLines}
+use Rattle.vcd_script.specs.LineRunEnds.{HasFailedAt, EndsAtLine, RunsLines, StopsInReplies, StopsInLines}
 use Rattle.vcd_script.specs.ScriptFaults.{ScriptFails}
 use Rattle.vcd_script.specs.inside.running.Stages.{EndsBeforeOutput, EndsBeforeReplies}
 use Rattle.vcd_script.specs.inside.running.Run.{ScriptGives}

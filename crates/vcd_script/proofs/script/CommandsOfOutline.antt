@@ -1,6 +1,6 @@
 -- What a line asks for depends on the outline of the capture alone.
-use Rattle.std.proofs.Common.{◌≡◌, ℕ, ◌&&◌, nat_lt, ◌==◌, if◌then◌else◌, List, [], ◌∷◌, Option, Some}
-use Rattle.std.proofs.Common.{None, Ok, Err, refl, sym, ap, ◌∙◌}
+use Rattle.std.proofs.Common.{◌≡◌, ℕ, ◌&&◌, nat_lt, ◌==◌, if◌then◌else◌, List, [], ◌∷◌, Option, Some, None, Ok, Err}
+use Rattle.std.proofs.Common.{refl, sym, ap, ◌∙◌}
 use Rattle.std.specs.Prelude.{codes}
 use Rattle.std.specs.List.{position}
 use Rattle.std.specs.Option.{ok_or}
@@ -14,20 +14,19 @@ use Rattle.vcd_decode.specs.SpiSetup.{spi_setup}
 use Rattle.vcd_decode.specs.SetupFaults.{uart_fault, spi_fault}
 use Rattle.vcd_text.specs.Words.{words_of}
 use Rattle.vcd_text.specs.Grammar.{word_texts}
-use Rattle.vcd_edit.specs.declared.edit.Edit.TheVariants.{Rename, Remove, Invert, Shift}
-use Rattle.vcd_edit.specs.declared.edit.Edit.TheVariants.{Deglitch, Force, Derive}
+use Rattle.vcd_edit.specs.declared.edit.Edit.TheVariants.{Rename, Remove, Invert, Shift, Deglitch, Force, Derive}
 use Rattle.vcd_edit.specs.declared.edit.Rule.TheVariants.{Not, And, Or, Xor, BitOf}
 use Rattle.vcd_script.specs.declared.script.command.Command.TheVariants as commands
 use Rattle.vcd_script.specs.declared.script.keyword.Keyword.{Keyword}
 use Rattle.vcd_script.specs.declared.script.keyword.Keyword.TheVariants as keywords
-use Rattle.vcd_script.specs.declared.script.line_error.LineError.TheVariants.{NoSuchName, NotScalar}
-use Rattle.vcd_script.specs.declared.script.line_error.LineError.TheVariants.{UnknownCommand, BadOption}
+use Rattle.vcd_script.specs.declared.script.line_error.LineError.TheVariants.{NoSuchName, NotScalar, UnknownCommand}
+use Rattle.vcd_script.specs.declared.script.line_error.LineError.TheVariants.{BadOption}
 use Rattle.vcd_script.specs.LentBytes.{lent_bytes}
 use Rattle.vcd_script.specs.ScriptWords.{◌>>=◌, signal_of_name, number_of_word, distance_of_word, value_of_word}
 use Rattle.vcd_script.specs.DecoderWords.{ratio_of_word, parity_of_word, order_of_word, signal_or_absent}
 use Rattle.vcd_script.specs.DecoderWords.{one_bit_signal, one_bit_signal_or_absent, faultless}
-use Rattle.vcd_script.specs.ScriptCommands.{keyword_of, is_comment, edit_command, not_rule, pair_of, bit_rule}
-use Rattle.vcd_script.specs.ScriptCommands.{rule_of, command_of, command_of_words, command_of_line}
+use Rattle.vcd_script.specs.ScriptCommands.{keyword_of, is_comment, edit_command, not_rule, pair_of, bit_rule, rule_of}
+use Rattle.vcd_script.specs.ScriptCommands.{command_of, command_of_words, command_of_line}
 use Rattle.vcd_script.specs.HollowRun.{CommandIsOfOutline}
 
 module _ (c : Contents) where

@@ -1,10 +1,8 @@
 -- The laws of a run: each capture is sound, a refused line changes nothing, and an undo or a redo
 -- restores.
-use Rattle.std.proofs.Common.{◌≡◌, ◌≤◌, ◌<◌, ◌+◌, ◌-◌, ℕ, zero, suc, Bool, true, false, cond, List}
-use Rattle.std.proofs.Common.{[], ◌∷◌, ◌++◌}
-use Rattle.std.proofs.Common.{take, length, Option, Some, None, Result, Ok, Err, is_err, refl, sym}
-use Rattle.std.proofs.Common.{◌∙◌, ap, subst}
-use Rattle.std.proofs.Common.{arith, get_or}
+use Rattle.std.proofs.Common.{◌≡◌, ◌≤◌, ◌<◌, ◌+◌, ◌-◌, ℕ, zero, suc, Bool, true, false, cond, List, [], ◌∷◌, ◌++◌, take}
+use Rattle.std.proofs.Common.{length, Option, Some, None, Result, Ok, Err, is_err, refl, sym, ◌∙◌, ap, subst, arith}
+use Rattle.std.proofs.Common.{get_or}
 use Rattle.std.specs.Prelude.{fold, drop, min, not, nat_lt}
 use Rattle.std.proofs.lemmas.Bool.{cond_both}
 use Rattle.std.proofs.lemmas.Bool.Decides.{nat_tests}
@@ -35,8 +33,7 @@ use Rattle.vcd_script.specs.declared.script.command.Command.TheVariants as comma
 use Rattle.vcd_script.specs.declared.script.line_error.LineError.{LineError}
 use Rattle.vcd_script.specs.ScriptCommands.{command_of_line}
 use Rattle.vcd_script.specs.Reply.{ok_reply, line_reply, command_reply, edit_reply, history_reply}
-use Rattle.vcd_script.specs.Run.{history_after_command, line_answer, history_after_line, history_at}
-use Rattle.vcd_script.specs.Run.{capture_at}
+use Rattle.vcd_script.specs.Run.{history_after_command, line_answer, history_after_line, history_at, capture_at}
 use Rattle.vcd_script.specs.Run.{RunLaws}
 use Rattle.vcd_script.proofs.shared.LinesAndHistory.{lines_follow}
 

@@ -1,6 +1,5 @@
 -- What lines write on a machine is what the equations of a run say of its history.
-use Rattle.std.proofs.Common.{ap₂, ◌≡◌, ◌≤◌, ◌+◌, ℕ, cond, List, [], ◌∷◌, ◌++◌, take, length, Result, Ok}
-use Rattle.std.proofs.Common.{is_err, refl}
+use Rattle.std.proofs.Common.{ap₂, ◌≡◌, ◌≤◌, ◌+◌, ℕ, cond, List, [], ◌∷◌, ◌++◌, take, length, Result, Ok, is_err, refl}
 use Rattle.std.proofs.Common.{sym, ◌∙◌, ap, subst, map, append_assoc}
 use Rattle.std.specs.Prelude.{fold, count_by}
 use Rattle.std.specs.List.{enumerate_from}
@@ -17,22 +16,20 @@ use Rattle.vcd_journal.specs.declared.step.Answer.TheVariants.{Done, Refused}
 use Rattle.vcd_journal.specs.History.{History, initial_history, replay, history_after}
 use Rattle.vcd_journal.specs.Machine.{Machine, initial_machine, step_outcome}
 use Rattle.vcd_journal.specs.HistoryMachine.{machine_of, history_after_answer}
-use Rattle.vcd_journal.proofs.shared.Replay.{IsMachineOf, past_count, future_count, outcome_follows}
-use Rattle.vcd_journal.proofs.shared.Replay.{first_follows}
+use Rattle.vcd_journal.proofs.shared.Replay.{IsMachineOf, past_count, future_count, outcome_follows, first_follows}
 use Rattle.vcd_script.specs.declared.script.command.Command.{Command}
 use Rattle.vcd_script.specs.declared.script.command.Command.TheVariants as commands
 use Rattle.vcd_script.specs.declared.script.line_error.LineError.{LineError}
 use Rattle.vcd_script.specs.Script.{script_lines}
 use Rattle.vcd_script.specs.ScriptCommands.{command_of_line}
 use Rattle.vcd_script.specs.Reply.{LineReply, line_reply, command_reply, reply_text}
-use Rattle.vcd_script.specs.Run.{IsRun, history_after_command, line_answer, history_after_line}
-use Rattle.vcd_script.specs.Run.{answers, capture_at, outcome}
+use Rattle.vcd_script.specs.Run.{IsRun, history_after_command, line_answer, history_after_line, answers, capture_at}
+use Rattle.vcd_script.specs.Run.{outcome}
 use Rattle.vcd_script.specs.inside.running.LineAnswers.{line_answers}
-use Rattle.vcd_script.specs.SessionLines.{machine_after_command, machine_after_line}
-use Rattle.vcd_script.specs.SessionLines.{machine_after_lines, answer_on, refusal_count}
-use Rattle.vcd_script.specs.SessionLines.{line_replies}
+use Rattle.vcd_script.specs.SessionLines.{machine_after_command, machine_after_line, machine_after_lines, answer_on}
+use Rattle.vcd_script.specs.SessionLines.{refusal_count, line_replies}
 use Rattle.vcd_script.specs.inside.replies.Answering.{answer_reply}
-use Rattle.vcd_script.proofs.replies.StepReplies.{reply_is_answer}
+use Rattle.vcd_script.proofs.replies.AnsweredLines.{reply_is_answer}
 
 -- ---- a line
 

@@ -129,7 +129,7 @@ fn refusal_of(error: RunError, replies: Vec<u8>, empty: Vec<u8>) -> RunRefusal
 }
 
 /// The stage of a run's error: line 0 stands for the inputs.
-#[tactic(auto, using(crate::proofs::running::run_on_bytes::ResultOfRun::stage_at))]
+#[tactic(auto, using(crate::proofs::running::ResultOfRun::stage_at))]
 fn stage_of_line(line: u64) -> Stage
     ensures { result ≡ stage_of_line line }
 {

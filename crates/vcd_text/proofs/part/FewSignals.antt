@@ -1,12 +1,10 @@
 -- Accepted declarations keep no more variables than their limit.
-use Rattle.std.proofs.Common.{◌≡◌, ◌≤◌, List, [], ◌∷◌, length}
-use Rattle.std.proofs.Common.{refl, arith}
+use Rattle.std.proofs.Common.{◌≡◌, ◌≤◌, List, [], ◌∷◌, length, refl, arith}
 use Rattle.std.proofs.lemmas.Bool.{ltb-true}
 use Rattle.std.proofs.lemmas.List.{length-append}
 use Rattle.std.proofs.lemmas.List.Elements.{filter-append}
 use Rattle.vcd_text.specs.Items.{Item}
-use Rattle.vcd_text.specs.Grammar.{ParseState, AllowsAll, state_after, state_after_item}
-use Rattle.vcd_text.specs.Grammar.{kept_variables}
+use Rattle.vcd_text.specs.Grammar.{ParseState, AllowsAll, state_after, state_after_item, kept_variables}
 use Rattle.vcd_text.proofs.shared.ItemTests.{has_declaration}
 
 -- no more variables are kept

@@ -1,8 +1,6 @@
 -- No value change of an accepted file is past its last tick.
-use Rattle.std.proofs.Common.{◌≡◌, ℕ, ◌≤◌, Bool, true, false, if◌then◌else◌, ◌&&◌, nat_le, List, [], ◌∷◌, ◌++◌, All}
-use Rattle.std.proofs.Common.{arith}
-use Rattle.std.proofs.Common.{Option, Some, None, refl, sym, ap, ◌∙◌}
-use Rattle.std.specs.Prelude.{bytes_eq}
+use Rattle.std.proofs.Common.{◌≡◌, ℕ, ◌≤◌, Bool, true, false, if◌then◌else◌, List, [], ◌∷◌, ◌++◌, All, arith, Option}
+use Rattle.std.proofs.Common.{Some, None, refl}
 use Rattle.std.proofs.lemmas.Bool.{cases_Bool, le-leb}
 use Rattle.std.proofs.lemmas.List.{append-nil}
 use Rattle.std.proofs.lemmas.List.Elements.{All-head, All-tail, All-push}
@@ -10,8 +8,8 @@ use Rattle.vcd_core.specs.declared.bit.Bit.{Bit}
 use Rattle.vcd_text.specs.Letters.{extension}
 use Rattle.vcd_text.specs.Items.{Item}
 use Rattle.vcd_text.specs.Grammar.{VariableDeclaration, ValueChange, ParseState, AllowsAll, state_after}
-use Rattle.vcd_text.proofs.shared.ItemTests.{has_tick}
 use Rattle.vcd_text.specs.Grammar.{state_after_item, is_skipped, value_changes_after}
+use Rattle.vcd_text.proofs.shared.ItemTests.{has_tick}
 use Rattle.vcd_core.specs.Wave.{value_from}
 use Rattle.vcd_text.specs.Meaning.{changes_of_code}
 use Rattle.vcd_text.specs.inside.reading.Variables.{latest_value}

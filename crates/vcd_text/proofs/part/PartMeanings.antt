@@ -1,6 +1,5 @@
 -- The capture of a part: what the value changes that were kept mean.
-use Rattle.std.proofs.Common.{◌≡◌, ℕ, suc, ◌≤◌, Bool, true, false, if◌then◌else◌, List, []}
-use Rattle.std.proofs.Common.{◌∷◌, map, Some, refl, arith}
+use Rattle.std.proofs.Common.{◌≡◌, ℕ, suc, ◌≤◌, Bool, true, false, if◌then◌else◌, List, [], ◌∷◌, map, Some, refl, arith}
 use Rattle.std.specs.Prelude.{IsFalse, nat_le, slice_get, slice_index_or}
 use Rattle.std.proofs.lemmas.Bool.{cases_lt, le-leb}
 use Rattle.vcd_core.specs.declared.bit.Bit.{Bit}

@@ -1,34 +1,82 @@
--- The whole of a capture as a part of it, and the soundness of parts.
-use Rattle.std.proofs.Common.{◌≡◌, ℕ, ◌+◌, ◌-◌, ◌≤◌, Bool, true, false, if◌then◌else◌, min, List, [], ◌∷◌, map, length}
-use Rattle.std.proofs.Common.{Option, Some, None, IfSome, All, nat_le, refl, sym, ap, subst, ◌∙◌, arith}
-use Rattle.std.proofs.lemmas.List.{length-map, length-replicate}
+-- The whole of a capture as a part of it, parts of parts, and the soundness of parts.
+use Rattle.std.proofs.Common.{◌≡◌, ℕ, ◌+◌, ◌-◌, ◌≤◌, Bool, cond, ◌&&◌, min, List, [], ◌∷◌, map, All, refl, sym, ap, ◌∙◌}
+use Rattle.std.proofs.Common.{arith, true, false, if◌then◌else◌, length, Option, Some, None, IfSome, nat_le, subst, suc}
+use Rattle.std.proofs.Common.{not, inl, inr}
+use Rattle.std.specs.Prelude.{filter}
+use Rattle.std.proofs.lemmas.Bool.{cases_lt}
 use Rattle.std.proofs.lemmas.List.Elements.{All-head, All-tail, All-map, All-filter}
+use Rattle.std.proofs.lemmas.List.{length-map, length-replicate}
+use Rattle.std.proofs.lemmas.List.Sums.{length-filter, count_by-le-length}
+use Rattle.vcd_core.specs.Wave.{changes_of, value_from, AreChangesFrom}
+use Rattle.vcd_core.specs.Contents.{SignalContents, signal_value, Contents}
+use Rattle.vcd_core.specs.Sound.{IsSoundSignal, IsSound}
+use Rattle.vcd_core.specs.Outline.{without_changes}
+use Rattle.vcd_core.proofs.shared.Waves.{changes_same, value_at-changes_of, changes_end, wave_is, changes_rise}
 use Rattle.vcd_core.specs.declared.bit.Bit.{Bit}
 use Rattle.vcd_core.specs.declared.wave.Change.{Change}
-use Rattle.vcd_core.specs.Wave.{value_from, AreChangesFrom}
-use Rattle.vcd_core.specs.Contents.{Contents, SignalContents}
-use Rattle.vcd_core.specs.Sound.{IsSound, IsSoundSignal}
-use Rattle.vcd_core.proofs.shared.Waves.{wave_is, changes_rise, changes_end}
-use Rattle.vcd_text.specs.Meaning.{FileMeans}
-use Rattle.std.proofs.Common.{suc, not, cond, inl, inr}
-use Rattle.std.specs.Prelude.{filter}
-use Rattle.std.proofs.lemmas.List.Sums.{length-filter, count_by-le-length}
 use Rattle.vcd_core.specs.CaptureContents.{contents}
 use Rattle.vcd_core.specs.declared.capture.Timescale.{Timescale}
+use Rattle.vcd_core.specs.declared.capture.TheConstants.{SIGNAL_LIMIT}
+use Rattle.vcd_text.specs.Parts.{part_of_signal, Answers, part_of, PartMeans, IsPartRefusal, too_many_remain, declined}
+use Rattle.vcd_text.specs.Parts.{signals_of}
+use Rattle.vcd_text.specs.PartLaws.{PartOfPartIsPart}
+use Rattle.vcd_text.specs.declared.reading.choice.TickRange.{TickRange}
+use Rattle.vcd_text.specs.Meaning.{FileMeans}
 use Rattle.vcd_text.specs.Refusals.{IsRefusal}
-use Rattle.vcd_core.specs.Outline.{without_changes}
-use Rattle.vcd_text.specs.Parts.{Answers, part_of_signal, part_of, PartMeans, IsPartRefusal}
-use Rattle.vcd_text.specs.Parts.{too_many_remain, declined, signals_of}
 use Rattle.vcd_text.specs.inside.reading.Part.{Asked, remaining, all_ticks}
 use Rattle.vcd_text.specs.inside.reading.Parser.{MeansListed}
 use Rattle.vcd_text.specs.inside.reading.Choice.{IsAnswered, LeavesOut}
 use Rattle.vcd_text.specs.declared.fault.ReadError.{ReadError}
 use Rattle.vcd_text.specs.declared.reading.Loaded.{Loaded}
-use Rattle.vcd_text.specs.declared.reading.choice.TickRange.{TickRange}
 use Rattle.vcd_text.specs.declared.reading.TheConstants.{FILE_LIMIT, LONG_FILE_LIMIT}
+use Rattle.vcd_text.proofs.part.PartMeanings.{value_stays}
 use Rattle.vcd_text.proofs.shared.SoundMeaning.{IsSoundBut, meaning_is_sound_but}
 use Rattle.vcd_text.proofs.part.FewSignals.{few_after, same_limit}
-use Rattle.vcd_core.specs.declared.capture.TheConstants.{SIGNAL_LIMIT}
+
+-- ==== a part of a part is a part
+
+-- a signal of a part, from a later tick on
+module _ (a b : TickRange) (end : ℕ) (within : b.first ≤ a.last - a.first) where
+  abbrev once : ℕ
+  once = min a.last end - a.first
+
+  abbrev twice : ℕ
+  twice = min b.last once - b.first
+
+  same_part : (s : SignalContents) (n : ℕ) → IsSoundSignal end s → n ≡ twice
+      → part_of_signal b.first twice (part_of_signal a.first once s) ≡ part_of_signal (a.first + b.first) n s
+  same_part s n sound is =
+      let changes = changes_same s.width twice _ (λ t. signal_value s ((a.first + b.first) + t)) (λ t to.
+      grind (arith, cases_lt once (b.first + t), value_stays, changes_end, value_at-changes_of)) ∙ ap (λ m. changes_of
+      s.width m (λ t. signal_value s ((a.first + b.first) + t))) (sym is) in
+      λ i. record s { changes = changes i }
+
+  -- one signal before the others
+  one_first : (also : SignalContents → Bool) (s : SignalContents) (n : ℕ) (xs ys : List SignalContents) (t u : Bool)
+      → also (without_changes s) ≡ u
+      → part_of_signal b.first twice (part_of_signal a.first once s) ≡ part_of_signal (a.first + b.first) n s
+      → map (part_of_signal b.first twice) (filter (λ s. also (without_changes s))
+      (map (part_of_signal a.first once) xs))
+      ≡ map (part_of_signal (a.first + b.first) n) ys
+      → map (part_of_signal b.first twice) (filter (λ s. also (without_changes s))
+      (map (part_of_signal a.first once) (cond t (s ∷ xs) xs)))
+      ≡ map (part_of_signal (a.first + b.first) n) (cond (t && u) (s ∷ ys) ys)
+  one_first also s n xs ys t u is head tail = grind arith
+
+  same_parts : (takes also : SignalContents → Bool) (ss : List SignalContents) (n : ℕ) → All (IsSoundSignal end) ss
+      → n ≡ twice
+      → map (part_of_signal b.first twice) (filter (λ s. also (without_changes s))
+      (map (part_of_signal a.first once) (filter (λ s. takes (without_changes s)) ss)))
+      ≡ map (part_of_signal (a.first + b.first) n)
+      (filter (λ s. takes (without_changes s) && also (without_changes s)) ss)
+  same_parts takes also [] n all is = refl
+  same_parts takes also (s ∷ ss) n all is = one_first also s n _ _ _ _ refl (same_part s n (All-head
+      (IsSoundSignal end) s ss all) is) (same_parts takes also ss n (All-tail (IsSoundSignal end) s ss all) is)
+
+pub part_of_part : PartOfPartIsPart
+part_of_part takes also a b c sound within = grind (arith, same_parts)
+
+-- ==== the whole of a capture as a part of it, and the soundness of parts
 
 -- ---- soundness
 

@@ -1,18 +1,16 @@
 -- Every file whose words spell items is cut into the pieces of these items.
-use Rattle.std.proofs.Common.{◌≡◌, ◌+◌, ◌<◌, ◌∙◌, ◌==◌, ℕ, true, false, not, All, drop, length}
-use Rattle.std.proofs.Common.{List, [], ◌∷◌, ◌++◌, refl, ap, ap₂, sym, arith, map, append_assoc, inl, inr, subst}
-use Rattle.std.proofs.Common.{reverse, cond}
+use Rattle.std.proofs.Common.{◌≡◌, ◌+◌, ◌<◌, ◌∙◌, ◌==◌, ℕ, true, false, not, All, drop, length, List, [], ◌∷◌, ◌++◌}
+use Rattle.std.proofs.Common.{refl, ap, ap₂, sym, arith, map, append_assoc, inl, inr, subst, reverse, cond}
 use Rattle.std.specs.List.{list_all, flat_map, prefix_len, suffix_len}
-use Rattle.std.proofs.lemmas.Bool.{and_parts, and_from, cases_Bool, not_from_false, not-true, ne_eqb}
-use Rattle.std.proofs.lemmas.Bool.{false≢true}
+use Rattle.std.proofs.lemmas.Bool.{and_parts, and_from, cases_Bool, not_from_false, not-true, ne_eqb, false≢true}
 use Rattle.std.proofs.lemmas.List.{append-nil, length-append, reverse-append, length-reverse}
 use Rattle.std.proofs.lemmas.List.Elements.{All-nil, All-cons, All-head, All-tail, All-drop}
 use Rattle.std.proofs.lemmas.Grind.{flat_map-append}
 use Rattle.std.proofs.lemmas.List.Folds.{prefix_len-append}
 use Rattle.vcd_core.specs.Word.{is_white_space}
 use Rattle.vcd_text.specs.Words.{words_of}
-use Rattle.vcd_text.specs.Items.{Item, entry, timescale, scope, upscope, variable, end_definitions}
-use Rattle.vcd_text.specs.Items.{stamp, scalar, vector, real_or_string, dump_word, other, spelling, spellings}
+use Rattle.vcd_text.specs.Items.{Item, entry, timescale, scope, upscope, variable, end_definitions, stamp, scalar}
+use Rattle.vcd_text.specs.Items.{vector, real_or_string, dump_word, other, spelling, spellings}
 use Rattle.vcd_text.specs.inside.Words.{words_from}
 use Rattle.vcd_text.specs.Grammar.{word_texts}
 use Rattle.vcd_text.specs.Pieces.{Piece}

@@ -1,6 +1,6 @@
 -- A file is cut into the pieces of items in one way.
-use Rattle.std.proofs.Common.{◌≡◌, ◌⊎◌, ◌+◌, ◌<◌, ◌∙◌, ℕ, true, false, not, All, drop, length}
-use Rattle.std.proofs.Common.{List, [], ◌∷◌, ◌++◌, refl, ap, ap₂, sym, arith, map, append_assoc, inl, inr, subst}
+use Rattle.std.proofs.Common.{◌≡◌, ◌⊎◌, ◌+◌, ◌<◌, ◌∙◌, ℕ, true, false, All, drop, length, List, [], ◌∷◌, ◌++◌, refl, ap}
+use Rattle.std.proofs.Common.{ap₂, sym, arith, map, append_assoc, inl, inr, subst}
 use Rattle.std.specs.List.{list_all, flat_map, prefix_len, suffix_len}
 use Rattle.std.proofs.lemmas.Bool.{and_parts, cases_Bool, false≢true}
 use Rattle.std.proofs.lemmas.List.{append-nil, reverse-append}
@@ -10,8 +10,8 @@ use Rattle.vcd_text.specs.Items.{spelling}
 use Rattle.vcd_text.specs.Pieces.{Piece}
 use Rattle.vcd_text.specs.CutLaws.{CutIsUnique}
 use Rattle.vcd_text.proofs.pieces.Bytes.{texts, texts_are, is_end, both_parts}
-use Rattle.vcd_text.proofs.pieces.Cuts.{Spaced, spaced, words_are, SpellsItem, IsTight, SpaceIsWhite}
-use Rattle.vcd_text.proofs.pieces.Cuts.{HasSomeSpace, spelling_some}
+use Rattle.vcd_text.proofs.pieces.Cuts.{Spaced, spaced, words_are, SpellsItem, IsTight, SpaceIsWhite, HasSomeSpace}
+use Rattle.vcd_text.proofs.pieces.Cuts.{spelling_some}
 use Rattle.vcd_text.specs.inside.Words.{words_from}
 
 -- bytes that do not begin with white space

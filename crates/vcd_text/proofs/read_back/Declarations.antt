@@ -1,48 +1,129 @@
--- The declarations of a capture's text are allowed, and declare the signals of the capture.
-use Rattle.std.proofs.Common.{◌≡◌, ◌<◌, ◌≤◌, ◌+◌, ◌^◌, ℕ, suc, true, false, not, List, [], ◌∷◌}
-use Rattle.std.proofs.Common.{◌++◌}
-use Rattle.std.proofs.Common.{find, length, Option, Some, None, IfSome, IsTrue, refl}
-use Rattle.std.proofs.Common.{ap}
-use Rattle.std.proofs.Common.{arith, append_assoc, append-nil, decimal}
-use Rattle.std.proofs.Common.{option_to_list}
-use Rattle.std.specs.List.{list_all, AllByRecursion}
-use Rattle.std.specs.Str.{bytes_eq}
-use Rattle.std.proofs.lemmas.Bool.{and_from, and_parts, false_from_ne_true, not_from_false}
-use Rattle.std.proofs.lemmas.Bool.{or_right, lt-ltb}
-use Rattle.std.proofs.lemmas.List.{length-append}
-use Rattle.std.proofs.lemmas.List.Elements.{recursion_from_All}
-use Rattle.std.proofs.lemmas.List.Folds.{find-append}
-use Rattle.std.proofs.lemmas.List.Sums.{length-filter, count_by-le-length}
+-- The declarations of a capture's text are allowed, and declare its timescale and its signals.
+use Rattle.std.proofs.Common.{◌≡◌, ◌≢◌, ℕ, zero, suc, ◌+◌, ◌<◌, true, false, not, cond, List, [], ◌∷◌, length, get_or}
+use Rattle.std.proofs.Common.{Some, All, refl, ap, ◌∙◌, arith, ◌⊎◌, ◌++◌, ◌^◌, inl, inr, decimal, ◌≤◌, Option, None}
+use Rattle.std.proofs.Common.{IfSome, IsTrue, append_assoc, append-nil, option_to_list}
+use Rattle.std.specs.Prelude.{find, bytes_eq, count_by}
+use Rattle.std.proofs.lemmas.Bool.{false_from_ne_true, le-ltb, ne_eqb, not-true, or_cases, eqb-true, and_from}
+use Rattle.std.proofs.lemmas.Bool.{and_parts, not_from_false, or_right, lt-ltb}
+use Rattle.std.proofs.lemmas.List.Elements.{All-head, All-tail, recursion_from_All}
+use Rattle.std.proofs.lemmas.List.Sums.{sum_by-cons, length-filter, count_by-le-length}
 use Rattle.std.proofs.lemmas.Slice.Eq.{bytes_eq-Decides}
-use Rattle.vcd_core.specs.declared.capture.Header.{Header}
-use Rattle.vcd_core.specs.declared.capture.Timescale.{Timescale}
-use Rattle.vcd_core.specs.declared.capture.ScopeName.{ScopeName}
-use Rattle.vcd_core.specs.declared.value.TheConstants.{WIDTH_LIMIT}
+use Rattle.std.specs.Fmt.{digits}
+use Rattle.std.specs.List.{list_all, AllByRecursion}
+use Rattle.std.proofs.lemmas.List.{length-append}
+use Rattle.std.proofs.lemmas.List.Folds.{find-append}
+use Rattle.std.specs.Char.{is_ascii_digit}
 use Rattle.vcd_core.specs.declared.capture.TheConstants.{SIGNAL_LIMIT}
 use Rattle.vcd_core.specs.Contents.{Contents, SignalContents}
-use Rattle.vcd_core.specs.Sound.{is_sound_header, is_sound_timescale, IsSoundSignal, IsSound}
-use Rattle.std.specs.Char.{is_ascii_digit}
-use Rattle.vcd_text.specs.Items.{Item, end_definitions}
+use Rattle.vcd_core.specs.Sound.{IsSoundSignal, is_sound_timescale, is_sound_header, IsSound}
+use Rattle.vcd_core.specs.declared.capture.Timescale.{Timescale}
+use Rattle.vcd_core.specs.declared.capture.TimeUnit.{TimeUnit}
+use Rattle.vcd_core.specs.TimeUnits.{unit_text}
+use Rattle.vcd_core.specs.declared.capture.Header.{Header}
+use Rattle.vcd_core.specs.declared.capture.ScopeName.{ScopeName}
+use Rattle.vcd_core.specs.declared.value.TheConstants.{WIDTH_LIMIT}
+use Rattle.vcd_text.specs.Grammar.{ParseState, VariableDeclaration, is_skipped, kept_variables, initial_state}
+use Rattle.vcd_text.specs.Grammar.{declaration_of, variable_of, may_have_code}
+use Rattle.vcd_text.specs.Text.{code_of, timescale_items, variable_item, signal_items, first_items, items_of}
+use Rattle.vcd_text.specs.Items.{timescales, Item, end_definitions, variable}
 use Rattle.vcd_text.specs.inside.reading.Declarations.{is_end_word}
-use Rattle.vcd_text.specs.Grammar.{ParseState, VariableDeclaration, initial_state, declaration_of}
-use Rattle.vcd_text.specs.Grammar.{variable_of}
-use Rattle.vcd_text.specs.Grammar.{may_have_code}
-use Rattle.vcd_text.specs.Text.{timescale_items, code_of, variable_item}
 use Rattle.vcd_text.specs.inside.writing.Declarations.{header_items}
-use Rattle.vcd_text.specs.Text.{signal_items}
-use Rattle.vcd_text.specs.Text.{first_items, items_of}
 use Rattle.vcd_text.specs.inside.writing.Transitions.{items_of_ticks}
-use Rattle.vcd_text.proofs.writing.TextParts.{ticks_in_turn}
-use Rattle.vcd_text.proofs.read_back.CodesDiffer.{codes_differ, code_no_end}
+use Rattle.vcd_text.proofs.shared.CodesDiffer.{codes_differ, code_no_end}
+use Rattle.vcd_text.proofs.writing.output.Pieces.{ticks_in_turn}
 use Rattle.vcd_text.proofs.read_back.Decimals.{decimal_digits, decimal_is_number, number_of-decimal}
-use Rattle.vcd_text.proofs.read_back.DeclaredSignals.{declared_as, declared_state, declared_of}
-use Rattle.vcd_text.proofs.shared.ItemsInTurn.{Reaches, reaches_none, reaches_first, reaches_one}
+use Rattle.vcd_text.proofs.shared.ItemsInTurn.{Reaches, reaches_none, reaches_first, reaches_one, reaches_both}
+use Rattle.vcd_text.proofs.shared.ItemsInTurn.{reaches_same}
 use Rattle.vcd_text.proofs.shared.ItemTests.{allows_entry, allows_variable}
-use Rattle.vcd_text.proofs.shared.ItemsInTurn.{reaches_both, reaches_same}
-use Rattle.vcd_text.proofs.read_back.ScopePaths.{declaring, words_have_no_end, scopes_lead, scopes_end}
-use Rattle.vcd_text.proofs.read_back.Timescale.{sound_count, count_small}
-use Rattle.vcd_text.proofs.read_back.Timescale.{counted}
-use Rattle.vcd_text.specs.Items.{variable}
+use Rattle.vcd_text.proofs.shared.ScopePaths.{declaring, words_have_no_end, scopes_lead, scopes_end}
+
+-- ==== a sound signal is declared as a kept variable, and its code finds it
+
+-- the declaration of the signal at a position
+abbrev pub declared_as : ℕ → SignalContents → VariableDeclaration
+declared_as k s = record { scopes = s.scopes; kind = s.kind; size = s.width; code = code_of k; words = s.words }
+
+-- the declarations of signals, the first at this position
+unfoldable pub declared_of : ℕ → List SignalContents → List VariableDeclaration
+declared_of k [] = []
+declared_of k (s ∷ ss) = declared_as k s ∷ declared_of (suc k) ss
+
+-- the state after the declarations of a capture's text
+abbrev pub declared_state : Contents → ParseState
+declared_state c = record {
+  header = c.header;
+  timescale = c.timescale;
+  scopes = [];
+  declared = declared_of 0 c.signals;
+  in_body = true;
+  value_changes = [];
+  tick = 0;
+  limit = SIGNAL_LIMIT;
+}
+
+pub sound_is_kept : (end k : ℕ) (s : SignalContents) → IsSoundSignal end s → is_skipped (declared_as k s) ≡ false
+sound_is_kept end k s sound = grind (arith, not-true, ne_eqb, le-ltb)
+
+-- all are kept, and none is skipped
+pub all_sound_kept : (end k : ℕ) (ss : List SignalContents) → All (IsSoundSignal end) ss
+    → kept_variables (declared_of k ss) ≡ declared_of k ss
+unfolding declared_of
+all_sound_kept end k [] all = refl
+all_sound_kept end k (s ∷ ss) all = ap (λ b. cond (not b) (declared_as k s ∷ kept_variables (declared_of (suc k) ss))
+    (kept_variables (declared_of (suc k) ss))) (sound_is_kept end k s (All-head (IsSoundSignal end) s ss all))
+    ∙ ap (λ ds. declared_as k s ∷ ds) (all_sound_kept end (suc k) ss (All-tail (IsSoundSignal end) s ss all))
+
+pub none_skipped : (end k : ℕ) (ss : List SignalContents) → All (IsSoundSignal end) ss
+    → count_by is_skipped (declared_of k ss) ≡ 0
+unfolding declared_of
+none_skipped end k [] all = refl
+none_skipped end k (s ∷ ss) all = sum_by-cons (λ d. cond (is_skipped d) 1 0) (declared_as k s) (declared_of (suc k) ss)
+    ∙ (λ i. cond (sound_is_kept end k s (All-head (IsSoundSignal end) s ss all) i) 1 0 + none_skipped end (suc k) ss
+    (All-tail (IsSoundSignal end) s ss all) i)
+
+-- ---- codes
+
+pub other_code : (j k : ℕ) → j ≢ k → bytes_eq (code_of j) (code_of k) ≡ false
+other_code j k other = grind (arith, false_from_ne_true, codes_differ, bytes_eq-Decides)
+
+-- the variable of the code of a position is the signal there
+pub found_by_code : (ss : List SignalContents) (i j k : ℕ) (d : SignalContents) → j + i ≡ k → i < length ss
+    → find (λ v. bytes_eq (code_of k) v.code) (declared_of j ss) ≡ Some (declared_as k (get_or ss i d))
+unfolding declared_of
+found_by_code [] i j k d at within = absurd (omega arith)
+found_by_code (s ∷ ss) zero j k d at within = grind (arith, bytes_eq-Decides)
+found_by_code (s ∷ ss) (suc i) j k d at within =
+    grind (arith, other_code, found_by_code ss i (suc j) k d (omega arith) (omega arith))
+
+-- ==== the timescale of a sound capture is read back
+
+-- the counts of a unit that a tick can have (IEEE 1364-2005, 18.2)
+abbrev IsCount : ℕ → Type 0
+IsCount n = (n ≡ 1) ⊎ ((n ≡ 10) ⊎ (n ≡ 100))
+
+pub sound_count : (t : Timescale) → is_sound_timescale t ≡ true → IsCount t.count
+sound_count t sound = grind (arith, or_cases, eqb-true)
+
+pub count_small : (n : ℕ) → IsCount n → n < 2 ^ 64
+count_small n is = grind arith
+
+-- the timescale that a text spells
+abbrev found_in : List ℕ → Timescale → Type 0
+found_in text t = find (λ s. bytes_eq text (decimal s.count ++ unit_text s.unit)) timescales ≡ Some t
+
+found : (unit : TimeUnit) → found_in (decimal 1 ++ unit_text unit) (record { count = 1; unit = unit })
+    × found_in (decimal 10 ++ unit_text unit) (record { count = 10; unit = unit })
+    × found_in (decimal 100 ++ unit_text unit) (record { count = 100; unit = unit })
+unfolding digits
+found unit = grind arith
+
+counted : (n : ℕ) (unit : TimeUnit) → IsCount n
+    → found_in (decimal n ++ unit_text unit) (record { count = n; unit = unit })
+counted n unit (inl e) = grind (arith, found)
+counted n unit (inr (inl e)) = rw e (found unit).1
+counted n unit (inr (inr e)) = rw e (found unit).2
+
+-- ==== the declarations of a capture's text are allowed, and declare the signals of the capture
 
 -- ---- header and timescale
 
@@ -109,7 +190,7 @@ signals_lead h t opened ds end k (s ∷ ss) sound few at below =
 -- ---- all declarations
 
 -- the items in front of the values
-abbrev pub declaration_items : Contents → List Item
+abbrev declaration_items : Contents → List Item
 declaration_items c = header_items c.header ++ timescale_items c.timescale ++ signal_items [] 0 c.signals
     ++ end_definitions ∷ []
 

@@ -1,18 +1,15 @@
 -- The complete words of a prefix are the first words of every file with this prefix, so a fault that
 -- they show is the file's.
-use Rattle.std.proofs.Common.{◌≡◌, ℕ, Bool, true, false, List, [], ◌∷◌, ◌++◌, refl, ap, ◌∙◌}
-use Rattle.std.proofs.Common.{append_assoc, cond, sym}
+use Rattle.std.proofs.Common.{◌≡◌, ℕ, Bool, true, false, List, [], ◌∷◌, ◌++◌, refl, ap, ◌∙◌, append_assoc, cond, sym}
 use Rattle.vcd_core.specs.Word.{is_white_space}
 use Rattle.vcd_text.specs.declared.fault.Fault.{Fault}
-use Rattle.vcd_text.specs.Words.{WordOnLine}
+use Rattle.vcd_text.specs.Words.{WordOnLine, words_of, complete_words}
 use Rattle.vcd_text.specs.inside.Words.{word_of, line_after, words_from}
-use Rattle.vcd_text.specs.Words.{words_of, complete_words}
 use Rattle.vcd_text.specs.Faults.{ShowsFault}
 use Rattle.vcd_text.specs.FoundFaults.{IsFoundFault, word_shows, PrefixShows}
 use Rattle.vcd_text.proofs.shared.ItemsInTurn.{shown_by}
 use Rattle.vcd_text.proofs.shared.WordsByBytes.{words_by_bytes, complete_by_bytes}
-use Rattle.vcd_text.specs.Grammar.{state_after}
-use Rattle.vcd_text.specs.Grammar.{initial_state}
+use Rattle.vcd_text.specs.Grammar.{state_after, initial_state}
 
 -- the first words of a list of words
 abbrev pub IsPrefix : List WordOnLine → List WordOnLine → Type 0

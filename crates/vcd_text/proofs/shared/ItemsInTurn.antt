@@ -1,11 +1,23 @@
--- Items that are allowed in turn, and the state after them.
-use Rattle.std.proofs.Common.{◌≡◌, ℕ, List, [], ◌∷◌, ◌++◌, refl, sym, ap, ◌∙◌}
+-- Items that are allowed in turn, the state after them, and the value that their changes give a code.
+use Rattle.std.proofs.Common.{◌≡◌, ℕ, List, [], ◌∷◌, ◌++◌, refl, sym, ap, ◌∙◌, ◌&&◌, if◌then◌else◌, nat_le, arith}
+use Rattle.std.specs.Prelude.{bytes_eq}
+use Rattle.std.proofs.lemmas.Bool.{cases_Bool}
+use Rattle.std.proofs.lemmas.List.{map-append}
+use Rattle.std.proofs.lemmas.List.Elements.{filter-append}
+use Rattle.vcd_core.specs.declared.bit.Bit.{Bit}
+use Rattle.vcd_core.specs.Wave.{value_from}
+use Rattle.vcd_core.proofs.shared.Waves.{value_from-append}
 use Rattle.vcd_text.specs.declared.fault.Fault.{Fault}
 use Rattle.vcd_text.specs.Words.{WordOnLine}
 use Rattle.vcd_text.specs.Items.{Item, spellings}
-use Rattle.vcd_text.specs.Grammar.{ParseState, Allows, AllowsAll, state_after, state_after_item}
-use Rattle.vcd_text.specs.Grammar.{initial_state, word_texts}
+use Rattle.vcd_text.specs.Grammar.{ParseState, Allows, AllowsAll, state_after, state_after_item, initial_state}
+use Rattle.vcd_text.specs.Grammar.{word_texts, ValueChange}
 use Rattle.vcd_text.specs.Faults.{WordShows, ShowsFault, fault_line}
+use Rattle.vcd_text.specs.Letters.{extension}
+use Rattle.vcd_text.specs.Meaning.{changes_of_code}
+use Rattle.vcd_text.specs.inside.reading.Variables.{latest_value}
+
+-- ==== items that are allowed in turn, and the state after them
 
 -- from the state `start` the conditions of each item hold, and the state after all of them is
 -- `state`
@@ -54,3 +66,17 @@ shown_by limit words whole begun more w items c line fault leads parts spelled d
   decided = rw leads.state_is decided;
   at = at ∙ ap (λ c. fault_line c.in_body begun w) (sym leads.state_is);
 }
+
+-- ==== the value of a code by its latest value change
+
+pub latest_value-append : (width : ℕ) (code : List ℕ) (t : ℕ) (before : List Bit) (rs qs : List ValueChange)
+    → latest_value width code t before (rs ++ qs) ≡ latest_value width code t (latest_value width code t before rs) qs
+unfolding changes_of_code
+latest_value-append width code t before rs qs = grind (arith, filter-append, map-append, value_from-append)
+
+pub value_with : (width : ℕ) (code : List ℕ) (t : ℕ) (before : List Bit) (rs : List ValueChange) (r : ValueChange)
+    → latest_value width code t before (rs ++ r ∷ [])
+    ≡ (if bytes_eq r.code code && nat_le r.tick t then extension width r.letters else latest_value width code t
+    before rs)
+unfolding changes_of_code value_from
+value_with width code t before rs r = grind (arith, cases_Bool, latest_value-append)

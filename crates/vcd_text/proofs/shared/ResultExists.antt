@@ -1,6 +1,6 @@
 -- Every file has a result: its words are accepted, or one shows a fault, or they end too early.
-use Rattle.std.proofs.Common.{◌≡◌, ◌⊎◌, inl, inr, ℕ, zero, suc, ◌<◌, ◌≤◌, List, [], ◌∷◌, ◌++◌, length, refl, ap}
-use Rattle.std.proofs.Common.{◌∙◌, append_assoc, arith}
+use Rattle.std.proofs.Common.{◌≡◌, ◌⊎◌, inl, inr, ℕ, zero, suc, ◌<◌, ◌≤◌, List, [], ◌∷◌, ◌++◌, length, refl, ap, ◌∙◌}
+use Rattle.std.proofs.Common.{append_assoc, arith}
 use Rattle.std.proofs.lemmas.List.{append-nil, map-append, length-append, length-map}
 use Rattle.std.proofs.lemmas.Bool.{cases_Bool}
 use Rattle.vcd_core.specs.Contents.{Contents}
@@ -8,8 +8,7 @@ use Rattle.vcd_text.specs.declared.fault.Fault.{Fault}
 use Rattle.vcd_text.specs.declared.fault.Fault.TheVariants.{Truncated}
 use Rattle.vcd_text.specs.Words.{WordOnLine, words_of, last_line}
 use Rattle.vcd_text.specs.Items.{Item, spelling, spellings}
-use Rattle.vcd_text.specs.Grammar.{ParseState, Allows, Accepts, state_after_item, initial_state}
-use Rattle.vcd_text.specs.Grammar.{word_texts}
+use Rattle.vcd_text.specs.Grammar.{ParseState, Allows, Accepts, state_after_item, initial_state, word_texts}
 use Rattle.vcd_text.specs.Faults.{fault_line, ShowsFault, WordShows}
 use Rattle.vcd_text.specs.FoundFaults.{IsFoundFault, IsUnfinished, Stops, word_shows, too_early}
 use Rattle.vcd_text.specs.Meaning.{FileMeans, meaning}

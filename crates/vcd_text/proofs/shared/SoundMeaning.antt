@@ -1,19 +1,15 @@
 -- The meaning of an accepted file is sound.
-use Rattle.std.proofs.Common.{◌≡◌, ℕ, ◌<◌, ◌≤◌, Bool, true, false, cond, not, ◌&&◌, ◌||◌, List, []}
-use Rattle.std.proofs.Common.{◌∷◌, ◌++◌, length, take, drop, Option, Some, None, IsTrue, IsFalse}
-use Rattle.std.proofs.Common.{IsSomeAnd, IfSome, All, if◌then◌else◌, inl, inr, refl, sym, ap, ◌∙◌, arith}
+use Rattle.std.proofs.Common.{◌≡◌, ℕ, ◌<◌, ◌≤◌, Bool, true, false, cond, not, ◌&&◌, ◌||◌, List, [], ◌∷◌, ◌++◌, length}
+use Rattle.std.proofs.Common.{take, drop, Option, Some, None, IsTrue, IsFalse, IsSomeAnd, IfSome, All, if◌then◌else◌}
+use Rattle.std.proofs.Common.{inl, inr, refl, sym, ap, ◌∙◌, arith}
 use Rattle.std.specs.Prelude.{find, bytes_eq, ◌==◌, nat_le}
 use Rattle.std.specs.List.{list_all}
-use Rattle.std.proofs.lemmas.Bool.{cases_Bool, and_parts, and_from, or_parts, false≢true, not-true, eqb-true}
-use Rattle.std.proofs.lemmas.Bool.{eqb-false, leb-true}
-use Rattle.std.proofs.lemmas.Bool.{ltb-false}
+use Rattle.std.proofs.lemmas.Bool.{cases_Bool, and_parts, and_from, or_parts, false≢true, not-true, eqb-true, eqb-false}
+use Rattle.std.proofs.lemmas.Bool.{leb-true, ltb-false}
 use Rattle.std.proofs.lemmas.Slice.Eq.{bytes_eq-Decides}
-use Rattle.std.proofs.lemmas.List.{append-nil, length-append, length-map, length-replicate}
-use Rattle.std.proofs.lemmas.List.{take-append-drop}
-use Rattle.std.proofs.lemmas.List.Elements.{All-nil, All-head, All-tail, All-push, All-map}
-use Rattle.std.proofs.lemmas.List.Elements.{All-filter}
-use Rattle.std.proofs.lemmas.List.Elements.{filter_passes}
-use Rattle.std.proofs.lemmas.List.Folds.{list_all-append}
+use Rattle.std.proofs.lemmas.List.{append-nil, length-append, length-map, length-replicate, take-append-drop}
+use Rattle.std.proofs.lemmas.List.Elements.{All-nil, All-head, All-tail, All-push, All-map, All-filter, filter_passes}
+use Rattle.std.proofs.lemmas.List.Folds.{list_all-append, find-append}
 use Rattle.vcd_core.specs.declared.bit.Bit.{Bit}
 use Rattle.vcd_core.specs.declared.capture.Header.{Header}
 use Rattle.vcd_core.specs.declared.capture.ScopeName.{ScopeName}
@@ -23,30 +19,22 @@ use Rattle.vcd_core.specs.declared.capture.TheConstants.{END_LIMIT, SIGNAL_LIMIT
 use Rattle.vcd_core.specs.Wave.{value_from}
 use Rattle.vcd_core.specs.Word.{is_word, is_skipped_kind}
 use Rattle.vcd_core.specs.Contents.{Contents}
-use Rattle.vcd_core.specs.Sound.{IsSound, IsSoundSignal, is_sound_header, is_sound_scope}
-use Rattle.vcd_core.specs.Sound.{is_sound_timescale}
+use Rattle.vcd_core.specs.Sound.{IsSound, IsSoundSignal, is_sound_header, is_sound_scope, is_sound_timescale}
 use Rattle.vcd_core.proofs.shared.Waves.{changes_rise, changes_end}
 use Rattle.vcd_text.specs.Words.{words_of}
 use Rattle.vcd_text.specs.Letters.{extension, letters_of_digits}
-use Rattle.vcd_text.specs.Items.{Item, entry, timescale, scope, upscope, variable, end_definitions}
-use Rattle.vcd_text.specs.Items.{stamp, scalar}
-use Rattle.vcd_text.specs.Items.{vector, real_or_string, dump_word, other, spelling, spellings}
-use Rattle.vcd_text.specs.Items.{end_word}
+use Rattle.vcd_text.specs.Items.{Item, entry, timescale, scope, upscope, variable, end_definitions, stamp, scalar}
+use Rattle.vcd_text.specs.Items.{vector, real_or_string, dump_word, other, spelling, spellings, end_word}
 use Rattle.vcd_text.specs.Items.{has_no_end_word}
 use Rattle.vcd_text.specs.inside.reading.Declarations.{is_end_word}
-use Rattle.vcd_text.specs.Grammar.{ParseState, VariableDeclaration, ValueChange, Accepts}
-use Rattle.vcd_text.specs.Grammar.{Allows}
-use Rattle.vcd_text.specs.Grammar.{AllowsAll}
+use Rattle.vcd_text.specs.Grammar.{ParseState, VariableDeclaration, ValueChange, Accepts, Allows, AllowsAll}
+use Rattle.vcd_text.specs.Grammar.{state_after, state_after_item, is_skipped, kept_variables, variable_of}
+use Rattle.vcd_text.specs.Grammar.{may_have_code, value_changes_after, with_value_change}
 use Rattle.vcd_text.proofs.shared.ItemTests.{has_declaration, has_tick}
-use Rattle.vcd_text.specs.Grammar.{state_after, state_after_item, is_skipped, kept_variables}
-use Rattle.vcd_text.specs.Grammar.{variable_of}
-use Rattle.vcd_text.specs.Grammar.{may_have_code, value_changes_after}
 use Rattle.vcd_text.specs.inside.reading.Variables.{is_within_limit, latest_value}
-use Rattle.vcd_text.specs.Grammar.{with_value_change}
 use Rattle.vcd_text.proofs.shared.WordsInTurn.{by_test, is_run_text}
 use Rattle.vcd_text.proofs.shared.WordsByBytes.{texts_of_file_are_runs}
 use Rattle.vcd_text.specs.Meaning.{meaning, declared_signal, changes_of_code}
-use Rattle.std.proofs.lemmas.List.Folds.{find-append}
 use Rattle.vcd_text.proofs.part.FewSignals.{KeepsFew, few_after, same_limit}
 
 -- ---- words

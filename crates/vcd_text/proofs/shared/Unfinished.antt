@@ -1,21 +1,18 @@
 -- The words of an item without its last ones: a word must follow them.
-use Rattle.std.proofs.Common.{◌≡◌, ℕ, ◌<◌, List, [], ◌∷◌, ◌++◌, length, IsTrue, IsFalse, codes}
-use Rattle.std.proofs.Common.{refl, arith}
+use Rattle.std.proofs.Common.{◌≡◌, ℕ, ◌<◌, List, [], ◌∷◌, ◌++◌, length, IsTrue, IsFalse, codes, refl, arith}
 use Rattle.std.proofs.lemmas.Bool.{and_from, or_left, or_right, not_from_false, lt-ltb}
 use Rattle.vcd_core.specs.Word.{is_one_of}
 use Rattle.vcd_core.specs.declared.capture.HeaderKind.{HeaderKind}
 use Rattle.vcd_core.specs.declared.capture.HeaderKind.TheVariants.{Date, Version, Comment}
 use Rattle.vcd_text.specs.Letters.{is_among}
 use Rattle.vcd_text.specs.Items.{Item, entry, timescale, scope, upscope, variable, end_definitions, vector}
-use Rattle.vcd_text.specs.Items.{real_or_string, other, spelling, end_word, has_no_end_word, header_word}
+use Rattle.vcd_text.specs.Items.{real_or_string, other, spelling, end_word, has_no_end_word, header_word, is_other}
 use Rattle.vcd_text.specs.inside.reading.Declarations.{header_words}
-use Rattle.vcd_text.specs.Items.{is_other}
 use Rattle.vcd_text.specs.inside.reading.DigitTests.{vector_prefixes, real_or_string_prefixes}
 use Rattle.vcd_text.specs.Grammar.{ParseState, fits, has_good_size}
 use Rattle.vcd_text.specs.FoundFaults.{IsUnfinished}
 use Rattle.vcd_text.proofs.shared.OneOf.{by_one_of}
-use Rattle.vcd_text.proofs.shared.ItemTests.{fits_in_words, fits_upscope, fits_variable}
-use Rattle.vcd_text.proofs.shared.ItemFaults.{some_declaration}
+use Rattle.vcd_text.proofs.shared.ItemTests.{fits_in_words, fits_upscope, fits_variable, some_declaration}
 
 -- an item that fits has more words
 has_more : (c : ParseState) (i : Item) (w : List ℕ) (begun : List (List ℕ)) (next : List ℕ) (more : List (List ℕ))

@@ -1,36 +1,30 @@
 -- What words begin with: a whole item whose conditions hold, a fault, or an item that goes on.
-use Rattle.std.proofs.Common.{◌≡◌, ◌⊎◌, inl, inr, ℕ, not, ◌&&◌, ◌||◌, List, [], ◌∷◌, ◌++◌, Option, Some, None}
-use Rattle.std.proofs.Common.{IsTrue, IsFalse, codes, length, ◌<◌}
-use Rattle.std.proofs.Common.{refl, sym, ap, ◌∙◌, arith, append_assoc}
+use Rattle.std.proofs.Common.{◌≡◌, ◌⊎◌, inl, inr, ℕ, not, ◌&&◌, ◌||◌, List, [], ◌∷◌, ◌++◌, Option, Some, None, IsTrue}
+use Rattle.std.proofs.Common.{IsFalse, codes, length, ◌<◌, refl, sym, ap, ◌∙◌, arith, append_assoc}
 use Rattle.std.proofs.lemmas.List.{append-nil}
 use Rattle.std.proofs.lemmas.List.Folds.{list_all-append}
 use Rattle.std.proofs.lemmas.Slice.Eq.{bytes_eq-Decides}
-use Rattle.std.proofs.lemmas.Bool.{cases_Bool, and_parts, and_from, not-true, not_from_false}
+use Rattle.std.proofs.lemmas.Bool.{cases_Bool, and_parts, and_from, not-true, not_from_false, false≢true}
 use Rattle.vcd_core.specs.Tests.{first_fault}
 use Rattle.vcd_core.specs.Word.{is_one_of}
 use Rattle.vcd_core.specs.declared.capture.HeaderKind.{HeaderKind}
 use Rattle.vcd_core.specs.declared.capture.HeaderKind.TheVariants.{Date, Version, Comment}
 use Rattle.vcd_text.specs.declared.fault.Fault.{Fault}
 use Rattle.vcd_text.specs.Letters.{is_among, is_binary_digit}
-use Rattle.vcd_text.specs.Items.{Item, entry, timescale, scope, upscope, variable, end_definitions}
-use Rattle.vcd_text.specs.Items.{stamp, scalar, vector, real_or_string, dump_word, other, spelling}
-use Rattle.vcd_text.specs.Items.{end_word, has_no_end_word, dump_words, declaration_words}
-use Rattle.vcd_text.specs.inside.reading.Declarations.{header_words}
-use Rattle.vcd_text.specs.inside.reading.Declarations.{is_end_word}
-use Rattle.vcd_text.specs.Items.{begins_section, header_word, is_other}
+use Rattle.vcd_text.specs.Items.{Item, entry, timescale, scope, upscope, variable, end_definitions, stamp, scalar}
+use Rattle.vcd_text.specs.Items.{vector, real_or_string, dump_word, other, spelling, end_word, has_no_end_word}
+use Rattle.vcd_text.specs.Items.{dump_words, declaration_words, begins_section, header_word, is_other}
+use Rattle.vcd_text.specs.inside.reading.Declarations.{header_words, is_end_word}
 use Rattle.vcd_text.specs.inside.reading.DigitTests.{vector_prefixes, real_or_string_prefixes}
 use Rattle.vcd_text.specs.Grammar.{ParseState, has_good_size, fits, item_tests, Allows}
 use Rattle.vcd_text.specs.Faults.{WordShows, test_fails}
 use Rattle.vcd_text.specs.FoundFaults.{IsUnfinished}
 use Rattle.vcd_text.proofs.shared.OneOf.{by_among, by_one_of}
-use Rattle.vcd_text.proofs.shared.ItemTests.{fits_in_words, fits_upscope, fits_variable, fits_scalar}
-use Rattle.vcd_text.proofs.shared.ItemFaults.{begins_no_section, upscope_at_top, missing_kind, upscope_goes_on}
-use Rattle.vcd_text.proofs.shared.ItemFaults.{definitions_go_on, no_size, missing_code, declaration_late}
-use Rattle.vcd_text.proofs.shared.ItemFaults.{begins_no_change}
-use Rattle.vcd_text.proofs.shared.Unfinished.{words_due, upscope_due, variable_due, definitions_due}
-use Rattle.vcd_text.proofs.shared.Unfinished.{vector_due, real_or_string_due, other_due}
-use Rattle.std.proofs.lemmas.Bool.{false≢true}
-use Rattle.vcd_text.proofs.shared.ItemFaults.{misfit_changes}
+use Rattle.vcd_text.proofs.shared.ItemTests.{fits_in_words, fits_upscope, fits_variable, fits_scalar, begins_no_section}
+use Rattle.vcd_text.proofs.shared.ItemTests.{upscope_at_top, missing_kind, upscope_goes_on, definitions_go_on, no_size}
+use Rattle.vcd_text.proofs.shared.ItemTests.{missing_code, declaration_late, begins_no_change, misfit_changes}
+use Rattle.vcd_text.proofs.shared.Unfinished.{words_due, upscope_due, variable_due, definitions_due, vector_due}
+use Rattle.vcd_text.proofs.shared.Unfinished.{real_or_string_due, other_due}
 use Rattle.vcd_text.specs.declared.fault.Fault.TheVariants.{BadChange}
 
 -- what some words begin with

@@ -1,14 +1,12 @@
 -- The walk over a text finds the words between its white space, each on its line.
-use Rattle.std.proofs.Common.{◌≡◌, ◌⊎◌, inl, inr, ℕ, ◌+◌, ◌-◌, ◌≤◌, ◌==◌, Bool, true, false, not}
-use Rattle.std.proofs.Common.{List, [], ◌∷◌, ◌++◌, length, map, take, get_or, refl, sym, ap, ◌∙◌, arith}
-use Rattle.std.proofs.Common.{cond, append_assoc, length-append, suc, ap₂}
-use Rattle.std.specs.List.{list_all, filter, flat_map, enumerate_from, slice_split, onto_first}
-use Rattle.std.specs.List.{before_last, suffix_len}
+use Rattle.std.proofs.Common.{◌≡◌, ◌⊎◌, inl, inr, ℕ, ◌+◌, ◌-◌, ◌≤◌, ◌==◌, Bool, true, false, not, List, [], ◌∷◌, ◌++◌}
+use Rattle.std.proofs.Common.{length, map, take, get_or, refl, sym, ap, ◌∙◌, arith, cond, append_assoc, length-append}
+use Rattle.std.proofs.Common.{suc, ap₂}
+use Rattle.std.specs.List.{list_all, filter, flat_map, enumerate_from, slice_split, onto_first, before_last, suffix_len}
 use Rattle.std.proofs.lemmas.Bool.{cases_Bool, and_parts, not-true, ne_eqb, eqb-true, eqb-false}
-use Rattle.std.proofs.lemmas.List.{append-nil, map-append}
+use Rattle.std.proofs.lemmas.List.{append-nil, map-append, get_or-append_right}
 use Rattle.std.proofs.lemmas.List.Splits.{slice_split-cons_yes, slice_split-cons_no}
 use Rattle.std.proofs.lemmas.List.Sums.{suffix_len_is, AllPass-from_list_all}
-use Rattle.std.proofs.lemmas.List.{get_or-append_right}
 use Rattle.std.proofs.lemmas.List.Folds.{list_all-append}
 use Rattle.std.proofs.Math.Seq.{get_or-append_seam, take-append_seam}
 use Rattle.vcd_core.specs.Word.{is_white_space}
@@ -16,9 +14,8 @@ use Rattle.vcd_text.specs.Words.{WordOnLine, word_on, words_in, words_of, comple
 use Rattle.vcd_text.specs.LentWords.{words_after}
 use Rattle.vcd_text.specs.inside.Words.{line_after, word_of, words_from}
 use Rattle.vcd_text.specs.Grammar.{word_texts}
-use Rattle.vcd_text.proofs.shared.WordsInTurn.{by_test, no_space_is_no_feed, word_part, same_line}
-use Rattle.vcd_text.proofs.shared.WordsInTurn.{is_run_text, words_are_few, no_word, word_split, line_feeds_after}
-use Rattle.vcd_text.proofs.shared.WordsInTurn.{runs_from}
+use Rattle.vcd_text.proofs.shared.WordsInTurn.{by_test, no_space_is_no_feed, word_part, same_line, is_run_text}
+use Rattle.vcd_text.proofs.shared.WordsInTurn.{words_are_few, no_word, word_split, line_feeds_after, runs_from}
 use Rattle.vcd_text.proofs.shared.WordsInTurn.{texts_pass}
 
 -- ---- parts

@@ -1,22 +1,17 @@
 -- The words of a text: the first is at its front, each is a run of bytes other than white space.
-use Rattle.std.proofs.Common.{◌≡◌, ℕ, ◌+◌, ◌<◌, ◌≤◌, Bool, true, false, not, cond, ◌&&◌, ◌==◌}
-use Rattle.std.proofs.Common.{List, [], ◌∷◌}
-use Rattle.std.proofs.Common.{◌++◌, length, map, take, drop, refl, sym, ap, ◌∙◌, append_assoc, arith}
+use Rattle.std.proofs.Common.{◌≡◌, ℕ, ◌+◌, ◌<◌, ◌≤◌, Bool, true, false, not, cond, ◌&&◌, ◌==◌, List, [], ◌∷◌, ◌++◌}
+use Rattle.std.proofs.Common.{length, map, take, drop, refl, sym, ap, ◌∙◌, append_assoc, arith}
 use Rattle.std.specs.List.{All, list_all}
 use Rattle.std.proofs.lemmas.List.{append-nil, length-append, take-append-drop}
 use Rattle.std.proofs.lemmas.List.Sums.{sum_by-append}
 use Rattle.std.proofs.lemmas.List.Elements.{All-nil, All-head, All-tail}
 use Rattle.std.proofs.lemmas.Bool.Decides.{Decides-eqb}
-use Rattle.std.proofs.lemmas.Bool.{ne_eqb}
+use Rattle.std.proofs.lemmas.Bool.{ne_eqb, and_parts, not-true}
 use Rattle.std.proofs.lemmas.List.Folds.{list_all-append}
 use Rattle.vcd_core.specs.Word.{is_white_space}
-use Rattle.vcd_text.specs.inside.Words.{begins_with_space, ends_before}
+use Rattle.vcd_text.specs.inside.Words.{begins_with_space, ends_before, line_after, word_of, words_from}
 use Rattle.vcd_text.specs.LineFeeds.{line_feeds_in}
-use Rattle.vcd_text.specs.Words.{WordOnLine}
-use Rattle.vcd_text.specs.inside.Words.{line_after}
-use Rattle.vcd_text.specs.Words.{word_on}
-use Rattle.vcd_text.specs.inside.Words.{word_of, words_from}
-use Rattle.std.proofs.lemmas.Bool.{and_parts, not-true}
+use Rattle.vcd_text.specs.Words.{WordOnLine, word_on}
 use Rattle.std.proofs.lemmas.Grind.{common_steps}
 
 -- a fact of a test, in both cases

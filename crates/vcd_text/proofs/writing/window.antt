@@ -1,5 +1,2 @@
 -- Lemmas of `writing/window`.
-pub mod ChangeCounts
-pub mod ListedBySignal
-pub mod KeyOrder
-pub mod SameCountsSameList
+pub mod WindowOrder

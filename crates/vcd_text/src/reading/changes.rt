@@ -94,10 +94,10 @@ impl Parser {
         requires value { is_among (codes "#$") first ≡ false }
         ensures { WordResult self.old (word_on (first ∷ rest.now) line) result self.new }
     {
-        if is_binary_digit(first) {
-            self.take_scalar_change(alloc, first, rest)
-        } else if is_vector_prefix(first) {
+        if is_vector_prefix(first) {
             self.take_vector_value(rest, line)
+        } else if is_binary_digit(first) {
+            self.take_scalar_change(alloc, first, rest)
         } else if is_real_or_string_prefix(first) {
             self.take_real_or_string(line);
             Ok(())

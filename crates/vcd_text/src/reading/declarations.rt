@@ -1,8 +1,10 @@
 //! The words of declarations, and those of commands that are passed over.
 
 ghost use Rattle.std.specs.Prelude.{◌≡◌, ◌∷◌, ◌++◌, ℕ, [], true, false, IsFalse, MatchOption, OnOk};
+ghost use Rattle.std.specs.Prelude.{not};
+ghost use Rattle.std.specs.List.{list_all};
 ghost use Rattle.vcd_text.specs.Words.{word_on};
-ghost use Rattle.vcd_core.specs.Word.{is_one_of};
+ghost use Rattle.vcd_core.specs.Word.{is_one_of, is_white_space};
 ghost use Rattle.vcd_text.specs.Items.{end_word, declaration_words};
 ghost use Rattle.vcd_text.specs.inside.reading.Declarations.{header_words};
 ghost use Rattle.vcd_text.specs.inside.reading.Declarations.{is_end_word};
@@ -21,7 +23,9 @@ use crate::reading::timescale::timescale_in;
 use crate::reading::variables::silent_variables;
 use std::alloc::Global;
 use std::mem::replace;
-use vcd_core::{Header, HeaderKind, NoMemory, ScopeName, Seq, Word, copy_word};
+use vcd_core::{
+    Header, HeaderKind, HeaderWords, NoMemory, ScopeName, Seq, SpacedWords, Word, copy_word,
+};
 
 impl Parser {
     /// Begins a declaration, or a command that is passed over.
@@ -42,6 +46,7 @@ impl Parser {
         }
         self.item = item;
         self.words.clear();
+        self.entry.clear();
         Ok(())
     }
 
@@ -53,6 +58,7 @@ impl Parser {
     pub fn continue_item(&mut self, alloc: Global, text: &[u8]) -> Result<(), Fault>
         requires inside { is_inside self.old.item ≡ true }
         requires word { is_end_word text.now ≡ false }
+        requires no_space { list_all (λ b. not (is_white_space b)) text.now ≡ true }
         ensures { (line : ℕ) → WordResult self.old (word_on text.now line) result self.new }
     {
         match self.item {
@@ -60,11 +66,23 @@ impl Parser {
             OpenItem::Other => Ok(()),
             OpenItem::Variable => self.begin_variable(alloc, text),
             OpenItem::SizedVariable => self.continue_variable(alloc, text),
+            OpenItem::Entry(kind) => self.continue_entry(kind, text),
             _ => self.keep_word(alloc, text),
         }
     }
 
-    /// Keeps a word of a header entry, a timescale or a scope.
+    /// Keeps a word of a header entry.
+    fn continue_entry(&mut self, kind: HeaderKind, text: &[u8]) -> Result<(), Fault>
+        requires item { self.old.item ≡ items.Entry kind }
+        requires word { is_end_word text.now ≡ false }
+        requires no_space { list_all (λ b. not (is_white_space b)) text.now ≡ true }
+        ensures { (line : ℕ) → WordResult self.old (word_on text.now line) result self.new }
+    {
+        self.entry.push(text)?;
+        Ok(())
+    }
+
+    /// Keeps a word of a timescale or a scope.
     fn keep_word(&mut self, alloc: Global, text: &[u8]) -> Result<(), Fault>
         requires keeps { keeps_words self.old.item ≡ true }
         requires word { is_end_word text.now ≡ false }
@@ -129,7 +147,8 @@ impl Parser {
         requires { self.old.item ≡ items.Entry kind }
         ensures { (line : ℕ) → WordResult self.old (word_on end_word line) result self.new }
     {
-        let words = words_out_of(alloc, &mut self.words);
+        let words = replace(&mut self.entry, SpacedWords::new(alloc));
+        let words = HeaderWords::shared(words)?;
         self.header.push(Header { kind, words })?;
         self.item = OpenItem::Nothing;
         Ok(())

@@ -238,6 +238,7 @@ pub fn take_word<C: Choice>(
         × CanTake limit C.takes C.answers first choice.old parser.old
         (word_on text.now line ∷ []) }
     requires word { 0 < length text.now }
+    requires no_space { list_all (λ b. not (spec.is_white_space b)) text.now ≡ true }
     ensures words { (limit : ℕ) (first : C) (words_so_far : List WordInFile) →
         HasTakenFrom limit C.takes C.answers first choice.old parser.old words_so_far →
         TakesWord limit C.takes C.answers first choice.new words_so_far (word_on text.now line)

@@ -32,7 +32,7 @@ pub struct LoggedChange {
 }
 
 /// Appends a change to its group. Each group has the order of the file.
-#[tactic(auto, using(crate::proofs::reading::log::Groups::appended_steps))]
+#[tactic(auto, using(crate::proofs::reading::log::MovedToWaves::appended_steps))]
 pub fn append(
     groups: &mut Vec<Vec<LoggedChange>>,
     alloc: Global,
@@ -51,7 +51,7 @@ pub fn append(
 }
 
 /// Adds empty groups up to this number.
-#[tactic(auto, using(crate::proofs::reading::log::Groups::longer_steps))]
+#[tactic(auto, using(crate::proofs::reading::log::MovedToWaves::longer_steps))]
 fn add_groups(
     groups: &mut Vec<Vec<LoggedChange>>,
     alloc: Global,

@@ -1,6 +1,9 @@
 //! The parser, which takes one word after another.
 
 ghost use Rattle.std.specs.Prelude.{◌≡◌, ◌<◌, ◌∷◌, ◌++◌, List, [], true, false, length, IfOk, OnOk};
+ghost use Rattle.std.specs.Prelude.{not};
+ghost use Rattle.std.specs.List.{list_all};
+ghost use Rattle.vcd_core.specs.Word.{is_white_space};
 ghost use Rattle.vcd_text.specs.Grammar.{ParseState};
 ghost use Rattle.vcd_text.specs.inside.reading.Variables.{VariablesMatch};
 ghost use Rattle.vcd_text.specs.Words.{word_on, WordOnLine as WordInFile};
@@ -15,7 +18,7 @@ use crate::reading::Loaded;
 use crate::reading::part::Part;
 use crate::reading::variables::{Variables, remaining_signals};
 use std::alloc::Global;
-use vcd_core::{Capture, END_LIMIT, Header, HeaderKind, NoMemory, Timescale, Word};
+use vcd_core::{Capture, END_LIMIT, Header, HeaderKind, NoMemory, SpacedWords, Timescale, Word};
 
 /// The open item, whose words are not all there yet.
 #[derive(Clone, Copy, Debug, PartialEq, Eq)]
@@ -51,8 +54,11 @@ pub struct Parser {
     /// The last time stamp, or 0.
     pub tick: u64,
     pub item: OpenItem,
-    /// The words of the open declaration, after its keyword. The size of a variable is not there.
+    /// The words of the open declaration, after its keyword. Those of a header entry are not there,
+    /// nor is the size of a variable.
     pub words: Vec<Word>,
+    /// The words of the open header entry, after its keyword.
+    pub entry: SpacedWords,
     /// The size of the open variable, in bits. It is one past the greatest width for each larger.
     pub size: u64,
     /// The digits of the open change by a binary number.
@@ -81,6 +87,7 @@ impl Parser {
             tick: 0,
             item: OpenItem::Nothing,
             words: Vec::new(alloc),
+            entry: SpacedWords::new(alloc),
             size: 0,
             digits: Vec::new(alloc),
             line: 0,
@@ -105,6 +112,7 @@ impl Parser {
     pub fn take_word(&mut self, alloc: Global, text: &[u8], line: u64) -> Result<(), ReadError>
         requires reading { IsUnderway self.old }
         requires word { 0 < length text.now }
+        requires no_space { list_all (λ b. not (is_white_space b)) text.now ≡ true }
         requires no_end { ends_definitions self.old text.now ≡ false }
         ensures words { WordsResult self.old (word_on text.now line ∷ []) result self.new }
         ensures step { OnOk result ((asked : Asked) (c : ParseState) (begun : List WordInFile) →
@@ -134,6 +142,7 @@ impl Parser {
     fn take(&mut self, alloc: Global, text: &[u8], line: u64) -> Result<(), Fault>
         requires reading { IsUnderway self.old }
         requires word { 0 < length text.now }
+        requires no_space { list_all (λ b. not (is_white_space b)) text.now ≡ true }
         requires no_end { ends_definitions self.old text.now ≡ false }
         ensures { WordResult self.old (word_on text.now line) result self.new }
     {

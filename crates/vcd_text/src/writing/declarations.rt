@@ -46,7 +46,7 @@ fn write_entry<W: Sink>(output: &mut Output<W>, header: &Header)
         (item_line (entry header.now.kind header.now.words)) }
 {
     write_bytes(output, header_keyword(header.kind).as_bytes());
-    write_words(output, header.words.as_slice());
+    write_bytes(output, header.words.text());
     write_end(output);
 }
 
@@ -164,7 +164,7 @@ fn write_scope<W: Sink>(output: &mut Output<W>, name: &ScopeName)
 }
 
 /// The number of scopes that two paths share at the front. The time grows with their words.
-#[tactic(auto, using(crate::proofs::shared::SharedScopes::none_shared))]
+#[tactic(auto, using(crate::proofs::shared::ScopePaths::none_shared))]
 fn shared_len(opened: &[ScopeName], path: &[ScopeName]) -> usize
     ensures shared { result ≡ common_prefix_len same_scope opened.now path.now }
     ensures in_opened { result ≤ length opened.now }

@@ -80,7 +80,7 @@ fn next_window_ticks(count: u64, used: usize, room: usize) -> u64
 
 /// Writes the changes of keys, after the text up to tick `last`. Returns the last tick. The
 /// search for the next change of each signal begins at its cursor.
-#[tactic(auto, using(crate::proofs::writing::window::KeyOrder::last_written))]
+#[tactic(auto, using(crate::proofs::writing::window::WindowOrder::last_written))]
 fn write_keys<W: Sink>(
     output: &mut Output<W>,
     signals: &[Signal],

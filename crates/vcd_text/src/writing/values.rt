@@ -21,7 +21,7 @@ use vcd_core::{Bit, LetterBlock, Sink, Value, Wave};
 
 /// Writes the value at `tick`. If the change at `index` has that tick, it writes its value, without
 /// a search.
-#[tactic(auto, using(crate::proofs::writing::values::ValueAtChange::value_standing))]
+#[tactic(auto, using(crate::proofs::writing::values::ShortForm::value_standing))]
 pub fn write_value_near<W: Sink>(
     output: &mut Output<W>,
     position: usize,

@@ -90,7 +90,7 @@ pub fn fill_window(window: &mut Window, signals: &[Signal], from: u64, most: u64
 
 /// Lists the keys of a window, signal by signal. Returns whether all keys fit: there was room, and
 /// no change was too far from the window's first tick.
-#[tactic(auto, using(crate::proofs::writing::window::ListedBySignal::longer_steps))]
+#[tactic(auto, using(crate::proofs::writing::window::WindowOrder::longer_steps))]
 fn list_window(
     keys: &mut Vec<u64>,
     signals: &[Signal],

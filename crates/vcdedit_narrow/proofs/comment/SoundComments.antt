@@ -28,6 +28,9 @@ digits_are_dark (b ∷ bytes) digits =
     let parts = and_parts _ _ digits in
     and_from _ _ (digit_is_dark b parts.0) (digits_are_dark bytes parts.1)
 
+pub decimal_is_dark : (n : ℕ) → n < 2 ^ 64 → list_all is_dark (decimal n) ≡ true
+decimal_is_dark n small = digits_are_dark (decimal n) (decimal_digits n small)
+
 -- nor `$end`
 digits_no_end : (bytes : List ℕ) → list_all is_ascii_digit bytes ≡ true → bytes_eq bytes (codes "$end") ≡ false
 digits_no_end bytes digits = grind (arith, false_from_ne_true, bytes_eq-Decides)
@@ -37,7 +40,7 @@ pub decimal_is_word : (n : ℕ) → n < 2 ^ 64 → is_word (decimal n) ≡ true
 decimal_is_word n small =
     let some : (length (decimal n) == 0) ≡ false =
     ne_eqb _ 0 (λ none. absurd (omega (arith, none, decimal_not_empty n small))) in
-    let dark = digits_are_dark (decimal n) (decimal_digits n small) in
+    let dark = decimal_is_dark n small in
     let other = digits_no_end (decimal n) (decimal_digits n small) in
     rw (some, dark, other) refl
 

@@ -1,6 +1,6 @@
 -- No file has the fault that a request is refused.
-use Rattle.std.proofs.Common.{◌≡◌, ℕ, Bool, true, false, not, List, [], ◌∷◌, Option, Some, None, refl, sym, ap}
-use Rattle.std.proofs.Common.{◌∙◌, cond, codes}
+use Rattle.std.proofs.Common.{◌≡◌, ℕ, Bool, true, false, not, List, [], ◌∷◌, Option, Some, None, refl, sym, ap, ◌∙◌}
+use Rattle.std.proofs.Common.{cond, codes}
 use Rattle.std.specs.List.{list_all}
 use Rattle.std.specs.Str.{bytes_eq}
 use Rattle.std.proofs.lemmas.Bool.{and_parts, false≢true}
@@ -10,13 +10,10 @@ use Rattle.vcd_text.specs.declared.fault.Fault.{Fault}
 use Rattle.vcd_text.specs.declared.fault.Fault.TheVariants as faults
 use Rattle.vcd_text.specs.declared.fault.ReadError.{ReadError}
 use Rattle.vcd_text.specs.Faults.{HasFault, WordShows, misfit_fault, shown, none_shown, test_fails, misfits}
-use Rattle.vcd_text.specs.Grammar.{ParseState, VariableDeclaration, declaration_of}
-use Rattle.vcd_text.specs.Grammar.{digit_tests, item_tests, variable_of}
-use Rattle.vcd_text.specs.Grammar.{variable_tests}
-use Rattle.vcd_text.specs.Items.{declaration_words}
-use Rattle.vcd_text.specs.Items.{Item, entry, timescale, scope, upscope}
-use Rattle.vcd_text.specs.Items.{variable, end_definitions, stamp, scalar, vector}
-use Rattle.vcd_text.specs.Items.{real_or_string, dump_word, other}
+use Rattle.vcd_text.specs.Grammar.{ParseState, VariableDeclaration, declaration_of, digit_tests, item_tests}
+use Rattle.vcd_text.specs.Grammar.{variable_of, variable_tests}
+use Rattle.vcd_text.specs.Items.{declaration_words, Item, entry, timescale, scope, upscope, variable, end_definitions}
+use Rattle.vcd_text.specs.Items.{stamp, scalar, vector, real_or_string, dump_word, other}
 use Rattle.vcd_text.specs.Refusals.{IsRefusal, has_fault, too_large, reader_failed, no_memory}
 use Rattle.vcd_text.specs.Words.{WordOnLine}
 use Rattle.vcdedit_narrow.specs.inside.Stages.{is_declined}

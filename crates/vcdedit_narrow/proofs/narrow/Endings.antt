@@ -1,8 +1,7 @@
 -- How the stages of narrowing end.
-use Rattle.std.proofs.Common.{◌≡◌, ◌⊎◌, ℕ, ◌<◌, ◌≤◌, Bool, true, false}
-use Rattle.std.proofs.Common.{List, ◌++◌, Option, Some, None, refl, sym, ap, ap₂}
-use Rattle.std.proofs.Common.{◌∙◌, subst, inl, inr, length, decimal, map, min, cond}
-use Rattle.std.specs.Prelude.{Result, Ok, Err, IfOk, IfSome, IfErr}
+use Rattle.std.proofs.Common.{◌≡◌, ◌⊎◌, ℕ, ◌<◌, ◌≤◌, Bool, true, false, List, ◌++◌, Option, Some, None, refl, sym, ap}
+use Rattle.std.proofs.Common.{ap₂, ◌∙◌, subst, inl, inr, length, decimal, map, min, cond}
+use Rattle.std.specs.Prelude.{Result, Ok, Err, IfSome}
 use Rattle.std.specs.Io.KnownBytes.{IsAtEnd}
 use Rattle.std.proofs.lemmas.Bool.{false≢true}
 use Rattle.vcd_core.specs.Contents.{Contents, SignalContents}
@@ -19,8 +18,7 @@ use Rattle.vcd_core.specs.Sound.{IsSound}
 use Rattle.vcd_core.specs.Devices.{DeviceEnd, HasText}
 use Rattle.vcd_core.specs.Outline.{without_changes}
 use Rattle.vcd_text.specs.declared.reading.choice.TickRange.{TickRange}
-use Rattle.vcd_text.specs.Parts.{IsPartRefusal, PartMeans, declined, part_of, too_many_remain, answers_of}
-use Rattle.vcd_text.specs.Parts.{signals_of}
+use Rattle.vcd_text.specs.Parts.{IsPartRefusal, PartMeans, declined, part_of, too_many_remain, answers_of, signals_of}
 use Rattle.vcd_text.specs.Refusals.{no_memory}
 use Rattle.vcd_text.specs.Text.{text}
 use Rattle.vcd_text.specs.WriteEnds.{TookBefore}
@@ -38,21 +36,13 @@ use Rattle.vcdedit_narrow.specs.Narrowed.{extent_of, narrowed_capture, with_comm
 use Rattle.vcdedit_narrow.specs.Refusals.{refusal_text}
 use Rattle.vcdedit_narrow.specs.Requests.{decide, keeps}
 use Rattle.vcdedit_narrow.specs.inside.MemoryErrors.{out_of_memory}
-use Rattle.vcdedit_narrow.specs.inside.Stages.{EndsBeforeWriting, IsToWrite, StopsAtEnd}
-use Rattle.vcdedit_narrow.specs.inside.Stages.{error_of, is_declined, loaded_extent}
+use Rattle.vcdedit_narrow.specs.inside.Stages.{EndsBeforeWriting, IsToWrite, StopsAtEnd, error_of, is_declined}
+use Rattle.vcdedit_narrow.specs.inside.Stages.{loaded_extent}
 use Rattle.vcdedit_narrow.proofs.narrow.DeclinedFaults.{file_never_declines}
 
 pub if_some : {A : Type 0} (o : Option A) (P Q : A → Type 0) → ((a : A) → P a → Q a) → IfSome o P → IfSome o Q
 if_some None P Q follows holds = tt
 if_some (Some a) P Q follows holds = follows a holds
-
-pub if_ok : {A E : Type 0} (r : Result A E) (P Q : A → Type 0) → ((a : A) → P a → Q a) → IfOk r P → IfOk r Q
-if_ok (Ok a) P Q follows holds = follows a holds
-if_ok (Err e) P Q follows holds = tt
-
-pub if_err : {A E : Type 0} (r : Result A E) (P Q : E → Type 0) → ((e : E) → P e → Q e) → IfErr r P → IfErr r Q
-if_err (Ok a) P Q follows holds = tt
-if_err (Err e) P Q follows holds = follows e holds
 
 -- ---- the capture is read
 

@@ -6,13 +6,12 @@ use Rattle.vcd_text.specs.Grammar.{ParseState, initial_state, kept_variables}
 use Rattle.vcd_amend.specs.Amendment.{Amendment}
 use Rattle.vcd_amend.specs.AmendedMeaning.{AreApart}
 use Rattle.vcd_amend.specs.DeclaredVariables.{declaration_of_variable}
-use Rattle.vcd_amend.proofs.coding.ApartCodes.{codes_apart}
+use Rattle.vcd_amend.proofs.coding.AmendmentForCapture.{codes_apart, same_amendment}
 use Rattle.vcd_amend.specs.AmendedRun.{signal_from}
 use Rattle.vcd_amend.specs.FreshCodes.{fresh_code}
 use Rattle.vcd_amend.specs.inside.coding.KeptSignals.{kept_signals, amendment_of_kept}
 use Rattle.vcd_amend.specs.inside.coding.ChangedWaves.{kept_contents}
-use Rattle.vcd_amend.proofs.coding.Known.{same_amendment}
-use Rattle.vcd_amend.proofs.coding.kept_signals.Rows.{come_long}
+use Rattle.vcd_amend.proofs.coding.KeptSignals.{come_long}
 use Rattle.vcd_amend.proofs.coding.amendment_for.Goals as goal
 
 pub derived_signals-derived-requires : goal.derived_signals-derived-requires

@@ -9,7 +9,7 @@ use Rattle.vcd_amend.specs.inside.coding.KeptSignals.{KeptContents, held_codes, 
 use Rattle.vcd_amend.specs.inside.coding.ChangedWaves.{kept_contents, new_waves_of, all_contents, as_new_wave}
 use Rattle.vcd_amend.specs.inside.coding.ChangedWaves.{changed_contents, IsIndexOf}
 use Rattle.vcd_amend.specs.inside.coding.Codes.{codes_from, fates_by_index, variables_by_codes}
-use Rattle.vcd_amend.proofs.coding.Assembled.{assembled}
+use Rattle.vcd_amend.proofs.coding.FatesByIndex.{assembled}
 use Rattle.vcd_amend.proofs.coding.amendment_of_kept.Goals as goal
 
 pub fates-requires : goal.fates-requires

@@ -6,8 +6,8 @@ use Rattle.vcd_script.specs.Script.{script_lines}
 use Rattle.vcd_amend.proofs.dry_running.HeardInHistory.{found_in_lines}
 use Rattle.vcd_amend.proofs.dry_running.dry_run.Goals as goal
 
-pub returns : goal.returns
-returns c =
+pub returns-in-Ok-cuts : goal.returns-in-Ok-cuts
+returns-in-Ok-cuts c =
     let found = found_in_lines (contents c.args.outline) c.args.skipped c.args.depth (script_lines c.args.script.now)
     c.in-Ok.session c.hear_lines.new.session c.in-Ok.history c.hear_lines.new.history c.deref_mut.result.now
     c.hear_lines.new.heard c.in-Ok.ensures.session c.in-Ok.ensures.history
@@ -19,7 +19,7 @@ returns c =
       heard = λ k less. ap (λ (l : List Bool). get_or l k false) heard ∙ found.heard_at k less;
       one_each = ap (λ (l : List Bool). length l) heard ∙ found.one_each;
       origins = c.found.ensures.origins ∙ found.left;
-      cut = rw c.found.ensures.cut found.cut;
+      cuts = ap (λ v. v.items) c.found.ensures.cuts ∙ c.in-Ok-cuts.ensures ∙ found.cuts_are;
       last = c.found.ensures.last ∙ found.last;
       line = tt;
     }

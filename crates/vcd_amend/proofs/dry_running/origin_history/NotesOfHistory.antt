@@ -1,39 +1,27 @@
 -- The notes are a function of the history, and hold its origins.
-use Rattle.std.proofs.Common.{◌≡◌, ◌≤◌, ◌<◌, ◌+◌, ℕ, zero, suc, Bool, true, false, ◌||◌, if◌then◌else◌, List, []}
+use Rattle.std.proofs.Common.{◌≡◌, ◌≤◌, ◌<◌, ◌+◌, ℕ, zero, suc, true, if◌then◌else◌, List, []}
 use Rattle.std.proofs.Common.{◌∷◌, ◌++◌, length, Option, Some, None, refl, sym, ap, ap₂, ◌∙◌, inl, inr, arith}
-use Rattle.std.specs.Prelude.{nat_lt, nat_le, reverse, ◌↔◌}
-use Rattle.std.specs.List.{list_any, remove, insert, slice_get}
+use Rattle.std.specs.Prelude.{nat_lt, nat_le, reverse}
+use Rattle.std.specs.List.{filter_map, cons_option, remove, insert, slice_get}
 use Rattle.std.proofs.lemmas.Bool.Decides.{nat_tests}
 use Rattle.std.proofs.lemmas.Grind.{reverse_onto}
 use Rattle.std.proofs.lemmas.List.{take_all, drop_all, append-nil}
 use Rattle.std.proofs.lemmas.List.Edits.{length-remove}
-use Rattle.std.proofs.lemmas.List.Folds.{list_any-append}
+use Rattle.std.proofs.lemmas.List.Elements.{filter_map-append}
 use Rattle.std.proofs.lemmas.Option.{slice_get_cases, slice_get_within, same_Some}
 use Rattle.vcd_edit.specs.declared.edit.Edit.{Edit}
 use Rattle.vcd_edit.specs.declared.edit.Edit.TheVariants.{Remove, Cut}
 use Rattle.vcd_journal.specs.declared.step.Step.{Step}
 use Rattle.vcd_journal.specs.declared.step.Step.TheVariants as steps
 use Rattle.vcd_journal.specs.History.{History, initial_history, history_after}
-use Rattle.vcd_journal.specs.Cuts.{cuts}
 use Rattle.vcd_journal.specs.Origins.{origins}
+use Rattle.vcd_amend.specs.declared.cut_ticks.CutTicks.{CutTicks}
 use Rattle.vcd_amend.specs.declared.dry_running.origin_history.EditNote.{EditNote}
 use Rattle.vcd_amend.specs.inside.dry_running.OriginHistory.{OriginNotes, removal_note, note_of}
 use Rattle.vcd_amend.specs.inside.dry_running.OriginHistory.{origins_without, origins_with, notes_before_edits}
-use Rattle.vcd_amend.specs.inside.dry_running.OriginHistory.{notes_after_step, is_cut_note}
+use Rattle.vcd_amend.specs.inside.dry_running.OriginHistory.{notes_after_step, cut_of_note, ticks_of_cuts}
 
 -- ---- lists
-
-swapped : (a b : Bool) → (a || (b || false)) ≡ (b || a)
-swapped true true = refl
-swapped true false = refl
-swapped false true = refl
-swapped false false = refl
-
-pub any_reversed : {X : Type 0} (p : X → Bool) (xs : List X) → list_any p (reverse xs) ≡ list_any p xs
-any_reversed p [] = refl
-any_reversed p (x ∷ xs) =
-    ap (list_any p) (reverse_onto xs x []) ∙ list_any-append p (reverse xs) (x ∷ [])
-    ∙ ap (λ a. a || (p x || false)) (any_reversed p xs) ∙ swapped (list_any p xs) (p x)
 
 -- what is put back where it was removed
 put_back : (ks : List ℕ) (k origin : ℕ) → slice_get ks k ≡ Some origin → insert (remove ks k) k origin ≡ ks
@@ -149,17 +137,33 @@ step_follows count h (steps.Depth depth) = refl
 
 -- ---- cuts
 
-no_cut_here : (count : ℕ) (k : ℕ) (found : Option ℕ) → is_cut_note (removal_note k found) ≡ false
-no_cut_here count k (Some origin) = refl
-no_cut_here count k None = refl
+no_cut_here : (k : ℕ) (found : Option ℕ) → cut_of_note (removal_note k found) ≡ None
+no_cut_here k (Some origin) = refl
+no_cut_here k None = refl
 
--- a cut is in force if one of the notes is that of a cut
-pub cut_is_noted : (count : ℕ) (es : List Edit)
-    → list_any is_cut_note (notes_made count es) ≡ false ↔ cuts es ≡ []
-unfolding notes_made cuts
-cut_is_noted count [] = (λ _. refl, λ _. refl)
-cut_is_noted count (Cut from to ∷ es) = (λ h. absurd (cc), λ h. absurd (cc))
-cut_is_noted count (Remove k ∷ es) =
-    let other = no_cut_here count k (slice_get (origins count es) k) in
-    rw other (cut_is_noted count es)
-cut_is_noted count (e ∷ es) = cut_is_noted count es
+-- the note of the edit made last is at the end
+one_more_note : (n : EditNote) (ns : List EditNote) → filter_map cut_of_note (reverse (n ∷ ns))
+    ≡ filter_map cut_of_note (reverse ns) ++ filter_map cut_of_note (n ∷ [])
+one_more_note n ns =
+    ap (filter_map cut_of_note) (reverse_onto ns n []) ∙ filter_map-append cut_of_note (reverse ns) (n ∷ [])
+
+no_more_cuts : (n : EditNote) (ns : List EditNote) (cuts : List CutTicks) → cut_of_note n ≡ None
+    → filter_map cut_of_note (reverse ns) ≡ cuts → filter_map cut_of_note (reverse (n ∷ ns)) ≡ cuts
+no_more_cuts n ns cuts none rest =
+    one_more_note n ns
+    ∙ ap (λ (o : Option CutTicks). filter_map cut_of_note (reverse ns) ++ cons_option o []) none
+    ∙ append-nil (filter_map cut_of_note (reverse ns)) ∙ rest
+
+-- the notes have the cuts in force
+pub cuts_are_noted : (count : ℕ) (es : List Edit)
+    → filter_map cut_of_note (reverse (notes_made count es)) ≡ ticks_of_cuts es
+unfolding notes_made ticks_of_cuts
+cuts_are_noted count [] = refl
+cuts_are_noted count (Cut from to ∷ es) =
+    one_more_note (note_of (origins count es) (Cut from to)) (notes_made count es)
+    ∙ ap (λ (cuts : List CutTicks). cuts ++ record { from = from; to = to } ∷ []) (cuts_are_noted count es)
+cuts_are_noted count (Remove k ∷ es) =
+    no_more_cuts (note_of (origins count es) (Remove k)) (notes_made count es) (ticks_of_cuts es)
+    (no_cut_here k (slice_get (origins count es) k)) (cuts_are_noted count es)
+cuts_are_noted count (e ∷ es) =
+    no_more_cuts (note_of (origins count es) e) (notes_made count es) (ticks_of_cuts es) refl (cuts_are_noted count es)

@@ -1,4 +1,4 @@
-use Rattle.vcd_amend.proofs.amended.Skipped.{skipped_stand}
+use Rattle.vcd_amend.proofs.amended.Fitting.{skipped_stand}
 use Rattle.vcd_amend.proofs.amended.Whole.{amended_is_meant}
 use Rattle.vcd_amend.proofs.amended.WholeText.{amended_text_is_meant}
 use Rattle.vcd_amend.proofs.laws.amended_file_is_read_again.Goals as goal

@@ -1,9 +1,8 @@
 use Rattle.vcd_amend.proofs.retimed.LastChanges.{last_changes_stand}
 use Rattle.vcd_amend.proofs.retimed.Stamps.{stamps_stand}
 use Rattle.vcd_amend.proofs.retimed.Order.{changes_stand_in_order}
-use Rattle.vcd_amend.proofs.retimed.OtherPieces.{other_pieces_stand}
+use Rattle.vcd_amend.proofs.retimed.Pieces.{other_pieces_stand, retimed_is_meant, retimed_text_is_meant}
 use Rattle.vcd_amend.proofs.retimed.Ticks.{cuts_leave_ticks}
-use Rattle.vcd_amend.proofs.retimed.Pieces.{retimed_is_meant, retimed_text_is_meant}
 use Rattle.vcd_amend.proofs.laws.retimed_file_is_meant.Goals as goal
 
 pub returns-clause-pieces : goal.returns-clause-pieces

@@ -2,14 +2,14 @@ use Rattle.std.proofs.Common.{Some, refl}
 use Rattle.vcd_core.specs.CaptureContents.{contents}
 use Rattle.vcd_amend.specs.DeclaredVariables.{declarations_of}
 use Rattle.vcd_amend.specs.inside.Running.{error_of_copy}
-use Rattle.vcd_amend.proofs.running.PartsOfRun.{ends_with, ends_with_output, ends_without_output, ends_at_copy}
+use Rattle.vcd_amend.proofs.running.EndsOfRun.{ends_with, ends_with_output, ends_without_output, ends_at_copy}
 use Rattle.vcd_amend.proofs.running.amend_run.Goals as goal
 
 pub returns-in_err-edited-in-Some-clause-ends : goal.returns-in_err-edited-in-Some-clause-ends
 returns-in_err-edited-in-Some-clause-ends g c =
     rw (c.in-Some.is) (ends_with c.from_residual.result c.in_err-edited-in-Some.field-0.0 c.args.depth _ _ _ (Some _)
     c.from_residual.ensures.1
-    (c.in_err-edited-in-Some.ensures.fails (Some _) (refl, c.requires.out_ready c.in-Some.out c.in-Some.is)))
+    (c.in_err-edited-in-Some.ensures.fails (Some _) refl (refl, c.requires.out_ready c.in-Some.out c.in-Some.is)))
 
 pub returns-in_err-copy_amended-in-Some-clause-ends : goal.returns-in_err-copy_amended-in-Some-clause-ends
 returns-in_err-copy_amended-in-Some-clause-ends g c =
@@ -18,16 +18,17 @@ returns-in_err-copy_amended-in-Some-clause-ends g c =
     rw (c.in-Some.is) (ends_with c.from_residual-in_err-copy_amended-in-Some.result
     (error_of_copy c.in_err-copy_amended-in-Some.field-0.0) c.args.depth _ _ _ (Some _)
     c.from_residual-in_err-copy_amended-in-Some.ensures.1
-    (ends_at_copy c.args.depth _ _ _ (declarations_of e.declared.items) (contents e.first) e.origins.items e.session.now
-    e.refused _ c.in_err-copy_amended-in-Some.field-0.0 c.in_ok-edited-in-Some.ensures.edited fails))
+    (ends_at_copy c.args.depth _ _ _ (declarations_of e.declared.items) (contents e.first) e.origins.items e.cuts.items
+    e.session.now e.refused _ c.in_err-copy_amended-in-Some.field-0.0 c.in_ok-edited-in-Some.ensures.edited fails))
 
 pub returns-in_ok-copy_amended-in-Some-clause-ends : goal.returns-in_ok-copy_amended-in-Some-clause-ends
 returns-in_ok-copy_amended-in-Some-clause-ends g c =
     let e = c.in_ok-edited-in-Some.edited in
     let amended = rw (c.in_ok-edited-in-Some.ensures.copy_kept) at c.in_ok-copy_amended-in-Some.ensures.amended in
     rw (c.in-Some.is) (ends_with_output c.args.depth _ _ _ (declarations_of e.declared.items) (contents e.first)
-    e.origins.items e.session.now e.refused _ c.in_ok-edited-in-Some.ensures.edited
-    c.in_ok-edited-in-Some.ensures.not_failed c.in_ok-copy_amended-in-Some.ensures.not_failed amended)
+    e.origins.items e.cuts.items e.session.now e.refused _ c.in_ok-edited-in-Some.ensures.edited
+    c.in_ok-edited-in-Some.ensures.not_failed c.in_ok-copy_amended-in-Some.ensures.not_failed
+    c.in_ok-edited-in-Some.ensures.file_short amended)
 
 pub returns-in_ok-copy_amended-in-Some-clause-output_flushed :
     goal.returns-in_ok-copy_amended-in-Some-clause-output_flushed
@@ -38,5 +39,5 @@ pub returns-in_ok-edited-in-None-clause-ends : goal.returns-in_ok-edited-in-None
 returns-in_ok-edited-in-None-clause-ends g c =
     let e = c.in_ok-edited-in-None.edited in
     rw (c.in-None.is) (ends_without_output c.args.depth _ _ _ (declarations_of e.declared.items) (contents e.first)
-    e.origins.items e.session.now e.refused _ c.in_ok-edited-in-None.ensures.edited
-    c.in_ok-edited-in-None.ensures.not_failed)
+    e.origins.items e.cuts.items e.session.now e.refused _ c.in_ok-edited-in-None.ensures.edited
+    c.in_ok-edited-in-None.ensures.not_failed c.in_ok-edited-in-None.ensures.file_short)

@@ -4,8 +4,9 @@ use Rattle.vcd_script.specs.declared.running.run_error.RunError.TheVariants as r
 use Rattle.vcd_amend.specs.DeclaredVariables.{declarations_of}
 use Rattle.vcd_amend.specs.inside.Running.{error_of_hearing}
 use Rattle.vcd_amend.specs.declared.running.AmendRunError.TheVariants as errors
-use Rattle.vcd_amend.proofs.running.PartsOfRun.{is_planned, declarations_end, outline_ends, script_ends, memory_ends}
-use Rattle.vcd_amend.proofs.running.PartsOfRun.{hearing_ends, sizes_end, sizes_stay, origins_stay, at_error}
+use Rattle.vcd_amend.proofs.running.PlannedRun.{is_planned, ordered_cuts, sizes_stay, origins_stay}
+use Rattle.vcd_amend.proofs.running.EndsOfRun.{declarations_end, outline_ends, script_ends, memory_ends}
+use Rattle.vcd_amend.proofs.running.EndsOfRun.{hearing_ends, sizes_end, at_error}
 use Rattle.vcd_amend.proofs.running.make_plan.Goals as goal
 
 pub returns-in_err-declared-clause-fails : goal.returns-in_err-declared-clause-fails
@@ -68,6 +69,12 @@ returns-clause-sizes g c =
     (contents c.in_ok-capture.capture) (contents c.in_ok-first.first)
     (rw (c.as_slice.ensures.value) at c.in_ok-check_sizes.ensures.sizes) c.in_ok-capture.ensures.kept
     c.in_ok-first.ensures.outline
+
+pub returns-clause-ordered : goal.returns-clause-ordered
+returns-clause-ordered g c =
+    ordered_cuts (contents c.in_ok-outline.outline.capture) c.in_ok-outline.outline.skipped c.args.depth
+    (script_lines c.in_ok-script.script.items) c.in_ok-capture.dry
+    (rw (c.as_slice-2.ensures.value) at c.in_ok-capture.ensures.tried)
 
 pub returns-clause-placed : goal.returns-clause-placed
 returns-clause-placed g c =

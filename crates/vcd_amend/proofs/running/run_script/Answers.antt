@@ -8,29 +8,30 @@ use Rattle.vcd_text.specs.Grammar.{VariableDeclaration}
 use Rattle.vcd_amend.specs.DeclaredVariables.{declarations_of, HaveSizesOf}
 use Rattle.vcd_amend.specs.declared.declarations.DeclaredVariable.{DeclaredVariable}
 use Rattle.vcd_amend.specs.inside.Running.{IsEdited}
-use Rattle.vcd_amend.proofs.running.PartsOfRun.{is_edited, comes_from, plan_ends, lines_end, at_error}
+use Rattle.vcd_amend.proofs.running.CarriedOut.{is_edited, comes_from}
+use Rattle.vcd_amend.proofs.running.EndsOfRun.{plan_ends, lines_end, at_error}
 use Rattle.vcd_amend.proofs.running.run_script.Goals as goal
 
 pub returns-in_err-plan-clause-fails : goal.returns-in_err-plan-clause-fails
 returns-in_err-plan-clause-fails g c =
     at_error c.from_residual.result c.in_err-plan.field-0.0 _ c.from_residual.ensures.1
-    (c.in_err-plan.ensures.fails c.args.depth _ (refl, c.requires.replies_ready))
+    (c.in_err-plan.ensures.fails c.args.depth c.args.writes _ (refl, c.requires.replies_ready))
 
 pub returns-in_err-check_plan-clause-fails : goal.returns-in_err-check_plan-clause-fails
 returns-in_err-check_plan-clause-fails g c =
     let plan = c.in_ok-plan.plan in
     at_error c.from_residual-in_err-check_plan.result c.in_err-check_plan.field-0.0 _
     c.from_residual-in_err-check_plan.ensures.1
-    (plan_ends c.args.depth _ _ _ (declarations_of plan.declared.items) plan.skipped (contents plan.first)
-    plan.origins.items plan.is_cut plan.takes_skipped_name plan.script.items c.in_err-check_plan.field-0.0
+    (plan_ends c.args.depth c.args.writes _ _ _ (declarations_of plan.declared.items) plan.skipped (contents plan.first)
+    plan.origins.items plan.cuts.items plan.takes_skipped_name plan.script.items c.in_err-check_plan.field-0.0
     c.in_err-check_plan.ensures.refused c.in_ok-plan.ensures.planned (refl, c.requires.replies_ready))
 
 pub returns-in_err-edited-clause-fails : goal.returns-in_err-edited-clause-fails
 returns-in_err-edited-clause-fails g c =
     let plan = c.in_ok-plan.plan in
     at_error c.from_residual-in_err-edited.result c.in_err-edited.field-0.0 _ c.from_residual-in_err-edited.ensures.1
-    (lines_end c.args.depth _ _ _ (declarations_of plan.declared.items) plan.skipped (contents plan.first)
-    plan.origins.items plan.is_cut plan.takes_skipped_name plan.script.items c.in_ok-plan.ensures.planned
+    (lines_end c.args.depth c.args.writes _ _ _ (declarations_of plan.declared.items) plan.skipped (contents plan.first)
+    plan.origins.items plan.cuts.items plan.takes_skipped_name plan.script.items c.in_ok-plan.ensures.planned
     c.in_err-edited.field-0.0
     c.in_err-edited.ensures.stops)
 
@@ -40,14 +41,13 @@ returns-clause-edited g c file lines shows script_shows =
     let e = c.in_ok-edited.edited in
     subst (λ (ds : List VariableDeclaration). IsEdited file lines c.args.depth c.args.writes
     (Appends (g.P.Sink.taken c.args.replies.now) (g.P.Sink.taken c.edit.new.replies)) ds (contents e.first)
-    e.origins.items e.session.now e.refused)
+    e.origins.items e.cuts.items e.session.now e.refused)
     (ap (λ (all : Vec DeclaredVariable). declarations_of all.items) (sym c.in_ok-edited.ensures.kept.0))
-    (rw (c.in_ok-edited.ensures.kept.1, c.in_ok-edited.ensures.kept.2)
+    (rw (c.in_ok-edited.ensures.kept.1, c.in_ok-edited.ensures.kept.2, c.in_ok-edited.ensures.kept.3)
     (is_edited file lines plan.script.items c.args.depth c.args.writes (declarations_of plan.declared.items)
     plan.skipped
-    (contents plan.first) plan.origins.items plan.is_cut plan.takes_skipped_name e.session e.refused _ _
-    (c.in_ok-plan.ensures.planned file lines shows script_shows) c.in_ok-check_plan.ensures.uncut
-    c.in_ok-check_plan.ensures.free
+    (contents plan.first) plan.origins.items plan.cuts.items plan.takes_skipped_name e.session e.refused _ _
+    (c.in_ok-plan.ensures.planned file lines shows script_shows) c.in_ok-check_plan.ensures.free
     c.in_ok-edited.ensures.ran))
 
 pub returns-clause-sizes : goal.returns-clause-sizes

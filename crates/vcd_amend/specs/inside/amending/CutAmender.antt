@@ -6,7 +6,7 @@ use Rattle.vcd_text.specs.Copied.{CopyRules}
 use Rattle.vcd_text.specs.inside.reading.CodeTargets.{code_target}
 use Rattle.vcd_amend.specs.AmendmentContents.{amendment_contents}
 use Rattle.vcd_amend.specs.AmendedCopy.{amendment_rules}
-use Rattle.vcd_amend.specs.Retimed.{new_tick, lasts}
+use Rattle.vcd_amend.specs.Retimed.{new_tick, lasts, has_kept_variable}
 use Rattle.vcd_amend.specs.RetimedCopy.{is_cut_by, pieces_so_far, held_after, pieces_of_step}
 use Rattle.vcd_amend.specs.RetimedCopy.{retimed_rules}
 use Rattle.vcd_amend.specs.inside.amending.FileAmender.{HasSeen}
@@ -39,7 +39,8 @@ cut_of m = is_cut_by m.cuts.now
 pub record HasWritten (m : CutAmender) (sent held : List Piece) (s : ParseState) : Type 0 where
   pub seen : HasSeen m.inner sent
   pub holds : ArePieces (last_held m.held.items) held
-  pub lasting : (code : List ℕ) → code_target m.lasting code ≡ lasts s code
+  pub lasting : (code : List ℕ) → (code_target m.variables code).lasts ≡ lasts s code
+  pub kept : (code : List ℕ) → (code_target m.variables code).is_kept ≡ has_kept_variable s code
   pub is_cut : m.is_cut ≡ cut_of m s.tick
   pub tick : m.tick ≡ new_tick (cut_of m) s.tick
   pub behind : (state_of_pieces 0 sent).tick ≤ m.tick

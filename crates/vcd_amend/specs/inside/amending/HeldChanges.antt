@@ -1,6 +1,6 @@
--- Changes that are held while ticks are cut out: the last one of each kind and code.
-use Rattle.std.specs.Prelude.{◌≡◌, ℕ, Bool, true, false, not, ◌&&◌, if◌then◌else◌, List, [], ◌∷◌}
-use Rattle.std.specs.Prelude.{◌++◌, bytes_eq, Some, decimal, ◌==◌}
+-- Changes that are held while ticks are cut out: those of which no later one takes the place.
+use Rattle.std.specs.Prelude.{◌≡◌, ℕ, Bool, true, false, not, ◌&&◌, ◌||◌, if◌then◌else◌, List, []}
+use Rattle.std.specs.Prelude.{◌∷◌, ◌++◌, bytes_eq, Some, decimal, ◌==◌}
 use Rattle.std.specs.List.{list_any}
 use Rattle.vcd_core.specs.Decimal.{number_of}
 use Rattle.vcd_text.specs.Items.{stamp}
@@ -10,18 +10,25 @@ use Rattle.vcd_amend.specs.Retimed.{ChangeKey, digits_key, text_key, change_key,
 use Rattle.vcd_amend.specs.declared.amending.held_changes.HeldChange.{HeldChange}
 use Rattle.vcd_amend.specs.declared.amending.held_changes.SeenCodes.{SeenCodes}
 
--- whether two changes are of one kind
-abbrev pub same_kind : (is_text : Bool) → Bool → Bool
-same_kind true b = b
-same_kind false b = not b
+-- whether a change takes the place of those of its code to digits that come before it, and of those
+-- to a real or a string
+abbrev pub replaces_digits : HeldChange → Bool
+replaces_digits h = not h.is_text || not h.is_kept
 
--- whether a later change has the kind and code of a change
-abbrev pub same_code : HeldChange → (later : HeldChange) → Bool
-same_code h later = same_kind h.is_text later.is_text && bytes_eq h.code later.code
+abbrev pub replaces_text : HeldChange → Bool
+replaces_text h = h.is_text || not h.is_kept
 
--- whether one of later changes has them
+abbrev pub replaces_form : (is_text : Bool) → HeldChange → Bool
+replaces_form true h = replaces_text h
+replaces_form false h = replaces_digits h
+
+-- whether a later change takes the place of a change
+abbrev pub is_replaced_by : HeldChange → (later : HeldChange) → Bool
+is_replaced_by h later = replaces_form h.is_text later && bytes_eq h.code later.code
+
+-- whether one of later changes does
 abbrev pub is_replaced : HeldChange → (later : List HeldChange) → Bool
-is_replaced h later = list_any (same_code h) later
+is_replaced h later = list_any (is_replaced_by h) later
 
 -- a change that comes before others, if it is held after them
 abbrev pub held_before : HeldChange → (later : List HeldChange) → List HeldChange
@@ -32,12 +39,12 @@ unfoldable pub last_held : List HeldChange → List HeldChange
 last_held [] = []
 last_held (h ∷ hs) = held_before h hs ++ last_held hs
 
--- the codes of these changes
+-- the codes of which these changes take the place of others
 pub record AreCodesOf (seen : SeenCodes) (hs : List HeldChange) : Type 0 where
   pub digits : (code : List ℕ) → code_target seen.digits code
-      ≡ list_any (λ h. not h.is_text && bytes_eq code h.code) hs
+      ≡ list_any (λ h. replaces_digits h && bytes_eq code h.code) hs
   pub text : (code : List ℕ) → code_target seen.text code
-      ≡ list_any (λ h. h.is_text && bytes_eq code h.code) hs
+      ≡ list_any (λ h. replaces_text h && bytes_eq code h.code) hs
 
 -- ---- as pieces
 

@@ -1,6 +1,6 @@
 -- The origins of the signals of a capture under edit, as they are kept over undo and redo.
-use Rattle.std.specs.Prelude.{ℕ, nat_lt, nat_le, if◌then◌else◌, List, [], ◌∷◌, length, Option, Some}
-use Rattle.std.specs.Prelude.{None, Result, Ok, Bool, true, false}
+use Rattle.std.specs.Prelude.{ℕ, nat_lt, nat_le, if◌then◌else◌, List, [], ◌∷◌, ◌++◌, length}
+use Rattle.std.specs.Prelude.{Option, Some, None, Result, Ok}
 use Rattle.std.specs.List.{remove, insert, slice_get, range_with_len}
 use Rattle.vcd_edit.specs.declared.edit.Edit.{Edit}
 use Rattle.vcd_edit.specs.declared.edit.Edit.TheVariants.{Remove, Cut}
@@ -9,6 +9,7 @@ use Rattle.vcd_journal.specs.declared.step.Step.TheVariants as steps
 use Rattle.vcd_script.specs.declared.script.command.Command.{Command}
 use Rattle.vcd_script.specs.declared.script.command.Command.TheVariants as commands
 use Rattle.vcd_script.specs.declared.script.line_error.LineError.{LineError}
+use Rattle.vcd_amend.specs.declared.cut_ticks.CutTicks.{CutTicks}
 use Rattle.vcd_amend.specs.declared.dry_running.origin_history.EditNote.{EditNote}
 use Rattle.vcd_amend.specs.declared.dry_running.origin_history.EditNote.TheVariants as notes
 
@@ -29,13 +30,19 @@ removal_note k None = notes.Other
 -- the note of an edit, on signals with these origins
 abbrev pub note_of : (origins : List ℕ) → Edit → EditNote
 note_of origins (Remove k) = removal_note k (slice_get origins k)
-note_of origins (Cut from to) = notes.Cut
+note_of origins (Cut from to) = notes.Cut (record { from = from; to = to })
 note_of origins e = notes.Other
 
--- whether the edit is a cut
-abbrev pub is_cut_note : EditNote → Bool
-is_cut_note notes.Cut = true
-is_cut_note note = false
+-- the ticks that the edit cuts out, if it is a cut
+abbrev pub cut_of_note : EditNote → Option CutTicks
+cut_of_note (notes.Cut ticks) = Some ticks
+cut_of_note note = None
+
+-- the ticks that the cuts among edits take out, the oldest cut first
+unfoldable pub ticks_of_cuts : List Edit → List CutTicks
+ticks_of_cuts [] = []
+ticks_of_cuts (Cut from to ∷ es) = ticks_of_cuts es ++ record { from = from; to = to } ∷ []
+ticks_of_cuts (e ∷ es) = ticks_of_cuts es
 
 -- the origins after the edit of a note
 abbrev pub origins_without : EditNote → List ℕ → List ℕ

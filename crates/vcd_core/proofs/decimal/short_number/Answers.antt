@@ -1,23 +1,26 @@
-use Rattle.std.proofs.Common.{refl}
-use Rattle.std.proofs.Common.{arith}
-use Rattle.vcd_core.proofs.decimal.DigitsInTurn.{short_more}
+use Rattle.std.proofs.Common.{refl, sym, ◌∙◌, arith}
+use Rattle.vcd_core.proofs.decimal.DigitsInTurn.{prefix_more}
 use Rattle.vcd_core.proofs.decimal.short_number.Goals as goal
 
 pub overflow_mul-number : goal.overflow_mul-number
 overflow_mul-number c = omega (
   arith,
-  short_more c.args.digits.now c.loop-digit.digit-index c.loop-digit.number _
-      c.requires.digits c.requires.short c.loop-digit-test.true c.loop-digit.invariant refl,
+  prefix_more c.args.text.now c.loop-byte.byte-index c.loop-byte.number _ c.loop-byte.invariant.0
+      (sym c.is_ascii_digit.ensures.value ∙ c.if-not-is_ascii_digit.false) c.requires c.loop-byte-test.true
+      c.loop-byte.invariant.1 refl,
 )
 
 pub overflow_add-number : goal.overflow_add-number
 overflow_add-number c = omega (
   arith,
-  c.from.ensures,
-  short_more c.args.digits.now c.loop-digit.digit-index
-      c.loop-digit.number _ c.requires.digits c.requires.short c.loop-digit-test.true c.loop-digit.invariant refl,
+  prefix_more c.args.text.now c.loop-byte.byte-index c.loop-byte.number c.from.result c.loop-byte.invariant.0
+      (sym c.is_ascii_digit.ensures.value ∙ c.if-not-is_ascii_digit.false) c.requires c.loop-byte-test.true
+      c.loop-byte.invariant.1 c.from.ensures,
 )
 
-pub loop-digit-preserved : goal.loop-digit-preserved
-loop-digit-preserved c = (short_more c.args.digits.now c.loop-digit.digit-index c.loop-digit.number c.from.result
-    c.requires.digits c.requires.short c.loop-digit-test.true c.loop-digit.invariant c.from.ensures).0
+pub loop-byte-preserved : goal.loop-byte-preserved
+loop-byte-preserved c =
+    let k = prefix_more c.args.text.now c.loop-byte.byte-index c.loop-byte.number c.from.result c.loop-byte.invariant.0
+    (sym c.is_ascii_digit.ensures.value ∙ c.if-not-is_ascii_digit.false) c.requires c.loop-byte-test.true
+    c.loop-byte.invariant.1 c.from.ensures in
+    (k.0, k.1)

@@ -1,5 +1,4 @@
-use Rattle.vcd_script.proofs.replies.RepliesWithOthers.{reply_with_others}
-use Rattle.vcd_script.proofs.shared.HollowRuns.{run_on_hollow, run_after_dry_run}
+use Rattle.vcd_script.proofs.shared.HollowRuns.{reply_with_others, run_on_hollow, run_after_dry_run}
 use Rattle.vcd_script.proofs.shared.FittingCuts.{cuts_of_run_fit}
 use Rattle.vcd_script.proofs.laws.runs_on_hollow_captures.Goals as goal
 

@@ -150,7 +150,7 @@ module _ (asked : Asked) (m : Parser) (c : ParseState) (begun : List WordOnLine)
   pub ended : (item : OpenItem) → IsBegun m begun item → IsShownAs c item w.text tick depth i
   ended items.Nothing is = one_word c i w.text tick allows (spelled ∙ ap (λ ws. word_texts (ws ++ w ∷ [])) is) at
   ended (items.Entry kind) is = ap may_be_amended (is_first false _ is.declares is.spelled)
-      ∙ entry_stands kind (m.words.items ++ w.text ∷ [])
+      ∙ entry_stands kind (m.entry ++ w.text ∷ [])
   ended items.Timescale is = ap may_be_amended (is_first false _ is.declares is.spelled)
   ended items.Scope is = ap may_be_amended (is_first false _ is.declares is.spelled)
       ∙ scope_stands (before_end (m.words.items ++ w.text ∷ []))

@@ -1,6 +1,5 @@
-use Rattle.vcd_text.proofs.part.PartOfPart.{part_of_part}
+use Rattle.vcd_text.proofs.part.WholeParts.{part_of_part, whole_is}
 use Rattle.std.proofs.Common.{refl}
-use Rattle.vcd_text.proofs.part.WholeParts.{whole_is}
 use Rattle.vcd_text.proofs.laws.parts_agree.Goals as goal
 
 pub returns-clause-part_of_part : goal.returns-clause-part_of_part

@@ -1,42 +1,29 @@
 -- The words of changes follow the grammar.
-use Rattle.std.proofs.Common.{◌≡◌, ◌⊎◌, inl, inr, ℕ, ◌<◌, ◌≤◌, true, false, List, [], ◌∷◌}
-use Rattle.std.proofs.Common.{◌++◌, ◌&&◌}
-use Rattle.std.proofs.Common.{length, Some, IsSomeAnd, Result, Ok, Err}
-use Rattle.std.proofs.Common.{is_some, refl, sym, ap}
-use Rattle.std.proofs.Common.{subst, ◌∙◌, arith}
+use Rattle.std.proofs.Common.{◌≡◌, ◌⊎◌, inl, inr, ℕ, ◌<◌, ◌≤◌, true, false, List, [], ◌∷◌, ◌++◌, ◌&&◌, length, Some}
+use Rattle.std.proofs.Common.{IsSomeAnd, Result, Ok, Err, is_some, refl, sym, ap, subst, ◌∙◌, arith}
 use Rattle.std.specs.Prelude.{codes, IsTrue}
 use Rattle.std.proofs.lemmas.List.{nil_from_length}
-use Rattle.std.proofs.lemmas.Bool.{or_parts, and_from, lt-leb, eqb-false}
+use Rattle.std.proofs.lemmas.Bool.{or_parts, and_from, lt-leb, eqb-false, or_from, or_right}
 use Rattle.vcd_text.specs.declared.fault.Fault.{Fault}
-use Rattle.vcd_text.specs.declared.fault.Fault.TheVariants.{NoMemory, BadTime, TimeBackwards}
-use Rattle.vcd_text.specs.declared.fault.Fault.TheVariants.{BadChange}
-use Rattle.vcd_text.specs.declared.fault.Fault.TheVariants.{UnknownCode, UnexpectedWord}
+use Rattle.vcd_text.specs.declared.fault.Fault.TheVariants.{NoMemory, BadTime, TimeBackwards, BadChange, UnknownCode}
+use Rattle.vcd_text.specs.declared.fault.Fault.TheVariants.{UnexpectedWord}
 use Rattle.vcd_text.specs.Words.{WordOnLine, word_on}
 use Rattle.vcd_core.specs.Decimal.{number_of}
 use Rattle.vcd_core.specs.Word.{is_one_of}
 use Rattle.vcd_text.specs.Letters.{is_among, is_binary_digit}
-use Rattle.vcd_text.specs.Items.{Item, stamp, scalar, vector, real_or_string, dump_word, spelling}
-use Rattle.vcd_text.specs.Items.{is_command}
+use Rattle.vcd_text.specs.Items.{Item, stamp, scalar, vector, real_or_string, dump_word, spelling, is_command}
 use Rattle.vcd_text.specs.Items.{dump_words, declaration_words}
-use Rattle.vcd_text.specs.inside.reading.DigitTests.{vector_prefixes}
-use Rattle.vcd_text.specs.inside.reading.DigitTests.{real_or_string_prefixes}
-use Rattle.vcd_text.specs.Grammar.{ParseState, VariableDeclaration}
-use Rattle.vcd_text.specs.Grammar.{Allows}
-use Rattle.vcd_text.specs.Grammar.{state_after_item, word_texts}
-use Rattle.vcd_text.specs.Grammar.{variable_of}
-use Rattle.vcd_text.specs.inside.reading.DigitTests.{is_tick, is_binary_number}
-use Rattle.vcd_text.specs.inside.reading.DigitTests.{takes_binary_number}
-use Rattle.vcd_text.specs.Grammar.{digit_tests}
+use Rattle.vcd_text.specs.inside.reading.DigitTests.{vector_prefixes, real_or_string_prefixes, is_tick}
+use Rattle.vcd_text.specs.inside.reading.DigitTests.{is_binary_number, takes_binary_number}
+use Rattle.vcd_text.specs.Grammar.{ParseState, Allows, state_after_item, word_texts, variable_of, digit_tests}
 use Rattle.vcd_text.specs.Faults.{WordShows, test_fails}
 use Rattle.vcd_core.specs.Tests.{first_fault}
-use Rattle.vcd_text.proofs.shared.ItemFaults.{missing_code, declaration_late, begins_no_change}
-use Rattle.vcd_text.proofs.shared.ItemTests.{fits_scalar, failed, failed_later}
-use Rattle.vcd_text.proofs.shared.ItemTests.{allows_stamp, allows_scalar}
-use Rattle.vcd_text.proofs.shared.ItemTests.{allows_vector, allows_real_or_string}
+use Rattle.vcd_text.proofs.shared.ItemTests.{missing_code, declaration_late, begins_no_change, fits_scalar, failed}
+use Rattle.vcd_text.proofs.shared.ItemTests.{failed_later, allows_stamp, allows_scalar, allows_vector}
+use Rattle.vcd_text.proofs.shared.ItemTests.{allows_real_or_string}
 use Rattle.vcd_text.specs.inside.reading.Variables.{VariablesMatch, RefusesChange}
 use Rattle.vcd_text.specs.inside.reading.Variables as variables
-use Rattle.vcd_text.specs.inside.reading.Parser.{ParserMatches, AwaitsCode, IsBegun, IsAtState, WordStep}
-use Rattle.vcd_text.specs.inside.reading.Parser.{goes_on}
+use Rattle.vcd_text.specs.inside.reading.Parser.{ParserMatches, AwaitsCode, IsBegun, IsAtState, WordStep, goes_on}
 use Rattle.vcd_text.specs.inside.reading.Parser.{ends_item, WordResult}
 use Rattle.vcd_text.specs.declared.reading.parser.Parser.{Parser}
 use Rattle.vcd_text.specs.declared.reading.parser.OpenItem.{OpenItem}
@@ -44,12 +31,8 @@ use Rattle.vcd_text.specs.declared.reading.parser.OpenItem.TheVariants as items
 use Rattle.vcd_text.specs.declared.reading.variables.Variables.{Variables}
 use Rattle.vcd_text.proofs.reading.variables.VariablesMatch.{knows_further}
 use Rattle.vcd_text.proofs.reading.declarations.DeclarationWords.{agrees_by, agrees_as}
-use Rattle.vcd_text.proofs.reading.changes.PartChanges.{agrees_changed, refuses_file, seen_at}
-use Rattle.vcd_text.specs.inside.reading.Part.{Asked}
-use Rattle.vcd_text.specs.inside.reading.Part.{seen_state, seen_tick, PartChange}
-use Rattle.std.proofs.lemmas.Bool.{or_from}
-use Rattle.std.proofs.lemmas.Bool.{or_right}
-use Rattle.vcd_text.proofs.reading.changes.PartChanges.{not_both}
+use Rattle.vcd_text.proofs.reading.variables.ChangedVariable.{agrees_changed, refuses_file, seen_at, not_both}
+use Rattle.vcd_text.specs.inside.reading.Part.{Asked, seen_state, seen_tick, PartChange}
 
 -- ---- between two changes
 

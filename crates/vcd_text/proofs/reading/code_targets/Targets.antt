@@ -1,8 +1,6 @@
 -- The targets of codes.
-use Rattle.std.proofs.Common.{arith}
-use Rattle.std.proofs.Common.{◌≡◌, ℕ, Bool, true, false, if◌then◌else◌, List, [], ◌∷◌, ◌++◌, find}
-use Rattle.std.proofs.Common.{Option, None, Some}
-use Rattle.std.proofs.Common.{refl, ap, ◌∙◌}
+use Rattle.std.proofs.Common.{arith, ◌≡◌, ℕ, Bool, true, false, if◌then◌else◌, List, [], ◌∷◌, ◌++◌, find, Option, None}
+use Rattle.std.proofs.Common.{Some, refl, ap, ◌∙◌}
 use Rattle.std.specs.Prelude.{bytes_eq, unwrap_or}
 use Rattle.std.specs.Option.{option_or}
 use Rattle.std.specs.Global.{Vec}

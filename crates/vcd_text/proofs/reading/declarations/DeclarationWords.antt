@@ -1,9 +1,8 @@
 -- A declaration after the next of its words.
-use Rattle.std.proofs.Common.{◌≡◌, ℕ, ◌-◌, ◌<◌, ◌≤◌, ◌+◌, min, Bool, true, false, List, [], ◌∷◌, ◌++◌}
-use Rattle.std.proofs.Common.{length, take}
-use Rattle.std.proofs.Common.{Option, Some, None, IsTrue, IsFalse, Result, Ok, Err, IsErrAnd}
-use Rattle.std.proofs.Common.{◌⊎◌, codes, refl, sym, ap, subst, ◌∙◌, arith, inl, inr}
-use Rattle.std.proofs.lemmas.Bool.{and_parts}
+use Rattle.std.proofs.Common.{◌≡◌, ℕ, ◌-◌, ◌<◌, ◌≤◌, ◌+◌, min, Bool, true, false, List, [], ◌∷◌, ◌++◌, length, take}
+use Rattle.std.proofs.Common.{Option, Some, None, IsTrue, IsFalse, Result, Ok, Err, IsErrAnd, ◌⊎◌, codes, refl, sym, ap}
+use Rattle.std.proofs.Common.{subst, ◌∙◌, arith, inl, inr}
+use Rattle.std.proofs.lemmas.Bool.{and_parts, and_from}
 use Rattle.std.proofs.lemmas.List.{length-take-le, nil_from_length}
 use Rattle.std.specs.Global.{Vec}
 use Rattle.vcd_core.specs.declared.capture.Header.{Header}
@@ -15,45 +14,35 @@ use Rattle.vcd_text.specs.declared.fault.Fault.TheVariants as faults
 use Rattle.vcd_text.specs.Words.{WordOnLine, word_on}
 use Rattle.vcd_core.specs.Decimal.{is_number, number_of}
 use Rattle.vcd_core.specs.declared.value.TheConstants.{WIDTH_LIMIT}
-use Rattle.vcd_text.specs.Items.{Item, entry, timescale, scope, upscope, variable, end_definitions}
-use Rattle.vcd_text.specs.Items.{other, spelling}
-use Rattle.vcd_text.specs.Items.{end_word, has_no_end_word, header_word, is_other}
+use Rattle.vcd_text.specs.Items.{Item, entry, timescale, scope, upscope, variable, end_definitions, other, spelling}
+use Rattle.vcd_text.specs.Items.{end_word, has_no_end_word, header_word, is_other, timescale_of, begins_section}
 use Rattle.vcd_text.specs.inside.reading.Declarations.{is_end_word}
-use Rattle.vcd_text.specs.Items.{timescale_of, begins_section}
-use Rattle.vcd_text.specs.Grammar.{ParseState, state_after_item, word_texts}
-use Rattle.vcd_text.specs.Grammar.{Allows}
-use Rattle.vcd_text.specs.Grammar.{has_good_size, declaration_of}
-use Rattle.vcd_text.specs.Grammar.{variable_tests}
+use Rattle.vcd_text.specs.Grammar.{ParseState, state_after_item, word_texts, Allows, has_good_size, declaration_of}
+use Rattle.vcd_text.specs.Grammar.{variable_tests, ValueChange, kept_variables}
 use Rattle.vcd_text.specs.Faults.{WordShows, test_fails}
 use Rattle.vcd_core.specs.Tests.{first_fault}
 use Rattle.vcd_text.specs.inside.reading.Scopes.{open_scopes, KeepsPlaces}
 use Rattle.vcd_text.specs.inside.reading.Variables.{VariablesMatch, Declares, DeclaresWords}
 use Rattle.vcd_text.specs.inside.reading.Parser.{ParserMatches, Collects, CollectsVariable, PassesOver, IsBegun}
-use Rattle.vcd_text.specs.inside.reading.Parser.{IsAtState}
-use Rattle.vcd_text.specs.inside.reading.Parser.{WordStep, goes_on, BeginsPart, asked_of}
-use Rattle.vcd_text.specs.inside.reading.Parser.{ends_item, WordResult}
+use Rattle.vcd_text.specs.inside.reading.Parser.{IsAtState, WordStep, goes_on, BeginsPart, asked_of, ends_item}
+use Rattle.vcd_text.specs.inside.reading.Parser.{WordResult}
 use Rattle.vcd_text.specs.declared.reading.parser.Parser.{Parser}
 use Rattle.vcd_text.specs.declared.reading.parser.OpenItem.TheVariants as items
 use Rattle.vcd_text.specs.declared.reading.scopes.Scopes.{Scopes}
 use Rattle.vcd_text.specs.declared.reading.part.Part.{Part}
-use Rattle.vcd_text.specs.inside.reading.Part.{Asked, IsAskedOf}
-use Rattle.vcd_text.specs.inside.reading.Part.{seen_state, TellsPart, HearsPart, HearsVariables}
-use Rattle.vcd_text.specs.Grammar.{ValueChange, kept_variables}
+use Rattle.vcd_text.specs.inside.reading.Part.{Asked, IsAskedOf, seen_state, TellsPart, HearsPart, HearsVariables}
 use Rattle.vcd_core.specs.Wave.{value_from}
 use Rattle.vcd_text.specs.Meaning.{changes_of_code}
 use Rattle.std.proofs.lemmas.Option.{slice_get_cases, slice_get_within}
 use Rattle.vcd_text.proofs.reading.variables.DeclaredVariable.{one_position}
-use Rattle.vcd_text.proofs.reading.variables.VariablesMatch.{kept_long}
+use Rattle.vcd_text.proofs.reading.variables.VariablesMatch.{kept_long, knows_further, scopes_moved}
 use Rattle.vcd_text.specs.declared.reading.variables.Variables.{Variables}
-use Rattle.vcd_text.proofs.reading.variables.VariablesMatch.{knows_further, scopes_moved}
 use Rattle.vcd_text.proofs.shared.ResultExists.{texts_more}
 use Rattle.vcd_text.proofs.shared.WordOutcomes.{no_end_more}
-use Rattle.vcd_text.proofs.shared.ItemFaults.{no_size, begins_no_section, upscope_at_top, upscope_goes_on}
-use Rattle.vcd_text.proofs.shared.ItemFaults.{definitions_go_on, missing_kind}
-use Rattle.vcd_text.proofs.shared.ItemTests.{fits_in_words, fits_variable, failed, allows_entry}
-use Rattle.vcd_text.proofs.shared.ItemTests.{allows_scope, allows_upscope, allows_variable, allows_end_definitions}
-use Rattle.vcd_text.proofs.shared.ItemTests.{passes}
-use Rattle.std.proofs.lemmas.Bool.{and_from}
+use Rattle.vcd_text.proofs.shared.ItemTests.{no_size, begins_no_section, upscope_at_top, upscope_goes_on}
+use Rattle.vcd_text.proofs.shared.ItemTests.{definitions_go_on, missing_kind, fits_in_words, fits_variable, failed}
+use Rattle.vcd_text.proofs.shared.ItemTests.{allows_entry, allows_scope, allows_upscope, allows_variable}
+use Rattle.vcd_text.proofs.shared.ItemTests.{allows_end_definitions, passes}
 
 -- ---- the state stays the same
 
@@ -104,15 +93,15 @@ ends_here asked new c begun line i words spelled whole allows agrees closed = en
 
 -- a header entry is the last of the header
 pub closes_entry : (m new : Parser) (kind : HeaderKind) → m.item ≡ items.Entry kind
-    → new.header.items ≡ m.header.items ++ record { kind = kind; words = m.words.items } ∷ []
-    → new ≡ record m { header = new.header; words = new.words; item = items.Nothing }
+    → new.header.items ≡ m.header.items ++ record { kind = kind; words = m.entry } ∷ []
+    → new ≡ record m { header = new.header; entry = new.entry; item = items.Nothing }
     → (line : ℕ) → WordResult m (word_on end_word line) (Ok tt) new
 closes_entry m new kind is pushed others line asked c begun at =
     let a = at.0 in
-    let b : Collects m begun (header_word kind) = subst (IsBegun m begun) is at.1 in
+    let b : Collects m begun (header_word kind) m.entry = subst (IsBegun m begun) is at.1 in
     let early : IsFalse c.in_body = sym a.in_body ∙ b.declares in
-    let i : Item = entry kind m.words.items in
-    rw others (ends_here asked _ c begun line i _ b.spelled refl (allows_entry c kind m.words.items early b.no_end)
+    let i : Item = entry kind m.entry in
+    rw others (ends_here asked _ c begun line i _ b.spelled refl (allows_entry c kind m.entry early b.no_end)
     (grind (arith, agrees_early, still_known)) refl)
 
 -- a timescale replaces the one before
@@ -121,7 +110,7 @@ pub closes_timescale : (m : Parser) (found : Timescale) → m.item ≡ items.Tim
     → (line : ℕ) → WordResult m (word_on end_word line) (Ok tt)
     (record m { timescale = Some found; item = items.Nothing })
 closes_timescale m found is some line asked c begun at =
-    let b : Collects m begun (codes "$timescale") = subst (IsBegun m begun) is at.1 in
+    let b : Collects m begun (codes "$timescale") m.words.items = subst (IsBegun m begun) is at.1 in
     let i : Item = timescale m.words.items in
     ends_here asked _ c begun line i _ b.spelled refl (grind (arith, fits_in_words, passes))
     (grind (arith, agrees_early, still_known)) refl
@@ -131,7 +120,7 @@ pub shows_no_timescale : (m : Parser) → m.item ≡ items.Timescale → timesca
     → (asked : Asked) (c : ParseState) (begun : List WordOnLine) → IsAtState asked m c begun
     → WordShows c (word_texts begun) end_word faults.BadTimescale
 shows_no_timescale m is none asked c begun at =
-    let b : Collects m begun (codes "$timescale") = subst (IsBegun m begun) is at.1 in
+    let b : Collects m begun (codes "$timescale") m.words.items = subst (IsBegun m begun) is at.1 in
     test_fails (timescale m.words.items) (fits_in_words c m.words.items (sym at.0.in_body ∙ b.declares) b.no_end)
     (ap (λ ws. ws ++ end_word ∷ []) (sym b.spelled)) (grind (arith, failed))
 
@@ -142,7 +131,7 @@ pub closes_scope : (m : Parser) (scopes : Scopes) (rest : Vec (List ℕ)) (s : S
     → (line : ℕ) → WordResult m (word_on end_word line) (Ok tt)
     (record m { variables = record m.variables { scopes = scopes }; words = rest; item = items.Nothing })
 closes_scope m scopes rest s is words pushed keeps line asked c begun at =
-    let b : Collects m begun (codes "$scope") = subst (IsBegun m begun) is at.1 in
+    let b : Collects m begun (codes "$scope") m.words.items = subst (IsBegun m begun) is at.1 in
     let early : IsFalse c.in_body = sym at.0.in_body ∙ b.declares in
     ends_here asked _ c begun line (scope s.kind s.words) (codes "$scope" ∷ s.kind ∷ s.words) (cc) refl (allows_scope c
     s.kind s.words early (ap has_no_end_word (sym words) ∙ b.no_end)) (grind (arith, agrees_early, scopes_moved)) refl
@@ -221,7 +210,8 @@ short_words c words short = grind arith
 pub ends_early : (m new : Parser) → m.item ≡ items.Variable → (line : ℕ)
     → WordResult m (word_on end_word line) (Err faults.BadVar) new
 ends_early m new is line asked c begun at =
-    let b : Collects m begun (codes "$var") × (length m.words.items ≤ 1) = subst (IsBegun m begun) is at.1 in
+    let b : Collects m begun (codes "$var") m.words.items × (length m.words.items ≤ 1) =
+    subst (IsBegun m begun) is at.1 in
     let short = short_words c m.words.items b.1 in
     inr (test_fails (variable m.words.items) (fits_variable c m.words.items
     (sym at.0.in_body ∙ b.0.declares) b.0.no_end short.0) (ap (λ ws. ws ++ end_word ∷ []) (sym b.0.spelled))
@@ -274,11 +264,19 @@ pub shows_no_size : (m : Parser) (text : List ℕ) → m.item ≡ items.Variable
     → is_number text ≡ false → (asked : Asked) (c : ParseState) (begun : List WordOnLine) → IsAtState asked m c begun
     → WordShows c (word_texts begun) text faults.BadVar
 shows_no_size m text is some isnt asked c begun at =
-    let b : Collects m begun (codes "$var") × (length m.words.items ≤ 1) = subst (IsBegun m begun) is at.1 in
+    let b : Collects m begun (codes "$var") m.words.items × (length m.words.items ≤ 1) =
+    subst (IsBegun m begun) is at.1 in
     let k = one_word m.words.items (omega (arith, some, b.1)) b.0.no_end in
     rw (b.0.spelled ∙ ap (λ ws. codes "$var" ∷ ws) k.1) (no_size c k.0 text (sym at.0.in_body ∙ b.0.declares) k.2 isnt)
 
 -- ---- a word that goes on
+
+-- a word of a header entry
+pub continues_entry : (m : Parser) (kind : HeaderKind) (words : List (List ℕ)) (text : List ℕ)
+    → m.item ≡ items.Entry kind → words ≡ m.entry ++ text ∷ [] → IsFalse (is_end_word text)
+    → (line : ℕ) → WordResult m (word_on text line) (Ok tt) (record m { entry = words })
+continues_entry m kind words text is pushed isnt line asked c begun at =
+    grind (arith, agrees_as, texts_more, no_end_more)
 
 -- the size of a variable
 pub takes_size : (m : Parser) (text : List ℕ) (size : ℕ) → m.item ≡ items.Variable → 0 < length m.words.items
@@ -349,6 +347,6 @@ shows_no_end m new text (inr is) isnt line asked c begun at =
 pub shows_missing_kind : (m new : Parser) → m.item ≡ items.Scope → m.words.items ≡ [] → (line : ℕ)
     → WordResult m (word_on end_word line) (Err faults.BadScope) new
 shows_missing_kind m new is none line asked c begun at =
-    let b : Collects m begun (codes "$scope") = subst (IsBegun m begun) is at.1 in
+    let b : Collects m begun (codes "$scope") m.words.items = subst (IsBegun m begun) is at.1 in
     shown_after c begun (codes "$scope" ∷ []) end_word faults.BadScope
     (b.spelled ∙ ap (λ ws. codes "$scope" ∷ ws) none) (missing_kind c (sym at.0.in_body ∙ b.declares))

@@ -8,9 +8,8 @@ use Rattle.vcd_text.specs.declared.fault.Fault.{Fault}
 use Rattle.vcd_text.specs.Words.{WordOnLine}
 use Rattle.vcd_text.specs.Letters.{is_among}
 use Rattle.vcd_core.specs.Word.{is_one_of}
-use Rattle.vcd_text.specs.Items.{spellings, header_word, is_other}
+use Rattle.vcd_text.specs.Items.{spellings, header_word}
 use Rattle.vcd_text.specs.inside.reading.Declarations.{header_words}
-use Rattle.vcd_text.specs.inside.reading.DigitTests.{vector_prefixes, real_or_string_prefixes}
 use Rattle.vcd_text.specs.Grammar.{ParseState, Accepts, word_texts}
 use Rattle.vcd_text.specs.Faults.{ShowsFault}
 use Rattle.vcd_text.specs.FoundFaults.{Stops, IsUnfinished}
@@ -28,11 +27,12 @@ use Rattle.vcd_text.proofs.shared.ResultIsUnique.{accepted-not_refused, stopped-
 use Rattle.vcd_text.specs.inside.reading.Part.{Asked}
 
 module _ (asked : Asked) (m : Parser) (c : ParseState) (begun : List WordOnLine) where
-  collecting : (keyword : List ℕ) → ParserMatches asked m c → Collects m begun keyword
+  collecting : (keyword : List ℕ) (words : List (List ℕ)) → ParserMatches asked m c
+      → Collects m begun keyword words
       → IsTrue (is_one_of (codes "$timescale" ∷ codes "$scope" ∷ header_words) keyword)
       → IsUnfinished c (word_texts begun)
-  collecting keyword agrees is among =
-      rw is.spelled (words_due c keyword m.words.items (sym agrees.in_body ∙ is.declares) among is.no_end)
+  collecting keyword words agrees is among =
+      rw is.spelled (words_due c keyword words (sym agrees.in_body ∙ is.declares) among is.no_end)
 
   awaiting : (letters text : List ℕ) → ParserMatches asked m c → AwaitsCode m begun letters text
       → ((b : ℕ) → IsTrue c.in_body → IsTrue (is_among letters b) → IsUnfinished c ((b ∷ text) ∷ []))
@@ -43,9 +43,9 @@ module _ (asked : Asked) (m : Parser) (c : ParseState) (begun : List WordOnLine)
   pub unfinished : (item : OpenItem) → ParserMatches asked m c → IsBegun m begun item
       → IsFalse (m.in_body && is_nothing item) → IsUnfinished c (word_texts begun)
   unfinished items.Nothing agrees none no_end = rw none (declaration_due c (grind arith))
-  unfinished (items.Entry kind) agrees is no_end = collecting (header_word kind) agrees is (grind arith)
+  unfinished (items.Entry kind) agrees is no_end = collecting (header_word kind) m.entry agrees is (grind arith)
   unfinished items.Timescale agrees is no_end = search (arith, collecting)
-  unfinished items.Scope agrees is no_end = collecting (codes "$scope") agrees is refl
+  unfinished items.Scope agrees is no_end = collecting (codes "$scope") m.words.items agrees is refl
   unfinished items.Upscope agrees is no_end = rw is.1 (upscope_due c (sym agrees.in_body ∙ is.0)
       (omega (arith, so_deep m.variables (seen_state m.part c agrees.seen) agrees.variables, is.2)))
   unfinished items.Variable agrees is no_end = rw is.0.spelled (variable_due c m.words.items

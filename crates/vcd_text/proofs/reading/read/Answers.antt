@@ -9,8 +9,7 @@ use Rattle.vcd_text.specs.Meaning.{FileMeans}
 use Rattle.vcd_core.specs.declared.capture.TheConstants.{SIGNAL_LIMIT}
 use Rattle.vcd_text.specs.Refusals.{IsRefusal}
 use Rattle.vcd_text.specs.inside.reading.Part.{all_ticks}
-use Rattle.vcd_text.proofs.part.WholeParts.{whole_means_of_read, whole_extent_of_read}
-use Rattle.vcd_text.proofs.part.WholeParts.{no_part_refusal}
+use Rattle.vcd_text.proofs.part.WholeParts.{whole_means_of_read, whole_extent_of_read, no_part_refusal}
 use Rattle.vcd_text.proofs.reading.read.Goals as goal
 
 no_ticks : None ≡ Some all_ticks → ⊥

@@ -1,48 +1,45 @@
--- A change of a kept variable.
-use Rattle.std.proofs.Common.{◌≡◌, ◌≢◌, ◌⊎◌, ℕ, zero, suc, ◌<◌, ◌≤◌, ◌==◌, All, true}
-use Rattle.std.proofs.Common.{false, ◌&&◌}
-use Rattle.std.proofs.Common.{if◌then◌else◌, nat_le, List, [], ◌∷◌, ◌++◌, length, map, set, get_or}
-use Rattle.std.proofs.Common.{None, Some, Result}
-use Rattle.std.proofs.Common.{Ok, Err, OnOk, IfErr, inl, inr, refl, sym, ap, ◌∙◌, arith}
-use Rattle.std.specs.Prelude.{bytes_eq, slice_get, IsSomeAnd, IsTrue}
+-- A change of a kept variable, and a change for the part that is kept.
+use Rattle.std.proofs.Common.{◌≡◌, ◌≢◌, ◌⊎◌, ℕ, zero, suc, ◌<◌, ◌≤◌, ◌==◌, All, true, false, ◌&&◌, if◌then◌else◌}
+use Rattle.std.proofs.Common.{nat_le, List, [], ◌∷◌, ◌++◌, length, map, set, get_or, None, Some, Result, Ok, Err, OnOk}
+use Rattle.std.proofs.Common.{IfErr, inl, inr, refl, sym, ap, ◌∙◌, arith, ◌+◌, ◌-◌, Bool, Option}
+use Rattle.std.specs.Prelude.{bytes_eq, slice_get, IsSomeAnd, IsTrue, IsFalse, MatchResult}
 use Rattle.std.specs.Global.{Vec}
-use Rattle.std.proofs.lemmas.Bool.{cases_Bool, cases_eq, le-leb}
+use Rattle.std.proofs.lemmas.Bool.{cases_Bool, cases_eq, le-leb, eq-eqb, ne_eqb, and_from, or_right}
 use Rattle.std.proofs.lemmas.Option.{same_Some, get_or_from_slice_get}
+use Rattle.std.proofs.lemmas.List.{length-set, append-nil}
+use Rattle.std.proofs.lemmas.List.Elements.{All-weaker}
 use Rattle.vcd_core.specs.declared.wave.Change.{Change}
 use Rattle.vcd_core.specs.declared.bit.Bit.{Bit}
 use Rattle.vcd_core.specs.Value.{all_x}
-use Rattle.vcd_core.specs.Wave.{value_from, value_at}
-use Rattle.vcd_core.proofs.shared.Waves.{value_from-append}
+use Rattle.vcd_core.specs.Wave.{value_at}
 use Rattle.vcd_text.specs.declared.fault.Fault.{Fault}
 use Rattle.vcd_text.specs.declared.fault.Fault.TheVariants as faults
 use Rattle.vcd_text.specs.Letters.{letters_of_digits, extension}
-use Rattle.vcd_text.specs.Grammar.{VariableDeclaration, ValueChange, ParseState, is_skipped}
-use Rattle.vcd_text.specs.Grammar.{variable_of, kept_variables}
-use Rattle.vcd_text.specs.Grammar.{value_changes_after}
-use Rattle.vcd_text.specs.inside.reading.DigitTests.{is_binary_number}
-use Rattle.vcd_text.specs.inside.reading.DigitTests.{takes_binary_number}
-use Rattle.vcd_text.specs.Meaning.{changes_of_code}
+use Rattle.vcd_text.specs.Grammar.{VariableDeclaration, ValueChange, ParseState, is_skipped, variable_of}
+use Rattle.vcd_text.specs.Grammar.{kept_variables, value_changes_after, with_value_change}
+use Rattle.vcd_text.specs.inside.reading.DigitTests.{is_binary_number, takes_binary_number}
 use Rattle.vcd_text.specs.inside.reading.Log.{logged_letters, GivesLoggedValues, logged, AreGrouped, IsSameVariable}
 use Rattle.vcd_text.specs.inside.reading.BinaryNumber.{WritesValue, RefusesBinaryNumber}
-use Rattle.vcd_text.specs.inside.reading.Variables.{declaration, target_of, HasValueChanges, TargetMatches}
-use Rattle.vcd_text.specs.inside.reading.Variables.{HasFirst, latest_value}
-use Rattle.vcd_text.specs.inside.reading.Variables.{HasOnlyFirstVariables, VariablesMatch, HasValueFrom}
-use Rattle.vcd_text.specs.inside.reading.Variables.{RefusesChange}
-use Rattle.vcd_text.specs.inside.reading.Variables.{no_value, too_long, ChangeResult}
+use Rattle.vcd_text.specs.inside.reading.Variables.{declaration, target_of, HasValueChanges, TargetMatches, HasFirst}
+use Rattle.vcd_text.specs.inside.reading.Variables.{latest_value, HasOnlyFirstVariables, VariablesMatch, HasValueFrom}
+use Rattle.vcd_text.specs.inside.reading.Variables.{RefusesChange, no_value, too_long, ChangeResult, unknown}
 use Rattle.vcd_text.specs.declared.reading.log.LoggedChange.{LoggedChange}
 use Rattle.vcd_text.specs.declared.reading.code_targets.CodeTarget.TheVariants.{Kept}
 use Rattle.vcd_text.specs.declared.reading.variables.Variable.{Variable}
 use Rattle.vcd_text.specs.declared.reading.variables.Variables.{Variables}
-use Rattle.vcd_text.proofs.shared.ValuesOfCodes.{value_with}
-use Rattle.vcd_text.proofs.reading.log.LoggedValues.{gives_late, gives_as, gives_pushed}
+use Rattle.vcd_text.specs.declared.reading.part.Part.{Part}
+use Rattle.vcd_text.specs.declared.reading.parser.Parser.{Parser}
+use Rattle.vcd_text.specs.declared.reading.parser.OpenItem.{OpenItem}
+use Rattle.vcd_text.specs.inside.reading.Part.{seen_tick, is_late, seen_state, Remains, TellsPart, IsPassedOver, Asked}
+use Rattle.vcd_text.specs.inside.reading.Part.{PartChange}
+use Rattle.vcd_text.specs.inside.reading.Parser.{ParserMatches}
+use Rattle.vcd_text.proofs.shared.ItemsInTurn.{value_with}
+use Rattle.vcd_text.proofs.reading.variables.VariablesMatch.{gives_late, gives_as, gives_pushed, rises_more}
+use Rattle.vcd_text.proofs.reading.variables.VariablesMatch.{value_after_changes-more, one_owner}
 use Rattle.vcd_text.proofs.reading.code_targets.Targets.{own_code, same_code, stands_kept, stands_moved}
-use Rattle.vcd_text.proofs.reading.variables.VariablesMatch.{one_owner}
-use Rattle.std.proofs.lemmas.List.{length-set, map-append}
-use Rattle.std.proofs.lemmas.List.Elements.{filter-append}
-use Rattle.std.proofs.lemmas.List.Elements.{All-weaker}
-use Rattle.std.proofs.lemmas.Bool.{eq-eqb, ne_eqb}
-use Rattle.vcd_text.proofs.reading.log.LoggedValues.{rises_more}
-use Rattle.vcd_text.proofs.reading.log.LoggedValues.{value_after_changes-more}
+use Rattle.vcd_text.proofs.reading.declarations.DeclarationWords.{agrees_by}
+
+-- ==== a change of a kept variable
 
 -- ---- a list with another item at one position
 
@@ -72,7 +69,7 @@ same_set (u ∷ vs) zero v at = ap (λ x. x ∷ vs) (same_Some u v at)
 same_set (u ∷ vs) (suc i) v at = ap (λ xs. u ∷ xs) (same_set vs i v at)
 
 -- a variable is the same as itself
-pub same_itself : (v : Variable) → IsSameVariable v v
+same_itself : (v : Variable) → IsSameVariable v v
 same_itself v = record { place = refl; kind = refl; words = refl; width = refl; first = refl }
 
 pub same_declaration : (v w : Variable) → IsSameVariable v w → declaration w ≡ declaration v
@@ -91,7 +88,7 @@ module _ (old : Variables) (c : ParseState) (code digits : List ℕ) (width firs
       × (d.size ≡ width) × HasValueChanges old.kept.items (logged old.log.items) first code width c.value_changes c.tick
   own_wave = grind (arith, stands_kept)
 
-  pub read_is : (v : Variable) → v ≡ get_or old.kept.items first v → v ≡ own_wave.4.first
+  read_is : (v : Variable) → v ≡ get_or old.kept.items first v → v ≡ own_wave.4.first
   read_is v read = read ∙ get_or_from_slice_get old.kept.items first own_wave.4.first v own_wave.4.at_position
 
   -- no change of its wave is past a later tick
@@ -194,7 +191,7 @@ module _ (old : Variables) (list : Vec Variable) (log : Vec (Vec LoggedChange)) 
   changed_takes : IsSomeAnd (variable_of c code) (λ d. IsTrue (takes_binary_number d digits))
   changed_takes = grind (arith, own_wave, le-leb, sized)
 
-  pub changed : (x : Unit {0}) → ChangeResult c code digits (Ok x) (with_changes old list log)
+  changed : (x : Unit {0}) → ChangeResult c code digits (Ok x) (with_changes old list log)
   changed x = (
     changed_takes,
     search (arith, same_map, stood, same_declaration, told_are, changed_stands, firsts_kept, length-set, logs_kept),
@@ -240,3 +237,106 @@ narrow_changes old log c code digits width first e k had narrow at_tick at write
     (grind (arith, rises_more, value_after_changes-more))) (λ position apart. more position ∙ ap (λ b. if b then logged
     old.log.items position ++ e ∷ [] else logged old.log.items position) (ne_eqb e.position position (λ equal. apart
     (sym at ∙ equal)))) x
+
+-- ==== a change, for the part that is kept
+
+-- a test that is both true and false
+pub not_both : {A : Type 0} {b : Bool} → b ≡ true → b ≡ false → A
+not_both is isnt = let both : true ≡ false = sym is ∙ isnt in absurd (cc)
+
+-- a fault in the state that is kept is one in the state of the file
+pub refuses_file : (part : Part) (c : ParseState) (seen : List ValueChange) (code digits : List ℕ) (fault : Fault)
+    → RefusesChange (seen_state part c seen) code digits fault → RefusesChange c code digits fault
+refuses_file part c seen code digits fault (unknown none which) = unknown none which
+refuses_file part c seen code digits fault (no_value d found keeps isnt which) = no_value d found keeps isnt which
+refuses_file part c seen code digits fault (too_long d found keeps value long which) =
+    too_long d found keeps value long which
+
+-- the tick of the state that is kept
+pub seen_at : (asked : Asked) (m : Parser) (c : ParseState) (a : ParserMatches asked m c)
+    → (seen_state m.part c a.seen).tick ≡ seen_tick m.part m.tick
+seen_at asked m c a = ap (seen_tick m.part) (sym a.tick)
+
+-- ---- ticks
+
+-- ---- one value change more
+
+-- for a variable that remains, at a tick of the part
+module _ (part : Part) (c : ParseState) (seen : List ValueChange) (code : List ℕ) (letters : List Bit)
+    (d : VariableDeclaration) (t : ℕ) (within : t ≤ part.last - part.first)
+    (told : latest_value d.size d.code t (all_x d.size) seen
+    ≡ latest_value d.size d.code (part.first + t) (all_x d.size) c.value_changes) where
+  abbrev kept_value : List ValueChange → List Bit
+  kept_value rs = latest_value d.size d.code t (all_x d.size) rs
+
+  abbrev file_value : List ValueChange → List Bit
+  file_value rs = latest_value d.size d.code (part.first + t) (all_x d.size) rs
+
+  -- a change that is kept
+  told_kept : IsFalse (is_late part c.tick) → (o : Option VariableDeclaration)
+      → kept_value (seen ++ value_changes_after (seen_state part c seen) code letters o)
+      ≡ file_value (c.value_changes ++ value_changes_after c code letters o)
+  told_kept in_time o = grind (arith, append-nil, value_with)
+
+  -- nor one of a skipped variable
+  told_skipped : (o : Option VariableDeclaration) → IsSomeAnd o (λ e. IsTrue (is_skipped e))
+      → kept_value seen ≡ file_value (c.value_changes ++ value_changes_after c code letters o)
+  told_skipped o is = grind (arith, append-nil)
+
+-- a condition is false if its first part is, or its second
+false_first : (a b : Bool) → a ≡ false → (a && b) ≡ false
+false_first a b is = ap (λ x. x && b) is
+
+-- ---- the parser after a change
+
+module _ (asked : Asked) (m : Parser) (c : ParseState) (vs : Variables) (code digits : List ℕ) (item : OpenItem)
+    (a : ParserMatches asked m c) (in_body : m.in_body ≡ true) where
+  abbrev letters : List Bit
+  letters = letters_of_digits digits
+
+  abbrev changed_state : ParseState
+  changed_state = with_value_change c code letters
+
+  matches : (seen : List ValueChange) → VariablesMatch vs (seen_state m.part changed_state seen)
+      → TellsPart m.part changed_state seen → vs.code_targets ≡ m.variables.code_targets
+      → ParserMatches asked (record m { variables = vs; item = item }) changed_state
+  matches seen variables tells same = grind (arith, agrees_by, not_both)
+
+  -- a change that is passed over is unseen
+  unseen : IsPassedOver m.part m.silent.items m.variables c.tick code → (position : ℕ) (d : VariableDeclaration)
+      → Remains m.part c position d → (t : ℕ) → t ≤ m.part.last - m.part.first
+      → (bytes_eq code d.code && nat_le c.tick (m.part.first + t)) ≡ false
+  unseen (inl late) position d remains t within = grind arith
+  unseen (inr (width, first, target, silent)) position d remains t within =
+      elim (cases_Bool (bytes_eq code d.code)) [
+        | inl same ↦ not_both silent (a.hears (sym a.in_body ∙ in_body) position d remains width first
+            (ap (target_of m.variables) (sym (same_code code d.code same)) ∙ target))
+        | inr other ↦ false_first (bytes_eq code d.code) _ other
+      ]
+
+  pub agrees_changed : PartChange m.part m.silent.items m.tick (seen_state m.part c a.seen) code digits m.variables
+      (Ok tt) vs → ParserMatches asked (record m { variables = vs; item = item }) changed_state
+  agrees_changed (takes, same, inl (in_time, variables)) = grind (arith, matches, told_kept)
+  agrees_changed (takes, same, inr (variables, inl skipped)) = search (arith, matches, told_skipped)
+  agrees_changed (takes, same, inr (variables, inr passed)) = matches a.seen variables
+      (grind (arith, append-nil, value_with, unseen)) same
+
+-- ==== the result of a change of a variable, for the part that is kept
+
+-- digits that are checked alone
+pub checked : (part : Part) (silent : List Bool) (tick : ℕ) (c : ParseState) (code digits : List ℕ) (width first : ℕ)
+    (vs : Variables) (result : Result (Unit {0}) Fault) → VariablesMatch vs c → target_of vs code ≡ Kept width first
+    → MatchResult result (λ _. IsTrue (is_binary_number digits) × (length digits ≤ width))
+    (λ fault. RefusesBinaryNumber width digits fault)
+    → IsPassedOver part silent vs tick code → PartChange part silent tick c code digits vs result vs
+checked part silent tick c code digits width first vs (Ok x) k had (value, fits) passed =
+    grind (arith, own_wave, or_right, and_from, le-leb)
+checked part silent tick c code digits width first vs (Err fault) k had refuses passed =
+    inr (refused vs c code digits width first k had fault refuses)
+
+-- a change that is kept
+pub kept_in_time : (part : Part) (silent : List Bool) (tick : ℕ) (c : ParseState) (code digits : List ℕ)
+    (old new : Variables) (result : Result (Unit {0}) Fault) → IsFalse (is_late part tick)
+    → new.code_targets ≡ old.code_targets → ChangeResult c code digits result new
+    → PartChange part silent tick c code digits old result new
+kept_in_time part silent tick c code digits old new result in_time same change = grind arith

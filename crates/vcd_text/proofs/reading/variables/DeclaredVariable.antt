@@ -1,15 +1,11 @@
 -- A variable that is declared, skipped or kept.
-use Rattle.std.proofs.Common.{◌≡◌, ◌⊎◌, ℕ, zero, suc, ◌+◌, ◌<◌, ◌≤◌, min, Bool, true, false, ◌||◌}
-use Rattle.std.proofs.Common.{◌==◌}
-use Rattle.std.proofs.Common.{cond, if◌then◌else◌, nat_lt, List, [], ◌∷◌, ◌++◌, length, map}
-use Rattle.std.proofs.Common.{Option, None}
-use Rattle.std.proofs.Common.{Some, Result, Ok, inl, inr, refl, sym, ap, subst}
-use Rattle.std.proofs.Common.{◌∙◌, arith}
+use Rattle.std.proofs.Common.{◌≡◌, ◌⊎◌, ℕ, zero, suc, ◌+◌, ◌<◌, ◌≤◌, min, Bool, true, false, ◌||◌, ◌==◌, cond}
+use Rattle.std.proofs.Common.{if◌then◌else◌, nat_lt, List, [], ◌∷◌, ◌++◌, length, map, Option, None, Some, Result, Ok}
+use Rattle.std.proofs.Common.{inl, inr, refl, sym, ap, subst, ◌∙◌, arith, slice_index_or}
 use Rattle.std.specs.Prelude.{bytes_eq, slice_get, count_by}
 use Rattle.std.specs.Global.{Vec}
 use Rattle.std.specs.Option.{option_or}
 use Rattle.std.specs.List.{remove}
-use Rattle.std.proofs.Common.{slice_index_or}
 use Rattle.std.proofs.lemmas.List.{append-nil, nil_from_length, map-append, length_push}
 use Rattle.std.proofs.lemmas.List.Elements.{filter-append}
 use Rattle.std.proofs.lemmas.Bool.{lt-ltb, ltb-false, cases_lt}
@@ -20,26 +16,23 @@ use Rattle.vcd_text.specs.declared.fault.Fault.{Fault}
 use Rattle.vcd_core.specs.declared.value.TheConstants.{WIDTH_LIMIT}
 use Rattle.vcd_core.specs.Decimal.{number_of}
 use Rattle.vcd_core.specs.Word.{is_skipped_kind}
-use Rattle.vcd_text.specs.Grammar.{VariableDeclaration, ValueChange, ParseState, is_skipped}
-use Rattle.vcd_text.specs.Grammar.{kept_variables}
+use Rattle.vcd_text.specs.Grammar.{VariableDeclaration, ValueChange, ParseState, is_skipped, kept_variables}
 use Rattle.vcd_text.specs.Grammar.{variable_of, declaration_of}
-use Rattle.vcd_text.specs.inside.reading.Variables.{is_within_limit}
+use Rattle.vcd_text.specs.inside.reading.Variables.{is_within_limit, TargetAgrees, declaration_in, without_code}
+use Rattle.vcd_text.specs.inside.reading.Variables.{target_of, HasValueChanges, TargetMatches, HasFirst, HaveOwnCodes}
+use Rattle.vcd_text.specs.inside.reading.Variables.{VariablesMatch, IsFree, declaration_of_parts, with_declaration}
+use Rattle.vcd_text.specs.inside.reading.Variables.{DeclaresAs, Declares}
 use Rattle.vcd_text.specs.Meaning.{changes_of_code}
 use Rattle.vcd_text.specs.inside.reading.Log.{logged}
 use Rattle.vcd_text.specs.declared.reading.log.LoggedChange.{LoggedChange}
-use Rattle.vcd_text.proofs.reading.log.LoggedValues.{gives_as}
-use Rattle.vcd_text.specs.inside.reading.Variables.{TargetAgrees, declaration_in, without_code, target_of}
-use Rattle.vcd_text.specs.inside.reading.Variables.{HasValueChanges, TargetMatches, HasFirst, HaveOwnCodes}
-use Rattle.vcd_text.specs.inside.reading.Variables.{VariablesMatch, IsFree, declaration_of_parts}
+use Rattle.vcd_text.proofs.reading.variables.VariablesMatch.{gives_as, kept_long}
 use Rattle.vcd_text.specs.inside.reading.Scopes.{open_scopes, IsPlaced}
-use Rattle.vcd_text.specs.inside.reading.Variables.{with_declaration, DeclaresAs, Declares}
 use Rattle.vcd_text.specs.declared.reading.code_targets.CodeTargets.{CodeTargets}
 use Rattle.vcd_text.specs.declared.reading.code_targets.CodeTarget.{CodeTarget}
 use Rattle.vcd_text.specs.declared.reading.code_targets.CodeTarget.TheVariants.{Undeclared, Skipped, Kept}
 use Rattle.vcd_text.specs.declared.reading.variables.Variable.{Variable}
 use Rattle.vcd_text.specs.declared.reading.variables.Variables.{Variables}
 use Rattle.vcd_text.proofs.reading.code_targets.Targets.{own_code, by_code, stands_kept, stands_moved, found_with}
-use Rattle.vcd_text.proofs.reading.variables.VariablesMatch.{kept_long}
 
 -- ---- lists with one item more
 

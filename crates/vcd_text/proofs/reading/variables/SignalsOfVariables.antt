@@ -1,35 +1,106 @@
--- The signals of the variables.
-use Rattle.std.proofs.Common.{◌≡◌, ℕ, zero, suc, List, [], ◌∷◌, ◌++◌, length, map, take, drop}
-use Rattle.std.proofs.Common.{Option, None, Some}
-use Rattle.std.proofs.Common.{sym, ap, ◌∙◌, arith}
-use Rattle.std.specs.Prelude.{slice_get}
-use Rattle.std.proofs.lemmas.List.{append-nil, nil_from_length, length-map, map-append, length_push}
-use Rattle.std.proofs.lemmas.List.{take_more, take_all, length-take}
-use Rattle.std.proofs.lemmas.Option.{same_Some, slice_get_cases, slice_get_within}
-use Rattle.std.proofs.lemmas.Option.{get_or_from_slice_get}
+-- The signals of the variables: those that a choice sees, and those of the capture.
+use Rattle.std.proofs.Common.{◌≡◌, ℕ, suc, List, [], ◌∷◌, map, length, Some, refl, ap, ◌∙◌, arith, take, Bool, false}
+use Rattle.std.proofs.Common.{not, cond, ◌+◌, ◌<◌, ◌≤◌, ◌++◌, All, zero, drop, Option, None, sym}
+use Rattle.std.specs.Prelude.{slice_get, slice_index_or, filter}
+use Rattle.std.proofs.lemmas.Bool.{cases_lt}
+use Rattle.std.proofs.lemmas.Option.{same_Some, slice_get_within, get_or_from_slice_get, slice_get_cases}
+use Rattle.std.proofs.lemmas.List.Filters.{length-filter_more}
+use Rattle.std.proofs.Math.ListN.{get_or-append}
+use Rattle.std.proofs.Math.Seq.{get_or-append_seam}
+use Rattle.std.proofs.lemmas.List.Elements.{All-head, All-tail}
+use Rattle.std.proofs.lemmas.List.{append-nil, nil_from_length, length-map, map-append, length_push, take_more}
+use Rattle.std.proofs.lemmas.List.{take_all, length-take}
+use Rattle.vcd_core.specs.Contents.{SignalContents}
 use Rattle.vcd_core.specs.declared.wave.Change.{Change}
+use Rattle.vcd_core.specs.Wave.{AllUpTo, changes_of, IsWave}
 use Rattle.vcd_core.specs.declared.capture.Signal.{Signal}
 use Rattle.vcd_core.specs.Value.{all_x}
-use Rattle.vcd_core.specs.Wave.{changes_of, IsWave}
-use Rattle.vcd_core.specs.Contents.{SignalContents}
 use Rattle.vcd_core.specs.CaptureContents.{signal_contents}
 use Rattle.vcd_core.proofs.shared.Waves.{wave_is}
-use Rattle.vcd_text.specs.Grammar.{VariableDeclaration, ParseState}
-use Rattle.vcd_text.specs.Grammar.{kept_variables}
-use Rattle.vcd_text.specs.Meaning.{declared_signal}
-use Rattle.vcd_text.specs.inside.reading.Variables.{declaration, without_code, target_of, latest_value}
-use Rattle.vcd_text.specs.inside.reading.Variables.{HasValueChanges}
-use Rattle.vcd_text.specs.inside.reading.Variables.{VariablesMatch, Finishes, FinishesWave}
-use Rattle.vcd_text.specs.Chains.{chains_of}
-use Rattle.vcd_text.specs.inside.reading.Scopes.{IsPlaced}
-use Rattle.vcd_text.specs.declared.reading.code_targets.CodeTarget.TheVariants.{Kept}
+use Rattle.vcd_text.specs.Grammar.{VariableDeclaration, ParseState, kept_variables}
+use Rattle.vcd_text.specs.Chains.{chains_of, chain_at}
+use Rattle.vcd_text.specs.inside.reading.Scopes.{IsWithin, IsPlaced}
+use Rattle.vcd_text.specs.inside.reading.Part.{undriven}
+use Rattle.vcd_text.specs.inside.reading.Variables.{VariablesMatch, declaration, without_code, target_of, latest_value}
+use Rattle.vcd_text.specs.inside.reading.Variables.{Finishes}
 use Rattle.vcd_text.specs.declared.reading.variables.Variable.{Variable}
 use Rattle.vcd_text.specs.declared.reading.variables.Variables.{Variables}
-use Rattle.vcd_text.proofs.reading.log.LoggedValues.{gives_late}
-use Rattle.vcd_text.proofs.reading.variables.TicksAndWidths.{ended_upto}
+use Rattle.vcd_text.specs.Meaning.{declared_signal}
+use Rattle.vcd_text.specs.declared.reading.code_targets.CodeTarget.TheVariants.{Kept}
+use Rattle.vcd_text.proofs.reading.variables.VariablesMatch.{declared_at, kept_long, gives_late}
 use Rattle.vcd_text.proofs.reading.code_targets.Targets.{stands_kept}
 use Rattle.vcd_text.proofs.reading.variables.DeclaredVariable.{middle_of}
-use Rattle.vcd_text.proofs.reading.variables.VariablesMatch.{declared_at, kept_long}
+
+-- ==== the signals that a choice sees are the kept variables of the state
+
+-- two lists of one length give one list, if what they have at each position gives the same
+same_lists : {A B S : Type 0} (f : A → S) (g : B → S) (xs : List A) (ys : List B) → length xs ≡ length ys
+    → ((position : ℕ) (x : A) (y : B) → slice_get xs position ≡ Some x → slice_get ys position ≡ Some y → f x ≡ g y)
+    → map f xs ≡ map g ys
+same_lists f g [] [] long same = refl
+same_lists f g [] (y ∷ ys) long same = absurd (omega (arith, long))
+same_lists f g (x ∷ xs) [] long same = absurd (omega (arith, long))
+same_lists f g (x ∷ xs) (y ∷ ys) long same =
+    let head = same 0 x y refl refl in
+    let tail = same_lists f g xs ys (omega (arith, long)) (λ position a b at here. same (suc position) a b at here) in
+    λ i. head i ∷ tail i
+
+-- ---- the tests of a choice
+
+module _ (takes : SignalContents → Bool) (signals : List SignalContents) where
+  -- one more test is right
+  pub pushed_test : (out : List Bool) (b : Bool) (n : ℕ) (x : SignalContents) → length out ≡ n
+      → slice_get signals n ≡ Some x → b ≡ not (takes x)
+      → ((k : ℕ) (s : SignalContents) → k < n → slice_get signals k ≡ Some s
+      → slice_index_or out k false ≡ not (takes s))
+      → (k : ℕ) (s : SignalContents) → k < n + 1 → slice_get signals k ≡ Some s
+      → slice_index_or (out ++ b ∷ []) k false ≡ not (takes s)
+  pushed_test out b n x long at is before k s within here =
+      grind (arith, cases_lt k n, get_or-append, same_Some, get_or-append_seam)
+
+  -- one more signal is counted
+  pub one_more : (n : ℕ) (x : SignalContents) → slice_get signals n ≡ Some x
+      → length (filter takes (take (n + 1) signals)) ≡ length (filter takes (take n signals)) + cond (takes x) 1 0
+  one_more n x at = length-filter_more takes signals n x (slice_get_within signals n x at)
+      ∙ ap (λ s. length (filter takes (take n signals)) + cond (takes s) 1 0) (get_or_from_slice_get signals n x x at)
+
+  -- a count of one signal
+  pub one_or_none : (b : Bool) → cond b 1 0 ≤ 1
+  one_or_none b = grind arith
+
+-- ---- the kept variables
+
+-- each variable has its place in one of the chains
+pub placed_variables : (vs : Variables) (c : ParseState) → VariablesMatch vs c → (position : ℕ) (v : Variable)
+    → slice_get vs.kept.items position ≡ Some v → IsWithin (chains_of vs.scopes) v.place
+placed_variables vs c k position v at = grind (arith, declared_at)
+
+-- a variable of the parser as a signal
+abbrev pub listed_signal : Variables → Variable → SignalContents
+listed_signal vs v = record {
+  scopes = take v.place.count (chain_at (chains_of vs.scopes) v.place.chain);
+  kind = v.kind;
+  words = v.words;
+  width = v.wave.width;
+  changes = [];
+}
+
+pub declared_as_undriven : (vs : Variables) (c : ParseState) → VariablesMatch vs c
+    → map (listed_signal vs) vs.kept.items ≡ map undriven (kept_variables c.declared)
+declared_as_undriven vs c k = grind (arith, same_lists, kept_long, declared_at, same_Some)
+
+-- ==== ticks and widths of a list of changes
+
+-- no change is past the tick
+abbrev Ended : ℕ → List Change → Type 0
+Ended tick cs = All (λ (c : Change). c.tick ≤ tick) cs
+
+ended_upto : (end : ℕ) (cs : List Change) → Ended end cs → AllUpTo end cs
+ended_upto end [] ended = tt
+ended_upto end (c ∷ cs) ended =
+    grind (arith, All-head, All-tail, ended_upto end cs (All-tail (λ (c : Change). c.tick ≤ end) c cs ended))
+
+-- ==== the signals of the variables
 
 -- the signals of the first declarations
 abbrev pub declared_signals : ParseState → ℕ → List SignalContents

@@ -1,13 +1,10 @@
 -- The next change of a wave from a tick on.
-use Rattle.std.proofs.Common.{◌≡◌, ◌<◌, ◌≤◌, ◌+◌, ◌-◌, ◌^◌, inl, inr, ℕ, zero, suc, List, []}
-use Rattle.std.proofs.Common.{◌∷◌}
-use Rattle.std.proofs.Common.{length, take, drop, get_or, All, refl, sym, ap, ◌∙◌}
-use Rattle.std.proofs.Common.{arith}
+use Rattle.std.proofs.Common.{◌≡◌, ◌<◌, ◌≤◌, ◌+◌, ◌-◌, ◌^◌, inl, inr, ℕ, zero, suc, List, [], ◌∷◌, length, take, drop}
+use Rattle.std.proofs.Common.{get_or, All, refl, sym, ap, ◌∙◌, arith}
 use Rattle.std.proofs.Math.ListN.{set}
 use Rattle.std.proofs.lemmas.Bool.{cases_eq, cases_lt}
-use Rattle.std.proofs.lemmas.List.{drop_more, get_or_default, get_or_past, get_or-map}
-use Rattle.std.proofs.lemmas.List.{get_or-set_other}
-use Rattle.std.proofs.lemmas.List.{get_or-set_same, length-map, take_more}
+use Rattle.std.proofs.lemmas.List.{drop_more, get_or_default, get_or_past, get_or-map, get_or-set_other}
+use Rattle.std.proofs.lemmas.List.{get_or-set_same, length-map, take_more, append-nil}
 use Rattle.std.proofs.lemmas.List.Elements.{All-push, All-head, All-tail}
 use Rattle.vcd_core.specs.declared.bit.Bit.{Bit}
 use Rattle.vcd_core.specs.declared.capture.Signal.{Signal}
@@ -18,8 +15,7 @@ use Rattle.vcd_core.specs.Wave.{AreChangesFrom, IsWave, change}
 use Rattle.vcd_text.specs.declared.writing.cursors.Cursor.{Cursor}
 use Rattle.vcd_text.specs.inside.writing.Cursors.{IsNext, tick_at}
 use Rattle.vcd_text.specs.inside.writing.Transitions.{transition_of, window_of_signal}
-use Rattle.vcd_text.proofs.writing.window.ChangeCounts.{after_window, before_window, in_window}
-use Rattle.std.proofs.lemmas.List.{append-nil}
+use Rattle.vcd_text.proofs.writing.window.WindowOrder.{after_window, before_window, in_window}
 
 -- a tick before all ticks is that of a change
 pub tick_inside : (cs : List Change) (k : ℕ) → tick_at cs k < 2 ^ 64 - 1 → k < length cs

@@ -1,19 +1,28 @@
--- Pieces that are written one after another, through a buffer.
-use Rattle.std.proofs.Common.{◌≡◌, ◌<◌, ◌≤◌, ◌+◌, ◌-◌, ◌^◌, ℕ, Bool, true, false, List, [], ◌++◌}
-use Rattle.std.proofs.Common.{length, take, drop, min, sym, ap, ◌∙◌, arith, append_assoc, ◌∷◌, get_or}
+-- Pieces that are written one after another, through a buffer: the parts of a text and of a line.
+use Rattle.std.proofs.Common.{◌≡◌, ◌<◌, ◌≤◌, ◌+◌, ◌-◌, ◌^◌, ℕ, Bool, true, false, List, [], ◌++◌, length, take, drop}
+use Rattle.std.proofs.Common.{min, sym, ap, ◌∙◌, arith, append_assoc, ◌∷◌, get_or, codes, zero, suc, refl}
 use Rattle.std.specs.Prelude.{Option, Result, Ok, Err, OnOk, OnErr, IfErr}
 use Rattle.std.specs.Io.KnownBytes.{Appends, Keeps}
 use Rattle.std.proofs.KnownBytes.{Appends-trans}
 use Rattle.std.proofs.Math.Seq.{take-add}
-use Rattle.std.proofs.lemmas.List.{append-nil, length-append, length-drop, take-append-le}
-use Rattle.std.proofs.lemmas.List.{drop_all}
-use Rattle.std.proofs.lemmas.List.{drop_more, take_all}
+use Rattle.std.proofs.lemmas.List.{append-nil, length-append, length-drop, take-append-le, drop_all, drop_more}
+use Rattle.std.proofs.lemmas.List.{take_all}
+use Rattle.std.specs.List.{join_with_byte, flat_map, range_with_len}
+use Rattle.std.proofs.lemmas.Grind.{flat_map-append}
 use Rattle.vcd_core.specs.declared.device.Sink as sinks
+use Rattle.vcd_core.specs.Contents.{Contents, SignalContents}
 use Rattle.vcd_text.specs.declared.fault.WriteError.{WriteError}
 use Rattle.vcd_text.specs.declared.fault.WriteError.TheVariants.{WriteFault}
 use Rattle.vcd_text.specs.declared.writing.output.Output.{Output}
 use Rattle.vcd_text.specs.WriteEnds.{TookBefore}
 use Rattle.vcd_text.specs.EmittedText.{HasEmitted, Emits, EmitsMore}
+use Rattle.vcd_text.specs.Items.{end_word}
+use Rattle.vcd_text.specs.inside.writing.Lines.{spaced_words}
+use Rattle.vcd_text.specs.Text.{first_items, items_of, item_line, text, tick_items}
+use Rattle.vcd_text.specs.inside.writing.Transitions.{items_of_ticks}
+use Rattle.vcd_text.specs.inside.writing.Declarations.{declarations_text}
+
+-- ==== pieces that are written one after another, through a buffer
 
 -- a part from the front of the rest is written
 carried : (out part rest left whole : List ℕ) → left ≡ part ++ rest → out ++ left ≡ whole
@@ -167,3 +176,45 @@ pub failed_prefix : {W T : Type 0} {sink : sinks.Ghosts W} {before : Option (Lis
     → OnErr r (sink.has_failed later ≡ true)
     → IfErr r (TookBefore text before (sink.taken later) (sink.has_failed later))
 failed_prefix later r stands kept is failed = grind (arith, appends_kept)
+
+-- ==== the line of a declaration, part by part
+
+joined : (w : List ℕ) (ws : List (List ℕ)) → join_with_byte 32 (w ∷ ws) ≡ w ++ spaced_words ws
+joined w [] = sym (append-nil w)
+joined w (v ∷ ws) = ap (λ l. w ++ (32 ∷ l)) (joined v ws)
+
+-- words and further ones
+pub writes_words : {W : Type 0} {sink : sinks.Ghosts W} {o0 o1 o2 : Output W}
+    (prefix back : List (List ℕ)) → Emits sink o0 o1 (spaced_words prefix) → Emits sink o1 o2 (spaced_words back)
+    → Emits sink o0 o2 (spaced_words (prefix ++ back))
+writes_words prefix back first second = search (arith, writes_as, flat_map-append, writes_both)
+
+pub writes_line : {W : Type 0} {sink : sinks.Ghosts W} {o0 o1 o2 o3 : Output W} (w : List ℕ)
+    (ws : List (List ℕ)) → Emits sink o0 o1 w → Emits sink o1 o2 (spaced_words ws) → Emits sink o2 o3 (codes " $end\n")
+    → Emits sink o0 o3 (join_with_byte 32 (w ∷ (ws ++ end_word ∷ [])) ++ 10 ∷ [])
+writes_line w ws first middle last = grind (arith, writes_as, append_assoc, joined, flat_map-append, writes_both)
+
+pub writes_item : {W : Type 0} {sink : sinks.Ghosts W} {o0 o1 o2 o3 : Output W} (w : List ℕ)
+    (ws : List (List ℕ)) → Emits sink o0 o1 w → Emits sink o1 o2 (spaced_words ws) → Emits sink o2 o3 (codes " $end")
+    → Emits sink o0 o3 (join_with_byte 32 (w ∷ (ws ++ end_word ∷ [])))
+writes_item w ws first middle last = grind (arith, writes_as, append_assoc, joined, flat_map-append, writes_both)
+
+-- ==== the parts of a text, one after another
+
+-- the ticks one after another
+pub ticks_in_turn : (signals : List SignalContents) (end t n : ℕ)
+    → flat_map (tick_items signals end) (range_with_len t n) ≡ items_of_ticks signals end t n
+unfolding items_of_ticks
+ticks_in_turn signals end t zero = refl
+ticks_in_turn signals end t (suc n) =
+    ap (λ is. tick_items signals end t ++ is)
+    (ap (λ u. flat_map (tick_items signals end) (range_with_len u n)) {x = t + 1} {y = suc t} (omega arith)
+    ∙ ticks_in_turn signals end (suc t) n)
+
+-- the declarations, the values at tick 0, and the rest
+pub whole_text : (c : Contents) → declarations_text c ++ (flat_map item_line (first_items c.signals)
+    ++ flat_map item_line (items_of_ticks c.signals c.end 1 c.end)) ≡ text c
+unfolding text items_of
+whole_text c =
+    ap (λ ticks. declarations_text c ++ (flat_map item_line (first_items c.signals) ++ flat_map item_line ticks)) (sym
+    (ticks_in_turn c.signals c.end 1 c.end)) ∙ (grind (arith, flat_map-append, append_assoc))

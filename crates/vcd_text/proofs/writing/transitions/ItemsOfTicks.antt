@@ -1,7 +1,6 @@
 -- The transitions of ticks are written as the items of these ticks.
-use Rattle.std.proofs.Common.{◌≡◌, ◌<◌, ◌≤◌, ◌+◌, ◌-◌, ℕ, zero, suc, true, false}
-use Rattle.std.proofs.Common.{List, [], ◌∷◌, ◌++◌, map, get_or, refl, sym, ap}
-use Rattle.std.proofs.Common.{◌∙◌, arith, All, append_assoc, eq-eqb}
+use Rattle.std.proofs.Common.{◌≡◌, ◌<◌, ◌≤◌, ◌+◌, ◌-◌, ℕ, zero, suc, true, false, List, [], ◌∷◌, ◌++◌, map, get_or}
+use Rattle.std.proofs.Common.{refl, sym, ap, ◌∙◌, arith, All, append_assoc, eq-eqb}
 use Rattle.std.specs.List.{flat_map, enumerate_from}
 use Rattle.std.proofs.lemmas.Bool.{ne_eqb}
 use Rattle.std.proofs.lemmas.Grind.{flat_map-append}
@@ -10,11 +9,9 @@ use Rattle.std.proofs.lemmas.List.Elements.{All-filter, All-head, All-tail}
 use Rattle.std.proofs.lemmas.List.FromFn.{get_or-enumerate_from, length-enumerate_from}
 use Rattle.vcd_core.specs.Contents.{SignalContents, no_signal}
 use Rattle.vcd_text.specs.Items.{Item}
-use Rattle.vcd_text.specs.inside.writing.Transitions.{Transition, transition_of}
-use Rattle.vcd_text.specs.inside.writing.Transitions.{last_tick, new_stamp, transition_items, transitions_from}
-use Rattle.vcd_text.specs.Text.{differing, differs_at, item_line, with_stamp}
-use Rattle.vcd_text.specs.inside.writing.Transitions.{items_of_ticks}
-use Rattle.vcd_text.specs.Text.{value_items}
+use Rattle.vcd_text.specs.inside.writing.Transitions.{Transition, transition_of, last_tick, new_stamp, transition_items}
+use Rattle.vcd_text.specs.inside.writing.Transitions.{transitions_from, items_of_ticks}
+use Rattle.vcd_text.specs.Text.{differing, differs_at, item_line, with_stamp, value_items}
 use Rattle.vcd_text.proofs.writing.output.Pieces.{prefix_begun}
 
 -- the items of transitions after the stamp of a tick, and the stamp of the end

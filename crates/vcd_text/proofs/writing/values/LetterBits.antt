@@ -1,32 +1,25 @@
 -- The letters of a block, and those that the extension restores from the next.
-use Rattle.std.proofs.Common.{◌≡◌, ℕ, zero, suc, ◌+◌, ◌-◌, ◌*◌, ◌/◌, ◌%◌, ◌^◌, ◌<◌, ◌≤◌, min, max}
-use Rattle.std.proofs.Common.{Bool, true, false}
-use Rattle.std.proofs.Common.{List, [], ◌∷◌, ◌++◌, length, drop, get_or, slice_range, if◌then◌else◌}
-use Rattle.std.proofs.Common.{pow-suc, sym}
-use Rattle.std.proofs.Common.{ap, ◌∙◌, arith}
+use Rattle.std.proofs.Common.{◌≡◌, ℕ, zero, suc, ◌+◌, ◌-◌, ◌*◌, ◌/◌, ◌%◌, ◌^◌, ◌<◌, ◌≤◌, min, max, Bool, true, false}
+use Rattle.std.proofs.Common.{List, [], ◌∷◌, ◌++◌, length, drop, get_or, slice_range, if◌then◌else◌, pow-suc, sym, ap}
+use Rattle.std.proofs.Common.{◌∙◌, arith, w64}
 use Rattle.std.specs.Int.{bit_at, bit_not}
 use lib.Bits.{and_le_r}
 use Rattle.std.specs.Int.Bits.{bit_and, bit_or, bit_xor}
 use Rattle.std.specs.Int.Count.{count_leading_zeros}
 use Rattle.std.proofs.Math.ListN.{set}
 use Rattle.std.proofs.lemmas.Bool.{cases_eq, cases_lt, lt-ltb}
-use Rattle.std.proofs.lemmas.List.{ext_get_or, get_or-drop, get_or-map, get_or-set_other}
-use Rattle.std.proofs.lemmas.List.{get_or-set_same, get_or-take}
-use Rattle.std.proofs.lemmas.List.{length-drop, length-map, length-set, length-take-le, map-append}
-use Rattle.std.proofs.lemmas.List.{take_all}
+use Rattle.std.proofs.lemmas.List.{ext_get_or, get_or-drop, get_or-map, get_or-set_other, get_or-set_same, get_or-take}
+use Rattle.std.proofs.lemmas.List.{length-drop, length-map, length-set, length-take-le, map-append, take_all}
 use Rattle.std.proofs.lemmas.List.Folds.{drop_split}
 use Rattle.std.proofs.lemmas.Nat.{leading_length}
-use Rattle.std.proofs.lemmas.Nat.Bits.{bit_at-lt, bit_at-suc, bit_at_above, bit_at_and}
-use Rattle.std.proofs.lemmas.Nat.Bits.{bit_at_cat_high, bit_at_not}
+use Rattle.std.proofs.lemmas.Nat.Bits.{bit_at-lt, bit_at-suc, bit_at_above, bit_at_and, bit_at_cat_high, bit_at_not}
 use Rattle.std.proofs.lemmas.Nat.Bits.{bit_at_ones, bit_at_ones_above, bit_at_or, bit_at_xor}
-use Rattle.std.proofs.Common.{w64}
 use Rattle.vcd_core.specs.declared.bit.Bit.{Bit}
 use Rattle.vcd_core.specs.declared.bit.Bit.TheVariants.{Zero, X}
 use Rattle.vcd_core.specs.declared.letter_block.LetterBlock.{LetterBlock}
 use Rattle.vcd_core.specs.Value.{letter_at, printed_letter, same_letter}
 use Rattle.vcd_core.specs.BlockRows.{letter_in, letter_of, letters_of, HoldsLetters}
-use Rattle.vcd_core.proofs.shared.LettersOfPlanes.{letter_at-letters_of, length-letters_of, one_block}
-use Rattle.vcd_core.proofs.shared.LettersOfPlanes.{same_letter_at}
+use Rattle.vcd_core.proofs.shared.LettersOfPlanes.{letter_at-letters_of, length-letters_of, one_block, same_letter_at}
 use Rattle.vcd_text.specs.Letters.{pad_letter, printed_letters}
 use Rattle.vcd_text.specs.inside.writing.Values.{IsShortFormLen, is_redundant_above}
 

@@ -1,23 +1,50 @@
--- The short form of a value: a letter at the front is left out if the extension restores it.
-use Rattle.std.proofs.Common.{◌≡◌, ℕ, zero, suc, ◌+◌, ◌-◌, ◌<◌, ◌≤◌, Bool, true, false, cond, ◌&&◌}
-use Rattle.std.proofs.Common.{List, [], ◌∷◌, ◌++◌}
-use Rattle.std.proofs.Common.{length, drop, get_or, refl, sym, ap, ◌∙◌, arith, Some, None}
+-- The value of a change, its short form (a letter at the front is left out if the extension restores it), and
+-- the code after it.
+use Rattle.std.proofs.Common.{◌≡◌, ◌<◌, ◌≤◌, ◌+◌, ℕ, zero, suc, List, [], ◌∷◌, length, get_or, arith, ◌∙◌, ◌-◌, Bool}
+use Rattle.std.proofs.Common.{true, false, cond, ◌&&◌, ◌++◌, drop, refl, sym, ap, Some, None, ◌≢◌, append_assoc}
 use Rattle.std.specs.Prelude.{find, unwrap_or}
 use Rattle.std.proofs.lemmas.Bool.{cases_lt}
 use Rattle.std.proofs.lemmas.List.{drop_all, drop_more}
 use Rattle.std.proofs.lemmas.List.Folds.{find-append}
+use Rattle.std.specs.List.{join_with_byte}
 use Rattle.vcd_core.specs.declared.bit.Bit.{Bit}
+use Rattle.vcd_core.specs.declared.wave.Change.{Change}
+use Rattle.vcd_core.specs.Wave.{value_from, AreChangesFrom}
+use Rattle.vcd_core.proofs.shared.Waves.{value_past, value_early}
 use Rattle.vcd_core.specs.declared.bit.Bit.TheVariants.{Zero, X}
-use Rattle.vcd_core.specs.Value.{letter_at, same_letter, same_letters}
+use Rattle.vcd_core.specs.Value.{letter_at, same_letter, same_letters, printed_letter}
 use Rattle.vcd_core.specs.declared.letter_block.LetterBlock.{LetterBlock}
 use Rattle.vcd_core.specs.BlockRows.{HoldsLetters}
 use Rattle.vcd_core.specs.inside.value.EqualByLetters.{same_letters-Decides}
-use Rattle.vcd_text.specs.Letters.{pad_letter, extension, suffixes, short_form}
-use Rattle.vcd_text.specs.inside.writing.Values.{IsShortFormLen}
+use Rattle.vcd_text.specs.Letters.{pad_letter, extension, suffixes, short_form, printed_letters}
+use Rattle.vcd_text.specs.inside.writing.Values.{IsShortFormLen, value_before_code}
+use Rattle.vcd_text.specs.Items.{spelling}
+use Rattle.vcd_text.specs.Text.{item_line, value_item}
 use Rattle.vcd_text.proofs.writing.values.LetterBits.{is_redundant_in, lowest, redundant_held}
 
+-- ==== a change at a tick has the value of its wave there
+
+-- a change is at the floor or past it
+from_floor : (floor : ℕ) (before : List Bit) (cs : List Change) (k : ℕ) (d : Change)
+    → AreChangesFrom floor before cs → k < length cs → floor ≤ (get_or cs k d).tick
+from_floor floor before [] k d rise inside = absurd (omega arith)
+from_floor floor before (c ∷ cs) zero d (from, other, wide, rest) inside = from
+from_floor floor before (c ∷ cs) (suc k) d (from, other, wide, rest) inside =
+    grind (arith, from_floor (c.tick + 1) c.value cs k d rest (omega arith))
+
+pub value_standing : (floor : ℕ) (before : List Bit) (cs : List Change) (k t : ℕ) (d : Change)
+    → AreChangesFrom floor before cs → k < length cs → (get_or cs k d).tick ≡ t
+    → value_from before cs t ≡ (get_or cs k d).value
+value_standing floor before [] k t d rise inside at = absurd (omega arith)
+value_standing floor before (c ∷ cs) zero t d (from, other, wide, rest) inside at =
+    value_past before c cs t (omega arith) ∙ value_early c.value c.value cs (c.tick + 1) t rest (omega arith)
+value_standing floor before (c ∷ cs) (suc k) t d (from, other, wide, rest) inside at =
+    grind (arith, from_floor, value_past, value_standing (c.tick + 1) c.value cs k t d rest (omega arith) at)
+
+-- ==== the short form of a value: a letter at the front is left out if the extension restores it
+
 -- the letters after those at the front are left out one by one
-unfoldable pub shortened : List Bit → List Bit
+unfoldable shortened : List Bit → List Bit
 shortened [] = []
 shortened (a ∷ []) = a ∷ []
 shortened (a ∷ b ∷ s) = cond (same_letter (pad_letter (b ∷ [])) a) (shortened (b ∷ s)) (a ∷ b ∷ s)
@@ -66,7 +93,7 @@ found a (b ∷ s) =
     grind (arith, find-append, more, rest, itself)
 
 -- the short form leaves out the redundant letters at the front, and no more
-pub short_is : (v : List Bit) → short_form v ≡ shortened v
+short_is : (v : List Bit) → short_form v ≡ shortened v
 unfolding short_form shortened
 short_is [] = refl
 short_is (b ∷ s) = ap (λ o. unwrap_or o (b ∷ s)) (found b s)
@@ -141,3 +168,22 @@ pub state_at : (v : List Bit) (k : ℕ) (letter next : Bit) (r b : Bool) → 1 �
     → next ≡ letter_at v (k - 1) → r ≡ same_letter (pad_letter (next ∷ [])) letter → r ≡ b
     → is_redundant_in v (k - 1) ≡ b
 state_at v k letter next r b some at_k at_next told is = grind arith
+
+-- ==== the part of a value's line before the code, for one bit and for more
+
+pub bit_before_code : (v : List Bit) → length v ≡ 1 → value_before_code v ≡ printed_letter (letter_at v 0) ∷ []
+bit_before_code v h1 = grind arith
+
+pub bits_before_code : (v : List Bit) → length v ≢ 1
+    → value_before_code v ≡ (98 ∷ []) ++ (printed_letters (short_form v) ++ 32 ∷ [])
+bits_before_code v h1 = grind arith
+
+-- the line
+pub line_of_value : (v : List Bit) (code : List ℕ) → value_before_code v ++ (code ++ 10 ∷ [])
+    ≡ item_line (value_item code v)
+line_of_value v code = grind (arith, append_assoc)
+
+-- the same without the line feed
+pub words_of_value : (v : List Bit) (code : List ℕ) → value_before_code v ++ code
+    ≡ join_with_byte 32 (spelling (value_item code v))
+words_of_value v code = grind (arith, append_assoc)

@@ -25,9 +25,8 @@ Opens items.EndDefinitions word = word ≡ codes "$enddefinitions"
 Opens items.Other word = IsTrue (is_other false word)
 Opens item word = ⊥
 
--- whether all words of the item up to `$end` are kept, whatever they are
+-- whether all words of the item up to `$end` are kept one by one, whatever they are
 abbrev pub keeps_words : OpenItem → Bool
-keeps_words (items.Entry kind) = true
 keeps_words items.Timescale = true
 keeps_words items.Scope = true
 keeps_words item = false

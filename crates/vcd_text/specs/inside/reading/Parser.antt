@@ -53,11 +53,12 @@ pub record ParserMatches (asked : Asked) (m : Parser) (c : ParseState) : Type 0 
   pub part_is : IsTrue c.in_body → m.part ≡ asked.part
   pub is_asked_of : IsTrue c.in_body → IsAskedOf asked c
 
--- a declaration is open, and the parser keeps its words after the keyword
-pub record Collects (m : Parser) (begun : List WordOnLine) (keyword : List ℕ) : Type 0 where
+-- a declaration is open, of which the parser keeps these words after the keyword
+pub record Collects (m : Parser) (begun : List WordOnLine) (keyword : List ℕ)
+    (words : List (List ℕ)) : Type 0 where
   pub declares : IsFalse m.in_body
-  pub spelled : word_texts begun ≡ keyword ∷ m.words.items
-  pub no_end : IsTrue (has_no_end_word m.words.items)
+  pub spelled : word_texts begun ≡ keyword ∷ words
+  pub no_end : IsTrue (has_no_end_word words)
 
 -- a variable is open whose size has come; the parser keeps its other words
 pub record CollectsVariable (m : Parser) (begun : List WordOnLine) : Type 0 where
@@ -92,12 +93,13 @@ pub record AwaitsCode (m : Parser) (begun : List WordOnLine) (letters text : Lis
 -- these words of the open item have been taken
 abbrev pub IsBegun : Parser → List WordOnLine → OpenItem → Type 0
 IsBegun m begun items.Nothing = begun ≡ []
-IsBegun m begun (items.Entry kind) = Collects m begun (header_word kind)
-IsBegun m begun items.Timescale = Collects m begun (codes "$timescale")
-IsBegun m begun items.Scope = Collects m begun (codes "$scope")
+IsBegun m begun (items.Entry kind) = Collects m begun (header_word kind) m.entry
+IsBegun m begun items.Timescale = Collects m begun (codes "$timescale") m.words.items
+IsBegun m begun items.Scope = Collects m begun (codes "$scope") m.words.items
 IsBegun m begun items.Upscope = IsFalse m.in_body × (word_texts begun ≡ codes "$upscope" ∷ [])
     × (0 < m.variables.scopes.depth)
-IsBegun m begun items.Variable = Collects m begun (codes "$var") × (length m.words.items ≤ 1)
+IsBegun m begun items.Variable = Collects m begun (codes "$var") m.words.items
+    × (length m.words.items ≤ 1)
 IsBegun m begun items.SizedVariable = CollectsVariable m begun
 IsBegun m begun items.EndDefinitions = IsFalse m.in_body
     × (word_texts begun ≡ codes "$enddefinitions" ∷ [])

@@ -1,5 +1,5 @@
 -- The name is shown, or it is not.
-use Rattle.vcdedit_narrow.proofs.near.NamesInTurn.{enough, not_met, one_met}
+use Rattle.vcdedit_narrow.proofs.shared.InTurn.{enough, not_met, one_met}
 use Rattle.vcdedit_narrow.proofs.near.append_if_met.Goals as goal
 
 pub returns-then-shown-eq-SHOWN-clause-lines : goal.returns-then-shown-eq-SHOWN-clause-lines

@@ -2,8 +2,8 @@
 use Rattle.std.proofs.Common.{◌∙◌, arith, map}
 use Rattle.vcd_core.specs.Names.{full_name}
 use Rattle.vcd_text.specs.AsDeclared.{declared_contents}
-use Rattle.vcdedit_narrow.proofs.near.NamesInTurn.{is_none, is_some, near_here, near_last, near_later, nothing_shown}
-use Rattle.vcdedit_narrow.proofs.near.NamesInTurn.{shown_here}
+use Rattle.vcdedit_narrow.proofs.shared.InTurn.{is_none, is_some, near_here, near_last, near_later, nothing_shown}
+use Rattle.vcdedit_narrow.proofs.shared.InTurn.{shown_here}
 use Rattle.vcdedit_narrow.proofs.near.append_unmet.Goals as goal
 
 pub returns-then-branch : goal.returns-then-branch

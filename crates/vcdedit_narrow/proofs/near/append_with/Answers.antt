@@ -6,7 +6,7 @@ use Rattle.vcd_core.specs.Names.{full_name}
 use Rattle.vcd_text.specs.AsDeclared.{declared_contents}
 use Rattle.vcdedit_narrow.specs.Pattern.{meets}
 use Rattle.vcdedit_narrow.specs.inside.ShownNames.{ShowsFirst}
-use Rattle.vcdedit_narrow.proofs.near.NamesInTurn.{mapped, next_met}
+use Rattle.vcdedit_narrow.proofs.shared.InTurn.{mapped, next_met}
 use Rattle.vcdedit_narrow.proofs.near.append_with.Goals as goal
 
 pub loop-position-preserved : goal.loop-position-preserved

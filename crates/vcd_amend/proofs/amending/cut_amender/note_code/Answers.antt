@@ -1,27 +1,35 @@
-use Rattle.std.proofs.Common.{◌≡◌, ◌∙◌, ◌||◌, ◌&&◌, not, Bool, true, false, refl, sym, ap, if◌then◌else◌}
+use Rattle.std.proofs.Common.{◌≡◌, ◌∙◌, ◌||◌, ◌&&◌, Bool, true, false, refl, sym, ap, List, ℕ, if◌then◌else◌}
 use Rattle.std.specs.Prelude.{bytes_eq}
+use Rattle.vcd_amend.proofs.amended.OneCode.{same_bytes}
 use Rattle.vcd_text.specs.inside.reading.CodeTargets.{code_target}
+use Rattle.vcd_amend.specs.declared.amending.cut_amender.CodeVariables.{CodeVariables}
 use Rattle.vcd_amend.proofs.amending.cut_amender.note_code.Goals as goal
 
-with_code : (o b : Bool) → (if b then true else o) ≡ (o || (b && not false))
-with_code true true = refl
-with_code true false = refl
-with_code false true = refl
-with_code false false = refl
+or_none : (a : Bool) → a ≡ (a || false)
+or_none true = refl
+or_none false = refl
 
-without_code : (o b : Bool) → o ≡ (o || (b && not true))
-without_code true true = refl
-without_code true false = refl
-without_code false true = refl
-without_code false false = refl
+-- a code that is put in
+put_in : (field : CodeVariables → Bool) (old new target : CodeVariables) (b one : Bool)
+    → new ≡ (if b then target else old) → (b ≡ true → field target ≡ (field old || one))
+    → field new ≡ (field old || (b && one))
+put_in field old new target true one is here = ap field is ∙ here refl
+put_in field old new target false one is here = ap field is ∙ or_none (field old)
 
-pub returns-then-is_event : goal.returns-then-is_event
-returns-then-is_event c = λ key. without_code (code_target c.args.lasting.now key) (bytes_eq key c.args.code.now)
-    ∙ ap (λ (e : Bool). code_target c.args.lasting.now key || (bytes_eq key c.args.code.now && not e))
-    (sym c.if-is_event.true ∙ c.is_event.ensures)
+pub returns-clause-lasts : goal.returns-clause-lasts
+returns-clause-lasts c = λ key.
+    let old = c.args.variables.now in
+    let code = c.args.code.now in
+    put_in (λ (v : CodeVariables). v.lasts) (code_target old key) (code_target c.insert.new.self key) _
+    (bytes_eq key code) c.args.lasts (c.in_ok-insert.ensures key)
+    (λ same. c.either.ensures ∙ ap (λ (v : CodeVariables). v.lasts || c.args.lasts) c.get-found.ensures
+    ∙ ap (λ (k : List ℕ). (code_target old k).lasts || c.args.lasts) (sym (same_bytes key code same)))
 
-pub returns : goal.returns
-returns c = λ key. c.in_ok-insert.ensures key ∙ with_code (code_target c.args.lasting.now key)
-    (bytes_eq key c.args.code.now)
-    ∙ ap (λ (e : Bool). code_target c.args.lasting.now key || (bytes_eq key c.args.code.now && not e))
-    (sym c.if-is_event.false ∙ c.is_event.ensures)
+pub returns-clause-kept : goal.returns-clause-kept
+returns-clause-kept c = λ key.
+    let old = c.args.variables.now in
+    let code = c.args.code.now in
+    put_in (λ (v : CodeVariables). v.is_kept) (code_target old key) (code_target c.insert.new.self key) _
+    (bytes_eq key code) c.args.is_kept (c.in_ok-insert.ensures key)
+    (λ same. c.either-2.ensures ∙ ap (λ (v : CodeVariables). v.is_kept || c.args.is_kept) c.get-found.ensures
+    ∙ ap (λ (k : List ℕ). (code_target old k).is_kept || c.args.is_kept) (sym (same_bytes key code same)))

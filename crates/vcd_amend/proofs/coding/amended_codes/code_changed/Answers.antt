@@ -3,7 +3,8 @@ use Rattle.std.proofs.lemmas.List.{drop_all}
 use Rattle.vcd_amend.specs.AmendmentContents.{code_contents}
 use Rattle.vcd_amend.specs.inside.coding.ChangedWaves.{changed_contents, as_new_wave, new_waves_of}
 use Rattle.vcd_amend.specs.inside.coding.Codes.{GetCodes}
-use Rattle.vcd_amend.proofs.coding.amended_codes.Waves.{get_more, next_wave}
+use Rattle.vcd_amend.proofs.coding.CodesInTurn.{get_more}
+use Rattle.vcd_amend.proofs.shared.Lists.{drop_next}
 use Rattle.vcd_amend.proofs.coding.amended_codes.code_changed.Goals as goal
 
 pub loop-wave-preserved : goal.loop-wave-preserved
@@ -14,7 +15,7 @@ loop-wave-preserved c = record {
       let ws = c.args.changed.now in
       let i = c.loop-wave.wave-index in
       let w = as_new_wave (changed_contents c.wave-item.result) in
-      let next : new_waves_of (drop i ws) ≡ w ∷ new_waves_of (drop (i + 1) ws) = ap (map as_new_wave) (next_wave
+      let next : new_waves_of (drop i ws) ≡ w ∷ new_waves_of (drop (i + 1) ws) = ap (map as_new_wave) (drop_next
       changed_contents ws i c.wave-item.result (omega arith) c.wave-item.is) in
       let before = map code_contents c.args.codes.now.items in
       let middle = map code_contents c.loop-wave.codes.items in

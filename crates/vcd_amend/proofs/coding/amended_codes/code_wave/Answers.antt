@@ -3,7 +3,7 @@ use Rattle.std.specs.Prelude.{bytes_eq}
 use Rattle.vcd_core.specs.Word.{is_one_of}
 use Rattle.vcd_amend.specs.AmendmentContents.{code_contents}
 use Rattle.vcd_amend.specs.inside.coding.ChangedWaves.{changed_contents, as_new_wave}
-use Rattle.vcd_amend.proofs.coding.amended_codes.Waves.{get_own, get_fresh}
+use Rattle.vcd_amend.proofs.coding.CodesInTurn.{get_own, get_fresh}
 use Rattle.vcd_amend.proofs.coding.amended_codes.code_wave.Goals as goal
 
 pub returns-then-has_code-clause-codes : goal.returns-then-has_code-clause-codes

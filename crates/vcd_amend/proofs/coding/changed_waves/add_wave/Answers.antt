@@ -1,15 +1,15 @@
-use Rattle.std.proofs.Common.{◌≡◌, ◌∙◌, ◌++◌, ◌∷◌, ◌&&◌, [], true, false, length, refl, sym, ap₂, subst}
-use Rattle.std.proofs.Common.{ℕ, List}
+use Rattle.std.proofs.Common.{◌≡◌, ◌∙◌, ◌++◌, ◌∷◌, ◌&&◌, [], true, false, length, refl, sym, ap₂, subst, ℕ, List}
 use Rattle.std.specs.Prelude.{Some}
 use Rattle.std.specs.List.{slice_get, list_any}
 use Rattle.std.proofs.lemmas.List.{append-nil, length-map}
 use Rattle.vcd_core.specs.CaptureContents.{signal_contents}
 use Rattle.vcd_amend.specs.GivenCodes.{NewWave, same_new_wave, same_own_code, same_changes}
 use Rattle.vcd_amend.specs.inside.coding.KeptSignals.{wave_of_kept}
-use Rattle.vcd_amend.specs.inside.coding.ChangedWaves.{kept_contents, new_waves_of, IsFirst}
-use Rattle.vcd_amend.specs.inside.coding.ChangedWaves.{all_contents, changed_contents, as_new_wave}
+use Rattle.vcd_amend.specs.inside.coding.ChangedWaves.{kept_contents, new_waves_of, IsFirst, all_contents}
+use Rattle.vcd_amend.specs.inside.coding.ChangedWaves.{changed_contents, as_new_wave}
 use Rattle.vcd_amend.proofs.given_codes.NewWaves.{new_wave_itself}
-use Rattle.vcd_amend.proofs.coding.changed_waves.Distinct.{any_at, first_at, first_last}
+use Rattle.vcd_amend.proofs.shared.Lists.{any_at}
+use Rattle.vcd_amend.proofs.coding.ChangedWaves.{first_at, first_last}
 use Rattle.vcd_amend.proofs.coding.changed_waves.add_wave.Goals as goal
 
 pub returns-in-Some-clause-waves : goal.returns-in-Some-clause-waves

@@ -4,7 +4,7 @@ use Rattle.indexmap.proofs.SetLemmas.{AllZip-push}
 use Rattle.vcd_amend.specs.inside.coding.KeptSignals.{changed_wave, changed_waves, KeptContents}
 use Rattle.vcd_amend.specs.inside.coding.ChangedWaves.{kept_contents, new_waves_of, unseen, AreIndices, IsIndexOf}
 use Rattle.vcd_amend.specs.inside.coding.ChangedWaves.{AreDistinct}
-use Rattle.vcd_amend.proofs.coding.changed_waves.Distinct.{changed_more, changed_distinct, indices_later}
+use Rattle.vcd_amend.proofs.coding.ChangedWaves.{changed_more, changed_distinct, indices_later}
 use Rattle.vcd_amend.proofs.coding.changed_waves.changed_waves.Goals as goal
 
 pub loop-signal-preserved : goal.loop-signal-preserved

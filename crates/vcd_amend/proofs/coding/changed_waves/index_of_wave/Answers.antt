@@ -4,8 +4,8 @@ use Rattle.std.specs.List.{slice_get}
 use Rattle.std.specs.Prelude.{Some, option_map}
 use Rattle.std.proofs.lemmas.Option.{slice_get-map}
 use Rattle.vcd_amend.specs.inside.coding.ChangedWaves.{all_contents, changed_contents, as_new_wave}
-use Rattle.vcd_amend.proofs.coding.changed_waves.Chains.{IsLeft, is_within, finds, goes_on, nearer, ends, count_left}
-use Rattle.vcd_amend.proofs.coding.changed_waves.Distinct.{at_item}
+use Rattle.vcd_amend.proofs.coding.ChangedWaves.{IsLeft, is_within, finds, goes_on, nearer, ends, count_left}
+use Rattle.vcd_amend.proofs.shared.Lists.{at_item}
 use Rattle.vcd_amend.proofs.coding.changed_waves.index_of_wave.Goals as goal
 
 pub index-wave-requires : goal.index-wave-requires

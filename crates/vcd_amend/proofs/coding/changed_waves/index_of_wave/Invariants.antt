@@ -1,5 +1,5 @@
 use Rattle.vcd_amend.specs.inside.coding.ChangedWaves.{all_contents}
-use Rattle.vcd_amend.proofs.coding.changed_waves.Chains.{IsLeft, count_left}
+use Rattle.vcd_amend.proofs.coding.ChangedWaves.{IsLeft, count_left}
 use Rattle.vcd_amend.proofs.coding.changed_waves.index_of_wave.Given as goal
 
 abbrev pub decreases-loop-next : goal.decreases-loop-next

@@ -3,8 +3,7 @@ use Rattle.std.specs.Prelude.{Some, bytes_eq}
 use Rattle.std.proofs.lemmas.List.{length-map, map-append}
 use Rattle.vcd_amend.specs.inside.coding.ChangedWaves.{all_contents, changed_contents, ChangedContents, AreChained}
 use Rattle.vcd_amend.specs.inside.coding.ChangedWaves.{newest_from, index_in}
-use Rattle.vcd_amend.proofs.coding.changed_waves.Chains.{chained_more, newest_more}
-use Rattle.vcd_amend.proofs.coding.changed_waves.Newest.{index_put}
+use Rattle.vcd_amend.proofs.coding.ChangedWaves.{chained_more, newest_more, index_put}
 use Rattle.vcd_amend.proofs.coding.changed_waves.push_wave.Goals as goal
 
 pub returns-clause-leads : goal.returns-clause-leads

@@ -1,7 +1,7 @@
 use Rattle.std.proofs.Common.{◌||◌, ◌∙◌, ap}
 use Rattle.std.specs.Prelude.{bytes_eq}
 use Rattle.std.specs.List.{list_any}
-use Rattle.vcd_amend.proofs.coding.code_set.Sets.{added}
+use Rattle.vcd_amend.proofs.coding.CodesInTurn.{added}
 use Rattle.vcd_amend.specs.inside.coding.Codes.{has_code}
 use Rattle.vcd_amend.proofs.coding.code_set.add_code.Goals as goal
 

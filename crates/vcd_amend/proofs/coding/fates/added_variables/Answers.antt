@@ -5,7 +5,7 @@ use Rattle.vcd_core.specs.CaptureContents.{signal_contents}
 use Rattle.vcd_amend.specs.declared.amendment.AmendedCode.{AmendedCode}
 use Rattle.vcd_amend.specs.AmendmentContents.{code_contents}
 use Rattle.vcd_amend.specs.inside.coding.Codes.{variables_by_codes}
-use Rattle.vcd_amend.proofs.coding.fates.ByIndex.{more_variables, variables_all}
+use Rattle.vcd_amend.proofs.coding.FatesByIndex.{more_variables, variables_all}
 use Rattle.vcd_amend.proofs.coding.fates.added_variables.Goals as goal
 
 pub loop-position-preserved : goal.loop-position-preserved

@@ -3,7 +3,7 @@ use Rattle.std.proofs.lemmas.Grind.{common_steps}
 use Rattle.std.proofs.lemmas.List.{map-append}
 use Rattle.vcd_amend.specs.AmendmentContents.{code_contents}
 use Rattle.vcd_amend.specs.inside.coding.ChangedWaves.{kept_contents}
-use Rattle.vcd_amend.proofs.coding.fates.ByIndex.{more_fates}
+use Rattle.vcd_amend.proofs.coding.FatesByIndex.{more_fates}
 use Rattle.vcd_amend.proofs.coding.fates.fates.Goals as goal
 
 pub loop-position-preserved : goal.loop-position-preserved

@@ -1,6 +1,6 @@
 use Rattle.std.proofs.Common.{append_assoc, arith}
 use Rattle.std.proofs.lemmas.Grind.{common_steps}
-use Rattle.vcd_amend.proofs.coding.fresh_codes.Positions.{lowest_digit, no_digits}
+use Rattle.vcd_text.proofs.shared.CodesDiffer.{lowest_digit, no_digits}
 use Rattle.vcd_amend.proofs.coding.fresh_codes.code_at.Goals as goal
 
 pub loop-left-preserved : goal.loop-left-preserved

@@ -2,7 +2,7 @@ use Rattle.std.proofs.Common.{arith, take, map}
 use Rattle.std.proofs.lemmas.Grind.{common_steps}
 use Rattle.std.proofs.lemmas.List.{map_more}
 use Rattle.vcd_amend.specs.DeclaredVariables.{declaration_of_variable}
-use Rattle.vcd_amend.proofs.coding.fresh_codes.Positions.{one_more_known, or_or}
+use Rattle.vcd_amend.proofs.coding.CodesInTurn.{one_more_known, or_or}
 use Rattle.vcd_amend.proofs.coding.fresh_codes.known_codes.Goals as goal
 
 pub loop-variable-preserved : goal.loop-variable-preserved

@@ -1,7 +1,7 @@
 use Rattle.std.proofs.Common.{◌+◌, ◌∙◌, sym, ap}
 use Rattle.vcd_amend.specs.FreshCodes.{fresh_code}
 use Rattle.vcd_amend.specs.inside.coding.Codes.{has_code}
-use Rattle.vcd_amend.proofs.coding.fresh_codes.Positions.{is_next, counts, passes}
+use Rattle.vcd_amend.proofs.coding.CodesInTurn.{is_next, counts, passes}
 use Rattle.vcd_amend.proofs.coding.fresh_codes.next_fresh_code.Goals as goal
 
 pub returns-then-not-has_code-clause-code : goal.returns-then-not-has_code-clause-code

@@ -12,7 +12,7 @@ use Rattle.vcd_amend.specs.AmendedRun.{signal_from}
 use Rattle.vcd_amend.specs.DeclaredVariables.{declaration_of_variable}
 use Rattle.vcd_amend.specs.inside.coding.KeptSignals.{kept_signals, kept_signal}
 use Rattle.vcd_amend.specs.inside.coding.ChangedWaves.{kept_contents}
-use Rattle.vcd_amend.proofs.coding.kept_signals.Rows.{place_of, kept_next, skipped_next, next_row, kept_before}
+use Rattle.vcd_amend.proofs.coding.KeptSignals.{place_of, kept_next, skipped_next, next_row, kept_before}
 use Rattle.vcd_amend.proofs.coding.kept_signals.kept_signals.Goals as goal
 use Rattle.vcd_amend.proofs.coding.kept_signals.kept_signals.Goals.{then-not-is_skipped+in_ok-push, else-not-is_skipped}
 

@@ -4,8 +4,8 @@ use Rattle.std.proofs.lemmas.Bool.{ltb-true, ltb-false}
 use Rattle.std.proofs.lemmas.List.{length-map}
 use Rattle.std.proofs.lemmas.List.Sorted.{IsPartitionPoint-from_clause, IsPartitionedBy-ltb}
 use Rattle.vcd_core.specs.CaptureContents.{signal_contents}
-use Rattle.vcd_amend.proofs.coding.changed_waves.Distinct.{at_item}
-use Rattle.vcd_amend.proofs.coding.kept_signals.Origins.{finds, finds_none, not_there, do_not_fall}
+use Rattle.vcd_amend.proofs.shared.Lists.{at_item}
+use Rattle.vcd_amend.proofs.coding.KeptSignals.{finds, finds_none, not_there, do_not_fall}
 use Rattle.vcd_amend.proofs.coding.kept_signals.signal_from.Goals as goal
 use Rattle.vcd_amend.proofs.coding.kept_signals.signal_from.Goals.{in_default-via-in-Some+else-origin-position}
 use Rattle.vcd_amend.proofs.coding.kept_signals.signal_from.Goals.{in_default-via-in_default}

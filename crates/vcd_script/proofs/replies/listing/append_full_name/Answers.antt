@@ -2,7 +2,7 @@ use Rattle.std.proofs.Common.{◌++◌, List, ℕ, ap, ◌∙◌, arith}
 use Rattle.std.specs.List.{concat}
 use Rattle.vcd_core.specs.declared.capture.ScopeName.{ScopeName}
 use Rattle.vcd_core.specs.Names.{name_in}
-use Rattle.vcd_script.proofs.replies.listing.PrintedSignals.{scope_printed, name_printed}
+use Rattle.vcd_script.proofs.replies.PrintedSignals.{scope_printed, name_printed}
 use Rattle.vcd_script.proofs.replies.listing.append_full_name.Goals as goal
 
 pub loop-scope-preserved : goal.loop-scope-preserved

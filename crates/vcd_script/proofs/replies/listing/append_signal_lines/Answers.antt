@@ -1,5 +1,5 @@
 use Rattle.std.proofs.Common.{arith}
-use Rattle.vcd_script.proofs.replies.listing.PrintedSignals.{signal_printed, signals_printed}
+use Rattle.vcd_script.proofs.replies.PrintedSignals.{signal_printed, signals_printed}
 use Rattle.vcd_script.proofs.replies.listing.append_signal_lines.Goals as goal
 
 pub loop-position-preserved : goal.loop-position-preserved

@@ -2,8 +2,7 @@
 use Rattle.std.proofs.Common.{arith, rules}
 use Rattle.std.proofs.KnownBytes.{Appends-kept}
 use Rattle.vcd_script.proofs.running.PartsOfRun.{at_error}
-use Rattle.vcd_script.proofs.running.run_lines.LinesLeft.{reply_more, none_left, no_lines}
-use Rattle.vcd_script.proofs.running.run_lines.StoppedByFault.{line_stops, flush_stops}
+use Rattle.vcd_script.proofs.running.LinesLeft.{reply_more, none_left, no_lines, line_stops, flush_stops}
 use Rattle.vcd_script.proofs.running.run_lines.run_lines.Goals as goal
 
 pub loop-line-preserved : goal.loop-line-preserved

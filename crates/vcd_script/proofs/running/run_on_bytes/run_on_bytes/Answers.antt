@@ -1,7 +1,7 @@
 -- The texts are what both sinks took.
 use Rattle.std.proofs.Common.{refl}
 use Rattle.vcd_script.proofs.shared.LawsOfRun.{run_laws}
-use Rattle.vcd_script.proofs.running.run_on_bytes.ResultOfRun.{texts_of_run, refusal_of_run}
+use Rattle.vcd_script.proofs.running.ResultOfRun.{texts_of_run, refusal_of_run}
 use Rattle.vcd_script.proofs.running.run_on_bytes.run_on_bytes.Goals as goal
 
 pub returns-in-Ok-clause-headline : goal.returns-in-Ok-clause-headline

@@ -1,5 +1,5 @@
 use Rattle.std.proofs.Common.{◌≡◌, rules, sym, ap, ◌∙◌, Err}
-use Rattle.vcd_script.proofs.script.numbers.ParsedNumbers.{no_distance, parsed_distance}
+use Rattle.vcd_script.proofs.script.ParsedNumbers.{no_distance, parsed_distance}
 use Rattle.vcd_script.proofs.script.numbers.distance_of_word.Goals as goal
 
 pub returns-in_err-text_of : goal.returns-in_err-text_of

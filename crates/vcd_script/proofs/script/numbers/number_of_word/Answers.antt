@@ -1,5 +1,5 @@
 use Rattle.std.proofs.Common.{◌≢◌, get_or, rules}
-use Rattle.vcd_script.proofs.script.numbers.ParsedNumbers.{parsed_number}
+use Rattle.vcd_script.proofs.script.ParsedNumbers.{parsed_number}
 use Rattle.vcd_script.proofs.script.numbers.number_of_word.Goals as goal
 use Rattle.vcd_script.proofs.script.numbers.number_of_word.Goals.{in_default-via-then-word-lt1}
 use Rattle.vcd_script.proofs.script.numbers.number_of_word.Goals.{in_default-via-else-word-lt1+in_default-1}

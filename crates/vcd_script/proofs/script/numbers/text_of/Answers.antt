@@ -1,5 +1,5 @@
 use Rattle.std.proofs.Common.{rules}
-use Rattle.vcd_script.proofs.script.numbers.ParsedNumbers.{no_text}
+use Rattle.vcd_script.proofs.script.ParsedNumbers.{no_text}
 use Rattle.vcd_script.proofs.script.numbers.text_of.Goals as goal
 
 pub returns-clause-fault : goal.returns-clause-fault

@@ -1,5 +1,5 @@
 use Rattle.std.proofs.Common.{sym, ◌∙◌}
-use Rattle.vcd_script.proofs.script.splitting.FirstLine.{first_at, last_at}
+use Rattle.vcd_script.proofs.script.FirstLine.{first_at, last_at}
 use Rattle.vcd_script.proofs.script.splitting.split_line.Goals as goal
 
 pub returns-in-Some : goal.returns-in-Some

@@ -2,7 +2,7 @@ use Rattle.std.proofs.Common.{◌≡◌, ◌∷◌, ◌+◌, [], false, not, con
 use Rattle.std.specs.Prelude.{slice_index_or}
 use Rattle.std.proofs.lemmas.List.{length-append}
 use Rattle.vcd_text.specs.AsDeclared.{signal_declared, declared_contents}
-use Rattle.vcd_text.proofs.reading.variables.DeclaredLists.{pushed_test, one_more, one_or_none}
+use Rattle.vcd_text.proofs.reading.variables.SignalsOfVariables.{pushed_test, one_more, one_or_none}
 use Rattle.vcd_text.proofs.reading.choice.left_out_signals.Goals as goal
 
 pub loop-position-preserved : goal.loop-position-preserved

@@ -1,5 +1,4 @@
-use Rattle.std.proofs.Common.{◌≡◌, ◌+◌, ◌*◌, ◌/◌, ◌<◌, true, false, ℕ, [], List, Option, Some, None}
-use Rattle.std.proofs.Common.{length, take, drop}
+use Rattle.std.proofs.Common.{◌≡◌, ◌+◌, ◌*◌, ◌/◌, ◌<◌, true, false, ℕ, [], List, Option, Some, None, length, take, drop}
 use Rattle.std.proofs.Common.{get_or, rules, sym, ap, ◌∙◌, arith}
 use Rattle.std.specs.Prelude.{MatchOption}
 use Rattle.std.specs.List.{list_all}
@@ -11,8 +10,7 @@ use Rattle.vcd_core.specs.BlockRows.{HoldsLetters}
 use Rattle.vcd_text.specs.Letters.{is_binary_digit, letters_of_digits}
 use Rattle.vcd_text.specs.inside.reading.DigitBlocks.{AddsLetters}
 use Rattle.vcd_text.proofs.reading.digit_blocks.LetterBlocks.{eight_at, eight_more, holds_both, both_are_digits}
-use Rattle.vcd_text.proofs.reading.digit_blocks.LetterBlocks.{not_all_after}
-use Rattle.vcd_text.proofs.reading.digit_blocks.LetterBlocks.{not_all_before}
+use Rattle.vcd_text.proofs.reading.digit_blocks.LetterBlocks.{not_all_after, not_all_before}
 use Rattle.vcd_text.proofs.reading.digit_blocks.block_of_digits.Goals as goal
 
 -- the digits of one of the eights

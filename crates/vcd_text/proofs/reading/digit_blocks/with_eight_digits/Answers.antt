@@ -1,7 +1,7 @@
 use Rattle.std.proofs.Common.{◌≡◌, ◌∙◌, ℕ, true, rules, sym}
 use Rattle.vcd_text.specs.Letters.{is_binary_digit}
 use Rattle.vcd_text.specs.inside.reading.DigitBlocks.{is_two_state}
-use Rattle.vcd_text.proofs.shared.WeakerTests.{all_weaker}
+use Rattle.vcd_text.proofs.shared.ItemTests.{all_weaker}
 use Rattle.vcd_text.proofs.reading.digit_blocks.with_eight_digits.Goals as goal
 
 two_state_is_digit : (digit : ℕ) → is_two_state digit ≡ true → is_binary_digit digit ≡ true

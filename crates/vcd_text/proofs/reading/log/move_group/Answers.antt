@@ -2,8 +2,7 @@ use Rattle.std.proofs.Common.{◌+◌, ◌++◌, drop, get_or, arith}
 use Rattle.std.proofs.lemmas.List.{drop_more, drop_all}
 use Rattle.vcd_text.specs.inside.reading.Log.{changes_of_position}
 use Rattle.vcd_text.specs.declared.reading.log.LoggedChange.{LoggedChange}
-use Rattle.vcd_text.proofs.reading.log.MovedToWaves.{can_apply, moves_one, moves_then, can_still}
-use Rattle.vcd_text.proofs.reading.log.MovedToWaves.{more_left}
+use Rattle.vcd_text.proofs.reading.log.MovedToWaves.{can_apply, moves_one, moves_then, can_still, more_left}
 use Rattle.vcd_text.proofs.reading.log.move_group.Goals as goal
 
 pub move_change-requires : goal.move_change-requires

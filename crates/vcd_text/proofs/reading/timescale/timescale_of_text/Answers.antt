@@ -1,8 +1,42 @@
-use Rattle.std.proofs.Common.{◌≡◌, false, [], ◌∷◌, ◌∙◌, ap, sym, take, rules}
+-- A timescale is a count, the longest that fits, and the name of a unit.
+use Rattle.std.proofs.Common.{◌≡◌, ℕ, Bool, false, cond, Option, Some, None, List, [], ◌∷◌, take, arith, ◌∙◌, ap, sym}
+use Rattle.std.proofs.Common.{rules}
 use Rattle.std.specs.Prelude.{bytes_eq}
-use Rattle.vcd_text.specs.inside.reading.Timescale.{timescale_spelled}
-use Rattle.vcd_text.proofs.reading.timescale.CountAndUnit.{hundred, ten, one, none}
+use Rattle.std.specs.Fmt.{digits}
+use Rattle.std.proofs.Math.Bool.{and-true}
+use Rattle.vcd_core.specs.declared.capture.TimeUnit.{TimeUnit}
+use Rattle.vcd_core.specs.declared.capture.TimeUnit.TheVariants.{Second, Millisecond, Microsecond, Nanosecond}
+use Rattle.vcd_core.specs.declared.capture.TimeUnit.TheVariants.{Picosecond, Femtosecond}
+use Rattle.vcd_core.specs.UnitNames.{unit_named}
+use Rattle.vcd_text.specs.inside.reading.Timescale.{timescale_spelled, timescale_of_unit}
 use Rattle.vcd_text.proofs.reading.timescale.timescale_of_text.Goals as goal
+
+-- the first of the six units that fits
+abbrev first : {A : Type 0} → (TimeUnit → A) → (s ms us ns ps fs : Bool) → Option A
+first f s ms us ns ps fs = cond s (Some (f Second)) (cond ms (Some (f Millisecond)) (cond us (Some (f Microsecond))
+    (cond ns (Some (f Nanosecond)) (cond ps (Some (f Picosecond)) (cond fs (Some (f Femtosecond)) None)))))
+
+first_counted : (n : ℕ) (s ms us ns ps fs : Bool) → first (λ u. record { count = n; unit = u }) s ms us ns ps fs
+    ≡ timescale_of_unit n (first (λ u. u) s ms us ns ps fs)
+first_counted n s ms us ns ps fs = search arith
+
+hundred : (unit : List ℕ) → timescale_spelled (49 ∷ 48 ∷ 48 ∷ unit) ≡ timescale_of_unit 100 (unit_named unit)
+unfolding digits
+hundred unit = first_counted 100 _ _ _ _ _ _
+
+ten : (unit : List ℕ) → bytes_eq (take 3 (49 ∷ 48 ∷ unit)) (49 ∷ 48 ∷ 48 ∷ []) ≡ false
+    → timescale_spelled (49 ∷ 48 ∷ unit) ≡ timescale_of_unit 10 (unit_named unit)
+unfolding digits
+ten unit other = grind (arith, and-true, first_counted)
+
+one : (unit : List ℕ) → bytes_eq (take 2 (49 ∷ unit)) (49 ∷ 48 ∷ []) ≡ false
+    → timescale_spelled (49 ∷ unit) ≡ timescale_of_unit 1 (unit_named unit)
+unfolding digits
+one unit other = grind (arith, and-true, first_counted)
+
+none : (text : List ℕ) → bytes_eq (take 1 text) (49 ∷ []) ≡ false → timescale_spelled text ≡ None
+unfolding digits
+none text other = grind (arith, and-true)
 
 pub returns-in-Some : goal.returns-in-Some
 returns-in-Some c =

@@ -1,8 +1,7 @@
 -- Each turn writes the transitions of one window.
-use Rattle.std.proofs.Common.{◌≤◌, ◌+◌, map, refl, arith}
+use Rattle.std.proofs.Common.{◌≤◌, ◌+◌, map, refl, arith, ap, ◌∙◌}
 use Rattle.vcd_core.specs.CaptureContents.{signal_contents}
 use Rattle.vcd_text.specs.inside.writing.Window.{transitions_of}
-use Rattle.std.proofs.Common.{ap, ◌∙◌}
 use Rattle.vcd_text.proofs.writing.transitions.ItemsOfTicks.{end_left, window_written}
 use Rattle.vcd_text.proofs.writing.output.Pieces.{prefix_grows, prefix_whole}
 use Rattle.std.proofs.lemmas.List.{with_items_is}

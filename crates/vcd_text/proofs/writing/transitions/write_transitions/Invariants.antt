@@ -3,8 +3,7 @@ use Rattle.std.proofs.Common.{◌≤◌, ◌+◌, ◌-◌, map}
 use Rattle.std.specs.List.{flat_map}
 use Rattle.vcd_core.specs.CaptureContents.{signal_contents}
 use Rattle.vcd_text.specs.Text.{item_line}
-use Rattle.vcd_text.specs.inside.writing.Transitions.{items_of_ticks}
-use Rattle.vcd_text.specs.inside.writing.Transitions.{transitions_from}
+use Rattle.vcd_text.specs.inside.writing.Transitions.{items_of_ticks, transitions_from}
 use Rattle.vcd_text.specs.inside.writing.Window.{IsReady}
 use Rattle.vcd_text.proofs.writing.transitions.ItemsOfTicks.{items_left}
 use Rattle.vcd_text.proofs.writing.output.Pieces.{WritesPrefix}

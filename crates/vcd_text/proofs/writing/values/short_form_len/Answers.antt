@@ -1,6 +1,5 @@
 -- A letter that is not redundant begins the short form; so does the last.
-use Rattle.std.proofs.Common.{◌≡◌, ◌+◌, ◌-◌, ◌*◌, ◌/◌, ◌≤◌, ℕ, ap}
-use Rattle.std.proofs.Common.{◌∙◌, arith, inl, inr}
+use Rattle.std.proofs.Common.{◌≡◌, ◌+◌, ◌-◌, ◌*◌, ◌/◌, ◌≤◌, ℕ, ap, ◌∙◌, arith, inl, inr}
 use Rattle.std.proofs.lemmas.Bool.{cases_eq}
 use Rattle.vcd_text.proofs.writing.values.LetterBits.{is_redundant_in}
 use Rattle.vcd_text.proofs.writing.values.ShortForm.{first_needed, more_redundant, short_rest, state_at}

@@ -1,5 +1,5 @@
 -- The part before the code, and the code, are the words.
-use Rattle.vcd_text.proofs.writing.values.BeforeCode.{words_of_value}
+use Rattle.vcd_text.proofs.writing.values.ShortForm.{words_of_value}
 use Rattle.vcd_text.proofs.writing.output.Pieces.{writes_as, writes_both}
 use Rattle.vcd_text.proofs.writing.values.write_change.Goals as goal
 

@@ -5,8 +5,7 @@ use Rattle.std.proofs.lemmas.List.{length-map, with_items_is}
 use Rattle.std.proofs.lemmas.List.Sorted.{All-permutation}
 use Rattle.vcd_core.specs.CaptureContents.{signal_contents}
 use Rattle.vcd_text.specs.inside.writing.Window.{IsKey}
-use Rattle.vcd_text.proofs.writing.window.ChangeCounts.{one_tick_within}
-use Rattle.vcd_text.proofs.writing.window.KeyOrder.{ordered_are}
+use Rattle.vcd_text.proofs.writing.window.WindowOrder.{one_tick_within, ordered_are}
 use Rattle.vcd_text.proofs.writing.window.fill_window.Goals as goal
 
 pub loop-count-preserved : goal.loop-count-preserved

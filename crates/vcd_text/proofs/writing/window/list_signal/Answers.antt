@@ -5,7 +5,7 @@ use Rattle.vcd_text.specs.inside.writing.Cursors.{tick_at}
 use Rattle.vcd_text.specs.inside.writing.Transitions.{Transition, window_of_signal}
 use Rattle.vcd_text.specs.inside.writing.Window.{transition_of_key, transitions_of}
 use Rattle.vcd_text.proofs.writing.cursors.NextChange.{goes_on, steps}
-use Rattle.vcd_text.proofs.writing.window.KeyOrder.{key_holds, one_key}
+use Rattle.vcd_text.proofs.writing.window.WindowOrder.{key_holds, one_key}
 use Rattle.vcd_text.proofs.writing.window.list_signal.Goals as goal
 
 pub loop-next-preserved : goal.loop-next-preserved

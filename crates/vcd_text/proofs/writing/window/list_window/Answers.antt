@@ -3,7 +3,7 @@ use Rattle.std.proofs.Common.{◌<◌, length, sym, ap, ◌∙◌, arith}
 use Rattle.std.proofs.lemmas.List.{length-set}
 use Rattle.vcd_core.specs.declared.capture.Signal.{Signal}
 use Rattle.vcd_text.specs.declared.writing.cursors.Cursor.{Cursor}
-use Rattle.vcd_text.proofs.writing.window.ListedBySignal.{one_listed, all_listed}
+use Rattle.vcd_text.proofs.writing.window.WindowOrder.{one_listed, all_listed}
 use Rattle.vcd_text.proofs.writing.cursors.NextChange.{passed_next}
 use Rattle.vcd_text.proofs.writing.window.list_window.Goals as goal
 

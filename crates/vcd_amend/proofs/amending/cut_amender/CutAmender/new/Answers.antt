@@ -1,5 +1,6 @@
-use Rattle.std.proofs.Common.{[], List, refl, sym, subst, arith}
+use Rattle.std.proofs.Common.{[], List, refl, sym, ap, subst, arith}
 use Rattle.vcd_amend.specs.declared.amending.held_changes.HeldChange.{HeldChange}
+use Rattle.vcd_amend.specs.declared.amending.cut_amender.CodeVariables.{CodeVariables}
 use Rattle.vcd_amend.specs.inside.amending.HeldChanges.{last_held, ArePieces}
 use Rattle.vcd_amend.specs.RetimedCopy.{pieces_so_far, held_after}
 use Rattle.vcd_amend.proofs.amending.cut_amender.CutAmender.new.Goals as goal
@@ -10,7 +11,8 @@ returns c = (
   record {
     seen = c.in_ok-inner.ensures.0;
     holds = subst (λ (l : List HeldChange). ArePieces (last_held l) []) (sym c.new-3.ensures.items) tt;
-    lasting = c.new-2.ensures;
+    lasting = λ code. ap (λ (v : CodeVariables). v.lasts) (c.new-2.ensures code);
+    kept = λ code. ap (λ (v : CodeVariables). v.is_kept) (c.new-2.ensures code);
     is_cut = c.retimed_tick-first.ensures.cut;
     tick = c.retimed_tick-first.ensures.tick;
     behind = omega arith;

@@ -1,9 +1,11 @@
-use Rattle.std.proofs.Common.{◌∙◌, ◌++◌, ◌∷◌, [], Bool, sym, ap, subst, if◌then◌else◌, not}
+use Rattle.std.proofs.Common.{◌∙◌, ◌++◌, ◌∷◌, [], Bool, ◌&&◌, sym, ap, subst, if◌then◌else◌, not}
 use Rattle.std.specs.List.{filter}
-use Rattle.vcd_amend.specs.Retimed.{change_key, has_key}
+use Rattle.vcd_amend.specs.Retimed.{change_key, counts_with, has_kept_variable}
 use Rattle.vcd_amend.specs.inside.amending.HeldChanges.{last_held, ArePieces, key_of}
 use Rattle.std.proofs.lemmas.List.{append-nil}
 use Rattle.vcd_text.specs.Copied.{copied_pieces}
+use Rattle.vcd_text.specs.Pieces.{state_of_pieces}
+use Rattle.vcd_amend.specs.declared.amending.cut_amender.CodeVariables.{CodeVariables}
 use Rattle.vcd_text.proofs.shared.EmittedParts.{writes_as, writes_none, more_none}
 use Rattle.vcd_amend.specs.inside.amending.FileAmender.{HasSeen}
 use Rattle.vcd_amend.specs.inside.amending.CutAmender.{rules_of, sent_for, held_for, cut_of}
@@ -33,10 +35,12 @@ returns-then-self-clause-at g c = λ before p at here.
     (subst (λ (b : Bool). HasSeen m.inner (sent ++ (if b then [] else p ∷ []))) (sym c.if-self.true)
     (subst (HasSeen m.inner) (sym (append-nil sent)) at.seen))
     (subst (λ (b : Bool). ArePieces (last_held c.hold.new.held.items)
-    (filter (λ q. not (has_key (key_of c.args.is_text c.args.code.now) (change_key q.item))) (held_for
-    (cut_of m) before)
-    ++ (if b then p ∷ [] else []))) c.is_held-is_held.ensures
-    (c.in_ok-hold.ensures (held_for (cut_of m) before) p at.holds here))
+    (filter (λ q. not (counts_with (has_kept_variable (state_of_pieces 0 before)) (key_of c.args.is_text
+    c.args.code.now) (change_key q.item))) (held_for (cut_of m) before)
+    ++ (if b then p ∷ [] else [])))
+    (c.is_held.ensures ∙ ap (λ (v : CodeVariables). m.is_cut && v.lasts) c.get-variables.ensures)
+    (c.in_ok-hold.ensures (has_kept_variable (state_of_pieces 0 before)) (held_for (cut_of m) before) p
+    (sym (ap (λ (v : CodeVariables). v.is_kept) c.get-variables.ensures ∙ at.kept c.args.code.now)) at.holds here))
 
 pub returns-clause-written : goal.returns-clause-written
 returns-clause-written g c = λ before p at here.
@@ -55,7 +59,9 @@ returns-clause-at g c = λ before p at here.
     (subst (λ (b : Bool). HasSeen c.put_change.new.inner (sent ++ (if b then [] else p ∷ []))) (sym c.if-self.false)
     (c.put_change.ensures.seen sent p at.seen here))
     (subst (λ (b : Bool). ArePieces (last_held c.hold.new.held.items)
-    (filter (λ q. not (has_key (key_of c.args.is_text c.args.code.now) (change_key q.item))) (held_for
-    (cut_of m) before)
-    ++ (if b then p ∷ [] else []))) c.is_held-is_held.ensures
-    (c.in_ok-hold.ensures (held_for (cut_of m) before) p at.holds here))
+    (filter (λ q. not (counts_with (has_kept_variable (state_of_pieces 0 before)) (key_of c.args.is_text
+    c.args.code.now) (change_key q.item))) (held_for (cut_of m) before)
+    ++ (if b then p ∷ [] else [])))
+    (c.is_held.ensures ∙ ap (λ (v : CodeVariables). m.is_cut && v.lasts) c.get-variables.ensures)
+    (c.in_ok-hold.ensures (has_kept_variable (state_of_pieces 0 before)) (held_for (cut_of m) before) p
+    (sym (ap (λ (v : CodeVariables). v.is_kept) c.get-variables.ensures ∙ at.kept c.args.code.now)) at.holds here))

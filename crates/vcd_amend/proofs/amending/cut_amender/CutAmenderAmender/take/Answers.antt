@@ -5,7 +5,7 @@ use Rattle.std.specs.Prelude.{bytes_eq, codes}
 use Rattle.std.proofs.lemmas.Result.{on_ok_weaker}
 use Rattle.vcd_core.specs.declared.capture.ScopeName.{ScopeName}
 use Rattle.vcd_text.specs.Items.{Item, end_definitions}
-use Rattle.vcd_text.specs.Grammar.{ParseState, state_after_item}
+use Rattle.vcd_text.specs.Grammar.{ParseState, state_after_item, is_skipped}
 use Rattle.vcd_text.specs.Text.{item_line}
 use Rattle.vcd_text.specs.Pieces.{state_of_pieces}
 use Rattle.vcd_text.specs.Copied.{copied_pieces, may_be_amended}
@@ -15,14 +15,14 @@ use Rattle.vcd_amend.specs.AmendmentContents.{amendment_contents}
 use Rattle.vcd_amend.specs.AmendedItems.{item_fate, inserted_items, still_none_yet, added_declarations}
 use Rattle.vcd_amend.specs.AmendedItems.{variable_item_fate, declaration_fate}
 use Rattle.vcd_amend.specs.AmendedText.{bytes_in_place}
-use Rattle.vcd_amend.specs.Retimed.{lasts}
+use Rattle.vcd_amend.specs.Retimed.{lasts, has_kept_variable}
 use Rattle.vcd_amend.specs.RetimedLaws.{is_neither}
 use Rattle.vcd_amend.specs.inside.amending.FileAmender.{declared_in, with_declared, piece_of_variable}
 use Rattle.vcd_amend.specs.inside.amending.CutAmender.{rules_of, sent_for, held_for, cut_of}
 use Rattle.vcd_amend.proofs.declarations.collector.Collected.{next_variable, at_any_limit}
 use Rattle.vcd_amend.proofs.amending.SeenItems.{before_state, before_none, seen_more, stamp_is_later, end_passes}
 use Rattle.vcd_amend.proofs.amending.CutPieces.{one_copied, plain_is, key_of_value, key_of_text, on_error}
-use Rattle.vcd_amend.proofs.amending.CutSteps.{plain_seen, lasts_as, lasts_more}
+use Rattle.vcd_amend.proofs.amending.CutSteps.{plain_seen, lasts_as, lasts_more, kept_as, kept_more}
 use Rattle.vcd_amend.proofs.amending.cut_amender.CutAmenderAmender.take.Goals as goal
 
 pub take_variable-requires : goal.take_variable-requires
@@ -42,11 +42,11 @@ take_variable-requires g c =
       v.number,
     )
 
-pub returns-in_err-note_lasting-in-Variable-clause-more : goal.returns-in_err-note_lasting-in-Variable-clause-more
-returns-in_err-note_lasting-in-Variable-clause-more g c = on_error _ more_none
+pub returns-in_err-note_at_code-in-Variable-clause-more : goal.returns-in_err-note_at_code-in-Variable-clause-more
+returns-in_err-note_at_code-in-Variable-clause-more g c = on_error _ more_none
 
-pub returns-in_ok-note_lasting-in-Variable-clause-written : goal.returns-in_ok-note_lasting-in-Variable-clause-written
-returns-in_ok-note_lasting-in-Variable-clause-written g c = on_ok_weaker c.take_variable.result
+pub returns-in_ok-note_at_code-in-Variable-clause-written : goal.returns-in_ok-note_at_code-in-Variable-clause-written
+returns-in_ok-note_at_code-in-Variable-clause-written g c = on_ok_weaker c.take_variable.result
     (λ written limit before p at taken.
     let m = c.args.self.now in
     let a = amendment_contents m.inner.amendment.now in
@@ -69,8 +69,8 @@ returns-in_ok-note_lasting-in-Variable-clause-written g c = on_ok_weaker c.take_
     (written s none v.kind v.size v.code v.names p at.seen v.is_variable v.number piece))
     c.take_variable.ensures.written
 
-pub returns-in_ok-note_lasting-in-Variable-clause-seen : goal.returns-in_ok-note_lasting-in-Variable-clause-seen
-returns-in_ok-note_lasting-in-Variable-clause-seen g c = on_ok_weaker c.take_variable.result
+pub returns-in_ok-note_at_code-in-Variable-clause-seen : goal.returns-in_ok-note_at_code-in-Variable-clause-seen
+returns-in_ok-note_at_code-in-Variable-clause-seen g c = on_ok_weaker c.take_variable.result
     (λ moved limit before p at taken.
     let m = c.args.self.now in
     let a = amendment_contents m.inner.amendment.now in
@@ -83,14 +83,18 @@ returns-in_ok-note_lasting-in-Variable-clause-seen g c = on_ok_weaker c.take_var
     let own = declared_in first v.kind v.size v.code v.names in
     let state : state_after_item first p.item ≡ with_declared first own =
     ap (state_after_item first) v.item_is ∙ v.declares first in
-    plain_seen m before at p (ap is_neither v.item_is) c.take_variable.new.self c.note_lasting.new.lasting
+    plain_seen m before at p (ap is_neither v.item_is) c.take_variable.new.self c.note_at_code.new.variables
     (seen_more c.take_variable.new.self a sent p (with_declared s d) none
     (ap amendment_contents c.take_variable.ensures.same) (ap (state_after_item s) v.item_is ∙ v.declares s)
     (ap (still_none_yet none (item_fate a s p.item)) v.item_is)
     (moved s none v.kind v.size v.code v.names at.seen v.is_variable v.number))
-    (λ key. c.in_ok-note_lasting-in-Variable.ensures v.kind v.size v.code v.names v.is_variable key
+    (λ key. c.in_ok-note_at_code-in-Variable.ensures.lasts v.kind v.size v.code v.names v.is_variable key
     ∙ ap (λ (b : Bool). b || (bytes_eq key v.code && not (bytes_eq v.kind (codes "event")))) (at.lasting key)
-    ∙ lasts_more first own key ∙ ap (λ (t : ParseState). lasts t key) (sym state))) c.take_variable.ensures.at
+    ∙ lasts_more first own key ∙ ap (λ (t : ParseState). lasts t key) (sym state))
+    (λ key. c.in_ok-note_at_code-in-Variable.ensures.kept v.kind v.size v.code v.names v.is_variable v.number key
+    ∙ ap (λ (b : Bool). b || (bytes_eq key v.code && not (is_skipped own))) (at.kept key)
+    ∙ kept_more first own key ∙ ap (λ (t : ParseState). has_kept_variable t key) (sym state)))
+    c.take_variable.ensures.at
 
 pub returns-in-EndDefinitions-clause-written : goal.returns-in-EndDefinitions-clause-written
 returns-in-EndDefinitions-clause-written g c = λ limit before p at taken.
@@ -120,10 +124,12 @@ returns-in-EndDefinitions-clause-seen g c = λ limit before p at taken.
     let first = state_of_pieces 0 before in
     let none = before_none a sent in
     let (is, open_is) = rw c.in-EndDefinitions.is at taken.shown.shows in
-    plain_seen m before at p (ap is_neither is) m.inner m.lasting
+    plain_seen m before at p (ap is_neither is) m.inner m.variables
     (seen_more m.inner a sent p (state_after_item s end_definitions) none refl (ap (state_after_item s) is)
     (ap (still_none_yet none (item_fate a s p.item)) is) (end_passes m.inner s none at.seen))
     (λ code. at.lasting code ∙ sym (lasts_as (state_after_item first p.item) first code
+    (ap (λ (i : Item). (state_after_item first i).declared) is)))
+    (λ code. at.kept code ∙ sym (kept_as (state_after_item first p.item) first code
     (ap (λ (i : Item). (state_after_item first i).declared) is)))
 
 pub returns-in-Stamp-clause-written : goal.returns-in-Stamp-clause-written

@@ -1,4 +1,5 @@
-use Rattle.std.proofs.Common.{◌≡◌, ◌++◌, inr, inl, sym, ap, subst, ◌∙◌, arith, false}
+use Rattle.std.proofs.Common.{◌≡◌, ◌++◌, ◌==◌, ℕ, length, inr, inl, sym, ap, subst, ◌∙◌, arith, false}
+use Rattle.std.proofs.lemmas.List.Sums.{count_by-le-length}
 use Rattle.vcd_text.specs.inside.Copying.{TookCopy}
 use Rattle.vcd_text.specs.EmittedText.{Emits}
 use Rattle.vcd_text.specs.declared.fault.ReadError.{ReadError}
@@ -16,6 +17,21 @@ use Rattle.vcd_text.proofs.writing.output.Pieces.{more_both, writes_more}
 use Rattle.vcd_text.proofs.shared.WordsByBytes.{complete_are_few, after_are_few}
 use Rattle.vcd_text.proofs.copying.copier.Copier.finish.Goals as goal
 use Rattle.vcd_text.proofs.shared.FailedResults.{err_is}
+
+pub invariant_of-word : goal.invariant_of-word
+invariant_of-word g c =
+    let (limit, most, first, bytes, taken) = c.requires.reading in
+    record {
+      lines_fit = omega (
+        arith,
+        taken.lines,
+        taken.short,
+        taken.size,
+        taken.small,
+        count_by-le-length (λ b. b == 10) bytes,
+        ap (length {A = ℕ}) c.as_slice.ensures,
+      );
+    }
 
 pub copy_words-requires-clause-reading : goal.copy_words-requires-clause-reading
 copy_words-requires-clause-reading g c =

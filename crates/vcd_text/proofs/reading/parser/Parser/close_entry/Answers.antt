@@ -6,6 +6,6 @@ use Rattle.vcd_text.proofs.reading.parser.Parser.close_entry.Goals as goal
 pub returns : goal.returns
 returns c =
     let m = c.args.self.now in
-    closes_entry m (record m { header = c.push.new.self; words = c.words_out_of-words.new.words; item = items.Nothing })
+    closes_entry m (record m { header = c.push.new.self; entry = c.replace-words.new.dest; item = items.Nothing })
     c.args.kind c.requires (c.in_ok-push.ensures.items ∙ ap (λ ws. m.header.items
-    ++ record { kind = c.args.kind; words = ws } ∷ []) c.words_out_of-words.ensures) refl
+    ++ record { kind = c.args.kind; words = ws } ∷ []) (c.in_ok-words.ensures ∙ c.replace-words.ensures.value)) refl

@@ -28,7 +28,7 @@ returns-clause-words c = λ asked. record {
       no_early_tick = λ _. refl;
       no_early_change = λ _. refl;
       none_seen = λ _. refl;
-      tells = tells_nothing (record { left_out = c.new-5.result; first = 0; last = END_LIMIT })
+      tells = tells_nothing (record { left_out = c.new-6.result; first = 0; last = END_LIMIT })
           (initial_state c.args.limit) [] refl refl;
       hears = λ late. absurd (false≢true late);
       part_is = λ late. absurd (false≢true late);

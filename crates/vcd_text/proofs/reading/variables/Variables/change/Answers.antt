@@ -1,6 +1,6 @@
 use Rattle.std.proofs.Common.{inl, inr, sym, ap, ◌∙◌}
 use Rattle.vcd_text.specs.declared.reading.code_targets.CodeTarget.TheVariants.{Kept}
-use Rattle.vcd_text.proofs.reading.changes.PartSteps.{checked, kept_in_time}
+use Rattle.vcd_text.proofs.reading.variables.ChangedVariable.{checked, kept_in_time}
 use Rattle.vcd_text.proofs.reading.variables.Variables.change.Goals as goal
 
 pub returns-then-is_late : goal.returns-then-is_late

@@ -3,8 +3,7 @@ use Rattle.std.proofs.lemmas.Bool.{eqb-true}
 use Rattle.std.proofs.lemmas.List.{nil_from_length}
 use Rattle.std.specs.Vec.{with_item}
 use Rattle.vcd_text.specs.declared.reading.log.LoggedChange.{LoggedChange}
-use Rattle.vcd_text.proofs.reading.variables.ChangedVariable.{wave_late, refused}
-use Rattle.vcd_text.proofs.reading.variables.ChangedVariable.{wide_changes, narrow_changes}
+use Rattle.vcd_text.proofs.reading.variables.ChangedVariable.{wave_late, refused, wide_changes, narrow_changes}
 use Rattle.vcd_text.proofs.reading.variables.Variables.change_at.Goals as goal
 use Rattle.vcd_text.proofs.shared.FailedResults.{err_is}
 

@@ -1,6 +1,6 @@
 use Rattle.std.proofs.Common.{map, sym, ap, ◌∙◌}
 use Rattle.std.specs.Prelude.{slice_get}
-use Rattle.vcd_text.proofs.reading.variables.DeclaredLists.{placed_variables, listed_signal, declared_as_undriven}
+use Rattle.vcd_text.proofs.reading.variables.SignalsOfVariables.{placed_variables, listed_signal, declared_as_undriven}
 use Rattle.vcd_text.proofs.reading.variables.Variables.declared_signals.Goals as goal
 
 pub invariant_of-result : goal.invariant_of-result

@@ -1,12 +1,10 @@
-use Rattle.std.proofs.Common.{◌∙◌, ◌+◌, ap, sym, refl, inl, inr, if◌then◌else◌, Ok}
-use Rattle.std.proofs.Common.{List, ℕ}
+use Rattle.std.proofs.Common.{◌∙◌, ◌+◌, ap, sym, refl, inl, inr, if◌then◌else◌, Ok, List, ℕ}
 use Rattle.std.specs.Prelude.{bytes_eq}
 use Rattle.vcd_text.specs.inside.reading.Variables.{target_of, DeclaresAs}
 use Rattle.vcd_text.specs.declared.reading.code_targets.CodeTarget.TheVariants.{Skipped}
 use Rattle.vcd_text.specs.declared.reading.variables.Variables.{Variables}
 use Rattle.vcd_text.proofs.reading.variables.DeclaredVariable.{puts_same, skip_declares, with_skipped}
-use Rattle.vcd_text.proofs.reading.variables.Variables.skip.Goals.{in-Undeclared+in_ok-insert-in-Undeclared}
-use Rattle.vcd_text.proofs.reading.variables.Variables.skip.Goals.{in-Skipped}
+use Rattle.vcd_text.proofs.reading.variables.Variables.skip.Goals.{in-Undeclared+in_ok-insert-in-Undeclared, in-Skipped}
 use Rattle.vcd_text.proofs.reading.variables.Variables.skip.Goals as goal
 
 pub returns : goal.returns

@@ -1,2 +1,0 @@
--- Lemmas about the codes that waves get.
-pub mod Waves

@@ -1,4 +1,0 @@
--- Lemmas about the waves to which variables change.
-pub mod Chains
-pub mod Newest
-pub mod Distinct

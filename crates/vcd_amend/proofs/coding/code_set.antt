@@ -1,2 +1,0 @@
--- Lemmas about sets of codes.
-pub mod Sets

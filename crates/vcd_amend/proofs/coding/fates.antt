@@ -1,2 +1,0 @@
--- Lemmas about fates and added variables.
-pub mod ByIndex

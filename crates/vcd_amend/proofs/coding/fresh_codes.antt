@@ -1,2 +1,0 @@
--- Lemmas about codes of positions.
-pub mod Positions

@@ -1,3 +1,0 @@
--- Lemmas about kept variables in two captures.
-pub mod Origins
-pub mod Rows

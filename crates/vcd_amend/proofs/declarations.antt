@@ -1,2 +1,0 @@
--- Lemmas of `declarations`.
-pub mod FirstPieces

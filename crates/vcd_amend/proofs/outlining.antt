@@ -1,2 +1,0 @@
--- Lemmas of `outlining`.
-pub mod Outlines

@@ -1,0 +1,2 @@
+-- Lemmas of `header_words`.
+pub mod TextOfWords

@@ -1,3 +1,0 @@
--- Lemmas of `laws`.
-pub mod CutFiles
-pub mod SameBytesSameResult

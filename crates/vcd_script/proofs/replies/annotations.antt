@@ -1,2 +1,0 @@
--- Lemmas of `replies/annotations`.
-pub mod HexDigits

@@ -1,2 +1,0 @@
--- Lemmas of `replies/answering`.
-pub mod AnsweredLines

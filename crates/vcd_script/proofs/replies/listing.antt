@@ -1,2 +1,0 @@
--- Lemmas of `replies/listing`.
-pub mod PrintedSignals

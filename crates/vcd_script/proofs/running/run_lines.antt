@@ -1,3 +1,0 @@
--- Lemmas of `running/run_lines`.
-pub mod LinesLeft
-pub mod StoppedByFault

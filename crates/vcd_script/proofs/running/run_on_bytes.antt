@@ -1,2 +1,0 @@
--- Lemmas of `running/run_on_bytes`.
-pub mod ResultOfRun

@@ -1,2 +1,0 @@
--- Lemmas of `script/numbers`.
-pub mod ParsedNumbers

@@ -1,3 +1,0 @@
--- Lemmas of `script/splitting`.
-pub mod LinesInTurn
-pub mod FirstLine

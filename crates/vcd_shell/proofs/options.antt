@@ -1,2 +1,0 @@
--- Lemmas of `options`.
-pub mod AskedDepth

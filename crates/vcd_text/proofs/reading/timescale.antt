@@ -1,2 +1,0 @@
--- Lemmas of `reading/timescale`.
-pub mod CountAndUnit

@@ -1,3 +1,0 @@
--- Lemmas of `writing`.
-pub mod TextParts
-pub mod CodeDigits

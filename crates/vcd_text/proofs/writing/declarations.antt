@@ -1,2 +1,0 @@
--- Lemmas of `writing/declarations`.
-pub mod Lines

@@ -1,2 +1,0 @@
--- Lemmas of `command_line`.
-pub mod AskedOptions

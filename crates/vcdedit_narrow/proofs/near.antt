@@ -1,2 +1,0 @@
--- Lemmas of `near`.
-pub mod NamesInTurn

@@ -1,2 +1,0 @@
--- Lemmas of `request`.
-pub mod Decisions
