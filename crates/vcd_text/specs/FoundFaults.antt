@@ -33,7 +33,3 @@ pub data IsFoundFault (limit : ℕ) (bytes : List ℕ) (line : ℕ) (fault : Fau
 -- prefix
 abbrev pub PrefixShows : ℕ → List ℕ → ℕ → Fault → Type 0
 PrefixShows limit bytes line fault = ShowsFault limit (complete_words bytes) line fault
-
--- no complete word of this prefix shows a fault
-abbrev pub PrefixShowsNone : ℕ → List ℕ → Type 0
-PrefixShowsNone limit bytes = (line : ℕ) (fault : Fault) → PrefixShows limit bytes line fault → ⊥
