@@ -17,6 +17,8 @@ INTERRUPTIONS = [signal.Signals["SIG" + name] for name in "INT TERM HUP QUIT ALR
 EDITS = b"rename remove invert shift cut deglitch force derive".split()
 # Commands with one reply. Other lines have another number; the line that is refused behind each ends its replies.
 ONE_REPLY, LAST = EDITS + b"undo redo depth value".split(), b"\n-"
+# A remark of vcdedit-amend on a line, by its number, on standard error.
+REMARK = re.compile(r"^line (\d+): (.*)\n", flags=re.MULTILINE)
 # What a run begins with so that it ends with the tool, even if that is killed.
 GUARD = ["setpriv", "--pdeathsig", "TERM"] if shutil.which("setpriv") else []
 
@@ -53,7 +55,9 @@ class Run:
             script.flush()
             words = [*GUARD, self.program, "-i", path, "--script", "/dev/fd/%d" % script.fileno(), *words]
             words += ["-o", "/dev/fd/%d" % written[0]] if written else []
-            how = {"stdout": subprocess.PIPE, "stderr": subprocess.PIPE, "bufsize": 1 << 20, **how}
+            # Remarks may be longer than a pipe holds, which nobody reads while replies come.
+            self.errors = open(os.memfd_create("errors"), "w+b")
+            how = {"stdout": subprocess.PIPE, "stderr": self.errors, "bufsize": 1 << 20, **how}
             self.child = subprocess.Popen(words, stdin=source, pass_fds=[script.fileno(), *written], **how)
 
     def __enter__(self):
@@ -62,6 +66,7 @@ class Run:
     def __exit__(self, *_):
         self.child.kill()
         self.child.communicate()
+        self.errors.close()
 
     def listing(self):
         """What the program lists of the capture first."""
@@ -88,10 +93,24 @@ class Run:
                 raise Trouble("%s left lines of the script without a reply" % self.program)
         self.want_end()
 
+    def told(self):
+        """What the program has written to standard error."""
+        self.errors.seek(0)
+        return self.errors.read().decode("utf-8", "replace")
+
+    def remarks(self):
+        """(place of a line, remark) of each remark that the program has made on the lines."""
+        places, number = {}, 2
+        for place, line in enumerate(self.lines):
+            places[number] = place
+            number += 1 if has_one_reply(line) else 2
+        for number, remark in REMARK.findall(self.told()):
+            yield places[int(number)], remark
+
     def want_end(self):
         """Waits for the run's end, and raises what went wrong. A line that is refused is nothing wrong."""
-        errors = self.child.stderr.read().decode("utf-8", "replace")
         status = self.child.wait()
+        errors = REMARK.sub("", self.told())
         if -status in INTERRUPTIONS:
             raise Trouble("interrupted", status=128 - status)
         if status == -signal.SIGXFSZ:
