@@ -70,7 +70,8 @@ pub fn amend<R: Source, W: Sink>(
 /// on what the earlier ones leave. Without a cut this is [`amend`].
 ///
 /// Of the changes at ticks that are cut out the last one of each code is held, and takes memory
-/// until the first tick that is left is past. A stamp takes time for each cut.
+/// until the first tick that is left is past. A stamp takes a step for each cut where a range of
+/// cut ticks begins or ends before it, and else one step.
 pub fn amend_after_cuts<R: Source, W: Sink>(
     alloc: Global,
     reader: &mut R,

@@ -51,7 +51,7 @@ returns-clause-amended g c = on_ok_weaker c.copy.result
           file text
           (subst (λ (cs : List CutTicks). IsCopy c.args.limit (retimed_rules (is_cut_by cs)
           (amendment_rules (amendment_contents c.args.amendment.now) 0)) file text) c.in_ok-amender.ensures.2
-          (subst (λ (a : HeldAmendment). IsCopy c.args.limit (retimed_rules (is_cut_by c.in_ok-amender.amender.cuts.now)
+          (subst (λ (a : HeldAmendment). IsCopy c.args.limit (retimed_rules (is_cut_by c.in_ok-amender.amender.walk)
           (amendment_rules (amendment_contents a) 0)) file text) c.in_ok-amender.ensures.1 copy)),
       appends,
     ))) c.copy.ensures.copied
