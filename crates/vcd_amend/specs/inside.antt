@@ -1,6 +1,7 @@
 -- Definitions that only contracts of private functions and proofs cite. A reader need not believe
 -- them.
 pub mod CaptureAfterCuts
+pub mod CutTicks
 pub mod VariableWords
 pub mod declarations
 pub mod HeardNames

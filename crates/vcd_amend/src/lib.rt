@@ -41,7 +41,7 @@ mod variable_words;
 pub use amending::{amend, amend_after_cuts};
 pub use amendment::{AddedVariable, AmendedCode, Amendment, Fate};
 pub use coding::amendment_for;
-pub use cut_ticks::{CutTicks, RetimedTick, retimed_tick};
+pub use cut_ticks::CutTicks;
 pub use declarations::variable_size::VariableSize;
 pub use declarations::{DeclaredVariable, declared_variables};
 pub use dry_running::{DryRun, NoMemoryAt, dry_run};

@@ -127,7 +127,6 @@ module _ (m : CutAmender) (before : List Piece) (at : HasSeenAll m before) (p : 
         tick = at.tick ∙ sym (ap (new_tick cut) (c.tick s));
         behind = subst (λ (t : ℕ). t ≤ m.tick) (sym same.0) at.behind;
         scopes = same.1 ∙ at.scopes ∙ sym (c.scopes s);
-        ordered = at.ordered;
       })
 
 -- ---- release
@@ -180,7 +179,6 @@ released_written m before at small inner empty line none seen =
       tick = at.tick;
       behind = after.0;
       scopes = after.1 ∙ at.scopes;
-      ordered = at.ordered;
     }
 
 -- the same, if the next tick is past the last one
@@ -228,9 +226,15 @@ module _ (cut : ℕ → Bool) (s : ParseState) (held : List Piece) (digits space
       → held_of_step cut s held own ≡ (if nat_lt v n then [] else held)
   stamp_held n v n_is v_is = (λ i. if nat_lt (sym v_is i) (sym n_is i) then [] else held)
 
+-- an amender whose walk over the ticks went on
+pub with_walk : (m : CutAmender) (before : List Piece) (walk : List CutTicks) → walk ≡ m.walk → HasSeenAll m before
+    → HasSeenAll (record m { walk = walk }) before
+with_walk m before walk same at =
+    subst (λ (w : List CutTicks). HasSeenAll (record m { walk = w }) before) (sym same) at
+
 -- after the pieces before a stamp are written, and the stamp itself, if it is left
 module _ (m n : CutAmender) (before : List Piece) (p : Piece) (digits : List ℕ) (b : Bool) (new : ℕ)
-    (at : HasSeenAll m before) (is : p.item ≡ stamp digits) (same : n.cuts.now ≡ m.cuts.now)
+    (at : HasSeenAll m before) (is : p.item ≡ stamp digits) (same : n.walk ≡ m.walk)
     (b_is : b ≡ cut_of m (number_of digits)) (new_is : new ≡ new_tick (cut_of m) (number_of digits))
     (small : new < 2 ^ 64) where
   abbrev all_before : List Piece
@@ -330,7 +334,6 @@ module _ (m n : CutAmender) (before : List Piece) (p : Piece) (digits : List ℕ
         tick = new_is ∙ ap (λ (cs : List CutTicks). new_tick (is_cut_by cs) (number_of digits)) (sym same);
         behind = after.0;
         scopes = after.1 ∙ has.scopes;
-        ordered = has.ordered;
       } in
       let moved : HasWritten next (sent_for (cut_of m) before ++ step_for (cut_of m) before p)
       (held_of_step (cut_of m) s (held_for (cut_of m) before) p) (state_after_item s p.item) =
@@ -398,7 +401,6 @@ plain_seen m before at p plain inner variables seen lasting kept =
       tick = at.tick ∙ sym (ap (new_tick cut) (is.tick s));
       behind = subst (λ (t : ℕ). t ≤ m.tick) (sym tick) at.behind;
       scopes = scopes;
-      ordered = at.ordered;
     })))
 
 or_none : (a b : Bool) → (a || (b || false)) ≡ (a || b)

@@ -13,7 +13,7 @@ ghost use Rattle.vcd_text.specs.Copied.{copied_pieces};
 ghost use Rattle.vcd_text.specs.inside.reading.CodeTargets.{code_target};
 ghost use Rattle.vcd_amend.specs.AmendmentContents.{amendment_contents};
 ghost use Rattle.vcd_amend.specs.AmendedMeaning.{AreApart};
-ghost use Rattle.vcd_amend.specs.Retimed.{change_key, counts_with, stamp_line};
+ghost use Rattle.vcd_amend.specs.Retimed.{new_tick, change_key, counts_with, stamp_line};
 ghost use Rattle.vcd_amend.specs.inside.VariableWords.{IsVariable};
 ghost use Rattle.vcd_amend.specs.inside.amending.FileAmender.{HasSeen};
 ghost use Rattle.vcd_amend.specs.declared.amending.held_changes.HeldChange.{HeldChange as Change};
@@ -27,7 +27,7 @@ ghost use Rattle.vcd_amend.specs.inside.amending.CutAmender.{released_before};
 use super::file_amender::{FileAmender, write_ended, write_if};
 use super::held_changes::{HeldChange, held_change, last_held};
 use crate::amendment::Amendment;
-use crate::cut_ticks::{CutTicks, retimed_tick};
+use crate::cut_ticks::{CutTicks, CutWalk, RetimedTick};
 use crate::variable_words::VariableWords;
 use itoa::Buffer;
 use std::alloc::Global;
@@ -59,7 +59,8 @@ pub struct CutAmender<'a> {
     pub alloc: Global,
     /// The amendment of the file after the cuts.
     pub inner: FileAmender<'a>,
-    pub cuts: &'a [CutTicks],
+    /// The cuts, and where the file is.
+    pub walk: CutWalk<'a>,
     /// What the variables of each code are.
     pub variables: CodeTargets<CodeVariables>,
     /// The changes that came since one was held, with it; of those that count together the last
@@ -85,14 +86,15 @@ impl<'a> CutAmender<'a> {
         requires apart { AreApart (amendment_contents amendment.now).codes }
         requires ordered { All (λ c. c.from ≤ c.to) cuts.now }
         ensures { IfOk result (λ amender. HasSeenAll amender []
-            × (amender.inner.amendment.now ≡ amendment.now) × (amender.cuts.now ≡ cuts.now)) }
+            × (amender.inner.amendment.now ≡ amendment.now) × (amender.walk ≡ cuts.now)) }
     {
         let inner = FileAmender::new(alloc, amendment)?;
-        let first = retimed_tick(cuts, 0);
+        let mut walk = CutWalk::new(cuts);
+        let first = walk.retimed(0);
         Ok(CutAmender {
             alloc,
             inner,
-            cuts,
+            walk,
             variables: CodeTargets::new(alloc, NO_VARIABLES),
             held: Vec::new(alloc),
             room: FIRST_ROOM,
@@ -102,8 +104,7 @@ impl<'a> CutAmender<'a> {
         })
     }
 
-    /// Writes what is in the place of a stamp: before one past the last tick that is left the held
-    /// changes, and the stamp with its new tick, if its tick is left.
+    /// Writes what is in the place of a stamp.
     fn take_stamp<W: Sink>(
         &mut self,
         output: &mut Output<W>,
@@ -124,7 +125,35 @@ impl<'a> CutAmender<'a> {
         ensures same { OnOk result (cut_rules_of self.new ≡ cut_rules_of self.old) }
         ensures more { OnErr result (EmitsMore W.Sink output.old output.new) }
     {
-        let retimed = retimed_tick(self.cuts, tick);
+        let retimed = self.walk.retimed(tick);
+        self.take_retimed(output, retimed, tick, space, body)
+    }
+
+    /// The same of a stamp with this new tick: before one past the last tick that is left the held
+    /// changes, and the stamp, if its tick is left.
+    fn take_retimed<W: Sink>(
+        &mut self,
+        output: &mut Output<W>,
+        retimed: RetimedTick,
+        tick: u64,
+        space: &[u8],
+        body: &[u8],
+    ) -> Result<(), NoMemory>
+        requires seen { (before : List Piece) × HasSeenAll self.old before }
+        requires cut { retimed.is_cut ≡ cut_of self.old tick }
+        requires tick { retimed.tick ≡ new_tick (cut_of self.old) tick }
+        ensures written { OnOk result ((before : List Piece) (p : Piece) (digits : List ℕ) →
+            HasSeenAll self.old before → p.item ≡ stamp digits → number_of digits ≡ tick →
+            p.space ≡ space.now → p.body ≡ body.now → (state_of_pieces 0 before).tick ≤ tick →
+            Emits W.Sink output.old output.new (copied_pieces (rules_of self.old.inner)
+            (sent_for (cut_of self.old) before) (step_for (cut_of self.old) before p))) }
+        ensures at { OnOk result ((before : List Piece) (p : Piece) (digits : List ℕ) →
+            HasSeenAll self.old before → p.item ≡ stamp digits → number_of digits ≡ tick →
+            p.space ≡ space.now → p.body ≡ body.now → (state_of_pieces 0 before).tick ≤ tick →
+            HasSeenAll self.new (before ++ p ∷ [])) }
+        ensures same { OnOk result (cut_rules_of self.new ≡ cut_rules_of self.old) }
+        ensures more { OnErr result (EmitsMore W.Sink output.old output.new) }
+    {
         self.release_before(output, retimed.tick)?;
         self.is_cut = retimed.is_cut;
         self.tick = retimed.tick;
@@ -157,7 +186,7 @@ impl<'a> CutAmender<'a> {
             (state_of_pieces 0 before)) }
         ensures amendment { OnOk result
             (self.new.inner.amendment.now ≡ self.old.inner.amendment.now) }
-        ensures cuts { OnOk result (self.new.cuts.now ≡ self.old.cuts.now) }
+        ensures cuts { OnOk result (self.new.walk ≡ self.old.walk) }
         ensures more { OnErr result (EmitsMore W.Sink output.old output.new) }
     {
         if self.tick >= tick {

@@ -6,6 +6,7 @@ use Rattle.vcd_amend.specs.Retimed.{new_tick}
 use Rattle.vcd_amend.specs.RetimedLaws.{is_in_cut}
 use Rattle.vcd_amend.specs.RetimedCopy.{is_cut_by}
 use Rattle.vcd_amend.specs.declared.cut_ticks.CutTicks.{CutTicks}
+use Rattle.vcd_amend.specs.inside.CutTicks.{later}
 use Rattle.vcd_amend.proofs.retimed.Ticks.{of_either}
 use Rattle.vcd_amend.proofs.cut_ticks.retimed_tick.Goals as goal
 
@@ -46,19 +47,27 @@ unfolding new_tick is_cut_by
 own_tick zero = refl
 own_tick (suc t) = omega (arith, own_tick t)
 
-pub loop-cut-init : goal.loop-cut-init
-loop-cut-init c = record { cut = refl; tick = refl }
-
 pub loop-cut-preserved : goal.loop-cut-preserved
 loop-cut-preserved c =
     let cuts = c.args.cuts.now in
+    let k = c.loop-cut.cut-index in
+    let was = c.loop-cut.found in
+    let now = c.after_cut-found.result in
     let kept = c.loop-cut.invariant in
     let made = c.after_cut-found.ensures in
+    let through = c.ticks_through-ticks.ensures in
     let d : CutTicks = record { from = 0; to = 0 } in
     record {
-      cut = one_more cuts c.loop-cut.cut-index d c.loop-cut.found.is_cut _ c.loop-cut.found.tick _ (omega arith)
-          made.cut made.tick ∙ kept.cut;
-      tick = same_tick cuts c.loop-cut.cut-index d c.loop-cut.found.tick _ (omega arith) made.tick ∙ kept.tick;
+      cut = one_more cuts k d was.is_cut _ was.tick _ (omega arith) made.cut made.tick ∙ kept.cut;
+      tick = same_tick cuts k d was.tick _ (omega arith) made.tick ∙ kept.tick;
+      cut_later = λ more few.
+          let both = through.goes_on more few now made.cut made.tick in
+          one_more cuts k d was.is_cut _ (later was more) _ (omega arith) both.0 both.1
+          ∙ kept.cut_later more (omega (arith, through.fewer, few));
+      tick_later = λ more few.
+          let both = through.goes_on more few now made.cut made.tick in
+          same_tick cuts k d (later was more) _ (omega arith) both.1
+          ∙ kept.tick_later more (omega (arith, through.fewer, few));
     }
 
 pub returns-clause-cut : goal.returns-clause-cut
@@ -69,3 +78,14 @@ pub returns-clause-tick : goal.returns-clause-tick
 returns-clause-tick c = own_tick c.loop-cut.found.tick
     ∙ ap (λ (l : List CutTicks). new_tick (is_cut_by l) c.loop-cut.found.tick)
     (sym (drop_all c.loop-cut.cut-index c.args.cuts.now (omega arith))) ∙ c.loop-cut.invariant.tick
+
+pub returns-clause-goes_on : goal.returns-clause-goes_on
+returns-clause-goes_on c = λ more few.
+    let found = c.loop-cut.found in
+    let k = c.loop-cut.cut-index in
+    let cuts = c.args.cuts.now in (
+      sym (none_left found.is_cut cuts k (later found more) (omega arith) ∙ c.loop-cut.invariant.cut_later more few),
+      sym (own_tick (later found more)
+          ∙ ap (λ (l : List CutTicks). new_tick (is_cut_by l) (later found more)) (sym (drop_all k cuts (omega arith)))
+          ∙ c.loop-cut.invariant.tick_later more few),
+    )

@@ -1,5 +1,5 @@
 -- An amendment of a file after cuts, while the file is copied.
-use Rattle.std.specs.Prelude.{◌≡◌, ◌≤◌, nat_lt, ℕ, Bool, if◌then◌else◌, List, [], All}
+use Rattle.std.specs.Prelude.{◌≡◌, ◌≤◌, nat_lt, ℕ, Bool, if◌then◌else◌, List, []}
 use Rattle.vcd_text.specs.Grammar.{ParseState, initial_state}
 use Rattle.vcd_text.specs.Pieces.{Piece, state_of_pieces}
 use Rattle.vcd_text.specs.Copied.{CopyRules}
@@ -33,7 +33,7 @@ module _ (is_cut_out : ℕ → Bool) (before : List Piece) where
 
 -- which ticks are cut out
 abbrev pub cut_of : CutAmender → ℕ → Bool
-cut_of m = is_cut_by m.cuts.now
+cut_of m = is_cut_by m.walk
 
 -- it wrote these pieces, holds these, and the file has this state
 pub record HasWritten (m : CutAmender) (sent held : List Piece) (s : ParseState) : Type 0 where
@@ -45,7 +45,6 @@ pub record HasWritten (m : CutAmender) (sent held : List Piece) (s : ParseState)
   pub tick : m.tick ≡ new_tick (cut_of m) s.tick
   pub behind : (state_of_pieces 0 sent).tick ≤ m.tick
   pub scopes : (state_of_pieces 0 sent).scopes ≡ s.scopes
-  pub ordered : All (λ c. c.from ≤ c.to) m.cuts.now
 
 -- it has seen these pieces of the file
 abbrev pub HasSeenAll : CutAmender → List Piece → Type 0
