@@ -12,6 +12,7 @@ pub mod Queries
 pub mod CommandSignals
 pub mod DecoderReply
 pub mod Reply
+pub mod Remarks
 pub mod SessionLines
 pub mod LineRunEnds
 pub mod Run

@@ -16,6 +16,7 @@
 #![tactic(auto)]
 
 mod laws;
+mod remarks;
 mod replies;
 mod running;
 mod script;
@@ -24,6 +25,7 @@ pub use laws::{
     cut_file_is_read_again, hollow_captures_are_parts, lines_are_of_outline,
     runs_on_hollow_captures, same_bytes_same_result, session_lines_are_run,
 };
+pub use remarks::remarks_on;
 pub use replies::{Reply, answer_line};
 pub use running::run::run;
 pub use running::run_lines::run_lines;

@@ -1,0 +1,6 @@
+-- Lemmas of `remarks`.
+pub mod RemarksInTurn
+pub mod RunsLeft
+pub mod PulsesFound
+pub mod PlacesShown
+pub mod FallsLeft
