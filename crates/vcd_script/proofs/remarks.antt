@@ -4,3 +4,5 @@ pub mod RunsLeft
 pub mod PulsesFound
 pub mod PlacesShown
 pub mod FallsLeft
+pub mod AllRuns
+pub mod NoFrame

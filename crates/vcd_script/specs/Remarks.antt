@@ -58,8 +58,8 @@ value_runs end s = runs_begun end (changes_from_zero s.width s.changes)
 abbrev pub ticks_of_run : ValueRun → ℕ
 ticks_of_run r = r.last - r.first + 1
 
--- whether `deglitch` takes a run out: it contains neither tick 0 nor the end, and has fewer ticks
--- (in `Effect` of vcd_edit it is not steady)
+-- whether `deglitch` takes a run out: it contains neither tick 0 nor the end, and has fewer ticks.
+-- That is, its ticks are not steady (`Effect` of vcd_edit)
 abbrev pub is_pulse : (ticks end : ℕ) → ValueRun → Bool
 is_pulse ticks end r = nat_lt 0 r.first && nat_lt r.last end && nat_lt (ticks_of_run r) ticks
 

@@ -1,10 +1,9 @@
 -- Worked cases: the remarks on commands.
 use Rattle.std.proofs.Common.{◌≡◌, refl}
-use Rattle.std.specs.Prelude.{ℕ, List, [], ◌∷◌, Some, None, codes, pos, negsuc}
+use Rattle.std.specs.Prelude.{ℕ, List, [], ◌∷◌, codes, pos, negsuc}
 use Rattle.std.specs.Fmt.{digits}
 use Rattle.vcd_core.specs.declared.bit.Bit.TheVariants.{Zero, One, X, Z}
 use Rattle.vcd_core.specs.declared.wave.Change.{Change}
-use Rattle.vcd_core.specs.Contents.{Contents}
 use Rattle.vcd_decode.specs.UartSetup.{UartSetup}
 use Rattle.vcd_edit.specs.declared.edit.Edit.{Edit}
 use Rattle.vcd_edit.specs.declared.edit.Edit.TheVariants.{Shift, Deglitch}
