@@ -1,2 +1,3 @@
 -- Worked cases.
 pub mod HollowRun
+pub mod Remarks

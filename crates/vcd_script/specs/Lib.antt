@@ -12,6 +12,8 @@ pub mod Queries
 pub mod CommandSignals
 pub mod DecoderReply
 pub mod Reply
+pub mod Remarks
+pub mod RemarkLaws
 pub mod SessionLines
 pub mod LineRunEnds
 pub mod Run

@@ -2,6 +2,7 @@
 
 ghost use Rattle.vcd_script.specs.FileLaws.{CutFileIsReadAgain, SameBytesSameResult};
 ghost use Rattle.vcd_script.specs.SessionLines.{SessionLinesAreRun};
+ghost use Rattle.vcd_script.specs.RemarkLaws.{NoFallNoFrame, ValueRunsAreAll};
 ghost use Rattle.vcd_script.specs.HollowPart.{HollowIsPart};
 ghost use Rattle.vcd_script.specs.HollowRun.{CommandIsOfOutline, HistoryIsOfOutline};
 ghost use Rattle.vcd_script.specs.HollowRun.{AskedIsOfOutline, ReplyWithOthers, RunOnHollow};
@@ -47,4 +48,11 @@ pub fn runs_on_hollow_captures()
 /// of the signals that are not taken.
 pub fn hollow_captures_are_parts()
     ensures { HollowIsPart }
+{}
+
+/// The runs of a signal, by which remarks count pulses and name places, are all its runs of one
+/// value, from tick 0 to the end. Where a remark says that no frame begins, there is none.
+pub fn remarks_are_true()
+    ensures runs { ValueRunsAreAll }
+    ensures frames { NoFallNoFrame }
 {}

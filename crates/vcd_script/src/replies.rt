@@ -2,7 +2,7 @@
 
 mod annotations;
 mod answering;
-mod appending;
+pub(crate) mod appending;
 mod decoding;
 mod listing;
 mod reply;
@@ -13,4 +13,4 @@ pub use reply::Reply;
 use vcd_core::NoMemory;
 
 /// The value, or that memory ran out.
-type MemoryResult<T> = Result<T, NoMemory>;
+pub(crate) type MemoryResult<T> = Result<T, NoMemory>;

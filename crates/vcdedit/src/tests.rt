@@ -7,5 +7,6 @@ mod failures;
 mod lines;
 mod messages;
 mod notation;
+mod remarks;
 mod sessions;
 mod worked;

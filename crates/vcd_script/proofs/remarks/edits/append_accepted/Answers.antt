@@ -1,0 +1,9 @@
+use Rattle.std.proofs.Common.{rules, SFits}
+use Rattle.std.specs.Int.{w64}
+use Rattle.std.proofs.lemmas.Int.{to_z-of_z}
+use Rattle.vcd_script.proofs.remarks.edits.append_accepted.Goals as goal
+
+pub returns-in-Shift : goal.returns-in-Shift
+returns-in-Shift c =
+    let fits : SFits w64 c.in-Shift.by = search rules in
+    rw (c.in-Shift.is) (rw (to_z-of_z w64 c.in-Shift.by fits) at c.append_shift_remarks.ensures)

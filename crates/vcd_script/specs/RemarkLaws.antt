@@ -1,0 +1,34 @@
+-- What is true where remarks are made: the contracts of functions of `laws`.
+use Rattle.std.specs.Prelude.{ℕ, suc, ◌≡◌, ◌≢◌, ◌<◌, ◌≤◌, false, List, [], ◌∷◌, length, map}
+use Rattle.vcd_core.specs.declared.bit.Bit.{Bit}
+use Rattle.vcd_core.specs.declared.bit.Bit.TheVariants.{X}
+use Rattle.vcd_core.specs.Value.{letter_at}
+use Rattle.vcd_core.specs.Contents.{Contents, signal_at}
+use Rattle.vcd_core.specs.Sound.{IsSound}
+use Rattle.vcd_edit.specs.EffectLaws.{value_of}
+use Rattle.vcd_decode.specs.UartSetup.{UartSetup}
+use Rattle.vcd_script.specs.CommandSignals.{IsScalarAt}
+use Rattle.vcd_script.specs.DecoderReply.{uart_lines}
+use Rattle.vcd_script.specs.Remarks.{ValueRun, value_runs, has_fall}
+
+-- these are the runs of one value at the ticks `from` to `end`: they follow one another, each has
+-- its value at each of its ticks, and the tick after it another
+abbrev pub AreRunsFrom : (f : ℕ → List Bit) → (from end : ℕ) → List ValueRun → Type 0
+AreRunsFrom f from end [] = from ≡ suc end
+AreRunsFrom f from end (r ∷ rs) =
+    (r.first ≡ from) × (r.first ≤ r.last) × ((t : ℕ) → r.first ≤ t → t ≤ r.last → f t ≡ r.value)
+    × (r.last < end → f (suc r.last) ≢ r.value)
+    × AreRunsFrom f (suc r.last) end rs
+
+-- the runs of a signal are all its runs of one value, from tick 0 to the end
+abbrev pub ValueRunsAreAll : Type 0
+ValueRunsAreAll =
+    (c : Contents) (k : ℕ) → IsSound c → k < length c.signals
+    → AreRunsFrom (value_of c k) 0 c.end (value_runs c.end (signal_at c k))
+
+-- where a remark says that no frame begins, there is none
+abbrev pub NoFallNoFrame : Type 0
+NoFallNoFrame =
+    (c : Contents) (k : ℕ) (setup : UartSetup) → IsSound c → IsScalarAt c k
+    → has_fall X (map (λ d. letter_at d.value 0) (signal_at c k).changes) ≡ false
+    → uart_lines c k setup ≡ []
