@@ -6,3 +6,4 @@ pub mod PlacesShown
 pub mod FallsLeft
 pub mod AllRuns
 pub mod NoFrame
+pub mod PulsesTakenOut

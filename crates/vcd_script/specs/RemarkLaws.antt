@@ -1,15 +1,19 @@
 -- What is true where remarks are made: the contracts of functions of `laws`.
-use Rattle.std.specs.Prelude.{ℕ, suc, ◌≡◌, ◌≢◌, ◌<◌, ◌≤◌, false, List, [], ◌∷◌, length, map}
+use Rattle.std.specs.Prelude.{ℕ, suc, ◌-◌, ◌≡◌, ◌≢◌, ◌<◌, ◌≤◌, false, if◌then◌else◌, None}
+use Rattle.std.specs.Prelude.{List, [], ◌∷◌, length, map, All}
 use Rattle.vcd_core.specs.declared.bit.Bit.{Bit}
 use Rattle.vcd_core.specs.declared.bit.Bit.TheVariants.{X}
 use Rattle.vcd_core.specs.Value.{letter_at}
 use Rattle.vcd_core.specs.Contents.{Contents, signal_at}
 use Rattle.vcd_core.specs.Sound.{IsSound}
+use Rattle.vcd_edit.specs.declared.edit.Edit.TheVariants.{Deglitch}
+use Rattle.vcd_edit.specs.Effect.{effect}
+use Rattle.vcd_edit.specs.EditFaults.{edit_fault}
 use Rattle.vcd_edit.specs.EffectLaws.{value_of}
 use Rattle.vcd_decode.specs.UartSetup.{UartSetup}
 use Rattle.vcd_script.specs.CommandSignals.{IsScalarAt}
 use Rattle.vcd_script.specs.DecoderReply.{uart_lines}
-use Rattle.vcd_script.specs.Remarks.{ValueRun, value_runs, has_fall}
+use Rattle.vcd_script.specs.Remarks.{ValueRun, value_runs, is_pulse, has_fall}
 
 -- these are the runs of one value at the ticks `from` to `end`: they follow one another, each has
 -- its value at each of its ticks, and the tick after it another
@@ -25,6 +29,21 @@ abbrev pub ValueRunsAreAll : Type 0
 ValueRunsAreAll =
     (c : Contents) (k : ℕ) → IsSound c → k < length c.signals
     → AreRunsFrom (value_of c k) 0 c.end (value_runs c.end (signal_at c k))
+
+-- at the ticks of a pulse a deglitch leaves the value that the signal then has just before it, and
+-- at those of any other run its own
+abbrev pub IsTakenOutIfPulse : Contents → (k ticks : ℕ) → ValueRun → Type 0
+IsTakenOutIfPulse c k ticks r =
+    let after = value_of (effect (Deglitch k ticks) c) k in
+    (t : ℕ) → r.first ≤ t → t ≤ r.last
+    → after t ≡ (if is_pulse ticks c.end r then after (r.first - 1) else r.value)
+
+-- the pulses that a remark counts are just the runs that a deglitch takes out
+abbrev pub PulsesAreTakenOut : Type 0
+PulsesAreTakenOut =
+    (c : Contents) (k ticks : ℕ) → IsSound c → k < length c.signals
+    → edit_fault (Deglitch k ticks) c ≡ None
+    → All (IsTakenOutIfPulse c k ticks) (value_runs c.end (signal_at c k))
 
 -- where a remark says that no frame begins, there is none
 abbrev pub NoFallNoFrame : Type 0

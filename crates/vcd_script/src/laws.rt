@@ -1,12 +1,16 @@
-//! Laws about the definitions: each function has an empty body, and its contract is the law.
+//! Laws about the definitions: the contract of each function is the law. Its body is empty, or
+//! calls the law on which it rests.
 
 ghost use Rattle.vcd_script.specs.FileLaws.{CutFileIsReadAgain, SameBytesSameResult};
 ghost use Rattle.vcd_script.specs.SessionLines.{SessionLinesAreRun};
-ghost use Rattle.vcd_script.specs.RemarkLaws.{NoFallNoFrame, ValueRunsAreAll};
+ghost use Rattle.vcd_script.specs.RemarkLaws.{NoFallNoFrame, PulsesAreTakenOut};
+ghost use Rattle.vcd_script.specs.RemarkLaws.{ValueRunsAreAll};
 ghost use Rattle.vcd_script.specs.HollowPart.{HollowIsPart};
 ghost use Rattle.vcd_script.specs.HollowRun.{CommandIsOfOutline, HistoryIsOfOutline};
 ghost use Rattle.vcd_script.specs.HollowRun.{AskedIsOfOutline, ReplyWithOthers, RunOnHollow};
 ghost use Rattle.vcd_script.specs.HollowRun.{RunAfterDryRun, CutsOfRunFit};
+
+use vcd_edit::deglitch_takes_short_runs_out;
 
 /// Two runs on the same bytes and of the same depth have the same result, if memory runs out in
 /// neither.
@@ -51,8 +55,12 @@ pub fn hollow_captures_are_parts()
 {}
 
 /// The runs of a signal, by which remarks count pulses and name places, are all its runs of one
-/// value, from tick 0 to the end. Where a remark says that no frame begins, there is none.
+/// value, from tick 0 to the end. The pulses are just those that a deglitch takes out. Where a
+/// remark says that no frame begins, there is none.
 pub fn remarks_are_true()
     ensures runs { ValueRunsAreAll }
+    ensures pulses { PulsesAreTakenOut }
     ensures frames { NoFallNoFrame }
-{}
+{
+    deglitch_takes_short_runs_out();
+}
