@@ -72,7 +72,8 @@ greatest (n ∷ ns) = max n (greatest ns)
 abbrev pub longest_text : List ValueRun → List ℕ
 longest_text [] = []
 longest_text pulses =
-    codes ", longest: " ++ decimal (greatest (map ticks_of_run pulses)) ++ codes " ticks"
+    codes " (ticks of the longest: " ++ decimal (greatest (map ticks_of_run pulses))
+    ++ codes ")"
 
 -- the remark on the pulses that a `deglitch` takes out
 abbrev pub deglitch_remark : (pulses : List ValueRun) → List ℕ
@@ -120,7 +121,7 @@ place_text first last =
 -- how many places more there are, if any
 abbrev pub more_text : ℕ → List ℕ
 more_text zero = []
-more_text count = codes " and at " ++ decimal count ++ codes " more places"
+more_text count = codes ", and " ++ decimal count ++ codes " more"
 
 -- at most five places, and how many more there are
 abbrev pub places_text : List ValueRun → List ℕ

@@ -24,7 +24,7 @@ remarks_on_edit e = remarks (alone 20 rough) (commands.Step (steps.Edit e))
 -- ---- edits
 
 -- the run of 0 from 2 to 4 has three ticks, and stays
-three_pulses : remarks_on_edit (Deglitch 0 3) ≡ codes "deglitch: pulses removed: 3, longest: 2 ticks" ∷ []
+three_pulses : remarks_on_edit (Deglitch 0 3) ≡ codes "deglitch: pulses removed: 3 (ticks of the longest: 2)" ∷ []
 unfolding remarks edit_fault runs_begun greatest digits
 three_pulses = refl
 
@@ -71,6 +71,6 @@ rough_i2c : remarks (capture 20 (wire (codes "scl") rough ∷ wire (codes "sda")
     ∷ from 4 X ∷ from 5 One ∷ from 6 X ∷ from 7 One ∷ from 8 X ∷ from 9 One ∷ from 11 X ∷ from 14 Z ∷ from 20 X ∷ [])
     ∷ [])) (commands.I2c 0 1)
     ≡ codes "i2c: SCL is x at 0-1: edges and bits there are lost"
-    ∷ codes "i2c: SDA is x at 2, 4, 6, 8, 11-13 and at 1 more places: edges and bits there are lost" ∷ []
+    ∷ codes "i2c: SDA is x at 2, 4, 6, 8, 11-13, and 1 more: edges and bits there are lost" ∷ []
 unfolding remarks runs_begun digits
 rough_i2c = refl

@@ -97,9 +97,9 @@ fn append_longest(text: &mut Vec<u8>, pulses: Pulses) -> MemoryResult<()>
     if pulses.count == 0 {
         return Ok(());
     }
-    text.extend_from_slice(b", longest: ")?;
+    text.extend_from_slice(b" (ticks of the longest: ")?;
     append_decimal(text, pulses.longest)?;
-    append_bytes(text, b" ticks")
+    append_bytes(text, b")")
 }
 
 /// Appends the remarks on a `shift`.

@@ -201,7 +201,7 @@ fn append_more(text: &mut Vec<u8>, count: u64) -> MemoryResult<()>
     if count == 0 {
         return Ok(());
     }
-    text.extend_from_slice(b" and at ")?;
+    text.extend_from_slice(b", and ")?;
     append_decimal(text, count)?;
-    append_bytes(text, b" more places")
+    append_bytes(text, b" more")
 }

@@ -13,10 +13,10 @@ use vcd_text::read;
 /// separates. `top.a` is x up to the tick 1; `top.b` has six places with x, and z at 30.
 const LINES: &str = "\
 deglitch top.a 1 => deglitch: pulses removed: 0
-deglitch top.a 2 => deglitch: pulses removed: 1, longest: 1 ticks
-deglitch top.a 3 => deglitch: pulses removed: 3, longest: 2 ticks
-deglitch top.a 100 => deglitch: pulses removed: 5, longest: 5 ticks
-deglitch top.v 30 => deglitch: pulses removed: 1, longest: 15 ticks
+deglitch top.a 2 => deglitch: pulses removed: 1 (ticks of the longest: 1)
+deglitch top.a 3 => deglitch: pulses removed: 3 (ticks of the longest: 2)
+deglitch top.a 100 => deglitch: pulses removed: 5 (ticks of the longest: 5)
+deglitch top.v 30 => deglitch: pulses removed: 1 (ticks of the longest: 15)
 deglitch top.a 0 =>
 shift top.a 25 =>
 shift top.a 26 => shift: changes moved past the end: 1
@@ -29,12 +29,12 @@ cut 9 4 =>
 undo =>
 changes top.b =>
 uart top.a 10 8 none 1 => uart: the line is x or z at 0-1, 9: edges and bits there are lost
-uart top.b 10 8 none 1 => uart: the line is x or z at 2, 4, 6, 8, 11-13 and at 2 more places: \
+uart top.b 10 8 none 1 => uart: the line is x or z at 2, 4, 6, 8, 11-13, and 2 more: \
 edges and bits there are lost / uart: the line never falls from 1 to 0: no frame begins
-spi top.b - top.a - 0 8 msb => spi: CLK is x or z at 2, 4, 6, 8, 11-13 and at 2 more places: \
+spi top.b - top.a - 0 8 msb => spi: CLK is x or z at 2, 4, 6, 8, 11-13, and 2 more: \
 edges and bits there are lost / spi: MISO is x or z at 0-1, 9: edges and bits there are lost
 i2c top.a top.b => i2c: SCL is x at 0-1: edges and bits there are lost \
-/ i2c: SDA is x at 2, 4, 6, 8, 11-13 and at 1 more places: edges and bits there are lost";
+/ i2c: SDA is x at 2, 4, 6, 8, 11-13, and 1 more: edges and bits there are lost";
 
 /// Compares the remarks on a line with those of a row.
 fn check_remarks(rt: &impl Abort, alloc: Global, capture: &Capture, row: &str) -> Result<(), Fail> {

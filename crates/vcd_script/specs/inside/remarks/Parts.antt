@@ -28,7 +28,7 @@ with_pulse found (Some ticks) =
 -- how long the longest of this many pulses is, if there is one
 abbrev pub longest_of : (count longest : ℕ) → List ℕ
 longest_of zero longest = []
-longest_of count longest = codes ", longest: " ++ decimal longest ++ codes " ticks"
+longest_of count longest = codes " (ticks of the longest: " ++ decimal longest ++ codes ")"
 
 -- the remark on pulses
 abbrev pub pulses_text : Pulses → List ℕ
