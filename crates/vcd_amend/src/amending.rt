@@ -100,36 +100,6 @@ pub fn amend_after_cuts<R: Source, W: Sink>(
     if cuts.is_empty() {
         return amend(alloc, reader, limit, amendment, writer);
     }
-    copy_after_cuts(alloc, reader, limit, cuts, amendment, writer)
-}
-
-/// Reads a capture file, and writes it as it is after cuts and then an amendment.
-fn copy_after_cuts<R: Source, W: Sink>(
-    alloc: Global,
-    reader: &mut R,
-    limit: u32,
-    cuts: &[CutTicks],
-    amendment: &Amendment,
-    writer: &mut W,
-) -> Result<(), CopyError>
-    requires reader_ready { R.has_failed reader.old ≡ false }
-    requires writer_ready { W.has_failed writer.old ≡ false }
-    requires apart { AreApart (amendment_contents amendment.now).codes }
-    requires ordered { All (λ c. c.from ≤ c.to) cuts.now }
-    ensures amended { OnOk result (IfSome (R.coming reader.old) (λ file.
-        (length file ≤ LONG_FILE_LIMIT)
-        × (text : List ℕ) × IsAmendedAfterCuts limit (is_cut_by cuts.now)
-        (amendment_contents amendment.now) file text
-        × Appends (W.taken writer.old) (W.taken writer.new) text)) }
-    ensures not_failed { OnOk result (W.has_failed writer.new ≡ false) }
-    ensures flushed { OnOk result (W.is_flushed writer.new ≡ true) }
-    ensures ended { OnOk result (IsAtEnd (R.coming reader.new)) }
-    ensures reader_not_failed { OnOk result (R.has_failed reader.new ≡ false) }
-    ensures taken { (text : List ℕ) × Appends (W.taken writer.old) (W.taken writer.new) text }
-    ensures fails { IfErr result (CopyFails limit LONG_FILE_LIMIT (R.coming reader.old)
-        (R.coming reader.new) (R.has_failed reader.new) (W.taken writer.old) (W.taken writer.new)
-        (W.has_failed writer.new)) }
-{
     let mut amender = CutAmender::new(alloc, cuts, amendment)?;
     copy(alloc, reader, limit, &mut amender, writer)
 }

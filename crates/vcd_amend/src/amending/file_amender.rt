@@ -108,6 +108,9 @@ impl<'a> FileAmender<'a> {
     }
 
     /// Lets a change to digits stand, if it stands.
+    ///
+    /// It is inlined: of two amenders that call it, each does so at each change of a file.
+    #[inline(always)]
     pub fn let_value_stand(&mut self, code: &[u8]) -> bool
         requires { (s : ParseState) × (none_yet : Bool) × IsAt self.old s none_yet }
         ensures stands { result ≡ true → (s : ParseState) (none_yet : Bool) (letters : List Letter)

@@ -1,5 +1,5 @@
-use Rattle.std.proofs.Common.{refl, subst, List, ℕ, Option, Some, None}
-use Rattle.std.specs.Prelude.{IfSome}
+use Rattle.std.proofs.Common.{refl, subst}
+use Rattle.std.proofs.lemmas.Option.{IfSome_then}
 use Rattle.std.proofs.lemmas.Result.{on_ok_weaker}
 use Rattle.vcd_text.specs.Copied.{IsCopy}
 use Rattle.vcd_amend.specs.AmendedCopy.{amendment_rules}
@@ -7,13 +7,9 @@ use Rattle.vcd_amend.specs.AmendmentContents.{amendment_contents}
 use Rattle.vcd_amend.proofs.amending.AnyLimit.{copy_is_amended}
 use Rattle.vcd_amend.proofs.amending.amend.Goals as goal
 
-some_weaker : (o : Option (List ℕ)) {P Q : List ℕ → Type 0} → ((x : List ℕ) → P x → Q x) → IfSome o P → IfSome o Q
-some_weaker None weaker holds = tt
-some_weaker (Some x) weaker holds = weaker x holds
-
 pub returns-clause-amended : goal.returns-clause-amended
-returns-clause-amended g c = on_ok_weaker c.copy.result (λ copied. some_weaker (g.R.Source.coming c.args.reader.now)
-    (λ file is.
+returns-clause-amended g c = on_ok_weaker c.copy.result (λ copied. IfSome_then (g.R.Source.coming c.args.reader.now)
+    (copied refl) (λ file is.
     let (small, text, copy, appends) = is in (
       small,
       text,
@@ -21,5 +17,4 @@ returns-clause-amended g c = on_ok_weaker c.copy.result (λ copied. some_weaker 
           (subst (λ a. IsCopy c.args.limit (amendment_rules (amendment_contents a) 0) file text)
           c.in_ok-amender.ensures.1 copy),
       appends,
-    ))
-    (copied refl)) c.copy.ensures.copied
+    ))) c.copy.ensures.copied

@@ -1,21 +1,20 @@
-use Rattle.std.proofs.Common.{◌≡◌, ◌∙◌, sym, ap, true, List, [], ◌∷◌, ℕ, Option, Some, None, length, arith}
-use Rattle.std.specs.Prelude.{IfSome}
+use Rattle.std.proofs.Common.{◌≡◌, ◌∙◌, refl, sym, ap, subst, true, List, [], ◌∷◌, ℕ, length, arith}
 use Rattle.std.proofs.lemmas.Bool.Decides.{nat_tests}
+use Rattle.std.proofs.lemmas.Option.{IfSome_then}
 use Rattle.std.proofs.lemmas.Result.{on_ok_weaker}
+use Rattle.vcd_text.specs.Copied.{IsCopy}
 use Rattle.vcd_text.specs.Grammar.{initial_state}
 use Rattle.vcd_text.specs.Pieces.{Piece}
 use Rattle.vcd_amend.specs.Amendment.{Amendment}
 use Rattle.vcd_amend.specs.AmendedText.{amended_text}
-use Rattle.vcd_amend.specs.AmendedCopy.{IsAmended}
+use Rattle.vcd_amend.specs.AmendedCopy.{IsAmended, amendment_rules}
 use Rattle.vcd_amend.specs.AmendmentContents.{amendment_contents}
-use Rattle.vcd_amend.specs.RetimedCopy.{IsAmendedAfterCuts, is_cut_by}
+use Rattle.vcd_amend.specs.RetimedCopy.{IsAmendedAfterCuts, retimed_rules, is_cut_by}
+use Rattle.vcd_amend.specs.declared.amendment.Amendment.{Amendment as HeldAmendment}
 use Rattle.vcd_amend.specs.declared.cut_ticks.CutTicks.{CutTicks}
+use Rattle.vcd_amend.proofs.amending.CutTexts.{copy_is_amended_after_cuts}
 use Rattle.vcd_amend.proofs.laws.EditedFiles.{pieces_stay}
 use Rattle.vcd_amend.proofs.amending.amend_after_cuts.Goals as goal
-
-some_weaker : (o : Option (List ℕ)) {P Q : List ℕ → Type 0} → ((x : List ℕ) → P x → Q x) → IfSome o P → IfSome o Q
-some_weaker None weaker holds = tt
-some_weaker (Some x) weaker holds = weaker x holds
 
 without_cuts : (limit : ℕ) (cuts : List CutTicks) (a : Amendment) (file text : List ℕ) → length cuts ≡ 0
     → IsAmended limit a file text → IsAmendedAfterCuts limit (is_cut_by cuts) a file text
@@ -33,13 +32,29 @@ without_cuts limit (cut ∷ cuts) a file text none is = absurd (cc)
 
 pub returns-then-is_empty-clause-amended : goal.returns-then-is_empty-clause-amended
 returns-then-is_empty-clause-amended g c = on_ok_weaker c.amend.result
-    (λ copied. some_weaker (g.R.Source.coming c.args.reader.now)
-    (λ file is.
+    (λ copied. IfSome_then (g.R.Source.coming c.args.reader.now) copied (λ file is.
     let (small, text, amended, appends) = is in (
       small,
       text,
       without_cuts c.args.limit c.args.cuts.now (amendment_contents c.args.amendment.now) file text
           (grind (arith, c.if-is_empty.true, c.is_empty.ensures, nat_tests)) amended,
       appends,
-    ))
-    copied) c.amend.ensures.amended
+    ))) c.amend.ensures.amended
+
+pub returns-clause-amended : goal.returns-clause-amended
+returns-clause-amended g c = on_ok_weaker c.copy.result
+    (λ copied. IfSome_then (g.R.Source.coming c.args.reader.now) (copied refl) (λ file is.
+    let (small, text, copy, appends) = is in (
+      small,
+      text,
+      copy_is_amended_after_cuts c.args.limit (is_cut_by c.args.cuts.now) (amendment_contents c.args.amendment.now)
+          file text
+          (subst (λ (cs : List CutTicks). IsCopy c.args.limit (retimed_rules (is_cut_by cs)
+          (amendment_rules (amendment_contents c.args.amendment.now) 0)) file text) c.in_ok-amender.ensures.2
+          (subst (λ (a : HeldAmendment). IsCopy c.args.limit (retimed_rules (is_cut_by c.in_ok-amender.amender.cuts.now)
+          (amendment_rules (amendment_contents a) 0)) file text) c.in_ok-amender.ensures.1 copy)),
+      appends,
+    ))) c.copy.ensures.copied
+
+pub returns-clause-ended : goal.returns-clause-ended
+returns-clause-ended g c = on_ok_weaker c.copy.result (λ ended. ended refl) c.copy.ensures.ended
