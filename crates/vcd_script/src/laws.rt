@@ -1,7 +1,9 @@
 //! Laws about the definitions: each function has an empty body, and its contract is the law.
 
 ghost use Rattle.vcd_script.specs.FileLaws.{CutFileIsReadAgain, SameBytesSameResult};
+ghost use Rattle.vcd_script.specs.RemarksOfRun.{RemarksWithOthers, RemarksOnHollow};
 ghost use Rattle.vcd_script.specs.SessionLines.{SessionLinesAreRun};
+ghost use Rattle.vcd_script.specs.SessionRemarks.{SessionRemarksAreRun};
 ghost use Rattle.vcd_script.specs.HollowPart.{HollowIsPart};
 ghost use Rattle.vcd_script.specs.HollowRun.{CommandIsOfOutline, HistoryIsOfOutline};
 ghost use Rattle.vcd_script.specs.HollowRun.{AskedIsOfOutline, ReplyWithOthers, RunOnHollow};
@@ -47,4 +49,17 @@ pub fn runs_on_hollow_captures()
 /// of the signals that are not taken.
 pub fn hollow_captures_are_parts()
     ensures { HollowIsPart }
+{}
+
+/// Lines that are carried out on a new session, as [`remark_on_lines`](crate::remark_on_lines)
+/// does, have the remarks of a run.
+pub fn session_remarks_are_run()
+    ensures { SessionRemarksAreRun }
+{}
+
+/// Where the lines ask for the changes of no silent signal, a run on the capture without these
+/// changes has the same remarks.
+pub fn remarks_on_hollow_captures()
+    ensures command { RemarksWithOthers }
+    ensures run { RemarksOnHollow }
 {}

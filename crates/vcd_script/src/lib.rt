@@ -12,7 +12,9 @@
 //! A caller that has a session carries lines out on it: [`run_lines`] all of them, or one at a time
 //! [`answer_line`], which gives a [`Reply`]. [`split_line`] takes a line off a script, and
 //! [`parse_line`] says what it asks for, and changes nothing; [`waves_of_command`] says whose
-//! changes that needs. The laws say what follows from these contracts.
+//! changes that needs, and [`remarks_on`] what there is to say beyond the reply. [`remark_on_lines`]
+//! carries lines out and writes this in place of the replies. The laws say what follows from these
+//! contracts.
 #![tactic(auto)]
 
 mod laws;
@@ -23,10 +25,12 @@ mod script;
 
 pub use laws::{
     cut_file_is_read_again, hollow_captures_are_parts, lines_are_of_outline,
-    runs_on_hollow_captures, same_bytes_same_result, session_lines_are_run,
+    remarks_on_hollow_captures, runs_on_hollow_captures, same_bytes_same_result,
+    session_lines_are_run, session_remarks_are_run,
 };
 pub use remarks::remarks_on;
 pub use replies::{Reply, answer_line};
+pub use running::remark_on_lines::{RemarkError, remark_on_lines};
 pub use running::run::run;
 pub use running::run_lines::run_lines;
 pub use running::run_on_bytes::{RunRefusal, RunTexts, Stage, run_on_bytes};
