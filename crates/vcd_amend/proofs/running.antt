@@ -5,3 +5,4 @@ pub mod AmendedRun
 pub mod PlannedRun
 pub mod CarriedOut
 pub mod EndsOfRun
+pub mod RemarkedRun

@@ -20,5 +20,6 @@ pub mod FileParts
 pub mod NewNames
 pub mod AmendRun
 pub mod AmendRunEnds
+pub mod TakenRemarks
 pub mod AmendOnBytes
 pub mod inside

@@ -10,7 +10,7 @@ ghost use Rattle.vcd_text.specs.declared.reading.TheConstants.{LONG_FILE_LIMIT};
 ghost use Rattle.vcd_amend.specs.DeclaredVariables.{declaration_of_variable};
 
 mod collector;
-mod nowhere;
+pub(crate) mod nowhere;
 pub(crate) mod signal_sizes;
 pub(crate) mod variable_size;
 

@@ -6,6 +6,7 @@ ghost use Rattle.vcd_amend.specs.AmendRun.{IsAmendRun};
 ghost use Rattle.vcd_amend.specs.AmendRunEnds.{AreReady, pass_ends, AllShow};
 ghost use Rattle.vcd_amend.specs.AmendOnBytes.{AmendGives};
 
+use crate::declarations::nowhere::Nowhere;
 use crate::running::{AmendRunError, Passes, amend_run};
 use std::alloc::Global;
 use vcd_core::{FromBytes, Source, ToBytes};
@@ -43,11 +44,13 @@ pub fn amend_on_bytes(
     let mut passes = passes_over(file);
     let mut replies = ToBytes::new(alloc);
     let mut output = ToBytes::new(alloc);
+    let mut remarks = Nowhere { is_flushed: false };
     let ending = amend_run(
         alloc,
         &mut passes,
         &mut FromBytes::new(script),
         &mut replies,
+        &mut remarks,
         Some(&mut output),
         depth,
     );

@@ -5,7 +5,7 @@ ghost use Rattle.std.specs.Prelude.{IfErr, IfSome, All};
 ghost use Rattle.std.specs.Option.{ForSome};
 ghost use Rattle.std.specs.Io.KnownBytes.{Appends};
 ghost use Rattle.vcd_core.specs.CaptureContents.{contents};
-ghost use Rattle.vcd_core.specs.Devices.{device_end};
+ghost use Rattle.vcd_core.specs.Devices.{device_end, HasPrefix};
 ghost use Rattle.vcd_core.specs.Sound.{IsSound};
 ghost use Rattle.vcd_text.specs.CopyEnds.{CopyFails};
 ghost use Rattle.vcd_text.specs.declared.reading.TheConstants.{LONG_FILE_LIMIT};
@@ -13,6 +13,7 @@ ghost use Rattle.vcd_journal.specs.Machine.{initial_machine};
 ghost use Rattle.vcd_journal.specs.Origins.{origins};
 ghost use Rattle.vcd_script.specs.HollowRun.{last_edits};
 ghost use Rattle.vcd_script.specs.Script.{script_lines};
+ghost use Rattle.vcd_script.specs.SessionRemarks.{session_remarks};
 ghost use Rattle.vcd_script.specs.RunEnds.{ForOutput, IsOutputFlushed};
 ghost use Rattle.vcd_script.specs.LineRunEnds.{RunsLines};
 ghost use Rattle.vcd_script.specs.declared.running.run_error.RunError.TheVariants as run_errors;
@@ -22,6 +23,7 @@ ghost use Rattle.vcd_amend.specs.AmendRunEnds.{pass_ends, AreReady, AmendRunEnds
 ghost use Rattle.vcd_amend.specs.KnownSignals.{IsAmendmentFor};
 ghost use Rattle.vcd_amend.specs.DeclaredVariables.{declarations_of, HaveSizesOf};
 ghost use Rattle.vcd_amend.specs.RetimedCopy.{IsAmendedAfterCuts, is_cut_by};
+ghost use Rattle.vcd_amend.specs.TakenRemarks.{TakesRemarks};
 ghost use Rattle.vcd_amend.specs.inside.CaptureAfterCuts.{capture_after_cuts};
 ghost use Rattle.vcd_amend.specs.inside.Running.{RefusesPlan, IsLaterCapture, ShowUpTo, IsPlanned};
 ghost use Rattle.vcd_amend.specs.inside.Running.{IsEdited, IsDryRun};
@@ -43,7 +45,7 @@ use crate::sharing::share_capture;
 use std::alloc::Global;
 use vcd_core::{Capture, NoMemory, SIGNAL_LIMIT, Sink, Source};
 use vcd_journal::{DEPTH_LIMIT, Session};
-use vcd_script::{RunError, Summary, read_script, run_lines};
+use vcd_script::{RunError, Summary, read_script, remark_on_lines, run_lines};
 use vcd_text::{CopyError, ReadError};
 
 /// One source of a capture file for each pass over it.
@@ -151,17 +153,23 @@ impl From<CopyError> for AmendRunError {
 /// The file is read four times: its declarations, all of it without a change, the changes that the
 /// script asks for, and then for the copy. Only these changes are held, and while a signal is
 /// edited its changes before and after.
-pub fn amend_run<R: Source, S: Source, P: Sink, W: Sink>(
+///
+/// Before the first reply it writes the remarks on the lines. For these it carries the lines out
+/// once more, without replies. If that runs out of memory, or the writer of the remarks fails, the
+/// run goes on without the other remarks.
+pub fn amend_run<R: Source, S: Source, P: Sink, Q: Sink, W: Sink>(
     alloc: Global,
     passes: &mut Passes<R>,
     script_reader: &mut S,
     replies: &mut P,
+    remarks: &mut Q,
     out: Option<&mut W>,
     depth: u64,
 ) -> Result<Summary, AmendRunError>
     requires passes_ready { AreReady R.has_failed passes.old }
     requires script_ready { S.has_failed script_reader.old ≡ false }
     requires replies_ready { P.has_failed replies.old ≡ false }
+    requires remarks_ready { Q.has_failed remarks.old ≡ false }
     requires out_ready { ForSome out (λ w. W.has_failed w.now ≡ false) }
     requires depth_least { 1 ≤ depth }
     requires depth_most { depth ≤ DEPTH_LIMIT }
@@ -170,17 +178,22 @@ pub fn amend_run<R: Source, S: Source, P: Sink, W: Sink>(
         (device_end S.coming S.has_failed script_reader.old script_reader.new)
         (device_end P.taken P.has_failed replies.old replies.new) output result) }
     ensures output_flushed { OnOk result (IsOutputFlushed W.is_flushed out.entry out.exit) }
+    // whatever the result
+    ensures remarked { TakesRemarks depth
+        (pass_ends R.coming R.has_failed passes.old passes.new)
+        (device_end S.coming S.has_failed script_reader.old script_reader.new)
+        (device_end Q.taken Q.has_failed remarks.old remarks.new) }
 {
     // matched here: no clause can open an `Option<&mut W>` that comes back from a call
     match out {
         Some(out) => {
-            let edited = run_script(alloc, passes, script_reader, replies, depth, true)?;
+            let edited = run_script(alloc, passes, script_reader, replies, remarks, depth, true)?;
             let refused = edited.refused;
             copy_amended(alloc, &mut passes.copy, edited, out)?;
             Ok(Summary { refused })
         }
         None => {
-            let edited = run_script(alloc, passes, script_reader, replies, depth, false)?;
+            let edited = run_script(alloc, passes, script_reader, replies, remarks, depth, false)?;
             Ok(Summary {
                 refused: edited.refused,
             })
@@ -190,17 +203,19 @@ pub fn amend_run<R: Source, S: Source, P: Sink, W: Sink>(
 
 /// Runs everything but the copy. If the file is to be written, no signal may get the name of a
 /// skipped variable.
-fn run_script<R: Source, S: Source, P: Sink>(
+fn run_script<R: Source, S: Source, P: Sink, Q: Sink>(
     alloc: Global,
     passes: &mut Passes<R>,
     script_reader: &mut S,
     replies: &mut P,
+    remarks: &mut Q,
     depth: u64,
     writes: bool,
 ) -> Result<Edited, AmendRunError>
     requires passes_ready { AreReady R.has_failed passes.old }
     requires script_ready { S.has_failed script_reader.old ≡ false }
     requires replies_ready { P.has_failed replies.old ≡ false }
+    requires remarks_ready { Q.has_failed remarks.old ≡ false }
     requires depth_least { 1 ≤ depth }
     requires depth_most { depth ≤ DEPTH_LIMIT }
     ensures edited { IfOk result (λ edited. (file lines : List ℕ)
@@ -222,10 +237,14 @@ fn run_script<R: Source, S: Source, P: Sink>(
         (pass_ends R.coming R.has_failed passes.old passes.new)
         (device_end S.coming S.has_failed script_reader.old script_reader.new)
         (device_end P.taken P.has_failed replies.old replies.new)) }
+    ensures remarked { TakesRemarks depth
+        (pass_ends R.coming R.has_failed passes.old passes.new)
+        (device_end S.coming S.has_failed script_reader.old script_reader.new)
+        (device_end Q.taken Q.has_failed remarks.old remarks.new) }
 {
     let plan = make_plan(alloc, passes, script_reader, depth)?;
     check_plan(&plan, writes)?;
-    let edited = edit(alloc, plan, replies, depth)?;
+    let edited = edit(alloc, plan, replies, remarks, depth)?;
     Ok(edited)
 }
 
@@ -334,14 +353,16 @@ fn try_lines(
     }
 }
 
-/// Carries the lines out, and writes their replies.
-fn edit<P: Sink>(
+/// Writes the remarks on the lines, then carries these out, and writes their replies.
+fn edit<P: Sink, Q: Sink>(
     alloc: Global,
     plan: Plan,
     replies: &mut P,
+    remarks: &mut Q,
     depth: u64,
 ) -> Result<Edited, AmendRunError>
     requires ready { P.has_failed replies.old ≡ false }
+    requires remarks_ready { Q.has_failed remarks.old ≡ false }
     requires sound { IsSound (contents plan.first) }
     requires short { length plan.script.items ≤ SCRIPT_LIMIT }
     requires depth_least { 1 ≤ depth }
@@ -356,10 +377,16 @@ fn edit<P: Sink>(
     ensures stops { IfErr result (StopsInRun plan.skipped (script_lines plan.script.items)
         (initial_machine (contents plan.first) depth)
         (device_end P.taken P.has_failed replies.old replies.new)) }
+    ensures remarked { (count : ℕ)
+        × HasPrefix (device_end Q.taken Q.has_failed remarks.old remarks.new) count
+        (session_remarks 1 (initial_machine (contents plan.first) depth)
+        (script_lines plan.script.items)) }
 {
-    let (first, edited) = share_capture(alloc, plan.first)?;
-    let mut session = begin_session(alloc, edited, depth)?;
+    let first = plan.first;
     let script = plan.script.as_slice();
+    let first = remark(alloc, first, script, remarks, depth)?;
+    let (first, edited) = share_capture(alloc, first)?;
+    let mut session = begin_session(alloc, edited, depth)?;
     let refused = run_lines(alloc, &mut session, plan.skipped, script, replies)?;
     Ok(Edited {
         declared: plan.declared,
@@ -369,6 +396,32 @@ fn edit<P: Sink>(
         session,
         refused,
     })
+}
+
+/// Writes the remarks on the lines, and gives the capture back. An error ends the remarks alone.
+fn remark<Q: Sink>(
+    alloc: Global,
+    capture: Capture,
+    script: &[u8],
+    remarks: &mut Q,
+    depth: u64,
+) -> Result<Capture, NoMemory>
+    requires ready { Q.has_failed remarks.old ≡ false }
+    requires sound { IsSound (contents capture) }
+    requires short { length script.now ≤ SCRIPT_LIMIT }
+    requires depth_least { 1 ≤ depth }
+    requires depth_most { depth ≤ DEPTH_LIMIT }
+    ensures kept { IfOk result (λ kept. contents kept ≡ contents capture) }
+    ensures remarked { (count : ℕ)
+        × HasPrefix (device_end Q.taken Q.has_failed remarks.old remarks.new) count
+        (session_remarks 1 (initial_machine (contents capture) depth) (script_lines script.now)) }
+{
+    let (capture, tried) = share_capture(alloc, capture)?;
+    let Ok(mut session) = begin_session(alloc, tried, depth) else {
+        return Ok(capture);
+    };
+    let _ = remark_on_lines(alloc, &mut session, script, remarks);
+    Ok(capture)
 }
 
 /// A session on a capture.

@@ -2,3 +2,5 @@
 pub mod PartsOfRun
 pub mod ResultOfRun
 pub mod LinesLeft
+pub mod RemarksLeft
+pub mod LineRemarks

@@ -4,3 +4,5 @@ pub mod LawsOfRun
 pub mod HollowRuns
 pub mod FittingCuts
 pub mod HollowPart
+pub mod SessionRemarks
+pub mod RemarksOnHollow

@@ -19,6 +19,8 @@ pub mod LineRunEnds
 pub mod Run
 pub mod HollowRun
 pub mod HollowPart
+pub mod RemarksOfRun
+pub mod SessionRemarks
 pub mod FileLaws
 pub mod RunEnds
 pub mod RunOnBytes

@@ -2,9 +2,11 @@
 //! calls the law on which it rests.
 
 ghost use Rattle.vcd_script.specs.FileLaws.{CutFileIsReadAgain, SameBytesSameResult};
+ghost use Rattle.vcd_script.specs.RemarksOfRun.{RemarksWithOthers, RemarksOnHollow};
 ghost use Rattle.vcd_script.specs.SessionLines.{SessionLinesAreRun};
 ghost use Rattle.vcd_script.specs.RemarkLaws.{NoFallNoFrame, PulsesAreTakenOut};
 ghost use Rattle.vcd_script.specs.RemarkLaws.{ValueRunsAreAll};
+ghost use Rattle.vcd_script.specs.SessionRemarks.{SessionRemarksAreRun};
 ghost use Rattle.vcd_script.specs.HollowPart.{HollowIsPart};
 ghost use Rattle.vcd_script.specs.HollowRun.{CommandIsOfOutline, HistoryIsOfOutline};
 ghost use Rattle.vcd_script.specs.HollowRun.{AskedIsOfOutline, ReplyWithOthers, RunOnHollow};
@@ -64,3 +66,16 @@ pub fn remarks_are_true()
 {
     deglitch_takes_short_runs_out();
 }
+
+/// Lines that are carried out on a new session, as [`remark_on_lines`](crate::remark_on_lines)
+/// does, have the remarks of a run.
+pub fn session_remarks_are_run()
+    ensures { SessionRemarksAreRun }
+{}
+
+/// Where the lines ask for the changes of no silent signal, a run on the capture without these
+/// changes has the same remarks.
+pub fn remarks_on_hollow_captures()
+    ensures command { RemarksWithOthers }
+    ensures run { RemarksOnHollow }
+{}

@@ -12,8 +12,8 @@
 //! A caller that has a session carries lines out on it: [`run_lines`] all of them, or one at a time
 //! [`answer_line`], which gives a [`Reply`]. [`split_line`] takes a line off a script, and
 //! [`parse_line`] says what it asks for, and changes nothing; [`waves_of_command`] says whose
-//! changes that needs, and [`remarks_on`] what there is to say of it beyond the reply. The laws say
-//! what follows from these contracts.
+//! changes that needs, and [`remarks_on`] what there is to say of it beyond the reply, which
+//! [`remark_on_lines`] does for all lines. The laws say what follows from these contracts.
 #![tactic(auto)]
 
 mod laws;
@@ -24,10 +24,12 @@ mod script;
 
 pub use laws::{
     cut_file_is_read_again, hollow_captures_are_parts, lines_are_of_outline, remarks_are_true,
-    runs_on_hollow_captures, same_bytes_same_result, session_lines_are_run,
+    remarks_on_hollow_captures, runs_on_hollow_captures, same_bytes_same_result,
+    session_lines_are_run, session_remarks_are_run,
 };
 pub use remarks::remarks_on;
 pub use replies::{Reply, answer_line};
+pub use running::remark_on_lines::{RemarkError, remark_on_lines};
 pub use running::run::run;
 pub use running::run_lines::run_lines;
 pub use running::run_on_bytes::{RunRefusal, RunTexts, Stage, run_on_bytes};

@@ -9,6 +9,7 @@ mod reply;
 mod waves;
 
 pub use answering::answer_line;
+pub(crate) use answering::is_no_memory;
 pub use reply::Reply;
 use vcd_core::NoMemory;
 

@@ -72,7 +72,7 @@ unfolding effect
 effect_without_address (Rename k word) c = refl
 effect_without_address e c = refl
 
-fault_without_address : (e : Edit) (c : Contents) → edit_fault (edit_without_address e) c ≡ edit_fault e c
+pub fault_without_address : (e : Edit) (c : Contents) → edit_fault (edit_without_address e) c ≡ edit_fault e c
 unfolding edit_fault
 fault_without_address (Rename k word) c = refl
 fault_without_address e c = refl
@@ -88,7 +88,7 @@ edit_outcome_without_address None e m =
 edit_outcome_without_address (Some found) e m = refl
 
 -- nor for the outcome of a step
-outcome_without_address : (m : Machine) (s : Step) → step_outcome m (step_without_address s) ≡ step_outcome m s
+pub outcome_without_address : (m : Machine) (s : Step) → step_outcome m (step_without_address s) ≡ step_outcome m s
 outcome_without_address m (steps.Edit e) =
     ap (λ (found : Option EditError). edit_outcome found (edit_without_address e) m) (fault_without_address e m.now)
     ∙ edit_outcome_without_address (edit_fault e m.now) e m

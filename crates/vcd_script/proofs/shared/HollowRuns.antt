@@ -48,7 +48,7 @@ use Rattle.vcd_script.proofs.shared.LawsOfRun.{AreMade, in_force_made}
 -- ==== the reply to a line on a capture with other waves, none of which the line asks for
 
 -- what holds of each item of two lists
-all_split : {X : Type 0} (P : X → Type 0) (xs ys : List X) → AllByRecursion P (xs ++ ys)
+pub all_split : {X : Type 0} (P : X → Type 0) (xs ys : List X) → AllByRecursion P (xs ++ ys)
     → AllByRecursion P xs × AllByRecursion P ys
 all_split P [] ys all = (tt, all)
 all_split P (x ∷ xs) ys all = let rest = all_split P xs ys all.1 in ((all.0, rest.0), rest.1)
@@ -193,7 +193,7 @@ own_there silent [] k found heard = (refl, heard)
 own_there silent (j ∷ ks) zero found heard = (emptied_own silent j heard.0, heard.1)
 own_there silent (j ∷ ks) (suc k) found heard = own_there silent ks k found heard
 
-have_own : (silent : ℕ → Bool) (ks reads : List ℕ) → AreHeard silent (origins_at ks reads)
+pub have_own : (silent : ℕ → Bool) (ks reads : List ℕ) → AreHeard silent (origins_at ks reads)
     → HaveOwn (map (emptied silent) ks) reads
 have_own silent ks [] heard = tt
 have_own silent ks (k ∷ reads) heard =
@@ -202,7 +202,7 @@ have_own silent ks (k ∷ reads) heard =
 -- ---- lists
 
 -- what holds of all that a function gives of some items
-all_of_each : {X A : Type 0} (P : A → Type 0) (f : X → List A) (xs : List X) → AllByRecursion P (flat_map f xs)
+pub all_of_each : {X A : Type 0} (P : A → Type 0) (f : X → List A) (xs : List X) → AllByRecursion P (flat_map f xs)
     → AllByRecursion (λ x. AllByRecursion P (f x)) xs
 all_of_each P f [] all = tt
 all_of_each P f (x ∷ xs) all = let both = all_split P (f x) (flat_map f xs) all in (both.0, all_of_each P f xs both.1)
@@ -225,7 +225,7 @@ module _ (silent : ℕ → Bool) (c : Contents) (skipped depth : ℕ) (lines : L
   at_line n = history_at c skipped depth lines n
 
   -- the line asks for the changes of no silent signal
-  abbrev IsHeard : ℕ → List ℕ → Type 0
+  abbrev pub IsHeard : ℕ → List ℕ → Type 0
   IsHeard n line = AreHeard silent (origins_of_line c skipped depth lines n line)
 
   -- past the last line there are only empty ones, which ask for none
@@ -255,10 +255,10 @@ module _ (silent : ℕ → Bool) (c : Contents) (skipped depth : ℕ) (lines : L
         subst (λ (before : List Edit). AreHeard silent (origins_at (origins count before) (waves_read e))) at.3 asked in
         (have_own silent (origins count es) (waves_read e) here, none_read n es made.1)
 
-    in_force_own : (n : ℕ) → ReadOwn (emptied silent) count (at_line n).edits
+    pub in_force_own : (n : ℕ) → ReadOwn (emptied silent) count (at_line n).edits
     in_force_own n = none_read n (at_line n).edits (in_force_made c skipped depth lines n)
 
-    histories : (n : ℕ) → history_at d skipped depth lines n ≡ at_line n
+    pub histories : (n : ℕ) → history_at d skipped depth lines n ≡ at_line n
     histories n = history_is_of_outline d c skipped depth lines n (hollow_outline silent c)
 
     answer_same : (n : ℕ) (line : List ℕ) → IsHeard n line

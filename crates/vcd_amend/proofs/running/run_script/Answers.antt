@@ -3,13 +3,16 @@ use Rattle.std.specs.Global.{Vec}
 use Rattle.std.specs.Io.KnownBytes.{Appends}
 use Rattle.vcd_core.specs.CaptureContents.{contents}
 use Rattle.vcd_core.specs.Contents.{Contents}
+use Rattle.vcd_core.specs.Devices.{device_end}
 use Rattle.vcd_script.specs.Script.{script_lines}
 use Rattle.vcd_text.specs.Grammar.{VariableDeclaration}
+use Rattle.vcd_amend.specs.AmendRunEnds.{pass_ends}
 use Rattle.vcd_amend.specs.DeclaredVariables.{declarations_of, HaveSizesOf}
 use Rattle.vcd_amend.specs.declared.declarations.DeclaredVariable.{DeclaredVariable}
 use Rattle.vcd_amend.specs.inside.Running.{IsEdited}
 use Rattle.vcd_amend.proofs.running.CarriedOut.{is_edited, comes_from}
 use Rattle.vcd_amend.proofs.running.EndsOfRun.{plan_ends, lines_end, at_error}
+use Rattle.vcd_amend.proofs.running.RemarkedRun.{none_taken, remarks_of_plan}
 use Rattle.vcd_amend.proofs.running.run_script.Goals as goal
 
 pub returns-in_err-plan-clause-fails : goal.returns-in_err-plan-clause-fails
@@ -65,3 +68,37 @@ returns-clause-come g c =
     (comes_from (contents plan.first) plan.skipped c.args.depth (script_lines plan.script.items) plan.origins.items
     c.in_ok-edited.edited.session c.in_ok-edited.edited.refused _ _ c.in_ok-plan.ensures.placed
     c.in_ok-edited.ensures.ran)
+
+-- ---- the remarks
+
+pub returns-in_err-plan-clause-remarked : goal.returns-in_err-plan-clause-remarked
+returns-in_err-plan-clause-remarked g c =
+    none_taken c.args.depth (pass_ends g.R.Source.coming g.R.Source.has_failed c.args.passes.now c.args.passes.now)
+    (device_end g.S.Source.coming g.S.Source.has_failed c.args.script_reader.now c.args.script_reader.now)
+    (g.Q.Sink.taken c.args.remarks.now) (g.Q.Sink.has_failed c.args.remarks.now)
+
+pub returns-in_err-check_plan-clause-remarked : goal.returns-in_err-check_plan-clause-remarked
+returns-in_err-check_plan-clause-remarked g c =
+    none_taken c.args.depth (pass_ends g.R.Source.coming g.R.Source.has_failed c.args.passes.now c.args.passes.now)
+    (device_end g.S.Source.coming g.S.Source.has_failed c.args.script_reader.now c.args.script_reader.now)
+    (g.Q.Sink.taken c.args.remarks.now) (g.Q.Sink.has_failed c.args.remarks.now)
+
+pub returns-in_err-edited-clause-remarked : goal.returns-in_err-edited-clause-remarked
+returns-in_err-edited-clause-remarked g c =
+    let plan = c.in_ok-plan.plan in
+    remarks_of_plan c.args.depth
+    (pass_ends g.R.Source.coming g.R.Source.has_failed c.args.passes.now c.args.passes.now)
+    (device_end g.S.Source.coming g.S.Source.has_failed c.args.script_reader.now c.args.script_reader.now)
+    (device_end g.Q.Sink.taken g.Q.Sink.has_failed c.args.remarks.now c.edit.new.remarks)
+    (declarations_of plan.declared.items) plan.skipped (contents plan.first) plan.origins.items plan.cuts.items
+    plan.takes_skipped_name plan.script.items c.in_ok-plan.ensures.planned c.in_err-edited.ensures.remarked
+
+pub returns-clause-remarked : goal.returns-clause-remarked
+returns-clause-remarked g c =
+    let plan = c.in_ok-plan.plan in
+    remarks_of_plan c.args.depth
+    (pass_ends g.R.Source.coming g.R.Source.has_failed c.args.passes.now c.args.passes.now)
+    (device_end g.S.Source.coming g.S.Source.has_failed c.args.script_reader.now c.args.script_reader.now)
+    (device_end g.Q.Sink.taken g.Q.Sink.has_failed c.args.remarks.now c.edit.new.remarks)
+    (declarations_of plan.declared.items) plan.skipped (contents plan.first) plan.origins.items plan.cuts.items
+    plan.takes_skipped_name plan.script.items c.in_ok-plan.ensures.planned c.in_ok-edited.ensures.remarked

@@ -1,0 +1,35 @@
+-- The remarks on a line are those on the command that it asks for.
+use Rattle.std.proofs.Common.{◌≡◌, ℕ, List, [], Result, Ok, if◌then◌else◌, refl, ap, ◌∙◌}
+use Rattle.std.specs.Prelude.{is_some}
+use Rattle.vcd_core.specs.Contents.{Contents}
+use Rattle.vcd_edit.specs.declared.edit.Edit.{Edit}
+use Rattle.vcd_edit.specs.declared.edit.Edit.TheVariants.{Rename, Derive}
+use Rattle.vcd_journal.specs.declared.step.Step.TheVariants as steps
+use Rattle.vcd_script.specs.declared.script.command.Command.{Command}
+use Rattle.vcd_script.specs.declared.script.command.Command.TheVariants as commands
+use Rattle.vcd_script.specs.declared.script.line_error.LineError.{LineError}
+use Rattle.vcd_script.specs.Remarks.{edit_remarks, remarks, remarks_text}
+use Rattle.vcd_script.specs.RemarksOfRun.{remarks_asked, line_remarks}
+use Rattle.vcd_script.specs.ScriptCommands.{command_of_line}
+use Rattle.vcd_script.specs.WithoutAddress.{edit_without_address, command_without_address}
+use Rattle.vcd_script.proofs.replies.AnsweredLines.{fault_without_address}
+
+-- the address of a word does not matter for the remarks
+edit_remarks_without_address : (e : Edit) (c : Contents) → edit_remarks (edit_without_address e) c ≡ edit_remarks e c
+edit_remarks_without_address (Rename k word) c = refl
+edit_remarks_without_address (Derive word rule) c = refl
+edit_remarks_without_address e c = refl
+
+remarks_without_address : (c : Contents) (command : Command)
+    → remarks c (command_without_address command) ≡ remarks c command
+unfolding remarks
+remarks_without_address c (commands.Step (steps.Edit e)) = λ i.
+    if is_some (fault_without_address e c i) then [] else edit_remarks_without_address e c i
+remarks_without_address c command = refl
+
+pub line_remarks_are : (number : ℕ) (c : Contents) (line : List ℕ) (command : Command)
+    → command_of_line c line ≡ Ok (command_without_address command)
+    → line_remarks number c line ≡ remarks_text number (remarks c command)
+line_remarks_are number c line command read =
+    ap (λ (parsed : Result Command LineError). remarks_text number (remarks_asked c parsed)) read
+    ∙ ap (remarks_text number) (remarks_without_address c command)
