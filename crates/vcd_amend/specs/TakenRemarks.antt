@@ -11,7 +11,7 @@ use Rattle.vcd_amend.specs.AmendRunEnds.{PassEnds, AllShow}
 
 -- if every pass shows one file, and the script its bytes: the first bytes of the remarks on the
 -- lines, on the capture that the file means
-abbrev pub TakesRemarks : (depth : ℕ) → PassEnds → (script remarks : DeviceEnd) → Type 0
+unfoldable pub TakesRemarks : (depth : ℕ) → PassEnds → (script remarks : DeviceEnd) → Type 0
 TakesRemarks depth passes script remarks =
     (file lines : List ℕ) → AllShow passes file → script.before ≡ Some lines
     → (c : Contents) (skipped : ℕ) → FileMeans SIGNAL_LIMIT file c skipped

@@ -1,16 +1,31 @@
 -- The options of the command line, and what its words ask for. They are the project's own.
-use Rattle.std.specs.Prelude.{ℕ, List, codes, true, Option}
+use Rattle.std.specs.Prelude.{ℕ, Bool, List, codes, true, false, bytes_eq, Option, Some, None}
 use Rattle.std.specs.Option.{option_copied}
-use Rattle.clap.specs.Words.{App, Text, first_of, matches_of, new_app, one_of, with_rule}
+use Rattle.clap.specs.Words.{App, Rule, Text, first_of, matches_of, new_app, new_rule, one_of}
+use Rattle.clap.specs.Words.{with_rule}
 use Rattle.clap.specs.Simple.{new_shape}
+use Rattle.clap.specs.declared.builder.action.ArgAction.TheVariants.{SetTrue}
 use Rattle.vcd_shell.specs.Options.{capture_argument, depth_asked, depth_option, input_option}
 use Rattle.vcd_shell.specs.Options.{output_option, value_option}
 use Rattle.vcdedit_amend.specs.declared.command_line.Options.{Options}
 
+-- `--quiet`, without a value
+abbrev pub quiet_option : Rule
+quiet_option = record (new_rule (codes "quiet")) {
+  long = Some (codes "quiet");
+  action = Some SetTrue;
+}
+
 -- with the options
 abbrev pub with_options : App → App
-with_options app = with_rule (with_rule (with_rule (with_rule (with_rule app
-    input_option) (value_option (codes "script"))) output_option) depth_option) capture_argument
+with_options app = with_rule (with_rule (with_rule (with_rule (with_rule (with_rule app
+    input_option) (value_option (codes "script"))) output_option) depth_option) quiet_option)
+    capture_argument
+
+-- whether an option without a value is given, by the text that it then has
+abbrev pub is_given : Option Text → Bool
+is_given None = false
+is_given (Some text) = bytes_eq text (codes "true")
 
 -- the program with these options, help and a version; its words do not begin with its name
 abbrev pub option_app : App
@@ -18,13 +33,14 @@ option_app = with_options (record (new_app (codes "vcdedit-amend")) {
   top = record (new_shape (codes "vcdedit-amend")) { no_binary_name = true; has_version = true };
 })
 
--- the path of each given option, and the depth
+-- the path of each given option, the depth, and whether remarks are to be left out
 pub record AskedOptions : Type 0 where
   pub input : Option Text
   pub capture : Option Text
   pub script : Option Text
   pub output : Option Text
   pub depth : ℕ
+  pub is_quiet : Bool
 
 -- the same for the options that the code holds
 abbrev pub options_in : Options → AskedOptions
@@ -34,6 +50,7 @@ options_in o = record {
   script = option_copied o.script;
   output = option_copied o.output;
   depth = o.depth;
+  is_quiet = o.is_quiet;
 }
 
 -- what accepted words after the program's name ask for
@@ -46,4 +63,5 @@ asked_options words =
       script = first_of (codes "script") rows;
       output = first_of (codes "output-file") rows;
       depth = depth_asked (one_of (codes "depth") rows);
+      is_quiet = is_given (first_of (codes "quiet") rows);
     }

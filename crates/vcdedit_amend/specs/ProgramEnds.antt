@@ -9,6 +9,7 @@ use Rattle.vcd_text.specs.declared.fault.Fault.TheVariants as faults
 use Rattle.vcd_script.specs.declared.running.run_error.RunError.TheVariants as run_errors
 use Rattle.vcd_script.specs.declared.running.run_error.Summary.{Summary}
 use Rattle.vcd_amend.specs.AmendRunEnds.{AmendRunEnds, PassEnds}
+use Rattle.vcd_amend.specs.TakenRemarks.{TakesRemarks}
 use Rattle.vcd_amend.specs.declared.running.AmendRunError.{AmendRunError}
 use Rattle.vcd_amend.specs.declared.running.AmendRunError.TheVariants as amend_run_errors
 use Rattle.vcd_shell.specs.Opening.{default_script, names_file}
@@ -77,10 +78,11 @@ abbrev pub IsOutcomeOn : (output : Option Text) → Result Summary AmendError �
     → (script : DeviceEnd) → Type 0
 IsOutcomeOn output outcome depth script =
     ((e : AmendError) × IsDeviceFault output e × (outcome ≡ Err e))
-    ⊎ ((passes : PassEnds) × (replies : DeviceEnd)
+    ⊎ ((passes : PassEnds) × (replies remarks : DeviceEnd)
     × (written : Option DeviceEnd) × (is_some written ≡ is_some output)
     × (ended : Result Summary AmendRunError)
     × AmendRunEnds depth passes script replies written ended
+    × TakesRemarks depth passes script remarks
     × IsOutcomeOfRun output ended outcome)
 
 -- why the inputs can't be opened: the capture is no regular file, or it can't be opened; or the

@@ -1,11 +1,11 @@
 //! The words of the command line, as `clap` reads them.
 
-ghost use Rattle.std.specs.Prelude.{◌≡◌, ◌≤◌, ℕ, false, List, IfOk};
-ghost use Rattle.clap.specs.Words.{app_of, found_of, matches_of, rows_of, rule_of};
+ghost use Rattle.std.specs.Prelude.{◌≡◌, ◌≤◌, ℕ, false, List, codes, IfOk};
+ghost use Rattle.clap.specs.Words.{app_of, first_value, found_of, matches_of, rows_of, rule_of};
 ghost use Rattle.vcd_shell.specs.Options as shared;
 ghost use Rattle.vcdedit_amend.specs.CommandLine as spec;
 
-use clap::{Arg, ArgMatches, Command};
+use clap::{Arg, ArgAction, ArgMatches, Command};
 use std::alloc::{AllocError, Global};
 use vcd_journal::DEPTH_LIMIT;
 use vcd_shell::{
@@ -62,6 +62,8 @@ pub struct Options<'a> {
     pub output: Option<&'a str>,
     /// How many edits are held for undo and redo, from 1 to `DEPTH_LIMIT`.
     pub depth: u64,
+    /// Whether remarks are left out.
+    pub is_quiet: bool,
 }
 
 /// The options of accepted words.
@@ -78,6 +80,17 @@ pub fn options_of<'a>(matches: &ArgMatches<'a>) -> Options<'a>
         script: matches.get_str("script"),
         output: matches.get_str("output-file"),
         depth: depth_of(matches),
+        is_quiet: is_quiet(matches),
+    }
+}
+
+/// Whether `--quiet` is given.
+fn is_quiet(matches: &ArgMatches<'_>) -> bool
+    ensures { result ≡ spec.is_given (first_value (found_of matches.now) (codes "quiet")) }
+{
+    match matches.get_str("quiet") {
+        Some(value) => value == "true",
+        None => false,
     }
 }
 
@@ -102,6 +115,7 @@ fn with_options<'a>(program: Command<'a>, alloc: Global) -> Result<Command<'a>, 
         .arg(script_option(alloc))?
         .arg(output_option(alloc, OUTPUT_HELP))?
         .arg(depth_option(alloc))?
+        .arg(quiet_option(alloc))?
         .arg(capture_argument(alloc))
 }
 
@@ -111,4 +125,15 @@ fn file_option<'a>(alloc: Global) -> Arg<'a>
     ensures local { result.global ≡ false }
 {
     input_option(alloc).help("The capture to read: a file")
+}
+
+/// `--quiet`.
+fn quiet_option<'a>(alloc: Global) -> Arg<'a>
+    ensures rule { rule_of result ≡ spec.quiet_option }
+    ensures local { result.global ≡ false }
+{
+    Arg::new(alloc, "quiet")
+        .long("quiet")
+        .action(ArgAction::SetTrue)
+        .help("Write no remarks on the lines of the script")
 }

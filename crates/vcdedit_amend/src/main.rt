@@ -10,6 +10,7 @@ mod command_line;
 mod passes;
 mod program;
 mod progress;
+mod remarks;
 mod reporting;
 mod summed;
 #[cfg(test)]

@@ -13,6 +13,7 @@ ghost use Rattle.vcdedit_amend.specs.Sums.{HaveOneSum};
 use crate::amend_error::{AmendError, NO_MEMORY, NO_SCRIPT};
 use crate::command_line::{Options, command_line, options_of};
 use crate::passes::{CaptureFile, Pass, clear_progress, refuse_changed};
+use crate::remarks::Remarks;
 use crate::reporting::{PROGRAM, report};
 use crate::summed::Summed;
 use clap::{ArgMatches, Command};
@@ -140,11 +141,11 @@ fn run_passes<'a, R: Runtime + AllocGlobal>(
         Some(path) => {
             let script = open_script(rt, path).map_err(|_| NO_SCRIPT)?;
             let script = &mut FromRead::new(script);
-            run_inputs(rt, capture, passes, script, options.output, options.depth)
+            run_inputs(rt, capture, passes, script, options)
         }
         None => {
             let script = &mut FromBytes::new(DEFAULT_SCRIPT);
-            run_inputs(rt, capture, passes, script, options.output, options.depth)
+            run_inputs(rt, capture, passes, script, options)
         }
     }
 }
@@ -155,22 +156,32 @@ fn run_inputs<R: Runtime + AllocGlobal, C: Source, S: Source>(
     capture: &CaptureFile<'_>,
     passes: &mut Passes<Summed<C>>,
     script: &mut S,
-    output: Option<&str>,
-    depth: u64,
+    options: &Options<'_>,
 ) -> Result<Summary, AmendError>
-    requires depth_least { 1 ≤ depth }
-    requires depth_most { depth ≤ DEPTH_LIMIT }
+    requires depth_least { 1 ≤ options.now.depth }
+    requires depth_most { options.now.depth ≤ DEPTH_LIMIT }
     requires passes_ready { AreReady ⟦<Summed<C> as Source>⟧.has_failed passes.old }
     requires script_ready { S.has_failed script.old ≡ false }
-    ensures { IsOutcomeOn (option_copied output.entry) result depth
+    ensures { IsOutcomeOn (option_copied options.now.output) result options.now.depth
         (device_end S.coming S.has_failed script.old script.new) }
 {
     let writer = io::writer(rt);
     let buffer = BufWriter::with_capacity(rt.alloc(), BUFFER, writer).map_err(|_| NO_MEMORY)?;
     let mut replies = ToWrite::new(buffer);
-    let outcome = match output {
-        Some(path) => run_to_file(rt, capture, passes, script, &mut replies, path, depth),
-        None => run_without_file(rt, passes, script, &mut replies, depth),
+    let mut remarks = Remarks::new(rt, options.is_quiet);
+    let depth = options.depth;
+    let outcome = match options.output {
+        Some(path) => run_to_file(
+            rt,
+            capture,
+            passes,
+            script,
+            &mut replies,
+            &mut remarks,
+            path,
+            depth,
+        ),
+        None => run_without_file(rt, passes, script, &mut replies, &mut remarks, depth),
     };
     // what is left was flushed by the run, or else refused: it is not sent again
     let _ = replies.into_inner().into_parts();
@@ -178,12 +189,13 @@ fn run_inputs<R: Runtime + AllocGlobal, C: Source, S: Source>(
 }
 
 /// Runs with a file for the output, and then puts it in its place.
-fn run_to_file<R: Runtime + AllocGlobal, C: Source, S: Source, P: Sink>(
+fn run_to_file<R: Runtime + AllocGlobal, C: Source, S: Source, P: Sink, Q: Sink>(
     rt: &R,
     capture: &CaptureFile<'_>,
     passes: &mut Passes<Summed<C>>,
     script: &mut S,
     replies: &mut P,
+    remarks: &mut Q,
     path: &str,
     depth: u64,
 ) -> Result<Summary, AmendError>
@@ -192,11 +204,13 @@ fn run_to_file<R: Runtime + AllocGlobal, C: Source, S: Source, P: Sink>(
     requires passes_ready { AreReady ⟦<Summed<C> as Source>⟧.has_failed passes.old }
     requires script_ready { S.has_failed script.old ≡ false }
     requires replies_ready { P.has_failed replies.old ≡ false }
+    requires remarks_ready { Q.has_failed remarks.old ≡ false }
     ensures { IsOutcomeOn (Some path.now) result depth
         (device_end S.coming S.has_failed script.old script.new) }
 {
     let mut file = SafeFile::begin(rt, path)?;
-    let ended = amend_run(rt.alloc(), passes, script, replies, Some(&mut file), depth);
+    let output = Some(&mut file);
+    let ended = amend_run(rt.alloc(), passes, script, replies, remarks, output, depth);
     let summary = ended?;
     refuse_changed(passes)?;
     // last, as another run may have put its output in the place of the capture
@@ -217,11 +231,12 @@ fn put_in_place<'a, R: Runtime + AllocGlobal, C: Source>(
 }
 
 /// Runs without an output.
-fn run_without_file<R: Runtime + AllocGlobal, C: Source, S: Source, P: Sink>(
+fn run_without_file<R: Runtime + AllocGlobal, C: Source, S: Source, P: Sink, Q: Sink>(
     rt: &R,
     passes: &mut Passes<Summed<C>>,
     script: &mut S,
     replies: &mut P,
+    remarks: &mut Q,
     depth: u64,
 ) -> Result<Summary, AmendError>
     requires depth_least { 1 ≤ depth }
@@ -229,11 +244,12 @@ fn run_without_file<R: Runtime + AllocGlobal, C: Source, S: Source, P: Sink>(
     requires passes_ready { AreReady ⟦<Summed<C> as Source>⟧.has_failed passes.old }
     requires script_ready { S.has_failed script.old ≡ false }
     requires replies_ready { P.has_failed replies.old ≡ false }
+    requires remarks_ready { Q.has_failed remarks.old ≡ false }
     ensures { IsOutcomeOn None result depth
         (device_end S.coming S.has_failed script.old script.new) }
 {
     let output: Option<&mut ToBytes> = None;
-    let summary = amend_run(rt.alloc(), passes, script, replies, output, depth)?;
+    let summary = amend_run(rt.alloc(), passes, script, replies, remarks, output, depth)?;
     refuse_changed(passes)?;
     Ok(summary)
 }

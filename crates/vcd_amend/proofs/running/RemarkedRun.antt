@@ -15,13 +15,14 @@ use Rattle.vcd_script.specs.SessionRemarks.{session_remarks}
 use Rattle.vcd_script.proofs.shared.RemarksOnHollow.{remarks_on_hollow}
 use Rattle.vcd_script.proofs.shared.SessionRemarks.{session_remarks_are_run}
 use Rattle.vcd_amend.specs.declared.cut_ticks.CutTicks.{CutTicks}
-use Rattle.vcd_amend.specs.AmendRunEnds.{PassEnds}
+use Rattle.vcd_amend.specs.AmendRunEnds.{PassEnds, AllShow}
 use Rattle.vcd_amend.specs.TakenRemarks.{TakesRemarks}
 use Rattle.vcd_amend.specs.inside.Running.{IsPlanned}
 
 -- before the first remark none is taken
 pub none_taken : (depth : ℕ) (passes : PassEnds) (script : DeviceEnd) (taken : Option (List ℕ)) (failed : Bool)
     → TakesRemarks depth passes script (record { before = taken; after = taken; has_failed = failed })
+unfolding TakesRemarks
 none_taken depth passes script taken failed file lines shows script_shows c skipped means =
     (0, (omega arith, Appends-nil taken))
 
@@ -45,6 +46,7 @@ pub remarks_of_plan : (depth : ℕ) (passes : PassEnds) (script remarks : Device
     → IsPlanned file lines depth declared skipped first ks cs takes × (bytes ≡ lines))
     → (count : ℕ) × HasPrefix remarks count (session_remarks 1 (initial_machine first depth) (script_lines bytes))
     → TakesRemarks depth passes script remarks
+unfolding TakesRemarks
 remarks_of_plan depth passes script remarks declared skipped first ks cs takes bytes planned took file lines shows
     script_shows c count means =
     let plan = planned file lines (shows.0, shows.1, shows.2) script_shows in
@@ -54,3 +56,10 @@ remarks_of_plan depth passes script remarks declared skipped first ks cs takes b
     remarks_are file lines bytes depth declared skipped first ks cs takes plan.0 plan.1
     ∙ (λ i. remarks_of_run (one.0 i) (one.1 i) depth (script_lines lines)) in
     subst (λ (text : List ℕ). (n : ℕ) × HasPrefix remarks n text) all took
+
+-- the same after a later pass, which shows the same file
+pub remarks_as_shown : (depth : ℕ) (earlier later : PassEnds) (script remarks : DeviceEnd)
+    → TakesRemarks depth earlier script remarks → ((file : List ℕ) → AllShow later file → AllShow earlier file)
+    → TakesRemarks depth later script remarks
+unfolding TakesRemarks
+remarks_as_shown depth earlier later script remarks takes shows file lines shown = takes file lines (shows file shown)

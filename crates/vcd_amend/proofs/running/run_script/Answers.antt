@@ -3,10 +3,8 @@ use Rattle.std.specs.Global.{Vec}
 use Rattle.std.specs.Io.KnownBytes.{Appends}
 use Rattle.vcd_core.specs.CaptureContents.{contents}
 use Rattle.vcd_core.specs.Contents.{Contents}
-use Rattle.vcd_core.specs.Devices.{device_end}
 use Rattle.vcd_script.specs.Script.{script_lines}
 use Rattle.vcd_text.specs.Grammar.{VariableDeclaration}
-use Rattle.vcd_amend.specs.AmendRunEnds.{pass_ends}
 use Rattle.vcd_amend.specs.DeclaredVariables.{declarations_of, HaveSizesOf}
 use Rattle.vcd_amend.specs.declared.declarations.DeclaredVariable.{DeclaredVariable}
 use Rattle.vcd_amend.specs.inside.Running.{IsEdited}
@@ -73,32 +71,22 @@ returns-clause-come g c =
 
 pub returns-in_err-plan-clause-remarked : goal.returns-in_err-plan-clause-remarked
 returns-in_err-plan-clause-remarked g c =
-    none_taken c.args.depth (pass_ends g.R.Source.coming g.R.Source.has_failed c.args.passes.now c.args.passes.now)
-    (device_end g.S.Source.coming g.S.Source.has_failed c.args.script_reader.now c.args.script_reader.now)
-    (g.Q.Sink.taken c.args.remarks.now) (g.Q.Sink.has_failed c.args.remarks.now)
+    none_taken c.args.depth _ _ (g.Q.Sink.taken c.args.remarks.now) (g.Q.Sink.has_failed c.args.remarks.now)
 
 pub returns-in_err-check_plan-clause-remarked : goal.returns-in_err-check_plan-clause-remarked
 returns-in_err-check_plan-clause-remarked g c =
-    none_taken c.args.depth (pass_ends g.R.Source.coming g.R.Source.has_failed c.args.passes.now c.args.passes.now)
-    (device_end g.S.Source.coming g.S.Source.has_failed c.args.script_reader.now c.args.script_reader.now)
-    (g.Q.Sink.taken c.args.remarks.now) (g.Q.Sink.has_failed c.args.remarks.now)
+    none_taken c.args.depth _ _ (g.Q.Sink.taken c.args.remarks.now) (g.Q.Sink.has_failed c.args.remarks.now)
 
 pub returns-in_err-edited-clause-remarked : goal.returns-in_err-edited-clause-remarked
 returns-in_err-edited-clause-remarked g c =
     let plan = c.in_ok-plan.plan in
-    remarks_of_plan c.args.depth
-    (pass_ends g.R.Source.coming g.R.Source.has_failed c.args.passes.now c.args.passes.now)
-    (device_end g.S.Source.coming g.S.Source.has_failed c.args.script_reader.now c.args.script_reader.now)
-    (device_end g.Q.Sink.taken g.Q.Sink.has_failed c.args.remarks.now c.edit.new.remarks)
-    (declarations_of plan.declared.items) plan.skipped (contents plan.first) plan.origins.items plan.cuts.items
-    plan.takes_skipped_name plan.script.items c.in_ok-plan.ensures.planned c.in_err-edited.ensures.remarked
+    remarks_of_plan c.args.depth _ _ _ (declarations_of plan.declared.items) plan.skipped (contents plan.first)
+    plan.origins.items plan.cuts.items plan.takes_skipped_name plan.script.items c.in_ok-plan.ensures.planned
+    c.in_err-edited.ensures.remarked
 
 pub returns-clause-remarked : goal.returns-clause-remarked
 returns-clause-remarked g c =
     let plan = c.in_ok-plan.plan in
-    remarks_of_plan c.args.depth
-    (pass_ends g.R.Source.coming g.R.Source.has_failed c.args.passes.now c.args.passes.now)
-    (device_end g.S.Source.coming g.S.Source.has_failed c.args.script_reader.now c.args.script_reader.now)
-    (device_end g.Q.Sink.taken g.Q.Sink.has_failed c.args.remarks.now c.edit.new.remarks)
-    (declarations_of plan.declared.items) plan.skipped (contents plan.first) plan.origins.items plan.cuts.items
-    plan.takes_skipped_name plan.script.items c.in_ok-plan.ensures.planned c.in_ok-edited.ensures.remarked
+    remarks_of_plan c.args.depth _ _ _ (declarations_of plan.declared.items) plan.skipped (contents plan.first)
+    plan.origins.items plan.cuts.items plan.takes_skipped_name plan.script.items c.in_ok-plan.ensures.planned
+    c.in_ok-edited.ensures.remarked

@@ -13,5 +13,7 @@ returns c =
     ∙ ap₂ with_rule two c.output_option.ensures.rule in
     let four = c.in_ok-arg-4.ensures.shape c.depth_option.ensures.local
     ∙ ap₂ with_rule three c.depth_option.ensures.rule in
-    IfOk-weaker c.arg-5.result _ _ (λ d added. added.shape c.capture_argument.ensures.local
-    ∙ ap₂ with_rule four c.capture_argument.ensures.rule) c.arg-5.ensures
+    let five = c.in_ok-arg-5.ensures.shape c.quiet_option.ensures.local
+    ∙ ap₂ with_rule four c.quiet_option.ensures.rule in
+    IfOk-weaker c.arg-6.result _ _ (λ d added. added.shape c.capture_argument.ensures.local
+    ∙ ap₂ with_rule five c.capture_argument.ensures.rule) c.arg-6.ensures
