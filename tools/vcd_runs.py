@@ -20,6 +20,9 @@ ONE_REPLY, LAST = EDITS + b"undo redo depth value".split(), b"\n-"
 # What a run begins with so that it ends with the tool, even if that is killed.
 GUARD = ["setpriv", "--pdeathsig", "TERM"] if shutil.which("setpriv") else []
 
+# What vcdedit-amend says of memory while it reads; the run goes on.
+FORECAST = re.compile("^vcdedit-amend: memory may run out: .*\n", re.M)
+
 # What `list` says: the timescale or `none`, the last tick, how many variables are skipped, and the signals.
 Listing = collections.namedtuple("Listing", "timescale end skipped signals")
 Signal = collections.namedtuple("Signal", "width kind name")
@@ -90,7 +93,7 @@ class Run:
 
     def want_end(self):
         """Waits for the run's end, and raises what went wrong. A line that is refused is nothing wrong."""
-        errors = self.child.stderr.read().decode("utf-8", "replace")
+        errors = FORECAST.sub("", self.child.stderr.read().decode("utf-8", "replace"))
         status = self.child.wait()
         if -status in INTERRUPTIONS:
             raise Trouble("interrupted", status=128 - status)
