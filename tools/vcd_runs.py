@@ -22,6 +22,9 @@ REMARK = re.compile(r"^line (\d+): (.*)\n", flags=re.MULTILINE)
 # What a run begins with so that it ends with the tool, even if that is killed.
 GUARD = ["setpriv", "--pdeathsig", "TERM"] if shutil.which("setpriv") else []
 
+# What vcdedit-amend says of memory while it reads; the run goes on.
+FORECAST = re.compile("^vcdedit-amend: memory may run out: .*\n", re.M)
+
 # What `list` says: the timescale or `none`, the last tick, how many variables are skipped, and the signals.
 Listing = collections.namedtuple("Listing", "timescale end skipped signals")
 Signal = collections.namedtuple("Signal", "width kind name")
@@ -110,7 +113,7 @@ class Run:
     def want_end(self):
         """Waits for the run's end, and raises what went wrong. A line that is refused is nothing wrong."""
         status = self.child.wait()
-        errors = REMARK.sub("", self.told())
+        errors = FORECAST.sub("", REMARK.sub("", self.told()))
         if -status in INTERRUPTIONS:
             raise Trouble("interrupted", status=128 - status)
         if status == -signal.SIGXFSZ:

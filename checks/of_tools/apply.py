@@ -49,6 +49,11 @@ FAILING_FIRST = [
     ("exec 5>> B; sleep 3 > /dev/null 2> /dev/null < /dev/null & exec %s", 4,
      "another program writes it: run again when that has ended"),
 ]
+# The real program, which foretells that memory may run out.
+WARNS = """#!/bin/sh
+echo 'vcdedit-amend: memory may run out: the changes take 2.0 GB, and 1.0 GB are there' >&2
+exec %s "$@"
+"""
 # A line that is refused, and what is told of it.
 REFUSED = [
     ("value tb.q 3", ["value tb.q 3: NoSuchName", "tb.q: near names are tb.q[3:0]"]),
@@ -119,7 +124,13 @@ def writes(program, folder):
     yield "a new file has the mode", (place.load("new/folder/C"), mode) == (wanted, 0o600)
     place.store("some", "value tb.rx 5\nundo\n" + WRITTEN)
     found = place.run("some", "C", "--keep-going")
-    yield "replies, and a refused line", found[:2] == (1, ["C:1: 0", "C: written: 1 ok, 1 line refused"])
+    lines = ["C:1: 0", "C: written: 1 ok, 1 line refused"]
+    yield "replies, and a refused line", found[:2] == (1, lines)
+    place.store("C", LINE)
+    warns = store_program(folder + ".warns", text=WARNS % amend_of(program))
+    warned = {**place.environment, "VCDEDIT_AMEND": warns}
+    found = run([APPLY, "some", "C", "--keep-going"], cwd=place.folder, env=warned)
+    yield "a run that tells of memory: %s" % (found,), (found[0], found[1].splitlines()) == (1, lines)
     odd = "\N{EURO SIGN} odd\n-name"
     place.store(odd, LINE)
     yield "an odd name", place.run("script", "./" + odd)[0] == 0 and place.load(odd) == wanted

@@ -1,17 +1,23 @@
-"""What the documents say of memory, compared with the peaks of runs."""
+"""What the documents say of memory, and what vcdedit-amend foretells, compared with runs."""
 
 import os
 import re
+import resource
 import sys
 
-from common import module_of, run, store, text_at
+from common import amend_of, module_of, run, store, text_at
 
 SIZE = 2000000
 BYTES_OF_CHANGE = 272
+BYTES_WHILE_READ = 32
 BYTES_OF_SIGNAL = 700
 # A word of each row of the table, and the shape of its capture.
 SHAPES = {"simulator": "simulator", "one clock": "clock", "8 channels": "channels", "90 lines": "toggles"}
 ROW = r"^\| (.+) \| ([0-9.]+) \| ([0-9]+) \|$"
+# The changes of each of two signals, and a limit of addresses in which those of one do not fit.
+CHANGES, LIMIT = 1300000, 200 * 2**20
+FORETOLD = ("vcdedit-amend: memory may run out: the changes that the script asks for take about ([0-9.]+) MB, and "
+            "([0-9.]+) MB are there\nvcdedit-amend: out of memory\n")
 RANGE_IN = ["README.md", "docs/COOKBOOK.md", "docs/vcdedit.1"]
 PEAK = """import resource, subprocess, sys
 subprocess.run(["sh", "-c", '"$@" > /dev/null; exit 0', "sh", *sys.argv[1:]])
@@ -64,7 +70,26 @@ def signals(program, folder, module):
         yield "%.0f bytes a signal" % each, is_near(each, BYTES_OF_SIGNAL, 0.2)
 
 
+def forecasts(program, folder):
+    """What vcdedit-amend foretells of changes that do not fit in memory, and of changes that do."""
+    declared = '$var wire 1 ! x $end\n$var wire 1 " y $end\n$enddefinitions $end\n'
+    ticks = "".join('#%d\n%d!\n%d"\n' % (tick, tick % 2, tick % 2) for tick in range(CHANGES))
+    capture, script = store(folder, "two", text=declared + ticks), store(folder, "script", text="value x 5\n")
+    words = [amend_of(program), capture, "--script", script]
+    ample = run(words)
+    yield "ample memory: %s" % (ample,), ample == (0, "1\n", "")
+    limit = lambda: resource.setrlimit(resource.RLIMIT_AS, (LIMIT, resource.RLIM_INFINITY))
+    status, replies, errors = run(words, preexec_fn=limit)
+    found = re.fullmatch(FORETOLD, errors)
+    yield "little memory: status %d, %s" % (status, errors), (status, replies, bool(found)) == (5, "", True)
+    if found:
+        wanted, there = (float(amount) * 1e6 for amount in found.groups())
+        yield "%.0f bytes are foretold" % wanted, is_near(wanted, (BYTES_OF_CHANGE + BYTES_WHILE_READ) * CHANGES, 0.2)
+        yield "%.0f bytes are there" % there, is_near(there, LIMIT, 0.001)
+
+
 def check(program, folder):
     module = module_of("bench/make_captures")
     yield from table(program, folder, module)
     yield from signals(program, folder, module)
+    yield from forecasts(program, folder)

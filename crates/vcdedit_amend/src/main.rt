@@ -7,6 +7,7 @@
 
 mod amend_error;
 mod command_line;
+mod memory_forecast;
 mod passes;
 mod program;
 mod progress;

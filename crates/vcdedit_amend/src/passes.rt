@@ -8,6 +8,7 @@ ghost use Rattle.vcdedit_amend.specs.declared.amend_error.AmendError.TheVariants
 ghost use Rattle.vcd_amend.specs.declared.running.AmendRunError.TheVariants as run_errors;
 
 use crate::amend_error::{AmendError, NOT_READ};
+use crate::memory_forecast::MemoryForecast;
 use crate::progress::{Watch, Watched};
 use crate::summed::Summed;
 use std::fs;
@@ -69,11 +70,12 @@ impl<'a> CaptureFile<'a> {
         ensures fault { IfErr result (λ e. e ≡ not_read) }
     {
         let watch = Watch::begin(rt, self.state.length);
+        let forecast = Some(MemoryForecast::new(self.state.length));
         Ok(Passes {
-            declarations: open_pass(rt, self.path, watch, "compares the passes")?,
-            outline: open_pass(rt, self.path, watch, "checks the capture")?,
-            changes: open_pass(rt, self.path, watch, "reads the changes")?,
-            copy: open_pass(rt, self.path, watch, "writes the output")?,
+            declarations: open_pass(rt, self.path, watch, "compares the passes", None)?,
+            outline: open_pass(rt, self.path, watch, "checks the capture", None)?,
+            changes: open_pass(rt, self.path, watch, "reads the changes", forecast)?,
+            copy: open_pass(rt, self.path, watch, "writes the output", None)?,
         })
     }
 
@@ -90,18 +92,20 @@ impl<'a> CaptureFile<'a> {
     }
 }
 
-/// Opens the capture for one pass.
+/// Opens the capture for one pass, with a forecast if it holds changes.
 fn open_pass<'a, R: Runtime>(
     rt: &'a R,
     path: &str,
     watch: Watch,
     task: &'static str,
+    forecast: Option<MemoryForecast>,
 ) -> Result<Pass<'a, R>, AmendError>
     ensures ready { IfOk result (λ s. ⟦<Pass<'a, R> as Source>⟧.has_failed s ≡ false) }
     ensures fault { IfErr result (λ e. e ≡ not_read) }
 {
     let file = fs::open(rt, path).map_err(|_| NOT_READ)?;
-    Ok(Summed::new(Watched::new(rt, FromRead::new(file), watch, task)))
+    let source = Watched::new(rt, FromRead::new(file), watch, task, forecast);
+    Ok(Summed::new(source))
 }
 
 /// Takes what the passes have shown from the terminal.

@@ -2,10 +2,11 @@
 
 ghost use Rattle.std.specs.Prelude.{◌≡◌};
 
+use crate::memory_forecast::MemoryForecast;
 use std::fs;
 use std::io::Eprint;
 use std::os::unix::fs::{FileTypeExt, MetadataExt};
-use std::rt::{Clock, Files};
+use std::rt::{Clock, Files, Runtime};
 use std::time::Instant;
 use vcd_core::{DeviceFault, Source};
 
@@ -27,8 +28,9 @@ pub struct Watch {
 /// A source of a pass over the capture, which shows what part of its bytes was read.
 ///
 /// The line is on standard error, from two seconds after the start of the run on, if that is a
-/// terminal, up to the end of the pass: replies may stand after that. What it gives is what the
-/// source below it gives.
+/// terminal, up to the end of the pass: replies may stand after that. Also on no terminal, it tells
+/// once if what the pass holds may not fit in memory. What it gives is what the source below it
+/// gives.
 #[derive(Drop)]
 pub struct Watched<'a, R, S> {
     rt: &'a R,
@@ -36,7 +38,7 @@ pub struct Watched<'a, R, S> {
     line: ProgressLine,
 }
 
-/// The line on a pass.
+/// The line on a pass, and what is foretold of its memory.
 #[derive(Clone, Copy)]
 struct ProgressLine {
     watch: Watch,
@@ -47,6 +49,8 @@ struct ProgressLine {
     next: u64,
     // what is on the terminal, if the line is
     shown: Option<u64>,
+    // none for a pass that holds little, or once it is told
+    forecast: Option<MemoryForecast>,
 }
 
 impl Watch {
@@ -71,9 +75,16 @@ impl Watch {
     }
 }
 
-impl<'a, R: Eprint + Clock, S: Source> Watched<'a, R, S> {
-    /// A source of the same bytes, for a pass that does this, in at most 20 letters.
-    pub fn new(rt: &'a R, source: S, watch: Watch, task: &'static str) -> Watched<'a, R, S>
+impl<'a, R: Runtime, S: Source> Watched<'a, R, S> {
+    /// A source of the same bytes, for a pass that does this, in at most 20 letters. If the pass
+    /// holds changes, there is a forecast of them.
+    pub fn new(
+        rt: &'a R,
+        source: S,
+        watch: Watch,
+        task: &'static str,
+        forecast: Option<MemoryForecast>,
+    ) -> Watched<'a, R, S>
         ensures { ⟦<Watched<'a, R, S> as Source>⟧.has_failed result ≡ S.has_failed source }
     {
         Watched {
@@ -85,6 +96,7 @@ impl<'a, R: Eprint + Clock, S: Source> Watched<'a, R, S> {
                 read: 0,
                 next: STEP,
                 shown: None,
+                forecast,
             },
         }
     }
@@ -95,7 +107,7 @@ impl<'a, R: Eprint + Clock, S: Source> Watched<'a, R, S> {
     }
 }
 
-impl<'a, R: Eprint + Clock, S: Source> Source for Watched<'a, R, S> {
+impl<'a, R: Runtime, S: Source> Source for Watched<'a, R, S> {
     ghost coming = { λ device. S.coming device.source };
 
     ghost has_failed = { λ device. S.has_failed device.source };
@@ -116,13 +128,31 @@ impl<'a, R: Eprint + Clock, S: Source> Source for Watched<'a, R, S> {
 }
 
 impl ProgressLine {
-    /// Counts bytes more, and shows the line if it is due and has another number.
-    fn add<R: Eprint + Clock>(&mut self, rt: &R, count: u64) {
+    /// Counts bytes more. After each step it looks at the memory and at the clock.
+    fn add<R: Runtime>(&mut self, rt: &R, count: u64) {
         self.read = self.read.saturating_add(count);
         if self.read < self.next {
             return;
         }
         self.next = self.read.saturating_add(STEP);
+        self.warn(rt);
+        self.show(rt);
+    }
+
+    /// Tells once if what the pass holds may not fit in memory.
+    fn warn<R: Runtime>(&mut self, rt: &R) {
+        let Some(forecast) = &mut self.forecast else {
+            return;
+        };
+        if let Some(shortage) = forecast.look(rt, self.read) {
+            self.forecast = None;
+            self.clear(rt);
+            let _ = eprintln!(rt; "vcdedit-amend: {shortage}");
+        }
+    }
+
+    /// Shows the line if it is due and has another number.
+    fn show<R: Eprint + Clock>(&mut self, rt: &R) {
         let percent = (self.read / (self.watch.size / 100 + 1)).min(100);
         if self.shown != Some(percent) && self.watch.is_due(rt) {
             self.shown = Some(percent);
