@@ -160,7 +160,7 @@ def program(name="vcdedit"):
     # A tree that is not built would build within the run, and nobody sees for how long.
     crates = os.path.join(os.path.dirname(found), "crates")
     if os.path.isdir(crates) and not named and not os.path.exists(os.path.join(crates, crate, "out", crate)):
-        raise Trouble("%s is not built: `make` does that, in some twenty minutes" % name)
+        raise Trouble("%s is not built: `make` does that, in some forty minutes" % name)
     return found
 
 
