@@ -137,55 +137,96 @@ fn run_passes<'a, R: Runtime + AllocGlobal>(
     requires passes_ready { AreReady ⟦<Pass<'a, R> as Source>⟧.has_failed passes.old }
     ensures { IsOutcomeOnFile (options_in options.now) result }
 {
+    let remarks = &mut Remarks::new(rt, options.is_quiet);
     match options.script {
         Some(path) => {
             let script = open_script(rt, path).map_err(|_| NO_SCRIPT)?;
             let script = &mut FromRead::new(script);
-            run_inputs(rt, capture, passes, script, options)
+            run_inputs(
+                rt,
+                capture,
+                passes,
+                script,
+                remarks,
+                options.output,
+                options.depth,
+            )
         }
         None => {
             let script = &mut FromBytes::new(DEFAULT_SCRIPT);
-            run_inputs(rt, capture, passes, script, options)
+            run_inputs(
+                rt,
+                capture,
+                passes,
+                script,
+                remarks,
+                options.output,
+                options.depth,
+            )
         }
     }
 }
 
 /// Runs with a buffer for the replies to standard output.
-fn run_inputs<R: Runtime + AllocGlobal, C: Source, S: Source>(
+fn run_inputs<R: Runtime + AllocGlobal, C: Source, S: Source, Q: Sink>(
     rt: &R,
     capture: &CaptureFile<'_>,
     passes: &mut Passes<Summed<C>>,
     script: &mut S,
-    options: &Options<'_>,
+    remarks: &mut Q,
+    output: Option<&str>,
+    depth: u64,
 ) -> Result<Summary, AmendError>
-    requires depth_least { 1 ≤ options.now.depth }
-    requires depth_most { options.now.depth ≤ DEPTH_LIMIT }
+    requires depth_least { 1 ≤ depth }
+    requires depth_most { depth ≤ DEPTH_LIMIT }
     requires passes_ready { AreReady ⟦<Summed<C> as Source>⟧.has_failed passes.old }
     requires script_ready { S.has_failed script.old ≡ false }
-    ensures { IsOutcomeOn (option_copied options.now.output) result options.now.depth
+    requires remarks_ready { Q.has_failed remarks.old ≡ false }
+    ensures { IsOutcomeOn (option_copied output.entry) result depth
         (device_end S.coming S.has_failed script.old script.new) }
 {
     let writer = io::writer(rt);
     let buffer = BufWriter::with_capacity(rt.alloc(), BUFFER, writer).map_err(|_| NO_MEMORY)?;
     let mut replies = ToWrite::new(buffer);
-    let mut remarks = Remarks::new(rt, options.is_quiet);
-    let depth = options.depth;
-    let outcome = match options.output {
-        Some(path) => run_to_file(
-            rt,
-            capture,
-            passes,
-            script,
-            &mut replies,
-            &mut remarks,
-            path,
-            depth,
-        ),
-        None => run_without_file(rt, passes, script, &mut replies, &mut remarks, depth),
-    };
+    let outcome = run_to_output(
+        rt,
+        capture,
+        passes,
+        script,
+        &mut replies,
+        remarks,
+        output,
+        depth,
+    );
     // what is left was flushed by the run, or else refused: it is not sent again
     let _ = replies.into_inner().into_parts();
     outcome
+}
+
+/// Runs with a file for the output, if there is one.
+fn run_to_output<R: Runtime + AllocGlobal, C: Source, S: Source, P: Sink, Q: Sink>(
+    rt: &R,
+    capture: &CaptureFile<'_>,
+    passes: &mut Passes<Summed<C>>,
+    script: &mut S,
+    replies: &mut P,
+    remarks: &mut Q,
+    output: Option<&str>,
+    depth: u64,
+) -> Result<Summary, AmendError>
+    requires depth_least { 1 ≤ depth }
+    requires depth_most { depth ≤ DEPTH_LIMIT }
+    requires passes_ready { AreReady ⟦<Summed<C> as Source>⟧.has_failed passes.old }
+    requires script_ready { S.has_failed script.old ≡ false }
+    requires replies_ready { P.has_failed replies.old ≡ false }
+    requires remarks_ready { Q.has_failed remarks.old ≡ false }
+    ensures { IsOutcomeOn (option_copied output.entry) result depth
+        (device_end S.coming S.has_failed script.old script.new) }
+{
+    match output {
+        Some(path) => run_to_file(rt, capture, passes, script, replies, remarks, path, depth),
+        None => run_without_file(rt, passes, script, replies, remarks, depth),
+    }
 }
 
 /// Runs with a file for the output, and then puts it in its place.
