@@ -22,6 +22,8 @@ $upscope $end $enddefinitions $end
 #0 1! b0 " r1.5 # $comment seen $end #5 0! #6 1! #20 b101 " #30
 """
 WRITTEN = "deglitch tb.rx 3\n"
+# What is remarked on that line. The rows below leave it out.
+REMARK = "A: script line 1: deglitch: pulses removed: 1 (ticks of the longest: 1)\n"
 # A run that asks is the real program's, and so is the first that writes. The others do this, on `$target`.
 OTHER = """#!/bin/sh
 for word; do target=$word; done
@@ -74,6 +76,10 @@ FAULTY = [
 ]
 
 
+def without_remarks(text):
+    return "".join(line for line in text.splitlines(True) if not line.endswith(REMARK[1:]))
+
+
 class Folder:
     """A folder with captures, and a run of the tool in it."""
 
@@ -93,7 +99,7 @@ class Folder:
 
     def run(self, *words, **how):
         status, shown, errors = run([APPLY, *words], cwd=self.folder, env=self.environment, **how)
-        return status, shown.splitlines(), errors
+        return status, shown.splitlines(), without_remarks(errors)
 
     def names(self):
         return sorted(os.listdir(self.folder))
@@ -232,6 +238,19 @@ def fails(program, folder):
     yield "killed when all was done: %s" % (found,), found[1][1] == "B: written: 1 ok" and place.load("B") == WRITTEN
 
 
+def remarks(program, folder):
+    """What is remarked on lines is told of each capture, once."""
+    place = Folder(program, folder)
+    for words in (["A", "--dry-run"], ["A"]):
+        found = run([APPLY, "script", *words], cwd=place.folder, env=place.environment)
+        yield "%s: %s" % (words, found), (found[0], found[2]) == (0, REMARK)
+    # More than a pipe holds, before the first reply.
+    place.store("script", WRITTEN * 2000 + "bad\n")
+    found = run([APPLY, "script", "B", "--keep-going"], cwd=place.folder, env=place.environment)
+    numbers = [line.split()[3] for line in found[2].splitlines() if "pulses removed" in line]
+    yield "many remarks", (found[0], numbers) == (1, ["%d:" % number for number in range(1, 2001)])
+
+
 def streams(program, folder):
     """Standard output or standard error is closed or full: each line comes on the other, or not at all."""
     wanted = ["A: written: 1 ok", "B: written: 1 ok"]
@@ -240,7 +259,7 @@ def streams(program, folder):
         place = Folder(program, "%s/%d" % (folder, number))
         words = ["sh", "-c", 'exec "$@" %s' % stream, "sh", APPLY, "script", "A", "B"]
         done = run(words, cwd=place.folder, env=place.environment)
-        lines = (done[1] + done[2]).splitlines()
+        lines = without_remarks(done[1] + done[2]).splitlines()
         yield "streams: %s: %s" % (stream, done), done[0] == status and (stream == ">&-" or lines[:2] == wanted)
         yield "written: " + stream, (place.load("A") == LINE) == (stream == ">&-")
     for words in (["--help"], ["--version"]):
@@ -283,7 +302,7 @@ def interrupted(program, folder):
         began = wait_for(lambda: "number" in place.names())
         child, begun = int(place.load("number")), time.monotonic()
         tool.send_signal(number)
-        shown, told = tool.communicate(timeout=60)
+        shown, told = map(without_remarks, tool.communicate(timeout=60))
         seconds, left = time.monotonic() - begun, ".B.vcdedit" in place.names()
         kept = place.load("A") != LINE == place.load("B") == place.load("C")
         yield "signal %d ends the run" % number, wait_for(lambda: not is_running(child))
@@ -369,6 +388,6 @@ def without_memory(program, folder):
 
 
 def check(program, folder):
-    for part in (writes, stays, answers, fails, streams, interrupted, alone, without_memory):
+    for part in (writes, stays, answers, remarks, fails, streams, interrupted, alone, without_memory):
         for name, right in part(program, os.path.join(folder, part.__name__)):
             yield "%s: %s" % (part.__name__, name), right
