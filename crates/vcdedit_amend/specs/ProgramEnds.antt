@@ -25,7 +25,7 @@ abbrev pub outcome_status : Result Summary AmendError → ℕ
 outcome_status (Ok summary) = done_status summary.refused
 outcome_status (Err e) = error_status e
 
--- its text on standard error: none if the run was completed
+-- its text on standard error, after what the run has remarked there: none if it was completed
 abbrev pub outcome_text : Result Summary AmendError → List ℕ
 outcome_text (Ok summary) = []
 outcome_text (Err e) = error_text e
