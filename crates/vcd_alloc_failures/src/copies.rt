@@ -25,6 +25,10 @@ struct VariableCopies {
 impl<W: Sink> Amender<W> for VariableCopies {
     ghost use Rattle.std.specs.Prelude.{false};
 
+    ghost Given = { Unit {0} };
+
+    ghost given = { λ _. tt };
+
     ghost rules = { λ _. record {
       in_place = λ before p. p.space ++ p.body;
       at_end = λ pieces tail. tail;

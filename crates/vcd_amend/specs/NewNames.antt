@@ -5,12 +5,9 @@ use Rattle.std.specs.List.{filter, list_any, slice_get}
 use Rattle.std.specs.Str.{bytes_eq}
 use Rattle.std.specs.Cmp.Lexicographic.{pointwise}
 use Rattle.vcd_core.specs.Contents.{SignalContents}
-use Rattle.vcd_core.specs.Names.{name_in, full_name, full_names}
+use Rattle.vcd_core.specs.Names.{full_name, full_names}
+use Rattle.vcd_text.specs.AsDeclared.{declared_name}
 use Rattle.vcd_text.specs.Grammar.{VariableDeclaration, is_skipped}
-
--- the full name of a variable
-abbrev pub declared_name : VariableDeclaration → List ℕ
-declared_name d = name_in d.scopes d.words
 
 -- the full names of the skipped variables among these
 abbrev pub skipped_names : List VariableDeclaration → List (List ℕ)

@@ -9,7 +9,7 @@ use Rattle.vcd_core.specs.Contents.{Contents, SignalContents, signal_value}
 use Rattle.vcd_text.specs.Items.{Item, stamp, scalar, vector, real_or_string, spelling}
 use Rattle.vcd_text.specs.Grammar.{ParseState, state_after_item, is_skipped}
 use Rattle.vcd_amend.specs.AmendedItems.{ItemFate, stands, is_left_out, is_exchanged}
-use Rattle.vcd_text.specs.Pieces.{Piece}
+use Rattle.vcd_text.specs.Pieces.{Piece, stamp_line}
 
 -- ---- ticks
 
@@ -76,10 +76,6 @@ abbrev pub is_past : (is_cut_out : ℕ → Bool) → ParseState → Item → Boo
 is_past is_cut_out s (stamp digits) =
     nat_lt (new_tick is_cut_out s.tick) (new_tick is_cut_out (number_of digits))
 is_past is_cut_out s item = false
-
--- a stamp on a line of its own
-abbrev pub stamp_line : ℕ → Piece
-stamp_line t = record { item = stamp (decimal t); space = 10 ∷ []; body = 35 ∷ decimal t }
 
 -- the held changes with their new tick, of which there is no stamp if the last one is left out
 abbrev pub released_pieces : (is_cut_out : ℕ → Bool) → ParseState → (held : List Piece)

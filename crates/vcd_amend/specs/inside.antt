@@ -2,7 +2,6 @@
 -- them.
 pub mod CaptureAfterCuts
 pub mod CutTicks
-pub mod VariableWords
 pub mod declarations
 pub mod HeardNames
 pub mod NameHash

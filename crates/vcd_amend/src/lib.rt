@@ -36,12 +36,12 @@ mod outlining;
 mod running;
 mod sharing;
 mod skipped_names;
-mod variable_words;
 
 pub use amending::{amend, amend_after_cuts};
 pub use amendment::{AddedVariable, AmendedCode, Amendment, Fate};
 pub use coding::amendment_for;
 pub use cut_ticks::CutTicks;
+pub use declarations::nowhere::Nowhere;
 pub use declarations::variable_size::VariableSize;
 pub use declarations::{DeclaredVariable, declared_variables};
 pub use dry_running::{DryRun, NoMemoryAt, dry_run};

@@ -5,7 +5,8 @@ ghost use Rattle.std.specs.List.{list_any};
 ghost use Rattle.vcd_core.specs.FullName.{name_bytes};
 ghost use Rattle.vcd_text.specs.Grammar.{is_skipped};
 ghost use Rattle.vcd_amend.specs.DeclaredVariables.{declaration_of_variable};
-ghost use Rattle.vcd_amend.specs.NewNames.{declared_name, skipped_names};
+ghost use Rattle.vcd_amend.specs.NewNames.{skipped_names};
+ghost use Rattle.vcd_text.specs.AsDeclared.{declared_name};
 ghost use Rattle.vcd_amend.specs.inside.SkippedNames.{AreHashesOf};
 
 use crate::declarations::DeclaredVariable;

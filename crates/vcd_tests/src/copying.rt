@@ -43,6 +43,10 @@ b1 #\t#7\tbx # b1 !\n#9 b1 # $comment copied $end";
 struct Exchanges;
 
 impl<W: Sink> Amender<W> for Exchanges {
+    ghost Given = { Unit {0} };
+
+    ghost given = { λ _. tt };
+
     ghost rules = { λ _. record {
       in_place = λ before p.
           if bytes_eq (unwrap_or (value_code p.item) []) (codes "#") then p.space ++ p.body else
@@ -250,6 +254,10 @@ struct UpToChanges {
 }
 
 impl<W: Sink> Amender<W> for UpToChanges {
+    ghost Given = { Unit {0} };
+
+    ghost given = { λ _. tt };
+
     ghost rules = { λ _. record {
       in_place = λ before p. p.space ++ p.body;
       at_end = λ pieces tail. tail;

@@ -1,10 +1,16 @@
--- What a file declares of its signals: all but their changes.
-use Rattle.std.specs.Prelude.{List, [], map, take}
+-- What a file declares of its variables and signals: all but their changes.
+use Rattle.std.specs.Prelude.{ℕ, List, [], map, take}
 use Rattle.vcd_core.specs.Contents.{SignalContents}
+use Rattle.vcd_core.specs.Names.{name_in}
+use Rattle.vcd_text.specs.Grammar.{VariableDeclaration}
 use Rattle.vcd_text.specs.declared.reading.declared_signals.DeclaredSignal.{DeclaredSignal}
 use Rattle.vcd_text.specs.declared.reading.declared_signals.Declarations.{Declarations}
 use Rattle.vcd_text.specs.declared.reading.variables.Variable.{Variable}
 use Rattle.vcd_text.specs.Chains.{chain_at, chains_of}
+
+-- the full name of a variable
+abbrev pub declared_name : VariableDeclaration → List ℕ
+declared_name d = name_in d.scopes d.words
 
 -- a signal as it is declared
 abbrev pub signal_declared : DeclaredSignal → SignalContents

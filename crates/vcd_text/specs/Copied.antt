@@ -71,8 +71,8 @@ real_or_string_code item = None
 -- an item after a state is shown as this, with this code if it is a change
 abbrev pub Shows : ParseState → AmendableItem → (code : List ℕ) → Item → Type 0
 Shows s shown.Variable code i = (words : List (List ℕ)) × (i ≡ variable words)
-Shows s (shown.EndDefinitions open_scopes) code i = (i ≡ end_definitions)
-    × (open_scopes ≡ length s.scopes)
+Shows s (shown.EndDefinitions open_scopes timescale) code i = (i ≡ end_definitions)
+    × (open_scopes ≡ length s.scopes) × (timescale ≡ s.timescale)
 Shows s (shown.Stamp tick) code i = (digits : List ℕ) × (i ≡ stamp digits)
     × (tick ≡ number_of digits)
 Shows s shown.Value code i = value_code i ≡ Some code

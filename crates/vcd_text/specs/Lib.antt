@@ -22,5 +22,6 @@ pub mod PartLaws
 pub mod Pieces
 pub mod CutLaws
 pub mod Copied
+pub mod VariableWords
 pub mod CopyEnds
 pub mod inside

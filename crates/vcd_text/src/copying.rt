@@ -16,6 +16,7 @@ mod amender;
 mod copier;
 mod ended_items;
 mod pieces;
+mod variable_words;
 
 use crate::fault::{CopyError, Fault, ReadError, WriteError};
 use crate::reading::LONG_FILE_LIMIT;
@@ -26,6 +27,7 @@ pub use amender::{AmendableItem, Amender};
 use copier::Copier;
 use pieces::Held;
 use std::alloc::Global;
+pub use variable_words::VariableWords;
 use vcd_core::{Sink, Source};
 
 /// Copies a capture file, with what an amender writes in the place of variables, stamps and
@@ -55,7 +57,7 @@ pub fn copy<R: Source, W: Sink, A: Amender<W>>(
     ensures copied { OnOk result (A.is_done amender.new ≡ false →
         IfSome (R.coming reader.old) (λ file.
         (length file ≤ LONG_FILE_LIMIT)
-        × (text : List ℕ) × IsCopy limit (A.rules amender.old) file text
+        × (text : List ℕ) × IsCopy limit (A.rules (A.given amender.old)) file text
         × Appends (W.taken writer.old) (W.taken writer.new) text)) }
     ensures not_failed { OnOk result (W.has_failed writer.new ≡ false) }
     ensures flushed { OnOk result (W.is_flushed writer.new ≡ true) }
@@ -64,6 +66,7 @@ pub fn copy<R: Source, W: Sink, A: Amender<W>>(
         ⊎ A.has_ended amender.new pieces))) }
     ensures ended { OnOk result (A.is_done amender.new ≡ false →
         IsAtEnd (R.coming reader.new)) }
+    ensures same { OnOk result (A.given amender.new ≡ A.given amender.old) }
     ensures reader_not_failed { OnOk result (R.has_failed reader.new ≡ false) }
     ensures taken { (text : List ℕ) × Appends (W.taken writer.old) (W.taken writer.new) text }
     ensures fails { IfErr result (CopyFails limit LONG_FILE_LIMIT (R.coming reader.old)
@@ -125,13 +128,14 @@ fn copy_all<R: Source, W: Sink, A: Amender<W>>(
     ensures copied { OnOk result (W.has_failed output.new.writer.now ≡ false →
         A.is_done amender.new ≡ false → IfSome (R.coming reader.old)
         (λ file. (length file ≤ LONG_FILE_LIMIT)
-        × TookCopy W.Sink limit (A.rules amender.old) output.old output.new file)) }
+        × TookCopy W.Sink limit (A.rules (A.given amender.old)) output.old output.new file)) }
     ensures told { OnOk result (W.has_failed output.new.writer.now ≡ false →
         IfSome (R.coming reader.old)
         (IsTold limit (A.is_done amender.new) (λ pieces. A.has_seen amender.new pieces
         ⊎ A.has_ended amender.new pieces))) }
     ensures ended { OnOk result (W.has_failed output.new.writer.now ≡ false →
         A.is_done amender.new ≡ false → IsAtEnd (R.coming reader.new)) }
+    ensures same { OnOk result (A.given amender.new ≡ A.given amender.old) }
     ensures not_failed { OnOk result (R.has_failed reader.new ≡ false) }
     ensures more { EmitsMore W.Sink output.old output.new }
     ensures fails { IfErr result (ReadFails limit LONG_FILE_LIMIT (R.coming reader.old)
@@ -165,13 +169,14 @@ fn copy_within<R: Source, C: Choice, W: Sink, A: Amender<W>>(
     requires begins { A.has_seen amender.old [] }
     ensures copied { OnOk result (W.has_failed output.new.writer.now ≡ false →
         A.is_done amender.new ≡ false → IfSome (R.coming reader.old) (λ file. (length file ≤ most)
-        × TookCopy W.Sink limit (A.rules amender.old) output.old output.new file)) }
+        × TookCopy W.Sink limit (A.rules (A.given amender.old)) output.old output.new file)) }
     ensures told { OnOk result (W.has_failed output.new.writer.now ≡ false →
         IfSome (R.coming reader.old)
         (IsTold limit (A.is_done amender.new) (λ pieces. A.has_seen amender.new pieces
         ⊎ A.has_ended amender.new pieces))) }
     ensures ended { OnOk result (W.has_failed output.new.writer.now ≡ false →
         A.is_done amender.new ≡ false → IsAtEnd (R.coming reader.new)) }
+    ensures same { OnOk result (A.given amender.new ≡ A.given amender.old) }
     ensures not_failed { OnOk result (R.has_failed reader.new ≡ false) }
     ensures more { EmitsMore W.Sink output.old output.new }
     ensures refused { IfErr result (λ e. IfSome (R.coming reader.old) (λ file.

@@ -2,8 +2,8 @@
 //!
 //! `read` gives the capture that a file means, or the file's one fault with its line. `read_part`
 //! gives a part of it. `write` writes the text of a capture, which reads back as the same capture.
-//! `Words` are the words of a text, each with its line. `copy` copies a file as it is read, with
-//! what an amender writes in the place of some items.
+//! `Words` are the words of a text, each with its line, and `VariableWords` those of a `$var`.
+//! `copy` copies a file as it is read, with what an amender writes in the place of some items.
 //!
 //! The format is defined in `specs/`: `Words`, `Letters`, `Items`, `Grammar`, `Meaning`, `Faults`,
 //! `Parts` and `Text`.
@@ -16,7 +16,7 @@ mod reading;
 mod words;
 mod writing;
 
-pub use copying::{AmendableItem, Amender, copy};
+pub use copying::{AmendableItem, Amender, VariableWords, copy};
 pub use fault::{CopyError, Fault, ReadError, WriteError};
 pub use laws::{
     file_is_cut, has_an_answer, has_one_answer, nothing_else_is_read_back, parts_agree,

@@ -23,7 +23,8 @@ use Rattle.vcd_amend.specs.AmendedItems.{item_fate, inserted_items, items_due_un
 use Rattle.vcd_amend.specs.AmendedItems.{stands, is_left_out}
 use Rattle.vcd_amend.specs.AmendedText.{bytes_in_place}
 use Rattle.vcd_amend.specs.AmendedCopy.{amendment_rules}
-use Rattle.vcd_amend.specs.Retimed.{ChangeKey, digits_key, text_key, change_key, held_with, stamp_line}
+use Rattle.vcd_amend.specs.Retimed.{ChangeKey, digits_key, text_key, change_key, held_with}
+use Rattle.vcd_text.specs.Pieces.{stamp_line}
 use Rattle.vcd_amend.specs.Retimed.{pieces_in_place, code_of_key}
 use Rattle.vcd_amend.specs.Retimed.{released_pieces, new_tick}
 use Rattle.vcd_amend.specs.RetimedCopy.{pieces_of_step, held_of_step}

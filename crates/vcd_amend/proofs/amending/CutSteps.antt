@@ -7,7 +7,8 @@ use Rattle.vcd_core.specs.Decimal.{number_of}
 use Rattle.vcd_text.specs.Items.{Item, stamp}
 use Rattle.vcd_text.proofs.read_back.Decimals.{number_of-decimal}
 use Rattle.vcd_amend.specs.AmendedItems.{stands, is_left_out, is_exchanged}
-use Rattle.vcd_amend.specs.Retimed.{pieces_in_place, stamp_line}
+use Rattle.vcd_amend.specs.Retimed.{pieces_in_place}
+use Rattle.vcd_text.specs.Pieces.{stamp_line}
 use Rattle.vcd_amend.specs.RetimedCopy.{is_cut_by}
 use Rattle.vcd_amend.specs.declared.cut_ticks.CutTicks.{CutTicks}
 use Rattle.vcd_amend.proofs.retimed.Ticks.{rises}

@@ -14,8 +14,8 @@ use Rattle.std.proofs.Math.Seq.{take-append_seam}
 use Rattle.vcd_core.specs.Word.{is_white_space}
 use Rattle.vcd_text.specs.Items.{spelling, variable, end_word}
 use Rattle.vcd_text.specs.inside.Words.{ends_before}
+use Rattle.vcd_text.specs.VariableWords.{IsVariable}
 use Rattle.vcd_amend.specs.AmendedText.{with_words, next_word, exchanged_bytes}
-use Rattle.vcd_amend.specs.inside.VariableWords.{IsVariable}
 use Rattle.vcd_amend.specs.inside.amending.WordsInPlace.{word_in_place, words_in_place}
 
 -- white space stays

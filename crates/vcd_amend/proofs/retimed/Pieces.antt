@@ -21,7 +21,8 @@ use Rattle.vcd_text.proofs.read_back.WholeText.{one_word, longer_unbroken, decim
 use Rattle.vcd_text.proofs.pieces.Bytes.{texts, texts_are, joined_words, is_end, space_first, both_parts, lines_last}
 use Rattle.vcd_amend.specs.AmendedItems.{stands, is_left_out, is_exchanged}
 use Rattle.vcd_amend.specs.Retimed.{new_tick, ChangeKey, change_key, counts_with, code_of_key, lasts, held_with}
-use Rattle.vcd_amend.specs.Retimed.{is_past, has_kept_variable, stamp_line, released_pieces, retimed_stamp}
+use Rattle.vcd_amend.specs.Retimed.{is_past, has_kept_variable, released_pieces, retimed_stamp}
+use Rattle.vcd_text.specs.Pieces.{stamp_line}
 use Rattle.vcd_amend.specs.Retimed.{pieces_in_place, retimed_pieces}
 use Rattle.vcd_amend.specs.RetimedLaws.{CanBeRetimed, MeansRetimed, pieces_after, RetimedFileMeansRetimedCapture}
 use Rattle.vcd_amend.specs.RetimedLaws.{bytes_of, RetimedTextMeansRetimedCapture, is_neither, OtherPiecesStand}

@@ -6,7 +6,8 @@ use Rattle.std.specs.List.{list_any}
 use Rattle.std.proofs.lemmas.Bool.{or_parts, eq-eqb}
 use Rattle.vcd_core.proofs.shared.FullNames.{not_the_name}
 use Rattle.vcd_text.specs.Grammar.{VariableDeclaration, is_skipped}
-use Rattle.vcd_amend.specs.NewNames.{declared_name, skipped_names}
+use Rattle.vcd_amend.specs.NewNames.{skipped_names}
+use Rattle.vcd_text.specs.AsDeclared.{declared_name}
 use Rattle.vcd_amend.specs.inside.NameHash.{name_hash}
 
 -- a test finds the name of a variable among these only if it is skipped

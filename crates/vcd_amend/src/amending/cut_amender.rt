@@ -10,11 +10,12 @@ ghost use Rattle.vcd_text.specs.Items.{stamp};
 ghost use Rattle.vcd_text.specs.EmittedText.{Emits, EmitsMore};
 ghost use Rattle.vcd_text.specs.Pieces.{Piece, state_of_pieces};
 ghost use Rattle.vcd_text.specs.Copied.{copied_pieces};
+ghost use Rattle.vcd_text.specs.VariableWords.{IsVariable};
 ghost use Rattle.vcd_text.specs.inside.reading.CodeTargets.{code_target};
 ghost use Rattle.vcd_amend.specs.AmendmentContents.{amendment_contents};
 ghost use Rattle.vcd_amend.specs.AmendedMeaning.{AreApart};
-ghost use Rattle.vcd_amend.specs.Retimed.{new_tick, change_key, counts_with, stamp_line};
-ghost use Rattle.vcd_amend.specs.inside.VariableWords.{IsVariable};
+ghost use Rattle.vcd_amend.specs.Retimed.{new_tick, change_key, counts_with};
+ghost use Rattle.vcd_text.specs.Pieces.{stamp_line};
 ghost use Rattle.vcd_amend.specs.inside.amending.FileAmender.{HasSeen};
 ghost use Rattle.vcd_amend.specs.declared.amending.held_changes.HeldChange.{HeldChange as Change};
 ghost use Rattle.vcd_amend.specs.inside.amending.HeldChanges as spec;
@@ -28,12 +29,11 @@ use super::file_amender::{FileAmender, write_ended, write_if};
 use super::held_changes::{HeldChange, held_change, last_held};
 use crate::amendment::Amendment;
 use crate::cut_ticks::{CutTicks, CutWalk, RetimedTick};
-use crate::variable_words::VariableWords;
 use itoa::Buffer;
 use std::alloc::Global;
 use std::mem::replace;
 use vcd_core::{NoMemory, ScopeName, Sink, WIDTH_LIMIT};
-use vcd_text::{AmendableItem, Amender, CodeTargets, Output};
+use vcd_text::{AmendableItem, Amender, CodeTargets, Output, VariableWords};
 
 /// How many changes may be held before those that later ones replace are dropped.
 const FIRST_ROOM: usize = 1024;
@@ -540,7 +540,13 @@ fn is_event(kind: &[u8]) -> bool
 }
 
 impl<'a, W: Sink> Amender<W> for CutAmender<'a> {
-    ghost rules = { cut_rules_of };
+    ghost use Rattle.vcd_text.specs.Copied.{CopyRules};
+
+    ghost Given = { CopyRules };
+
+    ghost given = { cut_rules_of };
+
+    ghost rules = { λ rules. rules };
 
     ghost has_seen = { HasSeenAll };
 
@@ -571,7 +577,7 @@ impl<'a, W: Sink> Amender<W> for CutAmender<'a> {
                 note_at_code(&mut self.variables, self.alloc, body)?;
                 self.inner.take_variable(output, space, body)
             }
-            AmendableItem::EndDefinitions { open_scopes } => {
+            AmendableItem::EndDefinitions { open_scopes, .. } => {
                 write_ended(output, self.inner.amendment, open_scopes, space, body);
                 Ok(())
             }

@@ -11,6 +11,7 @@ ghost use Rattle.vcd_text.specs.EmittedText.{Emits, EmitsMore};
 ghost use Rattle.vcd_text.specs.Grammar.{ParseState, initial_state, with_value_change};
 ghost use Rattle.vcd_text.specs.Pieces.{Piece};
 ghost use Rattle.vcd_text.specs.Text.{item_line};
+ghost use Rattle.vcd_text.specs.VariableWords.{IsVariable};
 ghost use Rattle.vcd_amend.specs.AmendedCopy.{amendment_rules};
 ghost use Rattle.vcd_amend.specs.AmendedItems.{change_fate, real_fate, items_due_until, leaves_out};
 ghost use Rattle.vcd_amend.specs.AmendedItems.{stands, declaration_fate, added_declarations};
@@ -18,7 +19,6 @@ ghost use Rattle.vcd_amend.specs.AmendedMeaning.{AreApart};
 ghost use Rattle.vcd_amend.specs.AmendedText.{bytes_in_place};
 ghost use Rattle.vcd_amend.specs.Amendment.{fate_of, is_used};
 ghost use Rattle.vcd_amend.specs.AmendmentContents.{amendment_contents, added_contents};
-ghost use Rattle.vcd_amend.specs.inside.VariableWords.{IsVariable};
 ghost use Rattle.vcd_amend.specs.inside.amending.FileAmender.{IsAt, HasSeen, declared_in};
 ghost use Rattle.vcd_amend.specs.inside.amending.FileAmender.{piece_of_variable, with_declared};
 ghost use Rattle.vcd_amend.specs.inside.amending.FileAmender.{fate_contents_first};
@@ -33,10 +33,11 @@ use super::moments::ChangeCounts;
 use super::value_changes::{moment_in, note_standing, take_amended, write_both};
 use super::variable_writing::{write_added, write_changed};
 use crate::amendment::{AddedVariable, Amendment, Fate};
-use crate::variable_words::VariableWords;
 use std::alloc::Global;
 use vcd_core::{NoMemory, ScopeName, Sink, Word};
-use vcd_text::{AmendableItem, Amender, CodeTargets, Output, write_bytes, write_upscopes};
+use vcd_text::{
+    AmendableItem, Amender, CodeTargets, Output, VariableWords, write_bytes, write_upscopes,
+};
 
 /// What an amendment does to a file, and how far the file is.
 #[derive(Drop)]
@@ -389,7 +390,13 @@ pub fn write_if<W: Sink>(output: &mut Output<W>, stands: bool, space: &[u8], bod
 }
 
 impl<'a, W: Sink> Amender<W> for FileAmender<'a> {
-    ghost rules = { λ m. amendment_rules (amendment_contents m.amendment.now) 0 };
+    ghost use Rattle.vcd_text.specs.Copied.{CopyRules};
+
+    ghost Given = { CopyRules };
+
+    ghost given = { λ m. amendment_rules (amendment_contents m.amendment.now) 0 };
+
+    ghost rules = { λ rules. rules };
 
     ghost has_seen = { HasSeen };
 
@@ -416,7 +423,7 @@ impl<'a, W: Sink> Amender<W> for FileAmender<'a> {
     ) -> Result<(), NoMemory> {
         match item {
             AmendableItem::Variable => self.take_variable(output, space, body),
-            AmendableItem::EndDefinitions { open_scopes } => {
+            AmendableItem::EndDefinitions { open_scopes, .. } => {
                 write_ended(output, self.amendment, open_scopes, space, body);
                 Ok(())
             }

@@ -8,20 +8,20 @@ ghost use Rattle.vcd_text.specs.EmittedText.{Emits};
 ghost use Rattle.vcd_text.specs.Grammar.{word_texts};
 ghost use Rattle.vcd_text.specs.Items.{variable};
 ghost use Rattle.vcd_text.specs.Text.{item_line};
+ghost use Rattle.vcd_text.specs.VariableWords.{IsVariable};
 ghost use Rattle.vcd_text.specs.Words.{words_of};
 ghost use Rattle.vcd_amend.specs.AmendedItems.{added_items};
 ghost use Rattle.vcd_amend.specs.AmendedText.{exchanged_bytes, with_words};
 ghost use Rattle.vcd_amend.specs.AmendmentContents.{added_contents};
-ghost use Rattle.vcd_amend.specs.inside.VariableWords.{IsVariable};
 ghost use Rattle.vcd_amend.specs.inside.amending.WordsInPlace.{word_in_place};
 ghost use Rattle.vcd_amend.specs.inside.amending.WordsInPlace.{words_in_place};
 
 use crate::amendment::AddedVariable;
-use crate::variable_words::VariableWords;
 use itoa::Buffer;
 use vcd_core::{Sink, Word};
 use vcd_text::{
-    Output, Words, write_byte, write_bytes, write_declaration, write_scopes, write_upscopes,
+    Output, VariableWords, Words, write_byte, write_bytes, write_declaration, write_scopes,
+    write_upscopes,
 };
 
 /// Writes the lines of variables that are added, each in its scopes.

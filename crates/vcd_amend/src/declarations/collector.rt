@@ -5,17 +5,16 @@ ghost use Rattle.vcd_core.specs.Decimal.{is_number};
 ghost use Rattle.vcd_text.specs.Words.{words_of};
 ghost use Rattle.vcd_text.specs.Items.{end_word};
 ghost use Rattle.vcd_text.specs.Grammar.{word_texts};
-ghost use Rattle.vcd_amend.specs.inside.VariableWords.{IsVariable};
+ghost use Rattle.vcd_text.specs.VariableWords.{IsVariable};
 ghost use Rattle.vcd_amend.specs.inside.declarations.Collector.{HasCollected, IsDeclared};
 
 use super::DeclaredVariable;
 use super::variable_size::VariableSize;
-use crate::variable_words::VariableWords;
 use std::alloc::Global;
 use vcd_core::{
     NameWords, NoMemory, ScopeName, ScopePath, Seq, Sink, Word, copy_scopes, copy_word,
 };
-use vcd_text::{AmendableItem, Amender, Output, Words};
+use vcd_text::{AmendableItem, Amender, Output, VariableWords, Words};
 
 /// The variables that a file has declared so far.
 #[derive(Drop)]
@@ -45,6 +44,10 @@ impl Collector {
 impl<W: Sink> Amender<W> for Collector {
     ghost use Rattle.std.specs.Prelude.{[]};
     ghost use Rattle.vcd_amend.specs.inside.declarations.Collector.{HasCollected};
+
+    ghost Given = { Unit {0} };
+
+    ghost given = { λ _. tt };
 
     ghost rules = { λ _. record { in_place = λ _ _. []; at_end = λ _ _. [] } };
 

@@ -9,6 +9,13 @@ pub struct Nowhere {
     pub is_flushed: bool,
 }
 
+impl Nowhere {
+    /// A sink that has taken nothing.
+    pub fn new() -> Nowhere {
+        Nowhere { is_flushed: false }
+    }
+}
+
 impl Sink for Nowhere {
     ghost use Rattle.std.specs.Prelude.{false};
 

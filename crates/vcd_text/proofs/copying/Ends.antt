@@ -31,7 +31,7 @@ not_stayed false b stays ready = refl
 not_stayed true b stays ready = absurd (false≢true (sym ready ∙ stays refl))
 
 -- what is so if a result is one
-when_ok : {S F : Type 0} (P : Type 0) (r : Result S F) → OnOk r P → IsOk r → P
+pub when_ok : {S F : Type 0} (P : Type 0) (r : Result S F) → OnOk r P → IsOk r → P
 when_ok P (Ok x) p ok = p
 when_ok P (Err e) p ok = absurd (false≢true ok)
 

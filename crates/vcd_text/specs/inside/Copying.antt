@@ -3,12 +3,13 @@
 use Rattle.std.specs.Prelude.{◌≡◌, ◌⊎◌, ℕ, ◌<◌, ◌==◌, Bool, true, false, if◌then◌else◌, List}
 use Rattle.std.specs.Prelude.{[], ◌∷◌, ◌++◌}
 use Rattle.std.specs.Prelude.{length, Option, Some, None, IsTrue, MatchOption}
-use Rattle.std.specs.List.{list_all, flat_map, prefix_len, suffix_len}
+use Rattle.std.specs.List.{list_all, prefix_len, suffix_len}
 use Rattle.vcd_core.specs.Word.{is_white_space}
+use Rattle.vcd_core.specs.declared.capture.Timescale.{Timescale}
 use Rattle.vcd_core.specs.declared.device.Sink as sinks
 use Rattle.vcd_text.specs.Words.{WordOnLine, words_of}
 use Rattle.vcd_text.specs.Grammar.{initial_state, AllowsAll, word_texts}
-use Rattle.vcd_text.specs.Pieces.{state_of_pieces, Piece, IsCut}
+use Rattle.vcd_text.specs.Pieces.{state_of_pieces, Piece, piece_bytes, IsCut}
 use Rattle.vcd_text.specs.Copied.{CopyRules, copied_pieces, piece_items}
 use Rattle.vcd_text.specs.Copied.{may_be_amended, Shows}
 use Rattle.vcd_text.specs.Copied.{IsNext, IsCopy}
@@ -25,10 +26,6 @@ use Rattle.vcd_text.specs.declared.reading.parser.Parser.{Parser}
 use Rattle.vcd_text.specs.declared.reading.parser.OpenItem.{OpenItem}
 use Rattle.vcd_text.specs.declared.reading.parser.OpenItem.TheVariants as items
 use Rattle.vcd_text.specs.declared.writing.output.Output.{Output}
-
--- the bytes of pieces
-abbrev pub piece_bytes : List Piece → List ℕ
-piece_bytes pieces = flat_map (λ p. p.space ++ p.body) pieces
 
 -- ---- the item that a word ends
 
@@ -49,14 +46,15 @@ shown_word (b ∷ bs) tick = if b == 35 then Some (shown.Stamp tick) else
 
 -- what is shown of the item that a word ends, if it may be amended
 abbrev pub shown_item : (item : OpenItem) → (text : List ℕ) → (tick open_scopes : ℕ)
-    → Option AmendableItem
-shown_item items.Nothing text tick open_scopes = shown_word text tick
-shown_item items.Vector text tick open_scopes = Some shown.Value
-shown_item items.RealOrString text tick open_scopes = Some shown.RealOrString
-shown_item items.Variable text tick open_scopes = Some shown.Variable
-shown_item items.SizedVariable text tick open_scopes = Some shown.Variable
-shown_item items.EndDefinitions text tick open_scopes = Some (shown.EndDefinitions open_scopes)
-shown_item item text tick open_scopes = None
+    → (timescale : Option Timescale) → Option AmendableItem
+shown_item items.Nothing text tick open_scopes timescale = shown_word text tick
+shown_item items.Vector text tick open_scopes timescale = Some shown.Value
+shown_item items.RealOrString text tick open_scopes timescale = Some shown.RealOrString
+shown_item items.Variable text tick open_scopes timescale = Some shown.Variable
+shown_item items.SizedVariable text tick open_scopes timescale = Some shown.Variable
+shown_item items.EndDefinitions text tick open_scopes timescale =
+    Some (shown.EndDefinitions open_scopes timescale)
+shown_item item text tick open_scopes timescale = None
 
 -- the code in the last word of a change
 abbrev pub code_after_digit : List ℕ → List ℕ
@@ -73,7 +71,7 @@ pub record EndsPiece (limit : ℕ) (before : List Piece) (p : Piece) (item : Ope
     (text : List ℕ) (m : Parser)
     : Type 0 where
   pub next : IsNext limit before p p.space p.body
-  pub shown : MatchOption (shown_item item text m.tick m.variables.scopes.depth)
+  pub shown : MatchOption (shown_item item text m.tick m.variables.scopes.depth m.timescale)
       (may_be_amended p.item ≡ false)
       (λ shown. Shows (state_of_pieces limit before) shown (code_in item text) p.item)
   pub scopes : may_be_amended p.item ≡ true

@@ -7,17 +7,22 @@ ghost use Rattle.vcd_text.specs.Copied.{may_be_amended};
 ghost use Rattle.vcd_text.specs.EmittedText.{Emits, EmitsMore};
 
 use crate::writing::output::Output;
-use vcd_core::{NoMemory, ScopeName, Sink};
+use vcd_core::{NoMemory, ScopeName, Sink, Timescale};
 
 /// An item that may be amended.
 #[derive(Clone, Copy)]
 pub enum AmendableItem {
     /// A `$var`.
     Variable,
-    /// `$enddefinitions $end`, while so many scopes are open.
-    EndDefinitions { open_scopes: usize },
+    /// `$enddefinitions $end`, while so many scopes are open, of a file with this timescale.
+    EndDefinitions {
+        open_scopes: usize,
+        timescale: Option<Timescale>,
+    },
     /// The stamp of this tick.
-    Stamp { tick: u64 },
+    Stamp {
+        tick: u64,
+    },
     /// A change to digits.
     Value,
     /// A change to a real number or a string.
@@ -27,8 +32,13 @@ pub enum AmendableItem {
 /// What is done to a file while it is copied. It is told of each item, in turn, and then of the
 /// end, unless it is done before.
 pub trait Amender<W: Sink> {
-    // what it writes
-    ghost rules: { Self → CopyRules };
+    // what it is given, which stays the same
+    ghost Given: { Type 0 };
+
+    ghost given: { Self → Given };
+
+    // what it writes by that
+    ghost rules: { Given → CopyRules };
 
     // it was told of these items
     ghost has_seen: { Self → List Piece → Type 0 };
@@ -47,10 +57,10 @@ pub trait Amender<W: Sink> {
         ensures stands { result ≡ true → (limit : ℕ) (before : List Piece) (p : Piece) →
             has_seen self.old before →
             IsShownNext limit before p item code.now p.space p.body →
-            ((rules self.old).in_place before p ≡ p.space ++ p.body)
+            ((rules (given self.old)).in_place before p ≡ p.space ++ p.body)
             × has_seen self.new (before ++ p ∷ []) }
         ensures unchanged { result ≡ false → self.new ≡ self.old }
-        ensures same { rules self.new ≡ rules self.old };
+        ensures same { given self.new ≡ given self.old };
 
     /// Writes what is in the place of an item: of the white space before it, and of its words with
     /// the white space between them. The code is that of a change, and else of no meaning. The
@@ -69,12 +79,12 @@ pub trait Amender<W: Sink> {
         ensures written { OnOk result ((limit : ℕ) (before : List Piece) (p : Piece) →
             has_seen self.old before →
             IsTakenNext limit before p item code.now scopes.now space.now body.now →
-            Emits W.Sink output.old output.new ((rules self.old).in_place before p)) }
+            Emits W.Sink output.old output.new ((rules (given self.old)).in_place before p)) }
         ensures seen { OnOk result ((limit : ℕ) (before : List Piece) (p : Piece) →
             has_seen self.old before →
             IsTakenNext limit before p item code.now scopes.now space.now body.now →
             has_seen self.new (before ++ p ∷ [])) }
-        ensures same { OnOk result (rules self.new ≡ rules self.old) }
+        ensures same { OnOk result (given self.new ≡ given self.old) }
         ensures more { OnErr result (EmitsMore W.Sink output.old output.new) };
 
     /// Passes over any other item, which stands.
@@ -82,7 +92,7 @@ pub trait Amender<W: Sink> {
         ensures seen { (limit : ℕ) (before : List Piece) (p : Piece) →
             has_seen self.old before → IsNext limit before p p.space p.body →
             may_be_amended p.item ≡ false → has_seen self.new (before ++ p ∷ []) }
-        ensures same { rules self.new ≡ rules self.old };
+        ensures same { given self.new ≡ given self.old };
 
     /// Whether the rest of the file is of no use. The copy then stops after the chunk.
     fn is_done(&self) -> bool
@@ -91,9 +101,10 @@ pub trait Amender<W: Sink> {
     /// Writes what is in the place of the white space at the end of the file.
     fn finish(&mut self, output: &mut Output<W>, space: &[u8]) -> Result<(), NoMemory>
         requires { (pieces : List Piece) × has_seen self.old pieces }
+        ensures same { OnOk result (given self.new ≡ given self.old) }
         ensures more { OnErr result (EmitsMore W.Sink output.old output.new) }
         ensures written { OnOk result ((pieces : List Piece) → has_seen self.old pieces →
-            Emits W.Sink output.old output.new ((rules self.old).at_end pieces space.now)) }
+            Emits W.Sink output.old output.new ((rules (given self.old)).at_end pieces space.now)) }
         ensures ended { OnOk result ((pieces : List Piece) → has_seen self.old pieces →
             has_ended self.new pieces) };
 }

@@ -52,20 +52,20 @@ impl Copier {
             × HasReadBytes most (HasTakenFrom limit C.takes C.answers first choice.old)
             self.old.progress bytes }
         requires copying { (limit : ℕ) × (start : Output W) × (bytes : List ℕ)
-            × HasCopiedFile W.Sink limit (A.rules amender.old) (A.has_seen amender.old) start
-            output.old self.old bytes }
+            × HasCopiedFile W.Sink limit (A.rules (A.given amender.old)) (A.has_seen amender.old)
+            start output.old self.old bytes }
         ensures taken { OnOk result ((limit most : ℕ) (first : C) (coming : Option (List ℕ)) →
             FileReaderMatches most (HasTakenFrom limit C.takes C.answers first choice.old) coming
             (R.coming source.old) self.old.progress →
             FileReaderMatches most (HasTakenFrom limit C.takes C.answers first choice.new) coming
             (R.coming source.new) self.new.progress) }
         ensures copied { OnOk result ((limit : ℕ) (start : Output W) (bytes : List ℕ) →
-            HasCopiedFile W.Sink limit (A.rules amender.old) (A.has_seen amender.old) start
-            output.old self.old bytes →
+            HasCopiedFile W.Sink limit (A.rules (A.given amender.old)) (A.has_seen amender.old)
+            start output.old self.old bytes →
             (chunk : List ℕ) × Consumes (R.coming source.old) (R.coming source.new) chunk
-            × HasCopiedFile W.Sink limit (A.rules amender.old) (A.has_seen amender.new) start
-            output.new self.new (bytes ++ chunk)) }
-        ensures same { OnOk result (A.rules amender.new ≡ A.rules amender.old) }
+            × HasCopiedFile W.Sink limit (A.rules (A.given amender.old)) (A.has_seen amender.new)
+            start output.new self.new (bytes ++ chunk)) }
+        ensures same { OnOk result (A.given amender.new ≡ A.given amender.old) }
         ensures more { EmitsMore W.Sink output.old output.new }
         ensures not_failed { OnOk result (R.has_failed source.new ≡ false) }
         ensures ended { IfOk result (λ more. more ≡ false → IsAtEnd (R.coming source.new)) }
@@ -114,19 +114,19 @@ impl Copier {
             × HasUntakenChunk most (HasTakenFrom limit C.takes C.answers first choice.old)
             self.old.progress unfinished_len bytes }
         requires copying { (limit : ℕ) × (start : Output W) × (bytes : List ℕ)
-            × HasCopiedFile W.Sink limit (A.rules amender.old) (A.has_seen amender.old) start
-            output.old self.old bytes }
+            × HasCopiedFile W.Sink limit (A.rules (A.given amender.old)) (A.has_seen amender.old)
+            start output.old self.old bytes }
         ensures taken { (limit most : ℕ) (first : C) (bytes : List ℕ) →
             HasUntakenChunk most (HasTakenFrom limit C.takes C.answers first choice.old)
             self.old.progress unfinished_len bytes →
             TakesChunk limit most C.takes C.answers first choice.new bytes result
             self.new.progress }
         ensures copied { OnOk result ((limit : ℕ) (start : Output W) (bytes : List ℕ) →
-            HasCopiedFile W.Sink limit (A.rules amender.old) (A.has_seen amender.old) start
-            output.old self.old bytes →
-            HasCopiedFile W.Sink limit (A.rules amender.old) (A.has_seen amender.new) start
-            output.new self.new bytes) }
-        ensures same { OnOk result (A.rules amender.new ≡ A.rules amender.old) }
+            HasCopiedFile W.Sink limit (A.rules (A.given amender.old)) (A.has_seen amender.old)
+            start output.old self.old bytes →
+            HasCopiedFile W.Sink limit (A.rules (A.given amender.old)) (A.has_seen amender.new)
+            start output.new self.new bytes) }
+        ensures same { OnOk result (A.given amender.new ≡ A.given amender.old) }
         ensures more { EmitsMore W.Sink output.old output.new }
         ensures bytes_left { self.new.progress.bytes_left ≡ self.old.progress.bytes_left }
     {
@@ -160,16 +160,17 @@ impl Copier {
             × HasReadBytes most (HasTakenFrom limit C.takes C.answers first choice.old)
             self.progress bytes }
         requires copying { (limit : ℕ) × (start : Output W) × (bytes : List ℕ)
-            × HasCopiedFile W.Sink limit (A.rules amender.old) (A.has_seen amender.old) start
-            output.old self bytes }
+            × HasCopiedFile W.Sink limit (A.rules (A.given amender.old)) (A.has_seen amender.old)
+            start output.old self bytes }
         ensures copied { OnOk result ((limit : ℕ) (start : Output W) (bytes : List ℕ) →
-            HasCopiedFile W.Sink limit (A.rules amender.old) (A.has_seen amender.old) start
-            output.old self bytes →
-            TookCopy W.Sink limit (A.rules amender.old) start output.new bytes) }
+            HasCopiedFile W.Sink limit (A.rules (A.given amender.old)) (A.has_seen amender.old)
+            start output.old self bytes →
+            TookCopy W.Sink limit (A.rules (A.given amender.old)) start output.new bytes) }
         ensures told { OnOk result ((limit : ℕ) (start : Output W) (bytes : List ℕ) →
-            HasCopiedFile W.Sink limit (A.rules amender.old) (A.has_seen amender.old) start
-            output.old self bytes →
+            HasCopiedFile W.Sink limit (A.rules (A.given amender.old)) (A.has_seen amender.old)
+            start output.old self bytes →
             IsTold limit false (A.has_ended amender.new) bytes) }
+        ensures same { OnOk result (A.given amender.new ≡ A.given amender.old) }
         ensures more { EmitsMore W.Sink output.old output.new }
         ensures fault { IfErr result (λ e. (limit most : ℕ) (first : C) (bytes : List ℕ) →
             HasReadBytes most (HasTakenFrom limit C.takes C.answers first choice.old)
@@ -209,7 +210,7 @@ fn copy_words<C: Choice, W: Sink, A: Amender<W>>(
         parser.old
         (words_left words) }
     requires copying { (limit : ℕ) × (start : Output W) × (before : List ℕ)
-        × HasCopied limit (A.rules amender.old) (A.has_seen amender.old)
+        × HasCopied limit (A.rules (A.given amender.old)) (A.has_seen amender.old)
         (Emits W.Sink start output.old) parser.old held.old.bytes.items held.old.space_len before
         × (has_complete_words before ≡ true) }
     ensures words { (limit : ℕ) (first : C) (words_so_far : List WordInFile) →
@@ -220,13 +221,13 @@ fn copy_words<C: Choice, W: Sink, A: Amender<W>>(
     ensures line_feeds { IfOk result (λ line_feeds.
         line_feeds ≡ words.entry.line_feeds + line_feeds_in words.entry.rest.now) }
     ensures copied { OnOk result ((limit : ℕ) (start : Output W) (before : List ℕ) →
-        HasCopied limit (A.rules amender.old) (A.has_seen amender.old)
+        HasCopied limit (A.rules (A.given amender.old)) (A.has_seen amender.old)
         (Emits W.Sink start output.old) parser.old held.old.bytes.items held.old.space_len before →
         has_complete_words before ≡ true →
-        HasCopied limit (A.rules amender.old) (A.has_seen amender.new)
+        HasCopied limit (A.rules (A.given amender.old)) (A.has_seen amender.new)
         (Emits W.Sink start output.new) parser.new held.new.bytes.items held.new.space_len
         (before ++ words.entry.rest.now)) }
-    ensures same { OnOk result (A.rules amender.new ≡ A.rules amender.old) }
+    ensures same { OnOk result (A.given amender.new ≡ A.given amender.old) }
     ensures more { EmitsMore W.Sink output.old output.new }
 {
     let mut left = words;

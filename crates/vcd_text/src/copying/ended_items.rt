@@ -13,7 +13,7 @@ use super::amender::{AmendableItem, Amender};
 use super::pieces::{Held, Unwritten, hold, write_held, write_standing};
 use crate::reading::parser::{OpenItem, Parser};
 use crate::writing::output::Output;
-use vcd_core::{NoMemory, ScopeName, Sink};
+use vcd_core::{NoMemory, ScopeName, Sink, Timescale};
 
 /// Does what becomes of the item that this word ends; `earlier` is what was open before.
 pub fn end_item<'a, W: Sink, A: Amender<W>>(
@@ -41,9 +41,9 @@ pub fn end_item<'a, W: Sink, A: Amender<W>>(
         HasEnded W.Sink output.old output.new held.new.bytes.items unwritten.new.all.now
         unwritten.new.item.now rest.now known
         (if stands_open earlier then held.old.bytes.items ++ begun
-        else copied_piece (A.rules amender.old) before p)
+        else copied_piece (A.rules (A.given amender.old)) before p)
         × A.has_seen amender.new (before ++ p ∷ [])) }
-    ensures same { OnOk result (A.rules amender.new ≡ A.rules amender.old) }
+    ensures same { OnOk result (A.given amender.new ≡ A.given amender.old) }
     ensures more { EmitsMore W.Sink output.old output.new }
 {
     match item_to_amend(parser, amender, earlier, text) {
@@ -74,14 +74,15 @@ fn item_to_amend<W: Sink, A: Amender<W>>(
         × EndsPiece limit before p earlier text.now parser.now }
     ensures stands { IfNone result ((limit : ℕ) (before : List Piece) (p : Piece) →
         A.has_seen amender.old before → EndsPiece limit before p earlier text.now parser.now →
-        (copied_piece (A.rules amender.old) before p ≡ p.space ++ p.body)
+        (copied_piece (A.rules (A.given amender.old)) before p ≡ p.space ++ p.body)
         × A.has_seen amender.new (before ++ p ∷ [])) }
     ensures amended { IfSome result (λ item. (amender.new ≡ amender.old)
         × (shown_item earlier text.now parser.now.tick parser.now.variables.scopes.depth
-        ≡ Some item)) }
-    ensures same { A.rules amender.new ≡ A.rules amender.old }
+        parser.now.timescale ≡ Some item)) }
+    ensures same { A.given amender.new ≡ A.given amender.old }
 {
-    match amendable_item(earlier, text, parser.tick, parser.variables.scopes.depth) {
+    let open_scopes = parser.variables.scopes.depth;
+    match amendable_item(earlier, text, parser.tick, open_scopes, parser.timescale) {
         Some(item) => {
             if amender.let_stand(item, code_of(earlier, text)) {
                 return None;
@@ -122,10 +123,11 @@ fn amend_item<W: Sink, A: Amender<W>>(
         known begun →
         (held.old.bytes.items ++ begun ≡ p.space ++ p.body) →
         (held.old.space_len ≡ length p.space) →
-        Emits W.Sink output.old output.new (known ++ (A.rules amender.old).in_place before p)
+        Emits W.Sink output.old output.new
+        (known ++ (A.rules (A.given amender.old)).in_place before p)
         × A.has_seen amender.new (before ++ p ∷ [])) }
     ensures none { OnOk result (held.new.bytes.items ≡ []) }
-    ensures same { OnOk result (A.rules amender.new ≡ A.rules amender.old) }
+    ensures same { OnOk result (A.given amender.new ≡ A.given amender.old) }
     ensures more { EmitsMore W.Sink output.old output.new }
 {
     let len = unwritten.item.len() - rest.len();
@@ -147,15 +149,19 @@ fn amendable_item(
     text: &[u8],
     tick: u64,
     open_scopes: usize,
+    timescale: Option<Timescale>,
 ) -> Option<AmendableItem>
-    ensures { result ≡ shown_item earlier text.now tick open_scopes }
+    ensures { result ≡ shown_item earlier text.now tick open_scopes timescale }
 {
     match earlier {
         OpenItem::Nothing => item_of_word(text, tick),
         OpenItem::Vector => Some(AmendableItem::Value),
         OpenItem::RealOrString => Some(AmendableItem::RealOrString),
         OpenItem::Variable | OpenItem::SizedVariable => Some(AmendableItem::Variable),
-        OpenItem::EndDefinitions => Some(AmendableItem::EndDefinitions { open_scopes }),
+        OpenItem::EndDefinitions => Some(AmendableItem::EndDefinitions {
+            open_scopes,
+            timescale,
+        }),
         _ => None,
     }
 }

@@ -72,13 +72,14 @@ pub fn copy_word<'a, C: Choice, W: Sink, A: Amender<W>>(
         result
         parser.new }
     ensures copied { OnOk result ((limit : ℕ) (start : Output W) (before old_rest bytes : List ℕ) →
-        HasCopiedUpTo W.Sink limit (A.rules amender.old) (A.has_seen amender.old) start output.old
-        parser.old held.old unwritten.old.all.now unwritten.old.item.now old_rest before →
+        HasCopiedUpTo W.Sink limit (A.rules (A.given amender.old)) (A.has_seen amender.old) start
+        output.old parser.old held.old unwritten.old.all.now unwritten.old.item.now old_rest
+        before →
         old_rest ≡ bytes ++ rest.now → IsSpacedWord before bytes text.now →
-        HasCopiedUpTo W.Sink limit (A.rules amender.old) (A.has_seen amender.new) start output.new
-        parser.new held.new unwritten.new.all.now unwritten.new.item.now rest.now
+        HasCopiedUpTo W.Sink limit (A.rules (A.given amender.old)) (A.has_seen amender.new) start
+        output.new parser.new held.new unwritten.new.all.now unwritten.new.item.now rest.now
         (before ++ bytes)) }
-    ensures same { OnOk result (A.rules amender.new ≡ A.rules amender.old) }
+    ensures same { OnOk result (A.given amender.new ≡ A.given amender.old) }
     ensures more { EmitsMore W.Sink output.old output.new }
 {
     let earlier = parser.item;
@@ -153,7 +154,7 @@ fn decide<'a, W: Sink, A: Amender<W>>(
         HasEnded W.Sink output.old output.new held.new.bytes.items unwritten.new.all.now
         unwritten.new.item.now rest.now known
         (if stands_open earlier then held.old.bytes.items ++ begun
-        else copied_piece (A.rules amender.old) before p)
+        else copied_piece (A.rules (A.given amender.old)) before p)
         × A.has_seen amender.new (before ++ p ∷ [])) }
     ensures goes_on { OnOk result ((parser.now.item ≡ items.Nothing → ⊥) →
         (stands_open parser.now.item ≡ true →
@@ -164,7 +165,7 @@ fn decide<'a, W: Sink, A: Amender<W>>(
         × (held.new.bytes.items ≡ held.old.bytes.items) × Emits W.Sink output.old output.new [])
         × (unwritten.new.all.now ≡ unwritten.old.all.now) × (amender.new ≡ amender.old)
         × (held.new.space_len ≡ held.old.space_len)) }
-    ensures same { OnOk result (A.rules amender.new ≡ A.rules amender.old) }
+    ensures same { OnOk result (A.given amender.new ≡ A.given amender.old) }
     ensures more { EmitsMore W.Sink output.old output.new }
 {
     if parser.item == OpenItem::Nothing {

@@ -18,9 +18,9 @@ use Rattle.vcd_text.specs.declared.copying.amender.AmendableItem.TheVariants as 
 use Rattle.vcd_text.specs.CopyEnds.{ReadFails}
 use Rattle.vcd_text.specs.MemoryErrors.{memory_error}
 use Rattle.vcd_text.specs.Refusals.{IsRefusal, no_memory}
+use Rattle.vcd_text.specs.VariableWords.{IsVariable}
 use Rattle.vcd_text.proofs.shared.FirstItem.{one_item, one_rest}
 use Rattle.vcd_text.proofs.pieces.Cuts.{spelling_some}
-use Rattle.vcd_amend.specs.inside.VariableWords.{IsVariable}
 use Rattle.vcd_amend.specs.DeclaredVariables.{declaration_of_variable}
 use Rattle.vcd_amend.specs.inside.declarations.Collector.{HasCollected}
 use Rattle.vcd_amend.specs.declared.declarations.collector.Collector.{Collector}

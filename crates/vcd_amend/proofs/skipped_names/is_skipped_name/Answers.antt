@@ -5,7 +5,7 @@ use Rattle.std.proofs.lemmas.Iterator.Search.{any_from_yields_List}
 use Rattle.vcd_core.specs.FullName.{name_bytes}
 use Rattle.vcd_text.specs.Grammar.{is_skipped}
 use Rattle.vcd_amend.specs.DeclaredVariables.{declaration_of_variable}
-use Rattle.vcd_amend.specs.NewNames.{declared_name}
+use Rattle.vcd_text.specs.AsDeclared.{declared_name}
 use Rattle.vcd_amend.proofs.skipped_names.Hashes.{found_among_variables}
 use Rattle.vcd_amend.proofs.skipped_names.is_skipped_name.Goals as goal
 

@@ -12,7 +12,8 @@ use Rattle.vcd_text.specs.Grammar.{word_texts, initial_state, state_after}
 use Rattle.vcd_text.specs.Pieces.{Piece}
 use Rattle.vcd_text.specs.Copied.{CopyRules, IsCopy, copied, copied_pieces}
 use Rattle.vcd_text.specs.inside.Words.{has_complete_words}
-use Rattle.vcd_text.specs.inside.Copying.{HasCopied, HasCopiedFile, TookCopy, stands_open, piece_bytes}
+use Rattle.vcd_text.specs.inside.Copying.{HasCopied, HasCopiedFile, TookCopy, stands_open}
+use Rattle.vcd_text.specs.Pieces.{piece_bytes}
 use Rattle.vcd_text.specs.inside.reading.Parser.{is_complete, IsBegun, HasTakenWords, IsAtState}
 use Rattle.vcd_text.specs.inside.reading.Part.{Asked}
 use Rattle.vcd_text.specs.inside.reading.OpenItems.{is_nothing}

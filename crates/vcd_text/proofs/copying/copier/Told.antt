@@ -15,7 +15,8 @@ use Rattle.vcd_text.specs.Grammar.{word_texts}
 use Rattle.vcd_text.specs.Pieces.{Piece, IsCut}
 use Rattle.vcd_text.specs.Copied.{CopyRules, IsCopy, IsTold, piece_items}
 use Rattle.vcd_text.specs.inside.Words.{has_complete_words}
-use Rattle.vcd_text.specs.inside.Copying.{HasCopied, HasCopiedFile, piece_bytes}
+use Rattle.vcd_text.specs.inside.Copying.{HasCopied, HasCopiedFile}
+use Rattle.vcd_text.specs.Pieces.{piece_bytes}
 use Rattle.vcd_text.specs.declared.copying.copier.Copier.{Copier}
 use Rattle.vcd_text.specs.declared.reading.parser.Parser.{Parser}
 use Rattle.vcd_text.specs.declared.writing.output.Output.{Output}

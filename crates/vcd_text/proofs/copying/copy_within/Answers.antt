@@ -108,12 +108,13 @@ returns-clause-copied g c =
     let all = Consumes-trans coming (g.R.Source.coming c.loop-copier.reader) left bytes chunk came second in
     ok_weaker c.finish.result c.finish.ensures.copied (λ copies ready going. both_some (λ file. length file ≤
     c.args.most)
-    (λ file. TookCopy g.W.Sink c.args.limit (g.A.Amender.rules c.args.amender.now) c.args.output.now c.finish.new.output
-    file) coming
+    (λ file. TookCopy g.W.Sink c.args.limit (g.A.Amender.rules (g.A.Amender.given c.args.amender.now))
+    c.args.output.now c.finish.new.output file) coming
     (of_all coming left read (λ file. length file ≤ c.args.most) consumes ended (omega (arith, taken.size)))
-    (of_all coming left (bytes ++ chunk) (λ file. TookCopy g.W.Sink c.args.limit (g.A.Amender.rules c.args.amender.now)
-    c.args.output.now c.finish.new.output file) all ended (rw rules at (copies c.args.limit c.args.output.now
-    (bytes ++ chunk) (rw c.in_ok-take_chunk.ensures.same more)))))
+    (of_all coming left (bytes ++ chunk) (λ file. TookCopy g.W.Sink c.args.limit
+    (g.A.Amender.rules (g.A.Amender.given c.args.amender.now)) c.args.output.now c.finish.new.output file) all
+    ended (rw rules at (copies c.args.limit c.args.output.now (bytes ++ chunk)
+    (rw c.in_ok-take_chunk.ensures.same more)))))
 
 pub returns-clause-refused : goal.returns-clause-refused
 returns-clause-refused g c =

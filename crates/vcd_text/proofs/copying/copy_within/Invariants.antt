@@ -12,9 +12,9 @@ invariant-loop-copier g l = FileReaderMatches l.fn.most
     (g.R.Source.coming l.reader) l.copier.progress
     × (g.R.Source.has_failed l.reader ≡ false)
     × ((bytes : List ℕ) × Consumes (g.R.Source.coming l.fn.reader) (g.R.Source.coming l.reader) bytes
-    × HasCopiedFile g.W.Sink l.fn.limit (g.A.Amender.rules l.fn.amender) (g.A.Amender.has_seen l.amender) l.fn.output
-    l.output l.copier bytes)
-    × (g.A.Amender.rules l.amender ≡ g.A.Amender.rules l.fn.amender)
+    × HasCopiedFile g.W.Sink l.fn.limit (g.A.Amender.rules (g.A.Amender.given l.fn.amender))
+    (g.A.Amender.has_seen l.amender) l.fn.output l.output l.copier bytes)
+    × (g.A.Amender.given l.amender ≡ g.A.Amender.given l.fn.amender)
     × EmitsMore g.W.Sink l.fn.output l.output
 
 abbrev pub decreases-loop-copier : goal.decreases-loop-copier

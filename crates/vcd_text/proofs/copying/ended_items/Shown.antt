@@ -3,7 +3,7 @@ use Rattle.std.proofs.Common.{◌∙◌, cond, inl, inr, ◌≡◌, ℕ, true, f
 use Rattle.std.proofs.Common.{sym, refl}
 use Rattle.std.proofs.Math.Seq.{take-append_seam}
 use Rattle.std.proofs.Math.Seq.{drop-append_seam}
-use Rattle.std.specs.Prelude.{Some, Result, Ok, Err, OnOk}
+use Rattle.std.specs.Prelude.{Option, Some, Result, Ok, Err, OnOk}
 use Rattle.std.proofs.lemmas.Bool.{cases_Bool}
 use Rattle.vcd_text.specs.Items.{Item, variable, end_definitions, stamp, scalar, vector, real_or_string, entry}
 use Rattle.vcd_text.specs.Items.{timescale, scope, upscope, dump_word, other}
@@ -13,6 +13,7 @@ use Rattle.vcd_text.specs.Copied.{may_be_amended, Shows, value_code, real_or_str
 use Rattle.vcd_text.specs.inside.Copying.{shown_item, stands_open, code_in, EndsPiece}
 use Rattle.vcd_text.specs.inside.reading.Scopes.{open_scopes}
 use Rattle.vcd_core.specs.declared.capture.ScopeName.{ScopeName}
+use Rattle.vcd_core.specs.declared.capture.Timescale.{Timescale}
 use Rattle.vcd_text.specs.declared.copying.amender.AmendableItem.{AmendableItem}
 use Rattle.vcd_text.specs.declared.copying.amender.AmendableItem.TheVariants as shown
 use Rattle.vcd_text.specs.declared.reading.parser.Parser.{Parser}
@@ -20,19 +21,19 @@ use Rattle.vcd_text.specs.declared.reading.parser.OpenItem.{OpenItem}
 use Rattle.vcd_text.specs.declared.reading.parser.OpenItem.TheVariants as items
 
 -- an item that stands whatever follows is not shown
-pub shown_is_held : (item : OpenItem) (text : List ℕ) (tick depth : ℕ) (x : AmendableItem)
-    → shown_item item text tick depth ≡ Some x → stands_open item ≡ false
-shown_is_held items.Nothing text tick depth x is = refl
-shown_is_held items.Variable text tick depth x is = refl
-shown_is_held items.SizedVariable text tick depth x is = refl
-shown_is_held items.EndDefinitions text tick depth x is = refl
-shown_is_held items.Vector text tick depth x is = refl
-shown_is_held items.RealOrString text tick depth x is = refl
-shown_is_held (items.Entry kind) text tick depth x is = absurd (cc)
-shown_is_held items.Timescale text tick depth x is = absurd (cc)
-shown_is_held items.Scope text tick depth x is = absurd (cc)
-shown_is_held items.Upscope text tick depth x is = absurd (cc)
-shown_is_held items.Other text tick depth x is = absurd (cc)
+pub shown_is_held : (item : OpenItem) (text : List ℕ) (tick depth : ℕ) (given : Option Timescale)
+    (x : AmendableItem) → shown_item item text tick depth given ≡ Some x → stands_open item ≡ false
+shown_is_held items.Nothing text tick depth given x is = refl
+shown_is_held items.Variable text tick depth given x is = refl
+shown_is_held items.SizedVariable text tick depth given x is = refl
+shown_is_held items.EndDefinitions text tick depth given x is = refl
+shown_is_held items.Vector text tick depth given x is = refl
+shown_is_held items.RealOrString text tick depth given x is = refl
+shown_is_held (items.Entry kind) text tick depth given x is = absurd (cc)
+shown_is_held items.Timescale text tick depth given x is = absurd (cc)
+shown_is_held items.Scope text tick depth given x is = absurd (cc)
+shown_is_held items.Upscope text tick depth given x is = absurd (cc)
+shown_is_held items.Other text tick depth given x is = absurd (cc)
 
 -- what has a code may be amended
 value_is_amended : (i : Item) (code : List ℕ) → value_code i ≡ Some code → may_be_amended i ≡ true
@@ -67,7 +68,7 @@ real_is_amended (other word words) c is = absurd (cc)
 pub shown_is_amended : (s : ParseState) (x : AmendableItem) (code : List ℕ) (i : Item) → Shows s x code i
     → may_be_amended i ≡ true
 shown_is_amended s shown.Variable code i (words, is) = rw is refl
-shown_is_amended s (shown.EndDefinitions open_scopes) code i (is, count) = rw is refl
+shown_is_amended s (shown.EndDefinitions open_scopes given) code i (is, count, same) = rw is refl
 shown_is_amended s (shown.Stamp tick) code i (digits, is, at) = rw is refl
 shown_is_amended s shown.Value code i is = value_is_amended i code is
 shown_is_amended s shown.RealOrString code i is = real_is_amended i code is
@@ -75,7 +76,7 @@ shown_is_amended s shown.RealOrString code i is = real_is_amended i code is
 -- the piece that a word ends is shown so
 pub piece_is_shown : (limit : ℕ) (before : List Piece) (p : Piece) (item : OpenItem) (text : List ℕ) (m : Parser)
     (x : AmendableItem) → EndsPiece limit before p item text m
-    → shown_item item text m.tick m.variables.scopes.depth ≡ Some x
+    → shown_item item text m.tick m.variables.scopes.depth m.timescale ≡ Some x
     → IsShownNext limit before p x (code_in item text) p.space p.body
 piece_is_shown limit before p item text m x ends is = record {
   next = ends.next;

@@ -4,7 +4,9 @@ use Rattle.std.proofs.Common.{◌++◌}
 use Rattle.std.proofs.Common.{length, length-take-le, refl, sym, ap, ap₂, subst, arith, append_assoc}
 use Rattle.std.proofs.lemmas.List.{append-nil, length-append, map-append}
 use Rattle.std.proofs.lemmas.Bool.{false≢true}
+use Rattle.std.specs.Prelude.{Option}
 use Rattle.vcd_core.specs.declared.capture.ScopeName.{ScopeName}
+use Rattle.vcd_core.specs.declared.capture.Timescale.{Timescale}
 use Rattle.vcd_text.specs.Words.{WordOnLine}
 use Rattle.vcd_text.specs.Items.{Item, spelling, variable, end_definitions, stamp, scalar, vector, real_or_string}
 use Rattle.vcd_text.specs.Items.{entry, timescale, scope, upscope, dump_word, other}
@@ -14,7 +16,8 @@ use Rattle.vcd_text.specs.Copied.{CopyRules, copied_piece, copied_pieces, piece_
 use Rattle.vcd_text.specs.Copied.{may_be_amended}
 use Rattle.vcd_text.specs.inside.Words.{has_complete_words}
 use Rattle.vcd_text.specs.inside.Copying.{Adds}
-use Rattle.vcd_text.specs.inside.Copying.{IsOpenItem, HasCopied, IsSpacedWord, EndsPiece, piece_bytes, stands_open}
+use Rattle.vcd_text.specs.inside.Copying.{IsOpenItem, HasCopied, IsSpacedWord, EndsPiece, stands_open}
+use Rattle.vcd_text.specs.Pieces.{piece_bytes}
 use Rattle.vcd_text.specs.inside.reading.Part.{Asked}
 use Rattle.vcd_text.specs.inside.reading.Parser.{IsAtState, IsBegun, WordStep, goes_on, ends_item}
 use Rattle.vcd_text.specs.declared.reading.parser.Parser.{Parser}
@@ -29,19 +32,19 @@ use Rattle.vcd_text.proofs.copying.pieces.OneWordMore.{not_complete, no_texts, s
 use Rattle.vcd_text.proofs.copying.pieces.OneWordMore.{cut_more, bytes_more, reaches_more, begins, goes_further}
 
 -- what stands whatever follows is not shown, so it may not be amended
-pub not_shown : (item : OpenItem) (text : List ℕ) (tick depth : ℕ) (i : Item) (c : ParseState) → stands_open item ≡ true
-    → IsShownAs c item text tick depth i → may_be_amended i ≡ false
-not_shown (items.Entry kind) text tick depth i c stands is = is
-not_shown items.Timescale text tick depth i c stands is = is
-not_shown items.Scope text tick depth i c stands is = is
-not_shown items.Upscope text tick depth i c stands is = is
-not_shown items.Other text tick depth i c stands is = is
-not_shown items.Nothing text tick depth i c stands is = absurd (false≢true stands)
-not_shown items.Variable text tick depth i c stands is = absurd (false≢true stands)
-not_shown items.SizedVariable text tick depth i c stands is = absurd (false≢true stands)
-not_shown items.EndDefinitions text tick depth i c stands is = absurd (false≢true stands)
-not_shown items.Vector text tick depth i c stands is = absurd (false≢true stands)
-not_shown items.RealOrString text tick depth i c stands is = absurd (false≢true stands)
+pub not_shown : (item : OpenItem) (text : List ℕ) (tick depth : ℕ) (given : Option Timescale) (i : Item)
+    (c : ParseState) → stands_open item ≡ true → IsShownAs c item text tick depth given i → may_be_amended i ≡ false
+not_shown (items.Entry kind) text tick depth given i c stands is = is
+not_shown items.Timescale text tick depth given i c stands is = is
+not_shown items.Scope text tick depth given i c stands is = is
+not_shown items.Upscope text tick depth given i c stands is = is
+not_shown items.Other text tick depth given i c stands is = is
+not_shown items.Nothing text tick depth given i c stands is = absurd (false≢true stands)
+not_shown items.Variable text tick depth given i c stands is = absurd (false≢true stands)
+not_shown items.SizedVariable text tick depth given i c stands is = absurd (false≢true stands)
+not_shown items.EndDefinitions text tick depth given i c stands is = absurd (false≢true stands)
+not_shown items.Vector text tick depth given i c stands is = absurd (false≢true stands)
+not_shown items.RealOrString text tick depth given i c stands is = absurd (false≢true stands)
 
 -- an item that may be amended opens and closes no scope
 scopes_stay : (c : ParseState) (i : Item) → may_be_amended i ≡ true → (state_after_item c i).scopes ≡ c.scopes
@@ -208,10 +211,10 @@ module _ (limit : ℕ) (rules : CopyRules) (seen_before : List Piece → Type 0)
       depth_is = sym (length-take-le _ _ new.variables.scopes.within)
           ∙ ap (length {A = ScopeName}) at.0.variables.opened
 
-      pub shown_as : IsShownAs (state_of_pieces limit h.pieces) old.item w.text new.tick new.variables.scopes.depth i
+      pub shown_as : IsShownAs (state_of_pieces limit h.pieces) old.item w.text new.tick new.variables.scopes.depth
+          new.timescale i
       shown_as = ended h.asked old (state_of_pieces limit h.pieces) h.begun w i new.tick new.variables.scopes.depth
-          h.at.0
-          allows spelled at.0.tick depth_is old.item h.at.1
+          new.timescale h.at.0 allows spelled at.0.tick depth_is at.0.timescale old.item h.at.1
 
       reached : AllowsAll (initial_state limit) (piece_items (h.pieces ++ piece ∷ []))
           × (state_of_pieces limit (h.pieces ++ piece ∷ []) ≡ state_after_item (state_of_pieces limit h.pieces) i)
@@ -277,7 +280,8 @@ module _ (limit : ℕ) (rules : CopyRules) (seen_before : List Piece → Type 0)
 
           stands_whole : stands_open old.item ≡ true → copied_piece rules h.pieces piece ≡ piece.space ++ piece.body
           stands_whole stands = ap (λ t. cond t (rules.in_place h.pieces piece) (piece.space ++ piece.body)) (not_shown
-              old.item w.text new.tick new.variables.scopes.depth i (state_of_pieces limit h.pieces) stands shown_as)
+              old.item w.text new.tick new.variables.scopes.depth new.timescale i (state_of_pieces limit h.pieces)
+              stands shown_as)
 
           all_written : (t : Bool) → stands_open old.item ≡ t → (copied_pieces rules [] h.pieces ++ cond (stands_open
               old.item) (h.space ++ h.body) []) ++ cond (stands_open old.item) held1 (copied_piece rules

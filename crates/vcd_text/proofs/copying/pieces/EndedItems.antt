@@ -1,12 +1,13 @@
 -- The item that a word ends, by what was open before it.
 use Rattle.std.proofs.Common.{◌≡◌, ◌∙◌, ◌==◌, ℕ, Bool, true, false, not, ◌&&◌, List, [], ◌∷◌, ◌++◌, length}
 use Rattle.std.proofs.Common.{map, refl, sym, ap, subst, inl, inr}
-use Rattle.std.specs.Prelude.{Some, None, MatchOption, IsTrue}
+use Rattle.std.specs.Prelude.{Option, Some, None, MatchOption, IsTrue}
 use Rattle.std.proofs.lemmas.List.{append-nil, map-append}
 use Rattle.std.proofs.lemmas.Bool.{and_parts, not-true, cases_Bool, eqb-true, false≢true}
 use Rattle.vcd_core.specs.Word.{is_one_of}
 use Rattle.vcd_core.specs.declared.capture.HeaderKind.{HeaderKind}
 use Rattle.vcd_core.specs.declared.capture.HeaderKind.TheVariants.{Date, Version, Comment}
+use Rattle.vcd_core.specs.declared.capture.Timescale.{Timescale}
 use Rattle.vcd_text.specs.Words.{WordOnLine}
 use Rattle.vcd_text.specs.Letters.{is_binary_digit, is_among}
 use Rattle.vcd_text.specs.Items.{Item, variable, end_definitions, stamp, scalar, vector, real_or_string, entry}
@@ -55,9 +56,9 @@ real_or_string_has first digits code among = by_among (λ b. real_or_string_code
     ≡ Some code) real_or_string_prefixes first among (refl, (refl, (refl, (refl, tt))))
 
 -- the item is shown so, or stands
-abbrev pub IsShownAs : ParseState → OpenItem → (text : List ℕ) → (tick depth : ℕ) → Item → Type 0
-IsShownAs c item text tick depth i = MatchOption (shown_item item text tick depth) (may_be_amended i ≡ false)
-    (λ x. Shows c x (code_in item text) i)
+abbrev pub IsShownAs : ParseState → OpenItem → (text : List ℕ) → (tick depth : ℕ) → Option Timescale → Item → Type 0
+IsShownAs c item text tick depth given i = MatchOption (shown_item item text tick depth given)
+    (may_be_amended i ≡ false) (λ x. Shows c x (code_in item text) i)
 
 -- ---- an item of one word
 
@@ -138,16 +139,16 @@ other_stands false w ws is = other_early w ws is
 other_stands true w ws is = other_late w ws is
 
 module _ (asked : Asked) (m : Parser) (c : ParseState) (begun : List WordOnLine) (w : WordOnLine) (i : Item)
-    (tick depth : ℕ) (agrees : ParserMatches asked m c) (allows : Allows c i)
+    (tick depth : ℕ) (given : Option Timescale) (agrees : ParserMatches asked m c) (allows : Allows c i)
     (spelled : spelling i ≡ word_texts (begun ++ w ∷ [])) (at : tick ≡ (state_after_item c i).tick)
-    (count : depth ≡ length (state_after_item c i).scopes) where
+    (count : depth ≡ length (state_after_item c i).scopes) (same : given ≡ (state_after_item c i).timescale) where
   -- the item, by the words before this one
   is_first : (b : Bool) (texts : List (List ℕ)) → m.in_body ≡ b → word_texts begun ≡ texts
       → i ≡ first_item b (texts ++ w.text ∷ [])
   is_first b texts here words = sym (item_of_words c i b (texts ++ w.text ∷ []) allows.0 (sym agrees.in_body ∙ here)
       (spelled ∙ map-append (λ w. w.text) begun (w ∷ []) ∙ ap (λ ws. ws ++ w.text ∷ []) words))
 
-  pub ended : (item : OpenItem) → IsBegun m begun item → IsShownAs c item w.text tick depth i
+  pub ended : (item : OpenItem) → IsBegun m begun item → IsShownAs c item w.text tick depth given i
   ended items.Nothing is = one_word c i w.text tick allows (spelled ∙ ap (λ ws. word_texts (ws ++ w ∷ [])) is) at
   ended (items.Entry kind) is = ap may_be_amended (is_first false _ is.declares is.spelled)
       ∙ entry_stands kind (m.entry ++ w.text ∷ [])
@@ -158,8 +159,11 @@ module _ (asked : Asked) (m : Parser) (c : ParseState) (begun : List WordOnLine)
   ended items.Variable is = (_, is_first false _ is.0.declares is.0.spelled)
   ended items.SizedVariable is = (_, is_first false _ is.declares is.spelled)
   ended items.EndDefinitions is =
-      let e : i ≡ end_definitions = is_first false _ is.0 is.1 in
-      (e, count ∙ ap (λ i. length (state_after_item c i).scopes) e)
+      let e : i ≡ end_definitions = is_first false _ is.0 is.1 in (
+        e,
+        count ∙ ap (λ i. length (state_after_item c i).scopes) e,
+        same ∙ ap (λ i. (state_after_item c i).timescale) e,
+      )
   ended items.Other is =
       ap may_be_amended (is_first m.in_body (is.keyword ∷ is.words) refl is.spelled)
       ∙ other_stands m.in_body is.keyword (is.words ++ w.text ∷ []) is.other

@@ -15,7 +15,8 @@ use Rattle.vcd_text.specs.Grammar.{initial_state, state_after, state_after_item,
 use Rattle.vcd_text.specs.Pieces.{state_of_pieces, Piece, IsCut}
 use Rattle.vcd_text.specs.Copied.{CopyRules, copied_piece, copied_pieces, piece_items}
 use Rattle.vcd_text.specs.inside.Words.{has_complete_words, words_from}
-use Rattle.vcd_text.specs.inside.Copying.{IsOpenItem, piece_bytes}
+use Rattle.vcd_text.specs.inside.Copying.{IsOpenItem}
+use Rattle.vcd_text.specs.Pieces.{piece_bytes}
 use Rattle.vcd_text.proofs.read_back.Words.{is_unbroken}
 use Rattle.vcd_text.proofs.pieces.Bytes.{texts, texts_are, is_end, space_first, both_parts, joined_words}
 use Rattle.vcd_text.proofs.pieces.Cuts.{word_ends, ends_after, begins_in_word}

@@ -10,7 +10,8 @@ use Rattle.vcd_core.specs.Word.{is_white_space}
 use Rattle.vcd_text.specs.Pieces.{Piece}
 use Rattle.vcd_text.specs.Copied.{CopyRules}
 use Rattle.vcd_text.specs.inside.Words.{has_complete_words, ends_before}
-use Rattle.vcd_text.specs.inside.Copying.{HasCopied, IsSpacedWord, piece_bytes, stands_open}
+use Rattle.vcd_text.specs.inside.Copying.{HasCopied, IsSpacedWord, stands_open}
+use Rattle.vcd_text.specs.Pieces.{piece_bytes}
 use Rattle.vcd_text.specs.declared.reading.parser.Parser.{Parser}
 
 -- white space that is held

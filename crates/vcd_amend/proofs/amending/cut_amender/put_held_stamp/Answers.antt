@@ -4,7 +4,7 @@ use Rattle.vcd_text.specs.Copied.{copied_pieces}
 use Rattle.vcd_text.proofs.read_back.Decimals.{number_of-decimal}
 use Rattle.vcd_text.proofs.shared.EmittedParts.{writes_as, writes_none, more_none}
 use Rattle.vcd_amend.specs.AmendmentContents.{amendment_contents}
-use Rattle.vcd_amend.specs.Retimed.{stamp_line}
+use Rattle.vcd_text.specs.Pieces.{stamp_line}
 use Rattle.vcd_amend.specs.inside.amending.FileAmender.{HasSeen}
 use Rattle.vcd_amend.specs.inside.amending.CutAmender.{rules_of}
 use Rattle.vcd_amend.proofs.amending.SeenItems.{before_state, before_none}

@@ -62,7 +62,7 @@ copy_word-requires-clause-copying g c =
     let text = c.in-Some.word.text.now in
     let left = c.next_word.new.self.rest.now in (
       limit,
-      g.A.Amender.rules c.args.amender.now,
+      g.A.Amender.rules (g.A.Amender.given c.args.amender.now),
       start,
       before ++ done,
       c.loop-word.left.rest.now,
@@ -102,14 +102,15 @@ loop-word-preserved g c =
         λ limit start before h complete. rw (append_assoc before done (space ++ text)) at (subst (λ r. HasCopiedUpTo
             g.W.Sink limit r (g.A.Amender.has_seen c.copy_word.new.amender) start c.copy_word.new.output
             c.copy_word.new.parser c.copy_word.new.held c.copy_word.new.unwritten.all.now
-            c.copy_word.new.unwritten.item.now left ((before ++ done) ++ (space ++ text))) c.loop-word.invariant.3
+            c.copy_word.new.unwritten.item.now left ((before ++ done) ++ (space ++ text)))
+            (ap g.A.Amender.rules c.loop-word.invariant.3)
             (c.in_ok-copy_word.ensures.copied limit start (before ++ done) old (space ++ text) (subst
             (λ r. HasCopiedUpTo
             g.W.Sink limit r (g.A.Amender.has_seen c.loop-word.amender) start c.loop-word.output c.loop-word.parser
-            c.loop-word.held c.loop-word.unwritten.all.now c.loop-word.unwritten.item.now old (before ++ done)) (sym
-            c.loop-word.invariant.3) (copied limit start before h complete)) (is ∙ sym (append_assoc space text left))
-            (next_is_spaced before done old space text left complete ends is white c.in-Some.ensures.no_space
-            c.in-Some.ensures.some))),
+            c.loop-word.held c.loop-word.unwritten.all.now c.loop-word.unwritten.item.now old (before ++ done))
+            (ap g.A.Amender.rules (sym c.loop-word.invariant.3)) (copied limit start before h complete))
+            (is ∙ sym (append_assoc space text left)) (next_is_spaced before done old space text left complete ends is
+            white c.in-Some.ensures.no_space c.in-Some.ensures.some))),
       ),
       c.in_ok-copy_word.ensures.same ∙ c.loop-word.invariant.3,
       more_both c.loop-word.invariant.4 c.copy_word.ensures.more,

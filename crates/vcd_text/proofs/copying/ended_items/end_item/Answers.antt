@@ -20,7 +20,8 @@ amend_item-requires g c =
     let (limit, before, p, known, begun, seen, ends, unwritten, held) = c.requires in
     let (same, is) = c.in-Some.ensures.amended in
     let m = c.args.parser.now in
-    let bytes = held (shown_is_held c.args.earlier c.args.text.now m.tick m.variables.scopes.depth c.in-Some.item is) in
+    let bytes = held (shown_is_held c.args.earlier c.args.text.now m.tick m.variables.scopes.depth m.timescale
+    c.in-Some.item is) in
     let shown = piece_is_shown limit before p c.args.earlier c.args.text.now m c.in-Some.item ends is in (
       limit,
       before,
@@ -40,7 +41,7 @@ returns-in_ok-amend_item-in-Some-clause-ended g c = λ limit before p known begu
     let (same, is) = c.in-Some.ensures.amended in
     let m = c.args.parser.now in
     let item = c.in-Some.item in
-    let still = shown_is_held c.args.earlier c.args.text.now m.tick m.variables.scopes.depth item is in
+    let still = shown_is_held c.args.earlier c.args.text.now m.tick m.variables.scopes.depth m.timescale item is in
     let bytes = held still in
     let shown = shown_parts c.code_of-code.result.now p.space p.body (piece_is_shown limit before p c.args.earlier
     c.args.text.now m item ends is) c.code_of-code.ensures (refl, refl) in
@@ -56,7 +57,7 @@ returns-in_ok-amend_item-in-Some-clause-ended g c = λ limit before p known begu
         item_is = refl;
         none = c.in_ok-amend_item-in-Some.ensures.none;
         adds = part_written known _ (subst (λ (r : CopyRules). Emits g.W.Sink c.args.output.now c.amend_item.new.output
-            (known ++ r.in_place before p)) c.item_to_amend.ensures.same writes);
+            (known ++ r.in_place before p)) (ap g.A.Amender.rules c.item_to_amend.ensures.same) writes);
       },
       later,
     )

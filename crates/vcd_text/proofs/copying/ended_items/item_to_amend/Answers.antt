@@ -24,7 +24,8 @@ returns-then-let_stand-clause-stands g c = λ limit before p seen ends.
     let amended = shown_is_amended (state_of_pieces limit before) c.in-Some.item c.code_of.result.now p.item
     shown.shows in
     let (same, later) = c.let_stand.ensures.stands c.if-let_stand.true limit before p seen shown in (
-      ap (λ t. cond t ((g.A.Amender.rules c.args.amender.now).in_place before p) (p.space ++ p.body)) amended ∙ same,
+      ap (λ t. cond t ((g.A.Amender.rules (g.A.Amender.given c.args.amender.now)).in_place before p)
+          (p.space ++ p.body)) amended ∙ same,
       later,
     )
 
@@ -32,6 +33,7 @@ pub returns-in-None-clause-stands : goal.returns-in-None-clause-stands
 returns-in-None-clause-stands g c = λ limit before p seen ends.
     let is = sym c.amendable_item.ensures ∙ c.in-None.is in
     let stands : may_be_amended p.item ≡ false = rw is at ends.shown in (
-      ap (λ t. cond t ((g.A.Amender.rules c.args.amender.now).in_place before p) (p.space ++ p.body)) stands,
+      ap (λ t. cond t ((g.A.Amender.rules (g.A.Amender.given c.args.amender.now)).in_place before p)
+          (p.space ++ p.body)) stands,
       c.pass.ensures.seen limit before p seen ends.next stands,
     )

@@ -36,7 +36,7 @@ decide-requires g c = λ nothing.
 pub returns-clause-copied : goal.returns-clause-copied
 returns-clause-copied g c = λ limit start before old_rest bytes r is s.
     let w = word_on c.args.text.now c.args.line in
-    let rules = g.A.Amender.rules c.args.amender.now in
+    let rules = g.A.Amender.rules (g.A.Amender.given c.args.amender.now) in
     let step = c.in_ok-take_word.ensures.step r.copied.asked _ r.copied.begun r.copied.at in
     let seen = g.A.Amender.has_seen c.args.amender.now in
     let whole = unbroken c.args.text.now c.requires.word c.requires.no_space in

@@ -104,7 +104,7 @@ returns-in-EndDefinitions-clause-written g c = λ limit before p at taken.
     let sent = sent_for cut before in
     let s = before_state sent in
     let none = before_none a sent in
-    let (is, open_is) = rw c.in-EndDefinitions.is at taken.shown.shows in
+    let (is, open_is, same_timescale) = rw c.in-EndDefinitions.is at taken.shown.shows in
     let sp = sym taken.shown.next.space_is in
     let bo = sym taken.shown.next.body_is in
     let step = (plain_is cut (state_of_pieces 0 before) (held_for cut before) p (ap is_neither is)).step in
@@ -123,7 +123,7 @@ returns-in-EndDefinitions-clause-seen g c = λ limit before p at taken.
     let s = before_state sent in
     let first = state_of_pieces 0 before in
     let none = before_none a sent in
-    let (is, open_is) = rw c.in-EndDefinitions.is at taken.shown.shows in
+    let (is, open_is, same_timescale) = rw c.in-EndDefinitions.is at taken.shown.shows in
     plain_seen m before at p (ap is_neither is) m.inner m.variables
     (seen_more m.inner a sent p (state_after_item s end_definitions) none refl (ap (state_after_item s) is)
     (ap (still_none_yet none (item_fate a s p.item)) is) (end_passes m.inner s none at.seen))

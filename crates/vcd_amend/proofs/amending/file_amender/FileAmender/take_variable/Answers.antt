@@ -7,6 +7,7 @@ use Rattle.vcd_core.specs.declared.value.TheConstants.{WIDTH_LIMIT}
 use Rattle.vcd_text.specs.Items.{variable, spelling}
 use Rattle.vcd_text.specs.Grammar.{is_skipped}
 use Rattle.vcd_text.specs.inside.reading.CodeTargets.{code_target}
+use Rattle.vcd_text.specs.VariableWords.{IsVariable}
 use Rattle.vcd_text.proofs.shared.EmittedParts.{writes_as, writes_more}
 use Rattle.vcd_amend.specs.Amendment.{fate_of}
 use Rattle.vcd_amend.specs.AmendedItems.{declaration_fate}
@@ -14,7 +15,6 @@ use Rattle.vcd_amend.specs.AmendedText.{bytes_in_place}
 use Rattle.vcd_amend.specs.AmendmentContents.{amendment_contents}
 use Rattle.vcd_amend.specs.declared.amending.code_uses.CodeUse.{CodeUse}
 use Rattle.vcd_amend.specs.declared.amending.code_progress.CodeProgress.{CodeProgress}
-use Rattle.vcd_amend.specs.inside.VariableWords.{IsVariable}
 use Rattle.vcd_amend.specs.inside.amending.CodeProgress.{noted_variable, is_at_index, no_progress}
 use Rattle.std.proofs.Common.{length, refl}
 use Rattle.std.specs.Prelude.{slice_index_or}

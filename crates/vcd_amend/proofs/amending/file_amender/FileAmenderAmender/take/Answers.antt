@@ -89,7 +89,7 @@ returns-in-EndDefinitions-clause-written g c = λ limit before p seen taken.
     let a = amendment_contents m.amendment.now in
     let s = before_state before in
     let none = before_none a before in
-    let (is, open_is) = rw c.in-EndDefinitions.is at taken.shown.shows in
+    let (is, open_is, same_timescale) = rw c.in-EndDefinitions.is at taken.shown.shows in
     let sp = sym taken.shown.next.space_is in
     let bo = sym taken.shown.next.body_is in
     writes_as ((λ i. sp i ++ (flat_map item_line (added_declarations s.scopes a.added) ++ bo i))
@@ -103,7 +103,7 @@ returns-in-EndDefinitions-clause-seen g c = λ limit before p seen taken.
     let a = amendment_contents m.amendment.now in
     let s = before_state before in
     let none = before_none a before in
-    let (is, open_is) = rw c.in-EndDefinitions.is at taken.shown.shows in
+    let (is, open_is, same_timescale) = rw c.in-EndDefinitions.is at taken.shown.shows in
     seen_more m a before p (state_after_item s end_definitions) none refl (ap (state_after_item s) is)
     (ap (still_none_yet none (item_fate a s p.item)) is) (end_passes m s none seen)
 

@@ -71,13 +71,13 @@ pub returns-clause-copied : goal.returns-clause-copied
 returns-clause-copied g c = λ limit start bytes h.
     let now = c.in_ok-copy_words.ensures.copied limit start h.taken h.copied h.complete in
     let writes = subst (λ r. Emits g.W.Sink c.copy_words.new.output c.finish.new.output (r.at_end now.pieces
-    c.copy_words.new.held.bytes.items)) c.in_ok-copy_words.ensures.same (subst
+    c.copy_words.new.held.bytes.items)) (ap g.A.Amender.rules c.in_ok-copy_words.ensures.same) (subst
     (λ l. Emits g.W.Sink c.copy_words.new.output c.finish.new.output
-    ((g.A.Amender.rules c.copy_words.new.amender).at_end now.pieces l)) c.as_slice-2.ensures.value
+    ((g.A.Amender.rules (g.A.Amender.given c.copy_words.new.amender)).at_end now.pieces l)) c.as_slice-2.ensures.value
     (c.in_ok-finish.ensures.written now.pieces now.seen)) in
     let all : h.taken ++ c.as_slice.result.now ≡ bytes = ap (λ l. h.taken ++ l) c.as_slice.ensures ∙ sym h.is in
-    subst (TookCopy g.W.Sink limit (g.A.Amender.rules c.args.amender.now) start c.finish.new.output) all
-    (whole_copied {o2 = c.finish.new.output} now c.in_ok-check_complete.ensures.complete writes)
+    subst (TookCopy g.W.Sink limit (g.A.Amender.rules (g.A.Amender.given c.args.amender.now)) start c.finish.new.output)
+    all (whole_copied {o2 = c.finish.new.output} now c.in_ok-check_complete.ensures.complete writes)
 
 pub returns-clause-told : goal.returns-clause-told
 returns-clause-told g c = λ limit start bytes h.
