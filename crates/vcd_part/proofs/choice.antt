@@ -1,0 +1,2 @@
+-- Lemmas of `choice`.
+pub mod NotedVariables

@@ -1,0 +1,4 @@
+-- Lemmas of `code_uses`.
+pub mod LastingCodes
+pub mod LastChanges
+pub mod FirstPieces

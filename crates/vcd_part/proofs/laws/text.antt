@@ -1,0 +1,3 @@
+-- Lemmas: the bytes of the part.
+pub mod PiecesOfPart
+pub mod TextOfPart

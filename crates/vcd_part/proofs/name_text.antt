@@ -1,0 +1,2 @@
+-- Lemmas of `name_text`.
+pub mod JoinedWords

@@ -1,0 +1,4 @@
+-- Lemmas of `part`.
+pub mod SameItems
+pub mod CopiedParts
+pub mod Outcomes

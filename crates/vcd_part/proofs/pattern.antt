@@ -1,0 +1,2 @@
+-- Lemmas of `pattern`.
+pub mod Stars

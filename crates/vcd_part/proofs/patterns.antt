@@ -1,0 +1,2 @@
+-- Lemmas of `patterns`.
+pub mod MetInTurn

@@ -1,0 +1,8 @@
+-- The definitions of parts, from a pattern to how writing one ends.
+pub mod Pattern
+pub mod Times
+pub mod Requests
+pub mod PartPieces
+pub mod PartLaws
+pub mod PartEnds
+pub mod inside

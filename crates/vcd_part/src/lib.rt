@@ -1,0 +1,27 @@
+//! A part of a capture file: some of its variables, and some of its time.
+//!
+//! [`write_part`] reads a capture file once, and writes the part that a [`Request`] asks for. What
+//! remains stands as it was, real numbers, strings and comments too: only the ticks count from the
+//! first one of the window. Nothing is held of the changes but the last one of each code before the
+//! window.
+#![tactic(auto)]
+
+mod amender;
+mod choice;
+mod code_uses;
+mod comment;
+mod first_values;
+mod laws;
+mod name_text;
+mod part;
+mod pattern;
+mod patterns;
+mod request;
+mod time;
+mod window;
+
+pub use laws::{part_is_copied, part_is_read_again};
+pub use part::{PartError, write_part};
+pub use pattern::meets;
+pub use request::{Refusal, Request};
+pub use time::{Time, time_of};
