@@ -1,7 +1,7 @@
 # Builds, installs and packs vcdedit. `make` alone builds, and says what else there is.
 PREFIX ?= /usr/local
 ZSH_FOLDER ?= share/zsh/site-functions
-PROGRAMS = vcdedit vcdedit-amend vcdedit-narrow
+PROGRAMS = vcdedit vcdedit-amend
 TOOLS = vcdedit-apply vcdedit-compare vcdedit-table vcdedit-view
 DOCUMENTS = CHANGELOG.md docs/COOKBOOK.md docs/SCRIPT.md docs/FORMATS.md examples
 # What install put below PREFIX, a line for each file and each folder that was not there. Uninstall takes it away.

@@ -22,7 +22,7 @@ INSTALLED = """vcdedit vcdedit-amend launch CHANGELOG.md Makefile crates.txt com
     tools""".split()
 SECONDS = 120
 # The crates of the programs. What the prover said of each is in its out/proof.txt (generate/proofs).
-PROGRAMS = ["vcdedit", "vcdedit_amend", "vcdedit_narrow"]
+PROGRAMS = ["vcdedit", "vcdedit_amend"]
 
 
 def load(*path):
@@ -101,20 +101,11 @@ def module_of(script):
     return module
 
 
-def narrow_of(program):
-    """The vcdedit-narrow that was built beside a vcdedit, in the tree of its crate, or else next to it."""
-    return built_beside(program, "narrow")
-
-
 def amend_of(program):
-    """The same of vcdedit-amend."""
-    return built_beside(program, "amend")
-
-
-def built_beside(program, name):
+    """The vcdedit-amend that was built beside a vcdedit, in the tree of its crate, or else next to it."""
     folder = program.removesuffix("/vcdedit/out/vcdedit")
     in_tree = os.path.basename(folder) == "crates"
-    return os.path.join(folder, "vcdedit_%s/out/vcdedit_%s" % (name, name)) if in_tree else program + "-" + name
+    return os.path.join(folder, "vcdedit_amend/out/vcdedit_amend") if in_tree else program + "-amend"
 
 
 def lay_out(program, folder):
@@ -127,7 +118,7 @@ def lay_out(program, folder):
         else:
             shutil.copy2(source, copy)
     built = os.path.join(folder, "crates/vcdedit/out/vcdedit")
-    for source, copy in ((program, built), *((of(program), of(built)) for of in (amend_of, narrow_of))):
+    for source, copy in ((program, built), (amend_of(program), amend_of(built))):
         os.makedirs(os.path.dirname(copy))
         shutil.copy(source, copy)
 

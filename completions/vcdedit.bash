@@ -27,4 +27,4 @@ _vcdedit_names() { # PROGRAM
         return
     done
 }
-complete -o default -F _vcdedit vcdedit vcdedit-amend vcdedit-apply vcdedit-compare vcdedit-narrow vcdedit-table vcdedit-view
+complete -o default -F _vcdedit vcdedit vcdedit-amend vcdedit-apply vcdedit-compare vcdedit-table vcdedit-view

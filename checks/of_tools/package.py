@@ -3,7 +3,7 @@
 import os
 import re
 
-from common import TOP, amend_of, lay_out, module_of, narrow_of, run, store, text_at, tools_missing
+from common import TOP, amend_of, lay_out, module_of, run, store, text_at, tools_missing
 
 # Half a second is not enough on a busy machine, so that a check of names waits longer.
 COMPLETE = """source <(sed 's/timeout 0.5/timeout 20/' "$1"); shift
@@ -25,11 +25,11 @@ RUN = [
     (["vcdedit-apply", "/dev/null", "/etc/passwd"], 3, "line 1: .*: UnexpectedWord"),
     (["vcdedit-apply", "--help"], 0, "Carries a script"),
     (["vcdedit-amend", "/dev/null"], 4, "NotAFile"),
-    (["vcdedit-narrow", "/dev/null"], 3, "capture line 1: Truncated"),
+    (["vcdedit-amend", "/dev/null", "--to", "1"], 3, "capture line 1: Truncated"),
     (["vcdedit-table", "/dev/null", "list"], 3, "line 1: the file is empty"),
     (["vcdedit-view", "/dev/null", "-o", "none.vcd"], 3, "line 1: the file is empty"),
 ]
-COMMANDS = ["vcdedit", "vcdedit-amend", "vcdedit-apply", "vcdedit-compare", "vcdedit-narrow", "vcdedit-table", "vcdedit-view"]
+COMMANDS = ["vcdedit", "vcdedit-amend", "vcdedit-apply", "vcdedit-compare", "vcdedit-table", "vcdedit-view"]
 # What is installed of each command, and of all.
 FILES = ["bin/%s", "man/man1/%s.1", "bash-completion/completions/%s", "fish/vendor_completions.d/%s.fish"]
 DOCUMENTS = ["CHANGELOG.md", "COOKBOOK.md", "SCRIPT.md", "FORMATS.md", "messages.txt", "_vcdedit"]
@@ -113,7 +113,7 @@ def explains_tools(program, folder):
     """Each option that a help lists is in the page and completed, and no other is in the page."""
     os.makedirs(folder)
     sources = {name: os.path.join(TOP, "tools", name) for name in COMMANDS}
-    sources.update({"vcdedit": program, "vcdedit-amend": amend_of(program), "vcdedit-narrow": narrow_of(program)})
+    sources.update({"vcdedit": program, "vcdedit-amend": amend_of(program)})
     yield "the commands", [name for name in COMMANDS if not os.access(sources[name], os.X_OK)] == []
 
     def completed(*words):

@@ -88,6 +88,11 @@ impl<'a, R: Files + AllocGlobal> SafeFile<'a, R> {
         }
     }
 
+    /// Whether the file is beside its target, which is as it was until `commit`.
+    pub fn is_beside(&self) -> bool {
+        self.replacement.is_some()
+    }
+
     /// Puts the file in the place of its target.
     ///
     /// It is first written to the disk. If that fails, or the target can't be replaced, the file is

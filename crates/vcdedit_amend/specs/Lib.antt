@@ -3,3 +3,5 @@ pub mod Report
 pub mod CommandLine
 pub mod Sums
 pub mod ProgramEnds
+pub mod PartOutcome
+pub mod OptionsEnd

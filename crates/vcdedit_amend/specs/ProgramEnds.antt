@@ -98,8 +98,3 @@ IsOutcomeOnFile o outcome = ((e : AmendError) × IsInputFault o e × (outcome �
     ⊎ ((script : DeviceEnd)
     × (o.script ≡ None → (script.before ≡ Some default_script) × (script.has_failed ≡ false))
     × IsOutcomeOn o.output outcome o.depth script)
-
--- the same of any options: the capture may be named by them as no file
-abbrev pub IsOutcomeOfOptions : AskedOptions → Result Summary AmendError → Type 0
-IsOutcomeOfOptions o outcome = MatchResult (capture_path o.input o.capture)
-    (λ path. IsOutcomeOnFile o outcome) (λ e. outcome ≡ Err e)

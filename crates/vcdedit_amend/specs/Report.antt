@@ -1,10 +1,14 @@
 -- What the program reports of a file that was not amended. The statuses and lines are the project's
 -- own.
-use Rattle.std.specs.Prelude.{ℕ, List, codes}
+use Rattle.std.specs.Prelude.{ℕ, List, codes, ◌++◌, decimal}
 use Rattle.vcd_amend.specs.declared.running.AmendRunError.{AmendRunError}
 use Rattle.vcd_amend.specs.declared.running.AmendRunError.TheVariants as run_errors
+use Rattle.vcd_part.specs.declared.request.Refusal.{Refusal}
+use Rattle.vcd_part.specs.declared.request.Refusal.TheVariants as refusals
 use Rattle.vcd_shell.specs.Report.{output_report, output_status, report_of, run_error_report}
 use Rattle.vcd_shell.specs.Report.{run_error_status}
+use Rattle.vcdedit_amend.specs.declared.amend_error.PartFault.{PartFault}
+use Rattle.vcdedit_amend.specs.declared.amend_error.PartFault.TheVariants as faults
 use Rattle.vcdedit_amend.specs.declared.amend_error.AmendError.{AmendError}
 use Rattle.vcdedit_amend.specs.declared.amend_error.AmendError.TheVariants as errors
 
@@ -14,11 +18,20 @@ run_status (run_errors.Run e) = run_error_status e
 run_status run_errors.NameOfSkipped = 1
 run_status run_errors.CaptureChanged = 4
 
+-- the exit status if no part was taken
+abbrev pub part_status : PartFault → ℕ
+part_status faults.BadFrom = 2
+part_status faults.BadTo = 2
+part_status (faults.Refused refusal) = 1
+part_status (faults.PastEnd end) = 1
+part_status faults.NoFile = 4
+
 -- the exit status of a file that was not amended
 abbrev pub error_status : AmendError → ℕ
 error_status errors.TwoCaptures = 2
 error_status errors.NoCapture = 2
 error_status errors.NotAFile = 4
+error_status (errors.Part fault) = part_status fault
 error_status (errors.Run e) = run_status e
 error_status (errors.Output fault) = output_status fault
 
@@ -34,6 +47,28 @@ run_text run_errors.NameOfSkipped = own_report
 run_text run_errors.CaptureChanged =
     own_report (codes "CaptureChanged: the capture was changed while it was read")
 
+-- the name of a refusal of a part, and what it means
+abbrev pub refusal_text : Refusal → List ℕ
+refusal_text refusals.UnmetPattern = codes "UnmetPattern: a pattern matches no variable's full name"
+refusal_text refusals.NoVariableLeft = codes "NoVariableLeft: no variable would be kept"
+refusal_text refusals.FromIsNoWholeTick =
+    codes "FromIsNoWholeTick: --from is no whole tick, or the capture has no timescale"
+refusal_text refusals.ToIsNoWholeTick =
+    codes "ToIsNoWholeTick: --to is no whole tick, or the capture has no timescale"
+refusal_text refusals.WindowBackwards = codes "WindowBackwards: --to is before --from"
+
+-- the line on standard error if no part was taken
+abbrev pub part_text : PartFault → List ℕ
+part_text faults.BadFrom =
+    own_report (codes "BadFrom: after --from comes a time, such as 1500, 20us or 1.5ms")
+part_text faults.BadTo =
+    own_report (codes "BadTo: after --to comes a time, such as 1500, 20us or 1.5ms")
+part_text (faults.Refused refusal) = own_report (refusal_text refusal)
+part_text (faults.PastEnd end) =
+    own_report (codes "WindowPastEnd: --from is past the last tick, which is " ++ decimal end)
+part_text faults.NoFile = own_report
+    (codes "NoPartFile: the part can't be held in a file; TMPDIR names the folder, or else /tmp")
+
 -- the line on standard error of a file that was not amended
 abbrev pub error_text : AmendError → List ℕ
 error_text errors.TwoCaptures = own_report (codes "TwoCaptures: name the capture once")
@@ -41,5 +76,6 @@ error_text errors.NoCapture =
     own_report (codes "NoCapture: name a file as the capture; it is read several times")
 error_text errors.NotAFile = own_report
     (codes "NotAFile: the capture is no regular file, and so it can't be read several times")
+error_text (errors.Part fault) = part_text fault
 error_text (errors.Run e) = run_text e
 error_text (errors.Output fault) = output_report (codes "vcdedit-amend") fault

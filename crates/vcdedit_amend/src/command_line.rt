@@ -10,15 +10,18 @@ use std::alloc::{AllocError, Global};
 use vcd_journal::DEPTH_LIMIT;
 use vcd_shell::{
     capture_argument, depth_of, depth_option, input_option, output_option, script_option,
+    value_option,
 };
 
 const VERSION: &str = "1.0.0";
 
 const ABOUT: &str = "\
 Edits a four-state waveform capture (VCD, IEEE 1364-2005, 18.2) of any size by script, with undo and
-redo. The file stays as it is, byte for byte, except for what the edits touch.\n\n\
-The capture is read several times, so it must be a file. Only the changes of the signals that lines
-of the script ask for are held in memory. A file with a fault is refused, and nothing is written.";
+redo, or takes a part of it: some of its variables, some of its time. What is not edited or left out
+stays as it is, byte for byte.\n\n\
+Without a part the capture is read several times, so it must be a file. Only the changes of the
+signals that lines of the script ask for are held in memory. A file with a fault is refused, and
+nothing is written.";
 
 const AFTER_HELP: &str = "\
 A script has the lines that `vcdedit --help` shows, and each gets the same reply on standard output.
@@ -30,14 +33,30 @@ then it is beside it, as .NAME.vcdedit. A link is followed. Anything but a regul
 Not edited here:
   A variable of real numbers, strings or events stays, with its changes; no signal can get its name.
 
+A part:
+  With --keep, --remove, --from or --to, a part of the capture is the output, or without -o goes to
+  standard output. With --script too, the script is carried out on the part, which meanwhile is a
+  file in TMPDIR or /tmp. A part may be taken of standard input or a pipe; if there is a fault, what
+  came before it is on standard output. A `$comment` of the part says which part it is.
+
+  PATTERN is a variable's whole full name, with its scopes and its range, such as top.data[7:0]. In
+  it `*` stands for any characters, dots too, and `?` for any one byte; `[7:0]` means itself. A
+  pattern that no name meets is refused.
+
+  TIME is a number of ticks, or a number with a unit (s, ms, us, ns, ps, fs), such as 20us or 1.5ms,
+  that is a whole number of ticks. The window's ticks count from its first.
+
 Examples:
   vcdedit-amend big.vcd --script script.txt -o new.vcd    carries out a script, writes the result
   vcdedit-amend big.vcd --script script.txt -o big.vcd    the same, in the place of the capture
   vcdedit-amend big.vcd                                   shows what it holds
+  vcdedit-amend big.vcd --from 1.5ms --to 2ms -o part.vcd                 a window
+  vcdedit-amend big.vcd --keep '*.uart_rx' --keep '*.clk' -o part.vcd     some variables
+  vcdedit-amend big.vcd --remove 'top.ram.*' | vcdedit --script script.txt -o edited.vcd
 
 Exit status:
   0  done, or help or the version is shown
-  1  done, but a line of the script was refused; or what the script leaves can't be written
+  1  done, but a line of the script was refused; or what is asked for does not match the capture
   2  the command line is refused
   3  the capture has a fault, which is shown with its line, or the script is too large
   4  a file can't be opened, read or written, or standard output can't be written
@@ -46,28 +65,46 @@ Exit status:
 `man vcdedit-amend` explains every refusal, and says what to do.\
 ";
 
-const OUTPUT_HELP: &str =
-    "The VCD file to write when the script has run; without it none is written";
+const OUTPUT_HELP: &str = "The VCD file to write; without it none, or for a part standard output";
 
 /// What the words of the command line ask for.
 #[derive(Clone, Copy)]
-pub struct Options<'a> {
+pub struct Options<'m, 'a> {
     /// The path of the capture, as an option.
     pub input: Option<&'a str>,
     /// The same, as an argument.
     pub capture: Option<&'a str>,
-    /// The path of the script; without one the script is the one line `list`.
+    /// The path of the script. Without one the script is the one line `list`, or if a part is asked
+    /// for, there is none.
     pub script: Option<&'a str>,
-    /// The path of the output; without one there is no output.
+    /// The path of the output. Without one there is no output, or if a part is asked for without a
+    /// script, it is standard output.
     pub output: Option<&'a str>,
     /// How many edits are held for undo and redo, from 1 to `DEPTH_LIMIT`.
     pub depth: u64,
     /// Whether remarks are left out.
     pub is_quiet: bool,
+    /// Patterns of names that are kept.
+    pub keep: Option<&'m [&'a str]>,
+    /// Patterns of names that are left out.
+    pub remove: Option<&'m [&'a str]>,
+    /// The time of the first tick.
+    pub from: Option<&'a str>,
+    /// The time of the last tick.
+    pub to: Option<&'a str>,
+}
+
+impl Options<'_, '_> {
+    /// Whether a part of the capture is asked for.
+    pub fn ask_for_part(&self) -> bool
+        ensures { result ≡ spec.ask_for_part (spec.options_in self.now) }
+    {
+        self.keep.is_some() || self.remove.is_some() || self.from.is_some() || self.to.is_some()
+    }
 }
 
 /// The options of accepted words.
-pub fn options_of<'a>(matches: &ArgMatches<'a>) -> Options<'a>
+pub fn options_of<'m, 'a>(matches: &'m ArgMatches<'a>) -> Options<'m, 'a>
     ensures asked { (words : List (List ℕ)) →
         rows_of (found_of matches.now) ≡ matches_of spec.option_app words →
         spec.options_in result ≡ spec.asked_options words }
@@ -81,6 +118,10 @@ pub fn options_of<'a>(matches: &ArgMatches<'a>) -> Options<'a>
         output: matches.get_str("output-file"),
         depth: depth_of(matches),
         is_quiet: is_quiet(matches),
+        keep: matches.get_strs("keep"),
+        remove: matches.get_strs("remove"),
+        from: matches.get_str("from"),
+        to: matches.get_str("to"),
     }
 }
 
@@ -103,7 +144,7 @@ pub fn command_line<'a>(alloc: Global) -> Result<Command<'a>, AllocError>
         .version(VERSION)
         .about(ABOUT)
         .after_help(AFTER_HELP);
-    with_options(program, alloc)
+    with_part(with_options(program, alloc)?, alloc)
 }
 
 /// With the options.
@@ -119,12 +160,39 @@ fn with_options<'a>(program: Command<'a>, alloc: Global) -> Result<Command<'a>, 
         .arg(capture_argument(alloc))
 }
 
-/// `-i FILE` or `--input-file FILE`, which is no standard input here.
+/// With the options that say which part is meant.
+fn with_part<'a>(program: Command<'a>, alloc: Global) -> Result<Command<'a>, AllocError>
+    ensures { IfOk result (λ c. app_of c ≡ spec.with_part (app_of program.entry)) }
+{
+    program
+        .arg(list_option(alloc, "keep", KEEP_HELP))?
+        .arg(list_option(alloc, "remove", REMOVE_HELP))?
+        .arg(value_option(alloc, "from", "TIME", FROM_HELP))?
+        .arg(value_option(alloc, "to", "TIME", TO_HELP))
+}
+
+const KEEP_HELP: &str = "Keep the variables with such a name; repeatable. Without it all are kept";
+
+const REMOVE_HELP: &str = "Leave out the variables with such a name; repeatable";
+
+const FROM_HELP: &str = "The first tick of the window; without it the capture's";
+
+const TO_HELP: &str = "The last tick of the window; without it the capture's";
+
+/// An option that takes a pattern, any number of times.
+fn list_option<'a>(alloc: Global, name: &'a str, help: &'a str) -> Arg<'a>
+    ensures rule { rule_of result ≡ spec.list_option name.now }
+    ensures local { result.global ≡ false }
+{
+    value_option(alloc, name, "PATTERN", help).action(ArgAction::Append)
+}
+
+/// `-i FILE` or `--input-file FILE`.
 fn file_option<'a>(alloc: Global) -> Arg<'a>
     ensures rule { rule_of result ≡ shared.input_option }
     ensures local { result.global ≡ false }
 {
-    input_option(alloc).help("The capture to read: a file")
+    input_option(alloc).help("The capture to read: a file, or for a part also `-`, standard input")
 }
 
 /// `--quiet`.

@@ -8,6 +8,10 @@
 mod amend_error;
 mod command_line;
 mod memory_forecast;
+mod near;
+mod part;
+mod part_file;
+mod part_words;
 mod passes;
 mod program;
 mod progress;
@@ -17,7 +21,7 @@ mod summed;
 #[cfg(test)]
 mod tests;
 
-pub use amend_error::AmendError;
+pub use amend_error::{AmendError, PartFault};
 pub use program::VcdeditAmend;
 pub use reporting::report;
 use std::env;

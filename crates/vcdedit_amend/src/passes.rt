@@ -64,6 +64,15 @@ impl<'a> CaptureFile<'a> {
         Ok(CaptureFile { path, state })
     }
 
+    /// Opens it once more.
+    pub fn open<R: Files>(&self, files: &R) -> Result<FromRead<R::File>, AmendError>
+        ensures ready { IfOk result (λ s. ⟦<FromRead<R::File> as Source>⟧.has_failed s ≡ false) }
+        ensures fault { IfErr result (λ e. e ≡ not_read) }
+    {
+        let file = fs::open(files, self.path).map_err(|_| NOT_READ)?;
+        Ok(FromRead::new(file))
+    }
+
     /// Opens it for each pass.
     pub fn open_passes<'b, R: Runtime>(&self, rt: &'b R) -> Result<Passes<Pass<'b, R>>, AmendError>
         ensures ready { IfOk result (AreReady ⟦<Pass<'b, R> as Source>⟧.has_failed) }
@@ -89,6 +98,19 @@ impl<'a> CaptureFile<'a> {
             return Ok(());
         }
         Err(AmendError::Run(AmendRunError::CaptureChanged))
+    }
+}
+
+/// Refuses a run if a guarded file was changed.
+pub fn refuse_replaced<R: Files>(
+    files: &R,
+    guarded: Option<CaptureFile<'_>>,
+) -> Result<(), AmendError>
+    ensures fault { IfErr result IsCaptureFault }
+{
+    match guarded {
+        Some(file) => file.refuse_replaced(files),
+        None => Ok(()),
     }
 }
 

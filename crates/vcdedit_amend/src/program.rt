@@ -6,13 +6,15 @@ ghost use Rattle.std.specs.Option.{option_copied};
 ghost use Rattle.vcd_core.specs.Devices.{device_end};
 ghost use Rattle.vcd_amend.specs.AmendRunEnds.{AreReady};
 ghost use Rattle.vcdedit_amend.specs.CommandLine.{options_in};
-ghost use Rattle.vcdedit_amend.specs.ProgramEnds.{IsOutcomeOfOptions, IsOutcomeOnFile, IsOutcomeOn};
+ghost use Rattle.vcdedit_amend.specs.OptionsEnd.{IsOutcomeOfOptions};
+ghost use Rattle.vcdedit_amend.specs.ProgramEnds.{IsOutcomeOnFile, IsOutcomeOn};
 ghost use Rattle.vcdedit_amend.specs.ProgramEnds as spec;
 ghost use Rattle.vcdedit_amend.specs.Sums.{HaveOneSum};
 
 use crate::amend_error::{AmendError, NO_MEMORY, NO_SCRIPT};
 use crate::command_line::{Options, command_line, options_of};
-use crate::passes::{CaptureFile, Pass, clear_progress, refuse_changed};
+use crate::part::run_part;
+use crate::passes::{CaptureFile, Pass, clear_progress, refuse_changed, refuse_replaced};
 use crate::remarks::Remarks;
 use crate::reporting::{PROGRAM, report};
 use crate::summed::Summed;
@@ -84,14 +86,18 @@ impl Program for VcdeditAmend {
 /// Opens the capture and the script before either is read, and runs.
 fn run_options<R: Runtime + AllocGlobal>(
     rt: &R,
-    options: &Options<'_>,
+    options: &Options<'_, '_>,
 ) -> Result<Summary, AmendError>
     requires depth_least { 1 ≤ options.now.depth }
     requires depth_most { options.now.depth ≤ DEPTH_LIMIT }
     ensures { IsOutcomeOfOptions (options_in options.now) result }
 {
+    if options.ask_for_part() {
+        return run_part(rt, options);
+    }
     let path = capture_path(options.input, options.capture)?;
-    run_on_file(rt, path, options)
+    let capture = CaptureFile::find(rt, path)?;
+    run_on_file(rt, capture, Some(capture), options)
 }
 
 /// The path of the capture, which is named once, and is not standard input.
@@ -108,19 +114,20 @@ fn capture_path<'a>(input: Option<&'a str>, capture: Option<&'a str>) -> Result<
     }
 }
 
-/// Opens the capture and the script, and runs.
-fn run_on_file<R: Runtime + AllocGlobal>(
+/// Opens the capture and the script, and runs. No output is put in its place if a guarded file was
+/// changed.
+pub fn run_on_file<R: Runtime + AllocGlobal>(
     rt: &R,
-    path: &str,
-    options: &Options<'_>,
+    capture: CaptureFile<'_>,
+    guarded: Option<CaptureFile<'_>>,
+    options: &Options<'_, '_>,
 ) -> Result<Summary, AmendError>
     requires depth_least { 1 ≤ options.now.depth }
     requires depth_most { options.now.depth ≤ DEPTH_LIMIT }
     ensures { IsOutcomeOnFile (options_in options.now) result }
 {
-    let capture = CaptureFile::find(rt, path)?;
     let mut passes = capture.open_passes(rt)?;
-    let outcome = run_passes(rt, &capture, &mut passes, options);
+    let outcome = run_passes(rt, guarded, &mut passes, options);
     clear_progress(&mut passes);
     outcome
 }
@@ -128,9 +135,9 @@ fn run_on_file<R: Runtime + AllocGlobal>(
 /// Opens the script, and runs.
 fn run_passes<'a, R: Runtime + AllocGlobal>(
     rt: &'a R,
-    capture: &CaptureFile<'_>,
+    guarded: Option<CaptureFile<'_>>,
     passes: &mut Passes<Pass<'a, R>>,
-    options: &Options<'_>,
+    options: &Options<'_, '_>,
 ) -> Result<Summary, AmendError>
     requires depth_least { 1 ≤ options.now.depth }
     requires depth_most { options.now.depth ≤ DEPTH_LIMIT }
@@ -144,7 +151,7 @@ fn run_passes<'a, R: Runtime + AllocGlobal>(
             let script = &mut FromRead::new(script);
             run_inputs(
                 rt,
-                capture,
+                guarded,
                 passes,
                 script,
                 remarks,
@@ -156,7 +163,7 @@ fn run_passes<'a, R: Runtime + AllocGlobal>(
             let script = &mut FromBytes::new(DEFAULT_SCRIPT);
             run_inputs(
                 rt,
-                capture,
+                guarded,
                 passes,
                 script,
                 remarks,
@@ -170,7 +177,7 @@ fn run_passes<'a, R: Runtime + AllocGlobal>(
 /// Runs with a buffer for the replies to standard output.
 fn run_inputs<R: Runtime + AllocGlobal, C: Source, S: Source, Q: Sink>(
     rt: &R,
-    capture: &CaptureFile<'_>,
+    guarded: Option<CaptureFile<'_>>,
     passes: &mut Passes<Summed<C>>,
     script: &mut S,
     remarks: &mut Q,
@@ -190,7 +197,7 @@ fn run_inputs<R: Runtime + AllocGlobal, C: Source, S: Source, Q: Sink>(
     let mut replies = ToWrite::new(buffer);
     let outcome = run_to_output(
         rt,
-        capture,
+        guarded,
         passes,
         script,
         &mut replies,
@@ -206,7 +213,7 @@ fn run_inputs<R: Runtime + AllocGlobal, C: Source, S: Source, Q: Sink>(
 /// Runs with a file for the output, if there is one.
 fn run_to_output<R: Runtime + AllocGlobal, C: Source, S: Source, P: Sink, Q: Sink>(
     rt: &R,
-    capture: &CaptureFile<'_>,
+    guarded: Option<CaptureFile<'_>>,
     passes: &mut Passes<Summed<C>>,
     script: &mut S,
     replies: &mut P,
@@ -224,7 +231,7 @@ fn run_to_output<R: Runtime + AllocGlobal, C: Source, S: Source, P: Sink, Q: Sin
         (device_end S.coming S.has_failed script.old script.new) }
 {
     match output {
-        Some(path) => run_to_file(rt, capture, passes, script, replies, remarks, path, depth),
+        Some(path) => run_to_file(rt, guarded, passes, script, replies, remarks, path, depth),
         None => run_without_file(rt, passes, script, replies, remarks, depth),
     }
 }
@@ -232,7 +239,7 @@ fn run_to_output<R: Runtime + AllocGlobal, C: Source, S: Source, P: Sink, Q: Sin
 /// Runs with a file for the output, and then puts it in its place.
 fn run_to_file<R: Runtime + AllocGlobal, C: Source, S: Source, P: Sink, Q: Sink>(
     rt: &R,
-    capture: &CaptureFile<'_>,
+    guarded: Option<CaptureFile<'_>>,
     passes: &mut Passes<Summed<C>>,
     script: &mut S,
     replies: &mut P,
@@ -255,7 +262,7 @@ fn run_to_file<R: Runtime + AllocGlobal, C: Source, S: Source, P: Sink, Q: Sink>
     let summary = ended?;
     refuse_changed(passes)?;
     // last, as another run may have put its output in the place of the capture
-    capture.refuse_replaced(rt)?;
+    refuse_replaced(rt, guarded)?;
     put_in_place(file, passes)?;
     Ok(summary)
 }

@@ -3,10 +3,14 @@
 ghost use Rattle.std.specs.Prelude.{◌≡◌, ◌≤◌};
 ghost use Rattle.vcd_shell.specs.Report.{IsReported};
 ghost use Rattle.vcdedit_amend.specs.Report.{error_status, error_text, run_status, run_text};
+ghost use Rattle.vcdedit_amend.specs.Report as spec;
+ghost use Rattle.vcdedit_amend.specs.declared.amend_error.PartFault.TheVariants as faults;
 
-use crate::amend_error::AmendError;
+use crate::amend_error::{AmendError, PartFault};
+use itoa::Buffer;
 use vcd_amend::AmendRunError;
 use vcd_core::Sink;
+use vcd_part::Refusal;
 
 /// The program's name, as its lines on standard error begin.
 pub const PROGRAM: &[u8] = b"vcdedit-amend";
@@ -31,6 +35,7 @@ fn error_status(error: &AmendError) -> u8
     match error {
         AmendError::TwoCaptures | AmendError::NoCapture => 2,
         AmendError::NotAFile => 4,
+        AmendError::Part(fault) => part_status(*fault),
         AmendError::Run(error) => run_status(error),
         AmendError::Output(fault) => vcd_shell::output_status(*fault),
     }
@@ -67,8 +72,79 @@ fn report_error<W: Sink>(error: &AmendError, writer: &mut W)
             b"NotAFile: the capture is no regular file, and so it can't be read several times",
             writer,
         ),
+        AmendError::Part(fault) => report_part(*fault, writer),
         AmendError::Run(error) => report_run(error, writer),
         AmendError::Output(fault) => vcd_shell::report_output(PROGRAM, *fault, writer),
+    }
+}
+
+/// The exit status if no part was taken.
+fn part_status(fault: PartFault) -> u8
+    ensures most { result ≤ 5 }
+    ensures status { result ≡ spec.part_status fault }
+{
+    match fault {
+        PartFault::BadFrom | PartFault::BadTo => 2,
+        PartFault::Refused(_) | PartFault::PastEnd { .. } => 1,
+        PartFault::NoFile => 4,
+    }
+}
+
+/// Writes and flushes the line on why no part was taken.
+fn report_part<W: Sink>(fault: PartFault, writer: &mut W)
+    ensures { IsReported (W.has_failed writer.new) (W.is_flushed writer.new)
+        (W.taken writer.old) (W.taken writer.new) (spec.part_text fault) }
+{
+    match fault {
+        PartFault::BadFrom => vcd_shell::report(
+            PROGRAM,
+            b"BadFrom: after --from comes a time, such as 1500, 20us or 1.5ms",
+            writer,
+        ),
+        PartFault::BadTo => vcd_shell::report(
+            PROGRAM,
+            b"BadTo: after --to comes a time, such as 1500, 20us or 1.5ms",
+            writer,
+        ),
+        PartFault::Refused(refusal) => {
+            vcd_shell::report(PROGRAM, refusal_text(refusal).as_bytes(), writer);
+        }
+        PartFault::PastEnd { end } => report_past_end(end, writer),
+        PartFault::NoFile => vcd_shell::report(
+            PROGRAM,
+            b"NoPartFile: the part can't be held in a file; TMPDIR names the folder, or else /tmp",
+            writer,
+        ),
+    }
+}
+
+/// Writes and flushes the line on a window that begins past this end.
+fn report_past_end<W: Sink>(end: u64, writer: &mut W)
+    ensures { IsReported (W.has_failed writer.new) (W.is_flushed writer.new)
+        (W.taken writer.old) (W.taken writer.new) (spec.part_text (faults.PastEnd end)) }
+{
+    vcd_shell::report_with(
+        PROGRAM,
+        b"WindowPastEnd: --from is past the last tick, which is ",
+        Buffer::new().format(end).as_bytes(),
+        writer,
+    );
+}
+
+/// The name of a refusal of a part, and what it means.
+fn refusal_text(refusal: Refusal) -> &'static str
+    ensures { result.now ≡ spec.refusal_text refusal }
+{
+    match refusal {
+        Refusal::UnmetPattern => "UnmetPattern: a pattern matches no variable's full name",
+        Refusal::NoVariableLeft => "NoVariableLeft: no variable would be kept",
+        Refusal::FromIsNoWholeTick => {
+            "FromIsNoWholeTick: --from is no whole tick, or the capture has no timescale"
+        }
+        Refusal::ToIsNoWholeTick => {
+            "ToIsNoWholeTick: --to is no whole tick, or the capture has no timescale"
+        }
+        Refusal::WindowBackwards => "WindowBackwards: --to is before --from",
     }
 }
 

@@ -2,16 +2,18 @@
 use Rattle.std.proofs.Common.{◌≡◌, ◌∙◌, ap, ℕ, Bool, List, Option, codes}
 use Rattle.std.specs.Prelude.{option_map}
 use Rattle.std.specs.Borrow.{Bor}
-use Rattle.clap.specs.Words.{Text, first_of, first_value, found_of, matches_of, one_of, one_text}
+use Rattle.clap.specs.Words.{Text, Row, all_of, first_of, first_value, found_of, matches_of, one_of, one_text}
 use Rattle.clap.specs.Words.{rows_of}
+use Rattle.clap.specs.Matches.{matched_of, raw_values}
 use Rattle.clap.specs.declared.parser.matches.ArgMatches.{ArgMatches}
-use Rattle.clap.proofs.WalkLemmas.{first_value-rows, one_text-rows}
+use Rattle.clap.proofs.WalkLemmas.{first_value-rows, one_text-rows, raw_values-rows}
 use Rattle.vcd_shell.specs.Options.{depth_asked}
+use Rattle.vcd_part.specs.Requests.{texts}
 use Rattle.vcdedit_amend.specs.CommandLine.{asked_options, is_given, option_app, options_in}
 
 -- the options that the getters read
 pub read_options : (m : ArgMatches) (words : List Text) (input capture script output : Option (Bor Text)) (depth : ℕ)
-    (quiet : Bool)
+    (quiet : Bool) (keep remove : Option (Bor (List (Bor Text)))) (from to : Option (Bor Text))
     → rows_of (found_of m) ≡ matches_of option_app words
     → option_map (λ s. s.now) input ≡ first_value (found_of m) (codes "input-file")
     → option_map (λ s. s.now) capture ≡ first_value (found_of m) (codes "capture")
@@ -19,6 +21,10 @@ pub read_options : (m : ArgMatches) (words : List Text) (input capture script ou
     → option_map (λ s. s.now) output ≡ first_value (found_of m) (codes "output-file")
     → depth ≡ depth_asked (one_text (found_of m) (codes "depth"))
     → quiet ≡ is_given (first_value (found_of m) (codes "quiet"))
+    → texts keep ≡ option_map raw_values (matched_of (found_of m) (codes "keep"))
+    → texts remove ≡ option_map raw_values (matched_of (found_of m) (codes "remove"))
+    → option_map (λ s. s.now) from ≡ first_value (found_of m) (codes "from")
+    → option_map (λ s. s.now) to ≡ first_value (found_of m) (codes "to")
     → options_in (record {
       input = input;
       capture = capture;
@@ -26,9 +32,13 @@ pub read_options : (m : ArgMatches) (words : List Text) (input capture script ou
       output = output;
       depth = depth;
       is_quiet = quiet;
+      keep = keep;
+      remove = remove;
+      from = from;
+      to = to;
     }) ≡ asked_options words
-read_options m words input capture script output depth quiet rows is_input is_capture is_script is_output is_depth
-    is_quiet =
+read_options m words input capture script output depth quiet keep remove from to rows is_input is_capture is_script
+    is_output is_depth is_quiet is_keep is_remove is_from is_to =
     let of_rows : (id : Text) → first_value (found_of m) id ≡ first_of id (matches_of option_app words) =
     λ id. first_value-rows (found_of m) id ∙ ap (first_of id) rows in
     let text : one_text (found_of m) (codes "depth") ≡ one_of (codes "depth") (matches_of option_app words) =
@@ -39,6 +49,13 @@ read_options m words input capture script output depth quiet rows is_input is_ca
     let output_is = is_output ∙ of_rows (codes "output-file") in
     let quiet_is = is_quiet ∙ ap is_given (of_rows (codes "quiet")) in
     let depth_is = is_depth ∙ ap depth_asked text in
+    let all_of_rows : (id : Text) → option_map raw_values (matched_of (found_of m) id)
+    ≡ all_of id (matches_of option_app words) =
+    λ id. raw_values-rows (found_of m) id ∙ ap (λ (r : List Row). all_of id r) rows in
+    let keep_is = is_keep ∙ all_of_rows (codes "keep") in
+    let remove_is = is_remove ∙ all_of_rows (codes "remove") in
+    let from_is = is_from ∙ of_rows (codes "from") in
+    let to_is = is_to ∙ of_rows (codes "to") in
     λ i. record {
       input = input_is i;
       capture = capture_is i;
@@ -46,4 +63,8 @@ read_options m words input capture script output depth quiet rows is_input is_ca
       output = output_is i;
       depth = depth_is i;
       is_quiet = quiet_is i;
+      keep = keep_is i;
+      remove = remove_is i;
+      from = from_is i;
+      to = to_is i;
     }

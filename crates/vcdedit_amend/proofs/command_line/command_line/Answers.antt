@@ -2,7 +2,7 @@
 use Rattle.std.proofs.Common.{◌≡◌, ◌∙◌, ap, rules, codes, true}
 use Rattle.std.proofs.lemmas.Result.{IfOk-weaker}
 use Rattle.clap.specs.Words.{app_of, new_app}
-use Rattle.vcdedit_amend.specs.CommandLine.{with_options}
+use Rattle.vcdedit_amend.specs.CommandLine.{with_options, with_part}
 use Rattle.vcdedit_amend.proofs.command_line.command_line.Goals as goal
 
 pub returns : goal.returns
@@ -11,4 +11,5 @@ returns c =
       top =
           record (new_app (codes "vcdedit-amend")).top { no_binary_name = true; has_version = true };
     } = search rules in
-    IfOk-weaker c.with_options.result _ _ (λ d is. is ∙ ap with_options bare) c.with_options.ensures
+    IfOk-weaker c.with_part.result _ _ (λ d is. is
+    ∙ ap with_part (c.in_ok-with_options.ensures ∙ ap with_options bare)) c.with_part.ensures

@@ -1,0 +1,2 @@
+-- Lemmas of `part`.
+pub mod Outcomes

@@ -1,0 +1,46 @@
+-- The outcomes of a request, by what becomes of its part.
+use Rattle.std.proofs.Common.{◌≡◌, ◌⊎◌, inl, inr, refl}
+use Rattle.std.specs.Prelude.{Result, Ok, Err, IsErrAnd, IsSome}
+use Rattle.vcd_core.specs.Devices.{DeviceEnd}
+use Rattle.vcd_script.specs.declared.running.run_error.Summary.{Summary}
+use Rattle.vcd_part.specs.declared.request.Request.{Request}
+use Rattle.vcdedit_amend.specs.declared.amend_error.AmendError.{AmendError}
+use Rattle.vcdedit_amend.specs.CommandLine.{AskedOptions}
+use Rattle.vcdedit_amend.specs.ProgramEnds.{IsOutcomeOnFile, not_read}
+use Rattle.vcdedit_amend.specs.PartOutcome.{IsTaken, IsOutcomeOfRequest, IsPartFileFault, no_part_file}
+
+-- an error that is handed on
+pub ends_with : (o : AskedOptions) (r : Request) (outcome : Result Summary AmendError) (e : AmendError)
+    → IsErrAnd outcome (λ x. x ≡ e) → IsOutcomeOfRequest o r (Err e) → IsOutcomeOfRequest o r outcome
+ends_with o r (Ok summary) e gives ends = absurd gives
+ends_with o r (Err x) e gives ends = rw gives ends
+
+-- no part is taken
+pub refused : (o : AskedOptions) (r : Request) (capture out : DeviceEnd) (e : AmendError)
+    → IsTaken r capture out (Err e) → IsOutcomeOfRequest o r (Err e)
+refused o r capture out e taken = inr (inl (capture, out, e, taken, refl))
+
+-- the same when it is first checked
+pub refused_first : (o : AskedOptions) (r : Request) (e : AmendError)
+    → (e ≡ not_read) ⊎ ((capture : DeviceEnd) × (out : DeviceEnd) × IsTaken r capture out (Err e))
+    → IsOutcomeOfRequest o r (Err e)
+refused_first o r e (inl unread) = inl (e, inl (inr (inl unread)), refl)
+refused_first o r e (inr (capture, out, taken)) = refused o r capture out e taken
+
+-- the file of the part can't be made
+pub no_file : (o : AskedOptions) (r : Request) (e : AmendError) → IsPartFileFault e → IsOutcomeOfRequest o r (Err e)
+no_file o r e fault = inl (e, inr (inl fault), refl)
+
+-- no part is taken to a file of its own
+pub refused_on_file : (o : AskedOptions) (r : Request) (capture out : DeviceEnd) (error e : AmendError)
+    → (e ≡ error) ⊎ (e ≡ no_part_file) → IsTaken r capture out (Err error) → IsOutcomeOfRequest o r (Err e)
+refused_on_file o r capture out error e (inl same) taken = rw same (refused o r capture out error taken)
+refused_on_file o r capture out error e (inr none) taken = no_file o r e (inl none)
+
+-- the script is carried out on the part
+pub carried_out : (o : AskedOptions) (r : Request) (capture out : DeviceEnd) (done : Unit)
+    (outcome : Result Summary AmendError) → IsTaken r capture out (Ok done) → IsSome o.script
+    → (outcome ≡ Err no_part_file) ⊎ IsOutcomeOnFile o outcome → IsOutcomeOfRequest o r outcome
+carried_out o r capture out done outcome taken script (inl none) = inl (no_part_file, inr (inl (inl refl)), none)
+carried_out o r capture out done outcome taken script (inr on_file) =
+    inr (inr (capture, out, done, taken, inr (inr (script, on_file))))

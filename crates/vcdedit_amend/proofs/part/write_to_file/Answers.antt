@@ -1,0 +1,13 @@
+-- An error ends it.
+use Rattle.vcdedit_amend.proofs.part.Outcomes.{ends_with, refused, refused_first}
+use Rattle.vcdedit_amend.proofs.part.write_to_file.Goals as goal
+
+pub returns-in_err-check_first : goal.returns-in_err-check_first
+returns-in_err-check_first g c = λ o script output.
+    ends_with o c.args.request c.from_residual-in_err-check_first.result c.in_err-check_first.field-0.0
+    c.from_residual-in_err-check_first.ensures.1 (refused_first o _ _ c.in_err-check_first.ensures)
+
+pub returns-in_err-take_part : goal.returns-in_err-take_part
+returns-in_err-take_part g c = λ o script output.
+    ends_with o c.args.request c.from_residual-in_err-take_part.result c.in_err-take_part.field-0.0
+    c.from_residual-in_err-take_part.ensures.1 (refused o _ _ _ _ c.in_err-take_part.ensures.taken)

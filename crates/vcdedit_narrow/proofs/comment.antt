@@ -1,2 +1,0 @@
--- Lemmas of `comment`.
-pub mod SoundComments

@@ -1,4 +1,0 @@
--- Lemmas of `narrow`.
-pub mod DeclinedFaults
-pub mod Endings
-pub mod SoundParts

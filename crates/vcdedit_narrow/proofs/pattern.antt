@@ -1,2 +1,0 @@
--- Lemmas of `pattern`.
-pub mod Stars

@@ -1,2 +1,0 @@
--- Lemmas: shared.
-pub mod InTurn

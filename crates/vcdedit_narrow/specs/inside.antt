@@ -1,6 +1,0 @@
--- Intermediate definitions, cited only by proofs and by contracts of private functions. A reader
--- need not believe them.
-pub mod Heads
-pub mod MemoryErrors
-pub mod ShownNames
-pub mod Stages
