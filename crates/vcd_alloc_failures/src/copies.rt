@@ -13,7 +13,9 @@ use vcd_amend::{AmendedCode, Amendment, DeclaredVariable, amend, declared_variab
 use vcd_core::{
     Bit, DeviceFault, FromRead, NoMemory, ScopeName, Sink, ToWrite, Value, Wave, copy_word,
 };
-use vcd_text::{AmendableItem, Amender, CopyError, Output, VARIABLE_LIMIT, copy, write_bytes};
+use vcd_text::{
+    AmendableItem, Amender, CopyError, InPlace, Output, VARIABLE_LIMIT, copy, write_bytes,
+};
 
 /// Lets all items stand, each `$var` with a copy of its words. Memory may be refused after the
 /// white space before them.
@@ -23,7 +25,7 @@ struct VariableCopies {
 }
 
 impl<W: Sink> Amender<W> for VariableCopies {
-    ghost use Rattle.std.specs.Prelude.{false};
+    ghost use Rattle.std.specs.Prelude.{false, []};
 
     ghost Given = { Unit {0} };
 
@@ -31,6 +33,7 @@ impl<W: Sink> Amender<W> for VariableCopies {
 
     ghost rules = { λ _. record {
       in_place = λ before p. p.space ++ p.body;
+      before_others = λ before. [];
       at_end = λ pieces tail. tail;
     } };
 
@@ -38,8 +41,11 @@ impl<W: Sink> Amender<W> for VariableCopies {
 
     ghost is_done = { λ _. false };
 
-    fn let_stand(&mut self, item: AmendableItem, _code: &[u8]) -> bool {
-        !matches!(item, AmendableItem::Variable)
+    fn settle(&mut self, item: AmendableItem, _code: &[u8]) -> InPlace {
+        match item {
+            AmendableItem::Variable => InPlace::Other,
+            _ => InPlace::Itself,
+        }
     }
 
     fn take(
@@ -56,6 +62,8 @@ impl<W: Sink> Amender<W> for VariableCopies {
         write_bytes(output, words.as_slice());
         Ok(())
     }
+
+    fn write_before(&self, _output: &mut Output<W>) {}
 
     fn pass(&mut self) {}
 

@@ -26,6 +26,7 @@ amendment_rules a limit = record {
       let none_yet = none_yet_after a true (initial_state limit) before in
       bytes_in_place (item_fate a s p.item)
       (flat_map item_line (inserted_items a none_yet s p.item)) p;
+  before_others = λ before. [];
   at_end = λ pieces tail.
       let s = state_of_pieces limit pieces in
       flat_map (λ i. 10 ∷ join_with_byte 32 (spelling i)) (items_due_at a s s.tick) ++ tail;

@@ -54,6 +54,7 @@ retimed_rules is_cut_out r = record {
   in_place = λ before p. copied_pieces r (pieces_so_far is_cut_out (initial_state 0) [] before)
       (pieces_of_step is_cut_out (state_of_pieces 0 before)
       (held_after is_cut_out (initial_state 0) [] before) p);
+  before_others = λ before. r.before_others (pieces_so_far is_cut_out (initial_state 0) [] before);
   at_end = λ pieces tail.
       let sent : List Piece = pieces_so_far is_cut_out (initial_state 0) [] pieces in
       let last : List Piece = released_pieces is_cut_out (state_of_pieces 0 pieces)

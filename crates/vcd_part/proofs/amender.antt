@@ -3,7 +3,9 @@ pub mod States
 pub mod LastChanges
 pub mod Steps
 pub mod Decided
-pub mod Changes
+pub mod ChangeItems
 pub mod Written
 pub mod Ended
-pub mod Declarations
+pub mod NextVariable
+pub mod Waiting
+pub mod StampPieces

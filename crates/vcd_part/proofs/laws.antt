@@ -1,5 +1,5 @@
 -- Lemmas of `laws`.
-pub mod CopiedPieces
+pub mod EmptyStamps
 pub mod signals
 pub mod states
 pub mod text

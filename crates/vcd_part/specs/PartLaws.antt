@@ -1,4 +1,4 @@
--- The laws of the part of a file: the project's own.
+-- The law of the part of a file: the project's own.
 use Rattle.std.specs.Prelude.{◌≡◌, ℕ, ◌≤◌, ◌&&◌, List, [], ◌∷◌, ◌++◌, count_by, Ok, map, IsTrue}
 use Rattle.vcd_core.specs.Contents.{Contents}
 use Rattle.vcd_core.specs.Names.{full_name}
@@ -7,18 +7,12 @@ use Rattle.vcd_text.specs.Grammar.{initial_state, AllowsAll, is_skipped}
 use Rattle.vcd_text.specs.Meaning.{FileMeans, meaning}
 use Rattle.vcd_text.specs.Parts.{part_of}
 use Rattle.vcd_text.specs.Pieces.{Piece, IsCut, state_of_pieces}
-use Rattle.vcd_text.specs.Copied.{copied}
 use Rattle.vcd_text.specs.declared.reading.choice.TickRange.{TickRange}
 use Rattle.vcd_part.specs.declared.request.Request.{Request}
 use Rattle.vcd_part.specs.Requests.{keeps_name, keeps, decide}
-use Rattle.vcd_part.specs.PartPieces.{part_pieces, part_rules, comment_words}
+use Rattle.vcd_part.specs.PartPieces.{part_pieces, comment_words}
 use Rattle.vcd_text.specs.Pieces.{piece_bytes}
 use Rattle.vcd_part.specs.PartPieces.{kept_count, all_count}
-
--- the copy of a file by the rules of a part has the pieces of the part
-abbrev pub PartIsCopied : Type 0
-PartIsCopied = (r : Request) (pieces : List Piece) (tail : List ℕ)
-    → copied (part_rules r) pieces tail ≡ piece_bytes (part_pieces r pieces) ++ tail
 
 -- an accepted file of these pieces, of which the request asks for this window, whose first tick it
 -- has

@@ -1,5 +1,5 @@
 -- A part of a capture file: what it has in the place of each piece. The project's own.
-use Rattle.std.specs.Prelude.{ℕ, ◌-◌, ◌==◌, ◌&&◌, Bool, false, not, nat_lt, nat_le}
+use Rattle.std.specs.Prelude.{ℕ, ◌-◌, ◌==◌, ◌&&◌, Bool, true, false, not, nat_lt, nat_le}
 use Rattle.std.specs.Prelude.{if◌then◌else◌, List, [], ◌∷◌, ◌++◌, length, map, max, decimal}
 use Rattle.std.specs.Prelude.{Option, Some, None, Result, Ok, Err, bytes_eq, codes, filter, min}
 use Rattle.std.specs.Prelude.{◌^◌}
@@ -12,8 +12,8 @@ use Rattle.vcd_core.specs.declared.capture.TheConstants.{END_LIMIT}
 use Rattle.vcd_text.specs.Items.{Item, entry, variable, stamp, scalar, vector}
 use Rattle.vcd_text.specs.Items.{real_or_string, spelling}
 use Rattle.vcd_text.specs.Grammar.{ParseState, VariableDeclaration, declaration_of, is_skipped}
-use Rattle.vcd_text.specs.Pieces.{Piece, piece_bytes, stamp_line, state_of_pieces}
-use Rattle.vcd_text.specs.Copied.{CopyRules, may_be_amended}
+use Rattle.vcd_text.specs.Pieces.{Piece, stamp_line, state_of_pieces}
+use Rattle.vcd_text.specs.Copied.{may_be_amended}
 use Rattle.vcd_text.specs.declared.reading.choice.TickRange.{TickRange}
 use Rattle.vcd_part.specs.declared.request.Refusal.{Refusal}
 use Rattle.vcd_part.specs.declared.request.Request.{Request}
@@ -182,20 +182,39 @@ pieces_at_end r pieces =
     let s = state_of_pieces 0 pieces in
     ended_pieces r s pieces (decide r s.timescale s.declared)
 
--- ---- the part
+-- ---- all pieces, one after another
 
--- the pieces of the part, from these on, after others
+-- the pieces of the part with all stamps within the window, from these on, after others
 unfoldable pub part_after : Request → (before : List Piece) → List Piece → List Piece
 part_after r before [] = pieces_at_end r before
 part_after r before (p ∷ ps) = pieces_of_step r before p ++ part_after r (before ++ p ∷ []) ps
 
+-- ---- stamps at whose tick the part has nothing
+
+-- whether an item is a stamp
+abbrev pub is_stamp : Item → Bool
+is_stamp (stamp digits) = true
+is_stamp item = false
+
+-- whether an item is a stamp of a tick above 0
+abbrev pub is_later_stamp : Item → Bool
+is_later_stamp (stamp digits) = nat_lt 0 (number_of digits)
+is_later_stamp item = false
+
+-- whether the first of these pieces is a stamp
+abbrev pub begins_with_stamp : List Piece → Bool
+begins_with_stamp [] = false
+begins_with_stamp (p ∷ ps) = is_stamp p.item
+
+-- the pieces without each stamp of a tick above 0 that another stamp follows at once: nothing of
+-- the part is at its tick
+unfoldable pub without_empty_stamps : List Piece → List Piece
+without_empty_stamps [] = []
+without_empty_stamps (p ∷ ps) = if is_later_stamp p.item && begins_with_stamp ps
+    then without_empty_stamps ps else p ∷ without_empty_stamps ps
+
+-- ---- the part
+
 -- the pieces of the part of a file of these pieces
 abbrev pub part_pieces : Request → List Piece → List Piece
-part_pieces r pieces = part_after r [] pieces
-
--- the part as a copy
-abbrev pub part_rules : Request → CopyRules
-part_rules r = record {
-  in_place = λ before p. piece_bytes (pieces_of_step r before p);
-  at_end = λ pieces tail. piece_bytes (pieces_at_end r pieces) ++ tail;
-}
+part_pieces r pieces = without_empty_stamps (part_after r [] pieces)

@@ -5,4 +5,5 @@ pub mod Patterns
 pub mod Choice
 pub mod FirstValues
 pub mod CodeUses
+pub mod PartCopy
 pub mod PartAmender

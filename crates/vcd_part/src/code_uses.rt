@@ -1,11 +1,12 @@
 //! What each code means in the part, and its last change up to the first tick of the window.
 
-ghost use Rattle.std.specs.Prelude.{◌≡◌, ◌<◌, ◌++◌, ◌∷◌, [], List, OnOk, bytes_eq, codes, true};
+ghost use Rattle.std.specs.Prelude.{◌≡◌, ◌<◌, ◌++◌, ◌∷◌, [], List, OnOk, bytes_eq, codes};
 ghost use Rattle.vcd_core.specs.Decimal.{is_number, number_of};
 ghost use Rattle.vcd_text.specs.Grammar.{VariableDeclaration};
 ghost use Rattle.vcd_text.specs.Pieces.{Piece};
 ghost use Rattle.std.specs.Prelude.{length, IfOk, if◌then◌else◌, is_some, not, ◌||◌, ◌&&◌, Some};
-ghost use Rattle.vcd_text.specs.EmittedText.{Emits};
+ghost use Rattle.std.specs.Prelude.{true, false};
+ghost use Rattle.vcd_text.specs.EmittedText.{Emits, EmitsMore};
 ghost use Rattle.vcd_part.specs.PartPieces.{first_pieces};
 ghost use Rattle.vcd_text.specs.Pieces.{piece_bytes};
 ghost use Rattle.vcd_part.specs.declared.request.Request.{Request};
@@ -96,6 +97,20 @@ impl CodeUses {
         self.uses.insert(self.alloc, declared.code, target)
     }
 
+    /// Whether a change up to the first tick of the window is held: its code means something, and
+    /// its value lasts.
+    #[inline(always)]
+    pub fn is_held(&self, is_text: bool, code: &[u8]) -> bool
+        ensures { result ≡ false →
+            (r : Request) (declared : List VariableDeclaration) (before : List Piece) (p : Piece) →
+            AreUses self.now r declared → HoldLast self.now r declared before →
+            IsChangeItem p.item is_text code.now → 0 < length p.body →
+            HoldLast self.now r declared (before ++ p ∷ []) }
+    {
+        let found = self.uses.get(code);
+        found.index.is_some() && !means_nothing(found, is_text)
+    }
+
     /// Holds a change, if its code means something and its value lasts.
     pub fn hold(&mut self, is_text: bool, code: &[u8], body: &[u8]) -> Result<(), NoMemory>
         requires { (r : Request) × (declared : List VariableDeclaration)
@@ -120,9 +135,10 @@ impl CodeUses {
 
     /// Writes the stamp of tick 0 and the last changes, each on a line of its own.
     pub fn write_first<W: Sink>(&self, output: &mut Output<W>)
-        ensures { (r : Request) (declared : List VariableDeclaration) (before : List Piece) →
-            HoldLast self.now r declared before →
+        ensures written { (r : Request) (declared : List VariableDeclaration)
+            (before : List Piece) → HoldLast self.now r declared before →
             Emits W.Sink output.old output.new (piece_bytes (first_pieces r declared before)) }
+        ensures more { EmitsMore W.Sink output.old output.new }
     {
         write_bytes(output, b"\n#0");
         self.first.write(output);

@@ -1,11 +1,6 @@
-//! Laws about parts: each function has an empty body, and its contract is the law.
+//! The law about parts: the function has an empty body, and its contract is the law.
 
-ghost use Rattle.vcd_part.specs.PartLaws.{PartIsCopied, PartMeansPart};
-
-/// What is copied by the rules of a part has the pieces of the part.
-pub fn part_is_copied()
-    ensures { PartIsCopied }
-{}
+ghost use Rattle.vcd_part.specs.PartLaws.{PartMeansPart};
 
 /// The part of an accepted file means, read again, the part of the capture: the signals that are
 /// kept, each with its values within the window, and the comment.

@@ -2,8 +2,8 @@
 //!
 //! [`write_part`] reads a capture file once, and writes the part that a [`Request`] asks for. What
 //! remains stands as it was, real numbers, strings and comments too: only the ticks count from the
-//! first one of the window. Nothing is held of the changes but the last one of each code before the
-//! window.
+//! first one of the window, and a stamp goes if nothing remains at its tick. Nothing is held of the
+//! changes but the last one of each code before the window.
 #![tactic(auto)]
 
 mod amender;
@@ -20,7 +20,7 @@ mod request;
 mod time;
 mod window;
 
-pub use laws::{part_is_copied, part_is_read_again};
+pub use laws::part_is_read_again;
 pub use part::{PartError, write_part};
 pub use pattern::meets;
 pub use request::{Refusal, Request};

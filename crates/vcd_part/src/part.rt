@@ -6,7 +6,7 @@ ghost use Rattle.std.specs.Io.KnownBytes.{Appends, IsAtEnd};
 ghost use Rattle.vcd_text.specs.Copied.{IsCopy, IsTold};
 ghost use Rattle.vcd_text.specs.CopyEnds.{CopyFails};
 ghost use Rattle.vcd_text.specs.declared.reading.TheConstants.{LONG_FILE_LIMIT};
-ghost use Rattle.vcd_part.specs.PartPieces.{part_rules};
+ghost use Rattle.vcd_part.specs.inside.PartCopy.{part_rules};
 ghost use Rattle.vcd_part.specs.inside.PartAmender.{HasSeen, OutcomeOf};
 ghost use Rattle.vcd_core.specs.Devices.{device_end};
 ghost use Rattle.vcd_part.specs.PartEnds.{PartEnds};
@@ -46,15 +46,16 @@ impl From<CopyError> for PartError<'_> {
 /// Reads a capture file once, and writes the part that is asked for: the variables that are kept,
 /// and their changes within the window, each item with its bytes. Comments and dump words stand.
 /// The ticks count from the first of the window, where each code has its last change up to there.
-/// A `$comment` before the end of the declarations says which part it is. The writer is flushed
-/// once, after the last byte.
+/// A stamp after tick 0 goes if another one follows it at once. A `$comment` before the end of the
+/// declarations says which part it is. The writer is flushed once, after the last byte.
 ///
 /// The whole file is read and checked, unless its declarations already refuse the request. After an
 /// error what the writer took is of no use. A fault in the chunk in which the declarations end
 /// comes before a refusal.
 ///
 /// Time: one pass over the file. Each name is compared with each pattern once. Memory: as of
-/// `copy`, some bytes for each code, and its last change up to the first tick of the window.
+/// `copy`, some bytes for each code, its last change up to the first tick of the window, and a
+/// stamp.
 pub fn write_part<'a, R: Source, W: Sink>(
     alloc: Global,
     reader: &mut R,

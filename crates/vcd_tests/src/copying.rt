@@ -15,30 +15,32 @@ use std::process::Abort;
 use std::test::Fail;
 use vcd_core::{NoMemory, ScopeName, Sink};
 use vcd_text::{
-    AmendableItem, Amender, CopyError, Output, VARIABLE_LIMIT, WriteError, copy, write_bytes,
+    AmendableItem, Amender, CopyError, InPlace, Output, VARIABLE_LIMIT, WriteError, copy,
+    write_bytes,
 };
 
 /// A file with white space of all kinds, and items of several words.
 const FILE: &str = "$comment one two $end\t$timescale 1 ns $end
- $scope module top $end $var wire 1 ! old $end
+ $scope module top $end $var wire 1 ! old $end $var wire 1 % gone $end
 $var wire 4\t# bus [3:0] $end $var real 64 r level $end $upscope  $end\r\n$enddefinitions
-  $end #0 $dumpvars 0! b10  # r1.5 r $end
+  $end #0 $dumpvars 0! 1%\tb1 % b10  # r1.5 r 0% $end
 $comment between #7 the changes $end
 
-1!\t#7\tbx #\x0b0! b1 !\n#9 b1 #";
+1!\t#7\tbx #\x0b0! b1 !\n#9 0%\nb1 #";
 
 /// Its copy.
-const COPY: &str = "$comment one two $end\t$timescale 1 ns $end
- $scope module top $end $var wire 1 ! new $end
-$var wire 4\t# bus [3:0] $end $var real 64 r level $end $upscope  $end\r\n$enddefinitions
-  $end #0 $dumpvars b10  # r1.5 r $end
+const COPY: &str = ",$comment one two $end,\t$timescale 1 ns $end,
+ $scope module top $end $var wire 1 ! new $end $var wire 1 % gone $end
+$var wire 4\t# bus [3:0] $end $var real 64 r level $end, $upscope  $end\r\n$enddefinitions
+  $end #0, $dumpvars b10  # r1.5 r, $end,
 $comment between #7 the changes $end
 
 z!
-b1 #\t#7\tbx # b1 !\n#9 b1 # $comment copied $end";
+b1 #\t#7\tbx # b1 !\n#9\nb1 # $comment copied $end";
 
-/// Changes of `#` stand. Of the other items, one `$var` gets a new name, `0!` is left out, `1!` is
-/// exchanged, a change comes before `#7`, and a comment is at the end.
+/// Changes of `#` stand, and those of `%` go. Of the other items that may be amended, one `$var`
+/// gets a new name, `0!` is left out, `1!` is exchanged, and a change comes before `#7`. A comma is
+/// before each item that may not be amended, and a comment at the end.
 #[derive(Drop)]
 struct Exchanges;
 
@@ -50,12 +52,14 @@ impl<W: Sink> Amender<W> for Exchanges {
     ghost rules = { λ _. record {
       in_place = λ before p.
           if bytes_eq (unwrap_or (value_code p.item) []) (codes "#") then p.space ++ p.body else
+          (if bytes_eq (unwrap_or (value_code p.item) []) (codes "%") then [] else
           ((if bytes_eq p.body (codes "#7") then codes "\nb1 #" else [])
           ++ ((if bytes_eq p.body (codes "0!") then [] else p.space)
           ++ (if bytes_eq p.body (codes "0!") then [] else
           (if bytes_eq p.body (codes "1!") then codes "z!" else
           (if bytes_eq p.body (codes "$var wire 1 ! old $end")
-          then codes "$var wire 1 ! new $end" else p.body)))));
+          then codes "$var wire 1 ! new $end" else p.body))))));
+      before_others = λ before. codes ",";
       at_end = λ pieces tail. tail ++ codes " $comment copied $end";
     } };
 
@@ -63,8 +67,14 @@ impl<W: Sink> Amender<W> for Exchanges {
 
     ghost is_done = { λ _. false };
 
-    fn let_stand(&mut self, item: AmendableItem, code: &[u8]) -> bool {
-        is_standing(item, code)
+    fn settle(&mut self, item: AmendableItem, code: &[u8]) -> InPlace {
+        if is_standing(item, code) {
+            return InPlace::Itself;
+        }
+        if is_going(item, code) {
+            return InPlace::Nothing;
+        }
+        InPlace::Other
     }
 
     fn take(
@@ -78,6 +88,9 @@ impl<W: Sink> Amender<W> for Exchanges {
     ) -> Result<(), NoMemory> {
         if is_standing(item, code) {
             write_parts(output, b"", space, body);
+            return Ok(());
+        }
+        if is_going(item, code) {
             return Ok(());
         }
         let renamed = exchanged(
@@ -94,6 +107,10 @@ impl<W: Sink> Amender<W> for Exchanges {
             exchanged(body, b"0!", b"", words),
         );
         Ok(())
+    }
+
+    fn write_before(&self, output: &mut Output<W>) {
+        write_bytes(output, b",");
     }
 
     fn pass(&mut self) {}
@@ -115,6 +132,20 @@ fn is_standing(item: AmendableItem, code: &[u8]) -> bool
 {
     match item {
         AmendableItem::Value => code == b"#".as_slice(),
+        AmendableItem::Variable => false,
+        AmendableItem::EndDefinitions { .. } => false,
+        AmendableItem::Stamp { .. } => false,
+        AmendableItem::RealOrString => false,
+    }
+}
+
+/// Whether an item is a change of `%`.
+fn is_going(item: AmendableItem, code: &[u8]) -> bool
+    ensures { (s : ParseState) (i : Item) → Shows s item code.now i →
+        result ≡ bytes_eq (unwrap_or (value_code i) []) (codes "%") }
+{
+    match item {
+        AmendableItem::Value => code == b"%".as_slice(),
         AmendableItem::Variable => false,
         AmendableItem::EndDefinitions { .. } => false,
         AmendableItem::Stamp { .. } => false,
@@ -244,7 +275,7 @@ fn a_reader_that_fails_at_the_end(rt: HostRuntime) {
     let mut reader = FakeReader::new(FILE.as_bytes(), 7);
     reader.fails_at_end = true;
     let found = answer_to(rt.alloc(), reader);
-    check_holds(&rt, found == (9, "ReadFault"), "a reader that fails");
+    check_holds(&rt, found == (10, "ReadFault"), "a reader that fails");
 }
 
 /// Lets all items stand, up to the changes.
@@ -260,6 +291,7 @@ impl<W: Sink> Amender<W> for UpToChanges {
 
     ghost rules = { λ _. record {
       in_place = λ before p. p.space ++ p.body;
+      before_others = λ before. [];
       at_end = λ pieces tail. tail;
     } };
 
@@ -267,11 +299,11 @@ impl<W: Sink> Amender<W> for UpToChanges {
 
     ghost is_done = { λ amender. amender.is_done };
 
-    fn let_stand(&mut self, item: AmendableItem, _code: &[u8]) -> bool {
+    fn settle(&mut self, item: AmendableItem, _code: &[u8]) -> InPlace {
         if let AmendableItem::EndDefinitions { .. } = item {
             self.is_done = true;
         }
-        true
+        InPlace::Itself
     }
 
     fn take(
@@ -286,6 +318,8 @@ impl<W: Sink> Amender<W> for UpToChanges {
         write_parts(output, b"", space, body);
         Ok(())
     }
+
+    fn write_before(&self, _output: &mut Output<W>) {}
 
     fn pass(&mut self) {}
 

@@ -1,5 +1,5 @@
 -- The copy of a file: rules say what is in the place of variables, stamps and changes, and all else
--- stands byte for byte. The project's own.
+-- stands byte for byte, where rules may put something before it. The project's own.
 use Rattle.std.specs.Prelude.{◌≡◌, ℕ, Bool, true, false, if◌then◌else◌, List, [], ◌∷◌, ◌++◌, map}
 use Rattle.std.specs.Prelude.{length, IsFalse}
 use Rattle.std.specs.List.{flat_map}
@@ -24,14 +24,17 @@ may_be_amended (vector first digits code) = true
 may_be_amended (real_or_string first text code) = true
 may_be_amended item = false
 
--- what is written in the place of a piece after others, and of the white space after the last one
+-- what is written in the place of a piece after others that may be amended, before any other piece,
+-- and in the place of the white space after the last one
 pub record CopyRules : Type 0 where
   pub in_place : (before : List Piece) → Piece → List ℕ
+  pub before_others : (before : List Piece) → List ℕ
   pub at_end : (pieces : List Piece) → (tail : List ℕ) → List ℕ
 
 -- the bytes in the place of a piece after others
 abbrev pub copied_piece : CopyRules → (before : List Piece) → Piece → List ℕ
-copied_piece r before p = if may_be_amended p.item then r.in_place before p else p.space ++ p.body
+copied_piece r before p = if may_be_amended p.item then r.in_place before p
+    else r.before_others before ++ (p.space ++ p.body)
 
 -- the bytes in the place of pieces after others
 unfoldable pub copied_pieces : CopyRules → (before : List Piece) → List Piece → List ℕ

@@ -23,7 +23,7 @@ use crate::reading::LONG_FILE_LIMIT;
 use crate::reading::choice::{Choice, Unheard};
 use crate::reading::file_reader::FileReader;
 use crate::writing::output::{Output, empty_buffer, flush, send_buffer};
-pub use amender::{AmendableItem, Amender};
+pub use amender::{AmendableItem, Amender, InPlace};
 use copier::Copier;
 use pieces::Held;
 use std::alloc::Global;

@@ -16,7 +16,7 @@ mod reading;
 mod words;
 mod writing;
 
-pub use copying::{AmendableItem, Amender, VariableWords, copy};
+pub use copying::{AmendableItem, Amender, InPlace, VariableWords, copy};
 pub use fault::{CopyError, Fault, ReadError, WriteError};
 pub use laws::{
     file_is_cut, has_an_answer, has_one_answer, nothing_else_is_read_back, parts_agree,

@@ -12,10 +12,7 @@ use Rattle.vcd_amend.specs.AmendedItems.{item_fate, inserted_items, still_none_y
 use Rattle.vcd_amend.specs.AmendedText.{amended_text, bytes_in_place}
 use Rattle.vcd_amend.specs.AmendedCopy.{amendment_rules, IsAmended}
 use Rattle.vcd_amend.proofs.amended.CopiedText.{copy_is_amended_text}
-use Rattle.vcd_amend.proofs.declarations.collector.Collected.{item_at_limit}
-
-abbrev pub at_limit : ℕ → ParseState → ParseState
-at_limit n s = record s { limit = n }
+use Rattle.vcd_text.proofs.shared.StatesOfPieces.{at_limit, item_at_limit}
 
 fate_at : (a : Amendment) (n : ℕ) (s : ParseState) (i : Item) → item_fate a (at_limit n s) i ≡ item_fate a s i
 fate_at a n s (variable []) = refl

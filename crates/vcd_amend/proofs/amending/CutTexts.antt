@@ -12,9 +12,9 @@ use Rattle.vcd_amend.specs.Retimed.{retimed_pieces, released_pieces}
 use Rattle.vcd_amend.specs.RetimedLaws.{pieces_after}
 use Rattle.vcd_amend.specs.RetimedCopy.{pieces_of_step, held_of_step, retimed_rules, IsAmendedAfterCuts}
 use Rattle.vcd_amend.proofs.amended.CopiedText.{copy_is_amended_text}
-use Rattle.vcd_amend.proofs.declarations.collector.Collected.{item_at_limit}
+use Rattle.vcd_text.proofs.shared.StatesOfPieces.{at_limit, item_at_limit}
 use Rattle.vcd_amend.proofs.retimed.Copies.{retimed_copy_is_copy_of_retimed}
-use Rattle.vcd_amend.proofs.amending.AnyLimit.{at_limit, text_at}
+use Rattle.vcd_amend.proofs.amending.AnyLimit.{text_at}
 
 module _ (cut : ℕ → Bool) (n : ℕ) where
   released_at : (s : ParseState) (held : List Piece) → released_pieces cut (at_limit n s) held

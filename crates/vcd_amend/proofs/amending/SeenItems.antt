@@ -27,7 +27,7 @@ use Rattle.vcd_amend.specs.AmendedCopy.{none_yet_after}
 use Rattle.vcd_amend.specs.inside.amending.FileAmender.{IsAt, HasSeen}
 use Rattle.vcd_amend.specs.declared.amending.file_amender.FileAmender.{FileAmender}
 use Rattle.vcd_amend.proofs.amended.CopiedText.{none_yet_more}
-use Rattle.vcd_amend.proofs.declarations.collector.Collected.{last_allowed, one_more, at_any_limit}
+use Rattle.vcd_text.proofs.shared.StatesOfPieces.{last_allowed, one_more, at_any_limit}
 
 -- the state before a piece, and whether nothing has been written yet
 abbrev pub before_state : List Piece → ParseState

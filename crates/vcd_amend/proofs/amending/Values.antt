@@ -8,7 +8,7 @@ use Rattle.std.specs.List.{filter, list_any, position_from, join_with_byte}
 use Rattle.std.specs.Option.{option_map}
 use Rattle.std.specs.Global.{Vec}
 use Rattle.std.proofs.Math.Bool.{or-false, or-true}
-use Rattle.std.proofs.lemmas.Bool.{cases_Bool, cases_eq, eq-eqb, ne_eqb}
+use Rattle.std.proofs.lemmas.Bool.{cases_Bool, cases_eq, eq-eqb, ne_eqb, false≢true}
 use Rattle.std.proofs.lemmas.List.{with_items_is}
 use Rattle.std.specs.Vec.{with_items}
 use Rattle.std.proofs.lemmas.List.Elements.{filter-append}
@@ -431,12 +431,30 @@ module _ (m : FileAmender) (s : ParseState) (none_yet : Bool) (at : IsAt m s non
       ∙ ap (λ (b : Bool). if b then stands else exchange_for (due_items s s.tick c))
       (ap (changes_stand c) (sym at.tick) ∙ does_stand)
 
--- ---- lists that are lent and given back
+  -- where nothing is in its place
+  pub goes_other : (code_target m.uses code).is_used ≡ false → (code_target m.uses code).amended ≡ None
+      → change_fate amendment s code ≡ is_left_out
+  goes_other unused none = fate_other none ∙ ap (λ (b : Bool). if b then stands else is_left_out) unused
 
--- a test that does not fail
-pub not_false : (b : Bool) → not b ≡ false → b ≡ true
-not_false true is = refl
-not_false false is = sym is
+  none_written : (used does_stand due : Bool) (c : AmendedCode) → (if used then does_stand || due else false) ≡ false
+      → own_fate used does_stand due c ≡ is_left_out
+  none_written false does_stand due c none = refl
+  none_written true true due c none = absurd (false≢true (sym none))
+  none_written true false true c none = absurd (false≢true (sym none))
+  none_written true false false c none = refl
+
+  pub goes_own : (i : ℕ) → (code_target m.uses code).amended ≡ Some i
+      → is_written (code_target m.uses code).is_used (code_of_index amendment.codes i)
+      (slice_index_or m.progress.items i no_progress) m.tick ≡ false
+      → change_fate amendment s code ≡ is_left_out
+  goes_own i is none =
+      let c = code_of_index amendment.codes i in
+      let p = slice_index_or m.progress.items i no_progress in
+      let used = (code_target m.uses code).is_used in
+      fate_parts i is ∙ none_written used (changes_stand c s.tick) (is_due_now c p s.tick) c
+      (ap (is_written used c p) (sym at.tick) ∙ none)
+
+-- ---- lists that are lent and given back
 
 -- a list keeps its length
 pub lent_length : {X : Type 0} (v : Vec X) (lent new : List X) → lent ≡ v.items → length new ≡ length lent

@@ -22,7 +22,8 @@ use Rattle.vcd_text.proofs.shared.SoundMeaning.{meaning_is_sound}
 use Rattle.vcd_text.proofs.pieces.Cuts.{file_is_cut}
 use Rattle.vcd_amend.proofs.retimed.Ticks.{cuts_leave_ticks}
 use Rattle.vcd_amend.proofs.retimed.Meaning.{state_is}
-use Rattle.vcd_amend.proofs.retimed.Pieces.{retimed_is_meant, cut_spells_items}
+use Rattle.vcd_text.proofs.shared.SpelledItems.{cut_spells_items}
+use Rattle.vcd_amend.proofs.retimed.Pieces.{retimed_is_meant}
 use Rattle.vcd_edit.specs.declared.edit.Edit.{Edit}
 use Rattle.vcd_edit.specs.declared.edit.Edit.TheVariants.{Cut}
 use Rattle.vcd_edit.specs.Effect.{effect}

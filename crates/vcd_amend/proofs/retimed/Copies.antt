@@ -67,7 +67,8 @@ module _ (is_cut_out : ℕ → Bool) where
     -- a piece that no rule may amend has its own bytes by the rules, too
     place_is : (s : ParseState) (held sent : List Piece) (i : Item) (space body : List ℕ) →
         let p : Piece = record { item = i; space = space; body = body } in
-        cond (may_be_amended i) (copied_pieces r sent (pieces_of_step is_cut_out s held p)) (space ++ body)
+        cond (may_be_amended i) (copied_pieces r sent (pieces_of_step is_cut_out s held p))
+        (r.before_others sent ++ (space ++ body))
         ≡ copied_pieces r sent (pieces_of_step is_cut_out s held p)
     unfolding copied_pieces
     place_is s held sent (variable words) space body = refl
@@ -76,12 +77,12 @@ module _ (is_cut_out : ℕ → Bool) where
     place_is s held sent (scalar digit code) space body = refl
     place_is s held sent (vector first digits code) space body = refl
     place_is s held sent (real_or_string first text code) space body = refl
-    place_is s held sent (entry kind words) space body = sym (append-nil (space ++ body))
-    place_is s held sent (timescale words) space body = sym (append-nil (space ++ body))
-    place_is s held sent (scope kind words) space body = sym (append-nil (space ++ body))
-    place_is s held sent upscope space body = sym (append-nil (space ++ body))
-    place_is s held sent (dump_word word) space body = sym (append-nil (space ++ body))
-    place_is s held sent (other word words) space body = sym (append-nil (space ++ body))
+    place_is s held sent (entry kind words) space body = sym (append-nil (r.before_others sent ++ (space ++ body)))
+    place_is s held sent (timescale words) space body = sym (append-nil (r.before_others sent ++ (space ++ body)))
+    place_is s held sent (scope kind words) space body = sym (append-nil (r.before_others sent ++ (space ++ body)))
+    place_is s held sent upscope space body = sym (append-nil (r.before_others sent ++ (space ++ body)))
+    place_is s held sent (dump_word word) space body = sym (append-nil (r.before_others sent ++ (space ++ body)))
+    place_is s held sent (other word words) space body = sym (append-nil (r.before_others sent ++ (space ++ body)))
 
     -- the copy of the pieces that follow others
     copied_from : (before ps : List Piece) (tail : List ℕ) →

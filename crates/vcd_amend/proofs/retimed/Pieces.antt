@@ -2,23 +2,23 @@
 -- its text means the capture.
 use Rattle.std.proofs.Common.{◌≡◌, ℕ, ◌-◌, ◌<◌, ◌≤◌, ◌∙◌, ◌^◌, ◌==◌, Bool, true, false, All, drop, length, List, []}
 use Rattle.std.proofs.Common.{◌∷◌, ◌++◌, refl, ap, sym, arith, if◌then◌else◌, subst, decimal, not, ◌&&◌, Some}
-use Rattle.std.proofs.Common.{append_assoc}
 use Rattle.std.specs.Prelude.{count_by}
-use Rattle.std.specs.List.{list_all, flat_map, prefix_len, suffix_len, filter}
-use Rattle.std.proofs.lemmas.Bool.{and_parts, false≢true}
-use Rattle.std.proofs.lemmas.List.Elements.{All-nil, All-cons, All-head, All-tail, All-append, All-filter, All-drop}
+use Rattle.std.specs.List.{list_all, prefix_len, suffix_len, filter}
+use Rattle.std.proofs.lemmas.Bool.{false≢true}
+use Rattle.std.proofs.lemmas.List.Elements.{All-nil, All-cons, All-head, All-tail, All-append, All-filter}
 use Rattle.std.proofs.lemmas.List.Elements.{filter-append}
 use Rattle.std.proofs.lemmas.List.Sums.{suffix_len_is, AllPass-from_list_all}
 use Rattle.vcd_core.specs.Word.{is_white_space}
 use Rattle.vcd_core.specs.declared.capture.TheConstants.{END_LIMIT}
 use Rattle.vcd_core.specs.Decimal.{number_of}
 use Rattle.vcd_text.specs.Words.{words_of}
-use Rattle.vcd_text.specs.Items.{Item, spelling, spellings, stamp}
+use Rattle.vcd_text.specs.Items.{Item, stamp}
 use Rattle.vcd_text.specs.Grammar.{ParseState, AllowsAll, Allows, state_after_item, initial_state, word_texts}
 use Rattle.vcd_text.specs.Grammar.{is_skipped}
-use Rattle.vcd_text.specs.Pieces.{Piece, IsCut, state_of_pieces}
+use Rattle.vcd_text.specs.Pieces.{Piece, state_of_pieces}
 use Rattle.vcd_text.proofs.read_back.WholeText.{one_word, longer_unbroken, decimal_unbroken}
-use Rattle.vcd_text.proofs.pieces.Bytes.{texts, texts_are, joined_words, is_end, space_first, both_parts, lines_last}
+use Rattle.vcd_text.proofs.pieces.Bytes.{texts_are, joined_words}
+use Rattle.vcd_text.proofs.shared.SpelledItems.{cut_spells_items}
 use Rattle.vcd_amend.specs.AmendedItems.{stands, is_left_out, is_exchanged}
 use Rattle.vcd_amend.specs.Retimed.{new_tick, ChangeKey, change_key, counts_with, code_of_key, lasts, held_with}
 use Rattle.vcd_amend.specs.Retimed.{is_past, has_kept_variable, released_pieces, retimed_stamp}
@@ -210,41 +210,6 @@ retimed_is_meant is_cut_out old_tick limit file pieces tail can =
     means_again is_cut_out old_tick limit file pieces tail can
 
 -- ---- its bytes
-
-module _ (tail : List ℕ) (white : list_all is_white_space tail ≡ true) where
-  space_comes : (space rest : List ℕ) → 0 < length space → list_all is_white_space space ≡ true
-      → is_end (space ++ rest) ≡ true
-  space_comes [] rest some all = absurd (omega arith)
-  space_comes (b ∷ bs) rest some all = (and_parts (is_white_space b) (list_all is_white_space bs) all).0
-
-  split : (p : Piece) (ps : List Piece) → bytes_of (p ∷ ps) tail ≡ p.space ++ (p.body ++ bytes_of ps tail)
-  split p ps = append_assoc (p.space ++ p.body) (flat_map (λ p. p.space ++ p.body) ps) tail ∙ append_assoc p.space
-      p.body
-      (bytes_of ps tail)
-
-  bytes_end : (ps : List Piece) → All HasSomeSpace ps → All HasSpace ps → is_end (bytes_of ps tail) ≡ true
-  bytes_end [] some spaces = (lines_last [] tail refl white).1
-  bytes_end (p ∷ ps) some spaces = ap is_end (split p ps) ∙ space_comes p.space (p.body ++ bytes_of ps tail) (All-head
-      HasSomeSpace p ps some) (All-head HasSpace p ps spaces)
-
-  bytes_spell : (ps : List Piece) → All HasSomeSpace (drop 1 ps) → All HasSpace ps → All SpellsItem ps
-      → texts (bytes_of ps tail) ≡ spellings (items_of ps)
-  bytes_spell [] some spaces bodies = (lines_last [] tail refl white).0
-  bytes_spell (p ∷ ps) some spaces bodies =
-      let rest = bytes_spell ps (All-drop HasSomeSpace 1 ps some) (All-tail HasSpace p ps spaces) (All-tail SpellsItem p
-      ps
-      bodies) in
-      ap texts (split p ps) ∙ space_first p.space (p.body ++ bytes_of ps tail) (All-head HasSpace p ps spaces) ∙
-      both_parts
-      p.body (bytes_of ps tail) (bytes_end ps some (All-tail HasSpace p ps spaces)) ∙ ap (λ ws. ws ++ texts (bytes_of ps
-      tail)) (sym (texts_are p.body) ∙ All-head SpellsItem p ps bodies) ∙ ap (λ ws. spelling p.item ++ ws) rest
-
--- a file that is cut into pieces spells their items
-pub cut_spells_items : (file : List ℕ) (pieces : List Piece) (tail : List ℕ) → IsCut file pieces tail
-    → word_texts (words_of file) ≡ spellings (items_of pieces)
-cut_spells_items file pieces tail cut =
-    ap (λ (bytes : List ℕ). word_texts (words_of bytes)) cut.whole ∙ texts_are (bytes_of pieces tail)
-    ∙ bytes_spell tail cut.end pieces cut.apart cut.spaces cut.spelled
 
 pub retimed_text_is_meant : RetimedTextMeansRetimedCapture
 retimed_text_is_meant is_cut_out old_tick limit file pieces tail can =

@@ -30,7 +30,7 @@ use Rattle.vcd_amend.specs.KnownSignals.{KnowsSignals}
 use Rattle.vcd_amend.proofs.laws.AmendedRuns.{remaining_by_hollow}
 use Rattle.vcd_journal.proofs.shared.Cuts.{count_after_cuts}
 use Rattle.vcd_amend.proofs.laws.EditedFiles.{is_after_cuts, same_declared}
-use Rattle.vcd_amend.proofs.retimed.Pieces.{cut_spells_items}
+use Rattle.vcd_text.proofs.shared.SpelledItems.{cut_spells_items}
 use Rattle.vcd_amend.proofs.running.KnownRun.{all_known}
 
 as_many : (others : List OtherChanges) (ss : List SignalContents)

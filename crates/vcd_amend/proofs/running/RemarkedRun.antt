@@ -1,6 +1,5 @@
 -- The remarks of a run are those on the lines on the capture that the plan has.
-use Rattle.std.proofs.Common.{◌≡◌, ℕ, ◌≤◌, ◌∙◌, Bool, List, Option, Some, length, take, ap, sym, subst, arith}
-use Rattle.std.specs.Io.KnownBytes.{Appends}
+use Rattle.std.proofs.Common.{◌≡◌, ℕ, ◌∙◌, Bool, List, Option, Some, subst, arith}
 use Rattle.std.proofs.KnownBytes.{Appends-nil}
 use Rattle.vcd_core.specs.declared.capture.TheConstants.{SIGNAL_LIMIT}
 use Rattle.vcd_core.specs.Contents.{Contents}

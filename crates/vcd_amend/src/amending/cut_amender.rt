@@ -8,6 +8,7 @@ ghost use Rattle.vcd_core.specs.Decimal.{number_of, is_number};
 ghost use Rattle.vcd_core.specs.Word.{is_skipped_kind};
 ghost use Rattle.vcd_text.specs.Items.{stamp};
 ghost use Rattle.vcd_text.specs.EmittedText.{Emits, EmitsMore};
+ghost use Rattle.vcd_text.specs.declared.copying.amender.InPlace.TheVariants as places;
 ghost use Rattle.vcd_text.specs.Pieces.{Piece, state_of_pieces};
 ghost use Rattle.vcd_text.specs.Copied.{copied_pieces};
 ghost use Rattle.vcd_text.specs.VariableWords.{IsVariable};
@@ -33,7 +34,7 @@ use itoa::Buffer;
 use std::alloc::Global;
 use std::mem::replace;
 use vcd_core::{NoMemory, ScopeName, Sink, WIDTH_LIMIT};
-use vcd_text::{AmendableItem, Amender, CodeTargets, Output, VariableWords};
+use vcd_text::{AmendableItem, Amender, CodeTargets, InPlace, Output, VariableWords};
 
 /// How many changes may be held before those that later ones replace are dropped.
 const FIRST_ROOM: usize = 1024;
@@ -459,20 +460,23 @@ fn put_change<W: Sink>(
     inner.take_value(output, code, space, body);
 }
 
-/// Lets a change stand, if it stands.
-fn let_change_stand(inner: &mut FileAmender, is_text: bool, code: &[u8]) -> bool
+/// What is in the place of a change.
+fn settle_change(inner: &mut FileAmender, is_text: bool, code: &[u8]) -> InPlace
     requires { (r : List Piece) × HasSeen inner.old r }
-    ensures stands { result ≡ true → (r : List Piece) (p : Piece) → HasSeen inner.old r →
+    ensures stands { result ≡ places.Itself → (r : List Piece) (p : Piece) → HasSeen inner.old r →
         IsChangePiece p is_text code.now p.space p.body →
         (copied_pieces (rules_of inner.old) r (p ∷ []) ≡ p.space ++ p.body)
         × HasSeen inner.new (r ++ p ∷ []) }
-    ensures unchanged { result ≡ false → inner.new ≡ inner.old }
+    ensures goes { result ≡ places.Nothing → (r : List Piece) (p : Piece) → HasSeen inner.old r →
+        IsChangePiece p is_text code.now p.space p.body →
+        (copied_pieces (rules_of inner.old) r (p ∷ []) ≡ []) × HasSeen inner.new (r ++ p ∷ []) }
+    ensures unchanged { result ≡ places.Other → inner.new ≡ inner.old }
     ensures same { inner.new.amendment.now ≡ inner.old.amendment.now }
 {
     if is_text {
-        return inner.let_real_stand(code);
+        return inner.settle_real(code);
     }
-    inner.let_value_stand(code)
+    inner.settle_value(code)
 }
 
 /// Notes a variable at its code.
@@ -552,14 +556,14 @@ impl<'a, W: Sink> Amender<W> for CutAmender<'a> {
 
     ghost is_done = { λ _. false };
 
-    fn let_stand(&mut self, item: AmendableItem, code: &[u8]) -> bool {
+    fn settle(&mut self, item: AmendableItem, code: &[u8]) -> InPlace {
         if !is_idle(self.is_cut, &self.held) {
-            return false;
+            return InPlace::Other;
         }
         match item {
-            AmendableItem::Value => let_change_stand(&mut self.inner, false, code),
-            AmendableItem::RealOrString => let_change_stand(&mut self.inner, true, code),
-            _ => false,
+            AmendableItem::Value => settle_change(&mut self.inner, false, code),
+            AmendableItem::RealOrString => settle_change(&mut self.inner, true, code),
+            _ => InPlace::Other,
         }
     }
 
@@ -586,6 +590,8 @@ impl<'a, W: Sink> Amender<W> for CutAmender<'a> {
             AmendableItem::RealOrString => self.take_change(output, true, code, space, body),
         }
     }
+
+    fn write_before(&self, _output: &mut Output<W>) {}
 
     fn pass(&mut self) {}
 

@@ -8,13 +8,15 @@ ghost use Rattle.vcd_core.specs.Decimal.{is_number};
 ghost use Rattle.vcd_core.specs.declared.bit.Bit.{Bit as Letter};
 ghost use Rattle.vcd_core.specs.declared.capture.ScopeName.{ScopeName as Scope};
 ghost use Rattle.vcd_text.specs.EmittedText.{Emits, EmitsMore};
+ghost use Rattle.vcd_text.specs.declared.copying.amender.InPlace.TheVariants as places;
 ghost use Rattle.vcd_text.specs.Grammar.{ParseState, initial_state, with_value_change};
 ghost use Rattle.vcd_text.specs.Pieces.{Piece};
 ghost use Rattle.vcd_text.specs.Text.{item_line};
 ghost use Rattle.vcd_text.specs.VariableWords.{IsVariable};
 ghost use Rattle.vcd_amend.specs.AmendedCopy.{amendment_rules};
 ghost use Rattle.vcd_amend.specs.AmendedItems.{change_fate, real_fate, items_due_until, leaves_out};
-ghost use Rattle.vcd_amend.specs.AmendedItems.{stands, declaration_fate, added_declarations};
+ghost use Rattle.vcd_amend.specs.AmendedItems.{stands, is_left_out, declaration_fate};
+ghost use Rattle.vcd_amend.specs.AmendedItems.{added_declarations};
 ghost use Rattle.vcd_amend.specs.AmendedMeaning.{AreApart};
 ghost use Rattle.vcd_amend.specs.AmendedText.{bytes_in_place};
 ghost use Rattle.vcd_amend.specs.Amendment.{fate_of, is_used};
@@ -30,13 +32,16 @@ use super::code_uses::{CodeUse, first_uses, use_code};
 use super::due_changes::{DueChange, due_changes};
 use super::due_writing::{next_if_none_open, write_due_at, write_due_before};
 use super::moments::ChangeCounts;
-use super::value_changes::{moment_in, note_standing, take_amended, write_both};
+use super::value_changes::{
+    is_changed_in, moment_in, note_settled, place_at, take_amended, write_both,
+};
 use super::variable_writing::{write_added, write_changed};
 use crate::amendment::{AddedVariable, Amendment, Fate};
 use std::alloc::Global;
 use vcd_core::{NoMemory, ScopeName, Sink, Word};
 use vcd_text::{
-    AmendableItem, Amender, CodeTargets, Output, VariableWords, write_bytes, write_upscopes,
+    AmendableItem, Amender, CodeTargets, InPlace, Output, VariableWords, write_bytes,
+    write_upscopes,
 };
 
 /// What an amendment does to a file, and how far the file is.
@@ -108,39 +113,46 @@ impl<'a> FileAmender<'a> {
         true
     }
 
-    /// Lets a change to digits stand, if it stands.
+    /// What is in the place of a change to digits.
     ///
     /// It is inlined: of two amenders that call it, each does so at each change of a file.
     #[inline(always)]
-    pub fn let_value_stand(&mut self, code: &[u8]) -> bool
+    pub fn settle_value(&mut self, code: &[u8]) -> InPlace
         requires { (s : ParseState) × (none_yet : Bool) × IsAt self.old s none_yet }
-        ensures stands { result ≡ true → (s : ParseState) (none_yet : Bool) (letters : List Letter)
-            → IsAt self.old s none_yet →
+        ensures stands { result ≡ places.Itself → (s : ParseState) (none_yet : Bool)
+            (letters : List Letter) → IsAt self.old s none_yet →
             (change_fate (amendment_contents self.old.amendment.now) s code.now ≡ stands)
             × IsAt self.new (with_value_change s code.now letters) false }
-        ensures unchanged { result ≡ false → self.new ≡ self.old }
+        ensures goes { result ≡ places.Nothing → (s : ParseState) (none_yet : Bool)
+            (letters : List Letter) → IsAt self.old s none_yet →
+            (change_fate (amendment_contents self.old.amendment.now) s code.now ≡ is_left_out)
+            × IsAt self.new (with_value_change s code.now letters) none_yet }
+        ensures unchanged { result ≡ places.Other → self.new ≡ self.old }
         ensures same { self.new.amendment.now ≡ self.old.amendment.now }
     {
         let found = self.uses.get(code);
-        if !found.is_used {
-            return false;
-        }
         match found.amended {
             Some(index) => {
                 let codes = self.amendment.codes.as_slice();
                 let moment = moment_in(codes, self.counts.as_slice(), index, self.tick);
-                if !moment.stands {
-                    return false;
+                let is_changed = is_changed_in(self.progress.as_slice(), index, self.tick);
+                let place = place_at(moment, found.is_used, is_changed);
+                if place == InPlace::Other {
+                    return place;
                 }
                 let counts = self.counts.as_mut_slice();
                 let progress = self.progress.as_mut_slice();
-                note_standing(counts, progress, index, moment.counts, self.tick);
-                self.none_yet = false;
-                true
+                note_settled(counts, progress, index, moment.counts, self.tick);
+                self.none_yet = still_none(self.none_yet, place == InPlace::Itself);
+                place
             }
             None => {
-                self.none_yet = false;
-                true
+                self.none_yet = still_none(self.none_yet, found.is_used);
+                if found.is_used {
+                    InPlace::Itself
+                } else {
+                    InPlace::Nothing
+                }
             }
         }
     }
@@ -159,6 +171,26 @@ impl<'a> FileAmender<'a> {
         }
         self.none_yet = false;
         true
+    }
+
+    /// What is in the place of a change to a real number or a string.
+    pub fn settle_real(&mut self, code: &[u8]) -> InPlace
+        ensures stands { result ≡ places.Itself → (s : ParseState) (none_yet : Bool) →
+            IsAt self.old s none_yet →
+            (is_used (amendment_contents self.old.amendment.now) s code.now ≡ true)
+            × IsAt self.new s false }
+        ensures goes { result ≡ places.Nothing → (s : ParseState) (none_yet : Bool) →
+            IsAt self.old s none_yet →
+            (is_used (amendment_contents self.old.amendment.now) s code.now ≡ false)
+            × IsAt self.new s none_yet }
+        ensures unchanged { result ≡ places.Other → self.new ≡ self.old }
+        ensures same { self.new.amendment.now ≡ self.old.amendment.now }
+    {
+        if self.let_real_stand(code) {
+            InPlace::Itself
+        } else {
+            InPlace::Nothing
+        }
     }
 
     /// Writes what is in the place of a `$var`.
@@ -402,13 +434,19 @@ impl<'a, W: Sink> Amender<W> for FileAmender<'a> {
 
     ghost is_done = { λ _. false };
 
-    fn let_stand(&mut self, item: AmendableItem, code: &[u8]) -> bool {
+    fn settle(&mut self, item: AmendableItem, code: &[u8]) -> InPlace {
         match item {
-            AmendableItem::Variable => false,
-            AmendableItem::EndDefinitions { .. } => false,
-            AmendableItem::Stamp { tick } => self.let_stamp_stand(tick),
-            AmendableItem::Value => self.let_value_stand(code),
-            AmendableItem::RealOrString => self.let_real_stand(code),
+            AmendableItem::Variable => InPlace::Other,
+            AmendableItem::EndDefinitions { .. } => InPlace::Other,
+            AmendableItem::Stamp { tick } => {
+                if self.let_stamp_stand(tick) {
+                    InPlace::Itself
+                } else {
+                    InPlace::Other
+                }
+            }
+            AmendableItem::Value => self.settle_value(code),
+            AmendableItem::RealOrString => self.settle_real(code),
         }
     }
 
@@ -442,6 +480,8 @@ impl<'a, W: Sink> Amender<W> for FileAmender<'a> {
             }
         }
     }
+
+    fn write_before(&self, _output: &mut Output<W>) {}
 
     fn pass(&mut self) {}
 

@@ -1,12 +1,13 @@
 //! Changes of amended codes to digits, as they come.
 
-ghost use Rattle.std.specs.Prelude.{◌≡◌, ◌<◌, ◌==◌, ◌||◌, ◌++◌, ℕ, length, if◌then◌else◌};
-ghost use Rattle.std.specs.Prelude.{slice_index_or, map};
+ghost use Rattle.std.specs.Prelude.{◌≡◌, ◌<◌, ◌==◌, ◌||◌, ◌&&◌, ◌++◌, ℕ, length, not, true};
+ghost use Rattle.std.specs.Prelude.{slice_index_or, map, false, if◌then◌else◌};
 ghost use Rattle.vcd_text.specs.EmittedText.{Emits};
-ghost use Rattle.vcd_amend.specs.Amendment.{changes_stand};
+ghost use Rattle.vcd_text.specs.declared.copying.amender.InPlace.TheVariants as places;
+ghost use Rattle.vcd_amend.specs.Amendment.{changes_stand, needs_change};
 ghost use Rattle.vcd_amend.specs.AmendmentContents.{code_contents};
 ghost use Rattle.vcd_amend.specs.inside.amending.CodeProgress.{no_progress, noted_change};
-ghost use Rattle.vcd_amend.specs.inside.amending.DueChanges.{no_code};
+ghost use Rattle.vcd_amend.specs.inside.amending.DueChanges.{no_code, is_last};
 ghost use Rattle.vcd_amend.specs.inside.amending.ValueChanges.{value_text, is_written};
 ghost use Rattle.vcd_amend.specs.inside.amending.ValueChanges.{text_in_place};
 
@@ -15,20 +16,52 @@ use super::due_writing::write_due;
 use super::moments::{ChangeCounts, Moment, moment_at};
 use crate::amendment::AmendedCode;
 use vcd_core::Sink;
-use vcd_text::{Output, write_bytes};
+use vcd_text::{InPlace, Output, write_bytes};
 
 /// The amended code at `index`, at `tick`.
 pub fn moment_in(codes: &[AmendedCode], counts: &[ChangeCounts], index: usize, tick: u64) -> Moment
     requires within { index < length codes.now }
     requires counts { length counts.now ≡ length codes.now }
-    ensures { result.stands
+    ensures stands { result.stands
         ≡ changes_stand (slice_index_or (map code_contents codes.now) index no_code) tick }
+    ensures needed { result.is_needed
+        ≡ needs_change (slice_index_or (map code_contents codes.now) index no_code) tick }
 {
     moment_at(&codes[index], counts[index], tick)
 }
 
-/// A change at `tick` of the amended code at `index` stands.
-pub fn note_standing(
+/// Whether the file has had a change at `tick` of the amended code at `index`.
+pub fn is_changed_in(progress: &[CodeProgress], index: usize, tick: u64) -> bool
+    requires { index < length progress.now }
+    ensures { result ≡ is_last (slice_index_or progress.now index no_progress).changed_at tick }
+{
+    progress[index].is_changed_at(tick)
+}
+
+/// What is in the place of a change of an amended code at a moment, by whether the code is used,
+/// and whether the file has had a change of it there.
+pub fn place_at(moment: Moment, is_used: bool, is_changed: bool) -> InPlace
+    ensures stands { result ≡ places.Itself → (is_used ≡ true) × (moment.stands ≡ true) }
+    ensures goes { result ≡ places.Nothing → (if is_used
+        then moment.stands || (moment.is_needed && not is_changed) else false) ≡ false }
+{
+    if !is_used {
+        return InPlace::Nothing;
+    }
+    if moment.stands {
+        return InPlace::Itself;
+    }
+    if !moment.is_needed {
+        return InPlace::Nothing;
+    }
+    if is_changed {
+        return InPlace::Nothing;
+    }
+    InPlace::Other
+}
+
+/// A change at `tick` of the amended code at `index` stands or goes.
+pub fn note_settled(
     counts: &mut [ChangeCounts],
     progress: &mut [CodeProgress],
     index: usize,

@@ -14,7 +14,7 @@ use std::alloc::Global;
 use vcd_core::{
     NameWords, NoMemory, ScopeName, ScopePath, Seq, Sink, Word, copy_scopes, copy_word,
 };
-use vcd_text::{AmendableItem, Amender, Output, VariableWords, Words};
+use vcd_text::{AmendableItem, Amender, InPlace, Output, VariableWords, Words};
 
 /// The variables that a file has declared so far.
 #[derive(Drop)]
@@ -49,7 +49,11 @@ impl<W: Sink> Amender<W> for Collector {
 
     ghost given = { λ _. tt };
 
-    ghost rules = { λ _. record { in_place = λ _ _. []; at_end = λ _ _. [] } };
+    ghost rules = { λ _. record {
+      in_place = λ _ _. [];
+      before_others = λ _. [];
+      at_end = λ _ _. [];
+    } };
 
     ghost has_seen = { HasCollected };
 
@@ -57,8 +61,8 @@ impl<W: Sink> Amender<W> for Collector {
 
     ghost is_done = { λ collector. collector.is_done };
 
-    fn let_stand(&mut self, _item: AmendableItem, _code: &[u8]) -> bool {
-        false
+    fn settle(&mut self, _item: AmendableItem, _code: &[u8]) -> InPlace {
+        InPlace::Other
     }
 
     fn take(
@@ -82,6 +86,8 @@ impl<W: Sink> Amender<W> for Collector {
             _ => Ok(()),
         }
     }
+
+    fn write_before(&self, _output: &mut Output<W>) {}
 
     fn pass(&mut self) {
         self.path = None;

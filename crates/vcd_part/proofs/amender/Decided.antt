@@ -1,8 +1,7 @@
 -- What a `PartAmender` has made of the request's answer, and what then stands in the place of a piece.
-use Rattle.std.proofs.Common.{◌≡◌, ◌∙◌, ◌&&◌, ℕ, Bool, true, false, not, List, [], ◌∷◌, ◌++◌}
-use Rattle.std.proofs.Common.{refl, sym, ap, Some, None, if◌then◌else◌, nat_lt, nat_le, arith, zero, suc}
+use Rattle.std.proofs.Common.{◌≡◌, ◌∙◌, ◌&&◌, ◌⊎◌, ◌≤◌, ◌<◌, ℕ, Bool, true, false, not, List, [], ◌∷◌, ◌++◌}
+use Rattle.std.proofs.Common.{refl, sym, ap, Some, None, if◌then◌else◌, nat_lt, nat_le, arith, inl, inr}
 use Rattle.std.specs.Prelude.{Result, Ok, Err}
-use Rattle.std.proofs.lemmas.Grind.{flat_map-append}
 use Rattle.std.proofs.lemmas.List.{append-nil}
 use Rattle.vcd_core.specs.Decimal.{number_of}
 use Rattle.vcd_text.specs.Items.{Item, stamp}
@@ -16,8 +15,9 @@ use Rattle.vcd_part.specs.declared.amender.PartAmender.{PartAmender}
 use Rattle.vcd_part.specs.Requests.{decide}
 use Rattle.vcd_part.specs.PartPieces.{pieces_of_step, body_in_part, declaration_in_part, stamp_pieces}
 use Rattle.vcd_text.specs.Pieces.{piece_bytes}
-use Rattle.vcd_part.specs.PartPieces.{last_stamp}
+use Rattle.vcd_part.specs.PartPieces.{last_stamp, stamp_in_part, first_pieces, is_up_to_first}
 use Rattle.vcd_part.specs.inside.PartAmender.{IsAt, window_of, refusal_of}
+use Rattle.vcd_part.proofs.laws.states.Windows.{IsInOrder, upto_is}
 
 -- ---- the answer
 
@@ -106,11 +106,16 @@ pub stands_if : (p : Piece) (b : Bool) → (if b then p.space ++ p.body else [])
 stands_if p true = sym (one_stands p)
 stands_if p false = refl
 
--- the bytes of two lists of pieces
-pub bytes_of_both : (xs ys : List Piece) → piece_bytes (xs ++ ys) ≡ piece_bytes xs ++ piece_bytes ys
-bytes_of_both xs ys = flat_map-append (λ p. p.space ++ p.body) xs ys
-
 -- ---- stamps
+
+pub ltb_from : (a b : ℕ) → b ≤ a → nat_lt a b ≡ false
+ltb_from a b order = grind arith
+
+pub leb_from : (a b : ℕ) → b < a → nat_le a b ≡ false
+leb_from a b order = grind arith
+
+not_up : (first t : ℕ) → first < t → (nat_lt 0 first && nat_le t first) ≡ false
+not_up first t order = grind arith
 
 pub stamp_pieces_are : (r : Request) (s : ParseState) (before : List Piece) (p : Piece) (w : TickRange)
     (digits : List ℕ) (t : ℕ) (i : Item) → i ≡ stamp digits → t ≡ number_of digits
@@ -118,11 +123,33 @@ pub stamp_pieces_are : (r : Request) (s : ParseState) (before : List Piece) (p :
 stamp_pieces_are r s before p w digits t i is number = ap (λ (i : Item). body_in_part r s before p i (Ok w)) is
     ∙ ap (stamp_pieces r w s before p) (sym number)
 
--- in a window from tick 0 on
-pub stamp_stands : (r : Request) (s : ParseState) (before : List Piece) (p : Piece) (first last t : ℕ) → first ≡ 0
-    → nat_le t last ≡ true
-    → stamp_pieces r (record { first = first; last = last }) s before p t ≡ p ∷ []
-stamp_stands r s before p zero last t none within = ap (λ (b : Bool). if b then p ∷ []
-    else (if nat_le s.tick last && nat_lt last t then last_stamp (record { first = 0; last = last }) s.tick else []))
-    within
-stamp_stands r s before p (suc first) last t never within = absurd (omega (arith, never))
+-- one before the window, or further past it
+pub stamp_goes : (r : Request) (s : ParseState) (before : List Piece) (p : Piece) (w : TickRange) (t : ℕ)
+    → IsInOrder w → s.tick ≤ t → (is_up_to_first w t ≡ true) ⊎ (w.last < s.tick)
+    → stamp_pieces r w s before p t ≡ []
+stamp_goes r s before p w t order later (inl early) =
+    let upto = upto_is w t early in
+    let few : nat_lt w.last t ≡ false = ltb_from w.last t (omega (arith, upto.1, order.order)) in
+    (λ i. (if is_up_to_first w s.tick && not (early i) then first_pieces r s.declared before else [])
+    ++ (if not (early i) && nat_le t w.last then stamp_in_part w p t ∷ []
+    else (if nat_le s.tick w.last && few i then last_stamp w s.tick else [])))
+    ∙ both_none (is_up_to_first w s.tick) (nat_le s.tick w.last)
+  where
+    both_none : (x y : Bool) → (if x && false then first_pieces r s.declared before else [])
+        ++ (if y && false then last_stamp w s.tick else []) ≡ []
+    both_none true true = refl
+    both_none true false = refl
+    both_none false true = refl
+    both_none false false = refl
+stamp_goes r s before p w t order later (inr past) =
+    let old : is_up_to_first w s.tick ≡ false = not_up w.first s.tick (omega (arith, order.order)) in
+    let out : nat_le t w.last ≡ false = leb_from t w.last (omega arith) in
+    let over : nat_le s.tick w.last ≡ false = leb_from s.tick w.last past in
+    (λ i. (if old i && not (is_up_to_first w t) then first_pieces r s.declared before else [])
+    ++ (if not (is_up_to_first w t) && out i then stamp_in_part w p t ∷ []
+    else (if over i && nat_lt w.last t then last_stamp w s.tick else [])))
+    ∙ no_matter (is_up_to_first w t)
+  where
+    no_matter : (x : Bool) → (if not x && false then stamp_in_part w p t ∷ [] else []) ≡ []
+    no_matter true = refl
+    no_matter false = refl

@@ -18,9 +18,10 @@ use Rattle.vcd_part.specs.PartPieces.{pieces_at_end, ended_pieces, first_pieces,
 use Rattle.vcd_text.specs.Pieces.{piece_bytes}
 use Rattle.vcd_part.specs.PartPieces.{pieces_of_step, ended_in_part, declaration_in_part, comment_piece}
 use Rattle.vcd_part.specs.PartPieces.{kept_count, all_count, is_change_of}
-use Rattle.vcd_part.specs.inside.PartAmender.{HasSeen, window_of, refusal_of}
-use Rattle.vcd_part.proofs.amender.States.{next_allowed, before_allowed, next_some, end_before_body, at_limit}
-use Rattle.vcd_part.proofs.amender.States.{at_any_limit}
+use Rattle.vcd_part.specs.inside.CodeUses.{HoldLast}
+use Rattle.vcd_part.specs.inside.PartAmender.{Knows, window_of, refusal_of, is_first_due}
+use Rattle.vcd_text.proofs.shared.StatesOfPieces.{at_limit, at_any_limit}
+use Rattle.vcd_part.proofs.amender.States.{next_allowed, before_allowed, next_some, end_before_body}
 use Rattle.vcd_part.proofs.amender.LastChanges.{all_more, hold_more, hold_declarations}
 use Rattle.vcd_part.proofs.amender.Steps.{seen_more}
 use Rattle.vcd_part.proofs.amender.Decided.{answer_in, answer_with_window, answer_without_window, window_means_body}
@@ -35,12 +36,12 @@ out_of_body limit before p space body next is = end_before_body (at_limit limit 
     (subst (Allows (at_limit limit (state_of_pieces 0 before))) is (next_allowed limit before p space body next))
 
 -- until then neither is known
-pub no_window_before : (m : PartAmender) (before : List Piece) → HasSeen m before
+pub no_window_before : (m : PartAmender) (before : List Piece) → Knows m before
     → (state_of_pieces 0 before).in_body ≡ false → m.window ≡ None
 no_window_before m before seen out = seen.window ∙ ap (λ (b : Bool). if b
     then window_of (answer_in m.request (state_of_pieces 0 before)) else None) out
 
-pub no_refusal_before : (m : PartAmender) (before : List Piece) → HasSeen m before
+pub no_refusal_before : (m : PartAmender) (before : List Piece) → Knows m before
     → (state_of_pieces 0 before).in_body ≡ false → m.refusal ≡ None
 no_refusal_before m before seen out = seen.refusal ∙ ap (λ (b : Bool). if b
     then refusal_of (answer_in m.request (state_of_pieces 0 before)) else None) out
@@ -70,10 +71,10 @@ refused_end_bytes r before p refusal is out answer =
 
 -- after it the answer is known
 pub end_seen : (limit : ℕ) (m : PartAmender) (before : List Piece) (p : Piece) (space body : List ℕ)
-    (window : Option TickRange) (refusal : Option Refusal) → HasSeen m before → IsNext limit before p space body
+    (window : Option TickRange) (refusal : Option Refusal) → Knows m before → IsNext limit before p space body
     → p.item ≡ end_definitions → window ≡ window_of (answer_in m.request (state_of_pieces 0 before))
     → refusal ≡ refusal_of (answer_in m.request (state_of_pieces 0 before))
-    → HasSeen (record m { window = window; refusal = refusal }) (before ++ p ∷ [])
+    → Knows (record m { window = window; refusal = refusal }) (before ++ p ∷ [])
 end_seen limit m before p space body window refusal seen next is window_is refusal_is =
     let s : ParseState = state_of_pieces 0 before in
     let out = out_of_body limit before p space body next is in
@@ -95,32 +96,55 @@ end_seen limit m before p space body window refusal seen next is window_is refus
 
 -- ---- the end of the file
 
-pub pieces_at_end_are : (m : PartAmender) (pieces : List Piece) (w : TickRange) (up : Bool) → HasSeen m pieces
-    → m.window ≡ Some w → up ≡ is_up_to_first w m.tick
-    → piece_bytes (if (state_of_pieces 0 pieces).in_body then pieces_at_end m.request pieces else [])
-    ≡ piece_bytes (if up then first_pieces m.request (state_of_pieces 0 pieces).declared pieces else [])
-pieces_at_end_are m pieces w up seen is up_is =
+-- the pieces at the end, if the declarations have ended
+abbrev pub end_pieces : Request → List Piece → List Piece
+end_pieces r pieces = if (state_of_pieces 0 pieces).in_body then pieces_at_end r pieces else []
+
+end_with_window : (m : PartAmender) (pieces : List Piece) (w : TickRange) → Knows m pieces → m.window ≡ Some w
+    → end_pieces m.request pieces
+    ≡ (if is_up_to_first w m.tick then first_pieces m.request (state_of_pieces 0 pieces).declared pieces else [])
+end_with_window m pieces w seen is =
     let s : ParseState = state_of_pieces 0 pieces in
     let first : List Piece = first_pieces m.request s.declared pieces in
-    ap (λ (b : Bool). piece_bytes (if b then pieces_at_end m.request pieces else []))
-    (window_means_body m pieces s w seen is)
-    ∙ ap (λ (a : Result TickRange Refusal). piece_bytes (ended_pieces m.request s pieces a))
+    ap (λ (b : Bool). if b then pieces_at_end m.request pieces else []) (window_means_body m pieces s w seen is)
+    ∙ ap (λ (a : Result TickRange Refusal). ended_pieces m.request s pieces a)
     (answer_with_window m pieces s w seen is)
-    ∙ ap (λ (t : ℕ). piece_bytes (if is_up_to_first w t then first else [])) (sym seen.tick)
-    ∙ ap (λ (b : Bool). piece_bytes (if b then first else [])) (sym up_is)
+    ∙ ap (λ (t : ℕ). if is_up_to_first w t then first else []) (sym seen.tick)
 
-pub no_pieces_at_end : (m : PartAmender) (pieces : List Piece) → HasSeen m pieces → m.window ≡ None
-    → piece_bytes (if (state_of_pieces 0 pieces).in_body then pieces_at_end m.request pieces else []) ≡ []
-no_pieces_at_end m pieces seen none = by_test (state_of_pieces 0 pieces).in_body refl
+-- they are those of tick 0 where these are due
+pub due_at_end : (m : PartAmender) (pieces : List Piece) → Knows m pieces → is_first_due m.window m.tick ≡ true
+    → (end_pieces m.request pieces ≡ first_pieces m.request (state_of_pieces 0 pieces).declared pieces)
+    × HoldLast m.codes m.request (state_of_pieces 0 pieces).declared pieces
+due_at_end m pieces seen due = by_window m.window refl due
   where
-    by_test : (b : Bool) → (state_of_pieces 0 pieces).in_body ≡ b
-        → piece_bytes (if (state_of_pieces 0 pieces).in_body then pieces_at_end m.request pieces else []) ≡ []
-    by_test true body =
+    by_window : (o : Option TickRange) → m.window ≡ o → is_first_due o m.tick ≡ true
+        → (end_pieces m.request pieces ≡ first_pieces m.request (state_of_pieces 0 pieces).declared pieces)
+        × HoldLast m.codes m.request (state_of_pieces 0 pieces).declared pieces
+    by_window None is never = absurd (false≢true never)
+    by_window (Some w) is up = (
+      end_with_window m pieces w seen is ∙ ap (λ (b : Bool). if b
+          then first_pieces m.request (state_of_pieces 0 pieces).declared pieces else []) up,
+      seen.holds w is (ap (is_up_to_first w) (sym seen.tick) ∙ up),
+    )
+
+-- and else none
+pub none_at_end : (m : PartAmender) (pieces : List Piece) → Knows m pieces → is_first_due m.window m.tick ≡ false
+    → end_pieces m.request pieces ≡ []
+none_at_end m pieces seen isnt = by_window m.window refl isnt
+  where
+    refused : (b : Bool) → (state_of_pieces 0 pieces).in_body ≡ b → m.window ≡ None
+        → (if b then pieces_at_end m.request pieces else []) ≡ []
+    refused true body none =
         let s : ParseState = state_of_pieces 0 pieces in
         let (refusal, answer) = answer_without_window m pieces s seen body none in
-        ap (λ (b : Bool). piece_bytes (if b then pieces_at_end m.request pieces else [])) body
-        ∙ ap (λ (a : Result TickRange Refusal). piece_bytes (ended_pieces m.request s pieces a)) answer
-    by_test false out = ap (λ (b : Bool). piece_bytes (if b then pieces_at_end m.request pieces else [])) out
+        ap (λ (a : Result TickRange Refusal). ended_pieces m.request s pieces a) answer
+    refused false out none = refl
+
+    by_window : (o : Option TickRange) → m.window ≡ o → is_first_due o m.tick ≡ false
+        → end_pieces m.request pieces ≡ []
+    by_window None is isnt = refused (state_of_pieces 0 pieces).in_body refl is
+    by_window (Some w) is past = end_with_window m pieces w seen is ∙ ap (λ (b : Bool). if b
+        then first_pieces m.request (state_of_pieces 0 pieces).declared pieces else []) past
 
 -- ---- the timescale that is shown
 

@@ -65,7 +65,7 @@ no_change declared code s (real_or_string first text own) allowed out =
 no_change declared code s (dump_word word) allowed out = refl
 no_change declared code s (other word words) allowed out = refl
 
-still_out : (s : ParseState) (is : List Item) → (state_after s is).in_body ≡ false → s.in_body ≡ false
+pub still_out : (s : ParseState) (is : List Item) → (state_after s is).in_body ≡ false → s.in_body ≡ false
 still_out s is out = by_test s.in_body refl
   where
     by_test : (b : Bool) → s.in_body ≡ b → s.in_body ≡ false

@@ -1,6 +1,6 @@
 -- The states of a file before and after a piece, and what an item that comes next says of them.
 use Rattle.std.proofs.Common.{◌≡◌, ◌∙◌, ◌&&◌, ◌<◌, ◌≤◌, ℕ, Bool, true, false, not, List, [], ◌∷◌, ◌++◌, map, length}
-use Rattle.std.proofs.Common.{refl, ap, subst, Some, None, inl, inr, nat_le, arith}
+use Rattle.std.proofs.Common.{refl, sym, ap, subst, Some, None, inl, inr, nat_le, arith}
 use Rattle.std.proofs.lemmas.Bool.{and_parts, false≢true, cases_lt, lt-leb}
 use Rattle.std.proofs.lemmas.List.{map-append}
 use Rattle.vcd_core.specs.Decimal.{is_number, number_of}
@@ -16,59 +16,8 @@ use Rattle.vcd_text.specs.Pieces.{Piece, state_of_pieces}
 use Rattle.vcd_text.specs.Copied.{IsNext, piece_items}
 use Rattle.vcd_text.specs.VariableWords.{IsVariable}
 use Rattle.vcd_text.proofs.pieces.Cuts.{spelling_some}
-
--- ---- one piece more
-
-last_allowed : (c : ParseState) (is : List Item) (i : Item) → AllowsAll c (is ++ i ∷ []) → Allows (state_after c is) i
-last_allowed c [] i allowed = allowed.0
-last_allowed c (j ∷ is) i allowed = last_allowed (state_after_item c j) is i allowed.1
-
-first_allowed : (c : ParseState) (is : List Item) (i : Item) → AllowsAll c (is ++ i ∷ []) → AllowsAll c is
-first_allowed c [] i allowed = tt
-first_allowed c (j ∷ is) i allowed = (allowed.0, first_allowed (state_after_item c j) is i allowed.1)
-
-pub one_more : (limit : ℕ) (before : List Piece) (p : Piece)
-    → state_of_pieces limit (before ++ p ∷ []) ≡ state_after_item (state_of_pieces limit before) p.item
-one_more limit before p = go (initial_state limit) before
-  where
-    go : (c : ParseState) (ps : List Piece)
-        → state_after c (map (λ p. p.item) (ps ++ p ∷ [])) ≡ state_after_item (state_after c (map (λ p. p.item) ps))
-        p.item
-    go c [] = refl
-    go c (q ∷ ps) = go (state_after_item c q.item) ps
-
--- ---- the limit of a state has no effect but on itself
-
-abbrev pub at_limit : ℕ → ParseState → ParseState
-at_limit n c = record c { limit = n }
-
-item_at_limit : (n : ℕ) (c : ParseState) (i : Item) → state_after_item (at_limit n c) i ≡ at_limit n
-    (state_after_item c i)
-item_at_limit n c (entry kind words) = refl
-item_at_limit n c (timescale words) = refl
-item_at_limit n c (scope kind words) = refl
-item_at_limit n c upscope = refl
-item_at_limit n c (variable []) = refl
-item_at_limit n c (variable (kind ∷ [])) = refl
-item_at_limit n c (variable (kind ∷ size ∷ [])) = refl
-item_at_limit n c (variable (kind ∷ size ∷ code ∷ [])) = refl
-item_at_limit n c (variable (kind ∷ size ∷ code ∷ name ∷ names)) = refl
-item_at_limit n c end_definitions = refl
-item_at_limit n c (stamp digits) = refl
-item_at_limit n c (scalar digit code) = refl
-item_at_limit n c (vector first digits code) = refl
-item_at_limit n c (real_or_string first text code) = refl
-item_at_limit n c (dump_word word) = refl
-item_at_limit n c (other word words) = refl
-
-pub at_any_limit : (limit : ℕ) (ps : List Piece) → state_of_pieces limit ps ≡ at_limit limit (state_of_pieces 0 ps)
-at_any_limit limit ps = go (initial_state 0) ps
-  where
-    go : (c : ParseState) (ps : List Piece)
-        → state_after (at_limit limit c) (map (λ p. p.item) ps) ≡ at_limit limit (state_after c (map (λ p. p.item) ps))
-    go c [] = refl
-    go c (p ∷ ps) = ap (λ s. state_after s (map (λ p. p.item) ps)) (item_at_limit limit c p.item)
-        ∙ go (state_after_item c p.item) ps
+use Rattle.vcd_text.proofs.shared.StatesOfPieces.{last_allowed, first_allowed, at_limit, at_any_limit}
+use Rattle.vcd_text.proofs.shared.DeclaringWords.{declared_in, declares}
 
 -- ---- what comes next
 
@@ -158,11 +107,6 @@ stays_in_body s (i ∷ is) body = stays_in_body (state_after_item s i) is (one i
 
 -- ---- the words of a variable
 
--- the declaration of these words
-abbrev pub declared_in : ParseState → (kind size code : List ℕ) → (names : List (List ℕ)) → VariableDeclaration
-declared_in s kind size code names =
-    record { scopes = s.scopes; kind = kind; size = number_of size; code = code; words = names }
-
 -- the words of a variable that is allowed
 pub record VariableItem (i : Item) (body : List ℕ) : Type 0 where
   pub kind : List ℕ
@@ -178,22 +122,15 @@ pub record VariableItem (i : Item) (body : List ℕ) : Type 0 where
 pub variable_item : (s : ParseState) (i : Item) (words : List (List ℕ)) (body : List ℕ) → i ≡ variable words
     → Allows s i → word_texts (words_of body) ≡ spelling i → VariableItem i body
 variable_item s i words body is allowed spelled =
-    go words (subst (Allows s) is allowed) is (spelled ∙ ap spelling is)
-  where
-    go : (words : List (List ℕ)) → Allows s (variable words) → i ≡ variable words
-        → word_texts (words_of body) ≡ spelling (variable words) → VariableItem i body
-    go [] allowed is spelled = absurd (cc (allowed.1))
-    go (kind ∷ []) allowed is spelled = absurd (cc (allowed.1))
-    go (kind ∷ size ∷ []) allowed is spelled = absurd (cc (allowed.1))
-    go (kind ∷ size ∷ code ∷ []) allowed is spelled = absurd (cc (allowed.1))
-    go (kind ∷ size ∷ code ∷ name ∷ names) allowed is spelled = record {
-      kind = kind;
-      size = size;
-      code = code;
-      names = name ∷ names;
-      item_is = is;
-      declares = λ s. refl;
-      number = (and_parts (has_no_end_word (kind ∷ size ∷ code ∷ name ∷ names)) (is_number size)
-          (and_parts _ _ allowed.0).1).1;
-      is_variable = record { spelled = spelled };
+    let d = declares s words (subst (Allows s) is allowed) in
+    let item_is = is ∙ ap variable d.words_are in
+    record {
+      kind = d.kind;
+      size = d.size;
+      code = d.code;
+      names = d.names;
+      item_is = item_is;
+      declares = λ c. ap (declaration_of c) (sym d.words_are) ∙ d.finds c;
+      number = d.number;
+      is_variable = record { spelled = spelled ∙ ap spelling item_is };
     }

@@ -18,15 +18,15 @@ use Rattle.vcd_part.specs.Requests.{decide}
 use Rattle.vcd_part.specs.PartPieces.{is_up_to_first, is_change_of}
 use Rattle.vcd_part.specs.inside.Choice.{HasNoted}
 use Rattle.vcd_part.specs.inside.CodeUses.{AreUses, HoldLast}
-use Rattle.vcd_part.specs.inside.PartAmender.{IsAt, HasSeen, window_of, refusal_of}
-use Rattle.vcd_part.proofs.amender.States.{one_more, at_limit, timescale_before_body, later_stamp, next_allowed}
-use Rattle.vcd_part.proofs.amender.States.{next_some}
+use Rattle.vcd_part.specs.inside.PartAmender.{IsAt, Knows, window_of, refusal_of}
+use Rattle.vcd_text.proofs.shared.StatesOfPieces.{one_more, at_limit}
+use Rattle.vcd_part.proofs.amender.States.{timescale_before_body, later_stamp, next_allowed, next_some}
 use Rattle.vcd_part.proofs.amender.LastChanges.{all_more, hold_more}
 
 -- it is at the state after a piece more
 pub seen_more : (m : PartAmender) (before : List Piece) (p : Piece) (s : ParseState)
     → state_after_item (state_of_pieces 0 before) p.item ≡ s → IsAt m (before ++ p ∷ []) s
-    → HasSeen m (before ++ p ∷ [])
+    → Knows m (before ++ p ∷ [])
 seen_more m before p s state at = subst (IsAt m (before ++ p ∷ [])) (sym (one_more 0 before p ∙ state)) at
 
 -- ---- states that are the same to it
@@ -148,9 +148,9 @@ stamp_passes limit m before p s digits t is number allowed some at = record {
         (later_stamp (at_limit limit s) digits (subst (Allows (at_limit limit s)) is allowed))
 
 pub stamp_seen : (limit : ℕ) (m : PartAmender) (before : List Piece) (p : Piece) (t : ℕ) (space body : List ℕ)
-    → HasSeen m before → IsNext limit before p space body
+    → Knows m before → IsNext limit before p space body
     → ((digits : List ℕ) × (p.item ≡ stamp digits) × (t ≡ number_of digits))
-    → HasSeen (record m { tick = t }) (before ++ p ∷ [])
+    → Knows (record m { tick = t }) (before ++ p ∷ [])
 stamp_seen limit m before p t space body seen next shows =
     let s : ParseState = state_of_pieces 0 before in
     let (digits, is, number) = shows in

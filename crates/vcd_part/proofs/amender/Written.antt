@@ -1,8 +1,8 @@
 -- Changes within the window and past its first tick, and after it, and those of a request that is refused.
 use Rattle.std.proofs.Common.{◌≡◌, ◌∙◌, ◌&&◌, ℕ, Bool, true, false, not, List, [], ◌∷◌, ◌++◌}
-use Rattle.std.proofs.Common.{refl, sym, ap, Some, None, if◌then◌else◌}
+use Rattle.std.proofs.Common.{refl, sym, ap, Some, None, if◌then◌else◌, nat_le}
 use Rattle.std.specs.Prelude.{Result, Ok, Err, OnErr}
-use Rattle.std.proofs.lemmas.Bool.{and_parts, false≢true}
+use Rattle.std.proofs.lemmas.Bool.{false≢true}
 use Rattle.vcd_text.specs.Grammar.{ParseState, state_after_item}
 use Rattle.vcd_text.specs.Pieces.{Piece, state_of_pieces}
 use Rattle.vcd_text.specs.Copied.{IsNext}
@@ -10,14 +10,14 @@ use Rattle.vcd_text.specs.declared.reading.choice.TickRange.{TickRange}
 use Rattle.vcd_part.specs.declared.amender.PartAmender.{PartAmender}
 use Rattle.vcd_part.specs.declared.code_uses.CodeUses.{CodeUses}
 use Rattle.vcd_part.specs.PartPieces.{pieces_of_step, is_within, is_used, is_up_to_first}
-use Rattle.vcd_text.specs.Pieces.{piece_bytes}
 use Rattle.vcd_part.specs.inside.CodeUses.{AreUses, HoldLast, IsChangeItem}
-use Rattle.vcd_part.specs.inside.PartAmender.{HasSeen}
-use Rattle.vcd_part.proofs.amender.States.{next_allowed, next_some, at_limit}
+use Rattle.vcd_part.specs.inside.PartAmender.{Knows}
+use Rattle.vcd_text.proofs.shared.StatesOfPieces.{at_limit}
+use Rattle.vcd_part.proofs.amender.States.{next_allowed, next_some}
 use Rattle.vcd_part.proofs.amender.Steps.{seen_more, at_same}
 use Rattle.vcd_part.proofs.amender.Decided.{answer_with_window, answer_without_window, window_means_body}
-use Rattle.vcd_part.proofs.amender.Decided.{pieces_in_body, stands_if}
-use Rattle.vcd_part.proofs.amender.Changes.{IsChange, change_is}
+use Rattle.vcd_part.proofs.amender.Decided.{pieces_in_body}
+use Rattle.vcd_part.proofs.amender.ChangeItems.{IsChange, change_is}
 
 -- a change comes in the half of changes
 change_in_body : (limit : ℕ) (before : List Piece) (p : Piece) (space body code : List ℕ)
@@ -25,39 +25,46 @@ change_in_body : (limit : ℕ) (before : List Piece) (p : Piece) (space body cod
 change_in_body limit before p space body code next is =
     is.in_body (at_limit limit (state_of_pieces 0 before)) (next_allowed limit before p space body next).0
 
--- the bytes in the place of a change, with a window
-pub change_bytes : (m : PartAmender) (before : List Piece) (p : Piece) (w : TickRange) (is_text : Bool)
-    (code : List ℕ) → HasSeen m before → IsChangeItem p.item is_text code → m.window ≡ Some w
-    → (if is_within w m.tick && is_used m.request (state_of_pieces 0 before).declared code then p.space ++ p.body
-    else []) ≡ piece_bytes (pieces_of_step m.request before p)
-change_bytes m before p w is_text code seen is window =
+-- what is in the place of a change, with a window
+pub change_pieces : (m : PartAmender) (before : List Piece) (p : Piece) (w : TickRange) (is_text : Bool)
+    (code : List ℕ) → Knows m before → IsChangeItem p.item is_text code → m.window ≡ Some w
+    → pieces_of_step m.request before p
+    ≡ (if is_within w m.tick && is_used m.request (state_of_pieces 0 before).declared code then p ∷ [] else [])
+change_pieces m before p w is_text code seen is window =
     let s : ParseState = state_of_pieces 0 before in
     let change = change_is p.item is_text code is in
-    ap (λ (t : ℕ). if is_within w t && is_used m.request s.declared code then p.space ++ p.body else []) seen.tick
-    ∙ stands_if p (is_within w s.tick && is_used m.request s.declared code)
-    ∙ ap piece_bytes (sym (pieces_in_body m.request before p change.amended
-    (window_means_body m before s w seen window) (Ok w) (answer_with_window m before s w seen window)
-    ∙ change.pieces m.request s before p w))
+    pieces_in_body m.request before p change.amended (window_means_body m before s w seen window) (Ok w)
+    (answer_with_window m before s w seen window) ∙ change.pieces m.request s before p w
+    ∙ ap (λ (t : ℕ). if is_within w t && is_used m.request s.declared code then p ∷ [] else []) (sym seen.tick)
 
 -- without one, as the request is refused
-pub refused_change_bytes : (limit : ℕ) (m : PartAmender) (before : List Piece) (p : Piece) (is_text : Bool)
-    (code space body : List ℕ) → HasSeen m before → IsNext limit before p space body
-    → IsChangeItem p.item is_text code → m.window ≡ None → [] ≡ piece_bytes (pieces_of_step m.request before p)
-refused_change_bytes limit m before p is_text code space body seen next is none =
+pub refused_change_pieces : (limit : ℕ) (m : PartAmender) (before : List Piece) (p : Piece) (is_text : Bool)
+    (code space body : List ℕ) → Knows m before → IsNext limit before p space body
+    → IsChangeItem p.item is_text code → m.window ≡ None → pieces_of_step m.request before p ≡ []
+refused_change_pieces limit m before p is_text code space body seen next is none =
     let s : ParseState = state_of_pieces 0 before in
     let change = change_is p.item is_text code is in
     let here = change_in_body limit before p space body code next change in
     let (refusal, answer) = answer_without_window m before s seen here none in
-    ap piece_bytes (sym (pieces_in_body m.request before p change.amended here (Err refusal) answer
-    ∙ change.none m.request s before p refusal))
+    pieces_in_body m.request before p change.amended here (Err refusal) answer
+    ∙ change.none m.request s before p refusal
+
+-- up to the first tick of the window
+pub early_change_pieces : (m : PartAmender) (before : List Piece) (p : Piece) (w : TickRange) (is_text : Bool)
+    (code : List ℕ) → Knows m before → IsChangeItem p.item is_text code → m.window ≡ Some w
+    → is_up_to_first w m.tick ≡ true → pieces_of_step m.request before p ≡ []
+early_change_pieces m before p w is_text code seen is window early =
+    change_pieces m before p w is_text code seen is window
+    ∙ ap (λ (b : Bool). if (not b && nat_le m.tick w.last)
+    && is_used m.request (state_of_pieces 0 before).declared code then p ∷ [] else []) early
 
 -- after a change, with other last changes
 pub change_passes : (limit : ℕ) (m : PartAmender) (c : CodeUses) (before : List Piece) (p : Piece) (is_text : Bool)
-    (code space body : List ℕ) → HasSeen m before → IsNext limit before p space body
+    (code space body : List ℕ) → Knows m before → IsNext limit before p space body
     → IsChangeItem p.item is_text code → AreUses c m.request (state_of_pieces 0 before).declared
     → ((w : TickRange) → m.window ≡ Some w → is_up_to_first w (state_of_pieces 0 before).tick ≡ true
     → HoldLast c m.request (state_of_pieces 0 before).declared (before ++ p ∷ []))
-    → HasSeen (record m { codes = c }) (before ++ p ∷ [])
+    → Knows (record m { codes = c }) (before ++ p ∷ [])
 change_passes limit m c before p is_text code space body seen next is uses holds =
     let s : ParseState = state_of_pieces 0 before in
     let change = change_is p.item is_text code is in
@@ -68,30 +75,14 @@ change_passes limit m c before p is_text code space body seen next is uses holds
 
 -- past the first tick of the window nothing has to be held
 pub change_past_first : (limit : ℕ) (m : PartAmender) (before : List Piece) (p : Piece) (w : TickRange)
-    (is_text : Bool) (code space body : List ℕ) → HasSeen m before → IsNext limit before p space body
+    (is_text : Bool) (code space body : List ℕ) → Knows m before → IsNext limit before p space body
     → IsChangeItem p.item is_text code → m.window ≡ Some w → is_up_to_first w m.tick ≡ false
-    → HasSeen m (before ++ p ∷ [])
+    → Knows m (before ++ p ∷ [])
 change_past_first limit m before p w is_text code space body seen next is window past =
     change_passes limit m m.codes before p is_text code space body seen next is seen.uses
     (λ v known up. let same : v ≡ w = cc (known, window) in
     absurd (false≢true (sym past ∙ ap (is_up_to_first w) seen.tick ∙ ap (λ (x : TickRange). is_up_to_first x
     (state_of_pieces 0 before).tick) (sym same) ∙ up)))
-
-pub change_stands : (limit : ℕ) (m : PartAmender) (before : List Piece) (p : Piece) (w : TickRange)
-    (is_text : Bool) (code space body : List ℕ) → HasSeen m before → IsNext limit before p space body
-    → IsChangeItem p.item is_text code → m.window ≡ Some w
-    → (is_within w m.tick && is_used m.request (state_of_pieces 0 before).declared code) ≡ true
-    → (piece_bytes (pieces_of_step m.request before p) ≡ p.space ++ p.body) × HasSeen m (before ++ p ∷ [])
-change_stands limit m before p w is_text code space body seen next is window stands = (
-  sym (change_bytes m before p w is_text code seen is window)
-      ∙ ap (λ (b : Bool). if b then p.space ++ p.body else []) stands,
-  change_past_first limit m before p w is_text code space body seen next is window
-      (not_true (is_up_to_first w m.tick) (and_parts _ _ (and_parts _ _ stands).0).0),
-)
-  where
-    not_true : (b : Bool) → not b ≡ true → b ≡ false
-    not_true true never = absurd (false≢true never)
-    not_true false holds = refl
 
 -- a fault of a callee
 pub on_error : {T E A : Type 0} (r : Result T E) → A → OnErr r A

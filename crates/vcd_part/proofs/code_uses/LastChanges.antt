@@ -16,7 +16,10 @@ use Rattle.vcd_text.specs.Items.{vector, real_or_string, dump_word, other}
 use Rattle.vcd_text.specs.Pieces.{Piece}
 use Rattle.vcd_part.specs.declared.request.Request.{Request}
 use Rattle.vcd_part.specs.PartPieces.{each_once, lasting_codes, last_such, is_change_of, has_signal}
-use Rattle.vcd_part.specs.inside.CodeUses.{last_body, IsChangeItem}
+use Rattle.vcd_text.specs.inside.reading.CodeTargets.{code_target}
+use Rattle.vcd_part.specs.declared.code_uses.CodeUse.{CodeUse}
+use Rattle.vcd_part.specs.declared.code_uses.CodeUses.{CodeUses}
+use Rattle.vcd_part.specs.inside.CodeUses.{AreUses, last_body, IsChangeItem}
 use Rattle.vcd_part.proofs.code_uses.LastingCodes.{same_code, code_turned}
 
 -- ---- a change of a code
@@ -213,6 +216,21 @@ last_misses r declared before p code is_text change something none =
     sym (set_past (map (last_body declared before) all) (position_or_len (bytes_eq code) all) p.body
     (omega (arith, past, length-map all (last_body declared before))))
     ∙ last_put r declared before p code is_text change something
+
+-- ---- what was found of its code
+
+-- what was found tells whether the change means something
+pub means_as_found : (c : CodeUses) (r : Request) (declared : List VariableDeclaration) (code : List ℕ)
+    (found : CodeUse) (is_text nothing : Bool) → AreUses c r declared → found ≡ code_target c.uses code
+    → nothing ≡ (is_text && found.has_signal) → (is_text && has_signal declared code) ≡ nothing
+means_as_found c r declared code found is_text nothing uses is told =
+    sym (told ∙ ap (λ (u : CodeUse). is_text && u.has_signal) (is ∙ uses.uses code))
+
+-- and its place
+pub place_as_found : (c : CodeUses) (r : Request) (declared : List VariableDeclaration) (code : List ℕ)
+    (found : CodeUse) → AreUses c r declared → found ≡ code_target c.uses code
+    → position (bytes_eq code) (lasting_codes r declared) ≡ found.index
+place_as_found c r declared code found uses is = sym (ap (λ (u : CodeUse). u.index) (is ∙ uses.uses code))
 
 -- all pieces still have a byte
 pub one_more : (before : List Piece) (p : Piece) → All (λ q. 0 < length q.body) before → 0 < length p.body

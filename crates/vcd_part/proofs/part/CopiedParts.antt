@@ -3,11 +3,12 @@ use Rattle.std.proofs.Common.{◌≡◌, ◌∙◌, ℕ, Bool, List, [], ◌∷�
 use Rattle.vcd_text.specs.Grammar.{ParseState}
 use Rattle.vcd_text.specs.Pieces.{Piece}
 use Rattle.vcd_text.specs.Copied.{IsCopy, copied_piece, copied_pieces}
-use Rattle.vcd_part.specs.PartPieces.{part_rules, pieces_at_end}
+use Rattle.vcd_part.specs.PartPieces.{pieces_at_end}
+use Rattle.vcd_part.specs.inside.PartCopy.{part_rules, waiting_stamp, last_settled}
 use Rattle.vcd_text.specs.Pieces.{piece_bytes}
 use Rattle.vcd_part.specs.inside.PartAmender.{rules_of}
 use Rattle.vcd_part.specs.declared.request.Request.{Request}
-use Rattle.vcd_part.proofs.amender.States.{at_any_limit}
+use Rattle.vcd_text.proofs.shared.StatesOfPieces.{at_any_limit}
 
 same_copied : (r : Request) (before ps : List Piece)
     → copied_pieces (rules_of r) before ps ≡ copied_pieces (part_rules r) before ps
@@ -24,7 +25,7 @@ copied_by_part_rules limit r file text copy = record {
   cut = copy.cut;
   allowed = copy.allowed;
   in_body = copy.in_body;
-  is = copy.is ∙ ap₂ (λ x y. x ++ y) (same_copied r [] copy.pieces) (ap (λ (b : Bool). piece_bytes (if b
-      then pieces_at_end r copy.pieces else []) ++ copy.tail)
+  is = copy.is ∙ ap₂ (λ x y. x ++ y) (same_copied r [] copy.pieces) (ap (λ (b : Bool). piece_bytes
+      (last_settled (waiting_stamp r copy.pieces) (if b then pieces_at_end r copy.pieces else [])) ++ copy.tail)
       (sym (ap (λ (s : ParseState). s.in_body) (at_any_limit limit copy.pieces)) ∙ copy.in_body));
 }

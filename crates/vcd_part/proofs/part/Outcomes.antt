@@ -14,14 +14,14 @@ use Rattle.vcd_part.specs.declared.request.Request.{Request}
 use Rattle.vcd_part.specs.declared.request.Refusal.{Refusal}
 use Rattle.vcd_part.specs.declared.amender.PartAmender.{PartAmender}
 use Rattle.vcd_part.specs.Requests.{unmet}
-use Rattle.vcd_part.specs.PartPieces.{part_rules}
+use Rattle.vcd_part.specs.inside.PartCopy.{part_rules}
 use Rattle.vcd_part.specs.PartEnds.{IsPart, IsRefused, IsPastEnd, PartEnds}
 use Rattle.vcd_part.specs.declared.part.PartError.{PartError}
 use Rattle.vcd_part.specs.declared.part.PartError.TheVariants as errors
 use Rattle.vcd_part.specs.inside.PartAmender.{HasSeen, OutcomeOf, refusal_of}
-use Rattle.vcd_part.proofs.amender.States.{at_any_limit}
+use Rattle.vcd_text.proofs.shared.StatesOfPieces.{at_any_limit}
 use Rattle.vcd_part.proofs.amender.Decided.{answer_in, answer_with_window, answer_without_window, answer_with_refusal}
-use Rattle.vcd_part.proofs.laws.CopiedPieces.{part_is_copied}
+use Rattle.vcd_part.proofs.part.CopiedPieces.{part_is_copied}
 use Rattle.vcd_part.proofs.part.SameItems.{told_items}
 
 -- the answer does not depend on the greatest number of variables that may be kept
@@ -56,12 +56,13 @@ decides m pieces seen body none = by_window m.window refl
     by_window (Some w) is = record {
       window = w;
       known = is;
-      decided = answer_at_limit m.request pieces ∙ answer_with_window m pieces (state_of_pieces 0 pieces) w seen is;
+      decided = answer_at_limit m.request pieces
+          ∙ answer_with_window m pieces (state_of_pieces 0 pieces) w seen.known is;
     }
     by_window None is =
         let s : ParseState = state_of_pieces 0 pieces in
-        let (refusal, answer) = answer_without_window m pieces s seen here is in
-        let never : None ≡ Some refusal = sym none ∙ seen.refusal
+        let (refusal, answer) = answer_without_window m pieces s seen.known here is in
+        let never : None ≡ Some refusal = sym none ∙ seen.known.refusal
         ∙ ap (λ (b : Bool). if b then refusal_of (answer_in m.request s) else None) here ∙ ap refusal_of answer in
         absurd (cc)
 
@@ -84,7 +85,7 @@ is_part m file text copy told none within =
         allowed = copy.allowed;
         in_body = copy.in_body;
         decided = ap (answer_in m.request) (sym state) ∙ d.decided;
-        within = subst (λ (t : ℕ). d.window.first ≤ t) (t.is_told.tick
+        within = subst (λ (t : ℕ). d.window.first ≤ t) (t.is_told.known.tick
             ∙ sym (ap (λ (s : ParseState). s.tick) (at_any_limit VARIABLE_LIMIT t.pieces))
             ∙ ap (λ (s : ParseState). s.tick) state)
             (subst (λ (o : Option TickRange). IfSome o (λ w. w.first ≤ m.tick)) d.known within);
@@ -98,7 +99,7 @@ pub is_refused : (m : PartAmender) (file : List ℕ) (refusal : Refusal) (patter
     → ((before : List Piece) → HasSeen m before
     → pattern ≡ unmet m.request (state_of_pieces 0 before).declared) → IsRefused m.request file refusal pattern
 is_refused m file refusal pattern t is names =
-    let (body, answer) = answer_with_refusal m t.pieces (state_of_pieces 0 t.pieces) refusal t.is_told is in
+    let (body, answer) = answer_with_refusal m t.pieces (state_of_pieces 0 t.pieces) refusal t.is_told.known is in
     record {
       pieces = t.pieces;
       later = t.later;
@@ -129,8 +130,9 @@ is_past_end m file text end copy told none end_is past =
       allowed = copy.allowed;
       in_body = copy.in_body;
       decided = ap (answer_in m.request) (sym state) ∙ answer_at_limit m.request t.pieces
-          ∙ answer_with_window m t.pieces (state_of_pieces 0 t.pieces) w t.is_told known;
-      end_is = end_is ∙ t.is_told.tick ∙ sym (ap (λ (s : ParseState). s.tick) (at_any_limit VARIABLE_LIMIT t.pieces))
+          ∙ answer_with_window m t.pieces (state_of_pieces 0 t.pieces) w t.is_told.known known;
+      end_is = end_is ∙ t.is_told.known.tick
+          ∙ sym (ap (λ (s : ParseState). s.tick) (at_any_limit VARIABLE_LIMIT t.pieces))
           ∙ ap (λ (s : ParseState). s.tick) state;
       past = later;
     }

@@ -1,5 +1,6 @@
 -- A request while a file is copied.
-use Rattle.std.specs.Prelude.{◌≡◌, true, false, if◌then◌else◌, List, [], Option, Some, None}
+use Rattle.std.specs.Prelude.{◌≡◌, ℕ, Bool, true, false, if◌then◌else◌, List, []}
+use Rattle.std.specs.Prelude.{Option, Some, None}
 use Rattle.std.specs.Prelude.{Result, Ok, Err, IfSome, ◌≤◌, ◌<◌, ◌++◌, option_map, All, length}
 use Rattle.vcd_part.specs.declared.part.PartError.{PartError}
 use Rattle.vcd_part.specs.declared.part.PartError.TheVariants as errors
@@ -11,10 +12,11 @@ use Rattle.vcd_part.specs.declared.amender.PartAmender.{PartAmender}
 use Rattle.vcd_part.specs.declared.request.Request.{Request}
 use Rattle.vcd_part.specs.declared.request.Refusal.{Refusal}
 use Rattle.vcd_part.specs.Requests.{decide, unmet}
-use Rattle.vcd_part.specs.PartPieces.{is_up_to_first, part_rules, pieces_at_end}
+use Rattle.vcd_part.specs.PartPieces.{is_up_to_first, pieces_at_end}
 use Rattle.vcd_text.specs.Pieces.{piece_bytes}
 use Rattle.vcd_part.specs.inside.Choice.{HasNoted}
 use Rattle.vcd_part.specs.inside.CodeUses.{AreUses, HoldLast}
+use Rattle.vcd_part.specs.inside.PartCopy.{part_rules, waiting_stamp, last_settled}
 
 -- the window of an answer
 abbrev pub window_of : Result TickRange Refusal → Option TickRange
@@ -25,6 +27,11 @@ window_of (Err refusal) = None
 abbrev pub refusal_of : Result TickRange Refusal → Option Refusal
 refusal_of (Ok w) = None
 refusal_of (Err refusal) = Some refusal
+
+-- whether the last changes are due at the end of a file whose last stamp is this
+abbrev pub is_first_due : Option TickRange → ℕ → Bool
+is_first_due (Some w) tick = is_up_to_first w tick
+is_first_due None tick = false
 
 -- it was told of these pieces, which all have a byte, and after which the file has this state: up
 -- to the first tick of the window it holds the last changes among them, and none before the window
@@ -43,14 +50,19 @@ pub record IsAt (m : PartAmender) (before : List Piece) (s : ParseState) : Type 
       → HoldLast m.codes m.request s.declared before
 
 -- it was told of these pieces
-abbrev pub HasSeen : PartAmender → List Piece → Type 0
-HasSeen m before = IsAt m before (state_of_pieces 0 before)
+abbrev pub Knows : PartAmender → List Piece → Type 0
+Knows m before = IsAt m before (state_of_pieces 0 before)
+
+-- the same, and it holds the stamp that waits after them
+pub record HasSeen (m : PartAmender) (before : List Piece) : Type 0 where
+  pub known : Knows m before
+  pub waiting : m.waiting.items ≡ piece_bytes (waiting_stamp m.request before)
 
 -- what it writes: at the end what a part has there, if the declarations have ended
 abbrev pub rules_of : Request → CopyRules
 rules_of r = record (part_rules r) {
-  at_end = λ pieces tail. piece_bytes (if (state_of_pieces 0 pieces).in_body
-      then pieces_at_end r pieces else []) ++ tail;
+  at_end = λ pieces tail. piece_bytes (last_settled (waiting_stamp r pieces)
+      (if (state_of_pieces 0 pieces).in_body then pieces_at_end r pieces else [])) ++ tail;
 }
 
 -- what comes of a copy: a refusal, or a window that begins past the end, or else a part

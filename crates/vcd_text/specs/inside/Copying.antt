@@ -109,7 +109,7 @@ pub record HasCopied (limit : ℕ) (rules : CopyRules) (has_seen : List Piece �
   pub whole : bytes ≡ piece_bytes pieces ++ (space ++ (body ++ gap))
   pub seen : has_seen pieces
   pub writes : written (copied_pieces rules [] pieces
-      ++ (if stands_open m.item then space ++ body else []))
+      ++ (if stands_open m.item then rules.before_others pieces ++ (space ++ body) else []))
   pub held_is : held ≡ (if stands_open m.item then gap else space ++ (body ++ gap))
   pub len : 0 < length (word_texts begun) → space_len ≡ length space
 
@@ -136,8 +136,15 @@ pub record IsUnwritten (held all item rest known begun : List ℕ) : Type 0 wher
   pub item_is : item ≡ begun ++ rest
   pub one : (held ≡ []) ⊎ (known ≡ [])
 
--- the open item has ended, and this is added to the text in its place
-pub record HasEnded {W : Type 0} (sink : sinks.Ghosts W) (old new : Output W) (held : List ℕ)
+-- what is added to the text with these bytes of an item that stands: if they begin it, what comes
+-- before it comes first; `item` was open before them
+abbrev pub standing_part : CopyRules → (before : List Piece) → (item : OpenItem) → (bytes : List ℕ)
+    → List ℕ
+standing_part rules before item bytes =
+    (if stands_open item then [] else rules.before_others before) ++ bytes
+
+-- what comes before `rest` is done with: in the place of the open item this is added to the text
+pub record HasPassed {W : Type 0} (sink : sinks.Ghosts W) (old new : Output W) (held : List ℕ)
     (all item rest known part : List ℕ) : Type 0 where
   pub later : List ℕ
   pub all_is : all ≡ later ++ rest

@@ -5,6 +5,7 @@ ghost use Rattle.vcd_text.specs.Pieces.{Piece};
 ghost use Rattle.vcd_text.specs.Copied.{CopyRules, IsNext, IsShownNext, IsTakenNext};
 ghost use Rattle.vcd_text.specs.Copied.{may_be_amended};
 ghost use Rattle.vcd_text.specs.EmittedText.{Emits, EmitsMore};
+ghost use Rattle.vcd_text.specs.declared.copying.amender.InPlace.TheVariants as places;
 
 use crate::writing::output::Output;
 use vcd_core::{NoMemory, ScopeName, Sink, Timescale};
@@ -29,6 +30,17 @@ pub enum AmendableItem {
     RealOrString,
 }
 
+/// What is in the place of an item that may be amended.
+#[derive(Clone, Copy, Debug, PartialEq, Eq)]
+pub enum InPlace {
+    /// The item, and nothing before it.
+    Itself,
+    /// Nothing.
+    Nothing,
+    /// What `take` writes.
+    Other,
+}
+
 /// What is done to a file while it is copied. It is told of each item, in turn, and then of the
 /// end, unless it is done before.
 pub trait Amender<W: Sink> {
@@ -49,17 +61,22 @@ pub trait Amender<W: Sink> {
     // whether what comes is of no use to it
     ghost is_done: { Self → Bool };
 
-    /// Lets an item stand, if it stands and nothing comes before it. Returns whether it does; if
-    /// not, `take` is called for it.
-    fn let_stand(&mut self, item: AmendableItem, code: &[u8]) -> bool
+    /// What is in the place of an item. Unless it is `Other`, the item is done with; for `Other`
+    /// `take` is called next.
+    fn settle(&mut self, item: AmendableItem, code: &[u8]) -> InPlace
         requires { (limit : ℕ) × (before : List Piece) × (p : Piece) × has_seen self.old before
             × IsShownNext limit before p item code.now p.space p.body }
-        ensures stands { result ≡ true → (limit : ℕ) (before : List Piece) (p : Piece) →
+        ensures stands { result ≡ places.Itself → (limit : ℕ) (before : List Piece) (p : Piece) →
             has_seen self.old before →
             IsShownNext limit before p item code.now p.space p.body →
             ((rules (given self.old)).in_place before p ≡ p.space ++ p.body)
             × has_seen self.new (before ++ p ∷ []) }
-        ensures unchanged { result ≡ false → self.new ≡ self.old }
+        ensures goes { result ≡ places.Nothing → (limit : ℕ) (before : List Piece) (p : Piece) →
+            has_seen self.old before →
+            IsShownNext limit before p item code.now p.space p.body →
+            ((rules (given self.old)).in_place before p ≡ [])
+            × has_seen self.new (before ++ p ∷ []) }
+        ensures unchanged { result ≡ places.Other → self.new ≡ self.old }
         ensures same { given self.new ≡ given self.old };
 
     /// Writes what is in the place of an item: of the white space before it, and of its words with
@@ -87,7 +104,13 @@ pub trait Amender<W: Sink> {
         ensures same { OnOk result (given self.new ≡ given self.old) }
         ensures more { OnErr result (EmitsMore W.Sink output.old output.new) };
 
-    /// Passes over any other item, which stands.
+    /// Writes what comes before any other item, which stands: its first word has come.
+    fn write_before(&self, output: &mut Output<W>)
+        requires { (before : List Piece) × has_seen self.now before }
+        ensures { (before : List Piece) → has_seen self.now before →
+            Emits W.Sink output.old output.new ((rules (given self.now)).before_others before) };
+
+    /// Passes over any other item, which has ended.
     fn pass(&mut self)
         ensures seen { (limit : ℕ) (before : List Piece) (p : Piece) →
             has_seen self.old before → IsNext limit before p p.space p.body →

@@ -1,16 +1,17 @@
 //! The item that a word ends: it stands, or an amender writes what is in its place.
 
 ghost use Rattle.std.specs.Prelude.{◌≡◌, ◌+◌, ◌-◌, ◌<◌, ◌++◌, ◌∷◌, ℕ, List, [], length};
-ghost use Rattle.std.specs.Prelude.{Some, IfSome, IfNone, OnOk, if◌then◌else◌, not};
+ghost use Rattle.std.specs.Prelude.{OnOk, if◌then◌else◌};
 ghost use Rattle.vcd_text.specs.Pieces.{Piece};
 ghost use Rattle.vcd_text.specs.Copied.{copied_piece, IsTakenNext};
 ghost use Rattle.vcd_text.specs.inside.Copying.{stands_open, shown_word, shown_item, code_in};
 ghost use Rattle.vcd_text.specs.inside.Copying.{code_after_digit, EndsPiece};
-ghost use Rattle.vcd_text.specs.inside.Copying.{IsUnwritten, IsHeldPiece, HasEnded};
+ghost use Rattle.vcd_text.specs.inside.reading.Scopes.{open_scopes};
+ghost use Rattle.vcd_text.specs.inside.Copying.{IsUnwritten, IsHeldPiece, HasPassed};
 ghost use Rattle.vcd_text.specs.EmittedText.{Emits, EmitsMore};
 
-use super::amender::{AmendableItem, Amender};
-use super::pieces::{Held, Unwritten, hold, write_held, write_standing};
+use super::amender::{AmendableItem, Amender, InPlace};
+use super::pieces::{Held, Unwritten, hold, leave_out, let_stand, write_held, write_standing};
 use crate::reading::parser::{OpenItem, Parser};
 use crate::writing::output::Output;
 use vcd_core::{NoMemory, ScopeName, Sink, Timescale};
@@ -38,7 +39,7 @@ pub fn end_item<'a, W: Sink, A: Amender<W>>(
         IsUnwritten held.old.bytes.items unwritten.old.all.now unwritten.old.item.now rest.now
         known begun →
         IsHeldPiece earlier (held.old.bytes.items ++ begun) held.old.space_len p →
-        HasEnded W.Sink output.old output.new held.new.bytes.items unwritten.new.all.now
+        HasPassed W.Sink output.old output.new held.new.bytes.items unwritten.new.all.now
         unwritten.new.item.now rest.now known
         (if stands_open earlier then held.old.bytes.items ++ begun
         else copied_piece (A.rules (A.given amender.old)) before p)
@@ -46,52 +47,72 @@ pub fn end_item<'a, W: Sink, A: Amender<W>>(
     ensures same { OnOk result (A.given amender.new ≡ A.given amender.old) }
     ensures more { EmitsMore W.Sink output.old output.new }
 {
-    match item_to_amend(parser, amender, earlier, text) {
+    let open_scopes = parser.variables.scopes.depth;
+    match amendable_item(earlier, text, parser.tick, open_scopes, parser.timescale) {
         Some(item) => {
             let code = code_of(earlier, text);
-            let scopes = parser.variables.scopes.opened();
-            amend_item(held, amender, output, unwritten, item, code, scopes, rest)?;
-            unwritten.all = rest;
-            unwritten.item = rest;
+            settle_item(parser, held, amender, output, unwritten, item, code, rest)?;
             Ok(())
         }
         None => {
-            write_held(output, held);
-            unwritten.item = rest;
+            let_stand(held, amender, output, unwritten, earlier, rest);
+            amender.pass();
             Ok(())
         }
     }
 }
 
-/// The item that this word ends, if it does not stand, or something comes before it.
-fn item_to_amend<W: Sink, A: Amender<W>>(
+/// Does what becomes of an item that may be amended.
+fn settle_item<'a, W: Sink, A: Amender<W>>(
     parser: &Parser,
+    held: &mut Held,
     amender: &mut A,
-    earlier: OpenItem,
-    text: &[u8],
-) -> Option<AmendableItem>
-    requires { (limit : ℕ) × (before : List Piece) × (p : Piece) × A.has_seen amender.old before
-        × EndsPiece limit before p earlier text.now parser.now }
-    ensures stands { IfNone result ((limit : ℕ) (before : List Piece) (p : Piece) →
-        A.has_seen amender.old before → EndsPiece limit before p earlier text.now parser.now →
-        (copied_piece (A.rules (A.given amender.old)) before p ≡ p.space ++ p.body)
+    output: &mut Output<W>,
+    unwritten: &mut Unwritten<'a>,
+    item: AmendableItem,
+    code: &[u8],
+    rest: &'a [u8],
+) -> Result<(), NoMemory>
+    requires { (limit : ℕ) × (before : List Piece) × (p : Piece)
+        × (known begun : List ℕ) × A.has_seen amender.old before
+        × IsTakenNext limit before p item code.now (open_scopes parser.now.variables.scopes)
+        p.space p.body
+        × IsUnwritten held.old.bytes.items unwritten.old.all.now unwritten.old.item.now rest.now
+        known begun
+        × (held.old.bytes.items ++ begun ≡ p.space ++ p.body)
+        × (held.old.space_len ≡ length p.space) }
+    ensures settled { OnOk result (
+        (limit : ℕ) (before : List Piece) (p : Piece) (known begun : List ℕ) →
+        A.has_seen amender.old before →
+        IsTakenNext limit before p item code.now (open_scopes parser.now.variables.scopes)
+        p.space p.body →
+        IsUnwritten held.old.bytes.items unwritten.old.all.now unwritten.old.item.now rest.now
+        known begun →
+        (held.old.bytes.items ++ begun ≡ p.space ++ p.body) →
+        (held.old.space_len ≡ length p.space) →
+        HasPassed W.Sink output.old output.new held.new.bytes.items unwritten.new.all.now
+        unwritten.new.item.now rest.now known
+        ((A.rules (A.given amender.old)).in_place before p)
         × A.has_seen amender.new (before ++ p ∷ [])) }
-    ensures amended { IfSome result (λ item. (amender.new ≡ amender.old)
-        × (shown_item earlier text.now parser.now.tick parser.now.variables.scopes.depth
-        parser.now.timescale ≡ Some item)) }
-    ensures same { A.given amender.new ≡ A.given amender.old }
+    ensures same { OnOk result (A.given amender.new ≡ A.given amender.old) }
+    ensures more { EmitsMore W.Sink output.old output.new }
 {
-    let open_scopes = parser.variables.scopes.depth;
-    match amendable_item(earlier, text, parser.tick, open_scopes, parser.timescale) {
-        Some(item) => {
-            if amender.let_stand(item, code_of(earlier, text)) {
-                return None;
-            }
-            Some(item)
+    match amender.settle(item, code) {
+        InPlace::Itself => {
+            write_held(output, held);
+            unwritten.item = rest;
+            Ok(())
         }
-        None => {
-            amender.pass();
-            None
+        InPlace::Nothing => {
+            leave_out(held, output, unwritten, rest);
+            Ok(())
+        }
+        InPlace::Other => {
+            let scopes = parser.variables.scopes.opened();
+            amend_item(held, amender, output, unwritten, item, code, scopes, rest)?;
+            unwritten.all = rest;
+            unwritten.item = rest;
+            Ok(())
         }
     }
 }

@@ -7,9 +7,9 @@ ghost use Rattle.vcd_core.specs.Word.{is_white_space};
 ghost use Rattle.vcd_text.specs.Words.{word_on, WordOnLine as WordInFile};
 ghost use Rattle.vcd_text.specs.Pieces.{Piece};
 ghost use Rattle.vcd_text.specs.Copied.{CopyRules, copied_piece};
-ghost use Rattle.vcd_text.specs.inside.Copying.{stands_open};
+ghost use Rattle.vcd_text.specs.inside.Copying.{stands_open, standing_part};
 ghost use Rattle.vcd_text.specs.inside.Copying.{EndsPiece, IsSpacedWord};
-ghost use Rattle.vcd_text.specs.inside.Copying.{HasCopiedUpTo, IsUnwritten, IsHeldPiece, HasEnded};
+ghost use Rattle.vcd_text.specs.inside.Copying.{HasCopiedUpTo, IsUnwritten, IsHeldPiece, HasPassed};
 ghost use Rattle.vcd_text.specs.inside.reading.Choice.{HasTakenFrom, CanTake, TakesWord};
 ghost use Rattle.vcd_text.specs.EmittedText.{Emits, EmitsMore};
 ghost use Rattle.vcd_text.specs.declared.reading.parser.OpenItem.TheVariants as items;
@@ -108,16 +108,17 @@ fn mark_first(held: &mut Held, earlier: OpenItem, more: usize)
     }
 }
 
-/// Writes what is known to stand.
+/// Writes what is known to stand, if there is some.
 pub fn write_standing<W: Sink>(output: &mut Output<W>, unwritten: &Unwritten)
     requires { (known : List ℕ) × (unwritten.now.all.now ≡ known ++ unwritten.now.item.now) }
     ensures { (known : List ℕ) → unwritten.now.all.now ≡ known ++ unwritten.now.item.now →
         Emits W.Sink output.old output.new known }
 {
-    write_bytes(
-        output,
-        &unwritten.all[..unwritten.all.len() - unwritten.item.len()],
-    );
+    let len = unwritten.all.len() - unwritten.item.len();
+    if len == 0 {
+        return;
+    }
+    write_bytes(output, &unwritten.all[..len]);
 }
 
 /// Appends bytes to those that are held.
@@ -139,8 +140,12 @@ fn decide<'a, W: Sink, A: Amender<W>>(
     text: &[u8],
     rest: &'a [u8],
 ) -> Result<(), NoMemory>
-    requires { parser.now.item ≡ items.Nothing → (limit : ℕ) × (before : List Piece) × (p : Piece)
-        × (known begun : List ℕ) × A.has_seen amender.old before
+    requires seen { (before : List Piece) × (known begun : List ℕ)
+        × A.has_seen amender.old before
+        × IsUnwritten held.old.bytes.items unwritten.old.all.now unwritten.old.item.now rest.now
+        known begun }
+    requires ends { parser.now.item ≡ items.Nothing → (limit : ℕ) × (before : List Piece)
+        × (p : Piece) × (known begun : List ℕ) × A.has_seen amender.old before
         × EndsPiece limit before p earlier text.now parser.now
         × IsUnwritten held.old.bytes.items unwritten.old.all.now unwritten.old.item.now rest.now
         known begun
@@ -151,20 +156,27 @@ fn decide<'a, W: Sink, A: Amender<W>>(
         IsUnwritten held.old.bytes.items unwritten.old.all.now unwritten.old.item.now rest.now
         known begun →
         IsHeldPiece earlier (held.old.bytes.items ++ begun) held.old.space_len p →
-        HasEnded W.Sink output.old output.new held.new.bytes.items unwritten.new.all.now
+        HasPassed W.Sink output.old output.new held.new.bytes.items unwritten.new.all.now
         unwritten.new.item.now rest.now known
         (if stands_open earlier then held.old.bytes.items ++ begun
         else copied_piece (A.rules (A.given amender.old)) before p)
         × A.has_seen amender.new (before ++ p ∷ [])) }
-    ensures goes_on { OnOk result ((parser.now.item ≡ items.Nothing → ⊥) →
-        (stands_open parser.now.item ≡ true →
-        (unwritten.new.item.now ≡ rest.now) × (held.new.bytes.items ≡ [])
-        × Emits W.Sink output.old output.new held.old.bytes.items)
-        × (stands_open parser.now.item ≡ false →
+    ensures stands { OnOk result (stands_open parser.now.item ≡ true →
+        (before : List Piece) (known begun : List ℕ) → A.has_seen amender.old before →
+        IsUnwritten held.old.bytes.items unwritten.old.all.now unwritten.old.item.now rest.now
+        known begun →
+        HasPassed W.Sink output.old output.new held.new.bytes.items unwritten.new.all.now
+        unwritten.new.item.now rest.now known
+        (standing_part (A.rules (A.given amender.old)) before earlier
+        (held.old.bytes.items ++ begun))) }
+    ensures waits { OnOk result ((parser.now.item ≡ items.Nothing → ⊥) →
+        stands_open parser.now.item ≡ false →
         (unwritten.new.item.now ≡ unwritten.old.item.now)
-        × (held.new.bytes.items ≡ held.old.bytes.items) × Emits W.Sink output.old output.new [])
-        × (unwritten.new.all.now ≡ unwritten.old.all.now) × (amender.new ≡ amender.old)
-        × (held.new.space_len ≡ held.old.space_len)) }
+        × (unwritten.new.all.now ≡ unwritten.old.all.now)
+        × (held.new.bytes.items ≡ held.old.bytes.items)
+        × Emits W.Sink output.old output.new []) }
+    ensures goes_on { OnOk result ((parser.now.item ≡ items.Nothing → ⊥) →
+        (amender.new ≡ amender.old) × (held.new.space_len ≡ held.old.space_len)) }
     ensures same { OnOk result (A.given amender.new ≡ A.given amender.old) }
     ensures more { EmitsMore W.Sink output.old output.new }
 {
@@ -175,10 +187,80 @@ fn decide<'a, W: Sink, A: Amender<W>>(
         return Ok(());
     }
     if stands(parser.item) {
-        write_held(output, held);
-        unwritten.item = rest;
+        let_stand(held, amender, output, unwritten, earlier, rest);
     }
     Ok(())
+}
+
+/// Lets the item of a word stand; `earlier` is what was open before the word. If the word is the
+/// item's first, what the amender writes before the item comes first.
+pub fn let_stand<'a, W: Sink, A: Amender<W>>(
+    held: &mut Held,
+    amender: &A,
+    output: &mut Output<W>,
+    unwritten: &mut Unwritten<'a>,
+    earlier: OpenItem,
+    rest: &'a [u8],
+)
+    requires { (before : List Piece) × (known begun : List ℕ) × A.has_seen amender.now before
+        × IsUnwritten held.old.bytes.items unwritten.old.all.now unwritten.old.item.now rest.now
+        known begun }
+    ensures stands { (before : List Piece) (known begun : List ℕ) →
+        A.has_seen amender.now before →
+        IsUnwritten held.old.bytes.items unwritten.old.all.now unwritten.old.item.now rest.now
+        known begun →
+        HasPassed W.Sink output.old output.new held.new.bytes.items unwritten.new.all.now
+        unwritten.new.item.now rest.now known
+        (standing_part (A.rules (A.given amender.now)) before earlier
+        (held.old.bytes.items ++ begun)) }
+    ensures len { held.new.space_len ≡ held.old.space_len }
+    ensures more { EmitsMore W.Sink output.old output.new }
+{
+    if !stands(earlier) {
+        write_before_item(amender, output, unwritten);
+    }
+    write_held(output, held);
+    unwritten.item = rest;
+}
+
+/// Writes what is known to stand, and what an amender writes before the open item, which stands.
+fn write_before_item<'a, W: Sink, A: Amender<W>>(
+    amender: &A,
+    output: &mut Output<W>,
+    unwritten: &mut Unwritten<'a>,
+)
+    requires { (before : List Piece) × (known : List ℕ) × A.has_seen amender.now before
+        × (unwritten.old.all.now ≡ known ++ unwritten.old.item.now) }
+    ensures written { (before : List Piece) (known : List ℕ) → A.has_seen amender.now before →
+        unwritten.old.all.now ≡ known ++ unwritten.old.item.now →
+        Emits W.Sink output.old output.new
+        (known ++ (A.rules (A.given amender.now)).before_others before) }
+    ensures all { unwritten.new.all.now ≡ unwritten.old.item.now }
+    ensures item { unwritten.new.item.now ≡ unwritten.old.item.now }
+{
+    write_standing(output, unwritten);
+    amender.write_before(output);
+    unwritten.all = unwritten.item;
+}
+
+/// Leaves out the item that a word ends. What is known to stand before it is written.
+pub fn leave_out<'a, W: Sink>(
+    held: &mut Held,
+    output: &mut Output<W>,
+    unwritten: &mut Unwritten<'a>,
+    rest: &'a [u8],
+)
+    requires { (known : List ℕ) × (unwritten.old.all.now ≡ known ++ unwritten.old.item.now) }
+    ensures written { (known : List ℕ) → unwritten.old.all.now ≡ known ++ unwritten.old.item.now →
+        Emits W.Sink output.old output.new known }
+    ensures none { held.new.bytes.items ≡ [] }
+    ensures all { unwritten.new.all.now ≡ rest.now }
+    ensures item { unwritten.new.item.now ≡ rest.now }
+{
+    write_standing(output, unwritten);
+    held.bytes.clear();
+    unwritten.all = rest;
+    unwritten.item = rest;
 }
 
 /// Whether an open item stands whatever follows.

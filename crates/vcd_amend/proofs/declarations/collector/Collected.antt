@@ -3,12 +3,12 @@ use Rattle.std.proofs.Common.{◌≡◌, ◌∙◌, ℕ, List, [], ◌∷◌, �
 use Rattle.std.proofs.Common.{false, not, ◌&&◌, append_assoc}
 use Rattle.std.specs.Prelude.{IsTrue, option_to_list, Some, Option, None, IfSome}
 use Rattle.std.proofs.lemmas.List.{map-append}
-use Rattle.std.proofs.lemmas.Bool.{and_parts, false≢true}
+use Rattle.std.proofs.lemmas.Bool.{false≢true}
 use Rattle.vcd_core.specs.Decimal.{is_number, number_of}
 use Rattle.vcd_core.specs.declared.capture.ScopeName.{ScopeName}
 use Rattle.vcd_text.specs.Words.{words_of}
 use Rattle.vcd_text.specs.Items.{Item, entry, timescale, scope, upscope, variable, end_definitions, stamp, scalar}
-use Rattle.vcd_text.specs.Items.{vector, real_or_string, dump_word, other, spelling, has_no_end_word, spellings}
+use Rattle.vcd_text.specs.Items.{vector, real_or_string, dump_word, other, spelling, spellings}
 use Rattle.vcd_text.specs.Grammar.{ParseState, VariableDeclaration, initial_state, declaration_of, Allows, AllowsAll}
 use Rattle.vcd_text.specs.Grammar.{state_after, state_after_item, word_texts, Accepts, fits}
 use Rattle.vcd_text.specs.Pieces.{Piece, state_of_pieces}
@@ -20,104 +20,14 @@ use Rattle.vcd_text.specs.MemoryErrors.{memory_error}
 use Rattle.vcd_text.specs.Refusals.{IsRefusal, no_memory}
 use Rattle.vcd_text.specs.VariableWords.{IsVariable}
 use Rattle.vcd_text.proofs.shared.FirstItem.{one_item, one_rest}
+use Rattle.vcd_text.proofs.shared.StatesOfPieces.{last_allowed, one_more, at_any_limit}
+use Rattle.vcd_text.proofs.shared.DeclaringWords.{declares}
 use Rattle.vcd_text.proofs.pieces.Cuts.{spelling_some}
 use Rattle.vcd_amend.specs.DeclaredVariables.{declaration_of_variable}
 use Rattle.vcd_amend.specs.inside.declarations.Collector.{HasCollected}
 use Rattle.vcd_amend.specs.declared.declarations.collector.Collector.{Collector}
 
 -- ==== what one more item of a file adds to what was collected
-
--- ---- states
-
-pub last_allowed : (c : ParseState) (is : List Item) (i : Item) → AllowsAll c (is ++ i ∷ []) → Allows (state_after c is)
-    i
-last_allowed c [] i allowed = allowed.0
-last_allowed c (j ∷ is) i allowed = last_allowed (state_after_item c j) is i allowed.1
-
-pub one_more : (limit : ℕ) (before : List Piece) (p : Piece)
-    → state_of_pieces limit (before ++ p ∷ []) ≡ state_after_item (state_of_pieces limit before) p.item
-one_more limit before p = go (initial_state limit) before
-  where
-    go : (c : ParseState) (ps : List Piece)
-        → state_after c (map (λ p. p.item) (ps ++ p ∷ [])) ≡ state_after_item (state_after c (map (λ p. p.item) ps))
-        p.item
-    go c [] = refl
-    go c (q ∷ ps) = go (state_after_item c q.item) ps
-
--- the limit of a state has no effect but on itself
-abbrev pub at_limit : ℕ → ParseState → ParseState
-at_limit n c = record c { limit = n }
-
-pub item_at_limit : (n : ℕ) (c : ParseState) (i : Item) → state_after_item (at_limit n c) i ≡ at_limit n
-    (state_after_item c i)
-item_at_limit n c (entry kind words) = refl
-item_at_limit n c (timescale words) = refl
-item_at_limit n c (scope kind words) = refl
-item_at_limit n c upscope = refl
-item_at_limit n c (variable []) = refl
-item_at_limit n c (variable (kind ∷ [])) = refl
-item_at_limit n c (variable (kind ∷ size ∷ [])) = refl
-item_at_limit n c (variable (kind ∷ size ∷ code ∷ [])) = refl
-item_at_limit n c (variable (kind ∷ size ∷ code ∷ name ∷ names)) = refl
-item_at_limit n c end_definitions = refl
-item_at_limit n c (stamp digits) = refl
-item_at_limit n c (scalar digit code) = refl
-item_at_limit n c (vector first digits code) = refl
-item_at_limit n c (real_or_string first text code) = refl
-item_at_limit n c (dump_word word) = refl
-item_at_limit n c (other word words) = refl
-
-pub at_any_limit : (limit : ℕ) (ps : List Piece) → state_of_pieces limit ps ≡ record (state_of_pieces 0 ps)
-    { limit = limit }
-at_any_limit limit ps = go (initial_state 0) ps
-  where
-    go : (c : ParseState) (ps : List Piece)
-        → state_after (at_limit limit c) (map (λ p. p.item) ps) ≡ at_limit limit (state_after c (map (λ p. p.item) ps))
-    go c [] = refl
-    go c (p ∷ ps) = ap (λ s. state_after s (map (λ p. p.item) ps)) (item_at_limit limit c p.item)
-        ∙ go (state_after_item c p.item) ps
-
--- ---- a variable
-
--- the words of a variable that is allowed, and its declaration
-record Declares (words : List (List ℕ)) : Type 0 where
-  kind : List ℕ
-  size : List ℕ
-  code : List ℕ
-  names : List (List ℕ)
-  words_are : words ≡ kind ∷ size ∷ code ∷ names
-  number : IsTrue (is_number size)
-  finds : (c : ParseState) → declaration_of c words ≡ Some (record {
-    scopes = c.scopes;
-    kind = kind;
-    size = number_of size;
-    code = code;
-    words = names;
-  })
-  is : (c : ParseState) → option_to_list (declaration_of c words) ≡ record {
-    scopes = c.scopes;
-    kind = kind;
-    size = number_of size;
-    code = code;
-    words = names;
-  } ∷ []
-
-declares : (c : ParseState) (words : List (List ℕ)) → Allows c (variable words) → Declares words
-declares c [] allowed = absurd (cc (allowed.1))
-declares c (kind ∷ []) allowed = absurd (cc (allowed.1))
-declares c (kind ∷ size ∷ []) allowed = absurd (cc (allowed.1))
-declares c (kind ∷ size ∷ code ∷ []) allowed = absurd (cc (allowed.1))
-declares c (kind ∷ size ∷ code ∷ name ∷ names) allowed = record {
-  kind = kind;
-  size = size;
-  code = code;
-  names = name ∷ names;
-  words_are = refl;
-  number = (and_parts (has_no_end_word (kind ∷ size ∷ code ∷ name ∷ names)) (is_number size)
-      (and_parts _ _ allowed.0).1).1;
-  finds = λ c. refl;
-  is = λ c. refl;
-}
 
 -- a `$var` comes after these pieces, while these scopes are open
 pub record NextVariable (before : List Piece) (p : Piece) (scopes : List ScopeName) (body : List ℕ) : Type 0 where
@@ -178,8 +88,8 @@ next_variable limit before p item code scopes space body taken is =
       code = d.code;
       names = d.names;
       item_is = item_is ∙ ap variable d.words_are;
-      declares = λ c. ap (λ l. record c { declared = c.declared ++ l })
-          (ap (λ ws. option_to_list (declaration_of c ws)) (sym d.words_are) ∙ d.is c);
+      declares = λ c. ap (λ l. record c { declared = c.declared ++ option_to_list l })
+          (ap (declaration_of c) (sym d.words_are) ∙ d.finds c);
       finds = λ c. ap (declaration_of c) (sym d.words_are) ∙ d.finds c;
       is_variable = record {
         spelled = ap (λ l. word_texts (words_of l)) (sym taken.shown.next.body_is) ∙ taken.shown.next.spelled
@@ -188,9 +98,8 @@ next_variable limit before p item code scopes space body taken is =
       number = d.number;
       known = known;
       declared = ap (λ (c : ParseState). c.declared) after ∙ ap (λ l. (state_of_pieces 0 before).declared ++ l)
-          (d.is (state_of_pieces 0 before) ∙ ap (λ (s : List ScopeName). with_scopes s d.kind d.size d.code d.names ∷
-          [])
-          known);
+          (ap option_to_list (d.finds (state_of_pieces 0 before))
+          ∙ ap (λ (s : List ScopeName). with_scopes s d.kind d.size d.code d.names ∷ []) known);
       opened = sym known ∙ ap (λ (c : ParseState). c.scopes) (sym after);
       in_body = ap (λ (c : ParseState). c.in_body) (sym after);
     }

@@ -20,7 +20,7 @@ use Rattle.vcd_part.specs.PartPieces.{stamp_pieces, change_in_part}
 use Rattle.vcd_part.proofs.laws.signals.SameStatus.{HasOneStatus}
 use Rattle.vcd_part.proofs.laws.states.Windows.{IsInOrder}
 use Rattle.vcd_part.proofs.laws.states.PartStates.{at, in_part}
-use Rattle.vcd_part.proofs.laws.states.StatesInTurn.{without_limit, one_more, no_body, no_end}
+use Rattle.vcd_part.proofs.laws.states.StatesInTurn.{without_limit, next_state, no_body, no_end}
 use Rattle.vcd_part.proofs.laws.states.PartChanges.{Follows, Arrives, SameValues, LastValues, CanFollow, change_arrives}
 use Rattle.vcd_part.proofs.laws.states.PartChanges.{last_again, can_again}
 use Rattle.vcd_part.proofs.laws.states.PartStamps.{stamp_arrives, first_tick_leads}
@@ -157,7 +157,7 @@ module _ (r : Request) (w : TickRange) (order : IsInOrder w) (words : List (List
   body_leads before (p ∷ ps) s vs n follows is allows =
       let here = step before s vs n follows p.item p.space p.body allows.0 in
       let next = body_leads (before ++ p ∷ []) ps (state_after_item s p.item) here.value_changes here.tick here.follows
-      (one_more before p s is) allows.1 in
+      (next_state before p s is) allows.1 in
       let first : List Piece = pieces_after_state r s before p in
       let rest : List Piece = part_after r (before ++ p ∷ []) ps in
       record {

@@ -17,9 +17,10 @@ use Rattle.vcd_part.specs.Requests.{decide}
 use Rattle.vcd_part.specs.PartPieces.{part_after, part_pieces, pieces_after_state, pieces_of_step, comment_words}
 use Rattle.vcd_part.specs.PartPieces.{kept_count, all_count, last_such}
 use Rattle.vcd_part.specs.PartLaws.{HasPart}
+use Rattle.vcd_part.proofs.laws.EmptyStamps.{reaches_without}
 use Rattle.vcd_part.proofs.laws.states.Windows.{IsInOrder, decided_in_order}
 use Rattle.vcd_part.proofs.laws.states.PartStates.{among, in_part}
-use Rattle.vcd_part.proofs.laws.states.StatesInTurn.{without_limit, one_more, body_stays}
+use Rattle.vcd_part.proofs.laws.states.StatesInTurn.{without_limit, next_state, body_stays}
 use Rattle.vcd_part.proofs.laws.states.PartChanges.{Follows}
 use Rattle.vcd_part.proofs.laws.states.PartBody.{Ends, body_leads}
 use Rattle.vcd_part.proofs.laws.states.PartDeclarations.{IsHeader, header_leads, body_starts}
@@ -107,7 +108,7 @@ module _ (r : Request) (w : TickRange) where
             let at_end : decide r next.timescale next.declared ≡ Ok w = (λ i. decide r (sym stays.timescale i) (sym
             stays.declared i)) ∙ decided in
             let start = starts order before s is p.item p.space p.body starts_now at_end in
-            let ends = body_leads r w order (words_at next) (before ++ p ∷ []) ps next [] 0 start.follows (one_more
+            let ends = body_leads r w order (words_at next) (before ++ p ∷ []) ps next [] 0 start.follows (next_state
             before p s same) allows.1 in
             let all = both_end (words_at next) (among r s) (in_part r (words_at next) next [] 0) end
             (pieces_after_state r s before p) rest start.leads ends in
@@ -116,7 +117,8 @@ module _ (r : Request) (w : TickRange) where
         | inr goes_on ↦
             let here = header_leads r before s is p.item p.space p.body goes_on allows.0 in
             both_end (words_at end) (among r s) (among r next) end (pieces_after_state r s before p) rest here.leads
-            (header_ends order (before ++ p ∷ []) ps next here.header (one_more before p s same) allows.1 body decided)
+            (header_ends order (before ++ p ∷ []) ps next here.header (next_state before p s same) allows.1 body
+            decided)
       ])
 
 nothing_yet : (limit : ℕ) → IsHeader [] (initial_state limit)
@@ -141,5 +143,12 @@ module _ (r : Request) (limit : ℕ) (file : List ℕ) (pieces : List Piece) (ta
 
   pub part_ends : Ends r w (words_at r w whole) (initial_state limit)
       (piece_items (part_pieces r pieces)) whole
-  part_ends = header_ends r w in_order [] pieces (initial_state limit) (nothing_yet limit) refl has.allowed
-      has.in_body has.decided
+  part_ends =
+      let ends = header_ends r w in_order [] pieces (initial_state limit) (nothing_yet limit) refl has.allowed
+      has.in_body has.decided in
+      record {
+        more = ends.more;
+        leads = reaches_without (initial_state limit) _ (part_after r [] pieces) ends.leads;
+        same = ends.same;
+        one = ends.one;
+      }

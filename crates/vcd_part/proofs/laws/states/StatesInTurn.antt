@@ -7,41 +7,17 @@ use Rattle.vcd_text.specs.Items.{vector, real_or_string, dump_word, other}
 use Rattle.vcd_text.specs.Grammar.{ParseState, Allows, AllowsAll, state_after_item, state_after}
 use Rattle.vcd_text.specs.Grammar.{initial_state}
 use Rattle.vcd_text.specs.Pieces.{Piece, state_of_pieces}
+use Rattle.vcd_text.proofs.shared.StatesOfPieces.{one_more, item_at_limit}
 
 -- a state without its limit
 abbrev pub without_limit : ParseState → ParseState
 without_limit s = record s { limit = 0 }
 
-one_item : (s : ParseState) (i : Item) → state_after_item (without_limit s) i ≡ without_limit (state_after_item s i)
-one_item s (entry kind words) = refl
-one_item s (timescale words) = refl
-one_item s (scope kind words) = refl
-one_item s upscope = refl
-one_item s (variable (kind ∷ size ∷ code ∷ name ∷ names)) = refl
-one_item s (variable []) = refl
-one_item s (variable (kind ∷ [])) = refl
-one_item s (variable (kind ∷ size ∷ [])) = refl
-one_item s (variable (kind ∷ size ∷ code ∷ [])) = refl
-one_item s end_definitions = refl
-one_item s (stamp digits) = refl
-one_item s (scalar digit code) = refl
-one_item s (vector first digits code) = refl
-one_item s (real_or_string first text code) = refl
-one_item s (dump_word word) = refl
-one_item s (other word words) = refl
-
-last_item : (s : ParseState) (is : List Item) (i : Item) → state_after s (is ++ i ∷ [])
-    ≡ state_after_item (state_after s is) i
-last_item s [] i = refl
-last_item s (x ∷ is) i = last_item (state_after_item s x) is i
-
 -- the state after one more piece
-pub one_more : (before : List Piece) (p : Piece) (s : ParseState) → state_of_pieces 0 before ≡ without_limit s
+pub next_state : (before : List Piece) (p : Piece) (s : ParseState) → state_of_pieces 0 before ≡ without_limit s
     → state_of_pieces 0 (before ++ p ∷ []) ≡ without_limit (state_after_item s p.item)
-one_more before p s is = ap (λ (l : List Item). state_after (initial_state 0) l) (map-append (λ (p : Piece). p.item)
-    before (p ∷ []))
-    ∙ last_item (initial_state 0) (map (λ (p : Piece). p.item) before) p.item
-    ∙ ap (λ (x : ParseState). state_after_item x p.item) is ∙ one_item s p.item
+next_state before p s is = one_more 0 before p ∙ ap (λ (x : ParseState). state_after_item x p.item) is
+    ∙ item_at_limit 0 s p.item
 
 -- ---- in the body
 

@@ -26,7 +26,7 @@ use Rattle.vcd_part.specs.PartPieces.{stamp_in_part, last_stamp, stamp_pieces, b
 use Rattle.vcd_part.specs.PartPieces.{declaration_in_part, pieces_after_state, part_after, ended_pieces}
 use Rattle.vcd_part.specs.PartPieces.{is_up_to_first, is_within, is_change_of, lasting_codes, kept_count, all_count}
 use Rattle.vcd_part.proofs.laws.states.Windows.{IsInOrder, decided_in_order}
-use Rattle.vcd_part.proofs.laws.states.StatesInTurn.{without_limit, one_more}
+use Rattle.vcd_part.proofs.laws.states.StatesInTurn.{without_limit, next_state}
 
 -- ---- what holds of each piece of the part
 
@@ -179,7 +179,7 @@ module _ (r : Request) (P Q : Piece → Type 0)
     all_after before (p ∷ ps) s same allows all_before all_were all =
         let here = all_placed s before all_before p.space p.body p.item allows.0 (All-head P p ps all) (All-head Q p ps
         all_were) in
-        let rest = all_after (before ++ p ∷ []) ps (state_after_item s p.item) (one_more before p s same) allows.1
+        let rest = all_after (before ++ p ∷ []) ps (state_after_item s p.item) (next_state before p s same) allows.1
         (All-append Q before (p ∷ []) all_before (All-cons Q p [] (All-head Q p ps all_were) (All-nil Q))) (All-tail Q p
         ps all_were) (All-tail P p ps all) in
         All-append P _ _ (subst (λ (x : ParseState). All P (pieces_after_state r x before p)) (sym same) here) rest

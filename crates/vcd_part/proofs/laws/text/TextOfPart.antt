@@ -17,25 +17,19 @@ use Rattle.vcd_text.specs.Copied.{piece_items}
 use Rattle.vcd_text.specs.declared.reading.choice.TickRange.{TickRange}
 use Rattle.vcd_text.proofs.read_back.Words.{is_unbroken}
 use Rattle.vcd_text.proofs.read_back.WholeText.{one_word, longer_unbroken, decimal_unbroken}
-use Rattle.vcd_text.proofs.pieces.Bytes.{texts, texts_are, joined_words, is_end, space_first, both_parts, lines_last}
+use Rattle.vcd_text.proofs.pieces.Bytes.{texts_are, joined_words}
+use Rattle.vcd_text.proofs.pieces.Cuts.{SpellsItem, SpaceIsWhite, HasSomeSpace}
+use Rattle.vcd_text.proofs.shared.SpelledItems.{bytes_spell}
 use Rattle.vcd_part.specs.declared.request.Request.{Request}
 use Rattle.vcd_part.specs.PartPieces.{part_after, part_pieces, pieces_of_step, on_own_line}
 use Rattle.vcd_text.specs.Pieces.{piece_bytes}
 use Rattle.vcd_part.specs.PartPieces.{ended_in_part}
 use Rattle.vcd_part.specs.declared.request.Refusal.{Refusal}
 use Rattle.vcd_part.specs.Requests.{keeps, decide}
-use Rattle.vcd_part.proofs.laws.states.StatesInTurn.{without_limit, one_more}
+use Rattle.vcd_part.proofs.laws.EmptyStamps.{all_without, later_without}
+use Rattle.vcd_part.proofs.laws.states.StatesInTurn.{without_limit, next_state}
 use Rattle.vcd_part.proofs.laws.states.CommentWords.{comment_spelled}
 use Rattle.vcd_part.proofs.laws.text.PiecesOfPart.{all_after}
-
-abbrev SpellsItem : Piece → Type 0
-SpellsItem p = word_texts (words_of p.body) ≡ spelling p.item
-
-abbrev HasSpace : Piece → Type 0
-HasSpace p = list_all is_white_space p.space ≡ true
-
-abbrev HasSomeSpace : Piece → Type 0
-HasSomeSpace p = 0 < length p.space
 
 -- ---- the word of a stamp
 
@@ -49,36 +43,6 @@ stamp_texts u most = texts_are (35 ∷ decimal u) ∙ joined_words ((35 ∷ deci
       arith,
       most,
     ))))))
-
--- ---- the bytes of pieces
-
-module _ (tail : List ℕ) (white : list_all is_white_space tail ≡ true) where
-  abbrev bytes_of : List Piece → List ℕ
-  bytes_of ps = piece_bytes ps ++ tail
-
-  space_comes : (space rest : List ℕ) → 0 < length space → list_all is_white_space space ≡ true
-      → is_end (space ++ rest) ≡ true
-  space_comes [] rest some all = absurd (omega arith)
-  space_comes (b ∷ bs) rest some all = (and_parts (is_white_space b) (list_all is_white_space bs) all).0
-
-  split : (p : Piece) (ps : List Piece) → bytes_of (p ∷ ps) ≡ p.space ++ (p.body ++ bytes_of ps)
-  split p ps = append_assoc (p.space ++ p.body) (piece_bytes ps) tail
-      ∙ append_assoc p.space p.body (bytes_of ps)
-
-  bytes_end : (ps : List Piece) → All HasSomeSpace ps → All HasSpace ps → is_end (bytes_of ps) ≡ true
-  bytes_end [] some spaces = (lines_last [] tail refl white).1
-  bytes_end (p ∷ ps) some spaces = ap is_end (split p ps) ∙ space_comes p.space (p.body ++ bytes_of ps) (All-head
-      HasSomeSpace p ps some) (All-head HasSpace p ps spaces)
-
-  bytes_spell : (ps : List Piece) → All HasSomeSpace (drop 1 ps) → All HasSpace ps → All SpellsItem ps
-      → texts (bytes_of ps) ≡ spellings (piece_items ps)
-  bytes_spell [] some spaces bodies = (lines_last [] tail refl white).0
-  bytes_spell (p ∷ ps) some spaces bodies =
-      let rest = bytes_spell ps (All-drop HasSomeSpace 1 ps some) (All-tail HasSpace p ps spaces) (All-tail SpellsItem p
-      ps bodies) in
-      ap texts (split p ps) ∙ space_first p.space (p.body ++ bytes_of ps) (All-head HasSpace p ps spaces) ∙ both_parts
-      p.body (bytes_of ps) (bytes_end ps some (All-tail HasSpace p ps spaces)) ∙ ap (λ ws. ws ++ texts (bytes_of ps))
-      (sym (texts_are p.body) ∙ All-head SpellsItem p ps bodies) ∙ ap (λ ws. spelling p.item ++ ws) rest
 
 -- ---- white space stands before each piece of the part after the first
 
@@ -141,23 +105,29 @@ module _ (r : Request) where
       limit)
       refl tt (All-nil HasSomeSpace))
   apart_again limit (p ∷ ps) allows some = drop_both (pieces_of_step r [] p) (part_after r (p ∷ []) ps) (first_apart
-      p.item p.space p.body) (some_after (p ∷ []) ps (state_after_item (initial_state limit) p.item) (one_more [] p
+      p.item p.space p.body) (some_after (p ∷ []) ps (state_after_item (initial_state limit) p.item) (next_state [] p
       (initial_state limit) refl) allows.1 some)
 
 -- ---- the bytes of the part
 
 module _ (r : Request) (limit : ℕ) (file : List ℕ) (pieces : List Piece) (tail : List ℕ)
     (cut : IsCut file pieces tail) (allowed : AllowsAll (initial_state limit) (piece_items pieces)) where
-  part_spells : All SpellsItem (part_pieces r pieces)
-  part_spells = all_after r SpellsItem SpellsItem (λ p u most is. stamp_texts u most) (λ u most. stamp_texts u most) (λ
-      p is. is) (λ w a b p order is. comment_spelled w order a b p.space) [] pieces (initial_state limit) refl allowed
-      (All-nil SpellsItem) cut.spelled cut.spelled
+  -- with all stamps within the window
+  abbrev whole : List Piece
+  whole = part_after r [] pieces
 
-  part_spaces : All HasSpace (part_pieces r pieces)
-  part_spaces = all_after r HasSpace HasSpace (λ p u most is. is) (λ u most. refl) (λ p is. refl) (λ w a b p order is.
-      is) [] pieces (initial_state limit) refl allowed (All-nil HasSpace) cut.spaces cut.spaces
+  part_spells : All SpellsItem (part_pieces r pieces)
+  part_spells = all_without SpellsItem whole (all_after r SpellsItem SpellsItem (λ p u most is. stamp_texts u most)
+      (λ u most. stamp_texts u most) (λ p is. is) (λ w a b p order is. comment_spelled w order a b p.space) [] pieces
+      (initial_state limit) refl allowed (All-nil SpellsItem) cut.spelled cut.spelled)
+
+  part_spaces : All SpaceIsWhite (part_pieces r pieces)
+  part_spaces = all_without SpaceIsWhite whole (all_after r SpaceIsWhite SpaceIsWhite (λ p u most is. is)
+      (λ u most. refl) (λ p is. refl) (λ w a b p order is. is) [] pieces (initial_state limit) refl allowed
+      (All-nil SpaceIsWhite) cut.spaces cut.spaces)
 
   pub part_spelled : word_texts (words_of (piece_bytes (part_pieces r pieces) ++ tail))
       ≡ spellings (piece_items (part_pieces r pieces))
-  part_spelled = texts_are (bytes_of tail cut.end (part_pieces r pieces)) ∙ bytes_spell tail cut.end (part_pieces r
-      pieces) (apart_again r limit pieces allowed cut.apart) part_spaces part_spells
+  part_spelled = texts_are (piece_bytes (part_pieces r pieces) ++ tail)
+      ∙ bytes_spell tail cut.end (part_pieces r pieces)
+      (later_without HasSomeSpace whole (apart_again r limit pieces allowed cut.apart)) part_spaces part_spells

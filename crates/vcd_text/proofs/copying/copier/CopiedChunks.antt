@@ -127,7 +127,8 @@ whole_copied {rules = rules} {held = held} h complete writes =
     record {
       text = copied rules h.pieces h.gap;
       is_copy = whole_copy h complete;
-      emits = writes_as (ap (λ i. (copied_pieces rules [] h.pieces ++ cond (stands_open i) (h.space ++ h.body) [])
+      emits = writes_as (ap (λ i. (copied_pieces rules [] h.pieces ++ cond (stands_open i)
+          (rules.before_others h.pieces ++ (h.space ++ h.body)) [])
           ++ rules.at_end h.pieces held) nothing ∙ ap₂ (λ x y. x ++ rules.at_end h.pieces y) (append-nil
           (copied_pieces rules [] h.pieces)) gap) (writes_both h.writes writes);
     }
@@ -156,7 +157,7 @@ pub nothing_copied : {W : Type 0} {sink : sinks.Ghosts W} {limit : ℕ} {rules :
     → HasTakenWords limit asked m (complete_words []) → held ≡ [] → seen []
     → HasCopied limit rules seen (Emits sink o o) m held len []
 unfolding copied_pieces words_of
-nothing_copied {limit = limit} {asked = asked} {m = m} {held = held} r empty seen =
+nothing_copied {limit = limit} {rules = rules} {asked = asked} {m = m} {held = held} r empty seen =
     let none = both_none r.whole r.begun (sym no_complete ∙ r.parts) in
     let items = no_items r.items (ap word_texts (sym none.0) ∙ r.spelled) in
     let state : r.state ≡ initial_state limit = sym r.state_is ∙ ap (state_after (initial_state limit)) items in
@@ -190,7 +191,7 @@ nothing_copied {limit = limit} {asked = asked} {m = m} {held = held} r empty see
       gap_some = λ complete. inr (refl, refl);
       whole = refl;
       seen = seen;
-      writes = writes_as (ap (λ i. cond (stands_open i) [] []) (sym nothing)) writes_none;
+      writes = writes_as (ap (λ i. cond (stands_open i) (rules.before_others [] ++ []) []) (sym nothing)) writes_none;
       held_is = empty ∙ ap (λ i. cond (stands_open i) [] []) (sym nothing);
       len = λ some. absurd (omega (arith, some));
     }

@@ -1,10 +1,9 @@
 -- What is shown of an item that a word ends.
-use Rattle.std.proofs.Common.{◌∙◌, cond, inl, inr, ◌≡◌, ℕ, true, false, List, ◌++◌, length, take, drop}
-use Rattle.std.proofs.Common.{sym, refl}
+use Rattle.std.proofs.Common.{◌∙◌, cond, ◌≡◌, ℕ, Bool, true, false, List, [], ◌++◌, length, take, drop}
+use Rattle.std.proofs.Common.{sym, refl, ap}
 use Rattle.std.proofs.Math.Seq.{take-append_seam}
 use Rattle.std.proofs.Math.Seq.{drop-append_seam}
 use Rattle.std.specs.Prelude.{Option, Some, Result, Ok, Err, OnOk}
-use Rattle.std.proofs.lemmas.Bool.{cases_Bool}
 use Rattle.vcd_text.specs.Items.{Item, variable, end_definitions, stamp, scalar, vector, real_or_string, entry}
 use Rattle.vcd_text.specs.Items.{timescale, scope, upscope, dump_word, other}
 use Rattle.vcd_text.specs.Grammar.{ParseState}
@@ -120,13 +119,11 @@ taken_next {limit = limit} {before = before} {p = p} {x = x} {code = code} ends 
   scopes_are = are ∙ ends.scopes (shown_is_amended (state_of_pieces limit before) x code p.item shown.shows);
 }
 
--- what is added to the text, if the item stands
-pub standing_part : (item : OpenItem) (held bytes place : List ℕ) → (stands_open item ≡ false → held ≡ bytes)
-    → place ≡ bytes → held ≡ cond (stands_open item) held place
-standing_part item held bytes place is stands = elim (cases_Bool (stands_open item)) [
-  | inl open_still ↦ rw open_still refl
-  | inr still ↦ rw still (is still ∙ sym stands)
-]
+-- what is added to the text with the last bytes of an item that stands
+pub last_part : (stands : Bool) (first held bytes : List ℕ) → (stands ≡ false → held ≡ bytes)
+    → cond stands [] first ++ held ≡ cond stands held (first ++ bytes)
+last_part true first held bytes is = refl
+last_part false first held bytes is = ap (λ l. first ++ l) (is refl)
 
 -- a result is an error, or both facts hold
 pub both_ok : {T E A B C : Type 0} (r : Result T E) → OnOk r A → OnOk r B → (A → B → C) → OnOk r C

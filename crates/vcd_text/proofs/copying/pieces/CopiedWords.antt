@@ -15,7 +15,7 @@ use Rattle.vcd_text.specs.Pieces.{state_of_pieces, Piece}
 use Rattle.vcd_text.specs.Copied.{CopyRules, copied_piece, copied_pieces, piece_items}
 use Rattle.vcd_text.specs.Copied.{may_be_amended}
 use Rattle.vcd_text.specs.inside.Words.{has_complete_words}
-use Rattle.vcd_text.specs.inside.Copying.{Adds}
+use Rattle.vcd_text.specs.inside.Copying.{Adds, standing_part}
 use Rattle.vcd_text.specs.inside.Copying.{IsOpenItem, HasCopied, IsSpacedWord, EndsPiece, stands_open}
 use Rattle.vcd_text.specs.Pieces.{piece_bytes}
 use Rattle.vcd_text.specs.inside.reading.Part.{Asked}
@@ -29,6 +29,7 @@ use Rattle.vcd_text.proofs.pieces.Cuts.{SpellsItem}
 use Rattle.vcd_text.proofs.copying.pieces.EndedItems.{nothing_open, something_open, opened_as, ended, stands_at}
 use Rattle.vcd_text.proofs.copying.pieces.EndedItems.{IsShownAs}
 use Rattle.vcd_text.proofs.copying.pieces.OneWordMore.{not_complete, no_texts, shuffled, both_held, copied_more}
+use Rattle.vcd_text.proofs.copying.pieces.OneWordMore.{with_words_more, with_place}
 use Rattle.vcd_text.proofs.copying.pieces.OneWordMore.{cut_more, bytes_more, reaches_more, begins, goes_further}
 
 -- what stands whatever follows is not shown, so it may not be amended
@@ -159,7 +160,7 @@ module _ (limit : ℕ) (rules : CopyRules) (seen_before : List Piece → Type 0)
     -- a word that goes on with an item
     pub goes_on_copied : IsAtState later new (state_of_pieces limit h.pieces) (h.begun ++ w ∷ [])
         → seen_after h.pieces
-        → Adds written0 written1 (cond (stands_open new.item) held1 [])
+        → Adds written0 written1 (cond (stands_open new.item) (standing_part rules h.pieces old.item held1) [])
         → held2 ≡ cond (stands_open new.item) [] held1 → len2 ≡ len1
         → HasCopied limit rules seen_after written1 new held2 len2 (before ++ bytes)
     goes_on_copied at seen writes is len = record {
@@ -183,14 +184,15 @@ module _ (limit : ℕ) (rules : CopyRules) (seen_before : List Piece → Type 0)
       len = λ some. len ∙ longer.len;
     }
       where
-        emitted : (t : Bool) → stands_open new.item ≡ t → (copied_pieces rules [] h.pieces ++ cond
-            (stands_open old.item)
-            (h.space ++ h.body) []) ++ cond t held1 [] ≡ copied_pieces rules [] h.pieces ++ cond t
-            (longer.more_space ++ longer.more_body) []
-        emitted true stands = append_assoc (copied_pieces rules [] h.pieces) _ held1
-            ∙ ap (λ l. copied_pieces
-            rules [] h.pieces ++ l) all_held
-        emitted false held = append-nil _ ∙ ap (λ t. copied_pieces rules [] h.pieces ++ cond t (h.space ++ h.body) [])
+        emitted : (t : Bool) → stands_open new.item ≡ t → (copied_pieces rules [] h.pieces
+            ++ cond (stands_open old.item) (rules.before_others h.pieces ++ (h.space ++ h.body)) [])
+            ++ cond t (standing_part rules h.pieces old.item held1) []
+            ≡ copied_pieces rules [] h.pieces
+            ++ cond t (rules.before_others h.pieces ++ (longer.more_space ++ longer.more_body)) []
+        emitted true stands = with_words_more (stands_open old.item) (copied_pieces rules [] h.pieces)
+            (rules.before_others h.pieces) (h.space ++ h.body) held1 _ all_held
+        emitted false held = append-nil _ ∙ ap (λ t. copied_pieces rules [] h.pieces
+            ++ cond t (rules.before_others h.pieces ++ (h.space ++ h.body)) [])
             (same_standing later new at held)
 
         held_now : (t : Bool) → stands_open new.item ≡ t → held2 ≡ cond t [] (longer.more_space
@@ -268,9 +270,10 @@ module _ (limit : ℕ) (rules : CopyRules) (seen_before : List Piece → Type 0)
         gap_some = λ complete. absurd (not_complete_now complete);
         whole = taken_bytes ∙ sym (bytes_more h.pieces piece) ∙ sym (append-nil (piece_bytes (h.pieces ++ piece ∷ [])));
         seen = seen;
-        writes = subst written1 (emitted (stands_open old.item) refl ∙ ap (λ l. copied_pieces rules []
+        writes = subst written1 (emitted ∙ ap (λ l. copied_pieces rules []
             (h.pieces ++ piece ∷ []) ++ l)
-            (sym (ap (λ t. cond (stands_open t) ([] ++ []) []) nothing))) (writes _ h.writes);
+            (sym (ap (λ t. cond (stands_open t) (rules.before_others (h.pieces ++ piece ∷ []) ++ ([] ++ [])) [])
+            nothing))) (writes _ h.writes);
         held_is = empty ∙ sym (ap (λ t. cond (stands_open t) [] ([] ++ ([] ++ []))) nothing);
         len = λ some. absurd (omega (arith, some));
       }
@@ -278,28 +281,21 @@ module _ (limit : ℕ) (rules : CopyRules) (seen_before : List Piece → Type 0)
           nothing : new.item ≡ items.Nothing
           nothing = nothing_open new new.item at.1
 
-          stands_whole : stands_open old.item ≡ true → copied_piece rules h.pieces piece ≡ piece.space ++ piece.body
-          stands_whole stands = ap (λ t. cond t (rules.in_place h.pieces piece) (piece.space ++ piece.body)) (not_shown
+          stands_whole : stands_open old.item ≡ true
+              → copied_piece rules h.pieces piece ≡ rules.before_others h.pieces ++ (piece.space ++ piece.body)
+          stands_whole stands = ap (λ t. cond t (rules.in_place h.pieces piece)
+              (rules.before_others h.pieces ++ (piece.space ++ piece.body))) (not_shown
               old.item w.text new.tick new.variables.scopes.depth new.timescale i (state_of_pieces limit h.pieces)
               stands shown_as)
 
-          all_written : (t : Bool) → stands_open old.item ≡ t → (copied_pieces rules [] h.pieces ++ cond (stands_open
-              old.item) (h.space ++ h.body) []) ++ cond (stands_open old.item) held1 (copied_piece rules
-              h.pieces piece) ≡ copied_pieces rules [] h.pieces ++ copied_piece rules h.pieces piece
-          all_written true stands = append_assoc (copied_pieces rules [] h.pieces) _ _ ∙ ap (λ l. copied_pieces rules []
-              h.pieces ++ l) (ap (λ t. cond (stands_open old.item) (h.space ++ h.body) [] ++ cond t held1
-              (copied_piece rules h.pieces piece)) stands ∙ all_held ∙ sym (stands_whole stands))
-          all_written false held = ap (λ t. (copied_pieces rules [] h.pieces ++ cond t (h.space ++ h.body) []) ++ cond t
-              held1 (copied_piece rules h.pieces piece)) held
-              ∙ ap (λ l. l ++ copied_piece rules h.pieces piece)
-              (append-nil (copied_pieces rules [] h.pieces))
-
-          emitted : (t : Bool) → stands_open old.item ≡ t → (copied_pieces rules [] h.pieces ++ cond (stands_open
-              old.item) (h.space ++ h.body) []) ++ cond (stands_open old.item) held1 (copied_piece rules
-              h.pieces piece) ≡ copied_pieces rules [] (h.pieces ++ piece ∷ []) ++ []
-          emitted t is = all_written t is ∙ sym (copied_more rules [] h.pieces piece)
-              ∙ sym (append-nil (copied_pieces rules
-              [] (h.pieces ++ piece ∷ [])))
+          emitted : (copied_pieces rules [] h.pieces
+              ++ cond (stands_open old.item) (rules.before_others h.pieces ++ (h.space ++ h.body)) [])
+              ++ cond (stands_open old.item) held1 (copied_piece rules h.pieces piece)
+              ≡ copied_pieces rules [] (h.pieces ++ piece ∷ []) ++ []
+          emitted = with_place (stands_open old.item) (copied_pieces rules [] h.pieces)
+              (rules.before_others h.pieces) (h.space ++ h.body) held1 _ (copied_piece rules h.pieces piece) all_held
+              stands_whole ∙ sym (copied_more rules [] h.pieces piece)
+              ∙ sym (append-nil (copied_pieces rules [] (h.pieces ++ piece ∷ [])))
 
     -- what is held of the piece that the word ends, if it ends one
     pub piece_ended : WordStep later (state_of_pieces limit h.pieces) (h.begun ++ w ∷ []) new

@@ -1,7 +1,7 @@
 -- Bytes, pieces and an open item with one more word.
 use Rattle.std.proofs.Common.{◌≡◌, ◌∙◌, ◌⊎◌, inl, inr, ℕ, ◌<◌, Bool, true, false, not, cond, List, [], ◌∷◌}
 use Rattle.std.proofs.Common.{◌++◌}
-use Rattle.std.proofs.Common.{length, drop, refl, sym, ap, subst, arith, append_assoc}
+use Rattle.std.proofs.Common.{length, drop, refl, sym, ap, ap₂, subst, arith, append_assoc}
 use Rattle.std.specs.Prelude.{IsTrue}
 use Rattle.std.specs.List.{All, list_all, prefix_len, suffix_len}
 use Rattle.std.proofs.lemmas.List.{append-nil, length-append, map-append}
@@ -79,6 +79,20 @@ pub both_held : (stands : Bool) (a b c d : List ℕ) → cond stands (a ++ b) []
     ≡ (a ++ (b ++ c)) ++ d
 both_held true a b c d = grind (arith, append_assoc)
 both_held false a b c d = refl
+
+-- the first words of an item that stands come after what comes before it
+pub with_words_more : (stands : Bool) (copied first so_far held own : List ℕ) → cond stands so_far [] ++ held ≡ own
+    → (copied ++ cond stands (first ++ so_far) []) ++ (cond stands [] first ++ held) ≡ copied ++ (first ++ own)
+with_words_more true copied first so_far held own is = rw (← is) (grind (arith, append_assoc))
+with_words_more false copied first so_far held own is = ap₂ (λ a b. a ++ (first ++ b)) (append-nil copied) is
+
+-- an item is copied whole
+pub with_place : (stands : Bool) (copied first so_far held own place : List ℕ) → cond stands so_far [] ++ held ≡ own
+    → (stands ≡ true → place ≡ first ++ own)
+    → (copied ++ cond stands (first ++ so_far) []) ++ cond stands held place ≡ copied ++ place
+with_place true copied first so_far held own place is whole =
+    rw (whole refl, ← is) (grind (arith, append_assoc))
+with_place false copied first so_far held own place is whole = ap (λ l. l ++ place) (append-nil copied)
 
 -- ---- pieces
 

@@ -1,5 +1,5 @@
 -- What was not written of a chunk: what is known to stand, and the open item.
-use Rattle.std.proofs.Common.{◌≡◌, ◌∙◌, ◌⊎◌, inl, inr, ℕ, ◌+◌, ◌-◌, true, List, [], ◌++◌}
+use Rattle.std.proofs.Common.{◌≡◌, ◌∙◌, ◌⊎◌, inl, inr, ℕ, ◌-◌, true, List, [], ◌++◌}
 use Rattle.std.proofs.Common.{length, take, arith}
 use Rattle.std.proofs.Math.Seq.{take-append_seam}
 use Rattle.std.proofs.Common.{refl, sym, ap, subst, append_assoc}
@@ -9,8 +9,8 @@ use Rattle.vcd_core.specs.Word.{is_white_space}
 use Rattle.vcd_core.specs.declared.device.Sink as sinks
 use Rattle.vcd_text.specs.Pieces.{Piece}
 use Rattle.vcd_text.specs.Copied.{CopyRules}
-use Rattle.vcd_text.specs.inside.Copying.{HasCopied, HasCopiedUpTo}
-use Rattle.vcd_text.specs.inside.Copying.{Adds, AddsToText, EmitsAllBut}
+use Rattle.vcd_text.specs.inside.Copying.{HasCopied, HasCopiedUpTo, IsUnwritten}
+use Rattle.vcd_text.specs.inside.Copying.{Adds, AddsToText, EmitsAllBut, HasPassed}
 use Rattle.vcd_text.specs.EmittedText.{Emits}
 use Rattle.vcd_text.specs.declared.copying.pieces.Held.{Held}
 use Rattle.vcd_text.specs.declared.reading.parser.Parser.{Parser}
@@ -36,15 +36,40 @@ swapped held known more (inl none) = rw none refl
 swapped held known more (inr none) = rw none refl
 
 -- what is held is written, and the open item is known to stand
-pub item_known : {W : Type 0} {sink : sinks.Ghosts W} {o0 o1 : Output W} {held : List ℕ} (known begun : List ℕ)
+item_known : {W : Type 0} {sink : sinks.Ghosts W} {o0 o1 : Output W} {held : List ℕ} (known begun : List ℕ)
     → (held ≡ []) ⊎ (known ≡ []) → Emits sink o0 o1 held
     → AddsToText sink o0 o1 known (known ++ begun) (held ++ begun)
 item_known {held = held} known begun one writes = (held, writes, swapped held known begun one)
+
+-- two parts are added
+adds_both : {W : Type 0} {sink : sinks.Ghosts W} {o0 o1 o2 : Output W} (known later last part more : List ℕ)
+    → AddsToText sink o0 o1 known later part → AddsToText sink o1 o2 later last more
+    → AddsToText sink o0 o2 known last (part ++ more)
+adds_both known later last part more (sent, emits, is) (sent_more, emits_more, is_more) = (
+  sent ++ sent_more,
+  writes_both emits emits_more,
+  append_assoc sent sent_more last ∙ ap (λ l. sent ++ l) is_more ∙ sym (append_assoc sent later more)
+      ∙ ap (λ l. l ++ more) is ∙ append_assoc known part more,
+)
 
 -- nothing is added
 pub nothing_added : {W : Type 0} {sink : sinks.Ghosts W} {o0 o1 : Output W} (known : List ℕ) → Emits sink o0 o1 []
     → AddsToText sink o0 o1 known known []
 nothing_added known writes = ([], writes, sym (append-nil known))
+
+-- the open item stands, and a part comes before what is held of it
+pub stands_up_to : {W : Type 0} {sink : sinks.Ghosts W} {o0 o1 o2 : Output W}
+    {held later earlier_all item rest : List ℕ} (all known kept begun first : List ℕ)
+    → IsUnwritten held earlier_all item rest known begun → all ≡ kept ++ item → (held ≡ []) ⊎ (kept ≡ [])
+    → AddsToText sink o0 o1 known kept first → Emits sink o1 o2 held → later ≡ []
+    → HasPassed sink o0 o2 later all rest rest known (first ++ (held ++ begun))
+stands_up_to {held = held} {rest = rest} all known kept begun first unwritten is one adds writes none = record {
+  later = kept ++ begun;
+  all_is = is ∙ ap (λ l. kept ++ l) unwritten.item_is ∙ sym (append_assoc kept begun rest);
+  item_is = refl;
+  none = none;
+  adds = adds_both known kept (kept ++ begun) first (held ++ begun) adds (item_known kept begun one writes);
+}
 
 -- a part is written after what is known to stand
 pub part_written : {W : Type 0} {sink : sinks.Ghosts W} {o0 o1 : Output W} (known part : List ℕ)

@@ -7,8 +7,8 @@ use Rattle.vcd_core.specs.declared.device.Sink as sinks
 use Rattle.vcd_text.specs.Words.{WordOnLine}
 use Rattle.vcd_text.specs.Pieces.{state_of_pieces, Piece}
 use Rattle.vcd_text.specs.Copied.{CopyRules, copied_piece}
-use Rattle.vcd_text.specs.inside.Copying.{HasCopiedUpTo, IsUnwritten, HasEnded, IsHeldPiece, EndsPiece}
-use Rattle.vcd_text.specs.inside.Copying.{Adds, EmitsAllBut, IsSpacedWord, stands_open}
+use Rattle.vcd_text.specs.inside.Copying.{HasCopiedUpTo, IsUnwritten, HasPassed, IsHeldPiece, EndsPiece}
+use Rattle.vcd_text.specs.inside.Copying.{Adds, EmitsAllBut, IsSpacedWord, stands_open, standing_part}
 use Rattle.vcd_text.specs.inside.reading.Part.{Asked}
 use Rattle.vcd_text.specs.inside.reading.Parser.{IsAtState, WordStep, goes_on, ends_item}
 use Rattle.vcd_text.specs.EmittedText.{Emits}
@@ -20,7 +20,7 @@ use Rattle.vcd_text.proofs.read_back.Words.{is_unbroken}
 use Rattle.vcd_text.proofs.copying.pieces.CopiedWords.{goes_on_copied, ended_copied, piece, ends_piece, piece_held}
 use Rattle.vcd_text.proofs.copying.pieces.CopiedWords.{piece_ended}
 use Rattle.vcd_text.proofs.copying.pieces.EndedItems.{nothing_open, something_open}
-use Rattle.vcd_text.proofs.copying.pieces.StandingBytes.{adds_text, item_known, nothing_added}
+use Rattle.vcd_text.proofs.copying.pieces.StandingBytes.{adds_text, nothing_added}
 
 -- ---- one word
 
@@ -70,15 +70,15 @@ module _ {W : Type 0} (sink : sinks.Ghosts W) (limit : ℕ) (rules : CopyRules)
 
   -- what is so if a word ends no item
   abbrev pub GoesOn : Type 0
-  GoesOn = (stands_open new.item ≡ true → (item1 ≡ rest) × (held2.bytes.items ≡ [])
-      × Emits sink o0 o1 marked.bytes.items)
-      × (stands_open new.item ≡ false → (item1 ≡ item0) × (held2.bytes.items ≡ marked.bytes.items)
-      × Emits sink o0 o1 [])
-      × (all1 ≡ all0) × seen_after r.copied.pieces × (held2.space_len ≡ marked.space_len)
+  GoesOn = (stands_open new.item ≡ true → HasPassed sink o0 o1 held2.bytes.items all1 item1 rest r.known
+      (standing_part rules r.copied.pieces old.item with_word))
+      × (stands_open new.item ≡ false → (item1 ≡ item0) × (all1 ≡ all0)
+      × (held2.bytes.items ≡ marked.bytes.items) × Emits sink o0 o1 [])
+      × seen_after r.copied.pieces × (held2.space_len ≡ marked.space_len)
 
   -- and if it ends one
   abbrev pub Ends : Piece → Type 0
-  Ends p = HasEnded sink o0 o1 held2.bytes.items all1 item1 rest r.known
+  Ends p = HasPassed sink o0 o1 held2.bytes.items all1 item1 rest r.known
       (cond (stands_open old.item) with_word (copied_piece rules r.copied.pieces p))
       × seen_after (r.copied.pieces ++ p ∷ [])
 
@@ -87,46 +87,45 @@ module _ {W : Type 0} (sink : sinks.Ghosts W) (limit : ℕ) (rules : CopyRules)
     item_stands : stands_open new.item ≡ true
         → HasCopiedUpTo sink limit rules seen_after start o1 new held2 all1 item1 rest (before ++ bytes)
     item_stands stands =
-        let (to_rest, none, writes) = goes.0 stands in
-        let known : List ℕ = r.known ++ (r.begun ++ bytes) in
+        let e = goes.0 stands in
+        let part : List ℕ = standing_part rules r.copied.pieces old.item with_word in
         record {
-          known = known;
+          known = e.later;
           begun = [];
           unwritten = record {
-            all_is = goes.2 ∙ unwritten_now.all_is ∙ ap (λ l. r.known ++ l) unwritten_now.item_is
-                ∙ sym (append_assoc r.known (r.begun ++ bytes) rest) ∙ ap (λ l. known ++ l) (sym to_rest);
-            item_is = to_rest;
-            one = inl none;
+            all_is = e.all_is ∙ ap (λ l. e.later ++ l) (sym e.item_is);
+            item_is = e.item_is;
+            one = inl e.none;
           };
           copied = goes_on_copied limit rules seen_before (EmitsAllBut sink start o0 r.known) old
               (held0.bytes.items ++ r.begun) with_word held0.space_len marked.space_len before bytes w r.copied s whole
-              with_word_is len_first still seen_after (EmitsAllBut sink start o1 known) (held2.bytes.items ++ [])
-              held2.space_len later new at goes.3 (subst (λ t. Adds (EmitsAllBut sink start o0 r.known)
-              (EmitsAllBut sink start o1 known) (cond t with_word [])) (sym stands) (adds_text _ _ _ (item_known r.known
-              (r.begun ++ bytes) unwritten_now.one writes))) (append-nil held2.bytes.items ∙ none ∙ sym (ap (λ t. cond t
-              [] with_word) stands)) goes.4;
+              with_word_is len_first still seen_after (EmitsAllBut sink start o1 e.later) (held2.bytes.items ++ [])
+              held2.space_len later new at goes.2 (subst (λ t. Adds (EmitsAllBut sink start o0 r.known)
+              (EmitsAllBut sink start o1 e.later) (cond t part [])) (sym stands) (adds_text _ _ _ e.adds))
+              (append-nil held2.bytes.items ∙ e.none ∙ sym (ap (λ t. cond t [] with_word) stands)) goes.3;
         }
 
     item_held : stands_open new.item ≡ false
         → HasCopiedUpTo sink limit rules seen_after start o1 new held2 all1 item1 rest (before ++ bytes)
     item_held held =
-        let (as_before, kept, writes) = goes.1 held in
+        let (as_before, all_as_before, kept, writes) = goes.1 held in
+        let part : List ℕ = standing_part rules r.copied.pieces old.item with_word in
         record {
           known = r.known;
           begun = r.begun ++ bytes;
           unwritten = record {
-            all_is = goes.2 ∙ unwritten_now.all_is ∙ ap (λ l. r.known ++ l) (sym as_before);
+            all_is = all_as_before ∙ unwritten_now.all_is ∙ ap (λ l. r.known ++ l) (sym as_before);
             item_is = as_before ∙ unwritten_now.item_is;
             one = subst (λ l. (l ≡ []) ⊎ (r.known ≡ [])) (sym kept) unwritten_now.one;
           };
           copied = goes_on_copied limit rules seen_before (EmitsAllBut sink start o0 r.known) old
               (held0.bytes.items ++ r.begun) with_word held0.space_len marked.space_len before bytes w r.copied s whole
               with_word_is len_first still seen_after (EmitsAllBut sink start o1 r.known)
-              (held2.bytes.items ++ (r.begun ++ bytes)) held2.space_len later new at goes.3 (subst (λ t. Adds
-              (EmitsAllBut sink start o0 r.known) (EmitsAllBut sink start o1 r.known) (cond t with_word [])) (sym held)
+              (held2.bytes.items ++ (r.begun ++ bytes)) held2.space_len later new at goes.2 (subst (λ t. Adds
+              (EmitsAllBut sink start o0 r.known) (EmitsAllBut sink start o1 r.known) (cond t part [])) (sym held)
               (adds_text _ _ _ (nothing_added r.known writes))) (ap (λ l. l ++ (r.begun ++ bytes)) kept
               ∙ sym (ap (λ t. cond t
-              [] with_word) held)) goes.4;
+              [] with_word) held)) goes.3;
         }
 
     pub item_goes_on : HasCopiedUpTo sink limit rules seen_after start o1 new held2 all1 item1 rest (before ++ bytes)

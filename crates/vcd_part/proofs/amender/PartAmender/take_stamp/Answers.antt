@@ -1,19 +1,21 @@
-use Rattle.std.proofs.Common.{◌∙◌, ◌&&◌, ◌∷◌, [], ◌++◌, ℕ, Bool, not, sym, ap}
-use Rattle.std.proofs.Common.{if◌then◌else◌, nat_le, nat_lt}
+use Rattle.std.proofs.Common.{◌≡◌, ◌∙◌, [], sym, ap}
 use Rattle.std.specs.Prelude.{Ok, Err}
 use Rattle.std.proofs.lemmas.Bool.{and_parts}
+use Rattle.std.proofs.lemmas.Result.{on_ok_weaker, on_err_weaker}
 use Rattle.vcd_text.specs.Items.{Item}
 use Rattle.vcd_text.specs.Grammar.{ParseState}
 use Rattle.vcd_text.specs.Pieces.{state_of_pieces}
 use Rattle.vcd_text.specs.Copied.{may_be_amended}
-use Rattle.vcd_text.proofs.shared.EmittedParts.{writes_as, writes_both, writes_none}
-use Rattle.vcd_part.specs.PartPieces.{body_in_part, first_pieces, is_up_to_first}
-use Rattle.vcd_text.specs.Pieces.{piece_bytes}
-use Rattle.vcd_part.specs.PartPieces.{is_within, stamp_in_part, last_stamp}
+use Rattle.vcd_text.proofs.shared.EmittedParts.{writes_as, writes_none, more_both}
+use Rattle.vcd_part.specs.PartPieces.{body_in_part, is_up_to_first, pieces_of_step, stamp_pieces}
+use Rattle.vcd_part.specs.inside.PartCopy.{waiting_stamp}
 use Rattle.vcd_part.proofs.amender.States.{stamp_in_body}
 use Rattle.vcd_part.proofs.amender.Steps.{stamp_seen}
+use Rattle.vcd_part.proofs.amender.StampPieces.{stamp_put}
 use Rattle.vcd_part.proofs.amender.Decided.{answer_with_window, answer_without_window, window_means_body}
-use Rattle.vcd_part.proofs.amender.Decided.{pieces_in_body, bytes_of_both, stamp_pieces_are}
+use Rattle.vcd_part.proofs.amender.Decided.{pieces_in_body, stamp_pieces_are}
+use Rattle.vcd_part.proofs.amender.Waiting.{seen_with, seen_without, bytes_without}
+use Rattle.vcd_part.proofs.shared.PutPieces.{put_as}
 use Rattle.vcd_part.proofs.amender.PartAmender.take_stamp.Goals as goal
 
 pub returns-in_default-clause-written : goal.returns-in_default-clause-written
@@ -22,41 +24,71 @@ returns-in_default-clause-written g c = λ limit before p code scopes seen taken
     let s : ParseState = state_of_pieces 0 before in
     let (digits, is, number) = taken.shown.shows in
     let body = stamp_in_body limit before p _ _ digits taken.shown.next is in
-    let (refusal, answer) = answer_without_window m before s seen body c.in_default.is in
-    writes_as (ap piece_bytes (sym (pieces_in_body m.request before p (ap may_be_amended is) body (Err refusal) answer
-    ∙ ap (λ (i : Item). body_in_part m.request s before p i (Err refusal)) is))) writes_none
+    let (refusal, answer) = answer_without_window m before s seen.known body c.in_default.is in
+    let none : pieces_of_step m.request before p ≡ [] =
+    pieces_in_body m.request before p (ap may_be_amended is) body (Err refusal) answer
+    ∙ ap (λ (i : Item). body_in_part m.request s before p i (Err refusal)) is in
+    writes_as (sym (bytes_without m.request before p none)) writes_none
 
 pub returns-in_default-clause-seen : goal.returns-in_default-clause-seen
 returns-in_default-clause-seen g c = λ limit before p code scopes seen taken.
-    stamp_seen limit c.args.self.now before p c.args.tick _ _ seen taken.shown.next taken.shown.shows
+    let m = c.args.self.now in
+    let s : ParseState = state_of_pieces 0 before in
+    let (digits, is, number) = taken.shown.shows in
+    let body = stamp_in_body limit before p _ _ digits taken.shown.next is in
+    let (refusal, answer) = answer_without_window m before s seen.known body c.in_default.is in
+    let none : pieces_of_step m.request before p ≡ [] =
+    pieces_in_body m.request before p (ap may_be_amended is) body (Err refusal) answer
+    ∙ ap (λ (i : Item). body_in_part m.request s before p i (Err refusal)) is in
+    seen_without (record m { tick = c.args.tick }) m.waiting before p none
+    (stamp_seen limit m before p c.args.tick _ _ seen.known taken.shown.next taken.shown.shows) seen.waiting
 
 pub returns-clause-written : goal.returns-clause-written
-returns-clause-written g c = λ limit before p code scopes seen taken.
+returns-clause-written g c = on_ok_weaker c.put_stamp.result (λ put limit before p code scopes seen taken.
     let m = c.args.self.now in
     let s : ParseState = state_of_pieces 0 before in
     let w = c.in-Some.window in
     let tick = c.args.tick in
-    let first = first_pieces m.request s.declared before in
     let (digits, is, number) = taken.shown.shows in
-    let due = c.is_past_first.ensures in
-    let same = seen.tick in
-    let all = pieces_in_body m.request before p (ap may_be_amended is)
-    (window_means_body m before s w seen c.in-Some.is) (Ok w) (answer_with_window m before s w seen c.in-Some.is)
+    let next = taken.shown.next in
+    let same = seen.known.tick in
+    let due = c.is_past_first-is_due.ensures in
+    let pieces : pieces_of_step m.request before p ≡ stamp_pieces m.request w s before p tick =
+    pieces_in_body m.request before p (ap may_be_amended is)
+    (window_means_body m before s w seen.known c.in-Some.is) (Ok w)
+    (answer_with_window m before s w seen.known c.in-Some.is)
     ∙ stamp_pieces_are m.request s before p w digits tick p.item is number in
-    writes_as (ap (λ (b : Bool). piece_bytes (if b then first else []) ++ piece_bytes (if is_within w tick
-    then stamp_in_part w p tick ∷ []
-    else (if nat_le m.tick w.last && nat_lt w.last tick then last_stamp w m.tick else []))) due
-    ∙ ap (λ (t : ℕ). piece_bytes (if is_up_to_first w t && not (is_up_to_first w tick) then first else [])
-    ++ piece_bytes (if is_within w tick then stamp_in_part w p tick ∷ []
-    else (if nat_le t w.last && nat_lt w.last tick then last_stamp w t else []))) same
-    ∙ sym (bytes_of_both (if is_up_to_first w s.tick && not (is_up_to_first w tick) then first else [])
-    (if is_within w tick then stamp_in_part w p tick ∷ []
-    else (if nat_le s.tick w.last && nat_lt w.last tick then last_stamp w s.tick else [])))
-    ∙ ap piece_bytes (sym all))
-    (writes_both (c.write_first_if.ensures m.request s.declared before
-    (λ is_due. seen.holds w c.in-Some.is (ap (is_up_to_first w) (sym same) ∙ (and_parts _ _ (sym due ∙ is_due)).0)))
-    (c.write_stamp.ensures p taken.shown.next.space_is taken.shown.next.body_is))
+    let first = c.write_first_if.ensures.put m.request s.declared before
+    (λ is_due. seen.known.holds w c.in-Some.is
+    (ap (is_up_to_first w) (sym same) ∙ (and_parts _ _ (sym due ∙ is_due)).0)) in
+    (put_as g.W.Sink _ _ _ _ _ _ (sym pieces) (stamp_put g.W.Sink _ _ _ _ _ _ m.request s before p w m.tick tick _ same
+    due first (put p digits is (sym number) next.space_is next.body_is)) (waiting_stamp m.request before)
+    seen.waiting).0) c.put_stamp.ensures.put
 
 pub returns-clause-seen : goal.returns-clause-seen
-returns-clause-seen g c = λ limit before p code scopes seen taken.
-    stamp_seen limit c.args.self.now before p c.args.tick _ _ seen taken.shown.next taken.shown.shows
+returns-clause-seen g c = on_ok_weaker c.put_stamp.result (λ put limit before p code scopes seen taken.
+    let m = c.args.self.now in
+    let s : ParseState = state_of_pieces 0 before in
+    let w = c.in-Some.window in
+    let tick = c.args.tick in
+    let (digits, is, number) = taken.shown.shows in
+    let next = taken.shown.next in
+    let same = seen.known.tick in
+    let due = c.is_past_first-is_due.ensures in
+    let pieces : pieces_of_step m.request before p ≡ stamp_pieces m.request w s before p tick =
+    pieces_in_body m.request before p (ap may_be_amended is)
+    (window_means_body m before s w seen.known c.in-Some.is) (Ok w)
+    (answer_with_window m before s w seen.known c.in-Some.is)
+    ∙ stamp_pieces_are m.request s before p w digits tick p.item is number in
+    let first = c.write_first_if.ensures.put m.request s.declared before
+    (λ is_due. seen.known.holds w c.in-Some.is
+    (ap (is_up_to_first w) (sym same) ∙ (and_parts _ _ (sym due ∙ is_due)).0)) in
+    seen_with (record m { tick = tick }) c.put_stamp.new.waiting before p _ pieces
+    (stamp_seen limit m before p tick _ _ seen.known next taken.shown.shows)
+    (stamp_put g.W.Sink _ _ _ _ _ _ m.request s before p w m.tick tick _ same due first
+    (put p digits is (sym number) next.space_is next.body_is) (waiting_stamp m.request before) seen.waiting).1)
+    c.put_stamp.ensures.put
+
+pub returns-clause-more : goal.returns-clause-more
+returns-clause-more g c =
+    on_err_weaker c.put_stamp.result (λ more. more_both c.write_first_if.ensures.more more) c.put_stamp.ensures.more

@@ -20,9 +20,11 @@ returns-in-EndDefinitions-clause-seen g c = λ limit before p seen taken.
     seen (rw c.in-EndDefinitions.is at taken)
 
 pub returns-in-Stamp-clause-written : goal.returns-in-Stamp-clause-written
-returns-in-Stamp-clause-written g c = λ limit before p seen taken.
-    c.take_stamp.ensures.written limit before p c.args.code.now c.args.scopes.now seen (rw c.in-Stamp.is at taken)
+returns-in-Stamp-clause-written g c = on_ok_weaker c.take_stamp.result (λ holds limit before p seen taken.
+    holds limit before p c.args.code.now c.args.scopes.now seen (rw c.in-Stamp.is at taken))
+    c.take_stamp.ensures.written
 
 pub returns-in-Stamp-clause-seen : goal.returns-in-Stamp-clause-seen
-returns-in-Stamp-clause-seen g c = λ limit before p seen taken.
-    c.take_stamp.ensures.seen limit before p c.args.code.now c.args.scopes.now seen (rw c.in-Stamp.is at taken)
+returns-in-Stamp-clause-seen g c = on_ok_weaker c.take_stamp.result (λ holds limit before p seen taken.
+    holds limit before p c.args.code.now c.args.scopes.now seen (rw c.in-Stamp.is at taken))
+    c.take_stamp.ensures.seen

@@ -19,7 +19,8 @@ use Rattle.vcd_amend.specs.Retimed.{lasts, has_kept_variable}
 use Rattle.vcd_amend.specs.RetimedLaws.{is_neither}
 use Rattle.vcd_amend.specs.inside.amending.FileAmender.{declared_in, with_declared, piece_of_variable}
 use Rattle.vcd_amend.specs.inside.amending.CutAmender.{rules_of, sent_for, held_for, cut_of}
-use Rattle.vcd_amend.proofs.declarations.collector.Collected.{next_variable, at_any_limit}
+use Rattle.vcd_text.proofs.shared.StatesOfPieces.{at_any_limit}
+use Rattle.vcd_amend.proofs.declarations.collector.Collected.{next_variable}
 use Rattle.vcd_amend.proofs.amending.SeenItems.{before_state, before_none, seen_more, stamp_is_later, end_passes}
 use Rattle.vcd_amend.proofs.amending.CutPieces.{one_copied, plain_is, key_of_value, key_of_text, on_error}
 use Rattle.vcd_amend.proofs.amending.CutSteps.{plain_seen, lasts_as, lasts_more, kept_as, kept_more}

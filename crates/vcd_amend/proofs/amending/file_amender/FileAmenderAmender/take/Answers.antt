@@ -18,7 +18,8 @@ use Rattle.vcd_amend.proofs.amending.SeenItems.{end_passes}
 use Rattle.std.proofs.lemmas.Result.{on_ok_weaker}
 use Rattle.vcd_amend.specs.Amendment.{fate_of}
 use Rattle.vcd_amend.specs.AmendedItems.{declaration_fate}
-use Rattle.vcd_amend.proofs.declarations.collector.Collected.{next_variable, at_any_limit}
+use Rattle.vcd_text.proofs.shared.StatesOfPieces.{at_any_limit}
+use Rattle.vcd_amend.proofs.declarations.collector.Collected.{next_variable}
 use Rattle.vcd_amend.proofs.amending.file_amender.FileAmenderAmender.take.Goals as goal
 
 -- the text in the place of an item that stands if its code is used
