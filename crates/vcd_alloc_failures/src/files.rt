@@ -12,7 +12,7 @@ use std::io;
 use std::io::Write;
 use std::rt::Runtime;
 use vcd_core::{Capture, FromRead, Sink, Source, ToWrite};
-use vcd_text::{Loaded, ReadError, VARIABLE_LIMIT, read, read_part, write};
+use vcd_text::{Loaded, ReadError, read, read_part, write};
 
 /// How many bytes a sink into memory takes without more memory.
 pub const ROOM: usize = 1_000_000;
@@ -61,14 +61,11 @@ pub fn call_read<R: Runtime + AllocGlobal>(rt: &R, call: &Call) -> Result<(), Fa
 /// Makes the call `read_part`, of the part that the argument asks for. It prints what that of
 /// `read` does.
 pub fn call_read_part<R: Runtime + AllocGlobal>(rt: &R, call: &Call) -> Result<(), Failure> {
-    let mut part = AskedPart::of_word(call.argument)?;
+    let part = AskedPart::of_word(call.argument)?;
     let mut source = FromRead::new(call.text);
     if call.makes {
         refuse(rt)?;
-        tell_loaded(
-            rt,
-            read_part(rt.alloc(), &mut source, VARIABLE_LIMIT, &mut part),
-        )?;
+        tell_loaded(rt, read_part(rt.alloc(), &mut source, &part))?;
     }
     tell_source(rt, call, source)
 }

@@ -1,11 +1,8 @@
 //! A part of a capture, by a word of the command line.
 
-ghost use Rattle.std.specs.Prelude.{◌≡◌, Some};
-
 use crate::printing::Failure;
-use std::alloc::Global;
-use vcd_core::{END_LIMIT, NoMemory, Timescale};
-use vcd_text::{Choice, Declarations, DeclaredSignal, TickRange};
+use vcd_core::END_LIMIT;
+use vcd_text::{Choice, DeclaredSignal, TickRange};
 
 /// All signals or none, at some ticks.
 #[derive(Drop)]
@@ -33,18 +30,13 @@ impl AskedPart {
 impl Choice for AskedPart {
     ghost takes = { λ part _. part.takes_signals };
 
-    ghost answers = { λ old _ _ answer _. answer ≡ Some old.ticks };
+    ghost ticks = { λ part. part.ticks };
 
     fn takes(&self, _signal: DeclaredSignal) -> bool {
         self.takes_signals
     }
 
-    fn ticks(
-        &mut self,
-        _alloc: Global,
-        _timescale: Option<Timescale>,
-        _signals: &Declarations,
-    ) -> Result<Option<TickRange>, NoMemory> {
-        Ok(Some(self.ticks))
+    fn ticks(&self) -> TickRange {
+        self.ticks
     }
 }

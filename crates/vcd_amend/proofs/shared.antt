@@ -1,3 +1,2 @@
 -- Lemmas: shared.
-pub mod ReadFailures
 pub mod Lists

@@ -1,6 +1,6 @@
 //! The full names of the signals whose changes are read.
 
-ghost use Rattle.std.specs.Prelude.{◌≡◌, nat_eq, map, Some, IfOk};
+ghost use Rattle.std.specs.Prelude.{◌≡◌, nat_eq, map, IfOk};
 ghost use Rattle.std.specs.HashSet.{contains};
 ghost use Rattle.vcd_core.specs.FullName.{name_bytes};
 ghost use Rattle.vcd_core.specs.CaptureContents.{signal_contents};
@@ -9,8 +9,8 @@ ghost use Rattle.vcd_amend.specs.inside.NameHash.{name_hash};
 use crate::name_hash::name_hash;
 use std::alloc::Global;
 use std::collections::HashSet;
-use vcd_core::{FullName, NoMemory, Signal, Timescale};
-use vcd_text::{Choice, Declarations, DeclaredSignal, TickRange};
+use vcd_core::{FullName, NoMemory, Signal};
+use vcd_text::{Choice, DeclaredSignal, TickRange};
 
 /// The full names of the signals whose changes are read. As a choice of a part of a file, it takes
 /// the signals of these names, at all ticks.
@@ -53,18 +53,13 @@ impl Choice for HeardNames {
 
     ghost takes = { hears };
 
-    ghost answers = { λ old _ _ answer new. (answer ≡ Some all_ticks) × (new ≡ old) };
+    ghost ticks = { λ _. all_ticks };
 
     fn takes(&self, signal: DeclaredSignal<'_>) -> bool {
         self.hears(FullName::of_words(signal.scopes, signal.words))
     }
 
-    fn ticks(
-        &mut self,
-        _alloc: Global,
-        _timescale: Option<Timescale>,
-        _signals: &Declarations,
-    ) -> Result<Option<TickRange>, NoMemory> {
-        Ok(Some(TickRange::all()))
+    fn ticks(&self) -> TickRange {
+        TickRange::all()
     }
 }

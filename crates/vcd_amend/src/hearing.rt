@@ -58,26 +58,24 @@ impl From<NoMemory> for HearError {
 pub fn read_heard<R: Source>(
     alloc: Global,
     reader: &mut R,
-    limit: u32,
     outline: Capture,
     heard: &[bool],
 ) -> Result<Capture, HearError>
-    requires few { limit ≤ SIGNAL_LIMIT }
-    requires ready { R.has_failed reader.old ≡ false }
+    requires { R.has_failed reader.old ≡ false }
     ensures means { IfOk result (λ capture. IfSome (R.coming reader.old) (λ file.
         (length file ≤ LONG_FILE_LIMIT)
-        × HasHollow limit file (contents outline) heard.now (contents capture))) }
+        × HasHollow SIGNAL_LIMIT file (contents outline) heard.now (contents capture))) }
     ensures outline { IfOk result (λ capture.
         spec.outline (contents capture) ≡ spec.outline (contents outline)) }
     ensures sound { IsSound (contents outline) → IfOk result (λ capture.
         IsSound (contents capture)) }
     ensures not_failed { OnOk result (R.has_failed reader.new ≡ false) }
     ensures ended { OnOk result (IsAtEnd (R.coming reader.new)) }
-    ensures fails { IfErr result (HearFails limit LONG_FILE_LIMIT (contents outline)
+    ensures fails { IfErr result (HearFails SIGNAL_LIMIT LONG_FILE_LIMIT (contents outline)
         (R.coming reader.old) (R.coming reader.new) (R.has_failed reader.new)) }
 {
-    let mut names = HeardNames::new(alloc, outline.signals(), heard)?;
-    let loaded = read_part(alloc, reader, limit, &mut names)?;
+    let names = HeardNames::new(alloc, outline.signals(), heard)?;
+    let loaded = read_part(alloc, reader, &names)?;
     if loaded.capture.end() != outline.end() {
         return Err(HearError::Changed);
     }

@@ -11,10 +11,8 @@ ghost use Rattle.vcd_text.specs.declared.reading.TheConstants.{LONG_FILE_LIMIT};
 ghost use Rattle.vcd_amend.specs.FileParts.{HasOutline};
 
 use std::alloc::Global;
-use vcd_core::{Capture, END_LIMIT, NoMemory, SIGNAL_LIMIT, Signal, Source, Timescale, Wave};
-use vcd_text::{
-    Choice, Declarations, DeclaredSignal, LONG_FILE_LIMIT, ReadError, TickRange, read_part,
-};
+use vcd_core::{Capture, END_LIMIT, NoMemory, SIGNAL_LIMIT, Signal, Source, Wave};
+use vcd_text::{Choice, DeclaredSignal, LONG_FILE_LIMIT, ReadError, TickRange, read_part};
 
 /// A capture without any change, and the number of skipped variables of its file.
 #[derive(Drop)]
@@ -24,29 +22,23 @@ pub struct Outline {
 }
 
 /// Reads the outline of the capture that a file means: all but the changes. The whole file is
-/// checked, and refused as `read_part` refuses it. At most `limit` variables may be kept.
+/// checked, and refused as `read_part` refuses it.
 ///
 /// Time: as of `read_part`, where all changes but those at tick 0 are past the part.
 ///
 /// Memory: the signals, with their names. The changes at tick 0 are held until the file has ended.
-pub fn read_outline<R: Source>(
-    alloc: Global,
-    reader: &mut R,
-    limit: u32,
-) -> Result<Outline, ReadError>
-    requires few { limit ≤ SIGNAL_LIMIT }
-    requires ready { R.has_failed reader.old ≡ false }
+pub fn read_outline<R: Source>(alloc: Global, reader: &mut R) -> Result<Outline, ReadError>
+    requires { R.has_failed reader.old ≡ false }
     ensures means { IfOk result (λ read. IfSome (R.coming reader.old) (λ file.
         (length file ≤ LONG_FILE_LIMIT)
-        × HasOutline limit file (contents read.capture) read.skipped)) }
+        × HasOutline SIGNAL_LIMIT file (contents read.capture) read.skipped)) }
     ensures sound { IfOk result (λ read. IsSound (contents read.capture)) }
     ensures not_failed { OnOk result (R.has_failed reader.new ≡ false) }
     ensures ended { OnOk result (IsAtEnd (R.coming reader.new)) }
-    ensures fails { IfErr result (ReadFails limit LONG_FILE_LIMIT (R.coming reader.old)
+    ensures fails { IfErr result (ReadFails SIGNAL_LIMIT LONG_FILE_LIMIT (R.coming reader.old)
         (R.coming reader.new) (R.has_failed reader.new)) }
 {
-    let mut choice = FirstTick;
-    let loaded = read_part(alloc, reader, limit, &mut choice)?;
+    let loaded = read_part(alloc, reader, &FirstTick)?;
     Ok(Outline {
         capture: outline_of(alloc, loaded.capture, loaded.end)?,
         skipped: loaded.skipped,
@@ -58,23 +50,18 @@ pub fn read_outline<R: Source>(
 struct FirstTick;
 
 impl Choice for FirstTick {
-    ghost use Rattle.std.specs.Prelude.{true, IsSome};
+    ghost use Rattle.std.specs.Prelude.{true};
 
     ghost takes = { λ _ _. true };
 
-    ghost answers = { λ _ _ _ answer _. IsSome answer };
+    ghost ticks = { λ _. record { first = 0; last = 0 } };
 
     fn takes(&self, _signal: DeclaredSignal) -> bool {
         true
     }
 
-    fn ticks(
-        &mut self,
-        _alloc: Global,
-        _timescale: Option<Timescale>,
-        _signals: &Declarations,
-    ) -> Result<Option<TickRange>, NoMemory> {
-        Ok(Some(TickRange { first: 0, last: 0 }))
+    fn ticks(&self) -> TickRange {
+        TickRange { first: 0, last: 0 }
     }
 }
 

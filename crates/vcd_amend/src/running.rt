@@ -291,7 +291,7 @@ fn make_plan<R: Source, S: Source>(
         (device_end S.coming S.has_failed script_reader.old script_reader.new)) }
 {
     let declared = declared_variables(alloc, &mut passes.declarations, SIGNAL_LIMIT as u32)?;
-    let outline = read_outline(alloc, &mut passes.outline, SIGNAL_LIMIT as u32)?;
+    let outline = read_outline(alloc, &mut passes.outline)?;
     let skipped = outline.skipped;
     check_sizes(declared.as_slice(), &outline)?;
     let script = read_script(alloc, script_reader)?;
@@ -299,13 +299,7 @@ fn make_plan<R: Source, S: Source>(
     let origins = dry.origins.as_slice();
     let takes = takes_skipped_name(alloc, declared.as_slice(), &capture, origins, &dry.last)?;
     let heard = dry.heard.as_slice();
-    let first = read_heard(
-        alloc,
-        &mut passes.changes,
-        SIGNAL_LIMIT as u32,
-        capture,
-        heard,
-    )?;
+    let first = read_heard(alloc, &mut passes.changes, capture, heard)?;
     Ok(Plan {
         declared,
         first,

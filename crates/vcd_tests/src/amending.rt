@@ -177,9 +177,9 @@ const READ_AGAIN: &str = "\
 /// The answer of reading a file again whose outline was that of `OUTLINED`.
 fn answer_to(alloc: Global, heard: &[bool], file: &[u8]) -> Result<&'static str, Fail> {
     let mut source = source_of(FakeReader::new(OUTLINED.as_bytes(), 7));
-    let outline = read_outline(alloc, &mut source, 8)?.capture;
+    let outline = read_outline(alloc, &mut source)?.capture;
     let mut again = source_of(FakeReader::new(file, 7));
-    match read_heard(alloc, &mut again, 8, outline, heard) {
+    match read_heard(alloc, &mut again, outline, heard) {
         Ok(_) => Ok("read"),
         Err(HearError::Changed) => Ok("Changed"),
         Err(HearError::Read(error)) => Ok(error.name()),

@@ -1,12 +1,9 @@
 -- What a file declares of its variables and signals: all but their changes.
-use Rattle.std.specs.Prelude.{ℕ, List, [], map, take}
+use Rattle.std.specs.Prelude.{ℕ, List, []}
 use Rattle.vcd_core.specs.Contents.{SignalContents}
 use Rattle.vcd_core.specs.Names.{name_in}
 use Rattle.vcd_text.specs.Grammar.{VariableDeclaration}
 use Rattle.vcd_text.specs.declared.reading.declared_signals.DeclaredSignal.{DeclaredSignal}
-use Rattle.vcd_text.specs.declared.reading.declared_signals.Declarations.{Declarations}
-use Rattle.vcd_text.specs.declared.reading.variables.Variable.{Variable}
-use Rattle.vcd_text.specs.Chains.{chain_at, chains_of}
 
 -- the full name of a variable
 abbrev pub declared_name : VariableDeclaration → List ℕ
@@ -21,14 +18,3 @@ signal_declared d = record {
   width = d.width;
   changes = [];
 }
-
--- the signals that are declared, in their order
-abbrev pub declared_contents : Declarations → List SignalContents
-declared_contents d =
-    map (λ (v : Variable). record {
-      scopes = take v.place.count (chain_at (chains_of d.scopes.now) v.place.chain);
-      kind = v.kind;
-      words = v.words;
-      width = v.wave.width;
-      changes = [];
-    }) d.kept.now

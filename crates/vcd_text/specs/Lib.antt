@@ -9,7 +9,6 @@ pub mod Grammar
 pub mod Faults
 pub mod FoundFaults
 pub mod Meaning
-pub mod Chains
 pub mod AsDeclared
 pub mod Text
 pub mod Laws

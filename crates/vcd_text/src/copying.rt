@@ -4,7 +4,7 @@
 ghost use Rattle.std.specs.Prelude.{◌≡◌, ◌⊎◌, ◌<◌, ◌≤◌, ◌^◌, List, [], ℕ, true, false, length};
 ghost use Rattle.std.specs.Prelude.{OnOk, IsOk, IfErr, IfSome};
 ghost use Rattle.std.specs.Io.KnownBytes.{Appends, Keeps, IsAtEnd};
-ghost use Rattle.vcd_text.specs.Parts.{IsPartRefusal, answers_of};
+ghost use Rattle.vcd_text.specs.Refusals.{IsRefusal};
 ghost use Rattle.vcd_text.specs.Copied.{IsCopy, IsTold};
 ghost use Rattle.vcd_text.specs.CopyEnds.{CopyFails, ReadFails};
 ghost use Rattle.vcd_text.specs.inside.Copying.{TookCopy};
@@ -20,7 +20,6 @@ mod variable_words;
 
 use crate::fault::{CopyError, Fault, ReadError, WriteError};
 use crate::reading::LONG_FILE_LIMIT;
-use crate::reading::choice::{Choice, Unheard};
 use crate::reading::file_reader::FileReader;
 use crate::writing::output::{Output, empty_buffer, flush, send_buffer};
 pub use amender::{AmendableItem, Amender, InPlace};
@@ -36,11 +35,11 @@ use vcd_core::{Sink, Source};
 /// After the chunk in which the amender is done, the rest of the file is not read, and the result
 /// is `Ok`. What the writer took is then of no use.
 ///
-/// The file is read as `read_part` reads it, with no signal and no choice: the grammar, the first
-/// fault and its line are the same. A file has at most `LONG_FILE_LIMIT` bytes and `limit` kept
-/// variables. At a fault of the file, what the writer took is of no use. At `WriteFault` the writer
-/// has failed, and took exactly `written` bytes. Tests show that these are the first bytes of the
-/// copy; no clause says so.
+/// The file is read as `read_part` reads it, with no signal: the grammar, the first fault and its
+/// line are the same. A file has at most `LONG_FILE_LIMIT` bytes and `limit` kept variables. At a
+/// fault of the file, what the writer took is of no use. At `WriteFault` the writer has failed, and
+/// took exactly `written` bytes. Tests show that these are the first bytes of the copy; no clause
+/// says so.
 ///
 /// Memory: a chunk of at most 4,096 bytes, the longest word, the longest `$var`, the longest white
 /// space, and what `read_part` holds of the declarations; nothing of the changes.
@@ -141,24 +140,14 @@ fn copy_all<R: Source, W: Sink, A: Amender<W>>(
     ensures fails { IfErr result (ReadFails limit LONG_FILE_LIMIT (R.coming reader.old)
         (R.coming reader.new) (R.has_failed reader.new)) }
 {
-    let mut choice = Unheard;
-    copy_within(
-        alloc,
-        reader,
-        &mut choice,
-        amender,
-        output,
-        limit,
-        LONG_FILE_LIMIT,
-    )
+    copy_within(alloc, reader, amender, output, limit, LONG_FILE_LIMIT)
 }
 
 /// Copies a file with at most `limit` kept variables, and at most `most` bytes. It stops early if
 /// the writer fails, or if the amender is done.
-fn copy_within<R: Source, C: Choice, W: Sink, A: Amender<W>>(
+fn copy_within<R: Source, W: Sink, A: Amender<W>>(
     alloc: Global,
     reader: &mut R,
-    choice: &mut C,
     amender: &mut A,
     output: &mut Output<W>,
     limit: u32,
@@ -180,9 +169,7 @@ fn copy_within<R: Source, C: Choice, W: Sink, A: Amender<W>>(
     ensures not_failed { OnOk result (R.has_failed reader.new ≡ false) }
     ensures more { EmitsMore W.Sink output.old output.new }
     ensures refused { IfErr result (λ e. IfSome (R.coming reader.old) (λ file.
-        IsPartRefusal limit most (C.takes choice.old)
-        (answers_of C.answers choice.old choice.new) file
-        (R.has_failed reader.new) (R.coming reader.new) e)) }
+        IsRefusal limit most file (R.has_failed reader.new) (R.coming reader.new) e)) }
     ensures failed { IfErr result (λ e. e.fault ≡ Fault.ReadFault →
         R.has_failed reader.new ≡ true) }
     ensures unfailed { IfErr result (λ e. (e.fault ≡ Fault.ReadFault → ⊥) →
@@ -195,7 +182,7 @@ fn copy_within<R: Source, C: Choice, W: Sink, A: Amender<W>>(
             space_len: 0,
         },
     };
-    while copier.take_chunk(alloc, reader, choice, amender, output)? {
+    while copier.take_chunk(alloc, reader, amender, output)? {
         if output.writer.failed() {
             return Ok(());
         }
@@ -203,5 +190,5 @@ fn copy_within<R: Source, C: Choice, W: Sink, A: Amender<W>>(
             return Ok(());
         }
     }
-    copier.finish(alloc, choice, amender, output)
+    copier.finish(alloc, amender, output)
 }

@@ -43,12 +43,8 @@ pub enum Fault {
     UnknownCode,
     /// More digits than the variable has bits.
     ValueTooLong,
-    /// More kept variables than `SIGNAL_LIMIT`, or than the caller's limit if a part is read.
+    /// More kept variables than `SIGNAL_LIMIT`, or than the caller's limit if a file is copied.
     TooManySignals,
-    /// More signals remain in a part than a capture can have.
-    TooManyRemain,
-    /// The choice of a part refuses what the file declares.
-    Declined,
     /// The file has more than `FILE_LIMIT` bytes, or than `LONG_FILE_LIMIT` if a part is read.
     TooLarge,
     /// The reader failed.
@@ -76,8 +72,6 @@ impl Fault {
             Fault::UnknownCode => "UnknownCode",
             Fault::ValueTooLong => "ValueTooLong",
             Fault::TooManySignals => "TooManySignals",
-            Fault::TooManyRemain => "TooManyRemain",
-            Fault::Declined => "Declined",
             Fault::TooLarge => "TooLarge",
             Fault::ReadFault => "ReadFault",
             Fault::NoMemory => "NoMemory",
@@ -112,9 +106,8 @@ impl<T: Drop> From<AllocFailed<T>> for Fault {
 /// A fault of reading a capture file, and its line, counted from 1.
 ///
 /// A fault of the file has the line of the word that shows it. Among the changes it has the line of
-/// the first word of its change. `TooManyRemain` and `Declined` have the line of the `$end` of
-/// `$enddefinitions`. `Truncated`, `TooLarge` and `ReadFault` have the line of the end of the bytes
-/// that were taken. `NoMemory` has no line: the number is 0.
+/// the first word of its change. `Truncated`, `TooLarge` and `ReadFault` have the line of the end
+/// of the bytes that were taken. `NoMemory` has no line: the number is 0.
 #[derive(Clone, Copy, Debug, PartialEq, Eq, Error)]
 #[error("{fault}")]
 pub struct ReadError {

@@ -23,8 +23,8 @@ pub use laws::{
     prefix_fault_stays, prefix_has_one_fault, text_is_read_back,
 };
 pub use reading::{
-    Choice, CodeTargets, Declarations, DeclaredSignal, FILE_LIMIT, LONG_FILE_LIMIT, Loaded,
-    TickRange, VARIABLE_LIMIT, read, read_part, value_of_digits,
+    Choice, CodeTargets, DeclaredSignal, FILE_LIMIT, LONG_FILE_LIMIT, Loaded, TickRange,
+    VARIABLE_LIMIT, read, read_part, value_of_digits,
 };
 pub use words::{WordOnLine, Words};
 pub use writing::declarations::are_same_words;

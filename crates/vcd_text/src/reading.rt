@@ -9,7 +9,7 @@ ghost use Rattle.std.specs.Io.KnownBytes.{IsAtEnd};
 ghost use Rattle.vcd_core.specs.CaptureContents.{contents};
 ghost use Rattle.vcd_core.specs.Sound.{IsSound};
 ghost use Rattle.vcd_text.specs.Meaning.{FileMeans};
-ghost use Rattle.vcd_text.specs.Parts.{PartMeans, IsPartRefusal, answers_of};
+ghost use Rattle.vcd_text.specs.Parts.{PartMeans};
 ghost use Rattle.vcd_text.specs.declared.fault.Fault.{Fault};
 ghost use Rattle.vcd_text.specs.Refusals.{IsRefusal};
 
@@ -38,14 +38,14 @@ use crate::reading::file_reader::FileReader;
 pub use binary_number::value_of_digits;
 pub use choice::{Choice, TickRange};
 pub use code_targets::CodeTargets;
-pub use declared_signals::{Declarations, DeclaredSignal};
+pub use declared_signals::DeclaredSignal;
 use std::alloc::Global;
 use vcd_core::{Capture, SIGNAL_LIMIT, Source};
 
 /// The greatest size of a capture file, in bytes: 4 GiB.
 pub const FILE_LIMIT: usize = 4_294_967_296;
 
-/// The greatest number of kept variables that a part or a copy can be asked for.
+/// The greatest number of kept variables that a copy can be asked for.
 pub const VARIABLE_LIMIT: u32 = 4_294_967_295;
 
 /// The greatest size of a file of which a part is read, in bytes: 4 EiB, less one byte.
@@ -102,43 +102,34 @@ pub fn read<R: Source>(alloc: Global, reader: &mut R) -> Result<Loaded, ReadErro
     ensures unfailed { IfErr result (λ e. (e.fault ≡ Fault.ReadFault → ⊥) →
         R.has_failed reader.new ≡ false) }
 {
-    let mut whole = Whole;
-    read_within(alloc, reader, &mut whole, SIGNAL_LIMIT as u32, FILE_LIMIT)
+    read_within(alloc, reader, &Whole, FILE_LIMIT)
 }
 
-/// Reads a part of a capture file, which a choice takes of the signals and ticks that the file
-/// declares. The whole file follows the grammar, or its first fault is the result, as of `read`.
-///
-/// The choice is asked at the end of the declarations. There the result may be `Declined`, if the
-/// choice refuses the file, or `TooManyRemain`.
+/// Reads a part of a capture file: the signals that a choice takes, at its ticks. The whole file
+/// follows the grammar, or its first fault is the result, as of `read`.
 ///
 /// Time: as of `read`. A change past the part, or of a code that no signal of the part has, is
 /// looked up and checked, and no more. One before the part is pushed to its wave.
 ///
-/// A file has at most `LONG_FILE_LIMIT` bytes and `limit` kept variables, of which at most
-/// `SIGNAL_LIMIT` remain.
+/// A file has at most `LONG_FILE_LIMIT` bytes, and at most `SIGNAL_LIMIT` kept variables.
 ///
 /// Memory: as of `read`, but for the changes. Those of the part are held, and the last one before
 /// it of each signal that remains. The names of all kept variables are held to the end.
 pub fn read_part<R: Source, C: Choice>(
     alloc: Global,
     reader: &mut R,
-    limit: u32,
-    choice: &mut C,
+    choice: &C,
 ) -> Result<Loaded, ReadError>
     requires ready { R.has_failed reader.old ≡ false }
     ensures means { IfOk result (λ loaded. IfSome (R.coming reader.old) (λ file.
-        (length file ≤ LONG_FILE_LIMIT) ×
-        PartMeans limit (C.takes choice.old)
-        (answers_of C.answers choice.old choice.new) file
-        loaded)) }
+        (length file ≤ LONG_FILE_LIMIT)
+        × PartMeans SIGNAL_LIMIT (C.takes choice.now) (C.ticks choice.now) file loaded)) }
     ensures sound { IfOk result (λ loaded. IsSound (contents loaded.capture)) }
     ensures not_failed { OnOk result (R.has_failed reader.new ≡ false) }
     ensures ended { OnOk result (IsAtEnd (R.coming reader.new)) }
     ensures refused { IfErr result (λ e. IfSome (R.coming reader.old) (λ file.
-        IsPartRefusal limit LONG_FILE_LIMIT (C.takes choice.old)
-        (answers_of C.answers choice.old choice.new) file
-        (R.has_failed reader.new) (R.coming reader.new) e)) }
+        IsRefusal SIGNAL_LIMIT LONG_FILE_LIMIT file (R.has_failed reader.new)
+        (R.coming reader.new) e)) }
     ensures failed { IfErr result (λ e. e.fault ≡ Fault.ReadFault →
         R.has_failed reader.new ≡ true) }
     ensures too_large { IfErr result (λ e. e.fault ≡ Fault.TooLarge →
@@ -146,30 +137,26 @@ pub fn read_part<R: Source, C: Choice>(
     ensures unfailed { IfErr result (λ e. (e.fault ≡ Fault.ReadFault → ⊥) →
         R.has_failed reader.new ≡ false) }
 {
-    read_within(alloc, reader, choice, limit, LONG_FILE_LIMIT)
+    read_within(alloc, reader, choice, LONG_FILE_LIMIT)
 }
 
-/// Reads a part of a capture file with at most `limit` kept variables, and at most `most` bytes.
+/// Reads a part of a capture file with at most `most` bytes.
 fn read_within<R: Source, C: Choice>(
     alloc: Global,
     reader: &mut R,
-    choice: &mut C,
-    limit: u32,
+    choice: &C,
     most: usize,
 ) -> Result<Loaded, ReadError>
     requires small { most < 2 ^ 62 }
     requires ready { R.has_failed reader.old ≡ false }
     ensures means { IfOk result (λ loaded. IfSome (R.coming reader.old) (λ file.
-        (length file ≤ most) ×
-        PartMeans limit (C.takes choice.old)
-        (answers_of C.answers choice.old choice.new) file loaded)) }
+        (length file ≤ most)
+        × PartMeans SIGNAL_LIMIT (C.takes choice.now) (C.ticks choice.now) file loaded)) }
     ensures sound { IfOk result (λ loaded. IsSound (contents loaded.capture)) }
     ensures not_failed { OnOk result (R.has_failed reader.new ≡ false) }
     ensures ended { OnOk result (IsAtEnd (R.coming reader.new)) }
     ensures refused { IfErr result (λ e. IfSome (R.coming reader.old) (λ file.
-        IsPartRefusal limit most (C.takes choice.old)
-        (answers_of C.answers choice.old choice.new) file
-        (R.has_failed reader.new) (R.coming reader.new) e)) }
+        IsRefusal SIGNAL_LIMIT most file (R.has_failed reader.new) (R.coming reader.new) e)) }
     ensures failed { IfErr result (λ e. e.fault ≡ Fault.ReadFault →
         R.has_failed reader.new ≡ true) }
     ensures too_large { IfErr result (λ e. e.fault ≡ Fault.TooLarge →
@@ -177,7 +164,7 @@ fn read_within<R: Source, C: Choice>(
     ensures unfailed { IfErr result (λ e. (e.fault ≡ Fault.ReadFault → ⊥) →
         R.has_failed reader.new ≡ false) }
 {
-    let mut progress = FileReader::new(alloc, limit, most);
+    let mut progress = FileReader::new(alloc, SIGNAL_LIMIT as u32, most);
     while progress.take_chunk(alloc, reader, choice)? {}
     progress.finish(alloc, choice)
 }

@@ -1,6 +1,6 @@
 -- A part of the heard signals, put into the outline, is a hollow capture.
 use Rattle.std.proofs.Common.{◌≡◌, ◌≢◌, ◌<◌, ◌≤◌, ◌-◌, ℕ, Bool, true, false, not, ◌&&◌, List, length}
-use Rattle.std.proofs.Common.{min, nat_lt, inl, inr, sym, ap, subst, ◌∙◌, arith}
+use Rattle.std.proofs.Common.{min, nat_lt, inl, inr, refl, sym, ap, subst, ◌∙◌, arith}
 use Rattle.std.specs.Prelude.{Option, Some, None, IfSome, option_map, slice_index_or}
 use Rattle.std.proofs.lemmas.Bool.{cases_Bool, ltb-true, lt-ltb}
 use Rattle.std.proofs.lemmas.Option.{same_Some}
@@ -9,8 +9,8 @@ use Rattle.vcd_core.specs.Contents.{Contents, SignalContents, signal_at}
 use Rattle.vcd_core.specs.Outline.{without_changes, outline}
 use Rattle.vcd_core.proofs.shared.Outlines.{at_outline, count_in_outline}
 use Rattle.vcd_text.specs.declared.reading.Loaded.{Loaded}
-use Rattle.vcd_text.specs.declared.reading.choice.TickRange.{TickRange}
-use Rattle.vcd_text.specs.Parts.{Answers, PartMeans, part_of}
+use Rattle.vcd_core.specs.declared.capture.TheConstants.{END_LIMIT}
+use Rattle.vcd_text.specs.Parts.{PartMeans, part_of}
 use Rattle.vcd_text.specs.inside.reading.Part.{all_ticks}
 use Rattle.vcd_text.proofs.shared.SoundMeaning.{IsSoundBut}
 use Rattle.vcd_text.proofs.part.WholeParts.{file_is_sound}
@@ -47,17 +47,16 @@ module _ (takes : SignalContents → Bool) (whole : Contents) where
         | inr past ↦ past_last k past
       ]
 
-  pub is_hollow : (ticks : TickRange) (heard : List Bool) (read : Contents) → ticks ≡ all_ticks → IsSoundBut whole
+  pub is_hollow : (heard : List Bool) (read : Contents) → IsSoundBut whole
       → HearsAll takes heard (outline whole).signals
       → read ≡ record (outline whole) {
-        signals = with_taken takes (outline whole).signals (part_of takes ticks whole).signals;
+        signals = with_taken takes (outline whole).signals (part_of takes all_ticks whole).signals;
       }
       → IsHollow heard whole read
-  is_hollow ticks heard read all sound hears is = (
+  is_hollow heard read sound hears is = (
     silent,
     are_heard heard hears,
-    is ∙ sym (hollow_is_part takes silent ticks whole sound.signals (ap (λ (t : TickRange). t.first) all)
-        (omega (arith, sound.end, ap (λ (t : TickRange). t.last) all)) is_silent),
+    is ∙ sym (hollow_is_part takes silent all_ticks whole sound.signals refl sound.end is_silent),
   )
 
 -- ---- what is read
@@ -65,26 +64,22 @@ module _ (takes : SignalContents → Bool) (whole : Contents) where
 not_some : (c : Contents) → None ≡ Some c → ⊥
 not_some c is = absurd (cc is)
 
--- the names of the heard signals, before the file is read and afterwards
-module _ (limit most : ℕ) (old new : HeardNames) where
-  -- what is answered to any declarations
-  abbrev pub hearing : Answers
-  hearing timescale signals answer = (answer ≡ Some all_ticks) × (new ≡ old)
-
+module _ (limit most : ℕ) (names : HeardNames) where
   -- the waves of the part fit, if the file has the outline
   fits : (file : List ℕ) (loaded : Loaded) (declared : Contents)
-      (part : PartMeans limit (hears old) hearing file loaded) → outline part.whole ≡ declared
-      → with_waves (hears new) declared.signals (contents loaded.capture).signals
-      ≡ Some (with_taken (hears old) (outline part.whole).signals (part_of (hears old) part.ticks part.whole).signals)
+      (part : PartMeans limit (hears names) all_ticks file loaded) → outline part.whole ≡ declared
+      → with_waves (hears names) declared.signals (contents loaded.capture).signals
+      ≡ Some (with_taken (hears names) (outline part.whole).signals
+      (part_of (hears names) all_ticks part.whole).signals)
   fits file loaded declared part same =
-      (λ i. with_waves (hears (part.answered.1 i)) (sym same i).signals (part.is i).signals)
-      ∙ waves_of_part (hears old) part.ticks.first (min part.ticks.last part.whole.end - part.ticks.first)
+      (λ i. with_waves (hears names) (sym same i).signals (part.is i).signals)
+      ∙ waves_of_part (hears names) all_ticks.first (min all_ticks.last part.whole.end - all_ticks.first)
       part.whole.signals
 
   pub has_hollow : (coming : Option (List ℕ)) (loaded : Loaded) (declared read : Contents) (heard : List Bool)
-      → HearsAll (hears old) heard declared.signals
-      → with_part_waves (hears new) declared (contents loaded.capture) ≡ Some read
-      → IfSome coming (λ file. (length file ≤ most) × PartMeans limit (hears old) hearing file loaded)
+      → HearsAll (hears names) heard declared.signals
+      → with_part_waves (hears names) declared (contents loaded.capture) ≡ Some read
+      → IfSome coming (λ file. (length file ≤ most) × PartMeans limit (hears names) all_ticks file loaded)
       → IfSome coming (λ file. (length file ≤ most) × HasHollow limit file declared heard read)
   has_hollow None loaded declared read heard hears_all is means = tt
   has_hollow (Some file) loaded declared read heard hears_all is (short, part) = (
@@ -95,21 +90,21 @@ module _ (limit most : ℕ) (old new : HeardNames) where
       means = part.means;
       is = λ same.
           let p = signals_read declared read
-          (with_waves (hears new) declared.signals (contents loaded.capture).signals) is in
+          (with_waves (hears names) declared.signals (contents loaded.capture).signals) is in
           let same_signals : read.signals
-          ≡ with_taken (hears old) (outline part.whole).signals (part_of (hears old) part.ticks part.whole).signals =
+          ≡ with_taken (hears names) (outline part.whole).signals
+          (part_of (hears names) all_ticks part.whole).signals =
           same_Some read.signals _ (sym p.0 ∙ fits file loaded declared part same) in
-          is_hollow (hears old) part.whole part.ticks heard read (same_Some part.ticks all_ticks part.answered.0)
-          (file_is_sound _ _ _ _ part.means)
-          (subst (λ (c : Contents). HearsAll (hears old) heard c.signals) (sym same) hears_all)
+          is_hollow (hears names) part.whole heard read (file_is_sound _ _ _ _ part.means)
+          (subst (λ (c : Contents). HearsAll (hears names) heard c.signals) (sym same) hears_all)
           (p.1 ∙ λ i. record (sym same i) { signals = same_signals i });
     },
   )
 
   -- a file whose waves do not fit has another outline
   pub has_other_signals : (coming : Option (List ℕ)) (loaded : Loaded) (declared : Contents)
-      → with_part_waves (hears new) declared (contents loaded.capture) ≡ None
-      → IfSome coming (λ file. (length file ≤ most) × PartMeans limit (hears old) hearing file loaded)
+      → with_part_waves (hears names) declared (contents loaded.capture) ≡ None
+      → IfSome coming (λ file. (length file ≤ most) × PartMeans limit (hears names) all_ticks file loaded)
       → IfSome coming (λ file. HasOtherOutline limit file declared)
   has_other_signals None loaded declared none means = tt
   has_other_signals (Some file) loaded declared none (short, part) = record {
@@ -124,14 +119,12 @@ module _ (limit most : ℕ) (old new : HeardNames) where
   -- a file with another end has another outline
   pub has_other_end : (coming : Option (List ℕ)) (loaded : Loaded) (declared : Contents)
       → (contents loaded.capture).end ≢ declared.end
-      → IfSome coming (λ file. (length file ≤ most) × PartMeans limit (hears old) hearing file loaded)
+      → IfSome coming (λ file. (length file ≤ most) × PartMeans limit (hears names) all_ticks file loaded)
       → IfSome coming (λ file. HasOtherOutline limit file declared)
   has_other_end None loaded declared differs means = tt
   has_other_end (Some file) loaded declared differs (short, part) =
       let sound : IsSoundBut part.whole = file_is_sound _ _ _ _ part.means in
-      let ticks : part.ticks ≡ all_ticks = same_Some part.ticks all_ticks part.answered.0 in
-      let end : min part.ticks.last part.whole.end - part.ticks.first ≡ part.whole.end =
-      omega (arith, sound.end, ap (λ (t : TickRange). t.first) ticks, ap (λ (t : TickRange). t.last) ticks) in
+      let end : min END_LIMIT part.whole.end - 0 ≡ part.whole.end = omega (arith, sound.end) in
       record {
         whole = part.whole;
         skipped = loaded.skipped;

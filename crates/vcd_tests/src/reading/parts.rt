@@ -8,15 +8,14 @@ use crate::fixtures::{append_copies, check_holds, file_of, text_of};
 use std::alloc::Global;
 use std::process::Abort;
 use std::test::Fail;
-use vcd_core::{NoMemory, SIGNAL_LIMIT, Timescale};
-use vcd_text::{Choice, Declarations, DeclaredSignal, TickRange, VARIABLE_LIMIT, read_part};
+use vcd_core::SIGNAL_LIMIT;
+use vcd_text::{Choice, DeclaredSignal, TickRange, read_part};
 
 /// The signals of one kind, at some ticks.
 #[derive(Drop)]
 struct OfKind<'a> {
     kind: &'a [u8],
-    /// None to refuse the file.
-    ticks: Option<TickRange>,
+    ticks: TickRange,
 }
 
 impl<'a> Choice for OfKind<'a> {
@@ -24,24 +23,19 @@ impl<'a> Choice for OfKind<'a> {
 
     ghost takes = { λ choice s. bytes_eq s.kind choice.kind.now };
 
-    ghost answers = { λ old _ _ answer _. answer ≡ old.ticks };
+    ghost ticks = { λ choice. choice.ticks };
 
     fn takes(&self, signal: DeclaredSignal) -> bool {
         signal.kind == self.kind
     }
 
-    fn ticks(
-        &mut self,
-        _alloc: Global,
-        _timescale: Option<Timescale>,
-        _signals: &Declarations,
-    ) -> Result<Option<TickRange>, NoMemory> {
-        Ok(self.ticks)
+    fn ticks(&self) -> TickRange {
+        self.ticks
     }
 }
 
-/// A kind and ticks, or `none`; a file; the text of its part, after its end and how many signals it
-/// has, or the line and the name of the fault.
+/// A kind and ticks; a file; the text of its part, after its end and how many signals it has, or
+/// the line and the name of the fault.
 const PARTS: &str = "\
 -- all signals, from tick 0 to the end and further
 wire 0 99: $var wire 1 ! a $end $enddefinitions $end #3 1! #9 => 9 1 $var wire 1 ! a $end|\
@@ -76,22 +70,15 @@ wire 0 9: $var wire 1 ! a $end $var reg 1 \" b $end $enddefinitions $end|b10 \" 
 wire 5 9: $var wire 1 ! a $end $enddefinitions $end|#2|b2 ! #7 => 3 BadChange
 wire 0 1: $var wire 1 ! a $end $enddefinitions $end|#2|#1 => 3 TimeBackwards
 wire 0 1: $var wire 1 ! a $end $enddefinitions $end|#2|1% => 3 UnknownCode
-wire 0 1: $var wire 1 ! a $end $enddefinitions $end|#2|1! b0 => 3 Truncated
--- a choice that refuses the file, where its declarations end; a fault before that comes first
-wire none: $var wire 1 ! a $end|$enddefinitions|$end|#2|#1 => 3 Declined
-wire none: $var wire 1 ! a $end|$enddefinitions|$end => 3 Declined
-wire none: $var wire 1 ! a $end|$enddefinitions|x $end => 3 UnexpectedWord
-wire none: $var wire 1 ! a $end|$enddefinitions => 2 Truncated";
+wire 0 1: $var wire 1 ! a $end $enddefinitions $end|#2|1! b0 => 3 Truncated";
 
-/// The ticks in a row, as `2 5` or `none`.
-fn ticks_of(text: &str) -> Result<Option<TickRange>, Fail> {
-    match text.split_once(' ') {
-        Some((first, last)) => Ok(Some(TickRange {
-            first: first.parse::<u64>()?,
-            last: last.parse::<u64>()?,
-        })),
-        None => Ok(None),
-    }
+/// The ticks in a row, as `2 5`.
+fn ticks_of(text: &str) -> Result<TickRange, Fail> {
+    let (first, last) = text.split_once(' ').ok_or("no last tick")?;
+    Ok(TickRange {
+        first: first.parse::<u64>()?,
+        last: last.parse::<u64>()?,
+    })
 }
 
 /// What a part of a file is: its end, how many signals it has, and the text of the part; or the
@@ -100,10 +87,10 @@ fn answer_of(
     alloc: Global,
     file: &[u8],
     piece: usize,
-    choice: &mut OfKind,
+    choice: &OfKind,
 ) -> Result<String, Fail> {
     let mut source = source_of(FakeReader::new(file, piece));
-    match read_part(alloc, &mut source, VARIABLE_LIMIT, choice) {
+    match read_part(alloc, &mut source, choice) {
         Ok(loaded) => {
             let text = text_of(alloc, &loaded.capture)?;
             let text = String::from_utf8(text)?;
@@ -119,15 +106,15 @@ fn check_answer(
     alloc: Global,
     file: &[u8],
     piece: usize,
-    asked: (&str, Option<TickRange>),
+    asked: (&str, TickRange),
     answer: &str,
 ) -> Result<(), Fail> {
     let (kind, ticks) = asked;
-    let mut choice = OfKind {
+    let choice = OfKind {
         kind: kind.as_bytes(),
         ticks,
     };
-    let found = answer_of(alloc, file, piece, &mut choice)?;
+    let found = answer_of(alloc, file, piece, &choice)?;
     let wanted = file_of(alloc, answer)?;
     check_holds(rt, found.as_bytes() == wanted.as_slice(), answer);
     Ok(())
@@ -157,20 +144,18 @@ fn parts_of_files(rt: HostRuntime) -> Result<(), Fail> {
 }
 
 #[test]
-fn more_signals_than_a_capture_may_have(rt: HostRuntime) -> Result<(), Fail> {
+fn part_of_more_signals_than_a_capture_may_have(rt: HostRuntime) -> Result<(), Fail> {
     let mut file = Vec::new(rt.alloc());
-    append_copies(&mut file, b"$var wire 1 ! a $end\n", SIGNAL_LIMIT + 1)?;
+    append_copies(&mut file, b"$var wire 1 ! a $end\n", SIGNAL_LIMIT)?;
     file.extend_from_slice(b"$var reg 1 ! b $end\n$enddefinitions $end\n1!")?;
-    let all = Some(TickRange { first: 0, last: 9 });
-    let refused = "65539 TooManyRemain";
+    let all = TickRange { first: 0, last: 9 };
+    let refused = "65537 TooManySignals";
     check_answer(
         &rt,
         rt.alloc(),
         file.as_slice(),
         4096,
-        ("wire", all),
+        ("reg", all),
         refused,
-    )?;
-    let one = "0 65538 $var reg 1 ! b $end|$enddefinitions $end|#0|$dumpvars|1!|$end|";
-    check_answer(&rt, rt.alloc(), file.as_slice(), 4096, ("reg", all), one)
+    )
 }

@@ -4,8 +4,6 @@ use Rattle.std.proofs.lemmas.List.{append-nil}
 use Rattle.std.proofs.lemmas.Bool.{false≢true}
 use Rattle.std.specs.Prelude.{Option, Some, None, IfSome, Result, Ok, Err, OnOk, IsOk, IfErr}
 use Rattle.std.specs.Io.KnownBytes.{Appends, Keeps}
-use Rattle.vcd_core.specs.Contents.{SignalContents}
-use Rattle.vcd_core.specs.declared.capture.Timescale.{Timescale}
 use Rattle.vcd_core.specs.declared.device.Sink as sinks
 use Rattle.vcd_text.specs.declared.fault.CopyError.{CopyError}
 use Rattle.vcd_text.specs.declared.fault.CopyError.TheVariants as copy_errors
@@ -16,11 +14,10 @@ use Rattle.vcd_text.specs.declared.fault.WriteError.TheVariants.{WriteFault}
 use Rattle.vcd_text.specs.declared.writing.output.Output.{Output}
 use Rattle.vcd_text.specs.Copied.{CopyRules, IsCopy}
 use Rattle.vcd_text.specs.CopyEnds.{CopyFails, ReadFails}
-use Rattle.vcd_text.specs.Parts.{Answers, IsPartRefusal}
+use Rattle.vcd_text.specs.Refusals.{IsRefusal}
 use Rattle.vcd_text.specs.inside.Copying.{TookCopy}
 use Rattle.vcd_text.specs.EmittedText.{Emits, EmitsMore, HasEmitted}
 use Rattle.vcd_text.specs.declared.reading.TheConstants.{LONG_FILE_LIMIT}
-use Rattle.vcd_text.proofs.part.WholeParts.{no_part_refusal_of_copy}
 use Rattle.vcd_text.proofs.writing.output.Pieces.{writes_both, writes_as, writes_part, whole_written, all_taken}
 use Rattle.vcd_text.proofs.writing.output.Pieces.{appends_kept, failed_prefix}
 
@@ -85,21 +82,15 @@ pub some_taken : {W : Type 0} {sink : sinks.Ghosts W} {before : Option (List ℕ
     → (some : List ℕ) × Appends before (sink.taken later) some
 some_taken {text = text} later held kept = (take held.sent text, appends_kept _ _ _ _ held.prefix kept)
 
--- why reading fails, if no signal is heard
-pub read_fails : {T : Type 0} (limit : ℕ) (answers : Answers) (coming left : Option (List ℕ)) (failed : Bool)
-    (r : Result T ReadError) → ((timescale : Option Timescale) (ss : List SignalContents)
-    → answers timescale ss None → ⊥)
-    → IfErr r (λ e. IfSome coming (λ file. IsPartRefusal limit LONG_FILE_LIMIT (λ _. false) answers file failed
-    left e))
+-- why reading fails
+pub read_fails : {T : Type 0} (limit : ℕ) (coming left : Option (List ℕ)) (failed : Bool) (r : Result T ReadError)
+    → IfErr r (λ e. IfSome coming (λ file. IsRefusal limit LONG_FILE_LIMIT file failed left e))
     → IfErr r (λ e. e.fault ≡ faults.ReadFault → failed ≡ true)
     → IfErr r (λ e. (e.fault ≡ faults.ReadFault → ⊥) → failed ≡ false)
     → IfErr r (ReadFails limit LONG_FILE_LIMIT coming left failed)
-read_fails limit answers coming left failed (Ok x) some refused has other = tt
-read_fails limit answers coming left failed (Err e) some refused has other = record {
-  refused = no_part_refusal_of_copy limit answers coming failed left e some refused;
-  failed_reader = has;
-  other = other;
-}
+read_fails limit coming left failed (Ok x) refused has other = tt
+read_fails limit coming left failed (Err e) refused has other =
+    record { refused = refused; failed_reader = has; other = other }
 
 -- why a copy fails
 pub copy_fails : {W T S : Type 0} {sink : sinks.Ghosts W} {before : Option (List ℕ)} {output : Output W}

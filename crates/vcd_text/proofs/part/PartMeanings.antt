@@ -1,6 +1,7 @@
 -- The capture of a part: what the value changes that were kept mean.
-use Rattle.std.proofs.Common.{◌≡◌, ℕ, suc, ◌≤◌, Bool, true, false, if◌then◌else◌, List, [], ◌∷◌, map, Some, refl, arith}
-use Rattle.std.specs.Prelude.{IsFalse, nat_le, slice_get, slice_index_or}
+use Rattle.std.proofs.Common.{◌≡◌, ℕ, suc, ◌-◌, ◌≤◌, Bool, true, false, not, cond, if◌then◌else◌, min, List, []}
+use Rattle.std.proofs.Common.{◌∷◌, map, Some, refl, ap, sym, subst, arith}
+use Rattle.std.specs.Prelude.{IsFalse, nat_le, slice_get, slice_index_or, filter}
 use Rattle.std.proofs.lemmas.Bool.{cases_lt, le-leb}
 use Rattle.vcd_core.specs.declared.bit.Bit.{Bit}
 use Rattle.vcd_core.specs.declared.wave.Change.{Change}
@@ -8,9 +9,12 @@ use Rattle.vcd_core.specs.Wave.{value_from, AllUpTo}
 use Rattle.vcd_core.proofs.shared.Waves.{changes_same, value_at-changes_of, changes_end}
 use Rattle.vcd_text.specs.Grammar.{VariableDeclaration, ValueChange, ParseState, kept_variables}
 use Rattle.vcd_text.specs.Meaning.{declared_signal, meaning}
-use Rattle.vcd_text.specs.Parts.{part_of_signal}
+use Rattle.vcd_core.specs.Contents.{SignalContents}
+use Rattle.vcd_core.specs.Outline.{without_changes}
+use Rattle.vcd_text.specs.Parts.{part_of_signal, part_of}
 use Rattle.vcd_text.specs.declared.reading.part.Part.{Part}
-use Rattle.vcd_text.specs.inside.reading.Part.{seen_tick, TellsPart, remaining, listed_part}
+use Rattle.vcd_text.specs.inside.reading.Part.{seen_tick, TellsPart, remaining, listed_part, undriven}
+use Rattle.vcd_text.specs.inside.reading.Part.{Asked, IsAskedPart, LeavesOut}
 use Rattle.vcd_text.proofs.part.LateChanges.{UpToTick, latest_past}
 
 -- ---- the items that remain
@@ -63,3 +67,38 @@ module _ (part : Part) (c : ParseState) (seen : List ValueChange) (tells : Tells
       (map (declared_signal seen (seen_tick part c.tick)) (kept_variables c.declared))
       ≡ (listed_part part (meaning c)).signals
   signals_of_part = grind (arith, same_remaining, signal_of_part)
+
+-- ---- the part that is asked for
+
+one_test : (s : SignalContents) (t b : Bool) (xs ys : List SignalContents) → b ≡ not t → xs ≡ ys
+    → (if b then xs else s ∷ xs) ≡ cond t (s ∷ ys) ys
+one_test s t b xs ys is same = grind arith
+
+-- the part by a list of tests is the part by the test that they are of
+filtered : (takes : SignalContents → Bool) (out : List Bool) (ss : List SignalContents)
+    → LeavesOut takes (map without_changes ss) out → remaining out ss ≡ filter (λ s. takes (without_changes s)) ss
+filtered takes [] [] leaves = refl
+filtered takes [] (s ∷ ss) leaves = one_test s (takes (without_changes s)) false ss _
+    (leaves 0 (without_changes s) refl) (filtered takes [] ss (λ position t at. leaves (suc position) t at))
+filtered takes (b ∷ out) [] leaves = refl
+filtered takes (b ∷ out) (s ∷ ss) leaves = one_test s (takes (without_changes s)) b (remaining out ss) _
+    (leaves 0 (without_changes s) refl) (filtered takes out ss (λ position t at. leaves (suc position) t at))
+
+-- the signals of variables as they are declared
+undriven_signals : (changes : List ValueChange) (end : ℕ) (ds : List VariableDeclaration)
+    → map without_changes (map (declared_signal changes end) ds) ≡ map undriven ds
+undriven_signals changes end [] = refl
+undriven_signals changes end (d ∷ ds) = ap (λ ss. undriven d ∷ ss) (undriven_signals changes end ds)
+
+-- the part of a meaning by a list of tests is the one that is asked for
+pub asked_part_is : (asked : Asked) (part : Part) (c : ParseState)
+    → IsAskedPart asked (map undriven (kept_variables c.declared)) part
+    → listed_part part (meaning c) ≡ part_of asked.takes asked.ticks (meaning c)
+asked_part_is asked part c is =
+    let leaves = subst (λ ss. LeavesOut asked.takes ss part.left_out.items)
+    (sym (undriven_signals c.value_changes c.tick (kept_variables c.declared))) is.leaves in
+    let taken = filtered asked.takes part.left_out.items (meaning c).signals leaves in
+    λ i. record (meaning c) {
+      end = min (is.last i) c.tick - is.first i;
+      signals = map (part_of_signal (is.first i) (min (is.last i) c.tick - is.first i)) (taken i);
+    }

@@ -43,17 +43,17 @@ same_place : {A : Type 0} (a : List A) (v : A) (xs b : List A) (w : A) (ys : Lis
     → length a ≡ length b → (a ≡ b) × (v ≡ w)
 same_place a v xs b w ys e long = grind (arith, places a v xs b w ys e, length-append)
 
-pub not_none : {A : Type 0} (xs : List A) (x : A) (ys : List A) → [] ≡ xs ++ x ∷ ys → ⊥
+not_none : {A : Type 0} (xs : List A) (x : A) (ys : List A) → [] ≡ xs ++ x ∷ ys → ⊥
 not_none xs x ys e = absurd (omega (arith, ap length e, length-append xs (x ∷ ys)))
 
 -- ---- words that no whole item begins
 
 -- no item whose conditions hold begins these words
-abbrev pub BeginsNone : ParseState → List (List ℕ) → Type 0
+abbrev BeginsNone : ParseState → List (List ℕ) → Type 0
 BeginsNone c words = (i : Item) (rest : List (List ℕ)) → Allows c i → words ≡ spelling i ++ rest → ⊥
 
 -- an item that goes on after these words has no whole item in front
-pub goes_past : (c : ParseState) (begun : List (List ℕ)) (next : List ℕ) (j : Item) (rest : List (List ℕ))
+goes_past : (c : ParseState) (begun : List (List ℕ)) (next : List ℕ) (j : Item) (rest : List (List ℕ))
     → GoesOn c begun next → IsTrue (fits c j) → begun ≡ spelling j ++ rest → ⊥
 goes_past c begun next j rest (i, more, f, e) fit is =
     let all : spelling i ++ [] ≡ spelling j ++ (rest ++ next ∷ more) = grind (arith, append-nil, append_assoc) in
@@ -90,7 +90,7 @@ shown_item c begun word more fault j rest (test_fails i f spelled h) fit e =
     (grind arith)
 shown_item c begun word more fault j rest (misfits next some none is) fit e = search (arith, misfit_ends)
 
-pub shown_begins_none : (c : ParseState) (begun : List (List ℕ)) (word : List ℕ) (more : List (List ℕ)) (fault : Fault)
+shown_begins_none : (c : ParseState) (begun : List (List ℕ)) (word : List ℕ) (more : List (List ℕ)) (fault : Fault)
     → WordShows c begun word fault → BeginsNone c (begun ++ word ∷ more)
 shown_begins_none c begun word more fault shown i rest allows e =
     let both : None ≡ Some fault = sym allows.1 ∙ (shown_item c begun word more fault i rest shown allows.0 e).1 in

@@ -1,5 +1,6 @@
 -- Definitions that `reading` and its proofs cite.
-pub mod Choice
+pub mod DeclaredSignals
+pub mod Chains
 pub mod DigitTests
 pub mod Part
 pub mod Log

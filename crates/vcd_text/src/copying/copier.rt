@@ -8,18 +8,18 @@ ghost use Rattle.vcd_text.specs.LineFeeds.{line_feeds_in};
 ghost use Rattle.vcd_text.specs.inside.Words.{has_complete_words};
 ghost use Rattle.vcd_text.specs.Copied.{IsTold};
 ghost use Rattle.vcd_text.specs.inside.Copying.{HasCopied, HasCopiedFile, TookCopy};
-ghost use Rattle.vcd_text.specs.inside.reading.Choice.{HasTakenFrom, CanTake, AllWordsResult};
-ghost use Rattle.vcd_text.specs.inside.reading.Choice.{RefusesFile};
+ghost use Rattle.vcd_text.specs.inside.reading.Part.{unheard};
+ghost use Rattle.vcd_text.specs.inside.reading.Parser.{HasTakenWords, CanTake, AllWordsResult};
 ghost use Rattle.vcd_text.specs.inside.reading.FileReader.{HasReadBytes, FileReaderMatches};
 ghost use Rattle.vcd_text.specs.inside.reading.FileReader.{HasUntakenChunk, TakesChunk};
-ghost use Rattle.vcd_text.specs.Parts.{IsPartRefusal, answers_of};
+ghost use Rattle.vcd_text.specs.inside.reading.FileReader.{RefusesFile};
+ghost use Rattle.vcd_text.specs.Refusals.{IsRefusal};
 ghost use Rattle.std.specs.Io.KnownBytes.{Consumes, IsAtEnd};
 ghost use Rattle.vcd_text.specs.EmittedText.{Emits, EmitsMore};
 
 use super::amender::Amender;
 use super::pieces::{Held, Unwritten, copy_word, hold, write_standing};
 use crate::fault::{Fault, ReadError};
-use crate::reading::choice::Choice;
 use crate::reading::file_reader::{FileReader, check_complete, complete_words_len};
 use crate::reading::parser::Parser;
 use crate::words::Words;
@@ -39,26 +39,22 @@ pub struct Copier {
 impl Copier {
     /// Reads a chunk, and copies the words that are then complete. Returns whether the source
     /// gave a byte.
-    pub fn take_chunk<R: Source, C: Choice, W: Sink, A: Amender<W>>(
+    pub fn take_chunk<R: Source, W: Sink, A: Amender<W>>(
         &mut self,
         alloc: Global,
         source: &mut R,
-        choice: &mut C,
         amender: &mut A,
         output: &mut Output<W>,
     ) -> Result<bool, ReadError>
         requires ready { R.has_failed source.old ≡ false }
-        requires read_bytes { (limit : ℕ) × (most : ℕ) × (first : C) × (bytes : List ℕ)
-            × HasReadBytes most (HasTakenFrom limit C.takes C.answers first choice.old)
-            self.old.progress bytes }
+        requires read_bytes { (limit : ℕ) × (most : ℕ) × (bytes : List ℕ)
+            × HasReadBytes limit most unheard self.old.progress bytes }
         requires copying { (limit : ℕ) × (start : Output W) × (bytes : List ℕ)
             × HasCopiedFile W.Sink limit (A.rules (A.given amender.old)) (A.has_seen amender.old)
             start output.old self.old bytes }
-        ensures taken { OnOk result ((limit most : ℕ) (first : C) (coming : Option (List ℕ)) →
-            FileReaderMatches most (HasTakenFrom limit C.takes C.answers first choice.old) coming
-            (R.coming source.old) self.old.progress →
-            FileReaderMatches most (HasTakenFrom limit C.takes C.answers first choice.new) coming
-            (R.coming source.new) self.new.progress) }
+        ensures taken { OnOk result ((limit most : ℕ) (coming : Option (List ℕ)) →
+            FileReaderMatches limit most unheard coming (R.coming source.old) self.old.progress →
+            FileReaderMatches limit most unheard coming (R.coming source.new) self.new.progress) }
         ensures copied { OnOk result ((limit : ℕ) (start : Output W) (bytes : List ℕ) →
             HasCopiedFile W.Sink limit (A.rules (A.given amender.old)) (A.has_seen amender.old)
             start output.old self.old bytes →
@@ -71,13 +67,10 @@ impl Copier {
         ensures ended { IfOk result (λ more. more ≡ false → IsAtEnd (R.coming source.new)) }
         ensures fewer { IfOk result (λ more. more ≡ true
             → self.new.progress.bytes_left < self.old.progress.bytes_left) }
-        ensures refused { IfErr result (λ e. (limit most : ℕ) (first : C) (coming : Option (List ℕ))
-            →
-            FileReaderMatches most (HasTakenFrom limit C.takes C.answers first choice.old) coming
-            (R.coming source.old) self.old.progress →
-            IfSome coming (λ file. IsPartRefusal limit most (C.takes first)
-            (answers_of C.answers first choice.new)
-            file (R.has_failed source.new) (R.coming source.new) e)) }
+        ensures refused { IfErr result (λ e. (limit most : ℕ) (coming : Option (List ℕ)) →
+            FileReaderMatches limit most unheard coming (R.coming source.old) self.old.progress →
+            IfSome coming (λ file. IsRefusal limit most file (R.has_failed source.new)
+            (R.coming source.new) e)) }
         ensures failed { IfErr result (λ e. e.fault ≡ Fault.ReadFault →
             R.has_failed source.new ≡ true) }
         ensures unfailed { IfErr result (λ e. (e.fault ≡ Fault.ReadFault → ⊥) →
@@ -96,31 +89,27 @@ impl Copier {
             return Err(ReadError::at(self.progress.line_feeds + 1, Fault::TooLarge));
         }
         self.progress.bytes_left -= count;
-        self.copy_words_of_chunk(alloc, choice, amender, output, unfinished_len)?;
+        self.copy_words_of_chunk(alloc, amender, output, unfinished_len)?;
         Ok(count > 0)
     }
 
     /// Copies the complete words. The first `unfinished_len` bytes of the buffer are no white
     /// space.
-    fn copy_words_of_chunk<C: Choice, W: Sink, A: Amender<W>>(
+    fn copy_words_of_chunk<W: Sink, A: Amender<W>>(
         &mut self,
         alloc: Global,
-        choice: &mut C,
         amender: &mut A,
         output: &mut Output<W>,
         unfinished_len: usize,
     ) -> Result<(), ReadError>
-        requires reading { (limit : ℕ) × (most : ℕ) × (first : C) × (bytes : List ℕ)
-            × HasUntakenChunk most (HasTakenFrom limit C.takes C.answers first choice.old)
-            self.old.progress unfinished_len bytes }
+        requires reading { (limit : ℕ) × (most : ℕ) × (bytes : List ℕ)
+            × HasUntakenChunk limit most unheard self.old.progress unfinished_len bytes }
         requires copying { (limit : ℕ) × (start : Output W) × (bytes : List ℕ)
             × HasCopiedFile W.Sink limit (A.rules (A.given amender.old)) (A.has_seen amender.old)
             start output.old self.old bytes }
-        ensures taken { (limit most : ℕ) (first : C) (bytes : List ℕ) →
-            HasUntakenChunk most (HasTakenFrom limit C.takes C.answers first choice.old)
-            self.old.progress unfinished_len bytes →
-            TakesChunk limit most C.takes C.answers first choice.new bytes result
-            self.new.progress }
+        ensures taken { (limit most : ℕ) (bytes : List ℕ) →
+            HasUntakenChunk limit most unheard self.old.progress unfinished_len bytes →
+            TakesChunk limit most unheard bytes result self.new.progress }
         ensures copied { OnOk result ((limit : ℕ) (start : Output W) (bytes : List ℕ) →
             HasCopiedFile W.Sink limit (A.rules (A.given amender.old)) (A.has_seen amender.old)
             start output.old self.old bytes →
@@ -138,7 +127,6 @@ impl Copier {
         self.progress.line_feeds = copy_words(
             alloc,
             &mut self.progress.parser,
-            choice,
             &mut self.held,
             amender,
             output,
@@ -149,16 +137,14 @@ impl Copier {
     }
 
     /// Copies the word that the file's end completes, if there is one, and ends the copy.
-    pub fn finish<C: Choice, W: Sink, A: Amender<W>>(
+    pub fn finish<W: Sink, A: Amender<W>>(
         self,
         alloc: Global,
-        choice: &mut C,
         amender: &mut A,
         output: &mut Output<W>,
     ) -> Result<(), ReadError>
-        requires reading { (limit : ℕ) × (most : ℕ) × (first : C) × (bytes : List ℕ)
-            × HasReadBytes most (HasTakenFrom limit C.takes C.answers first choice.old)
-            self.progress bytes }
+        requires reading { (limit : ℕ) × (most : ℕ) × (bytes : List ℕ)
+            × HasReadBytes limit most unheard self.progress bytes }
         requires copying { (limit : ℕ) × (start : Output W) × (bytes : List ℕ)
             × HasCopiedFile W.Sink limit (A.rules (A.given amender.old)) (A.has_seen amender.old)
             start output.old self bytes }
@@ -172,10 +158,9 @@ impl Copier {
             IsTold limit false (A.has_ended amender.new) bytes) }
         ensures same { OnOk result (A.given amender.new ≡ A.given amender.old) }
         ensures more { EmitsMore W.Sink output.old output.new }
-        ensures fault { IfErr result (λ e. (limit most : ℕ) (first : C) (bytes : List ℕ) →
-            HasReadBytes most (HasTakenFrom limit C.takes C.answers first choice.old)
-            self.progress bytes →
-            RefusesFile limit (C.takes first) (answers_of C.answers first choice.new) bytes e) }
+        ensures fault { IfErr result (λ e. (limit most : ℕ) (bytes : List ℕ) →
+            HasReadBytes limit most unheard self.progress bytes →
+            RefusesFile limit bytes e) }
     {
         let Copier { progress, mut held } = self;
         let FileReader {
@@ -188,7 +173,7 @@ impl Copier {
             rest: buffer.as_slice(),
             line_feeds,
         };
-        copy_words(alloc, &mut parser, choice, &mut held, amender, output, word)?;
+        copy_words(alloc, &mut parser, &mut held, amender, output, word)?;
         check_complete(&parser, line_feeds + 1)?;
         amender.finish(output, held.bytes.as_slice())?;
         Ok(())
@@ -197,27 +182,22 @@ impl Copier {
 
 /// Copies words one after another, up to the first that shows a fault, and holds the white space
 /// after the last. Returns the number of line feeds before the end of their text.
-fn copy_words<C: Choice, W: Sink, A: Amender<W>>(
+fn copy_words<W: Sink, A: Amender<W>>(
     alloc: Global,
     parser: &mut Parser,
-    choice: &mut C,
     held: &mut Held,
     amender: &mut A,
     output: &mut Output<W>,
     words: Words,
 ) -> Result<u64, ReadError>
-    requires reading { (limit : ℕ) × (first : C) × CanTake limit C.takes C.answers first choice.old
-        parser.old
-        (words_left words) }
+    requires reading { (limit : ℕ) × CanTake limit unheard parser.old (words_left words) }
     requires copying { (limit : ℕ) × (start : Output W) × (before : List ℕ)
         × HasCopied limit (A.rules (A.given amender.old)) (A.has_seen amender.old)
         (Emits W.Sink start output.old) parser.old held.old.bytes.items held.old.space_len before
         × (has_complete_words before ≡ true) }
-    ensures words { (limit : ℕ) (first : C) (words_so_far : List WordInFile) →
-        HasTakenFrom limit C.takes C.answers first choice.old parser.old words_so_far →
-        AllWordsResult limit C.takes C.answers first choice.new words_so_far
-        (words_left words.entry)
-        result parser.new }
+    ensures words { (limit : ℕ) (words_so_far : List WordInFile) →
+        HasTakenWords limit unheard parser.old words_so_far →
+        AllWordsResult limit unheard words_so_far (words_left words.entry) result parser.new }
     ensures line_feeds { IfOk result (λ line_feeds.
         line_feeds ≡ words.entry.line_feeds + line_feeds_in words.entry.rest.now) }
     ensures copied { OnOk result ((limit : ℕ) (start : Output W) (before : List ℕ) →
@@ -239,7 +219,6 @@ fn copy_words<C: Choice, W: Sink, A: Amender<W>>(
         copy_word(
             alloc,
             parser,
-            choice,
             held,
             amender,
             output,

@@ -10,14 +10,15 @@ ghost use Rattle.vcd_text.specs.Copied.{CopyRules, copied_piece};
 ghost use Rattle.vcd_text.specs.inside.Copying.{stands_open, standing_part};
 ghost use Rattle.vcd_text.specs.inside.Copying.{EndsPiece, IsSpacedWord};
 ghost use Rattle.vcd_text.specs.inside.Copying.{HasCopiedUpTo, IsUnwritten, IsHeldPiece, HasPassed};
-ghost use Rattle.vcd_text.specs.inside.reading.Choice.{HasTakenFrom, CanTake, TakesWord};
+ghost use Rattle.vcd_text.specs.inside.reading.Part.{unheard};
+ghost use Rattle.vcd_text.specs.inside.reading.Parser.{HasTakenWords, CanTake, TakesWord};
 ghost use Rattle.vcd_text.specs.EmittedText.{Emits, EmitsMore};
 ghost use Rattle.vcd_text.specs.declared.reading.parser.OpenItem.TheVariants as items;
 
 use super::amender::Amender;
 use super::ended_items::end_item;
 use crate::fault::ReadError;
-use crate::reading::choice::Choice;
+use crate::reading::choice::Unheard;
 use crate::reading::file_reader::take_word;
 use crate::reading::parser::{OpenItem, Parser};
 use crate::writing::output::{Output, write_bytes};
@@ -44,10 +45,9 @@ pub struct Unwritten<'a> {
 }
 
 /// Takes a word, before which is white space and after which is `rest`.
-pub fn copy_word<'a, C: Choice, W: Sink, A: Amender<W>>(
+pub fn copy_word<'a, W: Sink, A: Amender<W>>(
     alloc: Global,
     parser: &mut Parser,
-    choice: &mut C,
     held: &mut Held,
     amender: &mut A,
     output: &mut Output<W>,
@@ -56,9 +56,8 @@ pub fn copy_word<'a, C: Choice, W: Sink, A: Amender<W>>(
     line: u64,
     rest: &'a [u8],
 ) -> Result<(), ReadError>
-    requires reading { (limit : ℕ) × (first : C)
-        × CanTake limit C.takes C.answers first choice.old parser.old
-        (word_on text.now line ∷ []) }
+    requires reading { (limit : ℕ)
+        × CanTake limit unheard parser.old (word_on text.now line ∷ []) }
     requires copying { (limit : ℕ) × (rules : CopyRules) × (start : Output W)
         × (before old_rest bytes : List ℕ)
         × HasCopiedUpTo W.Sink limit rules (A.has_seen amender.old) start output.old parser.old
@@ -66,11 +65,9 @@ pub fn copy_word<'a, C: Choice, W: Sink, A: Amender<W>>(
         × (old_rest ≡ bytes ++ rest.now) × IsSpacedWord before bytes text.now }
     requires word { 0 < length text.now }
     requires no_space { list_all (λ b. not (is_white_space b)) text.now ≡ true }
-    ensures words { (limit : ℕ) (first : C) (words_so_far : List WordInFile) →
-        HasTakenFrom limit C.takes C.answers first choice.old parser.old words_so_far →
-        TakesWord limit C.takes C.answers first choice.new words_so_far (word_on text.now line)
-        result
-        parser.new }
+    ensures words { (limit : ℕ) (words_so_far : List WordInFile) →
+        HasTakenWords limit unheard parser.old words_so_far →
+        TakesWord limit unheard words_so_far (word_on text.now line) result parser.new }
     ensures copied { OnOk result ((limit : ℕ) (start : Output W) (before old_rest bytes : List ℕ) →
         HasCopiedUpTo W.Sink limit (A.rules (A.given amender.old)) (A.has_seen amender.old) start
         output.old parser.old held.old unwritten.old.all.now unwritten.old.item.now old_rest
@@ -88,7 +85,7 @@ pub fn copy_word<'a, C: Choice, W: Sink, A: Amender<W>>(
         earlier,
         unwritten.item.len() - rest.len() - text.len(),
     );
-    take_word(parser, alloc, choice, text, line)?;
+    take_word(parser, alloc, &Unheard, text, line)?;
     decide(
         parser, held, amender, output, unwritten, earlier, text, rest,
     )?;

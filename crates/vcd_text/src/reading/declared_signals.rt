@@ -1,7 +1,7 @@
 //! The signals that a file declares, as a choice of a part sees them.
 
 ghost use Rattle.std.specs.Prelude.{◌≡◌, ◌<◌, ℕ, Some, length, slice_get};
-ghost use Rattle.vcd_text.specs.Chains.{chains_of};
+ghost use Rattle.vcd_text.specs.inside.reading.Chains.{chains_of};
 ghost use Rattle.vcd_text.specs.inside.reading.Scopes.{IsWithin};
 ghost use Rattle.vcd_text.specs.declared.reading.variables.Variable.{Variable as KeptVariable};
 
@@ -29,7 +29,8 @@ pub struct Declarations<'a> {
 }
 
 impl<'a> Declarations<'a> {
-    ghost use Rattle.vcd_text.specs.AsDeclared.{signal_declared, declared_contents};
+    ghost use Rattle.vcd_text.specs.AsDeclared.{signal_declared};
+    ghost use Rattle.vcd_text.specs.inside.reading.DeclaredSignals.{declared_contents};
 
     /// How many signals are declared.
     pub fn len(&self) -> usize

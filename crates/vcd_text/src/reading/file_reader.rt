@@ -5,24 +5,21 @@ ghost use Rattle.std.specs.Prelude.{length, map, take, drop, Option, IfOk, IfErr
 ghost use Rattle.std.specs.List.{list_all};
 ghost use Rattle.std.specs.Io.KnownBytes.{IsAtEnd};
 ghost use Rattle.vcd_core.specs.Word as spec;
-ghost use Rattle.vcd_core.specs.CaptureContents.{contents};
-ghost use Rattle.vcd_core.specs.Sound.{IsSound};
 ghost use Rattle.vcd_text.specs.Words.{word_on, WordOnLine as WordInFile};
 ghost use Rattle.vcd_text.specs.LentWords.{words_left};
 ghost use Rattle.vcd_text.specs.Grammar.{ParseState, kept_variables};
-ghost use Rattle.vcd_text.specs.Parts.{PartMeans, IsPartRefusal, answers_of};
+ghost use Rattle.vcd_text.specs.Parts.{PartMeans};
+ghost use Rattle.vcd_text.specs.Refusals.{IsRefusal};
 ghost use Rattle.vcd_text.specs.inside.reading.Parser.{StepsBy};
 ghost use Rattle.vcd_text.specs.inside.Words.{has_complete_words};
 ghost use Rattle.vcd_text.specs.LineFeeds.{line_feeds_in};
-ghost use Rattle.vcd_text.specs.inside.reading.Part.{Asked, undriven};
+ghost use Rattle.vcd_text.specs.inside.reading.Part.{Asked, asked_by, IsAskedPart, undriven};
 ghost use Rattle.vcd_text.specs.inside.reading.Variables.{VariablesMatch};
 ghost use Rattle.vcd_text.specs.inside.reading.Parser.{HasTakenWords, BeginsPart, is_complete};
-ghost use Rattle.vcd_text.specs.inside.reading.Choice.{HasTakenFrom, IsAnswered, RefusesSignals};
-ghost use Rattle.vcd_text.specs.inside.reading.Choice.{CanTake, TakesWord, AllWordsResult};
-ghost use Rattle.vcd_text.specs.inside.reading.Choice.{RefusesFile};
+ghost use Rattle.vcd_text.specs.inside.reading.Parser.{CanTake, TakesWord, AllWordsResult};
 ghost use Rattle.vcd_text.specs.inside.reading.FileReader.{HasReadBytes, FileReaderMatches};
 ghost use Rattle.vcd_text.specs.inside.reading.FileReader.{HasUntakenChunk};
-ghost use Rattle.vcd_text.specs.inside.reading.FileReader.{TakesChunk};
+ghost use Rattle.vcd_text.specs.inside.reading.FileReader.{TakesChunk, RefusesFile};
 ghost use Rattle.vcd_text.specs.declared.reading.parser.OpenItem.TheVariants as items;
 
 use crate::fault::{Fault, ReadError};
@@ -32,7 +29,7 @@ use crate::reading::parser::Parser;
 use crate::reading::read_buffer::ReadBuffer;
 use crate::words::Words;
 use std::alloc::Global;
-use vcd_core::{Source, is_white_space};
+use vcd_core::{NoMemory, Source, is_white_space};
 
 /// The progress of reading a file.
 #[derive(Drop)]
@@ -51,9 +48,7 @@ impl FileReader {
     /// The progress before the first read.
     pub fn new(alloc: Global, limit: u32, most: usize) -> FileReader
         requires { most < 2 ^ 62 }
-        ensures read_bytes { (asked : Asked) →
-            HasReadBytes most (HasTakenWords limit asked) result [] }
-        ensures in_body { result.parser.in_body ≡ false }
+        ensures { (asked : Asked) → HasReadBytes limit most asked result [] }
     {
         FileReader {
             parser: Parser::new(alloc, limit),
@@ -69,28 +64,25 @@ impl FileReader {
         &mut self,
         alloc: Global,
         source: &mut R,
-        choice: &mut C,
+        choice: &C,
     ) -> Result<bool, ReadError>
         requires ready { R.has_failed source.old ≡ false }
-        requires read_bytes { (limit : ℕ) × (most : ℕ) × (first : C) × (bytes : List ℕ)
-            × HasReadBytes most (HasTakenFrom limit C.takes C.answers first choice.old) self.old
-            bytes }
-        ensures taken { OnOk result ((limit most : ℕ) (first : C) (coming : Option (List ℕ)) →
-            FileReaderMatches most (HasTakenFrom limit C.takes C.answers first choice.old) coming
+        requires read_bytes { (limit : ℕ) × (most : ℕ) × (bytes : List ℕ)
+            × HasReadBytes limit most (asked_by C.takes C.ticks choice.now) self.old bytes }
+        ensures taken { OnOk result ((limit most : ℕ) (coming : Option (List ℕ)) →
+            FileReaderMatches limit most (asked_by C.takes C.ticks choice.now) coming
             (R.coming source.old) self.old →
-            FileReaderMatches most (HasTakenFrom limit C.takes C.answers first choice.new) coming
+            FileReaderMatches limit most (asked_by C.takes C.ticks choice.now) coming
             (R.coming source.new) self.new) }
         ensures not_failed { OnOk result (R.has_failed source.new ≡ false) }
         ensures ended { IfOk result (λ more. more ≡ false → IsAtEnd (R.coming source.new)) }
         ensures fewer { IfOk result (λ more. more ≡ true
             → self.new.bytes_left < self.old.bytes_left) }
-        ensures refused { IfErr result (λ e. (limit most : ℕ) (first : C) (coming : Option (List ℕ))
-            →
-            FileReaderMatches most (HasTakenFrom limit C.takes C.answers first choice.old) coming
+        ensures refused { IfErr result (λ e. (limit most : ℕ) (coming : Option (List ℕ)) →
+            FileReaderMatches limit most (asked_by C.takes C.ticks choice.now) coming
             (R.coming source.old) self.old →
-            IfSome coming (λ file. IsPartRefusal limit most (C.takes first)
-            (answers_of C.answers first choice.new)
-            file (R.has_failed source.new) (R.coming source.new) e)) }
+            IfSome coming (λ file. IsRefusal limit most file (R.has_failed source.new)
+            (R.coming source.new) e)) }
         ensures failed { IfErr result (λ e. e.fault ≡ Fault.ReadFault →
             R.has_failed source.new ≡ true) }
         ensures too_large { IfErr result (λ e. e.fault ≡ Fault.TooLarge →
@@ -115,16 +107,16 @@ impl FileReader {
     fn take_words<C: Choice>(
         &mut self,
         alloc: Global,
-        choice: &mut C,
+        choice: &C,
         unfinished_len: usize,
     ) -> Result<(), ReadError>
-        requires { (limit : ℕ) × (most : ℕ) × (first : C) × (bytes : List ℕ)
-            × HasUntakenChunk most (HasTakenFrom limit C.takes C.answers first choice.old) self.old
+        requires { (limit : ℕ) × (most : ℕ) × (bytes : List ℕ)
+            × HasUntakenChunk limit most (asked_by C.takes C.ticks choice.now) self.old
             unfinished_len bytes }
-        ensures taken { (limit most : ℕ) (first : C) (bytes : List ℕ) →
-            HasUntakenChunk most (HasTakenFrom limit C.takes C.answers first choice.old) self.old
+        ensures taken { (limit most : ℕ) (bytes : List ℕ) →
+            HasUntakenChunk limit most (asked_by C.takes C.ticks choice.now) self.old
             unfinished_len bytes →
-            TakesChunk limit most C.takes C.answers first choice.new bytes result self.new }
+            TakesChunk limit most (asked_by C.takes C.ticks choice.now) bytes result self.new }
         ensures bytes_left { self.new.bytes_left ≡ self.old.bytes_left }
     {
         let len = complete_words_len(self.buffer.as_slice(), unfinished_len);
@@ -139,16 +131,15 @@ impl FileReader {
 
     /// Takes the word that the file's end completes, if there is one. The result is the part of
     /// what the file means, or its fault.
-    pub fn finish<C: Choice>(self, alloc: Global, choice: &mut C) -> Result<Loaded, ReadError>
-        requires { (limit : ℕ) × (most : ℕ) × (first : C) × (bytes : List ℕ)
-            × HasReadBytes most (HasTakenFrom limit C.takes C.answers first choice.old) self bytes }
-        ensures means { IfOk result (λ loaded. (limit most : ℕ) (first : C) (bytes : List ℕ) →
-            HasReadBytes most (HasTakenFrom limit C.takes C.answers first choice.old) self bytes →
-            PartMeans limit (C.takes first) (answers_of C.answers first choice.new) bytes loaded) }
-        ensures sound { IfOk result (λ loaded. IsSound (contents loaded.capture)) }
-        ensures fault { IfErr result (λ e. (limit most : ℕ) (first : C) (bytes : List ℕ) →
-            HasReadBytes most (HasTakenFrom limit C.takes C.answers first choice.old) self bytes →
-            RefusesFile limit (C.takes first) (answers_of C.answers first choice.new) bytes e) }
+    pub fn finish<C: Choice>(self, alloc: Global, choice: &C) -> Result<Loaded, ReadError>
+        requires { (limit : ℕ) × (most : ℕ) × (bytes : List ℕ)
+            × HasReadBytes limit most (asked_by C.takes C.ticks choice.now) self bytes }
+        ensures means { IfOk result (λ loaded. (limit most : ℕ) (bytes : List ℕ) →
+            HasReadBytes limit most (asked_by C.takes C.ticks choice.now) self bytes →
+            PartMeans limit (C.takes choice.now) (C.ticks choice.now) bytes loaded) }
+        ensures fault { IfErr result (λ e. (limit most : ℕ) (bytes : List ℕ) →
+            HasReadBytes limit most (asked_by C.takes C.ticks choice.now) self bytes →
+            RefusesFile limit bytes e) }
     {
         let FileReader {
             mut parser,
@@ -199,22 +190,20 @@ pub fn complete_words_len(bytes: &[u8], unfinished_len: usize) -> usize
     0
 }
 
-/// Takes words one after another, up to the first that shows a fault, or at which the part is
-/// refused. Returns the number of line feeds before the end of their text.
+/// Takes words one after another, up to the first that shows a fault. Returns the number of line
+/// feeds before the end of their text.
 fn read_words<C: Choice>(
     parser: &mut Parser,
     alloc: Global,
-    choice: &mut C,
+    choice: &C,
     words: Words,
 ) -> Result<u64, ReadError>
-    requires { (limit : ℕ) × (first : C) × CanTake limit C.takes C.answers first choice.old
-        parser.old
-        (words_left words) }
-    ensures words { (limit : ℕ) (first : C) (words_so_far : List WordInFile) →
-        HasTakenFrom limit C.takes C.answers first choice.old parser.old words_so_far →
-        AllWordsResult limit C.takes C.answers first choice.new words_so_far
-        (words_left words.entry)
-        result parser.new }
+    requires { (limit : ℕ)
+        × CanTake limit (asked_by C.takes C.ticks choice.now) parser.old (words_left words) }
+    ensures words { (limit : ℕ) (words_so_far : List WordInFile) →
+        HasTakenWords limit (asked_by C.takes C.ticks choice.now) parser.old words_so_far →
+        AllWordsResult limit (asked_by C.takes C.ticks choice.now) words_so_far
+        (words_left words.entry) result parser.new }
     ensures line_feeds { IfOk result (λ line_feeds.
         line_feeds ≡ words.entry.line_feeds + line_feeds_in words.entry.rest.now) }
 {
@@ -230,51 +219,40 @@ fn read_words<C: Choice>(
 pub fn take_word<C: Choice>(
     parser: &mut Parser,
     alloc: Global,
-    choice: &mut C,
+    choice: &C,
     text: &[u8],
     line: u64,
 ) -> Result<(), ReadError>
-    requires reading { (limit : ℕ) × (first : C)
-        × CanTake limit C.takes C.answers first choice.old parser.old
+    requires reading { (limit : ℕ)
+        × CanTake limit (asked_by C.takes C.ticks choice.now) parser.old
         (word_on text.now line ∷ []) }
     requires word { 0 < length text.now }
     requires no_space { list_all (λ b. not (spec.is_white_space b)) text.now ≡ true }
-    ensures words { (limit : ℕ) (first : C) (words_so_far : List WordInFile) →
-        HasTakenFrom limit C.takes C.answers first choice.old parser.old words_so_far →
-        TakesWord limit C.takes C.answers first choice.new words_so_far (word_on text.now line)
-        result
-        parser.new }
+    ensures words { (limit : ℕ) (words_so_far : List WordInFile) →
+        HasTakenWords limit (asked_by C.takes C.ticks choice.now) parser.old words_so_far →
+        TakesWord limit (asked_by C.takes C.ticks choice.now) words_so_far (word_on text.now line)
+        result parser.new }
     ensures step { OnOk result (StepsBy parser.old (word_on text.now line) parser.new) }
 {
     if !parser.ends_definitions(text) {
         return parser.take_word(alloc, text, line);
     }
-    match begin_part(parser, alloc, choice) {
-        Ok(()) => Ok(()),
-        Err(fault) => Err(ReadError::at(line, fault)),
-    }
+    begin_part(parser, alloc, choice)?;
+    Ok(())
 }
 
-/// Takes the `$end` of `$enddefinitions`. The choice is asked for the part that is read.
+/// Takes the `$end` of `$enddefinitions`. The choice says which part is read.
 #[inline(never)]
-fn begin_part<C: Choice>(parser: &mut Parser, alloc: Global, choice: &mut C) -> Result<(), Fault>
+fn begin_part<C: Choice>(parser: &mut Parser, alloc: Global, choice: &C) -> Result<(), NoMemory>
     requires item { parser.old.item ≡ items.EndDefinitions }
     requires known { (c : ParseState) × VariablesMatch parser.old.variables c }
     ensures begins { OnOk result (BeginsPart parser.old parser.new) }
-    ensures answered { OnOk result ((c : ParseState) → VariablesMatch parser.old.variables c →
-        IsAnswered (C.takes choice.old) (answers_of C.answers choice.old choice.new) (record {
-          timescale = parser.old.timescale;
-          signals = map undriven (kept_variables c.declared);
-          part = parser.new.part;
-        })) }
-    ensures refused { IfErr result (λ fault. (c : ParseState) →
-        VariablesMatch parser.old.variables c →
-        RefusesSignals (C.takes choice.old) (answers_of C.answers choice.old choice.new)
-        parser.old.timescale
-        (map undriven (kept_variables c.declared)) fault) }
+    ensures asked { OnOk result ((c : ParseState) → VariablesMatch parser.old.variables c →
+        IsAskedPart (asked_by C.takes C.ticks choice.now)
+        (map undriven (kept_variables c.declared)) parser.new.part) }
 {
     let signals = parser.variables.declared_signals();
-    let part = chosen_part(alloc, choice, parser.timescale, &signals)?;
+    let part = chosen_part(alloc, choice, &signals)?;
     parser.end_definitions(part)?;
     Ok(())
 }

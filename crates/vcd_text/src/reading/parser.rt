@@ -1,7 +1,7 @@
 //! The parser, which takes one word after another.
 
-ghost use Rattle.std.specs.Prelude.{◌≡◌, ◌<◌, ◌∷◌, ◌++◌, List, [], true, false, length, IfOk, OnOk};
-ghost use Rattle.std.specs.Prelude.{not};
+ghost use Rattle.std.specs.Prelude.{◌≡◌, ◌<◌, ◌∷◌, ◌++◌, ℕ, List, [], true, false, not, length};
+ghost use Rattle.std.specs.Prelude.{IfOk, OnOk};
 ghost use Rattle.std.specs.List.{list_all};
 ghost use Rattle.vcd_core.specs.Word.{is_white_space};
 ghost use Rattle.vcd_text.specs.Grammar.{ParseState};
@@ -10,7 +10,7 @@ ghost use Rattle.vcd_text.specs.Words.{word_on, WordOnLine as WordInFile};
 ghost use Rattle.vcd_text.specs.inside.reading.OpenItems.{item_fault_line};
 ghost use Rattle.vcd_text.specs.inside.reading.Part.{Asked};
 ghost use Rattle.vcd_text.specs.inside.reading.Parser.{HasTakenWords, IsUnderway, WordResult};
-ghost use Rattle.vcd_text.specs.inside.reading.Parser.{WordsResult, IsAtState, WordStep};
+ghost use Rattle.vcd_text.specs.inside.reading.Parser.{TakesWord, IsAtState, WordStep};
 ghost use Rattle.vcd_text.specs.inside.reading.Parser.{ends_definitions, is_complete, Means};
 
 use crate::fault::{Fault, ReadError};
@@ -76,8 +76,7 @@ impl Parser {
     /// A parser before the first word, of a file with at most so many kept variables. It takes no
     /// memory.
     pub fn new(alloc: Global, limit: u32) -> Parser
-        ensures words { (asked : Asked) → HasTakenWords limit asked result [] }
-        ensures in_body { result.in_body ≡ false }
+        ensures { (asked : Asked) → HasTakenWords limit asked result [] }
     {
         Parser {
             header: Vec::new(alloc),
@@ -114,11 +113,12 @@ impl Parser {
         requires word { 0 < length text.now }
         requires no_space { list_all (λ b. not (is_white_space b)) text.now ≡ true }
         requires no_end { ends_definitions self.old text.now ≡ false }
-        ensures words { WordsResult self.old (word_on text.now line ∷ []) result self.new }
+        ensures words { (limit : ℕ) (asked : Asked) (words_so_far : List WordInFile) →
+            HasTakenWords limit asked self.old words_so_far →
+            TakesWord limit asked words_so_far (word_on text.now line) result self.new }
         ensures step { OnOk result ((asked : Asked) (c : ParseState) (begun : List WordInFile) →
             IsAtState asked self.old c begun →
             WordStep asked c (begun ++ word_on text.now line ∷ []) self.new) }
-        ensures in_body { OnOk result (self.new.in_body ≡ self.old.in_body) }
     {
         let shown = self.item_fault_line(line);
         match self.take(alloc, text, line) {

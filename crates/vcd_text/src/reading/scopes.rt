@@ -35,7 +35,7 @@ pub struct Scopes {
 
 impl Scopes {
     ghost use Rattle.std.specs.Prelude.{◌-◌, ◌++◌, ◌∷◌, [], take, IfOk, OnOk};
-    ghost use Rattle.vcd_text.specs.Chains.{chains_of, chain_at};
+    ghost use Rattle.vcd_text.specs.inside.reading.Chains.{chains_of, chain_at};
     ghost use Rattle.vcd_text.specs.inside.reading.Scopes.{open_scopes};
     ghost use Rattle.vcd_text.specs.inside.reading.Scopes.{IsPlaced};
     ghost use Rattle.vcd_text.specs.inside.reading.Scopes.{IsWithin, KeepsPlaces};

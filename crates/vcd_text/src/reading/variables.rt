@@ -2,7 +2,7 @@
 
 ghost use Rattle.std.specs.Prelude.{◌≡◌, ◌≤◌, ◌+◌, false, length, map, IsOk, OnOk, All};
 ghost use Rattle.vcd_text.specs.Grammar.{ParseState, initial_state, kept_variables};
-ghost use Rattle.vcd_text.specs.AsDeclared.{declared_contents};
+ghost use Rattle.vcd_text.specs.inside.reading.DeclaredSignals.{declared_contents};
 ghost use Rattle.vcd_text.specs.inside.reading.Part.{undriven};
 ghost use Rattle.vcd_text.specs.inside.reading.Log.{AppliesToVariable, HasExactRoom};
 ghost use Rattle.vcd_text.specs.inside.reading.Log.{counted_variable};

@@ -1,4 +1,4 @@
-use Rattle.std.proofs.Common.{◌≡◌, ◌≤◌, ◌∙◌, ℕ, List, true, [], ◌∷◌, ◌++◌, None, length, IfSome, arith, rules}
+use Rattle.std.proofs.Common.{◌≡◌, ◌≤◌, ◌∙◌, ℕ, List, true, [], ◌∷◌, ◌++◌, length, IfSome, arith, rules}
 use Rattle.std.proofs.Common.{refl, sym, inl, inr, ◌⊎◌}
 use Rattle.vcd_text.specs.Pieces.{Piece}
 use Rattle.vcd_text.specs.Copied.{IsTold}
@@ -6,10 +6,10 @@ use Rattle.vcd_text.proofs.copying.copier.Told.{told_so_far, come_so_far, told_w
 use Rattle.std.proofs.lemmas.Result.{IfErr-weaker}
 use Rattle.vcd_text.specs.declared.fault.Fault.TheVariants as faults
 use Rattle.vcd_text.specs.declared.fault.ReadError.{ReadError}
-use Rattle.vcd_text.specs.Parts.{IsPartRefusal, answers_of}
-use Rattle.vcd_text.specs.inside.reading.Part.{Asked}
+use Rattle.vcd_text.specs.Refusals.{IsRefusal}
+use Rattle.vcd_text.specs.inside.reading.Part.{unheard}
 use Rattle.vcd_text.specs.inside.Copying.{TookCopy}
-use Rattle.vcd_text.proofs.reading.file_reader.Chunks.{at_end, of_all, asked_nothing, consumes_none}
+use Rattle.vcd_text.proofs.reading.file_reader.Chunks.{at_end, of_all, consumes_none}
 use Rattle.vcd_text.proofs.reading.file_reader.Chunks.{is_no_file_failure}
 use Rattle.vcd_text.proofs.copying.copier.CopiedChunks.{nothing_copied, ok_weaker, both_some}
 use Rattle.std.proofs.KnownBytes.{Consumes-trans}
@@ -24,19 +24,8 @@ empty (x ∷ xs) few = absurd (omega (arith, few))
 pub loop-copier-init : goal.loop-copier-init
 loop-copier-init g c =
     let coming = g.R.Source.coming c.args.reader.now in
-    let first = c.args.choice.now in
-    let asked : Asked = record {
-      timescale = None;
-      signals = [];
-      part = c.new.result.parser.part;
-    } in
-    let taken = c.new.ensures.read_bytes asked in (
-      (
-        [],
-        consumes_none coming,
-        asked_nothing c.args.limit c.args.most g.C.Choice.takes g.C.Choice.answers first c.new.result asked [] taken
-            c.new.ensures.in_body,
-      ),
+    let taken = c.new.ensures unheard in (
+      ([], consumes_none coming, taken),
       c.requires.ready,
       (
         [],
@@ -62,7 +51,7 @@ loop-copier-preserved g c =
     let (bytes, came, h) = c.loop-copier.invariant.2 in
     let (chunk, second, more) = c.in_ok-take_chunk.ensures.copied c.args.limit c.args.output.now bytes
     (rw c.loop-copier.invariant.3 h) in (
-      c.in_ok-take_chunk.ensures.taken c.args.limit c.args.most c.args.choice.now (g.R.Source.coming c.args.reader.now)
+      c.in_ok-take_chunk.ensures.taken c.args.limit c.args.most (g.R.Source.coming c.args.reader.now)
           c.loop-copier.invariant.0,
       c.in_ok-take_chunk.ensures.not_failed,
       (
@@ -79,13 +68,13 @@ pub returns-in_err-take_chunk-clause-refused : goal.returns-in_err-take_chunk-cl
 returns-in_err-take_chunk-clause-refused g c =
     let coming = g.R.Source.coming c.args.reader.now in
     rw (err_is _ c.from_residual.ensures.1) (c.in_err-take_chunk.ensures.refused c.args.limit c.args.most
-    c.args.choice.now coming c.loop-copier.invariant.0)
+    coming c.loop-copier.invariant.0)
 
 pub finish-requires-clause-reading : goal.finish-requires-clause-reading
 finish-requires-clause-reading g c =
-    let stands = c.in_ok-take_chunk.ensures.taken c.args.limit c.args.most c.args.choice.now
-    (g.R.Source.coming c.args.reader.now) c.loop-copier.invariant.0 in
-    (c.args.limit, c.args.most, c.args.choice.now, stands.0, stands.2)
+    let stands = c.in_ok-take_chunk.ensures.taken c.args.limit c.args.most (g.R.Source.coming c.args.reader.now)
+    c.loop-copier.invariant.0 in
+    (c.args.limit, c.args.most, stands.0, stands.2)
 
 pub finish-requires-clause-copying : goal.finish-requires-clause-copying
 finish-requires-clause-copying g c =
@@ -101,7 +90,7 @@ returns-clause-copied g c =
     let (bytes, came, h) = c.loop-copier.invariant.2 in
     let (chunk, second, more) = c.in_ok-take_chunk.ensures.copied c.args.limit c.args.output.now bytes
     (rw c.loop-copier.invariant.3 h) in
-    let (read, consumes, taken) = c.in_ok-take_chunk.ensures.taken c.args.limit c.args.most c.args.choice.now coming
+    let (read, consumes, taken) = c.in_ok-take_chunk.ensures.taken c.args.limit c.args.most coming
     c.loop-copier.invariant.0 in
     let ended = c.in_ok-take_chunk.ensures.ended c.if-branch.false in
     let rules = c.in_ok-take_chunk.ensures.same ∙ c.loop-copier.invariant.3 in
@@ -121,30 +110,22 @@ returns-clause-refused g c =
     let coming = g.R.Source.coming c.args.reader.now in
     let left = g.R.Source.coming c.take_chunk.new.source in
     let failed = g.R.Source.has_failed c.take_chunk.new.source in
-    let first = c.args.choice.now in
-    let takes = g.C.Choice.takes first in
-    let answers = answers_of g.C.Choice.answers first c.finish.new.choice in
-    let (bytes, consumes, taken) = c.in_ok-take_chunk.ensures.taken c.args.limit c.args.most first coming
+    let (bytes, consumes, taken) = c.in_ok-take_chunk.ensures.taken c.args.limit c.args.most coming
     c.loop-copier.invariant.0 in
     IfErr-weaker c.finish.result _
-    (λ (e : ReadError). IfSome coming (λ file. IsPartRefusal c.args.limit c.args.most takes answers file failed left e))
-    (λ e fault. at_end c.args.limit c.args.most takes answers coming left failed bytes e
-    c.in_ok-take_chunk.ensures.not_failed
-    consumes
-    (c.in_ok-take_chunk.ensures.ended c.if-branch.false) (omega (arith, taken.size))
-    (fault c.args.limit c.args.most first bytes taken))
+    (λ (e : ReadError). IfSome coming (λ file. IsRefusal c.args.limit c.args.most file failed left e))
+    (λ e fault. at_end c.args.limit c.args.most coming left failed bytes e c.in_ok-take_chunk.ensures.not_failed
+    consumes (c.in_ok-take_chunk.ensures.ended c.if-branch.false) (omega (arith, taken.size))
+    (fault c.args.limit c.args.most bytes taken))
     c.finish.ensures.fault
 
 pub returns-clause-failed : goal.returns-clause-failed
 returns-clause-failed g c =
     let failed = g.R.Source.has_failed c.take_chunk.new.source in
-    let first = c.args.choice.now in
-    let (bytes, consumes, taken) = c.in_ok-take_chunk.ensures.taken c.args.limit c.args.most first
+    let (bytes, consumes, taken) = c.in_ok-take_chunk.ensures.taken c.args.limit c.args.most
     (g.R.Source.coming c.args.reader.now) c.loop-copier.invariant.0 in
-    IfErr-weaker c.finish.result _ (λ (e : ReadError). e.fault ≡ faults.ReadFault
-    → failed ≡ true) (λ e fault is. absurd (is_no_file_failure c.args.limit (g.C.Choice.takes first)
-    (answers_of g.C.Choice.answers first c.finish.new.choice) bytes e
-    (fault c.args.limit c.args.most first bytes taken) is))
+    IfErr-weaker c.finish.result _ (λ (e : ReadError). e.fault ≡ faults.ReadFault → failed ≡ true)
+    (λ e fault is. absurd (is_no_file_failure c.args.limit bytes e (fault c.args.limit c.args.most bytes taken) is))
     c.finish.ensures.fault
 
 pub returns-in_err-take_chunk-clause-more : goal.returns-in_err-take_chunk-clause-more

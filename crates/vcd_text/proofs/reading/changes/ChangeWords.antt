@@ -95,7 +95,7 @@ takes_stamp m digits line tick between in_body is number later = whole_item m (r
       agrees_by asked _ _ agrees.seen agrees.header agrees.timescale agrees.in_body number (knows_further m.variables
           (seen_state m.part c agrees.seen) c.header c.timescale c.in_body (seen_tick m.part (number_of digits)) (omega
           (arith, after)) agrees.variables) (λ early. not_both (sym agrees.in_body ∙ in_body) early)
-          agrees.no_early_change agrees.none_seen agrees.tells agrees.hears agrees.part_is agrees.is_asked_of,
+          agrees.no_early_change agrees.none_seen agrees.tells agrees.hears agrees.is_asked,
     ))
 
 -- ---- commands

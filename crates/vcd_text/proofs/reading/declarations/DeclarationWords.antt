@@ -1,7 +1,7 @@
 -- A declaration after the next of its words.
 use Rattle.std.proofs.Common.{◌≡◌, ℕ, ◌-◌, ◌<◌, ◌≤◌, ◌+◌, min, Bool, true, false, List, [], ◌∷◌, ◌++◌, length, take}
 use Rattle.std.proofs.Common.{Option, Some, None, IsTrue, IsFalse, Result, Ok, Err, IsErrAnd, ◌⊎◌, codes, refl, sym, ap}
-use Rattle.std.proofs.Common.{subst, ◌∙◌, arith, inl, inr}
+use Rattle.std.proofs.Common.{subst, map, ◌∙◌, arith, inl, inr}
 use Rattle.std.proofs.lemmas.Bool.{and_parts, and_from}
 use Rattle.std.proofs.lemmas.List.{length-take-le, nil_from_length}
 use Rattle.std.specs.Global.{Vec}
@@ -24,13 +24,14 @@ use Rattle.vcd_core.specs.Tests.{first_fault}
 use Rattle.vcd_text.specs.inside.reading.Scopes.{open_scopes, KeepsPlaces}
 use Rattle.vcd_text.specs.inside.reading.Variables.{VariablesMatch, Declares, DeclaresWords}
 use Rattle.vcd_text.specs.inside.reading.Parser.{ParserMatches, Collects, CollectsVariable, PassesOver, IsBegun}
-use Rattle.vcd_text.specs.inside.reading.Parser.{IsAtState, WordStep, goes_on, BeginsPart, asked_of, ends_item}
+use Rattle.vcd_text.specs.inside.reading.Parser.{IsAtState, WordStep, goes_on, BeginsPart, ends_item}
 use Rattle.vcd_text.specs.inside.reading.Parser.{WordResult}
 use Rattle.vcd_text.specs.declared.reading.parser.Parser.{Parser}
 use Rattle.vcd_text.specs.declared.reading.parser.OpenItem.TheVariants as items
 use Rattle.vcd_text.specs.declared.reading.scopes.Scopes.{Scopes}
 use Rattle.vcd_text.specs.declared.reading.part.Part.{Part}
-use Rattle.vcd_text.specs.inside.reading.Part.{Asked, IsAskedOf, seen_state, TellsPart, HearsPart, HearsVariables}
+use Rattle.vcd_text.specs.inside.reading.Part.{Asked, IsAskedPart, seen_state, TellsPart, HearsPart, HearsVariables}
+use Rattle.vcd_text.specs.inside.reading.Part.{undriven}
 use Rattle.vcd_core.specs.Wave.{value_from}
 use Rattle.vcd_text.specs.Meaning.{changes_of_code}
 use Rattle.std.proofs.lemmas.Option.{slice_get_cases, slice_get_within}
@@ -58,10 +59,9 @@ pub agrees_by : (asked : Asked) (m : Parser) (c : ParseState) (seen : List Value
     → m.timescale ≡ c.timescale → m.in_body ≡ c.in_body → m.tick ≡ c.tick
     → VariablesMatch m.variables (seen_state m.part c seen) → (IsFalse c.in_body → c.tick ≡ 0)
     → (IsFalse c.in_body → c.value_changes ≡ []) → (IsFalse c.in_body → seen ≡ []) → TellsPart m.part c seen
-    → (IsTrue c.in_body → HearsPart m.part m.silent.items m.variables c) → (IsTrue c.in_body → m.part ≡ asked.part)
-    → (IsTrue c.in_body → IsAskedOf asked c) → ParserMatches asked m c
-agrees_by asked m c seen header time in_body tick variables no_tick no_early_change none tells hears is asks =
-    grind arith
+    → (IsTrue c.in_body → HearsPart m.part m.silent.items m.variables c)
+    → (IsTrue c.in_body → IsAskedPart asked (map undriven (kept_variables c.declared)) m.part) → ParserMatches asked m c
+agrees_by asked m c seen header time in_body tick variables no_tick no_early_change none tells hears asks = grind arith
 
 -- before the first change nothing is to be told
 pub tells_nothing : (part : Part) (c : ParseState) (seen : List ValueChange) → c.value_changes ≡ [] → seen ≡ []
@@ -174,19 +174,16 @@ heard_codes part vs c seen silent k hears position d (declared, remains) width f
 pub begins_part : (m : Parser) (part : Part) (silent : Vec Bool) → m.item ≡ items.EndDefinitions
     → HearsVariables m.variables.kept.items part.left_out.items silent.items
     → BeginsPart m (record m { silent = silent; part = part; in_body = true; item = items.Nothing })
-begins_part m part silent is hears = (
-  refl,
-  λ line asked c begun at.
-      let a = at.0 in
-      let b : IsFalse m.in_body × (word_texts begun ≡ codes "$enddefinitions" ∷ []) = rw is at at.1 in
-      let early : IsFalse c.in_body = sym a.in_body ∙ b.0 in
-      let vs : VariablesMatch m.variables (seen_state part c a.seen) = grind (arith, knows_further) in
-      ends_here (asked_of part c) (record m { silent = silent; part = part; in_body = true; item = items.Nothing }) c
-      begun line end_definitions (codes "$enddefinitions" ∷ []) b.1 refl (allows_end_definitions c early) (agrees_by
-      (asked_of part c) _ _ a.seen a.header a.timescale refl a.tick (still_known _ _ _ _ _ vs) (λ _. a.no_early_tick
-      early) (λ _. a.no_early_change early) (λ _. a.none_seen early) (grind (arith, tells_nothing)) (λ _. heard_codes
-      part m.variables c a.seen silent.items vs hears) (λ _. refl) (λ _. (refl, refl))) refl,
-)
+begins_part m part silent is hears line before asked c begun at asks =
+    let a = at.0 in
+    let b : IsFalse m.in_body × (word_texts begun ≡ codes "$enddefinitions" ∷ []) = rw is at at.1 in
+    let early : IsFalse c.in_body = sym a.in_body ∙ b.0 in
+    let vs : VariablesMatch m.variables (seen_state part c a.seen) = grind (arith, knows_further) in
+    ends_here asked (record m { silent = silent; part = part; in_body = true; item = items.Nothing }) c begun line
+    end_definitions (codes "$enddefinitions" ∷ []) b.1 refl (allows_end_definitions c early) (agrees_by asked _ _ a.seen
+    a.header a.timescale refl a.tick (still_known _ _ _ _ _ vs) (λ _. a.no_early_tick early) (λ _. a.no_early_change
+    early) (λ _. a.none_seen early) (grind (arith, tells_nothing)) (λ _. heard_codes part m.variables c a.seen
+    silent.items vs hears) (λ _. asks)) refl
 
 -- another command changes nothing
 pub closes_other : (m : Parser) → m.item ≡ items.Other

@@ -6,7 +6,6 @@ use Rattle.std.proofs.Common.{◌∙◌, append_assoc}
 use Rattle.std.proofs.lemmas.List.{append-nil, map-append}
 use Rattle.std.specs.Prelude.{ℕ}
 use Rattle.vcd_text.specs.declared.fault.Fault.{Fault}
-use Rattle.vcd_text.specs.declared.fault.ReadError.{ReadError}
 use Rattle.vcd_text.specs.Words.{WordOnLine}
 use Rattle.vcd_text.specs.Grammar.{ParseState, state_after_item}
 use Rattle.vcd_text.specs.Grammar.{word_texts}
@@ -15,14 +14,12 @@ use Rattle.vcd_text.proofs.shared.ResultIsUnique.{passed_over}
 use Rattle.vcd_text.specs.Faults.{ShowsFault, fault_line}
 use Rattle.vcd_text.specs.inside.reading.OpenItems.{item_fault_line}
 use Rattle.vcd_text.specs.inside.reading.Parser.{HasTakenWords, WordStep, goes_on, ends_item}
-use Rattle.vcd_text.specs.inside.reading.Parser.{ParserMatches, IsBegun, HasDeclared}
+use Rattle.vcd_text.specs.inside.reading.Parser.{ParserMatches, IsBegun, RefusesWords}
 use Rattle.vcd_text.specs.inside.reading.Parser.{error_at}
-use Rattle.vcd_text.specs.MemoryErrors.{memory_error}
 use Rattle.vcd_text.specs.declared.fault.Fault.TheVariants.{NoMemory}
 use Rattle.vcd_text.specs.declared.reading.parser.OpenItem.{OpenItem}
 use Rattle.vcd_text.specs.declared.reading.parser.OpenItem.TheVariants as items
 use Rattle.vcd_text.specs.declared.reading.parser.Parser.{Parser}
-use Rattle.vcd_text.proofs.reading.parser.ChosenParts.{shown_declared}
 use Rattle.vcd_text.proofs.shared.ItemsInTurn.{reaches_both, reaches_one, shown_by}
 use Rattle.vcd_text.proofs.shared.ResultExists.{spelled_more}
 use Rattle.vcd_text.specs.inside.reading.Part.{Asked}
@@ -48,11 +45,9 @@ words_taken limit asked later old new words_so_far words r (ends_item i spelled 
     }
 
 -- a fault with its line is shown; out of memory has none
-error_shown : (limit : ℕ) (words : List WordOnLine) (line : ℕ) (fault : Fault) (P : Type 0) → (fault ≡ NoMemory)
-    ⊎ (ShowsFault limit words line fault × P)
-    → (error_at line fault ≡ memory_error) ⊎ (ShowsFault limit words (error_at line fault).line
-    (error_at line fault).fault × P)
-error_shown limit words line fault P refused = grind arith
+error_shown : (limit : ℕ) (words : List WordOnLine) (line : ℕ) (fault : Fault)
+    → (fault ≡ NoMemory) ⊎ ShowsFault limit words line fault → RefusesWords limit words (error_at line fault)
+error_shown limit words line fault refused = grind arith
 
 -- ---- lines
 
@@ -81,18 +76,12 @@ module _ (asked : Asked) (m : Parser) (c : ParseState) (begun : List WordOnLine)
 pub one_shown : (limit : ℕ) (asked : Asked) (old : Parser) (words_so_far more : List WordOnLine) (w : WordOnLine)
     (r : HasTakenWords limit asked old words_so_far) (fault : Fault)
     → (fault ≡ NoMemory) ⊎ WordShows r.state (word_texts r.begun) w.text fault
-    → (let e : ReadError = error_at (item_fault_line old.item old.line w.line) fault in
-    (e ≡ memory_error) ⊎ (ShowsFault limit (words_so_far ++ w ∷ more) e.line e.fault
-    × HasDeclared limit (words_so_far ++ w ∷ more) r.state))
+    → RefusesWords limit (words_so_far ++ w ∷ more) (error_at (item_fault_line old.item old.line w.line) fault)
 one_shown limit asked old words_so_far more w r fault refused =
-    let words : List WordOnLine = words_so_far ++ w ∷ more in
-    let parts : words ≡ r.whole ++ (r.begun ++ w ∷ more) = ap (λ ws. ws ++ w ∷ more) r.parts
-    ∙ append_assoc r.whole r.begun (w ∷ more) in
-    error_shown _ _ _ _ (HasDeclared limit words r.state) (elim refused [
+    let parts : words_so_far ++ w ∷ more ≡ r.whole ++ (r.begun ++ w ∷ more) =
+    ap (λ ws. ws ++ w ∷ more) r.parts ∙ append_assoc r.whole r.begun (w ∷ more) in
+    error_shown _ _ _ _ (elim refused [
       | inl memory ↦ inl memory
-      | inr row ↦ inr (
-        shown_by _ _ _ _ _ _ _ _ _ _ (record { allowed = r.allowed; state_is = r.state_is }) parts
-            r.spelled row (line_shown _ _ _ _ _ _ _ r.at.0 r.at.1 row),
-        shown_declared limit asked old words_so_far more w fault r row,
-      )
+      | inr row ↦ inr (shown_by _ _ _ _ _ _ _ _ _ _ (record { allowed = r.allowed; state_is = r.state_is }) parts
+          r.spelled row (line_shown _ _ _ _ _ _ _ r.at.0 r.at.1 row))
     ])

@@ -1,10 +1,9 @@
 -- The signals of the variables: those that a choice sees, and those of the capture.
 use Rattle.std.proofs.Common.{◌≡◌, ℕ, suc, List, [], ◌∷◌, map, length, Some, refl, ap, ◌∙◌, arith, take, Bool, false}
-use Rattle.std.proofs.Common.{not, cond, ◌+◌, ◌<◌, ◌≤◌, ◌++◌, All, zero, drop, Option, None, sym}
-use Rattle.std.specs.Prelude.{slice_get, slice_index_or, filter}
+use Rattle.std.proofs.Common.{not, ◌+◌, ◌<◌, ◌≤◌, ◌++◌, All, zero, drop, Option, None, sym}
+use Rattle.std.specs.Prelude.{slice_get, slice_index_or}
 use Rattle.std.proofs.lemmas.Bool.{cases_lt}
 use Rattle.std.proofs.lemmas.Option.{same_Some, slice_get_within, get_or_from_slice_get, slice_get_cases}
-use Rattle.std.proofs.lemmas.List.Filters.{length-filter_more}
 use Rattle.std.proofs.Math.ListN.{get_or-append}
 use Rattle.std.proofs.Math.Seq.{get_or-append_seam}
 use Rattle.std.proofs.lemmas.List.Elements.{All-head, All-tail}
@@ -18,7 +17,7 @@ use Rattle.vcd_core.specs.Value.{all_x}
 use Rattle.vcd_core.specs.CaptureContents.{signal_contents}
 use Rattle.vcd_core.proofs.shared.Waves.{wave_is}
 use Rattle.vcd_text.specs.Grammar.{VariableDeclaration, ParseState, kept_variables}
-use Rattle.vcd_text.specs.Chains.{chains_of, chain_at}
+use Rattle.vcd_text.specs.inside.reading.Chains.{chains_of, chain_at}
 use Rattle.vcd_text.specs.inside.reading.Scopes.{IsWithin, IsPlaced}
 use Rattle.vcd_text.specs.inside.reading.Part.{undriven}
 use Rattle.vcd_text.specs.inside.reading.Variables.{VariablesMatch, declaration, without_code, target_of, latest_value}
@@ -57,16 +56,6 @@ module _ (takes : SignalContents → Bool) (signals : List SignalContents) where
       → slice_index_or (out ++ b ∷ []) k false ≡ not (takes s)
   pushed_test out b n x long at is before k s within here =
       grind (arith, cases_lt k n, get_or-append, same_Some, get_or-append_seam)
-
-  -- one more signal is counted
-  pub one_more : (n : ℕ) (x : SignalContents) → slice_get signals n ≡ Some x
-      → length (filter takes (take (n + 1) signals)) ≡ length (filter takes (take n signals)) + cond (takes x) 1 0
-  one_more n x at = length-filter_more takes signals n x (slice_get_within signals n x at)
-      ∙ ap (λ s. length (filter takes (take n signals)) + cond (takes s) 1 0) (get_or_from_slice_get signals n x x at)
-
-  -- a count of one signal
-  pub one_or_none : (b : Bool) → cond b 1 0 ≤ 1
-  one_or_none b = grind arith
 
 -- ---- the kept variables
 

@@ -6,12 +6,8 @@ use Rattle.std.specs.Prelude.{if◌then◌else◌, IsTrue, IsFalse, Result, Ok, 
 use Rattle.vcd_text.specs.declared.fault.Fault.{Fault}
 use Rattle.vcd_text.specs.declared.fault.Fault.TheVariants.{NoMemory}
 use Rattle.vcd_text.specs.declared.fault.ReadError.{ReadError}
-use Rattle.vcd_core.specs.Contents.{Contents}
 use Rattle.vcd_text.specs.Words.{WordOnLine, words_of, word_on}
-use Rattle.vcd_core.specs.Outline.{without_changes}
-use Rattle.vcd_text.specs.Parts.{HasDeclarations}
-use Rattle.vcd_text.specs.Meaning.{FileMeans}
-use Rattle.vcd_core.specs.CaptureContents.{contents}
+use Rattle.vcd_text.specs.Parts.{PartMeans}
 use Rattle.vcd_text.specs.declared.reading.Loaded.{Loaded}
 use Rattle.vcd_text.specs.inside.reading.OpenItems.{is_nothing, is_end_definitions}
 use Rattle.vcd_text.specs.Letters.{is_among}
@@ -22,9 +18,8 @@ use Rattle.vcd_text.specs.inside.reading.DigitTests.{vector_prefixes, real_or_st
 use Rattle.vcd_text.specs.Grammar.{ParseState, AllowsAll, state_after, state_after_item}
 use Rattle.vcd_text.specs.Grammar.{Allows}
 use Rattle.vcd_text.specs.Grammar.{initial_state, ValueChange, kept_variables}
-use Rattle.vcd_text.specs.declared.reading.part.Part.{Part}
-use Rattle.vcd_text.specs.inside.reading.Part.{seen_state, TellsPart, HearsPart, Asked, IsAskedOf}
-use Rattle.vcd_text.specs.inside.reading.Part.{undriven, listed_part}
+use Rattle.vcd_text.specs.inside.reading.Part.{seen_state, TellsPart, HearsPart, Asked, IsAskedPart}
+use Rattle.vcd_text.specs.inside.reading.Part.{undriven}
 use Rattle.vcd_text.specs.Grammar.{word_texts}
 use Rattle.vcd_core.specs.declared.value.TheConstants.{WIDTH_LIMIT}
 use Rattle.vcd_core.specs.Decimal.{is_number, number_of}
@@ -50,8 +45,8 @@ pub record ParserMatches (asked : Asked) (m : Parser) (c : ParseState) : Type 0 
   pub none_seen : IsFalse c.in_body → seen ≡ []
   pub tells : TellsPart m.part c seen
   pub hears : IsTrue c.in_body → HearsPart m.part m.silent.items m.variables c
-  pub part_is : IsTrue c.in_body → m.part ≡ asked.part
-  pub is_asked_of : IsTrue c.in_body → IsAskedOf asked c
+  pub is_asked : IsTrue c.in_body
+      → IsAskedPart asked (map undriven (kept_variables c.declared)) m.part
 
 -- a declaration is open, of which the parser keeps these words after the keyword
 pub record Collects (m : Parser) (begun : List WordOnLine) (keyword : List ℕ)
@@ -122,8 +117,7 @@ pub data WordStep (asked : Asked) (c : ParseState) (begun : List WordOnLine) (ne
         → IsAtState asked new (state_after_item c i) []
         → WordStep asked c begun new
 
--- a word goes on with the open item, or ends it; at the end of the declarations another part is
--- asked for
+-- a word goes on with the open item, or ends it; some part is asked for then
 abbrev pub StepsBy : Parser → WordOnLine → Parser → Type 0
 StepsBy old w new = (asked : Asked) (c : ParseState) (begun : List WordOnLine)
     → IsAtState asked old c begun
@@ -171,22 +165,31 @@ abbrev pub error_at : ℕ → Fault → ReadError
 error_at line fault = if is_no_memory fault then memory_error
     else record { line = line; fault = fault }
 
--- if the words begin with whole declarations, this state is among the changes after them
-abbrev pub HasDeclared : (limit : ℕ) → List WordOnLine → ParseState → Type 0
-HasDeclared limit words c = (line : ℕ) (s : ParseState) → HasDeclarations limit words line s
-    → IsTrue c.in_body × (c.timescale ≡ s.timescale) × (c.declared ≡ s.declared)
+-- these words can be taken after those before
+abbrev pub CanTake : ℕ → Asked → Parser → List WordOnLine → Type 0
+CanTake limit asked m words = (words_so_far : List WordOnLine)
+    × HasTakenWords limit asked m words_so_far
+    × (length words_so_far + length words < 2 ^ 63)
 
--- these further words have been taken, or one of them shows a fault whatever follows, or memory has
--- run out. Whatever follows, the declarations do not end at the word with the fault
-abbrev pub WordsResult : Parser → List WordOnLine → Result (Unit {0}) ReadError → Parser → Type 0
-WordsResult old words (Ok x) new = (limit : ℕ) (asked : Asked) (words_so_far : List WordOnLine)
-    → HasTakenWords limit asked old words_so_far
-    → HasTakenWords limit asked new (words_so_far ++ words)
-WordsResult old words (Err e) new =
-    (limit : ℕ) (asked : Asked) (words_so_far more : List WordOnLine)
-    → (r : HasTakenWords limit asked old words_so_far)
-    → (e ≡ memory_error) ⊎ (ShowsFault limit (words_so_far ++ (words ++ more)) e.line e.fault
-    × HasDeclared limit (words_so_far ++ (words ++ more)) r.state)
+-- why words are not taken: one of them shows a fault, or memory has run out
+abbrev pub RefusesWords : ℕ → List WordOnLine → ReadError → Type 0
+RefusesWords limit words e = (e ≡ memory_error) ⊎ ShowsFault limit words e.line e.fault
+
+-- a further word has been taken, or it is refused whatever follows
+abbrev pub TakesWord : ℕ → Asked → List WordOnLine → WordOnLine → Result (Unit {0}) ReadError
+    → Parser → Type 0
+TakesWord limit asked words_so_far w (Ok x) new =
+    HasTakenWords limit asked new (words_so_far ++ w ∷ [])
+TakesWord limit asked words_so_far w (Err e) new = (more : List WordOnLine)
+    → RefusesWords limit (words_so_far ++ w ∷ more) e
+
+-- all words of a list have been taken after others, or one is refused
+abbrev pub AllWordsResult : ℕ → Asked → List WordOnLine → List WordOnLine → Result ℕ ReadError
+    → Parser → Type 0
+AllWordsResult limit asked words_so_far words (Ok line_feeds) new =
+    HasTakenWords limit asked new (words_so_far ++ words)
+AllWordsResult limit asked words_so_far words (Err e) new =
+    RefusesWords limit (words_so_far ++ words) e
 
 -- nothing is open, and `$enddefinitions $end` has come
 abbrev pub is_complete : Parser → Bool
@@ -196,32 +199,15 @@ is_complete m = m.in_body && is_nothing m.item
 abbrev pub ends_definitions : Parser → List ℕ → Bool
 ends_definitions m text = is_end_definitions m.item && is_end_word text
 
--- what is asked of a state, for this part
-abbrev pub asked_of : Part → ParseState → Asked
-asked_of part c = record {
-  timescale = c.timescale;
-  signals = map undriven (kept_variables c.declared);
-  part = part;
-}
-
--- the `$end` of `$enddefinitions` is taken, and a part begins
+-- the `$end` of `$enddefinitions` is taken, and the part begins that is asked for
 abbrev pub BeginsPart : (old new : Parser) → Type 0
-BeginsPart old new = IsTrue new.in_body
-    × ((line : ℕ) (asked : Asked) (c : ParseState) (begun : List WordOnLine)
-    → IsAtState asked old c begun
-    → WordStep (asked_of new.part c) c (begun ++ word_on end_word line ∷ []) new)
+BeginsPart old new = (line : ℕ) (before asked : Asked) (c : ParseState) (begun : List WordOnLine)
+    → IsAtState before old c begun
+    → IsAskedPart asked (map undriven (kept_variables c.declared)) new.part
+    → WordStep asked c (begun ++ word_on end_word line ∷ []) new
 
--- the file whose words have been taken means this, apart from what was chosen
-pub record MeansListed (limit : ℕ) (asked : Asked) (bytes : List ℕ) (loaded : Loaded) : Type 0 where
-  pub whole : Contents
-  pub means : FileMeans limit bytes whole loaded.skipped
-  pub timescale : whole.timescale ≡ asked.timescale
-  pub signals : map without_changes whole.signals ≡ asked.signals
-  pub is : contents loaded.capture ≡ listed_part asked.part whole
-  pub end : loaded.end ≡ whole.end
-  pub count : loaded.signals ≡ length whole.signals
-
+-- of the file whose words have been taken the part is loaded that is asked for
 pub record Means (m : Parser) (loaded : Loaded) : Type 0 where
   pub means : (limit : ℕ) (asked : Asked) (bytes : List ℕ)
       → HasTakenWords limit asked m (words_of bytes)
-      → MeansListed limit asked bytes loaded
+      → PartMeans limit asked.takes asked.ticks bytes loaded

@@ -1,11 +1,10 @@
 -- What the parser keeps of a part of a capture.
 use Rattle.std.specs.Prelude.{◌≡◌, ◌⊎◌, ℕ, ◌+◌, ◌-◌, ◌≤◌, Bool, false, ◌&&◌, nat_lt, min, List, []}
 use Rattle.std.specs.Prelude.{Some, Ok, Err, Result, IsTrue, IsFalse, IsSomeAnd, slice_get}
-use Rattle.std.specs.Prelude.{slice_index_or}
-use Rattle.std.specs.Prelude.{◌∷◌, map, if◌then◌else◌, Option}
+use Rattle.std.specs.Prelude.{slice_index_or, not}
+use Rattle.std.specs.Prelude.{◌∷◌, map, if◌then◌else◌}
 use Rattle.vcd_core.specs.Value.{all_x}
 use Rattle.vcd_core.specs.Contents.{Contents, SignalContents}
-use Rattle.vcd_core.specs.declared.capture.Timescale.{Timescale}
 use Rattle.vcd_text.specs.Parts.{part_of_signal}
 use Rattle.vcd_core.specs.declared.capture.TheConstants.{END_LIMIT}
 use Rattle.vcd_text.specs.Grammar.{VariableDeclaration, ValueChange, ParseState, kept_variables}
@@ -42,16 +41,26 @@ abbrev pub undriven : VariableDeclaration → SignalContents
 undriven d =
     record { scopes = d.scopes; kind = d.kind; words = d.words; width = d.size; changes = [] }
 
--- what was asked at the end of the declarations, and the part that was answered
+-- what is asked for: the signals that a test takes as they are declared, at these ticks
 pub record Asked : Type 0 where
-  pub timescale : Option Timescale
-  pub signals : List SignalContents
-  pub part : Part
+  pub takes : SignalContents → Bool
+  pub ticks : TickRange
 
--- the state is one with the timescale and the signals that were asked about
-abbrev pub IsAskedOf : Asked → ParseState → Type 0
-IsAskedOf asked c = (c.timescale ≡ asked.timescale)
-    × (map undriven (kept_variables c.declared) ≡ asked.signals)
+-- what a choice asks for
+abbrev pub asked_by : {C : Type 0} → (C → SignalContents → Bool) → (C → TickRange) → C → Asked
+asked_by takes ticks choice = record { takes = takes choice; ticks = ticks choice }
+
+-- a list of tests leaves out the signals that another test does not take
+abbrev pub LeavesOut : (SignalContents → Bool) → List SignalContents → List Bool → Type 0
+LeavesOut takes signals left_out = (position : ℕ) (s : SignalContents) →
+    slice_get signals position ≡ Some s
+    → slice_index_or left_out position false ≡ not (takes s)
+
+-- of these signals the part is what is asked for
+pub record IsAskedPart (asked : Asked) (signals : List SignalContents) (part : Part) : Type 0 where
+  pub first : part.first ≡ asked.ticks.first
+  pub last : part.last ≡ asked.ticks.last
+  pub leaves : LeavesOut asked.takes signals part.left_out.items
 
 -- the tick of the part at a tick of the file, up to its end
 abbrev pub seen_tick : Part → ℕ → ℕ
@@ -114,3 +123,7 @@ PartChange part silent tick c code digits old (Err fault) new = (fault ≡ fault
 -- all ticks
 abbrev pub all_ticks : TickRange
 all_ticks = record { first = 0; last = END_LIMIT }
+
+-- no signal, at all ticks
+abbrev pub unheard : Asked
+unheard = record { takes = λ _. false; ticks = all_ticks }

@@ -3,7 +3,7 @@ use Rattle.std.specs.Prelude.{◌≡◌, ◌<◌, ◌≤◌, List, length, take}
 use Rattle.vcd_core.specs.declared.capture.ScopeName.{ScopeName}
 use Rattle.vcd_text.specs.declared.reading.scopes.ScopePlace.{ScopePlace}
 use Rattle.vcd_text.specs.declared.reading.scopes.Scopes.{Scopes}
-use Rattle.vcd_text.specs.Chains.{chain_at, chains_of}
+use Rattle.vcd_text.specs.inside.reading.Chains.{chain_at, chains_of}
 
 -- the open scopes, outermost first
 abbrev pub open_scopes : Scopes → List ScopeName

@@ -28,7 +28,7 @@ use Rattle.vcd_text.specs.inside.reading.DigitTests.{takes_binary_number}
 use Rattle.vcd_text.specs.Meaning.{changes_of_code}
 use Rattle.vcd_text.specs.inside.reading.CodeTargets.{code_target}
 use Rattle.vcd_text.specs.inside.reading.Log.{GivesLoggedValues, logged, AreGrouped, IsSameVariable}
-use Rattle.vcd_text.specs.Chains.{chain_at}
+use Rattle.vcd_text.specs.inside.reading.Chains.{chain_at}
 use Rattle.vcd_text.specs.inside.reading.Scopes.{open_scopes, IsPlaced}
 use Rattle.vcd_text.specs.declared.reading.log.LoggedChange.{LoggedChange}
 use Rattle.vcd_text.specs.declared.reading.code_targets.CodeTarget.{CodeTarget}

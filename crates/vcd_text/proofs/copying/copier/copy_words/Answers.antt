@@ -21,7 +21,7 @@ loop-word-init g c = (
   (
     [],
     refl,
-    λ limit first words_so_far reads. rw (append-nil words_so_far) reads,
+    λ limit words_so_far reads. rw (append-nil words_so_far) reads,
   ),
   refl,
   (
@@ -37,12 +37,11 @@ loop-word-init g c = (
 pub copy_word-requires-clause-reading : goal.copy_word-requires-clause-reading
 copy_word-requires-clause-reading g c =
     let came = c.loop-word.invariant.0.0 in
-    let (limit, first, (words_so_far, reads, few)) = c.requires.reading in (
+    let (limit, (words_so_far, reads, few)) = c.requires.reading in (
       limit,
-      first,
       (
         words_so_far ++ came,
-        c.loop-word.invariant.0.2 limit first words_so_far reads,
+        c.loop-word.invariant.0.2 limit words_so_far reads,
         omega (
           arith,
           few,
@@ -90,9 +89,9 @@ loop-word-preserved g c =
         came ++ word ∷ [],
         in_turn (words_left c.args.words) came (words_left c.loop-word.left) (words_left c.next_word.new.self) word
             c.loop-word.invariant.0.1 c.in-Some.ensures.words,
-        λ limit first words_so_far reads. rw (append_assoc words_so_far came (word ∷ []))
-            at (c.in_ok-copy_word.ensures.words limit first (words_so_far ++ came)
-            (c.loop-word.invariant.0.2 limit first words_so_far reads)),
+        λ limit words_so_far reads. rw (append_assoc words_so_far came (word ∷ []))
+            at (c.in_ok-copy_word.ensures.words limit (words_so_far ++ came)
+            (c.loop-word.invariant.0.2 limit words_so_far reads)),
       ),
       c.in-Some.ensures.line_feeds ∙ c.loop-word.invariant.1,
       (
@@ -121,7 +120,7 @@ loop-word-preserved g c =
     parts all done old space text left split is = grind (arith, append_assoc)
 
 pub returns-in_err-copy_word-clause-words : goal.returns-in_err-copy_word-clause-words
-returns-in_err-copy_word-clause-words g c = λ limit first words_so_far reads.
+returns-in_err-copy_word-clause-words g c = λ limit words_so_far reads.
     let came = c.loop-word.invariant.0.0 in
     let word = word_contents c.in-Some.word in
     let more = words_left c.next_word.new.self in
@@ -130,16 +129,16 @@ returns-in_err-copy_word-clause-words g c = λ limit first words_so_far reads.
     (sym (append_assoc came (word ∷ []) more) ∙ sym (in_turn (words_left c.args.words) came
     (words_left c.loop-word.left) more word c.loop-word.invariant.0.1 c.in-Some.ensures.words)) in
     let e : ReadError = c.in_err-copy_word.field-0.0 in
-    rw (err_is _ c.from_residual.ensures.1) (rw all at (c.in_err-copy_word.ensures.words limit first
+    rw (err_is _ c.from_residual.ensures.1) (rw all at (c.in_err-copy_word.ensures.words limit
     (words_so_far ++ came)
-    (c.loop-word.invariant.0.2 limit first words_so_far reads) more))
+    (c.loop-word.invariant.0.2 limit words_so_far reads) more))
 
 pub returns-clause-words : goal.returns-clause-words
-returns-clause-words g c = λ limit first words_so_far reads.
+returns-clause-words g c = λ limit words_so_far reads.
     let came = c.loop-word.invariant.0.0 in
     let all : came ≡ words_left c.args.words =
     sym (c.loop-word.invariant.0.1 ∙ ap (λ ws. came ++ ws) c.in_default.ensures.words ∙ append-nil came) in
-    rw all at (c.loop-word.invariant.0.2 limit first words_so_far reads)
+    rw all at (c.loop-word.invariant.0.2 limit words_so_far reads)
 
 pub write_standing-requires : goal.write_standing-requires
 write_standing-requires g c =

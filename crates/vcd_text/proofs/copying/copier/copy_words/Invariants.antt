@@ -2,7 +2,8 @@ use Rattle.std.proofs.Common.{◌≡◌, ◌⊎◌, ℕ, ◌+◌, List, [], ◌+
 use Rattle.vcd_text.specs.Words.{WordOnLine}
 use Rattle.vcd_text.specs.inside.Words.{has_complete_words, ends_before}
 use Rattle.vcd_text.specs.inside.Copying.{HasCopied, HasCopiedUpTo}
-use Rattle.vcd_text.specs.inside.reading.Choice.{HasTakenFrom}
+use Rattle.vcd_text.specs.inside.reading.Part.{unheard}
+use Rattle.vcd_text.specs.inside.reading.Parser.{HasTakenWords}
 use Rattle.vcd_text.specs.EmittedText.{Emits, EmitsMore}
 use Rattle.vcd_text.specs.declared.writing.output.Output.{Output}
 use Rattle.vcd_text.specs.LentWords.{words_left}
@@ -12,9 +13,8 @@ use Rattle.vcd_text.proofs.copying.copier.copy_words.Given as goal
 abbrev pub invariant-loop-word : goal.invariant-loop-word
 invariant-loop-word g l =
     ((came : List WordOnLine) × (words_left l.fn.words ≡ came ++ words_left l.left)
-    × ((limit : ℕ) (first : g.row.C.Denot) (words_so_far : List WordOnLine)
-    → HasTakenFrom limit g.C.Choice.takes g.C.Choice.answers first l.fn.choice l.fn.parser words_so_far
-    → HasTakenFrom limit g.C.Choice.takes g.C.Choice.answers first l.choice l.parser (words_so_far ++ came)))
+    × ((limit : ℕ) (words_so_far : List WordOnLine) → HasTakenWords limit unheard l.fn.parser words_so_far
+    → HasTakenWords limit unheard l.parser (words_so_far ++ came)))
     × (l.left.line_feeds + line_feeds_in l.left.rest.now
     ≡ l.fn.words.line_feeds + line_feeds_in l.fn.words.rest.now)
     × ((done : List ℕ) × (l.fn.words.rest.now ≡ done ++ l.left.rest.now)

@@ -1,7 +1,7 @@
-use Rattle.std.proofs.Common.{◌≡◌, ◌≤◌, ◌<◌, ℕ, Some, false, not, length, take}
-use Rattle.std.specs.Prelude.{slice_get, slice_index_or, filter}
+use Rattle.std.proofs.Common.{◌≡◌, ◌<◌, ℕ, Some, false, not, length}
+use Rattle.std.specs.Prelude.{slice_get, slice_index_or}
 use Rattle.vcd_core.specs.Contents.{SignalContents}
-use Rattle.vcd_text.specs.AsDeclared.{declared_contents}
+use Rattle.vcd_text.specs.inside.reading.DeclaredSignals.{declared_contents}
 use Rattle.vcd_text.proofs.reading.choice.left_out_signals.Given as goal
 
 abbrev pub invariant-loop-position : goal.invariant-loop-position
@@ -9,5 +9,3 @@ invariant-loop-position g l =
     (length l.left_out.items ≡ l.position)
     × ((k : ℕ) (s : SignalContents) → k < l.position → slice_get (declared_contents l.fn.signals) k ≡ Some s
     → slice_index_or l.left_out.items k false ≡ not (g.C.Choice.takes l.fn.choice s))
-    × (l.count ≤ l.position)
-    × (l.count ≡ length (filter (g.C.Choice.takes l.fn.choice) (take l.position (declared_contents l.fn.signals))))

@@ -17,7 +17,7 @@ loop-word-init g c = (
   (
     [],
     refl,
-    λ limit first words_so_far reads. rw (append-nil words_so_far) reads,
+    λ limit words_so_far reads. rw (append-nil words_so_far) reads,
   ),
   refl,
 )
@@ -25,12 +25,11 @@ loop-word-init g c = (
 pub take_word-requires-clause-reading : goal.take_word-requires-clause-reading
 take_word-requires-clause-reading g c =
     let came = c.loop-word.invariant.0.0 in
-    let (limit, first, (words_so_far, reads, few)) = c.requires in (
+    let (limit, (words_so_far, reads, few)) = c.requires in (
       limit,
-      first,
       (
         words_so_far ++ came,
-        c.loop-word.invariant.0.2 limit first words_so_far reads,
+        c.loop-word.invariant.0.2 limit words_so_far reads,
         omega (
           arith,
           few,
@@ -53,15 +52,15 @@ loop-word-preserved g c =
         came ++ word ∷ [],
         in_turn (words_left c.args.words) came (words_left c.loop-word.left) (words_left c.next_word.new.self) word
             c.loop-word.invariant.0.1 c.in-Some.ensures.words,
-        λ limit first words_so_far reads. rw (append_assoc words_so_far came (word ∷ []))
-            at (c.in_ok-take_word.ensures.words limit first (words_so_far ++ came)
-            (c.loop-word.invariant.0.2 limit first words_so_far reads)),
+        λ limit words_so_far reads. rw (append_assoc words_so_far came (word ∷ []))
+            at (c.in_ok-take_word.ensures.words limit (words_so_far ++ came)
+            (c.loop-word.invariant.0.2 limit words_so_far reads)),
       ),
       c.in-Some.ensures.line_feeds ∙ c.loop-word.invariant.1,
     )
 
 pub returns-in_err-take_word-clause-words : goal.returns-in_err-take_word-clause-words
-returns-in_err-take_word-clause-words g c = λ limit first words_so_far reads.
+returns-in_err-take_word-clause-words g c = λ limit words_so_far reads.
     let came = c.loop-word.invariant.0.0 in
     let word = word_contents c.in-Some.word in
     let more = words_left c.next_word.new.self in
@@ -70,13 +69,13 @@ returns-in_err-take_word-clause-words g c = λ limit first words_so_far reads.
     (sym (append_assoc came (word ∷ []) more) ∙ sym (in_turn (words_left c.args.words) came
     (words_left c.loop-word.left) more word c.loop-word.invariant.0.1 c.in-Some.ensures.words)) in
     let e : ReadError = c.in_err-take_word.field-0.0 in
-    rw (err_is _ c.from_residual.ensures.1) (rw all at (c.in_err-take_word.ensures.words limit first
+    rw (err_is _ c.from_residual.ensures.1) (rw all at (c.in_err-take_word.ensures.words limit
     (words_so_far ++ came)
-    (c.loop-word.invariant.0.2 limit first words_so_far reads) more))
+    (c.loop-word.invariant.0.2 limit words_so_far reads) more))
 
 pub returns-clause-words : goal.returns-clause-words
-returns-clause-words g c = λ limit first words_so_far reads.
+returns-clause-words g c = λ limit words_so_far reads.
     let came = c.loop-word.invariant.0.0 in
     let all : came ≡ words_left c.args.words =
     sym (c.loop-word.invariant.0.1 ∙ ap (λ ws. came ++ ws) c.in_default.ensures.words ∙ append-nil came) in
-    rw all at (c.loop-word.invariant.0.2 limit first words_so_far reads)
+    rw all at (c.loop-word.invariant.0.2 limit words_so_far reads)

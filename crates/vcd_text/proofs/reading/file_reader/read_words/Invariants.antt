@@ -1,6 +1,7 @@
 use Rattle.std.proofs.Common.{◌≡◌, ℕ, ◌+◌, List, ◌++◌, length}
 use Rattle.vcd_text.specs.Words.{WordOnLine}
-use Rattle.vcd_text.specs.inside.reading.Choice.{HasTakenFrom}
+use Rattle.vcd_text.specs.inside.reading.Part.{asked_by}
+use Rattle.vcd_text.specs.inside.reading.Parser.{HasTakenWords}
 use Rattle.vcd_text.specs.LentWords.{words_left}
 use Rattle.vcd_text.specs.LineFeeds.{line_feeds_in}
 use Rattle.vcd_text.proofs.reading.file_reader.read_words.Given as goal
@@ -8,9 +9,9 @@ use Rattle.vcd_text.proofs.reading.file_reader.read_words.Given as goal
 abbrev pub invariant-loop-word : goal.invariant-loop-word
 invariant-loop-word g l =
     ((came : List WordOnLine) × (words_left l.fn.words ≡ came ++ words_left l.left)
-    × ((limit : ℕ) (first : g.row.C.Denot) (words_so_far : List WordOnLine)
-    → HasTakenFrom limit g.C.Choice.takes g.C.Choice.answers first l.fn.choice l.fn.parser words_so_far
-    → HasTakenFrom limit g.C.Choice.takes g.C.Choice.answers first l.choice l.parser (words_so_far ++ came)))
+    × ((limit : ℕ) (words_so_far : List WordOnLine)
+    → HasTakenWords limit (asked_by g.C.Choice.takes g.C.Choice.ticks l.fn.choice) l.fn.parser words_so_far
+    → HasTakenWords limit (asked_by g.C.Choice.takes g.C.Choice.ticks l.fn.choice) l.parser (words_so_far ++ came)))
     × (l.left.line_feeds + line_feeds_in l.left.rest.now
     ≡ l.fn.words.line_feeds + line_feeds_in l.fn.words.rest.now)
 

@@ -1,14 +1,12 @@
-use Rattle.std.proofs.Common.{◌≡◌, ◌++◌, ◌==◌, ℕ, length, inr, inl, sym, ap, subst, ◌∙◌, arith, false}
+use Rattle.std.proofs.Common.{◌≡◌, ◌++◌, ◌==◌, ℕ, length, inr, sym, ap, subst, ◌∙◌, arith, false}
 use Rattle.std.proofs.lemmas.List.Sums.{count_by-le-length}
 use Rattle.vcd_text.specs.inside.Copying.{TookCopy}
 use Rattle.vcd_text.specs.EmittedText.{Emits}
 use Rattle.vcd_text.specs.declared.fault.ReadError.{ReadError}
 use Rattle.vcd_text.specs.Words.{complete_words}
 use Rattle.vcd_text.specs.FoundFaults.{too_early}
-use Rattle.vcd_text.specs.Parts.{answers_of}
-use Rattle.vcd_text.specs.inside.reading.Choice.{HasTakenFrom}
+use Rattle.vcd_text.specs.inside.reading.Part.{unheard}
 use Rattle.vcd_text.proofs.reading.file_reader.Chunks.{last_taken, last_refused}
-use Rattle.vcd_text.proofs.reading.parser.AskedParts.{chosen_words}
 use Rattle.vcd_text.proofs.reading.parser.NoWordLeft.{stops}
 use Rattle.vcd_text.proofs.copying.copier.CopiedChunks.{whole_copied}
 use Rattle.vcd_text.proofs.copying.copier.Told.{all_told}
@@ -20,7 +18,7 @@ use Rattle.vcd_text.proofs.shared.FailedResults.{err_is}
 
 pub invariant_of-word : goal.invariant_of-word
 invariant_of-word g c =
-    let (limit, most, first, bytes, taken) = c.requires.reading in
+    let (limit, most, bytes, taken) = c.requires.reading in
     record {
       lines_fit = omega (
         arith,
@@ -35,31 +33,23 @@ invariant_of-word g c =
 
 pub copy_words-requires-clause-reading : goal.copy_words-requires-clause-reading
 copy_words-requires-clause-reading g c =
-    let (limit, most, first, bytes, taken) = c.requires.reading in
-    (limit, first, (complete_words bytes, taken.taken_words, grind (arith, after_are_few, complete_are_few)))
+    let (limit, most, bytes, taken) = c.requires.reading in
+    (limit, (complete_words bytes, taken.taken_words, grind (arith, after_are_few, complete_are_few)))
 
 pub returns-in_err-copy_words-clause-fault : goal.returns-in_err-copy_words-clause-fault
-returns-in_err-copy_words-clause-fault g c =
-    let p = c.args.self.progress in
-    let choice = c.copy_words.new.choice in
-    rw (err_is _ c.from_residual.ensures.1) (λ limit most first bytes taken. last_refused _ _ _ (g.C.Choice.takes first)
-    (answers_of g.C.Choice.answers first choice) p _ _ _ taken c.as_slice.ensures (c.in_err-copy_words.ensures.words
-    limit first (complete_words bytes) taken.taken_words))
+returns-in_err-copy_words-clause-fault g c = rw (err_is _ c.from_residual.ensures.1) (λ limit most bytes taken.
+    last_refused _ _ _ c.args.self.progress _ _ _ taken c.as_slice.ensures
+    (c.in_err-copy_words.ensures.words limit (complete_words bytes) taken.taken_words))
 
 pub returns-in_err-check_complete-clause-fault : goal.returns-in_err-check_complete-clause-fault
 returns-in_err-check_complete-clause-fault g c =
-    let p = c.args.self.progress in
     let m = c.copy_words.new.parser in
-    let choice = c.copy_words.new.choice in
     let (open_still, truncated) = c.in_err-check_complete.ensures.truncated in
-    rw (err_is _ c.from_residual-in_err-check_complete.ensures.1) (λ limit most first bytes taken.
-    let reads = last_taken _ _ (HasTakenFrom limit g.C.Choice.takes g.C.Choice.answers first choice) p m _ _ taken
-    c.as_slice.ensures (c.in_ok-copy_words.ensures.words limit first (complete_words bytes) taken.taken_words) in
-    inr (inl (
-      too_early (stops limit reads.asked m _ reads.taken_words open_still)
-          (ap (λ (e : ReadError). e.line) truncated ∙ sym taken.lines) (ap (λ (e : ReadError). e.fault) truncated),
-      chosen_words _ _ _ _ _ _ _ reads,
-    )))
+    rw (err_is _ c.from_residual-in_err-check_complete.ensures.1) (λ limit most bytes taken.
+    let reads = last_taken _ _ _ c.args.self.progress m _ _ taken c.as_slice.ensures
+    (c.in_ok-copy_words.ensures.words limit (complete_words bytes) taken.taken_words) in
+    inr (too_early (stops limit unheard m _ reads open_still) (ap (λ (e : ReadError). e.line) truncated
+    ∙ sym taken.lines) (ap (λ (e : ReadError). e.fault) truncated)))
 
 pub finish-requires : goal.finish-requires
 finish-requires g c =

@@ -10,10 +10,9 @@ use Rattle.vcd_text.specs.Meaning.{meaning, declared_signal}
 use Rattle.vcd_text.specs.inside.reading.OpenItems.{is_nothing}
 use Rattle.vcd_text.specs.inside.reading.Part.{Asked, seen_state, seen_tick, remaining, listed_part}
 use Rattle.vcd_text.specs.inside.reading.Parser.{HasTakenWords}
-use Rattle.vcd_text.proofs.reading.parser.ChosenParts.{undriven_signals}
 use Rattle.vcd_text.proofs.reading.parser.NoWordLeft.{accepts}
 use Rattle.vcd_text.proofs.part.LateChanges.{UpToTick, late_after}
-use Rattle.vcd_text.proofs.part.PartMeanings.{signals_of_part}
+use Rattle.vcd_text.proofs.part.PartMeanings.{signals_of_part, asked_part_is}
 use Rattle.vcd_text.proofs.reading.parser.Parser.into_loaded.Goals as goal
 
 pub returns : goal.returns
@@ -50,10 +49,7 @@ returns c =
               means = refl;
               left_out = at.variables.skipped;
             };
-            timescale = (at.is_asked_of late).0;
-            signals = undriven_signals r.state.value_changes r.state.tick (kept_variables r.state.declared)
-                ∙ (at.is_asked_of late).1;
-            is = rw (at.part_is late) at (same limit asked bytes r);
+            is = same limit asked bytes r ∙ asked_part_is asked self.part r.state (at.is_asked late);
             end = at.tick;
             count = omega (
               arith,

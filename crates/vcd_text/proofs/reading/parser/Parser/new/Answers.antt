@@ -6,8 +6,8 @@ use Rattle.std.proofs.lemmas.Bool.{false≢true}
 use Rattle.vcd_text.specs.Grammar.{initial_state}
 use Rattle.vcd_text.proofs.reading.parser.Parser.new.Goals as goal
 
-pub returns-clause-words : goal.returns-clause-words
-returns-clause-words c = λ asked. record {
+pub returns : goal.returns
+returns c = λ asked. record {
   items = [];
   whole = [];
   begun = [];
@@ -31,8 +31,7 @@ returns-clause-words c = λ asked. record {
       tells = tells_nothing (record { left_out = c.new-6.result; first = 0; last = END_LIMIT })
           (initial_state c.args.limit) [] refl refl;
       hears = λ late. absurd (false≢true late);
-      part_is = λ late. absurd (false≢true late);
-      is_asked_of = λ late. absurd (false≢true late);
+      is_asked = λ late. absurd (false≢true late);
     },
     refl,
   );

@@ -2,7 +2,6 @@ use Rattle.std.proofs.Common.{◌∷◌, [], ap, sym, ◌∙◌}
 use Rattle.vcd_text.specs.Words.{word_on}
 use Rattle.vcd_text.specs.inside.reading.Parser.{error_at}
 use Rattle.vcd_text.proofs.reading.parser.NextWord.{words_taken, one_shown}
-use Rattle.vcd_text.proofs.reading.parser.AskedParts.{step_in_body}
 use Rattle.vcd_text.proofs.reading.parser.Parser.take_word.Goals as goal
 
 pub returns-in-Ok-clause-words : goal.returns-in-Ok-clause-words
@@ -10,15 +9,8 @@ returns-in-Ok-clause-words c = λ limit asked words_so_far r. words_taken limit 
     c.take.new.self
     words_so_far (word_on c.args.text.now c.args.line ∷ []) r (c.in-Ok.ensures asked r.state r.begun r.at)
 
-pub returns-in-Ok-clause-in_body : goal.returns-in-Ok-clause-in_body
-returns-in-Ok-clause-in_body c =
-    let r = c.requires.reading.taken_words in
-    step_in_body c.requires.reading.asked c.args.self.now c.take.new.self r.state r.begun
-    (word_on c.args.text.now c.args.line) r.at c.requires.no_end
-    (c.in-Ok.ensures c.requires.reading.asked r.state r.begun r.at)
-
 pub returns-in-Err-clause-words : goal.returns-in-Err-clause-words
-returns-in-Err-clause-words c = λ limit asked words_so_far more r.
+returns-in-Err-clause-words c = λ limit asked words_so_far r more.
     let w = word_on c.args.text.now c.args.line in
     let is = ap (λ line. error_at line c.in-Err.fault) (sym c.item_fault_line-shown.ensures) ∙ sym c.at.ensures in
     rw is at (one_shown limit asked c.args.self.now words_so_far more w r c.in-Err.fault

@@ -4,7 +4,7 @@ use Rattle.std.proofs.lemmas.Bool.{cases_lt}
 use Rattle.std.proofs.lemmas.List.{length_push, take-append-le, get_or_append_left}
 use Rattle.std.proofs.Math.Seq.{get_or-append_seam}
 use Rattle.vcd_core.specs.declared.capture.ScopeName.{ScopeName}
-use Rattle.vcd_text.specs.Chains.{chain_at}
+use Rattle.vcd_text.specs.inside.reading.Chains.{chain_at}
 use Rattle.vcd_text.specs.inside.reading.Scopes.{KeepsPlaces}
 use Rattle.vcd_text.specs.declared.reading.scopes.Scopes.{Scopes}
 use Rattle.vcd_text.proofs.reading.scopes.Scopes.enter.Goals as goal
